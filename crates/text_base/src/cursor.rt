@@ -1,4 +1,4 @@
-ghost use Rattle.std.specs.Prelude.{◌≡◌, ◌∷◌, ◌++◌, [], length, slice_get, IfSome, IfNone};
+ghost use Rattle.std.specs.Prelude.{◌≡◌, ◌≤◌, ◌∷◌, ◌++◌, [], length, slice_get, IfSome, IfNone};
 
 use std::marker::Model;
 
@@ -71,5 +71,22 @@ impl<'a> Cursor<'a> {
         ensures after { self.new ≡ moved self.old count }
     {
         self.at += count;
+    }
+}
+
+#[cfg(test)]
+mod tests {
+    use super::*;
+
+    #[test]
+    fn takes_each_byte_once(rt: HostRuntime) {
+        let mut cursor = Cursor::new(b"ab");
+        assert_eq!(rt; (cursor.peek(), cursor.at()), (Some(b'a'), 0));
+        assert_eq!(rt; (cursor.take(), cursor.at()), (Some(b'a'), 1));
+        assert_eq!(rt; (cursor.take(), cursor.at()), (Some(b'b'), 2));
+        assert_eq!(rt;
+            (cursor.peek(), cursor.take(), cursor.at()),
+            (None, None, 2)
+        );
     }
 }

@@ -22,9 +22,9 @@ pub enum NumberFault {
 /// After a refusal the cursor is as before.
 pub fn read_number(cursor: &mut Cursor<'_>, most: u64) -> Result<u64, NumberFault>
     ensures value { IfOk result (λ n. n ≡ decimal_value (digit_run cursor.old.left)) }
+    ensures within { IfOk result (λ n. n ≤ most) }
     ensures after { OnOk result (cursor.new ≡ moved cursor.old (length (digit_run cursor.old.left))) }
 
-    // It succeeds where neither refusal applies.
     ensures no_digits { IsErrOf result NumberFault.NoDigits ↔ (digit_run cursor.old.left ≡ []) }
     ensures range { IsErrOf result NumberFault.Range ↔ (most < decimal_value (digit_run cursor.old.left)) }
     ensures err { OnErr result (cursor.new ≡ cursor.old) }
@@ -51,11 +51,12 @@ pub fn push_number(out: &mut Vec<u8>, value: u64) -> Result<(), AllocError>
 fn digits_at_front(bytes: &[u8]) -> &[u8]
     ensures run { result.now ≡ digit_run bytes.now }
 {
-    let count = bytes
-        .iter()
-        .position(|byte| !byte.is_ascii_digit())
-        .unwrap_or(bytes.len());
-    &bytes[..count]
+    for (count, byte) in bytes.iter().enumerate() {
+        if !byte.is_ascii_digit() {
+            return &bytes[..count];
+        }
+    }
+    bytes
 }
 
 // The value of digits, if it is at most `most`.
@@ -65,11 +66,53 @@ fn value_within(digits: &[u8], most: u64) -> Option<u64>
 {
     let mut value = 0u64;
     for byte in digits {
-        let digit = u64::from(byte - b'0');
-        value = value.checked_mul(10)?.checked_add(digit)?;
-        if value > most {
+        let next = u128::from(value) * 10 + u128::from(byte - b'0');
+        if next > u128::from(most) {
             return None;
         }
+        value = next as u64;
     }
     Some(value)
+}
+
+#[cfg(test)]
+mod tests {
+    use super::*;
+    use std::test::Fail;
+
+    // Reads a number of at most `most`, and says where the cursor stands afterwards.
+    fn read(text: &[u8], most: u64) -> (Result<u64, NumberFault>, usize) {
+        let mut cursor = Cursor::new(text);
+        let answer = read_number(&mut cursor, most);
+        (answer, cursor.at())
+    }
+
+    #[test]
+    fn reads_the_longest_run(rt: HostRuntime) {
+        assert_eq!(rt; read(b"12x3", 12), (Ok(12), 2));
+        assert_eq!(rt; read(b"007", 7), (Ok(7), 3));
+        assert_eq!(rt; read(b"18446744073709551615", u64::MAX), (Ok(u64::MAX), 20));
+    }
+
+    #[test]
+    fn refuses_and_stays(rt: HostRuntime) {
+        assert_eq!(rt; read(b"x", 9), (Err(NumberFault::NoDigits), 0));
+        assert_eq!(rt; read(b"", 9), (Err(NumberFault::NoDigits), 0));
+        assert_eq!(rt; read(b"12", 11), (Err(NumberFault::Range), 0));
+        assert_eq!(rt;
+            read(b"18446744073709551616", u64::MAX),
+            (Err(NumberFault::Range), 0)
+        );
+    }
+
+    #[test]
+    fn writes_numerals(rt: HostRuntime) -> Result<(), Fail> {
+        let mut out = Vec::new(rt.alloc());
+        for value in [0, 7, 40, u64::MAX] {
+            push_number(&mut out, value)?;
+            out.push(b' ')?;
+        }
+        assert_eq!(rt; out.as_slice(), b"0 7 40 18446744073709551615 ".as_slice());
+        Ok(())
+    }
 }
