@@ -106,3 +106,43 @@ impl Lasso {
         })
     }
 }
+
+#[cfg(test)]
+mod tests {
+    use super::*;
+    use std::test::Fail;
+
+    const R: Letter = Letter(1);
+
+    const NONE: Letter = Letter(0);
+
+    #[test]
+    fn an_empty_ring_is_refused(rt: HostRuntime) -> Result<(), Fail> {
+        let stem = Vec::from_slice(rt.alloc(), &[R])?;
+        let fault = Lasso::new(stem, Vec::new(rt.alloc())).err();
+        assert_eq!(rt; fault, Some(LassoFault::EmptyRing));
+        Ok(())
+    }
+
+    #[test]
+    fn unrolling_puts_the_ring_at_the_stems_end(rt: HostRuntime) -> Result<(), Fail> {
+        let ring = Vec::from_slice(rt.alloc(), &[R, NONE])?;
+        let unrolled = Lasso::new(Vec::new(rt.alloc()), ring)?.unrolled(rt.alloc())?;
+        assert_eq!(rt; unrolled.stem(), [R, NONE].as_slice());
+        assert_eq!(rt; unrolled.ring(), [R, NONE].as_slice());
+        Ok(())
+    }
+
+    #[test]
+    fn the_ring_begins_again(rt: HostRuntime) -> Result<(), Fail> {
+        let stem = Vec::from_slice(rt.alloc(), &[NONE])?;
+        let word = Lasso::new(stem, Vec::from_slice(rt.alloc(), &[R, NONE])?)?;
+        let mut at = 0;
+        for want in [NONE, R, NONE, R, NONE, R] {
+            assert!(rt; at < word.len());
+            assert_eq!(rt; word.letter(at), want);
+            at = word.next(at);
+        }
+        Ok(())
+    }
+}

@@ -10,6 +10,12 @@ impl Letter {
     pub fn has(self, signal: u32) -> bool
         ensures { result ≡ has self.0 signal }
     {
-        signal < u32::BITS && (self.0 >> signal) & 1 == 1
+        is_in(self.0, signal)
     }
+}
+
+fn is_in(signals: u32, signal: u32) -> bool
+    ensures { result ≡ has signals signal }
+{
+    signal < u32::BITS && (signals >> signal) & 1 == 1
 }
