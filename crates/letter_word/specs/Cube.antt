@@ -16,3 +16,11 @@ Clash a b = (k : ℕ) × ((IsTrue (has a.must k) × IsTrue (has b.not k)) ⊎ (I
 pub record IsMeet (a b meet : Cube) : Type 0 where
   pub must : (k : ℕ) → IsTrue (has meet.must k) ↔ (IsTrue (has a.must k) ⊎ IsTrue (has b.must k))
   pub none_of : (k : ℕ) → IsTrue (has meet.not k) ↔ (IsTrue (has a.not k) ⊎ IsTrue (has b.not k))
+
+-- exactly the letters that fit both cubes fit the third
+abbrev pub FitsBoth : Cube → Cube → Cube → Type 0
+FitsBoth a b both = (letter : Letter) → Fits both letter ↔ (Fits a letter × Fits b letter)
+
+-- no letter fits both cubes
+abbrev pub NoneFitsBoth : Cube → Cube → Type 0
+NoneFitsBoth a b = (letter : Letter) → Fits a letter → Fits b letter → ⊥

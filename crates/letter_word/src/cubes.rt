@@ -1,4 +1,4 @@
-ghost use Rattle.std.specs.Prelude.{◌↔◌, IsTrue, IsNone, IfSome};
+ghost use Rattle.std.specs.Prelude.{◌↔◌, IsTrue, IsNone, IfNone, IfSome};
 ghost use Rattle.letter_word.specs.Signals.{AreApart};
 
 use crate::letters::Letter;
@@ -12,7 +12,7 @@ pub struct Cube {
 }
 
 impl Cube {
-    ghost use Rattle.letter_word.specs.Cube.{Fits, Clash, IsMeet};
+    ghost use Rattle.letter_word.specs.Cube.{Clash, Fits, FitsBoth, IsMeet, NoneFitsBoth};
 
     /// Whether the letter has each signal of `must` and none of `not`.
     pub fn fits(self, letter: Letter) -> bool
@@ -25,6 +25,8 @@ impl Cube {
     pub fn meet(self, other: Cube) -> Option<Cube>
         ensures clash { IsNone result ↔ Clash self other }
         ensures both { IfSome result (λ cube. IsMeet self other cube) }
+        ensures letters { IfSome result (λ cube. FitsBoth self other cube) }
+        ensures no_letter { IfNone result (NoneFitsBoth self other) }
     {
         if self.must & other.not != 0 || self.not & other.must != 0 {
             return None;

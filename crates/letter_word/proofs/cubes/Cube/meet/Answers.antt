@@ -2,6 +2,7 @@ use Rattle.std.proofs.Common.{ℕ, inl, inr, refl}
 use Rattle.std.specs.Prelude.{IsTrue}
 use Rattle.std.proofs.lemmas.Bool.{true≢false}
 use Rattle.letter_word.specs.Signals.{has}
+use Rattle.letter_word.proofs.Meets.{FitsBoth-meet, NoneFitsBoth-clash}
 use Rattle.letter_word.proofs.Sets.{apart, apart-unions, has-bit_or, has-either, not_apart}
 use Rattle.letter_word.proofs.cubes.Cube.meet.Goals as goal
 use Rattle.letter_word.proofs.cubes.Cube.meet.Goals.{then-self-other-ne0-via-then-self-other-ne0, then-self-other-ne0-via-else-self-other-ne0+then-self-other-ne0-2}
@@ -42,3 +43,10 @@ returns-clause-both c = record {
   must = λ k. (has-bit_or c.args.self.must c.args.other.must k, has-either c.args.self.must c.args.other.must k);
   none_of = λ k. (has-bit_or c.args.self.not c.args.other.not k, has-either c.args.self.not c.args.other.not k);
 }
+
+pub returns-clause-letters : goal.returns-clause-letters
+returns-clause-letters c = FitsBoth-meet c.args.self c.args.other _ (returns-clause-both c)
+
+pub returns-then-self-other-ne0-clause-no_letter : goal.returns-then-self-other-ne0-clause-no_letter
+returns-then-self-other-ne0-clause-no_letter c =
+    NoneFitsBoth-clash c.args.self c.args.other ((returns-then-self-other-ne0-clause-clash c).0 refl)
