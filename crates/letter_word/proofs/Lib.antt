@@ -1,0 +1,5 @@
+pub mod Positions
+pub mod Words
+pub mod Unrolled
+pub mod Sets
+pub mod Meets

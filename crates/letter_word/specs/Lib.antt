@@ -1,0 +1,4 @@
+pub mod Signals
+pub mod Cube
+pub mod Word
+pub mod Laws
