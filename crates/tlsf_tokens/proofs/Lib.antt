@@ -1,0 +1,4 @@
+pub mod Longest
+pub mod Quoted
+pub mod Comment
+pub mod Signs

@@ -1,0 +1,191 @@
+// Cutting a text: one pass, in which the longest piece at each place is taken.
+
+ghost use Rattle.std.specs.Prelude.{◌≡◌, ◌<◌, ◌≤◌, ◌==◌, ◌&&◌, true, nat_le, not, take, length, slice_index, codes, IfOk, IfSome, nat_eq, Some};
+ghost use Rattle.std.specs.Char.{is_ascii_digit};
+ghost use Rattle.std.specs.List.{prefix_len, starts_with};
+ghost use Rattle.tlsf_tokens.specs.Words.{is_name_start, is_name_part, is_among, signs};
+ghost use Rattle.tlsf_tokens.specs.Pieces.{BeginsSign};
+ghost use Rattle.tlsf_tokens.specs.Cuts.{longest, Stops, Cuts, IsInOrder, AreFormed, HasGapsAround};
+
+use crate::code::SpecCode;
+use crate::token::{Front, Piece, Token, TokenKind, TokenList};
+use crate::words;
+use std::alloc::{AllocError, Global};
+
+/// How many bytes at the front go on with a name.
+fn name_len(rest: &[u8]) -> usize
+    ensures { result ≡ prefix_len is_name_part rest.now }
+{
+    rest.iter().take_while(|b| words::is_name_part(**b)).count()
+}
+
+fn digits_len(rest: &[u8]) -> usize
+    ensures { result ≡ prefix_len is_ascii_digit rest.now }
+{
+    rest.iter().take_while(|b| b.is_ascii_digit()).count()
+}
+
+/// How many bytes stand before the first that is this one.
+fn len_before(byte: u8, rest: &[u8]) -> usize
+    ensures { result ≡ prefix_len (λ b. not (b == byte)) rest.now }
+{
+    rest.iter().take_while(|b| **b != byte).count()
+}
+
+/// A text that begins with a quote.
+fn quoted(rest: &[u8]) -> Front
+    requires some { 0 < length rest.now }
+    requires quote { slice_index rest.now 0 ≡ 34 }
+    ensures { longest rest.now ≡ Some result }
+{
+    let inner = len_before(b'"', &rest[1..]);
+    if inner + 1 < rest.len() {
+        Front {
+            piece: Piece::Token(TokenKind::Text),
+            len: inner + 2,
+        }
+    } else {
+        Front {
+            piece: Piece::Fault(SpecCode::Unclosed),
+            len: rest.len(),
+        }
+    }
+}
+
+/// A text that begins with the opener of a comment that nests.
+fn comment(rest: &[u8]) -> Front
+    requires { starts_with nat_eq rest.now (codes "/*") ≡ true }
+    ensures { longest rest.now ≡ Some result }
+{
+    let mut level: usize = 1;
+    let mut at = 2;
+    while at + 1 < rest.len() {
+        if rest[at] == b'/' && rest[at + 1] == b'*' {
+            level += 1;
+            at += 2;
+        } else if rest[at] == b'*' && rest[at + 1] == b'/' {
+            level -= 1;
+            at += 2;
+            if level == 0 {
+                return Front {
+                    piece: Piece::Gap,
+                    len: at,
+                };
+            }
+        } else {
+            at += 1;
+        }
+    }
+    Front {
+        piece: Piece::Fault(SpecCode::Unclosed),
+        len: rest.len(),
+    }
+}
+
+/// Whether the first bytes, so many, are a sign.
+fn has_sign(rest: &[u8], len: usize) -> bool
+    ensures { result ≡ (nat_le len (length rest.now) && is_among signs (take len rest.now)) }
+{
+    len <= rest.len() && words::is_sign(&rest[..len])
+}
+
+/// A text that begins with none of a name, a number, a quote, a blank and a comment.
+fn sign(rest: &[u8]) -> Option<Front>
+    requires { BeginsSign rest.now }
+    ensures { longest rest.now ≡ result }
+{
+    let len = if has_sign(rest, 3) {
+        3
+    } else if has_sign(rest, 2) {
+        2
+    } else if has_sign(rest, 1) {
+        1
+    } else if rest[0] == b'~' {
+        return Some(Front {
+            piece: Piece::Fault(SpecCode::Unsupported),
+            len: 1,
+        });
+    } else {
+        return None;
+    };
+    Some(Front {
+        piece: Piece::Token(TokenKind::Sign),
+        len,
+    })
+}
+
+/// What stands at the front of a text that isn't empty, if anything of TLSF does.
+fn front(rest: &[u8]) -> Option<Front>
+    requires { 0 < length rest.now }
+    ensures value { longest rest.now ≡ result }
+    ensures within { IfSome result (λ front. (0 < front.len) × (front.len ≤ length rest.now)) }
+{
+    let first = rest[0];
+    if words::is_name_start(first) {
+        let len = name_len(rest);
+        Some(Front {
+            piece: words::word_piece(&rest[..len]),
+            len,
+        })
+    } else if first.is_ascii_digit() {
+        Some(Front {
+            piece: Piece::Token(TokenKind::Number),
+            len: digits_len(rest),
+        })
+    } else if first == b'"' {
+        Some(quoted(rest))
+    } else if words::is_blank(first) {
+        Some(Front {
+            piece: Piece::Gap,
+            len: 1,
+        })
+    } else if rest.starts_with(b"//") {
+        Some(Front {
+            piece: Piece::Gap,
+            len: len_before(b'\n', rest),
+        })
+    } else if rest.starts_with(b"/*") {
+        Some(comment(rest))
+    } else {
+        sign(rest)
+    }
+}
+
+/// Cuts a text into its tokens, up to the first place where none begins. It takes time in proportion to the text's
+/// length, and memory in proportion to the number of tokens.
+pub fn tokens(alloc: Global, text: &[u8]) -> Result<TokenList, AllocError>
+    // The tokens are those of the text, each the longest at its place, and the list ends where it has to.
+    ensures cut { IfOk result (λ list. Cuts text.now list.stop list.stop_at 0 list.tokens.items) }
+    ensures stop { IfOk result (λ list. Stops text.now list.stop_at list.stop) }
+
+    ensures in_order { IfOk result (λ list. IsInOrder 0 list.tokens.items list.stop_at) }
+    ensures formed { IfOk result (λ list. AreFormed text.now list.tokens.items) }
+    ensures gaps { IfOk result (λ list. HasGapsAround text.now 0 list.tokens.items list.stop_at) }
+{
+    let mut tokens = Vec::new(alloc);
+    let mut at = 0;
+    let mut stop = None;
+    while stop.is_none() && at < text.len() {
+        match front(&text[at..]) {
+            None => stop = Some(SpecCode::BadByte),
+            Some(found) => match found.piece {
+                Piece::Fault(code) => stop = Some(code),
+                Piece::Gap => at += found.len,
+                Piece::Token(kind) => {
+                    let end = at + found.len;
+                    tokens.push(Token {
+                        kind,
+                        start: at as u64,
+                        end: end as u64,
+                    })?;
+                    at = end;
+                }
+            },
+        }
+    }
+    Ok(TokenList {
+        tokens,
+        stop,
+        stop_at: at as u64,
+    })
+}
