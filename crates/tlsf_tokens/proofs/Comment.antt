@@ -1,18 +1,21 @@
 -- Comments, which nest.
-use Rattle.std.proofs.Common.{◌≡◌, ◌<◌, ◌≤◌, ℕ, zero, suc, ◌+◌, ◌-◌, ◌==◌, Bool, true, false, ◌&&◌, ◌||◌, not, List, [], ◌∷◌, ◌++◌, length, take, drop, get_or, codes, nat_eq, Option, None, Some, ◌⊎◌, inl, inr, refl, sym, ◌∙◌, ap, subst, arith, cond}
-use Rattle.std.proofs.lemmas.List.{take_all, drop-drop, length-drop}
+use Rattle.std.proofs.Common.{◌≡◌, ◌<◌, ◌≤◌, ℕ, zero, suc, ◌+◌, ◌-◌, ◌==◌, Bool, true, false, ◌&&◌, not, List, [], ◌∷◌, ◌++◌, length, take, drop, get_or, codes, nat_eq, None, Some, refl, sym, ◌∙◌, ap, arith, cond}
+use Rattle.std.proofs.lemmas.List.{drop-drop, length-drop}
 use Rattle.std.proofs.Math.Seq.{drop-cons}
 use Rattle.std.proofs.lemmas.List.Sums.{prefix_len-le-length}
 use Rattle.std.proofs.lemmas.Slice.Eq.{starts_is}
+use Rattle.std.proofs.lemmas.Bool.{eqb-true}
 use Rattle.std.proofs.lemmas.Bool.Decides.{Decides-eqb}
 use Rattle.std.specs.List.{prefix_len, list_all, starts_with}
-use Rattle.tlsf_tokens.specs.Pieces.{piece_of, mark_piece, sign_piece, comment_piece}
+use Rattle.tlsf_tokens.specs.Pieces.{piece_of, comment_piece}
 use Rattle.tlsf_tokens.specs.Cuts.{longest}
 use Rattle.tlsf_tokens.specs.declared.code.SpecCode.TheVariants.{Unclosed}
-use Rattle.tlsf_tokens.specs.declared.token.TokenKind.TheVariants as kind
-use Rattle.tlsf_tokens.specs.declared.token.Piece.{Piece}
-use Rattle.tlsf_tokens.specs.declared.token.Piece.TheVariants.{Gap, Token, Fault}
+use Rattle.tlsf_tokens.specs.declared.token.Piece.TheVariants.{Gap, Fault}
 use Rattle.tlsf_tokens.proofs.Longest.{longest_is, all-prefix_len, not_all-longer}
+
+and_parts : (x y : Bool) → (x && y) ≡ true → (x ≡ true) × (y ≡ true)
+and_parts true y e = (refl, e)
+and_parts false y e = absurd (cc)
 
 -- a text that begins so is those bytes and what is left
 begins : (text p : List ℕ) → starts_with nat_eq text p ≡ true → text ≡ p ++ drop (length p) text
@@ -74,42 +77,68 @@ two_more text at x y l e f =
 
 further : (text : List ℕ) (at n level : ℕ) (x y : ℕ) → LeavesOpen text at (suc n) → drop at text ≡ x ∷ y ∷ drop (at + 2) text
     → ((w : List ℕ) → comment_piece (suc n) (x ∷ y ∷ w) ≡ comment_piece level w) → LeavesOpen text (at + 2) level
-further text at n level x y o d turn = record { same = λ m.
-    let i : at + 2 + m ≡ at + suc (suc m) = omega arith in
-    rw i (o.same (suc (suc m)) ∙ ap (λ (t : List ℕ). comment_piece (suc n) (take (suc (suc m)) t)) d ∙ turn (take m (drop (at + 2) text))) }
+further text at n level x y o d turn = record {
+  same = λ m.
+      let i : at + 2 + m ≡ at + suc (suc m) = omega arith in
+      rw i (o.same (suc (suc m)) ∙ ap (λ (t : List ℕ). comment_piece (suc n) (take (suc (suc m)) t)) d ∙ turn (take m (drop (at + 2) text)));
+}
 
-pub nests : (text : List ℕ) (at n : ℕ) → LeavesOpen text at (suc n) → at + 1 < length text → get_or text at 0 ≡ 47 → get_or text (at + 1) 0 ≡ 42 → LeavesOpen text (at + 2) (suc (suc n))
-nests text at n o l e f = further text at n (suc (suc n)) 47 42 o (two_more text at 47 42 l e f) (λ w. refl)
+pair_is : (a b x y : ℕ) → (a == x && b == y) ≡ true → (a ≡ x) × (b ≡ y)
+pair_is a b x y e = let both : ((a == x) ≡ true) × ((b == y) ≡ true) = and_parts (a == x) (b == y) e in (eqb-true a x both.0, eqb-true b y both.1)
 
-pub closes : (text : List ℕ) (at n : ℕ) → LeavesOpen text at (suc n) → at + 1 < length text → get_or text at 0 ≡ 42 → get_or text (at + 1) 0 ≡ 47 → LeavesOpen text (at + 2) n
-closes text at n o l e f = further text at n n 42 47 o (two_more text at 42 47 l e f) (λ w. refl)
+pub nests : (text : List ℕ) (at level : ℕ) → LeavesOpen text at level → 0 < level → at + 1 < length text → (get_or text at 0 == 47 && get_or text (at + 1) 0 == 42) ≡ true
+    → LeavesOpen text (at + 2) (level + 1)
+nests text at zero o p l e = absurd (omega arith)
+nests text at (suc n) o p l e =
+    let both : (get_or text at 0 ≡ 47) × (get_or text (at + 1) 0 ≡ 42) = pair_is (get_or text at 0) (get_or text (at + 1) 0) 47 42 e in
+    let i : suc n + 1 ≡ suc (suc n) = omega arith in
+    rw i (further text at n (suc (suc n)) 47 42 o (two_more text at 47 42 l both.0 both.1) (λ w. refl))
+
+pub closes : (text : List ℕ) (at level : ℕ) → LeavesOpen text at level → 0 < level → at + 1 < length text → (get_or text at 0 == 42 && get_or text (at + 1) 0 == 47) ≡ true
+    → LeavesOpen text (at + 2) (level - 1)
+closes text at zero o p l e = absurd (omega arith)
+closes text at (suc n) o p l e =
+    let both : (get_or text at 0 ≡ 42) × (get_or text (at + 1) 0 ≡ 47) = pair_is (get_or text at 0) (get_or text (at + 1) 0) 42 47 e in
+    let i : suc n - 1 ≡ n = omega arith in
+    rw i (further text at n n 42 47 o (two_more text at 42 47 l both.0 both.1) (λ w. refl))
 
 -- neither sign stands here
 plain : (n x y : ℕ) (m : ℕ) (w : List ℕ) → (x == 47 && y == 42) ≡ false → (x == 42 && y == 47) ≡ false → comment_piece (suc n) (x ∷ take m (y ∷ w)) ≡ comment_piece (suc n) (take m (y ∷ w))
 plain n x y zero w e f = refl
 plain n x y (suc m) w e f = rw (e, f) refl
 
-pub passes : (text : List ℕ) (at n : ℕ) → LeavesOpen text at (suc n) → at + 1 < length text → (get_or text at 0 == 47 && get_or text (at + 1) 0 == 42) ≡ false
+passes_on : (text : List ℕ) (at n : ℕ) → LeavesOpen text at (suc n) → at + 1 < length text → (get_or text at 0 == 47 && get_or text (at + 1) 0 == 42) ≡ false
     → (get_or text at 0 == 42 && get_or text (at + 1) 0 == 47) ≡ false → LeavesOpen text (at + 1) (suc n)
-passes text at n o l e f = record { same = λ m.
-    let i : at + 1 + m ≡ at + suc m = omega arith in
-    let d : drop at text ≡ get_or text at 0 ∷ get_or text (at + 1) 0 ∷ drop (at + 2) text = two_more text at (get_or text at 0) (get_or text (at + 1) 0) l refl refl in
-    let g : drop (at + 1) text ≡ get_or text (at + 1) 0 ∷ drop (at + 2) text = rw (← drop-drop) (rw d refl) in
-    rw (i, g) (o.same (suc m) ∙ ap (λ (t : List ℕ). comment_piece (suc n) (take (suc m) t)) d ∙ plain n (get_or text at 0) (get_or text (at + 1) 0) m (drop (at + 2) text) e f) }
+passes_on text at n o l e f = record {
+  same = λ m.
+      let i : at + 1 + m ≡ at + suc m = omega arith in
+      let d : drop at text ≡ get_or text at 0 ∷ get_or text (at + 1) 0 ∷ drop (at + 2) text = two_more text at (get_or text at 0) (get_or text (at + 1) 0) l refl refl in
+      let g : drop (at + 1) text ≡ get_or text (at + 1) 0 ∷ drop (at + 2) text = rw (← drop-drop) (rw d refl) in
+      rw (i, g) (o.same (suc m) ∙ ap (λ (t : List ℕ). comment_piece (suc n) (take (suc m) t)) d ∙ plain n (get_or text at 0) (get_or text (at + 1) 0) m (drop (at + 2) text) e f);
+}
+
+pub passes : (text : List ℕ) (at level : ℕ) → LeavesOpen text at level → 0 < level → at + 1 < length text → (get_or text at 0 == 47 && get_or text (at + 1) 0 == 42) ≡ false
+    → (get_or text at 0 == 42 && get_or text (at + 1) 0 == 47) ≡ false → LeavesOpen text (at + 1) level
+passes text at zero o p l e f = absurd (omega arith)
+passes text at (suc n) o p l e f = passes_on text at n o l e f
 
 closed_longer : (w : List ℕ) (k : ℕ) → 0 < k → k ≤ length w → comment_piece 0 (take k w) ≡ None
 closed_longer w zero a b = absurd (omega arith)
 closed_longer [] (suc k) a b = absurd (omega arith)
 closed_longer (x ∷ w) (suc k) a b = refl
 
-pub longest_comment : (text : List ℕ) (at : ℕ) → LeavesOpen text at 0 → 0 < at → at ≤ length text → longest text ≡ Some (record { piece = Gap; len = at })
-longest_comment text at o pos low =
+closed_comment : (text : List ℕ) (at : ℕ) → LeavesOpen text at 0 → 0 < at → at ≤ length text → longest text ≡ Some (record { piece = Gap; len = at })
+closed_comment text at o pos low =
     let n : at + 0 ≡ at = omega arith in
     longest_is text at Gap pos low (rw n at (o.same 0)) (λ m l h.
-        let i : at + (m - at) ≡ m = omega arith in
-        let a : 0 < m - at = omega arith in
-        let b : m - at ≤ length (drop at text) = simp length-drop (omega arith) in
-        rw i at (o.same (m - at)) ∙ closed_longer (drop at text) (m - at) a b)
+    let i : at + (m - at) ≡ m = omega arith in
+    let a : 0 < m - at = omega arith in
+    let b : m - at ≤ length (drop at text) = simp length-drop (omega arith) in
+    rw i at (o.same (m - at)) ∙ closed_longer (drop at text) (m - at) a b)
+
+pub longest_comment : (text : List ℕ) (at level : ℕ) → LeavesOpen text at level → level ≡ 0 → 0 < at → at ≤ length text → longest text ≡ Some (record { piece = Gap; len = at })
+longest_comment text at zero o e pos low = closed_comment text at o pos low
+longest_comment text at (suc n) o e pos low = absurd (omega arith)
 
 short_open : (n k : ℕ) (w : List ℕ) → length w ≤ 1 → comment_piece (suc n) (take k w) ≡ Some (Fault Unclosed)
 short_open n zero w l = refl
@@ -118,11 +147,21 @@ short_open n (suc zero) (x ∷ []) l = refl
 short_open n (suc (suc k)) (x ∷ []) l = refl
 short_open n (suc k) (x ∷ y ∷ w) l = absurd (omega arith)
 
-pub longest_unclosed : (text : List ℕ) (at n : ℕ) → LeavesOpen text at (suc n) → 0 < at → at ≤ length text → length text ≤ at + 1 → longest text ≡ Some (record { piece = Fault Unclosed; len = length text })
-longest_unclosed text at n o pos low high =
+pub longest_unclosed : (text : List ℕ) (at level : ℕ) → LeavesOpen text at level → 0 < level → 0 < at → at ≤ length text → length text ≤ at + 1 → longest text ≡ Some (record { piece = Fault Unclosed; len = length text })
+longest_unclosed text at zero o p pos low high = absurd (omega arith)
+longest_unclosed text at (suc n) o p pos low high =
     let i : at + (length text - at) ≡ length text = omega arith in
     let a : 0 < length text = omega arith in
     let z : length text ≤ length text = omega arith in
     let b : length (drop at text) ≤ 1 = simp length-drop (omega arith) in
     longest_is text (length text) (Fault Unclosed) a z (rw i at (o.same (length text - at)) ∙ short_open n (length text - at) (drop at text) b)
     (λ m l h. absurd (omega arith))
+
+fits_on : (text w : List ℕ) → text ≡ 47 ∷ 42 ∷ w → 2 ≤ length text
+fits_on text w e = rw e (omega arith)
+
+pub opened_fits : (text : List ℕ) → starts_with nat_eq text (codes "/*") ≡ true → 2 ≤ length text
+opened_fits text e = fits_on text (drop 2 text) (begins text (codes "/*") e)
+
+pub line_found : (text : List ℕ) (n : ℕ) → starts_with nat_eq text (codes "//") ≡ true → n ≡ prefix_len (λ b. not (b == 10)) text → longest text ≡ Some (record { piece = Gap; len = n })
+line_found text n b e = rw e (longest_line text b)

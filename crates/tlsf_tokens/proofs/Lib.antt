@@ -2,3 +2,4 @@ pub mod Longest
 pub mod Quoted
 pub mod Comment
 pub mod Signs
+pub mod Cutting

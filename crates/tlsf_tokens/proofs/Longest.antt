@@ -1,17 +1,15 @@
 -- Which piece is the longest at the front of a text.
-use Rattle.std.proofs.Common.{◌≡◌, ◌<◌, ◌≤◌, ℕ, zero, suc, ◌+◌, ◌==◌, Bool, true, false, ◌&&◌, ◌||◌, not, List, [], ◌∷◌, ◌++◌, length, take, drop, get_or, codes, nat_eq, Option, None, Some, ◌⊎◌, inl, inr, refl, sym, ◌∙◌, ap, subst, arith, cond}
-use Rattle.std.proofs.lemmas.Bool.{cases_lt, cases_Bool}
+use Rattle.std.proofs.Common.{◌≡◌, ◌<◌, ◌≤◌, ℕ, zero, suc, ◌+◌, ◌==◌, Bool, true, false, ◌&&◌, List, [], ◌∷◌, length, take, get_or, Option, None, Some, inl, inr, refl, sym, ◌∙◌, ap, subst, arith, cond}
 use Rattle.std.proofs.Math.Nat.{eq-or-lt_of_le}
 use Rattle.std.proofs.lemmas.List.Sums.{prefix_len-le-length}
 use Rattle.std.specs.Char.{is_ascii_digit}
-use Rattle.std.specs.List.{prefix_len, list_all, starts_with}
-use Rattle.tlsf_tokens.specs.Words.{is_blank, is_name_start, is_name_part, is_among, signs, unsupported_signs}
-use Rattle.tlsf_tokens.specs.Pieces.{piece_of, word_piece, quoted_piece, text_before, comment_piece, mark_piece}
+use Rattle.std.specs.List.{prefix_len, list_all}
+use Rattle.tlsf_tokens.specs.Words.{is_blank, is_name_start, is_name_part}
+use Rattle.tlsf_tokens.specs.Pieces.{piece_of, word_piece}
 use Rattle.tlsf_tokens.specs.Cuts.{longest, longest_within, longest_or}
-use Rattle.tlsf_tokens.specs.declared.code.SpecCode.TheVariants.{Unclosed, Unsupported}
 use Rattle.tlsf_tokens.specs.declared.token.TokenKind.TheVariants as kind
 use Rattle.tlsf_tokens.specs.declared.token.Piece.{Piece}
-use Rattle.tlsf_tokens.specs.declared.token.Piece.TheVariants.{Gap, Token, Fault}
+use Rattle.tlsf_tokens.specs.declared.token.Piece.TheVariants.{Gap, Token}
 use Rattle.tlsf_tokens.specs.declared.token.Front.{Front}
 
 -- a beginning that is a piece, while none longer is
@@ -19,13 +17,14 @@ within_is : (text : List ℕ) (n : ℕ) (p : Piece) → 0 < n → piece_of (take
     → (k : ℕ) → n ≤ k → ((m : ℕ) → n < m → m ≤ k → piece_of (take m text) ≡ None) → longest_within k text ≡ Some (record { piece = p; len = n })
 within_is text n p pos is zero low none = absurd (omega arith)
 within_is text n p pos is (suc k) low none = elim (eq-or-lt_of_le low) [
-    inl e ↦ let at : piece_of (take (suc k) text) ≡ Some p = subst (λ (x : ℕ). piece_of (take x text) ≡ Some p) e is in
-            ap (λ (o : Option Piece). longest_or o (suc k) (longest_within k text)) at ∙ ap (λ (x : ℕ). Some (record { piece = p; len = x })) (sym e)
+  | inl e ↦ let at : piece_of (take (suc k) text) ≡ Some p = subst (λ (x : ℕ). piece_of (take x text) ≡ Some p) e is in
+      ap (λ (o : Option Piece). longest_or o (suc k) (longest_within k text)) at ∙ ap (λ (x : ℕ). Some (record { piece = p; len = x })) (sym e)
   | inr h ↦ let shorter : n ≤ k = omega arith in
-            let last : n < suc k = h in
-            let end : suc k ≤ suc k = omega arith in
-            ap (λ (o : Option Piece). longest_or o (suc k) (longest_within k text)) (none (suc k) last end)
-            ∙ within_is text n p pos is k shorter (λ m a b. let c : m ≤ suc k = omega arith in none m a c) ]
+      let last : n < suc k = h in
+      let end : suc k ≤ suc k = omega arith in
+      ap (λ (o : Option Piece). longest_or o (suc k) (longest_within k text)) (none (suc k) last end)
+      ∙ within_is text n p pos is k shorter (λ m a b. let c : m ≤ suc k = omega arith in none m a c)
+]
 
 pub longest_is : (text : List ℕ) (n : ℕ) (p : Piece) → 0 < n → n ≤ length text → piece_of (take n text) ≡ Some p
     → ((m : ℕ) → n < m → m ≤ length text → piece_of (take m text) ≡ None) → longest text ≡ Some (record { piece = p; len = n })
@@ -57,6 +56,20 @@ within_bounds text (suc k) f e = bounds_or (piece_of (take (suc k) text)) k (lon
 pub longest_bounds : (text : List ℕ) (f : Front) → longest text ≡ Some f → (0 < f.len) × (f.len ≤ length text)
 unfolding longest
 longest_bounds text f e = within_bounds text (length text) f e
+
+piece_or : (o : Option Piece) (k : ℕ) (text : List ℕ) (shorter : Option Front) (f : Front) → piece_of (take (suc k) text) ≡ o → (shorter ≡ Some f → piece_of (take f.len text) ≡ Some f.piece)
+    → longest_or o (suc k) shorter ≡ Some f → piece_of (take f.len text) ≡ Some f.piece
+piece_or None k text shorter f is h e = h e
+piece_or (Some p) k text shorter f is h e = let l : suc k ≡ f.len = cc in let q : p ≡ f.piece = cc in rw (← l, ← q) is
+
+within_piece : (text : List ℕ) (k : ℕ) (f : Front) → longest_within k text ≡ Some f → piece_of (take f.len text) ≡ Some f.piece
+within_piece text zero f e = absurd (cc)
+within_piece text (suc k) f e = piece_or (piece_of (take (suc k) text)) k text (longest_within k text) f refl (within_piece text k f) e
+
+-- the longest piece is one
+pub longest_piece : (text : List ℕ) (f : Front) → longest text ≡ Some f → piece_of (take f.len text) ≡ Some f.piece
+unfolding longest
+longest_piece text f e = within_piece text (length text) f e
 
 -- ---- the longest front whose bytes pass
 
@@ -127,3 +140,12 @@ longest_blank [] a b c e = absurd (cc)
 longest_blank (x ∷ w) a b c e =
     run_longest (λ _. false) (λ _. Gap) x w (λ m. rw (a, b, c, e) refl)
     ∙ ap (λ (n : ℕ). Some (record { piece = Gap; len = suc n })) (none_first w)
+
+-- the same, where the number of bytes has a name
+pub word_found : (text : List ℕ) (n : ℕ) (p : Piece) → is_name_start (get_or text 0 0) ≡ true → n ≡ prefix_len is_name_part text → p ≡ word_piece (take n text)
+    → longest text ≡ Some (record { piece = p; len = n })
+word_found text n p a e w = rw (w, e) (longest_word text a)
+
+pub number_found : (text : List ℕ) (n : ℕ) → is_name_start (get_or text 0 0) ≡ false → is_ascii_digit (get_or text 0 0) ≡ true → n ≡ prefix_len is_ascii_digit text
+    → longest text ≡ Some (record { piece = Token kind.Number; len = n })
+number_found text n a b e = rw e (longest_number text a b)

@@ -1,14 +1,13 @@
 -- A text in quotes, and one that isn't closed.
-use Rattle.std.proofs.Common.{◌≡◌, ◌<◌, ◌≤◌, ℕ, zero, suc, ◌+◌, ◌==◌, Bool, true, false, ◌&&◌, ◌||◌, not, List, [], ◌∷◌, ◌++◌, length, take, drop, get_or, codes, nat_eq, Option, None, Some, ◌⊎◌, inl, inr, refl, sym, ◌∙◌, ap, subst, arith, cond}
-use Rattle.std.proofs.lemmas.List.{take_all}
+use Rattle.std.proofs.Common.{◌≡◌, ◌<◌, ◌≤◌, ℕ, zero, suc, ◌+◌, ◌-◌, ◌==◌, Bool, true, false, not, List, [], ◌∷◌, length, take, drop, get_or, None, Some, refl, ◌∙◌, arith, cond}
+use Rattle.std.proofs.lemmas.List.{take_all, length-drop}
 use Rattle.std.proofs.lemmas.List.Sums.{prefix_len-le-length}
 use Rattle.std.specs.List.{prefix_len}
 use Rattle.tlsf_tokens.specs.Pieces.{piece_of, quoted_piece, text_before}
 use Rattle.tlsf_tokens.specs.Cuts.{longest}
 use Rattle.tlsf_tokens.specs.declared.code.SpecCode.TheVariants.{Unclosed}
 use Rattle.tlsf_tokens.specs.declared.token.TokenKind.TheVariants as kind
-use Rattle.tlsf_tokens.specs.declared.token.Piece.{Piece}
-use Rattle.tlsf_tokens.specs.declared.token.Piece.TheVariants.{Gap, Token, Fault}
+use Rattle.tlsf_tokens.specs.declared.token.Piece.TheVariants.{Token, Fault}
 use Rattle.tlsf_tokens.proofs.Longest.{longest_is}
 
 -- the bytes before the first quote
@@ -76,3 +75,24 @@ longest_open (b ∷ w) e l =
     let whole : take (length w) w ≡ w = take_all (length w) w (omega arith) in
     longest_is (b ∷ w) (length (b ∷ w)) (Fault Unclosed) (omega arith) end (rw whole (quote_first b w e ∙ is_open w all))
     (λ m low high. absurd (omega arith))
+
+-- the same, as the code has it: the slice behind the quote, and a name for the number of bytes before the next
+tail_is : (text : List ℕ) → take (length text - 1) (drop 1 text) ≡ drop 1 text
+tail_is text = let l : length (drop 1 text) ≤ length text - 1 = simp length-drop (omega arith) in take_all (length text - 1) (drop 1 text) l
+
+abbrev IsInner : List ℕ → ℕ → Type 0
+IsInner text n = n ≡ prefix_len (λ b. not (b == 34)) (take (length text - 1) (drop 1 text))
+
+named : (text : List ℕ) (n : ℕ) → IsInner text n → n ≡ prefix_len (λ b. not (b == 34)) (drop 1 text)
+named text n e = rw tail_is at e
+
+pub inner_fits : (text : List ℕ) (n : ℕ) → 0 < length text → IsInner text n → n < length text
+inner_fits text n l e =
+    let f : n ≡ prefix_len (λ b. not (b == 34)) (drop 1 text) = named text n e in
+    omega (arith, prefix_len-le-length (λ b. not (b == 34)) (drop 1 text), length-drop 1 text)
+
+pub text_found : (text : List ℕ) (n : ℕ) → get_or text 0 0 ≡ 34 → IsInner text n → n + 1 < length text → longest text ≡ Some (record { piece = Token kind.Text; len = n + 2 })
+text_found text n q e l = let f : n ≡ prefix_len (λ b. not (b == 34)) (drop 1 text) = named text n e in rw f (longest_text text q (rw f at l))
+
+pub text_open : (text : List ℕ) (n : ℕ) → get_or text 0 0 ≡ 34 → IsInner text n → length text ≤ n + 1 → longest text ≡ Some (record { piece = Fault Unclosed; len = length text })
+text_open text n q e l = longest_open text q (rw (named text n e) at l)

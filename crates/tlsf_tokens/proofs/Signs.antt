@@ -1,19 +1,16 @@
 -- Signs: the longest one at the front of a text that begins with nothing else.
-use Rattle.std.proofs.Common.{◌≡◌, ◌<◌, ◌≤◌, ℕ, zero, suc, ◌+◌, ◌-◌, ◌==◌, Bool, true, false, ◌&&◌, ◌||◌, not, nat_le, List, [], ◌∷◌, ◌++◌, length, take, drop, get_or, codes, nat_eq, Option, None, Some, ◌⊎◌, inl, inr, refl, sym, ◌∙◌, ap, subst, arith, cond}
+use Rattle.std.proofs.Common.{◌≡◌, ◌<◌, ◌≤◌, ℕ, zero, suc, ◌==◌, Bool, true, false, ◌&&◌, ◌||◌, nat_le, List, [], ◌∷◌, length, take, get_or, codes, nat_eq, None, Some, inl, inr, refl, ◌∙◌, ap, arith}
 use Rattle.std.proofs.lemmas.List.{length-take-le}
 use Rattle.std.proofs.lemmas.Slice.Eq.{bytes_eq-Decides}
 use Rattle.std.proofs.lemmas.Bool.{cases_lt, ne_eqb, leb-true, le-leb}
 use Rattle.std.proofs.Math.Nat.{eq-or-lt_of_le}
-use Rattle.std.proofs.lemmas.Bool.Decides.{nat_tests}
-use Rattle.std.specs.Char.{is_ascii_digit}
 use Rattle.std.specs.List.{list_all, list_any, starts_with}
 use Rattle.std.specs.Str.{bytes_eq}
-use Rattle.tlsf_tokens.specs.Words.{is_blank, is_name_start, is_among, signs, unsupported_signs}
-use Rattle.tlsf_tokens.specs.Pieces.{piece_of, mark_piece, sign_piece, BeginsSign}
+use Rattle.tlsf_tokens.specs.Words.{is_among, signs, unsupported_signs}
+use Rattle.tlsf_tokens.specs.Pieces.{piece_of, sign_piece, BeginsSign}
 use Rattle.tlsf_tokens.specs.Cuts.{longest}
 use Rattle.tlsf_tokens.specs.declared.code.SpecCode.TheVariants.{Unsupported}
 use Rattle.tlsf_tokens.specs.declared.token.TokenKind.TheVariants as kind
-use Rattle.tlsf_tokens.specs.declared.token.Piece.{Piece}
 use Rattle.tlsf_tokens.specs.declared.token.Piece.TheVariants.{Token, Fault}
 use Rattle.tlsf_tokens.proofs.Longest.{longest_is, longest_none}
 
@@ -71,10 +68,12 @@ short_unsupported = refl
 
 no_sign_at : (text : List ℕ) (n m : ℕ) → 0 < n → n < m → m ≤ length text → (n < 2 → has 2 text ≡ false) → (n < 3 → has 3 text ≡ false) → is_among signs (take m text) ≡ false
 no_sign_at text n m pos low high two three = elim (cases_lt 3 m) [
-    inl l ↦ let e : length (take m text) ≡ m = length-take-le m text high in long_word 3 signs (take m text) short_signs (omega arith)
+  | inl l ↦ let e : length (take m text) ≡ m = length-take-le m text high in long_word 3 signs (take m text) short_signs (omega arith)
   | inr l ↦ elim (cases_lt 2 m) [
-        inl g ↦ let e : m ≡ 3 = omega arith in let a : n < 3 = omega arith in let b : 3 ≤ length text = omega arith in rw e (has_not 3 text b (three a))
-      | inr g ↦ let e : m ≡ 2 = omega arith in let a : n < 2 = omega arith in let b : 2 ≤ length text = omega arith in rw e (has_not 2 text b (two a)) ] ]
+    | inl g ↦ let e : m ≡ 3 = omega arith in let a : n < 3 = omega arith in let b : 3 ≤ length text = omega arith in rw e (has_not 3 text b (three a))
+    | inr g ↦ let e : m ≡ 2 = omega arith in let a : n < 2 = omega arith in let b : 2 ≤ length text = omega arith in rw e (has_not 2 text b (two a))
+  ]
+]
 
 none_longer : (text : List ℕ) → BeginsSign text → (n m : ℕ) → 0 < n → n < m → m ≤ length text → (n < 2 → has 2 text ≡ false) → (n < 3 → has 3 text ≡ false) → piece_of (take m text) ≡ None
 none_longer text b n m pos low high two three =
@@ -116,5 +115,6 @@ longest_nothing text b n first two three =
     let low : 1 ≤ length text = omega arith in
     let one : 0 < 1 = omega arith in
     longest_none text (λ m l h. elim (eq-or-lt_of_le l) [
-        inl e ↦ let f : m ≡ 1 = omega arith in rw f (sign_form text b 1 one ∙ other_piece text some n (has_not 1 text low first))
-      | inr g ↦ let k : 1 < m = omega arith in none_longer text b 1 m one k h (λ _. two) (λ _. three) ])
+      | inl e ↦ let f : m ≡ 1 = omega arith in rw f (sign_form text b 1 one ∙ other_piece text some n (has_not 1 text low first))
+      | inr g ↦ let k : 1 < m = omega arith in none_longer text b 1 m one k h (λ _. two) (λ _. three)
+    ])

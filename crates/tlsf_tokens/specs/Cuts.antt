@@ -63,3 +63,9 @@ pub data IsGap : List ℕ → Type 0 where
 abbrev pub HasGapsAround : List ℕ → ℕ → List Token → ℕ → Type 0
 HasGapsAround text from [] to = IsGap (slice_range text from to)
 HasGapsAround text from (token ∷ tokens) to = IsGap (slice_range text from token.start) × HasGapsAround text token.end tokens to
+
+-- two cuts of one text are the same: the tokens, why the list ends, and where
+abbrev pub HasOneCut : Type 0
+HasOneCut =
+    (text : List ℕ) (stop stop' : Option SpecCode) (stop_at stop_at' : ℕ) (tokens tokens' : List Token)
+    → Cuts text stop stop_at 0 tokens → Cuts text stop' stop_at' 0 tokens' → (tokens ≡ tokens') × (stop ≡ stop') × (stop_at ≡ stop_at')

@@ -1,5 +1,5 @@
 -- What bytes are as a whole, by the lexical rules of TLSF 1.1: a blank, a comment, a token, or a fault.
-use Rattle.std.specs.Prelude.{◌≡◌, ◌<◌, ℕ, zero, suc, Bool, false, not, ◌&&◌, ◌==◌, nat_eq, if◌then◌else◌, List, [], ◌∷◌, drop, length, slice_index, codes, Option, None, Some}
+use Rattle.std.specs.Prelude.{◌≡◌, ◌<◌, ℕ, zero, suc, false, not, ◌&&◌, ◌==◌, nat_eq, if◌then◌else◌, List, [], ◌∷◌, drop, length, slice_index, codes, Option, None, Some}
 use Rattle.std.specs.Char.{is_ascii_digit}
 use Rattle.std.specs.List.{list_all, starts_with}
 use Rattle.tlsf_tokens.specs.Words.{is_blank, is_name_start, is_name_part, is_among, signs, sign_words, keywords, unsupported_words, unsupported_signs}

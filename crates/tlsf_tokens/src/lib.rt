@@ -5,12 +5,11 @@
 #![tactic(auto)]
 
 mod code;
-
-
+pub mod laws;
 mod scan;
 mod token;
 mod words;
 
 pub use code::{SpecCode, SpecFault};
-
+pub use scan::tokens;
 pub use token::{Front, Piece, Token, TokenKind, TokenList};

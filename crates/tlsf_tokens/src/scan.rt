@@ -1,6 +1,6 @@
 // Cutting a text: one pass, in which the longest piece at each place is taken.
 
-ghost use Rattle.std.specs.Prelude.{◌≡◌, ◌<◌, ◌≤◌, ◌==◌, ◌&&◌, true, nat_le, not, take, length, slice_index, codes, IfOk, IfSome, nat_eq, Some};
+ghost use Rattle.std.specs.Prelude.{◌≡◌, ◌<◌, ◌+◌, ◌==◌, ◌&&◌, true, nat_le, not, take, length, slice_index, codes, IfOk, IsNone, ◌↔◌, nat_eq, Some};
 ghost use Rattle.std.specs.Char.{is_ascii_digit};
 ghost use Rattle.std.specs.List.{prefix_len, starts_with};
 ghost use Rattle.tlsf_tokens.specs.Words.{is_name_start, is_name_part, is_among, signs};
@@ -52,6 +52,14 @@ fn quoted(rest: &[u8]) -> Front
     }
 }
 
+/// Whether these two bytes stand at the place.
+fn is_pair(rest: &[u8], at: usize, first: u8, second: u8) -> bool
+    requires { at + 1 < length rest.now }
+    ensures { result ≡ (slice_index rest.now at == first && slice_index rest.now (at + 1) == second) }
+{
+    rest[at] == first && rest[at + 1] == second
+}
+
 /// A text that begins with the opener of a comment that nests.
 fn comment(rest: &[u8]) -> Front
     requires { starts_with nat_eq rest.now (codes "/*") ≡ true }
@@ -59,26 +67,27 @@ fn comment(rest: &[u8]) -> Front
 {
     let mut level: usize = 1;
     let mut at = 2;
-    while at + 1 < rest.len() {
-        if rest[at] == b'/' && rest[at + 1] == b'*' {
+    while level != 0 && at + 1 < rest.len() {
+        if is_pair(rest, at, b'/', b'*') {
             level += 1;
             at += 2;
-        } else if rest[at] == b'*' && rest[at + 1] == b'/' {
+        } else if is_pair(rest, at, b'*', b'/') {
             level -= 1;
             at += 2;
-            if level == 0 {
-                return Front {
-                    piece: Piece::Gap,
-                    len: at,
-                };
-            }
         } else {
             at += 1;
         }
     }
-    Front {
-        piece: Piece::Fault(SpecCode::Unclosed),
-        len: rest.len(),
+    if level == 0 {
+        Front {
+            piece: Piece::Gap,
+            len: at,
+        }
+    } else {
+        Front {
+            piece: Piece::Fault(SpecCode::Unclosed),
+            len: rest.len(),
+        }
     }
 }
 
@@ -117,8 +126,7 @@ fn sign(rest: &[u8]) -> Option<Front>
 /// What stands at the front of a text that isn't empty, if anything of TLSF does.
 fn front(rest: &[u8]) -> Option<Front>
     requires { 0 < length rest.now }
-    ensures value { longest rest.now ≡ result }
-    ensures within { IfSome result (λ front. (0 < front.len) × (front.len ≤ length rest.now)) }
+    ensures { longest rest.now ≡ result }
 {
     let first = rest[0];
     if words::is_name_start(first) {
@@ -151,41 +159,66 @@ fn front(rest: &[u8]) -> Option<Front>
     }
 }
 
+fn cut(alloc: Global, text: &[u8]) -> Result<TokenList, AllocError>
+    ensures cut { IfOk result (λ list. Cuts text.now list.stop list.stop_at 0 list.tokens.items) }
+    ensures stop { IfOk result (λ list. Stops text.now list.stop_at list.stop) }
+{
+    let mut tokens = Vec::new(alloc);
+    let mut at = 0;
+    while at < text.len() {
+        let stop_at = at as u64;
+        let Some(found) = front(&text[at..]) else {
+            let stop = Some(SpecCode::BadByte);
+            return Ok(TokenList {
+                tokens,
+                stop,
+                stop_at,
+            });
+        };
+        match found.piece {
+            Piece::Fault(code) => {
+                let stop = Some(code);
+                return Ok(TokenList {
+                    tokens,
+                    stop,
+                    stop_at,
+                });
+            }
+            Piece::Gap => {}
+            Piece::Token(kind) => {
+                let end = (at + found.len) as u64;
+                tokens.push(Token {
+                    kind,
+                    start: stop_at,
+                    end,
+                })?;
+            }
+        }
+        at += found.len;
+    }
+    Ok(TokenList {
+        tokens,
+        stop: None,
+        stop_at: at as u64,
+    })
+}
+
 /// Cuts a text into its tokens, up to the first place where none begins. It takes time in proportion to the text's
 /// length, and memory in proportion to the number of tokens.
 pub fn tokens(alloc: Global, text: &[u8]) -> Result<TokenList, AllocError>
     // The tokens are those of the text, each the longest at its place, and the list ends where it has to.
     ensures cut { IfOk result (λ list. Cuts text.now list.stop list.stop_at 0 list.tokens.items) }
     ensures stop { IfOk result (λ list. Stops text.now list.stop_at list.stop) }
+    ensures whole { IfOk result (λ list. IsNone list.stop ↔ (list.stop_at ≡ length text.now)) }
 
+    // What follows from it.
     ensures in_order { IfOk result (λ list. IsInOrder 0 list.tokens.items list.stop_at) }
     ensures formed { IfOk result (λ list. AreFormed text.now list.tokens.items) }
     ensures gaps { IfOk result (λ list. HasGapsAround text.now 0 list.tokens.items list.stop_at) }
 {
-    let mut tokens = Vec::new(alloc);
-    let mut at = 0;
-    let mut stop = None;
-    while stop.is_none() && at < text.len() {
-        match front(&text[at..]) {
-            None => stop = Some(SpecCode::BadByte),
-            Some(found) => match found.piece {
-                Piece::Fault(code) => stop = Some(code),
-                Piece::Gap => at += found.len,
-                Piece::Token(kind) => {
-                    let end = at + found.len;
-                    tokens.push(Token {
-                        kind,
-                        start: at as u64,
-                        end: end as u64,
-                    })?;
-                    at = end;
-                }
-            },
-        }
-    }
-    Ok(TokenList {
-        tokens,
-        stop,
-        stop_at: at as u64,
-    })
+    let list = cut(alloc, text)?;
+    Ok(list)
 }
+
+#[cfg(test)]
+mod tests;
