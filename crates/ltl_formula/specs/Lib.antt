@@ -1,0 +1,5 @@
+pub mod Tree
+pub mod Truth
+pub mod Nodes
+pub mod Added
+pub mod Laws

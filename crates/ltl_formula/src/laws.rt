@@ -1,0 +1,27 @@
+// Laws of truth and of lists of formulas. Each is the contract of a function that does nothing.
+ghost use Rattle.ltl_formula.specs.Laws.{GrowingKeepsFormulas, OneIdPerFormula, OperatorsMean, OperatorsUnfold, TruthIsOfTheFuture};
+
+/// Until, finally and globally mean what they mean on the infinite word, without a bound on the steps.
+pub fn operators_mean()
+    ensures { OperatorsMean }
+{}
+
+/// Until and release at a position go by the position and the next.
+pub fn operators_unfold()
+    ensures { OperatorsUnfold }
+{}
+
+/// Truth depends on the future alone, so unrolling a lasso keeps it.
+pub fn truth_is_of_the_future()
+    ensures { TruthIsOfTheFuture }
+{}
+
+/// No growing of a list changes the formula of an id that stood.
+pub fn growing_keeps_formulas()
+    ensures { GrowingKeepsFormulas }
+{}
+
+/// Equal formulas have equal ids.
+pub fn one_id_per_formula()
+    ensures { OneIdPerFormula }
+{}
