@@ -10,11 +10,12 @@ use Rattle.std.proofs.Math.Seq.{get_or-append_seam}
 use Rattle.ltl_formula.specs.declared.faults.AddFault.{AddFault}
 use Rattle.ltl_formula.specs.declared.nodes.FormulaId.{FormulaId}
 use Rattle.ltl_formula.specs.declared.nodes.Node.{Node}
-use Rattle.ltl_formula.specs.declared.nodes.Node.TheVariants.{False}
+use Rattle.ltl_formula.specs.declared.nodes.Node.TheVariants.{True, False, Signal, Not, Next, Finally, Globally, And, Or, Implies, Equiv, Until, Release, WeakUntil}
 use Rattle.ltl_formula.specs.declared.nodes.TheConstants.{MAX_NODES, MAX_SIGNALS}
 use Rattle.ltl_formula.specs.Nodes.{tree_of, trees_of, tree_at, pick, node_at, PartsBelow, SignalBelow, IsNodeList, Stands, Grows}
 use Rattle.ltl_formula.specs.Added.{node_eq, Built, built_at, added}
-use Rattle.ltl_formula.specs.Laws.{OneIdPerFormula}
+use Rattle.ltl_formula.specs.Laws.{OneIdPerFormula, SignalsAreBelow}
+use Rattle.ltl_formula.specs.Tree.{Tree, SignalsBelow}
 use Rattle.ltl_formula.proofs.NodeEquality.{same_id, node_eq-true, node_eq-self, node_from_tree}
 use Rattle.ltl_formula.proofs.Trees.{tree_at-append, tree_at-last, tree_at-node}
 
@@ -198,3 +199,30 @@ module _ (old new : List Node) (node : Node) where
       → IfOk r (λ id. tree_at new id ≡ tree_of (trees_of old) node)
   last-tree (Err fault) last grown = tt
   last-tree (Ok id) last grown = ap (tree_at new) last.0 ∙ ap (λ xs. tree_at xs (record { 0 = length old })) grown ∙ tree_at-last old node
+
+-- a node's formula has the node's signal and those of its parts
+SignalsBelow-tree_of : (n i : ℕ) (trees : List Tree) (node : Node) → PartsBelow i node → SignalBelow n node → ((p : FormulaId) → p.0 < i → SignalsBelow n (pick trees p)) → SignalsBelow n (tree_of trees node)
+SignalsBelow-tree_of n i trees True parts signal each = tt
+SignalsBelow-tree_of n i trees False parts signal each = tt
+SignalsBelow-tree_of n i trees (Signal s) parts signal each = signal
+SignalsBelow-tree_of n i trees (Not a) parts signal each = each a parts
+SignalsBelow-tree_of n i trees (Next a) parts signal each = each a parts
+SignalsBelow-tree_of n i trees (Finally a) parts signal each = each a parts
+SignalsBelow-tree_of n i trees (Globally a) parts signal each = each a parts
+SignalsBelow-tree_of n i trees (And a b) parts signal each = (each a parts.0, each b parts.1)
+SignalsBelow-tree_of n i trees (Or a b) parts signal each = (each a parts.0, each b parts.1)
+SignalsBelow-tree_of n i trees (Implies a b) parts signal each = (each a parts.0, each b parts.1)
+SignalsBelow-tree_of n i trees (Equiv a b) parts signal each = (each a parts.0, each b parts.1)
+SignalsBelow-tree_of n i trees (Until a b) parts signal each = (each a parts.0, each b parts.1)
+SignalsBelow-tree_of n i trees (Release a b) parts signal each = (each a parts.0, each b parts.1)
+SignalsBelow-tree_of n i trees (WeakUntil a b) parts signal each = (each a parts.0, each b parts.1)
+
+signals_below_by : (nodes : List Node) → IsNodeList nodes → (fuel : ℕ) (id : FormulaId) → id.0 < fuel → Stands nodes id → SignalsBelow MAX_SIGNALS (tree_at nodes id)
+signals_below_by nodes list zero id small h = absurd (omega arith)
+signals_below_by nodes list (suc fuel) id small h =
+    rw (tree_at-node nodes id.0 h (list.parts_first id.0))
+    (SignalsBelow-tree_of MAX_SIGNALS id.0 (trees_of nodes) (node_at nodes id.0) (list.parts_first id.0) (list.signals id.0)
+    (λ p below. signals_below_by nodes list fuel p (omega arith) (omega arith)))
+
+pub signals_are_below : SignalsAreBelow
+signals_are_below nodes id list h = signals_below_by nodes list (suc id.0) id (omega arith) h

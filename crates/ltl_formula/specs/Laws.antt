@@ -2,7 +2,8 @@ use Rattle.std.specs.Prelude.{◌≡◌, ◌↔◌, ℕ, suc, ◌<◌, Bool, tru
 use Rattle.letter_word.specs.Word.{Word, HasRing, SameWord, SameFuture, lasso_len, next, after, unrolled_of, unrolled_times}
 use Rattle.ltl_formula.specs.declared.nodes.FormulaId.{FormulaId}
 use Rattle.ltl_formula.specs.declared.nodes.Node.{Node}
-use Rattle.ltl_formula.specs.Tree.{Tree}
+use Rattle.ltl_formula.specs.Tree.{Tree, SignalsBelow}
+use Rattle.ltl_formula.specs.declared.nodes.TheConstants.{MAX_SIGNALS}
 use Rattle.ltl_formula.specs.Tree.Tree.{truth, falsity, signal, negation, next_time, finally, globally, conjunction, disjunction, implication, equivalence, until, release, weak_until}
 use Rattle.ltl_formula.specs.Truth.{until_at, release_at, holds}
 use Rattle.ltl_formula.specs.Nodes.{IsNodeList, Grows, Stands, tree_at}
@@ -40,3 +41,7 @@ GrowingKeepsFormulas = (old new : List Node) (id : FormulaId) → Grows old new 
 -- a list has one id for a formula
 abbrev pub OneIdPerFormula : Type 0
 OneIdPerFormula = (nodes : List Node) (a b : FormulaId) → IsNodeList nodes → Stands nodes a → Stands nodes b → tree_at nodes a ≡ tree_at nodes b → a ≡ b
+
+-- the formulas of a list speak of signals below 16 alone
+abbrev pub SignalsAreBelow : Type 0
+SignalsAreBelow = (nodes : List Node) (id : FormulaId) → IsNodeList nodes → Stands nodes id → SignalsBelow MAX_SIGNALS (tree_at nodes id)

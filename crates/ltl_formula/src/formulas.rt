@@ -1,10 +1,10 @@
-ghost use Rattle.std.specs.Prelude.{◌≡◌, ◌<◌, ◌≤◌, [], ◌∷◌, ◌++◌, Err, Some, None, IfOk, IfErr, OnOk, OnErr, length, position, slice_get};
+ghost use Rattle.std.specs.Prelude.{◌≡◌, ◌↔◌, ◌<◌, ◌≤◌, IsTrue, [], ◌∷◌, ◌++◌, Err, Some, None, IfOk, IfErr, OnOk, OnErr, length, position, slice_get};
 ghost use Rattle.ltl_formula.specs.Nodes.{Grows, IsNodeList, PartsBelow, SignalBelow, Stands, tree_at, tree_of, trees_of};
 ghost use Rattle.ltl_formula.specs.Added.{added, node_eq};
 ghost use Rattle.ltl_formula.specs.declared.nodes.TheConstants.{MAX_SIGNALS};
 
 use crate::faults::AddFault;
-use crate::nodes::{FormulaId, MAX_NODES, Node};
+use crate::nodes::{FormulaId, MAX_NODES, MAX_SIGNALS, Node};
 use indexmap::IndexSet;
 use std::alloc::Global;
 use std::marker::Model;
@@ -56,6 +56,25 @@ impl Formulas {
         self.nodes.as_slice()[id.0 as usize]
     }
 
+    /// Whether `add` may be called at the node: its parts stand, and its signal is below 16.
+    pub fn can_add(&self, node: Node) -> bool
+        ensures { IsTrue result ↔ (PartsBelow (length self.now) node × SignalBelow MAX_SIGNALS node) }
+    {
+        let stands = |id: FormulaId| (id.0 as usize) < self.nodes.len();
+        match node {
+            Node::True | Node::False => true,
+            Node::Signal(signal) => signal < MAX_SIGNALS,
+            Node::Not(a) | Node::Next(a) | Node::Finally(a) | Node::Globally(a) => stands(a),
+            Node::And(a, b)
+            | Node::Or(a, b)
+            | Node::Implies(a, b)
+            | Node::Equiv(a, b)
+            | Node::Until(a, b)
+            | Node::Release(a, b)
+            | Node::WeakUntil(a, b) => stands(a) && stands(b),
+        }
+    }
+
     /// The id of an equal node that stands, else the new last one. Its parts must stand, and its signal
     /// be below 16. It is refused where 1,024 nodes stand and this one is new; the list is then as before.
     pub fn add(&mut self, node: Node) -> Result<FormulaId, AddFault>
@@ -105,5 +124,65 @@ fn insert_absent(nodes: &mut IndexSet<Node>, node: Node) -> Result<(), AddFault>
     match nodes.insert_full(node) {
         Ok(_) => Ok(()),
         Err(_) => Err(AddFault::NoMemory),
+    }
+}
+
+#[cfg(test)]
+mod tests {
+    use super::*;
+    use std::process::Abort;
+    use std::test::Fail;
+
+    fn add(rt: &impl Abort, formulas: &mut Formulas, node: Node) -> Result<FormulaId, AddFault> {
+        assert!(rt; formulas.can_add(node));
+        formulas.add(node)
+    }
+
+    // A chain of Next on `true`, as long as a list may be.
+    fn longest_chain(rt: &impl Abort, alloc: Global) -> Result<Formulas, AddFault> {
+        let mut formulas = Formulas::new(alloc);
+        let mut last = add(rt, &mut formulas, Node::True)?;
+        for _ in 1..MAX_NODES {
+            last = add(rt, &mut formulas, Node::Next(last))?;
+        }
+        Ok(formulas)
+    }
+
+    #[test]
+    fn a_full_list_takes_no_new_node_and_answers_those_that_stand(
+        rt: HostRuntime,
+    ) -> Result<(), Fail> {
+        let mut formulas = longest_chain(&rt, rt.alloc())?;
+        let last = FormulaId(1023);
+        assert_eq!(rt;
+            add(&rt, &mut formulas, Node::Next(last)),
+            Err(AddFault::TooManyNodes)
+        );
+        assert_eq!(rt;
+            add(&rt, &mut formulas, Node::Next(FormulaId(1022))),
+            Ok(last)
+        );
+        assert_eq!(rt; formulas.len(), 1024);
+        Ok(())
+    }
+
+    #[test]
+    fn equal_nodes_have_one_id(rt: HostRuntime) -> Result<(), Fail> {
+        let mut formulas = Formulas::new(rt.alloc());
+        let (a, b) = (FormulaId(0), FormulaId(1));
+        for (node, id) in [
+            (Node::Signal(0), 0),
+            (Node::Signal(1), 1),
+            (Node::And(a, b), 2),
+            (Node::Signal(1), 1),
+            (Node::And(b, a), 3),
+            (Node::And(a, b), 2),
+        ] {
+            assert_eq!(rt; add(&rt, &mut formulas, node), Ok(FormulaId(id)));
+        }
+        assert!(rt;
+            !formulas.can_add(Node::Not(FormulaId(4))) && !formulas.can_add(Node::Signal(16))
+        );
+        Ok(())
     }
 }

@@ -1,5 +1,5 @@
 // Laws of truth and of lists of formulas. Each is the contract of a function that does nothing.
-ghost use Rattle.ltl_formula.specs.Laws.{GrowingKeepsFormulas, OneIdPerFormula, OperatorsMean, OperatorsUnfold, TruthIsOfTheFuture};
+ghost use Rattle.ltl_formula.specs.Laws.{GrowingKeepsFormulas, OneIdPerFormula, OperatorsMean, OperatorsUnfold, SignalsAreBelow, TruthIsOfTheFuture};
 
 /// Until, finally and globally mean what they mean on the infinite word, without a bound on the steps.
 pub fn operators_mean()
@@ -24,4 +24,9 @@ pub fn growing_keeps_formulas()
 /// Equal formulas have equal ids.
 pub fn one_id_per_formula()
     ensures { OneIdPerFormula }
+{}
+
+/// The formulas of a list speak of signals below 16 alone.
+pub fn signals_are_below()
+    ensures { SignalsAreBelow }
 {}

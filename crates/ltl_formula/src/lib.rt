@@ -8,6 +8,7 @@ mod faults;
 mod formulas;
 pub mod laws;
 mod nodes;
+mod texts;
 
 pub use faults::AddFault;
 pub use formulas::Formulas;

@@ -1,0 +1,224 @@
+ghost use Rattle.std.specs.Prelude.{◌≡◌, ◌<◌, ◌≤◌, ◌++◌, codes, length, vec_len, IfOk, OnOk, OnErr};
+ghost use Rattle.ltl_formula.specs.Nodes.{PartsBelow, Stands, tree_at};
+ghost use Rattle.ltl_formula.specs.Text.{formula_text};
+ghost use Rattle.ltl_formula.specs.Tree.{SignalsBelow};
+ghost use Rattle.ltl_formula.specs.Written.{Writes};
+
+use crate::formulas::Formulas;
+use crate::nodes::{FormulaId, MAX_NODES, Node};
+use std::alloc::AllocError;
+use text_base::Name;
+
+/// Appends the text of the formula, with `names[s]` for signal s. Every operator but `!` has its brackets.
+/// The text can be exponentially longer than the list of nodes, so its length is found first; where there is no
+/// room for it, `out` stays as it was.
+pub fn write_formula(
+    formulas: &Formulas,
+    f: FormulaId,
+    names: &[Name],
+    out: &mut Vec<u8>,
+) -> Result<(), AllocError>
+    requires stands { Stands formulas.now f }
+    requires named { SignalsBelow (length names.now) (tree_at formulas.now f) }
+    ensures ok { OnOk result (out.new.items ≡ out.old.items ++ formula_text names.now (tree_at formulas.now f)) }
+    ensures err { OnErr result (out.new.items ≡ out.old.items) }
+{
+    out.reserve(text_len(formulas, f, names))?;
+    let start = out.len();
+    let written = write_node(formulas, f, names, out);
+    if written.is_err() {
+        out.truncate(start);
+    }
+    written
+}
+
+// The length of the formula's text, or the greatest number where it is longer. One pass over the nodes.
+fn text_len(formulas: &Formulas, f: FormulaId, names: &[Name]) -> usize
+    requires { Stands formulas.now f }
+{
+    let mut lengths = [0usize; MAX_NODES];
+    for place in 0..=f.0 {
+        let length = node_text_len(formulas.node(FormulaId(place)), &lengths, names);
+        lengths[place as usize] = length;
+    }
+    lengths[f.0 as usize]
+}
+
+// The length of the text of one node, given those of its parts.
+fn node_text_len(node: Node, lengths: &[usize], names: &[Name]) -> usize
+    requires { PartsBelow (length lengths.now) node }
+{
+    match node {
+        Node::True => 4,
+        Node::False => 5,
+        Node::Signal(signal) => names
+            .get(signal as usize)
+            .map_or(0, |name| name.bytes().len()),
+        Node::Not(a) => lengths[a.0 as usize].saturating_add(1),
+        Node::Next(a) | Node::Finally(a) | Node::Globally(a) =>
+            lengths[a.0 as usize].saturating_add(4),
+        Node::And(a, b) | Node::Or(a, b) | Node::Implies(a, b) => joined_len(
+            lengths[a.0 as usize],
+            2,
+            lengths[b.0 as usize],
+        ),
+        Node::Equiv(a, b) => joined_len(lengths[a.0 as usize], 3, lengths[b.0 as usize]),
+        Node::Until(a, b) | Node::Release(a, b) | Node::WeakUntil(a, b) => joined_len(
+            lengths[a.0 as usize],
+            1,
+            lengths[b.0 as usize],
+        ),
+    }
+}
+
+// The length of an operator's text between its parts, with brackets and blanks.
+fn joined_len(left: usize, operator: usize, right: usize) -> usize {
+    left.saturating_add(operator)
+        .saturating_add(right)
+        .saturating_add(4)
+}
+
+#[cycle(text)]
+fn write_node(
+    formulas: &Formulas,
+    f: FormulaId,
+    names: &[Name],
+    out: &mut Vec<u8>,
+) -> Result<(), AllocError>
+    requires stands { Stands formulas.now f }
+    requires named { SignalsBelow (length names.now) (tree_at formulas.now f) }
+    ensures { Writes result out.old.items (formula_text names.now (tree_at formulas.now f)) out.new.items }
+{
+    match formulas.node(f) {
+        Node::True => out.extend_from_slice(b"true"),
+        Node::False => out.extend_from_slice(b"false"),
+        Node::Signal(signal) => out.extend_from_slice(names[signal as usize].bytes()),
+        Node::Not(a) => write_between(formulas, b"!", a, names, b"", out),
+        Node::Next(a) => write_between(formulas, b"(X ", a, names, b")", out),
+        Node::Finally(a) => write_between(formulas, b"(F ", a, names, b")", out),
+        Node::Globally(a) => write_between(formulas, b"(G ", a, names, b")", out),
+        Node::And(a, b) => write_joined(formulas, a, b" && ", b, names, out),
+        Node::Or(a, b) => write_joined(formulas, a, b" || ", b, names, out),
+        Node::Implies(a, b) => write_joined(formulas, a, b" -> ", b, names, out),
+        Node::Equiv(a, b) => write_joined(formulas, a, b" <-> ", b, names, out),
+        Node::Until(a, b) => write_joined(formulas, a, b" U ", b, names, out),
+        Node::Release(a, b) => write_joined(formulas, a, b" R ", b, names, out),
+        Node::WeakUntil(a, b) => write_joined(formulas, a, b" W ", b, names, out),
+    }
+}
+
+#[cycle(text)]
+fn write_between(
+    formulas: &Formulas,
+    before: &[u8],
+    f: FormulaId,
+    names: &[Name],
+    behind: &[u8],
+    out: &mut Vec<u8>,
+) -> Result<(), AllocError>
+    requires stands { Stands formulas.now f }
+    requires named { SignalsBelow (length names.now) (tree_at formulas.now f) }
+    ensures { Writes result out.old.items (before.now ++ formula_text names.now (tree_at formulas.now f) ++ behind.now) out.new.items }
+{
+    out.extend_from_slice(before)?;
+    write_node(formulas, f, names, out)?;
+    out.extend_from_slice(behind)
+}
+
+#[cycle(text)]
+fn write_joined(
+    formulas: &Formulas,
+    left: FormulaId,
+    operator: &[u8],
+    right: FormulaId,
+    names: &[Name],
+    out: &mut Vec<u8>,
+) -> Result<(), AllocError>
+    requires left_stands { Stands formulas.now left }
+    requires right_stands { Stands formulas.now right }
+    requires left_named { SignalsBelow (length names.now) (tree_at formulas.now left) }
+    requires right_named { SignalsBelow (length names.now) (tree_at formulas.now right) }
+    ensures { Writes result out.old.items (codes "(" ++ formula_text names.now (tree_at formulas.now left) ++ operator.now ++ formula_text names.now (tree_at formulas.now right) ++ codes ")") out.new.items }
+{
+    write_between(formulas, b"(", left, names, operator, out)?;
+    write_between(formulas, b"", right, names, b")", out)
+}
+
+#[cfg(test)]
+mod tests {
+    use super::*;
+    use crate::faults::AddFault;
+    use std::alloc::Global;
+    use std::process::Abort;
+    use std::test::Fail;
+
+    fn add(rt: &impl Abort, formulas: &mut Formulas, node: Node) -> Result<FormulaId, AddFault> {
+        assert!(rt; formulas.can_add(node));
+        formulas.add(node)
+    }
+
+    // The names a, b, .., p of 16 signals.
+    fn names(alloc: Global) -> Result<Vec<Name>, AllocError>
+        ensures { IfOk result (λ names. vec_len names ≡ 16) }
+    {
+        let mut names = Vec::new(alloc);
+        for letter in 0..16u8 {
+            names.push(Name::new(alloc, &[b'a' + letter])?)?;
+        }
+        Ok(names)
+    }
+
+    fn text_of(
+        rt: &impl Abort,
+        alloc: Global,
+        formulas: &Formulas,
+        f: FormulaId,
+    ) -> Result<Vec<u8>, AllocError> {
+        assert!(rt; (f.0 as usize) < formulas.len());
+        let names = names(alloc)?;
+        let mut out = Vec::new(alloc);
+        write_formula(formulas, f, &names, &mut out)?;
+        Ok(out)
+    }
+
+    #[test]
+    fn every_operator_has_its_text(rt: HostRuntime) -> Result<(), Fail> {
+        let mut formulas = Formulas::new(rt.alloc());
+        let id = FormulaId;
+        for node in [
+            Node::True,
+            Node::False,
+            Node::Signal(0),
+            Node::Signal(15),
+            Node::Not(id(2)),
+            Node::Next(id(3)),
+            Node::Finally(id(4)),
+            Node::Globally(id(5)),
+            Node::And(id(6), id(7)),
+            Node::Or(id(8), id(0)),
+            Node::Implies(id(9), id(1)),
+            Node::Equiv(id(10), id(2)),
+            Node::Until(id(3), id(11)),
+            Node::Release(id(12), id(2)),
+            Node::WeakUntil(id(13), id(3)),
+        ] {
+            let _added = add(&rt, &mut formulas, node)?;
+        }
+        let text = text_of(&rt, rt.alloc(), &formulas, FormulaId(14))?;
+        let want = b"(((p U (((((F !a) && (G (X p))) || true) -> false) <-> a)) R a) W p)";
+        assert_eq!(rt; text.as_slice(), want.as_slice());
+        Ok(())
+    }
+
+    // 1,000 conjunctions of a node with itself: the text would have more than 2 to the 1,000 bytes.
+    #[test]
+    fn a_text_without_room_is_refused_at_once(rt: HostRuntime) -> Result<(), Fail> {
+        let mut formulas = Formulas::new(rt.alloc());
+        let mut whole = add(&rt, &mut formulas, Node::Signal(0))?;
+        for _ in 0..1000 {
+            whole = add(&rt, &mut formulas, Node::And(whole, whole))?;
+        }
+        assert!(rt; text_of(&rt, rt.alloc(), &formulas, whole).is_err());
+        Ok(())
+    }
+}
