@@ -1,9 +1,9 @@
-use Rattle.std.proofs.Common.{◌≡◌, ℕ, zero, suc, ◌+◌, ◌-◌, ◌<◌, ◌≤◌, Bool, true, false, ◌&&◌, ◌||◌, ◌⊎◌, inl, inr, length, refl, sym, ap, subst, ◌∙◌, arith}
-use Rattle.std.specs.Prelude.{not, IsTrue, ◌↔◌}
-use Rattle.std.proofs.lemmas.Bool.{and_parts, and_from, or_cases, or_left, or_right, true≢false, cases_eq, cases_lt}
+use Rattle.std.proofs.Common.{◌≡◌, ℕ, zero, suc, ◌+◌, ◌-◌, ◌<◌, ◌≤◌, Bool, true, ◌&&◌, ◌||◌, inl, inr, length, sym, ap, subst, ◌∙◌, arith}
+use Rattle.std.specs.Prelude.{not}
+use Rattle.std.proofs.lemmas.Bool.{and_parts, and_from, or_cases, or_left, or_right, cases_eq, cases_lt}
 use Rattle.letter_word.specs.Word.{Word, HasRing, lasso_len, next, after}
-use Rattle.letter_word.proofs.Positions.{next-last, next-inner, next_within, after_within, after-add, after-suc, after_forward, after_round}
-use Rattle.ltl_formula.specs.Truth.{some_below, all_below, until_within, until_at, release_at}
+use Rattle.letter_word.proofs.Positions.{next-last, next-inner, next_within, after_within, after-add, after_forward, after_round}
+use Rattle.ltl_formula.specs.Truth.{all_below, until_within, until_at, release_at}
 use Rattle.ltl_formula.specs.Laws.{ComesAt, Comes}
 use Rattle.ltl_formula.proofs.Tests.{same_test, some_below-from, some_below-gives, all_below-from, all_below-gives, not-or-not}
 

@@ -1,15 +1,14 @@
-use Rattle.std.proofs.Common.{◌≡◌, ℕ, zero, suc, ◌+◌, ◌<◌, Bool, true, false, ◌&&◌, ◌||◌, inl, inr, refl, sym, ap, subst, ◌∙◌, arith}
+use Rattle.std.proofs.Common.{◌≡◌, ℕ, zero, suc, ◌<◌, Bool, true, false, inl, inr, refl, sym, ap, ◌∙◌, arith}
 use Rattle.std.specs.Prelude.{not, IsTrue, ◌↔◌}
-use Rattle.std.specs.Bool.{beq}
-use Rattle.std.proofs.lemmas.Bool.{not_from_false, not_from_true, not-true, not-false, cases_Bool, true≢false}
-use Rattle.letter_word.specs.Word.{Word, HasRing, SameWord, SameFuture, lasso_len, next, after, letter_at, unrolled_of, unrolled_times}
+use Rattle.std.proofs.lemmas.Bool.{not-true, cases_Bool, true≢false}
+use Rattle.letter_word.specs.Word.{Word, HasRing, SameWord, SameFuture, lasso_len, next, after, unrolled_of, unrolled_times}
 use Rattle.letter_word.specs.Signals.{has}
-use Rattle.letter_word.proofs.Positions.{next_within, after_within, after-add, SameFuture-after}
+use Rattle.letter_word.proofs.Positions.{next_within, after_within, SameFuture-after}
 use Rattle.letter_word.proofs.Unrolled.{unrolling_keeps_the_word}
 use Rattle.ltl_formula.specs.Tree.{Tree}
 use Rattle.ltl_formula.specs.Tree.Tree.{truth, falsity, signal, negation, next_time, finally, globally, conjunction, disjunction, implication, equivalence, until, release, weak_until}
 use Rattle.ltl_formula.specs.Truth.{until_at, release_at, holds}
-use Rattle.ltl_formula.specs.Laws.{ComesAt, Comes, OperatorsMean, OperatorsUnfold, TruthIsOfTheFuture}
+use Rattle.ltl_formula.specs.Laws.{Comes, OperatorsMean, OperatorsUnfold, TruthIsOfTheFuture}
 use Rattle.ltl_formula.proofs.Tests.{same_test}
 use Rattle.ltl_formula.proofs.Ahead.{until_at-from, until_at-gives, until_at-unfold, release_at-unfold}
 

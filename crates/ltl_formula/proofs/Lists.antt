@@ -1,7 +1,7 @@
-use Rattle.std.proofs.Common.{◌≡◌, ℕ, zero, suc, ◌+◌, ◌<◌, ◌≤◌, Bool, true, false, cond, ltb, ◌⊎◌, inl, inr, List, [], ◌∷◌, ◌++◌, length, get_or, Option, None, Some, Result, Ok, Err, refl, sym, ap, subst, ◌∙◌, arith, append_assoc}
+use Rattle.std.proofs.Common.{◌≡◌, ℕ, zero, suc, ◌+◌, ◌<◌, Bool, true, false, cond, ltb, inl, inr, List, [], ◌∷◌, ◌++◌, length, Option, None, Some, Result, Ok, Err, refl, sym, ap, subst, ◌∙◌, arith, append_assoc}
 use Rattle.std.specs.Prelude.{position, slice_get, IfOk, OnOk}
 use Rattle.std.specs.List.{position_or_len}
-use Rattle.std.proofs.lemmas.Bool.{lt-ltb, le-ltb, cases_Bool, cases_eq, cases_lt, ltb-true, ltb-false, true≢false}
+use Rattle.std.proofs.lemmas.Bool.{lt-ltb, cases_eq, cases_lt, true≢false}
 use Rattle.std.proofs.lemmas.List.{length-append, get_or_append_left, get_or_past, append-nil}
 use Rattle.std.proofs.lemmas.List.Quantifiers.{position-Some}
 use Rattle.std.proofs.lemmas.List.Sums.{position_or_len_is, fails_before_first}
@@ -17,7 +17,7 @@ use Rattle.ltl_formula.specs.Added.{node_eq, Built, built_at, added}
 use Rattle.ltl_formula.specs.Laws.{OneIdPerFormula, SignalsAreBelow}
 use Rattle.ltl_formula.specs.Tree.{Tree, SignalsBelow}
 use Rattle.ltl_formula.proofs.NodeEquality.{same_id, node_eq-true, node_eq-self, node_from_tree}
-use Rattle.ltl_formula.proofs.Trees.{tree_at-append, tree_at-last, tree_at-node}
+use Rattle.ltl_formula.proofs.Trees.{tree_at-last, tree_at-node}
 
 -- growing is an order
 pub Grows-refl : (nodes : List Node) → Grows nodes nodes

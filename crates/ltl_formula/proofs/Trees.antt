@@ -1,14 +1,13 @@
-use Rattle.std.proofs.Common.{◌≡◌, ℕ, zero, suc, ◌+◌, ◌<◌, ◌≤◌, List, [], ◌∷◌, ◌++◌, length, get_or, take, drop, refl, sym, ap, subst, ◌∙◌, arith, append_assoc, length-append, drop-cons}
+use Rattle.std.proofs.Common.{◌≡◌, ℕ, suc, ◌+◌, ◌<◌, List, [], ◌∷◌, ◌++◌, length, get_or, take, drop, refl, sym, ap, subst, ◌∙◌, arith, append_assoc, length-append, drop-cons}
 use Rattle.std.proofs.lemmas.List.{take-append-drop, get_or_append_left, length-take}
 use Rattle.std.proofs.Math.Seq.{get_or-append_seam}
-use Rattle.std.proofs.lemmas.Bool.{cases_eq, cases_lt}
 use Rattle.ltl_formula.specs.declared.nodes.FormulaId.{FormulaId}
 use Rattle.ltl_formula.specs.declared.nodes.Node.{Node}
 use Rattle.ltl_formula.specs.declared.nodes.Node.TheVariants.{True, False, Signal, Not, Next, Finally, Globally, And, Or, Implies, Equiv, Until, Release, WeakUntil}
 use Rattle.ltl_formula.specs.Tree.{Tree}
-use Rattle.ltl_formula.specs.Tree.Tree.{truth, falsity, signal, negation, next_time, finally, globally, conjunction, disjunction, implication, equivalence, until, release, weak_until}
-use Rattle.ltl_formula.specs.Nodes.{pick, tree_of, trees_after, trees_of, tree_at, node_at, PartsBelow, IsNodeList, Stands, Grows}
-use Rattle.ltl_formula.specs.Laws.{GrowingKeepsFormulas, OneIdPerFormula}
+use Rattle.ltl_formula.specs.Tree.Tree.{falsity, negation, next_time, finally, globally}
+use Rattle.ltl_formula.specs.Nodes.{pick, tree_of, trees_after, trees_of, tree_at, node_at, PartsBelow, Stands}
+use Rattle.ltl_formula.specs.Laws.{GrowingKeepsFormulas}
 
 pub length-trees_after : (trees : List Tree) (nodes : List Node) → length (trees_after trees nodes) ≡ length trees + length nodes
 length-trees_after trees [] = omega arith

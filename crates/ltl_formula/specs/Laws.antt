@@ -1,11 +1,11 @@
-use Rattle.std.specs.Prelude.{◌≡◌, ◌↔◌, ℕ, suc, ◌<◌, Bool, true, ◌&&◌, ◌||◌, IsTrue, List}
-use Rattle.letter_word.specs.Word.{Word, HasRing, SameWord, SameFuture, lasso_len, next, after, unrolled_of, unrolled_times}
+use Rattle.std.specs.Prelude.{◌≡◌, ◌↔◌, ℕ, ◌<◌, Bool, true, ◌&&◌, ◌||◌, IsTrue, List}
+use Rattle.letter_word.specs.Word.{Word, HasRing, SameWord, SameFuture, lasso_len, next, after, unrolled_times}
 use Rattle.ltl_formula.specs.declared.nodes.FormulaId.{FormulaId}
 use Rattle.ltl_formula.specs.declared.nodes.Node.{Node}
 use Rattle.ltl_formula.specs.Tree.{Tree, SignalsBelow}
 use Rattle.ltl_formula.specs.declared.nodes.TheConstants.{MAX_SIGNALS}
-use Rattle.ltl_formula.specs.Tree.Tree.{truth, falsity, signal, negation, next_time, finally, globally, conjunction, disjunction, implication, equivalence, until, release, weak_until}
-use Rattle.ltl_formula.specs.Truth.{until_at, release_at, holds}
+use Rattle.ltl_formula.specs.Tree.Tree.{finally, globally, until, release}
+use Rattle.ltl_formula.specs.Truth.{holds}
 use Rattle.ltl_formula.specs.Nodes.{IsNodeList, Grows, Stands, tree_at}
 
 -- b comes j steps after position i, and a holds at each position before

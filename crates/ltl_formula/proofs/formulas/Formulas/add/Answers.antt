@@ -1,4 +1,4 @@
-use Rattle.std.proofs.Common.{arith, sym, ◌∙◌}
+use Rattle.std.proofs.Common.{sym}
 use Rattle.ltl_formula.proofs.Lists.{found-stands, tree_at-slice_get, last-stands, last-tree}
 use Rattle.ltl_formula.proofs.formulas.Formulas.add.Goals as goal
 
