@@ -1,0 +1,6 @@
+pub mod Machine
+pub mod Run
+pub mod Automaton
+pub mod Accepts
+pub mod Problem
+pub mod Laws
