@@ -1,5 +1,6 @@
 pub mod Machine
 pub mod Run
+pub mod Course
 pub mod Automaton
 pub mod Accepts
 pub mod Problem

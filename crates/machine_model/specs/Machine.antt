@@ -2,6 +2,8 @@ use Rattle.std.specs.Prelude.{◌≡◌, ◌≢◌, ℕ, ◌+◌, ◌*◌, ◌/�
 use Rattle.letter_word.specs.declared.kinds.Kind.{Kind}
 use Rattle.letter_word.specs.declared.kinds.Kind.TheVariants.{Moore}
 use Rattle.machine_model.specs.declared.machines.Row.{Row}
+use Rattle.machine_model.specs.declared.machines.MachineFault.{MachineFault}
+use Rattle.machine_model.specs.declared.machines.MachineFault.TheVariants.{WrongShape, NextOut, WriteOut, NotMoore}
 
 -- a machine: how it writes, how many signals it reads and writes, and a row for each state and read letter,
 -- that of state t on letter i at the place t * 2 ^ reads + i (textbooks of automata: Mealy and Moore machines)
@@ -18,6 +20,10 @@ size_of m = length m.table / 2 ^ m.reads
 -- the row of state t on read letter i
 abbrev pub row_of : MachineModel → ℕ → ℕ → Row
 row_of m t i = slice_index_or m.table (t * 2 ^ m.reads + i) (record { next = 0; writes = 0 })
+
+-- the letter that the row at place k of a table writes
+abbrev pub writes_in : List Row → ℕ → ℕ
+writes_in table k = (slice_index_or table k (record { next = 0; writes = 0 })).writes
 
 -- the state after state t on read letter i
 abbrev pub next_of : MachineModel → ℕ → ℕ → ℕ
@@ -80,3 +86,10 @@ pub record WritesByLetter (m : MachineModel) : Type 0 where
   pub one_is_letter : one < 2 ^ m.reads
   pub other_is_letter : other < 2 ^ m.reads
   pub differ : writes_of m state one ≢ writes_of m state other
+
+-- why a table is no machine: of the four faults the first that applies
+abbrev pub IsRefused : MachineModel → MachineFault → Type 0
+IsRefused m WrongShape = IsMisshaped m
+IsRefused m NextOut = HasShape m × HasNextOut m
+IsRefused m WriteOut = HasShape m × NextsAreStates m × HasWriteOut m
+IsRefused m NotMoore = HasShape m × NextsAreStates m × WritesAreLetters m × (m.kind ≡ Moore) × WritesByLetter m

@@ -11,8 +11,8 @@ use Rattle.machine_model.specs.Machine.{MachineModel, next_of, writes_of}
 
 -- the whole letter of a read and a written one
 abbrev pub joined : Side → MachineModel → ℕ → ℕ → ℕ
-joined System m read written = read + 2 ^ m.reads * written
-joined Environment m read written = written + 2 ^ m.writes * read
+joined System m read written = written * 2 ^ m.reads + read
+joined Environment m read written = read * 2 ^ m.writes + written
 
 -- what the machine reads of a whole letter
 abbrev pub read_part : Side → MachineModel → Letter → ℕ

@@ -13,4 +13,4 @@ mod runs;
 pub use automata::{Automaton, AutomatonFault, Edge};
 pub use machines::{Machine, MachineFault, Row};
 pub use problems::Problem;
-pub use runs::{RunLasso, run_lasso};
+pub use runs::{RunLasso, run_lasso, whole_letter};

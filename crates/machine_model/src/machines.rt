@@ -1,4 +1,7 @@
-ghost use Rattle.std.specs.Prelude.{◌≡◌, ◌↔◌, ◌^◌, ◌<◌, ◌≤◌, Err, IfOk, vec_len};
+ghost use Rattle.std.specs.Prelude.{◌≡◌, ◌≢◌, ◌↔◌, ℕ, ◌*◌, ◌/◌, ◌^◌, ◌<◌, ◌≤◌, All, Any, Err, IfOk, IfSome, IfNone, length, vec_len};
+ghost use Rattle.std.specs.Bool.{OnTrue, OnFalse};
+ghost use Rattle.machine_model.specs.Machine.{MachineModel, IsMachine, IsRefused, writes_in};
+ghost use Rattle.machine_model.specs.declared.machines.MachineFault.{MachineFault};
 
 use letter_word::Kind;
 use std::marker::Model;
@@ -43,7 +46,7 @@ impl Model for Machine {
 }
 
 impl Machine {
-    ghost use Rattle.machine_model.specs.Machine.{MachineModel, IsKept, HasShape, NextsAreStates, WritesAreLetters, IsMisshaped, HasNextOut, HasWriteOut, WritesByLetter, size_of, row_of, next_of, writes_of};
+    ghost use Rattle.machine_model.specs.Machine.{MachineModel, IsKept, IsRefused, size_of, row_of, next_of, writes_of};
 
     /// The machine of a table, whose place `t * 2^reads + i` is state `t` on read letter `i`. It takes no memory.
     pub fn new(
@@ -57,43 +60,30 @@ impl Machine {
         requires rows { vec_len table < 2 ^ 32 }
         ensures parts { IfOk result (λ m. m ≡ record { kind = kind; reads = reads; writes = writes; table = table.items }) }
         ensures made { IfOk result IsKept }
-        ensures wrong_shape { let m : MachineModel = record { kind = kind; reads = reads; writes = writes; table = table.items } in
-            (result ≡ Err MachineFault.WrongShape) ↔ IsMisshaped m }
-        ensures next_out { let m : MachineModel = record { kind = kind; reads = reads; writes = writes; table = table.items } in
-            (result ≡ Err MachineFault.NextOut) ↔ (HasShape m × HasNextOut m) }
-        ensures write_out { let m : MachineModel = record { kind = kind; reads = reads; writes = writes; table = table.items } in
-            (result ≡ Err MachineFault.WriteOut) ↔ (HasShape m × NextsAreStates m × HasWriteOut m) }
-        ensures not_moore { let m : MachineModel = record { kind = kind; reads = reads; writes = writes; table = table.items } in
-            (result ≡ Err MachineFault.NotMoore) ↔ (HasShape m × NextsAreStates m × WritesAreLetters m × (kind ≡ Kind.Moore) × WritesByLetter m) }
+        ensures refused {
+            let m : MachineModel = record { kind = kind; reads = reads; writes = writes; table = table.items } in
+            (fault : MachineFault) → (result ≡ Err fault) ↔ IsRefused m fault
+        }
     {
-        let letters = 1usize << reads;
-        if table.is_empty() || table.len() % letters != 0 {
-            return Err(MachineFault::WrongShape);
+        match table_fault(kind, reads, writes, &table) {
+            Some(fault) => Err(fault),
+            None => Ok(Machine {
+                kind,
+                reads,
+                writes,
+                table,
+            }),
         }
-        let size = (table.len() / letters) as u32;
-        if has_next_out(&table, size) {
-            return Err(MachineFault::NextOut);
-        }
-        if has_write_out(&table, 1 << writes) {
-            return Err(MachineFault::WriteOut);
-        }
-        if kind == Kind::Moore && writes_by_letter(&table, letters) {
-            return Err(MachineFault::NotMoore);
-        }
-        Ok(Machine {
-            kind,
-            reads,
-            writes,
-            table,
-        })
     }
 
     fn row(&self, t: u32, letter: u32) -> Row
         requires state { t < size_of self.now }
         requires letter { letter < 2 ^ self.now.reads }
         ensures value { result ≡ row_of self.now t letter }
+        ensures next { result.next < size_of self.now }
+        ensures writes { result.writes < 2 ^ self.now.writes }
     {
-        self.table[((t as usize) << self.reads) + letter as usize]
+        self.table[t as usize * letter_count(self.reads) as usize + letter as usize]
     }
 
     /// The number of states.
@@ -149,14 +139,73 @@ impl Machine {
     }
 }
 
-fn has_next_out(table: &[Row], size: u32) -> bool {
+// The number of letters of some signals.
+pub(crate) fn letter_count(signals: u32) -> u32
+    requires { signals ≤ 8 }
+    ensures value { result ≡ 2 ^ signals }
+    ensures some { 0 < result }
+{
+    1 << signals
+}
+
+// The first fault of a table.
+fn table_fault(kind: Kind, reads: u32, writes: u32, table: &[Row]) -> Option<MachineFault>
+    requires reads { reads ≤ 8 }
+    requires writes { writes ≤ 8 }
+    requires rows { length table.now < 2 ^ 32 }
+    ensures none { IfNone result (IsMachine (record { kind = kind; reads = reads; writes = writes; table = table.now })) }
+    ensures some { IfSome result (IsRefused (record { kind = kind; reads = reads; writes = writes; table = table.now })) }
+{
+    let letters = letter_count(reads) as usize;
+    if table.is_empty() || table.len() % letters != 0 {
+        return Some(MachineFault::WrongShape);
+    }
+    let size = (table.len() / letters) as u32;
+    if has_next_out(table, size) {
+        return Some(MachineFault::NextOut);
+    }
+    let written = letter_count(writes);
+    if has_write_out(table, written) {
+        return Some(MachineFault::WriteOut);
+    }
+    match kind {
+        Kind::Mealy => None,
+        Kind::Moore => {
+            if writes_by_letter(table, letters) {
+                Some(MachineFault::NotMoore)
+            } else {
+                None
+            }
+        }
+    }
+}
+
+// Whether a row leads to a state that isn't among the first `size`.
+fn has_next_out(table: &[Row], size: u32) -> bool
+    ensures some { OnTrue result (Any (λ row. size ≤ row.next) table.now) }
+    ensures none { OnFalse result (All (λ row. row.next < size) table.now) }
+{
     table.iter().any(|row| row.next >= size)
 }
 
-fn has_write_out(table: &[Row], letters: u32) -> bool {
+// Whether a row writes something that isn't among the first `letters` letters.
+fn has_write_out(table: &[Row], letters: u32) -> bool
+    ensures some { OnTrue result (Any (λ row. letters ≤ row.writes) table.now) }
+    ensures none { OnFalse result (All (λ row. row.writes < letters) table.now) }
+{
     table.iter().any(|row| row.writes >= letters)
 }
 
-fn writes_by_letter(table: &[Row], letters: usize) -> bool {
+// Whether a row writes otherwise than the first row of its state, each state having `letters` rows.
+fn writes_by_letter(table: &[Row], letters: usize) -> bool
+    requires { 0 < letters }
+    ensures some { OnTrue result ((k : ℕ) × (k < length table.now) × (writes_in table.now k ≢ writes_in table.now (k / letters * letters))) }
+    ensures none { OnFalse result ((k : ℕ) → k < length table.now → writes_in table.now k ≡ writes_in table.now (k / letters * letters)) }
+{
+    for (place, row) in table.iter().enumerate() {
+        if row.writes != table[place / letters * letters].writes {
+            return true;
+        }
+    }
     false
 }

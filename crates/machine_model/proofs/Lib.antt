@@ -1,0 +1,5 @@
+pub mod Tables
+pub mod Courses
+pub mod Readings
+pub mod Closing
+pub mod Walks
