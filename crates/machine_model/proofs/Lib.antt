@@ -3,3 +3,8 @@ pub mod Courses
 pub mod Readings
 pub mod Closing
 pub mod Walks
+pub mod Determined
+pub mod Pigeonhole
+pub mod Paths
+pub mod Existence
+pub mod Unrolled

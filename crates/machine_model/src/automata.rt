@@ -1,4 +1,6 @@
-ghost use Rattle.std.specs.Prelude.{◌≡◌, ◌≢◌, ◌↔◌, ◌^◌, ◌<◌, [], Err, IfOk, count_by, vec_len};
+ghost use Rattle.std.specs.Prelude.{◌≡◌, ◌≢◌, ◌↔◌, ◌^◌, ◌<◌, ◌≤◌, ◌⊎◌, [], All, Any, Err, IfOk, count_by, vec_len};
+ghost use Rattle.std.specs.Bool.{OnTrue, OnFalse};
+ghost use Rattle.machine_model.specs.Automaton.{JoinsStates};
 
 use letter_word::Cube;
 use std::marker::Model;
@@ -52,11 +54,8 @@ impl Automaton {
         if rejecting.is_empty() {
             return Err(AutomatonFault::Empty);
         }
-        let states = rejecting.len();
-        for edge in &edges {
-            if edge.from as usize >= states || edge.to as usize >= states {
-                return Err(AutomatonFault::BadEdge);
-            }
+        if has_bad_edge(&edges, rejecting.len()) {
+            return Err(AutomatonFault::BadEdge);
         }
         Ok(Automaton { edges, rejecting })
     }
@@ -90,5 +89,43 @@ impl Automaton {
         ensures { result ≡ rejects self.now q }
     {
         self.rejecting[q as usize]
+    }
+}
+
+// Whether an edge names a state that isn't among the first `states`.
+fn has_bad_edge(edges: &[Edge], states: usize) -> bool
+    ensures some { OnTrue result (Any (λ e. (states ≤ e.from) ⊎ (states ≤ e.to)) edges.now) }
+    ensures none { OnFalse result (All (JoinsStates states) edges.now) }
+{
+    for edge in edges {
+        if edge.from as usize >= states || edge.to as usize >= states {
+            return true;
+        }
+    }
+    false
+}
+
+#[cfg(test)]
+mod tests {
+    use super::*;
+    use std::test::Fail;
+
+    // Why an automaton with one edge, of the empty cube, is refused.
+    fn refusal(rt: &HostRuntime, from: u32, to: u32, states: &[bool]) -> Result<Option<AutomatonFault>, Fail>
+        requires { length states.now < 2 ^ 32 }
+    {
+        let mut edges = Vec::new(rt.alloc());
+        let cube = Cube { must: 0, not: 0 };
+        edges.push(Edge { from, cube, to })?;
+        Ok(Automaton::new(edges, Vec::from_slice(rt.alloc(), states)?).err())
+    }
+
+    #[test]
+    fn each_fault(rt: HostRuntime) -> Result<(), Fail> {
+        assert_eq!(rt; refusal(&rt, 0, 0, &[])?, Some(AutomatonFault::Empty));
+        assert_eq!(rt; refusal(&rt, 0, 2, &[false, true])?, Some(AutomatonFault::BadEdge));
+        assert_eq!(rt; refusal(&rt, 2, 0, &[false, true])?, Some(AutomatonFault::BadEdge));
+        assert_eq!(rt; refusal(&rt, 1, 1, &[false, true])?, None);
+        Ok(())
     }
 }

@@ -209,3 +209,38 @@ fn writes_by_letter(table: &[Row], letters: usize) -> bool
     }
     false
 }
+
+#[cfg(test)]
+mod tests {
+    use super::*;
+    use std::test::Fail;
+
+    // Why a table of one read and one written signal is refused, its rows as next state and written letter.
+    fn refusal(rt: &HostRuntime, kind: Kind, rows: &[(u32, u32)]) -> Result<Option<MachineFault>, Fail>
+        requires { length rows.now < 2 ^ 32 }
+    {
+        let mut table = Vec::new(rt.alloc());
+        for &(next, writes) in rows {
+            table.push(Row { next, writes })?;
+        }
+        Ok(Machine::new(kind, 1, 1, table).err())
+    }
+
+    #[test]
+    fn each_fault(rt: HostRuntime) -> Result<(), Fail> {
+        assert_eq!(rt; refusal(&rt, Kind::Mealy, &[])?, Some(MachineFault::WrongShape));
+        assert_eq!(rt; refusal(&rt, Kind::Mealy, &[(0, 0)])?, Some(MachineFault::WrongShape));
+        assert_eq!(rt; refusal(&rt, Kind::Mealy, &[(1, 0), (0, 0)])?, Some(MachineFault::NextOut));
+        assert_eq!(rt; refusal(&rt, Kind::Mealy, &[(0, 0), (0, 2)])?, Some(MachineFault::WriteOut));
+        assert_eq!(rt; refusal(&rt, Kind::Moore, &[(0, 0), (0, 1)])?, Some(MachineFault::NotMoore));
+        Ok(())
+    }
+
+    #[test]
+    fn the_first_fault_of_two(rt: HostRuntime) -> Result<(), Fail> {
+        assert_eq!(rt; refusal(&rt, Kind::Mealy, &[(0, 2), (1, 0)])?, Some(MachineFault::NextOut));
+        assert_eq!(rt; refusal(&rt, Kind::Moore, &[(0, 1), (0, 2)])?, Some(MachineFault::WriteOut));
+        assert_eq!(rt; refusal(&rt, Kind::Mealy, &[(0, 0), (0, 1)])?, None);
+        Ok(())
+    }
+}

@@ -94,3 +94,40 @@ impl Course {
         Ok(())
     }
 }
+
+#[cfg(test)]
+mod tests {
+    use super::*;
+    use crate::machines::Row;
+    use letter_word::Kind;
+    use std::test::Fail;
+
+    fn letters(rt: &HostRuntime, numbers: &[u32]) -> Result<Vec<Letter>, Fail> {
+        let mut letters = Vec::new(rt.alloc());
+        for &number in numbers {
+            letters.push(Letter(number))?;
+        }
+        Ok(letters)
+    }
+
+    // The run of the two-state machine that writes what it read last.
+    fn delayed(rt: &HostRuntime, side: Side, stem: &[u32], ring: &[u32]) -> Result<RunLasso, Fail> {
+        let mut table = Vec::new(rt.alloc());
+        for (next, writes) in [(0, 0), (1, 0), (0, 1), (1, 1)] {
+            table.push(Row { next, writes })?;
+        }
+        let machine = Machine::new(Kind::Moore, 1, 1, table)?;
+        let reads = Lasso::new(letters(rt, stem)?, letters(rt, ring)?)?;
+        Ok(run_lasso(rt.alloc(), &machine, side, &reads)?)
+    }
+
+    // One read signal that is set and then not: the output is 0, 1, 0, 1 in turn.
+    #[test]
+    fn writes_what_it_read_last(rt: HostRuntime) -> Result<(), Fail> {
+        let run = delayed(&rt, Side::System, &[], &[1, 0])?;
+        assert_eq!(rt; run.word.stem(), [].as_slice());
+        assert_eq!(rt; run.word.ring(), [Letter(1), Letter(2)].as_slice());
+        assert_eq!(rt; run.states.as_slice(), [0, 1].as_slice());
+        Ok(())
+    }
+}
