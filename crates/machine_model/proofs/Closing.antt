@@ -36,7 +36,6 @@ cut letters p = record { stem = take p letters; ring = drop p letters }
 
 module _ (m : MachineModel) (side : Side) (reads : Word) (letters : List Letter) (states : List ℕ) (state p : ℕ)
     (machine : IsMachine m) (over : IsLassoOver m.reads reads) (closes : Closes m side reads letters states state p) where
-
   len-cut : lasso_len (cut letters p) ≡ length letters
   len-cut =
       let before : p < length letters = closes.before in
@@ -53,16 +52,17 @@ module _ (m : MachineModel) (side : Side) (reads : Word) (letters : List Letter)
       → (after reads 0 (next (cut letters p) i) ≡ after reads 0 (suc i)) × (get_or states (next (cut letters p) i) 0 ≡ state_after m reads (suc i))
   step i h = elim (cases_eq (i + 1) (length letters)) [
     | inl last ↦
-      let stem : length (take p letters) ≡ p = length-take-le p letters (let before : p < length letters = closes.before in omega arith) in
-      let e : next (cut letters p) i ≡ p = next-last (cut letters p) i (last ∙ sym len-cut) ∙ stem in
-      let end : length letters ≡ suc i = omega arith in
-      (rw e (closes.position ∙ ap (after reads 0) end),
-       rw e (closes.course.before p closes.before ∙ sym closes.again ∙ closes.course.after ∙ ap (state_after m reads) end))
+        let stem : length (take p letters) ≡ p = length-take-le p letters (let before : p < length letters = closes.before in omega arith) in
+        let e : next (cut letters p) i ≡ p = next-last (cut letters p) i (last ∙ sym len-cut) ∙ stem in
+        let end : length letters ≡ suc i = omega arith in (
+          rw e (closes.position ∙ ap (after reads 0) end),
+          rw e (closes.course.before p closes.before ∙ sym closes.again ∙ closes.course.after ∙ ap (state_after m reads) end),
+        )
     | inr ne ↦
-      let inner : i + 1 ≡ lasso_len (cut letters p) → ⊥ = λ e. ne (e ∙ len-cut) in
-      let e : next (cut letters p) i ≡ suc i = next-inner (cut letters p) i inner ∙ (omega arith) in
-      let apart : i + 1 ≡ length letters → ⊥ = ne in
-      (ap (after reads 0) e, rw e (closes.course.before (suc i) (omega arith)))
+        let inner : i + 1 ≡ lasso_len (cut letters p) → ⊥ = λ e. ne (e ∙ len-cut) in
+        let e : next (cut letters p) i ≡ suc i = next-inner (cut letters p) i inner ∙ (omega arith) in
+        let apart : i + 1 ≡ length letters → ⊥ = ne in
+        (ap (after reads 0) e, rw e (closes.course.before (suc i) (omega arith)))
   ]
 
   read-cut : (i : ℕ) → i < length letters → read_part side m (letter_at (cut letters p) i) ≡ read_at reads i
@@ -82,9 +82,9 @@ module _ (m : MachineModel) (side : Side) (reads : Word) (letters : List Letter)
     start = closes.course.before 0 (let before : p < length letters = closes.before in omega arith);
     reads = λ i h. rw (read-cut i (rw len-cut at h)) (read_within m machine reads over i);
     writes = λ i h. let within : i < length letters = rw len-cut at h in
-      written-cut i within ∙ sym (ap (λ t. writes_of m t (read_part side m (letter_at (cut letters p) i))) (closes.course.before i within) ∙ ap (writes_of m (state_after m reads i)) (read-cut i within));
+        written-cut i within ∙ sym (ap (λ t. writes_of m t (read_part side m (letter_at (cut letters p) i))) (closes.course.before i within) ∙ ap (writes_of m (state_after m reads i)) (read-cut i within));
     moves = λ i h. let within : i < length letters = rw len-cut at h in
-      (step i within).1 ∙ sym (ap (λ t. next_of m t (read_part side m (letter_at (cut letters p) i))) (closes.course.before i within) ∙ ap (next_of m (state_after m reads i)) (read-cut i within));
+        (step i within).1 ∙ sym (ap (λ t. next_of m t (read_part side m (letter_at (cut letters p) i))) (closes.course.before i within) ∙ ap (next_of m (state_after m reads i)) (read-cut i within));
   }
 
   -- the run's positions lead through the word's
@@ -98,6 +98,6 @@ module _ (m : MachineModel) (side : Side) (reads : Word) (letters : List Letter)
   pub same-cut : SameWord (read_lasso side m (cut letters p)) reads
   same-cut = record {
     letters = λ j.
-      let within : after (cut letters p) 0 j < length letters = rw len-cut at (after_within (cut letters p) 0 j ring-cut (let before : p < length letters = closes.before in omega (arith, len-cut))) in
-      nth_letter-read side m (cut letters p) ring-cut j ∙ ap (λ n. let l : Letter = record { 0 = n } in l) (read-cut (after (cut letters p) 0 j) within) ∙ ap (letter_at reads) (follows j)
+        let within : after (cut letters p) 0 j < length letters = rw len-cut at (after_within (cut letters p) 0 j ring-cut (let before : p < length letters = closes.before in omega (arith, len-cut))) in
+        nth_letter-read side m (cut letters p) ring-cut j ∙ ap (λ n. let l : Letter = record { 0 = n } in l) (read-cut (after (cut letters p) 0 j) within) ∙ ap (letter_at reads) (follows j);
   }

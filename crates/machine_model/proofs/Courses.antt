@@ -26,7 +26,7 @@ course_more m side reads letters states s r course read within =
     record {
       places = omega arith;
       letter = rw n (push_agrees (λ i. letter_of side m (state_after m reads i) (read_at reads i)) letters (letter_of side m s r) no_signals course.letter
-        (ap (λ t. letter_of side m t r) course.after ∙ ap (letter_of side m (state_after m reads (length letters))) read));
+          (ap (λ t. letter_of side m t r) course.after ∙ ap (letter_of side m (state_after m reads (length letters))) read));
       before = rw (n, ← same) (push_agrees (state_after m reads) states s 0 (rw same course.before) (rw same course.after));
       after = ap (λ t. next_of m t r) course.after ∙ ap (next_of m (state_after m reads (length letters))) read ∙ ap (state_after m reads) (sym (n ∙ one));
       within = within;

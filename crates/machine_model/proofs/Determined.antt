@@ -52,16 +52,16 @@ state_after-same m v w (suc j) same =
 pub runs_are_determined : RunsAreDetermined
 runs_are_determined m side v w s t run_v run_w same = record {
   letters = λ j.
-    let reads : (k : ℕ) → read_at (read_lasso side m v) k ≡ read_at (read_lasso side m w) k = λ k. ap (λ (l : Letter). l.0) (same.letters k) in
-    let state : state_after m (read_lasso side m v) j ≡ state_after m (read_lasso side m w) j = state_after-same m (read_lasso side m v) (read_lasso side m w) j (λ k h. reads k) in
-    let read : read_part side m (nth_letter v j) ≡ read_part side m (nth_letter w j) = sym (read_at-run m side v s run_v j) ∙ reads j ∙ read_at-run m side w t run_w j in
-    let written : written_part side m (nth_letter v j) ≡ written_part side m (nth_letter w j) =
-        written-run m side v s run_v j ∙ ap (λ u. writes_of m u (read_at (read_lasso side m v) j)) state
-        ∙ ap (writes_of m (state_after m (read_lasso side m w) j)) (reads j) ∙ sym (written-run m side w t run_w j) in
-    let number : (nth_letter v j).0 ≡ (nth_letter w j).0 =
-        sym (joined-parts side m (nth_letter v j)) ∙ ap (λ r. joined side m r (written_part side m (nth_letter v j))) read
-        ∙ ap (joined side m (read_part side m (nth_letter w j))) written ∙ joined-parts side m (nth_letter w j) in
-    ap (λ n. let l : Letter = record { 0 = n } in l) number
+      let reads : (k : ℕ) → read_at (read_lasso side m v) k ≡ read_at (read_lasso side m w) k = λ k. ap (λ (l : Letter). l.0) (same.letters k) in
+      let state : state_after m (read_lasso side m v) j ≡ state_after m (read_lasso side m w) j = state_after-same m (read_lasso side m v) (read_lasso side m w) j (λ k h. reads k) in
+      let read : read_part side m (nth_letter v j) ≡ read_part side m (nth_letter w j) = sym (read_at-run m side v s run_v j) ∙ reads j ∙ read_at-run m side w t run_w j in
+      let written : written_part side m (nth_letter v j) ≡ written_part side m (nth_letter w j) =
+      written-run m side v s run_v j ∙ ap (λ u. writes_of m u (read_at (read_lasso side m v) j)) state
+      ∙ ap (writes_of m (state_after m (read_lasso side m w) j)) (reads j) ∙ sym (written-run m side w t run_w j) in
+      let number : (nth_letter v j).0 ≡ (nth_letter w j).0 =
+      sym (joined-parts side m (nth_letter v j)) ∙ ap (λ r. joined side m r (written_part side m (nth_letter v j))) read
+      ∙ ap (joined side m (read_part side m (nth_letter w j))) written ∙ joined-parts side m (nth_letter w j) in
+      ap (λ n. let l : Letter = record { 0 = n } in l) number;
 }
 
 module _ (m : MachineModel) (side : Side) (w : Word) (states : List ℕ) (run : IsRunLasso m side w states) where
@@ -70,28 +70,28 @@ module _ (m : MachineModel) (side : Side) (w : Word) (states : List ℕ) (run : 
   read_over = record {
     ring = rw length-map run.ring;
     stem_letters = λ k d h.
-      let f : Letter → Letter = λ letter. record { 0 = read_part side m letter } in
-      let within : k < length w.stem = rw length-map at h in
-      let here : read_part side m (letter_at w k) < 2 ^ m.reads = run.reads k (omega arith) in
-      let at_stem : letter_at w k ≡ get_or w.stem k no_signals = get_or_append_left w.stem w.ring no_signals k within in
-      rw (get_or-map f w.stem k no_signals d within) (rw at_stem at here);
+        let f : Letter → Letter = λ letter. record { 0 = read_part side m letter } in
+        let within : k < length w.stem = rw length-map at h in
+        let here : read_part side m (letter_at w k) < 2 ^ m.reads = run.reads k (omega arith) in
+        let at_stem : letter_at w k ≡ get_or w.stem k no_signals = get_or_append_left w.stem w.ring no_signals k within in
+        rw (get_or-map f w.stem k no_signals d within) (rw at_stem at here);
     ring_letters = λ k d h.
-      let f : Letter → Letter = λ letter. record { 0 = read_part side m letter } in
-      let within : k < length w.ring = rw length-map at h in
-      let here : read_part side m (letter_at w (length w.stem + k)) < 2 ^ m.reads = run.reads (length w.stem + k) (omega arith) in
-      let at_ring : letter_at w (length w.stem + k) ≡ get_or w.ring k no_signals = get_or-append-add w.stem w.ring k no_signals in
-      rw (get_or-map f w.ring k no_signals d within) (rw at_ring at here);
+        let f : Letter → Letter = λ letter. record { 0 = read_part side m letter } in
+        let within : k < length w.ring = rw length-map at h in
+        let here : read_part side m (letter_at w (length w.stem + k)) < 2 ^ m.reads = run.reads (length w.stem + k) (omega arith) in
+        let at_ring : letter_at w (length w.stem + k) ≡ get_or w.ring k no_signals = get_or-append-add w.stem w.ring k no_signals in
+        rw (get_or-map f w.ring k no_signals d within) (rw at_ring at here);
   }
 
 pub moore_writes_before_reading : MooreWritesBeforeReading
 moore_writes_before_reading m side v w s t j machine moore run_v run_w same =
     let state : state_after m (read_lasso side m v) j ≡ state_after m (read_lasso side m w) j =
-        state_after-same m (read_lasso side m v) (read_lasso side m w) j (λ k h. ap (λ (l : Letter). l.0) (same k h)) in
+    state_after-same m (read_lasso side m v) (read_lasso side m w) j (λ k h. ap (λ (l : Letter). l.0) (same k h)) in
     written-run m side v s run_v j ∙ ap (λ u. writes_of m u (read_at (read_lasso side m v) j)) state
     ∙ machine.moore moore (state_after m (read_lasso side m w) j) (read_at (read_lasso side m v) j) (read_at (read_lasso side m w) j)
-      (state_within m machine (read_lasso side m w) (read_over m side w t run_w) j)
-      (read_within m machine (read_lasso side m v) (read_over m side v s run_v) j)
-      (read_within m machine (read_lasso side m w) (read_over m side w t run_w) j)
+    (state_within m machine (read_lasso side m w) (read_over m side w t run_w) j)
+    (read_within m machine (read_lasso side m v) (read_over m side v s run_v) j)
+    (read_within m machine (read_lasso side m w) (read_over m side w t run_w) j)
     ∙ sym (written-run m side w t run_w j)
 
 -- joined letters are letters of both numbers of signals
@@ -109,7 +109,7 @@ module _ (m : MachineModel) (side : Side) (w : Word) (states : List ℕ) (machin
   letter-lt : (i : ℕ) → i < lasso_len w → (letter_at w i).0 < 2 ^ (m.reads + m.writes)
   letter-lt i h =
       let written : written_part side m (letter_at w i) < 2 ^ m.writes =
-          rw (run.writes i h) (machine.letters (get_or states i 0) (read_part side m (letter_at w i)) (state-lt i h) (run.reads i h)) in
+      rw (run.writes i h) (machine.letters (get_or states i 0) (read_part side m (letter_at w i)) (state-lt i h) (run.reads i h)) in
       rw (← joined-parts side m (letter_at w i)) (joined-lt side m (read_part side m (letter_at w i)) (written_part side m (letter_at w i)) (run.reads i h) written)
 
   pub stays_within : StaysWithin m w states
@@ -117,11 +117,11 @@ module _ (m : MachineModel) (side : Side) (w : Word) (states : List ℕ) (machin
     letters = record {
       ring = run.ring;
       stem_letters = λ k d h.
-        let at_stem : letter_at w k ≡ get_or w.stem k no_signals = get_or_append_left w.stem w.ring no_signals k h in
-        rw (get_or_default w.stem k d no_signals h) (rw at_stem at (letter-lt k (omega arith)));
+          let at_stem : letter_at w k ≡ get_or w.stem k no_signals = get_or_append_left w.stem w.ring no_signals k h in
+          rw (get_or_default w.stem k d no_signals h) (rw at_stem at (letter-lt k (omega arith)));
       ring_letters = λ k d h.
-        let at_ring : letter_at w (length w.stem + k) ≡ get_or w.ring k no_signals = get_or-append-add w.stem w.ring k no_signals in
-        rw (get_or_default w.ring k d no_signals h) (rw at_ring at (letter-lt (length w.stem + k) (omega arith)));
+          let at_ring : letter_at w (length w.stem + k) ≡ get_or w.ring k no_signals = get_or-append-add w.stem w.ring k no_signals in
+          rw (get_or_default w.ring k d no_signals h) (rw at_ring at (letter-lt (length w.stem + k) (omega arith)));
     };
     in_range = λ k d h. rw (get_or_default states k d 0 h) (state-lt k (rw run.places at h));
   }

@@ -32,7 +32,7 @@ module _ (m : MachineModel) (side : Side) (reads : Word) (machine : IsMachine m)
         states = c.states ++ state_after m reads n ∷ [];
         places = length_push c.letters letter ∙ one;
         course = course_more m side reads c.letters c.states (state_after m reads n) (read_at reads n) c.course (ap (read_at reads) (sym c.places))
-          (state_within m machine reads over (suc n));
+            (state_within m machine reads over (suc n));
       }
 
   -- the numbers at which the word stands where its ring begins
@@ -57,7 +57,7 @@ module _ (m : MachineModel) (side : Side) (reads : Word) (machine : IsMachine m)
   pub has_run : HasRunOn m side reads
   has_run =
       let repeated : IsRepeated (λ k. state_after m reads (begin k)) (size_of m) =
-          pigeonhole (size_of m) (λ k. state_after m reads (begin k)) (λ k h. state_within m machine reads over (begin k)) in
+      pigeonhole (size_of m) (λ k. state_after m reads (begin k)) (λ k h. state_within m machine reads over (begin k)) in
       let p : ℕ = begin repeated.first in
       let n : ℕ = begin repeated.second in
       let c : HasCourse m side reads n = course_of n in

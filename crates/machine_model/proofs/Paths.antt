@@ -72,10 +72,10 @@ module _ (a : AutomatonModel) (v w : Word) (ring : HasRing w) (same : SameWord v
       let d : ℕ = repeated.second - suc repeated.first in
       let there : suc repeated.first + d ≡ repeated.second = omega (arith, before) in
       let rest : Leads (lap (suc repeated.first)) (lap repeated.first) =
-          subst (Leads (lap (suc repeated.first))) (sym repeated.same) (subst (λ (u : ℕ). Leads (lap (suc repeated.first)) (lap u)) there (round (suc repeated.first) d)) in
+      subst (Leads (lap (suc repeated.first))) (sym repeated.same) (subst (λ (u : ℕ). Leads (lap (suc repeated.first)) (lap u)) there (round (suc repeated.first) d)) in
       let more : suc accepted.further + rest.0 ≡ suc (accepted.further + rest.0) = omega arith in
       let first : Path a w accepted.steps 0 0 (lap 0) accepted.state =
-          path_same a v w accepted.steps 0 0 0 accepted.position accepted.state (record { letters = same.letters }) accepted.path in
+      path_same a v w accepted.steps 0 0 0 accepted.position accepted.state (record { letters = same.letters }) accepted.path in
       record {
         position = lap repeated.first;
         state = accepted.state;
@@ -84,7 +84,7 @@ module _ (a : AutomatonModel) (v w : Word) (ring : HasRing w) (same : SameWord v
         path = path-append a w accepted.steps start.0 0 0 (lap 0) accepted.state (lap repeated.first) accepted.state first start.1;
         rejecting = accepted.rejecting;
         cycle = subst (λ (n : ℕ). Path a w n (lap repeated.first) accepted.state (lap repeated.first) accepted.state) more
-          (path-append a w (suc accepted.further) rest.0 (lap repeated.first) accepted.state (lap (suc repeated.first)) accepted.state (lap repeated.first) accepted.state (once repeated.first) rest.1);
+            (path-append a w (suc accepted.further) rest.0 (lap repeated.first) accepted.state (lap (suc repeated.first)) accepted.state (lap repeated.first) accepted.state (once repeated.first) rest.1);
       }
 
 pub acceptance_is_of_the_word : AcceptanceIsOfTheWord

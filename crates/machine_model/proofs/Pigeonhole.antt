@@ -40,16 +40,16 @@ pigeonhole zero f below = let h : f 0 < 0 = below 0 (omega arith) in absurd (ome
 pigeonhole (suc n) f below = elim (find f (f (suc n)) (suc n)) [
   | inl found ↦ record { first = found.0; second = suc n; before = found.1; within = omega arith; same = found.2 }
   | inr none ↦
-    let fewer : IsRepeated (λ k. past (f (suc n)) (f k)) n =
-        pigeonhole n (λ k. past (f (suc n)) (f k)) (λ k h.
-          past-lt n (f (suc n)) (f k) (none k (omega arith)) (below k (omega arith)) (below (suc n) (omega arith))) in
-    let before : fewer.first < fewer.second = fewer.before in
-    let within : fewer.second ≤ n = fewer.within in
-    record {
-      first = fewer.first;
-      second = fewer.second;
-      before = before;
-      within = omega arith;
-      same = past-inj (f (suc n)) (f fewer.first) (f fewer.second) (none fewer.first (omega arith)) (none fewer.second (omega arith)) fewer.same;
-    }
+      let fewer : IsRepeated (λ k. past (f (suc n)) (f k)) n =
+      pigeonhole n (λ k. past (f (suc n)) (f k)) (λ k h.
+      past-lt n (f (suc n)) (f k) (none k (omega arith)) (below k (omega arith)) (below (suc n) (omega arith))) in
+      let before : fewer.first < fewer.second = fewer.before in
+      let within : fewer.second ≤ n = fewer.within in
+      record {
+        first = fewer.first;
+        second = fewer.second;
+        before = before;
+        within = omega arith;
+        same = past-inj (f (suc n)) (f fewer.first) (f fewer.second) (none fewer.first (omega arith)) (none fewer.second (omega arith)) fewer.same;
+      }
 ]

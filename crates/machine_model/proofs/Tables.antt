@@ -67,7 +67,7 @@ by_letter m k shape h differ = record {
   is_state = state_in m k shape h;
   one_is_letter = letter_in m k;
   other_is_letter = pow_pos m.reads;
-  differ = λ e. differ (ap (writes_in m.table) (sym (div-add-mod' k (2 ^ m.reads))) ∙ e ∙ ap (writes_in m.table) (add-zero (k / 2 ^ m.reads * 2 ^ m.reads)))
+  differ = λ e. differ (ap (writes_in m.table) (sym (div-add-mod' k (2 ^ m.reads))) ∙ e ∙ ap (writes_in m.table) (add-zero (k / 2 ^ m.reads * 2 ^ m.reads)));
 }
 
 pub not_both : (m : MachineModel) → WritesByState m → WritesByLetter m → ⊥

@@ -91,27 +91,27 @@ module _ (w : Word) (states : List ℕ) (ring : HasRing w) (places : length stat
   stands_for i h = elim (cases_lt i (lasso_len w)) [
     | inl old ↦ (i, in_old i old)
     | inr new ↦
-      let past : lasso_len w ≤ i = new in
-      let k : ℕ = i - length w.ring in
-      let e : i - length w.ring + length w.ring ≡ i = omega (arith, past) in
-      (i - length w.ring, subst (λ n. StandsFor w states n (i - length w.ring)) e (in_new (i - length w.ring) (omega (arith, past)) (omega (arith, past, len, h))))
+        let past : lasso_len w ≤ i = new in
+        let k : ℕ = i - length w.ring in
+        let e : i - length w.ring + length w.ring ≡ i = omega (arith, past) in
+        (i - length w.ring, subst (λ n. StandsFor w states n (i - length w.ring)) e (in_new (i - length w.ring) (omega (arith, past)) (omega (arith, past, len, h))))
   ]
 
 pub runs_unroll : RunsUnroll
 runs_unroll m side w states run = record {
   ring = run.ring;
   places =
-    let a : length (states ++ drop (length w.stem) states) ≡ length states + length (drop (length w.stem) states) = length-append states (drop (length w.stem) states) in
-    let b : length (drop (length w.stem) states) ≡ length states - length w.stem = length-drop (length w.stem) states in
-    omega (arith, a, b, run.places, len w states run.ring run.places);
+      let a : length (states ++ drop (length w.stem) states) ≡ length states + length (drop (length w.stem) states) = length-append states (drop (length w.stem) states) in
+      let b : length (drop (length w.stem) states) ≡ length states - length w.stem = length-drop (length w.stem) states in
+      omega (arith, a, b, run.places, len w states run.ring run.places);
   start = old_state w states run.ring run.places 0 (first_position w run.ring) ∙ run.start;
   reads = λ i h.
-    let s = stands_for w states run.ring run.places i h in
-    rw s.1.letter (run.reads s.0 s.1.within);
+      let s = stands_for w states run.ring run.places i h in
+      rw s.1.letter (run.reads s.0 s.1.within);
   writes = λ i h.
-    let s = stands_for w states run.ring run.places i h in
-    rw (s.1.letter, s.1.state) (run.writes s.0 s.1.within);
+      let s = stands_for w states run.ring run.places i h in
+      rw (s.1.letter, s.1.state) (run.writes s.0 s.1.within);
   moves = λ i h.
-    let s = stands_for w states run.ring run.places i h in
-    rw (s.1.letter, s.1.state, s.1.next) (run.moves s.0 s.1.within);
+      let s = stands_for w states run.ring run.places i h in
+      rw (s.1.letter, s.1.state, s.1.next) (run.moves s.0 s.1.within);
 }

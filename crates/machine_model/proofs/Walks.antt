@@ -56,18 +56,18 @@ module _ (m : MachineModel) (side : Side) (reads : Word) (letters : List Letter)
     places = length-set met state (Some (length letters)) ∙ walk.places;
     known = λ t p h is. elim (cases_eq t state) [
       | inl here ↦
-        let stored : get_or (set met state (Some (length letters))) state None ≡ Some p = ap (λ n. get_or (set met state (Some (length letters))) n None) (sym here) ∙ is in
-        let within : state < length met = rw walk.places walk.course.within in
-        let first : Some (length letters) ≡ Some p = sym (get_or-set_same met state (Some (length letters)) None within) ∙ stored in
-        let same : length letters ≡ p = cc in
-        record {
-          before = omega (arith, same, e);
-          position = rw (← same) walk.position;
-          again = rw (← same) (sym walk.course.after ∙ sym here);
-        }
+          let stored : get_or (set met state (Some (length letters))) state None ≡ Some p = ap (λ n. get_or (set met state (Some (length letters))) n None) (sym here) ∙ is in
+          let within : state < length met = rw walk.places walk.course.within in
+          let first : Some (length letters) ≡ Some p = sym (get_or-set_same met state (Some (length letters)) None within) ∙ stored in
+          let same : length letters ≡ p = cc in
+          record {
+            before = omega (arith, same, e);
+            position = rw (← same) walk.position;
+            again = rw (← same) (sym walk.course.after ∙ sym here);
+          }
       | inr other ↦
-        let old : IsMet m reads letters t p = walk.known t p h (sym (get_or-set_other met state t (Some (length letters)) None other) ∙ is) in
-        record { before = let before : p < length letters = old.before in omega (arith, before, e); position = old.position; again = old.again }
+          let old : IsMet m reads letters t p = walk.known t p h (sym (get_or-set_other met state t (Some (length letters)) None other) ∙ is) in
+          record { before = let before : p < length letters = old.before in omega (arith, before, e); position = old.position; again = old.again }
     ];
   }
 

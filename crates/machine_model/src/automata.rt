@@ -1,4 +1,4 @@
-ghost use Rattle.std.specs.Prelude.{◌≡◌, ◌≢◌, ◌↔◌, ◌^◌, ◌<◌, ◌≤◌, ◌⊎◌, [], All, Any, Err, IfOk, count_by, vec_len};
+ghost use Rattle.std.specs.Prelude.{◌≡◌, ◌≢◌, ◌↔◌, ◌^◌, ◌<◌, ◌≤◌, ◌⊎◌, [], All, Any, Err, IfOk, count_by, length, vec_len};
 ghost use Rattle.std.specs.Bool.{OnTrue, OnFalse};
 ghost use Rattle.machine_model.specs.Automaton.{JoinsStates};
 
@@ -111,7 +111,12 @@ mod tests {
     use std::test::Fail;
 
     // Why an automaton with one edge, of the empty cube, is refused.
-    fn refusal(rt: &HostRuntime, from: u32, to: u32, states: &[bool]) -> Result<Option<AutomatonFault>, Fail>
+    fn refusal(
+        rt: &HostRuntime,
+        from: u32,
+        to: u32,
+        states: &[bool],
+    ) -> Result<Option<AutomatonFault>, Fail>
         requires { length states.now < 2 ^ 32 }
     {
         let mut edges = Vec::new(rt.alloc());
@@ -123,8 +128,14 @@ mod tests {
     #[test]
     fn each_fault(rt: HostRuntime) -> Result<(), Fail> {
         assert_eq!(rt; refusal(&rt, 0, 0, &[])?, Some(AutomatonFault::Empty));
-        assert_eq!(rt; refusal(&rt, 0, 2, &[false, true])?, Some(AutomatonFault::BadEdge));
-        assert_eq!(rt; refusal(&rt, 2, 0, &[false, true])?, Some(AutomatonFault::BadEdge));
+        assert_eq!(rt;
+            refusal(&rt, 0, 2, &[false, true])?,
+            Some(AutomatonFault::BadEdge)
+        );
+        assert_eq!(rt;
+            refusal(&rt, 2, 0, &[false, true])?,
+            Some(AutomatonFault::BadEdge)
+        );
         assert_eq!(rt; refusal(&rt, 1, 1, &[false, true])?, None);
         Ok(())
     }

@@ -60,10 +60,8 @@ impl Machine {
         requires rows { vec_len table < 2 ^ 32 }
         ensures parts { IfOk result (λ m. m ≡ record { kind = kind; reads = reads; writes = writes; table = table.items }) }
         ensures made { IfOk result IsKept }
-        ensures refused {
-            let m : MachineModel = record { kind = kind; reads = reads; writes = writes; table = table.items } in
-            (fault : MachineFault) → (result ≡ Err fault) ↔ IsRefused m fault
-        }
+        ensures refused { let m : MachineModel = record { kind = kind; reads = reads; writes = writes; table = table.items } in
+            (fault : MachineFault) → (result ≡ Err fault) ↔ IsRefused m fault }
     {
         match table_fault(kind, reads, writes, &table) {
             Some(fault) => Err(fault),
@@ -215,32 +213,53 @@ mod tests {
     use super::*;
     use std::test::Fail;
 
-    // Why a table of one read and one written signal is refused, its rows as next state and written letter.
-    fn refusal(rt: &HostRuntime, kind: Kind, rows: &[(u32, u32)]) -> Result<Option<MachineFault>, Fail>
+    fn row(next: u32, writes: u32) -> Row {
+        Row { next, writes }
+    }
+
+    // Why a table of one read and one written signal is refused.
+    fn refusal(rt: &HostRuntime, kind: Kind, rows: &[Row]) -> Result<Option<MachineFault>, Fail>
         requires { length rows.now < 2 ^ 32 }
     {
-        let mut table = Vec::new(rt.alloc());
-        for &(next, writes) in rows {
-            table.push(Row { next, writes })?;
-        }
-        Ok(Machine::new(kind, 1, 1, table).err())
+        Ok(Machine::new(kind, 1, 1, Vec::from_slice(rt.alloc(), rows)?).err())
     }
 
     #[test]
     fn each_fault(rt: HostRuntime) -> Result<(), Fail> {
-        assert_eq!(rt; refusal(&rt, Kind::Mealy, &[])?, Some(MachineFault::WrongShape));
-        assert_eq!(rt; refusal(&rt, Kind::Mealy, &[(0, 0)])?, Some(MachineFault::WrongShape));
-        assert_eq!(rt; refusal(&rt, Kind::Mealy, &[(1, 0), (0, 0)])?, Some(MachineFault::NextOut));
-        assert_eq!(rt; refusal(&rt, Kind::Mealy, &[(0, 0), (0, 2)])?, Some(MachineFault::WriteOut));
-        assert_eq!(rt; refusal(&rt, Kind::Moore, &[(0, 0), (0, 1)])?, Some(MachineFault::NotMoore));
+        assert_eq!(rt;
+            refusal(&rt, Kind::Mealy, &[])?,
+            Some(MachineFault::WrongShape)
+        );
+        assert_eq!(rt;
+            refusal(&rt, Kind::Mealy, &[row(0, 0)])?,
+            Some(MachineFault::WrongShape)
+        );
+        assert_eq!(rt;
+            refusal(&rt, Kind::Mealy, &[row(1, 0), row(0, 0)])?,
+            Some(MachineFault::NextOut)
+        );
+        assert_eq!(rt;
+            refusal(&rt, Kind::Mealy, &[row(0, 0), row(0, 2)])?,
+            Some(MachineFault::WriteOut)
+        );
+        assert_eq!(rt;
+            refusal(&rt, Kind::Moore, &[row(0, 0), row(0, 1)])?,
+            Some(MachineFault::NotMoore)
+        );
         Ok(())
     }
 
     #[test]
     fn the_first_fault_of_two(rt: HostRuntime) -> Result<(), Fail> {
-        assert_eq!(rt; refusal(&rt, Kind::Mealy, &[(0, 2), (1, 0)])?, Some(MachineFault::NextOut));
-        assert_eq!(rt; refusal(&rt, Kind::Moore, &[(0, 1), (0, 2)])?, Some(MachineFault::WriteOut));
-        assert_eq!(rt; refusal(&rt, Kind::Mealy, &[(0, 0), (0, 1)])?, None);
+        assert_eq!(rt;
+            refusal(&rt, Kind::Mealy, &[row(0, 2), row(1, 0)])?,
+            Some(MachineFault::NextOut)
+        );
+        assert_eq!(rt;
+            refusal(&rt, Kind::Moore, &[row(0, 1), row(0, 2)])?,
+            Some(MachineFault::WriteOut)
+        );
+        assert_eq!(rt; refusal(&rt, Kind::Mealy, &[row(0, 0), row(0, 1)])?, None);
         Ok(())
     }
 }

@@ -30,7 +30,12 @@ pub fn whole_letter(machine: &Machine, side: Side, t: u32, read: u32) -> Letter
 
 /// The machine's run on a lasso of read letters, the first read signal being bit 0. Its positions are
 /// those of the given lasso with its ring unrolled at most as many times as the machine has states.
-pub fn run_lasso(alloc: Global, machine: &Machine, side: Side, reads: &Lasso) -> Result<RunLasso, AllocError>
+pub fn run_lasso(
+    alloc: Global,
+    machine: &Machine,
+    side: Side,
+    reads: &Lasso,
+) -> Result<RunLasso, AllocError>
     requires { IsLassoOver machine.now.reads reads.now }
     ensures run { IfOk result (λ run. IsRunLasso machine.now side run.word run.states.items) }
     ensures reads { IfOk result (λ run. SameWord (read_lasso side machine.now run.word) reads.now) }
@@ -76,7 +81,14 @@ impl Course {
     }
 
     // Follows the run over the letters at the positions from `from` up to `to`, which come next.
-    fn follow(&mut self, machine: &Machine, side: Side, reads: &Lasso, from: usize, to: usize) -> Result<(), AllocError>
+    fn follow(
+        &mut self,
+        machine: &Machine,
+        side: Side,
+        reads: &Lasso,
+        from: usize,
+        to: usize,
+    ) -> Result<(), AllocError>
         requires over { IsLassoOver machine.now.reads reads.now }
         requires course { IsCourse machine.now side reads.now self.old.letters.items self.old.states.items self.old.state }
         requires range { from ≤ to }
@@ -87,7 +99,8 @@ impl Course {
     {
         for position in from..to {
             let read = reads.letter(position).0;
-            self.letters.push(whole_letter(machine, side, self.state, read))?;
+            self.letters
+                .push(whole_letter(machine, side, self.state, read))?;
             self.states.push(self.state)?;
             self.state = machine.next(self.state, read);
         }
@@ -97,26 +110,33 @@ impl Course {
 
 #[cfg(test)]
 mod tests {
+    ghost use Rattle.std.specs.Prelude.{◌<◌, All, IfOk};
+
     use super::*;
     use crate::machines::Row;
     use letter_word::Kind;
     use std::test::Fail;
 
-    fn letters(rt: &HostRuntime, numbers: &[u32]) -> Result<Vec<Letter>, Fail> {
+    // Letters of one signal.
+    fn letters(rt: &HostRuntime, signals: &[bool]) -> Result<Vec<Letter>, Fail>
+        ensures { IfOk result (λ letters. All (λ letter. letter.0 < 2) letters.items) }
+    {
         let mut letters = Vec::new(rt.alloc());
-        for &number in numbers {
-            letters.push(Letter(number))?;
+        for &signal in signals {
+            letters.push(Letter(u32::from(signal)))?;
         }
         Ok(letters)
     }
 
     // The run of the two-state machine that writes what it read last.
-    fn delayed(rt: &HostRuntime, side: Side, stem: &[u32], ring: &[u32]) -> Result<RunLasso, Fail> {
-        let mut table = Vec::new(rt.alloc());
-        for (next, writes) in [(0, 0), (1, 0), (0, 1), (1, 1)] {
-            table.push(Row { next, writes })?;
-        }
-        let machine = Machine::new(Kind::Moore, 1, 1, table)?;
+    fn delayed(
+        rt: &HostRuntime,
+        side: Side,
+        stem: &[bool],
+        ring: &[bool],
+    ) -> Result<RunLasso, Fail> {
+        let rows = [(0, 0), (1, 0), (0, 1), (1, 1)].map(|(next, writes)| Row { next, writes });
+        let machine = Machine::new(Kind::Moore, 1, 1, Vec::from_slice(rt.alloc(), &rows)?)?;
         let reads = Lasso::new(letters(rt, stem)?, letters(rt, ring)?)?;
         Ok(run_lasso(rt.alloc(), &machine, side, &reads)?)
     }
@@ -124,10 +144,29 @@ mod tests {
     // One read signal that is set and then not: the output is 0, 1, 0, 1 in turn.
     #[test]
     fn writes_what_it_read_last(rt: HostRuntime) -> Result<(), Fail> {
-        let run = delayed(&rt, Side::System, &[], &[1, 0])?;
+        let run = delayed(&rt, Side::System, &[], &[true, false])?;
         assert_eq!(rt; run.word.stem(), [].as_slice());
         assert_eq!(rt; run.word.ring(), [Letter(1), Letter(2)].as_slice());
         assert_eq!(rt; run.states.as_slice(), [0, 1].as_slice());
+        Ok(())
+    }
+
+    // The ring closes where the run comes back to a state.
+    #[test]
+    fn goes_on_after_a_stem(rt: HostRuntime) -> Result<(), Fail> {
+        let run = delayed(&rt, Side::System, &[true], &[false])?;
+        assert_eq!(rt; run.word.stem(), [Letter(1), Letter(2)].as_slice());
+        assert_eq!(rt; run.word.ring(), [Letter(0)].as_slice());
+        assert_eq!(rt; run.states.as_slice(), [0, 1, 0].as_slice());
+        Ok(())
+    }
+
+    // The environment's inputs are the low bits.
+    #[test]
+    fn plays_the_environment(rt: HostRuntime) -> Result<(), Fail> {
+        let run = delayed(&rt, Side::Environment, &[true], &[false])?;
+        assert_eq!(rt; run.word.stem(), [Letter(2), Letter(1)].as_slice());
+        assert_eq!(rt; run.word.ring(), [Letter(0)].as_slice());
         Ok(())
     }
 }

@@ -35,5 +35,5 @@ returns-else-writes_by_letter-clause-none c =
       shape = shape;
       nexts = rows_all (λ row. row.next < size_of m) m shape (kept d);
       letters = rows_all (λ row. row.writes < 2 ^ m.writes) m shape (written d);
-      moore = λ e. by_state m shape (rw c.letter_count-letters.ensures.value at c.if-writes_by_letter.ensures.none)
+      moore = λ e. by_state m shape (rw c.letter_count-letters.ensures.value at c.if-writes_by_letter.ensures.none);
     }

@@ -22,6 +22,7 @@ loop-position-preserved c =
     let read : c.letter-read.result.0 ≡ read_at word (length letters) = ap (λ (l : Letter). l.0) (c.letter-read.ensures.value ∙ ap (letter_at word) (sym reached)) in
     let next : c.next-self.result ≡ next_of c.args.machine.now c.loop-position.self.state c.letter-read.result.0 = c.next-self.ensures.value in
     let more = course_more c.args.machine.now c.args.side word letters c.loop-position.self.states.items c.loop-position.self.state c.letter-read.result.0
-        c.loop-position.invariant.0 read (rw (← next) c.next-self.ensures.within) in
-    (rw (c.in_ok-push.ensures.items, c.in_ok-push-2.ensures.items, next, c.whole_letter.ensures) more,
-     rw c.in_ok-push.ensures.items (omega (arith, places, length_push letters c.whole_letter.result)))
+    c.loop-position.invariant.0 read (rw (← next) c.next-self.ensures.within) in (
+      rw (c.in_ok-push.ensures.items, c.in_ok-push-2.ensures.items, next, c.whole_letter.ensures) more,
+      rw c.in_ok-push.ensures.items (omega (arith, places, length_push letters c.whole_letter.result)),
+    )
