@@ -1,18 +1,16 @@
-use Rattle.std.proofs.Common.{◌≡◌, ◌≢◌, ℕ, zero, suc, ◌+◌, ◌-◌, ◌*◌, ◌^◌, ◌<◌, ◌≤◌, List, ◌++◌, length, get_or, refl, sym, ap, subst, ◌∙◌, arith, inl, inr}
-use Rattle.std.specs.Prelude.{All, map}
-use Rattle.std.proofs.lemmas.Bool.{cases_eq}
+use Rattle.std.proofs.Common.{◌≡◌, ℕ, zero, suc, ◌+◌, ◌^◌, ◌<◌, List, length, get_or, refl, sym, ap, ◌∙◌, arith}
 use Rattle.std.proofs.lemmas.Nat.{mul-add-lt, pow-add}
-use Rattle.std.proofs.lemmas.List.{length-map, length-append, get_or-map, get_or_default, get_or_append_left, get_or-append-add}
+use Rattle.std.proofs.lemmas.List.{length-map, get_or-map, get_or_default, get_or_append_left, get_or-append-add}
 use Rattle.std.proofs.Math.Nat.{mul_comm}
 use Rattle.letter_word.specs.declared.letters.Letter.{Letter}
 use Rattle.letter_word.specs.declared.kinds.Side.{Side}
 use Rattle.letter_word.specs.declared.kinds.Side.TheVariants.{System, Environment}
-use Rattle.letter_word.specs.Word.{Word, HasRing, IsLassoOver, SameWord, lasso_len, next, after, letter_at, nth_letter, no_signals}
+use Rattle.letter_word.specs.Word.{Word, HasRing, IsLassoOver, lasso_len, after, letter_at, nth_letter, no_signals}
 use Rattle.letter_word.proofs.Positions.{after-own, after-suc, after_within}
 use Rattle.machine_model.specs.Machine.{MachineModel, IsMachine, size_of, next_of, writes_of}
 use Rattle.machine_model.specs.Run.{IsRunLasso, joined, read_part, written_part, read_lasso}
 use Rattle.machine_model.specs.Course.{read_at, state_after}
-use Rattle.machine_model.specs.Laws.{RunsAreDetermined, MooreWritesBeforeReading, RunsStayWithin, StaysWithin}
+use Rattle.machine_model.specs.Laws.{RunsAreDetermined, MooreWritesBeforeReading, StaysWithin}
 use Rattle.machine_model.proofs.Readings.{joined-parts, nth_letter-read}
 use Rattle.machine_model.proofs.Closing.{read_within, state_within}
 

@@ -8,3 +8,4 @@ pub mod Pigeonhole
 pub mod Paths
 pub mod Existence
 pub mod Unrolled
+pub mod Examples

@@ -1,5 +1,5 @@
-use Rattle.std.proofs.Common.{◌≡◌, ◌≢◌, ℕ, zero, suc, ◌+◌, ◌-◌, ◌<◌, ◌≤◌, refl, sym, ap, subst, ◌∙◌, arith, add-zero, zero-add, add-suc}
-use Rattle.letter_word.specs.Word.{Word, HasRing, SameWord, SameFuture, lasso_len, next, after, letter_at}
+use Rattle.std.proofs.Common.{◌≡◌, ℕ, zero, suc, ◌+◌, ◌-◌, ◌<◌, refl, sym, subst, arith, zero-add}
+use Rattle.letter_word.specs.Word.{Word, HasRing, SameWord, SameFuture, lasso_len, next, after}
 use Rattle.letter_word.proofs.Positions.{after_within, SameFuture-after}
 use Rattle.machine_model.specs.Automaton.{AutomatonModel, HasEdge}
 use Rattle.machine_model.specs.Accepts.{Path, Accepts}

@@ -1,12 +1,8 @@
-use Rattle.std.proofs.Common.{◌≡◌, ◌≢◌, ℕ, zero, suc, ◌+◌, ◌-◌, ◌<◌, ◌≤◌, ◌⊎◌, List, ◌++◌, length, get_or, take, drop, refl, sym, ap, subst, ◌∙◌, arith, inl, inr}
+use Rattle.std.proofs.Common.{◌≡◌, ℕ, ◌+◌, ◌-◌, ◌<◌, ◌≤◌, List, ◌++◌, length, get_or, drop, refl, sym, ap, subst, ◌∙◌, arith, inl, inr}
 use Rattle.std.proofs.lemmas.Bool.{cases_eq, cases_lt}
 use Rattle.std.proofs.lemmas.List.{length-append, length-drop, get_or_append_left, get_or-append_right, get_or-drop}
-use Rattle.letter_word.specs.declared.letters.Letter.{Letter}
-use Rattle.letter_word.specs.declared.kinds.Side.{Side}
 use Rattle.letter_word.specs.Word.{Word, HasRing, lasso_len, next, letter_at, no_signals, unrolled_of}
 use Rattle.letter_word.proofs.Positions.{next-last, next-inner}
-use Rattle.machine_model.specs.Machine.{MachineModel, next_of, writes_of}
-use Rattle.machine_model.specs.Run.{IsRunLasso, read_part, written_part}
 use Rattle.machine_model.specs.Laws.{RunsUnroll}
 use Rattle.machine_model.proofs.Determined.{first_position}
 

@@ -1,4 +1,4 @@
-use Rattle.std.specs.Prelude.{◌≡◌, ◌≢◌, ℕ, ◌^◌, ◌<◌, ◌≤◌, ◌⊎◌, Bool, false, List, [], length, All, Any, Contains, slice_index_or}
+use Rattle.std.specs.Prelude.{ℕ, ◌^◌, ◌<◌, ◌≤◌, ◌⊎◌, Bool, false, List, length, All, Any, Contains, slice_index_or}
 use Rattle.letter_word.specs.declared.letters.Letter.{Letter}
 use Rattle.letter_word.specs.declared.cubes.Cube.{Cube}
 use Rattle.letter_word.specs.Cube.{Fits}

@@ -5,3 +5,4 @@ pub mod Automaton
 pub mod Accepts
 pub mod Problem
 pub mod Laws
+pub mod Example

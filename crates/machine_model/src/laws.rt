@@ -1,5 +1,6 @@
 // Laws of run lassos and of accepted words. Each is the contract of a function that does nothing.
 ghost use Rattle.machine_model.specs.Laws.{EveryReadLassoHasARun, RunsAreDetermined, MooreWritesBeforeReading, RunsStayWithin, RunsUnroll, AcceptanceIsOfTheWord, AcceptanceIsOfTheReadWord};
+ghost use Rattle.machine_model.specs.Example.{ExampleAccepts};
 
 /// Every lasso of read letters is the read part, as a word, of a run lasso.
 pub fn every_read_lasso_has_a_run()
@@ -35,3 +36,16 @@ pub fn acceptance_is_of_the_word()
 pub fn acceptance_is_of_the_read_word()
     ensures { AcceptanceIsOfTheReadWord }
 {}
+
+#[cfg(test)]
+mod tests {
+    // What a small automaton accepts, by the definition: the check proves it, and nothing is run.
+    fn a_small_automaton()
+        ensures { ExampleAccepts }
+    {}
+
+    #[test]
+    fn accepts_by_the_definition() {
+        a_small_automaton();
+    }
+}

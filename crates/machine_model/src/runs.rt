@@ -1,4 +1,4 @@
-ghost use Rattle.std.specs.Prelude.{◌≡◌, ℕ, ◌+◌, ◌^◌, ◌<◌, ◌≤◌, ◌++◌, ◌∷◌, [], IfOk, OnOk, length};
+ghost use Rattle.std.specs.Prelude.{◌≡◌, ℕ, ◌+◌, ◌^◌, ◌<◌, ◌≤◌, [], All, IfOk, OnOk, length};
 ghost use Rattle.letter_word.specs.Word.{IsLassoOver, SameWord, after, lasso_len};
 ghost use Rattle.machine_model.specs.Machine.{size_of, next_of};
 ghost use Rattle.machine_model.specs.Run.{IsRunLasso, read_lasso, joined};
@@ -110,8 +110,6 @@ impl Course {
 
 #[cfg(test)]
 mod tests {
-    ghost use Rattle.std.specs.Prelude.{◌<◌, All, IfOk};
-
     use super::*;
     use crate::machines::Row;
     use letter_word::Kind;

@@ -1,4 +1,4 @@
-use Rattle.std.proofs.Common.{◌≡◌, ◌≤◌, ◌⊎◌, inl, inr, sym}
+use Rattle.std.proofs.Common.{◌≤◌, ◌⊎◌, inl, inr, sym}
 use Rattle.machine_model.proofs.automata.has_bad_edge.Goals as goal
 use Rattle.machine_model.proofs.automata.has_bad_edge.Goals.{then-edge-states-via-then-edge-states, then-edge-states-via-else-edge-states+then-edge-states-2}
 

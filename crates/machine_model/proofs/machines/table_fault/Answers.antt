@@ -1,7 +1,7 @@
-use Rattle.std.proofs.Common.{◌≡◌, ◌≢◌, ℕ, ◌*◌, ◌/◌, ◌^◌, ◌<◌, ◌≤◌, ◌%◌, List, [], length, arith, sym}
+use Rattle.std.proofs.Common.{◌≡◌, ◌≢◌, ◌/◌, ◌^◌, ◌<◌, ◌%◌, [], length, arith}
 use Rattle.std.proofs.lemmas.Grind.{common_steps}
 use Rattle.std.specs.Prelude.{All}
-use Rattle.machine_model.specs.Machine.{MachineModel, HasShape, size_of, writes_in}
+use Rattle.machine_model.specs.Machine.{MachineModel, HasShape, size_of}
 use Rattle.machine_model.proofs.Tables.{rows_all, by_state, by_letter, shape_of}
 use Rattle.machine_model.proofs.machines.table_fault.Goals as goal
 use Rattle.machine_model.proofs.machines.table_fault.Goals.{In-Moore}

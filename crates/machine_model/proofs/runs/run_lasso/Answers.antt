@@ -1,6 +1,6 @@
-use Rattle.std.proofs.Common.{◌≡◌, ℕ, ◌+◌, ◌<◌, ◌≤◌, List, [], length, get_or, replicate, arith, ◌∙◌, sym, ap, rules, Option, Some, None}
+use Rattle.std.proofs.Common.{◌≡◌, ◌+◌, ◌<◌, length, replicate, arith, ◌∙◌, sym, ap, rules, None}
 use Rattle.std.proofs.lemmas.List.{get_or_read}
-use Rattle.letter_word.specs.Word.{lasso_len, after}
+use Rattle.letter_word.specs.Word.{lasso_len}
 use Rattle.letter_word.proofs.Positions.{after-own}
 use Rattle.machine_model.proofs.Tables.{size_pos}
 use Rattle.machine_model.proofs.Closing.{Closes, cut, run-cut, same-cut}

@@ -1,4 +1,4 @@
-use Rattle.std.proofs.Common.{◌≡◌, ap}
+use Rattle.std.proofs.Common.{◌≡◌}
 use Rattle.machine_model.specs.Machine.{MachineModel, IsMachine, IsRefused}
 use Rattle.machine_model.proofs.Tables.{refusals_apart, never_refused}
 use Rattle.machine_model.proofs.machines.Machine.new.Goals as goal

@@ -1,4 +1,4 @@
-use Rattle.std.proofs.Common.{◌≡◌, ℕ, ◌*◌, ◌^◌, ◌<◌, ◌+◌, length, arith}
+use Rattle.std.proofs.Common.{◌≡◌, ◌*◌, ◌^◌, ◌<◌, ◌+◌, length, arith}
 use Rattle.std.proofs.lemmas.List.{get_or_read}
 use Rattle.machine_model.specs.Machine.{MachineModel, size_of, row_of}
 use Rattle.machine_model.proofs.Tables.{no_row, place_in}

@@ -2,7 +2,7 @@ use Rattle.std.proofs.Common.{◌≡◌, ℕ, ◌+◌, ◌-◌, ◌<◌, ◌≤�
 use Rattle.std.proofs.lemmas.List.{length_push}
 use Rattle.letter_word.specs.declared.letters.Letter.{Letter}
 use Rattle.letter_word.specs.Word.{Word, after, letter_at}
-use Rattle.machine_model.specs.Machine.{size_of, next_of}
+use Rattle.machine_model.specs.Machine.{next_of}
 use Rattle.machine_model.specs.Course.{read_at}
 use Rattle.machine_model.proofs.Courses.{course_more}
 use Rattle.machine_model.proofs.runs.Course.follow.Goals as goal

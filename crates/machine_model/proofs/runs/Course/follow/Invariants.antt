@@ -1,4 +1,4 @@
-use Rattle.std.proofs.Common.{◌≡◌, ℕ, ◌+◌, ◌<◌, ◌≤◌, length}
+use Rattle.std.proofs.Common.{◌≡◌, ◌+◌, length}
 use Rattle.machine_model.specs.Course.{IsCourse}
 use Rattle.machine_model.proofs.runs.Course.follow.Given as goal
 
