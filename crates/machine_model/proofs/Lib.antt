@@ -1,0 +1,11 @@
+pub mod Tables
+pub mod Courses
+pub mod Readings
+pub mod Closing
+pub mod Walks
+pub mod Determined
+pub mod Pigeonhole
+pub mod Paths
+pub mod Existence
+pub mod Unrolled
+pub mod Examples

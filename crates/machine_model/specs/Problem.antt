@@ -1,0 +1,41 @@
+use Rattle.std.specs.Prelude.{◌≡◌, ℕ, ◌+◌, ◌^◌, ◌<◌, ◌≤◌, ◌⊎◌, All}
+use Rattle.std.specs.Arc.{arc_value}
+use Rattle.letter_word.specs.declared.kinds.Side.TheVariants.{System, Environment}
+use Rattle.machine_model.specs.Machine.{MachineModel, size_of}
+use Rattle.machine_model.specs.Automaton.{AutomatonModel, states_of}
+use Rattle.machine_model.specs.declared.automata.Edge.{Edge}
+use Rattle.machine_model.specs.declared.problems.Problem.{Problem}
+
+-- the automaton of the problem's side
+abbrev pub automaton_of : Problem → AutomatonModel
+automaton_of p = arc_value p.automaton
+
+-- how many signals the problem's machines read
+abbrev pub reads_of : Problem → ℕ
+reads_of p = elim p.side [ System ↦ p.inputs | Environment ↦ p.outputs ]
+
+-- how many signals the problem's machines write
+abbrev pub writes_of : Problem → ℕ
+writes_of p = elim p.side [ System ↦ p.outputs | Environment ↦ p.inputs ]
+
+-- the edge's cube names only the first n signals
+pub record NamesSignals (n : ℕ) (e : Edge) : Type 0 where
+  pub must : e.cube.must < 2 ^ n
+  pub none_of : e.cube.not < 2 ^ n
+
+-- a problem within the limits of every call that takes one (this project's own)
+pub record IsProblem (p : Problem) : Type 0 where
+  pub inputs : p.inputs ≤ 8
+  pub outputs : p.outputs ≤ 8
+  pub some : 1 ≤ p.size
+  pub size : p.size ≤ 8
+  pub states : states_of (automaton_of p) ≤ 2000
+  pub signals : All (NamesSignals (p.inputs + p.outputs)) (automaton_of p).edges
+  pub version : (p.version ≡ 1) ⊎ (p.version ≡ 2)
+
+-- a machine that the problem looks for: of its kind, its size and its signals
+pub record IsMachineOf (p : Problem) (m : MachineModel) : Type 0 where
+  pub kind : m.kind ≡ p.kind
+  pub size : size_of m ≡ p.size
+  pub reads : m.reads ≡ reads_of p
+  pub writes : m.writes ≡ writes_of p

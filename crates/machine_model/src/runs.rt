@@ -1,0 +1,170 @@
+ghost use Rattle.std.specs.Prelude.{◌≡◌, ℕ, ◌+◌, ◌^◌, ◌<◌, ◌≤◌, [], All, IfOk, OnOk, length};
+ghost use Rattle.letter_word.specs.Word.{IsLassoOver, SameWord, after, lasso_len};
+ghost use Rattle.machine_model.specs.Machine.{size_of, next_of};
+ghost use Rattle.machine_model.specs.Run.{IsRunLasso, read_lasso, joined};
+ghost use Rattle.machine_model.specs.Course.{IsCourse, letter_of};
+
+use crate::machines::{Machine, letter_count};
+use letter_word::{Lasso, Letter, Side};
+use std::alloc::{AllocError, Global};
+
+/// A run of a machine: a lasso of whole letters, inputs below outputs, with a state at each position.
+#[derive(Debug, Drop)]
+pub struct RunLasso {
+    pub word: Lasso,
+    pub states: Vec<u32>,
+}
+
+/// The whole letter of a read letter and what state `t` of the machine writes on it.
+pub fn whole_letter(machine: &Machine, side: Side, t: u32, read: u32) -> Letter
+    requires state { t < size_of machine.now }
+    requires read { read < 2 ^ machine.now.reads }
+    ensures { result ≡ letter_of side machine.now t read }
+{
+    let written = machine.writes_at(t, read);
+    match side {
+        Side::System => Letter(written * letter_count(machine.reads()) + read),
+        Side::Environment => Letter(read * letter_count(machine.writes()) + written),
+    }
+}
+
+/// The machine's run on a lasso of read letters, the first read signal being bit 0. Its positions are
+/// those of the given lasso with its ring unrolled at most as many times as the machine has states.
+pub fn run_lasso(
+    alloc: Global,
+    machine: &Machine,
+    side: Side,
+    reads: &Lasso,
+) -> Result<RunLasso, AllocError>
+    requires { IsLassoOver machine.now.reads reads.now }
+    ensures run { IfOk result (λ run. IsRunLasso machine.now side run.word run.states.items) }
+    ensures reads { IfOk result (λ run. SameWord (read_lasso side machine.now run.word) reads.now) }
+{
+    let size = machine.size() as usize;
+    let ring_start = reads.stem().len();
+    let mut course = Course::start(alloc);
+    course.follow(machine, side, reads, 0, ring_start)?;
+    let mut met: Vec<Option<usize>> = vec![in alloc; None; size]?;
+    // A state that the run meets a second time where the ring begins closes the run's own ring.
+    while let None = met[course.state as usize] {
+        met[course.state as usize] = Some(course.letters.len());
+        course.follow(machine, side, reads, ring_start, reads.len())?;
+    }
+    let begin = met[course.state as usize].unwrap();
+    let mut stem = course.letters;
+    let ring = stem.split_off(begin)?;
+    Ok(RunLasso {
+        word: Lasso::new(stem, ring).unwrap(),
+        states: course.states,
+    })
+}
+
+// A run as far as it was followed: the whole letters so far, the states before them, and the state after them.
+#[derive(Drop)]
+struct Course {
+    letters: Vec<Letter>,
+    states: Vec<u32>,
+    state: u32,
+}
+
+impl Course {
+    fn start(alloc: Global) -> Self
+        ensures letters { result.letters.items ≡ [] }
+        ensures states { result.states.items ≡ [] }
+        ensures state { result.state ≡ 0 }
+    {
+        Course {
+            letters: Vec::new(alloc),
+            states: Vec::new(alloc),
+            state: 0,
+        }
+    }
+
+    // Follows the run over the letters at the positions from `from` up to `to`, which come next.
+    fn follow(
+        &mut self,
+        machine: &Machine,
+        side: Side,
+        reads: &Lasso,
+        from: usize,
+        to: usize,
+    ) -> Result<(), AllocError>
+        requires over { IsLassoOver machine.now.reads reads.now }
+        requires course { IsCourse machine.now side reads.now self.old.letters.items self.old.states.items self.old.state }
+        requires range { from ≤ to }
+        requires within { to ≤ lasso_len reads.now }
+        requires place { (k : ℕ) → from + k < to → after reads.now 0 (length self.old.letters.items + k) ≡ from + k }
+        ensures course { OnOk result (IsCourse machine.now side reads.now self.new.letters.items self.new.states.items self.new.state) }
+        ensures len { OnOk result (length self.new.letters.items + from ≡ length self.old.letters.items + to) }
+    {
+        for position in from..to {
+            let read = reads.letter(position).0;
+            self.letters
+                .push(whole_letter(machine, side, self.state, read))?;
+            self.states.push(self.state)?;
+            self.state = machine.next(self.state, read);
+        }
+        Ok(())
+    }
+}
+
+#[cfg(test)]
+mod tests {
+    use super::*;
+    use crate::machines::Row;
+    use letter_word::Kind;
+    use std::test::Fail;
+
+    // Letters of one signal.
+    fn letters(rt: &HostRuntime, signals: &[bool]) -> Result<Vec<Letter>, Fail>
+        ensures { IfOk result (λ letters. All (λ letter. letter.0 < 2) letters.items) }
+    {
+        let mut letters = Vec::new(rt.alloc());
+        for &signal in signals {
+            letters.push(Letter(u32::from(signal)))?;
+        }
+        Ok(letters)
+    }
+
+    // The run of the two-state machine that writes what it read last.
+    fn delayed(
+        rt: &HostRuntime,
+        side: Side,
+        stem: &[bool],
+        ring: &[bool],
+    ) -> Result<RunLasso, Fail> {
+        let rows = [(0, 0), (1, 0), (0, 1), (1, 1)].map(|(next, writes)| Row { next, writes });
+        let machine = Machine::new(Kind::Moore, 1, 1, Vec::from_slice(rt.alloc(), &rows)?)?;
+        let reads = Lasso::new(letters(rt, stem)?, letters(rt, ring)?)?;
+        Ok(run_lasso(rt.alloc(), &machine, side, &reads)?)
+    }
+
+    // One read signal that is set and then not: the output is 0, 1, 0, 1 in turn.
+    #[test]
+    fn writes_what_it_read_last(rt: HostRuntime) -> Result<(), Fail> {
+        let run = delayed(&rt, Side::System, &[], &[true, false])?;
+        assert_eq!(rt; run.word.stem(), [].as_slice());
+        assert_eq!(rt; run.word.ring(), [Letter(1), Letter(2)].as_slice());
+        assert_eq!(rt; run.states.as_slice(), [0, 1].as_slice());
+        Ok(())
+    }
+
+    // The ring closes where the run comes back to a state.
+    #[test]
+    fn goes_on_after_a_stem(rt: HostRuntime) -> Result<(), Fail> {
+        let run = delayed(&rt, Side::System, &[true], &[false])?;
+        assert_eq!(rt; run.word.stem(), [Letter(1), Letter(2)].as_slice());
+        assert_eq!(rt; run.word.ring(), [Letter(0)].as_slice());
+        assert_eq!(rt; run.states.as_slice(), [0, 1, 0].as_slice());
+        Ok(())
+    }
+
+    // The environment's inputs are the low bits.
+    #[test]
+    fn plays_the_environment(rt: HostRuntime) -> Result<(), Fail> {
+        let run = delayed(&rt, Side::Environment, &[true], &[false])?;
+        assert_eq!(rt; run.word.stem(), [Letter(2), Letter(1)].as_slice());
+        assert_eq!(rt; run.word.ring(), [Letter(0)].as_slice());
+        Ok(())
+    }
+}
