@@ -1,0 +1,4 @@
+pub mod Lists
+pub mod StateLemmas
+pub mod FollowsLemmas
+pub mod LegalLemmas

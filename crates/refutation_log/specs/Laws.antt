@@ -1,0 +1,38 @@
+use Rattle.std.specs.Prelude.{◌≡◌, ℕ, Bool, true, false, List, [], ◌++◌, Option, Some, slice_get}
+use Rattle.clause_base.specs.Literal.{Literal}
+use Rattle.clause_base.specs.Truth.{is_true_clause, meets}
+use Rattle.refutation_log.specs.declared.entries.Entry.{Entry}
+use Rattle.refutation_log.specs.declared.turns.Turn.{Turn}
+use Rattle.refutation_log.specs.Entry.{clauses_of}
+use Rattle.refutation_log.specs.Follows.{Follows, clause_named}
+use Rattle.refutation_log.specs.Log.{IsLegal, IsClosed}
+use Rattle.refutation_log.specs.Turn.{run_of, IsSoundRun}
+
+-- Over every list of turns in which each append is sound at its turn, a legal log stays legal; so does the empty one, from which
+-- every log begins.
+pub record RunsStayLegal : Type 0 where
+  pub from_empty : (vars : ℕ) (base : List (List Literal)) (limit : Option ℕ) → IsLegal vars base limit []
+  pub along : (vars : ℕ) (base : List (List Literal)) (limit : Option ℕ) (log : List Entry) (turns : List Turn)
+      → IsLegal vars base limit log → IsSoundRun vars base limit log turns → IsLegal vars base limit (run_of log limit turns)
+
+-- What follows is implied, so each clause of a legal log is, and no assignment meets the base clauses of a closed one.
+pub record LogsAreSound : Type 0 where
+  pub implied : (values : List Bool) (clauses : List (List Literal)) (clause : List Literal) (hints : List ℕ)
+      → Follows clauses clause hints → meets values clauses ≡ true → is_true_clause values clause ≡ true
+  pub legal : (values : List Bool) (vars : ℕ) (base : List (List Literal)) (limit : Option ℕ) (log : List Entry)
+      → IsLegal vars base limit log → meets values base ≡ true → meets values (base ++ clauses_of log) ≡ true
+  pub closed : (values : List Bool) (vars : ℕ) (base : List (List Literal)) (limit : Option ℕ) (log : List Entry)
+      → IsClosed vars base limit log → meets values base ≡ false
+
+-- A number that names a clause names it in every longer list that begins alike, so what follows from a prefix of a log follows
+-- from the log.
+pub record PrefixesStay : Type 0 where
+  pub names : (clauses more : List (List Literal)) (n : ℕ) (clause : List Literal)
+      → clause_named clauses n ≡ Some clause → clause_named (clauses ++ more) n ≡ Some clause
+  pub places : (log more : List Entry) (i : ℕ) (e : Entry) → slice_get log i ≡ Some e → slice_get (log ++ more) i ≡ Some e
+  pub follows : (clauses more : List (List Literal)) (clause : List Literal) (hints : List ℕ)
+      → Follows clauses clause hints → Follows (clauses ++ more) clause hints
+  pub follows_in_log : (base : List (List Literal)) (log more : List Entry) (clause : List Literal) (hints : List ℕ)
+      → Follows (base ++ clauses_of log) clause hints → Follows (base ++ clauses_of (log ++ more)) clause hints
+  pub legal_prefix : (vars : ℕ) (base : List (List Literal)) (limit : Option ℕ) (log more : List Entry)
+      → IsLegal vars base limit (log ++ more) → IsLegal vars base limit log

@@ -1,0 +1,99 @@
+ghost use Rattle.std.specs.Prelude.{◌≡◌, ℕ, List, IfOk, nat_eq};
+ghost use Rattle.std.specs.Cmp.Lexicographic.{pointwise};
+ghost use Rattle.std.specs.Cmp.Rules.{comparing, hashing};
+ghost use Rattle.std.proofs.Common.{rules};
+
+use clause_base::Clause;
+use std::alloc::{AllocError, Global};
+use std::marker::Model;
+
+/// The numbers of the clauses by which a clause follows: 1 to b name the base clauses, b + 1 and on the entries of the log.
+///
+/// Seen by contracts as the list of the numbers.
+#[derive(Debug, Drop)]
+pub struct Hints {
+    numbers: Vec<u64>,
+}
+
+impl Model for Hints {
+    ghost Value = { List ℕ };
+
+    ghost view = { λ h. h.numbers.items };
+}
+
+impl PartialEq for Hints {
+    ghost eq = { pointwise nat_eq };
+
+    ghost laws = { Prim.search (comparing, rules) };
+
+    fn eq(&self, other: &Hints) -> bool {
+        self.numbers == other.numbers
+    }
+}
+
+impl Eq for Hints {
+    ghost laws = { Prim.search (comparing, rules) };
+}
+
+impl Clone for Hints {
+    ghost is_clone = { λ hints copy. copy ≡ hints };
+
+    fn clone(&self) -> Result<Hints, AllocError> {
+        Ok(Hints {
+            numbers: self.numbers.clone()?,
+        })
+    }
+}
+
+impl Hints {
+    /// The hints with these numbers.
+    pub fn new(alloc: Global, numbers: &[u64]) -> Result<Hints, AllocError>
+        ensures { IfOk result (λ hints. hints ≡ numbers.now) }
+    {
+        Ok(Hints {
+            numbers: numbers.to_vec(alloc)?,
+        })
+    }
+
+    /// The numbers, in their order.
+    pub fn numbers(&self) -> &[u64]
+        ensures { result.now ≡ self.now }
+    {
+        &self.numbers
+    }
+}
+
+/// A clause of a log, with the worker that learnt it and the hints by which it follows.
+#[derive(Debug, Drop, PartialEq, Eq)]
+pub struct Entry {
+    pub by: u32,
+    pub clause: Clause,
+    pub hints: Hints,
+}
+
+impl Clone for Entry {
+    ghost is_clone = { λ entry copy. copy ≡ entry };
+
+    fn clone(&self) -> Result<Entry, AllocError> {
+        Ok(Entry {
+            by: self.by,
+            clause: self.clause.clone()?,
+            hints: self.hints.clone()?,
+        })
+    }
+}
+
+/// An entry as it stands in a log.
+#[derive(Clone, Copy, Debug)]
+pub struct EntryRef<'a> {
+    pub by: u32,
+    pub clause: &'a Clause,
+    pub hints: &'a Hints,
+}
+
+/// How a clause came into a log: the worker that learnt it, and the hints by which it follows.
+#[derive(Debug, Drop)]
+pub struct Derivation {
+    pub by: u32,
+    pub hints: Hints,
+}
