@@ -1,0 +1,86 @@
+ghost use Rattle.std.specs.Prelude.{◌≡◌, ◌≢◌, ℕ, ◌<◌, ◌≤◌, List, length, Some, IfSome, OnOk, OnErr, IsErrOf};
+ghost use Rattle.outside_edge.specs.Faults.{Rose, count_of};
+ghost use Rattle.outside_edge.specs.Files.{bytes_under, files_of, Takes};
+
+use crate::in_memory::find;
+use crate::{FileBytes, Shelf, ShelfFault};
+use std::alloc::Global;
+use std::marker::Model;
+use text_base::Name;
+
+/// Files in memory, of which taking fails at stated calls, and at a name that isn't there.
+#[derive(Debug, Drop)]
+pub struct MemoryShelf {
+    alloc: Global,
+    files: Vec<(Name, FileBytes)>,
+    failing: Vec<u64>,
+    calls: u64,
+    failed: Vec<Name>,
+}
+
+impl Model for MemoryShelf {
+    ghost use Rattle.outside_edge.specs.Memory.{ShelfState};
+
+    ghost Value = { ShelfState };
+
+    ghost view = { λ shelf. record { files = shelf.files.items; failing = shelf.failing.items; calls = shelf.calls; failed = shelf.failed.items } };
+}
+
+impl MemoryShelf {
+    ghost use Rattle.std.specs.Prelude.{[]};
+
+    /// The calls whose numbers, from 1, are in `failing` fail. Of files of one name the first counts.
+    pub fn new(alloc: Global, files: Vec<(Name, FileBytes)>, failing: Vec<u64>) -> MemoryShelf
+        ensures start { result ≡ record { files = files.items; failing = failing.items; calls = 0; failed = [] } }
+    {
+        MemoryShelf {
+            alloc,
+            files,
+            failing,
+            calls: 0,
+            failed: Vec::new(alloc),
+        }
+    }
+}
+
+impl Shelf for MemoryShelf {
+    ghost use Rattle.outside_edge.specs.Memory.{AnswersTake};
+
+    ghost files = { λ shelf. Some (files_of shelf.files) };
+
+    ghost faults = { λ shelf name. count_of shelf.failed name };
+
+    fn take(&mut self, name: &str, limit: u64, into: &mut Vec<u8>) -> Result<(), ShelfFault>
+        ensures exact { AnswersTake self.old name.now result self.new }
+        ensures ok { OnOk result (Takes (Some (files_of self.old.files)) name.now limit into.old.items into.new.items) }
+        ensures err { OnErr result (into.new.items ≡ into.old.items) }
+        ensures files { Some (files_of self.new.files) ≡ Some (files_of self.old.files) }
+        ensures too_long { IsErrOf result ShelfFault.TooLong
+            → IfSome (Some (files_of self.old.files)) (λ files. limit < length (bytes_under files name.now)) }
+        ensures no_limit { limit ≡ u64.MAX → ¬ IsErrOf result ShelfFault.TooLong }
+        ensures failed { IsErrOf result ShelfFault.Failed
+            → Rose (count_of self.old.failed name.now) (count_of self.new.failed name.now) }
+        ensures not_failed { ¬ IsErrOf result ShelfFault.Failed
+            → count_of self.new.failed name.now ≡ count_of self.old.failed name.now }
+        ensures others { (other : List ℕ) → other ≢ name.now → count_of self.new.failed other ≡ count_of self.old.failed other }
+        ensures never_falls { (any : List ℕ) → count_of self.old.failed any ≤ count_of self.new.failed any }
+    {
+        let calls = self.calls.saturating_add(1);
+        match find(&self.files, name) {
+            Some(bytes) if !self.failing.contains(&calls) => {
+                if bytes.len() as u64 > limit {
+                    self.calls = calls;
+                    return Err(ShelfFault::TooLong);
+                }
+                into.extend_from_slice(bytes)?;
+                self.calls = calls;
+                Ok(())
+            }
+            _ => {
+                self.failed.push(Name::new(self.alloc, name.as_bytes())?)?;
+                self.calls = calls;
+                Err(ShelfFault::Failed)
+            }
+        }
+    }
+}
