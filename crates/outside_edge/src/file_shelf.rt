@@ -50,14 +50,14 @@ impl<'a, R: Files> Shelf for FileShelf<'a, R> {
         let remembered = Name::new(self.alloc, name.as_bytes())?;
         self.failed.reserve(1)?;
         let before = into.len();
-        let answer = append_file(self.rt, name, limit, into);
-        if answer.is_err() {
-            into.truncate(before);
-        }
-        if let Err(ShelfFault::Failed) = answer {
+        let Err(fault) = append_file(self.rt, name, limit, into) else {
+            return Ok(());
+        };
+        into.truncate(before);
+        if let ShelfFault::Failed = fault {
             self.failed.push_reserved(remembered);
         }
-        answer
+        Err(fault)
     }
 }
 
@@ -92,5 +92,40 @@ fn append_rest<F: Read>(file: &mut F, limit: u64, into: &mut Vec<u8>) -> Result<
         }
         into.extend_from_slice(&buffer[..count])?;
         room -= count as u64;
+    }
+}
+
+#[cfg(test)]
+mod tests {
+    use super::*;
+    use std::test::Fail;
+
+    fn take<H: Shelf>(
+        shelf: &mut H,
+        name: &str,
+        limit: u64,
+        into: &mut Vec<u8>,
+    ) -> Result<(), ShelfFault> {
+        shelf.take(name, limit, into)
+    }
+
+    // The file has more bytes than one read takes.
+    #[test]
+    fn takes_a_real_file(rt: HostRuntime) -> Result<(), Fail> {
+        let name = "outside_edge_takes_a_real_file.txt";
+        let mut bytes = vec![in rt.alloc(); b'a'; 5000]?;
+        bytes.push(b'b')?;
+        let mut into = Vec::new(rt.alloc());
+        let mut shelf = FileShelf::new(&rt, rt.alloc());
+        fs::write(&rt, name, bytes.as_slice())?;
+        let cut = take(&mut shelf, name, 5000, &mut into);
+        let whole = take(&mut shelf, name, 5001, &mut into);
+        fs::remove_file(&rt, name)?;
+        let gone = take(&mut shelf, name, u64::MAX, &mut into);
+        assert_eq!(rt; cut, Err(ShelfFault::TooLong));
+        assert_eq!(rt; whole, Ok(()));
+        assert_eq!(rt; gone, Err(ShelfFault::Failed));
+        assert!(rt; into == bytes);
+        Ok(())
     }
 }

@@ -27,7 +27,9 @@ impl Model for MemoryShelf {
 }
 
 impl MemoryShelf {
-    ghost use Rattle.std.specs.Prelude.{[]};
+    ghost use Rattle.std.specs.Prelude.{[], None, if◌then◌else◌};
+    ghost use Rattle.std.specs.Option.{option_copied};
+    ghost use Rattle.outside_edge.specs.Memory.{one_more, take_fails};
 
     /// The calls whose numbers, from 1, are in `failing` fail. Of files of one name the first counts.
     pub fn new(alloc: Global, files: Vec<(Name, FileBytes)>, failing: Vec<u64>) -> MemoryShelf
@@ -40,6 +42,22 @@ impl MemoryShelf {
             calls: 0,
             failed: Vec::new(alloc),
         }
+    }
+
+    // The bytes of the file that the next call takes, or none if it fails.
+    fn found(&self, name: &str) -> Option<&[u8]>
+        ensures found { option_copied result ≡ (if take_fails self.now name.now then None else files_of self.now.files name.now) }
+    {
+        if self.failing.contains(&self.calls.saturating_add(1)) {
+            return None;
+        }
+        find(&self.files, name)
+    }
+
+    fn count_call(&mut self)
+        ensures counted { self.new ≡ record self.old { calls = one_more self.old.calls } }
+    {
+        self.calls = self.calls.saturating_add(1);
     }
 }
 
@@ -65,22 +83,78 @@ impl Shelf for MemoryShelf {
         ensures others { (other : List ℕ) → other ≢ name.now → count_of self.new.failed other ≡ count_of self.old.failed other }
         ensures never_falls { (any : List ℕ) → count_of self.old.failed any ≤ count_of self.new.failed any }
     {
-        let calls = self.calls.saturating_add(1);
-        match find(&self.files, name) {
-            Some(bytes) if !self.failing.contains(&calls) => {
-                if bytes.len() as u64 > limit {
-                    self.calls = calls;
-                    return Err(ShelfFault::TooLong);
-                }
-                into.extend_from_slice(bytes)?;
-                self.calls = calls;
-                Ok(())
-            }
-            _ => {
-                self.failed.push(Name::new(self.alloc, name.as_bytes())?)?;
-                self.calls = calls;
-                Err(ShelfFault::Failed)
-            }
+        let Some(bytes) = self.found(name) else {
+            self.failed.push(Name::new(self.alloc, name.as_bytes())?)?;
+            self.count_call();
+            return Err(ShelfFault::Failed);
+        };
+        if bytes.len() as u64 > limit {
+            self.count_call();
+            return Err(ShelfFault::TooLong);
         }
+        into.extend_from_slice(bytes)?;
+        self.count_call();
+        Ok(())
+    }
+}
+
+#[cfg(test)]
+mod tests {
+    use super::*;
+    use crate::PlainShelf;
+    use std::alloc::AllocError;
+    use std::test::Fail;
+
+    // One file of this name, with the bytes `abc`.
+    fn files(alloc: Global, name: &[u8]) -> Result<Vec<(Name, FileBytes)>, AllocError> {
+        let mut files = Vec::new(alloc);
+        files.push((Name::new(alloc, name)?, FileBytes::new(alloc, b"abc")?))?;
+        Ok(files)
+    }
+
+    // Takes the name through the bound, and gives the answer with how many bytes came.
+    fn take<H: Shelf>(
+        alloc: Global,
+        shelf: &mut H,
+        name: &str,
+        limit: u64,
+    ) -> (Result<(), ShelfFault>, usize) {
+        let mut into = Vec::new(alloc);
+        let answer = shelf.take(name, limit, &mut into);
+        (answer, into.len())
+    }
+
+    #[test]
+    fn fails_at_stated_calls_and_missing_names(rt: HostRuntime) -> Result<(), Fail> {
+        let alloc = rt.alloc();
+        let failing = Vec::from_slice(alloc, &[2])?;
+        let mut shelf = MemoryShelf::new(alloc, files(alloc, b"spec")?, failing);
+        assert_eq!(rt; take(alloc, &mut shelf, "spec", 3), (Ok(()), 3));
+        assert_eq!(rt;
+            take(alloc, &mut shelf, "spec", 3),
+            (Err(ShelfFault::Failed), 0)
+        );
+        assert_eq!(rt;
+            take(alloc, &mut shelf, "spec", 2),
+            (Err(ShelfFault::TooLong), 0)
+        );
+        assert_eq!(rt;
+            take(alloc, &mut shelf, "word", 3),
+            (Err(ShelfFault::Failed), 0)
+        );
+        Ok(())
+    }
+
+    #[test]
+    fn a_plain_shelf_never_fails(rt: HostRuntime) -> Result<(), Fail> {
+        let alloc = rt.alloc();
+        let mut shelf = PlainShelf::new(files(alloc, b"spec")?);
+        assert_eq!(rt; take(alloc, &mut shelf, "spec", u64::MAX), (Ok(()), 3));
+        assert_eq!(rt; take(alloc, &mut shelf, "word", 0), (Ok(()), 0));
+        assert_eq!(rt;
+            take(alloc, &mut shelf, "spec", 2),
+            (Err(ShelfFault::TooLong), 0)
+        );
+        Ok(())
     }
 }

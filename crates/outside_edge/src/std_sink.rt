@@ -39,3 +39,19 @@ impl<'a, R: Print> Sink for StdSink<'a, R> {
         Err(SinkFault::Failed)
     }
 }
+
+#[cfg(test)]
+mod tests {
+    use super::*;
+
+    fn put<K: Sink>(sink: &mut K, bytes: &[u8]) -> Result<(), SinkFault> {
+        sink.put(bytes)
+    }
+
+    #[test]
+    fn writes_to_standard_output(rt: HostRuntime) {
+        let mut sink = StdSink::new(&rt);
+        assert_eq!(rt; put(&mut sink, b"a line\n"), Ok(()));
+        assert_eq!(rt; put(&mut sink, b""), Ok(()));
+    }
+}
