@@ -1,0 +1,19 @@
+//! Files that are kept in memory, as the two shelves have them.
+ghost use Rattle.std.specs.Prelude.{◌≡◌};
+ghost use Rattle.std.specs.Option.{option_copied};
+ghost use Rattle.outside_edge.specs.Files.{files_of};
+
+use crate::FileBytes;
+use text_base::Name;
+
+/// The bytes of the first file of that name.
+pub fn find<'a>(files: &'a [(Name, FileBytes)], name: &str) -> Option<&'a [u8]>
+    ensures first { option_copied result ≡ files_of files.now name.now }
+{
+    for (file, bytes) in files {
+        if file.bytes() == name.as_bytes() {
+            return Some(bytes.bytes());
+        }
+    }
+    None
+}

@@ -1,0 +1,160 @@
+ghost use Rattle.std.specs.Prelude.{◌≡◌, ◌≢◌, ℕ, ◌<◌, ◌≤◌, List, length, Some, IfSome, OnOk, OnErr, IsErrOf};
+ghost use Rattle.outside_edge.specs.Faults.{Rose, count_of};
+ghost use Rattle.outside_edge.specs.Files.{bytes_under, files_of, Takes};
+
+use crate::in_memory::find;
+use crate::{FileBytes, Shelf, ShelfFault};
+use std::alloc::Global;
+use std::marker::Model;
+use text_base::Name;
+
+/// Files in memory, of which taking fails at stated calls, and at a name that isn't there.
+#[derive(Debug, Drop)]
+pub struct MemoryShelf {
+    alloc: Global,
+    files: Vec<(Name, FileBytes)>,
+    failing: Vec<u64>,
+    calls: u64,
+    failed: Vec<Name>,
+}
+
+impl Model for MemoryShelf {
+    ghost use Rattle.outside_edge.specs.Memory.{ShelfState};
+
+    ghost Value = { ShelfState };
+
+    ghost view = { λ shelf. record { files = shelf.files.items; failing = shelf.failing.items; calls = shelf.calls; failed = shelf.failed.items } };
+}
+
+impl MemoryShelf {
+    ghost use Rattle.std.specs.Prelude.{[], None, if◌then◌else◌};
+    ghost use Rattle.std.specs.Option.{option_copied};
+    ghost use Rattle.outside_edge.specs.Memory.{one_more, take_fails};
+
+    /// The calls whose numbers, from 1, are in `failing` fail. Of files of one name the first counts.
+    pub fn new(alloc: Global, files: Vec<(Name, FileBytes)>, failing: Vec<u64>) -> MemoryShelf
+        ensures start { result ≡ record { files = files.items; failing = failing.items; calls = 0; failed = [] } }
+    {
+        MemoryShelf {
+            alloc,
+            files,
+            failing,
+            calls: 0,
+            failed: Vec::new(alloc),
+        }
+    }
+
+    // The bytes of the file that the next call takes, or none if it fails.
+    fn found(&self, name: &str) -> Option<&[u8]>
+        ensures found { option_copied result ≡ (if take_fails self.now name.now then None else files_of self.now.files name.now) }
+    {
+        if self.failing.contains(&self.calls.saturating_add(1)) {
+            return None;
+        }
+        find(&self.files, name)
+    }
+
+    fn count_call(&mut self)
+        ensures counted { self.new ≡ record self.old { calls = one_more self.old.calls } }
+    {
+        self.calls = self.calls.saturating_add(1);
+    }
+}
+
+impl Shelf for MemoryShelf {
+    ghost use Rattle.outside_edge.specs.Memory.{AnswersTake};
+
+    ghost files = { λ shelf. Some (files_of shelf.files) };
+
+    ghost faults = { λ shelf name. count_of shelf.failed name };
+
+    fn take(&mut self, name: &str, limit: u64, into: &mut Vec<u8>) -> Result<(), ShelfFault>
+        ensures exact { AnswersTake self.old name.now result self.new }
+        ensures ok { OnOk result (Takes (Some (files_of self.old.files)) name.now limit into.old.items into.new.items) }
+        ensures err { OnErr result (into.new.items ≡ into.old.items) }
+        ensures files { Some (files_of self.new.files) ≡ Some (files_of self.old.files) }
+        ensures too_long { IsErrOf result ShelfFault.TooLong
+            → IfSome (Some (files_of self.old.files)) (λ files. limit < length (bytes_under files name.now)) }
+        ensures no_limit { limit ≡ u64.MAX → ¬ IsErrOf result ShelfFault.TooLong }
+        ensures failed { IsErrOf result ShelfFault.Failed
+            → Rose (count_of self.old.failed name.now) (count_of self.new.failed name.now) }
+        ensures not_failed { ¬ IsErrOf result ShelfFault.Failed
+            → count_of self.new.failed name.now ≡ count_of self.old.failed name.now }
+        ensures others { (other : List ℕ) → other ≢ name.now → count_of self.new.failed other ≡ count_of self.old.failed other }
+        ensures never_falls { (any : List ℕ) → count_of self.old.failed any ≤ count_of self.new.failed any }
+    {
+        let Some(bytes) = self.found(name) else {
+            self.failed.push(Name::new(self.alloc, name.as_bytes())?)?;
+            self.count_call();
+            return Err(ShelfFault::Failed);
+        };
+        if bytes.len() as u64 > limit {
+            self.count_call();
+            return Err(ShelfFault::TooLong);
+        }
+        into.extend_from_slice(bytes)?;
+        self.count_call();
+        Ok(())
+    }
+}
+
+#[cfg(test)]
+mod tests {
+    use super::*;
+    use crate::PlainShelf;
+    use std::alloc::AllocError;
+    use std::test::Fail;
+
+    // One file of this name, with the bytes `abc`.
+    fn files(alloc: Global, name: &[u8]) -> Result<Vec<(Name, FileBytes)>, AllocError> {
+        let mut files = Vec::new(alloc);
+        files.push((Name::new(alloc, name)?, FileBytes::new(alloc, b"abc")?))?;
+        Ok(files)
+    }
+
+    // Takes the name through the bound, and gives the answer with how many bytes came.
+    fn take<H: Shelf>(
+        alloc: Global,
+        shelf: &mut H,
+        name: &str,
+        limit: u64,
+    ) -> (Result<(), ShelfFault>, usize) {
+        let mut into = Vec::new(alloc);
+        let answer = shelf.take(name, limit, &mut into);
+        (answer, into.len())
+    }
+
+    #[test]
+    fn fails_at_stated_calls_and_missing_names(rt: HostRuntime) -> Result<(), Fail> {
+        let alloc = rt.alloc();
+        let failing = Vec::from_slice(alloc, &[2])?;
+        let mut shelf = MemoryShelf::new(alloc, files(alloc, b"spec")?, failing);
+        assert_eq!(rt; take(alloc, &mut shelf, "spec", 3), (Ok(()), 3));
+        assert_eq!(rt;
+            take(alloc, &mut shelf, "spec", 3),
+            (Err(ShelfFault::Failed), 0)
+        );
+        assert_eq!(rt;
+            take(alloc, &mut shelf, "spec", 2),
+            (Err(ShelfFault::TooLong), 0)
+        );
+        assert_eq!(rt;
+            take(alloc, &mut shelf, "word", 3),
+            (Err(ShelfFault::Failed), 0)
+        );
+        Ok(())
+    }
+
+    #[test]
+    fn a_plain_shelf_never_fails(rt: HostRuntime) -> Result<(), Fail> {
+        let alloc = rt.alloc();
+        let mut shelf = PlainShelf::new(files(alloc, b"spec")?);
+        assert_eq!(rt; take(alloc, &mut shelf, "spec", u64::MAX), (Ok(()), 3));
+        assert_eq!(rt; take(alloc, &mut shelf, "word", 0), (Ok(()), 0));
+        assert_eq!(rt;
+            take(alloc, &mut shelf, "spec", 2),
+            (Err(ShelfFault::TooLong), 0)
+        );
+        Ok(())
+    }
+}
