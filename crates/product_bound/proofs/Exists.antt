@@ -1,0 +1,229 @@
+-- A machine that its side accepts has a valid annotation.
+use Rattle.std.proofs.Common.{◌≡◌, ◌≢◌, ℕ, zero, suc, ◌+◌, ◌-◌, ◌*◌, ◌%◌, ◌^◌, ◌<◌, ◌≤◌, ◌⊎◌, inl, inr, List, [], ◌∷◌, length, map, refl, sym, ap, ◌∙◌, subst, arith, Option, Some, None, get_or}
+use Rattle.std.specs.Prelude.{All, Contains}
+use Rattle.std.specs.List.{range_with_len}
+use Rattle.std.proofs.lemmas.Bool.{cases_eq, cases_lt}
+use Rattle.std.proofs.lemmas.List.Elements.{All-contains}
+use Rattle.std.proofs.lemmas.List.FromFn.{get_or-map-range_with_len, length-map-range_with_len}
+use Rattle.letter_word.specs.Cube.{Fits}
+use Rattle.machine_model.specs.Accepts.{SideAccepts}
+use Rattle.machine_model.specs.Automaton.{HasEdge, IsAutomaton, JoinsStates, states_of}
+use Rattle.machine_model.specs.Machine.{MachineModel, IsMachine, next_of, size_of}
+use Rattle.machine_model.specs.Problem.{IsMachineOf, IsProblem, automaton_of}
+use Rattle.machine_model.specs.declared.automata.Edge.{Edge}
+use Rattle.machine_model.specs.declared.problems.Problem.{Problem}
+use Rattle.product_bound.specs.Annotation.{HasNumber, IsValidAnnotation, bound_of, number_at, places_of, rise_at, whole_letter}
+use Rattle.product_bound.specs.Laws.{HasValidAnnotation}
+use Rattle.product_bound.specs.Product.{Leads}
+use Rattle.product_bound.specs.declared.laws.ProductStep.{ProductStep}
+use Rattle.product_bound.proofs.Decide.{each_below, each_in}
+use Rattle.product_bound.proofs.Letters.{fits_or_not, to_within}
+use Rattle.product_bound.proofs.Levels.{ClosedLevels, IsClosed, Wants, closed_levels}
+use Rattle.product_bound.proofs.Sums.{total}
+use Rattle.product_bound.proofs.Trails.{Trail, at_pair, place, place_within, places, rise, rise-place, same_pair, trail_small}
+
+-- an arrow of the product, from place to place
+record Arrow (p : Problem) (m : MachineModel) (u v : ℕ) : Type 0 where
+  t : ℕ
+  q : ℕ
+  read : ℕ
+  r : ℕ
+  is_state : t < p.size
+  is_from : q < states_of (automaton_of p)
+  is_letter : read < 2 ^ m.reads
+  edge : HasEdge (automaton_of p) (whole_letter p.side m t read) q r
+  from_is : u ≡ place p t q
+  to_is : v ≡ place p (next_of m t read) r
+
+-- a trail to the pair at a place that meets so many rejecting states
+record Found (p : Problem) (m : MachineModel) (v c : ℕ) : Type 0 where
+  t : ℕ
+  q : ℕ
+  steps : List ProductStep
+  is_state : t < p.size
+  is_from : q < states_of (automaton_of p)
+  trail : Trail p m steps t q
+  at : v ≡ place p t q
+  counts : total (rise p) (place p t q ∷ places p steps) ≡ c
+
+-- the number that a level stands for
+number_of : ℕ → Option ℕ
+number_of zero = None
+number_of (suc c) = Some c
+
+number_of-Some : (level c : ℕ) → number_of level ≡ Some c → level ≡ suc c
+unfolding number_of
+number_of-Some zero c e = cc
+number_of-Some (suc d) c e = let same : d ≡ c = cc in ap suc same
+
+number_of-positive : (level : ℕ) → 0 < level → number_of level ≡ Some (level - 1)
+unfolding number_of
+number_of-positive zero h = absurd (omega arith)
+number_of-positive (suc c) h = let e : c ≡ suc c - 1 = omega arith in ap Some e
+
+module _ (p : Problem) (m : MachineModel) (made : IsAutomaton (automaton_of p)) (machine : IsMachine m) (fits : IsMachineOf p m) (some : 0 < size_of m) (accepts : SideAccepts (automaton_of p) p.side m) where
+  start : Found p m 0 (rise p 0)
+  start =
+      let n : 0 < states_of (automaton_of p) = made.some in
+      let z : 0 * states_of (automaton_of p) + 0 ≡ 0 = omega arith in
+      record {
+        t = 0;
+        q = 0;
+        steps = [];
+        is_state = rw (sym fits.size) some;
+        is_from = n;
+        trail = (refl, refl);
+        at = sym z;
+        counts = let e : rise p (0 * states_of (automaton_of p) + 0) ≡ rise p 0 = ap (rise p) z in omega (arith, e);
+      }
+
+  along : (u v c : ℕ) → Arrow p m u v → Found p m u c → Found p m v (c + rise p v)
+  along u v c arrow found =
+      let same : (arrow.t ≡ found.t) × (arrow.q ≡ found.q) = same_pair p arrow.t arrow.q found.t found.q arrow.is_from found.is_from (sym arrow.from_is ∙ found.at) in
+      let edge : HasEdge (automaton_of p) (whole_letter p.side m found.t arrow.read) found.q arrow.r = rw (same.0, same.1) at arrow.edge in
+      let step : ProductStep = record { t = found.t; q = found.q; letter = arrow.read } in
+      let t' : ℕ = next_of m found.t arrow.read in
+      let small : found.t < size_of m = rw fits.size found.is_state in
+      let next_small : t' < size_of m = machine.nexts found.t arrow.read small arrow.is_letter in
+      let to : v ≡ place p t' arrow.r = rw same.0 at arrow.to_is in
+      let counts : total (rise p) (place p found.t found.q ∷ places p found.steps) ≡ c = found.counts in
+      let here : rise p v ≡ rise p (place p t' arrow.r) = ap (rise p) to in
+      record {
+        t = t';
+        q = arrow.r;
+        steps = step ∷ found.steps;
+        is_state = rw (sym fits.size) next_small;
+        is_from = to_within (automaton_of p) (whole_letter p.side m found.t arrow.read) found.q arrow.r made edge;
+        trail = (found.is_state, (found.is_from, (record { letter = arrow.is_letter; moves = refl; edge = edge }, found.trail)));
+        at = to;
+        counts = omega (arith, counts, here);
+      }
+
+  within : (v c : ℕ) → Found p m v c → v < places_of p
+  within v c found = rw found.at (place_within p found.t found.q found.is_state found.is_from)
+
+  small : (v c : ℕ) → Found p m v c → c ≤ bound_of p
+  small v c found = subst (λ k. k ≤ bound_of p) found.counts (trail_small p m machine some accepts found.steps found.t found.q found.trail found.is_state found.is_from)
+
+  -- what an edge asks of levels, from a state and on a letter
+  Kept : (ℕ → ℕ) → ℕ → ℕ → Edge → Type 0
+  Kept f t read e = Fits e.cube (whole_letter p.side m t read) → 0 < f (place p t e.from) → f (place p t e.from) + rise p (place p (next_of m t read) e.to) ≤ f (place p (next_of m t read) e.to)
+
+  kept_or_wants : (f : ℕ → ℕ) (t read : ℕ) → t < p.size → read < 2 ^ m.reads → (e : Edge) → Contains (automaton_of p).edges e → Kept f t read e ⊎ Wants (rise p) (Arrow p m) f
+  unfolding Kept
+  kept_or_wants f t read ht hi e there =
+      elim (fits_or_not e.cube (whole_letter p.side m t read)) [
+        | inr misses ↦ inl (λ it_fits _. absurd (misses it_fits))
+        | inl it_fits ↦ elim (cases_lt (f (place p (next_of m t read) e.to)) (f (place p t e.from) + rise p (place p (next_of m t read) e.to))) [
+          | inr enough ↦ inl (λ _ _. enough)
+          | inl low ↦ elim (cases_lt 0 (f (place p t e.from))) [
+            | inr none ↦ inl (λ _ has. absurd (omega (arith, none, has)))
+            | inl has ↦
+                let joins : JoinsStates (states_of (automaton_of p)) e = All-contains (JoinsStates (states_of (automaton_of p))) (automaton_of p).edges e made.edges there in
+                inr (record {
+                  from = place p t e.from;
+                  to = place p (next_of m t read) e.to;
+                  arrow = record {
+                    t = t;
+                    q = e.from;
+                    read = read;
+                    r = e.to;
+                    is_state = ht;
+                    is_from = joins.from;
+                    is_letter = hi;
+                    edge = record { cube = e.cube; stands = there; fits = it_fits };
+                    from_is = refl;
+                    to_is = refl;
+                  };
+                  has = has;
+                  low = low;
+                })
+          ]
+        ]
+      ]
+
+  all_kept : (f : ℕ → ℕ) → ((t : ℕ) → t < p.size → (read : ℕ) → read < 2 ^ m.reads → All (Kept f t read) (automaton_of p).edges) → IsClosed (rise p) (Arrow p m) f
+  unfolding Kept
+  all_kept f all u v arrow has =
+      let e : Edge = record { from = arrow.q; cube = arrow.edge.cube; to = arrow.r } in
+      let kept : Kept f arrow.t arrow.read e = All-contains (Kept f arrow.t arrow.read) (automaton_of p).edges e (all arrow.t arrow.is_state arrow.read arrow.is_letter) arrow.edge.stands in
+      let has' : 0 < f (place p arrow.t arrow.q) = rw arrow.from_is at has in
+      rw (arrow.from_is, arrow.to_is) (kept arrow.edge.fits has')
+
+  look : (f : ℕ → ℕ) → IsClosed (rise p) (Arrow p m) f ⊎ Wants (rise p) (Arrow p m) f
+  look f =
+      let V : Type 0 = Wants (rise p) (Arrow p m) f in
+      let of_letter : (t : ℕ) → t < p.size → (read : ℕ) → read < 2 ^ m.reads → All (Kept f t read) (automaton_of p).edges ⊎ V
+      = λ t ht read hi. each_in (automaton_of p).edges (Kept f t read) V (kept_or_wants f t read ht hi) in
+      let of_state : (t : ℕ) → t < p.size → ((read : ℕ) → read < 2 ^ m.reads → All (Kept f t read) (automaton_of p).edges) ⊎ V
+      = λ t ht. each_below (2 ^ m.reads) (λ read. All (Kept f t read) (automaton_of p).edges) V (of_letter t ht) in
+      elim (each_below p.size (λ t. (read : ℕ) → read < 2 ^ m.reads → All (Kept f t read) (automaton_of p).edges) V of_state) [
+        | inl all ↦ inl (all_kept f all)
+        | inr v ↦ inr v
+      ]
+
+  levels : ClosedLevels (rise p) (Arrow p m) (Found p m)
+  levels = closed_levels (places_of p) (bound_of p) (rise p) (Arrow p m) (Found p m) start along within small look
+
+  module _ (found : ClosedLevels (rise p) (Arrow p m) (Found p m)) where
+    numbers : List (Option ℕ)
+    numbers = map (λ v. number_of (found.level v)) (range_with_len 0 (places_of p))
+
+    number_is : (t q : ℕ) → t < p.size → q < states_of (automaton_of p) → number_at p numbers t q ≡ number_of (found.level (place p t q))
+    unfolding numbers
+    number_is t q ht hq = get_or-map-range_with_len (λ v. number_of (found.level v)) 0 (places_of p) (place p t q) (place p t q) None (place_within p t q ht hq) (omega arith)
+
+    start_zero : place p 0 0 ≡ 0
+    start_zero = omega arith
+
+    has_number : (t q least : ℕ) → t < p.size → q < states_of (automaton_of p) → suc least ≤ found.level (place p t q) → HasNumber p numbers t q least
+    has_number t q least ht hq h = record {
+      number = found.level (place p t q) - 1;
+      stands = number_is t q ht hq ∙ number_of-positive (found.level (place p t q)) (omega arith);
+      enough = omega arith;
+    }
+
+    level_is : (t q c : ℕ) → t < p.size → q < states_of (automaton_of p) → number_at p numbers t q ≡ Some c → found.level (place p t q) ≡ suc c
+    level_is t q c ht hq e = number_of-Some (found.level (place p t q)) c (sym (number_is t q ht hq) ∙ e)
+
+    valid : IsValidAnnotation p m numbers
+    valid = record {
+      bounded = λ t q c ht hq e. small (place p t q) c (found.sound.found (place p t q) c (level_is t q c ht hq e));
+      start =
+          let level : suc (rise p 0) ≤ found.level 0 = found.sound.start in
+          let here : suc (rise p 0) ≤ found.level (place p 0 0) = rw start_zero level in
+          let n : 0 < states_of (automaton_of p) = made.some in
+          let same : rise p 0 ≡ rise_at (automaton_of p) 0 = ap (rise p) (sym start_zero) ∙ rise-place p 0 0 n in
+          has_number 0 0 (rise_at (automaton_of p) 0) (rw (sym fits.size) some) n (rw (← same) here);
+      edges = λ t q c read r ht hq e hi edge.
+          let level : found.level (place p t q) ≡ suc c = level_is t q c ht hq e in
+          let to : r < states_of (automaton_of p) = to_within (automaton_of p) (whole_letter p.side m t read) q r made edge in
+          let t_small : t < size_of m = rw fits.size ht in
+          let next_small : next_of m t read < size_of m = machine.nexts t read t_small hi in
+          let arrow : Arrow p m (place p t q) (place p (next_of m t read) r) = record {
+            t = t;
+            q = q;
+            read = read;
+            r = r;
+            is_state = ht;
+            is_from = hq;
+            is_letter = hi;
+            edge = edge;
+            from_is = refl;
+            to_is = refl;
+          } in
+          let enough : found.level (place p t q) + rise p (place p (next_of m t read) r) ≤ found.level (place p (next_of m t read) r) = found.closed (place p t q) (place p (next_of m t read) r) arrow (omega arith) in
+          let same : rise p (place p (next_of m t read) r) ≡ rise_at (automaton_of p) r = rise-place p (next_of m t read) r to in
+          has_number (next_of m t read) r (c + rise_at (automaton_of p) r) (rw (sym fits.size) next_small) to (omega (arith, level, enough, same));
+    }
+
+    annotation : HasValidAnnotation p m
+    unfolding numbers
+    annotation = record {
+      numbers = map (λ v. number_of (found.level v)) (range_with_len 0 (places_of p));
+      places = length-map-range_with_len (λ v. number_of (found.level v)) 0 (places_of p);
+      valid = valid;
+    }
+
+  pub has_annotation : HasValidAnnotation p m
+  has_annotation = annotation levels

@@ -1,0 +1,9 @@
+pub mod Letters
+pub mod Valid
+pub mod Cycle
+pub mod Sums
+pub mod Levels
+pub mod Decide
+pub mod Trails
+pub mod Exists
+pub mod KeptLemmas

@@ -1,0 +1,33 @@
+use Rattle.std.specs.Prelude.{◌≡◌, ℕ, ◌+◌, ◌^◌, ◌<◌, ◌≤◌, All, List, Option, Some}
+use Rattle.letter_word.specs.Cube.{Fits}
+use Rattle.machine_model.specs.Machine.{MachineModel, next_of}
+use Rattle.machine_model.specs.Problem.{automaton_of}
+use Rattle.machine_model.specs.declared.automata.Edge.{Edge}
+use Rattle.machine_model.specs.declared.problems.Problem.{Problem}
+use Rattle.product_bound.specs.Annotation.{HasNumber, number_at, rise_at, whole_letter}
+
+-- The rule of a valid annotation, part by part (this project's own).
+
+-- a number, if there is one, is at most the bound
+pub record IsWithin (bound : ℕ) (number : Option ℕ) : Type 0 where
+  pub small : (c : ℕ) → number ≡ Some c → c ≤ bound
+
+-- from the pair (t, q) to the pair (s, r) the number doesn't fall, and rises where r is rejecting
+pub record KeepsNumber (p : Problem) (numbers : List (Option ℕ)) (t q s r : ℕ) : Type 0 where
+  pub number : (c : ℕ) → number_at p numbers t q ≡ Some c → HasNumber p numbers s r (c + rise_at (automaton_of p) r)
+
+-- so it is along this edge, from state t on this read letter, if it fits the whole letter
+pub record KeepsEdge (p : Problem) (m : MachineModel) (numbers : List (Option ℕ)) (t read : ℕ) (e : Edge) : Type 0 where
+  pub edge : Fits e.cube (whole_letter p.side m t read) → KeepsNumber p numbers t e.from (next_of m t read) e.to
+
+-- along each edge
+pub record KeepsEdges (p : Problem) (m : MachineModel) (numbers : List (Option ℕ)) (t read : ℕ) : Type 0 where
+  pub edges : All (KeepsEdge p m numbers t read) (automaton_of p).edges
+
+-- on each read letter
+pub record KeepsLetters (p : Problem) (m : MachineModel) (numbers : List (Option ℕ)) (t : ℕ) : Type 0 where
+  pub letters : (read : ℕ) → read < 2 ^ m.reads → KeepsEdges p m numbers t read
+
+-- and from each state of the machine
+pub record KeepsStates (p : Problem) (m : MachineModel) (numbers : List (Option ℕ)) : Type 0 where
+  pub states : (t : ℕ) → t < p.size → KeepsLetters p m numbers t

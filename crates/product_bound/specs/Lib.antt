@@ -1,0 +1,4 @@
+pub mod Annotation
+pub mod Kept
+pub mod Product
+pub mod Laws
