@@ -1,0 +1,10 @@
+pub mod Lassos
+pub mod Wires
+pub mod Bytes
+pub mod TokenLemmas
+pub mod EquivalenceLemmas
+pub mod SinkLemmas
+pub mod ReaderLemmas
+pub mod ReplyLemmas
+pub mod RunLemmas
+pub mod Machines

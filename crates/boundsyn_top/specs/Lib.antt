@@ -1,0 +1,13 @@
+pub mod Tokens
+pub mod EquivalenceText
+pub mod EquivalenceMeaning
+pub mod Circuit
+pub mod CircuitText
+pub mod Satisfaction
+pub mod Faults
+pub mod Settings
+pub mod Answer
+pub mod Wire
+pub mod Reading
+pub mod Run
+pub mod Status
