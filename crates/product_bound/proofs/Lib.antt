@@ -7,3 +7,5 @@ pub mod Decide
 pub mod Trails
 pub mod Exists
 pub mod KeptLemmas
+pub mod Places
+pub mod Numbering

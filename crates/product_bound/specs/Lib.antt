@@ -1,4 +1,5 @@
 pub mod Annotation
 pub mod Kept
 pub mod Product
+pub mod Numbered
 pub mod Laws

@@ -1,9 +1,9 @@
-//! From cycles to run lassos, and from accepted machines to annotations.
+//! From cycles to run lassos, and from machines to numbered ones.
 ghost use Rattle.std.specs.Prelude.{◌≡◌, All, IfOk};
 ghost use Rattle.machine_model.specs.Accepts.{Accepts};
 ghost use Rattle.machine_model.specs.Problem.{IsMachineOf, IsProblem, automaton_of};
 ghost use Rattle.machine_model.specs.Run.{IsRunLasso};
-ghost use Rattle.product_bound.specs.Laws.{AcceptedIsAnnotated};
+ghost use Rattle.product_bound.specs.Laws.{AcceptedIsAnnotated, NumberedSuffices};
 
 use crate::annotations::whole_letter;
 use letter_word::{Lasso, Letter};
@@ -70,4 +70,9 @@ fn letters_of(
 /// A side accepts a machine exactly where the machine has a valid annotation.
 pub fn accepted_is_annotated()
     ensures { AcceptedIsAnnotated }
+{}
+
+/// Each machine has a numbered one of its kind and size with the same run lassos.
+pub fn numbered_suffices()
+    ensures { NumberedSuffices }
 {}

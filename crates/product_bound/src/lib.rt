@@ -1,8 +1,9 @@
 //! Annotations of the product of a machine and a co-Büchi automaton, and why the bound n * k on their numbers is enough.
 //!
 //! The contract above this layer: a side accepts a machine exactly where it has a valid annotation, whose numbers are
-//! at most the number of the machine's states times that of rejecting states. `laws` has this, and the run lasso that a
-//! cycle through a rejecting state gives. It stands on machine_model.
+//! at most the number of the machine's states times that of rejecting states. `laws` has this, the run lasso that a
+//! cycle through a rejecting state gives, and that each machine has a numbered one with the same runs.
+//! It stands on machine_model.
 #![tactic(auto)]
 
 mod annotations;
