@@ -1,0 +1,23 @@
+use Rattle.std.specs.Prelude.{◌≡◌, ℕ, ◌<◌, ◌≤◌}
+use Rattle.machine_model.specs.Automaton.{states_of}
+use Rattle.machine_model.specs.Problem.{automaton_of, writes_of}
+use Rattle.machine_model.specs.declared.problems.Problem.{Problem}
+use Rattle.product_bound.specs.Annotation.{bound_of}
+use Rattle.annotation_encode.specs.Variables.{letter_count, var_count, var_move, var_write, variables_of, write_place}
+
+-- variables of different meaning are different: one that says where the machine moves stands before each that says
+-- what it writes, that before each that says which numbers are reached, and none passes the number of variables (this
+-- project's own)
+pub record NumberingsDontMeet (p : Problem) : Type 0 where
+  pub moves : (t i to s j on : ℕ) → i < letter_count p → to < p.size → j < letter_count p → on < p.size
+      → var_move p t i to ≡ var_move p s j on → (t ≡ s) × (i ≡ j) × (to ≡ on)
+  pub writes : (t i s u j r : ℕ) → i < letter_count p → s < writes_of p → j < letter_count p → r < writes_of p
+      → var_write p t i s ≡ var_write p u j r → (write_place p.kind (letter_count p) t i ≡ write_place p.kind (letter_count p) u j) × (s ≡ r)
+  pub counts : (t q c s r d : ℕ) → q < states_of (automaton_of p) → c ≤ bound_of p → r < states_of (automaton_of p) → d ≤ bound_of p
+      → var_count p t q c ≡ var_count p s r d → (t ≡ s) × (q ≡ r) × (c ≡ d)
+  pub moves_first : (t i to u j s : ℕ) → t < p.size → i < letter_count p → to < p.size → var_move p t i to < var_write p u j s
+  pub then_writes : (t i s u q c : ℕ) → t < p.size → i < letter_count p → s < writes_of p → var_write p t i s < var_count p u q c
+  pub last : (t q c : ℕ) → t < p.size → q < states_of (automaton_of p) → c ≤ bound_of p → var_count p t q c ≤ variables_of p
+
+abbrev pub VariablesDiffer : Type 0
+VariablesDiffer = (p : Problem) → NumberingsDontMeet p
