@@ -4,5 +4,7 @@ pub mod Log
 pub mod Teaches
 pub mod Turn
 pub mod State
+pub mod Shown
+pub mod Text
 pub mod Laws
 pub mod Examples

@@ -3,6 +3,7 @@ ghost use Rattle.indexmap.specs.IndexMap.{spare};
 ghost use Rattle.refutation_log.specs.declared.turns.Turn.TheVariants.{Append};
 ghost use Rattle.refutation_log.specs.Log.{is_ended};
 ghost use Rattle.refutation_log.specs.Turn.{is_at_limit, place_of as place_in, reply_to as reply_for, reply_of, log_after};
+ghost use Rattle.refutation_log.specs.Shown.{shown};
 ghost use Rattle.refutation_log.specs.State.{Log, entry_of, HasRoomFor, IsReserved, KeepsLog, KeepsSpare};
 
 use crate::entries::Derivation;
@@ -50,7 +51,7 @@ impl LogState {
     /// The entry at place `i`, from 0.
     pub fn entry(&self, i: usize) -> EntryRef<'_>
         requires { i < length self.now.entries }
-        ensures { slice_get self.now.entries i ≡ Some (record { by = result.by; clause = result.clause.now; hints = result.hints.now }) }
+        ensures { slice_get self.now.entries i ≡ Some (shown result) }
     {
         let (clause, derivation) = self.entries.get_index(i).unwrap();
         EntryRef {

@@ -79,11 +79,14 @@ fn an_entry_is_read_back(rt: HostRuntime) -> Result<(), Fail> {
     Ok(())
 }
 
-/// Offers 250,000 clauses, one after the other, and tells how many were taken.
-fn fill(log: &mut LogState, alloc: Global) -> Result<u32, Fail> {
+/// Offers so many different clauses, one after the other, and tells how many were taken.
+fn fill(log: &mut LogState, alloc: Global, count: u32) -> Result<u32, Fail> {
     let mut taken = 0u32;
-    for i in 0..250_000u32 {
-        let lits = [Lit::new(1 + i / 500, true), Lit::new(501 + i % 500, false)];
+    for i in 0..count {
+        let lits = [
+            Lit::new(1 + i / 500 % 500, true),
+            Lit::new(501 + i % 500, false),
+        ];
         let clause = Clause::new(alloc, 1000, &lits)?;
         let hints = Hints::new(alloc, &[1])?;
         log.reserve()?;
@@ -102,8 +105,8 @@ fn fill(log: &mut LogState, alloc: Global) -> Result<u32, Fail> {
 #[test]
 fn a_long_log_is_searched_by_hashing(rt: HostRuntime) -> Result<(), Fail> {
     let mut log = LogState::new(rt.alloc(), Some(250_000));
-    assert_eq!(rt; fill(&mut log, rt.alloc())?, 250_000);
-    assert_eq!(rt; fill(&mut log, rt.alloc())?, 0);
+    assert_eq!(rt; fill(&mut log, rt.alloc(), 250_000)?, 250_000);
+    assert_eq!(rt; fill(&mut log, rt.alloc(), 1000)?, 0);
     assert_eq!(rt; offer(&mut log, rt.alloc(), &[3])?, Reply::Full);
     Ok(())
 }

@@ -1,0 +1,127 @@
+ghost use Rattle.std.specs.Prelude.{◌≡◌, ◌++◌, OnOk, OnErr, ◌∷◌, []};
+ghost use Rattle.std.specs.List.{flat_map};
+ghost use Rattle.refutation_log.specs.Text.{literal_word, hint_word, entry_line, log_text, Grows};
+ghost use Rattle.refutation_log.specs.Shown.{shown};
+
+use crate::{EntryRef, Hints, LogState};
+use clause_base::{Clause, Lit};
+use std::alloc::AllocError;
+use text_base::push_number;
+
+/// Appends the entry lines of a log. After want of memory `out` is as before.
+pub fn write_log(log: &LogState, out: &mut Vec<u8>) -> Result<(), AllocError>
+    ensures ok { OnOk result (out.new.items ≡ out.old.items ++ log_text log.now.entries) }
+    ensures err { OnErr result (out.new.items ≡ out.old.items) }
+{
+    let before = out.len();
+    if let Err(error) = write_entries(log, out) {
+        out.truncate(before);
+        return Err(error);
+    }
+    Ok(())
+}
+
+fn write_entries(log: &LogState, out: &mut Vec<u8>) -> Result<(), AllocError>
+    ensures ok { OnOk result (out.new.items ≡ out.old.items ++ log_text log.now.entries) }
+    ensures grown { Grows out.old.items out.new.items }
+{
+    for i in 0..log.entries() {
+        write_entry(&log.entry(i), out)?;
+    }
+    Ok(())
+}
+
+/// Appends one entry's line.
+fn write_entry(entry: &EntryRef<'_>, out: &mut Vec<u8>) -> Result<(), AllocError>
+    ensures ok { OnOk result (out.new.items ≡ out.old.items ++ entry_line (shown entry.now)) }
+    ensures grown { Grows out.old.items out.new.items }
+{
+    push_number(out, u64::from(entry.by))?;
+    out.push(b' ')?;
+    write_clause(entry.clause, out)?;
+    out.extend_from_slice(b"0 ")?;
+    write_hints(entry.hints, out)?;
+    out.extend_from_slice(b"0\n")
+}
+
+fn write_clause(clause: &Clause, out: &mut Vec<u8>) -> Result<(), AllocError>
+    ensures ok { OnOk result (out.new.items ≡ out.old.items ++ flat_map literal_word clause.now) }
+    ensures grown { Grows out.old.items out.new.items }
+{
+    for lit in clause.lits() {
+        write_literal(*lit, out)?;
+    }
+    Ok(())
+}
+
+fn write_literal(lit: Lit, out: &mut Vec<u8>) -> Result<(), AllocError>
+    ensures ok { OnOk result (out.new.items ≡ out.old.items ++ literal_word lit) }
+    ensures grown { Grows out.old.items out.new.items }
+{
+    if !lit.is_positive() {
+        out.push(b'-')?;
+    }
+    push_number(out, u64::from(lit.var()))?;
+    out.push(b' ')?;
+    Ok(())
+}
+
+fn write_hints(hints: &Hints, out: &mut Vec<u8>) -> Result<(), AllocError>
+    ensures ok { OnOk result (out.new.items ≡ out.old.items ++ flat_map hint_word hints.now) }
+    ensures grown { Grows out.old.items out.new.items }
+{
+    for hint in hints.numbers() {
+        write_hint(*hint, out)?;
+    }
+    Ok(())
+}
+
+fn write_hint(hint: u64, out: &mut Vec<u8>) -> Result<(), AllocError>
+    ensures ok { OnOk result (out.new.items ≡ out.old.items ++ hint_word hint) }
+    ensures grown { Grows out.old.items out.new.items }
+{
+    push_number(out, hint)?;
+    out.push(b' ')?;
+    Ok(())
+}
+
+#[cfg(test)]
+mod tests {
+    use super::*;
+    use crate::{Entry, Turn};
+    use std::alloc::Global;
+    use std::test::Fail;
+
+    fn add(
+        log: &mut LogState,
+        alloc: Global,
+        by: u32,
+        lits: &[Lit],
+        hints: &[u64],
+    ) -> Result<(), Fail> {
+        log.reserve()?;
+        let clause = Clause::new(alloc, 1 << 30, lits)?;
+        let hints = Hints::new(alloc, hints)?;
+        let _reply = log.turn(Turn::Append(Entry { by, clause, hints }));
+        Ok(())
+    }
+
+    #[test]
+    fn writes_entry_lines(rt: HostRuntime) -> Result<(), Fail> {
+        let mut log = LogState::new(rt.alloc(), None);
+        let lits = [Lit::new(12, true), Lit::new(3, false)];
+        add(&mut log, rt.alloc(), 0, &lits, &[7, 40])?;
+        add(
+            &mut log,
+            rt.alloc(),
+            1,
+            &[],
+            &[1, 2, 3, 4, 8, 31, 30, 13, 21],
+        )?;
+        let mut out = b"log\n".to_vec(rt.alloc())?;
+        write_log(&log, &mut out)?;
+        let want = b"log\n0 -3 12 0 7 40 0\n1 0 1 2 3 4 8 31 30 13 21 0\n";
+        assert_eq!(rt; out.as_slice(), want.as_slice());
+        Ok(())
+    }
+}
