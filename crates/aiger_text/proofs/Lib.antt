@@ -1,0 +1,5 @@
+pub mod Lines
+pub mod Putting
+pub mod Gates
+pub mod Stepping
+pub mod Orders

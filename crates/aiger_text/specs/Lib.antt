@@ -1,0 +1,5 @@
+pub mod Circuit
+pub mod CircuitType
+pub mod CircuitText
+pub mod Step
+pub mod Values
