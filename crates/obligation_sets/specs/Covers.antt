@@ -1,12 +1,12 @@
-use Rattle.std.specs.Prelude.{◌==◌, ◌&&◌, ℕ, zero, suc, Bool, true, false, List, [], ◌∷◌, ◌++◌, Option, Some, None, length, replicate}
-use Rattle.letter_word.specs.declared.cubes.Cube.{Cube}
+use Rattle.std.specs.Prelude.{ℕ, zero, suc, Bool, false, List, [], ◌∷◌, ◌++◌, Option, Some, None, length, replicate}
 use Rattle.ltl_formula.specs.declared.nodes.FormulaId.{FormulaId}
 use Rattle.ltl_formula.specs.declared.nodes.Node.{Node}
 use Rattle.indexmap.specs.IndexSet.{insert_all}
 use Rattle.obligation_sets.specs.declared.branches.Step.{Step}
 use Rattle.obligation_sets.specs.declared.branches.Step.TheVariants.{Leaf, Dead, On, Split}
+use Rattle.obligation_sets.specs.contracts.sets.CoverPartialEq.TheImpl.{ghosts as cover_ghosts}
 use Rattle.obligation_sets.specs.declared.sets.Cover.{Cover}
-use Rattle.obligation_sets.specs.Ids.{ids_of, same_ids}
+use Rattle.obligation_sets.specs.Ids.{ids_of}
 use Rattle.obligation_sets.specs.Cubes.{free_cube}
 use Rattle.obligation_sets.specs.Branch.{Branch}
 use Rattle.obligation_sets.specs.Steps.{step, undone}
@@ -52,9 +52,9 @@ alive [] = []
 alive (None ∷ leaves) = alive leaves
 alive (Some leaf ∷ leaves) = cover_of leaf ∷ alive leaves
 
--- whether two covers are the same
+-- whether two covers are the same, as it is derived: by their cubes and their ids
 abbrev pub same_cover : Cover → Cover → Bool
-same_cover c d = (c.cube.must == d.cube.must) && (c.cube.not == d.cube.not) && same_ids c.next d.next && same_ids c.postponed d.postponed
+same_cover = cover_ghosts.eq
 
 -- the covers of a set of obligations: its leaves that aren't dead, each different one once, at its first place
 -- (bounded synthesis of Finkbeiner and Schewe; the order is this project's own)

@@ -6,3 +6,4 @@ pub mod Branch
 pub mod OpenWork
 pub mod Steps
 pub mod Covers
+pub mod Search

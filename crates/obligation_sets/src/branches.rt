@@ -1,8 +1,7 @@
-ghost use Rattle.std.specs.Prelude.{◌≡◌, ◌<◌, [], ◌∷◌, All, IfOk, MatchOption, length, reverse};
+ghost use Rattle.std.specs.Prelude.{◌≡◌, ◌<◌, ◌^◌, [], ◌∷◌, All, IfOk, IfSome, MatchOption, OnOk, length, reverse};
 ghost use Rattle.obligation_sets.specs.Cubes.{forbidding, wanting};
 ghost use Rattle.obligation_sets.specs.Ids.{ids_of};
 ghost use Rattle.obligation_sets.specs.OpenWork.{open_work};
-ghost use Rattle.ltl_formula.specs.Nodes.{IsNodeList};
 
 use crate::sets::{Cover, ObligationSet};
 use letter_word::{Cube, Letter};
@@ -46,7 +45,7 @@ impl Branch {
     ghost use Rattle.obligation_sets.specs.Covers.{cover_of, start_of};
     ghost use Rattle.obligation_sets.specs.Ids.{with_id};
     ghost use Rattle.obligation_sets.specs.Steps.{HasPlaces, expanding, joining, leaving, opposing, postponing, step};
-    ghost use Rattle.ltl_formula.specs.Nodes.{SignalBelow, Stands, node_at};
+    ghost use Rattle.ltl_formula.specs.Nodes.{IsNodeList, SignalBelow, Stands, node_at};
 
     /// The branch that begins with a set of obligations.
     pub(crate) fn start(
@@ -54,7 +53,8 @@ impl Branch {
         formulas: &Formulas,
         set: &ObligationSet,
     ) -> Result<Branch, AllocError>
-        ensures { IfOk result (λ b. b ≡ start_of formulas.now set.now) }
+        ensures value { IfOk result (λ b. b ≡ start_of formulas.now set.now) }
+        ensures list { OnOk result (IsNodeList formulas.now) }
     {
         let mut work = Vec::from_slice(alloc, set.ids())?;
         work.reverse();
@@ -91,29 +91,29 @@ impl Branch {
         requires stands { Stands formulas.now id }
         ensures { IfOk result (λ s. s ≡ expanding formulas.now self id (node_at formulas.now id.0)) }
     {
-        Ok(match formulas.node(id) {
-            Node::True => Step::On(self),
+        match formulas.node(id) {
+            Node::True => Ok(Step::On(self)),
             Node::Signal(k) => {
                 let cube = wanting(self.cube, k);
-                self.join(cube)
+                Ok(self.join(cube))
             }
-            Node::Not(part) => self.oppose(formulas.node(part)),
-            Node::Next(part) => Step::On(self.leave(part)),
-            Node::And(left, right) => Step::On(self.in_front(right)?.in_front(left)?),
+            Node::Not(part) => Ok(self.oppose(formulas.node(part))),
+            Node::Next(part) => Ok(Step::On(self.leave(part))),
+            Node::And(left, right) => Ok(Step::On(self.in_front(right)?.in_front(left)?)),
             Node::Or(left, right) => {
                 let other = self.copy(alloc)?.in_front(right)?;
-                Step::Split(self.in_front(left)?, other)
+                Ok(Step::Split(self.in_front(left)?, other))
             }
             Node::Until(left, right) => {
                 let other = self.copy(alloc)?.postpone(id).in_front(left)?;
-                Step::Split(self.in_front(right)?, other)
+                Ok(Step::Split(self.in_front(right)?, other))
             }
             Node::Release(left, right) => {
                 let other = self.copy(alloc)?.leave(id).in_front(right)?;
-                Step::Split(self.in_front(right)?.in_front(left)?, other)
+                Ok(Step::Split(self.in_front(right)?.in_front(left)?, other))
             }
-            _ => Step::Dead,
-        })
+            _ => Ok(Step::Dead),
+        }
     }
 
     /// The branch with a literal joined to its cube, or a dead one where there is none.
@@ -181,7 +181,8 @@ impl Branch {
 
     /// The cover that a leaf is.
     pub(crate) fn cover(&self, alloc: Global) -> Result<Cover, AllocError>
-        requires { HasPlaces 1024 self.now }
+        requires next { length self.now.next < 2 ^ 32 }
+        requires postponed { length self.now.postponed < 2 ^ 32 }
         ensures { IfOk result (λ c. c ≡ cover_of self.now) }
     {
         Ok(Cover {
@@ -195,11 +196,13 @@ impl Branch {
 /// Takes the formulas off the end of `work` up to the first that isn't done.
 fn pop_open(work: &mut Vec<FormulaId>, done: &[bool]) -> Option<FormulaId>
     requires { All (λ f. f.0 < length done.now) work.old.items }
-    ensures {
+    ensures first {
         MatchOption result
             ((open_work done.now (reverse work.old.items) ≡ []) × (work.new.items ≡ []))
             (λ f. open_work done.now (reverse work.old.items) ≡ f ∷ reverse work.new.items)
     }
+    ensures within { IfSome result (λ f. f.0 < length done.now) }
+    ensures rest_within { All (λ f. f.0 < length done.now) work.new.items }
 {
     while let Some(id) = work.pop() {
         if !done[id.0 as usize] {

@@ -1,6 +1,7 @@
 ghost use Rattle.std.specs.Prelude.{◌≡◌, ◌<◌, ◌≤◌, All, Err, IfOk, OnOk, length};
 ghost use Rattle.ltl_formula.specs.Nodes.{Stands};
 ghost use Rattle.obligation_sets.specs.Covers.{covers_of, set_leaves};
+ghost use Rattle.obligation_sets.specs.Search.{AfterStep, FitsIds};
 
 use crate::branches::{Branch, Step};
 use crate::sets::{Cover, ObligationSet};
@@ -57,21 +58,40 @@ pub fn covers(
     let mut branches = Vec::new(alloc);
     branches.push(Branch::start(alloc, formulas, set)?)?;
     while let Some(branch) = branches.pop() {
-        match branch.step(alloc, formulas)? {
-            Step::On(rest) => branches.push(rest)?,
-            Step::Split(first, second) => {
-                branches.push(second)?;
-                branches.push(first)?;
-            }
-            Step::Dead => leaves += 1,
-            Step::Leaf(leaf) => {
-                leaves += 1;
-                found.insert(leaf.cover(alloc)?)?;
-            }
-        }
+        let step = branch.step(alloc, formulas)?;
+        leaves += carry_out(alloc, step, &mut branches, &mut found)?;
         if leaves > MAX_LEAVES {
             return Err(CoverFault::TooManyLeaves);
         }
     }
     Ok(found.into_iter().collect(alloc)?)
+}
+
+/// Puts what came of a step back on the stack of branches, or a leaf's cover into what was found. It answers how
+/// many leaves it met.
+fn carry_out(
+    alloc: Global,
+    step: Step,
+    branches: &mut Vec<Branch>,
+    found: &mut IndexSet<Cover>,
+) -> Result<usize, AllocError>
+    requires { FitsIds step }
+    ensures { IfOk result (λ met. AfterStep step branches.old.items branches.new.items found.old.keys found.new.keys met) }
+{
+    match step {
+        Step::Leaf(leaf) => {
+            found.insert(leaf.cover(alloc)?)?;
+            Ok(1)
+        }
+        Step::Dead => Ok(1),
+        Step::On(rest) => {
+            branches.push(rest)?;
+            Ok(0)
+        }
+        Step::Split(first, second) => {
+            branches.push(second)?;
+            branches.push(first)?;
+            Ok(0)
+        }
+    }
 }
