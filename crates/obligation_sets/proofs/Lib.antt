@@ -4,3 +4,9 @@ pub mod IdLists
 pub mod Steps
 pub mod Walks
 pub mod Along
+pub mod OneStep
+pub mod Flags
+pub mod MetLeaves
+pub mod BackedLeaves
+pub mod Distinct
+pub mod NextStep

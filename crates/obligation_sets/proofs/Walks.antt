@@ -31,7 +31,7 @@ one_more_front : (n : ℕ) (b : Branch) → HasPlaces n b → (f : FormulaId) �
 one_more_front n b places f h = record { places = record { work = All-cons (λ g. g.0 < n) f b.work h places.work; done = places.done; next = places.next; postponed = places.postponed }; same = refl }
 
 -- parts below a place are below a later one
-PartsBelow-up : (m n : ℕ) → m ≤ n → (node : Node) → PartsBelow m node → PartsBelow n node
+pub PartsBelow-up : (m n : ℕ) → m ≤ n → (node : Node) → PartsBelow m node → PartsBelow n node
 PartsBelow-up m n le True p = tt
 PartsBelow-up m n le False p = tt
 PartsBelow-up m n le (Signal k) p = tt
@@ -116,7 +116,7 @@ first_open_at P done x xs false e f rest is all later =
     }
 
 pub first_open : (P : FormulaId → Type 0) (done : List Bool) (work : List FormulaId) (f : FormulaId) (rest : List FormulaId) → open_work done work ≡ f ∷ rest → All P work → IsFirstOpen P done f rest
-first_open P done [] f rest is all = let no : [] ≡ f ∷ rest = is in cc
+first_open P done [] f rest is all = let wrong : [] ≡ f ∷ rest = is in cc
 first_open P done (x ∷ xs) f rest is all = first_open_at P done x xs (has_id done x) refl f rest is all (first_open P done xs f rest)
 
 -- one more formula done leaves one less that isn't
@@ -140,13 +140,18 @@ stepped n b done less Dead g = tt
 stepped n b done less (On c) g = (g.places, less ∙ ap (λ d. suc (undone d)) (sym g.same))
 stepped n b done less (Split c d) g = (g.0.places, less ∙ ap (λ d. suc (undone d)) (sym g.0.same), g.1.places, less ∙ ap (λ d. suc (undone d)) (sym g.1.same))
 
+pub taking_places : (ns : List Node) (b : Branch) → HasPlaces (length ns) b → (f : FormulaId) (rest : List FormulaId) → open_work b.done b.work ≡ f ∷ rest → HasPlaces (length ns) (taking b f rest)
+taking_places ns b places f rest is =
+    let first : IsFirstOpen (λ g. g.0 < length ns) b.done f rest = first_open (λ g. g.0 < length ns) b.done b.work f rest is places.work in
+    record { work = first.others; done = length-set b.done f.0 true ∙ places.done; next = places.next; postponed = places.postponed }
+
 module _ (ns : List Node) (list : IsNodeList ns) (b : Branch) (places : HasPlaces (length ns) b) where
   step_on_stepped : (work : List FormulaId) → open_work b.done b.work ≡ work → Stepped (length ns) b (step_on ns b work)
   step_on_stepped [] is = record { work = All-nil (λ f. f.0 < length ns); done = places.done; next = places.next; postponed = places.postponed }
   step_on_stepped (f ∷ rest) is =
       let first : IsFirstOpen (λ g. g.0 < length ns) b.done f rest = first_open (λ g. g.0 < length ns) b.done b.work f rest is places.work in
       let stands : f.0 < length b.done = rw (places.done) (first.first) in
-      let taken : HasPlaces (length ns) (taking b f rest) = record { work = first.others; done = length-set b.done f.0 true ∙ places.done; next = places.next; postponed = places.postponed } in
+      let taken : HasPlaces (length ns) (taking b f rest) = taking_places ns b places f rest is in
       stepped (length ns) b (with_id b.done f) (undone-with_id b.done f.0 stands first.fresh) (expanding ns (taking b f rest) f (node_at ns f.0))
       (expanding_goes_on (length ns) (taking b f rest) taken ns f (node_at ns f.0) (PartsBelow-up f.0 (length ns) (omega (arith, first.first)) (node_at ns f.0) (list.parts_first f.0)))
 

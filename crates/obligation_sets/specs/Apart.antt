@@ -51,3 +51,10 @@ apart_none k h g =
     let e : bit_at 0 k ≡ 1 = eqb-true (bit_at 0 k) 1 h in
     let z : bit_at 0 k ≡ 0 = bit_at-zero k in
     absurd (omega arith)
+
+-- the empty set has no signal
+pub has-nothing : (k : ℕ) → IsTrue (has 0 k) → ⊥
+has-nothing k h =
+    let e : bit_at 0 k ≡ 1 = eqb-true (bit_at 0 k) 1 h in
+    let z : bit_at 0 k ≡ 0 = bit_at-zero k in
+    omega arith

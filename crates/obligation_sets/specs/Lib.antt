@@ -7,3 +7,5 @@ pub mod OpenWork
 pub mod Steps
 pub mod Covers
 pub mod Search
+pub mod NormalForm
+pub mod NextStep

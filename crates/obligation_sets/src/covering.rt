@@ -95,3 +95,6 @@ fn carry_out(
         }
     }
 }
+
+#[cfg(test)]
+mod tests;

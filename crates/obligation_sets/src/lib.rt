@@ -6,6 +6,7 @@
 
 mod branches;
 mod covering;
+pub mod laws;
 mod sets;
 
 pub use covering::{CoverFault, MAX_LEAVES, covers};

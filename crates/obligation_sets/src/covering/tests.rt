@@ -1,0 +1,95 @@
+ghost use Rattle.std.specs.Prelude.{◌≡◌, [], ◌∷◌, IfOk};
+
+use crate::{CoverFault, ObligationSet, covers};
+use ltl_formula::{FormulaId, Formulas, Node};
+use std::alloc::{AllocError, Global};
+use std::process::Abort;
+use std::test::Fail;
+
+fn set_of_one(alloc: Global, id: FormulaId) -> Result<ObligationSet, AllocError>
+    ensures { IfOk result (λ set. set ≡ id ∷ []) }
+{
+    let mut ids = Vec::new(alloc);
+    ids.push(id)?;
+    Ok(ObligationSet::new(ids))
+}
+
+fn next(rt: &impl Abort, formulas: &mut Formulas, part: FormulaId) -> Result<FormulaId, Fail> {
+    assert!(rt; (part.0 as usize) < formulas.len());
+    Ok(formulas.add(Node::Next(part))?)
+}
+
+fn either(
+    rt: &impl Abort,
+    formulas: &mut Formulas,
+    left: FormulaId,
+    right: FormulaId,
+) -> Result<FormulaId, Fail> {
+    assert!(rt; (left.0 as usize) < formulas.len());
+    assert!(rt; (right.0 as usize) < formulas.len());
+    Ok(formulas.add(Node::Or(left, right))?)
+}
+
+fn both(
+    rt: &impl Abort,
+    formulas: &mut Formulas,
+    left: FormulaId,
+    right: FormulaId,
+) -> Result<FormulaId, Fail> {
+    assert!(rt; (left.0 as usize) < formulas.len());
+    assert!(rt; (right.0 as usize) < formulas.len());
+    Ok(formulas.add(Node::And(left, right))?)
+}
+
+/// The conjunction of `(X^j p) || (X^j q)` for each j from 1 to `count`.
+fn pairs(rt: &impl Abort, formulas: &mut Formulas, count: u32) -> Result<FormulaId, Fail> {
+    let mut p = formulas.add(Node::Signal(0))?;
+    let mut q = formulas.add(Node::Signal(1))?;
+    let mut all = formulas.add(Node::True)?;
+    for _ in 0..count {
+        p = next(rt, formulas, p)?;
+        q = next(rt, formulas, q)?;
+        let pair = either(rt, formulas, p, q)?;
+        all = both(rt, formulas, all, pair)?;
+    }
+    Ok(all)
+}
+
+#[test]
+fn sixteen_pairs_have_65536_covers(rt: HostRuntime) -> Result<(), Fail> {
+    let mut formulas = Formulas::new(rt.alloc());
+    let all = pairs(&rt, &mut formulas, 16)?;
+    assert!(rt; (all.0 as usize) < formulas.len());
+    let set = set_of_one(rt.alloc(), all)?;
+    assert_eq!(rt; covers(rt.alloc(), &formulas, &set)?.len(), 65_536);
+    Ok(())
+}
+
+#[test]
+fn seventeen_pairs_have_too_many_leaves(rt: HostRuntime) -> Result<(), Fail> {
+    let mut formulas = Formulas::new(rt.alloc());
+    let all = pairs(&rt, &mut formulas, 17)?;
+    assert!(rt; (all.0 as usize) < formulas.len());
+    let set = set_of_one(rt.alloc(), all)?;
+    let fault = covers(rt.alloc(), &formulas, &set).err();
+    assert_eq!(rt; fault, Some(CoverFault::TooManyLeaves));
+    Ok(())
+}
+
+#[test]
+fn an_until_is_met_now_or_put_off(rt: HostRuntime) -> Result<(), Fail> {
+    let mut formulas = Formulas::new(rt.alloc());
+    let p = formulas.add(Node::Signal(0))?;
+    let q = formulas.add(Node::Signal(1))?;
+    assert!(rt; (p.0 as usize) < formulas.len() && (q.0 as usize) < formulas.len());
+    let until = formulas.add(Node::Until(p, q))?;
+    assert!(rt; (until.0 as usize) < formulas.len());
+    let set = set_of_one(rt.alloc(), until)?;
+    let found = covers(rt.alloc(), &formulas, &set)?;
+    assert_eq!(rt; found.len(), 2);
+    assert!(rt; found[0].cube.must == 2 && found[0].next.ids().is_empty());
+    assert!(rt; found[1].cube.must == 1 && found[1].cube.not == 0);
+    assert_eq!(rt; found[1].next.ids(), [until].as_slice());
+    assert_eq!(rt; found[1].postponed.ids(), [until].as_slice());
+    Ok(())
+}
