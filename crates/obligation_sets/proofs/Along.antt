@@ -74,7 +74,7 @@ module _ (ns : List Node) (list : IsNodeList ns) (set : List FormulaId) where
     all = sym (append-nil (leaves_of ns (start_of ns set)));
     covers = refl;
     count = refl;
-    places = All-cons (HasPlaces (length ns)) (start_of ns set) [] places (All-nil (HasPlaces (length ns)))
+    places = All-cons (HasPlaces (length ns)) (start_of ns set) [] places (All-nil (HasPlaces (length ns)));
   }
 
   pub along-start_at : All (Stands ns) set → (stack : List Branch) (found : List Cover) → stack ≡ start_of ns set ∷ [] → found ≡ [] → IsAlong ns set stack found 0
@@ -92,28 +92,28 @@ module _ (ns : List Node) (list : IsNodeList ns) (set : List FormulaId) where
     all = top rest b found leaves along ∙ ap (λ ls. along.seen ++ (ls ++ pending ns (reverse rest))) below ∙ sym (append_assoc along.seen (Some leaf ∷ []) (pending ns (reverse rest))) ∙ ap (λ bs. (along.seen ++ Some leaf ∷ []) ++ pending ns (reverse bs)) (sym h.0);
     covers = h.1 ∙ ap (λ cs. insert_key same_cover cs (cover_of leaf)) along.covers ∙ sym (fold_push (insert_key same_cover) [] (alive along.seen) (cover_of leaf)) ∙ ap (insert_all same_cover []) (sym (alive-push along.seen leaf));
     count = (let e : leaves ≡ length along.seen = along.count in let m : met ≡ 1 = h.2 in omega (arith, length-append along.seen (Some leaf ∷ [])));
-    places = rw (h.0) places
+    places = rw (h.0) places;
   }
   along-after rest new b found after leaves met Dead goes below places along h = record {
     seen = along.seen ++ None ∷ [];
     all = top rest b found leaves along ∙ ap (λ ls. along.seen ++ (ls ++ pending ns (reverse rest))) below ∙ sym (append_assoc along.seen (None ∷ []) (pending ns (reverse rest))) ∙ ap (λ bs. (along.seen ++ None ∷ []) ++ pending ns (reverse bs)) (sym h.0);
     covers = h.1 ∙ along.covers ∙ ap (insert_all same_cover []) (sym (alive-push_dead along.seen));
     count = (let e : leaves ≡ length along.seen = along.count in let m : met ≡ 1 = h.2 in omega (arith, length-append along.seen (None ∷ [])));
-    places = rw (h.0) places
+    places = rw (h.0) places;
   }
   along-after rest new b found after leaves met (On c) goes below places along h = record {
     seen = along.seen;
     all = top rest b found leaves along ∙ ap (λ ls. along.seen ++ (ls ++ pending ns (reverse rest))) below ∙ ap (λ bs. along.seen ++ pending ns bs) (sym (ap reverse h.0 ∙ reverse-append rest (c ∷ [])));
     covers = h.1 ∙ along.covers;
     count = (let e : leaves ≡ length along.seen = along.count in let m : met ≡ 0 = h.2 in omega arith);
-    places = rw (h.0) (All-push (HasPlaces (length ns)) rest c places goes.0)
+    places = rw (h.0) (All-push (HasPlaces (length ns)) rest c places goes.0);
   }
   along-after rest new b found after leaves met (Split c d) goes below places along h = record {
     seen = along.seen;
     all = top rest b found leaves along ∙ ap (λ ls. along.seen ++ (ls ++ pending ns (reverse rest))) below ∙ ap (λ ls. along.seen ++ ls) (append_assoc (leaves_of ns c) (leaves_of ns d) (pending ns (reverse rest))) ∙ ap (λ bs. along.seen ++ pending ns bs) (sym (ap reverse h.0 ∙ reverse-append (rest ++ d ∷ []) (c ∷ []) ∙ ap (λ bs. c ∷ bs) (reverse-append rest (d ∷ []))));
     covers = h.1 ∙ along.covers;
     count = (let e : leaves ≡ length along.seen = along.count in let m : met ≡ 0 = h.2 in omega arith);
-    places = rw (h.0) (All-push (HasPlaces (length ns)) (rest ++ d ∷ []) c (All-push (HasPlaces (length ns)) rest d places goes.2) goes.0)
+    places = rw (h.0) (All-push (HasPlaces (length ns)) (rest ++ d ∷ []) c (All-push (HasPlaces (length ns)) rest d places goes.2) goes.0);
   }
 
   -- the whole step of the search

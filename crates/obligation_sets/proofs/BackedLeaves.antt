@@ -102,7 +102,7 @@ Grown-trans b c d g h = record {
   must = λ k x. h.must k (g.must k x);
   none_of = λ k x. h.none_of k (g.none_of k x);
   next = λ f x. h.next f (g.next f x);
-  postponed = λ f x. h.postponed f (g.postponed f x)
+  postponed = λ f x. h.postponed f (g.postponed f x);
 }
 
 module _ (ns : List Node) where
@@ -131,7 +131,7 @@ module _ (ns : List Node) where
     must = λ k x. x;
     none_of = λ k x. x;
     next = λ f x. x;
-    postponed = λ f x. x
+    postponed = λ f x. x;
   }
 
   leaving_grown : (b : Branch) (g : FormulaId) → Grown b (leaving g b)
@@ -145,7 +145,7 @@ module _ (ns : List Node) where
   wanting_backs b f k false e = record {
     grown = record { parts = λ g x. x; must = λ j x. added-has b.cube.must k j (inl x); none_of = λ j x. x; next = λ g x. x; postponed = λ g x. x };
     backs = added-has b.cube.must k k (inr refl);
-    same = refl
+    same = refl;
   }
 
   opposing_backs : (b : Branch) (f g : FormulaId) (k : ℕ) (t : Bool) (e : has b.cube.must k ≡ t) → node_at ns g.0 ≡ Signal k → StepBacks b f (Not g) (joining b (forbidding_at b.cube k t e))
@@ -153,7 +153,7 @@ module _ (ns : List Node) where
   opposing_backs b f g k false e is = record {
     grown = record { parts = λ g x. x; must = λ j x. x; none_of = λ j x. added-has b.cube.not k j (inl x); next = λ g x. x; postponed = λ g x. x };
     backs = rw is (added-has b.cube.not k k (inr refl));
-    same = refl
+    same = refl;
   }
 
   opposing_all : (b : Branch) (f g : FormulaId) (node : Node) → node_at ns g.0 ≡ node → StepBacks b f (Not g) (opposing b node)
@@ -178,16 +178,16 @@ module _ (ns : List Node) where
       record {
         grown = Grown-trans b (postponing f b) (in_front (g ∷ []) (postponing f b)) (postponing_grown b f) (front_grown (postponing f b) (g ∷ []));
         backs = inr (inr (Contains-here g b.work), with_id-here b.next f (rw places.next stands), with_id-here b.postponed f (rw places.postponed stands));
-        same = refl
-      }
+        same = refl;
+      },
     )
     expanding_backs (Release g h) parts = (
       record { grown = front_grown b (g ∷ h ∷ []); backs = (inr (Contains-there g (h ∷ b.work) h (Contains-here h b.work)), inl (inr (Contains-here g (h ∷ b.work)))); same = refl },
       record {
         grown = Grown-trans b (leaving f b) (in_front (h ∷ []) (leaving f b)) (leaving_grown b f) (front_grown (leaving f b) (h ∷ []));
         backs = (inr (Contains-here h b.work), inr (with_id-here b.next f (rw places.next stands)));
-        same = refl
-      }
+        same = refl;
+      },
     )
     expanding_backs (WeakUntil g h) parts = tt
 
@@ -232,10 +232,10 @@ module _ (ns : List Node) (list : IsNodeList ns) where
       record {
         grown = grown;
         backed = λ g done.
-        elim (with_id-cases b.done f g (sym (ap (λ d. has_id d g) it.same) ∙ done)) [
-          | inl same ↦ rw same it.backs
-          | inr before ↦ backed_more ns (Seen b) (Seen c) b.cube c.cube (InNext b) (InNext c) (InPostponed b) (InPostponed c) grown g (node_at ns g.0) (backed g before)
-        ]
+            elim (with_id-cases b.done f g (sym (ap (λ d. has_id d g) it.same) ∙ done)) [
+              | inl same ↦ rw same it.backs
+              | inr before ↦ backed_more ns (Seen b) (Seen c) b.cube c.cube (InNext b) (InNext c) (InPostponed b) (InPostponed c) grown g (node_at ns g.0) (backed g before)
+            ];
       }
 
   -- what a step leads to
@@ -254,19 +254,19 @@ module _ (ns : List Node) (list : IsNodeList ns) where
   taken_grown : (b : Branch) (f : FormulaId) (rest : List FormulaId) → f.0 < length b.done → open_work b.done b.work ≡ f ∷ rest → Grown b (taking b f rest)
   taken_grown b f rest stands is = record {
     parts = λ g x.
-    elim x [
-      | inl done ↦ inl (with_id-keeps b.done f g done)
-      | inr work ↦
-          elim (still_seen b.done b.work (f ∷ rest) is g work) [
-            | inl done ↦ inl (with_id-keeps b.done f g done)
-            | inr (inl same) ↦ inl (rw same (with_id-here b.done f stands))
-            | inr (inr there) ↦ inr there
-          ]
-    ];
+        elim x [
+          | inl done ↦ inl (with_id-keeps b.done f g done)
+          | inr work ↦
+              elim (still_seen b.done b.work (f ∷ rest) is g work) [
+                | inl done ↦ inl (with_id-keeps b.done f g done)
+                | inr (inl same) ↦ inl (rw same (with_id-here b.done f stands))
+                | inr (inr there) ↦ inr there
+              ]
+        ];
     must = λ k x. x;
     none_of = λ k x. x;
     next = λ g x. x;
-    postponed = λ g x. x
+    postponed = λ g x. x;
   }
 
   leaf_goes : (b : Branch) → IsBacked ns b → open_work b.done b.work ≡ [] → GoesTo b (record b { work = [] })
@@ -276,12 +276,12 @@ module _ (ns : List Node) (list : IsNodeList ns) where
         must = λ k x. x;
         none_of = λ k x. x;
         next = λ g x. x;
-        postponed = λ g x. x
+        postponed = λ g x. x;
       } in
       record {
         grown = grown;
         backed = λ g done.
-        backed_more ns (Seen b) (Seen (record b { work = [] })) b.cube b.cube (InNext b) (InNext b) (InPostponed b) (InPostponed b) grown g (node_at ns g.0) (backed g done)
+            backed_more ns (Seen b) (Seen (record b { work = [] })) b.cube b.cube (InNext b) (InNext b) (InPostponed b) (InPostponed b) grown g (node_at ns g.0) (backed g done);
       }
 
   step_on_goes : (b : Branch) → HasPlaces (length ns) b → IsBacked ns b → (work : List FormulaId) → open_work b.done b.work ≡ work → StepGoesTo b (step_on ns b work)

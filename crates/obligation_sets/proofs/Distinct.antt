@@ -85,22 +85,15 @@ record SameParts (c d : Cover) : Type 0 where
   next : same_ids c.next d.next ≡ true
   postponed : same_ids c.postponed d.postponed ≡ true
 
-parts_of : (c d : Cover) → ((eqb c.cube.must d.cube.must && eqb c.cube.not d.cube.not) && same_ids c.next d.next && same_ids c.postponed d.postponed) ≡ true → SameParts c d
+parts_of : (c d : Cover) → ((eqb c.cube.must d.cube.must && eqb c.cube.not d.cube.not) && (same_ids c.next d.next && same_ids c.postponed d.postponed)) ≡ true → SameParts c d
 parts_of c d h =
-    let last : (((eqb c.cube.must d.cube.must && eqb c.cube.not d.cube.not) && same_ids c.next d.next) ≡ true) × (same_ids c.postponed d.postponed ≡ true) = and_parts _ _ h in
-    let next : ((eqb c.cube.must d.cube.must && eqb c.cube.not d.cube.not) ≡ true) × (same_ids c.next d.next ≡ true) = and_parts _ _ last.0 in
-    let cube : (eqb c.cube.must d.cube.must ≡ true) × (eqb c.cube.not d.cube.not ≡ true) = and_parts _ _ next.0 in
-    record { must = cube.0; none_of = cube.1; next = next.1; postponed = last.1 }
-
-parts_right : (c d : Cover) → ((eqb c.cube.must d.cube.must && eqb c.cube.not d.cube.not) && (same_ids c.next d.next && same_ids c.postponed d.postponed)) ≡ true → SameParts c d
-parts_right c d h =
     let first : ((eqb c.cube.must d.cube.must && eqb c.cube.not d.cube.not) ≡ true) × ((same_ids c.next d.next && same_ids c.postponed d.postponed) ≡ true) = and_parts _ _ h in
     let cube : (eqb c.cube.must d.cube.must ≡ true) × (eqb c.cube.not d.cube.not ≡ true) = and_parts _ _ first.0 in
     let sets : (same_ids c.next d.next ≡ true) × (same_ids c.postponed d.postponed ≡ true) = and_parts _ _ first.1 in
     record { must = cube.0; none_of = cube.1; next = sets.0; postponed = sets.1 }
 
 same_parts : (c d : Cover) → same_cover c d ≡ true → SameParts c d
-same_parts c d h = first_of (search (parts_of c d h), search (parts_right c d h))
+same_parts c d h = parts_of c d h
 
 -- covers that are found the same are the same
 pub same_cover-decides : (c d : Cover) → same_cover c d ≡ true → c ≡ d

@@ -39,14 +39,14 @@ wanting_at_fits : (letter : Letter) (cube : Cube) (k : ℕ) (b : Bool) (e : has 
 wanting_at_fits letter cube k true e fits h = fits.none_of k e h
 wanting_at_fits letter cube k false e fits h = record {
   must = λ j added. elim (has-added cube.must k j added) [ inl before ↦ fits.must j before | inr same ↦ rw same h ];
-  none_of = fits.none_of
+  none_of = fits.none_of;
 }
 
 forbidding_at_fits : (letter : Letter) (cube : Cube) (k : ℕ) (b : Bool) (e : has cube.must k ≡ b) → Fits cube letter → has letter.0 k ≡ false → CubeFits letter (forbidding_at cube k b e)
 forbidding_at_fits letter cube k true e fits h = both_ways (has letter.0 k) h (fits.must k e)
 forbidding_at_fits letter cube k false e fits h = record {
   must = fits.must;
-  none_of = λ j added there. elim (has-added cube.not k j added) [ inl before ↦ fits.none_of j before there | inr same ↦ both_ways (has letter.0 k) h (rw same at there) ]
+  none_of = λ j added there. elim (has-added cube.not k j added) [ inl before ↦ fits.none_of j before there | inr same ↦ both_ways (has letter.0 k) h (rw same at there) ];
 }
 
 module _ (ns : List Node) (letter : Letter) (now later : FormulaId → Bool) where
@@ -79,7 +79,7 @@ module _ (ns : List Node) (letter : Letter) (now later : FormulaId → Bool) whe
     normal = All-cons (λ f. IsNormal (tree_at ns f)) g b.work n met.normal;
     fits = met.fits;
     next = met.next;
-    postponed = met.postponed
+    postponed = met.postponed;
   }
 
   met_leaving : (b : Branch) → IsMet b → (g : FormulaId) → later g ≡ true → IsMet (leaving g b)
@@ -88,7 +88,7 @@ module _ (ns : List Node) (letter : Letter) (now later : FormulaId → Bool) whe
     normal = met.normal;
     fits = met.fits;
     next = λ f there. elim (with_id-cases b.next g f there) [ inl same ↦ rw same h | inr before ↦ met.next f before ];
-    postponed = met.postponed
+    postponed = met.postponed;
   }
 
   met_postponing : (b : Branch) → IsMet b → (g : FormulaId) → later g ≡ true → second_false now (node_at ns g.0) → IsMet (postponing g b)
@@ -97,7 +97,7 @@ module _ (ns : List Node) (letter : Letter) (now later : FormulaId → Bool) whe
     normal = met.normal;
     fits = met.fits;
     next = λ f there. elim (with_id-cases b.next g f there) [ inl same ↦ rw same h | inr before ↦ met.next f before ];
-    postponed = λ f there. elim (with_id-cases b.postponed g f there) [ inl same ↦ rw same fails | inr before ↦ met.postponed f before ]
+    postponed = λ f there. elim (with_id-cases b.postponed g f there) [ inl same ↦ rw same fails | inr before ↦ met.postponed f before ];
   }
 
   met_joining : (b : Branch) → IsMet b → (o : Option Cube) → CubeFits letter o → StepIsMet (joining b o)
@@ -158,7 +158,7 @@ module _ (ns : List Node) (letter : Letter) (now later : FormulaId → Bool) whe
       normal = All-nil (λ f. IsNormal (tree_at ns f));
       fits = met.fits;
       next = met.next;
-      postponed = met.postponed
+      postponed = met.postponed;
     }
     met_step_on b places met (f ∷ rest) is =
         let truths : IsFirstOpen (λ g. now g ≡ true) b.done f rest = first_open (λ g. now g ≡ true) b.done b.work f rest is met.work in

@@ -73,7 +73,7 @@ module _ (ns : List Node) (list : IsNodeList ns) (set : List FormulaId) (stand :
             record {
               leaf = r.0;
               below = leaf_of ns list (suc (undone (start_of ns set).done)) (start_of ns set) (start_places ns set stand) (λ f done. absurd (has_id-none (length ns) f done)) r.0 r.1;
-              is = r.2
+              is = r.2;
             }
       ]
 
@@ -164,7 +164,7 @@ module _ (ns : List Node) (w : Word) (i : ℕ) (set : List FormulaId) (list : Is
     normal = λ k d h. (normal k d h).1;
     fits = record { must = λ k h. absurd (has-nothing k h); none_of = λ k h. absurd (has-nothing k h) };
     next = λ f h. absurd (has_id-none (length ns) f h);
-    postponed = λ f h. absurd (has_id-none (length ns) f h)
+    postponed = λ f h. absurd (has_id-none (length ns) f h);
   }
 
   second_fails : (f : FormulaId) (node : Node) → tree_at ns f ≡ tree_of (trees_of ns) node → second_false (λ g. holds w (tree_at ns g) i) node → SecondPartFails w i (tree_at ns f)
@@ -193,17 +193,17 @@ module _ (ns : List Node) (w : Word) (i : ℕ) (set : List FormulaId) (list : Is
         is_cover = all_in same_cover same_cover-decides [] (alive (set_leaves ns set)) (cover_of r.leaf) (alive_has (set_leaves ns set) r.leaf r.there);
         met = record {
           fits = r.met.fits;
-          next_holds = All-from_contains (λ f. IsTrue (holds w (tree_at ns f) (next w i))) (ids_of r.leaf.next) (λ f h. r.met.next f (flag_of_id r.leaf.next f h))
+          next_holds = All-from_contains (λ f. IsTrue (holds w (tree_at ns f) (next w i))) (ids_of r.leaf.next) (λ f h. r.met.next f (flag_of_id r.leaf.next f h));
         };
         postponed = All-from_contains (λ f. SecondPartFails w i (tree_at ns f)) (ids_of r.leaf.postponed)
-          (λ f h.
-          let flag : has_id r.leaf.postponed f ≡ true = flag_of_id r.leaf.postponed f h in
-          let stands : Stands ns f = rw r.places.postponed at (has_id-within r.leaf.postponed f flag) in
-          second_fails f (node_at ns f.0) (tree_at-node ns f.0 stands (list.parts_first f.0)) (r.met.postponed f flag))
+            (λ f h.
+            let flag : has_id r.leaf.postponed f ≡ true = flag_of_id r.leaf.postponed f h in
+            let stands : Stands ns f = rw r.places.postponed at (has_id-within r.leaf.postponed f flag) in
+            second_fails f (node_at ns f.0) (tree_at-node ns f.0 stands (list.parts_first f.0)) (r.met.postponed f flag));
       }
 
 pub covers_are_the_next_step : CoversAreTheNextStep
 covers_are_the_next_step = record {
   holds_where_met = λ ns w i set c list normal ring within there met. holds_where_met ns w i set list normal ring within c there met;
-  met_where_holds = λ ns w i set list normal ring within all. met_where_holds ns w i set list normal ring within all
+  met_where_holds = λ ns w i set list normal ring within all. met_where_holds ns w i set list normal ring within all;
 }

@@ -34,7 +34,6 @@ pub record IsOneStep (ns : List Node) (letter : Letter) (now later : FormulaId �
   pub means : (f : FormulaId) → Stands ns f → now f ≡ value letter now later f (node_at ns f.0)
 
 module _ (ns : List Node) (w : Word) (ring : HasRing w) (i : ℕ) (within : i < lasso_len w) where
-
   value_of : (f : FormulaId) (node : Node) → tree_at ns f ≡ tree_of (trees_of ns) node → holds w (tree_at ns f) i ≡ value (letter_at w i) (λ g. holds w (tree_at ns g) i) (λ g. holds w (tree_at ns g) (next w i)) f node
   value_of f True e = ap (λ t. holds w t i) e
   value_of f False e = ap (λ t. holds w t i) e

@@ -57,9 +57,9 @@ module _ (n : ℕ) (b : Branch) (places : HasPlaces n b) where
       work = All-cons (λ g. g.0 < n) f (g ∷ b.work) h (All-cons (λ g. g.0 < n) g b.work k places.work);
       done = places.done;
       next = places.next;
-      postponed = places.postponed
+      postponed = places.postponed;
     };
-    same = refl
+    same = refl;
   }
 
   leaving_places : (f : FormulaId) → HasPlaces n (leaving f b)
@@ -70,7 +70,7 @@ module _ (n : ℕ) (b : Branch) (places : HasPlaces n b) where
     work = places.work;
     done = places.done;
     next = length-set b.next f.0 true ∙ places.next;
-    postponed = length-set b.postponed f.0 true ∙ places.postponed
+    postponed = length-set b.postponed f.0 true ∙ places.postponed;
   }
 
   joining_goes_on : (o : Option Cube) → StepGoesOn n b.done (joining b o)
@@ -112,7 +112,7 @@ first_open_at P done x xs false e f rest is all later =
     record {
       fresh = rw head at e;
       first = rw head at (All-head P x xs all);
-      others = rw tail at (All-tail P x xs all)
+      others = rw tail at (All-tail P x xs all);
     }
 
 pub first_open : (P : FormulaId → Type 0) (done : List Bool) (work : List FormulaId) (f : FormulaId) (rest : List FormulaId) → open_work done work ≡ f ∷ rest → All P work → IsFirstOpen P done f rest

@@ -35,7 +35,7 @@ start_of ns set = record {
   done = replicate (length ns) false;
   cube = free_cube;
   next = replicate (length ns) false;
-  postponed = replicate (length ns) false
+  postponed = replicate (length ns) false;
 }
 
 -- the leaves of a set of obligations, dead ones too

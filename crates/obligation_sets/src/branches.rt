@@ -81,12 +81,7 @@ impl Branch {
     }
 
     /// What comes of a formula that was taken off the work list.
-    fn expand(
-        self,
-        alloc: Global,
-        formulas: &Formulas,
-        id: FormulaId,
-    ) -> Result<Step, AllocError>
+    fn expand(self, alloc: Global, formulas: &Formulas, id: FormulaId) -> Result<Step, AllocError>
         requires places { HasPlaces (length formulas.now) self }
         requires stands { Stands formulas.now id }
         ensures { IfOk result (λ s. s ≡ expanding formulas.now self id (node_at formulas.now id.0)) }
@@ -196,11 +191,9 @@ impl Branch {
 /// Takes the formulas off the end of `work` up to the first that isn't done.
 fn pop_open(work: &mut Vec<FormulaId>, done: &[bool]) -> Option<FormulaId>
     requires { All (λ f. f.0 < length done.now) work.old.items }
-    ensures first {
-        MatchOption result
-            ((open_work done.now (reverse work.old.items) ≡ []) × (work.new.items ≡ []))
-            (λ f. open_work done.now (reverse work.old.items) ≡ f ∷ reverse work.new.items)
-    }
+    ensures first { MatchOption result
+        ((open_work done.now (reverse work.old.items) ≡ []) × (work.new.items ≡ []))
+        (λ f. open_work done.now (reverse work.old.items) ≡ f ∷ reverse work.new.items) }
     ensures within { IfSome result (λ f. f.0 < length done.now) }
     ensures rest_within { All (λ f. f.0 < length done.now) work.new.items }
 {

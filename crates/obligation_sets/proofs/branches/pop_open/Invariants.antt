@@ -5,7 +5,7 @@ use Rattle.obligation_sets.proofs.branches.pop_open.Given as goal
 abbrev pub invariant-loop-id : goal.invariant-loop-id
 invariant-loop-id l = record {
   within : All (λ f. f.0 < length l.done) l.work.items;
-  same : open_work l.done (reverse l.fn.work.items) ≡ open_work l.done (reverse l.work.items)
+  same : open_work l.done (reverse l.fn.work.items) ≡ open_work l.done (reverse l.work.items);
 }
 
 abbrev pub decreases-loop-id : goal.decreases-loop-id

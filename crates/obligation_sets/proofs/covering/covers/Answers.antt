@@ -6,9 +6,9 @@ use Rattle.obligation_sets.proofs.covering.covers.Goals as goal
 pub loop-branch-init : goal.loop-branch-init
 loop-branch-init c = record {
   along = along-start_at c.args.formulas.now c.in_ok-start.ensures.list c.args.set.now c.requires _ _
-    (c.in_ok-push.ensures.items ∙ ap (λ (bs : List Branch). bs ++ c.in_ok-start.field-0 ∷ []) c.new-branches.ensures.items ∙ ap (λ (b : Branch). b ∷ []) c.in_ok-start.ensures.value)
-    c.new-found.ensures.empty;
-  few = omega arith
+      (c.in_ok-push.ensures.items ∙ ap (λ (bs : List Branch). bs ++ c.in_ok-start.field-0 ∷ []) c.new-branches.ensures.items ∙ ap (λ (b : Branch). b ∷ []) c.in_ok-start.ensures.value)
+      c.new-found.ensures.empty;
+  few = omega arith;
 }
 
 pub step-requires : goal.step-requires
@@ -23,5 +23,5 @@ loop-branch-smaller c = weight-less c.args.formulas.now c.in_ok-start.ensures.li
 pub loop-branch-preserved : goal.loop-branch-preserved
 loop-branch-preserved c = record {
   along = along-more c.args.formulas.now c.in_ok-start.ensures.list c.args.set.now _ _ _ _ _ c.loop-branch.invariant.along c.in-Some.ensures.items _ _ _ _ c.in_ok-step.ensures c.in_ok-leaves.ensures;
-  few = c.if-leaves-gt-MAX_LEAVES.false
+  few = c.if-leaves-gt-MAX_LEAVES.false;
 }

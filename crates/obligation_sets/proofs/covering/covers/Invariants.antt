@@ -5,7 +5,7 @@ use Rattle.obligation_sets.proofs.covering.covers.Given as goal
 abbrev pub invariant-loop-branch : goal.invariant-loop-branch
 invariant-loop-branch l = record {
   along : IsAlong l.formulas l.set l.branches.items l.found.keys l.leaves;
-  few : l.leaves ≤ 100000
+  few : l.leaves ≤ 100000;
 }
 
 abbrev pub decreases-loop-branch : goal.decreases-loop-branch
