@@ -1,0 +1,5 @@
+pub mod Tree
+pub mod Lexemes
+pub mod Expressions
+pub mod Texts
+pub mod Rows

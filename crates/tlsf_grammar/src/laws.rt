@@ -1,0 +1,14 @@
+// Laws of the grammar, which no code needs.
+
+ghost use Rattle.tlsf_grammar.specs.Expressions.{SpansAreWhole};
+ghost use Rattle.tlsf_grammar.specs.Rows.{RowsDerive};
+
+/// The span of each expression runs from its first byte to the byte after its last.
+pub fn spans_are_whole()
+    ensures { SpansAreWhole }
+{}
+
+/// The worked rows have their trees: `a -> b U c` is `(a -> b) U c`, and `a - b - c` is one node.
+pub fn rows_derive()
+    ensures { RowsDerive }
+{}
