@@ -13,3 +13,4 @@ mod texts;
 pub use faults::AddFault;
 pub use formulas::Formulas;
 pub use nodes::{FormulaId, MAX_NODES, MAX_SIGNALS, Node};
+pub use texts::write_formula;

@@ -1,0 +1,4 @@
+pub mod TreeEquality
+pub mod TruthKept
+pub mod Building
+pub mod Performing

@@ -1,0 +1,5 @@
+use Rattle.ltl_normal.proofs.Performing.{IsMemo-none}
+use Rattle.ltl_normal.proofs.forms.form_of.Goals as goal
+
+pub form-requires-clause-memo : goal.form-requires-clause-memo
+form-requires-clause-memo c = IsMemo-none _ _ c.nothing_built-forms.ensures.none
