@@ -3,3 +3,7 @@ pub mod Putting
 pub mod Gates
 pub mod Stepping
 pub mod Orders
+pub mod Bits
+pub mod Valuations
+pub mod CircuitMachine
+pub mod Runs

@@ -1,10 +1,10 @@
-use Rattle.std.proofs.Common.{◌≡◌, ◌≢◌, ℕ, zero, suc, ◌+◌, ◌*◌, ◌/◌, ◌%◌, ◌<◌, ◌≤◌, Bool, false, List, [], ◌∷◌, ◌++◌, length, get_or, refl, sym, ap, subst, ◌∙◌, arith}
+use Rattle.std.proofs.Common.{◌≡◌, ◌≢◌, ℕ, zero, suc, ◌+◌, ◌*◌, ◌/◌, ◌%◌, ◌<◌, ◌≤◌, Bool, false, List, [], ◌∷◌, ◌++◌, length, get_or, sym, ap, subst, ◌∙◌, arith}
 use Rattle.std.specs.Prelude.{map, flat_map, All}
 use Rattle.std.proofs.lemmas.List.{length-map, length-append, get_or-map, get_or_append_left, get_or-append-add}
 use Rattle.aiger_text.specs.declared.circuits.Latch.{Latch}
 use Rattle.aiger_text.specs.declared.circuits.Gate.{Gate}
-use Rattle.aiger_text.specs.Circuit.{Circuit, Valuation, literal_value, literal_values, latch_values, output_values}
-use Rattle.aiger_text.specs.CircuitType.{IsCircuit, IsDefined, IsDefinable, defined_literals, used_literals}
+use Rattle.aiger_text.specs.Circuit.{Circuit, literal_value}
+use Rattle.aiger_text.specs.CircuitType.{IsCircuit, IsDefined, IsDefinable, defined_literals}
 use Rattle.aiger_text.specs.Values.{AreVariables, HaveRoom, Puts, Settles, valuation}
 use Rattle.aiger_text.specs.Step.{IsSettled}
 use Rattle.aiger_text.proofs.Putting.{no_latch, taken_all}
@@ -126,6 +126,21 @@ module _ (c : Circuit) (circuit : IsCircuit c) where
       let within : i < length c.gates = rw length-map at h in
       subst (λ (l : ℕ). l / 2 < c.variables + 1) (sym (get_or-map (λ (gate : Gate). gate.right) c.gates i no_gate 0 within))
       (in_range (get_or c.gates i no_gate).right (right_of (IsDefined c) c.gates (All-right (IsDefined c) c.outputs operands behind_nexts) i within))
+
+  -- each literal that is used is defined
+  pub next_defined : (i : ℕ) → i < length c.latches → IsDefined c (get_or c.latches i no_latch).next
+  next_defined i h =
+      subst (IsDefined c) (get_or-map (λ (latch : Latch). latch.next) c.latches i no_latch 0 h)
+      (All-left (IsDefined c) (map (λ (latch : Latch). latch.next) c.latches) (c.outputs ++ operands) circuit.all_defined i 0 (rw length-map h))
+
+  pub output_defined : All (IsDefined c) c.outputs
+  output_defined = All-left (IsDefined c) c.outputs operands behind_nexts
+
+  pub left_defined : (i : ℕ) → i < length c.gates → IsDefined c (get_or c.gates i no_gate).left
+  left_defined i h = left_of (IsDefined c) c.gates (All-right (IsDefined c) c.outputs operands behind_nexts) i h
+
+  pub right_defined : (i : ℕ) → i < length c.gates → IsDefined c (get_or c.gates i no_gate).right
+  right_defined i h = right_of (IsDefined c) c.gates (All-right (IsDefined c) c.outputs operands behind_nexts) i h
 
   -- the gates leave a variable that none of them has
   gates_spare : (v : ℕ) → ((k : ℕ) → k < length gate_literals → v ≢ get_or gate_literals k 0 / 2) → (i : ℕ) → i < length c.gates → (get_or c.gates i no_gate).literal / 2 ≢ v

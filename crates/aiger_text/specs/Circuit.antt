@@ -1,5 +1,5 @@
 -- Circuits of latches and and-gates, and their runs (AIGER 1.9).
-use Rattle.std.specs.Prelude.{◌≡◌, ◌≢◌, ◌==◌, ℕ, zero, suc, ◌+◌, ◌*◌, ◌/◌, ◌%◌, ◌<◌, ◌≤◌, Bool, false, not, ◌&&◌, ⊤, Option, List, map, length, All, Contains, EachIndex, slice_index, slice_index_or, ◌++◌, if◌then◌else◌}
+use Rattle.std.specs.Prelude.{◌≡◌, ◌≢◌, ◌==◌, ℕ, zero, suc, ◌+◌, ◌/◌, ◌%◌, ◌<◌, Bool, false, not, ◌&&◌, ⊤, Option, List, map, length, All, Contains, EachIndex, slice_index, slice_index_or, if◌then◌else◌}
 use Rattle.letter_word.specs.declared.kinds.Kind.{Kind}
 use Rattle.letter_word.specs.declared.kinds.Kind.TheVariants.{Mealy, Moore}
 use Rattle.letter_word.specs.declared.kinds.Side.{Side}

@@ -1,5 +1,5 @@
 -- Which circuit a file's bytes are, in the ASCII format (AIGER 1.9, in this project's subset).
-use Rattle.std.specs.Prelude.{◌≡◌, ◌≢◌, ◌==◌, ℕ, ◌+◌, ◌*◌, ◌/◌, ◌%◌, ◌<◌, ◌≤◌, Bool, true, false, not, ◌&&◌, ◌⊎◌, Option, Some, None, List, [], ◌∷◌, ◌++◌, map, length, replicate, All, Contains, IsTrue, find, flat_map, slice_index, slice_index_or, decimal, codes, if◌then◌else◌}
+use Rattle.std.specs.Prelude.{◌≡◌, ◌≢◌, ◌==◌, ℕ, ◌+◌, ◌<◌, ◌≤◌, Bool, false, not, ◌&&◌, ◌⊎◌, Option, Some, None, List, [], ◌∷◌, ◌++◌, map, length, replicate, All, IsTrue, find, flat_map, slice_index_or, decimal, codes, if◌then◌else◌}
 use Rattle.std.specs.List.{join_with_byte, list_all, AllZip, range_with_len}
 use Rattle.std.specs.Option.{option_map}
 use Rattle.aiger_text.specs.declared.circuits.Latch.{Latch}

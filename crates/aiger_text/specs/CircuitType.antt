@@ -1,6 +1,5 @@
 -- What a circuit keeps, whoever made it (AIGER 1.9).
 use Rattle.std.specs.Prelude.{◌≡◌, ◌≢◌, ℕ, ◌+◌, ◌*◌, ◌/◌, ◌%◌, ◌<◌, ◌≤◌, ◌⊎◌, List, [], ◌∷◌, ◌++◌, map, length, All, Contains, flat_map, slice_index, slice_index_or}
-use Rattle.aiger_text.specs.declared.circuits.Latch.{Latch}
 use Rattle.aiger_text.specs.declared.circuits.Gate.{Gate}
 use Rattle.aiger_text.specs.Circuit.{Circuit}
 

@@ -3,3 +3,4 @@ pub mod CircuitType
 pub mod CircuitText
 pub mod Step
 pub mod Values
+pub mod Laws

@@ -4,11 +4,13 @@
 #![tactic(auto)]
 
 mod circuits;
+mod laws;
 mod states;
 mod symbols;
 mod write;
 
 pub use circuits::{Circuit, Gate, Latch};
+pub use laws::{runs_are_determined, runs_on_every_input, valuations_agree};
 pub use states::CircuitState;
 pub use symbols::Named;
 pub use write::write_circuit;

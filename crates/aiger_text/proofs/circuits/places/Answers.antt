@@ -1,4 +1,3 @@
-use Rattle.std.proofs.Common.{◌≡◌, ◌+◌, ◌++◌, ◌∷◌, [], length, arith}
 use Rattle.aiger_text.proofs.Orders.{places_more}
 use Rattle.aiger_text.proofs.circuits.places.Goals as goal
 

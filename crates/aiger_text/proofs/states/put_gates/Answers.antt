@@ -1,4 +1,4 @@
-use Rattle.std.proofs.Common.{◌≡◌, ◌<◌, ◌/◌, ℕ, List, length, get_or, refl, arith}
+use Rattle.std.proofs.Common.{length, get_or, refl}
 use Rattle.aiger_text.proofs.Gates.{settle_none, settle_more, settle_done, operand_room, room_at}
 use Rattle.aiger_text.proofs.states.put_gates.Goals as goal
 

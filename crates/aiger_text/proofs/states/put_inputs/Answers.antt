@@ -1,4 +1,4 @@
-use Rattle.std.proofs.Common.{◌≡◌, ◌/◌, length, get_or, false, refl, ◌∙◌, arith}
+use Rattle.std.proofs.Common.{◌/◌, get_or, false, refl, ◌∙◌, arith}
 use Rattle.std.proofs.lemmas.List.{length-set}
 use Rattle.aiger_text.proofs.Putting.{put_none, put_more, put_done}
 use Rattle.aiger_text.proofs.states.put_inputs.Goals as goal

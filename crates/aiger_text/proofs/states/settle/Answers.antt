@@ -1,10 +1,9 @@
-use Rattle.std.proofs.Common.{◌≡◌, ◌+◌, ◌<◌, ◌/◌, ℕ, Bool, false, List, length, get_or, sym, ap, subst, ◌∙◌}
+use Rattle.std.proofs.Common.{◌≡◌, ◌+◌, length, sym, ap, subst, ◌∙◌}
 use Rattle.std.specs.Prelude.{map}
 use Rattle.aiger_text.specs.declared.circuits.Latch.{Latch}
-use Rattle.aiger_text.specs.declared.circuits.Gate.{Gate}
 use Rattle.aiger_text.specs.Circuit as parts
-use Rattle.aiger_text.specs.CircuitType.{IsCircuit, IsOrder}
-use Rattle.aiger_text.specs.Values.{AreVariables, HaveRoom, Puts, Settles}
+use Rattle.aiger_text.specs.CircuitType.{IsCircuit}
+use Rattle.aiger_text.specs.Values.{Puts, Settles}
 use Rattle.aiger_text.proofs.Stepping.{input_variables, latch_variables, gate_variables, left_room, right_room, zero_kept, zero_third, settled}
 use Rattle.aiger_text.proofs.states.settle.Goals as goal
 use Rattle.aiger_text.proofs.states.settle.Goals.{After-deref, After-deref-2, After-deref-4}

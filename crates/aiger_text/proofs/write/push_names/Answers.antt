@@ -1,4 +1,4 @@
-use Rattle.std.proofs.Common.{◌≡◌, ◌++◌, sym, get_or, ap, ◌∙◌, List, ℕ, Option, None, [], ◌∷◌}
+use Rattle.std.proofs.Common.{◌≡◌, ◌++◌, get_or, ap, ◌∙◌, List, ℕ, Option, None, [], ◌∷◌}
 use Rattle.std.proofs.lemmas.List.{get_or_read}
 use Rattle.aiger_text.specs.CircuitText.{text_of_lines, name_lines}
 use Rattle.aiger_text.proofs.Lines.{names_more}

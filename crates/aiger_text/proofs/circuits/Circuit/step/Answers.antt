@@ -1,11 +1,11 @@
-use Rattle.std.proofs.Common.{◌≡◌, ◌+◌, ◌-◌, ◌<◌, ◌/◌, ℕ, Bool, false, List, length, get_or, sym, ap, subst, ◌∙◌, arith}
+use Rattle.std.proofs.Common.{◌≡◌, ◌+◌, ◌-◌, ◌<◌, Bool, false, List, length, get_or, sym, ap, subst, ◌∙◌, arith}
 use Rattle.std.specs.Prelude.{map}
 use Rattle.std.specs.Vec.{with_items}
 use Rattle.std.proofs.lemmas.List.{with_items_is, length-map}
 use Rattle.aiger_text.specs.declared.circuits.Latch.{Latch}
 use Rattle.aiger_text.specs.Circuit as parts
 use Rattle.aiger_text.specs.CircuitType.{IsCircuit}
-use Rattle.aiger_text.specs.Values.{HaveRoom, valuation}
+use Rattle.aiger_text.specs.Values.{valuation}
 use Rattle.aiger_text.specs.Step.{StateModel, HasValues}
 use Rattle.aiger_text.proofs.Stepping.{output_room, next_room}
 use Rattle.aiger_text.proofs.circuits.Circuit.step.Goals as goal

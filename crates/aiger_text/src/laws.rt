@@ -1,0 +1,27 @@
+// Laws of circuits. Each is the contract of a function that does nothing.
+ghost use Rattle.letter_word.specs.declared.kinds.Side.{Side};
+ghost use Rattle.aiger_text.specs.Circuit.{RunsOnEveryInput};
+ghost use Rattle.aiger_text.specs.Laws.{ValuationsAgree, RunsAreDetermined};
+
+use crate::circuits::Circuit;
+
+/// Each lasso of input letters is read, as a word, by a run lasso.
+pub fn runs_on_every_input(circuit: &Circuit)
+    ensures { (side : Side) → RunsOnEveryInput side circuit.now }
+{
+    let _order = &circuit.order;
+}
+
+/// Where the inputs and latches have the same values, so has each literal that the circuit defines.
+pub fn valuations_agree(circuit: &Circuit)
+    ensures { ValuationsAgree circuit.now }
+{
+    let _order = &circuit.order;
+}
+
+/// Two run lassos that read the same are the same word.
+pub fn runs_are_determined(circuit: &Circuit)
+    ensures { RunsAreDetermined circuit.now }
+{
+    let _order = &circuit.order;
+}
