@@ -1,5 +1,5 @@
 -- A path that comes back through a rejecting state gives a run lasso that the automaton accepts.
-use Rattle.std.proofs.Common.{◌≡◌, ◌≢◌, ℕ, zero, suc, ◌+◌, ◌-◌, ◌*◌, ◌^◌, ◌<◌, ◌≤◌, ◌⊎◌, inl, inr, List, ◌++◌, length, map, take, drop, refl, sym, ap, ◌∙◌, subst, arith, Bool, true, min, get_or, slice_index}
+use Rattle.std.proofs.Common.{◌≡◌, ℕ, zero, suc, ◌+◌, ◌-◌, ◌^◌, ◌<◌, ◌≤◌, inl, inr, List, ◌++◌, length, map, take, drop, refl, sym, ap, ◌∙◌, subst, arith, min, get_or, slice_index}
 use Rattle.std.specs.Prelude.{All, IsTrue}
 use Rattle.std.proofs.lemmas.Bool.{cases_eq}
 use Rattle.std.proofs.lemmas.List.{get_or_default, get_or-map, get_or-take, length-map, length-take, length-drop, map-append, take-append-drop, take-take}
@@ -13,7 +13,7 @@ use Rattle.machine_model.specs.Problem.{automaton_of}
 use Rattle.machine_model.specs.Run.{IsRunLasso, read_part, written_part}
 use Rattle.machine_model.specs.declared.problems.Problem.{Problem}
 use Rattle.product_bound.specs.Annotation.{whole_letter}
-use Rattle.product_bound.specs.Product.{IsRejectingCycle, IsStepOf, Leads, letters_of, states_of_cycle, step_at, word_of_cycle}
+use Rattle.product_bound.specs.Product.{IsRejectingCycle, IsStepOf, Leads, states_of_cycle, step_at, word_of_cycle}
 use Rattle.product_bound.specs.declared.laws.ProductStep.{ProductStep}
 use Rattle.product_bound.proofs.Letters.{read_part-joined, written_part-joined}
 

@@ -1,26 +1,25 @@
 -- A machine that its side accepts has a valid annotation.
-use Rattle.std.proofs.Common.{◌≡◌, ◌≢◌, ℕ, zero, suc, ◌+◌, ◌-◌, ◌*◌, ◌%◌, ◌^◌, ◌<◌, ◌≤◌, ◌⊎◌, inl, inr, List, [], ◌∷◌, length, map, refl, sym, ap, ◌∙◌, subst, arith, Option, Some, None, get_or}
+use Rattle.std.proofs.Common.{◌≡◌, ℕ, zero, suc, ◌+◌, ◌-◌, ◌*◌, ◌^◌, ◌<◌, ◌≤◌, ◌⊎◌, inl, inr, List, [], ◌∷◌, map, refl, sym, ap, ◌∙◌, subst, arith, Option, Some, None}
 use Rattle.std.specs.Prelude.{All, Contains}
 use Rattle.std.specs.List.{range_with_len}
-use Rattle.std.proofs.lemmas.Bool.{cases_eq, cases_lt}
+use Rattle.std.proofs.lemmas.Bool.{cases_lt}
 use Rattle.std.proofs.lemmas.List.Elements.{All-contains}
 use Rattle.std.proofs.lemmas.List.FromFn.{get_or-map-range_with_len, length-map-range_with_len}
 use Rattle.letter_word.specs.Cube.{Fits}
 use Rattle.machine_model.specs.Accepts.{SideAccepts}
 use Rattle.machine_model.specs.Automaton.{HasEdge, IsAutomaton, JoinsStates, states_of}
 use Rattle.machine_model.specs.Machine.{MachineModel, IsMachine, next_of, size_of}
-use Rattle.machine_model.specs.Problem.{IsMachineOf, IsProblem, automaton_of}
+use Rattle.machine_model.specs.Problem.{IsMachineOf, automaton_of}
 use Rattle.machine_model.specs.declared.automata.Edge.{Edge}
 use Rattle.machine_model.specs.declared.problems.Problem.{Problem}
 use Rattle.product_bound.specs.Annotation.{HasNumber, IsValidAnnotation, bound_of, number_at, places_of, rise_at, whole_letter}
 use Rattle.product_bound.specs.Laws.{HasValidAnnotation}
-use Rattle.product_bound.specs.Product.{Leads}
 use Rattle.product_bound.specs.declared.laws.ProductStep.{ProductStep}
 use Rattle.product_bound.proofs.Decide.{each_below, each_in}
 use Rattle.product_bound.proofs.Letters.{fits_or_not, to_within}
 use Rattle.product_bound.proofs.Levels.{ClosedLevels, IsClosed, Wants, closed_levels}
 use Rattle.product_bound.proofs.Sums.{total}
-use Rattle.product_bound.proofs.Trails.{Trail, at_pair, place, place_within, places, rise, rise-place, same_pair, trail_small}
+use Rattle.product_bound.proofs.Trails.{Trail, place, place_within, places, rise, rise-place, same_pair, trail_small}
 
 -- an arrow of the product, from place to place
 record Arrow (p : Problem) (m : MachineModel) (u v : ℕ) : Type 0 where

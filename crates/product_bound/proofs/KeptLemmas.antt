@@ -1,18 +1,17 @@
 -- The rule of a valid annotation, part by part, and whole.
-use Rattle.std.proofs.Common.{◌≡◌, ◌≢◌, ℕ, zero, suc, ◌+◌, ◌*◌, ◌/◌, ◌%◌, ◌^◌, ◌<◌, ◌≤◌, ◌⊎◌, inl, inr, List, length, refl, sym, ap, ◌∙◌, subst, arith, Option, Some, None, get_or, cond, Bool, true, false}
+use Rattle.std.proofs.Common.{◌≡◌, ℕ, ◌+◌, ◌*◌, ◌/◌, ◌%◌, ◌<◌, ◌≤◌, List, length, sym, ap, ◌∙◌, arith, Option, Some, None, get_or}
 use Rattle.std.specs.Prelude.{All, Contains}
 use Rattle.std.proofs.Math.Nat.{mod-lt, div-lt_iff_lt-mul}
 use Rattle.std.proofs.lemmas.Nat.{div-add-mod'}
 use Rattle.std.proofs.lemmas.List.{get_or_default}
 use Rattle.std.proofs.lemmas.List.Elements.{All-contains, Contains-get_or}
-use Rattle.letter_word.specs.Cube.{Fits}
-use Rattle.machine_model.specs.Automaton.{HasEdge, IsAutomaton, JoinsStates, states_of}
-use Rattle.machine_model.specs.Machine.{MachineModel, next_of}
+use Rattle.machine_model.specs.Automaton.{IsAutomaton, JoinsStates, states_of}
+use Rattle.machine_model.specs.Machine.{MachineModel}
 use Rattle.machine_model.specs.Problem.{automaton_of}
 use Rattle.machine_model.specs.declared.automata.Edge.{Edge}
 use Rattle.machine_model.specs.declared.problems.Problem.{Problem}
-use Rattle.product_bound.specs.Annotation.{HasNumber, IsValidAnnotation, bound_of, number_at, places_of, rise_at, whole_letter}
-use Rattle.product_bound.specs.Kept.{IsWithin, KeepsEdge, KeepsEdges, KeepsLetters, KeepsNumber, KeepsStates}
+use Rattle.product_bound.specs.Annotation.{HasNumber, IsValidAnnotation, bound_of, number_at, places_of, rise_at}
+use Rattle.product_bound.specs.Kept.{IsWithin, KeepsEdge, KeepsEdges, KeepsNumber, KeepsStates}
 use Rattle.product_bound.proofs.Trails.{place_within}
 
 module _ (p : Problem) (numbers : List (Option ℕ)) (t q s r : ℕ) where

@@ -1,6 +1,6 @@
 -- Levels that are closed under the arrows of a finite graph. A node's level is 0 where no number was found for it yet, else
 -- one more than its number. Where no number passes b, raising levels as long as an arrow wants it comes to an end.
-use Rattle.std.proofs.Common.{◌≡◌, ◌≢◌, ℕ, zero, suc, ◌+◌, ◌-◌, ◌*◌, ◌<◌, ◌≤◌, ◌⊎◌, inl, inr, refl, sym, ap, ◌∙◌, subst, arith}
+use Rattle.std.proofs.Common.{◌≡◌, ℕ, zero, suc, ◌+◌, ◌-◌, ◌*◌, ◌<◌, ◌≤◌, ◌⊎◌, inl, inr, sym, ap, ◌∙◌, subst, arith}
 use Rattle.std.proofs.lemmas.Bool.{cases_eq}
 use Rattle.product_bound.proofs.Sums.{sum_below, sum_below-most, sum_below-with_value, with_value, with_value-same, with_value-other}
 

@@ -1,25 +1,25 @@
 -- The numbered form of a machine.
-use Rattle.std.proofs.Common.{◌≡◌, ◌≢◌, ℕ, zero, suc, ◌+◌, ◌-◌, ◌*◌, ◌/◌, ◌%◌, ◌^◌, ◌<◌, ◌≤◌, ◌⊎◌, inl, inr, max, Bool, true, false, List, [], ◌∷◌, ◌++◌, length, map, take, get_or, ltb, cond, refl, sym, ap, ◌∙◌, subst, arith, slice_index}
-use Rattle.std.specs.Prelude.{Contains, nat_lt}
+use Rattle.std.proofs.Common.{◌≡◌, ℕ, zero, suc, ◌+◌, ◌-◌, ◌*◌, ◌/◌, ◌%◌, ◌^◌, ◌<◌, ◌≤◌, inl, inr, max, Bool, true, false, List, [], ◌∷◌, ◌++◌, length, map, take, get_or, refl, sym, ap, ◌∙◌, subst, arith, slice_index}
+use Rattle.std.specs.Prelude.{nat_lt}
 use Rattle.std.specs.List.{range_with_len}
 use Rattle.std.proofs.Math.Nat.{mod-lt, div-lt_iff_lt-mul, mul_comm}
 use Rattle.std.proofs.lemmas.Bool.{cases_eq, cases_lt, cond-true, cond-false}
 use Rattle.std.proofs.lemmas.Bool.Decides.{Decides-ltb}
-use Rattle.std.proofs.lemmas.List.{get_or-map, length-map, nil_from_length}
+use Rattle.std.proofs.lemmas.List.{get_or-map, get_or_default, length-map, nil_from_length}
 use Rattle.std.proofs.lemmas.List.FromFn.{get_or-map-range_with_len, length-map-range_with_len, map-range_with_len_more, take-map-range_with_len}
-use Rattle.std.proofs.lemmas.Nat.{div-add-mod', div-mul-add, mod-mul-add, mul-add-lt, pow_pos}
+use Rattle.std.proofs.lemmas.Nat.{div-mul-add, mod-mul-add, mul-add-lt, pow_pos}
 use Rattle.letter_word.specs.Word.{Word, lasso_len, next, letter_at}
 use Rattle.letter_word.specs.declared.kinds.Side.{Side}
 use Rattle.letter_word.specs.declared.kinds.Side.TheVariants.{Environment, System}
 use Rattle.letter_word.specs.declared.letters.Letter.{Letter}
 use Rattle.letter_word.proofs.Positions.{next-inner, next_within}
-use Rattle.machine_model.specs.Machine.{HasShape, IsMachine, MachineModel, next_of, row_of, size_of, writes_of}
-use Rattle.machine_model.specs.Run.{IsRun, IsRunLasso, read_part, written_part}
+use Rattle.machine_model.specs.Machine.{IsMachine, MachineModel, next_of, row_of, size_of, writes_of}
+use Rattle.machine_model.specs.Run.{IsRunLasso, read_part, written_part}
 use Rattle.machine_model.specs.declared.machines.Row.{Row}
 use Rattle.product_bound.specs.Laws.{IsNumberedForm}
 use Rattle.product_bound.specs.Numbered.{IsNumbered, greatest_next, named_before, numbered_of, numbered_row, place_in, with_state}
 use Rattle.product_bound.proofs.Places.{Added, Extends, Extends-refl, Extends-trans, Once-with_state, added, at_place, place_in-first, place_in-le}
-use Rattle.product_bound.proofs.Sums.{Once, sum_below, sum_below-same, total, total-once}
+use Rattle.product_bound.proofs.Sums.{Once, sum_below, total, total-once}
 
 -- a row of a state that is named, and one of a state that isn't
 row-named : (m : MachineModel) (place : ℕ) → place / 2 ^ m.reads < length (named_before m place)
@@ -449,3 +449,27 @@ module _ (m : MachineModel) (machine : IsMachine m) where
       λ (states, run). (new_states states, new_run side w states run),
     );
   }
+
+  -- what is named before a place
+  pub named_state : (place k : ℕ) → place ≤ length m.table → k < length (named_before m place) → get_or (named_before m place) k 0 < size_of m
+  named_state place k h less =
+      let on : Extends (named_before m place) named = rw is_named (up_to m place (length m.table) h) in
+      let more : length (named_before m place) ≤ length named = on.more in
+      let state : get_or named k 0 < size_of m = state_named k (omega (arith, more, less)) in
+      rw (on.same k less) at state
+
+  pub named_few : (place : ℕ) → place ≤ length m.table → length (named_before m place) ≤ size_of m
+  named_few place h =
+      let on : Extends (named_before m place) named = rw is_named (up_to m place (length m.table) h) in
+      let more : length (named_before m place) ≤ length named = on.more in
+      let small : length named ≤ size_of m = named_small in
+      omega (arith, more, small)
+
+  -- the state that the list of those before a place has at a place of its own
+  pub state_read : (place : ℕ) (states : List ℕ) (k x : ℕ) → place < length m.table → states ≡ named_before m place → k < length states
+      → x ≡ get_or states k x → x < size_of m
+  state_read place states k x h e less is =
+      let less' : k < length (named_before m place) = rw e at less in
+      let read : get_or states k x ≡ get_or states k 0 = get_or_default states k x 0 less in
+      let at : get_or states k 0 ≡ get_or (named_before m place) k 0 = ap (λ s. get_or s k 0) e in
+      subst (λ s. s < size_of m) (sym (is ∙ read ∙ at)) (named_state place k (omega arith) less')

@@ -1,17 +1,17 @@
 -- Trails of the product: the steps that were taken, the latest first. Where a side accepts a machine, no trail meets a pair
 -- with a rejecting state twice, so none meets more of them than there are.
-use Rattle.std.proofs.Common.{◌≡◌, ◌≢◌, ℕ, zero, suc, ◌+◌, ◌-◌, ◌*◌, ◌/◌, ◌%◌, ◌^◌, ◌<◌, ◌≤◌, ◌⊎◌, inl, inr, List, [], ◌∷◌, ◌++◌, length, map, refl, sym, ap, ◌∙◌, subst, arith, Bool, true, false, cond, get_or}
+use Rattle.std.proofs.Common.{◌≡◌, ℕ, zero, suc, ◌+◌, ◌-◌, ◌*◌, ◌/◌, ◌%◌, ◌<◌, ◌≤◌, inl, inr, List, [], ◌∷◌, ◌++◌, length, refl, sym, ap, ◌∙◌, subst, arith, Bool, true, false, cond}
 use Rattle.std.specs.Prelude.{Contains, IsTrue}
 use Rattle.std.proofs.lemmas.Bool.{cases_eq}
 use Rattle.std.proofs.lemmas.List.{get_or_append_left, get_or_push, length_push}
 use Rattle.std.proofs.lemmas.Nat.{div-mul-add, mod-mul-add, mul-add-lt}
 use Rattle.std.proofs.Math.Nat.{mul_comm}
 use Rattle.machine_model.specs.Accepts.{SideAccepts}
-use Rattle.machine_model.specs.Automaton.{AutomatonModel, HasEdge, IsAutomaton, rejects, states_of}
-use Rattle.machine_model.specs.Machine.{MachineModel, IsMachine, next_of, size_of}
-use Rattle.machine_model.specs.Problem.{IsMachineOf, automaton_of}
+use Rattle.machine_model.specs.Automaton.{rejects, states_of}
+use Rattle.machine_model.specs.Machine.{MachineModel, IsMachine, size_of}
+use Rattle.machine_model.specs.Problem.{automaton_of}
 use Rattle.machine_model.specs.declared.problems.Problem.{Problem}
-use Rattle.product_bound.specs.Annotation.{bound_of, places_of, rejecting_count, rise_at, whole_letter}
+use Rattle.product_bound.specs.Annotation.{bound_of, places_of, rise_at}
 use Rattle.product_bound.specs.Product.{IsProductPath, IsRejectingCycle, Leads, states_of_cycle, step_at, word_of_cycle}
 use Rattle.product_bound.specs.declared.laws.ProductStep.{ProductStep}
 use Rattle.product_bound.proofs.Cycle.{accepted, run}

@@ -1,15 +1,12 @@
 -- Along a run of a machine with a valid annotation numbers never fall, and rise at each edge into a rejecting state.
-use Rattle.std.proofs.Common.{◌≡◌, ◌≢◌, ℕ, zero, suc, ◌+◌, ◌*◌, ◌^◌, ◌<◌, ◌≤◌, ◌⊎◌, inl, inr, List, length, refl, sym, ap, ◌∙◌, subst, arith, Bool, true, Option, Some, cond, slice_index}
-use Rattle.std.specs.Prelude.{IsTrue}
-use Rattle.std.proofs.lemmas.Bool.{cases_eq}
-use Rattle.letter_word.specs.Word.{Word, lasso_len, next, letter_at, HasRing}
-use Rattle.letter_word.specs.declared.letters.Letter.{Letter}
+use Rattle.std.proofs.Common.{◌≡◌, ℕ, zero, suc, ◌+◌, ◌<◌, ◌≤◌, List, length, sym, ap, ◌∙◌, subst, arith, Option, Some, cond, slice_index}
+use Rattle.letter_word.specs.Word.{Word, lasso_len, next, letter_at}
 use Rattle.letter_word.proofs.Positions.{next_within, next-inner}
 use Rattle.machine_model.specs.Accepts.{Accepts, Path}
-use Rattle.machine_model.specs.Automaton.{HasEdge, IsAutomaton, rejects, states_of}
+use Rattle.machine_model.specs.Automaton.{HasEdge, IsAutomaton, states_of}
 use Rattle.machine_model.specs.Machine.{MachineModel, IsMachine, next_of, size_of, writes_of}
 use Rattle.machine_model.specs.Problem.{IsMachineOf, automaton_of}
-use Rattle.machine_model.specs.Run.{IsRunLasso, joined, read_part, written_part}
+use Rattle.machine_model.specs.Run.{IsRunLasso, joined, read_part}
 use Rattle.machine_model.specs.declared.problems.Problem.{Problem}
 use Rattle.product_bound.specs.Annotation.{HasNumber, IsValidAnnotation, number_at, rise_at, whole_letter}
 use Rattle.product_bound.proofs.Letters.{joined-parts, to_within}

@@ -1,4 +1,4 @@
-use Rattle.std.specs.Prelude.{◌≡◌, ℕ, ◌+◌, ◌*◌, ◌^◌, ◌<◌, ◌≤◌, List, Option, Some, None, length, count_by, slice_index_or, if◌then◌else◌}
+use Rattle.std.specs.Prelude.{◌≡◌, ℕ, ◌+◌, ◌*◌, ◌^◌, ◌<◌, ◌≤◌, List, Option, Some, None, count_by, slice_index_or, if◌then◌else◌}
 use Rattle.letter_word.specs.declared.kinds.Side.{Side}
 use Rattle.letter_word.specs.declared.letters.Letter.{Letter}
 use Rattle.machine_model.specs.Automaton.{AutomatonModel, HasEdge, rejects, states_of}

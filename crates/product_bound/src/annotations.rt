@@ -119,8 +119,9 @@ fn keeps_letters(problem: &Problem, machine: &Machine, numbers: &[Option<u32>], 
 }
 
 /// The number of letters that the machine reads.
-fn letter_count(machine: &Machine) -> u32
-    ensures { result ≡ 2 ^ machine.now.reads }
+pub(crate) fn letter_count(machine: &Machine) -> u32
+    ensures value { result ≡ 2 ^ machine.now.reads }
+    ensures some { 0 < result }
 {
     1 << machine.reads()
 }

@@ -1,13 +1,15 @@
 //! From cycles to run lassos, and from machines to numbered ones.
-ghost use Rattle.std.specs.Prelude.{◌≡◌, All, IfOk};
+ghost use Rattle.std.specs.Prelude.{◌≡◌, ◌<◌, ◌^◌, All, IfOk, OnOk, length, map, suc};
+ghost use Rattle.std.specs.List.{range_with_len};
 ghost use Rattle.machine_model.specs.Accepts.{Accepts};
 ghost use Rattle.machine_model.specs.Problem.{IsMachineOf, IsProblem, automaton_of};
 ghost use Rattle.machine_model.specs.Run.{IsRunLasso};
-ghost use Rattle.product_bound.specs.Laws.{AcceptedIsAnnotated, NumberedSuffices};
+ghost use Rattle.product_bound.specs.Laws.{AcceptedIsAnnotated, IsNumberedForm, NumberedSuffices};
+ghost use Rattle.product_bound.specs.Numbered.{named_before, numbered_of, numbered_row, place_in};
 
-use crate::annotations::whole_letter;
+use crate::annotations::{letter_count, whole_letter};
 use letter_word::{Lasso, Letter};
-use machine_model::{Machine, Problem, RunLasso};
+use machine_model::{Machine, Problem, Row, RunLasso};
 use std::alloc::{AllocError, Global};
 
 /// A step of a path in the product of a machine and an automaton: the pair of their states, and the letter that the
@@ -67,6 +69,82 @@ fn letters_of(
     Ok(letters)
 }
 
+/// The machine with its states numbered as its rows first name them, from state 0 on. States that are never named stand
+/// last; their rows go to state 0 and write nothing. It has the same run lassos.
+///
+/// Takes as many steps as there are rows and states, multiplied.
+pub fn numbered(alloc: Global, machine: &Machine) -> Result<Machine, AllocError>
+    ensures value { IfOk result (λ new. new ≡ numbered_of machine.now) }
+    ensures form { IfOk result (IsNumberedForm machine.now) }
+{
+    let table = numbered_table(alloc, machine)?;
+    let Ok(new) = Machine::new(machine.kind(), machine.reads(), machine.writes(), table) else {
+        unreachable!()
+    };
+    Ok(new)
+}
+
+/// The rows of the numbered machine.
+fn numbered_table(alloc: Global, machine: &Machine) -> Result<Vec<Row>, AllocError>
+    ensures { IfOk result (λ table. table.items ≡ map (numbered_row machine.now) (range_with_len 0 (length machine.now.table))) }
+{
+    let rows = row_count(machine);
+    let mut named = Vec::new(alloc);
+    named.push(0)?;
+    let mut table = Vec::with_capacity(alloc, rows as usize)?;
+    for place in 0..rows {
+        let row = numbered_row(machine, &mut named, place)?;
+        table.push(row)?;
+    }
+    Ok(table)
+}
+
+/// The number of rows of a machine.
+fn row_count(machine: &Machine) -> u32
+    ensures { result ≡ length machine.now.table }
+{
+    machine.size() * letter_count(machine)
+}
+
+/// The row of the numbered machine at a place, where `named` has the old states in the order of their new numbers, as far
+/// as they are named before that place. The state that this row names is added to them.
+fn numbered_row(machine: &Machine, named: &mut Vec<u32>, place: u32) -> Result<Row, AllocError>
+    requires place { place < length machine.now.table }
+    requires named { named.old.items ≡ named_before machine.now place }
+    ensures row { IfOk result (λ row. row ≡ numbered_row machine.now place) }
+    ensures named { OnOk result (named.new.items ≡ named_before machine.now (suc place)) }
+{
+    let _size = machine.size();
+    let letters = letter_count(machine);
+    let t = (place / letters) as usize;
+    if t >= named.len() {
+        return Ok(Row { next: 0, writes: 0 });
+    }
+    let old = named[t];
+    let letter = place % letters;
+    let to = machine.next(old, letter);
+    let next = place_in(named, to);
+    if next >= named.len() {
+        named.push(to)?;
+    }
+    Ok(Row {
+        next: next as u32,
+        writes: machine.writes_at(old, letter),
+    })
+}
+
+/// The place of a state among some states, or their number where it isn't among them.
+fn place_in(states: &[u32], state: u32) -> usize
+    ensures { result ≡ place_in states.now state }
+{
+    for (place, at) in states.iter().enumerate() {
+        if *at == state {
+            return place;
+        }
+    }
+    states.len()
+}
+
 /// A side accepts a machine exactly where the machine has a valid annotation.
 pub fn accepted_is_annotated()
     ensures { AcceptedIsAnnotated }
@@ -76,3 +154,6 @@ pub fn accepted_is_annotated()
 pub fn numbered_suffices()
     ensures { NumberedSuffices }
 {}
+
+#[cfg(test)]
+mod tests;

@@ -1,5 +1,4 @@
-use Rattle.std.proofs.Common.{◌≡◌, take, sym, refl, None, arith}
-use Rattle.std.proofs.lemmas.Bool.{true≢false}
+use Rattle.std.proofs.Common.{take, sym, refl, None}
 use Rattle.std.proofs.lemmas.List.{take_all}
 use Rattle.std.proofs.lemmas.List.Elements.{All-more, All-same}
 use Rattle.product_bound.specs.Kept.{IsWithin}

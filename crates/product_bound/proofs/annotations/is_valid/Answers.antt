@@ -1,11 +1,11 @@
-use Rattle.std.proofs.Common.{◌≡◌, ◌<◌, ◌≤◌, ◌∙◌, true, sym, ap, subst, arith, length, List, Option, ℕ, refl}
+use Rattle.std.proofs.Common.{◌≡◌, ◌<◌, ◌≤◌, ◌∙◌, true, sym, subst, arith}
 use Rattle.std.specs.Prelude.{All}
 use Rattle.std.proofs.lemmas.Bool.{true≢false}
 use Rattle.machine_model.specs.Automaton.{IsAutomaton}
 use Rattle.machine_model.specs.Machine.{size_of}
 use Rattle.machine_model.specs.Problem.{automaton_of}
 use Rattle.machine_model.specs.declared.problems.Problem.{Problem}
-use Rattle.product_bound.specs.Annotation.{HasNumber, IsValidAnnotation, bound_of, places_of, rise_at}
+use Rattle.product_bound.specs.Annotation.{HasNumber, IsValidAnnotation, bound_of, rise_at}
 use Rattle.product_bound.specs.Kept.{IsWithin, KeepsStates}
 use Rattle.product_bound.proofs.KeptLemmas.{states_say, valid_of, within_says}
 use Rattle.product_bound.proofs.Valid.{never_accepted}

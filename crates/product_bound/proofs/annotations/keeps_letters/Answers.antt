@@ -1,4 +1,4 @@
-use Rattle.std.proofs.Common.{◌≡◌, ℕ, ◌<◌, ◌^◌, below_more, ◌∙◌, arith, refl, sym}
+use Rattle.std.proofs.Common.{◌<◌, ◌^◌, below_more, ◌∙◌, arith, refl, sym}
 use Rattle.std.proofs.lemmas.Bool.{true≢false}
 use Rattle.product_bound.specs.Kept.{KeepsEdges}
 use Rattle.product_bound.proofs.annotations.keeps_letters.Goals as goal

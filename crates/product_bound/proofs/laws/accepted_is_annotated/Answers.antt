@@ -1,4 +1,4 @@
-use Rattle.std.proofs.Common.{ℕ, ◌<◌, ◌≤◌, sym, arith}
+use Rattle.std.proofs.Common.{◌<◌, ◌≤◌, arith}
 use Rattle.machine_model.specs.Machine.{size_of}
 use Rattle.product_bound.proofs.Exists.{has_annotation}
 use Rattle.product_bound.proofs.Valid.{never_accepted}
