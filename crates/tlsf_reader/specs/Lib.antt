@@ -1,0 +1,7 @@
+pub mod Symbols
+pub mod Tables
+pub mod Seen
+pub mod Lexed
+pub mod Spec
+pub mod Faults
+pub mod Reads

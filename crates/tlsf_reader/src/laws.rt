@@ -1,0 +1,8 @@
+// Laws of the definitions, which no code needs.
+
+ghost use Rattle.tlsf_reader.specs.Symbols.{WordsHaveMeanings};
+
+/// Each word and each sign of the tables of tokens is a symbol.
+pub fn words_have_meanings()
+    ensures { WordsHaveMeanings }
+{}
