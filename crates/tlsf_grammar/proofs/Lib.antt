@@ -1,2 +1,3 @@
-pub mod Spans
-pub mod Climbs
+mod Spans
+mod Climbs
+mod Symbols

@@ -1,5 +1,7 @@
 pub mod Tree
 pub mod Lexemes
+pub mod Symbols
 pub mod Expressions
+pub mod Reading
 pub mod Texts
 pub mod Rows

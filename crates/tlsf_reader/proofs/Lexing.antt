@@ -1,5 +1,5 @@
 -- The lexemes of a text, one token after another.
-use Rattle.std.proofs.Common.{◌≡◌, ◌<◌, ◌≤◌, ℕ, ◌+◌, List, [], ◌∷◌, ◌++◌, length, drop, get_or, map, Option, None, Some, refl, sym, ◌∙◌, ap, subst, drop-cons, append_assoc, add-one, arith}
+use Rattle.std.proofs.Common.{◌≡◌, ◌<◌, ◌≤◌, ℕ, ◌+◌, List, [], ◌∷◌, ◌++◌, length, drop, get_or, Option, None, Some, refl, sym, ◌∙◌, ap, drop-cons, append_assoc, add-one, arith}
 use Rattle.std.specs.Prelude.{slice_range}
 use Rattle.std.proofs.lemmas.List.{append-nil}
 use Rattle.tlsf_tokens.specs.Pieces.{piece_of}
@@ -9,7 +9,7 @@ use Rattle.tlsf_tokens.specs.declared.token.Piece.TheVariants.{Token as token_pi
 use Rattle.tlsf_tokens.specs.declared.token.Token.{Token}
 use Rattle.tlsf_tree.specs.declared.symbol.Symbol.{Symbol}
 use Rattle.tlsf_grammar.specs.Lexemes.{Lexeme}
-use Rattle.tlsf_reader.specs.Symbols.{symbol_of, lexeme_from, lexemes_of, then_lexemes}
+use Rattle.tlsf_reader.specs.Symbols.{symbol_of, lexeme_from, lexemes_of}
 
 -- what is kept while the tokens are gone over: these lexemes are of those before the place
 pub record AreLexed (text : List ℕ) (tokens : List Token) (done : List Lexeme) (i : ℕ) : Type 0 where

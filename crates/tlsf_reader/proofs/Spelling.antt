@@ -1,22 +1,19 @@
 -- Each token has a symbol.
-use Rattle.std.proofs.Common.{◌≡◌, ℕ, zero, suc, ◌==◌, Bool, true, false, ◌&&◌, cond, List, [], ◌∷◌, Option, None, Some, ◌||◌, refl, sym, ◌∙◌, ap, subst}
+use Rattle.std.proofs.Common.{◌≡◌, ℕ, zero, suc, ◌==◌, Bool, true, false, ◌&&◌, cond, List, [], ◌∷◌, Some, ◌||◌, refl, ◌∙◌, ap, subst}
 use Rattle.std.proofs.lemmas.Slice.Eq.{bytes_eq-Decides}
-use Rattle.tlsf_tree.specs.declared.symbol.Symbol.{Symbol}
 use Rattle.tlsf_reader.specs.Tables.{spelling}
 use Rattle.tlsf_reader.specs.declared.symbols.Spelling.{Spelling}
 use Rattle.std.specs.Option.{is_some}
-use Rattle.std.specs.List.{list_all, list_any, starts_with}
+use Rattle.std.specs.List.{list_all, starts_with}
 use Rattle.std.specs.Str.{bytes_eq}
 use Rattle.std.specs.Char.{is_ascii_digit}
 use Rattle.std.specs.Prelude.{drop, codes, nat_eq, not, find, option_map, map}
 use Rattle.tlsf_tokens.specs.Words.{is_blank, is_name_start, is_name_part, is_among, signs, sign_words, keywords, unsupported_words, unsupported_signs}
-use Rattle.tlsf_tokens.specs.Pieces.{piece_of, word_piece, text_before, quoted_piece, comment_piece, sign_piece, mark_piece}
-use Rattle.tlsf_tokens.specs.declared.code.SpecCode.TheVariants.{Unsupported}
-use Rattle.tlsf_tokens.specs.declared.token.Piece.{Piece}
-use Rattle.tlsf_tokens.specs.declared.token.Piece.TheVariants.{Gap, Token, Fault}
+use Rattle.tlsf_tokens.specs.Pieces.{piece_of, word_piece, text_before, quoted_piece, comment_piece, mark_piece}
+use Rattle.tlsf_tokens.specs.declared.token.Piece.TheVariants.{Token}
 use Rattle.tlsf_tokens.specs.declared.token.TokenKind.{TokenKind}
 use Rattle.tlsf_tokens.specs.declared.token.TokenKind.TheVariants as kind
-use Rattle.tlsf_reader.specs.Symbols.{Spelled, sign_spellings, keyword_spellings, meaning_of, symbol_of, has_meaning, WordsHaveMeanings}
+use Rattle.tlsf_reader.specs.Symbols.{sign_spellings, keyword_spellings, meaning_of, symbol_of, has_meaning, WordsHaveMeanings}
 
 pub words_have_meanings : WordsHaveMeanings
 unfolding signs sign_words keywords sign_spellings keyword_spellings

@@ -1,5 +1,5 @@
 -- The faults of reading, and the one that comes first: this project's table of faults and its order of refusals.
-use Rattle.std.specs.Prelude.{◌≡◌, ◌<◌, ◌≤◌, ℕ, zero, suc, ◌+◌, Bool, true, false, List, [], ◌∷◌, ◌++◌, length, map, slice_get, codes, Option, None, Some}
+use Rattle.std.specs.Prelude.{◌≡◌, ◌<◌, ◌≤◌, ℕ, zero, suc, ◌+◌, Bool, true, false, List, [], ◌∷◌, ◌++◌, length, map, slice_get, codes, None, Some}
 use Rattle.tlsf_tokens.specs.declared.code.SpecCode.{SpecCode}
 use Rattle.tlsf_tokens.specs.declared.code.SpecCode.TheVariants.{TooLong, Unexpected, Missing, Twice, TooDeep, Unsupported}
 use Rattle.tlsf_tree.specs.declared.symbol.Symbol.{Symbol}

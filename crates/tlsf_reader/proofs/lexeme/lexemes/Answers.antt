@@ -1,4 +1,3 @@
-use Rattle.std.proofs.Common.{◌∙◌}
 use Rattle.std.proofs.lemmas.List.{map-append, drop_all}
 use Rattle.tlsf_reader.proofs.Lexing.{next_is, one_more, all_lexed}
 use Rattle.tlsf_reader.proofs.lexeme.lexemes.Goals as goal
