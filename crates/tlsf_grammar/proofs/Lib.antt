@@ -1,3 +1,5 @@
+mod Symbols
 mod Spans
 mod Climbs
-mod Symbols
+mod Starts
+mod Reading

@@ -1,16 +1,16 @@
 -- The grammar of expressions as a reader with one token of look-ahead: computing functions on lists of lexemes. This is no
--- definition of the grammar: `ReadsWhatIsDerived` is the law between the two. It is this project's own.
-use Rattle.std.specs.Prelude.{◌≡◌, ◌≤◌, ℕ, zero, suc, Bool, true, false, ◌==◌, ◌&&◌, if◌then◌else◌, List, [], ◌∷◌, length, drop, Option, None, Some}
+-- definition of the grammar: readers that go deep enough read what is derived, so no list of lexemes has two trees.
+use Rattle.std.specs.Prelude.{◌≡◌, ℕ, zero, suc, Bool, true, false, ◌==◌, ◌&&◌, if◌then◌else◌, List, [], ◌∷◌, length, drop, Option, None, Some}
 use Rattle.std.specs.Option.{is_some}
 use Rattle.tlsf_tree.specs.declared.expr.Op.{Op}
 use Rattle.tlsf_tree.specs.declared.expr.Op.TheVariants as op
 use Rattle.tlsf_tree.specs.declared.expr.Span.{Span}
 use Rattle.tlsf_tree.specs.declared.symbol.Symbol.{Symbol}
 use Rattle.tlsf_tree.specs.declared.symbol.Symbol.TheVariants as symbol
-use Rattle.tlsf_grammar.specs.Tree.{Named, Tree, Trees, Links, Ranges, tree_span, number, truth, named, call, index, size_of, paren, set, steps, chain, pair, prefix, count, window, big, no_trees, tree, no_links, link, no_ranges, members, between}
+use Rattle.tlsf_grammar.specs.Tree.{Tree, Trees, Links, Ranges, tree_span, number, truth, named, call, index, size_of, paren, set, steps, chain, pair, prefix, count, window, big, no_trees, tree, no_links, link, no_ranges, members, between}
 use Rattle.tlsf_grammar.specs.Lexemes.{Lexeme, word_of, lexeme_span, literal_of}
 use Rattle.tlsf_grammar.specs.Symbols.{symbol_eq}
-use Rattle.tlsf_grammar.specs.Expressions.{Level, primary, products, quotients, sums, differences, meets, unions, comparisons, memberships, prefixes, conjunctions, disjunctions, implications, weak_untils, untils, releases, Joins, left, once, right, none, tighter_of, joins_of, operator_of, big_of, bound_of}
+use Rattle.tlsf_grammar.specs.Expressions.{Level, primary, products, quotients, sums, differences, meets, unions, comparisons, memberships, prefixes, conjunctions, disjunctions, implications, weak_untils, untils, releases, Joins, left, once, right, none, tighter_of, joins_of, operator_of, big_of, bound_of, Derives}
 
 -- what comes of reading
 pub data Answer (A : Type 0) : Type 0 where
@@ -219,6 +219,10 @@ abbrev pub stuck : Readers
 stuck = record { level = λ ends m ls. refused (length ls); list = λ ls. refused (length ls); links = λ ends m ls. refused (length ls); ranges = λ ls. refused (length ls) }
 
 -- readers that go so deep
-pub readers : ℕ → Readers
+unfoldable pub readers : ℕ → Readers
 readers zero = stuck
 readers (suc depth) = step (readers depth)
+
+-- the levels give each list of lexemes at most one tree
+abbrev pub ExpressionsHaveOneTree : Type 0
+ExpressionsHaveOneTree = (n : Level) (ls : List Lexeme) (t u : Tree) → Derives n ls t → Derives n ls u → t ≡ u

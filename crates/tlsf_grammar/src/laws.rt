@@ -1,6 +1,7 @@
 // Laws of the grammar, which no code needs.
 
 ghost use Rattle.tlsf_grammar.specs.Expressions.{SpansAreWhole};
+ghost use Rattle.tlsf_grammar.specs.Reading.{ExpressionsHaveOneTree};
 ghost use Rattle.tlsf_grammar.specs.Rows.{RowsDerive};
 
 /// The span of each expression runs from its first byte to the byte after its last.
@@ -11,4 +12,9 @@ pub fn spans_are_whole()
 /// The worked rows have their trees: `a -> b U c` is `(a -> b) U c`, and `a - b - c` is one node.
 pub fn rows_derive()
     ensures { RowsDerive }
+{}
+
+/// No list of lexemes has two trees of one level.
+pub fn expressions_have_one_tree()
+    ensures { ExpressionsHaveOneTree }
 {}
