@@ -3,3 +3,4 @@ mod Spans
 mod Climbs
 mod Starts
 mod Reading
+mod Texts

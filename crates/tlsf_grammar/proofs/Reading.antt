@@ -112,7 +112,7 @@ no_prefix_at : (r : Readers) (ends : Bool) (n : Level) (ls : List Lexeme) → St
 no_prefix_at r ends n [] s = absurd s
 no_prefix_at r ends n (l ∷ ls) s = no_prefix r ends n l.symbol l ls s
 
-StartsWith-append : (p : Symbol → Bool) (ls ms : List Lexeme) → StartsWith p ls → StartsWith p (ls ++ ms)
+pub StartsWith-append : (p : Symbol → Bool) (ls ms : List Lexeme) → StartsWith p ls → StartsWith p (ls ++ ms)
 StartsWith-append p [] ms s = absurd s
 StartsWith-append p (l ∷ ls) ms s = s
 
@@ -152,7 +152,7 @@ name_reads_sum l rest e f =
 
 -- each form, from what its parts are read as; `last` closes it
 
-test : (a b s : Symbol) → a ≡ b → symbol_eq a s ≡ symbol_eq b s
+pub test : (a b s : Symbol) → a ≡ b → symbol_eq a s ≡ symbol_eq b s
 test a b s e = ap (λ x. symbol_eq x s) e
 
 call_step : (ends : Bool) (l before last : Lexeme) (inner rest : List Lexeme) (ts : Trees) → Is symbol.Ident l → Is symbol.OpenParen before → Is symbol.CloseParen last → ListReads inner ts (last ∷ rest)
@@ -411,7 +411,7 @@ tree_or u (refused k) = u
 is_bound : Symbol → Bool
 is_bound s = is_some (bound_of s)
 
-no_and : (b : Bool) → (b && false) ≡ false
+pub no_and : (b : Bool) → (b && false) ≡ false
 no_and true = refl
 no_and false = refl
 
@@ -474,7 +474,7 @@ bound_follows n ls sign more low e h =
     let o : (o : Op) × (operator_of sign.symbol ≡ Some (comparisons, o)) = bound_operator sign.symbol low e in operator_follows false n comparisons ls sign more o.0 o.1 h
 
 mutual
-  level_reads : (n : Level) (ls : List Lexeme) (t : Tree) → Derives n ls t → (ends : Bool) (rest : List Lexeme) → Follows ends n ls rest → LevelReads ends n (ls ++ rest) t rest
+  pub level_reads : (n : Level) (ls : List Lexeme) (t : Tree) → Derives n ls t → (ends : Bool) (rest : List Lexeme) → Follows ends n ls rest → LevelReads ends n (ls ++ rest) t rest
   level_reads n ls t (of_number l e) ends rest f =
       level_step ends primary (l ∷ rest) (number (lexeme_span l) (literal_of l.text)) rest 0 (λ depth low. primary_is (readers depth) l rest symbol.Number ends e)
   level_reads n ls t (of_true l e) ends rest f =

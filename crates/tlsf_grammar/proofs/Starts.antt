@@ -193,7 +193,7 @@ follows_part ends n m ls ms rest part low f = record {
   call = λ e. f.call (part e);
 }
 
-unless : {A : Type 0} (b : Bool) (x : Option A) → x ≡ None → cond b None x ≡ None
+pub unless : {A : Type 0} (b : Bool) (x : Option A) → x ≡ None → cond b None x ≡ None
 unless true x e = refl
 unless false x e = e
 

@@ -4,4 +4,5 @@ pub mod Symbols
 pub mod Expressions
 pub mod Reading
 pub mod Texts
+pub mod TextReading
 pub mod Rows

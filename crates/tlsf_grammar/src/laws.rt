@@ -3,6 +3,7 @@
 ghost use Rattle.tlsf_grammar.specs.Expressions.{SpansAreWhole};
 ghost use Rattle.tlsf_grammar.specs.Reading.{ExpressionsHaveOneTree};
 ghost use Rattle.tlsf_grammar.specs.Rows.{RowsDerive};
+ghost use Rattle.tlsf_grammar.specs.TextReading.{TextsHaveOneTree};
 
 /// The span of each expression runs from its first byte to the byte after its last.
 pub fn spans_are_whole()
@@ -17,4 +18,9 @@ pub fn rows_derive()
 /// No list of lexemes has two trees of one level.
 pub fn expressions_have_one_tree()
     ensures { ExpressionsHaveOneTree }
+{}
+
+/// No list of lexemes is two texts.
+pub fn texts_have_one_tree()
+    ensures { TextsHaveOneTree }
 {}
