@@ -3,3 +3,7 @@ pub mod StateLemmas
 pub mod FollowsLemmas
 pub mod LegalLemmas
 pub mod Growing
+pub mod Words
+pub mod Numbers
+pub mod LineLemmas
+pub mod Outcomes

@@ -1,4 +1,4 @@
-use Rattle.std.specs.Prelude.{◌≡◌, ℕ, Bool, true, false, List, [], ◌++◌, Option, Some, slice_get}
+use Rattle.std.specs.Prelude.{◌≡◌, ℕ, Bool, true, false, List, [], ◌++◌, Option, Some, slice_get, All, length}
 use Rattle.clause_base.specs.Literal.{Literal}
 use Rattle.clause_base.specs.Truth.{is_true_clause, meets}
 use Rattle.refutation_log.specs.declared.entries.Entry.{Entry}
@@ -7,6 +7,8 @@ use Rattle.refutation_log.specs.Entry.{clauses_of}
 use Rattle.refutation_log.specs.Follows.{Follows, clause_named}
 use Rattle.refutation_log.specs.Log.{IsLegal, IsClosed}
 use Rattle.refutation_log.specs.Turn.{run_of, IsSoundRun}
+use Rattle.refutation_log.specs.Text.{log_text, IsWritable}
+use Rattle.refutation_log.specs.Read.{IsReadAs, IsBadLine, IsTooShort}
 
 -- Over every list of turns in which each append is sound at its turn, a legal log stays legal; so does the empty one, from which
 -- every log begins.
@@ -36,3 +38,15 @@ pub record PrefixesStay : Type 0 where
       → Follows (base ++ clauses_of log) clause hints → Follows (base ++ clauses_of (log ++ more)) clause hints
   pub legal_prefix : (vars : ℕ) (base : List (List Literal)) (limit : Option ℕ) (log more : List Entry)
       → IsLegal vars base limit (log ++ more) → IsLegal vars base limit log
+
+-- Bytes are read in at most one way, and refused for at most one cause.
+pub record OutcomesAreApart : Type 0 where
+  pub one_reading : (vars count : ℕ) (bytes : List ℕ) (log other : List Entry) (used used' : ℕ) → IsReadAs vars count bytes log used → IsReadAs vars count bytes other used' → (log ≡ other) × (used ≡ used')
+  pub read_not_bad : (vars count : ℕ) (bytes : List ℕ) (log : List Entry) (used n : ℕ) → IsReadAs vars count bytes log used → IsBadLine vars count bytes n → ⊥
+  pub read_not_short : (vars count : ℕ) (bytes : List ℕ) (log : List Entry) (used : ℕ) → IsReadAs vars count bytes log used → IsTooShort vars count bytes → ⊥
+  pub one_bad_line : (vars count : ℕ) (bytes : List ℕ) (n m : ℕ) → IsBadLine vars count bytes n → IsBadLine vars count bytes m → n ≡ m
+  pub bad_not_short : (vars count : ℕ) (bytes : List ℕ) (n : ℕ) → IsBadLine vars count bytes n → IsTooShort vars count bytes → ⊥
+
+-- The lines that are written of entries which lines may state are read as these entries, whatever comes after them.
+pub record WrittenIsRead : Type 0 where
+  pub back : (vars : ℕ) (log : List Entry) (more : List ℕ) → All (IsWritable vars) log → IsReadAs vars (length log) (log_text log ++ more) log (length (log_text log))

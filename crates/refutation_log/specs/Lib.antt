@@ -6,5 +6,6 @@ pub mod Turn
 pub mod State
 pub mod Shown
 pub mod Text
+pub mod Read
 pub mod Laws
 pub mod Examples

@@ -1,4 +1,4 @@
-use Rattle.std.specs.Prelude.{◌≡◌, ℕ, ◌^◌, ◌<◌, ◌≤◌, List, [], ◌∷◌, ◌++◌, if◌then◌else◌, decimal, length, All}
+use Rattle.std.specs.Prelude.{◌≡◌, ℕ, ◌^◌, ◌<◌, List, [], ◌∷◌, ◌++◌, if◌then◌else◌, decimal, All}
 use Rattle.std.specs.List.{flat_map}
 use Rattle.clause_base.specs.Literal.{Literal}
 use Rattle.clause_base.specs.Clause.{IsClause, IsWithin}

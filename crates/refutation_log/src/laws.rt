@@ -1,6 +1,6 @@
 //! Laws of the definitions, each the contract of a function that does nothing.
 ghost use Rattle.refutation_log.specs.Examples.{FollowsByExample};
-ghost use Rattle.refutation_log.specs.Laws.{RunsStayLegal, LogsAreSound, PrefixesStay};
+ghost use Rattle.refutation_log.specs.Laws.{RunsStayLegal, LogsAreSound, PrefixesStay, OutcomesAreApart, WrittenIsRead};
 
 /// Over every list of turns in which each append is sound at its turn, by any number of workers, the log stays legal: each of its
 /// clauses stands once, and follows from the base clauses and the entries before it.
@@ -22,4 +22,15 @@ pub fn prefixes_stay()
 /// What follows from a few clauses, worked out by hand.
 pub fn follows_by_example()
     ensures { FollowsByExample }
+{}
+
+/// Bytes state one list of entries at most, and `read_log` has one cause at most to refuse them: each of its answers comes exactly
+/// where its clause holds, but for want of memory.
+pub fn outcomes_are_apart()
+    ensures { OutcomesAreApart }
+{}
+
+/// What `write_log` wrote is read as what was written, where each hint is at least 1 and no variable passes the number of variables.
+pub fn written_is_read()
+    ensures { WrittenIsRead }
 {}

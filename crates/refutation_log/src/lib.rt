@@ -7,11 +7,13 @@
 
 mod entries;
 pub mod laws;
+mod read;
 mod state;
 mod turns;
 mod write;
 
 pub use entries::{Entry, EntryRef, Hints};
+pub use read::{LogText, LogTextFault, read_log};
 pub use state::LogState;
 pub use turns::{Reply, Turn};
 pub use write::write_log;

@@ -1,4 +1,4 @@
-use Rattle.std.proofs.Common.{◌≡◌, ◌++◌, ◌≤◌, length, take}
+use Rattle.std.proofs.Common.{◌≡◌, ◌++◌, take}
 use Rattle.refutation_log.specs.Text.{log_text}
 use Rattle.refutation_log.proofs.write.write_entries.Given as goal
 
