@@ -1,0 +1,4 @@
+pub mod Names
+pub mod States
+pub mod Board
+pub mod Kept

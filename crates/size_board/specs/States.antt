@@ -1,0 +1,48 @@
+use Rattle.std.specs.Prelude.{ℕ, ◌+◌, ◌-◌, ◌==◌, ◌&&◌, Bool, true, false, List, if◌then◌else◌}
+use Rattle.std.specs.List.{fold}
+use Rattle.letter_word.specs.declared.kinds.Side.{Side}
+use Rattle.letter_word.specs.declared.kinds.Side.TheVariants.{System, Environment}
+use Rattle.size_board.specs.declared.events.Claim.{Claim}
+use Rattle.size_board.specs.declared.events.SizeState.{SizeState}
+use Rattle.size_board.specs.declared.events.Event.{Event}
+use Rattle.size_board.specs.declared.events.Event.TheVariants.{Claimed, Left, Found, Refuted, Full}
+
+-- The state of a size is the replay of the journal's events in their order (this project's own).
+
+-- the size that an event concerns
+abbrev pub place_of : Event → Claim
+place_of (Claimed worker at) = at
+place_of (Left at) = at
+place_of (Found at) = at
+place_of (Refuted at) = at
+place_of (Full at) = at
+
+-- a size before any event: no claims and no mark
+abbrev pub fresh : SizeState
+fresh = record { claims = 0; is_found = false; is_refuted = false; is_full = false }
+
+-- a size after an event that concerns it
+abbrev pub changed : SizeState → Event → SizeState
+changed s (Claimed worker at) = record s { claims = s.claims + 1 }
+changed s (Left at) = record s { claims = s.claims - 1 }
+changed s (Found at) = record s { is_found = true }
+changed s (Refuted at) = record s { is_refuted = true }
+changed s (Full at) = record s { is_full = true }
+
+abbrev pub same_side : Side → Side → Bool
+same_side System System = true
+same_side System Environment = false
+same_side Environment System = false
+same_side Environment Environment = true
+
+-- whether the claim is of this side and size
+abbrev pub is_at : Claim → Side → ℕ → Bool
+is_at claim side size = same_side claim.side side && (claim.size == size)
+
+-- a size after any event
+abbrev pub after_event : Side → ℕ → SizeState → Event → SizeState
+after_event side size s e = if is_at (place_of e) side size then changed s e else s
+
+-- a size after the journal's events
+abbrev pub replay : List Event → Side → ℕ → SizeState
+replay journal side size = fold (after_event side size) fresh journal
