@@ -1,1 +1,5 @@
 mod Replays
+mod Marks
+mod Sounds
+mod Firsts
+mod Updates

@@ -1,6 +1,5 @@
-ghost use Rattle.std.specs.Prelude.{◌≡◌, ◌≢◌, ◌↔◌, ℕ, ◌+◌, ◌-◌, ◌^◌, ◌<◌, ◌≤◌, [], ◌∷◌, ◌++◌, None, OnOk, OnErr, IfOk, IfSome, IfNone, IsTrue, length, slice_index_or};
+ghost use Rattle.std.specs.Prelude.{◌≡◌, ◌≢◌, ◌↔◌, ℕ, ◌+◌, ◌-◌, ◌^◌, ◌<◌, ◌≤◌, [], ◌∷◌, ◌++◌, None, OnOk, OnErr, IfOk, IfSome, IfNone, IsTrue, false, length, slice_index_or};
 ghost use Rattle.std.specs.Option.{option_map, option_copied, ForSome};
-ghost use Rattle.std.specs.List.{prefix_len};
 ghost use Rattle.letter_word.specs.declared.kinds.Side.TheVariants.{System, Environment};
 ghost use Rattle.machine_model.specs.Machine.{size_of};
 ghost use Rattle.size_board.specs.States.{after_event, fresh, place_of, replay};
@@ -114,10 +113,19 @@ impl<P: ProblemNames> Board<P> {
         requires allowed { size ≤ sizes_of P.named side }
         ensures { result ≡ state_of self.now side size }
     {
-        let place = size as usize - 1;
+        self.states(side)[size as usize - 1]
+    }
+
+    // The states of a side's first 8 sizes.
+    fn states(&self, side: Side) -> &[SizeState]
+        ensures states { AreStates self.now.journal side result.now }
+        ensures refuted_allowed { (n : ℕ) → IsTrue (state_of self.now side n).is_refuted → n ≤ 8 }
+        ensures few { sizes_of P.named side ≤ 8 }
+        ensures sound { IsSound P.named self.now }
+    {
         match side {
-            Side::System => self.system_states[place],
-            Side::Environment => self.environment_states[place],
+            Side::System => &self.system_states,
+            Side::Environment => &self.environment_states,
         }
     }
 
@@ -128,11 +136,8 @@ impl<P: ProblemNames> Board<P> {
         ensures high { result.1 ≡ high_of P.named self.now side }
         ensures sound { IsSound P.named self.now }
     {
-        let states = match side {
-            Side::System => &self.system_states,
-            Side::Environment => &self.environment_states,
-        };
-        (first_unrefuted(states), self.high(side))
+        let refuted = refuted_len(self.states(side)) as u32;
+        (refuted + 1, self.high(side))
     }
 
     // The size of the smallest kept machine, or the number of allowed sizes plus 1.
@@ -257,16 +262,19 @@ impl<P: ProblemNames> Board<P> {
             &mut self.system_states,
             &mut self.environment_states,
             event,
-        )
+        )?;
+        Ok(())
     }
 
     // The open size that is to be claimed next.
     fn first_open(&self) -> Option<Claim>
         ensures none { IfNone result ((side : Side) (size : ℕ) → IsTrue (is_open P.named self.now side size) → ⊥) }
         ensures first { IfSome result (IsFirstOpen P.named self.now) }
+        ensures sound { IsSound P.named self.now }
     {
+        let most = self.system_sizes.max(self.environment_sizes);
         let mut first = None;
-        for size in 1..MOST_SIZES as u32 + 1 {
+        for size in 1..most + 1 {
             let system = Side::System;
             first = self.earlier(first, Claim { side: system, size });
             let environment = Side::Environment;
@@ -316,17 +324,18 @@ fn fresh_states() -> [SizeState; MOST_SIZES]
     }; MOST_SIZES]
 }
 
-// The first size that isn't marked refuted, the states being those of size 1 and on.
-fn first_unrefuted(states: &[SizeState]) -> u32
-    requires { length states.now < 2 ^ 32 - 1 }
-    ensures { result ≡ prefix_len (λ s. s.is_refuted) states.now + 1 }
+// How many states from the first one on are marked refuted.
+fn refuted_len(states: &[SizeState]) -> usize
+    ensures within { result ≤ length states.now }
+    ensures before { (k : ℕ) → k < result → IsTrue (slice_index_or states.now k fresh).is_refuted }
+    ensures stops { result < length states.now → (slice_index_or states.now result fresh).is_refuted ≡ false }
 {
     for (place, state) in states.iter().enumerate() {
         if !state.is_refuted {
-            return place as u32 + 1;
+            return place;
         }
     }
-    states.len() as u32 + 1
+    states.len()
 }
 
 // Adds an event to the journal and to the states of both sides' sizes.
