@@ -1,5 +1,7 @@
-mod Replays
-mod Marks
-mod Sounds
-mod Firsts
-mod Updates
+pub mod Replays
+pub mod Marks
+pub mod Sounds
+pub mod Firsts
+pub mod Updates
+pub mod LawProofs
+pub mod Fixtures

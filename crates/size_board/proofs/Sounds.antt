@@ -1,4 +1,4 @@
-use Rattle.std.proofs.Common.{◌≡◌, ℕ, ◌+◌, ◌-◌, ◌<◌, ◌≤◌, Bool, true, false, cond, List, [], ◌∷◌, ◌++◌, Option, Some, None, refl, sym, ap, subst, ◌∙◌, arith, inl, inr, ◌⊎◌}
+use Rattle.std.proofs.Common.{◌≡◌, ℕ, ◌+◌, ◌-◌, ◌<◌, ◌≤◌, true, false, List, [], ◌∷◌, ◌++◌, Option, Some, None, refl, sym, ap, subst, ◌∙◌, arith, inl, inr, ◌⊎◌}
 use Rattle.std.proofs.lemmas.Bool.{cond_both, ltb-true, ltb-false, false_from_ne_true, cases_lt}
 use Rattle.std.specs.Bool.{IsTrue}
 use Rattle.std.specs.Option.{option_map_or}
@@ -6,12 +6,11 @@ use Rattle.std.specs.Prelude.{nat_lt, length, slice_index_or}
 use Rattle.letter_word.specs.declared.kinds.Side.{Side}
 use Rattle.letter_word.specs.declared.kinds.Side.TheVariants.{System, Environment}
 use Rattle.machine_model.specs.Machine.{MachineModel, size_of}
-use Rattle.size_board.specs.declared.events.Claim.{Claim}
 use Rattle.size_board.specs.declared.events.SizeState.{SizeState}
 use Rattle.size_board.specs.declared.events.Event.{Event}
 use Rattle.size_board.specs.declared.events.Event.TheVariants.{Claimed, Left, Found, Refuted, Full}
 use Rattle.size_board.specs.Names.{Named, SideHas, sizes_of, sought_by}
-use Rattle.size_board.specs.States.{after_event, fresh, place_of, replay}
+use Rattle.size_board.specs.States.{after_event, fresh, replay}
 use Rattle.size_board.specs.Board.{BoardModel, IsKeptBy, IsLow, IsSound, empty_board, high_of, machine_of, smaller, state_of, with_event, with_machine}
 use Rattle.size_board.specs.Kept.{Allows, AreStates}
 use Rattle.size_board.proofs.Replays.{replay-push}

@@ -1,5 +1,4 @@
-use Rattle.std.proofs.Common.{◌≡◌, ℕ, suc, ◌+◌, ◌<◌, ◌≤◌, ◌^◌, List, [], ◌∷◌, ◌++◌, length, get_or, set, refl, sym, ap, ◌∙◌, arith, inl, inr, below_more, get_or-set_other, get_or-set_same}
-use Rattle.std.proofs.lemmas.List.{length-set}
+use Rattle.std.proofs.Common.{◌≡◌, ℕ, ◌+◌, ◌<◌, ◌≤◌, ◌^◌, List, [], ◌∷◌, ◌++◌, length, get_or, set, sym, ap, ◌∙◌, arith, below_more, get_or-set_other, get_or-set_same}
 use Rattle.letter_word.specs.declared.kinds.Side.{Side}
 use Rattle.size_board.specs.declared.events.SizeState.{SizeState}
 use Rattle.size_board.specs.declared.events.Event.{Event}

@@ -1,4 +1,4 @@
-use Rattle.std.specs.Prelude.{◌≡◌, ℕ, ◌+◌, ◌<◌, ◌≤◌, ◌⊎◌, ◌&&◌, not, nat_lt, nat_le, Bool, true, false, IsTrue, Option, Some, None, is_none, List, [], ◌∷◌, ◌++◌, if◌then◌else◌}
+use Rattle.std.specs.Prelude.{◌≡◌, ℕ, ◌+◌, ◌<◌, ◌≤◌, ◌⊎◌, ◌&&◌, not, nat_lt, nat_le, Bool, false, IsTrue, Option, Some, None, is_none, List, [], ◌∷◌, ◌++◌, if◌then◌else◌}
 use Rattle.std.specs.Option.{option_map_or}
 use Rattle.letter_word.specs.declared.kinds.Side.{Side}
 use Rattle.letter_word.specs.declared.kinds.Side.TheVariants.{System, Environment}
@@ -55,7 +55,7 @@ abbrev pub ComesBefore : BoardModel → Claim → Claim → Type 0
 ComesBefore b c d =
     ((state_of b c.side c.size).claims < (state_of b d.side d.size).claims)
     ⊎ (((state_of b c.side c.size).claims ≡ (state_of b d.side d.size).claims)
-      × ((c.size < d.size) ⊎ ((c.size ≡ d.size) × ((c.side ≡ System) ⊎ (d.side ≡ Environment)))))
+    × ((c.size < d.size) ⊎ ((c.size ≡ d.size) × ((c.side ≡ System) ⊎ (d.side ≡ Environment)))))
 
 -- the claim that is to be given: it is open, and comes before each open one
 pub record IsFirstOpen (names : Named) (b : BoardModel) (c : Claim) : Type 0 where

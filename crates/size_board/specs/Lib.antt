@@ -2,3 +2,5 @@ pub mod Names
 pub mod States
 pub mod Board
 pub mod Kept
+pub mod Laws
+pub mod Fixtures

@@ -278,7 +278,13 @@ impl<P: ProblemNames> Board<P> {
             let system = Side::System;
             first = self.earlier(first, Claim { side: system, size });
             let environment = Side::Environment;
-            first = self.earlier(first, Claim { side: environment, size });
+            first = self.earlier(
+                first,
+                Claim {
+                    side: environment,
+                    size,
+                },
+            );
         }
         first
     }
@@ -381,3 +387,6 @@ fn keep_smaller(kept: &mut Option<Machine>, machine: Machine)
         *kept = Some(machine);
     }
 }
+
+#[cfg(test)]
+mod tests;

@@ -1,4 +1,4 @@
-use Rattle.std.proofs.Common.{◌≡◌, ℕ, ◌+◌, ◌≤◌, arith, refl}
+use Rattle.std.proofs.Common.{arith, refl}
 use Rattle.size_board.proofs.Firsts.{searched_both, searched_all_none, searched_all_some}
 use Rattle.size_board.proofs.boards.Board.first_open.Goals as goal
 

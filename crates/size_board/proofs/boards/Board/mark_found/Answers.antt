@@ -1,7 +1,5 @@
-use Rattle.std.proofs.Common.{◌≡◌}
-use Rattle.letter_word.specs.declared.kinds.Side.TheVariants.{System, Environment}
 use Rattle.size_board.specs.Board.{BoardModel}
-use Rattle.size_board.proofs.Sounds.{Holds, holds_found, found_system, found_environment}
+use Rattle.size_board.proofs.Sounds.{holds_found, found_system, found_environment}
 use Rattle.size_board.proofs.boards.Board.mark_found.Goals as goal
 
 pub invariant_of-self-in-System : goal.invariant_of-self-in-System

@@ -1,5 +1,5 @@
 use Rattle.size_board.specs.Board.{BoardModel}
-use Rattle.size_board.proofs.Sounds.{Holds, holds_told}
+use Rattle.size_board.proofs.Sounds.{holds_told}
 use Rattle.size_board.proofs.boards.Board.tell.Goals as goal
 
 pub invariant_of-self-2 : goal.invariant_of-self-2

@@ -1,0 +1,4 @@
+pub mod Rounds
+pub mod Closed
+pub mod PlayLaws
+pub mod Playing
