@@ -82,6 +82,7 @@ impl Formulas {
         requires signal { SignalBelow MAX_SIGNALS node }
         ensures ok { IfOk result (λ id. added self.old node ≡ record { nodes = self.new; made = Some id }) }
         ensures too_many { result ≡ Err AddFault.TooManyNodes → (added self.old node).made ≡ None }
+        ensures full { (added self.old node).made ≡ None → result ≡ Err AddFault.TooManyNodes }
         ensures err { OnErr result (self.new ≡ self.old) }
 
         // What a caller needs of the new list.
@@ -102,7 +103,7 @@ impl Formulas {
         requires absent { position (node_eq node) self.old ≡ None }
         ensures last { IfOk result (λ id. (id ≡ record { 0 = length self.old }) × (length self.old < MAX_NODES)) }
         ensures grown { OnOk result (self.new ≡ self.old ++ node ∷ []) }
-        ensures full { result ≡ Err AddFault.TooManyNodes → MAX_NODES ≤ length self.old }
+        ensures full { (result ≡ Err AddFault.TooManyNodes) ↔ (MAX_NODES ≤ length self.old) }
         ensures err { OnErr result (self.new ≡ self.old) }
         ensures list { IsNodeList self.new }
     {
