@@ -1,8 +1,8 @@
-use Rattle.std.proofs.Common.{◌≡◌, ℕ, ◌<◌, Bool, true, false, cond, ltb, eqb, ◌&&◌, inl, inr, List, [], ◌∷◌, ◌++◌, length, Option, None, Some, refl, sym, ap, subst, ◌∙◌, arith}
+use Rattle.std.proofs.Common.{◌≡◌, ℕ, ◌<◌, Bool, true, false, cond, ltb, eqb, inl, inr, List, [], ◌∷◌, ◌++◌, length, Option, None, Some, refl, sym, ap, subst, ◌∙◌}
 use Rattle.std.specs.Prelude.{not, position, slice_get}
 use Rattle.std.proofs.lemmas.Bool.{cases_Bool, eqb-true, eq-eqb, true≢false, ltb-true, false_from_ne_true}
 use Rattle.std.proofs.lemmas.List.{append-nil}
-use Rattle.std.proofs.lemmas.Option.{none-some, same_Some, slice_get_within, get_or_from_slice_get}
+use Rattle.std.proofs.lemmas.Option.{none-some, same_Some, slice_get_within}
 use Rattle.ltl_formula.specs.declared.nodes.FormulaId.{FormulaId}
 use Rattle.ltl_formula.specs.declared.nodes.Node.{Node}
 use Rattle.ltl_formula.specs.declared.nodes.Node.TheVariants as node
@@ -21,7 +21,7 @@ use Rattle.ltl_normal.specs.declared.simplify.Outcome.TheVariants.{First, Second
 use Rattle.ltl_normal.specs.Simplify.{constant_of, facing_of, outcome_of}
 use Rattle.ltl_normal.specs.Table.{table}
 use Rattle.ltl_normal.specs.NormalTrees.{tree_eq, constant_tree, whole_tree, chosen, joined, next_of, trees}
-use Rattle.ltl_normal.specs.NormalNodes.{Step, go_on, gives, whole_node, constant_at, chosen_step, join_ids, next_step, next_id, constant_node, literal_step, nodes_to, form_in}
+use Rattle.ltl_normal.specs.NormalNodes.{Step, go_on, gives, whole_node, constant_at, chosen_step, join_ids, next_step, next_id, nodes_to, form_in}
 use Rattle.ltl_normal.proofs.TreeEquality.{tree_eq-true, tree_eq-self}
 
 -- what a step made in a list: the id names the formula there, and the same step makes it again, with no node more, in

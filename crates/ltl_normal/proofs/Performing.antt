@@ -1,17 +1,17 @@
-use Rattle.std.proofs.Common.{◌≡◌, ℕ, ◌+◌, ◌<◌, ◌≤◌, max, Bool, true, false, cond, ltb, inl, inr, List, [], ◌∷◌, ◌++◌, length, get_or, Option, None, Some, Result, Ok, Err, refl, sym, ap, subst, ◌∙◌, arith}
+use Rattle.std.proofs.Common.{◌≡◌, ℕ, ◌<◌, ◌≤◌, Bool, true, false, cond, ltb, inl, inr, List, [], ◌∷◌, ◌++◌, length, get_or, Option, None, Some, Result, Ok, Err, refl, sym, ap, subst, ◌∙◌, arith}
 use Rattle.std.specs.Prelude.{position, slice_get, slice_set, IfOk, OnErr, OnOk, if◌then◌else◌}
 use Rattle.std.proofs.lemmas.Bool.{cases_eq, cases_lt}
 use Rattle.std.proofs.lemmas.List.{get_or-replicate, length-replicate, get_or_past}
 use Rattle.std.specs.Prelude.{replicate}
-use Rattle.std.proofs.lemmas.Option.{none-some, same_Some, slice_get_within, get_or_from_slice_get}
+use Rattle.std.proofs.lemmas.Option.{none-some, same_Some, slice_get_within}
 use Rattle.ltl_formula.specs.declared.faults.AddFault.{AddFault}
 use Rattle.ltl_formula.specs.declared.faults.AddFault.TheVariants.{TooManyNodes}
 use Rattle.ltl_formula.specs.declared.nodes.FormulaId.{FormulaId}
 use Rattle.ltl_formula.specs.declared.nodes.Node.{Node}
 use Rattle.ltl_formula.specs.declared.nodes.Node.TheVariants as node
-use Rattle.ltl_formula.specs.declared.nodes.TheConstants.{MAX_NODES, MAX_SIGNALS}
-use Rattle.ltl_formula.specs.Tree.{Tree, SignalsBelow}
-use Rattle.ltl_formula.specs.Nodes.{Grows, IsNodeList, PartsBelow, SignalBelow, Stands, tree_at}
+use Rattle.ltl_formula.specs.declared.nodes.TheConstants.{MAX_NODES}
+use Rattle.ltl_formula.specs.Tree.{Tree}
+use Rattle.ltl_formula.specs.Nodes.{Grows, IsNodeList, PartsBelow, Stands, tree_at}
 use Rattle.ltl_formula.specs.Added.{Built, added, built_at, node_eq}
 use Rattle.ltl_formula.proofs.Trees.{tree_at-grown}
 use Rattle.ltl_formula.proofs.Lists.{Grows-refl, Grows-trans, Grows-stands, signals_are_below}

@@ -1,9 +1,8 @@
-use Rattle.std.proofs.Common.{◌≡◌, ℕ, Bool, true, false, eqb, ◌&&◌, Option, Some, None, refl, sym, ap, ◌∙◌}
+use Rattle.std.proofs.Common.{◌≡◌, true, refl, ap, ◌∙◌}
 use Rattle.std.proofs.lemmas.Bool.{and_parts, and_from, eqb-true, eq-eqb, false≢true}
-use Rattle.std.proofs.lemmas.Option.{none-some, same_Some}
 use Rattle.ltl_formula.specs.Tree.{Tree}
 use Rattle.ltl_formula.specs.Tree.Tree.{truth, falsity, signal, negation, next_time, finally, globally, conjunction, disjunction, implication, equivalence, until, release, weak_until}
-use Rattle.ltl_normal.specs.NormalTrees.{tree_eq, constant_tree}
+use Rattle.ltl_normal.specs.NormalTrees.{tree_eq}
 
 both_same : (f : Tree → Tree → Tree) (a b c d : Tree) → a ≡ c → b ≡ d → f a b ≡ f c d
 both_same f a b c d x y = ap (λ t. f t b) x ∙ ap (f c) y

@@ -1,14 +1,14 @@
-use Rattle.std.proofs.Common.{◌≡◌, ℕ, zero, suc, ◌+◌, ◌<◌, Bool, true, false, ◌&&◌, ◌||◌, inl, inr, Option, Some, None, refl, sym, ap, ◌∙◌, arith}
+use Rattle.std.proofs.Common.{◌≡◌, ℕ, zero, suc, ◌<◌, Bool, true, false, ◌&&◌, ◌||◌, inl, inr, Option, Some, None, refl, sym, ap, ◌∙◌, arith}
 use Rattle.std.specs.Prelude.{not}
 use Rattle.std.specs.Bool.{beq}
-use Rattle.std.proofs.lemmas.Bool.{cases_Bool, cases_order, true≢false, false≢true, or_cases, or_left, or_right, not-true, not-false}
+use Rattle.std.proofs.lemmas.Bool.{cases_Bool, cases_order, true≢false, false≢true, or_cases, or_left, or_right, not-true}
 use Rattle.std.proofs.lemmas.Option.{none-some, same_Some}
 use Rattle.letter_word.specs.Word.{Word, HasRing, lasso_len, next, after}
 use Rattle.letter_word.proofs.Positions.{next_within, after_within}
 use Rattle.ltl_formula.specs.Tree.{Tree}
 use Rattle.ltl_formula.specs.Tree.Tree.{truth, falsity, signal, negation, next_time, finally, globally, conjunction, disjunction, implication, equivalence, until, release, weak_until}
 use Rattle.ltl_formula.specs.Truth.{until_at, release_at, holds}
-use Rattle.ltl_formula.specs.Laws.{ComesAt, Comes}
+use Rattle.ltl_formula.specs.Laws.{Comes}
 use Rattle.ltl_formula.proofs.Ahead.{until_at-from, until_at-gives}
 use Rattle.ltl_formula.proofs.Futures.{until_at-agree}
 use Rattle.ltl_formula.proofs.Tests.{same_test}

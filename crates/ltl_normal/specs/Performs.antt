@@ -1,11 +1,10 @@
-use Rattle.std.specs.Prelude.{◌≡◌, ℕ, ◌+◌, ◌<◌, max, Bool, List, Option, Some, None, Result, Err, IfOk, slice_index_or, if◌then◌else◌}
+use Rattle.std.specs.Prelude.{◌≡◌, ℕ, ◌+◌, max, Bool, List, Option, Some, None, Result, Err, IfOk, slice_index_or, if◌then◌else◌}
 use Rattle.ltl_formula.specs.declared.faults.AddFault.{AddFault}
 use Rattle.ltl_formula.specs.declared.faults.AddFault.TheVariants.{TooManyNodes}
 use Rattle.ltl_formula.specs.declared.nodes.FormulaId.{FormulaId}
 use Rattle.ltl_formula.specs.declared.nodes.Node.{Node}
 use Rattle.ltl_formula.specs.declared.nodes.Node.TheVariants.{Not, Next, Finally, Globally, And, Or, Implies, Equiv, Until, Release, WeakUntil}
 use Rattle.ltl_formula.specs.Nodes.{Grows, IsNodeList, Stands, tree_at}
-use Rattle.ltl_formula.specs.Added.{Built}
 use Rattle.ltl_normal.specs.declared.memo.Forms.{Forms}
 use Rattle.ltl_normal.specs.NormalNodes.{Step, form_in}
 

@@ -1,4 +1,4 @@
-use Rattle.std.specs.Prelude.{◌≡◌, ℕ, ◌<◌, Bool, true, false, not}
+use Rattle.std.specs.Prelude.{◌≡◌, ℕ, ◌<◌, not}
 use Rattle.letter_word.specs.Word.{Word, HasRing, lasso_len}
 use Rattle.ltl_formula.specs.Tree.{Tree}
 use Rattle.ltl_formula.specs.Truth.{holds}

@@ -5,7 +5,7 @@ use Rattle.ltl_formula.specs.declared.nodes.TheConstants.{MAX_SIGNALS}
 use Rattle.ltl_formula.proofs.Lists.{Grows-stands}
 use Rattle.std.proofs.lemmas.Result.{err_from_is_err_and}
 use Rattle.ltl_formula.specs.Nodes.{SignalBelow, tree_at}
-use Rattle.ltl_normal.specs.declared.simplify.Joint.TheVariants.{And, Or, Until, Release}
+use Rattle.ltl_normal.specs.declared.simplify.Joint.TheVariants.{And, Or, Release}
 use Rattle.ltl_normal.specs.Simplify.{facing_of}
 use Rattle.ltl_normal.specs.NormalNodes.{form_in, join_ids, nodes_to}
 use Rattle.ltl_normal.specs.Performs.{Performs, part_bound}
