@@ -1,10 +1,9 @@
-use Rattle.std.specs.Prelude.{◌≡◌, ℕ, ◌<◌, Bool, true, false, not, ◌&&◌, ◌||◌, List, [], length, slice_index_or}
+use Rattle.std.specs.Prelude.{◌≡◌, ℕ, ◌<◌, Bool, false, not, ◌&&◌, ◌||◌, List, [], length, slice_index_or}
 use Rattle.std.specs.Bool.{beq}
-use Rattle.letter_word.specs.Word.{Word, lasso_len, next}
-use Rattle.ltl_formula.specs.declared.nodes.FormulaId.{FormulaId}
+use Rattle.letter_word.specs.Word.{Word, lasso_len}
 use Rattle.ltl_formula.specs.declared.nodes.Node.{Node}
 use Rattle.ltl_formula.specs.Nodes.{tree_at}
-use Rattle.ltl_formula.specs.Truth.{holds, until_at, release_at}
+use Rattle.ltl_formula.specs.Truth.{holds}
 use Rattle.lasso_eval.specs.declared.rows.Pairing.{Pairing}
 use Rattle.lasso_eval.specs.declared.rows.Pairing.TheVariants.{And, Or, Implies, Equiv}
 

@@ -4,6 +4,8 @@
 #![tactic(auto)]
 
 mod evaluate;
+#[cfg(test)]
+mod plain;
 mod rows;
 #[cfg(test)]
 mod tests;

@@ -1,4 +1,5 @@
 use crate::holds_at;
+use crate::plain::holds_plainly;
 use letter_word::{Lasso, Letter};
 use ltl_formula::{AddFault, FormulaId, Formulas, Node};
 use std::alloc::{AllocError, Global};
@@ -100,6 +101,92 @@ fn finally_globally_looks_at_the_ring(rt: HostRuntime) -> Result<(), Fail> {
     assert!(rt; truth(&rt, rt.alloc(), &formulas, f, &after, 0)?);
     let never = word(rt.alloc(), &[Letter(1)], &[Letter(0)])?;
     assert!(rt; !truth(&rt, rt.alloc(), &formulas, f, &never, 0)?);
+    Ok(())
+}
+
+// Each node over these two parts.
+fn add_each(
+    rt: &impl Abort,
+    formulas: &mut Formulas,
+    a: FormulaId,
+    b: FormulaId,
+) -> Result<(), AddFault> {
+    for node in [
+        Node::True,
+        Node::False,
+        Node::Not(a),
+        Node::Next(a),
+        Node::Finally(a),
+        Node::Globally(a),
+        Node::And(a, b),
+        Node::Or(a, b),
+        Node::Implies(a, b),
+        Node::Equiv(a, b),
+        Node::Until(a, b),
+        Node::Release(a, b),
+        Node::WeakUntil(a, b),
+    ] {
+        let _node = add(rt, formulas, node)?;
+    }
+    Ok(())
+}
+
+// The signals, each operator over them, and each operator over every one of these 15 and another of them.
+fn nested_twice(rt: &impl Abort, alloc: Global) -> Result<Formulas, AddFault> {
+    let mut formulas = signals(rt, alloc)?;
+    add_each(rt, &mut formulas, A, B)?;
+    for k in 0..15 {
+        add_each(rt, &mut formulas, FormulaId(k), FormulaId((7 * k + 2) % 15))?;
+    }
+    Ok(formulas)
+}
+
+// The answer at each node and each position is the plain one.
+fn compare(
+    rt: &impl Abort,
+    alloc: Global,
+    formulas: &Formulas,
+    lasso: &Lasso,
+) -> Result<(), AllocError> {
+    for place in 0..formulas.len() {
+        let f = FormulaId(place as u32);
+        for i in 0..lasso.len() {
+            let answer = holds_at(alloc, formulas, f, lasso, i)?;
+            let plain = holds_plainly(alloc, formulas, f, lasso, i)?;
+            assert_eq!(rt; answer, plain, "node {place} at position {i}");
+        }
+    }
+    Ok(())
+}
+
+// A digit is a letter: bit 0 is a, bit 1 is b.
+fn letters(alloc: Global, digits: &[u8]) -> Result<Vec<Letter>, AllocError> {
+    let mut letters = Vec::new(alloc);
+    for digit in digits {
+        letters.push(Letter(u32::from(*digit & 3)))?;
+    }
+    Ok(letters)
+}
+
+#[test]
+fn nested_operators_have_the_truth_of_the_definition(rt: HostRuntime) -> Result<(), Fail> {
+    let formulas = nested_twice(&rt, rt.alloc())?;
+    for (stem, ring) in [
+        (b"".as_slice(), b"0".as_slice()),
+        (b"", b"3"),
+        (b"1", b"2"),
+        (b"", b"012"),
+        (b"2", b"10"),
+        (b"13", b"01"),
+        (b"0", b"1123"),
+        (b"110", b"2"),
+        (b"321", b"0310"),
+        (b"1", b"11112"),
+    ] {
+        let stem = letters(rt.alloc(), stem)?;
+        let lasso = Lasso::new(stem, letters(rt.alloc(), ring)?)?;
+        compare(&rt, rt.alloc(), &formulas, &lasso)?;
+    }
     Ok(())
 }
 

@@ -1,4 +1,4 @@
-use Rattle.std.proofs.Common.{◌≡◌, ap, sym, ◌∙◌, ◌||◌, false, true}
+use Rattle.std.proofs.Common.{ap, sym, ◌∙◌, ◌||◌, false, true}
 use Rattle.letter_word.specs.Word.{lasso_len, next}
 use Rattle.letter_word.proofs.Positions.{next_within}
 use Rattle.ltl_formula.specs.Nodes.{tree_at}

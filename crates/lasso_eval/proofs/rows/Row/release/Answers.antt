@@ -1,9 +1,9 @@
-use Rattle.std.proofs.Common.{ap, subst, ◌∙◌, sym}
+use Rattle.std.proofs.Common.{ap, subst, ◌∙◌}
 use Rattle.std.specs.Prelude.{not, IfOk}
 use Rattle.letter_word.specs.Word.{lasso_len}
-use Rattle.ltl_formula.specs.Truth.{until_at, release_at}
+use Rattle.ltl_formula.specs.Truth.{release_at}
 use Rattle.lasso_eval.specs.Rows.{IsRow, row_truth}
-use Rattle.lasso_eval.proofs.RowFacts.{rows-like, until-same, IsRow-self}
+use Rattle.lasso_eval.proofs.RowFacts.{rows-like, until-same}
 use Rattle.lasso_eval.proofs.rows.Row.release.Goals as goal
 
 pub returns : goal.returns
