@@ -1,6 +1,7 @@
-mod Symbols
-mod Spans
-mod Climbs
-mod Starts
-mod Reading
-mod Texts
+pub mod Symbols
+pub mod Spans
+pub mod Climbs
+pub mod Starts
+pub mod Reading
+pub mod Texts
+pub mod Unexpected

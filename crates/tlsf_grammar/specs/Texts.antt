@@ -181,3 +181,8 @@ Begins ls = (more : List Lexeme) × (w : Written) × DerivesText (ls ++ more) w
 pub data IsFirstUnexpected : List Lexeme → ℕ → Type 0 where
   at_lexeme : (ls : List Lexeme) (k : ℕ) → k < length ls → Begins (take k ls) → ¬ Begins (take (k + 1) ls) → IsFirstUnexpected ls k
   at_end : (ls : List Lexeme) → Begins ls → ¬ ((w : Written) × DerivesText ls w) → IsFirstUnexpected ls (length ls)
+
+-- a list of lexemes has at most one first unexpected one, and none where it is a text
+pub record UnexpectedIsDetermined : Type 0 where
+  pub one : (ls : List Lexeme) (k k' : ℕ) → IsFirstUnexpected ls k → IsFirstUnexpected ls k' → k ≡ k'
+  pub never_a_text : (ls : List Lexeme) (k : ℕ) (w : Written) → IsFirstUnexpected ls k → DerivesText ls w → ⊥

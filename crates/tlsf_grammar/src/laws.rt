@@ -4,6 +4,7 @@ ghost use Rattle.tlsf_grammar.specs.Expressions.{SpansAreWhole};
 ghost use Rattle.tlsf_grammar.specs.Reading.{ExpressionsHaveOneTree};
 ghost use Rattle.tlsf_grammar.specs.Rows.{RowsDerive};
 ghost use Rattle.tlsf_grammar.specs.TextReading.{TextsHaveOneTree};
+ghost use Rattle.tlsf_grammar.specs.Texts.{UnexpectedIsDetermined};
 
 /// The span of each expression runs from its first byte to the byte after its last.
 pub fn spans_are_whole()
@@ -23,4 +24,9 @@ pub fn expressions_have_one_tree()
 /// No list of lexemes is two texts.
 pub fn texts_have_one_tree()
     ensures { TextsHaveOneTree }
+{}
+
+/// The first unexpected lexeme is determined, and a text has none.
+pub fn unexpected_is_determined()
+    ensures { UnexpectedIsDetermined }
 {}

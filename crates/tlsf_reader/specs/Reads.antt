@@ -6,7 +6,7 @@ use Rattle.tlsf_grammar.specs.Tree.{Written}
 use Rattle.tlsf_grammar.specs.Texts.{DerivesText}
 use Rattle.tlsf_reader.specs.Lexed.{Lexed}
 use Rattle.tlsf_reader.specs.Spec.{Spec, spec_of}
-use Rattle.tlsf_reader.specs.Faults.{most_bytes, most_nesting, symbols_of, HasLateFault, IsReadingFault}
+use Rattle.tlsf_reader.specs.Faults.{most_bytes, most_nesting, symbols_of, HasLateFault}
 
 -- The tokens of the text reach its end, the grammar derives this tree from them, and the text has no fault of reading.
 -- (Fault 3, and `Finite` as a semantics, are no text of the grammar.)
@@ -20,8 +20,6 @@ pub record Reads (text : List ℕ) (tree : Spec) : Type 0 where
   pub sound : (code : SpecCode) (place : ℕ) → HasLateFault lexed.lexemes written code place → ⊥
   pub is : tree ≡ spec_of written
 
--- a text has at most one tree or one first fault, and not both
-pub record ReadingIsDetermined : Type 0 where
-  pub one_tree : (text : List ℕ) (tree tree' : Spec) → Reads text tree → Reads text tree' → tree ≡ tree'
-  pub one_fault : (text : List ℕ) (code code' : SpecCode) (place place' : ℕ) → IsReadingFault text code place → IsReadingFault text code' place' → (code ≡ code') × (place ≡ place')
-  pub never_both : (text : List ℕ) (tree : Spec) (code : SpecCode) (place : ℕ) → Reads text tree → IsReadingFault text code place → ⊥
+-- a text has at most one tree
+abbrev pub TreesAreDetermined : Type 0
+TreesAreDetermined = (text : List ℕ) (tree tree' : Spec) → Reads text tree → Reads text tree' → tree ≡ tree'
