@@ -1,5 +1,5 @@
 -- The variables lie where they should, and those of different meaning are different.
-use Rattle.std.proofs.Common.{◌≡◌, ℕ, zero, suc, ◌+◌, ◌-◌, ◌*◌, ◌/◌, ◌%◌, ◌^◌, ◌<◌, ◌≤◌, refl, sym, ap, ◌∙◌, subst, arith}
+use Rattle.std.proofs.Common.{◌≡◌, ℕ, suc, ◌+◌, ◌*◌, ◌/◌, ◌%◌, ◌<◌, ◌≤◌, sym, ap, ◌∙◌, arith}
 use Rattle.std.proofs.Math.Nat.{mul_comm, mul-le-mul_right}
 use Rattle.std.proofs.lemmas.Nat.{div-mul-add, mod-mul-add, mul-add-lt}
 use Rattle.letter_word.specs.declared.kinds.Kind.{Kind}
@@ -9,7 +9,7 @@ use Rattle.machine_model.specs.Problem.{automaton_of, writes_of}
 use Rattle.machine_model.specs.declared.problems.Problem.{Problem}
 use Rattle.product_bound.specs.Annotation.{bound_of, places_of}
 use Rattle.annotation_encode.specs.Laws.{NumberingsDontMeet}
-use Rattle.annotation_encode.specs.Variables.{letter_count, move_count, number_count, row_place, var_count, var_move, var_write, variables_of, write_count, write_place, write_places}
+use Rattle.annotation_encode.specs.Variables.{letter_count, move_count, number_count, row_place, var_count, var_move, variables_of, write_count, write_place, write_places}
 
 -- place a * w + b of h rows of w
 pub place_below : (a w b h : ℕ) → a < h → b < w → a * w + b < h * w

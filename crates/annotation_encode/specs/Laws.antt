@@ -1,6 +1,10 @@
-use Rattle.std.specs.Prelude.{◌≡◌, ℕ, ◌<◌, ◌≤◌}
+use Rattle.std.specs.Prelude.{◌≡◌, ℕ, ◌<◌, ◌≤◌, Bool, true, List, length}
+use Rattle.clause_base.specs.Literal.{Literal}
+use Rattle.clause_base.specs.Truth.{meets}
+use Rattle.machine_model.specs.Accepts.{SideAccepts}
 use Rattle.machine_model.specs.Automaton.{states_of}
-use Rattle.machine_model.specs.Problem.{automaton_of, writes_of}
+use Rattle.machine_model.specs.Machine.{IsMachine, MachineModel}
+use Rattle.machine_model.specs.Problem.{IsMachineOf, automaton_of, writes_of}
 use Rattle.machine_model.specs.declared.problems.Problem.{Problem}
 use Rattle.product_bound.specs.Annotation.{bound_of}
 use Rattle.annotation_encode.specs.Variables.{letter_count, var_count, var_move, var_write, variables_of, write_place}
@@ -21,3 +25,16 @@ pub record NumberingsDontMeet (p : Problem) : Type 0 where
 
 abbrev pub VariablesDiffer : Type 0
 VariablesDiffer = (p : Problem) → NumberingsDontMeet p
+
+-- some assignment to this many variables meets the clauses (propositional logic)
+pub record IsMetBySome (vars : ℕ) (clauses : List (List Literal)) : Type 0 where
+  pub values : List Bool
+  pub places : length values ≡ vars
+  pub met : meets values clauses ≡ true
+
+-- the problem's side accepts some machine that the problem looks for (bounded synthesis of Finkbeiner and Schewe)
+pub record HasAccepted (p : Problem) : Type 0 where
+  pub machine : MachineModel
+  pub made : IsMachine machine
+  pub looked_for : IsMachineOf p machine
+  pub accepted : SideAccepts (automaton_of p) p.side machine

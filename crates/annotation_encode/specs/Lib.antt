@@ -1,2 +1,5 @@
 pub mod Variables
+pub mod BaseClauses
+pub mod Assigned
+pub mod Count
 pub mod Laws

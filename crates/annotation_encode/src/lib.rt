@@ -1,11 +1,21 @@
-//! The variables of a problem's base clauses: where a machine moves, what it writes, and which numbers an annotation of
-//! it reaches.
+//! The base clauses of a problem: that a machine of its size has an annotation within the bound.
 //!
-//! The contract above this layer: `variables`, `var_move`, `var_write` and `var_count` are the numbers of the definition,
-//! and no two variables of different meaning are the same. It stands on product_bound.
+//! The contract above this layer: `encode` gives exactly the clauses of the definition, in their order, and where the
+//! side accepts some machine of the problem some assignment meets them all: `assignment_of` gives that of a machine and
+//! a valid annotation. `count` is their number. `variables`, `var_move`, `var_write` and `var_count` are the numbers of
+//! the variables, and no two variables of different meaning are the same. It stands on product_bound and clause_base.
 #![tactic(auto)]
 
+mod assigning;
+mod clauses;
+mod counting;
 pub mod laws;
 mod numbering;
 
+pub use assigning::assignment_of;
+pub use clauses::encode;
+pub use counting::count;
 pub use numbering::{var_count, var_move, var_write, variables};
+
+#[cfg(test)]
+mod tests;

@@ -2,6 +2,7 @@ ghost use Rattle.std.specs.Prelude.{◌≡◌, ◌+◌, ◌*◌, ◌^◌, ◌<�
 ghost use Rattle.machine_model.specs.Automaton.{states_of};
 ghost use Rattle.machine_model.specs.Problem.{IsProblem, automaton_of, writes_of};
 ghost use Rattle.product_bound.specs.Annotation.{bound_of, places_of};
+ghost use Rattle.annotation_encode.specs.BaseClauses.{row_count, row_move};
 ghost use Rattle.annotation_encode.specs.Variables.{letter_count, move_count, number_count, row_place, var_count, var_move, var_write, variables_of, write_count, write_place, write_places};
 
 use letter_word::Kind;
@@ -14,7 +15,19 @@ pub fn variables(problem: &Problem) -> u32
     ensures value { result ≡ variables_of problem.now }
     ensures small { result ≤ 2 ^ 29 }
 {
-    move_count(problem) + write_count(problem) + count_count(problem)
+    variable_count(problem, bound_of(problem))
+}
+
+/// The same where the bound is at hand.
+pub(crate) fn variable_count(problem: &Problem, bound: u32) -> u32
+    requires problem { IsProblem problem.now }
+    requires bound { bound ≡ bound_of problem.now }
+    ensures value { result ≡ variables_of problem.now }
+    ensures small { result ≤ 2 ^ 29 }
+{
+    move_count(problem)
+        + write_count(problem)
+        + problem.size * problem.automaton.states() * number_count(problem, bound)
 }
 
 /// The variable that says: in state `t` on read letter `i` the machine moves to state `to`.
@@ -27,7 +40,20 @@ pub fn var_move(problem: &Problem, t: u32, i: u32, to: u32) -> u32
     ensures some { 0 < result }
     ensures small { result ≤ 2 ^ 29 }
 {
-    1 + row_place(problem, t, i) * problem.size + to
+    row_move(problem, row_place(problem, t, i), to)
+}
+
+/// The same by the place of the machine's row.
+pub(crate) fn row_move(problem: &Problem, place: u32, to: u32) -> u32
+    requires problem { IsProblem problem.now }
+    requires row { place < row_count problem.now }
+    requires target { to < problem.now.size }
+    ensures value { result ≡ row_move problem.now place to }
+    ensures some { 0 < result }
+    ensures small { result ≤ 2 ^ 29 }
+{
+    let _rows = row_count(problem);
+    1 + place * problem.size + to
 }
 
 /// The variable that says: in state `t` on read letter `i` the machine writes signal `s`. For a Moore machine it is the
@@ -54,11 +80,34 @@ pub fn var_count(problem: &Problem, t: u32, q: u32, c: u32) -> u32
     ensures some { 0 < result }
     ensures small { result ≤ 2 ^ 29 }
 {
+    count_var(problem, bound_of(problem), (t, q), c)
+}
+
+/// The same where the bound is at hand.
+pub(crate) fn count_var(problem: &Problem, bound: u32, pair: (u32, u32), c: u32) -> u32
+    requires problem { IsProblem problem.now }
+    requires bound { bound ≡ bound_of problem.now }
+    requires state { pair.0 < problem.now.size }
+    requires pair { pair.1 < states_of (automaton_of problem.now) }
+    requires number { c ≤ bound_of problem.now }
+    ensures value { result ≡ var_count problem.now pair.0 pair.1 c }
+    ensures some { 0 < result }
+    ensures small { result ≤ 2 ^ 29 }
+{
     move_count(problem)
         + write_count(problem)
         + 1
-        + pair_place(problem, t, q) * number_count(problem)
+        + pair_place(problem, pair.0, pair.1) * number_count(problem, bound)
         + c
+}
+
+/// The number of rows of a machine, one for each state and read letter.
+pub(crate) fn row_count(problem: &Problem) -> u32
+    requires { IsProblem problem.now }
+    ensures value { result ≡ row_count problem.now }
+    ensures small { result ≤ 2048 }
+{
+    problem.size * letter_count(problem)
 }
 
 /// The number of letters that the machine reads.
@@ -84,12 +133,12 @@ pub(crate) fn row_place(problem: &Problem, t: u32, i: u32) -> u32
 }
 
 /// How many variables say where the machine moves.
-fn move_count(problem: &Problem) -> u32
+pub(crate) fn move_count(problem: &Problem) -> u32
     requires { IsProblem problem.now }
     ensures value { result ≡ move_count problem.now }
     ensures small { result ≤ 16384 }
 {
-    problem.size * letter_count(problem) * problem.size
+    row_count(problem) * problem.size
 }
 
 /// The place of what state `t` writes on read letter `i`.
@@ -112,15 +161,14 @@ fn write_places(problem: &Problem) -> u32
     ensures value { result ≡ write_places problem.now.kind (letter_count problem.now) problem.now.size }
     ensures small { result ≤ 2048 }
 {
-    let letters = letter_count(problem);
     match problem.kind {
-        Kind::Mealy => problem.size * letters,
+        Kind::Mealy => row_count(problem),
         Kind::Moore => problem.size,
     }
 }
 
 /// How many variables say what it writes.
-fn write_count(problem: &Problem) -> u32
+pub(crate) fn write_count(problem: &Problem) -> u32
     requires { IsProblem problem.now }
     ensures value { result ≡ write_count problem.now }
     ensures small { result ≤ 16384 }
@@ -129,12 +177,13 @@ fn write_count(problem: &Problem) -> u32
 }
 
 /// How many numbers a pair may have.
-pub(crate) fn number_count(problem: &Problem) -> u32
-    requires { IsProblem problem.now }
+pub(crate) fn number_count(problem: &Problem, bound: u32) -> u32
+    requires problem { IsProblem problem.now }
+    requires bound { bound ≡ bound_of problem.now }
     ensures value { result ≡ number_count problem.now }
     ensures small { result ≤ 16001 }
 {
-    bound_of(problem) + 1
+    bound + 1
 }
 
 /// The place of the pair (t, q).
@@ -147,13 +196,4 @@ fn pair_place(problem: &Problem, t: u32, q: u32) -> u32
 {
     let states = problem.automaton.states();
     t * states + q
-}
-
-/// How many variables say which numbers the annotation reaches.
-fn count_count(problem: &Problem) -> u32
-    requires { IsProblem problem.now }
-    ensures value { result ≡ places_of problem.now * number_count problem.now }
-    ensures small { result ≤ 256016000 }
-{
-    problem.size * problem.automaton.states() * number_count(problem)
 }

@@ -1,0 +1,46 @@
+-- Where a side accepts some machine of a problem, some assignment meets all base clauses: that of its numbered form.
+use Rattle.std.proofs.Common.{◌≡◌, ℕ, ◌<◌, ◌≤◌, List, sym, ◌∙◌, subst, arith}
+use Rattle.clause_base.specs.Literal.{Literal}
+use Rattle.machine_model.specs.Accepts.{SideAccepts}
+use Rattle.machine_model.specs.Automaton.{IsAutomaton}
+use Rattle.machine_model.specs.Machine.{MachineModel, size_of}
+use Rattle.machine_model.specs.Problem.{IsMachineOf, IsProblem, automaton_of}
+use Rattle.machine_model.specs.declared.problems.Problem.{Problem}
+use Rattle.product_bound.specs.Laws.{HasValidAnnotation, IsNumberedForm}
+use Rattle.product_bound.specs.Numbered.{numbered_of}
+use Rattle.product_bound.proofs.Exists.{has_annotation}
+use Rattle.product_bound.proofs.Numbering.{numbered_form}
+use Rattle.annotation_encode.specs.Assigned.{IsAssignmentOf, assigned_values}
+use Rattle.annotation_encode.specs.BaseClauses.{base_clauses}
+use Rattle.annotation_encode.specs.Laws.{HasAccepted, IsMetBySome}
+use Rattle.annotation_encode.specs.Variables.{variables_of}
+use Rattle.annotation_encode.proofs.AssignedLemmas.{assigned}
+use Rattle.annotation_encode.proofs.Meets.{all_met}
+
+met_by_assigned : (p : Problem) → IsProblem p → IsAutomaton (automaton_of p) → HasAccepted p → IsMetBySome (variables_of p) (base_clauses p)
+met_by_assigned p problem made accepted =
+    let m : MachineModel = numbered_of accepted.machine in
+    let form : IsNumberedForm accepted.machine (numbered_of accepted.machine) = numbered_form accepted.machine accepted.made in
+    let fits : IsMachineOf p (numbered_of accepted.machine) = record {
+      kind = form.kind ∙ accepted.looked_for.kind;
+      size = form.size ∙ accepted.looked_for.size;
+      reads = form.reads ∙ accepted.looked_for.reads;
+      writes = form.writes ∙ accepted.looked_for.writes;
+    } in
+    let least : 1 ≤ p.size = problem.some in
+    let some : 0 < size_of (numbered_of accepted.machine) = rw fits.size (omega arith) in
+    let accepts : SideAccepts (automaton_of p) p.side (numbered_of accepted.machine) = λ w run word. accepted.accepted w ((form.same_runs p.side w).0 run) word in
+    let annotation : HasValidAnnotation p (numbered_of accepted.machine) = has_annotation p (numbered_of accepted.machine) made form.machine fits some accepts in
+    let values : IsAssignmentOf p (numbered_of accepted.machine) annotation.numbers (assigned_values p (numbered_of accepted.machine) annotation.numbers) = assigned p (numbered_of accepted.machine) annotation.numbers problem form.machine fits in
+    record {
+      values = assigned_values p (numbered_of accepted.machine) annotation.numbers;
+      places = values.places;
+      met = all_met p (numbered_of accepted.machine) annotation.numbers (assigned_values p (numbered_of accepted.machine) annotation.numbers) problem made form.machine fits annotation.valid values (λ _. form.in_order);
+    }
+
+pub met_by_some : (p : Problem) (vars : ℕ) (clauses : List (List Literal)) → IsProblem p → IsAutomaton (automaton_of p) → vars ≡ variables_of p → clauses ≡ base_clauses p
+    → HasAccepted p → IsMetBySome vars clauses
+met_by_some p vars clauses problem made v c accepted = back v c (met_by_assigned p problem made accepted)
+  where
+    back : vars ≡ variables_of p → clauses ≡ base_clauses p → IsMetBySome (variables_of p) (base_clauses p) → IsMetBySome vars clauses
+    back v c h = subst (λ n. IsMetBySome n clauses) (sym v) (subst (λ cs. IsMetBySome (variables_of p) cs) (sym c) h)

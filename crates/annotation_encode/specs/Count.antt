@@ -1,0 +1,31 @@
+use Rattle.std.specs.Prelude.{◌==◌, ℕ, zero, suc, ◌+◌, ◌-◌, ◌*◌, Bool, not, ◌&&◌, Option, Some, None, length, nat_le, if◌then◌else◌}
+use Rattle.letter_word.specs.Signals.{has}
+use Rattle.letter_word.specs.declared.cubes.Cube.{Cube}
+use Rattle.machine_model.specs.Automaton.{rejects}
+use Rattle.machine_model.specs.Problem.{automaton_of}
+use Rattle.machine_model.specs.declared.automata.Edge.{Edge}
+use Rattle.machine_model.specs.declared.problems.Problem.{Problem}
+use Rattle.annotation_encode.specs.BaseClauses.{base_clauses, read_signal, row_count}
+
+-- the number of base clauses, unless it passes a million (a limit of this project)
+abbrev pub count_of : Problem → Option ℕ
+count_of p = if nat_le (length (base_clauses p)) 1000000 then Some (length (base_clauses p)) else None
+
+-- The parts of that number.
+
+-- whether a cube neither wants nor forbids a signal
+abbrev pub is_free : Cube → ℕ → Bool
+is_free cube s = not (has cube.must s) && not (has cube.not s)
+
+-- how many of the first n read signals a cube leaves free
+abbrev pub free_below : Problem → Cube → ℕ → ℕ
+free_below p cube zero = 0
+free_below p cube (suc n) = free_below p cube n + (if is_free cube (read_signal p n) then 1 else 0)
+
+-- to how many states an edge has clauses, from each state: to all, or to all but that state
+abbrev pub target_count : Problem → Edge → ℕ
+target_count p e = if (e.from == e.to) && not (rejects (automaton_of p) e.to) then (p.size - 1) else p.size
+
+-- how many clauses order the states
+abbrev pub order_count : Problem → ℕ
+order_count p = if p.version == 2 then (row_count p * (p.size - 2)) else 0
