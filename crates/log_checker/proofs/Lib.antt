@@ -1,0 +1,4 @@
+pub mod MarkLemmas
+pub mod FaultLemmas
+pub mod PlaceLemmas
+pub mod PieceLemmas
