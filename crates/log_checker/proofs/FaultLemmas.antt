@@ -22,68 +22,9 @@ use Rattle.refutation_log.specs.Turn.{place_of, is_at_limit}
 use Rattle.refutation_log.proofs.LegalLemmas.{legal_empty, legal_push}
 use Rattle.log_checker.specs.declared.faults.LogFault.{LogFault}
 use Rattle.log_checker.specs.declared.faults.LogFault.TheVariants.{BadHint, NotFalsified, Repeated, NotClosed, AfterEnd, OverLimit, NoMemory}
-use Rattle.log_checker.specs.Faults.{has_end, has_clause, place_fault, last_hint_fault, hints_fault, follow_fault, entry_fault, answer_at, FindsNone, IsFirstOf, IsLogFault}
-use Rattle.log_checker.specs.Causes.{IsOpenFault, IsClosedFault, IsPlaced}
+use Rattle.log_checker.specs.Faults.{has_end, has_clause, last_hint_fault, hints_fault, follow_fault, entry_fault, answer_at, FindsNone, IsLogFault}
+use Rattle.log_checker.specs.Causes.{IsOpenFault, IsClosedFault}
 use Rattle.log_checker.specs.Hinted.{AreWithin}
-
--- ---- places and hints together
-
-entry_by : (base : List (List Literal)) (limit : Option ℕ) (log : List Entry) (i : ℕ)
-    → answer_at (entry_fault base limit) log i ≡ option_map_or (λ fault. Some fault) (answer_at (place_fault limit) log i) (answer_at (follow_fault base) log i)
-entry_by base limit log i = by (slice_get log i)
-  where
-    by : (o : Option Entry) → option_and_then (λ e. entry_fault base limit (take i log) e) o
-        ≡ option_map_or (λ fault. Some fault) (option_and_then (λ e. place_fault limit (take i log) e) o) (option_and_then (λ e. follow_fault base (take i log) e) o)
-    by None = refl
-    by (Some e) = refl
-
-entry_by_place : (base : List (List Literal)) (limit : Option ℕ) (log : List Entry) (i : ℕ) (f : LogFault) → answer_at (place_fault limit) log i ≡ Some f → answer_at (entry_fault base limit) log i ≡ Some f
-entry_by_place base limit log i f e = entry_by base limit log i ∙ ap (λ o. option_map_or (λ fault. Some fault) o (answer_at (follow_fault base) log i)) e
-
-entry_by_hints : (base : List (List Literal)) (limit : Option ℕ) (log : List Entry) (i : ℕ) → answer_at (place_fault limit) log i ≡ None → answer_at (entry_fault base limit) log i ≡ answer_at (follow_fault base) log i
-entry_by_hints base limit log i e = entry_by base limit log i ∙ ap (λ o. option_map_or (λ fault. Some fault) o (answer_at (follow_fault base) log i)) e
-
-placed_within : (test : List Entry → Entry → Option LogFault) (log : List Entry) (to : ℕ) (fault : Option LogFault) → IsPlaced test log to fault → to ≤ length log
-placed_within test log to None h = let k = h.0 in omega arith
-placed_within test log to (Some f) h = let k = h.high in omega arith
-
-placed_before : (test : List Entry → Entry → Option LogFault) (log : List Entry) (to : ℕ) (fault : Option LogFault) → IsPlaced test log to fault → (j : ℕ) → j < to → answer_at test log j ≡ None
-placed_before test log to None h j lt = let k = h.0 in h.1.none j (omega arith) (omega arith)
-placed_before test log to (Some f) h j lt = h.none_before j (omega arith) lt
-
--- the answer of a second test below the place that a first one found, or else the first one's
-abbrev pub either : Option LogFault → Option LogFault → Option LogFault
-either None fault = fault
-either (Some f) fault = Some f
-
-pub placed_bound : (limit : Option ℕ) (log : List Entry) (to : ℕ) (fault : Option LogFault) → IsPlaced (place_fault limit) log to fault → to ≤ length log
-placed_bound limit log to fault h = placed_within (place_fault limit) log to fault h
-
-pub both_tests : (base : List (List Literal)) (limit : Option ℕ) (log : List Entry) (to : ℕ) (fault hinted : Option LogFault) → IsPlaced (place_fault limit) log to fault
-    → IsFirstOf (follow_fault base) log 0 to hinted → IsFirstOf (entry_fault base limit) log 0 (length log) (either hinted fault)
-both_tests base limit log to fault (Some f) p h =
-    let le = placed_within (place_fault limit) log to fault p in
-    let high = h.1.high in (
-      h.0,
-      record {
-        low = h.1.low;
-        high = omega arith;
-        found = entry_by_hints base limit log h.0 (placed_before (place_fault limit) log to fault p h.0 high) ∙ h.1.found;
-        none_before = λ j low lt. entry_by_hints base limit log j (placed_before (place_fault limit) log to fault p j (omega arith)) ∙ h.1.none_before j low lt;
-      },
-    )
-both_tests base limit log to (Some g) None p h = (
-  to,
-  record {
-    low = omega arith;
-    high = p.high;
-    found = entry_by_place base limit log to g p.found;
-    none_before = λ j low lt. entry_by_hints base limit log j (p.none_before j low lt) ∙ h.none j low lt;
-  },
-)
-both_tests base limit log to None None p h =
-    let at = p.0 in
-    record { none = λ j low lt. entry_by_hints base limit log j (p.1.none j low lt) ∙ h.none j low (omega arith) }
 
 -- ---- a first fault
 

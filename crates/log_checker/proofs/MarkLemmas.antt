@@ -5,7 +5,7 @@ use Rattle.std.specs.List.{list_any}
 use Rattle.std.specs.Cmp.{both_ways, first_so, second_so}
 use Rattle.std.proofs.lemmas.Bool.Decides.{Decides-eqb}
 use Rattle.std.proofs.lemmas.List.{reverse-append, get_or-set_same, get_or-set_other}
-use Rattle.std.proofs.lemmas.List.Elements.{All-head, All-tail, All-nil}
+use Rattle.std.proofs.lemmas.List.Elements.{All-head, All-tail}
 use Rattle.clause_base.specs.Literal.{Literal, sign_eq, literal_eq}
 use Rattle.clause_base.specs.Partial.{is_true_in, is_false_in, unfalsified, is_falsified, lone_of, unit_of}
 use Rattle.log_checker.specs.Marked.{place_of_literal, IsMarked}
@@ -69,9 +69,6 @@ pub record IsLeft (vars : ℕ) (table : List Bool) (trail : List Literal) : Type
   pub within : All (λ (l : Literal). l.var ≤ vars) (reverse trail)
   pub only : (k : ℕ) → get_or table k false ≡ true → list_any (nat_eq k) (map place_of_literal (reverse trail)) ≡ true
 
-pub left_of_marked : (vars : ℕ) (table : List Bool) (trail : List Literal) → IsMarked vars table (reverse trail) → IsLeft vars table trail
-left_of_marked vars table trail h = record { size = h.size; within = h.within; only = λ k e. sym (h.marked k) ∙ e }
-
 pub left_of_popped : (vars : ℕ) (table : List Bool) (trail : List Literal) (l : Literal) → IsLeft vars table (trail ++ l ∷ []) → IsLeft vars (set table (place_of_literal l) false) trail
 left_of_popped vars table trail l h = record {
   size = length-set table (place_of_literal l) false ∙ h.size;
@@ -103,17 +100,6 @@ left_of_popped vars table trail l h = record {
         or_rest (nat_eq k (place_of_literal l)) (list_any (nat_eq k) (map place_of_literal (reverse trail))) differs
         (sym (ap (λ ls. list_any (nat_eq k) (map place_of_literal ls)) turned) ∙ old)
 
-pub marked_of_none : (vars : ℕ) (table : List Bool) (trail : List Literal) → IsLeft vars table trail → trail ≡ [] → IsMarked vars table []
-marked_of_none vars table trail h e = record {
-  size = h.size;
-  within = All-nil (λ (l : Literal). l.var ≤ vars);
-  marked = λ k. by k (get_or table k false) refl;
-}
-  where
-    by : (k : ℕ) (b : Bool) → get_or table k false ≡ b → b ≡ false
-    by k true m = absurd (true≢false (sym (h.only k m) ∙ ap (λ ls. list_any (nat_eq k) (map place_of_literal (reverse ls))) e))
-    by k false m = refl
-
 -- ---- clauses under a partial assignment
 
 none_left : (trues lits : List Literal) → is_falsified trues lits ≡ true → unfalsified trues lits ≡ []
@@ -133,18 +119,10 @@ some_left trues (l ∷ lits) h = by (λ e. some_left trues lits (ap (λ b. b && 
     by rest true e = rest e
     by rest false e = (l, unfalsified trues lits, refl)
 
--- a clause is unit in its first literal that isn't false, where the others are false and it isn't true
-pub no_unit_none : (trues lits : List Literal) → unfalsified trues lits ≡ [] → None ≡ unit_of trues lits
-no_unit_none trues lits e = sym (ap (lone_of trues) e)
-
 pub no_unit_more : (trues lits rest : List Literal) (l : Literal) → unfalsified trues lits ≡ l ∷ unfalsified trues rest → is_falsified trues rest ≡ false → None ≡ unit_of trues lits
 no_unit_more trues lits rest l e h =
     let k = some_left trues rest h in
     sym (ap (lone_of trues) (e ∙ ap (λ ls. l ∷ ls) k.2))
-
-pub no_unit_true : (trues lits rest : List Literal) (l : Literal) → unfalsified trues lits ≡ l ∷ unfalsified trues rest → is_falsified trues rest ≡ true → is_true_in trues l ≡ true → None ≡ unit_of trues lits
-no_unit_true trues lits rest l e h t =
-    sym (ap (lone_of trues) (e ∙ ap (λ ls. l ∷ ls) (none_left trues rest h)) ∙ ap (λ b. cond b None (Some l)) t)
 
 pub unit_found : (trues lits rest : List Literal) (l : Literal) → unfalsified trues lits ≡ l ∷ unfalsified trues rest → is_falsified trues rest ≡ true → is_true_in trues l ≡ false → Some l ≡ unit_of trues lits
 unit_found trues lits rest l e h t =

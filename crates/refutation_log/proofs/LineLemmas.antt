@@ -1,5 +1,5 @@
 -- How the parts of an entry line are read.
-use Rattle.std.proofs.Common.{◌≡◌, ◌≢◌, ℕ, ◌+◌, ◌-◌, ◌<◌, ◌≤◌, ◌^◌, Bool, true, false, List, [], ◌∷◌, ◌++◌, length, decimal, append_assoc, length-append, refl, sym, subst, ap, ◌∙◌, true≢false, arith}
+use Rattle.std.proofs.Common.{◌≡◌, ◌≢◌, ℕ, ◌-◌, ◌<◌, ◌≤◌, ◌^◌, Bool, true, false, List, [], ◌∷◌, ◌++◌, decimal, append_assoc, refl, sym, subst, ap, ◌∙◌, true≢false, arith}
 use Rattle.std.specs.Prelude.{All, if◌then◌else◌}
 use Rattle.std.specs.Bool.{OnTrue}
 use Rattle.std.specs.List.{flat_map}
@@ -11,7 +11,7 @@ use Rattle.clause_base.specs.Clause.{IsClause, IsClauseOf, IsWithin, clause_eq}
 use Rattle.clause_base.specs.Equality.{Decides-clause_eq}
 use Rattle.clause_base.proofs.Rising.{rising_one}
 use Rattle.refutation_log.specs.declared.entries.Entry.{Entry}
-use Rattle.refutation_log.specs.Text.{literal_word, hint_word, entry_line, log_text, IsWritable}
+use Rattle.refutation_log.specs.Text.{literal_word, hint_word, entry_line, IsWritable}
 use Rattle.refutation_log.specs.Read.{StatesEntry, StatesEntries, StatesNumber, IsLiteral, StatesLiteral, StatesLiterals, IsHint, StatesHint, StatesHints}
 use Rattle.refutation_log.proofs.Words.{no_number, literal_bytes, hint_bytes, words_only, literals_same, literal_not_end, hints_same, hint_not_end, Parts, cut, joined, number_parts_same, literal_parts_same}
 
@@ -31,13 +31,6 @@ number_of_literal bytes digits positive text none l rest h = record { small = h.
     by false false t n e = append_cancel_left (45 ∷ []) digits (decimal l.var ++ 32 ∷ rest) (sym t ∙ e)
     by true false t n e = absurd (n (decimal l.var ++ 32 ∷ rest) e)
     by false true t n e = absurd (no_number l.var (32 ∷ rest) (45 ∷ digits) (small_var l.var h.of_literal.small) refl refl (sym t ∙ e))
-
-pub literal_of_number : (bytes digits rest : List ℕ) (positive : Bool) (var : ℕ) → bytes ≡ (if positive then [] else 45 ∷ []) ++ digits → StatesNumber (2 ^ 30) digits var rest → 0 < var
-    → StatesLiteral bytes (record { var = var; positive = positive }) rest
-literal_of_number bytes digits rest positive var text h from = record {
-  of_literal = record { from_one = from; small = h.small };
-  text = text ∙ ap (λ b. (if positive then [] else 45 ∷ []) ++ b) h.text ∙ sym (literal_bytes (record { var = var; positive = positive }) rest);
-}
 
 -- no literal has the variable 0
 pub no_literal_zero : (bytes digits r : List ℕ) (positive : Bool) → bytes ≡ (if positive then [] else 45 ∷ []) ++ digits → OnTrue positive ((rest : List ℕ) → bytes ≢ 45 ∷ rest)
@@ -75,36 +68,17 @@ reads_more word P bytes xs rest after x h p e = record {
     append_nil [] = refl
     append_nil (y ∷ ys) = ap (λ t. y ∷ t) (append_nil ys)
 
-pub literals_read : (bytes : List ℕ) (ls : List Literal) (rest after : List ℕ) → Reads literal_word IsLiteral bytes ls rest → rest ≡ 48 ∷ 32 ∷ after → StatesLiterals bytes ls after
-literals_read bytes ls rest after h e = record { of_literals = h.each; text = h.text ∙ ap (λ b. flat_map literal_word ls ++ b) e }
-
 pub no_literals : (bytes : List ℕ) (ls : List Literal) (rest : List ℕ) → Reads literal_word IsLiteral bytes ls rest → ((l : Literal) (r : List ℕ) → StatesLiteral rest l r → ⊥)
     → ((after : List ℕ) → rest ≢ 48 ∷ 32 ∷ after) → (ms : List Literal) (after : List ℕ) → StatesLiterals bytes ms after → ⊥
 no_literals bytes ls rest h none end ms after s =
     end after (words_only literal_word IsLiteral (48 ∷ 32 ∷ []) literals_same literal_not_end ls ms rest after h.each s.of_literals (sym h.text ∙ s.text)
     (λ x r p e. none x r (record { of_literal = p; text = e }))).1
 
-pub hints_read : (bytes : List ℕ) (hs : List ℕ) (rest after : List ℕ) → Reads hint_word IsHint bytes hs rest → rest ≡ 48 ∷ 10 ∷ after → StatesHints bytes hs after
-hints_read bytes hs rest after h e = record { of_hints = h.each; text = h.text ∙ ap (λ b. flat_map hint_word hs ++ b) e }
-
 pub no_hints : (bytes : List ℕ) (hs : List ℕ) (rest : List ℕ) → Reads hint_word IsHint bytes hs rest → ((x : ℕ) (r : List ℕ) → StatesHint rest x r → ⊥)
     → ((after : List ℕ) → rest ≢ 48 ∷ 10 ∷ after) → (gs : List ℕ) (after : List ℕ) → StatesHints bytes gs after → ⊥
 no_hints bytes hs rest h none end gs after s =
     end after (words_only hint_word IsHint (48 ∷ 10 ∷ []) hints_same hint_not_end hs gs rest after h.each s.of_hints (sym h.text ∙ s.text)
     (λ x r p e. none x r (record { of_hint = p; text = e }))).1
-
--- a word has at least its space
-pub literal_shorter : (rest after : List ℕ) (l : Literal) → StatesLiteral rest l after → length after < length rest
-literal_shorter rest after l h =
-    let a = length-append ((if l.positive then [] else 45 ∷ []) ++ decimal l.var ++ 32 ∷ []) after in
-    let b = length-append ((if l.positive then [] else 45 ∷ []) ++ decimal l.var) (32 ∷ []) in
-    omega (arith, a, b, ap length h.text)
-
-pub hint_shorter : (rest after : List ℕ) (x : ℕ) → StatesHint rest x after → length after < length rest
-hint_shorter rest after x h =
-    let a = length-append (decimal x ++ 32 ∷ []) after in
-    let b = length-append (decimal x) (32 ∷ []) in
-    omega (arith, a, b, ap length h.text)
 
 -- ---- the clause
 
@@ -118,9 +92,6 @@ other_clause vars lits clause of differs sorted within =
 -- ---- an entry from its parts
 
 module _ (vars : ℕ) (bytes : List ℕ) where
-  pub no_entry_by_worker : ((n : ℕ) (r : List ℕ) → StatesNumber (2 ^ 32 - 1) bytes n r → ⊥) → (e : Entry) (rest : List ℕ) → StatesEntry vars bytes e rest → ⊥
-  no_entry_by_worker none e rest h = let p = cut vars bytes e rest h in none e.by p.after_worker p.worker
-
   pub no_entry_by_literals : (by : ℕ) (b : List ℕ) → StatesNumber (2 ^ 32 - 1) bytes by b → ((ls : List Literal) (r : List ℕ) → StatesLiterals b ls r → ⊥)
       → (e : Entry) (rest : List ℕ) → StatesEntry vars bytes e rest → ⊥
   no_entry_by_literals by b worker none e rest h =
@@ -165,6 +136,3 @@ pub lines_more : (vars : ℕ) (bytes : List ℕ) (es : List Entry) (rest after :
 lines_more vars bytes es rest after e h s =
     let k = reads_more entry_line (IsWritable vars) bytes es rest after e (record { each = h.writable; text = h.text }) s.writable s.text in
     record { writable = k.each; text = k.text }
-
-pub rest_is_shorter : (vars : ℕ) (bytes : List ℕ) (es : List Entry) (rest : List ℕ) → StatesEntries vars bytes es rest → length bytes ≡ length (log_text es) + length rest
-rest_is_shorter vars bytes es rest h = ap length h.text ∙ length-append (log_text es) rest

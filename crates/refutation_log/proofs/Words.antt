@@ -119,9 +119,6 @@ module _ {X : Type 0} (word : X → List ℕ) (P : X → Type 0) (end : List ℕ
 pub line_bytes : (a l h r : List ℕ) → (((((a ++ 32 ∷ []) ++ l) ++ 48 ∷ 32 ∷ []) ++ h) ++ 48 ∷ 10 ∷ []) ++ r ≡ a ++ 32 ∷ (l ++ 48 ∷ 32 ∷ (h ++ 48 ∷ 10 ∷ r))
 line_bytes a l h r = simp append_assoc
 
-max_worker : (n : ℕ) → n ≤ 2 ^ 32 - 1 → n < 2 ^ 64
-max_worker n h = omega arith
-
 pub number_parts_same : (bytes r s : List ℕ) (n m most : ℕ) → most < 2 ^ 64 → StatesNumber most bytes n r → StatesNumber most bytes m s → (n ≡ m) × (r ≡ s)
 number_parts_same bytes r s n m most small p q =
     let ps = p.small in
