@@ -1,5 +1,6 @@
 pub mod Tree
 pub mod Truth
+pub mod NormalForm
 pub mod Nodes
 pub mod Added
 pub mod Text

@@ -18,7 +18,8 @@ use Rattle.ltl_normal.specs.declared.simplify.Outcome.{Outcome}
 use Rattle.ltl_normal.specs.declared.simplify.Outcome.TheVariants.{First, Second, Whole}
 use Rattle.ltl_normal.specs.Simplify.{facing_of, junction_of, outcome_of}
 use Rattle.ltl_normal.specs.Table.{table}
-use Rattle.ltl_normal.specs.NormalTrees.{tree_eq, constant_tree, whole_tree, chosen, joined, next_of, trees, normal_of, negated_of, IsNormal}
+use Rattle.ltl_normal.specs.NormalTrees.{tree_eq, constant_tree, whole_tree, chosen, joined, next_of, trees, normal_of, negated_of}
+use Rattle.ltl_formula.specs.NormalForm.{IsNormal}
 use Rattle.ltl_normal.specs.Truths.{HasTruthOf, OpposesTruthOf}
 use Rattle.ltl_normal.proofs.TreeEquality.{tree_eq-true}
 

@@ -68,16 +68,3 @@ normal_of f = table trees true f
 
 abbrev pub negated_of : Tree → Tree
 negated_of f = table trees false f
-
--- made of constants, literals, And, Or, Next, Until and Release alone
-abbrev pub IsNormal : Tree → Type 0
-IsNormal truth = Unit {0}
-IsNormal falsity = Unit {0}
-IsNormal (signal s) = Unit {0}
-IsNormal (negation (signal s)) = Unit {0}
-IsNormal (next_time a) = IsNormal a
-IsNormal (conjunction a b) = IsNormal a × IsNormal b
-IsNormal (disjunction a b) = IsNormal a × IsNormal b
-IsNormal (until a b) = IsNormal a × IsNormal b
-IsNormal (release a b) = IsNormal a × IsNormal b
-IsNormal _ = ⊥

@@ -3,7 +3,8 @@ ghost use Rattle.ltl_formula.specs.Nodes.{Grows, IsNodeList, PartsBelow, SignalB
 ghost use Rattle.ltl_formula.specs.Added.{added};
 ghost use Rattle.ltl_formula.specs.declared.nodes.TheConstants.{MAX_NODES, MAX_SIGNALS};
 ghost use Rattle.ltl_normal.specs.NormalNodes.{constant_node, form_in, join_ids, literal_step, next_id, nodes_to, whole_node};
-ghost use Rattle.ltl_normal.specs.NormalTrees.{IsNormal, negated_of, normal_of};
+ghost use Rattle.ltl_formula.specs.NormalForm.{IsNormal};
+ghost use Rattle.ltl_normal.specs.NormalTrees.{negated_of, normal_of};
 ghost use Rattle.ltl_normal.specs.Performs.{IsMemo, Performs, recorded};
 ghost use Rattle.ltl_normal.specs.Simplify.{facing_of};
 ghost use Rattle.ltl_normal.specs.Truths.{HasTruthOf, OpposesTruthOf};

@@ -1,4 +1,4 @@
-use Rattle.std.proofs.Common.{◌≡◌, ℕ, zero, suc, ◌+◌, ◌*◌, ◌^◌, ◌<◌, ◌≤◌, Bool, false, List, [], ◌∷◌, ◌++◌, Option, None, Some, All, length, reverse, refl, sym, ◌∙◌, ap, subst, arith, zero-add}
+use Rattle.std.proofs.Common.{◌≡◌, ℕ, zero, suc, ◌+◌, ◌*◌, ◌^◌, ◌<◌, ◌≤◌, false, List, [], ◌∷◌, ◌++◌, Option, None, Some, All, length, reverse, refl, sym, ◌∙◌, ap, subst, arith, zero-add}
 use Rattle.std.proofs.lemmas.List.{append_assoc, append-nil, length-append, length-replicate, reverse-append}
 use Rattle.std.proofs.lemmas.List.Elements.{All-cons, All-nil, All-pop, All-push}
 use Rattle.std.proofs.lemmas.List.Sums.{fold_push}

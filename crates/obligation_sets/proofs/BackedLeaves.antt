@@ -1,4 +1,4 @@
-use Rattle.std.proofs.Common.{◌≡◌, ℕ, zero, suc, ◌<◌, ◌⊎◌, inl, inr, Bool, true, false, List, [], ◌∷◌, ◌++◌, Option, None, Some, All, length, refl, sym, ◌∙◌, ap, subst, arith}
+use Rattle.std.proofs.Common.{◌≡◌, ℕ, zero, suc, ◌<◌, ◌⊎◌, inl, inr, Bool, true, false, List, [], ◌∷◌, None, Some, length, refl, sym, ◌∙◌, ap, subst, arith}
 use Rattle.std.specs.Prelude.{Contains, IsTrue}
 use Rattle.std.proofs.lemmas.Bool.{cond-true, cond-false}
 use Rattle.std.proofs.lemmas.List.Elements.{Contains-append_cases, Contains-append_right}
@@ -13,8 +13,8 @@ use Rattle.obligation_sets.specs.declared.branches.Step.TheVariants.{Leaf, Dead,
 use Rattle.obligation_sets.specs.Apart.{added-has}
 use Rattle.obligation_sets.specs.Branch.{Branch}
 use Rattle.obligation_sets.specs.Covers.{leaves_below, leaves_within}
-use Rattle.obligation_sets.specs.Cubes.{forbidding, forbidding_at, wanting, wanting_at}
-use Rattle.obligation_sets.specs.Ids.{has_id, with_id}
+use Rattle.obligation_sets.specs.Cubes.{forbidding_at, wanting_at}
+use Rattle.obligation_sets.specs.Ids.{has_id}
 use Rattle.obligation_sets.specs.OpenWork.{open_work}
 use Rattle.obligation_sets.specs.Steps.{HasPlaces, expanding, in_front, joining, leaving, opposing, postponing, step, step_on, taking}
 use Rattle.obligation_sets.proofs.Flags.{with_id-cases, with_id-here, with_id-keeps}

@@ -10,3 +10,4 @@ pub mod MetLeaves
 pub mod BackedLeaves
 pub mod Distinct
 pub mod NextStep
+pub mod Kept

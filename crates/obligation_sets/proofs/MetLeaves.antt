@@ -1,6 +1,6 @@
-use Rattle.std.proofs.Common.{◌≡◌, ℕ, zero, suc, ◌<◌, ◌⊎◌, inl, inr, Bool, true, false, not, ◌&&◌, ◌||◌, List, [], ◌∷◌, ◌++◌, Option, None, Some, All, length, refl, sym, ◌∙◌, ap, subst, arith}
-use Rattle.std.specs.Prelude.{Contains, IsTrue}
-use Rattle.std.proofs.lemmas.Bool.{and_parts, both_ways, cases_Bool, false≢true, not-true, or_cases}
+use Rattle.std.proofs.Common.{◌≡◌, ℕ, zero, suc, ◌<◌, ◌⊎◌, inl, inr, Bool, true, false, ◌&&◌, ◌||◌, List, [], ◌∷◌, Option, None, Some, All, length, refl, sym, ◌∙◌, arith}
+use Rattle.std.specs.Prelude.{Contains}
+use Rattle.std.proofs.lemmas.Bool.{and_parts, both_ways, false≢true, not-true, or_cases}
 use Rattle.std.proofs.lemmas.List.Elements.{All-cons, All-nil, Contains-append_left, Contains-append_right}
 use Rattle.letter_word.specs.Cube.{Fits}
 use Rattle.letter_word.specs.Signals.{has}
@@ -9,15 +9,15 @@ use Rattle.letter_word.specs.declared.letters.Letter.{Letter}
 use Rattle.ltl_formula.specs.declared.nodes.FormulaId.{FormulaId}
 use Rattle.ltl_formula.specs.declared.nodes.Node.{Node}
 use Rattle.ltl_formula.specs.declared.nodes.Node.TheVariants.{True, False, Signal, Not, Next, Finally, Globally, And, Or, Implies, Equiv, Until, Release, WeakUntil}
-use Rattle.ltl_formula.specs.Nodes.{IsNodeList, PartsBelow, Stands, node_at, tree_at}
+use Rattle.ltl_formula.specs.Nodes.{IsNodeList, PartsBelow, node_at, tree_at}
 use Rattle.obligation_sets.specs.declared.branches.Step.{Step}
 use Rattle.obligation_sets.specs.declared.branches.Step.TheVariants.{Leaf, Dead, On, Split}
 use Rattle.obligation_sets.specs.Apart.{has-added}
 use Rattle.obligation_sets.specs.Branch.{Branch}
 use Rattle.obligation_sets.specs.Covers.{leaves_below, leaves_within}
 use Rattle.obligation_sets.specs.Cubes.{forbidding, forbidding_at, wanting, wanting_at}
-use Rattle.obligation_sets.specs.Ids.{has_id, with_id}
-use Rattle.obligation_sets.specs.NormalForm.{IsNormal}
+use Rattle.obligation_sets.specs.Ids.{has_id}
+use Rattle.ltl_formula.specs.NormalForm.{IsNormal}
 use Rattle.obligation_sets.specs.OpenWork.{open_work}
 use Rattle.obligation_sets.specs.Steps.{HasPlaces, expanding, in_front, joining, leaving, opposing, postponing, step, step_on, taking, undone}
 use Rattle.obligation_sets.proofs.Flags.{with_id-cases}
@@ -58,6 +58,7 @@ module _ (ns : List Node) (letter : Letter) (now later : FormulaId → Bool) whe
     pub fits : Fits b.cube letter
     pub next : (f : FormulaId) → has_id b.next f ≡ true → later f ≡ true
     pub postponed : (f : FormulaId) → has_id b.postponed f ≡ true → second_false now (node_at ns f.0)
+    pub put_off : (f : FormulaId) → has_id b.postponed f ≡ true → later f ≡ true
 
   -- something that comes of a step is met
   abbrev pub StepIsMet : Step → Type 0
@@ -80,6 +81,7 @@ module _ (ns : List Node) (letter : Letter) (now later : FormulaId → Bool) whe
     fits = met.fits;
     next = met.next;
     postponed = met.postponed;
+    put_off = met.put_off;
   }
 
   met_leaving : (b : Branch) → IsMet b → (g : FormulaId) → later g ≡ true → IsMet (leaving g b)
@@ -89,6 +91,7 @@ module _ (ns : List Node) (letter : Letter) (now later : FormulaId → Bool) whe
     fits = met.fits;
     next = λ f there. elim (with_id-cases b.next g f there) [ inl same ↦ rw same h | inr before ↦ met.next f before ];
     postponed = met.postponed;
+    put_off = met.put_off;
   }
 
   met_postponing : (b : Branch) → IsMet b → (g : FormulaId) → later g ≡ true → second_false now (node_at ns g.0) → IsMet (postponing g b)
@@ -98,11 +101,12 @@ module _ (ns : List Node) (letter : Letter) (now later : FormulaId → Bool) whe
     fits = met.fits;
     next = λ f there. elim (with_id-cases b.next g f there) [ inl same ↦ rw same h | inr before ↦ met.next f before ];
     postponed = λ f there. elim (with_id-cases b.postponed g f there) [ inl same ↦ rw same fails | inr before ↦ met.postponed f before ];
+    put_off = λ f there. elim (with_id-cases b.postponed g f there) [ inl same ↦ rw same h | inr before ↦ met.put_off f before ];
   }
 
   met_joining : (b : Branch) → IsMet b → (o : Option Cube) → CubeFits letter o → StepIsMet (joining b o)
   met_joining b met None h = h
-  met_joining b met (Some cube) h = record { work = met.work; normal = met.normal; fits = h; next = met.next; postponed = met.postponed }
+  met_joining b met (Some cube) h = record { work = met.work; normal = met.normal; fits = h; next = met.next; postponed = met.postponed; put_off = met.put_off }
 
   met_opposing : (b : Branch) → IsMet b → (g : FormulaId) (node : Node) → NodeIsSignal node → value letter now later g node ≡ false → StepIsMet (opposing b node)
   met_opposing b met g (Signal k) s v = met_joining b met (forbidding b.cube k) (forbidding_at_fits letter b.cube k (has b.cube.must k) refl met.fits v)
@@ -159,12 +163,13 @@ module _ (ns : List Node) (letter : Letter) (now later : FormulaId → Bool) whe
       fits = met.fits;
       next = met.next;
       postponed = met.postponed;
+      put_off = met.put_off;
     }
     met_step_on b places met (f ∷ rest) is =
         let truths : IsFirstOpen (λ g. now g ≡ true) b.done f rest = first_open (λ g. now g ≡ true) b.done b.work f rest is met.work in
         let normals : IsFirstOpen (λ g. IsNormal (tree_at ns g)) b.done f rest = first_open (λ g. IsNormal (tree_at ns g)) b.done b.work f rest is met.normal in
         let standing : IsFirstOpen (λ g. g.0 < length ns) b.done f rest = first_open (λ g. g.0 < length ns) b.done b.work f rest is places.work in
-        let taken : IsMet (taking b f rest) = record { work = truths.others; normal = normals.others; fits = met.fits; next = met.next; postponed = met.postponed } in
+        let taken : IsMet (taking b f rest) = record { work = truths.others; normal = normals.others; fits = met.fits; next = met.next; postponed = met.postponed; put_off = met.put_off } in
         met_expanding (taking b f rest) taken f (node_at ns f.0) refl (PartsBelow-up f.0 (length ns) (omega (arith, standing.first)) (node_at ns f.0) (list.parts_first f.0))
         (node_normal ns list f standing.first normals.first) (sym (one.means f standing.first) ∙ truths.first)
 

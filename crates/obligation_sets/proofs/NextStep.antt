@@ -1,6 +1,6 @@
-use Rattle.std.proofs.Common.{◌≡◌, ℕ, zero, suc, ◌<◌, ◌⊎◌, inl, inr, Bool, true, false, not, ◌&&◌, ◌||◌, List, [], ◌∷◌, Option, None, Some, All, get_or, length, refl, sym, ◌∙◌, ap, subst, arith}
+use Rattle.std.proofs.Common.{◌≡◌, ℕ, zero, suc, ◌<◌, inl, inr, Bool, true, false, ◌&&◌, ◌||◌, List, [], ◌∷◌, Option, None, Some, All, get_or, length, refl, sym, ◌∙◌, subst, arith}
 use Rattle.std.specs.Prelude.{Contains, IsTrue}
-use Rattle.std.proofs.lemmas.Bool.{and_from, cases_Bool, false_from_ne_true, not_from_false, or_left, or_right}
+use Rattle.std.proofs.lemmas.Bool.{and_from, false_from_ne_true, not_from_false, or_left, or_right}
 use Rattle.std.proofs.lemmas.List.Elements.{All-contains, Contains-get_or}
 use Rattle.letter_word.specs.Cube.{Fits}
 use Rattle.letter_word.specs.Signals.{has}
@@ -16,10 +16,8 @@ use Rattle.obligation_sets.specs.declared.sets.Cover.{Cover}
 use Rattle.obligation_sets.specs.Apart.{has-nothing}
 use Rattle.obligation_sets.specs.Branch.{Branch}
 use Rattle.obligation_sets.specs.Covers.{alive, cover_of, covers_of, same_cover, set_leaves, start_of}
-use Rattle.obligation_sets.specs.Cubes.{free_cube}
 use Rattle.obligation_sets.specs.Ids.{has_id, ids_of}
 use Rattle.obligation_sets.specs.NextStep.{AreNormal, CoversAreTheNextStep, HasFittingCover, MeetsAt, SecondPartFails, SetHolds}
-use Rattle.obligation_sets.specs.NormalForm.{IsNormal}
 use Rattle.obligation_sets.specs.Steps.{HasPlaces, undone}
 use Rattle.obligation_sets.proofs.Along.{start_places}
 use Rattle.obligation_sets.proofs.BackedLeaves.{Backed, InNext, InPostponed, LeafOf, Opposed, Seen, leaf_of}
@@ -31,7 +29,7 @@ use Rattle.obligation_sets.proofs.MetLeaves.{IsMet, Reached, reached, second_fal
 use Rattle.obligation_sets.proofs.OneStep.{IsOneStep, one_step, value}
 
 -- the leaf that a cover comes from
-alive_from : (leaves : List (Option Branch)) (c : Cover) → Contains (alive leaves) c → (leaf : Branch) × Contains leaves (Some leaf) × (cover_of leaf ≡ c)
+pub alive_from : (leaves : List (Option Branch)) (c : Cover) → Contains (alive leaves) c → (leaf : Branch) × Contains leaves (Some leaf) × (cover_of leaf ≡ c)
 alive_from [] c h = absurd (Contains-none c h)
 alive_from (None ∷ leaves) c h = let r : (leaf : Branch) × Contains leaves (Some leaf) × (cover_of leaf ≡ c) = alive_from leaves c h in (r.0, Contains-there None leaves (Some r.0) r.1, r.2)
 alive_from (Some b ∷ leaves) c h =
@@ -165,6 +163,7 @@ module _ (ns : List Node) (w : Word) (i : ℕ) (set : List FormulaId) (list : Is
     fits = record { must = λ k h. absurd (has-nothing k h); none_of = λ k h. absurd (has-nothing k h) };
     next = λ f h. absurd (has_id-none (length ns) f h);
     postponed = λ f h. absurd (has_id-none (length ns) f h);
+    put_off = λ f h. absurd (has_id-none (length ns) f h);
   }
 
   second_fails : (f : FormulaId) (node : Node) → tree_at ns f ≡ tree_of (trees_of ns) node → second_false (λ g. holds w (tree_at ns g) i) node → SecondPartFails w i (tree_at ns f)
@@ -200,6 +199,7 @@ module _ (ns : List Node) (w : Word) (i : ℕ) (set : List FormulaId) (list : Is
             let flag : has_id r.leaf.postponed f ≡ true = flag_of_id r.leaf.postponed f h in
             let stands : Stands ns f = rw r.places.postponed at (has_id-within r.leaf.postponed f flag) in
             second_fails f (node_at ns f.0) (tree_at-node ns f.0 stands (list.parts_first f.0)) (r.met.postponed f flag));
+        put_off_hold = All-from_contains (λ f. IsTrue (holds w (tree_at ns f) (next w i))) (ids_of r.leaf.postponed) (λ f h. r.met.put_off f (flag_of_id r.leaf.postponed f h));
       }
 
 pub covers_are_the_next_step : CoversAreTheNextStep

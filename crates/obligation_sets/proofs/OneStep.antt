@@ -5,12 +5,11 @@ use Rattle.letter_word.specs.declared.letters.Letter.{Letter}
 use Rattle.ltl_formula.specs.declared.nodes.FormulaId.{FormulaId}
 use Rattle.ltl_formula.specs.declared.nodes.Node.{Node}
 use Rattle.ltl_formula.specs.declared.nodes.Node.TheVariants.{True, False, Signal, Not, Next, Finally, Globally, And, Or, Implies, Equiv, Until, Release, WeakUntil}
-use Rattle.ltl_formula.specs.Nodes.{IsNodeList, PartsBelow, Stands, node_at, pick, tree_at, tree_of, trees_of}
-use Rattle.ltl_formula.specs.Tree.{Tree}
+use Rattle.ltl_formula.specs.Nodes.{IsNodeList, Stands, node_at, tree_at, tree_of, trees_of}
 use Rattle.ltl_formula.specs.Truth.{holds}
 use Rattle.ltl_formula.proofs.Ahead.{until_at-unfold, release_at-unfold}
 use Rattle.ltl_formula.proofs.Trees.{tree_at-node}
-use Rattle.obligation_sets.specs.NormalForm.{IsNormal, IsSignal}
+use Rattle.ltl_formula.specs.NormalForm.{IsNormal, IsSignal}
 
 -- the truth of a formula by that of its parts now, and of what it leaves to the next position
 abbrev pub value : Letter → (FormulaId → Bool) → (FormulaId → Bool) → FormulaId → Node → Bool

@@ -1,10 +1,10 @@
-use Rattle.std.specs.Prelude.{◌≡◌, ℕ, true, nat_eq}
+use Rattle.std.specs.Prelude.{nat_eq}
 use Rattle.std.specs.Cmp.{IsEquivalence, IsPartialEquivalence, nat_eq_equiv, on_equiv, partial_equiv_from_equiv}
 use Rattle.std.specs.Cmp.Lexicographic.{lists_equiv}
 use Rattle.std.specs.Hash.{Alike, items_Alike, on_Alike, same_Alike, slice, u32}
 use Rattle.std.proofs.lemmas.Bool.Decides.{Decides-eqb}
 use Rattle.ltl_formula.specs.declared.nodes.FormulaId.{FormulaId}
-use Rattle.obligation_sets.specs.Ids.{same_id, same_ids}
+use Rattle.obligation_sets.specs.Ids.{same_ids}
 
 -- being the same list of ids is an equivalence
 pub same_ids_equiv : IsEquivalence same_ids

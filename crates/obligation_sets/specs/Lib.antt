@@ -7,5 +7,4 @@ pub mod OpenWork
 pub mod Steps
 pub mod Covers
 pub mod Search
-pub mod NormalForm
 pub mod NextStep

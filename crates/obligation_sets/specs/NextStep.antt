@@ -1,4 +1,4 @@
-use Rattle.std.specs.Prelude.{◌≡◌, ◌<◌, ◌↔◌, ℕ, false, List, All, Contains, IsTrue, length}
+use Rattle.std.specs.Prelude.{◌≡◌, ◌<◌, ℕ, false, List, All, Contains, IsTrue, length}
 use Rattle.letter_word.specs.Cube.{Fits}
 use Rattle.letter_word.specs.Word.{Word, HasRing, lasso_len, letter_at, next}
 use Rattle.ltl_formula.specs.declared.nodes.FormulaId.{FormulaId}
@@ -11,7 +11,7 @@ use Rattle.obligation_sets.specs.declared.sets.Cover.{Cover}
 use Rattle.obligation_sets.specs.Branch.{Branch}
 use Rattle.obligation_sets.specs.Steps.{HasPlaces, step}
 use Rattle.obligation_sets.specs.Covers.{covers_of, leaves_below, leaves_of}
-use Rattle.obligation_sets.specs.NormalForm.{IsNormal}
+use Rattle.ltl_formula.specs.NormalForm.{IsNormal}
 
 -- each formula of a set holds at a position of a lasso (linear temporal logic)
 abbrev pub SetHolds : List Node → Word → ℕ → List FormulaId → Type 0
@@ -43,18 +43,24 @@ SecondPartFails w i (equivalence a b) = ⊥
 SecondPartFails w i (release a b) = ⊥
 SecondPartFails w i (weak_until a b) = ⊥
 
--- one of the set's covers is met at the position, and it puts off only untils whose second part is false there
+-- one of the set's covers is met at the position, and it puts off only untils whose second part is false there and
+-- that hold at the next position
 pub record HasFittingCover (ns : List Node) (w : Word) (i : ℕ) (set : List FormulaId) : Type 0 where
   pub cover : Cover
   pub is_cover : Contains (covers_of ns set) cover
   pub met : MeetsAt ns w i cover
   pub postponed : All (λ f. SecondPartFails w i (tree_at ns f)) cover.postponed
+  pub put_off_hold : SetHolds ns w (next w i) cover.postponed
 
 -- covers are the next step of a set in normal form: the set holds at a position exactly where one of its covers is
--- met there, and then one that puts off only untils whose second part is false
+-- met there, and then one that puts off only untils whose second part is false and that hold at the next position
 pub record CoversAreTheNextStep : Type 0 where
   pub holds_where_met : (ns : List Node) (w : Word) (i : ℕ) (set : List FormulaId) (c : Cover) → IsNodeList ns → AreNormal ns set → HasRing w → i < lasso_len w → Contains (covers_of ns set) c → MeetsAt ns w i c → SetHolds ns w i set
   pub met_where_holds : (ns : List Node) (w : Word) (i : ℕ) (set : List FormulaId) → IsNodeList ns → AreNormal ns set → HasRing w → i < lasso_len w → SetHolds ns w i set → HasFittingCover ns w i set
+
+-- what a cover of a set in normal form leaves to the next position is in normal form
+abbrev pub CoversStayNormal : Type 0
+CoversStayNormal = (ns : List Node) (set : List FormulaId) (c : Cover) → IsNodeList ns → AreNormal ns set → Contains (covers_of ns set) c → AreNormal ns c.next
 
 -- the leaves of a branch are its first step's and then those of what comes of it: the number of steps is always enough
 abbrev pub LeavesGoOn : Type 0

@@ -1,9 +1,14 @@
 // Laws of covers. Each is the contract of a function that does nothing.
-ghost use Rattle.obligation_sets.specs.NextStep.{CoversAreTheNextStep, LeavesGoOn};
+ghost use Rattle.obligation_sets.specs.NextStep.{CoversAreTheNextStep, CoversStayNormal, LeavesGoOn};
 
 /// A set holds at a position exactly where one of its covers is met there.
 pub fn covers_are_the_next_step()
     ensures { CoversAreTheNextStep }
+{}
+
+/// What a cover of a set in normal form leaves to the next position is in normal form.
+pub fn covers_stay_normal()
+    ensures { CoversStayNormal }
 {}
 
 /// The leaves of a branch are those of what comes of its first step.

@@ -93,3 +93,46 @@ fn an_until_is_met_now_or_put_off(rt: HostRuntime) -> Result<(), Fail> {
     assert_eq!(rt; found[1].postponed.ids(), [until].as_slice());
     Ok(())
 }
+
+/// What the covers of a set of one formula want and forbid; they leave nothing over.
+fn cubes_of(
+    rt: &impl Abort,
+    alloc: Global,
+    formulas: &Formulas,
+    id: FormulaId,
+) -> Result<Vec<[u32; 2]>, Fail> {
+    assert!(rt; (id.0 as usize) < formulas.len());
+    let set = set_of_one(alloc, id)?;
+    let mut cubes = Vec::new(alloc);
+    for cover in &covers(alloc, formulas, &set)? {
+        assert!(rt; cover.next.ids().is_empty() && cover.postponed.ids().is_empty());
+        cubes.push([cover.cube.must, cover.cube.not])?;
+    }
+    Ok(cubes)
+}
+
+#[test]
+fn constants_and_literals(rt: HostRuntime) -> Result<(), Fail> {
+    let mut formulas = Formulas::new(rt.alloc());
+    let truth = formulas.add(Node::True)?;
+    let falsity = formulas.add(Node::False)?;
+    let p = formulas.add(Node::Signal(3))?;
+    assert!(rt; (p.0 as usize) < formulas.len());
+    let opposite = formulas.add(Node::Not(p))?;
+    assert_eq!(rt;
+        cubes_of(&rt, rt.alloc(), &formulas, truth)?.as_slice(),
+        [[0, 0]].as_slice()
+    );
+    assert!(rt; cubes_of(&rt, rt.alloc(), &formulas, falsity)?.is_empty());
+    assert_eq!(rt;
+        cubes_of(&rt, rt.alloc(), &formulas, p)?.as_slice(),
+        [[8, 0]].as_slice()
+    );
+    assert_eq!(rt;
+        cubes_of(&rt, rt.alloc(), &formulas, opposite)?.as_slice(),
+        [[0, 8]].as_slice()
+    );
+    let clash = both(&rt, &mut formulas, p, opposite)?;
+    assert!(rt; cubes_of(&rt, rt.alloc(), &formulas, clash)?.is_empty());
+    Ok(())
+}

@@ -1,6 +1,6 @@
 use Rattle.std.proofs.Common.{false}
 use Rattle.ltl_formula.specs.Nodes.{tree_at}
-use Rattle.ltl_normal.specs.NormalTrees.{IsNormal}
+use Rattle.ltl_formula.specs.NormalForm.{IsNormal}
 use Rattle.ltl_normal.specs.Truths.{OpposesTruthOf}
 use Rattle.ltl_normal.proofs.Performing.{result-tree, result-is}
 use Rattle.ltl_normal.proofs.TruthKept.{OpposesTruthOf-negated_of, IsNormal-table}

@@ -1,6 +1,6 @@
 use Rattle.std.proofs.Common.{true}
 use Rattle.ltl_formula.specs.Nodes.{tree_at}
-use Rattle.ltl_normal.specs.NormalTrees.{IsNormal}
+use Rattle.ltl_formula.specs.NormalForm.{IsNormal}
 use Rattle.ltl_normal.specs.Truths.{HasTruthOf}
 use Rattle.ltl_normal.proofs.Performing.{result-tree, result-is}
 use Rattle.ltl_normal.proofs.TruthKept.{HasTruthOf-normal_of, IsNormal-table}

@@ -1,4 +1,4 @@
-use Rattle.std.proofs.Common.{◌≡◌, List, [], ◌∷◌, ◌++◌, ◌≤◌, refl, sym, ◌∙◌, ap, arith}
+use Rattle.std.proofs.Common.{List, [], ◌∷◌, ◌++◌, ◌∙◌, ap, arith}
 use Rattle.obligation_sets.specs.Branch.{Branch}
 use Rattle.obligation_sets.proofs.Along.{along-start_at, along-more, top_fits, top_places, weight-less}
 use Rattle.obligation_sets.proofs.covering.covers.Goals as goal
