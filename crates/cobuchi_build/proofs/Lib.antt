@@ -1,0 +1,12 @@
+pub mod Growth
+pub mod Rounds
+pub mod Meeting
+pub mod Sound
+pub mod Along
+pub mod Occurs
+pub mod Moves
+pub mod AcceptedTrue
+pub mod Places
+pub mod TrueAccepted
+pub mod Accepting
+pub mod Ordered

@@ -1,0 +1,5 @@
+pub mod Occurring
+pub mod Explored
+pub mod Sizes
+pub mod Built
+pub mod Laws

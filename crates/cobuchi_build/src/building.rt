@@ -1,0 +1,117 @@
+ghost use Rattle.std.specs.Prelude.{◌≡◌, ◌≤◌, Err, IfOk, OnOk, length};
+ghost use Rattle.ltl_formula.specs.NormalForm.{IsNormal};
+ghost use Rattle.ltl_formula.specs.Nodes.{IsNodeList, Stands, tree_at};
+ghost use Rattle.cobuchi_build.specs.Built.{AcceptsExactly, IsAutomatonOf, IsFinished, PassesLimit};
+ghost use Rattle.cobuchi_build.specs.Occurring.{untils_of};
+
+use crate::exploring::Found;
+use crate::untils::untils_of;
+use ltl_formula::{FormulaId, Formulas};
+use machine_model::Automaton;
+use obligation_sets::{CoverFault, covers};
+use std::alloc::{AllocError, AllocFailed, Global};
+
+/// The largest number of states that an automaton may have.
+pub const MAX_STATES: usize = 2_000;
+
+/// The largest number of edges that an automaton may have, equal ones counted once.
+pub const MAX_EDGES: usize = 200_000;
+
+/// Why an automaton wasn't given.
+#[derive(Clone, Copy, Debug, PartialEq, Eq, Hash)]
+pub enum BuildFault {
+    /// 1: the automaton passes a limit on its states, its edges or the leaves of a set.
+    TooLarge,
+    /// 2: a formula list has no room for the normal forms. `build` never gives it.
+    TooManyNodes,
+    /// There was no memory.
+    NoMemory,
+}
+
+impl From<AllocError> for BuildFault {
+    ghost use Rattle.cobuchi_build.specs.declared.building.BuildFault.TheVariants.{NoMemory};
+
+    ghost from_gives = { λ _ e. e ≡ NoMemory };
+
+    fn from(_error: AllocError) -> BuildFault {
+        BuildFault::NoMemory
+    }
+}
+
+impl<T: Drop> From<AllocFailed<T>> for BuildFault {
+    ghost use Rattle.cobuchi_build.specs.declared.building.BuildFault.TheVariants.{NoMemory};
+
+    ghost from_gives = { λ _ e. e ≡ NoMemory };
+
+    fn from(_error: AllocFailed<T>) -> BuildFault {
+        BuildFault::NoMemory
+    }
+}
+
+impl From<CoverFault> for BuildFault {
+    ghost use Rattle.cobuchi_build.specs.Built.{fault_of};
+
+    ghost from_gives = { λ fault e. e ≡ fault_of fault };
+
+    fn from(fault: CoverFault) -> BuildFault {
+        match fault {
+            CoverFault::TooManyLeaves => BuildFault::TooLarge,
+            CoverFault::NoMemory => BuildFault::NoMemory,
+        }
+    }
+}
+
+/// The automaton of a formula in normal form, which accepts exactly the lassos on which the formula is true. States and
+/// edges are found by hashing. It takes time for each leaf of each state's set, as much as there are formulas, and for
+/// each cover, as much as there are untils.
+pub fn build(alloc: Global, formulas: &Formulas, f: FormulaId) -> Result<Automaton, BuildFault>
+    requires stands { Stands formulas.now f }
+    requires normal { IsNormal (tree_at formulas.now f) }
+
+    ensures automaton { IfOk result (λ a. IsAutomatonOf formulas.now f a) }
+    ensures within { OnOk result (PassesLimit formulas.now f → ⊥) }
+    ensures accepts { IfOk result (λ a. AcceptsExactly formulas.now f a) }
+
+    ensures too_large { result ≡ Err BuildFault.TooLarge → PassesLimit formulas.now f }
+    ensures nodes { result ≡ Err BuildFault.TooManyNodes → ⊥ }
+{
+    let untils = untils_of(alloc, formulas, f)?;
+    let found = explore(alloc, formulas, f, &untils)?;
+    let (edges, rejecting) = found.into_parts(alloc, untils.len())?;
+    match Automaton::new(edges, rejecting) {
+        Ok(automaton) => Ok(automaton),
+        Err(_) => unreachable!(),
+    }
+}
+
+/// All states and edges of the automaton of `f`.
+fn explore(
+    alloc: Global,
+    formulas: &Formulas,
+    f: FormulaId,
+    untils: &[FormulaId],
+) -> Result<Found, BuildFault>
+    requires list { IsNodeList formulas.now }
+    requires stands { Stands formulas.now f }
+    requires normal { IsNormal (tree_at formulas.now f) }
+    requires untils { untils.now ≡ untils_of formulas.now f }
+
+    ensures all { IfOk result (IsFinished formulas.now f) }
+    ensures within { OnOk result (PassesLimit formulas.now f → ⊥) }
+    ensures few { IfOk result (λ found. length found.states ≤ MAX_STATES) }
+    ensures too_large { result ≡ Err BuildFault.TooLarge → PassesLimit formulas.now f }
+    ensures nodes { result ≡ Err BuildFault.TooManyNodes → ⊥ }
+{
+    let mut found = Found::start(alloc, f)?;
+    let mut number = 0;
+    while let Some(state) = found.state(number) {
+        let counter = state.counter;
+        let covers = covers(alloc, formulas, &state.set)?;
+        found.expand(alloc, untils, number as u32, counter, &covers)?;
+        number += 1;
+    }
+    Ok(found)
+}
+
+#[cfg(test)]
+mod tests;

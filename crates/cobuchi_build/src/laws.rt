@@ -1,0 +1,17 @@
+// Laws of the automaton of a formula. Each is the contract of a function that does nothing.
+ghost use Rattle.cobuchi_build.specs.Laws.{OneAutomatonPerFormula, TheAutomatonAcceptsExactly, UntilsAreThoseThatOccur};
+
+/// The automaton of a formula in normal form accepts exactly the lassos on which the formula is true.
+pub fn the_automaton_accepts_exactly()
+    ensures { TheAutomatonAcceptsExactly }
+{}
+
+/// A formula has one automaton.
+pub fn one_automaton_per_formula()
+    ensures { OneAutomatonPerFormula }
+{}
+
+/// The until formulas that the counter counts are those that occur in the formula.
+pub fn untils_are_those_that_occur()
+    ensures { UntilsAreThoseThatOccur }
+{}
