@@ -5,3 +5,4 @@ pub mod Starts
 pub mod Reading
 pub mod Texts
 pub mod Unexpected
+pub mod Sound

@@ -638,7 +638,7 @@ mutual
             ∙ ap (λ x. go_on x (λ others after. taken (f others) after)) (a.reads depth low);
       }
 
-nothing_follows : (n : Level) (ls : List Lexeme) → Follows false n ls []
+pub nothing_follows : (n : Level) (ls : List Lexeme) → Follows false n ls []
 nothing_follows n ls = record { operators = λ m h. refl; bracket = refl; call = λ _. refl }
 
 pub one_tree : (n : Level) (ls : List Lexeme) (t u : Tree) → Derives n ls t → Derives n ls u → t ≡ u

@@ -1,6 +1,6 @@
 -- The grammar of expressions as a reader with one token of look-ahead: computing functions on lists of lexemes. This is no
 -- definition of the grammar: readers that go deep enough read what is derived, so no list of lexemes has two trees.
-use Rattle.std.specs.Prelude.{◌≡◌, ℕ, zero, suc, Bool, true, false, ◌==◌, ◌&&◌, if◌then◌else◌, List, [], ◌∷◌, length, drop, Option, None, Some}
+use Rattle.std.specs.Prelude.{◌≡◌, ◌≤◌, ℕ, zero, suc, Bool, true, false, ◌==◌, ◌&&◌, if◌then◌else◌, List, [], ◌∷◌, ◌++◌, length, drop, Option, None, Some}
 use Rattle.std.specs.Option.{is_some}
 use Rattle.tlsf_tree.specs.declared.expr.Op.{Op}
 use Rattle.tlsf_tree.specs.declared.expr.Op.TheVariants as op
@@ -226,3 +226,12 @@ readers (suc depth) = step (readers depth)
 -- the levels give each list of lexemes at most one tree
 abbrev pub ExpressionsHaveOneTree : Type 0
 ExpressionsHaveOneTree = (n : Level) (ls : List Lexeme) (t u : Tree) → Derives n ls t → Derives n ls u → t ≡ u
+
+-- what a reader of some depth takes of a list is derived, and stands in front of what it leaves
+abbrev pub IsFrontOf : Level → List Lexeme → Tree → List Lexeme → Type 0
+IsFrontOf n ls t rest = (front : List Lexeme) × (ls ≡ front ++ rest) × Derives n front t
+
+-- the readers read exactly what is derived: nothing else, and all of it where nothing follows
+pub record ExpressionsAreReadExactly : Type 0 where
+  pub sound : (depth : ℕ) (ends : Bool) (n : Level) (ls : List Lexeme) (t : Tree) (rest : List Lexeme) → (readers depth).level ends n ls ≡ taken t rest → IsFrontOf n ls t rest
+  pub complete : (n : Level) (ls : List Lexeme) (t : Tree) → Derives n ls t → (from : ℕ) × ((depth : ℕ) → from ≤ depth → (readers depth).level false n ls ≡ taken t [])

@@ -1,7 +1,7 @@
 // Laws of the grammar, which no code needs.
 
 ghost use Rattle.tlsf_grammar.specs.Expressions.{SpansAreWhole};
-ghost use Rattle.tlsf_grammar.specs.Reading.{ExpressionsHaveOneTree};
+ghost use Rattle.tlsf_grammar.specs.Reading.{ExpressionsAreReadExactly, ExpressionsHaveOneTree};
 ghost use Rattle.tlsf_grammar.specs.Rows.{RowsDerive};
 ghost use Rattle.tlsf_grammar.specs.TextReading.{TextsHaveOneTree};
 ghost use Rattle.tlsf_grammar.specs.Texts.{UnexpectedIsDetermined};
@@ -29,4 +29,9 @@ pub fn texts_have_one_tree()
 /// The first unexpected lexeme is determined, and a text has none.
 pub fn unexpected_is_determined()
     ensures { UnexpectedIsDetermined }
+{}
+
+/// The grammar of expressions as a reader on lists reads exactly what the grammar derives.
+pub fn expressions_are_read_exactly()
+    ensures { ExpressionsAreReadExactly }
 {}
