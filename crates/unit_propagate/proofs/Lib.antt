@@ -1,0 +1,14 @@
+pub mod Places
+pub mod TrailLemmas
+pub mod MarksLemmas
+pub mod RowsLemmas
+pub mod WatchesLemmas
+pub mod PropagatorLemmas
+pub mod RewatchLemmas
+pub mod QuietLemmas
+pub mod ForceLemmas
+pub mod BackLemmas
+pub mod SoundLemmas
+pub mod FalsifierLemmas
+pub mod StepLemmas
+pub mod LawsLemmas

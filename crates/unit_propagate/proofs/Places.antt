@@ -1,0 +1,90 @@
+-- Elements of lists by their places.
+use Rattle.std.proofs.Common.{◌≡◌, ◌≢◌, ℕ, suc, zero, ◌+◌, ◌-◌, ◌<◌, ◌≤◌, List, [], ◌∷◌, ◌++◌, ◌⊎◌, inl, inr, Option, Some, None, map, take, set, get_or, slice_get, replicate, length, length-append, Contains, All, refl, sym, subst, ap, ◌∙◌, arith}
+use Rattle.std.specs.Prelude.{AllPairs, Result, Ok, Err, OnOk, OnErr}
+use Rattle.std.proofs.lemmas.List.{get_or_append_left, get_or-set_same, get_or-set_other, length-set, length_push, get_or_push, get_or_default, take_all}
+use Rattle.std.proofs.lemmas.List.Elements.{All-take, Contains-get_or}
+use Rattle.std.proofs.lemmas.Option.{slice_get_within, slice_get-get_or, get_or_from_slice_get, slice_get_past, slice_get_cases}
+
+-- an element at a place is contained, and the other way round
+pub Contains-slice_get : {X : Type 0} (xs : List X) (i : ℕ) (x : X) → slice_get xs i ≡ Some x → Contains xs x
+Contains-slice_get xs i x h = (i, slice_get_within xs i x h, get_or_from_slice_get xs i x x h)
+
+pub slice_get-Contains : {X : Type 0} (xs : List X) (x : X) → Contains xs x → (i : ℕ) × (slice_get xs i ≡ Some x)
+slice_get-Contains xs x h = (h.0, slice_get-get_or xs h.0 x h.1 ∙ ap Some h.2)
+
+-- what holds of each element holds at a place
+pub All-slice_get : {X : Type 0} (P : X → Type 0) (xs : List X) (i : ℕ) (x : X) → All P xs → slice_get xs i ≡ Some x → P x
+All-slice_get P xs i x h e = subst P (get_or_from_slice_get xs i x x e) (h i x (slice_get_within xs i x e))
+
+pub All-from_slice_get : {X : Type 0} (P : X → Type 0) (xs : List X) → ((i : ℕ) (x : X) → slice_get xs i ≡ Some x → P x) → All P xs
+All-from_slice_get P xs h k d l = h k (get_or xs k d) (slice_get-get_or xs k d l)
+
+pub AllPairs-slice_get : {X : Type 0} (R : X → X → Type 0) (xs : List X) (i j : ℕ) (x y : X) → AllPairs R xs → i < j → slice_get xs i ≡ Some x → slice_get xs j ≡ Some y → R x y
+AllPairs-slice_get R xs i j x y h l p q =
+    subst (λ z. R x z) (get_or_from_slice_get xs j y x q)
+    (subst (λ z. R z (get_or xs j x)) (get_or_from_slice_get xs i x x p) (h i j x l (slice_get_within xs j y q)))
+
+-- the front of a list keeps what holds of all
+pub All-front : {X : Type 0} (P : X → Type 0) (xs ys : List X) → All P (xs ++ ys) → All P xs
+All-front P xs ys h k d l =
+    let len : length (xs ++ ys) ≡ length xs + length ys = length-append xs ys in
+    subst P (get_or_append_left xs ys d k l) (h k d (omega arith))
+
+pub AllPairs-front : {X : Type 0} (R : X → X → Type 0) (xs ys : List X) → AllPairs R (xs ++ ys) → AllPairs R xs
+AllPairs-front R xs ys h i j d l m =
+    let len : length (xs ++ ys) ≡ length xs + length ys = length-append xs ys in
+    let lt : i < length xs = omega arith in
+    subst (λ z. R z (get_or xs j d)) (get_or_append_left xs ys d i lt)
+    (subst (λ z. R (get_or (xs ++ ys) i d) z) (get_or_append_left xs ys d j m) (h i j d l (omega arith)))
+
+-- each element of the front and the last one
+pub AllPairs-last : {X : Type 0} (R : X → X → Type 0) (xs : List X) (y : X) → AllPairs R (xs ++ y ∷ []) → All (λ x. R x y) xs
+AllPairs-last R xs y h k d l =
+    let len : length (xs ++ y ∷ []) ≡ length xs + 1 = length_push xs y in
+    subst (λ z. R z y) (get_or_append_left xs (y ∷ []) d k l)
+    (subst (λ z. R (get_or (xs ++ y ∷ []) k d) z) (get_or_push xs y d (length xs) refl) (h k (length xs) d l (omega arith)))
+
+-- the last element of a list with one more
+pub slice_get-last : {X : Type 0} (xs : List X) (y : X) → slice_get (xs ++ y ∷ []) (length xs) ≡ Some y
+slice_get-last [] y = refl
+slice_get-last (x ∷ xs) y = slice_get-last xs y
+
+-- a place of the front
+pub slice_get-front : {X : Type 0} (xs ys : List X) (i : ℕ) → i < length xs → slice_get (xs ++ ys) i ≡ slice_get xs i
+slice_get-front [] ys i h = absurd (omega arith)
+slice_get-front (x ∷ xs) ys zero h = refl
+slice_get-front (x ∷ xs) ys (suc i) h = slice_get-front xs ys i (omega arith)
+
+-- after a write
+pub slice_get-set_same : {X : Type 0} (xs : List X) (i : ℕ) (y : X) → i < length xs → slice_get (set xs i y) i ≡ Some y
+slice_get-set_same xs i y h =
+    let len : length (set xs i y) ≡ length xs = length-set xs i y in
+    slice_get-get_or (set xs i y) i y (omega arith) ∙ ap Some (get_or-set_same xs i y y h)
+
+pub slice_get-set_other : {X : Type 0} (xs : List X) (i j : ℕ) (y : X) → j ≢ i → slice_get (set xs i y) j ≡ slice_get xs j
+slice_get-set_other [] i j y n = refl
+slice_get-set_other (x ∷ xs) zero zero y n = absurd (n refl)
+slice_get-set_other (x ∷ xs) zero (suc j) y n = refl
+slice_get-set_other (x ∷ xs) (suc i) zero y n = refl
+slice_get-set_other (x ∷ xs) (suc i) (suc j) y n = slice_get-set_other xs i j y (λ e. n (ap suc e))
+
+pub slice_get-replicate : {X : Type 0} (n : ℕ) (y : X) (i : ℕ) (x : X) → slice_get (replicate n y) i ≡ Some x → x ≡ y
+slice_get-replicate zero y i x h = absurd (cc)
+slice_get-replicate (suc n) y zero x h = cc
+slice_get-replicate (suc n) y (suc i) x h = slice_get-replicate n y i x h
+
+-- what holds anyhow holds after an error
+pub on_err : {T E Q : Type 0} (r : Result T E) → Q → OnErr r Q
+on_err (Ok x) q = tt
+on_err (Err e) q = q
+
+pub on_ok : {T E Q : Type 0} (r : Result T E) → Q → OnOk r Q
+on_ok (Ok x) q = q
+on_ok (Err e) q = tt
+
+-- what holds of each contained element holds of all
+pub All-from_contains : {X : Type 0} (P : X → Type 0) (xs : List X) → ((x : X) → Contains xs x → P x) → All P xs
+All-from_contains P xs h k d l = h (get_or xs k d) (Contains-get_or xs k d l)
+
+pub All-to_end : {X : Type 0} (P : X → Type 0) (xs : List X) (i : ℕ) → length xs ≤ i → All P (take i xs) → All P xs
+All-to_end P xs i h a = subst (All P) (take_all i xs h) a

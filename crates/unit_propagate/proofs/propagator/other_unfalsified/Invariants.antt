@@ -1,0 +1,7 @@
+use Rattle.std.proofs.Common.{◌≢◌, All, Contains, take}
+use Rattle.clause_base.specs.Literal.{negated}
+use Rattle.unit_propagate.specs.Trail.{literals_of}
+use Rattle.unit_propagate.proofs.propagator.other_unfalsified.Given as goal
+
+abbrev pub invariant-loop-lit : goal.invariant-loop-lit
+invariant-loop-lit l = All (λ x. x ≢ l.except → Contains (literals_of l.marks.marks) (negated x)) (take l.lit-index l.lits)

@@ -1,0 +1,16 @@
+use Rattle.std.proofs.Common.{◌≡◌, ◌<◌, ◌≤◌, Contains, length, sym, subst, arith}
+use Rattle.std.proofs.lemmas.List.{take_all}
+use Rattle.std.proofs.lemmas.List.Elements.{All-more}
+use Rattle.clause_base.specs.Literal.{Literal, negated}
+use Rattle.unit_propagate.specs.Trail.{literals_of}
+use Rattle.unit_propagate.proofs.Places.{All-to_end}
+use Rattle.unit_propagate.proofs.propagator.unfalsified.Goals as goal
+
+pub loop-lit-preserved : goal.loop-lit-preserved
+loop-lit-preserved c =
+    All-more (λ (x : Literal). Contains (literals_of c.args.marks.now.marks) (negated x)) c.args.lits.now c.loop-lit.lit-index c.lit-item.result (omega arith) c.loop-lit.invariant
+    (subst (λ (x : Literal). Contains (literals_of c.args.marks.now.marks) (negated x)) c.lit-item.is c.if-not-is_false.ensures.yes)
+
+pub returns-clause-none : goal.returns-clause-none
+returns-clause-none c =
+    All-to_end (λ (x : Literal). Contains (literals_of c.args.marks.now.marks) (negated x)) c.args.lits.now c.loop-lit.lit-index (omega arith) c.loop-lit.invariant

@@ -1,0 +1,9 @@
+pub mod Trail
+pub mod Marks
+pub mod Sound
+pub mod Quiet
+pub mod Watched
+pub mod Rows
+pub mod Watches
+pub mod Propagator
+pub mod Laws

@@ -1,0 +1,429 @@
+ghost use Rattle.std.specs.Prelude.{◌≡◌, ◌≢◌, ℕ, ◌+◌, ◌*◌, ◌<◌, ◌≤◌, ◌^◌, ◌⊎◌, true, false, List, [], ◌++◌, None, Some, Ok, All, Contains, length, filter, nat_le, slice_get, IfOk, IfSome, IfNone, OnOk};
+ghost use Rattle.std.specs.Bool.{OnTrue, OnFalse};
+ghost use Rattle.clause_base.specs.Literal.{Literal, negated};
+ghost use Rattle.clause_base.specs.Clause.{IsClause, IsWithin};
+ghost use Rattle.refutation_log.specs.Follows.{is_falsified_named};
+ghost use Rattle.unit_propagate.specs.declared.marks.Mark.{Mark};
+ghost use Rattle.unit_propagate.specs.declared.propagator.Step.TheVariants.{Next, Again, Conflict};
+ghost use Rattle.unit_propagate.specs.Trail.{IsTrail, highest_level, literals_of};
+ghost use Rattle.unit_propagate.specs.Quiet.{IsQuiet};
+ghost use Rattle.unit_propagate.specs.Watches.{IsFalsifier};
+
+use crate::clauses::{clause_at, clause_count};
+use crate::marks::Marks;
+use crate::watches::Watches;
+use clause_base::{Clause, Cnf, Lit};
+use refutation_log::Entry;
+use std::alloc::{AllocError, Global};
+
+/// A literal of a clause that isn't false.
+fn unfalsified(marks: &Marks, lits: &[Lit]) -> Option<Lit>
+    ensures some { IfSome result (λ l. Contains lits.now l × (Contains (literals_of marks.now.marks) (negated l) → ⊥)) }
+    ensures none { IfNone result (All (λ l. Contains (literals_of marks.now.marks) (negated l)) lits.now) }
+{
+    for lit in lits {
+        if !marks.is_false(*lit) {
+            return Some(*lit);
+        }
+    }
+    None
+}
+
+/// Whether a literal isn't false, and isn't a given one.
+fn is_open(marks: &Marks, lit: Lit, except: Lit) -> bool
+    ensures yes { OnTrue result ((lit ≢ except) × (Contains (literals_of marks.now.marks) (negated lit) → ⊥)) }
+    ensures no { OnFalse result (lit ≢ except → Contains (literals_of marks.now.marks) (negated lit)) }
+{
+    if lit == except {
+        return false;
+    }
+    !marks.is_false(lit)
+}
+
+/// A literal of a clause that isn't false, and isn't a given one.
+fn other_unfalsified(marks: &Marks, lits: &[Lit], except: Lit) -> Option<Lit>
+    ensures some { IfSome result (λ l. Contains lits.now l × (l ≢ except) × (Contains (literals_of marks.now.marks) (negated l) → ⊥)) }
+    ensures none { IfNone result (All (λ l. l ≢ except → Contains (literals_of marks.now.marks) (negated l)) lits.now) }
+{
+    for lit in lits {
+        if is_open(marks, *lit, except) {
+            return Some(*lit);
+        }
+    }
+    None
+}
+
+/// The place on the trail of the literal that makes a literal false, unless it is a given one.
+fn falsifier(marks: &Marks, lit: Lit, except: Lit) -> Option<usize>
+    requires { lit ≢ except → Contains (literals_of marks.now.marks) (negated lit) }
+    ensures some { IfSome result (λ place. (m : Mark) × (slice_get marks.now.marks place ≡ Some m) × (m.lit ≡ negated lit) × (lit ≢ except)) }
+    ensures none { IfNone result (lit ≡ except) }
+{
+    if lit == except {
+        return None;
+    }
+    Some(marks.slot(lit.var())?.place)
+}
+
+/// The later of two places.
+fn later(a: Option<usize>, b: Option<usize>) -> Option<usize>
+    ensures either { (result ≡ a) ⊎ (result ≡ b) }
+    ensures none { result ≡ None → (a ≡ None) × (b ≡ None) }
+{
+    match (a, b) {
+        (Some(x), Some(y)) if x < y => b,
+        (None, _) => b,
+        _ => a,
+    }
+}
+
+/// The last place on the trail of a literal that makes one of a clause false, but for a given one.
+fn last_falsified(marks: &Marks, lits: &[Lit], except: Lit) -> Option<usize>
+    requires { All (λ l. l ≢ except → Contains (literals_of marks.now.marks) (negated l)) lits.now }
+    ensures some { IfSome result (IsFalsifier marks.now.marks lits.now except) }
+    ensures none { IfNone result (All (λ l. l ≡ except) lits.now) }
+{
+    let mut last = None;
+    for lit in lits {
+        last = later(last, falsifier(marks, *lit, except));
+    }
+    last
+}
+
+/// How the look at a clause that watches a false literal ended.
+#[derive(Clone, Copy, Debug)]
+enum Step {
+    /// The other watched literal is true: on to the next clause of the list.
+    Next,
+    /// The clause left the list, and another stands at its place.
+    Again,
+    /// All of its literals are false.
+    Conflict,
+}
+
+/// A trail with what it watches, and how far it was looked at.
+#[derive(Debug, Drop)]
+pub struct Propagator {
+    pub marks: Marks,
+    pub watches: Watches,
+    /// The literals before this place were looked at.
+    pub place: usize,
+    /// Those before this place were looked at while their level was the highest, so that going back to a level leaves them looked at.
+    pub kept: usize,
+    /// So many clauses of one literal are true on level 0.
+    pub done: usize,
+}
+
+impl Propagator {
+    ghost use Rattle.unit_propagate.specs.declared.propagator.Propagator.{Propagator};
+    ghost use Rattle.unit_propagate.specs.declared.watches.Watch.{Watch};
+    ghost use Rattle.unit_propagate.specs.Sound.{IsReason};
+    ghost use Rattle.unit_propagate.specs.Watched.{IsWatching};
+    ghost use Rattle.unit_propagate.specs.Rows.{row_at, code_of};
+    ghost use Rattle.unit_propagate.specs.Propagator.{clauses_in, IsKept, IsVisiting, IsVisited, Goes, Stays, AreUnitsTrue};
+
+    /// An empty trail, which watches nothing.
+    pub fn new(alloc: Global, vars: u32) -> Result<Propagator, AllocError>
+        ensures kept { IfOk result IsKept }
+        ensures marks { IfOk result (λ s. s.marks ≡ record { vars = vars; marks = [] }) }
+        ensures watches { IfOk result (λ s. s.watches.pairs ≡ []) }
+    {
+        Ok(Propagator {
+            marks: Marks::new(alloc, vars)?,
+            watches: Watches::new(alloc, vars.min(1 << 30) as usize + 1)?,
+            place: 0,
+            kept: 0,
+            done: 0,
+        })
+    }
+
+    /// Watches the clauses that are new. Answers the number of one that is falsified.
+    fn watch_new(&mut self, base: &Cnf, seen: &[Entry]) -> Result<Option<u64>, AllocError>
+        requires within { All (IsWithin self.old.marks.vars) (clauses_in base.now seen.now) }
+        requires kept { IsKept self.old }
+        requires watching { IsWatching (clauses_in base.now seen.now) self.old.watches.pairs }
+        ensures all { result ≡ Ok None → length (clauses_in base.now seen.now) ≤ length self.new.watches.pairs }
+        ensures falsified { (n : ℕ) → result ≡ Ok (Some n) → is_falsified_named (clauses_in base.now seen.now) (literals_of self.new.marks.marks) n ≡ true }
+        ensures goes { Goes (clauses_in base.now seen.now) self.old self.new }
+    {
+        while self.watches.len() < clause_count(base, seen) {
+            if !self.watch_next(base, seen)? {
+                return Ok(Some(self.watches.len() as u64 + 1));
+            }
+        }
+        Ok(None)
+    }
+
+    /// Watches the next clause, unless it is falsified.
+    fn watch_next(&mut self, base: &Cnf, seen: &[Entry]) -> Result<bool, AllocError>
+        requires more { length self.old.watches.pairs < length (clauses_in base.now seen.now) }
+        requires within { All (IsWithin self.old.marks.vars) (clauses_in base.now seen.now) }
+        requires kept { IsKept self.old }
+        requires watching { IsWatching (clauses_in base.now seen.now) self.old.watches.pairs }
+        ensures watched { result ≡ Ok true → length self.new.watches.pairs ≡ length self.old.watches.pairs + 1 }
+        ensures falsified { result ≡ Ok false → is_falsified_named (clauses_in base.now seen.now) (literals_of self.new.marks.marks) (length self.new.watches.pairs + 1) ≡ true }
+        ensures goes { Goes (clauses_in base.now seen.now) self.old self.new }
+    {
+        let clause = clause_at(base, seen, self.watches.len());
+        let Some(first) = unfalsified(&self.marks, clause.lits()) else {
+            return Ok(false);
+        };
+        match other_unfalsified(&self.marks, clause.lits(), first) {
+            Some(second) => self.watches.add(first, second)?,
+            None => self.watch_forced(clause, first)?,
+        }
+        Ok(true)
+    }
+
+    /// Watches the next clause, of which all literals but one are false.
+    fn watch_forced(&mut self, clause: &Clause, first: Lit) -> Result<(), AllocError>
+        requires sorted { IsClause clause.now }
+        requires member { Contains clause.now first }
+        requires within { IsWithin self.old.marks.vars clause.now }
+        requires others { All (λ l. l ≢ first → Contains (literals_of self.old.marks.marks) (negated l)) clause.now }
+        requires alive { Contains (literals_of self.old.marks.marks) (negated first) → ⊥ }
+        requires kept { IsKept self.old }
+        ensures ok { OnOk result (length self.new.watches.pairs ≡ length self.old.watches.pairs + 1) }
+        ensures goes { (clauses : List (List Literal)) → IsWatching clauses self.old.watches.pairs → slice_get clauses (length self.old.watches.pairs) ≡ Some clause.now → Goes clauses self.old self.new }
+    {
+        let Some(place) = last_falsified(&self.marks, clause.lits(), first) else {
+            return self.watches.add_alone(first);
+        };
+        let number = self.watches.len() as u64 + 1;
+        self.make_true(first, number);
+        self.lower(place);
+        let second = self.marks.at(place).lit.negated();
+        self.watches.add(first, second)
+    }
+
+    /// Makes a literal true that isn't false, by the clause of that number.
+    fn make_true(&mut self, lit: Lit, number: u64)
+        requires within { lit.var ≤ self.old.marks.vars }
+        requires alive { Contains (literals_of self.old.marks.marks) (negated lit) → ⊥ }
+        ensures now_true { Contains (literals_of self.new.marks.marks) lit }
+        ensures others { self.new ≡ record self.old { marks = self.new.marks } }
+        ensures grown { (more : List Mark) × (self.new.marks.marks ≡ self.old.marks.marks ++ more) }
+        ensures goes { (clauses : List (List Literal)) → IsKept self.old → IsWatching clauses self.old.watches.pairs → IsReason clauses number (literals_of self.old.marks.marks) lit → Goes clauses self.old self.new }
+    {
+        if self.marks.is_true(lit) {
+            return;
+        }
+        let level = self.marks.level();
+        self.marks.push(lit, level, Some(number));
+    }
+
+    /// Where the literal at a place is below the highest level, going back to a level takes it as not looked at.
+    fn lower(&mut self, place: usize)
+        requires { place < length self.old.marks.marks }
+        ensures others { self.new ≡ record self.old { kept = self.new.kept } }
+        ensures less { self.new.kept ≤ self.old.kept }
+        ensures low { place < self.new.kept → (m : Mark) → slice_get self.old.marks.marks place ≡ Some m → highest_level self.old.marks.marks ≤ m.level }
+        ensures trail { IsTrail self.old.marks.vars self.old.marks.marks }
+    {
+        let level = self.marks.at(place).level;
+        if self.marks.level() <= level {
+            return;
+        }
+        self.kept = self.kept.min(place);
+    }
+
+    /// Makes the literals of the clauses with one literal true. Answers the number of one that is falsified.
+    fn force_units(&mut self, base: &Cnf, seen: &[Entry]) -> Option<u64>
+        requires within { All (IsWithin self.old.marks.vars) (clauses_in base.now seen.now) }
+        requires kept { IsKept self.old }
+        requires watching { IsWatching (clauses_in base.now seen.now) self.old.watches.pairs }
+        ensures all { result ≡ None → AreUnitsTrue self.new }
+        ensures falsified { IfSome result (λ n. is_falsified_named (clauses_in base.now seen.now) (literals_of self.new.marks.marks) n ≡ true) }
+        ensures goes { Goes (clauses_in base.now seen.now) self.old self.new }
+        ensures watches { self.new.watches ≡ self.old.watches }
+    {
+        for i in self.done..self.watches.units() {
+            let k = self.watches.unit(i);
+            if !self.force_unit(base, seen, k) {
+                return Some(k as u64 + 1);
+            }
+        }
+        if self.marks.level() == 0 {
+            self.done = self.watches.units();
+        }
+        None
+    }
+
+    /// Makes the literal of a clause with one literal true, unless it is false.
+    fn force_unit(&mut self, base: &Cnf, seen: &[Entry], k: usize) -> bool
+        requires within { All (IsWithin self.old.marks.vars) (clauses_in base.now seen.now) }
+        requires kept { IsKept self.old }
+        requires watching { IsWatching (clauses_in base.now seen.now) self.old.watches.pairs }
+        requires alone { (p : Watch) × (slice_get self.old.watches.pairs k ≡ Some p) × (p.first ≡ p.second) }
+        ensures forced { OnTrue result ((p : Watch) → slice_get self.old.watches.pairs k ≡ Some p → Contains (literals_of self.new.marks.marks) p.first) }
+        ensures falsified { OnFalse result (is_falsified_named (clauses_in base.now seen.now) (literals_of self.new.marks.marks) (k + 1) ≡ true) }
+        ensures goes { Goes (clauses_in base.now seen.now) self.old self.new }
+        ensures watches { self.new.watches ≡ self.old.watches }
+        ensures done { self.new.done ≡ self.old.done }
+        ensures small { k + 1 < 2 ^ 64 }
+    {
+        let lit = self.watches.pair(k).first;
+        if self.marks.is_false(lit) {
+            return false;
+        }
+        if !self.marks.is_true(lit) {
+            let level = self.marks.level();
+            self.marks.push(lit, level, Some(k as u64 + 1));
+        }
+        true
+    }
+
+    /// Looks at clause `k`, which stands at place `i` of the list of a literal that became false.
+    fn step(
+        &mut self,
+        base: &Cnf,
+        seen: &[Entry],
+        falsified: Lit,
+        i: usize,
+        k: usize,
+    ) -> Result<Step, AllocError>
+        requires within { All (IsWithin self.old.marks.vars) (clauses_in base.now seen.now) }
+        requires visiting { IsVisiting (clauses_in base.now seen.now) self.old falsified i }
+        requires fits { code_of falsified ≤ 2 * 2 ^ 30 + 1 → code_of falsified < length self.old.watches.rows }
+        requires there { slice_get (row_at self.old.watches.rows (code_of falsified)) i ≡ Some k }
+        ensures next { result ≡ Ok Next → IsVisiting (clauses_in base.now seen.now) self.new falsified (i + 1) }
+        ensures next_row { result ≡ Ok Next → length (row_at self.new.watches.rows (code_of falsified)) ≡ length (row_at self.old.watches.rows (code_of falsified)) }
+        ensures again { result ≡ Ok Again → IsVisiting (clauses_in base.now seen.now) self.new falsified i }
+        ensures again_row { result ≡ Ok Again → length (row_at self.new.watches.rows (code_of falsified)) + 1 ≡ length (row_at self.old.watches.rows (code_of falsified)) }
+        ensures conflict { result ≡ Ok Conflict → is_falsified_named (clauses_in base.now seen.now) (literals_of self.new.marks.marks) (k + 1) ≡ true }
+        ensures small { result ≡ Ok Conflict → k + 1 < 2 ^ 64 }
+        ensures goes { Goes (clauses_in base.now seen.now) self.old self.new }
+        ensures stays { Stays self.old self.new }
+    {
+        if k >= self.watches.len() {
+            return Ok(Step::Next);
+        }
+        let Some(other) = self.watches.pair(k).other(falsified) else {
+            return Ok(Step::Next);
+        };
+        if self.marks.is_true(other) {
+            return Ok(Step::Next);
+        }
+        let clause = clause_at(base, seen, k);
+        if let Some(next) = other_unfalsified(&self.marks, clause.lits(), other) {
+            self.watches.rewatch(falsified, i, k, next)?;
+            return Ok(Step::Again);
+        }
+        if self.marks.is_false(other) {
+            return Ok(Step::Conflict);
+        }
+        let level = self.marks.level();
+        self.marks.push(other, level, Some(k as u64 + 1));
+        Ok(Step::Next)
+    }
+
+    /// Looks at each clause that watches a literal that became false. Answers the number of one that is falsified.
+    fn visit(
+        &mut self,
+        base: &Cnf,
+        seen: &[Entry],
+        falsified: Lit,
+    ) -> Result<Option<u64>, AllocError>
+        requires within { All (IsWithin self.old.marks.vars) (clauses_in base.now seen.now) }
+        requires visiting { IsVisiting (clauses_in base.now seen.now) self.old falsified 0 }
+        requires fits { code_of falsified ≤ 2 * 2 ^ 30 + 1 → code_of falsified < length self.old.watches.rows }
+        ensures all { result ≡ Ok None → IsVisited self.new falsified }
+        ensures falsified { (n : ℕ) → result ≡ Ok (Some n) → is_falsified_named (clauses_in base.now seen.now) (literals_of self.new.marks.marks) n ≡ true }
+        ensures goes { Goes (clauses_in base.now seen.now) self.old self.new }
+        ensures stays { Stays self.old self.new }
+    {
+        let mut i = 0;
+        while let Some(k) = self.watches.watcher(falsified, i) {
+            match self.step(base, seen, falsified, i, k)? {
+                Step::Next => i += 1,
+                Step::Again => {}
+                Step::Conflict => return Ok(Some(k as u64 + 1)),
+            }
+        }
+        Ok(None)
+    }
+
+    /// Looks at the next literal of the trail. Answers the number of a clause that is falsified.
+    fn visit_next(&mut self, base: &Cnf, seen: &[Entry]) -> Result<Option<u64>, AllocError>
+        requires next { self.old.place < length self.old.marks.marks }
+        requires within { All (IsWithin self.old.marks.vars) (clauses_in base.now seen.now) }
+        requires kept { IsKept self.old }
+        requires watching { IsWatching (clauses_in base.now seen.now) self.old.watches.pairs }
+        ensures place { result ≡ Ok None → self.new.place ≡ self.old.place + 1 }
+        ensures falsified { (n : ℕ) → result ≡ Ok (Some n) → is_falsified_named (clauses_in base.now seen.now) (literals_of self.new.marks.marks) n ≡ true }
+        ensures goes { Goes (clauses_in base.now seen.now) self.old self.new }
+        ensures units { AreUnitsTrue self.old → AreUnitsTrue self.new }
+    {
+        let mark = self.marks.at(self.place);
+        if let Some(number) = self.visit(base, seen, mark.lit.negated())? {
+            return Ok(Some(number));
+        }
+        self.kept = self.next_kept(mark.level);
+        self.place += 1;
+        Ok(None)
+    }
+
+    /// How far literals are looked at while their level is the highest, with the next one, which is of that level.
+    fn next_kept(&self, level: u32) -> usize
+        requires { self.now.place < length self.now.marks.marks }
+        ensures value { (result ≡ self.now.kept) ⊎ ((result ≡ self.now.place + 1) × (self.now.kept ≡ self.now.place) × (level ≡ highest_level self.now.marks.marks)) }
+        ensures small { self.now.place + 1 < 2 ^ 64 }
+    {
+        let top = self.marks.level();
+        if self.kept != self.place {
+            return self.kept;
+        }
+        if level != top {
+            return self.kept;
+        }
+        self.place + 1
+    }
+
+    /// Adds the literals that clauses force, until none is forced or a clause is falsified. Answers its number.
+    pub fn propagate(&mut self, base: &Cnf, seen: &[Entry]) -> Result<Option<u64>, AllocError>
+        requires within { All (IsWithin self.old.marks.vars) (clauses_in base.now seen.now) }
+        requires kept { IsKept self.old }
+        requires watching { IsWatching (clauses_in base.now seen.now) self.old.watches.pairs }
+        ensures quiet { result ≡ Ok None → IsQuiet (clauses_in base.now seen.now) (literals_of self.new.marks.marks) }
+        ensures falsified { (n : ℕ) → result ≡ Ok (Some n) → is_falsified_named (clauses_in base.now seen.now) (literals_of self.new.marks.marks) n ≡ true }
+        ensures goes { Goes (clauses_in base.now seen.now) self.old self.new }
+    {
+        if let Some(number) = self.watch_new(base, seen)? {
+            return Ok(Some(number));
+        }
+        if let Some(number) = self.force_units(base, seen) {
+            return Ok(Some(number));
+        }
+        while self.place < self.marks.len() {
+            if let Some(number) = self.visit_next(base, seen)? {
+                return Ok(Some(number));
+            }
+        }
+        Ok(None)
+    }
+
+    /// Takes all literals above a level off.
+    pub fn back_to(&mut self, level: u32)
+        requires { IsKept self.old }
+        ensures kept { IsKept self.new }
+        ensures marks { self.new.marks ≡ record self.old.marks { marks = filter (λ m. nat_le m.level level) self.old.marks.marks } }
+        ensures watches { self.new.watches ≡ self.old.watches }
+    {
+        self.marks.back_to(level);
+        self.kept = self.kept.min(self.marks.len());
+        self.place = self.kept;
+    }
+
+    /// Takes all literals off.
+    pub fn clear(&mut self)
+        requires { IsKept self.old }
+        ensures kept { IsKept self.new }
+        ensures marks { self.new.marks ≡ record self.old.marks { marks = [] } }
+        ensures watches { self.new.watches ≡ self.old.watches }
+    {
+        self.marks.clear();
+        self.kept = 0;
+        self.place = 0;
+        self.done = 0;
+    }
+}

@@ -1,0 +1,58 @@
+ghost use Rattle.std.specs.Prelude.{◌≡◌, ℕ, ◌+◌, ◌<◌, List, [], length, map, replicate, slice_get, IsSome, ◌^◌, IfOk, OnOk, OnErr};
+ghost use Rattle.unit_propagate.specs.Rows.{row_at, AddsTo, DropsAt};
+
+use std::alloc::{AllocError, Global};
+use std::marker::Model;
+
+/// A table of lists of numbers. Seen by contracts as the list of these lists.
+#[derive(Debug, Drop)]
+pub struct Rows {
+    rows: Vec<Vec<usize>>,
+}
+
+impl Model for Rows {
+    ghost Value = { List (List ℕ) };
+
+    ghost view = { λ t. map (λ row. row.items) t.rows.items };
+}
+
+impl Rows {
+    /// So many empty lists.
+    pub fn new(alloc: Global, count: usize) -> Result<Rows, AllocError>
+        ensures { IfOk result (λ rows. rows ≡ replicate count []) }
+    {
+        let mut rows = Vec::with_capacity(alloc, count)?;
+        for _i in 0..count {
+            rows.push(Vec::new(alloc))?;
+        }
+        Ok(Rows { rows })
+    }
+
+    /// The number at place `i` of a list.
+    pub fn get(&self, row: usize, i: usize) -> Option<usize>
+        requires { row < length self.now }
+        ensures value { result ≡ slice_get (row_at self.now row) i }
+        ensures small { IsSome result → i < 2 ^ 63 }
+    {
+        self.rows[row].get(i).copied()
+    }
+
+    /// Puts a number last in a list.
+    pub fn push(&mut self, row: usize, number: usize) -> Result<(), AllocError>
+        requires { row < length self.old }
+        ensures ok { OnOk result (AddsTo self.old self.new row number) }
+        ensures err { OnErr result (self.new ≡ self.old) }
+    {
+        self.rows[row].push(number)?;
+        Ok(())
+    }
+
+    /// Takes the number at place `i` out of a list, and puts the last one in its place.
+    pub fn swap_remove(&mut self, row: usize, i: usize)
+        requires in_table { row < length self.old }
+        requires in_row { i < length (row_at self.old row) }
+        ensures { DropsAt self.old self.new row i }
+    {
+        let _number = self.rows[row].swap_remove(i);
+    }
+}
