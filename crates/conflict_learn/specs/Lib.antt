@@ -1,0 +1,3 @@
+pub mod Learnt
+pub mod Places
+pub mod Analysis

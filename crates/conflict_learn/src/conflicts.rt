@@ -1,0 +1,74 @@
+ghost use Rattle.std.specs.Prelude.{◌≡◌, ℕ, true, ◌++◌, List, Some, IfOk, All, reverse};
+ghost use Rattle.clause_base.specs.Clause.{IsClauseOf, IsFormula, IsWithin};
+ghost use Rattle.refutation_log.specs.Entry.{clauses_of};
+ghost use Rattle.refutation_log.specs.Follows.{clause_named, is_falsified_named, Follows};
+ghost use Rattle.unit_propagate.specs.Trail.{literals_of};
+ghost use Rattle.unit_propagate.specs.Sound.{IsSound};
+ghost use Rattle.conflict_learn.specs.Learnt.{IsLearnt};
+ghost use Rattle.clause_base.specs.Literal.{Literal};
+
+use crate::analysis::{Analysis, highest_level};
+use clause_base::{Clause, Cnf, Lit};
+use refutation_log::{Entry, Hints};
+use std::alloc::{AllocError, Global};
+use unit_propagate::{Trail, clause_at};
+
+/// A learnt clause with the hints by which it follows.
+#[derive(Debug, Drop)]
+pub struct Learned {
+    pub clause: Clause,
+    pub hints: Hints,
+}
+
+/// The clause of the first unique implication point of the falsified clause of that number.
+///
+/// The hints stand in the order in which their clauses become unit, those of level 0 among them. Takes time in proportion to the
+/// literals of the clauses that are resolved, but for a sorted set of their places on the trail.
+pub fn learn(
+    alloc: Global,
+    base: &Cnf,
+    seen: &[Entry],
+    trail: &Trail,
+    number: u64,
+) -> Result<Learned, AllocError>
+    requires variables { base.now.vars ≡ trail.now.vars }
+    requires formula { IsFormula base.now.vars base.now.clauses.items }
+    requires within { All (λ e. IsWithin base.now.vars e.clause) seen.now }
+    requires falsified { is_falsified_named (base.now.clauses.items ++ clauses_of seen.now) (literals_of trail.now.marks) number ≡ true }
+    requires sound { IsSound (base.now.clauses.items ++ clauses_of seen.now) trail.now.marks }
+    ensures follows { IfOk result (λ l. Follows (base.now.clauses.items ++ clauses_of seen.now) l.clause l.hints) }
+    ensures learnt { IfOk result (λ l. (c : List Literal) → clause_named (base.now.clauses.items ++ clauses_of seen.now) number ≡ Some c → IsLearnt trail.now.marks c l.clause) }
+{
+    let conflict = clause_at(base, seen, number as usize - 1);
+    let top = highest_level(trail, conflict.lits());
+    let mut analysis = Analysis::new(alloc, trail, conflict.lits(), number)?;
+    let end = trail.len();
+    analysis.finish(base, seen, trail, end, top)?;
+    let Analysis {
+        places: _places,
+        lits,
+        hints,
+    } = analysis;
+    with_hints(alloc, base.vars, &lits, hints)
+}
+
+/// The clause of these literals with these hints, in the other order.
+fn with_hints(
+    alloc: Global,
+    vars: u32,
+    lits: &[Lit],
+    mut hints: Vec<u64>,
+) -> Result<Learned, AllocError>
+    ensures clause { IfOk result (λ l. IsClauseOf lits.now l.clause) }
+    ensures hints { IfOk result (λ l. l.hints ≡ reverse hints.items) }
+{
+    let Ok(clause) = Clause::new(alloc, vars, lits) else {
+        return Err(AllocError);
+    };
+    hints.reverse();
+    let hints = Hints::new(alloc, &hints)?;
+    Ok(Learned { clause, hints })
+}
+
+#[cfg(test)]
+mod tests;
