@@ -7,3 +7,13 @@ pub mod Bits
 pub mod Valuations
 pub mod CircuitMachine
 pub mod Runs
+pub mod WordLemmas
+pub mod Columns
+pub mod Scanning
+pub mod HeaderLemmas
+pub mod SoundLemmas
+pub mod Firsts
+pub mod WalkLemmas
+pub mod SearchLemmas
+pub mod Assembly
+pub mod FileFacts

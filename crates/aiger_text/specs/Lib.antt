@@ -4,3 +4,12 @@ pub mod CircuitText
 pub mod Step
 pub mod Values
 pub mod Laws
+pub mod Words
+pub mod Walks
+pub mod CircuitFile
+pub mod Statements
+pub mod Labels
+pub mod Columns
+pub mod Sound
+pub mod Files
+pub mod FileLaws

@@ -48,7 +48,7 @@ impl Model for Circuit {
 
 impl Circuit {
     ghost use Rattle.aiger_text.specs.Circuit as parts;
-    ghost use Rattle.aiger_text.specs.CircuitType.{IsCircuit, AreSorted};
+    ghost use Rattle.aiger_text.specs.CircuitType.{IsCircuit, IsOrder, AreSorted};
 
     /// The circuit of these parts, in which each gate stands behind the gates that it uses.
     pub fn of_sorted_gates(
@@ -77,6 +77,34 @@ impl Circuit {
             output_names,
             order,
         })
+    }
+
+    // The circuit of these parts, with the places of its gates in an order in which they can be worked out.
+    pub(crate) fn of_ordered_gates(
+        variables: u32,
+        inputs: Vec<u32>,
+        latches: Vec<Latch>,
+        outputs: Vec<u32>,
+        gates: Vec<Gate>,
+        input_names: Vec<Option<Name>>,
+        output_names: Vec<Option<Name>>,
+        order: Vec<usize>,
+    ) -> Circuit
+        requires circuit { let c : parts.Circuit = record { variables = variables; inputs = inputs.items; latches = latches.items; outputs = outputs.items; gates = gates.items; input_names = input_names.items; output_names = output_names.items } in
+            IsCircuit c }
+        requires order { IsOrder gates.items order.items }
+        ensures { result ≡ record { variables = variables; inputs = inputs.items; latches = latches.items; outputs = outputs.items; gates = gates.items; input_names = input_names.items; output_names = output_names.items } }
+    {
+        Circuit {
+            variables,
+            inputs,
+            latches,
+            outputs,
+            gates,
+            input_names,
+            output_names,
+            order,
+        }
     }
 }
 

@@ -1,6 +1,7 @@
 // Laws of circuits. Each is the contract of a function that does nothing.
 ghost use Rattle.letter_word.specs.declared.kinds.Side.{Side};
 ghost use Rattle.aiger_text.specs.Circuit.{RunsOnEveryInput};
+ghost use Rattle.aiger_text.specs.FileLaws.{FilesStateOneThing, FilesHaveOneFault, FaultsStateNothing};
 ghost use Rattle.aiger_text.specs.Laws.{ValuationsAgree, RunsAreDetermined};
 
 use crate::circuits::Circuit;
@@ -25,3 +26,18 @@ pub fn runs_are_determined(circuit: &Circuit)
 {
     let _order = &circuit.order;
 }
+
+/// A file without fault states one thing.
+pub fn files_state_one_thing()
+    ensures { FilesStateOneThing }
+{}
+
+/// A file has at most one first fault.
+pub fn files_have_one_fault()
+    ensures { FilesHaveOneFault }
+{}
+
+/// A file with a fault states nothing.
+pub fn faults_state_nothing()
+    ensures { FaultsStateNothing }
+{}

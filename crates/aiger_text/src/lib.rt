@@ -1,16 +1,34 @@
-// Circuits of latches and and-gates: their definition, their steps, and their text in the ASCII
-// format of AIGER 1.9. The contract above this layer: `write_circuit` writes exactly the circuit's
-// lines, and `Circuit::step` is one step of the circuit. It stands on letter_word and text_base.
+// Circuits of latches and and-gates: their definition, their steps, and their text in the ASCII format of AIGER 1.9,
+// both ways. The contract above this layer: `read_circuit` gives what a file states or its first fault, `write_circuit`
+// writes exactly the circuit's lines, `Circuit::step` is one step of the circuit, and every lasso of input letters has
+// a run lasso. It stands on letter_word, machine_model and text_base.
 #![tactic(auto)]
 
+mod bodies;
 mod circuits;
+mod counts;
+mod faults;
+mod forms;
+mod header;
 mod laws;
+mod reading;
 mod states;
 mod symbols;
+mod uses;
+mod walks;
+mod words;
 mod write;
 
 pub use circuits::{Circuit, Gate, Latch};
-pub use laws::{runs_are_determined, runs_on_every_input, valuations_agree};
+pub use faults::CircuitFault;
+pub use laws::{
+    faults_state_nothing, files_have_one_fault, files_state_one_thing, runs_are_determined,
+    runs_on_every_input, valuations_agree,
+};
+pub use reading::{CircuitFile, read_circuit};
 pub use states::CircuitState;
 pub use symbols::Named;
 pub use write::write_circuit;
+
+#[cfg(test)]
+mod tests;
