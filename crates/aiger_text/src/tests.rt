@@ -1,6 +1,7 @@
-ghost use Rattle.std.specs.Prelude.{◌≡◌, ◌<◌, length};
+ghost use Rattle.std.specs.Prelude.{◌<◌, IsTrue, length};
+ghost use Rattle.aiger_text.specs.Step.{IsStateOf};
 
-use crate::{CircuitFault, CircuitFile, CircuitState, read_circuit, write_circuit};
+use crate::{Circuit, CircuitFault, CircuitFile, CircuitState, read_circuit, write_circuit};
 use std::alloc::{AllocError, Global};
 use std::test::Fail;
 use text_base::push_number;
@@ -24,21 +25,57 @@ fn written_again(alloc: Global, text: &[u8]) -> Result<Vec<u8>, AllocError> {
 
 // The first output in each step, where the first input has these values in turn.
 fn outputs_of(alloc: Global, text: &[u8], inputs: &[bool]) -> Result<Vec<bool>, AllocError> {
-    let mut outputs = Vec::new(alloc);
-    let Ok(file) = read_circuit(alloc, text) else {
-        return Ok(outputs);
-    };
-    let mut state = CircuitState::new(alloc, &file.circuit)?;
-    for value in inputs {
-        if !file.circuit.inputs.is_empty() {
-            state.set_input(0, *value);
+    match read_circuit(alloc, text) {
+        Ok(file) => {
+            let circuit = file.circuit;
+            run_circuit(alloc, &circuit, inputs)
         }
-        file.circuit.step(&mut state);
-        if !file.circuit.outputs.is_empty() {
-            outputs.push(state.output(0))?;
+        Err(_) => Ok(Vec::new(alloc)),
+    }
+}
+
+fn run_circuit(alloc: Global, circuit: &Circuit, inputs: &[bool]) -> Result<Vec<bool>, AllocError> {
+    let mut outputs = Vec::new(alloc);
+    let mut state = CircuitState::new(alloc, circuit)?;
+    if has_output(circuit) {
+        for value in inputs {
+            give_input(circuit, &mut state, *value);
+            outputs.push(step_once(circuit, &mut state))?;
         }
     }
     Ok(outputs)
+}
+
+fn has_output(circuit: &Circuit) -> bool
+    ensures { IsTrue result → 0 < length circuit.now.outputs }
+{
+    !circuit.outputs.is_empty()
+}
+
+fn has_input(circuit: &Circuit) -> bool
+    ensures { IsTrue result → 0 < length circuit.now.inputs }
+{
+    !circuit.inputs.is_empty()
+}
+
+// Gives the first input this value, where there is one.
+fn give_input(circuit: &Circuit, state: &mut CircuitState, value: bool)
+    requires { IsStateOf circuit.now state.old }
+    ensures { IsStateOf circuit.now state.new }
+{
+    if has_input(circuit) {
+        state.set_input(0, value);
+    }
+}
+
+// The first output after a step.
+fn step_once(circuit: &Circuit, state: &mut CircuitState) -> bool
+    requires fits { IsStateOf circuit.now state.old }
+    requires output { 0 < length circuit.now.outputs }
+    ensures { IsStateOf circuit.now state.new }
+{
+    circuit.step(state);
+    state.output(0)
 }
 
 // Where the comment and the names of a file stand.
@@ -64,7 +101,8 @@ fn push_gate(text: &mut Vec<u8>, literal: u64) -> Result<(), AllocError>
     push_number(text, literal - 2)?;
     text.push(b' ')?;
     push_number(text, literal - 2)?;
-    text.push(b'\n')
+    text.push(b'\n')?;
+    Ok(())
 }
 
 #[test]
