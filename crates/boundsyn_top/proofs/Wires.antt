@@ -13,8 +13,11 @@ use Rattle.letter_word.specs.Signals.{has}
 use Rattle.boundsyn_top.specs.Tokens.{is_name, is_word, begins_word, continues_word}
 use Rattle.boundsyn_top.specs.EquivalenceText.{Equivalence}
 use Rattle.boundsyn_top.specs.EquivalenceMeaning.{IsTrueOn}
-use Rattle.boundsyn_top.specs.Circuit.{Valuation, IsCircuitRun, RunsOn, RunsOnEveryInput, Occurs, HasStates, literal_value}
-use Rattle.boundsyn_top.specs.CircuitText.{Symbol, AnInput, AnOutput, header_line, symbol_line, gate_line, text_of_lines, comment_text, IsSymbolOf, is_at, ReadsAs, IsCircuit, IsDefinable, IsDefined, DependsOn, left, right, through}
+use Rattle.aiger_text.specs.Circuit.{Valuation, IsCircuitRun, RunsOn, RunsOnEveryInput, Occurs, HasStates, literal_value}
+use Rattle.aiger_text.specs.declared.symbols.Named.TheVariants.{AnInput, AnOutput}
+use Rattle.aiger_text.specs.CircuitText.{Symbol, header_line, symbol_line, gate_line, text_of_lines, comment_text, IsSymbolOf, is_at, ReadsAs}
+use Rattle.aiger_text.specs.CircuitType.{IsCircuit, IsDefinable, IsDefined, DependsOn}
+use Rattle.aiger_text.specs.CircuitType.DependsOn.{left, right, through}
 use Rattle.boundsyn_top.specs.Satisfaction.{CircuitSatisfies}
 use Rattle.boundsyn_top.specs.Settings.{default_settings}
 use Rattle.boundsyn_top.specs.Answer.{document_head, IsRealizableDocument}
@@ -49,12 +52,13 @@ no_dependence _ _ (through a b c one two) = no_dependence a b one
 
 pub wire_is_circuit : (e : Equivalence) → IsCircuit (wire e)
 wire_is_circuit e = record {
-  size = omega arith;
   room = omega arith;
   definable = All-one (IsDefinable (wire e)) 2 (wire_definable e);
   once = λ i k lt within. absurd (omega arith);
   all_defined = All-one (IsDefined (wire e)) (wire_literal (is_inverted e)) (wire_defined e (is_inverted e));
   no_cycle = λ v. no_dependence v v;
+  input_places = refl;
+  output_places = refl;
 }
 
 -- an output that is the input, turned round where exactly one side is negated, makes the sides equal
@@ -284,6 +288,7 @@ wire_reads e bytes comment input output is = record {
   input_names = refl;
   output_names = refl;
   circuit = wire_is_circuit e;
+  size = omega arith;
 }
 
 -- the lines behind the circuit, with the default settings

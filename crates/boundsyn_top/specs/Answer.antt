@@ -3,8 +3,8 @@ use Rattle.std.specs.Prelude.{◌≡◌, ℕ, Option, Some, None, List, [], ◌�
 use Rattle.letter_word.specs.declared.kinds.Kind.TheVariants.{Mealy}
 use Rattle.letter_word.specs.declared.kinds.Side.TheVariants.{System}
 use Rattle.boundsyn_top.specs.EquivalenceText.{Equivalence}
-use Rattle.boundsyn_top.specs.Circuit.{Circuit, HasStates, RunsOnEveryInput, IsCircuitOfKind}
-use Rattle.boundsyn_top.specs.CircuitText.{ReadsAs, text_of_lines}
+use Rattle.aiger_text.specs.Circuit.{Circuit, HasStates, RunsOnEveryInput, IsCircuitOfKind}
+use Rattle.aiger_text.specs.CircuitText.{ReadsAs, text_of_lines}
 use Rattle.boundsyn_top.specs.Satisfaction.{CarriesNames, CircuitSatisfies}
 use Rattle.boundsyn_top.specs.Faults.{SpecCode, IsFirstFault, IsAccepted, refusal_line}
 use Rattle.boundsyn_top.specs.Settings.{Settings}

@@ -1,8 +1,6 @@
 pub mod Tokens
 pub mod EquivalenceText
 pub mod EquivalenceMeaning
-pub mod Circuit
-pub mod CircuitText
 pub mod Satisfaction
 pub mod Faults
 pub mod Settings

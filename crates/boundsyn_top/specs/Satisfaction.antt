@@ -7,7 +7,7 @@ use Rattle.boundsyn_top.specs.EquivalenceText.{Equivalence}
 use Rattle.boundsyn_top.specs.EquivalenceMeaning.{Means}
 use Rattle.machine_model.specs.Machine.{MachineModel, IsMachine, size_of}
 use Rattle.machine_model.specs.Run.{IsRun}
-use Rattle.boundsyn_top.specs.Circuit.{Circuit, Valuation, IsCircuitRun}
+use Rattle.aiger_text.specs.Circuit.{Circuit, Valuation, IsCircuitRun}
 
 -- A machine of the text's kind, which reads its input and writes its output, satisfies the text where the
 -- text's meaning is true of every run lasso.

@@ -1,7 +1,7 @@
 -- The circuit of one equivalence: the output is the input, or its opposite.
 use Rattle.std.specs.Prelude.{◌≡◌, ℕ, Bool, not, Some, List, [], ◌∷◌, ◌++◌, codes, if◌then◌else◌}
 use Rattle.boundsyn_top.specs.EquivalenceText.{Equivalence, IsEquivalenceText}
-use Rattle.boundsyn_top.specs.Circuit.{Circuit}
+use Rattle.aiger_text.specs.Circuit.{Circuit}
 
 -- one `!` on the two sides together makes the output the input's opposite
 abbrev pub is_inverted : Equivalence → Bool
