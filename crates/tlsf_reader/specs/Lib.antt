@@ -5,3 +5,4 @@ pub mod Lexed
 pub mod Spec
 pub mod Faults
 pub mod Reads
+pub mod Levels

@@ -1,9 +1,11 @@
-// The reader of TLSF: a text is read into its one tree, or refused with the first fault of reading.
-// `read` ensures that it answers the tree exactly where the grammar has one for the text, and else the
-// fault that comes first in the order of refusals. It stands on tlsf_tokens, tlsf_tree, tlsf_grammar,
-// letter_word and text_base.
+// The reader of TLSF, its first pieces. Which tree a text has, and which fault of reading comes first, is defined
+// in `specs/`; `laws` says that no text has two trees. The code has the lexemes of a text, exactly, and the
+// grammar's tables of levels and operators, for the recursive descent to come. It stands on tlsf_tokens,
+// tlsf_tree, tlsf_grammar, letter_word and text_base.
 #![tactic(auto)]
 
 pub mod laws;
+mod level;
 mod lexeme;
+mod rest;
 mod symbols;
