@@ -1,0 +1,234 @@
+ghost use Rattle.std.specs.Prelude.{◌≡◌, ℕ, ◌+◌, ◌*◌, ◌^◌, ◌<◌, ◌≤◌, ◌++◌, Some, IfOk, OnOk, All, length, map};
+ghost use Rattle.std.specs.List.{range_with_len};
+ghost use Rattle.machine_model.specs.Machine.{size_of};
+ghost use Rattle.gate_build.specs.Table.{all_of, first_gate, gates_from, latches_of, latches_with, literals_from, split_literals};
+ghost use Rattle.gate_build.specs.Bits.{bit_in, bit_of};
+ghost use Rattle.gate_build.specs.Table as table;
+
+use crate::gates::Operands;
+use crate::tables::{Bit, latches_for, split};
+use aiger_text::{Circuit, Gate, Latch};
+use indexmap::IndexSet;
+use machine_model::Machine;
+use std::alloc::{AllocError, Global};
+use text_base::Name;
+
+/// The circuit of a machine of at most 8 states, whose inputs and outputs have these names. Its latches are the bits of
+/// the machine's state. It takes time linear in the numbers of codes and read letters, and in the written bits.
+pub fn circuit_of(
+    alloc: Global,
+    machine: &Machine,
+    read_names: &[Name],
+    write_names: &[Name],
+) -> Result<Circuit, AllocError>
+    requires few { size_of machine.now ≤ 8 }
+    requires reads { length read_names.now ≡ machine.now.reads }
+    requires writes { length write_names.now ≡ machine.now.writes }
+    ensures { IfOk result (λ c. c ≡ table.circuit_of machine.now read_names.now write_names.now) }
+{
+    let reads = machine.reads();
+    let latches = latches_for(machine.size());
+    let first = reads + latches + 1;
+    let inputs = literals(alloc, 0, reads)?;
+    let mut split_on = literals(alloc, reads, latches)?;
+    split_on.extend_from_slice(&inputs)?;
+    let mut gates = IndexSet::new(alloc);
+    let nexts = all(
+        first,
+        &mut gates,
+        machine,
+        &split_on,
+        Part::AllNexts,
+        latches,
+        alloc,
+    )?;
+    let outputs = all(
+        first,
+        &mut gates,
+        machine,
+        &split_on,
+        Part::AllWritten,
+        machine.writes(),
+        alloc,
+    )?;
+    let made = gate_list(alloc, first, gates.as_slice())?;
+    Circuit::of_sorted_gates(
+        alloc,
+        reads + latches + made.len() as u32,
+        inputs,
+        latch_list(alloc, reads, &nexts)?,
+        outputs,
+        made,
+        names(alloc, read_names)?,
+        names(alloc, write_names)?,
+    )
+}
+
+// A part of a machine's table.
+#[derive(Clone, Copy)]
+enum Part {
+    AllNexts,
+    AllWritten,
+}
+
+impl Part {
+    fn bit(self, place: u32) -> Bit
+        ensures { result ≡ bit_in self place }
+    {
+        match self {
+            Part::AllNexts => Bit::Next(place),
+            Part::AllWritten => Bit::Written(place),
+        }
+    }
+}
+
+// The literals of `count` variables behind `from` others.
+fn literals(alloc: Global, from: u32, count: u32) -> Result<Vec<u32>, AllocError>
+    requires { from + count ≤ 2 ^ 20 }
+    ensures { IfOk result (λ v. v.items ≡ literals_from from count) }
+{
+    let mut literals = Vec::new(alloc);
+    for place in 0..count {
+        literals.push(2 * (from + place + 1))?;
+    }
+    Ok(literals)
+}
+
+// The literals of the first bits of a part of the table, in order.
+fn all(
+    first: u32,
+    gates: &mut IndexSet<Operands>,
+    machine: &Machine,
+    split_on: &[u32],
+    part: Part,
+    count: u32,
+    alloc: Global,
+) -> Result<Vec<u32>, AllocError>
+    requires few { size_of machine.now ≤ 8 }
+    requires first { first ≡ first_gate machine.now }
+    requires low { first ≤ 12 }
+    requires split_on { split_on.now ≡ split_literals machine.now }
+    requires literals { All (λ l. l < 2 ^ 31) split_on.now }
+    requires small { length split_on.now ≤ 11 }
+    requires whole { 2 ^ length split_on.now ≡ 2 ^ latches_of machine.now * 2 ^ machine.now.reads }
+    requires room { length gates.old.keys + count * 2 ^ 13 ≤ 2 ^ 20 }
+    ensures value { IfOk result (λ v. all_of machine.now (λ j. bit_of machine.now (bit_in part j)) count gates.old.keys ≡ record { gates = gates.new.keys; literals = v.items }) }
+    ensures grown { OnOk result (length gates.new.keys ≤ length gates.old.keys + count * 2 ^ 13) }
+{
+    let mut literals = Vec::new(alloc);
+    for place in 0..count {
+        literals.push(split(first, gates, machine, part.bit(place), split_on, 0, 0)?)?;
+    }
+    Ok(literals)
+}
+
+// The gates of these operands, the first one having the variable `first`.
+fn gate_list(alloc: Global, first: u32, operands: &[Operands]) -> Result<Vec<Gate>, AllocError>
+    requires { first + length operands.now ≤ 2 ^ 30 }
+    ensures { IfOk result (λ v. v.items ≡ gates_from first operands.now) }
+{
+    let mut gates = Vec::with_capacity(alloc, operands.len())?;
+    for (place, pair) in operands.iter().enumerate() {
+        gates.push(Gate {
+            literal: 2 * (first + place as u32),
+            left: pair.greater,
+            right: pair.lesser,
+        })?;
+    }
+    Ok(gates)
+}
+
+// The latches behind `from` variables, with these next literals.
+fn latch_list(alloc: Global, from: u32, nexts: &[u32]) -> Result<Vec<Latch>, AllocError>
+    requires { from + length nexts.now ≤ 2 ^ 20 }
+    ensures { IfOk result (λ v. v.items ≡ latches_with from nexts.now) }
+{
+    let mut latches = Vec::with_capacity(alloc, nexts.len())?;
+    for (place, next) in nexts.iter().enumerate() {
+        latches.push(Latch {
+            literal: 2 * (from + place as u32 + 1),
+            next: *next,
+            reset: false,
+        })?;
+    }
+    Ok(latches)
+}
+
+// Each name at its place.
+fn names(alloc: Global, names: &[Name]) -> Result<Vec<Option<Name>>, AllocError>
+    ensures { IfOk result (λ v. v.items ≡ map (λ name. Some name) names.now) }
+{
+    let mut named = Vec::with_capacity(alloc, names.len())?;
+    for name in names {
+        named.push(Some(name.clone()?))?;
+    }
+    Ok(named)
+}
+
+#[cfg(test)]
+mod tests {
+    use super::*;
+    use aiger_text::write_circuit;
+    use letter_word::Kind;
+    use machine_model::Row;
+    use std::test::Fail;
+
+    // A machine of at most 8 states that writes one signal, of such rows (next, writes).
+    fn machine(alloc: Global, kind: Kind, reads: u32, rows: &[(u32, u32)]) -> Result<Machine, Fail>
+        requires reads { reads ≤ 8 }
+        requires rows { length rows.now < 2 ^ 32 }
+        ensures reads { IfOk result (λ m. m.reads ≡ reads) }
+        ensures writes { IfOk result (λ m. m.writes ≡ 1) }
+        ensures few { IfOk result (λ m. size_of m ≤ 8) }
+    {
+        let table: Vec<Row> = rows
+            .iter()
+            .map(|&(next, writes)| Row { next, writes })
+            .collect(alloc)?;
+        let machine = Machine::new(kind, reads, 1, table)?;
+        if machine.size() > 8 {
+            return Err(Fail::from("too large"));
+        }
+        Ok(machine)
+    }
+
+    // The text of the circuit of such a machine.
+    fn text(alloc: Global, machine: &Machine, reads: &[Name]) -> Result<Vec<u8>, Fail>
+        requires few { size_of machine.now ≤ 8 }
+        requires reads { length reads.now ≡ machine.now.reads }
+        requires writes { machine.now.writes ≡ 1 }
+    {
+        let writes = [Name::new(alloc, b"g")?];
+        let circuit = circuit_of(alloc, machine, reads, &writes)?;
+        let mut text = Vec::new(alloc);
+        write_circuit(&circuit, &mut text)?;
+        Ok(text)
+    }
+
+    // The machine of one state that writes whether both signals are set is one gate.
+    #[test]
+    fn both_signals_are_a_gate(rt: HostRuntime) -> Result<(), Fail> {
+        let rows = [(0, 0), (0, 0), (0, 0), (0, 1)];
+        let both = machine(rt.alloc(), Kind::Mealy, 2, &rows)?;
+        let reads = [Name::new(rt.alloc(), b"a")?, Name::new(rt.alloc(), b"b")?];
+        let text = text(rt.alloc(), &both, &reads)?;
+        assert_eq!(rt;
+            text.as_slice(),
+            b"aag 3 2 0 1 1\n2\n4\n6\n6 4 2\ni0 a\ni1 b\no0 g\n".as_slice()
+        );
+        Ok(())
+    }
+
+    // The machine of two states that writes what it read last is one latch.
+    #[test]
+    fn what_was_read_last_is_a_latch(rt: HostRuntime) -> Result<(), Fail> {
+        let rows = [(0, 0), (1, 0), (0, 1), (1, 1)];
+        let last = machine(rt.alloc(), Kind::Moore, 1, &rows)?;
+        let text = text(rt.alloc(), &last, &[Name::new(rt.alloc(), b"r")?])?;
+        assert_eq!(rt;
+            text.as_slice(),
+            b"aag 2 1 1 1 0\n2\n4 2\n4\ni0 r\no0 g\n".as_slice()
+        );
+        Ok(())
+    }
+}
