@@ -3,6 +3,7 @@
 ghost use Rattle.std.specs.Prelude.{◌≡◌, option_map, Some, IfSome, IfNone};
 ghost use Rattle.tlsf_reader.specs.declared.level.Level.TheVariants.{Releases};
 ghost use Rattle.tlsf_grammar.specs.Expressions.{tighter_of, joins_of, operator_of, big_of, bound_of};
+ghost use Rattle.tlsf_grammar.specs.Reading.{level_number};
 ghost use Rattle.tlsf_reader.specs.Levels.{level_of, joins_as, level_and_operator};
 
 use tlsf_tree::{Op, Symbol};
@@ -88,6 +89,30 @@ impl Level {
             Level::WeakUntils => Some(Level::Untils),
             Level::Untils => Some(Level::Releases),
             Level::Releases => None,
+        }
+    }
+
+    /// The number of the level, from the tightest on.
+    pub(crate) fn rank(self) -> u8
+        ensures { result ≡ level_number (level_of self) }
+    {
+        match self {
+            Level::Primary => 0,
+            Level::Products => 1,
+            Level::Quotients => 2,
+            Level::Sums => 3,
+            Level::Differences => 4,
+            Level::Meets => 5,
+            Level::Unions => 6,
+            Level::Comparisons => 7,
+            Level::Memberships => 8,
+            Level::Prefixes => 9,
+            Level::Conjunctions => 10,
+            Level::Disjunctions => 11,
+            Level::Implications => 12,
+            Level::WeakUntils => 13,
+            Level::Untils => 14,
+            Level::Releases => 15,
         }
     }
 

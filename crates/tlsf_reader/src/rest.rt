@@ -1,14 +1,16 @@
 // Looking at the front of the lexemes that are left.
 
-ghost use Rattle.std.specs.Prelude.{◌≡◌, map};
+ghost use Rattle.std.specs.Prelude.{◌≡◌, ◌∷◌, ◌↔◌, true, length, map, option_map, IfOk, IfErr, IsOk, IfSome, IsSome};
 ghost use Rattle.tlsf_grammar.specs.Symbols.{symbol_number, symbol_eq};
-ghost use Rattle.tlsf_grammar.specs.Reading.{begins, begins_big};
+ghost use Rattle.tlsf_grammar.specs.Reading.{begins, begins_big, at_level, operator_here};
 ghost use Rattle.tlsf_tree.specs.declared.symbol.Symbol.TheVariants.{Section as section_symbol};
+ghost use Rattle.tlsf_reader.specs.declared.rest.Refusal.TheVariants.{At};
+ghost use Rattle.tlsf_reader.specs.Levels.{level_of, level_and_operator};
 ghost use Rattle.tlsf_reader.specs.Seen.{seen};
 
-use crate::level::big;
+use crate::level::{Level, big, operator};
 use crate::lexeme::Lexeme;
-use tlsf_tree::{Section, Symbol};
+use tlsf_tree::{Op, Section, Symbol};
 
 /// The number of a section's symbol, by which symbols are compared.
 fn section_number(section: Section) -> u8
@@ -117,3 +119,84 @@ fn begins_big(ls: &[Lexeme<'_>]) -> bool
         _ => false,
     }
 }
+
+/// The operator, where it is of this level.
+fn at_level(level: Level, found: Option<(Level, Op)>) -> Option<Op>
+    ensures { result ≡ at_level (level_of level) (option_map level_and_operator found) }
+{
+    match found {
+        Some((of, op)) => {
+            if of.rank() == level.rank() {
+                Some(op)
+            } else {
+                None
+            }
+        }
+        None => None,
+    }
+}
+
+/// The operator of this level at the front. Where another expression may follow, the sign of a big operator is none.
+pub(crate) fn operator_here(ends: bool, level: Level, ls: &[Lexeme<'_>]) -> Option<Op>
+    ensures { result ≡ operator_here ends (level_of level) (map seen ls.now) }
+{
+    if ends && begins_big(ls) {
+        return None;
+    }
+    match ls {
+        [] => None,
+        [first, ..] => at_level(level, operator(first.symbol)),
+    }
+}
+
+/// Why a form isn't read.
+#[derive(Clone, Copy, Debug, PartialEq, Eq)]
+pub(crate) enum Refusal {
+    NoMemory,
+    /// So many lexemes were left, of which the first is refused; where none was left, the end is.
+    At { left: usize },
+}
+
+/// The next lexeme, which has to have this symbol, and what stands after it.
+pub(crate) fn expect<'a>(
+    symbol: Symbol,
+    ls: &'a [Lexeme<'a>],
+) -> Result<(Lexeme<'a>, &'a [Lexeme<'a>]), Refusal>
+    ensures ok { IfOk result (λ p. map seen ls.now ≡ seen p.0 ∷ map seen p.1.now) }
+    ensures symbol { IsOk result ↔ (begins symbol (map seen ls.now) ≡ true) }
+    ensures err { IfErr result (λ e. e ≡ At (length ls.now)) }
+{
+    match ls {
+        [first, rest @ ..] => {
+            if same(first.symbol, symbol) {
+                Ok((*first, rest))
+            } else {
+                Err(Refusal::At { left: ls.len() })
+            }
+        }
+        [] => Err(Refusal::At { left: 0 }),
+    }
+}
+
+/// The next lexeme, where it has this symbol, and what stands after it.
+pub(crate) fn next_if<'a>(
+    symbol: Symbol,
+    ls: &'a [Lexeme<'a>],
+) -> Option<(Lexeme<'a>, &'a [Lexeme<'a>])>
+    ensures some { IfSome result (λ p. map seen ls.now ≡ seen p.0 ∷ map seen p.1.now) }
+    ensures symbol { IsSome result ↔ (begins symbol (map seen ls.now) ≡ true) }
+{
+    match ls {
+        [first, rest @ ..] => {
+            if same(first.symbol, symbol) {
+                Some((*first, rest))
+            } else {
+                None
+            }
+        }
+        [] => None,
+    }
+}
+
+#[cfg(test)]
+mod tests;
