@@ -8,6 +8,7 @@ ghost use Rattle.annotation_encode.specs.BaseClauses.{all_below, base_clauses, c
 ghost use Rattle.annotation_encode.specs.Laws.{HasAccepted, IsMetBySome};
 ghost use Rattle.annotation_encode.specs.Variables.{letter_count, row_place, variables_of};
 
+use crate::counting::count;
 use crate::numbering::{
     count_var, letter_count, row_count, row_move, var_move, var_write, variable_count,
 };
@@ -33,7 +34,7 @@ pub fn encode(alloc: Global, problem: &Problem) -> Result<Cnf, AllocError>
         bound: bound_of(problem),
     };
     let _states = problem.automaton.states();
-    let mut clauses = Vec::new(alloc);
+    let mut clauses = encoding.room()?;
     encoding.push_row_clauses(&mut clauses)?;
     encoding.push_start_clause(&mut clauses)?;
     encoding.push_edge_clauses(&mut clauses)?;
@@ -54,6 +55,17 @@ struct Encoding<'a> {
 }
 
 impl Encoding<'_> {
+    /// An empty list with room for all clauses, where the problem is within the limit on their number.
+    fn room(&self) -> Result<Vec<Clause>, AllocError>
+        requires { IsProblem self.now.problem.now }
+        ensures { IfOk result (λ clauses. clauses.items ≡ []) }
+    {
+        match count(self.problem) {
+            Some(number) => Vec::with_capacity(self.alloc, number as usize),
+            None => Ok(Vec::new(self.alloc)),
+        }
+    }
+
     /// Adds a clause, whose literals stand by rising variable.
     fn push_clause(&self, lits: &[Lit], clauses: &mut Vec<Clause>) -> Result<(), AllocError>
         requires problem { IsProblem self.now.problem.now }

@@ -9,7 +9,7 @@ use letter_word::Kind;
 use machine_model::Problem;
 use product_bound::bound_of;
 
-/// The number of variables.
+/// The number of variables. Takes a step for each state of the automaton.
 pub fn variables(problem: &Problem) -> u32
     requires { IsProblem problem.now }
     ensures value { result ≡ variables_of problem.now }
@@ -70,7 +70,7 @@ pub fn var_write(problem: &Problem, t: u32, i: u32, s: u32) -> u32
     move_count(problem) + 1 + write_place(problem, t, i) * problem.writes() + s
 }
 
-/// The variable that says: the number of the pair (t, q) is at least `c`.
+/// The variable that says: the number of the pair (t, q) is at least `c`. Takes a step for each state of the automaton.
 pub fn var_count(problem: &Problem, t: u32, q: u32, c: u32) -> u32
     requires problem { IsProblem problem.now }
     requires state { t < problem.now.size }

@@ -24,6 +24,9 @@ pub(crate) fn first_follow_fault(
     requires to { to ≤ length entries.now }
     ensures { IfOk result (IsFirstOf (fault_of_entry base.now.clauses.items) entries.now from to) }
 {
+    if from >= to {
+        return Ok(None);
+    }
     let mut marks = Marks::new(alloc, base.vars)?;
     for i in from..to {
         let fault = follow_fault(&mut marks, base, &entries[..i], &entries[i])?;

@@ -32,7 +32,7 @@ pub(crate) fn first_follow_fault_split<R: Threads + Sync>(
     first_answer(&answers)
 }
 
-/// What is found of each piece of so many entries.
+/// What is found of each piece of so many entries. A piece is much work, so each may go to a thread of its own.
 fn answers_of_pieces<R: Threads + Sync>(
     rt: &R,
     alloc: Global,
@@ -47,6 +47,7 @@ fn answers_of_pieces<R: Threads + Sync>(
 {
     (0..PIECES)
         .into_par_iter()
+        .with_min_len(1)
         .map(
             |piece: usize| -> Result<Option<LogFault>, AllocError>
                 requires { (piece < 64) × IsCheckable base.now.vars base.now.clauses.items entries.now × (to ≤ length entries.now) }

@@ -10,15 +10,15 @@ use Rattle.annotation_encode.proofs.Further.{met_by_some}
 use Rattle.annotation_encode.proofs.clauses.encode.Goals as goal
 
 pub returns-clause-clauses : goal.returns-clause-clauses
-returns-clause-clauses c = base_from c.args.problem.now c.new-clauses.result.items c.push_row_clauses.new.clauses.items c.push_start_clause.new.clauses.items c.push_edge_clauses.new.clauses.items c.push_order_clauses.new.clauses.items
-    c.new-clauses.ensures.items c.in_ok-push_row_clauses.ensures c.in_ok-push_start_clause.ensures c.in_ok-push_edge_clauses.ensures c.in_ok-push_order_clauses.ensures
+returns-clause-clauses c = base_from c.args.problem.now c.in_ok-clauses.clauses.items c.push_row_clauses.new.clauses.items c.push_start_clause.new.clauses.items c.push_edge_clauses.new.clauses.items c.push_order_clauses.new.clauses.items
+    c.in_ok-clauses.ensures c.in_ok-push_row_clauses.ensures c.in_ok-push_start_clause.ensures c.in_ok-push_edge_clauses.ensures c.in_ok-push_order_clauses.ensures
 
 pub returns-clause-formula : goal.returns-clause-formula
 returns-clause-formula c =
     let made : IsAutomaton (automaton_of c.args.problem.now) = subst IsAutomaton c.deref.ensures c.states-states.ensures.kept in
     let small : c.variable_count.result ≤ 2 ^ 30 = omega (arith, c.variable_count.ensures.small) in
-    let listed : c.push_order_clauses.new.clauses.items ≡ base_clauses c.args.problem.now = base_from c.args.problem.now c.new-clauses.result.items c.push_row_clauses.new.clauses.items c.push_start_clause.new.clauses.items c.push_edge_clauses.new.clauses.items c.push_order_clauses.new.clauses.items
-    c.new-clauses.ensures.items c.in_ok-push_row_clauses.ensures c.in_ok-push_start_clause.ensures c.in_ok-push_edge_clauses.ensures c.in_ok-push_order_clauses.ensures in (
+    let listed : c.push_order_clauses.new.clauses.items ≡ base_clauses c.args.problem.now = base_from c.args.problem.now c.in_ok-clauses.clauses.items c.push_row_clauses.new.clauses.items c.push_start_clause.new.clauses.items c.push_edge_clauses.new.clauses.items c.push_order_clauses.new.clauses.items
+    c.in_ok-clauses.ensures c.in_ok-push_row_clauses.ensures c.in_ok-push_start_clause.ensures c.in_ok-push_edge_clauses.ensures c.in_ok-push_order_clauses.ensures in (
       small,
       subst (λ (cs : List (List Literal)). All (IsWithin c.variable_count.result) cs) (sym listed)
           (subst (λ n. All (IsWithin n) (base_clauses c.args.problem.now)) (sym c.variable_count.ensures.value) (base_within c.args.problem.now c.requires made)),
@@ -27,6 +27,6 @@ returns-clause-formula c =
 pub returns-clause-met : goal.returns-clause-met
 returns-clause-met c =
     let made : IsAutomaton (automaton_of c.args.problem.now) = subst IsAutomaton c.deref.ensures c.states-states.ensures.kept in
-    let listed : c.push_order_clauses.new.clauses.items ≡ base_clauses c.args.problem.now = base_from c.args.problem.now c.new-clauses.result.items c.push_row_clauses.new.clauses.items c.push_start_clause.new.clauses.items c.push_edge_clauses.new.clauses.items c.push_order_clauses.new.clauses.items
-    c.new-clauses.ensures.items c.in_ok-push_row_clauses.ensures c.in_ok-push_start_clause.ensures c.in_ok-push_edge_clauses.ensures c.in_ok-push_order_clauses.ensures in
+    let listed : c.push_order_clauses.new.clauses.items ≡ base_clauses c.args.problem.now = base_from c.args.problem.now c.in_ok-clauses.clauses.items c.push_row_clauses.new.clauses.items c.push_start_clause.new.clauses.items c.push_edge_clauses.new.clauses.items c.push_order_clauses.new.clauses.items
+    c.in_ok-clauses.ensures c.in_ok-push_row_clauses.ensures c.in_ok-push_start_clause.ensures c.in_ok-push_edge_clauses.ensures c.in_ok-push_order_clauses.ensures in
     λ accepted. met_by_some c.args.problem.now c.variable_count.result c.push_order_clauses.new.clauses.items c.requires made c.variable_count.ensures.value listed accepted
