@@ -5,3 +5,9 @@ pub mod Splits
 pub mod Alls
 pub mod Whole
 pub mod Made
+pub mod Positions
+pub mod Runs
+pub mod Listing
+pub mod Cuts
+pub mod States
+pub mod Bounds

@@ -5,14 +5,10 @@ use Rattle.std.proofs.Math.Nat.{pow-suc, mul_comm}
 use Rattle.std.proofs.Math.Seq.{drop-length}
 use Rattle.std.proofs.lemmas.Nat.{pow_pos}
 use Rattle.aiger_text.specs.Circuit.{Valuation, literal_value}
+use Rattle.aiger_text.proofs.Bits.{number_of}
 use Rattle.gate_build.specs.declared.gates.Operands.{Operands}
 use Rattle.gate_build.specs.Gates.{Built, ite_of, split_of}
 use Rattle.gate_build.proofs.Meaning.{Agree, AreOrdered, IsGood, agree_before, good_ite, good_kept, good_then, still_means, still_within}
-
--- the number that has these bits, the lowest one first
-abbrev pub number_of : List Bool → ℕ
-number_of [] = 0
-number_of (b ∷ bs) = cond b 1 0 + number_of bs * 2
 
 module _ (first : ℕ) (test : ℕ → Bool) (value weight : ℕ) (gates : List Operands) where
   pub split-nil : split_of first test [] value weight gates ≡ record { gates = gates; literal = cond (test value) 1 0 }

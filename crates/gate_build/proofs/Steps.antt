@@ -1,5 +1,5 @@
 -- What each path of the code computes.
-use Rattle.std.proofs.Common.{◌≡◌, ◌≢◌, ℕ, ◌+◌, ◌*◌, ◌≤◌, ◌++◌, ◌∷◌, [], true, false, cond, List, length, refl, sym, arith}
+use Rattle.std.proofs.Common.{◌≡◌, ◌≢◌, ℕ, ◌+◌, ◌*◌, ◌≤◌, ◌++◌, ◌∷◌, [], true, false, cond, List, length, refl, sym, ap, ◌∙◌, arith}
 use Rattle.std.specs.Prelude.{max, min}
 use Rattle.std.specs.List.{list_any, position_or_len}
 use Rattle.std.proofs.lemmas.Bool.{ne_eqb, eq-eqb}
@@ -36,9 +36,12 @@ module _ (first : ℕ) (gates : List Operands) (x y : ℕ) where
   unfolding and_of
   and-equal none d e same = rw (none, ne_eqb x 1 d, ne_eqb y 1 e, eq-eqb x y same) refl
 
-  pub and-gate : exclude x y ≡ false → x ≢ 1 → y ≢ 1 → x ≢ y → and_of first gates x y ≡ gate_of first gates (record { greater = max x y; lesser = min x y })
+  pub and-gate : (greater lesser : ℕ) (b : Built) → exclude x y ≡ false → x ≢ 1 → y ≢ 1 → x ≢ y → gate_of first gates (record { greater = greater; lesser = lesser }) ≡ b
+      → greater ≡ max x y → lesser ≡ min x y → and_of first gates x y ≡ b
   unfolding and_of
-  and-gate none d e apart = rw (none, ne_eqb x 1 d, ne_eqb y 1 e, ne_eqb x y apart) refl
+  and-gate greater lesser b none d e apart made is_greater is_lesser =
+      rw (none, ne_eqb x 1 d, ne_eqb y 1 e, ne_eqb x y apart)
+      (ap (λ (o : Operands). gate_of first gates o) (λ i. record { greater = sym is_greater i; lesser = sym is_lesser i }) ∙ made)
 
 module _ (first : ℕ) (gates : List Operands) (x p q : ℕ) where
   pub ite-either : p ≡ q → ite_of first gates x p q ≡ record { gates = gates; literal = p }

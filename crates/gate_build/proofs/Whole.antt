@@ -88,16 +88,16 @@ module _ (m : MachineModel) (read_names write_names : List (List ℕ)) (reads : 
   abbrev ops : List Operands
   ops = (outputs_of m).gates
 
-  length-gates : length (gates_from first ops) ≡ length ops
+  pub length-gates : length (gates_from first ops) ≡ length ops
   length-gates = length-map-range_with_len (gate_from first ops) 0 (length ops)
 
-  gate-at : (k : ℕ) (d : Gate) → k < length ops → get_or (gates_from first ops) k d ≡ gate_from first ops k
+  pub gate-at : (k : ℕ) (d : Gate) → k < length ops → get_or (gates_from first ops) k d ≡ gate_from first ops k
   gate-at k d h = get_or-map-range_with_len (gate_from first ops) 0 (length ops) k k d h (omega arith)
 
-  length-latches : length c.latches ≡ latches_of m
+  pub length-latches : length c.latches ≡ latches_of m
   length-latches = length-map-range_with_len (latch_from m.reads (nexts_of m).literals) 0 (length (nexts_of m).literals) ∙ nexts_good.places
 
-  latch-at : (k : ℕ) (d : Latch) → k < latches_of m → get_or c.latches k d ≡ latch_from m.reads (nexts_of m).literals k
+  pub latch-at : (k : ℕ) (d : Latch) → k < latches_of m → get_or c.latches k d ≡ latch_from m.reads (nexts_of m).literals k
   latch-at k d h = get_or-map-range_with_len (latch_from m.reads (nexts_of m).literals) 0 (length (nexts_of m).literals) k k d (rw nexts_good.places h) (omega arith)
 
   -- the literals that the lines define, in order, are those of all variables
@@ -113,7 +113,7 @@ module _ (m : MachineModel) (read_names write_names : List (List ℕ)) (reads : 
   length-gate_lits : length gate_lits ≡ length ops
   length-gate_lits = length-map c.gates (λ (gate : Gate). gate.literal) ∙ length-gates
 
-  length-inputs : length c.inputs ≡ m.reads
+  pub length-inputs : length c.inputs ≡ m.reads
   length-inputs = length-literals_from 0 m.reads
 
   length-defined : length (defined_literals c) ≡ m.reads + latches_of m + length ops

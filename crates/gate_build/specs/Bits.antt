@@ -1,3 +1,4 @@
+-- The bits of a machine's table as the code names them (this project's own).
 use Rattle.std.specs.Prelude.{ℕ, Bool}
 use Rattle.machine_model.specs.Machine.{MachineModel}
 use Rattle.gate_build.specs.declared.tables.Bit.{Bit}

@@ -10,7 +10,7 @@ opposite x = if x % 2 == 0 then x + 1 else x - 1
 abbrev pub same_operands : Operands → Operands → Bool
 same_operands a b = (a.greater == b.greater) && (a.lesser == b.lesser)
 
--- what was built: the operands of the gates made so far, and a literal; gate k has the variable `first + k`
+-- what was built: the operands of the gates made so far, in order, and a literal
 pub record Built : Type 0 where
   pub gates : List Operands
   pub literal : ℕ
@@ -19,7 +19,7 @@ pub record Built : Type 0 where
 abbrev pub negated : Built → Built
 negated b = record { gates = b.gates; literal = opposite b.literal }
 
--- the gate of these operands, made once
+-- the gate of these operands, made once; the first gate has the variable `first`, and those behind it the ones that follow
 unfoldable pub gate_of : ℕ → List Operands → Operands → Built
 gate_of first gates pair = record {
   gates = if list_any (same_operands pair) gates then gates else (gates ++ pair ∷ []);

@@ -1,3 +1,4 @@
 pub mod Gates
 pub mod Table
 pub mod Bits
+pub mod Laws

@@ -1,6 +1,8 @@
 ghost use Rattle.std.specs.Prelude.{◌≡◌, ℕ, ◌+◌, ◌*◌, ◌^◌, ◌<◌, ◌≤◌, ◌++◌, Some, IfOk, OnOk, All, length, map};
 ghost use Rattle.std.specs.List.{range_with_len};
 ghost use Rattle.machine_model.specs.Machine.{size_of};
+ghost use Rattle.aiger_text.specs.Circuit.{IsCircuitOfKind};
+ghost use Rattle.gate_build.specs.Laws.{HasTheRunsOf, HasTheStatesOf};
 ghost use Rattle.gate_build.specs.Table.{all_of, first_gate, gates_from, latches_of, latches_with, literals_from, split_literals};
 ghost use Rattle.gate_build.specs.Bits.{bit_in, bit_of};
 ghost use Rattle.gate_build.specs.Table as table;
@@ -14,7 +16,8 @@ use std::alloc::{AllocError, Global};
 use text_base::Name;
 
 /// The circuit of a machine of at most 8 states, whose inputs and outputs have these names. Its latches are the bits of
-/// the machine's state. It takes time linear in the numbers of codes and read letters, and in the written bits.
+/// the machine's state, and its runs are the machine's. It takes time linear in the rows, a row for each code and each
+/// letter that is read, times the bits of a row, those of the next state and those that are written.
 pub fn circuit_of(
     alloc: Global,
     machine: &Machine,
@@ -24,7 +27,11 @@ pub fn circuit_of(
     requires few { size_of machine.now ≤ 8 }
     requires reads { length read_names.now ≡ machine.now.reads }
     requires writes { length write_names.now ≡ machine.now.writes }
-    ensures { IfOk result (λ c. c ≡ table.circuit_of machine.now read_names.now write_names.now) }
+    ensures value { IfOk result (λ c. c ≡ table.circuit_of machine.now read_names.now write_names.now) }
+    ensures runs { IfOk result (λ c. HasTheRunsOf machine.now c) }
+    ensures kind { IfOk result (λ c. IsCircuitOfKind machine.now.kind c) }
+    ensures states { IfOk result (λ c. HasTheStatesOf machine.now c) }
+    ensures variables { IfOk result (λ c. c.variables ≤ 67562) }
 {
     let reads = machine.reads();
     let latches = latches_for(machine.size());
@@ -166,69 +173,4 @@ fn names(alloc: Global, names: &[Name]) -> Result<Vec<Option<Name>>, AllocError>
 }
 
 #[cfg(test)]
-mod tests {
-    use super::*;
-    use aiger_text::write_circuit;
-    use letter_word::Kind;
-    use machine_model::Row;
-    use std::test::Fail;
-
-    // A machine of at most 8 states that writes one signal, of such rows (next, writes).
-    fn machine(alloc: Global, kind: Kind, reads: u32, rows: &[(u32, u32)]) -> Result<Machine, Fail>
-        requires reads { reads ≤ 8 }
-        requires rows { length rows.now < 2 ^ 32 }
-        ensures reads { IfOk result (λ m. m.reads ≡ reads) }
-        ensures writes { IfOk result (λ m. m.writes ≡ 1) }
-        ensures few { IfOk result (λ m. size_of m ≤ 8) }
-    {
-        let table: Vec<Row> = rows
-            .iter()
-            .map(|&(next, writes)| Row { next, writes })
-            .collect(alloc)?;
-        let machine = Machine::new(kind, reads, 1, table)?;
-        if machine.size() > 8 {
-            return Err(Fail::from("too large"));
-        }
-        Ok(machine)
-    }
-
-    // The text of the circuit of such a machine.
-    fn text(alloc: Global, machine: &Machine, reads: &[Name]) -> Result<Vec<u8>, Fail>
-        requires few { size_of machine.now ≤ 8 }
-        requires reads { length reads.now ≡ machine.now.reads }
-        requires writes { machine.now.writes ≡ 1 }
-    {
-        let writes = [Name::new(alloc, b"g")?];
-        let circuit = circuit_of(alloc, machine, reads, &writes)?;
-        let mut text = Vec::new(alloc);
-        write_circuit(&circuit, &mut text)?;
-        Ok(text)
-    }
-
-    // The machine of one state that writes whether both signals are set is one gate.
-    #[test]
-    fn both_signals_are_a_gate(rt: HostRuntime) -> Result<(), Fail> {
-        let rows = [(0, 0), (0, 0), (0, 0), (0, 1)];
-        let both = machine(rt.alloc(), Kind::Mealy, 2, &rows)?;
-        let reads = [Name::new(rt.alloc(), b"a")?, Name::new(rt.alloc(), b"b")?];
-        let text = text(rt.alloc(), &both, &reads)?;
-        assert_eq!(rt;
-            text.as_slice(),
-            b"aag 3 2 0 1 1\n2\n4\n6\n6 4 2\ni0 a\ni1 b\no0 g\n".as_slice()
-        );
-        Ok(())
-    }
-
-    // The machine of two states that writes what it read last is one latch.
-    #[test]
-    fn what_was_read_last_is_a_latch(rt: HostRuntime) -> Result<(), Fail> {
-        let rows = [(0, 0), (1, 0), (0, 1), (1, 1)];
-        let last = machine(rt.alloc(), Kind::Moore, 1, &rows)?;
-        let text = text(rt.alloc(), &last, &[Name::new(rt.alloc(), b"r")?])?;
-        assert_eq!(rt;
-            text.as_slice(),
-            b"aag 2 1 1 1 0\n2\n4 2\n4\ni0 r\no0 g\n".as_slice()
-        );
-        Ok(())
-    }
-}
+mod tests;

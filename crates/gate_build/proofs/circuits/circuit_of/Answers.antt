@@ -1,15 +1,19 @@
-use Rattle.std.proofs.Common.{◌≡◌, ℕ, ◌+◌, ◌*◌, ◌^◌, ◌<◌, ◌≤◌, List, [], ◌++◌, length, get_or, sym, ap, subst, ◌∙◌, arith}
-use Rattle.std.specs.Prelude.{IfOk}
+use Rattle.std.proofs.Common.{◌≡◌, ℕ, ◌+◌, ◌*◌, ◌^◌, ◌<◌, ◌≤◌, [], ◌++◌, length, get_or, refl, sym, ap, subst, ◌∙◌, arith}
+use Rattle.std.specs.Prelude.{IfOk, Result}
+use Rattle.std.proofs.lemmas.Result.{IfOk-weaker}
 use Rattle.std.proofs.lemmas.List.FromFn.{length-map-range_with_len}
 use Rattle.machine_model.specs.Machine.{size_of}
-use Rattle.aiger_text.specs.Circuit.{Circuit}
-use Rattle.aiger_text.specs.declared.circuits.Gate.{Gate}
+use Rattle.aiger_text.specs.Circuit.{Circuit, IsCircuitOfKind}
 use Rattle.aiger_text.specs.CircuitType.{AreSorted, IsCircuit}
-use Rattle.gate_build.specs.Table.{AllBuilt, first_gate, gate_from, gates_from, latches_for, latches_of, latches_with, literals_from, nexts_of, split_literals}
+use Rattle.gate_build.specs.Laws.{HasTheRunsOf, HasTheStatesOf}
+use Rattle.gate_build.specs.Table.{AllBuilt, circuit_of, first_gate, gate_from, gates_from, latches_for, latches_of, latches_with, literals_from, nexts_of, split_literals}
 use Rattle.gate_build.proofs.Whole.{is_circuit, sorted, split_early, length-split, codes-split, few_latches, nexts_good}
+use Rattle.gate_build.proofs.Bounds.{few_variables}
+use Rattle.gate_build.proofs.Runs.{has_the_runs}
+use Rattle.gate_build.proofs.States.{has_the_states, is_of_kind}
 use Rattle.gate_build.proofs.Made.{circuit-made, nexts-made}
 use Rattle.gate_build.proofs.circuits.circuit_of.Goals as goal
-use Rattle.gate_build.proofs.circuits.circuit_of.Goals.{After-deref-2, After-len, After-drop-nexts-2}
+use Rattle.gate_build.proofs.circuits.circuit_of.Goals.{After-deref-2, After-len, In_ok-names-2}
 
 -- the literals that are split on
 split : (c : After-deref-2) → c.deref-2.result.now ≡ split_literals c.args.machine.now
@@ -98,15 +102,26 @@ latch_list-requires c =
     let lent : length c.deref-4.result.now ≡ length c.in_ok-nexts.nexts.items = ap length c.deref-4.ensures.value in
     omega (arith, reads, latches, nexts, lent, c.reads-reads.ensures.value)
 
-pub of_sorted_gates-requires-clause-circuit : goal.of_sorted_gates-requires-clause-circuit
-of_sorted_gates-requires-clause-circuit c =
+-- the circuit of the parts that were made
+abbrev parts : In_ok-names-2 → Circuit
+parts c = record {
+  variables = c.reads-reads.result + c.latches_for-latches.result + c.len.result;
+  inputs = c.in_ok-inputs.inputs.items;
+  latches = c.in_ok-latch_list.field-0.items;
+  outputs = c.in_ok-outputs.outputs.items;
+  gates = c.in_ok-made.made.items;
+  input_names = c.in_ok-names.field-0.items;
+  output_names = c.in_ok-names-2.field-0.items;
+}
+
+whole : (c : In_ok-names-2) → parts c ≡ circuit_of c.args.machine.now c.args.read_names.now c.args.write_names.now
+whole c =
     let n : c.reads-reads.result ≡ c.args.machine.now.reads = c.reads-reads.ensures.value in
     let l : c.latches_for-latches.result ≡ latches_of c.args.machine.now = c.latches_for-latches.ensures.value ∙ ap latches_for c.size.ensures.value in
     let first : c.reads-reads.result + c.latches_for-latches.result + 1 ≡ first_gate c.args.machine.now = omega (arith, n, l) in
     let made : length c.in_ok-made.made.items ≡ length c.all-2.new.gates.keys =
     ap length c.in_ok-made.ensures ∙ length-map-range_with_len (gate_from (c.reads-reads.result + c.latches_for-latches.result + 1) c.as_slice.result.now) 0 (length c.as_slice.result.now)
     ∙ ap length c.as_slice.ensures.keys in
-    let whole =
     circuit-made c.args.machine.now c.args.read_names.now c.args.write_names.now c.latches_for-latches.result c.writes.result c.new-gates.result.keys c.all.new.gates.keys c.all-2.new.gates.keys c.in_ok-nexts.nexts.items c.in_ok-outputs.outputs.items
     c.new-gates.ensures.empty l c.writes.ensures.value c.in_ok-nexts.ensures.value c.in_ok-outputs.ensures.value
     (c.reads-reads.result + c.latches_for-latches.result + c.len.result) c.in_ok-inputs.inputs.items c.in_ok-latch_list.field-0.items c.in_ok-made.made.items c.in_ok-names.field-0.items c.in_ok-names-2.field-0.items
@@ -114,43 +129,51 @@ of_sorted_gates-requires-clause-circuit c =
     (c.in_ok-inputs.ensures ∙ ap (literals_from 0) n)
     (c.in_ok-latch_list.ensures ∙ ap (λ k. latches_with k c.deref-4.result.now) n ∙ ap (latches_with c.args.machine.now.reads) c.deref-4.ensures.value)
     (c.in_ok-made.ensures ∙ ap (λ k. gates_from k c.as_slice.result.now) first ∙ ap (gates_from (first_gate c.args.machine.now)) c.as_slice.ensures.keys)
-    c.in_ok-names.ensures c.in_ok-names-2.ensures in
-    subst (λ (x : Circuit). IsCircuit x) (sym whole) (is_circuit c.args.machine.now c.args.read_names.now c.args.write_names.now c.requires.reads c.requires.writes)
+    c.in_ok-names.ensures c.in_ok-names-2.ensures
+
+pub of_sorted_gates-requires-clause-circuit : goal.of_sorted_gates-requires-clause-circuit
+of_sorted_gates-requires-clause-circuit c =
+    subst (λ (x : Circuit). IsCircuit x) (sym (whole (goal.at.of_sorted_gates-requires-clause-circuit c).In_ok-names-2))
+    (is_circuit c.args.machine.now c.args.read_names.now c.args.write_names.now c.requires.reads c.requires.writes)
 
 pub of_sorted_gates-requires-clause-sorted : goal.of_sorted_gates-requires-clause-sorted
 of_sorted_gates-requires-clause-sorted c =
-    let n : c.reads-reads.result ≡ c.args.machine.now.reads = c.reads-reads.ensures.value in
-    let l : c.latches_for-latches.result ≡ latches_of c.args.machine.now = c.latches_for-latches.ensures.value ∙ ap latches_for c.size.ensures.value in
-    let first : c.reads-reads.result + c.latches_for-latches.result + 1 ≡ first_gate c.args.machine.now = omega (arith, n, l) in
-    let made : length c.in_ok-made.made.items ≡ length c.all-2.new.gates.keys =
-    ap length c.in_ok-made.ensures ∙ length-map-range_with_len (gate_from (c.reads-reads.result + c.latches_for-latches.result + 1) c.as_slice.result.now) 0 (length c.as_slice.result.now)
-    ∙ ap length c.as_slice.ensures.keys in
-    let whole =
-    circuit-made c.args.machine.now c.args.read_names.now c.args.write_names.now c.latches_for-latches.result c.writes.result c.new-gates.result.keys c.all.new.gates.keys c.all-2.new.gates.keys c.in_ok-nexts.nexts.items c.in_ok-outputs.outputs.items
-    c.new-gates.ensures.empty l c.writes.ensures.value c.in_ok-nexts.ensures.value c.in_ok-outputs.ensures.value
-    (c.reads-reads.result + c.latches_for-latches.result + c.len.result) c.in_ok-inputs.inputs.items c.in_ok-latch_list.field-0.items c.in_ok-made.made.items c.in_ok-names.field-0.items c.in_ok-names-2.field-0.items
-    (omega (arith, n, l, made, c.len.ensures, c.in_ok-made.made.ok.0))
-    (c.in_ok-inputs.ensures ∙ ap (literals_from 0) n)
-    (c.in_ok-latch_list.ensures ∙ ap (λ k. latches_with k c.deref-4.result.now) n ∙ ap (latches_with c.args.machine.now.reads) c.deref-4.ensures.value)
-    (c.in_ok-made.ensures ∙ ap (λ k. gates_from k c.as_slice.result.now) first ∙ ap (gates_from (first_gate c.args.machine.now)) c.as_slice.ensures.keys)
-    c.in_ok-names.ensures c.in_ok-names-2.ensures in
-    subst (λ (gs : List Gate). AreSorted gs) (sym (ap (λ (x : Circuit). x.gates) whole)) (sorted c.args.machine.now c.args.read_names.now c.args.write_names.now c.requires.reads c.requires.writes)
+    subst (λ (x : Circuit). AreSorted x.gates) (sym (whole (goal.at.of_sorted_gates-requires-clause-sorted c).In_ok-names-2))
+    (sorted c.args.machine.now c.args.read_names.now c.args.write_names.now c.requires.reads c.requires.writes)
 
-pub returns : goal.returns
-returns c =
-    let n : c.reads-reads.result ≡ c.args.machine.now.reads = c.reads-reads.ensures.value in
-    let l : c.latches_for-latches.result ≡ latches_of c.args.machine.now = c.latches_for-latches.ensures.value ∙ ap latches_for c.size.ensures.value in
-    let first : c.reads-reads.result + c.latches_for-latches.result + 1 ≡ first_gate c.args.machine.now = omega (arith, n, l) in
-    let made : length c.in_ok-made.made.items ≡ length c.all-2.new.gates.keys =
-    ap length c.in_ok-made.ensures ∙ length-map-range_with_len (gate_from (c.reads-reads.result + c.latches_for-latches.result + 1) c.as_slice.result.now) 0 (length c.as_slice.result.now)
-    ∙ ap length c.as_slice.ensures.keys in
-    let whole =
-    circuit-made c.args.machine.now c.args.read_names.now c.args.write_names.now c.latches_for-latches.result c.writes.result c.new-gates.result.keys c.all.new.gates.keys c.all-2.new.gates.keys c.in_ok-nexts.nexts.items c.in_ok-outputs.outputs.items
-    c.new-gates.ensures.empty l c.writes.ensures.value c.in_ok-nexts.ensures.value c.in_ok-outputs.ensures.value
-    (c.reads-reads.result + c.latches_for-latches.result + c.len.result) c.in_ok-inputs.inputs.items c.in_ok-latch_list.field-0.items c.in_ok-made.made.items c.in_ok-names.field-0.items c.in_ok-names-2.field-0.items
-    (omega (arith, n, l, made, c.len.ensures, c.in_ok-made.made.ok.0))
-    (c.in_ok-inputs.ensures ∙ ap (literals_from 0) n)
-    (c.in_ok-latch_list.ensures ∙ ap (λ k. latches_with k c.deref-4.result.now) n ∙ ap (latches_with c.args.machine.now.reads) c.deref-4.ensures.value)
-    (c.in_ok-made.ensures ∙ ap (λ k. gates_from k c.as_slice.result.now) first ∙ ap (gates_from (first_gate c.args.machine.now)) c.as_slice.ensures.keys)
-    c.in_ok-names.ensures c.in_ok-names-2.ensures in
-    subst (λ (x : Circuit). IfOk c.of_sorted_gates.result (λ made. made ≡ x)) whole c.of_sorted_gates.ensures
+-- what holds of the circuit of the definition holds of the one that was made
+of_made : {E : Type 0} (r : Result Circuit E) (P : Circuit → Type 0) (made x : Circuit) → made ≡ x → P x → IfOk r (λ c. c ≡ made) → IfOk r P
+of_made r P made x is holds given = IfOk-weaker r (λ c. c ≡ made) P (λ c e. subst P (sym (e ∙ is)) holds) given
+
+module _ (c : In_ok-names-2) where
+  abbrev made_circuit : Circuit
+  made_circuit = circuit_of c.args.machine.now c.args.read_names.now c.args.write_names.now
+
+pub returns-clause-value : goal.returns-clause-value
+returns-clause-value c =
+    let a = (goal.at.returns-clause-value c).In_ok-names-2 in
+    of_made c.of_sorted_gates.result (λ x. x ≡ made_circuit a) (parts a) (made_circuit a) (whole a) refl c.of_sorted_gates.ensures
+
+pub returns-clause-runs : goal.returns-clause-runs
+returns-clause-runs c =
+    let a = (goal.at.returns-clause-runs c).In_ok-names-2 in
+    of_made c.of_sorted_gates.result (HasTheRunsOf c.args.machine.now) (parts a) (made_circuit a) (whole a)
+    (has_the_runs c.args.machine.now c.args.read_names.now c.args.write_names.now c.requires.reads c.requires.writes c.reads-reads.ensures.kept.machine c.requires.few) c.of_sorted_gates.ensures
+
+pub returns-clause-kind : goal.returns-clause-kind
+returns-clause-kind c =
+    let a = (goal.at.returns-clause-kind c).In_ok-names-2 in
+    of_made c.of_sorted_gates.result (IsCircuitOfKind c.args.machine.now.kind) (parts a) (made_circuit a) (whole a)
+    (is_of_kind c.args.machine.now c.args.read_names.now c.args.write_names.now c.requires.reads c.requires.writes c.reads-reads.ensures.kept.machine c.requires.few) c.of_sorted_gates.ensures
+
+pub returns-clause-states : goal.returns-clause-states
+returns-clause-states c =
+    let a = (goal.at.returns-clause-states c).In_ok-names-2 in
+    of_made c.of_sorted_gates.result (HasTheStatesOf c.args.machine.now) (parts a) (made_circuit a) (whole a)
+    (has_the_states c.args.machine.now c.args.read_names.now c.args.write_names.now c.requires.reads c.requires.writes c.reads-reads.ensures.kept.machine c.requires.few) c.of_sorted_gates.ensures
+
+pub returns-clause-variables : goal.returns-clause-variables
+returns-clause-variables c =
+    let a = (goal.at.returns-clause-variables c).In_ok-names-2 in
+    of_made c.of_sorted_gates.result (λ x. x.variables ≤ 67562) (parts a) (made_circuit a) (whole a)
+    (few_variables c.args.machine.now c.args.read_names.now c.args.write_names.now c.requires.reads c.requires.writes c.reads-reads.ensures.kept) c.of_sorted_gates.ensures

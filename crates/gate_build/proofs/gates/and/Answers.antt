@@ -1,6 +1,4 @@
-use Rattle.std.proofs.Common.{sym, ap, ◌∙◌}
-use Rattle.gate_build.specs.declared.gates.Operands.{Operands}
-use Rattle.gate_build.specs.Gates.{gate_of}
+use Rattle.std.proofs.Common.{rules, sym, ◌∙◌}
 use Rattle.gate_build.proofs.Steps.{and-none, and-left_all, and-right_all, and-equal, and-gate}
 use Rattle.gate_build.proofs.gates.and.Goals as goal
 
@@ -18,6 +16,5 @@ returns-then-x-y-clause-value c = and-equal c.args.first c.args.gates.now.keys c
 
 pub returns-clause-value : goal.returns-clause-value
 returns-clause-value c =
-    and-gate c.args.first c.args.gates.now.keys c.args.x c.args.y (sym c.exclude.ensures ∙ c.if-exclude.false) c.if-x-eq1.false c.if-y-eq1.false c.if-x-y.false
-    ∙ ap (λ (o : Operands). gate_of c.args.first c.args.gates.now.keys o) (λ i. record { greater = sym c.max.ensures i; lesser = sym c.min.ensures i })
-    ∙ c.in_ok-both.ensures.value
+    and-gate c.args.first c.args.gates.now.keys c.args.x c.args.y _ _ _ (sym c.exclude.ensures ∙ c.if-exclude.false) c.if-x-eq1.false c.if-y-eq1.false c.if-x-y.false
+    c.in_ok-both.ensures.value (search rules) (search rules)

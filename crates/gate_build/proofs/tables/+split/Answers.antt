@@ -21,9 +21,10 @@ pub split-requires-2 : goal.split-requires-2
 split-requires-2 t c =
     let within : c.args.depth < length c.args.literals.now = omega (arith, c.if-depth-literals.false, c.requires.depth) in
     let half : 2 ^ (length c.args.literals.now - c.args.depth) ≡ 2 ^ (length c.args.literals.now - (c.args.depth + 1)) * 2 = halved (length c.args.literals.now) c.args.depth within in
+    let weight : c.weight_of-weight.result ≡ 2 ^ c.args.depth = c.weight_of-weight.ensures.value in
     let one : length c.split.new.gates.keys + 3 ≤ length c.args.gates.now.keys + 3 * 2 ^ (length c.args.literals.now - (c.args.depth + 1)) = c.in_ok-one.ensures.grown in (
       omega (arith, within),
-      (c.requires.few, (omega (arith, c.requires.room, half, one), (c.requires.literals, (c.requires.whole, (c.requires.small, (omega (arith, within), omega (arith, c.requires.value, doubled c.args.depth))))))),
+      (c.requires.few, (omega (arith, c.requires.room, half, one), (c.requires.literals, (c.requires.whole, (c.requires.small, (omega (arith, within), omega (arith, c.requires.value, weight, doubled c.args.depth))))))),
     )
 
 pub ite-requires-clause-room : goal.ite-requires-clause-room
