@@ -79,7 +79,8 @@ impl<P: ProblemNames> Board<P> {
 
     /// The problem of a side, whose size isn't used.
     pub fn problem(&self, side: Side) -> Option<&Problem>
-        ensures { option_map sought_of (option_copied result) ≡ sought_by P.named side }
+        ensures value { option_map sought_of (option_copied result) ≡ sought_by P.named side }
+        ensures sound { IsSound P.named self.now }
     {
         match side {
             Side::System => Some(&self.system_problem),
@@ -111,7 +112,8 @@ impl<P: ProblemNames> Board<P> {
     pub fn state(&self, side: Side, size: u32) -> SizeState
         requires some { 0 < size }
         requires allowed { size ≤ sizes_of P.named side }
-        ensures { result ≡ state_of self.now side size }
+        ensures value { result ≡ state_of self.now side size }
+        ensures sound { IsSound P.named self.now }
     {
         self.states(side)[size as usize - 1]
     }
