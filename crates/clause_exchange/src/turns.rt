@@ -1,0 +1,127 @@
+//! The parts of one turn: a ticket is drawn and waited for, something is done with the log, and the next ticket is served.
+ghost use Rattle.std.specs.Prelude.{◌≡◌, ◌<◌, ◌≤◌, ⊤, List, [], ◌∷◌, Option, Some, None, IfOk, IfErr, OnOk, OnErr, MatchOption, is_none, length, slice_get};
+ghost use Rattle.atomic_table.specs.Seated.{TableId};
+ghost use Rattle.refutation_log.specs.State.{Log, KeepsLog};
+ghost use Rattle.refutation_log.specs.declared.entries.Entry.{Entry as EntryView};
+ghost use Rattle.clause_exchange.specs.declared.views.Part.{Part as PartView};
+ghost use Rattle.clause_exchange.specs.SharedLog.{IsPrefix};
+ghost use Rattle.clause_exchange.specs.Rule.{HasRoom};
+ghost use Rattle.clause_exchange.specs.Steps.{idle, begun, Begins, IsMoved, moved};
+ghost use Rattle.clause_exchange.specs.Offers.{IsOfferedTo, IsCopiedOf};
+
+use crate::exchange::Refused;
+use crate::views::{Draw, Look, Queued, Serve, Setup, View};
+use atomic_table::{Seat, Shared};
+use crossbeam_utils::Backoff;
+use refutation_log::{Entry, LogState, Reply, Turn};
+use std::alloc::AllocError;
+use std::sync::Wait;
+
+/// The words and the slot of an exchange, as its passes share them.
+pub type Words = Shared<LogState, View, Setup, Queued>;
+
+/// What one pass knows, and the log while it has it.
+pub type Place = Seat<LogState, View>;
+
+/// Draws a ticket and waits until it is served. Then the seat has the log.
+pub fn begin<R: Wait>(rt: &R, words: &Words, place: &mut Place)
+    requires table { (place.old.table_id ≡ words.now.table_id) × (words.now.table_id.words ≡ 2) × (words.now.table_id.slots ≡ 1) }
+    requires idle { (part : PartView) × (place.old.me ≡ idle part) }
+    ensures same { (place.new.table_id ≡ place.old.table_id) × (place.new.id ≡ place.old.id) }
+    ensures begun { (part : PartView) → place.old.me ≡ idle part → Begins part place.new.me }
+{
+    let ticket = words.fetch_add::<Draw>(place, 0, 1);
+    let backoff = Backoff::new();
+    for _ in rt.forever() {
+        if words.load::<Look>(place, 1) == ticket {
+            return;
+        }
+        backoff.snooze();
+    }
+    unreachable!()
+}
+
+/// Gives the log back, and serves the next ticket.
+pub fn end(words: &Words, place: &mut Place)
+    requires table { (place.old.table_id ≡ words.now.table_id) × (words.now.table_id.words ≡ 2) × (words.now.table_id.slots ≡ 1) }
+    requires moved { (log : List EntryView) × (value : Log) × (part : PartView) × (place.old.me ≡ begun log value part) × IsMoved part log value }
+    ensures same { (place.new.table_id ≡ place.old.table_id) × (place.new.id ≡ place.old.id) }
+    ensures idle { (log : List EntryView) (value : Log) (part : PartView) → place.old.me ≡ begun log value part → place.new.me ≡ idle (moved part value.entries) }
+{
+    words.fetch_add::<Serve>(place, 1, 1);
+}
+
+/// Offers an entry to the log that the seat has.
+pub fn offer(
+    words: &Words,
+    place: &mut Place,
+    limit: Option<u64>,
+    entry: Entry,
+) -> Result<Reply, Refused>
+    requires table { place.old.table_id ≡ words.now.table_id }
+    requires begun { (log : List EntryView) × (value : Log) × (part : PartView) × (place.old.me ≡ begun log value part) × HasRoom limit value }
+    ensures same { (place.new.table_id ≡ place.old.table_id) × (place.new.id ≡ place.old.id) }
+    ensures offered { (log : List EntryView) (value : Log) (part : PartView) → place.old.me ≡ begun log value part → (left : Log) × (place.new.me ≡ begun log left part) × IsOfferedTo limit value entry result left }
+{
+    offer_to(place.slot_mut(words, 0), limit, entry)
+}
+
+/// Copies what the list lacks of the log that the seat has.
+pub fn copy(words: &Words, place: &mut Place, into: &mut Vec<Entry>) -> Result<(), AllocError>
+    requires table { place.old.table_id ≡ words.now.table_id }
+    requires begun { (log : List EntryView) × (value : Log) × (part : PartView) × (place.old.me ≡ begun log value part) × IsPrefix into.old.items value.entries }
+    ensures same { (place.new.table_id ≡ place.old.table_id) × (place.new.id ≡ place.old.id) }
+    ensures kept { place.new.me ≡ place.old.me }
+    ensures copied { (log : List EntryView) (value : Log) (part : PartView) → place.old.me ≡ begun log value part → IsCopiedOf value.entries result into.new.items }
+{
+    copy_rest(place.slot_mut(words, 0), into)
+}
+
+/// Makes room where the log has none for sure, and takes the entry's turn.
+fn offer_to(log: &mut LogState, limit: Option<u64>, entry: Entry) -> Result<Reply, Refused>
+    requires { HasRoom limit log.old }
+    ensures { IsOfferedTo limit log.old entry result log.new }
+{
+    match make_room(log, limit) {
+        Ok(()) => Ok(log.turn(Turn::Append(entry))),
+        Err(_) => Err(Refused { entry }),
+    }
+}
+
+/// Room for one entry: under a limit there is some already, since it was made when the exchange was opened.
+fn make_room(log: &mut LogState, limit: Option<u64>) -> Result<(), AllocError>
+    requires { HasRoom limit log.old }
+    ensures kept { KeepsLog log.old log.new }
+    ensures room { OnOk result (0 < log.new.spare) }
+    ensures limited { HasRoom limit log.new }
+    ensures unlimited { OnErr result (limit ≡ None) }
+{
+    match limit {
+        Some(_) => Ok(()),
+        None => log.reserve(),
+    }
+}
+
+/// Costs the entries that the list lacks.
+fn copy_rest(log: &LogState, into: &mut Vec<Entry>) -> Result<(), AllocError>
+    requires { IsPrefix into.old.items log.now.entries }
+    ensures { IsCopiedOf log.now.entries result into.new.items }
+{
+    for i in into.len()..log.entries() {
+        into.push(copy_of(log, i)?)?;
+    }
+    Ok(())
+}
+
+/// A copy of the entry at a place.
+fn copy_of(log: &LogState, i: usize) -> Result<Entry, AllocError>
+    requires { i < length log.now.entries }
+    ensures { IfOk result (λ entry. slice_get log.now.entries i ≡ Some entry) }
+{
+    let entry = log.entry(i);
+    Ok(Entry {
+        by: entry.by,
+        clause: entry.clause.clone()?,
+        hints: entry.hints.clone()?,
+    })
+}
