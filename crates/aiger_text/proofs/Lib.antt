@@ -17,3 +17,14 @@ pub mod WalkLemmas
 pub mod SearchLemmas
 pub mod Assembly
 pub mod FileFacts
+pub mod Numbers
+pub mod FormsRead
+pub mod BodyRead
+pub mod FileRead
+pub mod NamesRead
+pub mod RoundTrip
+pub mod SymbolsRead
+pub mod ReadingsStated
+pub mod GroupLemmas
+pub mod TourLemmas
+pub mod TourDone

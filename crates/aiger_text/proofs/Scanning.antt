@@ -112,7 +112,7 @@ module _ (names : Names) (n : ℕ) (rest : List ℕ) where
   abbrev stop : List (List ℕ) → Result Ending CircuitFault
   stop pieces = Ok (record { names = names; line = n; comment = Some (join_with_byte 10 pieces) })
 
-  ending_by : (line : List ℕ) (pieces : List (List ℕ)) (b : Bool) → HasPiece pieces → bytes_eq line (codes "c") ≡ b
+  pub ending_by : (line : List ℕ) (pieces : List (List ℕ)) (b : Bool) → HasPiece pieces → bytes_eq line (codes "c") ≡ b
       → ending_from names n (line ∷ pieces) ≡ cond b (stop pieces) (symbol_step line pieces)
   ending_by line pieces b has e =
       subst (λ (ps : List (List ℕ)). ending_from names n (line ∷ ps) ≡ cond b (stop ps) (symbol_step line ps)) (sym has.are)

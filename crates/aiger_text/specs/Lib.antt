@@ -13,3 +13,5 @@ pub mod Columns
 pub mod Sound
 pub mod Files
 pub mod FileLaws
+pub mod RoundTrip
+pub mod Groups

@@ -98,32 +98,6 @@ pub record FindsUpTo (gates : List Gate) (places : List (Option ℕ)) (n : ℕ) 
 abbrev pub IsReached : List Bool → ℕ → Type 0
 IsReached reached k = slice_index_or reached k false ≡ true
 
--- the gates that were reached from gate g, of which those to be visited are on a list
-pub record IsSearch (gates : List Gate) (g : ℕ) (reached : List Bool) (todo : List ℕ) : Type 0 where
-  pub places : length reached ≡ length gates
-  pub sound : (k : ℕ) → IsReached reached k → DependsOn gates ((gate_at gates g).literal / 2) ((gate_at gates k).literal / 2)
-  pub todo_within : (i : ℕ) → i < length todo → slice_index todo i < length gates
-  pub todo_reached : (i : ℕ) → i < length todo → IsReached reached (slice_index todo i)
-
--- how much there is to do
-abbrev pub unreached : Bool → ℕ
-unreached true = 0
-unreached false = 2
-
-abbrev pub search_weight : List Bool → List ℕ → ℕ
-search_weight reached todo = sum_by unreached reached + length todo
-
--- a visit: what was reached stays, and so does what is to be visited; what is new is to be visited
-pub record Visits (old new : List Bool) (old_todo new_todo : List ℕ) : Type 0 where
-  pub keeps : (k : ℕ) → IsReached old k → IsReached new k
-  pub keeps_todo : (k : ℕ) → Contains old_todo k → Contains new_todo k
-  pub adds : (k : ℕ) → IsReached new k → IsReached old k ⊎ Contains new_todo k
-  pub no_more : search_weight new new_todo ≤ search_weight old old_todo
-
 -- the gates that gate k uses are reached
 abbrev pub IsVisited : List Gate → List Bool → ℕ → Type 0
 IsVisited gates reached k = (h : ℕ) → h < length gates → Uses gates k h → IsReached reached h
-
--- each reached gate is visited, or is to be visited
-abbrev pub IsClosed : List Gate → List Bool → List ℕ → Type 0
-IsClosed gates reached todo = (k : ℕ) → IsReached reached k → IsVisited gates reached k ⊎ Contains todo k

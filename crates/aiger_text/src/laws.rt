@@ -3,6 +3,7 @@ ghost use Rattle.letter_word.specs.declared.kinds.Side.{Side};
 ghost use Rattle.aiger_text.specs.Circuit.{RunsOnEveryInput};
 ghost use Rattle.aiger_text.specs.FileLaws.{FilesStateOneThing, FilesHaveOneFault, FaultsStateNothing};
 ghost use Rattle.aiger_text.specs.Laws.{ValuationsAgree, RunsAreDetermined};
+ghost use Rattle.aiger_text.specs.RoundTrip.{WrittenIsRead, ReadingsAreStated, ReadingsAgree};
 
 use crate::circuits::Circuit;
 
@@ -41,3 +42,24 @@ pub fn files_have_one_fault()
 pub fn faults_state_nothing()
     ensures { FaultsStateNothing }
 {}
+
+/// What is written of a circuit that a file can hold states, read back, this circuit and nothing else.
+pub fn written_is_read(circuit: &Circuit)
+    ensures { WrittenIsRead circuit.now }
+{
+    let _order = &circuit.order;
+}
+
+/// What a file reads as, by the grammar of circuits' files, is what it states, line by line.
+pub fn readings_are_stated(bytes: &[u8])
+    ensures { ReadingsAreStated bytes.now }
+{
+    let _size = bytes.len();
+}
+
+/// A file reads as one circuit.
+pub fn readings_agree(bytes: &[u8])
+    ensures { ReadingsAgree bytes.now }
+{
+    let _size = bytes.len();
+}

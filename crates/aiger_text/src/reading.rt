@@ -12,9 +12,10 @@ ghost use Rattle.aiger_text.specs.Files.{shown_parts, IsRead};
 use crate::bodies::{Statements, read_body};
 use crate::circuits::Circuit;
 use crate::faults::CircuitFault;
+use crate::groups::first_on_cycle;
 use crate::header::read_header;
 use crate::symbols::{Ending, Labels, read_ending};
-use crate::walks::{first_on_cycle, gate_places, sorted_places};
+use crate::walks::{gate_places, sorted_places};
 use crate::words::cut_at;
 use std::alloc::{AllocError, Global};
 use std::marker::Model;
@@ -180,8 +181,7 @@ fn finish(size: usize, parts: Parts<'_>, order: Vec<usize>) -> Result<CircuitFil
 /// Reads a circuit's file, or says its first fault: those of the header and of the lines in order, then the first use
 /// of a variable that no line defines, then the first gate that depends on itself.
 ///
-/// It is linear in the bytes, but for a file with a cycle, where each gate before the first one on a cycle is followed
-/// on its own.
+/// It is linear in the bytes.
 pub fn read_circuit(alloc: Global, bytes: &[u8]) -> Result<CircuitFile, CircuitFault>
     ensures states { IfOk result (States bytes.now) }
     ensures fault { IfErr result (λ fault. (fault ≡ NoMemory) ⊎ IsFirstFault bytes.now fault) }

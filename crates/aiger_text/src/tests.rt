@@ -78,18 +78,59 @@ fn step_once(circuit: &Circuit, state: &mut CircuitState) -> bool
     state.output(0)
 }
 
+fn has_latch(circuit: &Circuit) -> bool
+    ensures { IsTrue result → 0 < length circuit.now.latches }
+{
+    !circuit.latches.is_empty()
+}
+
+// Sets the first latch, and says its value, the first output of a step, and the latch's value behind it.
+fn set_and_step(circuit: &Circuit, state: &mut CircuitState, value: bool) -> (bool, bool, bool)
+    requires fits { IsStateOf circuit.now state.old }
+    requires output { 0 < length circuit.now.outputs }
+    requires latch { 0 < length circuit.now.latches }
+    ensures { IsStateOf circuit.now state.new }
+{
+    state.set_latch(0, value);
+    let before = state.latch(0);
+    let output = step_once(circuit, state);
+    (before, output, state.latch(0))
+}
+
+// The same in a new state of a file's circuit, with the first latch set to this value.
+fn set_in_new_state(
+    alloc: Global,
+    text: &[u8],
+    value: bool,
+) -> Result<Option<(bool, bool, bool)>, AllocError> {
+    match read_circuit(alloc, text) {
+        Ok(file) => {
+            let circuit = file.circuit;
+            let mut state = CircuitState::new(alloc, &circuit)?;
+            if has_output(&circuit) && has_latch(&circuit) {
+                Ok(Some(set_and_step(&circuit, &mut state, value)))
+            } else {
+                Ok(None)
+            }
+        }
+        Err(_) => Ok(None),
+    }
+}
+
 // Where the comment and the names of a file stand.
 fn lines_of(file: &CircuitFile) -> (Option<usize>, u64, &[u64]) {
     (file.comment_at, file.comment_line, &file.name_lines)
 }
 
-// A chain of 99,999 gates from the last one to the first, each of which has the value of the next.
-fn chain(alloc: Global) -> Result<Vec<u8>, AllocError> {
+// A chain of 99,999 gates from the last one to the first, each of which has the value of the next, and the last one that
+// of a literal.
+fn chain(alloc: Global, last: &[u8]) -> Result<Vec<u8>, AllocError> {
     let mut text = Vec::new(alloc);
     text.extend_from_slice(b"aag 100000 1 0 1 99999\n2\n200000\n")?;
-    for step in 0..99_999u64 {
+    for step in 0..99_998u64 {
         push_gate(&mut text, 200_000 - 2 * step)?;
     }
+    text.extend_from_slice(last)?;
     Ok(text)
 }
 
@@ -122,10 +163,31 @@ fn a_latch_that_turns(rt: HostRuntime) -> Result<(), Fail> {
 }
 
 #[test]
+fn a_latch_that_is_set(rt: HostRuntime) -> Result<(), Fail> {
+    let text = b"aag 1 0 1 1 0\n2 3 1\n2\n";
+    let off = set_in_new_state(rt.alloc(), text, false)?;
+    assert_eq!(rt; off, Some((false, false, true)));
+    let on = set_in_new_state(rt.alloc(), text, true)?;
+    assert_eq!(rt; on, Some((true, true, false)));
+    Ok(())
+}
+
+#[test]
 fn a_long_chain(rt: HostRuntime) -> Result<(), Fail> {
-    let text = chain(rt.alloc())?;
+    let text = chain(rt.alloc(), b"4 2 2\n")?;
     let outputs = outputs_of(rt.alloc(), &text, &[true, false])?;
     assert_eq!(rt; outputs.as_slice(), [true, false].as_slice());
+    Ok(())
+}
+
+// Each gate but the last one leads to a cycle and is on none: to follow each of them on its own would take hours.
+#[test]
+fn a_cycle_behind_a_long_chain(rt: HostRuntime) -> Result<(), Fail> {
+    let text = chain(rt.alloc(), b"4 4 2\n")?;
+    assert_eq!(rt;
+        fault_of(rt.alloc(), &text),
+        Some(CircuitFault::Cycle(100_002))
+    );
     Ok(())
 }
 
@@ -263,6 +325,14 @@ fn faults_of_uses_and_cycles(rt: HostRuntime) {
         ),
         (
             b"aag 4 1 0 1 3\n2\n8\n8 6 2\n6 4 2\n4 6 2\n".as_slice(),
+            CircuitFault::Cycle(5),
+        ),
+        (
+            b"aag 6 1 0 1 5\n2\n4\n4 6 10\n6 8 2\n8 12 2\n12 2 6\n10 2 3\n".as_slice(),
+            CircuitFault::Cycle(5),
+        ),
+        (
+            b"aag 5 1 0 1 4\n2\n10\n10 8 2\n8 6 4\n6 2 8\n4 6 2\n".as_slice(),
             CircuitFault::Cycle(5),
         ),
         (

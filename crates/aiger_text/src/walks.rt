@@ -1,8 +1,8 @@
-// The order in which gates can be worked out, and the first gate that depends on itself.
-ghost use Rattle.std.specs.Prelude.{◌≡◌, ℕ, ◌+◌, ◌-◌, ◌/◌, ◌<◌, ◌↔◌, ◌++◌, ◌∷◌, [], true, false, None, Some, OnOk, IfOk, IfSome, IfNone, IsTrue, MatchOption, length, slice_index, slice_index_or};
+// The order in which gates can be worked out.
+ghost use Rattle.std.specs.Prelude.{◌≡◌, ℕ, ◌+◌, ◌-◌, ◌/◌, ◌<◌, ◌↔◌, [], true, false, None, OnOk, IfOk, IfSome, IfNone, IsTrue, MatchOption, length, slice_index, slice_index_or};
 ghost use Rattle.aiger_text.specs.declared.walks.Mark.TheVariants.{New, Open, Done};
-ghost use Rattle.aiger_text.specs.CircuitType.{DependsOn, IsOrder, gate_at};
-ghost use Rattle.aiger_text.specs.Walks.{Finds, IsWalk, MayEnter, Goes, AtOperand, AtGate, HasCycle, HaveVariables, IsOnCycle, IsFirstCycle, IsReached, IsSearch, IsVisited, Uses, Visits, mark_at};
+ghost use Rattle.aiger_text.specs.CircuitType.{IsOrder};
+ghost use Rattle.aiger_text.specs.Walks.{Finds, IsWalk, MayEnter, Goes, AtOperand, AtGate, HasCycle, HaveVariables, mark_at};
 
 use crate::circuits::Gate;
 use std::alloc::{AllocError, Global};
@@ -35,7 +35,7 @@ struct Walk {
 }
 
 // The gate that has the literal's variable.
-fn gate_of(places: &[Option<usize>], literal: u32) -> Option<usize>
+pub(crate) fn gate_of(places: &[Option<usize>], literal: u32) -> Option<usize>
     ensures { result ≡ slice_index_or places.now (literal / 2) None }
 {
     match places.get((literal / 2) as usize) {
@@ -212,119 +212,4 @@ pub(crate) fn gate_places(
         places[(gates[place].literal / 2) as usize] = Some(place);
     }
     Ok(places)
-}
-
-// The gates that were reached from a gate, and those of them whose operands are to be visited.
-#[derive(Drop)]
-struct Search {
-    reached: Vec<bool>,
-    todo: Vec<usize>,
-}
-
-impl Search {
-    // Reaches the gate that has the literal's variable.
-    fn visit(
-        &mut self,
-        gates: &[Gate],
-        places: &[Option<usize>],
-        start: usize,
-        literal: u32,
-    ) -> Result<(), AllocError>
-        requires search { IsSearch gates.now start self.old.reached.items self.old.todo.items }
-        requires finds { Finds gates.now places.now }
-        requires from { (h : ℕ) → h < length gates.now → literal / 2 ≡ (gate_at gates.now h).literal / 2
-            → DependsOn gates.now ((gate_at gates.now start).literal / 2) ((gate_at gates.now h).literal / 2) }
-        ensures search { OnOk result (IsSearch gates.now start self.new.reached.items self.new.todo.items) }
-        ensures visits { OnOk result (Visits self.old.reached.items self.new.reached.items self.old.todo.items self.new.todo.items) }
-        ensures reached { OnOk result ((h : ℕ) → h < length gates.now → literal / 2 ≡ (gate_at gates.now h).literal / 2 → IsReached self.new.reached.items h) }
-    {
-        let Some(place) = gate_of(places, literal) else {
-            return Ok(());
-        };
-        prove!(place < gates.len());
-        if self.is_reached(place) {
-            return Ok(());
-        }
-        self.todo.push(place)?;
-        self.reached[place] = true;
-        Ok(())
-    }
-
-    // Reaches the operands of a gate.
-    fn visit_operands(
-        &mut self,
-        gates: &[Gate],
-        places: &[Option<usize>],
-        start: usize,
-        gate: usize,
-    ) -> Result<(), AllocError>
-        requires search { IsSearch gates.now start self.old.reached.items self.old.todo.items }
-        requires finds { Finds gates.now places.now }
-        requires gate { gate < length gates.now }
-        requires from { (h : ℕ) → h < length gates.now → Uses gates.now gate h
-            → DependsOn gates.now ((gate_at gates.now start).literal / 2) ((gate_at gates.now h).literal / 2) }
-        ensures search { OnOk result (IsSearch gates.now start self.new.reached.items self.new.todo.items) }
-        ensures visits { OnOk result (Visits self.old.reached.items self.new.reached.items self.old.todo.items self.new.todo.items) }
-        ensures visited { OnOk result (IsVisited gates.now self.new.reached.items gate) }
-    {
-        self.visit(gates, places, start, gates[gate].left)?;
-        self.visit(gates, places, start, gates[gate].right)?;
-        Ok(())
-    }
-
-    // Whether a gate was reached.
-    fn is_reached(&self, place: usize) -> bool
-        requires { place < length self.now.reached.items }
-        ensures { result ≡ slice_index_or self.now.reached.items place false }
-    {
-        self.reached[place]
-    }
-
-    // The last gate to be visited.
-    fn next(&mut self) -> Option<usize>
-        ensures last { IfSome result (λ place. self.old.todo.items ≡ self.new.todo.items ++ place ∷ []) }
-        ensures none { IfNone result ((self.old.todo.items ≡ []) × (self.new.todo.items ≡ [])) }
-        ensures same { self.new.reached.items ≡ self.old.reached.items }
-    {
-        self.todo.pop()
-    }
-}
-
-// Whether a gate depends on itself.
-fn is_on_cycle(
-    alloc: Global,
-    gates: &[Gate],
-    places: &[Option<usize>],
-    gate: usize,
-) -> Result<bool, AllocError>
-    requires finds { Finds gates.now places.now }
-    requires gate { gate < length gates.now }
-    ensures { IfOk result (λ on. IsTrue on ↔ IsOnCycle gates.now gate) }
-{
-    let mut search = Search {
-        reached: vec![in alloc; false; gates.len()]?,
-        todo: Vec::new(alloc),
-    };
-    search.visit_operands(gates, places, gate, gate)?;
-    while let Some(place) = search.next() {
-        search.visit_operands(gates, places, gate, place)?;
-    }
-    Ok(search.is_reached(gate))
-}
-
-// The first gate that depends on itself.
-pub(crate) fn first_on_cycle(
-    alloc: Global,
-    gates: &[Gate],
-    places: &[Option<usize>],
-) -> Result<Option<usize>, AllocError>
-    requires { Finds gates.now places.now }
-    ensures { IfOk result (λ first. MatchOption first ((k : ℕ) → k < length gates.now → IsOnCycle gates.now k → ⊥) (IsFirstCycle gates.now)) }
-{
-    for gate in 0..gates.len() {
-        if is_on_cycle(alloc, gates, places, gate)? {
-            return Ok(Some(gate));
-        }
-    }
-    Ok(None)
 }

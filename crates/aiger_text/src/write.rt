@@ -1,18 +1,30 @@
-ghost use Rattle.std.specs.Prelude.{◌≡◌, ◌<◌, ◌+◌, ◌^◌, ◌++◌, ◌∷◌, [], OnOk, OnErr, map, length, decimal};
+ghost use Rattle.std.specs.Prelude.{◌≡◌, ◌<◌, ◌+◌, ◌^◌, ◌++◌, ◌∷◌, [], OnOk, OnErr, IfOk, map, length, decimal};
 ghost use Rattle.aiger_text.specs.CircuitText.{circuit_text, text_of_lines, numbers_line, latch_line, gate_line, header_line, name_lines};
+ghost use Rattle.aiger_text.specs.RoundTrip.{IsWritable, StatesOnly, written_file};
 
 use crate::circuits::{Circuit, Gate, Latch};
+use crate::laws::written_is_read;
 use crate::symbols::Named;
-use std::alloc::AllocError;
+use std::alloc::{AllocError, Global};
 use text_base::{Name, push_number};
 
 /// Appends the circuit's text: a line for the counts, for each input, latch, output and gate, and for each
-/// name that it has. A reset of 0 is left out. After want of memory `out` is as before.
+/// name that it has. A reset of 0 is left out. After want of memory `out` is as before. What was written into an
+/// empty vector states this circuit when it is read back, where a file can hold it.
 pub fn write_circuit(circuit: &Circuit, out: &mut Vec<u8>) -> Result<(), AllocError>
     ensures ok { OnOk result (out.new.items ≡ out.old.items ++ circuit_text circuit.now) }
     ensures err { OnErr result (out.new.items ≡ out.old.items) }
+    ensures read_back { OnOk result (out.old.items ≡ [] → IsWritable circuit.now → StatesOnly out.new.items (written_file circuit.now)) }
 {
-    let mut text = Vec::new(*out.allocator());
+    let text = text_of(*out.allocator(), circuit)?;
+    written_is_read(circuit);
+    out.extend_from_slice(&text)
+}
+
+fn text_of(alloc: Global, circuit: &Circuit) -> Result<Vec<u8>, AllocError>
+    ensures { IfOk result (λ text. text.items ≡ circuit_text circuit.now) }
+{
+    let mut text = Vec::new(alloc);
     push_header(&mut text, circuit)?;
     push_literals(&mut text, &circuit.inputs)?;
     push_latches(&mut text, &circuit.latches)?;
@@ -20,7 +32,7 @@ pub fn write_circuit(circuit: &Circuit, out: &mut Vec<u8>) -> Result<(), AllocEr
     push_gates(&mut text, &circuit.gates)?;
     push_names(&mut text, Named::AnInput, &circuit.input_names)?;
     push_names(&mut text, Named::AnOutput, &circuit.output_names)?;
-    out.extend_from_slice(&text)
+    Ok(text)
 }
 
 // Appends a line of numbers, of which there is at least one.
