@@ -1,20 +1,14 @@
 -- Groups of gates that depend on each other, found in one walk.
-use Rattle.std.proofs.Common.{◌≡◌, ◌≢◌, ℕ, zero, suc, ◌+◌, ◌-◌, ◌/◌, ◌<◌, ◌≤◌, ◌⊎◌, Bool, true, false, Option, Some, None, List, [], ◌∷◌, ◌++◌, length, get_or, set, take, refl, sym, ap, subst, ◌∙◌, arith, inl, inr}
-use Rattle.std.specs.Prelude.{Contains, map, ◌↔◌}
+use Rattle.std.proofs.Common.{◌≡◌, ◌≢◌, ℕ, ◌+◌, ◌-◌, ◌<◌, ◌≤◌, ◌⊎◌, Bool, false, List, [], ◌∷◌, ◌++◌, length, get_or, set, refl, sym, ap, subst, ◌∙◌, arith, inl, inr}
+use Rattle.std.specs.Prelude.{Contains}
 use Rattle.std.specs.List.{sum_by}
 use Rattle.std.proofs.lemmas.Bool.{cases_eq, cases_lt}
-use Rattle.std.proofs.lemmas.List.{get_or-set_same, get_or-set_other, length-set, length_push, get_or_push, get_or_append_left, get_or_default, get_or-map, get_or-take, length-take-le}
+use Rattle.std.proofs.lemmas.List.{get_or-set_same, get_or-set_other, length-set, length_push, get_or_push, get_or_append_left, get_or_default}
 use Rattle.std.proofs.lemmas.List.Sums.{sum_by-set}
 use Rattle.std.proofs.lemmas.List.Elements.{Contains-push, Contains-push_cases, Contains-append_left, Contains-get_or}
-use Rattle.aiger_text.specs.declared.circuits.Gate.{Gate}
 use Rattle.aiger_text.specs.declared.groups.Stage.{Stage}
-use Rattle.aiger_text.specs.declared.groups.Stage.TheVariants.{New, Open, Done}
-use Rattle.aiger_text.specs.CircuitType.{DependsOn, gate_at}
-use Rattle.aiger_text.specs.CircuitType.DependsOn.{left, right, through}
-use Rattle.aiger_text.specs.Walks.{IsOnCycle, Uses, Finds, IsReached, IsVisited}
-use Rattle.aiger_text.specs.Groups.{IsTour, IsGreatest, IsStart, IsDone, Leads, Rises, Stays, Closes, Cuts, Goes, AtGate, stage_at, is_done, weight, left_to_do}
-use Rattle.aiger_text.proofs.WalkLemmas.{depends}
-use Rattle.aiger_text.proofs.SearchLemmas.{complete}
+use Rattle.aiger_text.specs.declared.groups.Stage.TheVariants.{Done}
+use Rattle.aiger_text.specs.Groups.{IsGreatest, Rises, Closes, Cuts, stage_at, weight}
 
 -- a number that a list has, by its place
 pub has_at : (xs : List ℕ) (x : ℕ) (there : Contains xs x) → get_or xs there.0 0 ≡ x

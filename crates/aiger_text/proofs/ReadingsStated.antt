@@ -86,7 +86,7 @@ output_miss names n k s away = by s.named away
     by AnOutput away = set_away names.outputs s.place k s.name away
 
 -- what ends the file
-comment_read : (names : Names) (n : ℕ) (comment : Option (List ℕ)) → ending_from names n (lines_of (comment_text comment)) ≡ Ok (record { names = names; line = n; comment = comment })
+pub comment_read : (names : Names) (n : ℕ) (comment : Option (List ℕ)) → ending_from names n (lines_of (comment_text comment)) ≡ Ok (record { names = names; line = n; comment = comment })
 comment_read names n None = refl
 comment_read names n (Some comment) =
     ap (ending_from names n) (slice_split_at (is_byte 10) (99 ∷ []) 10 comment (All-cons (λ b. is_byte 10 b ≡ false) 99 [] refl (All-nil (λ b. is_byte 10 b ≡ false))) refl)

@@ -1,17 +1,16 @@
 -- A tour leaves a gate, or is done with a group.
-use Rattle.std.proofs.Common.{◌≡◌, ◌≢◌, ℕ, zero, suc, ◌+◌, ◌-◌, ◌/◌, ◌<◌, ◌≤◌, ◌⊎◌, Bool, true, false, Option, Some, None, List, [], ◌∷◌, ◌++◌, length, get_or, take, drop, refl, sym, ap, subst, ◌∙◌, arith, inl, inr}
+use Rattle.std.proofs.Common.{◌≡◌, ◌≢◌, ℕ, ◌+◌, ◌-◌, ◌<◌, ◌≤◌, ◌⊎◌, Bool, true, false, Option, Some, None, List, [], ◌∷◌, ◌++◌, length, get_or, take, drop, refl, sym, ap, subst, ◌∙◌, arith, inl, inr}
 use Rattle.std.specs.Prelude.{Contains, map, ◌↔◌, MatchOption}
 use Rattle.std.specs.List.{sum_by}
 use Rattle.std.proofs.lemmas.Bool.{cases_eq, cases_lt}
 use Rattle.std.proofs.lemmas.List.{length_push, get_or_past, get_or-take, length-take-le}
 use Rattle.std.proofs.Math.Seq.{take-append_seam}
-use Rattle.std.proofs.lemmas.List.Elements.{Contains-push, Contains-push_cases, Contains-append_left}
+use Rattle.std.proofs.lemmas.List.Elements.{Contains-push_cases, Contains-append_left}
 use Rattle.aiger_text.specs.declared.circuits.Gate.{Gate}
 use Rattle.aiger_text.specs.declared.groups.Stage.{Stage}
 use Rattle.aiger_text.specs.declared.groups.Stage.TheVariants.{New, Open, Done}
-use Rattle.aiger_text.specs.CircuitType.{gate_at}
 use Rattle.aiger_text.specs.Walks.{IsOnCycle, IsFirstCycle, Uses, Finds, IsReached, IsVisited}
-use Rattle.aiger_text.specs.Groups.{IsFirstDone, IsTour, IsGreatest, IsStart, IsDone, Leads, Rises, Stays, Closes, Goes, stage_at, is_done, weight, left_to_do}
+use Rattle.aiger_text.specs.Groups.{IsFirstDone, IsTour, IsGreatest, IsStart, IsDone, Leads, Rises, Closes, Goes, stage_at, is_done, weight, left_to_do}
 use Rattle.aiger_text.proofs.WalkLemmas.{depends}
 use Rattle.aiger_text.proofs.SearchLemmas.{complete}
 use Rattle.aiger_text.proofs.GroupLemmas.{rises_front, rises_last, greatest, last_greatest}

@@ -1,21 +1,20 @@
 -- The steps of a tour: it enters a gate, joins groups, leaves a gate, or is done with a group.
-use Rattle.std.proofs.Common.{◌≡◌, ◌≢◌, ℕ, zero, suc, ◌+◌, ◌-◌, ◌/◌, ◌<◌, ◌≤◌, ◌⊎◌, Bool, true, false, Option, Some, None, List, [], ◌∷◌, ◌++◌, length, get_or, set, take, refl, sym, ap, subst, ◌∙◌, arith, inl, inr}
-use Rattle.std.specs.Prelude.{Contains, map, ◌↔◌}
+use Rattle.std.proofs.Common.{◌≡◌, ◌≢◌, ℕ, zero, suc, ◌+◌, ◌-◌, ◌/◌, ◌<◌, ◌≤◌, ◌⊎◌, Bool, true, false, List, [], ◌∷◌, ◌++◌, length, get_or, set, refl, sym, ap, subst, ◌∙◌, arith, inl, inr}
+use Rattle.std.specs.Prelude.{Contains, map}
 use Rattle.std.specs.List.{sum_by}
 use Rattle.std.proofs.lemmas.Bool.{cases_eq, cases_lt}
-use Rattle.std.proofs.lemmas.List.{get_or-set_same, get_or-set_other, length-set, length_push, get_or_push, get_or_append_left, get_or-take, length-take-le}
+use Rattle.std.proofs.lemmas.List.{get_or-set_same, get_or-set_other, length-set, length_push, get_or_push, get_or_append_left}
 use Rattle.std.proofs.lemmas.List.Sums.{sum_by-set}
-use Rattle.std.proofs.lemmas.List.Elements.{Contains-push, Contains-push_cases, Contains-append_left, Contains-get_or}
+use Rattle.std.proofs.lemmas.List.Elements.{Contains-push, Contains-push_cases, Contains-append_left}
 use Rattle.aiger_text.specs.declared.circuits.Gate.{Gate}
 use Rattle.aiger_text.specs.declared.groups.Stage.{Stage}
 use Rattle.aiger_text.specs.declared.groups.Stage.TheVariants.{New, Open, Done}
 use Rattle.aiger_text.specs.CircuitType.{gate_at}
 use Rattle.aiger_text.specs.CircuitType.DependsOn.{through}
-use Rattle.aiger_text.specs.Walks.{IsOnCycle, Uses, Finds, IsReached, IsVisited}
-use Rattle.aiger_text.specs.Groups.{IsTour, IsGreatest, IsStart, IsDone, Leads, Rises, Stays, Closes, Cuts, Goes, stage_at, is_done, weight, left_to_do}
+use Rattle.aiger_text.specs.Walks.{Uses}
+use Rattle.aiger_text.specs.Groups.{IsTour, IsGreatest, IsDone, Leads, Cuts, Goes, stage_at, is_done, weight, left_to_do}
 use Rattle.aiger_text.proofs.WalkLemmas.{depends}
-use Rattle.aiger_text.proofs.SearchLemmas.{complete}
-use Rattle.aiger_text.proofs.GroupLemmas.{has_at, rises_front, rises_last, greatest, rises_push, last_greatest}
+use Rattle.aiger_text.proofs.GroupLemmas.{rises_push, last_greatest}
 
 pub leads_on : (gates : List Gate) (a b c : ℕ) → Leads gates a b → Leads gates b c → Leads gates a c
 leads_on gates a b c p q = through ((gate_at gates a).literal / 2) ((gate_at gates b).literal / 2) ((gate_at gates c).literal / 2) p q

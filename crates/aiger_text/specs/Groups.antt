@@ -1,6 +1,6 @@
 -- A walk along the gates that gates use which finds groups of gates that depend on each other (the path-based algorithm
 -- for strongly connected components, Gabow 2000).
-use Rattle.std.specs.Prelude.{◌≡◌, ◌≢◌, ℕ, ◌+◌, ◌/◌, ◌<◌, ◌≤◌, ◌⊎◌, ◌↔◌, Bool, true, false, List, length, take, Contains, slice_index, slice_index_or}
+use Rattle.std.specs.Prelude.{◌≡◌, ◌≢◌, ℕ, ◌+◌, ◌/◌, ◌<◌, ◌≤◌, ◌⊎◌, ◌↔◌, Bool, true, false, List, length, Contains, slice_index, slice_index_or}
 use Rattle.std.specs.List.{sum_by}
 use Rattle.aiger_text.specs.declared.circuits.Gate.{Gate}
 use Rattle.aiger_text.specs.declared.groups.Stage.{Stage}

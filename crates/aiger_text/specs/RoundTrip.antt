@@ -3,7 +3,7 @@ use Rattle.std.specs.Prelude.{◌≡◌, ◌≢◌, ◌==◌, ℕ, ◌+◌, ◌-
 use Rattle.std.specs.List.{list_all}
 use Rattle.aiger_text.specs.declared.faults.CircuitFault.{CircuitFault}
 use Rattle.aiger_text.specs.Circuit.{Circuit}
-use Rattle.aiger_text.specs.CircuitText.{circuit_lines, circuit_text, ReadsAs}
+use Rattle.aiger_text.specs.CircuitText.{circuit_lines, circuit_text, comment_text, ReadsAs}
 use Rattle.aiger_text.specs.CircuitFile.{File, States, IsFirstFault}
 
 -- a name that a line can hold: it isn't empty and has no line end
@@ -45,6 +45,12 @@ pub record StatesOnly (bytes : List ℕ) (file : File) : Type 0 where
 -- what is written of a circuit states the circuit
 abbrev pub WrittenIsRead : Circuit → Type 0
 WrittenIsRead c = IsWritable c → StatesOnly (circuit_text c) (written_file c)
+
+-- with the line `c` and a comment behind it, it states besides where the comment begins
+abbrev pub CommentsAreRead : Circuit → Type 0
+CommentsAreRead c =
+    (comment : List ℕ) → IsWritable c
+    → StatesOnly (circuit_text c ++ comment_text (Some comment)) (record (written_file c) { comment_at = Some (length (circuit_text c) + 2) })
 
 -- the file states this circuit, and its comment begins where this one does
 pub record IsStatedAs (bytes : List ℕ) (c : Circuit) (comment : Option (List ℕ)) : Type 0 where

@@ -3,7 +3,7 @@ ghost use Rattle.letter_word.specs.declared.kinds.Side.{Side};
 ghost use Rattle.aiger_text.specs.Circuit.{RunsOnEveryInput};
 ghost use Rattle.aiger_text.specs.FileLaws.{FilesStateOneThing, FilesHaveOneFault, FaultsStateNothing};
 ghost use Rattle.aiger_text.specs.Laws.{ValuationsAgree, RunsAreDetermined};
-ghost use Rattle.aiger_text.specs.RoundTrip.{WrittenIsRead, ReadingsAreStated, ReadingsAgree};
+ghost use Rattle.aiger_text.specs.RoundTrip.{WrittenIsRead, CommentsAreRead, ReadingsAreStated, ReadingsAgree};
 
 use crate::circuits::Circuit;
 
@@ -46,6 +46,13 @@ pub fn faults_state_nothing()
 /// What is written of a circuit that a file can hold states, read back, this circuit and nothing else.
 pub fn written_is_read(circuit: &Circuit)
     ensures { WrittenIsRead circuit.now }
+{
+    let _order = &circuit.order;
+}
+
+/// The same where the line `c` and a comment follow, with the place at which the comment begins.
+pub fn comments_are_read(circuit: &Circuit)
+    ensures { CommentsAreRead circuit.now }
 {
     let _order = &circuit.order;
 }

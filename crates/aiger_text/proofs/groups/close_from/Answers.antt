@@ -1,4 +1,4 @@
-use Rattle.std.proofs.Common.{◌<◌, length, get_or, sym, subst, arith}
+use Rattle.std.proofs.Common.{◌<◌, length, get_or, arith}
 use Rattle.aiger_text.proofs.GroupLemmas.{closes_none, closes_more, closes_end}
 use Rattle.aiger_text.proofs.groups.close_from.Goals as goal
 

@@ -1,4 +1,3 @@
-use Rattle.std.proofs.Common.{◌≤◌, length}
 use Rattle.aiger_text.specs.Groups.{Closes}
 use Rattle.aiger_text.proofs.groups.close_from.Given as goal
 

@@ -1,5 +1,5 @@
 use Rattle.std.proofs.Common.{◌<◌, arith}
-use Rattle.aiger_text.proofs.GroupLemmas.{cut_none, cut_one, cut_end, cut_empty, split_last}
+use Rattle.aiger_text.proofs.GroupLemmas.{cut_none, cut_one, split_last}
 use Rattle.aiger_text.proofs.groups.cut_starts.Goals as goal
 
 pub loop-start-init : goal.loop-start-init

@@ -1,6 +1,3 @@
-use Rattle.std.proofs.Common.{◌≡◌, sym, subst}
-use Rattle.aiger_text.specs.Groups.{AtGate}
-use Rattle.aiger_text.specs.declared.groups.Wish.TheVariants.{Nothing}
 use Rattle.aiger_text.proofs.TourDone.{Leaves, leave_gate}
 use Rattle.aiger_text.proofs.groups.Tour.close.Goals as goal
 use Rattle.aiger_text.proofs.groups.Tour.close.Goals.{In-Some}

@@ -1,5 +1,5 @@
 use Rattle.std.proofs.Common.{◌≡◌, length, ◌∙◌}
-use Rattle.aiger_text.proofs.TourLemmas.{enter_tour, enter_lowers, enter_goes}
+use Rattle.aiger_text.proofs.TourLemmas.{enter_tour}
 use Rattle.aiger_text.proofs.groups.Tour.enter.Goals as goal
 
 pub returns-clause-tour : goal.returns-clause-tour

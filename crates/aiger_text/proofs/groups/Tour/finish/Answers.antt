@@ -1,5 +1,4 @@
-use Rattle.std.proofs.Common.{◌≡◌, List, length, take, drop, ◌++◌, subst, ◌∙◌, arith}
-use Rattle.aiger_text.specs.declared.groups.Stage.{Stage}
+use Rattle.std.proofs.Common.{◌≡◌, length, take, drop, ◌++◌}
 use Rattle.aiger_text.specs.Groups.{Closes}
 use Rattle.aiger_text.proofs.TourDone.{Leaves, finish_group, written_back}
 use Rattle.aiger_text.proofs.groups.Tour.finish.Goals as goal

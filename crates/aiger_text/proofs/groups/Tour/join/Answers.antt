@@ -1,4 +1,3 @@
-use Rattle.aiger_text.proofs.TourDone.{leave_tour, done_tour}
 use Rattle.aiger_text.proofs.TourLemmas.{join_tour, join_lowers}
 use Rattle.aiger_text.proofs.groups.Tour.join.Goals as goal
 

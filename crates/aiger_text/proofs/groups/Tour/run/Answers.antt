@@ -1,4 +1,4 @@
-use Rattle.aiger_text.proofs.TourDone.{last_top, nothing_open, nothing_started, goes_both, done_by, no_tour, first_of_tour}
+use Rattle.aiger_text.proofs.TourDone.{last_top, nothing_open, goes_both}
 use Rattle.aiger_text.proofs.groups.Tour.run.Goals as goal
 
 pub step-requires-clause-inside : goal.step-requires-clause-inside
