@@ -5,3 +5,4 @@ pub mod Seats
 pub mod Offering
 pub mod Closing
 pub mod Fixtures
+pub mod Crowd

@@ -11,6 +11,8 @@ use std::sync::{Arc, Wait};
 use std::test::Fail;
 use std::thread::{self, Threads};
 
+mod crowd;
+
 /// The clause of one literal.
 fn unit(alloc: Global, lit: Lit) -> Result<Clause, Fail>
     requires { lit.var ≤ 1 }
