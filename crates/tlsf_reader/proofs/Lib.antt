@@ -1,3 +1,5 @@
 pub mod Spelling
+pub mod Nodes
 pub mod Lexing
 pub mod OneTree
+pub mod Descending

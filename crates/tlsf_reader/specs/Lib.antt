@@ -6,3 +6,5 @@ pub mod Spec
 pub mod Faults
 pub mod Reads
 pub mod Levels
+pub mod View
+pub mod Descent

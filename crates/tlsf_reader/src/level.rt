@@ -1,6 +1,6 @@
 // How tightly operators bind.
 
-ghost use Rattle.std.specs.Prelude.{◌≡◌, option_map, Some, IfSome, IfNone};
+ghost use Rattle.std.specs.Prelude.{◌≡◌, ◌≤◌, ◌+◌, option_map, Some, IfSome, IfNone};
 ghost use Rattle.tlsf_reader.specs.declared.level.Level.TheVariants.{Releases};
 ghost use Rattle.tlsf_grammar.specs.Expressions.{tighter_of, joins_of, operator_of, big_of, bound_of};
 ghost use Rattle.tlsf_grammar.specs.Reading.{level_number};
@@ -70,6 +70,7 @@ impl Level {
     /// The level that is built of this one.
     pub(crate) fn looser(self) -> Option<Level>
         ensures upwards { IfSome result (λ looser. tighter_of (level_of looser) ≡ Some (level_of self)) }
+        ensures above { IfSome result (λ looser. level_number (level_of looser) ≡ level_number (level_of self) + 1) }
         ensures last { IfNone result (self ≡ Releases) }
     {
         match self {
@@ -89,6 +90,20 @@ impl Level {
             Level::WeakUntils => Some(Level::Untils),
             Level::Untils => Some(Level::Releases),
             Level::Releases => None,
+        }
+    }
+
+    /// The level that is built of this one, on the way to a looser one.
+    pub(crate) fn towards(self, to: Level) -> Option<Level>
+        ensures upwards { IfSome result (λ next. tighter_of (level_of next) ≡ Some (level_of self)) }
+        ensures within { IfSome result (λ next. level_number (level_of next) ≤ level_number (level_of to)) }
+        ensures above { IfSome result (λ next. level_number (level_of next) ≡ level_number (level_of self) + 1) }
+        ensures last { IfNone result (level_number (level_of to) ≤ level_number (level_of self)) }
+    {
+        if self.rank() < to.rank() {
+            self.looser()
+        } else {
+            None
         }
     }
 

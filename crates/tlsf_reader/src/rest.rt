@@ -1,10 +1,9 @@
 // Looking at the front of the lexemes that are left.
 
-ghost use Rattle.std.specs.Prelude.{◌≡◌, ◌∷◌, ◌↔◌, true, length, map, option_map, IfOk, IfErr, IsOk, IfSome, IsSome};
+ghost use Rattle.std.specs.Prelude.{◌≡◌, map, option_map};
 ghost use Rattle.tlsf_grammar.specs.Symbols.{symbol_number, symbol_eq};
 ghost use Rattle.tlsf_grammar.specs.Reading.{begins, begins_big, at_level, operator_here};
 ghost use Rattle.tlsf_tree.specs.declared.symbol.Symbol.TheVariants.{Section as section_symbol};
-ghost use Rattle.tlsf_reader.specs.declared.rest.Refusal.TheVariants.{At};
 ghost use Rattle.tlsf_reader.specs.Levels.{level_of, level_and_operator};
 ghost use Rattle.tlsf_reader.specs.Seen.{seen};
 
@@ -155,47 +154,6 @@ pub(crate) enum Refusal {
     NoMemory,
     /// So many lexemes were left, of which the first is refused; where none was left, the end is.
     At { left: usize },
-}
-
-/// The next lexeme, which has to have this symbol, and what stands after it.
-pub(crate) fn expect<'a>(
-    symbol: Symbol,
-    ls: &'a [Lexeme<'a>],
-) -> Result<(Lexeme<'a>, &'a [Lexeme<'a>]), Refusal>
-    ensures ok { IfOk result (λ p. map seen ls.now ≡ seen p.0 ∷ map seen p.1.now) }
-    ensures symbol { IsOk result ↔ (begins symbol (map seen ls.now) ≡ true) }
-    ensures err { IfErr result (λ e. e ≡ At (length ls.now)) }
-{
-    match ls {
-        [first, rest @ ..] => {
-            if same(first.symbol, symbol) {
-                Ok((*first, rest))
-            } else {
-                Err(Refusal::At { left: ls.len() })
-            }
-        }
-        [] => Err(Refusal::At { left: 0 }),
-    }
-}
-
-/// The next lexeme, where it has this symbol, and what stands after it.
-pub(crate) fn next_if<'a>(
-    symbol: Symbol,
-    ls: &'a [Lexeme<'a>],
-) -> Option<(Lexeme<'a>, &'a [Lexeme<'a>])>
-    ensures some { IfSome result (λ p. map seen ls.now ≡ seen p.0 ∷ map seen p.1.now) }
-    ensures symbol { IsSome result ↔ (begins symbol (map seen ls.now) ≡ true) }
-{
-    match ls {
-        [first, rest @ ..] => {
-            if same(first.symbol, symbol) {
-                Some((*first, rest))
-            } else {
-                None
-            }
-        }
-        [] => None,
-    }
 }
 
 #[cfg(test)]

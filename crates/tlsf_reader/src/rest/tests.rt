@@ -33,23 +33,3 @@ fn a_big_sign_ends_an_expression_only_where_another_follows(rt: HostRuntime) -> 
     assert_operator(&rt, alloc, b"&& a", Level::Disjunctions, (None, None))?;
     assert_operator(&rt, alloc, b"", Level::Sums, (None, None))
 }
-
-#[test]
-fn symbols_are_expected_one_by_one(rt: HostRuntime) -> Result<(), Fail> {
-    let alloc = rt.alloc();
-    let found = lex(alloc, b"INFO { ASSERT")?;
-    let Ok((_, rest)) = expect(Symbol::Info, &found.lexemes) else {
-        assert!(rt; false);
-        return Ok(());
-    };
-    assert!(rt; next_if(Symbol::Global, rest).is_none());
-    assert!(rt; begins(Symbol::OpenBrace, rest));
-    assert_eq!(rt; expect(Symbol::Colon, rest).is_err(), true);
-    let Some((_, rest)) = next_if(Symbol::OpenBrace, rest) else {
-        assert!(rt; false);
-        return Ok(());
-    };
-    assert!(rt; begins(Symbol::Section(Section::Assert), rest));
-    assert!(rt; !begins(Symbol::Section(Section::Assume), rest));
-    Ok(())
-}
