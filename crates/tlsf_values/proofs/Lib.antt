@@ -1,0 +1,4 @@
+pub mod RowProofs
+pub mod SetLemmas
+pub mod CountLemmas
+pub mod NamesLemmas

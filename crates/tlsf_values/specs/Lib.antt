@@ -1,0 +1,16 @@
+pub mod Sets
+pub mod Outcomes
+pub mod Results
+pub mod Names
+pub mod Sorts
+pub mod Numbers
+pub mod Formulas
+pub mod SetOperations
+pub mod Patterns
+pub mod Operators
+pub mod Counts
+pub mod Values
+pub mod Rows
+pub mod Seen
+pub mod NamesSeen
+pub mod ScopeSeen

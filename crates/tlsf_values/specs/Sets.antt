@@ -1,0 +1,44 @@
+-- Sets of numbers as lists that rise: this project's profile of TLSF 1.1.
+use Rattle.std.specs.Prelude.{ℕ, zero, suc, ◌/◌, Bool, not, if◌then◌else◌, List, [], ◌∷◌, filter, ℤ, pos, ◌+ℤ◌, ◌-ℤ◌, int_lt, unsigned_abs}
+use Rattle.std.specs.Ordering.{int_cmp, int_eq}
+use Rattle.std.specs.BTreeSet.{insert_key}
+use Rattle.std.specs.List.{list_any}
+
+abbrev pub is_in : List ℤ → ℤ → Bool
+is_in xs z = list_any (int_eq z) xs
+
+-- each number of the second list put in its place in the first one, unless it stands there
+abbrev pub union : List ℤ → List ℤ → List ℤ
+union xs [] = xs
+union xs (y ∷ ys) = union (insert_key int_cmp xs y) ys
+
+-- the set of the numbers of a list
+abbrev pub set_of : List ℤ → List ℤ
+set_of xs = union [] xs
+
+abbrev pub intersection : List ℤ → List ℤ → List ℤ
+intersection xs ys = filter (is_in ys) xs
+
+abbrev pub difference : List ℤ → List ℤ → List ℤ
+difference xs ys = filter (λ z. not (is_in ys z)) xs
+
+-- so many numbers from the first on, each so much above the one before it
+abbrev pub numbers_from : ℤ → ℤ → ℕ → List ℤ
+numbers_from first step zero = []
+numbers_from first step (suc n) = first ∷ numbers_from (first +ℤ step) step n
+
+-- how many steps of this size, which isn't 0, lead from the first number to the last, without passing it
+abbrev pub steps_to : ℤ → ℤ → ℤ → ℕ
+steps_to first step last = unsigned_abs (last -ℤ first) / unsigned_abs step
+
+-- whether the number lies beyond the last one, as one goes by this step
+abbrev pub passes : ℤ → ℤ → ℤ → Bool
+passes z step last = if int_lt (pos 0) step then int_lt last z else int_lt z last
+
+-- how many members `{a, b .. c}` has: a, and then b - a further each time, none of them passing c
+abbrev pub step_count : ℤ → ℤ → ℤ → ℕ
+step_count a b c = if passes a (b -ℤ a) c then 0 else suc (steps_to a (b -ℤ a) c)
+
+-- these members, in the order in which they are stepped through
+abbrev pub stepped : ℤ → ℤ → ℤ → List ℤ
+stepped a b c = numbers_from a (b -ℤ a) (step_count a b c)

@@ -1,0 +1,105 @@
+// Counted forms: an X that is repeated, and windows.
+
+ghost use Rattle.std.specs.Prelude.{◌≡◌, ◌≤◌, ◌-◌, IsTrue};
+ghost use Rattle.tlsf_values.specs.Counts.{count_in, count_value, empty_truth, nexts, window_between, window_value};
+ghost use Rattle.tlsf_values.specs.Results.{IsChecked, IsOutcome};
+
+use crate::formula::{Connective, Formula, Pairing, truth_as_node};
+use crate::value::Value;
+use crate::work::{Work, fault};
+use ltl_formula::{FormulaId, Node};
+use tlsf_tokens::{SpecCode, SpecFault};
+
+/// A count, which isn't negative, at this byte.
+pub(crate) fn count(place: u64, number: i64) -> Result<u64, SpecFault>
+    ensures { IsChecked result (count_in place number) }
+{
+    match u64::try_from(number) {
+        Ok(count) => Ok(count),
+        Err(_) => Err(fault(SpecCode::NumberRange, place)),
+    }
+}
+
+impl Connective {
+    /// The truth of nothing joined.
+    pub(crate) fn of_nothing(self) -> bool
+        ensures { result ≡ empty_truth self }
+    {
+        match self {
+            Connective::Or => false,
+            Connective::And => true,
+            Connective::Implies => true,
+            Connective::Equiv => true,
+        }
+    }
+}
+
+impl Work {
+    /// So many X's before a formula. It takes time in proportion to what the limits of nodes and evaluations allow.
+    fn nexts(&mut self, place: u64, count: u64, part: FormulaId) -> Result<FormulaId, SpecFault>
+        ensures { IsOutcome result self.new (nexts place count part self.old) }
+    {
+        let mut id = part;
+        let mut left = count;
+        while left > 0 {
+            self.count(place, 1)?;
+            id = self.made(place, Node::Next(id))?;
+            left -= 1;
+        }
+        Ok(id)
+    }
+
+    pub(crate) fn counted_next(
+        &mut self,
+        place: u64,
+        count: u64,
+        part: Formula,
+    ) -> Result<Value, SpecFault>
+        ensures { IsOutcome result self.new (count_value place count part self.old) }
+    {
+        let part = self.node_of(place, part)?;
+        Ok(Value::Flat(self.nexts(place, count, part)?))
+    }
+
+    /// The formulas so many steps on, joined from the first count to the last.
+    fn window_between(
+        &mut self,
+        place: u64,
+        pairing: Pairing,
+        first: u64,
+        last: u64,
+        part: Formula,
+    ) -> Result<FormulaId, SpecFault>
+        requires { first ≤ last }
+        ensures { IsOutcome result self.new (window_between place pairing first last part self.old) }
+    {
+        let part = self.node_of(place, part)?;
+        let mut joined = self.nexts(place, first, part)?;
+        let mut count = first;
+        while count < last {
+            count += 1;
+            let next = self.nexts(place, count, part)?;
+            joined = self.made(place, pairing.node(joined, next))?;
+        }
+        Ok(joined)
+    }
+
+    /// A window over no count is a node of its own.
+    pub(crate) fn window(
+        &mut self,
+        place: u64,
+        connective: Connective,
+        first: u64,
+        last: u64,
+        part: Formula,
+    ) -> Result<Value, SpecFault>
+        ensures { IsOutcome result self.new (window_value place connective first last part self.old) }
+    {
+        if first > last {
+            let nothing = truth_as_node(connective.of_nothing());
+            return Ok(Value::Flat(self.made(place, nothing)?));
+        }
+        let pairing = connective.pairing();
+        Ok(Value::Flat(self.window_between(place, pairing, first, last, part)?))
+    }
+}

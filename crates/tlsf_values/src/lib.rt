@@ -1,0 +1,30 @@
+// The values of written expressions. What an expression's value is, and which fault comes first where it has none,
+// is a definition in `specs/`: one recursion on the depth that is left, over plain trees.
+// It stands on tlsf_tree for the written tree, tlsf_grammar for trees as plain values, tlsf_tokens for the numbered
+// faults, and ltl_formula for the list of flat formulas.
+#![tactic(auto)]
+
+mod apply;
+mod counts;
+mod formula;
+pub mod laws;
+mod names;
+mod number_set;
+mod numbers;
+mod operate;
+mod patterns;
+mod scope;
+mod set_operation;
+mod value;
+mod work;
+
+pub use formula::{Connective, Formula, Pairing, Sign};
+pub use names::Names;
+pub use number_set::NumberSet;
+pub use numbers::{Arithmetic, Comparison, Places};
+pub use set_operation::SetOperation;
+pub use value::Value;
+pub use work::{MOST_DEPTH, MOST_EVALUATIONS, Work};
+
+#[cfg(test)]
+mod tests;
