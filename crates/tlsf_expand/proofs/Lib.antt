@@ -1,0 +1,16 @@
+pub mod Kept
+pub mod Alike
+pub mod Made
+pub mod Connected
+pub mod Bools
+pub mod Valued
+pub mod Counted
+pub mod Joined
+pub mod Operated
+pub mod Named
+pub mod Parts
+pub mod Evaluated
+pub mod Laid
+pub mod Sectioned
+pub mod Expanded
+pub mod RowProofs

@@ -1,0 +1,9 @@
+pub mod Senses
+pub mod WrittenTruth
+pub mod Texts
+pub mod Signals
+pub mod Sections
+pub mod Expansion
+pub mod Meaning
+pub mod Laws
+pub mod Rows
