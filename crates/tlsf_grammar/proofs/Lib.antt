@@ -6,3 +6,9 @@ pub mod Reading
 pub mod Texts
 pub mod Unexpected
 pub mod Sound
+pub mod Agreement
+pub mod TextAgreement
+pub mod Viable
+pub mod TextSound
+pub mod Exact
+pub mod SemanticsWords

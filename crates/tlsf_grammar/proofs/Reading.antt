@@ -9,7 +9,7 @@ use Rattle.tlsf_grammar.specs.Lexemes.{Lexeme, Is, word_of, span_of, lexeme_span
 use Rattle.tlsf_grammar.specs.Symbols.{symbol_eq}
 use Rattle.tlsf_grammar.specs.Expressions.{Level, primary, products, quotients, sums, comparisons, memberships, prefixes, releases, Joins, left, once, right, none, tighter_of, joins_of, operator_of, prefix_of, window_of, big_of, bound_of, Derives, of_number, of_true, of_false, of_name, of_call, of_index, of_size, of_paren, of_set, of_steps, of_tighter, of_chain, of_once, of_right, of_prefix, of_count, of_window, of_big, DerivesList, of_none, of_last, of_more, DerivesLinks, of_no_link, of_link, DerivesRanges, of_members, of_between, DerivesMoreRanges, of_no_range, of_range}
 use Rattle.tlsf_grammar.specs.Texts.{EndsWithName}
-use Rattle.tlsf_grammar.specs.Reading.{Answer, taken, refused, go_on, begins, if_next, level_number, at_level, operator_here, Readers, chain_of, joined, links_end, from_to, word_with, set_with, set_second, primary_by, prefix_by, prefix_with, prefixed, counted, windowed, big_with, level_by, level_with, list_with, linked, links_with, more_ranges, between_with, ranges_with, readers}
+use Rattle.tlsf_grammar.specs.Reading.{Answer, taken, refused, lost, go_on, begins, if_next, level_number, at_level, operator_here, Readers, chain_of, joined, links_end, from_to, word_with, set_with, set_second, primary_by, prefix_by, prefix_with, prefixed, counted, windowed, big_with, level_by, level_with, list_with, linked, links_with, more_ranges, between_with, ranges_with, readers}
 use Rattle.tlsf_grammar.proofs.Symbols.{same_symbol}
 use Rattle.std.specs.Option.{is_some}
 use Rattle.std.proofs.lemmas.List.{append-nil}
@@ -403,10 +403,12 @@ more_follow ms more (of_range comma ns rs e d) n ls last rest c = ends_follow n 
 rest_of : Answer Tree → List Lexeme
 rest_of (taken t rest) = rest
 rest_of (refused k) = []
+rest_of lost = []
 
 tree_or : Tree → Answer Tree → Tree
 tree_or u (taken t rest) = t
 tree_or u (refused k) = u
+tree_or u lost = u
 
 is_bound : Symbol → Bool
 is_bound s = is_some (bound_of s)

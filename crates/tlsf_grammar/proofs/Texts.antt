@@ -15,7 +15,7 @@ use Rattle.tlsf_grammar.specs.Lexemes.{Lexeme, Is, word_of, span_of, end_from}
 use Rattle.tlsf_grammar.specs.Symbols.{symbol_eq}
 use Rattle.tlsf_grammar.specs.Expressions.{Level, releases, operator_of, prefix_of, window_of, Derives, of_number, of_true, of_false, of_name, of_call, of_index, of_size, of_paren, of_set, of_steps, of_tighter, of_chain, of_once, of_right, of_prefix, of_count, of_window, of_big}
 use Rattle.tlsf_grammar.specs.Texts.{IsKind, is_mealy, is_moore, IsStrict, DerivesSemantics, of_kind, of_kind_strict, of_strict_kind, DerivesNames, of_one_name, of_names, DerivesField, of_title, of_description, of_semantics, of_target, of_no_tags, of_tags, DerivesFields, of_no_field, of_field, bits_of, DerivesBits, of_bits, of_more_bits, DerivesPatterns, of_one_pattern, of_patterns, DerivesMembers, of_one_member, of_members, DerivesAlternative, of_guard, of_otherwise, EndsWithName, BeginsWithParen, DerivesAlternatives, of_one_alternative, of_alternatives, DerivesBody, of_plain, of_guarded, DerivesDefinition, of_constant, of_function, of_enumeration, of_ended_enumeration, DerivesDefinitions, of_no_definition, of_definition, DerivesParameters, of_no_parameter, of_parameter, DerivesBlocks, of_no_block, of_parameters, of_definitions, DerivesDeclarations, of_no_declaration, of_single, of_bus, of_typed, DerivesFormulas, of_no_formula, of_formula, DerivesParts, of_no_part, of_inputs, of_outputs, of_section, DerivesInfo, of_info, DerivesGlobal, of_no_global, of_global, DerivesMain, of_main, DerivesText, of_text}
-use Rattle.tlsf_grammar.specs.Reading.{Answer, taken, refused, go_on, begins, expect, if_next, at_level, begins_big, operator_here, from_to}
+use Rattle.tlsf_grammar.specs.Reading.{Answer, taken, refused, lost, go_on, begins, expect, if_next, at_level, begins_big, operator_here, from_to}
 use Rattle.tlsf_grammar.specs.TextReading.{names_read, named_kind, kind_of, is_strict, semantics_read, tags_read, is_field, field_by, fields_read, goes_on_value, value_read, valued, pattern_read, patterns_read, begins_member, members_read, expression_read, guard_read, alternative_of, alternatives_read, body_read, function_read, definition_read, definitions_read, parameters_read, braced, blocks_read, declarations_read, formulas_read, part_by, parts_read, main_read, after_info, text_read}
 use Rattle.tlsf_grammar.proofs.Symbols.{same_symbol}
 use Rattle.tlsf_grammar.proofs.Starts.{begins_any, StartsWith, starts_any, not_symbol, unless, Follows, Ends, ends_of, ends_follow, ends-append}
@@ -885,6 +885,7 @@ text_is_read ls w (of_text is gs ms v i g m) = info_is_read is gs ms v.fields v.
 written_or : Written → Answer Written → Written
 written_or v (taken w rest) = w
 written_or v (refused k) = v
+written_or v lost = v
 
 pub one_text : (ls : List Lexeme) (w v : Written) → DerivesText ls w → DerivesText ls v → w ≡ v
 unfolding written_or

@@ -18,10 +18,13 @@ pub data Answer (A : Type 0) : Type 0 where
   taken : A → List Lexeme → Answer A
   -- so many lexemes are left, of which the first is refused; where none is left, the end is
   refused : ℕ → Answer A
+  -- the depth doesn't suffice
+  lost : Answer A
 
 abbrev pub go_on : {A B : Type 0} → Answer A → (A → List Lexeme → Answer B) → Answer B
 go_on (taken a ls) f = f a ls
 go_on (refused k) f = refused k
+go_on lost f = lost
 
 abbrev pub begins : Symbol → List Lexeme → Bool
 begins s [] = false
@@ -216,7 +219,7 @@ abbrev pub step : Readers → Readers
 step r = record { level = level_with r; list = list_with r; links = links_with r; ranges = ranges_with r }
 
 abbrev pub stuck : Readers
-stuck = record { level = λ ends m ls. refused (length ls); list = λ ls. refused (length ls); links = λ ends m ls. refused (length ls); ranges = λ ls. refused (length ls) }
+stuck = record { level = λ ends m ls. lost; list = λ ls. lost; links = λ ends m ls. lost; ranges = λ ls. lost }
 
 -- readers that go so deep
 unfoldable pub readers : ℕ → Readers

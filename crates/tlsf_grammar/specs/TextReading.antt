@@ -1,6 +1,6 @@
 -- The grammar of whole texts as a reader with one token of look-ahead: computing functions on lists of lexemes. This is no
 -- definition of the grammar: readers that go deep enough read what is derived, so no text has two trees.
-use Rattle.std.specs.Prelude.{◌≡◌, ℕ, zero, suc, Bool, true, false, ◌==◌, ◌&&◌, if◌then◌else◌, List, [], ◌∷◌, ◌++◌, length, Option, None, Some, codes}
+use Rattle.std.specs.Prelude.{◌≡◌, ◌+◌, ◌≤◌, ℕ, zero, suc, Bool, true, false, ◌==◌, ◌&&◌, if◌then◌else◌, List, [], ◌∷◌, ◌++◌, length, Option, None, Some, codes}
 use Rattle.std.specs.Option.{is_some}
 use Rattle.std.specs.Str.{bytes_eq}
 use Rattle.letter_word.specs.declared.kinds.Kind.{Kind}
@@ -11,13 +11,13 @@ use Rattle.tlsf_grammar.specs.Tree.{Named, Tree, Alternative, Body, plain, guard
 use Rattle.tlsf_grammar.specs.Lexemes.{Lexeme, word_of}
 use Rattle.tlsf_grammar.specs.Symbols.{symbol_eq}
 use Rattle.tlsf_grammar.specs.Expressions.{releases}
-use Rattle.tlsf_grammar.specs.Texts.{unquoted, bits_of, DerivesText}
-use Rattle.tlsf_grammar.specs.Reading.{Answer, taken, refused, go_on, begins, expect, if_next, from_to, readers}
+use Rattle.tlsf_grammar.specs.Texts.{unquoted, bits_of, DerivesText, IsFirstUnexpected}
+use Rattle.tlsf_grammar.specs.Reading.{Answer, taken, refused, lost, go_on, begins, expect, if_next, from_to, readers}
 
 -- names
 
 abbrev pub names_read : ℕ → List Lexeme → Answer (List Named)
-names_read zero ls = refused (length ls)
+names_read zero ls = lost
 names_read (suc depth) ls =
     expect symbol.Ident ls (λ l rest. if_next symbol.Comma rest (λ _ inner. go_on (names_read depth inner) (λ ws after. taken (word_of l ∷ ws) after)) (taken (word_of l ∷ []) rest))
 
@@ -75,7 +75,7 @@ field_by depth symbol.Tags ls = expect symbol.Colon ls (λ _ rest. tags_read dep
 field_by depth _ ls = refused (suc (length ls))
 
 abbrev pub fields_read : ℕ → List Lexeme → Answer (List Field)
-fields_read zero ls = refused (length ls)
+fields_read zero ls = lost
 fields_read (suc depth) [] = refused 0
 fields_read (suc depth) (l ∷ ls) =
     if symbol_eq l.symbol symbol.CloseBrace then taken [] (l ∷ ls)
@@ -98,7 +98,7 @@ valued None l ls f = refused (suc (length ls))
 valued (Some bs) l ls f = if goes_on_value l.end ls then go_on (f ls) (λ v rest. taken (record { bits = bs ++ v.bits; end = v.end }) rest) else taken (record { bits = bs; end = l.end }) ls
 
 abbrev pub value_read : ℕ → List Lexeme → Answer Value
-value_read zero ls = refused (length ls)
+value_read zero ls = lost
 value_read (suc depth) [] = refused 0
 value_read (suc depth) (l ∷ ls) = valued (bits_of l.symbol l.text) l ls (value_read depth)
 
@@ -107,7 +107,7 @@ pattern_read depth [] = refused 0
 pattern_read depth (l ∷ ls) = go_on (value_read depth (l ∷ ls)) (λ v rest. taken (record { bits = v.bits; span = from_to l.start v.end }) rest)
 
 abbrev pub patterns_read : ℕ → List Lexeme → Answer (List Pattern)
-patterns_read zero ls = refused (length ls)
+patterns_read zero ls = lost
 patterns_read (suc depth) ls =
     go_on (pattern_read depth ls) (λ p rest. if_next symbol.Comma rest (λ _ inner. go_on (patterns_read depth inner) (λ ps after. taken (p ∷ ps) after)) (taken (p ∷ []) rest))
 
@@ -118,7 +118,7 @@ begins_member (l ∷ []) = false
 begins_member (l ∷ n ∷ ls) = symbol_eq l.symbol symbol.Ident && symbol_eq n.symbol symbol.Colon
 
 abbrev pub members_read : ℕ → List Lexeme → Answer (List Member)
-members_read zero ls = refused (length ls)
+members_read zero ls = lost
 members_read (suc depth) ls =
     expect symbol.Ident ls (λ l colon_at. expect symbol.Colon colon_at (λ _ values_at. go_on (patterns_read depth values_at) (λ ps rest.
     if begins_member rest then go_on (members_read depth rest) (λ ms after. taken (record { word = word_of l; values = ps } ∷ ms) after)
@@ -138,7 +138,7 @@ alternative_of g u = record { guard = g; value = u }
 
 -- what stands after the guard of an alternative, and the alternatives after it
 abbrev pub alternatives_read : ℕ → Option Tree → List Lexeme → Answer (List Alternative)
-alternatives_read zero g ls = refused (length ls)
+alternatives_read zero g ls = lost
 alternatives_read (suc depth) g ls =
     expect symbol.Colon ls (λ _ inner. go_on (expression_read true depth inner) (λ u rest.
     if begins symbol.Semicolon rest then taken (alternative_of g u ∷ []) rest
@@ -162,13 +162,13 @@ definition_read depth ls =
     (function_read depth (word_of l) [] next)))
 
 abbrev pub definitions_read : ℕ → List Lexeme → Answer (List Definition)
-definitions_read zero ls = refused (length ls)
+definitions_read zero ls = lost
 definitions_read (suc depth) ls =
     if begins symbol.CloseBrace ls then taken [] ls
     else go_on (definition_read depth ls) (λ d rest. go_on (definitions_read depth rest) (λ ds after. taken (d ∷ ds) after))
 
 abbrev pub parameters_read : ℕ → List Lexeme → Answer (List Definition)
-parameters_read zero ls = refused (length ls)
+parameters_read zero ls = lost
 parameters_read (suc depth) ls =
     if begins symbol.CloseBrace ls then taken [] ls
     else expect symbol.Ident ls (λ l sign_at. expect symbol.Assign sign_at (λ _ inner. go_on (expression_read false depth inner) (λ t rest. expect symbol.Semicolon rest (λ _ next.
@@ -179,7 +179,7 @@ abbrev pub braced : {A B : Type 0} → (List Lexeme → Answer A) → List Lexem
 braced f ls g = expect symbol.OpenBrace ls (λ _ inner. go_on (f inner) (λ a rest. expect symbol.CloseBrace rest (λ _ after. g a after)))
 
 abbrev pub blocks_read : ℕ → List Lexeme → Answer (List Block)
-blocks_read zero ls = refused (length ls)
+blocks_read zero ls = lost
 blocks_read (suc depth) ls =
     if_next symbol.Parameters ls (λ _ inner. braced (parameters_read depth) inner (λ ds rest. go_on (blocks_read depth rest) (λ bs after. taken (parameters ds ∷ bs) after)))
     (if_next symbol.Definitions ls (λ _ inner. braced (definitions_read depth) inner (λ ds rest. go_on (blocks_read depth rest) (λ bs after. taken (definitions ds ∷ bs) after))) (taken [] ls))
@@ -194,13 +194,13 @@ declaration_read depth ls =
     (expect symbol.Ident next (λ n semicolon_at. expect symbol.Semicolon semicolon_at (λ _ after. taken (record { word = word_of n; shape = typed (word_of l) }) after)))))
 
 abbrev pub declarations_read : ℕ → List Lexeme → Answer (List Declaration)
-declarations_read zero ls = refused (length ls)
+declarations_read zero ls = lost
 declarations_read (suc depth) ls =
     if begins symbol.CloseBrace ls then taken [] ls
     else go_on (declaration_read depth ls) (λ d rest. go_on (declarations_read depth rest) (λ ds after. taken (d ∷ ds) after))
 
 abbrev pub formulas_read : ℕ → List Lexeme → Answer (List Tree)
-formulas_read zero ls = refused (length ls)
+formulas_read zero ls = lost
 formulas_read (suc depth) ls =
     if begins symbol.CloseBrace ls then taken [] ls
     else go_on (expression_read false depth ls) (λ t rest. expect symbol.Semicolon rest (λ _ next. go_on (formulas_read depth next) (λ ts after. taken (t ∷ ts) after)))
@@ -212,7 +212,7 @@ part_by depth (symbol.Section s) ls = braced (formulas_read depth) ls (λ ts aft
 part_by depth _ ls = refused (suc (length ls))
 
 abbrev pub parts_read : ℕ → List Lexeme → Answer (List Part)
-parts_read zero ls = refused (length ls)
+parts_read zero ls = lost
 parts_read (suc depth) [] = refused 0
 parts_read (suc depth) (l ∷ ls) =
     if symbol_eq l.symbol symbol.CloseBrace then taken [] (l ∷ ls)
@@ -232,3 +232,14 @@ text_read depth ls = expect symbol.Info ls (λ _ inner. braced (fields_read dept
 -- no list of lexemes is two texts
 abbrev pub TextsHaveOneTree : Type 0
 TextsHaveOneTree = (ls : List Lexeme) (w w' : Written) → DerivesText ls w → DerivesText ls w' → w ≡ w'
+
+-- readers that go deep enough answer this on a text
+abbrev pub AnswersInTheEnd : List Lexeme → Answer Written → Type 0
+AnswersInTheEnd ls a = (from : ℕ) × ((depth : ℕ) → from ≤ depth → text_read depth ls ≡ a)
+
+-- The reader reads exactly the texts, and what it refuses, or leaves after a text, is the first unexpected lexeme.
+pub record TextsAreReadExactly : Type 0 where
+  pub sound : (ls : List Lexeme) (w : Written) → AnswersInTheEnd ls (taken w []) → DerivesText ls w
+  pub complete : (ls : List Lexeme) (w : Written) → DerivesText ls w → AnswersInTheEnd ls (taken w [])
+  pub refused : (ls : List Lexeme) (at k : ℕ) → AnswersInTheEnd ls (refused k) → at + k ≡ length ls → IsFirstUnexpected ls at
+  pub left : (ls : List Lexeme) (at : ℕ) (w : Written) (l : Lexeme) (rest : List Lexeme) → AnswersInTheEnd ls (taken w (l ∷ rest)) → at + length (l ∷ rest) ≡ length ls → IsFirstUnexpected ls at

@@ -186,3 +186,9 @@ pub data IsFirstUnexpected : List Lexeme → ℕ → Type 0 where
 pub record UnexpectedIsDetermined : Type 0 where
   pub one : (ls : List Lexeme) (k k' : ℕ) → IsFirstUnexpected ls k → IsFirstUnexpected ls k' → k ≡ k'
   pub never_a_text : (ls : List Lexeme) (k : ℕ) (w : Written) → IsFirstUnexpected ls k → DerivesText ls w → ⊥
+
+-- no text has the name `Finite` as a word of the value of SEMANTICS, which TLSF 1.1 has there
+pub record NoTextIsFinite : Type 0 where
+  pub first : (ls : List Lexeme) (w : Written) → DerivesText ls w → (before after : List Lexeme) (s colon l : Lexeme) → ls ≡ before ++ s ∷ colon ∷ l ∷ after → Is symbol.Semantics s → l.text ≡ codes "Finite" → ⊥
+  pub second : (ls : List Lexeme) (w : Written) → DerivesText ls w → (before after : List Lexeme) (s colon word comma l : Lexeme) → ls ≡ before ++ s ∷ colon ∷ word ∷ comma ∷ l ∷ after → Is symbol.Semantics s → Is symbol.Comma comma
+      → l.text ≡ codes "Finite" → ⊥

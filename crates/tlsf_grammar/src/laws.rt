@@ -3,8 +3,8 @@
 ghost use Rattle.tlsf_grammar.specs.Expressions.{SpansAreWhole};
 ghost use Rattle.tlsf_grammar.specs.Reading.{ExpressionsAreReadExactly, ExpressionsHaveOneTree};
 ghost use Rattle.tlsf_grammar.specs.Rows.{RowsDerive};
-ghost use Rattle.tlsf_grammar.specs.TextReading.{TextsHaveOneTree};
-ghost use Rattle.tlsf_grammar.specs.Texts.{UnexpectedIsDetermined};
+ghost use Rattle.tlsf_grammar.specs.TextReading.{TextsAreReadExactly, TextsHaveOneTree};
+ghost use Rattle.tlsf_grammar.specs.Texts.{NoTextIsFinite, UnexpectedIsDetermined};
 
 /// The span of each expression runs from its first byte to the byte after its last.
 pub fn spans_are_whole()
@@ -34,4 +34,14 @@ pub fn unexpected_is_determined()
 /// The grammar of expressions as a reader on lists reads exactly what the grammar derives.
 pub fn expressions_are_read_exactly()
     ensures { ExpressionsAreReadExactly }
+{}
+
+/// The grammar of texts as a reader on lists reads exactly the texts, and refuses at the first unexpected lexeme.
+pub fn texts_are_read_exactly()
+    ensures { TextsAreReadExactly }
+{}
+
+/// No text of the grammar has the word `Finite` in the value of SEMANTICS.
+pub fn no_text_is_finite()
+    ensures { NoTextIsFinite }
 {}
