@@ -8,9 +8,8 @@ use Rattle.tlsf_tree.specs.declared.symbol.Symbol.{Symbol}
 use Rattle.tlsf_tree.specs.declared.symbol.Symbol.TheVariants as symbol
 use Rattle.tlsf_grammar.specs.Tree.{Tree, Trees, Links, Ranges, tree_span, pair, tree, no_trees, link, no_links, no_ranges, members, between}
 use Rattle.tlsf_grammar.specs.Lexemes.{Lexeme, word_of}
-use Rattle.tlsf_grammar.specs.Symbols.{symbol_eq}
-use Rattle.tlsf_grammar.specs.Expressions.{Level, Joins, primary, products, quotients, sums, differences, meets, unions, comparisons, memberships, prefixes, conjunctions, disjunctions, implications, weak_untils, untils, releases, left, once, right, none, tighter_of, joins_of, bound_of}
-use Rattle.tlsf_grammar.specs.Reading.{Answer, taken, refused, go_on, begins, expect, if_next, level_number, operator_here, joined, chain_of, links_end, Readers, readers, step, stuck, level_with, level_by, list_with, links_with, linked, ranges_with, more_ranges, bounded, bound, between_with, from_to, primary_with, primary_by, prefix_with}
+use Rattle.tlsf_grammar.specs.Expressions.{Level, Joins, primary, products, quotients, sums, differences, meets, unions, comparisons, memberships, prefixes, conjunctions, disjunctions, implications, weak_untils, untils, releases, left, once, right, none, tighter_of, joins_of}
+use Rattle.tlsf_grammar.specs.Reading.{Answer, taken, refused, go_on, begins, expect, if_next, level_number, operator_here, joined, chain_of, links_end, Readers, readers, level_with, level_by, list_with, links_with, linked, ranges_with, more_ranges, bounded, bound, between_with, from_to, primary_with, primary_by}
 use Rattle.tlsf_reader.specs.declared.rest.Refusal.{Refusal}
 use Rattle.tlsf_reader.specs.declared.rest.Refusal.TheVariants.{NoMemory, At}
 use Rattle.tlsf_reader.specs.View.{tree_of, trees_of, link_of, links_of, range_of, ranges_of}

@@ -4,7 +4,6 @@ use Rattle.std.specs.declared.alloc.Global.{Global}
 use Rattle.std.specs.declared.vec.Vec.{Vec}
 use Rattle.tlsf_tree.specs.declared.expr.Expr.{Expr}
 use Rattle.tlsf_tree.specs.declared.expr.Link.{Link}
-use Rattle.tlsf_tree.specs.declared.expr.Op.{Op}
 use Rattle.tlsf_tree.specs.declared.expr.Range.{Range}
 use Rattle.tlsf_tree.specs.declared.symbol.Symbol.{Symbol}
 use Rattle.tlsf_grammar.specs.Tree.{Tree, Trees, Links, Ranges, paren, tree, link}

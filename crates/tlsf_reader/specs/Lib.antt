@@ -8,3 +8,9 @@ pub mod Reads
 pub mod Levels
 pub mod View
 pub mod Descent
+pub mod TextView
+pub mod TextDescent
+pub mod Least
+pub mod Places
+pub mod Assembly
+pub mod Known

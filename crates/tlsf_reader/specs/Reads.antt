@@ -6,7 +6,7 @@ use Rattle.tlsf_grammar.specs.Tree.{Written}
 use Rattle.tlsf_grammar.specs.Texts.{DerivesText}
 use Rattle.tlsf_reader.specs.Lexed.{Lexed}
 use Rattle.tlsf_reader.specs.Spec.{Spec, spec_of}
-use Rattle.tlsf_reader.specs.Faults.{most_bytes, most_nesting, symbols_of, HasLateFault}
+use Rattle.tlsf_reader.specs.Faults.{most_bytes, most_nesting, symbols_of, HasLateFault, IsReadingFault}
 
 -- The tokens of the text reach its end, the grammar derives this tree from them, and the text has no fault of reading.
 -- (Fault 3, and `Finite` as a semantics, are no text of the grammar.)
@@ -23,3 +23,7 @@ pub record Reads (text : List ℕ) (tree : Spec) : Type 0 where
 -- a text has at most one tree
 abbrev pub TreesAreDetermined : Type 0
 TreesAreDetermined = (text : List ℕ) (tree tree' : Spec) → Reads text tree → Reads text tree' → tree ≡ tree'
+
+-- a text that has a tree has no fault of reading
+abbrev pub TreesHaveNoFault : Type 0
+TreesHaveNoFault = (text : List ℕ) (tree : Spec) (code : SpecCode) (place : ℕ) → Reads text tree → IsReadingFault text code place → ⊥

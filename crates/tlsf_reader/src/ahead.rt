@@ -57,6 +57,13 @@ impl<'a> Ahead<'a> {
         self.left.len()
     }
 
+    /// The lexemes that are left, for a look at what stands in front.
+    pub(crate) fn front(&self) -> &'a [Lexeme<'a>]
+        ensures { map seen result.now ≡ self.now }
+    {
+        self.left
+    }
+
     /// The refusal of the next lexeme, or of the end.
     pub(crate) fn refusal(&self) -> Refusal
         ensures { result ≡ At (length self.now) }

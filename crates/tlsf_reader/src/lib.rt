@@ -1,13 +1,29 @@
-// The reader of TLSF, its first pieces. Which tree a text has, and which fault of reading comes first, is defined
-// in `specs/`; `laws` says that no text has two trees. The code has the lexemes of a text, exactly, the grammar's
-// tables of levels and operators, what stands in front of the lexemes that are left, and the nodes of expressions,
-// for the recursive descent to come. It stands on tlsf_tokens, tlsf_tree, tlsf_grammar, letter_word and text_base.
+// The reader of TLSF: the one tree of a text, or its first fault. Which tree a text has, and which fault of reading
+// comes first, is defined in `specs/`; `laws` says that no text has two trees, nor a tree and a fault. `read` ensures
+// one of the two, exactly. Below it: the lexemes of a text, a recursive descent with one token of look-ahead over
+// them, and the faults that are looked for beside it. It stands on tlsf_tokens, tlsf_tree, tlsf_grammar, letter_word
+// and text_base.
 #![tactic(auto)]
 
 mod ahead;
+mod assemble;
+mod definition;
+mod enumeration;
+mod expression;
+mod fault;
+mod finite;
+mod info;
 pub mod laws;
+mod least;
 mod level;
 mod lexeme;
 mod node;
+mod reading;
+mod repeat;
 mod rest;
+mod section;
 mod symbols;
+mod text;
+mod written;
+
+pub use reading::{MOST_BYTES, read};

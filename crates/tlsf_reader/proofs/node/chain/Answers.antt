@@ -1,9 +1,8 @@
-use Rattle.std.proofs.Common.{◌≡◌, ◌<◌, length, arith, ap, map, ◌∙◌, rules}
+use Rattle.std.proofs.Common.{◌≡◌, ◌<◌, length, arith, map, ◌∙◌, rules}
 use Rattle.std.proofs.lemmas.Grind.{common_steps}
 use Rattle.tlsf_tree.specs.declared.expr.Expr.{roll-Expr, the_lemmas}
 use Rattle.tlsf_tree.specs.declared.expr.Form.TheVariants.{Chain}
-use Rattle.tlsf_grammar.specs.Tree.{chain, tree_span}
-use Rattle.tlsf_grammar.specs.Reading.{from_to}
+use Rattle.tlsf_grammar.specs.Tree.{chain}
 use Rattle.tlsf_reader.specs.View.{tree_of, link_of, links_of}
 use Rattle.tlsf_reader.proofs.Nodes.{chain_of_some}
 use Rattle.tlsf_reader.proofs.node.chain.Goals as goal

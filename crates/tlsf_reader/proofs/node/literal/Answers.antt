@@ -1,5 +1,4 @@
-use Rattle.std.proofs.Common.{◌≡◌, ◌+◌, ◌*◌, drop, rules, arith, ap, ◌∙◌}
-use Rattle.std.proofs.lemmas.Grind.{common_steps}
+use Rattle.std.proofs.Common.{◌≡◌, ◌+◌, ◌*◌, drop, rules, arith, ◌∙◌}
 use Rattle.tlsf_grammar.specs.Lexemes.{decimal_from}
 use Rattle.tlsf_reader.proofs.Nodes.{no_literal, next_digit}
 use Rattle.tlsf_reader.proofs.node.literal.Goals as goal

@@ -1,0 +1,11 @@
+use Rattle.std.proofs.Common.{◌≡◌, map, length}
+use Rattle.tlsf_reader.specs.Seen.{seen}
+use Rattle.tlsf_reader.specs.Places.{OccursAt, RepeatedAmong, occurs, first_brace}
+use Rattle.tlsf_reader.proofs.Repeats.{Keeps, SameRepeated}
+use Rattle.tlsf_reader.proofs.repeat.has.Given as goal
+
+abbrev pub invariant-loop-left : goal.invariant-loop-left
+invariant-loop-left l = occurs l.fn.symbol (map seen l.fn.lexemes) ≡ occurs l.fn.symbol (map seen l.left)
+
+abbrev pub decreases-loop-left : goal.decreases-loop-left
+decreases-loop-left l = length l.left

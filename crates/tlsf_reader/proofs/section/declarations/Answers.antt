@@ -1,0 +1,27 @@
+use Rattle.std.proofs.Common.{◌≡◌, ◌++◌, ◌∷◌, [], true, false, arith, rules}
+use Rattle.tlsf_tree.specs.declared.symbol.Symbol.TheVariants as symbol
+use Rattle.tlsf_grammar.specs.Reading.{begins}
+use Rattle.tlsf_reader.proofs.Descending.{builds_more}
+use Rattle.tlsf_reader.proofs.Climbing.{read_exit}
+use Rattle.tlsf_reader.proofs.TextDescending.{list_read, until_end, until_more, until_stopped}
+use Rattle.tlsf_reader.proofs.SectionDescending.{declarations_until}
+use Rattle.tlsf_reader.proofs.section.declarations.Goals as goal
+
+pub returns-in_err-declaration-clause-read : goal.returns-in_err-declaration-clause-read
+returns-in_err-declaration-clause-read c =
+    let other : begins symbol.CloseBrace c.loop-alloc.ahead ≡ false = search rules in
+    read_exit _ c.from_residual.ensures.1 (until_stopped declarations_until other c.loop-alloc.invariant.builds c.in_err-declaration.ensures.read)
+
+pub loop-alloc-preserved : goal.loop-alloc-preserved
+loop-alloc-preserved c =
+    let other : begins symbol.CloseBrace c.loop-alloc.ahead ≡ false = search rules in
+    let pushed : c.push.new.self.items ≡ c.loop-alloc.declarations.items ++ c.in_ok-declaration.declaration ∷ [] = search rules in
+    record {
+      builds = builds_more c.push.new.self.items pushed c.loop-alloc.invariant.builds (until_more declarations_until other c.in_ok-declaration.ensures.read);
+      shorter = omega (arith, c.in_ok-declaration.ensures.shorter, c.loop-alloc.invariant.shorter);
+    }
+
+pub returns-clause-read : goal.returns-clause-read
+returns-clause-read c =
+    let closed : begins symbol.CloseBrace c.loop-alloc.ahead ≡ true = search rules in
+    list_read c.loop-alloc.invariant.builds (until_end declarations_until closed)
