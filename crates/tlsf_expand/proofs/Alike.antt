@@ -1,5 +1,5 @@
 -- Values and senses that are alike: the same number, set, bus, member or truth, or a flat formula with its truths.
-use Rattle.std.proofs.Common.{◌≡◌, ℕ, ◌<◌, Bool, true, false, List, [], ◌∷◌, ℤ, refl, sym, ap, ◌∙◌}
+use Rattle.std.proofs.Common.{◌≡◌, ℕ, Bool, List, [], ◌∷◌, ℤ, ap, ◌∙◌}
 use Rattle.letter_word.specs.Word.{Word}
 use Rattle.ltl_formula.specs.declared.nodes.FormulaId.{FormulaId}
 use Rattle.ltl_formula.specs.declared.nodes.Node.{Node}
@@ -12,7 +12,7 @@ use Rattle.tlsf_values.specs.declared.value.Value.TheVariants.{Number, Truth, Se
 use Rattle.tlsf_values.specs.declared.formula.Formula.{Formula}
 use Rattle.tlsf_values.specs.declared.formula.Formula.TheVariants as formula
 use Rattle.tlsf_values.specs.Names.{Binding}
-use Rattle.tlsf_expand.specs.Senses.{Sense, a_number, a_set, a_bus, a_member, a_truth, a_formula, nothing}
+use Rattle.tlsf_expand.specs.Senses.{Sense, a_number, a_set, a_bus, a_member, a_truth, a_formula}
 use Rattle.tlsf_expand.specs.WrittenTruth.{BoundSense}
 
 -- the flat formula has these truths at the positions of the lasso

@@ -1,14 +1,13 @@
 -- Operators over truths and flat formulas, against the same operators over senses.
-use Rattle.std.proofs.Common.{◌≡◌, ℕ, Bool, true, false, List, refl, sym, ap, subst, ◌∙◌}
+use Rattle.std.proofs.Common.{◌≡◌, ℕ, Bool, true, false, List, refl, ap, subst}
 use Rattle.std.specs.Prelude.{not, ◌&&◌, ◌||◌}
 use Rattle.std.specs.Bool.{beq}
 use Rattle.letter_word.specs.Word.{Word, next}
 use Rattle.ltl_formula.specs.declared.nodes.FormulaId.{FormulaId}
 use Rattle.ltl_formula.specs.declared.nodes.Node.{Node}
-use Rattle.ltl_formula.specs.declared.nodes.Node.TheVariants as node
 use Rattle.ltl_formula.specs.Tree.{Tree}
 use Rattle.ltl_formula.specs.Truth.{holds, until_at, release_at}
-use Rattle.ltl_formula.specs.Nodes.{pick, tree_of, IsNodeList, Grows}
+use Rattle.ltl_formula.specs.Nodes.{pick, tree_of, IsNodeList}
 use Rattle.tlsf_values.specs.declared.work.Work.{Work}
 use Rattle.tlsf_values.specs.declared.value.Value.{Value}
 use Rattle.tlsf_values.specs.declared.formula.Formula.{Formula}
@@ -19,13 +18,13 @@ use Rattle.tlsf_values.specs.declared.formula.Connective.{Connective}
 use Rattle.tlsf_values.specs.declared.formula.Connective.TheVariants as connective
 use Rattle.tlsf_values.specs.declared.formula.Sign.{Sign}
 use Rattle.tlsf_values.specs.declared.formula.Sign.TheVariants as sign
-use Rattle.tlsf_values.specs.Outcomes.{Outcome, gives, fails, go_on, checked, made}
+use Rattle.tlsf_values.specs.Outcomes.{Outcome, gives, go_on, checked}
 use Rattle.tlsf_values.specs.Sorts.{formula_in, formula_value}
-use Rattle.tlsf_values.specs.Formulas.{pairing_of, connective_of, sign_of, truth_of, node_of, flat_made, over_both, over_one, connected, opposed}
+use Rattle.tlsf_values.specs.Formulas.{pairing_of, connective_of, sign_of, truth_of, node_of, over_both, over_one, connected, opposed}
 use Rattle.tlsf_values.specs.Operators.{as_value}
 use Rattle.tlsf_expand.specs.Senses as senses
 use Rattle.tlsf_expand.specs.Senses.{Sense, a_truth, a_formula, true_in, implies, always, weakly, eventually}
-use Rattle.tlsf_expand.proofs.Kept.{Keeps, keeps, refuses, keeps_go_on, keeps_given, keeps_map}
+use Rattle.tlsf_expand.proofs.Kept.{Keeps, refuses, keeps_go_on, keeps_given, keeps_map}
 use Rattle.tlsf_expand.proofs.Alike.{HasTruths, Alike, alike_number, alike_set, alike_bus, alike_member, alike_truth, alike_formula, AlikeFormula, alike_sure, alike_flat, grown_truths, grown_formula}
 use Rattle.tlsf_expand.proofs.Made.{keeps_truth_node, keeps_unary, keeps_binary, keeps_not}
 

@@ -1,5 +1,5 @@
 -- Counted forms say what holds some steps on.
-use Rattle.std.proofs.Common.{◌≡◌, ℕ, zero, suc, ◌+◌, ◌-◌, ◌<◌, ◌≤◌, Bool, true, false, List, Option, None, Some, refl, sym, ap, subst, ◌∙◌, arith}
+use Rattle.std.proofs.Common.{◌≡◌, ℕ, zero, suc, ◌+◌, ◌-◌, ◌<◌, ◌≤◌, Bool, true, false, List, sym, ap, ◌∙◌, arith}
 use Rattle.std.specs.Prelude.{◌&&◌, ◌||◌, nat_le}
 use Rattle.std.proofs.lemmas.Bool.{leb-true, leb-false}
 use Rattle.letter_word.specs.Word.{Word, next, after}
@@ -7,17 +7,16 @@ use Rattle.letter_word.proofs.Positions.{after-suc}
 use Rattle.ltl_formula.specs.declared.nodes.FormulaId.{FormulaId}
 use Rattle.ltl_formula.specs.declared.nodes.Node.{Node}
 use Rattle.ltl_formula.specs.Truth.{some_below, all_below}
-use Rattle.ltl_formula.specs.Nodes.{IsNodeList, Grows}
+use Rattle.ltl_formula.specs.Nodes.{IsNodeList}
 use Rattle.ltl_formula.proofs.Lists.{Grows-refl}
 use Rattle.tlsf_values.specs.declared.work.TheConstants.{MOST_EVALUATIONS}
 use Rattle.tlsf_values.specs.declared.work.Work.{Work}
-use Rattle.tlsf_values.specs.declared.value.Value.{Value}
 use Rattle.tlsf_values.specs.declared.value.Value.TheVariants.{Flat}
 use Rattle.tlsf_values.specs.declared.formula.Formula.{Formula}
 use Rattle.tlsf_values.specs.declared.formula.Pairing.TheVariants as pairing
 use Rattle.tlsf_values.specs.declared.formula.Connective.TheVariants as connective
-use Rattle.tlsf_values.specs.Outcomes.{Outcome, gives, go_on, choose, counted}
-use Rattle.tlsf_values.specs.Counts.{nexts, count_value, window_more, window_between, window_value}
+use Rattle.tlsf_values.specs.Outcomes.{Outcome, gives, go_on, counted}
+use Rattle.tlsf_values.specs.Counts.{nexts, count_value, window_more, window_value}
 use Rattle.tlsf_expand.specs.Senses.{Sense, a_formula, true_in}
 use Rattle.tlsf_expand.proofs.Kept.{Keeps, keeps, refuses, keeps_go_on, keeps_given, keeps_choose}
 use Rattle.tlsf_expand.proofs.Alike.{HasTruths, Alike, alike_formula, AlikeFormula, grown_truths}

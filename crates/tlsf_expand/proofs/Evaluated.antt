@@ -1,27 +1,26 @@
 -- Evaluation and reading agree: where an expression has a value, it has the same sense, and a flat formula has the truths of the
 -- written one. By induction on the depth that is left.
-use Rattle.std.proofs.Common.{◌≡◌, ℕ, zero, suc, ◌+◌, ◌-◌, Bool, true, false, List, [], ◌∷◌, ◌++◌, length, map, Option, None, Some, ℤ, refl, sym, ap, subst, ◌∙◌, append_assoc}
+use Rattle.std.proofs.Common.{◌≡◌, ℕ, zero, suc, ◌-◌, true, List, [], ◌∷◌, ◌++◌, length, Option, None, Some, refl, sym, ap, subst, ◌∙◌, append_assoc}
 use Rattle.std.proofs.lemmas.List.{append-nil}
 use Rattle.std.specs.Prelude.{◌==◌}
 use Rattle.letter_word.specs.Word.{Word}
-use Rattle.ltl_formula.specs.declared.nodes.FormulaId.{FormulaId}
 use Rattle.ltl_formula.specs.declared.nodes.Node.{Node}
-use Rattle.ltl_formula.specs.Nodes.{IsNodeList, Grows}
-use Rattle.ltl_formula.proofs.Lists.{Grows-refl, Grows-trans}
+use Rattle.ltl_formula.specs.Nodes.{IsNodeList}
+use Rattle.tlsf_tokens.specs.declared.code.SpecCode.TheVariants.{WrongSort}
 use Rattle.tlsf_tree.specs.declared.expr.Op.{Op}
 use Rattle.tlsf_tree.specs.declared.expr.Op.TheVariants as op
 use Rattle.tlsf_grammar.specs.Tree.{Tree, Trees, Links, Ranges, Named, number, truth, named, call, index, size_of, paren, set, steps, chain, pair, prefix, count, window, big, no_trees, tree, no_links, link, no_ranges, members, between, Body, plain, guarded, Alternative}
 use Rattle.tlsf_values.specs.declared.work.Work.{Work}
 use Rattle.tlsf_values.specs.declared.value.Value.{Value}
 use Rattle.tlsf_values.specs.declared.value.Value.TheVariants.{Number, Truth, Flat}
-use Rattle.tlsf_values.specs.declared.formula.Formula.{Formula}
 use Rattle.tlsf_values.specs.declared.formula.Connective.{Connective}
 use Rattle.tlsf_values.specs.declared.formula.Connective.TheVariants as connective
 use Rattle.tlsf_values.specs.declared.work.TheConstants.{MOST_DEPTH}
-use Rattle.tlsf_values.specs.Outcomes.{Outcome, gives, fails, go_on, checked, choose, counted}
-use Rattle.tlsf_values.specs.Names.{Names, Binding, Meaning, known, a_signal, a_definition, an_enumeration, undeclared, look_up}
+use Rattle.tlsf_values.specs.Outcomes.{gives, go_on, faulty}
+use Rattle.tlsf_values.specs.Names.{Names, Binding, Meaning, look_up}
+use Rattle.tlsf_values.specs.Sorts.{bus_in}
 use Rattle.tlsf_values.specs.Counts.{joining_of, window_of}
-use Rattle.tlsf_values.specs.Values.{Evaluator, evaluator, start_of, tree_count, values_at, arguments_at, meaning_value, call_value, guard_value, chosen_value, body_value, index_value, chain_value, window_at, bind, big_value, big_at, form_value, value_at}
+use Rattle.tlsf_values.specs.Values.{Evaluator, evaluator, start_of, tree_count, values_at, arguments_at, meaning_value, call_value, guard_value, chosen_value, body_value, word_value, chain_value, window_at, bind, big_value, big_at, form_value, value_at}
 use Rattle.tlsf_expand.specs.Senses as senses
 use Rattle.tlsf_expand.specs.WrittenTruth as written
 use Rattle.tlsf_expand.specs.Senses.{Sense, a_number, a_truth, a_formula, nothing}
@@ -31,10 +30,9 @@ use Rattle.tlsf_expand.proofs.Alike.{Alike, alike_number, alike_bus, alike_membe
 use Rattle.tlsf_expand.proofs.Made.{keeps_signal}
 use Rattle.tlsf_expand.proofs.Connected.{keeps_formula_in, keeps_as_value}
 use Rattle.tlsf_expand.proofs.Counted.{keeps_counted}
-use Rattle.tlsf_expand.proofs.Joined.{MakesEach}
 use Rattle.tlsf_expand.proofs.Operated.{keeps_operated, keeps_prefixed}
-use Rattle.tlsf_expand.proofs.Named.{HasPlainNames, PlainMeaning, plain_bus, plain_member, plain_signal, plain_definition, plain_enumeration, plain_undeclared, AlikeMeaning, alike_bound, alike_declared, AlikeEach, each_none, each_more, look_alike}
-use Rattle.tlsf_expand.proofs.Parts.{keeps_index, keeps_width, keeps_set, keeps_steps, keeps_steps_on, keeps_all_window_parts, keeps_some_window_parts, keeps_truth_in, JoinsAs, joins_all, joins_some, keeps_members, keeps_between}
+use Rattle.tlsf_expand.proofs.Named.{HasPlainNames, plain_bus, plain_member, plain_signal, plain_definition, plain_enumeration, plain_undeclared, AlikeMeaning, alike_bound, alike_declared, AlikeEach, each_none, each_more, look_alike}
+use Rattle.tlsf_expand.proofs.Parts.{AlikeBus, alike_other, bus_alike, keeps_index, keeps_width, keeps_set, keeps_steps, keeps_steps_on, keeps_all_window_parts, keeps_some_window_parts, keeps_truth_in, JoinsAs, joins_all, joins_some, keeps_members, keeps_between}
 
 -- an evaluator and a reader of one depth agree
 pub record Agrees (w : Word) (r : Evaluator) (m : Reader) : Type 0 where
@@ -63,6 +61,20 @@ module _ (w : Word) (names : Names) (has : HasPlainNames names) (r : Evaluator) 
   keeps_meaning place _ _ work list (alike_declared _ (plain_definition (word ∷ words) body)) = refuses _ _
   keeps_meaning place _ _ work list (alike_declared _ plain_enumeration) = refuses _ _
   keeps_meaning place _ _ work list (alike_declared _ plain_undeclared) = refuses _ _
+
+  keeps_found : (place : ℕ) (meaning : Meaning) (ref : Referent) (work : Work) → IsNodeList work.formulas → AlikeMeaning w work.formulas meaning ref
+      → Keeps work.formulas (λ b nodes. AlikeBus b (name_sense w m ref)) (go_on (meaning_value r place meaning work) (λ v w. gives (bus_in place v) w))
+  keeps_found place meaning ref work list h = keeps_go_on _ _ (keeps_meaning place meaning ref work list h) (λ v work1 list1 grows1 hv. keeps_given _ (bus_in place v) work1 list1 (bus_alike w place hv))
+
+  keeps_word : (place : ℕ) (meaning : Meaning) (ref : Referent) (work : Work) → IsNodeList work.formulas → AlikeMeaning w work.formulas meaning ref
+      → Keeps work.formulas (λ b nodes. AlikeBus b (name_sense w m ref)) (word_value r place meaning work)
+  keeps_word place _ _ work list (alike_bound v s h) = keeps_found place _ _ work list (alike_bound v s h)
+  keeps_word place _ _ work list (alike_declared _ (plain_signal k)) = keeps_given _ (faulty WrongSort place) work list (alike_other WrongSort place _)
+  keeps_word place _ _ work list (alike_declared _ (plain_bus k)) = keeps_found place _ _ work list (alike_declared _ (plain_bus k))
+  keeps_word place _ _ work list (alike_declared _ (plain_member k)) = keeps_found place _ _ work list (alike_declared _ (plain_member k))
+  keeps_word place _ _ work list (alike_declared _ (plain_definition words body)) = keeps_found place _ _ work list (alike_declared _ (plain_definition words body))
+  keeps_word place _ _ work list (alike_declared _ plain_enumeration) = keeps_found place _ _ work list (alike_declared _ plain_enumeration)
+  keeps_word place _ _ work list (alike_declared _ plain_undeclared) = keeps_found place _ _ work list (alike_declared _ plain_undeclared)
 
   keeps_values_at : (bound : List Binding) (ss : List BoundSense) (so_far : List Value) (ts : Trees) (work : Work) → IsNodeList work.formulas → AlikeBindings w work.formulas bound ss
       → Keeps work.formulas (Followed w so_far ts (written.senses m ss ts)) (values_at r bound so_far ts work)
@@ -187,9 +199,9 @@ module _ (w : Word) (names : Names) (has : HasPlainNames names) (r : Evaluator) 
   keeps_form bound ss (call s word ts) work list h =
       keeps_call bound ss s.start word.span.start (look_up names bound word.name) (referent names ss word.name) ts work list h (look_alike w work.formulas names has bound ss h word.name)
   keeps_form bound ss (index s word i) work list h =
-      keeps_go_on _ _ (keeps_meaning word.span.start (look_up names bound word.name) (referent names ss word.name) work list (look_alike w work.formulas names has bound ss h word.name)) (λ b work1 list1 grows1 hb.
+      keeps_go_on _ _ (keeps_word word.span.start (look_up names bound word.name) (referent names ss word.name) work list (look_alike w work.formulas names has bound ss h word.name)) (λ b work1 list1 grows1 hb.
       keeps_go_on _ _ (agrees.value bound ss i work1 list1 (grown_bindings grows1 h)) (λ v work2 list2 grows2 hv.
-      keeps_index w names s.start word.span.start (start_of i) b v (name_sense w m (referent names ss word.name)) (m.sense ss i) work2 list2 (grown grows2 hb) hv))
+      keeps_index w names s.start (start_of i) b v (name_sense w m (referent names ss word.name)) (m.sense ss i) work2 list2 hb hv))
   keeps_form bound ss (size_of s t) work list h =
       keeps_go_on _ _ (agrees.value bound ss t work list h) (λ v work1 list1 grows1 hv. keeps_width w names (start_of t) v (m.sense ss t) work1 list1 hv)
   keeps_form bound ss (paren s t) work list h = agrees.value bound ss t work list h

@@ -1,14 +1,14 @@
 -- Where a text is expanded, the whole flat formula holds on a lasso exactly where the text means so.
-use Rattle.std.proofs.Common.{◌≡◌, ℕ, Bool, true, false, List, [], ◌∷◌, ◌++◌, Option, None, Some, refl, sym, ap, subst, ◌∙◌}
+use Rattle.std.proofs.Common.{◌≡◌, ℕ, Bool, true, false, List, [], ◌++◌, Option, None, Some, refl, sym, ap, ◌∙◌}
 use Rattle.std.specs.Prelude.{◌&&◌}
 use Rattle.letter_word.specs.Word.{Word}
 use Rattle.letter_word.specs.declared.kinds.Kind.{Kind}
 use Rattle.ltl_formula.specs.declared.nodes.Node.{Node}
 use Rattle.ltl_formula.specs.Truth.{holds}
-use Rattle.ltl_formula.specs.Nodes.{IsNodeList, Stands, Grows, tree_at}
+use Rattle.ltl_formula.specs.Nodes.{Stands, tree_at}
 use Rattle.tlsf_grammar.specs.Tree.{Tree}
 use Rattle.tlsf_values.specs.declared.work.Work.{Work}
-use Rattle.tlsf_values.specs.Outcomes.{Outcome, gives, go_on}
+use Rattle.tlsf_values.specs.Outcomes.{gives}
 use Rattle.tlsf_values.specs.Names.{Names}
 use Rattle.tlsf_expand.specs.Texts.{Sections, Text}
 use Rattle.tlsf_expand.specs.Signals.{TypedSignal, Signals, signals_of}

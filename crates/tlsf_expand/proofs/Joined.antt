@@ -1,21 +1,20 @@
 -- Formulas joined to the left over members say "for each member" or "for some member".
-use Rattle.std.proofs.Common.{◌≡◌, ℕ, Bool, true, false, cond, List, [], ◌∷◌, map, ℤ, Option, None, Some, refl, sym, ap, subst, ◌∙◌}
+use Rattle.std.proofs.Common.{◌≡◌, ℕ, Bool, true, false, List, [], ◌∷◌, map, ℤ, None, Some, refl, sym, ap, subst, ◌∙◌}
 use Rattle.std.specs.Prelude.{◌&&◌, ◌||◌, if◌then◌else◌}
 use Rattle.std.specs.List.{list_all, list_any}
 use Rattle.letter_word.specs.Word.{Word}
 use Rattle.ltl_formula.specs.declared.nodes.Node.{Node}
 use Rattle.ltl_formula.specs.Nodes.{IsNodeList, Grows}
 use Rattle.ltl_formula.proofs.Lists.{Grows-refl, Grows-trans}
-use Rattle.tlsf_tree.specs.declared.expr.Op.{Op}
 use Rattle.tlsf_tree.specs.declared.expr.Op.TheVariants as op
 use Rattle.tlsf_values.specs.declared.work.Work.{Work}
 use Rattle.tlsf_values.specs.declared.formula.Formula.{Formula}
 use Rattle.tlsf_values.specs.declared.formula.Formula.TheVariants as formula
 use Rattle.tlsf_values.specs.declared.formula.Connective.{Connective}
 use Rattle.tlsf_values.specs.declared.formula.Connective.TheVariants as connective
-use Rattle.tlsf_values.specs.Outcomes.{Outcome, gives, go_on}
+use Rattle.tlsf_values.specs.Outcomes.{Outcome}
 use Rattle.tlsf_values.specs.Counts.{joined_over}
-use Rattle.tlsf_expand.specs.Senses.{Sense, a_number, a_set, a_bus, a_member, a_truth, a_formula, nothing, true_in, is_truth, connected, for_members}
+use Rattle.tlsf_expand.specs.Senses.{Sense, a_truth, a_formula, true_in, is_truth, connected, for_members}
 use Rattle.tlsf_expand.proofs.Kept.{Keeps, keeps_go_on, keeps_given, keeps_map}
 use Rattle.tlsf_expand.proofs.Alike.{AlikeFormula, alike_sure, alike_flat, grown_formula}
 use Rattle.tlsf_expand.proofs.Connected.{connective_truth, keeps_connected}

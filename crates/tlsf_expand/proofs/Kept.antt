@@ -1,9 +1,9 @@
 -- Outcomes that keep the list of formulas: it only grows, and stays a list of formulas.
-use Rattle.std.proofs.Common.{◌≡◌, ℕ, ◌+◌, ◌<◌, Bool, true, false, ltb, cond, List, [], ◌∷◌, ◌++◌, length, Option, None, Some, refl, sym, ap, subst, ◌∙◌, arith}
+use Rattle.std.proofs.Common.{◌≡◌, ℕ, ◌<◌, Bool, true, false, ltb, cond, List, [], ◌∷◌, ◌++◌, length, Option, None, Some, refl, subst, arith}
 use Rattle.std.specs.Prelude.{position, slice_get, ◌&&◌}
-use Rattle.std.proofs.lemmas.Bool.{and_parts, ltb-true, true≢false}
+use Rattle.std.proofs.lemmas.Bool.{and_parts, ltb-true}
 use Rattle.std.proofs.lemmas.List.{append-nil}
-use Rattle.std.proofs.lemmas.Option.{none-some, same_Some, slice_get_within}
+use Rattle.std.proofs.lemmas.Option.{slice_get_within}
 use Rattle.ltl_formula.specs.declared.nodes.FormulaId.{FormulaId}
 use Rattle.ltl_formula.specs.declared.nodes.Node.{Node}
 use Rattle.ltl_formula.specs.declared.nodes.Node.TheVariants as node
@@ -13,7 +13,7 @@ use Rattle.ltl_formula.specs.Added.{node_eq, Built, built_at, added}
 use Rattle.ltl_formula.proofs.Lists.{Grows-refl, Grows-trans, Grows-added, added-stands, IsNodeList-append, tree_at-slice_get}
 use Rattle.tlsf_tokens.specs.declared.code.SpecCode.{SpecCode}
 use Rattle.tlsf_values.specs.declared.work.Work.{Work}
-use Rattle.tlsf_values.specs.Outcomes.{Outcome, gives, fails, go_on, Checked, fine, faulty, checked, choose, counted, stands, may_stand, made_from, made}
+use Rattle.tlsf_values.specs.Outcomes.{Outcome, gives, fails, go_on, Checked, fine, faulty, checked, choose, stands, may_stand, made_from, made}
 
 -- the outcome is refused, or its list has grown from this one, and its value is as stated of the list
 pub data Keeps {A : Type 0} (old : List Node) (Q : A → List Node → Type 0) : Outcome A → Type 0 where

@@ -1,18 +1,15 @@
 -- The signals of a text: no declaration gives a name another value than a bus or a member.
-use Rattle.std.proofs.Common.{◌≡◌, ℕ, ◌+◌, Bool, true, false, List, [], ◌∷◌, length, Option, None, Some, ℤ, refl}
-use Rattle.std.specs.Prelude.{pos, negsuc, nat_le}
+use Rattle.std.proofs.Common.{ℕ, ◌+◌, List, [], ◌∷◌, length, Option, None, Some}
+use Rattle.std.specs.Prelude.{nat_le}
 use Rattle.letter_word.specs.Word.{Word}
-use Rattle.ltl_formula.specs.declared.nodes.Node.{Node}
-use Rattle.ltl_formula.specs.Nodes.{IsNodeList, Grows}
+use Rattle.ltl_formula.specs.Nodes.{IsNodeList}
 use Rattle.tlsf_grammar.specs.Tree.{Named, Definition, Shape, single, bus, typed, Declaration}
 use Rattle.tlsf_values.specs.declared.work.Work.{Work}
-use Rattle.tlsf_values.specs.declared.value.Value.{Value}
-use Rattle.tlsf_values.specs.declared.value.Value.TheVariants.{Number, Truth, Set, Bus, EnumValue, Flat}
-use Rattle.tlsf_values.specs.Outcomes.{Outcome, gives, fails, go_on, choose}
-use Rattle.tlsf_values.specs.Names.{Names, Meaning, known, a_signal, a_definition, an_enumeration, undeclared, with_definitions, without_names}
+use Rattle.tlsf_values.specs.Outcomes.{Outcome, gives, Checked, fine, faulty, checked}
+use Rattle.tlsf_values.specs.Names.{Names, with_definitions, without_names}
 use Rattle.tlsf_values.specs.Values.{start_of}
 use Rattle.tlsf_expand.specs.Texts.{Text}
-use Rattle.tlsf_expand.specs.Signals.{Extent, alone, wide, of_type, bits_in, width_of, width_value, type_value, extent_value, Declared, declared, most_signals, declarations_value, none_yet, Signals, signals_value, uneven_value, even_first, signals_of}
+use Rattle.tlsf_expand.specs.Signals.{Extent, alone, wide, of_type, bits_in, width_of, width_in, type_in, extent_value, Declared, declared, most_signals, declaration_value, declarations_value, none_yet, Signals, signals_value, uneven_value, even_first, signals_of}
 use Rattle.tlsf_expand.proofs.Kept.{Keeps, refuses, keeps_go_on, keeps_given, keeps_choose, no_nodes}
 use Rattle.tlsf_expand.proofs.Named.{HasPlainNames, plain_with_signal, plain_with_bus, plain_with_definitions, plain_without_names}
 use Rattle.tlsf_expand.proofs.Evaluated.{keeps_value_at}
@@ -21,36 +18,35 @@ use Rattle.tlsf_expand.proofs.Evaluated.{keeps_value_at}
 some_word : Word
 some_word = record { stem = []; ring = [] }
 
-keeps_width_value : (place : ℕ) (v : Value) (work : Work) → IsNodeList work.formulas → Keeps work.formulas (λ x nodes. Unit {0}) (width_value place v work)
-keeps_width_value place (Number (pos n)) work list = keeps_given _ _ work list tt
-keeps_width_value place (Number (negsuc n)) work list = refuses _ _
-keeps_width_value place _ work list = refuses _ _
-
-keeps_type_value : (definitions : List Definition) (word : Named) (m : Meaning) (work : Work) → IsNodeList work.formulas → Keeps work.formulas (λ x nodes. Unit {0}) (type_value definitions word m work)
-keeps_type_value definitions word an_enumeration work list = keeps_given _ _ work list tt
-keeps_type_value definitions word undeclared work list = refuses _ _
-keeps_type_value definitions word _ work list = refuses _ _
+keeps_checked_extent : (c : Checked Extent) (work : Work) → IsNodeList work.formulas → Keeps work.formulas (λ x nodes. Unit {0}) (checked c (λ extent w. gives extent w) work)
+keeps_checked_extent (fine extent) work list = keeps_given _ extent work list tt
+keeps_checked_extent (faulty code place) work list = refuses _ _
 
 keeps_extent : (definitions : List Definition) (names : Names) → HasPlainNames names → (shape : Shape) (work : Work) → IsNodeList work.formulas
     → Keeps work.formulas (λ x nodes. Unit {0}) (extent_value definitions names shape work)
 keeps_extent definitions names has single work list = keeps_given _ alone work list tt
 keeps_extent definitions names has (bus t) work list =
-    keeps_go_on _ _ (keeps_value_at some_word names has t 0 work list) (λ v work1 list1 grows1 h. keeps_width_value (start_of t) v work1 list1)
-keeps_extent definitions names has (typed word) work list = keeps_type_value definitions word (names.means word.name) work list
+    keeps_go_on _ _ (keeps_value_at some_word names has t 0 work list) (λ v work1 list1 grows1 h. keeps_checked_extent (width_in (start_of t) v) work1 list1)
+keeps_extent definitions names has (typed word) work list = keeps_checked_extent (type_in definitions word (names.means word.name)) work list
 
 plain_declared : (word : Named) (number : ℕ) (extent : Extent) (d : Declared) → HasPlainNames d.names → HasPlainNames (declared word number extent d).names
 plain_declared word number alone d has = plain_with_signal d.names word.name number has
 plain_declared word number (wide n) d has = plain_with_bus d.names word.name number n has
 plain_declared word number (of_type values) d has = plain_with_bus d.names word.name number (width_of values) has
 
-keeps_declarations : (definitions : List Definition) (from : ℕ) (d : Declared) → HasPlainNames d.names → (xs : List Declaration) (work : Work) → IsNodeList work.formulas
-    → Keeps work.formulas (λ x nodes. HasPlainNames x.names) (declarations_value definitions from d xs work)
-keeps_declarations definitions from d has [] work list = keeps_given _ d work list has
-keeps_declarations definitions from d has (x ∷ xs) work list =
+keeps_declaration : (definitions : List Definition) (from : ℕ) (d : Declared) → HasPlainNames d.names → (x : Declaration) (work : Work) → IsNodeList work.formulas
+    → Keeps work.formulas (λ d nodes. HasPlainNames d.names) (declaration_value definitions from d x work)
+keeps_declaration definitions from d has x work list =
     keeps_go_on _ _ (keeps_extent definitions d.names has x.shape work list) (λ extent work1 list1 grows1 _.
     keeps_choose (nat_le (length d.flat + bits_in extent) most_signals) _ _ work1 _
-    (λ _. keeps_declarations definitions from (declared x.word (from + length d.flat) extent d) (plain_declared x.word (from + length d.flat) extent d has) xs work1 list1)
+    (λ _. keeps_given _ _ work1 list1 (plain_declared x.word (from + length d.flat) extent d has))
     (λ _. refuses _ _))
+
+keeps_declarations : (definitions : List Definition) (from : ℕ) (d : Declared) → HasPlainNames d.names → (xs : List Declaration) (work : Work) → IsNodeList work.formulas
+    → Keeps work.formulas (λ d nodes. HasPlainNames d.names) (declarations_value definitions from d xs work)
+keeps_declarations definitions from d has [] work list = keeps_given _ d work list has
+keeps_declarations definitions from d has (x ∷ xs) work list =
+    keeps_go_on _ _ (keeps_declaration definitions from d has x work list) (λ next work1 list1 grows1 has1. keeps_declarations definitions from next has1 xs work1 list1)
 
 keeps_signals_value : (text : Text) (work : Work) → IsNodeList work.formulas → Keeps work.formulas (λ s nodes. HasPlainNames s.names) (signals_value text work)
 keeps_signals_value text work list =

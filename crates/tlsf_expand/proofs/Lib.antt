@@ -14,3 +14,5 @@ pub mod Laid
 pub mod Sectioned
 pub mod Expanded
 pub mod RowProofs
+pub mod Laying
+pub mod Finished

@@ -1,5 +1,5 @@
 -- Nodes that are made have the truths that their operators say of their parts'.
-use Rattle.std.proofs.Common.{◌≡◌, ℕ, Bool, true, false, List, refl, sym, ap, ◌∙◌}
+use Rattle.std.proofs.Common.{◌≡◌, ℕ, Bool, true, false, List, refl, ap, ◌∙◌}
 use Rattle.std.specs.Prelude.{not, ◌&&◌, ◌||◌}
 use Rattle.letter_word.specs.Word.{Word, next, letter_at}
 use Rattle.letter_word.specs.Signals.{has}
@@ -8,11 +8,11 @@ use Rattle.ltl_formula.specs.declared.nodes.Node.{Node}
 use Rattle.ltl_formula.specs.declared.nodes.Node.TheVariants as node
 use Rattle.ltl_formula.specs.Tree.{Tree}
 use Rattle.ltl_formula.specs.Truth.{holds}
-use Rattle.ltl_formula.specs.Nodes.{pick, tree_of, trees_of, tree_at, IsNodeList, Grows}
+use Rattle.ltl_formula.specs.Nodes.{pick, tree_of, trees_of, tree_at, IsNodeList}
 use Rattle.tlsf_values.specs.declared.work.Work.{Work}
-use Rattle.tlsf_values.specs.Outcomes.{Outcome, made}
+use Rattle.tlsf_values.specs.Outcomes.{made}
 use Rattle.tlsf_values.specs.Formulas.{truth_node}
-use Rattle.tlsf_expand.proofs.Kept.{Keeps, Makes, keeps_made, keeps_map}
+use Rattle.tlsf_expand.proofs.Kept.{Keeps, keeps_made, keeps_map}
 use Rattle.tlsf_expand.proofs.Alike.{HasTruths, grown_truths}
 
 module _ (w : Word) where

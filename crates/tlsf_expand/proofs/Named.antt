@@ -1,16 +1,15 @@
 -- Names: what a name stands for is alike in values and in senses.
-use Rattle.std.proofs.Common.{◌≡◌, ℕ, zero, suc, ◌+◌, Bool, true, false, cond, List, [], ◌∷◌, ◌++◌, length, Option, None, Some, refl, sym, ap, subst, ◌∙◌}
+use Rattle.std.proofs.Common.{ℕ, Bool, true, false, List, [], ◌∷◌, Some}
 use Rattle.std.specs.Prelude.{find, if◌then◌else◌}
 use Rattle.letter_word.specs.Word.{Word}
 use Rattle.ltl_formula.specs.declared.nodes.Node.{Node}
-use Rattle.ltl_formula.specs.Nodes.{IsNodeList, Grows}
 use Rattle.tlsf_grammar.specs.Tree.{Tree, Trees, no_trees, tree, Named, Body, plain, Definition, parameter, function, enumeration, Member}
 use Rattle.tlsf_values.specs.declared.value.Value.{Value}
 use Rattle.tlsf_values.specs.declared.value.Value.TheVariants.{Bus, EnumValue}
 use Rattle.tlsf_values.specs.Names.{Names, Binding, Meaning, known, a_signal, a_definition, an_enumeration, undeclared, same_name, look_up, known_or, also, with_member, with_members, with_meaning, with_definition, with_definitions, with_signal, with_bus, without_names}
 use Rattle.tlsf_expand.specs.Senses.{Sense}
 use Rattle.tlsf_expand.specs.WrittenTruth.{BoundSense, Referent, is_bound, is_declared, referent}
-use Rattle.tlsf_expand.proofs.Alike.{Alike, AlikeBindings, alike_none, alike_more, grown}
+use Rattle.tlsf_expand.proofs.Alike.{Alike, AlikeBindings, alike_none, alike_more}
 
 -- what declarations say of a name: no other value than a bus or a member
 pub data PlainMeaning : Meaning → Type 0 where

@@ -1,18 +1,16 @@
 -- Operators on values, against the same operators on senses.
-use Rattle.std.proofs.Common.{◌≡◌, ℕ, Bool, true, false, List, ℤ, refl, sym, ap, subst, ◌∙◌}
-use Rattle.std.specs.Prelude.{◌+ℤ◌, ◌-ℤ◌, ◌*ℤ◌, int_div, int_rem, int_lt, int_le, pos}
+use Rattle.std.proofs.Common.{◌≡◌, ℕ, Bool, true, false, List, ℤ, sym, subst}
+use Rattle.std.specs.Prelude.{◌+ℤ◌, ◌-ℤ◌, ◌*ℤ◌, int_div, int_rem, pos}
 use Rattle.std.specs.Ordering.{int_eq}
 use Rattle.letter_word.specs.Word.{Word}
-use Rattle.ltl_formula.specs.declared.nodes.Node.{Node}
-use Rattle.ltl_formula.specs.Nodes.{IsNodeList, Grows}
+use Rattle.ltl_formula.specs.Nodes.{IsNodeList}
 use Rattle.tlsf_tokens.specs.declared.code.SpecCode.TheVariants.{NumberRange, ZeroDivisor}
 use Rattle.tlsf_tree.specs.declared.expr.Op.{Op}
 use Rattle.tlsf_tree.specs.declared.expr.Op.TheVariants as op
 use Rattle.tlsf_grammar.specs.Tree.{Pattern}
 use Rattle.tlsf_values.specs.declared.work.Work.{Work}
 use Rattle.tlsf_values.specs.declared.value.Value.{Value}
-use Rattle.tlsf_values.specs.declared.value.Value.TheVariants.{Number, Truth, Set, Bus, EnumValue, Flat}
-use Rattle.tlsf_values.specs.declared.formula.Formula.{Formula}
+use Rattle.tlsf_values.specs.declared.value.Value.TheVariants.{Number, Truth, Set}
 use Rattle.tlsf_values.specs.declared.formula.Formula.TheVariants as formula
 use Rattle.tlsf_values.specs.declared.formula.Pairing.{Pairing}
 use Rattle.tlsf_values.specs.declared.formula.Pairing.TheVariants as pairing
@@ -27,7 +25,7 @@ use Rattle.tlsf_values.specs.declared.numbers.Comparison.TheVariants as comparis
 use Rattle.tlsf_values.specs.declared.numbers.Places.{Places}
 use Rattle.tlsf_values.specs.declared.set_operation.SetOperation.{SetOperation}
 use Rattle.tlsf_values.specs.declared.set_operation.SetOperation.TheVariants as set_is
-use Rattle.tlsf_values.specs.Outcomes.{Outcome, gives, go_on, Checked, fine, faulty, checked, choose}
+use Rattle.tlsf_values.specs.Outcomes.{fine, faulty}
 use Rattle.tlsf_values.specs.Names.{Names, bus_at, patterns_at}
 use Rattle.tlsf_values.specs.Numbers.{either, fits, in_range, divided, computed, holds_of}
 use Rattle.tlsf_values.specs.SetOperations.{combined}
@@ -36,7 +34,7 @@ use Rattle.tlsf_values.specs.Operators.{arithmetic, compared, on_sets, element, 
 use Rattle.tlsf_expand.specs.Senses as senses
 use Rattle.tlsf_expand.specs.Senses.{Sense, a_number, a_set, a_bus, a_member, a_truth, a_formula, nothing, true_in, has_value}
 use Rattle.tlsf_expand.proofs.Kept.{Keeps, refuses, keeps_go_on, keeps_given, keeps_checked, keeps_choose}
-use Rattle.tlsf_expand.proofs.Alike.{HasTruths, Alike, alike_number, alike_set, alike_bus, alike_member, alike_truth, alike_formula, AlikeFormula, alike_sure, alike_flat, grown_formula}
+use Rattle.tlsf_expand.proofs.Alike.{Alike, alike_number, alike_set, alike_bus, alike_member, alike_truth, AlikeFormula, alike_sure}
 use Rattle.tlsf_expand.proofs.Connected.{connective_truth, pairing_truths, sign_truths, keeps_flat, keeps_connected, keeps_over_both, keeps_over_one, keeps_opposed, keeps_as_value, keeps_formula_in}
 use Rattle.tlsf_expand.proofs.Valued.{keeps_one_value}
 

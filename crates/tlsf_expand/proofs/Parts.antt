@@ -1,26 +1,26 @@
 -- What a form does once its parts are evaluated, on values and on senses that are alike.
-use Rattle.std.proofs.Common.{◌≡◌, ℕ, suc, ◌+◌, Bool, true, false, List, [], ◌∷◌, ◌++◌, map, ℤ, None, refl, sym, ap, subst, ◌∙◌, append_assoc}
+use Rattle.std.proofs.Common.{◌≡◌, ℕ, ◌+◌, Bool, List, [], ◌∷◌, ◌++◌, map, ℤ, None, refl, sym, subst, ◌∙◌, append_assoc}
 use Rattle.std.proofs.lemmas.List.{append-nil}
 use Rattle.std.specs.Prelude.{◌&&◌, pos, negsuc, int_le, int_lt, unsigned_abs}
 use Rattle.std.specs.Ordering.{int_eq}
-use Rattle.letter_word.specs.Word.{Word, letter_at, after}
+use Rattle.letter_word.specs.Word.{Word, letter_at}
 use Rattle.letter_word.specs.Signals.{has}
-use Rattle.ltl_formula.specs.declared.nodes.FormulaId.{FormulaId}
 use Rattle.ltl_formula.specs.declared.nodes.Node.{Node}
-use Rattle.ltl_formula.specs.Nodes.{IsNodeList, Grows}
-use Rattle.tlsf_tokens.specs.declared.code.SpecCode.TheVariants.{NumberRange}
+use Rattle.ltl_formula.specs.Nodes.{IsNodeList}
+use Rattle.tlsf_tokens.specs.declared.code.SpecCode.{SpecCode}
+use Rattle.tlsf_tokens.specs.declared.code.SpecCode.TheVariants.{WrongSort}
 use Rattle.tlsf_tree.specs.declared.expr.Op.{Op}
 use Rattle.tlsf_tree.specs.declared.expr.Op.TheVariants as op
 use Rattle.tlsf_grammar.specs.Tree.{Tree, Trees}
 use Rattle.tlsf_values.specs.declared.work.Work.{Work}
 use Rattle.tlsf_values.specs.declared.value.Value.{Value}
-use Rattle.tlsf_values.specs.declared.value.Value.TheVariants.{Number, Truth, Set, Flat}
+use Rattle.tlsf_values.specs.declared.value.Value.TheVariants.{Number, Set, Flat}
 use Rattle.tlsf_values.specs.declared.formula.Formula.{Formula}
 use Rattle.tlsf_values.specs.declared.formula.Connective.{Connective}
 use Rattle.tlsf_values.specs.declared.formula.Connective.TheVariants as connective
-use Rattle.tlsf_values.specs.Outcomes.{Outcome, gives, fails, go_on, Checked, fine, faulty, and_then, checked, choose, counted}
+use Rattle.tlsf_values.specs.Outcomes.{Outcome, gives, Checked, fine, faulty, checked}
 use Rattle.tlsf_values.specs.Names.{Names, BusRange, bus_at}
-use Rattle.tlsf_values.specs.Sets.{set_of, step_count, stepped}
+use Rattle.tlsf_values.specs.Sets.{set_of, step_count}
 use Rattle.tlsf_values.specs.Sorts.{number_in, truth_in, set_in, bus_in, formula_in}
 use Rattle.tlsf_values.specs.Counts.{count_in, count_value, joined_over}
 use Rattle.tlsf_values.specs.Values.{start_of, bit_value, numbers_in, steps_value, window_parts, low_of, high_of, run_of}
@@ -28,12 +28,17 @@ use Rattle.tlsf_expand.specs.Senses as senses
 use Rattle.tlsf_expand.specs.Senses.{Sense, a_number, a_set, a_bus, a_member, a_truth, a_formula, nothing, true_in, for_members}
 use Rattle.tlsf_expand.specs.WrittenTruth.{in_set, in_between}
 use Rattle.tlsf_expand.proofs.Kept.{Keeps, refuses, keeps_go_on, keeps_given, keeps_choose}
-use Rattle.tlsf_expand.proofs.Alike.{HasTruths, Alike, alike_number, alike_set, alike_bus, alike_member, alike_truth, alike_formula, AlikeFormula}
+use Rattle.tlsf_expand.proofs.Alike.{Alike, alike_number, alike_set, alike_bus, alike_member, alike_truth, alike_formula, AlikeFormula}
 use Rattle.tlsf_expand.proofs.Made.{keeps_signal}
 use Rattle.tlsf_expand.proofs.Connected.{keeps_formula_in}
 use Rattle.tlsf_expand.proofs.Counted.{keeps_counted, keeps_count, keeps_all_window, keeps_some_window}
 use Rattle.tlsf_expand.proofs.Joined.{MakesEach, keeps_for_each, keeps_for_some}
 use Rattle.tlsf_expand.proofs.Named.{AlikeEach, each_none, each_more}
+
+-- a bus that was found is the sense's
+pub data AlikeBus : Checked ℕ → Sense → Type 0 where
+  alike_found : (k : ℕ) → AlikeBus (fine k) (a_bus k)
+  alike_other : (code : SpecCode) (place : ℕ) (s : Sense) → AlikeBus (faulty code place) s
 
 module _ (w : Word) where
   keeps_bit_value : (place at : ℕ) (bus : BusRange) (z : ℤ) (work : Work) → IsNodeList work.formulas
@@ -43,11 +48,19 @@ module _ (w : Word) where
       (λ _. keeps_go_on _ _ (keeps_signal w place (bus.first + unsigned_abs z) work list) (λ id work1 list1 grows1 t. keeps_given _ (Flat id) work1 list1 (alike_formula id _ t)))
       (λ _. refuses _ _)
 
-  pub keeps_index : (names : Names) (place word_at at : ℕ) (b v : Value) (s t : Sense) (work : Work) → IsNodeList work.formulas → Alike w work.formulas b s → Alike w work.formulas v t
+  pub bus_alike : (place : ℕ) {nodes : List Node} {v : Value} {s : Sense} → Alike w nodes v s → AlikeBus (bus_in place v) s
+  bus_alike place (alike_bus k) = alike_found k
+  bus_alike place (alike_number z) = alike_other WrongSort place _
+  bus_alike place (alike_set zs) = alike_other WrongSort place _
+  bus_alike place (alike_member k) = alike_other WrongSort place _
+  bus_alike place (alike_truth b) = alike_other WrongSort place _
+  bus_alike place (alike_formula id truths h) = alike_other WrongSort place _
+
+  pub keeps_index : (names : Names) (place at : ℕ) (b : Checked ℕ) (v : Value) (s t : Sense) (work : Work) → IsNodeList work.formulas → AlikeBus b s → Alike w work.formulas v t
       → Keeps work.formulas (λ v nodes. Alike w nodes v (senses.bit w names s t))
-      (checked (bus_in word_at b) (λ k w. checked (number_in at v) (λ z w. bit_value place at (bus_at names k) z w) w) work)
-  keeps_index names place word_at at _ _ _ _ work list (alike_bus k) (alike_number z) = keeps_bit_value place at (bus_at names k) z work list
-  keeps_index names place word_at at _ _ _ _ work list _ _ = refuses _ _
+      (checked b (λ k w. checked (number_in at v) (λ z w. bit_value place at (bus_at names k) z w) w) work)
+  keeps_index names place at _ _ _ _ work list (alike_found k) (alike_number z) = keeps_bit_value place at (bus_at names k) z work list
+  keeps_index names place at _ _ _ _ work list _ _ = refuses _ _
 
   pub keeps_width : (names : Names) (at : ℕ) (v : Value) (s : Sense) (work : Work) → IsNodeList work.formulas → Alike w work.formulas v s
       → Keeps work.formulas (λ v nodes. Alike w nodes v (senses.width names s)) (checked (bus_in at v) (λ k w. gives (Number (pos (bus_at names k).width)) w) work)

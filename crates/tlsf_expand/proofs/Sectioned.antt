@@ -1,6 +1,6 @@
 -- The flat sections have the truths of the written ones, and the whole those of the standard or the strict formula.
-use Rattle.std.proofs.Common.{◌≡◌, ℕ, Bool, true, false, List, [], ◌∷◌, ◌++◌, map, Option, None, Some, refl, sym, ap, ◌∙◌}
-use Rattle.std.specs.Prelude.{not, ◌&&◌, ◌||◌}
+use Rattle.std.proofs.Common.{◌≡◌, ℕ, Bool, true, false, List, [], ◌∷◌, ◌++◌, map, refl, sym, ap, ◌∙◌}
+use Rattle.std.specs.Prelude.{not, ◌&&◌}
 use Rattle.std.specs.List.{list_all}
 use Rattle.letter_word.specs.Word.{Word}
 use Rattle.ltl_formula.specs.declared.nodes.FormulaId.{FormulaId}
@@ -10,16 +10,16 @@ use Rattle.ltl_formula.specs.Nodes.{IsNodeList, Grows}
 use Rattle.tlsf_grammar.specs.Tree.{Tree}
 use Rattle.tlsf_values.specs.declared.work.Work.{Work}
 use Rattle.tlsf_values.specs.declared.value.Value.{Value}
-use Rattle.tlsf_values.specs.Outcomes.{Outcome, gives, go_on, made}
+use Rattle.tlsf_values.specs.Outcomes.{made}
 use Rattle.tlsf_values.specs.Names.{Names}
 use Rattle.tlsf_values.specs.Values.{start_of}
 use Rattle.tlsf_expand.specs.Senses.{Sense, true_in, implies, always, weakly, has_value}
 use Rattle.tlsf_expand.specs.WrittenTruth.{sense_at, true_at}
 use Rattle.tlsf_expand.specs.Texts.{Sections}
 use Rattle.tlsf_expand.specs.Signals.{TypedSignal, Signals}
-use Rattle.tlsf_expand.specs.Sections.{section_formula, section_value, written_sections, added_value, with_added, sections_value, joined_more, joined, standard_value, strict_value, whole_value}
-use Rattle.tlsf_expand.specs.Meaning.{all_true, all_typed, standard, strict, by_semantics, section_truths}
-use Rattle.tlsf_expand.proofs.Kept.{Keeps, refuses, keeps_go_on, keeps_given, keeps_map}
+use Rattle.tlsf_expand.specs.Sections.{section_formula, section_value, written_sections, added_value, sections_value, joined_more, joined, standard_value, strict_value, whole_value}
+use Rattle.tlsf_expand.specs.Meaning.{all_true, all_typed}
+use Rattle.tlsf_expand.proofs.Kept.{Keeps, refuses, keeps_go_on, keeps_given}
 use Rattle.tlsf_expand.proofs.Alike.{HasTruths, grown_truths, Alike, alike_number, alike_set, alike_bus, alike_member, alike_truth, alike_formula}
 use Rattle.tlsf_expand.proofs.Made.{keeps_truth_node, keeps_unary, keeps_binary, keeps_not, keeps_and}
 use Rattle.tlsf_expand.proofs.Valued.{keeps_truths, with_truths, keeps_one_value}

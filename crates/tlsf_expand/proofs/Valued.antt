@@ -1,8 +1,7 @@
 -- A comparison of a bus with values says that one of the values stands at the bus.
-use Rattle.std.proofs.Common.{◌≡◌, ℕ, ◌+◌, Bool, true, false, List, [], ◌∷◌, Option, None, Some, refl, sym, ap, subst, ◌∙◌}
+use Rattle.std.proofs.Common.{◌≡◌, ℕ, ◌+◌, Bool, true, false, List, [], ◌∷◌, Option, None, Some, refl, sym, ap, ◌∙◌}
 use Rattle.std.specs.Prelude.{not, ◌&&◌, ◌||◌}
 use Rattle.std.specs.Bool.{beq}
-use Rattle.std.specs.List.{list_any}
 use Rattle.letter_word.specs.Word.{Word, letter_at}
 use Rattle.letter_word.specs.Signals.{has}
 use Rattle.ltl_formula.specs.declared.nodes.FormulaId.{FormulaId}
@@ -11,7 +10,7 @@ use Rattle.ltl_formula.specs.Nodes.{IsNodeList, Grows}
 use Rattle.tlsf_grammar.specs.Tree.{Pattern}
 use Rattle.tlsf_values.specs.declared.work.Work.{Work}
 use Rattle.tlsf_values.specs.declared.formula.Pairing.TheVariants as pairing
-use Rattle.tlsf_values.specs.Outcomes.{Outcome, gives, go_on}
+use Rattle.tlsf_values.specs.Outcomes.{Outcome}
 use Rattle.tlsf_values.specs.Patterns.{joined_to, or_truth, bit_made, bits_made, values_made}
 use Rattle.tlsf_expand.specs.Senses.{has_bits, has_value}
 use Rattle.tlsf_expand.proofs.Kept.{Keeps, keeps_go_on, keeps_given, keeps_map}

@@ -1,6 +1,6 @@
 -- A whole text expanded: its flat sections with the formula of the whole, or its first fault of those that come after reading and
 -- before normal forms. This project's profile of TLSF 1.1.
-use Rattle.std.specs.Prelude.{ℕ, Bool, true, false, List, Option, None, Some}
+use Rattle.std.specs.Prelude.{ℕ, Bool, List, Option, None, Some}
 use Rattle.letter_word.specs.declared.kinds.Kind.{Kind}
 use Rattle.letter_word.specs.declared.kinds.Kind.TheVariants.{Mealy, Moore}
 use Rattle.ltl_formula.specs.declared.nodes.FormulaId.{FormulaId}
@@ -8,7 +8,7 @@ use Rattle.tlsf_tokens.specs.declared.code.SpecCode.{SpecCode}
 use Rattle.tlsf_tokens.specs.declared.code.SpecCode.TheVariants.{TargetDiffers}
 use Rattle.tlsf_values.specs.Outcomes.{Outcome, gives, fails, go_on}
 use Rattle.tlsf_expand.specs.Texts.{Sections, Text}
-use Rattle.tlsf_expand.specs.Signals.{Signals, signals_of}
+use Rattle.tlsf_expand.specs.Signals.{signals_of}
 use Rattle.tlsf_expand.specs.Sections.{sections_value, whole_value}
 
 pub record Expanded : Type 0 where

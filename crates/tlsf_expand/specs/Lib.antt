@@ -7,3 +7,7 @@ pub mod Expansion
 pub mod Meaning
 pub mod Laws
 pub mod Rows
+pub mod TextSeen
+pub mod SignalsSeen
+pub mod SectionsSeen
+pub mod Results

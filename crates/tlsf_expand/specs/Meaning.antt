@@ -1,6 +1,6 @@
 -- The meaning of a written text on a lasso: the standard or the strict formula of TLSF 1.1 at position 0, of the truths of its
 -- sections on the written tree.
-use Rattle.std.specs.Prelude.{◌≡◌, ℕ, Bool, true, false, not, ◌&&◌, List, [], IsTrue}
+use Rattle.std.specs.Prelude.{ℕ, Bool, true, false, not, ◌&&◌, List, [], IsTrue}
 use Rattle.std.specs.List.{list_all}
 use Rattle.letter_word.specs.Word.{Word}
 use Rattle.tlsf_grammar.specs.Tree.{Tree}

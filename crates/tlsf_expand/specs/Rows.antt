@@ -1,7 +1,6 @@
 -- Worked rows: texts with their flat sections, their first faults or their meaning, written out by hand.
 use Rattle.std.specs.Prelude.{◌≡◌, ℕ, ◌+◌, ◌-◌, ◌^◌, Bool, true, false, List, [], ◌∷◌, Option, None, Some, pos, negsuc, codes}
 use Rattle.letter_word.specs.Word.{Word}
-use Rattle.letter_word.specs.declared.kinds.Kind.{Kind}
 use Rattle.letter_word.specs.declared.kinds.Kind.TheVariants.{Mealy, Moore}
 use Rattle.ltl_formula.specs.declared.nodes.Node.{Node}
 use Rattle.ltl_formula.specs.declared.nodes.Node.TheVariants as node
@@ -10,7 +9,7 @@ use Rattle.tlsf_tokens.specs.declared.code.SpecCode.{SpecCode}
 use Rattle.tlsf_tokens.specs.declared.code.SpecCode.TheVariants as code
 use Rattle.tlsf_tree.specs.declared.expr.Op.TheVariants as op
 use Rattle.tlsf_tree.specs.declared.expr.Span.{Span}
-use Rattle.tlsf_grammar.specs.Tree.{Tree, Named, number, named, pair, prefix, truth, Definition, enumeration, Member, Pattern, Declaration, single, bus, typed}
+use Rattle.tlsf_grammar.specs.Tree.{Tree, Named, number, named, pair, prefix, truth, Definition, enumeration, Pattern, Declaration, single, bus, typed}
 use Rattle.tlsf_values.specs.Outcomes.{gives}
 use Rattle.tlsf_expand.specs.Texts.{Sections, Text}
 use Rattle.tlsf_expand.specs.Signals.{bit_name}

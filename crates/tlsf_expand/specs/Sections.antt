@@ -1,6 +1,6 @@
 -- The flat formulas of a text's sections, with those that are added for signals of a type, and the formula of the whole: this
 -- project's profile of TLSF 1.1.
-use Rattle.std.specs.Prelude.{ℕ, Bool, true, false, List, [], ◌∷◌, ◌++◌, Option, None, Some}
+use Rattle.std.specs.Prelude.{ℕ, Bool, true, false, List, [], ◌∷◌, ◌++◌, None}
 use Rattle.ltl_formula.specs.declared.nodes.FormulaId.{FormulaId}
 use Rattle.ltl_formula.specs.declared.nodes.Node.TheVariants as node
 use Rattle.tlsf_tokens.specs.declared.code.SpecCode.TheVariants.{WrongSort}

@@ -1,28 +1,32 @@
 -- The signals that a text declares, with their numbers and flat names, or the first fault of its declarations: this project's
 -- profile of TLSF 1.1.
-use Rattle.std.specs.Prelude.{ℕ, zero, suc, ◌+◌, Bool, true, false, ◌==◌, nat_le, if◌then◌else◌, List, [], ◌∷◌, ◌++◌, length, Option, None, Some, ℤ, pos, negsuc, codes, decimal}
+use Rattle.std.specs.Prelude.{ℕ, zero, suc, ◌+◌, ◌==◌, nat_le, if◌then◌else◌, List, [], ◌∷◌, ◌++◌, length, Option, None, Some, pos, negsuc, codes, decimal}
 use Rattle.tlsf_tokens.specs.declared.code.SpecCode.TheVariants.{UnknownName, WrongSort, NumberRange, TooManySignals}
-use Rattle.tlsf_grammar.specs.Tree.{Named, Pattern, Member, Definition, parameter, function, enumeration, Shape, single, bus, typed, Declaration}
+use Rattle.tlsf_grammar.specs.Tree.{Named, Pattern, Definition, parameter, function, enumeration, Shape, single, bus, typed, Declaration}
 use Rattle.tlsf_values.specs.declared.value.Value.{Value}
 use Rattle.tlsf_values.specs.declared.value.Value.TheVariants.{Number}
 use Rattle.tlsf_values.specs.declared.work.Work.{Work}
-use Rattle.tlsf_values.specs.Outcomes.{Outcome, gives, fails, go_on, choose}
+use Rattle.tlsf_values.specs.Outcomes.{Outcome, gives, fails, go_on, choose, Checked, fine, faulty, checked}
 use Rattle.tlsf_values.specs.Names.{Names, Meaning, an_enumeration, undeclared, same_name, with_signal, with_bus, with_definitions, without_names}
+use Rattle.tlsf_values.specs.Patterns.{all_values}
 use Rattle.tlsf_values.specs.Values.{start_of, value_at}
 use Rattle.tlsf_expand.specs.Texts.{Text}
 
 -- ---- enumerations
 
--- all values of all members, in the order written
-abbrev pub all_values : List Member → List Pattern
-all_values [] = []
-all_values (m ∷ ms) = m.values ++ all_values ms
+-- the values of an enumeration, if it has this name
+abbrev pub values_in : List ℕ → Definition → Option (List Pattern)
+values_in name (enumeration word ms) = if same_name word.name name then Some (all_values ms) else None
+values_in name (parameter word t) = None
+values_in name (function word arguments body) = None
+
+abbrev pub or_those : Option (List Pattern) → List Pattern → List Pattern
+or_those (Some values) others = values
+or_those None others = others
 
 abbrev pub values_named : List ℕ → List Definition → List Pattern
 values_named name [] = []
-values_named name (enumeration word ms ∷ ds) = if same_name word.name name then all_values ms else values_named name ds
-values_named name (parameter word t ∷ ds) = values_named name ds
-values_named name (function word arguments body ∷ ds) = values_named name ds
+values_named name (d ∷ ds) = or_those (values_in name d) (values_named name ds)
 
 -- the width of an enumeration is that of its first value
 abbrev pub width_of : List Pattern → ℕ
@@ -38,12 +42,15 @@ abbrev pub first_of : Option ℕ → Option ℕ → Option ℕ
 first_of (Some place) later = Some place
 first_of None later = later
 
+abbrev pub uneven_in : Definition → Option ℕ
+uneven_in (enumeration word ms) = other_width (width_of (all_values ms)) (all_values ms)
+uneven_in (parameter word t) = None
+uneven_in (function word arguments body) = None
+
 -- the first of the enumerations' values whose width isn't that of its enumeration
 abbrev pub uneven_value : List Definition → Option ℕ
 uneven_value [] = None
-uneven_value (enumeration word ms ∷ ds) = first_of (other_width (width_of (all_values ms)) (all_values ms)) (uneven_value ds)
-uneven_value (parameter word t ∷ ds) = uneven_value ds
-uneven_value (function word arguments body ∷ ds) = uneven_value ds
+uneven_value (d ∷ ds) = first_of (uneven_in d) (uneven_value ds)
 
 -- ---- declarations
 
@@ -58,21 +65,22 @@ bits_in alone = 1
 bits_in (wide n) = n
 bits_in (of_type values) = width_of values
 
-abbrev pub width_value : ℕ → Value → Work → Outcome Extent
-width_value place (Number (pos n)) w = gives (wide n) w
-width_value place (Number (negsuc n)) w = fails NumberRange place
-width_value place _ w = fails WrongSort place
+-- a width isn't negative
+abbrev pub width_in : ℕ → Value → Checked Extent
+width_in place (Number (pos n)) = fine (wide n)
+width_in place (Number (negsuc n)) = faulty NumberRange place
+width_in place _ = faulty WrongSort place
 
-abbrev pub type_value : List Definition → Named → Meaning → Work → Outcome Extent
-type_value definitions word an_enumeration w = gives (of_type (values_named word.name definitions)) w
-type_value definitions word undeclared w = fails UnknownName word.span.start
-type_value definitions word _ w = fails WrongSort word.span.start
+abbrev pub type_in : List Definition → Named → Meaning → Checked Extent
+type_in definitions word an_enumeration = fine (of_type (values_named word.name definitions))
+type_in definitions word undeclared = faulty UnknownName word.span.start
+type_in definitions word _ = faulty WrongSort word.span.start
 
 -- a width, or a type, may name the definitions and what is declared before it
 abbrev pub extent_value : List Definition → Names → Shape → Work → Outcome Extent
 extent_value definitions names single w = gives alone w
-extent_value definitions names (bus t) w = go_on (value_at names [] t 0 w) (λ v w. width_value (start_of t) v w)
-extent_value definitions names (typed word) w = type_value definitions word (names.means word.name) w
+extent_value definitions names (bus t) w = go_on (value_at names [] t 0 w) (λ v w. checked (width_in (start_of t) v) (λ extent w. gives extent w) w)
+extent_value definitions names (typed word) w = checked (type_in definitions word (names.means word.name)) (λ extent w. gives extent w) w
 
 -- a signal of an enumeration's type: its name's first byte in its declaration, its first bit's number, and the type's values
 pub record TypedSignal : Type 0 where
@@ -92,7 +100,7 @@ bit_name name k = name ++ codes "[" ++ decimal k ++ codes "]"
 -- so many bits from bit k on
 abbrev pub bit_names : List ℕ → ℕ → ℕ → List (List ℕ)
 bit_names name k zero = []
-bit_names name k (suc n) = bit_name name k ∷ bit_names name (suc k) n
+bit_names name k (suc n) = bit_name name k ∷ bit_names name (k + 1) n
 
 -- one more declaration, whose first signal has this number
 abbrev pub declared : Named → ℕ → Extent → Declared → Declared
@@ -108,13 +116,18 @@ declared word number (of_type values) d = record {
 abbrev pub most_signals : ℕ
 most_signals = 8
 
--- The declarations in their order, the first signal of all having this number. One that passes the limit is refused at its name.
+-- one more declaration, where the first signal of all has this number; one that passes the limit is refused at its name
+abbrev pub declaration_value : List Definition → ℕ → Declared → Declaration → Work → Outcome Declared
+declaration_value definitions from d x w =
+    go_on (extent_value definitions d.names x.shape w) (λ extent w.
+    choose (nat_le (length d.flat + bits_in extent) most_signals)
+    (λ w. gives (declared x.word (from + length d.flat) extent d) w) (λ w. fails TooManySignals x.word.span.start) w)
+
+-- the declarations in their order
 abbrev pub declarations_value : List Definition → ℕ → Declared → List Declaration → Work → Outcome Declared
 declarations_value definitions from d [] w = gives d w
 declarations_value definitions from d (x ∷ xs) w =
-    go_on (extent_value definitions d.names x.shape w) (λ extent w.
-    choose (nat_le (length d.flat + bits_in extent) most_signals)
-    (λ w. declarations_value definitions from (declared x.word (from + length d.flat) extent d) xs w) (λ w. fails TooManySignals x.word.span.start) w)
+    go_on (declaration_value definitions from d x w) (λ d w. declarations_value definitions from d xs w)
 
 -- ---- all signals
 

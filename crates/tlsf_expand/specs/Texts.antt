@@ -23,7 +23,7 @@ pub record Text : Type 0 where
   pub sections : Sections (List Tree)
 
 -- the six lists in their order
-abbrev pub sections_from : List (List Tree) → Sections (List Tree)
+abbrev pub sections_from : {A : Type 0} → List (List A) → Sections (List A)
 sections_from lists = record {
   initially = slice_index_or lists 0 [];
   preset = slice_index_or lists 1 [];

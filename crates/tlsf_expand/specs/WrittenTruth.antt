@@ -1,7 +1,7 @@
 -- Truth of the written text on a lasso, directly on the written tree: one recursion on the depth that is left, as for values.
 -- A call is its body with its arguments bound; an argument that is a formula is bound to its truths at the positions. Linear
 -- temporal logic, over this project's profile of TLSF 1.1.
-use Rattle.std.specs.Prelude.{ℕ, zero, suc, ◌-◌, Bool, true, false, if◌then◌else◌, List, [], ◌∷◌, map, Option, None, Some, ℤ, pos}
+use Rattle.std.specs.Prelude.{ℕ, zero, suc, ◌-◌, Bool, true, false, if◌then◌else◌, List, [], ◌∷◌, map, Option, None, Some, ℤ}
 use Rattle.letter_word.specs.Signals.{has}
 use Rattle.letter_word.specs.Word.{Word, letter_at}
 use Rattle.tlsf_tree.specs.declared.expr.Op.{Op}

@@ -2,3 +2,9 @@ pub mod RowProofs
 pub mod SetLemmas
 pub mod CountLemmas
 pub mod NamesLemmas
+pub mod PatternLemmas
+pub mod SeenLemmas
+pub mod StepLemmas
+pub mod EvaluatorLemmas
+pub mod EvaluationLemmas
+pub mod FormLemmas

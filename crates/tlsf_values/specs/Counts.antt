@@ -66,6 +66,11 @@ abbrev pub joined_with : ℕ → Connective → Option Formula → Formula → W
 joined_with place c None x w = gives x w
 joined_with place c (Some so_far) x w = connected place c so_far x w
 
+-- what was joined, where there was something
+abbrev pub joined_or_nothing : Connective → Option Formula → Formula
+joined_or_nothing c None = formula.Sure (empty_truth c)
+joined_or_nothing c (Some joined) = joined
+
 -- the formulas of the members, joined to the left after those so far
 abbrev pub joined_over : ℕ → Connective → (ℤ → Work → Outcome Formula) → List ℤ → Option Formula → Work → Outcome Formula
 joined_over place c f [] None w = gives (formula.Sure (empty_truth c)) w

@@ -11,6 +11,8 @@ pub mod Operators
 pub mod Counts
 pub mod Values
 pub mod Rows
+pub mod EnvSeen
+pub mod MembersSeen
 pub mod Seen
 pub mod NamesSeen
 pub mod ScopeSeen

@@ -1,6 +1,6 @@
 -- What names mean in a text: its signals, buses, definitions and members of enumerations share one set of names, and bound
 -- names hide them. This project's profile of TLSF 1.1.
-use Rattle.std.specs.Prelude.{ℕ, Bool, nat_eq, if◌then◌else◌, List, [], ◌∷◌, ◌++◌, length, slice_index_or, slice_get, Option, None, Some, find}
+use Rattle.std.specs.Prelude.{ℕ, Bool, true, false, nat_eq, if◌then◌else◌, List, [], ◌∷◌, ◌++◌, length, slice_index_or, slice_get, Option, None, Some, find}
 use Rattle.std.specs.Cmp.Lexicographic.{pointwise}
 use Rattle.tlsf_grammar.specs.Tree.{Named, Body, plain, Definition, parameter, function, enumeration, Member, Pattern}
 use Rattle.tlsf_values.specs.declared.value.Value.{Value}
@@ -52,6 +52,16 @@ known_or None m = m
 -- the latest binding stands first, and hides all else
 abbrev pub look_up : Names → List Binding → List ℕ → Meaning
 look_up names bound name = known_or (find (λ b. same_name b.name name) bound) (names.means name)
+
+-- ---- what may stand where a type is wanted
+
+abbrev pub is_enumeration : Meaning → Bool
+is_enumeration an_enumeration = true
+is_enumeration _ = false
+
+abbrev pub is_declared : Meaning → Bool
+is_declared undeclared = false
+is_declared _ = true
 
 -- ---- what declarations add, one after the other: of two equal names, which no text has that is read, the last counts
 

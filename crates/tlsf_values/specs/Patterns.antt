@@ -1,12 +1,12 @@
 -- A bus that is compared with a member of an enumeration: this project's profile of TLSF 1.1. The leftmost character of a value
 -- is bit 0.
-use Rattle.std.specs.Prelude.{ℕ, ◌+◌, Bool, true, false, ◌==◌, List, [], ◌∷◌, length, Option, None, Some}
+use Rattle.std.specs.Prelude.{ℕ, ◌+◌, Bool, true, false, ◌==◌, List, [], ◌∷◌, ◌++◌, length, Option, None, Some}
 use Rattle.std.specs.List.{list_all}
 use Rattle.ltl_formula.specs.declared.nodes.FormulaId.{FormulaId}
 use Rattle.ltl_formula.specs.declared.nodes.Node.TheVariants as node
 use Rattle.tlsf_tokens.specs.declared.code.SpecCode.TheVariants.{WrongSort}
 use Rattle.tlsf_tree.specs.declared.spec.Pattern.{Pattern as WrittenPattern}
-use Rattle.tlsf_grammar.specs.Tree.{Pattern}
+use Rattle.tlsf_grammar.specs.Tree.{Pattern, Member}
 use Rattle.tlsf_values.specs.declared.formula.Formula.{Formula}
 use Rattle.tlsf_values.specs.declared.formula.Formula.TheVariants.{Flat}
 use Rattle.tlsf_values.specs.declared.formula.Pairing.{Pairing}
@@ -47,6 +47,17 @@ abbrev pub values_made : ℕ → ℕ → List Pattern → Option FormulaId → W
 values_made place first [] so_far w = or_truth place false so_far w
 values_made place first (p ∷ ps) so_far w =
     go_on (bits_made place first p.bits None w) (λ id w. go_on (joined_to place pairing.Or so_far id w) (λ either w. values_made place first ps (Some either) w))
+
+-- these values joined to those so far
+abbrev pub values_joined : ℕ → ℕ → List Pattern → Option FormulaId → Work → Outcome (Option FormulaId)
+values_joined place first [] so_far w = gives so_far w
+values_joined place first (p ∷ ps) so_far w =
+    go_on (bits_made place first p.bits None w) (λ id w. go_on (joined_to place pairing.Or so_far id w) (λ either w. values_joined place first ps (Some either) w))
+
+-- all values of all members, in the order written
+abbrev pub all_values : List Member → List Pattern
+all_values [] = []
+all_values (m ∷ ms) = m.values ++ all_values ms
 
 -- each value is so wide
 abbrev pub are_wide : ℕ → List Pattern → Bool

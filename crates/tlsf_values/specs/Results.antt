@@ -15,6 +15,17 @@ abbrev pub IsOutcome : {A : Type 0} → Result A SpecFault → Work → Outcome 
 IsOutcome (Ok a) w o = o ≡ gives a w
 IsOutcome (Err e) w o = IsFault o e
 
+-- the same, where the answer is seen as a plain value
+abbrev pub IsOutcomeAs : {A B : Type 0} → (A → B) → Result A SpecFault → Work → Outcome B → Type 0
+IsOutcomeAs f (Ok a) w o = o ≡ gives (f a) w
+IsOutcomeAs f (Err e) w o = IsFault o e
+
+-- the same of what needs no work, unless memory was wanted
+abbrev pub IsCheckedAs : {A B : Type 0} → (A → B) → Result A SpecFault → Checked B → Type 0
+IsCheckedAs f (Ok a) o = o ≡ fine (f a)
+IsCheckedAs f (Err NoMemory) o = Unit {0}
+IsCheckedAs f (Err (At code place)) o = o ≡ faulty code place
+
 -- the same of what needs no work and takes no memory
 abbrev pub IsChecked : {A : Type 0} → Result A SpecFault → Checked A → Type 0
 IsChecked (Ok a) o = o ≡ fine a

@@ -12,7 +12,7 @@ use Rattle.tlsf_values.specs.declared.value.Value.TheVariants.{Number, Truth, Se
 use Rattle.tlsf_values.specs.declared.formula.Formula.{Formula}
 use Rattle.tlsf_values.specs.declared.formula.Connective.{Connective}
 use Rattle.tlsf_values.specs.Sets.{set_of, step_count, stepped, numbers_from}
-use Rattle.tlsf_values.specs.Outcomes.{Outcome, gives, fails, go_on, choose, checked, counted, made, Checked, fine, and_then}
+use Rattle.tlsf_values.specs.Outcomes.{Outcome, gives, fails, go_on, choose, checked, counted, made, Checked, fine, faulty, and_then}
 use Rattle.tlsf_values.specs.Names.{Names, Binding, BusRange, Meaning, known, a_signal, a_definition, an_enumeration, undeclared, look_up, bus_at}
 use Rattle.tlsf_values.specs.Sorts.{number_in, truth_in, set_in, bus_in, formula_in}
 use Rattle.tlsf_values.specs.Operators.{as_value, operated, prefixed}
@@ -88,12 +88,17 @@ abbrev pub bit_value : ℕ → ℕ → BusRange → ℤ → Work → Outcome Val
 bit_value place at bus i w =
     choose (int_le (pos 0) i && int_lt i (pos bus.width)) (λ w. go_on (made place (node.Signal (bus.first + unsigned_abs i)) w) (λ id w. gives (Flat id) w)) (λ w. fails IndexOut at) w
 
+-- the bus that the word of an index stands for, or its wrong sort; a single signal is none, and no node is made of it
+abbrev pub word_value : Evaluator → ℕ → Meaning → Work → Outcome (Checked ℕ)
+word_value r place (a_signal k) w = gives (faulty WrongSort place) w
+word_value r place m w = go_on (meaning_value r place m w) (λ v w. gives (bus_in place v) w)
+
 -- the word is looked up, the index is evaluated, and then their sorts are tested
 abbrev pub index_value : Names → Evaluator → List Binding → ℕ → Named → Tree → Work → Outcome Value
 index_value names r bound place word i w =
-    go_on (meaning_value r word.span.start (look_up names bound word.name) w) (λ b w.
+    go_on (word_value r word.span.start (look_up names bound word.name) w) (λ b w.
     go_on (r.value bound i w) (λ v w.
-    checked (bus_in word.span.start b) (λ k w. checked (number_in (start_of i) v) (λ z w. bit_value place (start_of i) (bus_at names k) z w) w) w))
+    checked b (λ k w. checked (number_in (start_of i) v) (λ z w. bit_value place (start_of i) (bus_at names k) z w) w) w))
 
 -- ---- sets
 

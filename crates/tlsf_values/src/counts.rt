@@ -1,7 +1,7 @@
 // Counted forms: an X that is repeated, and windows.
 
 ghost use Rattle.std.specs.Prelude.{◌≡◌, ◌≤◌, ◌-◌, IsTrue};
-ghost use Rattle.tlsf_values.specs.Counts.{count_in, count_value, empty_truth, nexts, window_between, window_value};
+ghost use Rattle.tlsf_values.specs.Counts.{count_in, count_value, empty_truth, joined_or_nothing, joined_with, joining_of, nexts, window_between, window_of, window_value};
 ghost use Rattle.tlsf_values.specs.Results.{IsChecked, IsOutcome};
 
 use crate::formula::{Connective, Formula, Pairing, truth_as_node};
@@ -9,6 +9,7 @@ use crate::value::Value;
 use crate::work::{Work, fault};
 use ltl_formula::{FormulaId, Node};
 use tlsf_tokens::{SpecCode, SpecFault};
+use tlsf_tree::Op;
 
 /// A count, which isn't negative, at this byte.
 pub(crate) fn count(place: u64, number: i64) -> Result<u64, SpecFault>
@@ -21,6 +22,38 @@ pub(crate) fn count(place: u64, number: i64) -> Result<u64, SpecFault>
 }
 
 impl Connective {
+    /// What a window of this sign joins by.
+    pub(crate) fn of_window(op: Op) -> Option<Connective>
+        ensures { result ≡ window_of op }
+    {
+        match op {
+            Op::Finally => Some(Connective::Or),
+            Op::Globally => Some(Connective::And),
+            _ => None,
+        }
+    }
+
+    /// What a big operator of this sign joins by.
+    pub(crate) fn of_big(op: Op) -> Option<Connective>
+        ensures { result ≡ joining_of op }
+    {
+        match op {
+            Op::And => Some(Connective::And),
+            Op::Or => Some(Connective::Or),
+            _ => None,
+        }
+    }
+
+    /// What was joined, where there was something.
+    pub(crate) fn of_all(self, joined: Option<Formula>) -> Formula
+        ensures { result ≡ joined_or_nothing self joined }
+    {
+        match joined {
+            None => Formula::Sure(self.of_nothing()),
+            Some(formula) => formula,
+        }
+    }
+
     /// The truth of nothing joined.
     pub(crate) fn of_nothing(self) -> bool
         ensures { result ≡ empty_truth self }
@@ -35,6 +68,22 @@ impl Connective {
 }
 
 impl Work {
+    /// Joins a member's formula to those so far, which stand on its left.
+    pub(crate) fn joined_with(
+        &mut self,
+        place: u64,
+        connective: Connective,
+        so_far: Option<Formula>,
+        formula: Formula,
+    ) -> Result<Formula, SpecFault>
+        ensures { IsOutcome result self.new (joined_with place connective so_far formula self.old) }
+    {
+        match so_far {
+            None => Ok(formula),
+            Some(so_far) => self.connected(place, connective, so_far, formula),
+        }
+    }
+
     /// So many X's before a formula. It takes time in proportion to what the limits of nodes and evaluations allow.
     fn nexts(&mut self, place: u64, count: u64, part: FormulaId) -> Result<FormulaId, SpecFault>
         ensures { IsOutcome result self.new (nexts place count part self.old) }

@@ -6,8 +6,11 @@
 
 mod apply;
 mod counts;
+mod evaluate;
+mod evaluate_operands;
 mod formula;
 pub mod laws;
+mod members;
 mod names;
 mod number_set;
 mod numbers;
@@ -15,6 +18,8 @@ mod operate;
 mod patterns;
 mod scope;
 mod set_operation;
+mod steps;
+mod text_value;
 mod value;
 mod work;
 
@@ -23,6 +28,7 @@ pub use names::Names;
 pub use number_set::NumberSet;
 pub use numbers::{Arithmetic, Comparison, Places};
 pub use set_operation::SetOperation;
+pub use text_value::{Env, Meter, value_of};
 pub use value::Value;
 pub use work::{MOST_DEPTH, MOST_EVALUATIONS, Work};
 

@@ -1,7 +1,7 @@
 // What the names of a text mean, found through a map that is made once.
 
 ghost use Rattle.std.specs.Prelude.{◌≡◌, IfOk, OnOk, Some, map};
-ghost use Rattle.tlsf_values.specs.Names.{with_bus, with_definition, with_definitions, with_meaning, with_member, with_members, with_signal, without_names};
+ghost use Rattle.tlsf_values.specs.Names.{is_declared, is_enumeration, with_bus, with_definition, with_definitions, with_meaning, with_member, with_members, with_signal, without_names};
 ghost use Rattle.tlsf_values.specs.Seen.{definition_seen, member_seen};
 ghost use Rattle.std.specs.Cmp.Lexicographic.{pointwise};
 ghost use Rattle.tlsf_values.specs.NamesSeen.{entry_meaning, names_seen, range_seen};
@@ -128,6 +128,20 @@ impl<'t> Names<'t> {
         ensures { entry_meaning result ≡ (names_seen self.now).means name.now }
     {
         self.entries.get(name).copied()
+    }
+
+    /// Whether the name is declared, as whatever it may be.
+    pub fn is_declared(&self, name: &Name) -> bool
+        ensures { result ≡ is_declared ((names_seen self.now).means name.now) }
+    {
+        self.entry(name).is_some()
+    }
+
+    /// Whether the name is that of an enumeration.
+    pub fn is_enumeration(&self, name: &Name) -> bool
+        ensures { result ≡ is_enumeration ((names_seen self.now).means name.now) }
+    {
+        matches!(self.entry(name), Some(Entry::Enumeration))
     }
 
     /// A bus by its place; past the end it has no bits.

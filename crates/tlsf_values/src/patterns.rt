@@ -1,7 +1,8 @@
 // A bus compared with a member of an enumeration.
 
 ghost use Rattle.std.specs.Prelude.{◌≡◌, map};
-ghost use Rattle.tlsf_values.specs.Patterns.{are_wide, bit_made, bits_made, joined_to, matched, or_truth, pattern_seen, values_made};
+ghost use Rattle.tlsf_values.specs.Patterns.{all_values, are_wide, bit_made, bits_made, joined_to, matched, or_truth, pattern_seen, values_joined, values_made};
+ghost use Rattle.tlsf_values.specs.Seen.{member_seen};
 ghost use Rattle.tlsf_values.specs.Results.{IsOutcome};
 
 use crate::formula::{Formula, Pairing, truth_as_node};
@@ -9,7 +10,7 @@ use crate::numbers::Places;
 use crate::work::{Work, fault};
 use ltl_formula::{FormulaId, Node};
 use tlsf_tokens::{SpecCode, SpecFault};
-use tlsf_tree::Pattern;
+use tlsf_tree::{Member, Pattern};
 
 /// A bus, by its first signal and its width.
 #[derive(Clone, Copy, Debug, PartialEq, Eq)]
@@ -47,7 +48,22 @@ impl Work {
         Ok(Formula::Flat(self.values_made(places.own, first, values)?))
     }
 
-    /// One of the values stands at the signals from this one on.
+    /// One of the values of these members stands at the signals from this one on. It counts no evaluation.
+    pub fn members_made(
+        &mut self,
+        place: u64,
+        first: u32,
+        members: &[Member],
+    ) -> Result<FormulaId, SpecFault>
+        ensures { IsOutcome result self.new (values_made place first (all_values (map member_seen members.now)) None self.old) }
+    {
+        let mut so_far = None;
+        for member in members {
+            so_far = self.values_joined(place, first, &member.values, so_far)?;
+        }
+        self.or_truth(place, false, so_far)
+    }
+
     fn values_made(
         &mut self,
         place: u64,
@@ -56,12 +72,26 @@ impl Work {
     ) -> Result<FormulaId, SpecFault>
         ensures { IsOutcome result self.new (values_made place first (map pattern_seen values.now) None self.old) }
     {
-        let mut so_far = None;
+        let so_far = self.values_joined(place, first, values, None)?;
+        self.or_truth(place, false, so_far)
+    }
+
+    /// Joins these values, as they may stand at the signals from this one on, to those so far.
+    fn values_joined(
+        &mut self,
+        place: u64,
+        first: u32,
+        values: &[Pattern],
+        so_far: Option<FormulaId>,
+    ) -> Result<Option<FormulaId>, SpecFault>
+        ensures { IsOutcome result self.new (values_joined place first (map pattern_seen values.now) so_far self.old) }
+    {
+        let mut joined = so_far;
         for value in values {
             let id = self.bits_made(place, first, &value.bits)?;
-            so_far = Some(self.joined_to(place, Pairing::Or, so_far, id)?);
+            joined = Some(self.joined_to(place, Pairing::Or, joined, id)?);
         }
-        self.or_truth(place, false, so_far)
+        Ok(joined)
     }
 
     /// The bits of a value stand at the signals from this one on; a star is passed over.

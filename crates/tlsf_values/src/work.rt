@@ -34,7 +34,7 @@ impl Work {
     }
 
     /// The id of a node in the list, for the node of the written tree at this byte.
-    pub(crate) fn made(&mut self, place: u64, node: Node) -> Result<FormulaId, SpecFault>
+    pub fn made(&mut self, place: u64, node: Node) -> Result<FormulaId, SpecFault>
         ensures { IsOutcome result self.new (made place node self.old) }
     {
         if !self.formulas.can_add(node) {

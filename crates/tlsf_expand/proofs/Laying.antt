@@ -1,0 +1,165 @@
+-- What the code's loops lay one after the other: values of enumerations, bits, and the formulas of sections.
+use Rattle.std.proofs.Common.{◌≡◌, ℕ, suc, ◌+◌, ◌-◌, ◌<◌, ◌≤◌, zero, Bool, true, false, List, [], ◌∷◌, ◌++◌, length, get_or, drop, map, None, Some, Result, Err, refl, sym, ap, subst, ◌∙◌, append_assoc, arith, length-append}
+use Rattle.std.proofs.lemmas.List.{at_drop_more}
+use Rattle.std.proofs.lemmas.Bool.{leb-true}
+use Rattle.std.specs.Prelude.{◌==◌, nat_le, if◌then◌else◌}
+use Rattle.ltl_formula.specs.declared.nodes.FormulaId.{FormulaId}
+use Rattle.tlsf_tokens.specs.declared.code.SpecFault.{SpecFault}
+use Rattle.tlsf_tokens.specs.declared.code.SpecFault.TheVariants.{NoMemory, At}
+use Rattle.tlsf_tokens.specs.declared.code.SpecCode.{SpecCode}
+use Rattle.tlsf_tokens.specs.declared.code.SpecCode.TheVariants.{TooManySignals}
+use Rattle.tlsf_tree.specs.declared.expr.Expr.{Expr}
+use Rattle.tlsf_tree.specs.declared.spec.Member.{Member}
+use Rattle.tlsf_tree.specs.declared.spec.Declaration.{Declaration as CodeDeclaration}
+use Rattle.tlsf_grammar.specs.Tree.{Tree, Named, Pattern, Definition, Declaration}
+use Rattle.tlsf_values.specs.declared.value.Value.{Value}
+use Rattle.tlsf_values.specs.declared.work.Work.{Work}
+use Rattle.tlsf_values.specs.Names.{Names}
+use Rattle.tlsf_values.specs.Outcomes.{Outcome, gives, fails, go_on, choose}
+use Rattle.tlsf_values.specs.Patterns.{all_values, values_made}
+use Rattle.tlsf_values.specs.Results.{IsFault, IsOutcomeAs}
+use Rattle.tlsf_values.specs.Seen.{pattern_seen, member_seen, expr_seen}
+use Rattle.tlsf_values.specs.Values.{start_of, value_at}
+use Rattle.tlsf_expand.specs.Sections.{section_formula, section_value, added_value}
+use Rattle.tlsf_expand.specs.Signals.{first_of, other_width, width_of, bit_name, bit_names, bits_in, most_signals, TypedSignal, Extent, alone, wide, of_type, extent_value, Declared, declared, declaration_value, declarations_value}
+use Rattle.tlsf_expand.specs.TextSeen.{declaration_seen}
+
+-- ---- enumerations
+
+pub other_width_append : (width : ℕ) (ps qs : List Pattern) → other_width width (ps ++ qs) ≡ first_of (other_width width ps) (other_width width qs)
+other_width_append width [] qs = refl
+other_width_append width (p ∷ ps) qs = by (length p.bits == width) (other_width_append width ps qs)
+  where
+    by : (b : Bool) → other_width width (ps ++ qs) ≡ first_of (other_width width ps) (other_width width qs)
+        → (if b then other_width width (ps ++ qs) else Some p.span.start) ≡ first_of (if b then other_width width ps else Some p.span.start) (other_width width qs)
+    by true h = h
+    by false h = refl
+
+-- the values of the member at this place come first, and then those of the members after it
+pub members_from : (members : List Member) (i : ℕ) (m : Member) → i < length members → m ≡ get_or members i m →
+    all_values (map member_seen (drop i members)) ≡ map pattern_seen m.values.items ++ all_values (map member_seen (drop (i + 1) members))
+members_from members i m below is =
+    at_drop_more (λ ms. all_values (map member_seen ms)) members i m below ∙ ap (λ x. all_values (map member_seen (x ∷ drop (i + 1) members))) (sym is)
+
+-- ---- bits
+
+pub bits_step : (flat pushed : List (List ℕ)) (name : List ℕ) (bit width : ℕ) → bit < width → pushed ≡ flat ++ bit_name name bit ∷ [] →
+    flat ++ bit_names name bit (width - bit) ≡ pushed ++ bit_names name (bit + 1) (width - (bit + 1))
+bits_step flat pushed name bit width below is =
+    let more : width - bit ≡ suc (width - (bit + 1)) = omega arith in
+    ap (λ n. flat ++ bit_names name bit n) more ∙ sym (append_assoc flat (bit_name name bit ∷ []) (bit_names name (bit + 1) (width - (bit + 1))))
+    ∙ ap (λ xs. xs ++ bit_names name (bit + 1) (width - (bit + 1))) (sym is)
+
+-- ---- sections
+
+-- what comes after those laid so far
+abbrev pub after_those : {A : Type 0} → List A → Outcome (List A) → Outcome (List A)
+after_those so_far o = go_on o (λ more w. gives (so_far ++ more) w)
+
+pub after_none : {A : Type 0} (o : Outcome (List A)) → o ≡ after_those [] o
+after_none (gives xs w) = refl
+after_none (fails code place) = refl
+
+pub one_more : {A : Type 0} (so_far : List A) (x : A) (o : Outcome (List A)) → after_those so_far (go_on o (λ xs w. gives (x ∷ xs) w)) ≡ after_those (so_far ++ x ∷ []) o
+one_more so_far x (gives xs w) = ap (λ ys. gives ys w) (sym (append_assoc so_far (x ∷ []) xs))
+one_more so_far x (fails code place) = refl
+
+-- a formula of a section is laid
+pub formula_laid : (names : Names) (t : Tree) (ts : List Tree) (so_far : List FormulaId) (v : Value) (id : FormulaId) (w w1 w2 : Work) → value_at names [] t 0 w ≡ gives v w1 →
+    section_formula (start_of t) v w1 ≡ gives id w2 → after_those so_far (section_value names (t ∷ ts) w) ≡ after_those (so_far ++ id ∷ []) (section_value names ts w2)
+formula_laid names t ts so_far v id w w1 w2 value formula =
+    ap (λ o. after_those so_far (go_on o (λ v w. go_on (section_formula (start_of t) v w) (λ id w. go_on (section_value names ts w) (λ ids w. gives (id ∷ ids) w))))) value
+    ∙ ap (λ o. after_those so_far (go_on o (λ id w. go_on (section_value names ts w) (λ ids w. gives (id ∷ ids) w)))) formula
+    ∙ one_more so_far id (section_value names ts w2)
+
+pub value_fault : (names : Names) (t : Tree) (ts : List Tree) (so_far : List FormulaId) (w : Work) (e : SpecFault) → IsFault (value_at names [] t 0 w) e →
+    IsFault (after_those so_far (section_value names (t ∷ ts) w)) e
+value_fault names t ts so_far w NoMemory h = tt
+value_fault names t ts so_far w (At code place) h =
+    ap (λ o. after_those so_far (go_on o (λ v w. go_on (section_formula (start_of t) v w) (λ id w. go_on (section_value names ts w) (λ ids w. gives (id ∷ ids) w))))) h
+
+pub formula_fault : (names : Names) (t : Tree) (ts : List Tree) (so_far : List FormulaId) (v : Value) (w w1 : Work) (e : SpecFault) → value_at names [] t 0 w ≡ gives v w1 →
+    IsFault (section_formula (start_of t) v w1) e → IsFault (after_those so_far (section_value names (t ∷ ts) w)) e
+formula_fault names t ts so_far v w w1 NoMemory value h = tt
+formula_fault names t ts so_far v w w1 (At code place) value h =
+    ap (λ o. after_those so_far (go_on o (λ v w. go_on (section_formula (start_of t) v w) (λ id w. go_on (section_value names ts w) (λ ids w. gives (id ∷ ids) w))))) value
+    ∙ ap (λ o. after_those so_far (go_on o (λ id w. go_on (section_value names ts w) (λ ids w. gives (id ∷ ids) w)))) h
+
+-- an added formula is laid
+pub added_laid : (t : TypedSignal) (ts : List TypedSignal) (so_far : List FormulaId) (id : FormulaId) (w w1 : Work) → values_made t.place t.first t.values None w ≡ gives id w1 →
+    after_those so_far (added_value (t ∷ ts) w) ≡ after_those (so_far ++ id ∷ []) (added_value ts w1)
+added_laid t ts so_far id w w1 made =
+    ap (λ o. after_those so_far (go_on o (λ id w. go_on (added_value ts w) (λ ids w. gives (id ∷ ids) w)))) made ∙ one_more so_far id (added_value ts w1)
+
+pub added_fault : (t : TypedSignal) (ts : List TypedSignal) (so_far : List FormulaId) (w : Work) (e : SpecFault) → IsFault (values_made t.place t.first t.values None w) e →
+    IsFault (after_those so_far (added_value (t ∷ ts) w)) e
+added_fault t ts so_far w NoMemory h = tt
+added_fault t ts so_far w (At code place) h = ap (λ o. after_those so_far (go_on o (λ id w. go_on (added_value ts w) (λ ids w. gives (id ∷ ids) w)))) h
+
+pub exprs_from : (exprs : List Expr) (i : ℕ) (e : Expr) → i < length exprs → e ≡ get_or exprs i e → map expr_seen (drop i exprs) ≡ expr_seen e ∷ map expr_seen (drop (i + 1) exprs)
+exprs_from exprs i e below is = at_drop_more (map expr_seen) exprs i e below ∙ ap (λ x. map expr_seen (x ∷ drop (i + 1) exprs)) (sym is)
+
+-- ---- declarations
+
+pub declarations_from : (xs : List CodeDeclaration) (i : ℕ) (x : CodeDeclaration) → i < length xs → x ≡ get_or xs i x →
+    map declaration_seen (drop i xs) ≡ declaration_seen x ∷ map declaration_seen (drop (i + 1) xs)
+declarations_from xs i x below is = at_drop_more (map declaration_seen) xs i x below ∙ ap (λ y. map declaration_seen (y ∷ drop (i + 1) xs)) (sym is)
+
+pub declaration_given : (ds : List Definition) (from : ℕ) (d next : Declared) (x : Declaration) (xs : List Declaration) (w w1 : Work) → declaration_value ds from d x w ≡ gives next w1 →
+    declarations_value ds from d (x ∷ xs) w ≡ declarations_value ds from next xs w1
+declaration_given ds from d next x xs w w1 e = ap (λ o. go_on o (λ d w. declarations_value ds from d xs w)) e
+
+pub declaration_fault : (ds : List Definition) (from : ℕ) (d : Declared) (x : Declaration) (xs : List Declaration) (w : Work) (e : SpecFault) → IsFault (declaration_value ds from d x w) e →
+    IsFault (declarations_value ds from d (x ∷ xs) w) e
+declaration_fault ds from d x xs w NoMemory h = tt
+declaration_fault ds from d x xs w (At code place) h = ap (λ o. go_on o (λ d w. declarations_value ds from d xs w)) h
+
+-- what an exit answers
+pub fault_out : {A B : Type 0} (f : A → B) (r : Result A SpecFault) (w : Work) (o : Outcome B) (x e : SpecFault) → r ≡ Err x → x ≡ e → IsFault o e → IsOutcomeAs f r w o
+fault_out f r w o x e is same h = subst (λ q. IsOutcomeAs f q w o) (sym (is ∙ ap Err same)) h
+
+-- ---- how many signals there are
+
+-- where it is given, so many are declared at most
+data Few : Outcome Declared → Type 0 where
+  few : (d : Declared) (w : Work) → length d.flat ≤ 8 → Few (gives d w)
+  none : (code : SpecCode) (place : ℕ) → Few (fails code place)
+
+few_go_on : {A : Type 0} (o : Outcome A) (f : A → Work → Outcome Declared) → ((a : A) (w : Work) → Few (f a w)) → Few (go_on o f)
+few_go_on (gives a w) f h = h a w
+few_go_on (fails code place) f h = none code place
+
+few_from : (o : Outcome Declared) (f : Declared → Work → Outcome Declared) → Few o → ((d : Declared) (w : Work) → length d.flat ≤ 8 → Few (f d w)) → Few (go_on o f)
+few_from _ f (few d w h) next = next d w h
+few_from _ f (none code place) next = none code place
+
+length-bits : (name : List ℕ) (k n : ℕ) → length (bit_names name k n) ≡ n
+length-bits name k zero = refl
+length-bits name k (suc n) = ap suc (length-bits name (k + 1) n)
+
+length-declared : (word : Named) (number : ℕ) (extent : Extent) (d : Declared) → length (declared word number extent d).flat ≡ length d.flat + bits_in extent
+length-declared word number alone d = length-append d.flat (word.name ∷ [])
+length-declared word number (wide n) d = length-append d.flat (bit_names word.name 0 n) ∙ ap (λ k. length d.flat + k) (length-bits word.name 0 n)
+length-declared word number (of_type values) d =
+    length-append d.flat (bit_names word.name 0 (width_of values)) ∙ ap (λ k. length d.flat + k) (length-bits word.name 0 (width_of values))
+
+few_chosen : (b : Bool) (ds : List Definition) (from : ℕ) (d : Declared) (x : Declaration) (extent : Extent) (w : Work) → nat_le (length d.flat + bits_in extent) most_signals ≡ b →
+    Few (choose b (λ w. gives (declared x.word (from + length d.flat) extent d) w) (λ w. fails TooManySignals x.word.span.start) w)
+few_chosen true ds from d x extent w e =
+    few _ w (subst (λ n. n ≤ 8) (sym (length-declared x.word (from + length d.flat) extent d)) (leb-true (length d.flat + bits_in extent) most_signals e))
+few_chosen false ds from d x extent w e = none _ _
+
+few_declaration : (ds : List Definition) (from : ℕ) (d : Declared) (x : Declaration) (w : Work) → Few (declaration_value ds from d x w)
+few_declaration ds from d x w =
+    few_go_on (extent_value ds d.names x.shape w) _ (λ extent w. few_chosen (nat_le (length d.flat + bits_in extent) most_signals) ds from d x extent w refl)
+
+few_declarations : (ds : List Definition) (from : ℕ) (d : Declared) (xs : List Declaration) (w : Work) → length d.flat ≤ 8 → Few (declarations_value ds from d xs w)
+few_declarations ds from d [] w h = few d w h
+few_declarations ds from d (x ∷ xs) w h = few_from (declaration_value ds from d x w) _ (few_declaration ds from d x w) (λ d w h. few_declarations ds from d xs w h)
+
+few_in : (d : Declared) (w : Work) → Few (gives d w) → length d.flat ≤ 8
+few_in _ _ (few d w h) = h
+
+pub few_given : (ds : List Definition) (from : ℕ) (d : Declared) (xs : List Declaration) (w : Work) (next : Declared) (w1 : Work) → length d.flat ≤ 8 →
+    declarations_value ds from d xs w ≡ gives next w1 → length next.flat ≤ 8
+few_given ds from d xs w next w1 h e = few_in next w1 (subst Few e (few_declarations ds from d xs w h))

@@ -1,0 +1,261 @@
+// The signals that a text declares, with their numbers and flat names.
+
+ghost use Rattle.std.specs.Prelude.{◌≡◌, ◌+◌, ◌≤◌, ◌++◌, IfOk, OnOk, map};
+ghost use Rattle.tlsf_expand.specs.Signals.{bit_name, bit_names, bits_in, declaration_value, declarations_value, declared, even_first, extent_value, none_yet, signals_value, type_in, uneven_value, width_in};
+ghost use Rattle.tlsf_expand.specs.SignalsSeen.{declared_seen, extent_seen, signals_seen};
+ghost use Rattle.tlsf_expand.specs.TextSeen.{declaration_seen, shape_seen, text_seen};
+ghost use Rattle.tlsf_values.specs.NamesSeen.{names_seen};
+ghost use Rattle.tlsf_values.specs.Results.{IsCheckedAs, IsOutcomeAs};
+ghost use Rattle.tlsf_values.specs.Seen.{definition_seen, word_seen};
+
+use crate::enumerations::{members_named, uneven_value, width};
+use std::alloc::{AllocError, Global};
+use text_base::{Name, push_number};
+use tlsf_tokens::{SpecCode, SpecFault};
+use tlsf_tree::{Declaration, Definition, Member, Shape, SpecTree, Word};
+use tlsf_values::{Names, Value, Work};
+
+/// How many inputs there are at most, and how many outputs.
+const MOST_SIGNALS: usize = 8;
+
+/// What is declared: a single signal, a bus of this width, or a bus for the values of an enumeration with these members.
+#[derive(Clone, Copy)]
+pub(crate) enum Extent<'t> {
+    Alone,
+    Wide(u64),
+    OfType(&'t [Member]),
+}
+
+/// A bus for the values of an enumeration: its name's first byte in its declaration, its first signal, and the members.
+#[derive(Clone, Copy)]
+pub(crate) struct TypedSignal<'t> {
+    pub(crate) place: u64,
+    pub(crate) first: u32,
+    pub(crate) members: &'t [Member],
+}
+
+/// The inputs, or the outputs, that are declared so far, with all names of the text.
+#[derive(Drop)]
+pub(crate) struct Declared<'t> {
+    names: Names<'t>,
+    flat: Vec<Name>,
+    typed: Vec<TypedSignal<'t>>,
+}
+
+/// All signals of a text, with its names.
+#[derive(Drop)]
+pub(crate) struct Signals<'t> {
+    pub(crate) names: Names<'t>,
+    pub(crate) inputs: Vec<Name>,
+    pub(crate) outputs: Vec<Name>,
+    pub(crate) typed_inputs: Vec<TypedSignal<'t>>,
+    pub(crate) typed_outputs: Vec<TypedSignal<'t>>,
+}
+
+impl Extent<'_> {
+    fn bits(&self) -> u64
+        ensures { result ≡ bits_in (extent_seen self.now) }
+    {
+        match self {
+            Extent::Alone => 1,
+            Extent::Wide(width) => *width,
+            Extent::OfType(members) => width(members) as u64,
+        }
+    }
+}
+
+/// The width that this value is, as that of a bus.
+fn extent_of<'t>(place: u64, value: &Value) -> Result<Extent<'t>, SpecFault>
+    ensures { IsCheckedAs extent_seen result (width_in place value.now) }
+{
+    match value {
+        Value::Number(number) => match u64::try_from(*number) {
+            Ok(width) => Ok(Extent::Wide(width)),
+            Err(_) => Err(fault(SpecCode::NumberRange, place)),
+        },
+        _ => Err(fault(SpecCode::WrongSort, place)),
+    }
+}
+
+/// The refusal of a text with this fault at this byte.
+pub(crate) fn fault(code: SpecCode, place: u64) -> SpecFault
+    ensures { result ≡ SpecFault.At code place }
+{
+    SpecFault::At { code, place }
+}
+
+/// Where the name is an enumeration's, a bus for its values.
+fn extent_of_type<'t>(
+    definitions: &'t [Definition],
+    names: &Names<'t>,
+    word: &Word,
+) -> Result<Extent<'t>, SpecFault>
+    ensures { IsCheckedAs extent_seen result (type_in (map definition_seen definitions.now) (word_seen word.now) ((names_seen names.now).means word.now.name)) }
+{
+    if !names.is_declared(&word.name) {
+        return Err(fault(SpecCode::UnknownName, word.span.start));
+    }
+    if !names.is_enumeration(&word.name) {
+        return Err(fault(SpecCode::WrongSort, word.span.start));
+    }
+    Ok(Extent::OfType(members_named(definitions, &word.name)))
+}
+
+/// What a declaration declares. A width, or a type, may name the definitions and what is declared before it.
+fn declared_extent<'t>(
+    definitions: &'t [Definition],
+    names: &Names<'t>,
+    shape: &'t Shape,
+    work: &mut Work,
+) -> Result<Extent<'t>, SpecFault>
+    ensures { IsOutcomeAs extent_seen result work.new (extent_value (map definition_seen definitions.now) (names_seen names.now) (shape_seen shape.now) work.old) }
+{
+    match shape {
+        Shape::Single => Ok(Extent::Alone),
+        Shape::Bus(width) => {
+            let value = names.value_of(width, work)?;
+            extent_of(width.span.start, &value)
+        }
+        Shape::Typed(word) => extent_of_type(definitions, names, word),
+    }
+}
+
+/// The flat name of a bit.
+fn bit_name(alloc: Global, name: &Name, bit: u64) -> Result<Name, AllocError>
+    ensures { IfOk result (λ n. n ≡ bit_name name.now bit) }
+{
+    let mut bytes = Vec::from_slice(alloc, name.bytes())?;
+    bytes.push(b'[')?;
+    push_number(&mut bytes, bit)?;
+    bytes.push(b']')?;
+    Name::new(alloc, &bytes)
+}
+
+/// Adds the flat names of so many bits.
+fn add_bits(alloc: Global, flat: &mut Vec<Name>, name: &Name, width: u64) -> Result<(), AllocError>
+    ensures { OnOk result (flat.new.items ≡ flat.old.items ++ bit_names name.now 0 width) }
+{
+    for bit in 0..width {
+        flat.push(bit_name(alloc, name, bit)?)?;
+    }
+    Ok(())
+}
+
+impl<'t> Declared<'t> {
+    /// No inputs, or no outputs, yet.
+    fn none_yet(alloc: Global, names: Names<'t>) -> Declared<'t>
+        ensures { declared_seen result ≡ none_yet (names_seen names.entry) }
+    {
+        Declared {
+            names,
+            flat: Vec::new(alloc),
+            typed: Vec::new(alloc),
+        }
+    }
+
+    /// A bus, or a single signal, whose first signal has this number.
+    fn declare(
+        &mut self,
+        alloc: Global,
+        word: &'t Word,
+        first: u32,
+        extent: Extent<'t>,
+    ) -> Result<(), AllocError>
+        requires { bits_in (extent_seen extent) ≤ 8 }
+        ensures { OnOk result (declared_seen self.new ≡ declared (word_seen word.now) first (extent_seen extent.entry) (declared_seen self.old)) }
+    {
+        match extent {
+            Extent::Alone => {
+                self.names.add_signal(&word.name, first)?;
+                self.flat.push(word.name.clone()?)?;
+            }
+            Extent::Wide(width) => {
+                self.names.add_bus(&word.name, first, width as u32)?;
+                add_bits(alloc, &mut self.flat, &word.name, width)?;
+            }
+            Extent::OfType(members) => {
+                let width = width(members);
+                self.names.add_bus(&word.name, first, width as u32)?;
+                add_bits(alloc, &mut self.flat, &word.name, width as u64)?;
+                self.typed.push(TypedSignal {
+                    place: word.span.start,
+                    first,
+                    members,
+                })?;
+            }
+        }
+        Ok(())
+    }
+
+    /// One more declaration, where the first of all has this number.
+    fn declaration(
+        &mut self,
+        alloc: Global,
+        definitions: &'t [Definition],
+        from: u32,
+        declaration: &'t Declaration,
+        work: &mut Work,
+    ) -> Result<(), SpecFault>
+        requires { from ≤ 8 }
+        ensures { IsOutcomeAs (λ _. declared_seen self.new) result work.new (declaration_value (map definition_seen definitions.now) from (declared_seen self.old) (declaration_seen declaration.now) work.old) }
+    {
+        let extent = declared_extent(definitions, &self.names, &declaration.shape, work)?;
+        let before = self.flat.len();
+        if before as u128 + u128::from(extent.bits()) > MOST_SIGNALS as u128 {
+            return Err(fault(SpecCode::TooManySignals, declaration.word.span.start));
+        }
+        let first = from + before as u32;
+        self.declare(alloc, &declaration.word, first, extent)?;
+        Ok(())
+    }
+
+    /// The declarations in their order, where the first signal of all has this number.
+    fn declarations(
+        &mut self,
+        alloc: Global,
+        definitions: &'t [Definition],
+        from: u32,
+        declarations: &'t [Declaration],
+        work: &mut Work,
+    ) -> Result<(), SpecFault>
+        requires { from ≤ 8 }
+        ensures { IsOutcomeAs (λ _. declared_seen self.new) result work.new (declarations_value (map definition_seen definitions.now) from (declared_seen self.old) (map declaration_seen declarations.now) work.old) }
+    {
+        for declaration in declarations {
+            self.declaration(alloc, definitions, from, declaration, work)?;
+        }
+        Ok(())
+    }
+}
+
+/// The signals of a text. The widths of the values of enumerations are tested first.
+pub(crate) fn declared_signals<'t>(
+    alloc: Global,
+    tree: &'t SpecTree,
+    work: &mut Work,
+) -> Result<Signals<'t>, SpecFault>
+    ensures { IsOutcomeAs signals_seen result work.new (even_first (uneven_value (text_seen tree.now).definitions) (signals_value (text_seen tree.now) work.old)) }
+{
+    if let Some(place) = uneven_value(&tree.definitions) {
+        return Err(fault(SpecCode::WrongSort, place));
+    }
+    let mut names = Names::new(alloc);
+    names.add_definitions(&tree.definitions)?;
+    let mut inputs = Declared::none_yet(alloc, names);
+    inputs.declarations(alloc, &tree.definitions, 0, &tree.inputs, work)?;
+    let mut outputs = Declared::none_yet(alloc, inputs.names);
+    outputs.declarations(
+        alloc,
+        &tree.definitions,
+        inputs.flat.len() as u32,
+        &tree.outputs,
+        work,
+    )?;
+    Ok(Signals {
+        names: outputs.names,
+        inputs: inputs.flat,
+        outputs: outputs.flat,
+        typed_inputs: inputs.typed,
+        typed_outputs: outputs.typed,
+    })
+}

@@ -1,0 +1,110 @@
+-- Numbers that are stepped through.
+use Rattle.std.proofs.Common.{◌≡◌, ℕ, zero, suc, ◌+◌, ◌-◌, ◌/◌, ◌<◌, ◌≤◌, Bool, true, false, cond, ltb, List, [], ◌∷◌, ◌++◌, length, get_or, drop, ℤ, Err, pos, negsuc, ◌+ℤ◌, ◌-ℤ◌, ◌≤ℤ◌, FitsSigned, w64, refl, sym, ap, ◌∙◌, arith}
+use Rattle.std.proofs.lemmas.List.{at_drop_more}
+use Rattle.std.specs.Prelude.{int_lt, unsigned_abs}
+use Rattle.std.specs.Ordering.{int_eq}
+use Rattle.std.proofs.Math.Nat.{div-eq_of_lt, div-eq-sub-div}
+use Rattle.std.proofs.lemmas.Bool.{ltb-true, ltb-false}
+use Rattle.std.proofs.lemmas.Int.{ints}
+use Rattle.tlsf_tokens.specs.declared.code.SpecFault.{SpecFault}
+use Rattle.tlsf_tokens.specs.declared.code.SpecFault.TheVariants.{NoMemory, At}
+use Rattle.tlsf_tree.specs.declared.expr.Expr.{Expr}
+use Rattle.tlsf_values.specs.declared.value.Value.{Value}
+use Rattle.tlsf_values.specs.Outcomes.{Checked, and_then}
+use Rattle.tlsf_values.specs.Results.{IsChecked, IsCheckedAs}
+use Rattle.tlsf_values.specs.Seen.{trees_seen}
+use Rattle.tlsf_values.specs.Sorts.{number_in}
+use Rattle.tlsf_values.specs.Values.{numbers_in}
+use Rattle.tlsf_values.proofs.SeenLemmas.{start_seen}
+use Rattle.tlsf_values.specs.Sets.{numbers_from, passes, steps_to, left_from, rest_from}
+
+pub divided : (d s : ℕ) → 0 < s → d / s ≡ cond (ltb d s) 0 (suc ((d - s) / s))
+divided d s some = by (ltb d s) refl
+  where
+    by : (b : Bool) → ltb d s ≡ b → d / s ≡ cond b 0 (suc ((d - s) / s))
+    by true e = div-eq_of_lt (ltb-true d s e)
+    by false e = div-eq-sub-div some (ltb-false d s e) ∙ omega arith
+
+pub nonzero : (z : ℤ) → int_eq z (pos 0) ≡ false → 0 < unsigned_abs z
+nonzero z e = grind (arith, ints)
+
+pub passes_up : (z step last : ℤ) → int_lt (pos 0) step ≡ true → int_lt last z ≡ false → int_lt last (z +ℤ step) ≡ ltb (unsigned_abs (last -ℤ z)) (unsigned_abs step)
+passes_up z step last up here = grind (arith, ints)
+
+pub passes_down : (z step last : ℤ) → int_lt (pos 0) step ≡ false → int_lt z last ≡ false → int_lt (z +ℤ step) last ≡ ltb (unsigned_abs (last -ℤ z)) (unsigned_abs step)
+passes_down z step last down here = grind (arith, ints)
+
+pub left_up : (z step last : ℤ) → int_lt (pos 0) step ≡ true → int_lt last z ≡ false → ltb (unsigned_abs (last -ℤ z)) (unsigned_abs step) ≡ false →
+    unsigned_abs (last -ℤ (z +ℤ step)) ≡ unsigned_abs (last -ℤ z) - unsigned_abs step
+left_up z step last up here more = grind (arith, ints)
+
+pub left_down : (z step last : ℤ) → int_lt (pos 0) step ≡ false → int_lt z last ≡ false → ltb (unsigned_abs (last -ℤ z)) (unsigned_abs step) ≡ false →
+    unsigned_abs (last -ℤ (z +ℤ step)) ≡ unsigned_abs (last -ℤ z) - unsigned_abs step
+left_down z step last down here more = grind (arith, ints)
+
+-- one step further the last number is passed where it is nearer than a step
+pub crosses : (u : Bool) (z step last : ℤ) → int_lt (pos 0) step ≡ u → cond u (int_lt last z) (int_lt z last) ≡ false →
+    cond u (int_lt last (z +ℤ step)) (int_lt (z +ℤ step) last) ≡ ltb (unsigned_abs (last -ℤ z)) (unsigned_abs step)
+crosses true z step last up here = passes_up z step last up here
+crosses false z step last down here = passes_down z step last down here
+
+pub nearer : (u : Bool) (z step last : ℤ) → int_lt (pos 0) step ≡ u → cond u (int_lt last z) (int_lt z last) ≡ false → ltb (unsigned_abs (last -ℤ z)) (unsigned_abs step) ≡ false →
+    unsigned_abs (last -ℤ (z +ℤ step)) ≡ unsigned_abs (last -ℤ z) - unsigned_abs step
+nearer true z step last up here more = left_up z step last up here more
+nearer false z step last down here more = left_down z step last down here more
+
+-- the first number that is left, and then those from the next one on
+pub left_step : (z step last : ℤ) → int_eq step (pos 0) ≡ false → passes z step last ≡ false → left_from z step last ≡ suc (left_from (z +ℤ step) step last)
+left_step z step last some here =
+    ap (λ b. cond b 0 (suc (d / s))) here ∙ ap suc (divided d s (nonzero step some) ∙ by (ltb d s) refl)
+  where
+    d : ℕ
+    d = unsigned_abs (last -ℤ z)
+
+    s : ℕ
+    s = unsigned_abs step
+
+    next : ℕ
+    next = unsigned_abs (last -ℤ (z +ℤ step)) / s
+
+    crossed : passes (z +ℤ step) step last ≡ ltb d s
+    crossed = crosses (int_lt (pos 0) step) z step last refl here
+
+    by : (b : Bool) → ltb d s ≡ b → cond b 0 (suc ((d - s) / s)) ≡ left_from (z +ℤ step) step last
+    by true e = sym (ap (λ b. cond b 0 (suc next)) (crossed ∙ e))
+    by false e = ap (λ n. suc (n / s)) (sym (nearer (int_lt (pos 0) step) z step last refl here e)) ∙ sym (ap (λ b. cond b 0 (suc next)) (crossed ∙ e))
+
+pub rest_step : (z step last : ℤ) → int_eq step (pos 0) ≡ false → passes z step last ≡ false → rest_from z step last ≡ z ∷ rest_from (z +ℤ step) step last
+rest_step z step last some here = ap (numbers_from z step) (left_step z step last some here)
+
+pub step_some : (first second : ℤ) → int_eq first second ≡ false → int_eq (second -ℤ first) (pos 0) ≡ false
+step_some first second e = grind (arith, ints)
+
+-- a number that isn't passed fits, where the one before it does
+fits_by : (u : Bool) (before by last : ℤ) → FitsSigned w64 before → FitsSigned w64 last → int_lt (pos 0) by ≡ u →
+    cond u (int_lt last (before +ℤ by)) (int_lt (before +ℤ by) last) ≡ false → FitsSigned w64 (before +ℤ by)
+fits_by true before by last f l up here = grind (arith, ints)
+fits_by false before by last f l down here = grind (arith, ints)
+
+pub fits_next : (before by last : ℤ) → FitsSigned w64 before → FitsSigned w64 last → passes (before +ℤ by) by last ≡ false → FitsSigned w64 (before +ℤ by)
+fits_next before by last f l here = fits_by (int_lt (pos 0) by) before by last f l refl here
+
+-- none are left behind the last one
+pub rest_none : (z by last : ℤ) → passes z by last ≡ true → rest_from z by last ≡ []
+rest_none z by last here = ap (λ b. numbers_from z by (cond b 0 (suc (steps_to z by last)))) here
+
+-- ---- the numbers of a written set
+
+-- the first part whose value isn't a number
+pub numbers_fault : (so_far : List ℤ) (parts : List Expr) (values : List Value) (i : ℕ) (p : Expr) (v : Value) (e : SpecFault) (whole : Checked (List ℤ)) →
+    whole ≡ numbers_in so_far (trees_seen (drop i parts)) (drop i values) → i < length parts → i < length values → p ≡ get_or parts i p → v ≡ get_or values i v →
+    IsChecked {A = ℤ} (Err e) (number_in p.span.start v) → IsCheckedAs {A = List ℤ} (λ xs. xs) (Err e) whole
+numbers_fault so_far parts values i p v NoMemory whole is part_in value_in part_is value_is h = tt
+numbers_fault so_far parts values i p v (At code place) whole is part_in value_in part_is value_is h =
+    is
+    ∙ at_drop_more (λ ps. numbers_in so_far (trees_seen ps) (drop i values)) parts i p part_in
+    ∙ ap (λ x. numbers_in so_far (trees_seen (x ∷ drop (i + 1) parts)) (drop i values)) (sym part_is)
+    ∙ at_drop_more (λ vs. numbers_in so_far (trees_seen (p ∷ drop (i + 1) parts)) vs) values i v value_in
+    ∙ ap (λ x. numbers_in so_far (trees_seen (p ∷ drop (i + 1) parts)) (x ∷ drop (i + 1) values)) (sym value_is)
+    ∙ ap (λ at. and_then (number_in at v) (λ z. numbers_in (so_far ++ z ∷ []) (trees_seen (drop (i + 1) parts)) (drop (i + 1) values))) (start_seen p)
+    ∙ ap (λ c. and_then c (λ z. numbers_in (so_far ++ z ∷ []) (trees_seen (drop (i + 1) parts)) (drop (i + 1) values))) h

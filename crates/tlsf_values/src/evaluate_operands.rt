@@ -1,0 +1,297 @@
+// The value of an expression with several operands, which are evaluated from left to right before any is tested.
+
+ghost use Rattle.std.specs.Prelude.{◌≡◌, OnOk, [], None};
+ghost use Rattle.tlsf_values.specs.Counts.{count_in, count_value, joined_over, joining_of, window_of};
+ghost use Rattle.tlsf_values.specs.MembersSeen.{members_seen};
+ghost use Rattle.tlsf_values.specs.NamesSeen.{names_seen};
+ghost use Rattle.tlsf_values.specs.Operators.{operated};
+ghost use Rattle.tlsf_values.specs.Outcomes.{checked, gives, go_on};
+ghost use Rattle.tlsf_values.specs.Results.{IsOutcome, IsOutcomeAs};
+ghost use Rattle.tlsf_values.specs.ScopeSeen.{bound_seen};
+ghost use Rattle.tlsf_values.specs.Seen.{expr_seen, link_list_seen, range_list_seen, trees_seen, word_seen};
+ghost use Rattle.tlsf_values.specs.Sorts.{formula_in, number_in};
+ghost use Rattle.tlsf_values.specs.Values.{big_at, big_value, bind, chain_value, evaluator, start_of, steps_value, values_at, window_at};
+
+use crate::counts::count;
+use crate::formula::{Connective, Formula};
+use crate::members::Members;
+use crate::names::Names;
+use crate::numbers::Places;
+use crate::scope::Binding;
+use crate::value::Value;
+use crate::work::{Work, fault};
+use tlsf_tokens::{SpecCode, SpecFault};
+use tlsf_tree::{Expr, Link, Op, Range, Word};
+
+/// A big operator: the first byte of its node, what it joins by, and its body.
+#[derive(Drop)]
+pub(crate) struct Big<'t> {
+    place: u64,
+    connective: Connective,
+    part: &'t Expr,
+}
+
+impl<'t> Names<'t> {
+    /// Several expressions from left to right.
+    #[cycle(evaluation)]
+    #[tactic(auto, using(crate::proofs::SeenLemmas::start_seen))]
+    pub(crate) fn part_values(
+        &self,
+        bound: &mut Vec<Binding<'t>>,
+        parts: &'t [Expr],
+        left: u32,
+        work: &mut Work,
+    ) -> Result<Vec<Value>, SpecFault>
+        ensures value { IsOutcomeAs (λ values. values.items) result work.new (values_at (evaluator (names_seen self.now) left) (bound_seen bound.old.items) [] (trees_seen parts.now) work.old) }
+        ensures bound { OnOk result (bound.new.items ≡ bound.old.items) }
+    {
+        let mut values = Vec::new(self.alloc);
+        for part in parts {
+            values.push(self.value(bound, part, left, work)?)?;
+        }
+        Ok(values)
+    }
+
+    /// `{first, second .. last}`, in the node at this byte.
+    #[cycle(evaluation)]
+    #[tactic(auto, using(crate::proofs::SeenLemmas::start_seen))]
+    pub(crate) fn steps(
+        &self,
+        bound: &mut Vec<Binding<'t>>,
+        place: u64,
+        first: &'t Expr,
+        second: &'t Expr,
+        last: &'t Expr,
+        left: u32,
+        work: &mut Work,
+    ) -> Result<Value, SpecFault>
+        ensures value { IsOutcome result work.new (let r = evaluator (names_seen self.now) left in let b = bound_seen bound.old.items in
+            let t = expr_seen first.now in let u = expr_seen second.now in let v = expr_seen last.now in
+            go_on (r.value b t work.old) (λ x w. go_on (r.value b u w) (λ y w. go_on (r.value b v w) (λ z w.
+            checked (number_in (start_of t) x) (λ x w. checked (number_in (start_of u) y) (λ y w. checked (number_in (start_of v) z) (λ z w. steps_value place x y z w) w) w) w)))) }
+        ensures bound { OnOk result (bound.new.items ≡ bound.old.items) }
+    {
+        let first_value = self.value(bound, first, left, work)?;
+        let second_value = self.value(bound, second, left, work)?;
+        let last_value = self.value(bound, last, left, work)?;
+        let from = first_value.number(first.span.start)?;
+        let next = second_value.number(second.span.start)?;
+        let to = last_value.number(last.span.start)?;
+        work.stepped(self.alloc, place, from, next, to)
+    }
+
+    /// Operators that join to the left, in the node at this byte.
+    #[cycle(evaluation)]
+    #[tactic(auto, using(crate::proofs::SeenLemmas::start_seen))]
+    pub(crate) fn chain(
+        &self,
+        bound: &mut Vec<Binding<'t>>,
+        place: u64,
+        first: &'t Expr,
+        rest: &'t [Link],
+        left: u32,
+        work: &mut Work,
+    ) -> Result<Value, SpecFault>
+        ensures value { IsOutcome result work.new (let r = evaluator (names_seen self.now) left in let b = bound_seen bound.old.items in let t = expr_seen first.now in
+            go_on (r.value b t work.old) (λ v w. chain_value (names_seen self.now) r b place (start_of t) v (link_list_seen rest.now) w)) }
+        ensures bound { OnOk result (bound.new.items ≡ bound.old.items) }
+    {
+        let mut value = self.value(bound, first, left, work)?;
+        for link in rest {
+            let right = self.value(bound, &link.right, left, work)?;
+            let places = Places {
+                own: place,
+                left: first.span.start,
+                right: link.right.span.start,
+            };
+            value = self.operated(work, link.op, places, value, right)?;
+        }
+        Ok(value)
+    }
+
+    /// An operator with two operands, in the node at this byte.
+    #[cycle(evaluation)]
+    #[tactic(auto, using(crate::proofs::SeenLemmas::start_seen))]
+    pub(crate) fn pair(
+        &self,
+        bound: &mut Vec<Binding<'t>>,
+        place: u64,
+        op: Op,
+        first: &'t Expr,
+        second: &'t Expr,
+        left: u32,
+        work: &mut Work,
+    ) -> Result<Value, SpecFault>
+        ensures value { IsOutcome result work.new (let r = evaluator (names_seen self.now) left in let b = bound_seen bound.old.items in let t = expr_seen first.now in let u = expr_seen second.now in
+            go_on (r.value b t work.old) (λ x w. go_on (r.value b u w) (λ y w. operated (names_seen self.now) op (record { own = place; left = start_of t; right = start_of u }) x y w))) }
+        ensures bound { OnOk result (bound.new.items ≡ bound.old.items) }
+    {
+        let first_value = self.value(bound, first, left, work)?;
+        let second_value = self.value(bound, second, left, work)?;
+        let places = Places {
+            own: place,
+            left: first.span.start,
+            right: second.span.start,
+        };
+        self.operated(work, op, places, first_value, second_value)
+    }
+
+    /// `X[number] part`, in the node at this byte.
+    #[cycle(evaluation)]
+    #[tactic(auto, using(crate::proofs::SeenLemmas::start_seen))]
+    pub(crate) fn counted(
+        &self,
+        bound: &mut Vec<Binding<'t>>,
+        place: u64,
+        number: &'t Expr,
+        part: &'t Expr,
+        left: u32,
+        work: &mut Work,
+    ) -> Result<Value, SpecFault>
+        ensures value { IsOutcome result work.new (let r = evaluator (names_seen self.now) left in let b = bound_seen bound.old.items in let n = expr_seen number.now in let t = expr_seen part.now in
+            go_on (r.value b n work.old) (λ m w. go_on (r.value b t w) (λ v w.
+            checked (number_in (start_of n) m) (λ z w. checked (formula_in (start_of t) v) (λ x w. checked (count_in (start_of n) z) (λ k w. count_value place k x w) w) w) w))) }
+        ensures bound { OnOk result (bound.new.items ≡ bound.old.items) }
+    {
+        let number_value = self.value(bound, number, left, work)?;
+        let value = self.value(bound, part, left, work)?;
+        let times = number_value.number(number.span.start)?;
+        let formula = value.formula(part.span.start)?;
+        let times = count(number.span.start, times)?;
+        work.counted_next(place, times, formula)
+    }
+
+    /// `F[from:to] part` or `G[from:to] part`, in the node at this byte.
+    #[cycle(evaluation)]
+    #[tactic(auto, using(crate::proofs::SeenLemmas::start_seen))]
+    pub(crate) fn windowed(
+        &self,
+        bound: &mut Vec<Binding<'t>>,
+        place: u64,
+        op: Op,
+        from: &'t Expr,
+        to: &'t Expr,
+        part: &'t Expr,
+        left: u32,
+        work: &mut Work,
+    ) -> Result<Value, SpecFault>
+        ensures value { IsOutcome result work.new (window_at (evaluator (names_seen self.now) left) (bound_seen bound.old.items) place (window_of op) (expr_seen from.now) (expr_seen to.now) (expr_seen part.now) work.old) }
+        ensures bound { OnOk result (bound.new.items ≡ bound.old.items) }
+    {
+        let Some(connective) = Connective::of_window(op) else {
+            return Err(fault(SpecCode::WrongSort, place));
+        };
+        let first = self.value(bound, from, left, work)?;
+        let last = self.value(bound, to, left, work)?;
+        let value = self.value(bound, part, left, work)?;
+        let first = first.number(from.span.start)?;
+        let last = last.number(to.span.start)?;
+        let formula = value.formula(part.span.start)?;
+        let first = count(from.span.start, first)?;
+        let last = count(to.span.start, last)?;
+        work.window(place, connective, first, last, formula)
+    }
+
+    /// `&&[ranges] part` or `||[ranges] part`, in the node at this byte.
+    #[cycle(evaluation)]
+    #[tactic(auto, using(crate::proofs::SeenLemmas::start_seen))]
+    pub(crate) fn big(
+        &self,
+        bound: &mut Vec<Binding<'t>>,
+        place: u64,
+        op: Op,
+        ranges: &'t [Range],
+        part: &'t Expr,
+        left: u32,
+        work: &mut Work,
+    ) -> Result<Value, SpecFault>
+        ensures value { IsOutcome result work.new (big_at (evaluator (names_seen self.now) left) (bound_seen bound.old.items) place (joining_of op) (range_list_seen ranges.now) (expr_seen part.now) work.old) }
+        ensures bound { OnOk result (bound.new.items ≡ bound.old.items) }
+    {
+        let Some(connective) = Connective::of_big(op) else {
+            return Err(fault(SpecCode::WrongSort, place));
+        };
+        let big = Big {
+            place,
+            connective,
+            part,
+        };
+        Ok(Value::from(self.over_ranges(bound, &big, ranges, left, work)?))
+    }
+
+    /// The formulas of all members of the ranges, joined.
+    #[cycle(evaluation)]
+    #[tactic(auto, using(crate::proofs::SeenLemmas::start_seen))]
+    fn over_ranges(
+        &self,
+        bound: &mut Vec<Binding<'t>>,
+        big: &Big<'t>,
+        ranges: &'t [Range],
+        left: u32,
+        work: &mut Work,
+    ) -> Result<Formula, SpecFault>
+        ensures value { IsOutcome result work.new (big_value (evaluator (names_seen self.now) left) big.now.place big.now.connective (bound_seen bound.old.items) (range_list_seen ranges.now) (expr_seen big.now.part.now) work.old) }
+        ensures bound { OnOk result (bound.new.items ≡ bound.old.items) }
+    {
+        match ranges {
+            [] => {
+                let value = self.value(bound, big.part, left, work)?;
+                value.formula(big.part.span.start)
+            }
+            [Range::Members { word, set }, more @ ..] => {
+                let value = self.value(bound, set, left, work)?;
+                let members = value.set(set.span.start)?;
+                let members = Members::of_set(self.alloc, &members)?;
+                self.over_members(bound, big, word, members, more, left, work)
+            }
+            [
+                Range::Between {
+                    low,
+                    low_strict,
+                    word,
+                    high_strict,
+                    high,
+                },
+                more @ ..,
+            ] => {
+                let first = self.value(bound, low, left, work)?;
+                let last = self.value(bound, high, left, work)?;
+                let first = first.number(low.span.start)?;
+                let last = last.number(high.span.start)?;
+                let members = Members::between(first, *low_strict, *high_strict, last);
+                self.over_members(bound, big, word, members, more, left, work)
+            }
+        }
+    }
+
+    /// The formulas of the members, each bound to the word, joined.
+    #[cycle(evaluation)]
+    #[tactic(auto, using(crate::proofs::SeenLemmas::start_seen))]
+    fn over_members(
+        &self,
+        bound: &mut Vec<Binding<'t>>,
+        big: &Big<'t>,
+        word: &'t Word,
+        members: Members,
+        ranges: &'t [Range],
+        left: u32,
+        work: &mut Work,
+    ) -> Result<Formula, SpecFault>
+        ensures value { IsOutcome result work.new (let r = evaluator (names_seen self.now) left in let b = bound_seen bound.old.items in
+            joined_over big.now.place big.now.connective (λ z w. big_value r big.now.place big.now.connective (bind (word_seen word.now) (Value.Number z) b) (range_list_seen ranges.now) (expr_seen big.now.part.now) w) (members_seen members) None work.old) }
+        ensures bound { OnOk result (bound.new.items ≡ bound.old.items) }
+    {
+        let mut members = members;
+        let mut so_far = None;
+        while let Some(number) = members.next() {
+            bound.push(Binding {
+                name: &word.name,
+                value: Value::Number(number),
+            })?;
+            let formula = self.over_ranges(bound, big, ranges, left, work)?;
+            bound.pop();
+            so_far = Some(work.joined_with(big.place, big.connective, so_far, formula)?);
+        }
+        Ok(big.connective.of_all(so_far))
+    }
+}

@@ -1,0 +1,118 @@
+// The public call: the value of an expression of a text.
+
+ghost use Rattle.std.specs.Prelude.{◌≡◌, IfOk, OnOk, [], map};
+ghost use Rattle.tlsf_values.specs.EnvSeen.{binding_of, buses_named, env_bound, env_names, signals_named, work_of};
+ghost use Rattle.tlsf_values.specs.NamesSeen.{names_seen};
+ghost use Rattle.tlsf_values.specs.Results.{IsOutcome};
+ghost use Rattle.tlsf_values.specs.ScopeSeen.{binding_seen};
+ghost use Rattle.tlsf_values.specs.Seen.{expr_seen};
+ghost use Rattle.tlsf_values.specs.Values.{value_at};
+
+use crate::names::Names;
+use crate::scope::Binding;
+use crate::value::Value;
+use crate::work::{MOST_DEPTH, Work};
+use ltl_formula::Formulas;
+use std::alloc::{AllocError, Global};
+use std::mem;
+use text_base::Name;
+use tlsf_tokens::SpecFault;
+use tlsf_tree::{Expr, SpecTree};
+
+/// What stands around an expression beside its text's definitions.
+#[derive(Debug, Drop)]
+pub struct Env {
+    /// The bound names with their values, of which the last one of a name counts.
+    pub bound: Vec<(Name, Value)>,
+    /// The signal of each single name.
+    pub signals: Vec<(Name, u32)>,
+    /// The first signal and the width of each bus.
+    pub buses: Vec<(Name, u32, u32)>,
+}
+
+/// The evaluations that were done, and the nodes and calls that are entered and not left.
+#[derive(Clone, Copy, Debug, PartialEq, Eq)]
+pub struct Meter {
+    pub done: u64,
+    pub depth: u32,
+}
+
+impl<'t> Names<'t> {
+    /// The value of an expression of the text that has these names, where no name is bound and no node entered.
+    pub fn value_of(&self, expr: &'t Expr, work: &mut Work) -> Result<Value, SpecFault>
+        ensures value { IsOutcome result work.new (value_at (names_seen self.now) [] (expr_seen expr.now) 0 work.old) }
+    {
+        let mut bound = Vec::new(self.alloc);
+        self.value(&mut bound, expr, MOST_DEPTH, work)
+    }
+
+    fn add_signals(&mut self, signals: &[(Name, u32)]) -> Result<(), AllocError>
+        ensures { OnOk result (names_seen self.new ≡ signals_named (names_seen self.old) signals.now) }
+    {
+        for signal in signals {
+            self.add_signal(&signal.0, signal.1)?;
+        }
+        Ok(())
+    }
+
+    fn add_buses(&mut self, buses: &[(Name, u32, u32)]) -> Result<(), AllocError>
+        ensures { OnOk result (names_seen self.new ≡ buses_named (names_seen self.old) buses.now) }
+    {
+        for bus in buses {
+            self.add_bus(&bus.0, bus.1, bus.2)?;
+        }
+        Ok(())
+    }
+
+    /// The names of a text's definitions and of the signals around them.
+    fn of_env(alloc: Global, tree: &'t SpecTree, env: &Env) -> Result<Names<'t>, AllocError>
+        ensures { IfOk result (λ names. names_seen names ≡ env_names tree.now env.now) }
+    {
+        let mut names = Names::new(alloc);
+        names.add_definitions(&tree.definitions)?;
+        names.add_signals(&env.signals)?;
+        names.add_buses(&env.buses)?;
+        Ok(names)
+    }
+}
+
+fn bindings<'e>(alloc: Global, bound: &'e [(Name, Value)]) -> Result<Vec<Binding<'e>>, AllocError>
+    ensures { IfOk result (λ bindings. map binding_seen bindings.items ≡ map binding_of bound.now) }
+{
+    let mut bindings = Vec::new(alloc);
+    for entry in bound {
+        let value = entry.1.clone()?;
+        bindings.push(Binding {
+            name: &entry.0,
+            value,
+        })?;
+    }
+    Ok(bindings)
+}
+
+/// The value of an expression of a text, or its first fault: the meter counts the evaluations, and the formulas that the
+/// value needs join the list. After a refusal the meter and the list may have grown.
+/// It makes a map of the text's names first; for several expressions of one text make `Names` once.
+pub fn value_of(
+    tree: &SpecTree,
+    expr: &Expr,
+    env: &Env,
+    meter: &mut Meter,
+    formulas: &mut Formulas,
+) -> Result<Value, SpecFault>
+    ensures value { IsOutcome result (work_of meter.new.done formulas.new) (value_at (env_names tree.now env.now) (env_bound env.now) (expr_seen expr.now) meter.old.depth (work_of meter.old.done formulas.old)) }
+    ensures depth { meter.new.depth ≡ meter.old.depth }
+{
+    let alloc = *env.bound.allocator();
+    let names = Names::of_env(alloc, tree, env)?;
+    let mut bound = bindings(alloc, &env.bound)?;
+    let mut work = Work {
+        done: meter.done,
+        formulas: mem::replace(formulas, Formulas::new(alloc)),
+    };
+    let left = MOST_DEPTH.saturating_sub(meter.depth);
+    let result = names.value(&mut bound, expr, left, &mut work);
+    meter.done = work.done;
+    *formulas = work.formulas;
+    result
+}
