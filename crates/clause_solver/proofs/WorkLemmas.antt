@@ -84,11 +84,11 @@ clause_of_entry (e ∷ es) c h =
       | inr r ↦ let k = clause_of_entry es c r in (k.0, Contains-later e es k.0 k.1, k.2)
     ]
 
-pub searching_back : (base : List (List Literal)) (seen : List Entry) (old new : TrailModel) (shown level : ℕ) → IsSearching base seen old shown → All (λ e. IsIdleBelow level old.marks e.clause) (drop shown seen)
-    → new ≡ record old { marks = filter (λ m. nat_le m.level level) old.marks } → IsSearching base seen new (length seen)
-searching_back base seen old new shown level s idle is =
+pub searching_back : (base : List (List Literal)) (seen : List Entry) (old new : TrailModel) (shown level looked : ℕ) → IsSearching base seen old shown → All (λ e. IsIdleBelow level old.marks e.clause) (drop shown seen)
+    → new ≡ record old { marks = filter (λ m. nat_le m.level level) old.marks; looked = looked } → IsSearching base seen new (length seen)
+searching_back base seen old new shown level looked s idle is =
     subst (λ t. IsSearching base seen t (length seen)) (sym is)
-    (searching_all base seen (record old { marks = up_to level old.marks }) s.watching (going_back_keeps_sound (base ++ clauses_of seen) old.marks level s.sound)
+    (searching_all base seen (record old { marks = up_to level old.marks; looked = looked }) s.watching (going_back_keeps_sound (base ++ clauses_of seen) old.marks level s.sound)
     (quiet_back (base ++ clauses_of (take shown seen)) (base ++ clauses_of seen) old.marks level s.quiet split))
   where
     split : (c : List Literal) → Contains (base ++ clauses_of seen) c → Contains (base ++ clauses_of (take shown seen)) c ⊎ IsIdleBelow level old.marks c

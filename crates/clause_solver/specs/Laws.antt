@@ -22,5 +22,5 @@ TeachingClausesAreNew = (clauses : List (List Literal)) (clause known : List Lit
 -- A new worker works on all base clauses and entries, and one that works on a list of entries works on every longer list that begins
 -- alike.
 pub record WorkGoesOn : Type 0 where
-  pub new : (base : List (List Literal)) (seen : List Entry) (number vars : ℕ) → IsWorkingOn base seen (record { number = number; trail = record { vars = vars; marks = []; watched = [] }; shown = 0 })
+  pub new : (base : List (List Literal)) (seen : List Entry) (number vars : ℕ) → IsWorkingOn base seen (record { number = number; trail = record { vars = vars; marks = []; watched = []; looked = 0 }; shown = 0 })
   pub longer : (base : List (List Literal)) (seen more : List Entry) (worker : WorkerModel) → IsWorkingOn base seen worker → IsWorkingOn base (seen ++ more) worker

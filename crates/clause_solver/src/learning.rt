@@ -8,8 +8,8 @@ ghost use Rattle.clause_solver.specs.Levels.{IsQuietBelow};
 ghost use Rattle.clause_solver.specs.Turned.{IsLesson};
 
 use crate::order::Order;
-use clause_base::{Clause, Cnf};
-use conflict_learn::learn;
+use clause_base::Cnf;
+use conflict_learn::{clause_of, learn};
 use refutation_log::Entry;
 use std::alloc::{AllocError, Global};
 use unit_propagate::Trail;
@@ -43,18 +43,9 @@ pub fn lesson(
 /// Makes the variables of the clauses more active from which an entry was learnt.
 pub fn reward(order: &mut Order, base: &Cnf, seen: &[Entry], entry: &Entry) {
     for number in entry.hints.numbers() {
-        if let Some(clause) = clause_of(base, seen, *number as usize) {
+        if let Some(clause) = clause_of(base, seen, *number) {
             order.reward(clause.lits());
         }
     }
     order.decay();
-}
-
-/// The clause of a number.
-fn clause_of<'a>(base: &'a Cnf, seen: &'a [Entry], number: usize) -> Option<&'a Clause> {
-    let place = number.checked_sub(1)?;
-    match place.checked_sub(base.clauses.len()) {
-        None => base.clauses.get(place),
-        Some(place) => Some(&seen.get(place)?.clause),
-    }
 }

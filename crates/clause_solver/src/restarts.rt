@@ -1,5 +1,5 @@
 /// The least number of conflicts between two restarts.
-const LEAST: u64 = 64;
+const LEAST: u64 = 128;
 
 /// When a search begins anew: after numbers of conflicts that grow as the sequence of Luby, Sinclair and Zuckerman.
 #[derive(Debug, Drop)]

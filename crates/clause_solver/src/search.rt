@@ -32,7 +32,7 @@ pub struct Search {
 impl Search {
     pub fn new(alloc: Global, number: u32, vars: u32) -> Result<Search, AllocError>
         ensures number { IfOk result (λ s. s.number ≡ number) }
-        ensures trail { IfOk result (λ s. s.trail ≡ record { vars = vars; marks = []; watched = [] }) }
+        ensures trail { IfOk result (λ s. s.trail ≡ record { vars = vars; marks = []; watched = []; looked = 0 }) }
         ensures shown { IfOk result (λ s. s.shown ≡ 0) }
     {
         Ok(Search {

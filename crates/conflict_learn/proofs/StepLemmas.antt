@@ -54,7 +54,11 @@ module _ (vars : ℕ) (marks : List Mark) (trail : IsTrail vars marks) (places :
   pub unresolved_zero : (clauses : List (List Literal)) → m.level ≡ 0 → m.reason ≡ None → IsSound clauses marks → IsLeft marks places place top
   unresolved_zero clauses z r s = absurd (let a = s.assumed place m at r in let b : 0 < m.level = a.0 in omega arith)
 
-  -- below the highest level, or the last one there
+  -- below the highest level
+  pub resolved_below : (reason : ℕ) → m.level < top → m.reason ≡ Some reason → IsResolved marks places place top reason
+  resolved_below reason lt r = record { mark = m; there = at; by_reason = r; level = inr (inl lt) }
+
+  -- there, or the last one on it
   pub left_below : 0 < m.level → m.level ≢ top → IsLeft marks places place top
   left_below p n = record { mark = m; there = at; above = p; alone = λ e. absurd (n e) }
 
@@ -76,7 +80,7 @@ module _ (vars : ℕ) (marks : List Mark) (trail : IsTrail vars marks) (places :
     }
 
     pub resolved_top : (reason : ℕ) → m.level ≡ top → n.level ≡ top → m.reason ≡ Some reason → IsResolved marks places place top reason
-    resolved_top reason e f r = record { mark = m; there = at; by_reason = r; level = inr (e, (next, n, to_come, there, f)) }
+    resolved_top reason e f r = record { mark = m; there = at; by_reason = r; level = inr (inr (e, (next, n, to_come, there, f))) }
 
     pub unresolved_top : (clauses : List (List Literal)) → m.level ≡ top → n.level ≡ top → m.reason ≡ None → IsSound clauses marks → IsLeft marks places place top
     unresolved_top clauses e f r s =

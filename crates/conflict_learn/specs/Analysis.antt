@@ -26,12 +26,12 @@ pub record Resolves (clauses : List (List Literal)) (marks : List Mark) (old new
   pub all : (l : Literal) → Contains clause l → Contains (literals_of marks) (negated l) → HasFalsifier marks new l
   pub only : (q : ℕ) → Contains new q → Contains old q ⊎ FalsifiesOne marks clause q
 
--- The literal at a place is resolved by its reason: it is on level 0, or on top with another place to come there.
+-- The literal at a place is resolved by its reason: it is on level 0, below top, or on top with another place to come there.
 pub record IsResolved (marks : List Mark) (places : List ℕ) (place top reason : ℕ) : Type 0 where
   pub mark : Mark
   pub there : slice_get marks place ≡ Some mark
   pub by_reason : mark.reason ≡ Some reason
-  pub level : (mark.level ≡ 0) ⊎ ((mark.level ≡ top) × ((q : ℕ) × (m : Mark) × Contains places q × (slice_get marks q ≡ Some m) × (m.level ≡ top)))
+  pub level : (mark.level ≡ 0) ⊎ ((mark.level < top) ⊎ ((mark.level ≡ top) × ((q : ℕ) × (m : Mark) × Contains places q × (slice_get marks q ≡ Some m) × (m.level ≡ top))))
 
 -- The literal at a place is kept: it isn't on level 0, and where it is on top, no other place to come is.
 pub record IsLeft (marks : List Mark) (places : List ℕ) (place top : ℕ) : Type 0 where

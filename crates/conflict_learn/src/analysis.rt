@@ -9,6 +9,7 @@ ghost use Rattle.unit_propagate.specs.Sound.{IsSound};
 ghost use Rattle.conflict_learn.specs.Learnt.{level_in, clause_level};
 ghost use Rattle.conflict_learn.specs.Analysis.{HasFalsifier, FalsifiesOne, AreUpTo, IsResolved, IsLeft, IsAnalysis, Resolves, AddsFalsifier};
 
+use crate::implications::Implications;
 use crate::places::Places;
 use clause_base::{Cnf, Lit};
 use refutation_log::Entry;
@@ -70,9 +71,9 @@ pub fn highest_level(trail: &Trail, lits: &[Lit]) -> u32
     top
 }
 
-/// The reason of the literal at a place, where it is resolved: at level 0, and on the highest level of the conflict as long as another
-/// place of this level is to come.
-fn resolvent(trail: &Trail, places: &Places, place: usize, top: u32) -> Option<u64>
+/// The reason of the literal at a place, where it is resolved: at level 0, below the highest level of the conflict where it is implied, and
+/// on that level as long as another place of it is to come.
+fn resolvent(trail: &Trail, places: &Places, place: usize, top: u32, implied: bool) -> Option<u64>
     requires here { place < length trail.now.marks }
     requires low { All (λ q. q < place) places.now }
     requires levels { AreUpTo trail.now.marks top places.now }
@@ -82,6 +83,9 @@ fn resolvent(trail: &Trail, places: &Places, place: usize, top: u32) -> Option<u
 {
     let (_lit, level, reason) = trail.at(place);
     if level == 0 {
+        return reason;
+    }
+    if implied && level < top {
         return reason;
     }
     if level != top {
@@ -136,6 +140,7 @@ impl Analysis {
         trail: &Trail,
         place: usize,
         top: u32,
+        implied: bool,
     ) -> Result<(), AllocError>
         requires here { place < length trail.now.marks }
         requires low { All (λ q. q < place) self.old.places }
@@ -145,7 +150,7 @@ impl Analysis {
         ensures { OnOk result ((bound : ℕ) → IsAnalysis (base.now.clauses.items ++ clauses_of seen.now) trail.now.marks top bound (self.old.places ++ place ∷ []) self.old.lits.items self.old.hints.items
             → IsAnalysis (base.now.clauses.items ++ clauses_of seen.now) trail.now.marks top place self.new.places self.new.lits.items self.new.hints.items) }
     {
-        match resolvent(trail, &self.places, place, top) {
+        match resolvent(trail, &self.places, place, top, implied) {
             Some(reason) => self.resolve(base, seen, trail, place, reason),
             None => self.keep(trail, place),
         }
@@ -187,6 +192,7 @@ impl Analysis {
     /// Looks at all places.
     pub fn finish(
         &mut self,
+        alloc: Global,
         base: &Cnf,
         seen: &[Entry],
         trail: &Trail,
@@ -199,10 +205,12 @@ impl Analysis {
         requires known { IsAnalysis (base.now.clauses.items ++ clauses_of seen.now) trail.now.marks top (length trail.now.marks) self.old.places self.old.lits.items self.old.hints.items }
         ensures { OnOk result ((bound : ℕ) × IsAnalysis (base.now.clauses.items ++ clauses_of seen.now) trail.now.marks top bound [] self.new.lits.items self.new.hints.items) }
     {
+        let mut implications = Implications::new(alloc, base, seen, trail, top);
         let mut bound = end;
         while let Some(place) = self.places.take_last() {
             prove!(place < bound);
-            self.step(base, seen, trail, place, top)?;
+            let implied = implications.imply(&self.places, place)?;
+            self.step(base, seen, trail, place, top, implied)?;
             bound = place;
         }
         Ok(())

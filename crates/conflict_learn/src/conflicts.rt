@@ -1,5 +1,5 @@
 ghost use Rattle.std.specs.Prelude.{◌≡◌, ℕ, true, ◌++◌, List, Some, IfOk, All, reverse};
-ghost use Rattle.clause_base.specs.Clause.{IsClauseOf, IsFormula, IsWithin};
+ghost use Rattle.clause_base.specs.Clause.{IsClauseOf, IsFormula, IsTautology, IsWithin};
 ghost use Rattle.refutation_log.specs.Entry.{clauses_of};
 ghost use Rattle.refutation_log.specs.Follows.{clause_named, is_falsified_named, Follows};
 ghost use Rattle.unit_propagate.specs.Trail.{literals_of};
@@ -8,7 +8,7 @@ ghost use Rattle.conflict_learn.specs.Learnt.{IsLearnt};
 ghost use Rattle.clause_base.specs.Literal.{Literal};
 
 use crate::analysis::{Analysis, highest_level};
-use clause_base::{Clause, Cnf, Lit};
+use clause_base::{Clause, ClauseFault, Cnf, Lit};
 use refutation_log::{Entry, Hints};
 use std::alloc::{AllocError, Global};
 use unit_propagate::{Trail, clause_at};
@@ -20,10 +20,11 @@ pub struct Learned {
     pub hints: Hints,
 }
 
-/// The clause of the first unique implication point of the falsified clause of that number.
+/// The clause of the first unique implication point of the falsified clause of that number, without the literals that the others imply.
 ///
 /// The hints stand in the order in which their clauses become unit, those of level 0 among them. Takes time in proportion to the
-/// literals of the clauses that are resolved, but for a sorted set of their places on the trail.
+/// literals of the clauses that are resolved, and of the reasons that are gone through for what is implied, but for sorted sets of their
+/// places on the trail.
 pub fn learn(
     alloc: Global,
     base: &Cnf,
@@ -43,7 +44,7 @@ pub fn learn(
     let top = highest_level(trail, conflict.lits());
     let mut analysis = Analysis::new(alloc, trail, conflict.lits(), number)?;
     let end = trail.len();
-    analysis.finish(base, seen, trail, end, top)?;
+    analysis.finish(alloc, base, seen, trail, end, top)?;
     let Analysis {
         places: _places,
         lits,
@@ -59,16 +60,20 @@ fn with_hints(
     lits: &[Lit],
     mut hints: Vec<u64>,
 ) -> Result<Learned, AllocError>
+    requires within { IsWithin vars lits.now }
+    requires one_sign { IsTautology lits.now → ⊥ }
     ensures clause { IfOk result (λ l. IsClauseOf lits.now l.clause) }
     ensures hints { IfOk result (λ l. l.hints ≡ reverse hints.items) }
 {
-    let Ok(clause) = Clause::new(alloc, vars, lits) else {
-        return Err(AllocError);
+    let clause = match Clause::new(alloc, vars, lits) {
+        Ok(clause) => clause,
+        Err(ClauseFault::NoMemory) => return Err(AllocError),
+
+        // The literals are the opposites of some that stand on a trail.
+        Err(ClauseFault::BadVariable) => unreachable!(),
+        Err(ClauseFault::Tautology) => unreachable!(),
     };
     hints.reverse();
     let hints = Hints::new(alloc, &hints)?;
     Ok(Learned { clause, hints })
 }
-
-#[cfg(test)]
-mod tests;

@@ -5,7 +5,10 @@
 #![tactic(auto)]
 
 mod analysis;
+mod clauses;
 mod conflicts;
+mod implications;
 mod places;
 
+pub use clauses::clause_of;
 pub use conflicts::{Learned, learn};

@@ -3,6 +3,7 @@ ghost use Rattle.conflict_learn.specs.Places.{Gains};
 
 use std::alloc::{AllocError, Global};
 use std::collections::BTreeSet;
+use std::collections::btree_set::Iter;
 use std::marker::Model;
 
 /// Places of a trail, of which the last one is taken first. Seen by contracts as their list.
@@ -34,6 +35,15 @@ impl Places {
     {
         let _new = self.places.insert(place)?;
         Ok(())
+    }
+
+    /// Whether a place is among them.
+    pub fn contains(&self, place: usize) -> bool {
+        self.places.contains(&place)
+    }
+
+    pub fn iter(&self) -> Iter<'_, usize> {
+        self.places.iter()
     }
 
     /// Takes the last place.

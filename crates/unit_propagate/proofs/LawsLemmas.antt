@@ -62,7 +62,7 @@ filter-first (x ∷ xs) level up = by (nat_le x.level level) refl (filter-first 
         gone y h true f = absurd (let a : level < x.level = leb-false x.level level e in let c : y.level ≤ level = leb-true y.level level f in omega arith)
         gone y h false f = refl
 
-slice_get-taken : {X : Type 0} (n : ℕ) (xs : List X) (i : ℕ) (x : X) → slice_get (take n xs) i ≡ Some x → slice_get xs i ≡ Some x
+pub slice_get-taken : {X : Type 0} (n : ℕ) (xs : List X) (i : ℕ) (x : X) → slice_get (take n xs) i ≡ Some x → slice_get xs i ≡ Some x
 slice_get-taken zero xs i x h = absurd (cc)
 slice_get-taken (suc n) [] i x h = absurd (cc)
 slice_get-taken (suc n) (y ∷ xs) zero x h = h

@@ -12,3 +12,4 @@ pub mod SoundLemmas
 pub mod FalsifierLemmas
 pub mod StepLemmas
 pub mod LawsLemmas
+pub mod LookedLemmas

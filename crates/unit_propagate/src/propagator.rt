@@ -127,6 +127,7 @@ impl Propagator {
         ensures kept { IfOk result IsKept }
         ensures marks { IfOk result (λ s. s.marks ≡ record { vars = vars; marks = [] }) }
         ensures watches { IfOk result (λ s. s.watches.pairs ≡ []) }
+        ensures place { IfOk result (λ s. s.place ≡ 0) }
     {
         Ok(Propagator {
             marks: Marks::new(alloc, vars)?,
@@ -384,6 +385,7 @@ impl Propagator {
         requires within { All (IsWithin self.old.marks.vars) (clauses_in base.now seen.now) }
         requires kept { IsKept self.old }
         requires watching { IsWatching (clauses_in base.now seen.now) self.old.watches.pairs }
+        ensures place { result ≡ Ok None → self.new.place ≡ length self.new.marks.marks }
         ensures quiet { result ≡ Ok None → IsQuiet (clauses_in base.now seen.now) (literals_of self.new.marks.marks) }
         ensures falsified { (n : ℕ) → result ≡ Ok (Some n) → is_falsified_named (clauses_in base.now seen.now) (literals_of self.new.marks.marks) n ≡ true }
         ensures goes { Goes (clauses_in base.now seen.now) self.old self.new }
@@ -408,6 +410,7 @@ impl Propagator {
         ensures kept { IsKept self.new }
         ensures marks { self.new.marks ≡ record self.old.marks { marks = filter (λ m. nat_le m.level level) self.old.marks.marks } }
         ensures watches { self.new.watches ≡ self.old.watches }
+        ensures place { self.new.place ≤ self.old.place }
     {
         self.marks.back_to(level);
         self.kept = self.kept.min(self.marks.len());
@@ -420,6 +423,7 @@ impl Propagator {
         ensures kept { IsKept self.new }
         ensures marks { self.new.marks ≡ record self.old.marks { marks = [] } }
         ensures watches { self.new.watches ≡ self.old.watches }
+        ensures place { self.new.place ≡ 0 }
     {
         self.marks.clear();
         self.kept = 0;

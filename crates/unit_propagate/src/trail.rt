@@ -7,7 +7,7 @@ ghost use Rattle.unit_propagate.specs.declared.marks.Mark.{Mark};
 ghost use Rattle.unit_propagate.specs.Trail.{TrailModel, IsFree, IsTrail, highest_level, literals_of};
 ghost use Rattle.unit_propagate.specs.Sound.{IsSound, Extends};
 ghost use Rattle.unit_propagate.specs.Quiet.{IsQuiet};
-ghost use Rattle.unit_propagate.specs.Watched.{IsWatching};
+ghost use Rattle.unit_propagate.specs.Watched.{IsWatching, AreLookedAt};
 ghost use Rattle.unit_propagate.specs.Propagator.{IsKept};
 
 use crate::propagator::Propagator;
@@ -27,8 +27,8 @@ pub enum Propagated {
 
 /// The literals that are true, in the order in which they became so, each with its level and its reason.
 ///
-/// Seen by contracts as the number of variables, the list of the literals, and what is watched of the clauses that propagation was
-/// shown.
+/// Seen by contracts as the number of variables, the list of the literals, what is watched of the clauses that propagation was shown, and
+/// how many of the literals were looked at.
 #[derive(Debug, Drop)]
 pub struct Trail {
     state: Propagator,
@@ -37,7 +37,7 @@ pub struct Trail {
 impl Model for Trail {
     ghost Value = { TrailModel };
 
-    ghost view = { λ t. record { vars = t.state.marks.vars; marks = t.state.marks.marks; watched = t.state.watches.pairs } };
+    ghost view = { λ t. record { vars = t.state.marks.vars; marks = t.state.marks.marks; watched = t.state.watches.pairs; looked = t.state.place } };
 
     ghost invariant = { λ t. IsKept t.state };
 }
@@ -45,7 +45,7 @@ impl Model for Trail {
 impl Trail {
     /// An empty trail over the variables 1 to `vars`, with room for all of them.
     pub fn new(alloc: Global, vars: u32) -> Result<Trail, AllocError>
-        ensures { IfOk result (λ t. t ≡ record { vars = vars; marks = []; watched = [] }) }
+        ensures { IfOk result (λ t. t ≡ record { vars = vars; marks = []; watched = []; looked = 0 }) }
     {
         Ok(Trail {
             state: Propagator::new(alloc, vars)?,
@@ -56,6 +56,7 @@ impl Trail {
     pub fn len(&self) -> usize
         ensures len { result ≡ length self.now.marks }
         ensures trail { IsTrail self.now.vars self.now.marks }
+        ensures looked { AreLookedAt self.now.marks self.now.watched self.now.looked }
     {
         self.state.marks.len()
     }
@@ -105,14 +106,15 @@ impl Trail {
 
     /// Takes all literals above a level off; those up to it stay, with their reasons.
     pub fn back_to(&mut self, level: u32)
-        ensures { self.new ≡ record self.old { marks = filter (λ m. nat_le m.level level) self.old.marks } }
+        ensures exact { self.new ≡ record self.old { marks = filter (λ m. nat_le m.level level) self.old.marks; looked = self.new.looked } }
+        ensures looked { self.new.looked ≤ self.old.looked }
     {
         self.state.back_to(level);
     }
 
     /// Takes all literals off.
     pub fn clear(&mut self)
-        ensures { self.new ≡ record self.old { marks = [] } }
+        ensures { self.new ≡ record self.old { marks = []; looked = 0 } }
     {
         self.state.clear();
     }
@@ -128,6 +130,7 @@ impl Trail {
 
         // A caller gives the same base clauses at each call, and at least the entries of the calls before, which come first.
         requires watching { IsWatching (base.now.clauses.items ++ clauses_of seen.now) self.old.watched }
+        ensures looked { result ≡ Ok Quiet → self.new.looked ≡ length self.new.marks }
         ensures quiet { result ≡ Ok Quiet → IsQuiet (base.now.clauses.items ++ clauses_of seen.now) (literals_of self.new.marks) }
         ensures falsified { (n : ℕ) → result ≡ Ok (Falsified n) → is_falsified_named (base.now.clauses.items ++ clauses_of seen.now) (literals_of self.new.marks) n ≡ true }
 
@@ -143,6 +146,3 @@ impl Trail {
         }
     }
 }
-
-#[cfg(test)]
-mod tests;

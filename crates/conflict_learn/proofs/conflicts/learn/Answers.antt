@@ -1,6 +1,6 @@
 use Rattle.std.proofs.Common.{◌≡◌, List, Some, ◌++◌, length, reverse, ap, sym, subst, ◌∙◌}
 use Rattle.clause_base.specs.Literal.{Literal}
-use Rattle.clause_base.specs.Clause.{IsClauseOf}
+use Rattle.clause_base.specs.Clause.{IsClauseOf, IsWithin, IsTautology}
 use Rattle.refutation_log.specs.Entry.{clauses_of}
 use Rattle.refutation_log.specs.Follows.{Follows, clause_named}
 use Rattle.unit_propagate.specs.Trail.{literals_of}
@@ -8,7 +8,7 @@ use Rattle.conflict_learn.specs.declared.conflicts.Learned.{Learned}
 use Rattle.conflict_learn.specs.Learnt.{clause_level, IsLearnt}
 use Rattle.conflict_learn.specs.Analysis.{IsAnalysis}
 use Rattle.conflict_learn.proofs.WholeLemmas.{the_conflict, if_ok_both}
-use Rattle.conflict_learn.proofs.LearntLemmas.{learnt_follows, learnt_is}
+use Rattle.conflict_learn.proofs.LearntLemmas.{kept_within, kept_has_one_sign, learnt_follows, learnt_is}
 use Rattle.conflict_learn.proofs.conflicts.learn.Goals as goal
 
 pub finish-requires-clause-known : goal.finish-requires-clause-known
@@ -19,6 +19,19 @@ finish-requires-clause-known c =
     let f = rw c.lits-2.ensures.value at c.in_ok-analysis.ensures in
     subst (λ t. IsAnalysis cl c.args.trail.now.marks t (length c.args.trail.now.marks) c.in_ok-analysis.analysis.places c.in_ok-analysis.analysis.lits.items c.in_ok-analysis.analysis.hints.items) (sym top)
     (f c.args.trail.now.vars cl c.len-end.ensures.trail h.0 h.1)
+
+pub with_hints-requires-clause-within : goal.with_hints-requires-clause-within
+with_hints-requires-clause-within c =
+    let a = c.in_ok-finish.ensures in
+    subst (IsWithin c.args.base.now.vars) (sym c.deref.ensures.value)
+    (subst (λ n. IsWithin n c.finish.new.self.lits.items) (sym c.requires.variables)
+    (kept_within (c.args.base.now.clauses.items ++ clauses_of c.args.seen.now) c.args.trail.now.vars c.args.trail.now.marks c.len-end.ensures.trail c.highest_level-top.result a.0 c.finish.new.self.lits.items c.finish.new.self.hints.items a.1))
+
+pub with_hints-requires-clause-one_sign : goal.with_hints-requires-clause-one_sign
+with_hints-requires-clause-one_sign c =
+    let a = c.in_ok-finish.ensures in
+    subst (λ ls. IsTautology ls → ⊥) (sym c.deref.ensures.value)
+    (kept_has_one_sign (c.args.base.now.clauses.items ++ clauses_of c.args.seen.now) c.args.trail.now.vars c.args.trail.now.marks c.len-end.ensures.trail c.highest_level-top.result a.0 c.finish.new.self.lits.items c.finish.new.self.hints.items a.1)
 
 pub returns-clause-follows : goal.returns-clause-follows
 returns-clause-follows c =

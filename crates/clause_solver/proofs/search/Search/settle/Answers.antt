@@ -7,5 +7,5 @@ use Rattle.clause_solver.proofs.search.Search.settle.Goals as goal
 
 pub returns-clause-searching : goal.returns-clause-searching
 returns-clause-searching c =
-    searching_back c.args.base.now.clauses.items c.args.seen.now c.args.self.now.trail c.back_to.new.self c.args.self.now.shown c.level_to_keep-level.result c.requires
-    (subst (All (λ (e : Entry). IsIdleBelow c.level_to_keep-level.result c.args.self.now.trail.marks e.clause)) (take_all (length c.args.seen.now - c.args.self.now.shown) (drop c.args.self.now.shown c.args.seen.now) (omega (arith, length-drop c.args.self.now.shown c.args.seen.now))) c.level_to_keep-level.ensures) c.back_to.ensures
+    searching_back c.args.base.now.clauses.items c.args.seen.now c.args.self.now.trail c.back_to.new.self c.args.self.now.shown c.level_to_keep-level.result c.back_to.new.self.looked c.requires
+    (subst (All (λ (e : Entry). IsIdleBelow c.level_to_keep-level.result c.args.self.now.trail.marks e.clause)) (take_all (length c.args.seen.now - c.args.self.now.shown) (drop c.args.self.now.shown c.args.seen.now) (omega (arith, length-drop c.args.self.now.shown c.args.seen.now))) c.level_to_keep-level.ensures) c.back_to.ensures.exact

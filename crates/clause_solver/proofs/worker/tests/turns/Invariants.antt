@@ -1,8 +1,0 @@
-use Rattle.std.proofs.Common.{◌≡◌, All}
-use Rattle.clause_base.specs.Clause.{IsWithin}
-use Rattle.refutation_log.specs.declared.entries.Entry.{Entry}
-use Rattle.clause_solver.specs.Worker.{IsWorkingOn}
-use Rattle.clause_solver.proofs.worker.tests.turns.Given as goal
-
-abbrev pub invariant-loop-turn : goal.invariant-loop-turn
-invariant-loop-turn l = (l.worker.trail.vars ≡ l.base.vars) × All (λ (e : Entry). IsWithin l.base.vars e.clause) l.log.items × IsWorkingOn l.base.clauses.items l.log.items l.worker
