@@ -31,6 +31,3 @@ pub use reading::{CircuitFile, read_circuit};
 pub use states::CircuitState;
 pub use symbols::Named;
 pub use write::write_circuit;
-
-#[cfg(test)]
-mod tests;

@@ -16,6 +16,3 @@ pub use assigning::assignment_of;
 pub use clauses::encode;
 pub use counting::count;
 pub use numbering::{var_count, var_move, var_write, variables};
-
-#[cfg(test)]
-mod tests;

@@ -4,5 +4,3 @@ pub mod Keeping
 pub mod Seats
 pub mod Offering
 pub mod Closing
-pub mod Fixtures
-pub mod Crowd

@@ -4,4 +4,3 @@ pub mod Steps
 pub mod Offers
 pub mod Passes
 pub mod Opening
-pub mod Examples

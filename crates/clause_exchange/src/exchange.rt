@@ -1,5 +1,5 @@
 //! The shared log and its passes.
-ghost use Rattle.std.specs.Prelude.{◌≡◌, ℕ, suc, ◌<◌, ◌≤◌, List, [], ◌∷◌, ◌++◌, Some, None, IfOk, IfErr, OnOk, OnErr, All, Contains, map, length, slice_get};
+ghost use Rattle.std.specs.Prelude.{◌≡◌, ℕ, suc, ◌<◌, ◌≤◌, [], ◌∷◌, ◌++◌, Some, None, IfOk, IfErr, OnOk, OnErr, All, Contains, map, length, slice_get};
 ghost use Rattle.std.specs.Arc.{arc_value};
 ghost use Rattle.clause_base.specs.Clause.{IsWithin, IsFormula};
 ghost use Rattle.refutation_log.specs.Entry.{clauses_of};

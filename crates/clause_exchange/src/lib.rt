@@ -6,8 +6,6 @@
 #![tactic(auto)]
 
 mod exchange;
-#[cfg(test)]
-mod tests;
 mod turns;
 mod views;
 

@@ -1,6 +1,5 @@
 //! The parts of one turn: a ticket is drawn and waited for, something is done with the log, and the next ticket is served.
-ghost use Rattle.std.specs.Prelude.{◌≡◌, ◌<◌, ◌≤◌, ⊤, List, [], ◌∷◌, Option, Some, None, IfOk, IfErr, OnOk, OnErr, MatchOption, is_none, length, slice_get};
-ghost use Rattle.atomic_table.specs.Seated.{TableId};
+ghost use Rattle.std.specs.Prelude.{◌≡◌, ◌<◌, List, Option, Some, None, IfOk, OnOk, OnErr, length, slice_get};
 ghost use Rattle.refutation_log.specs.State.{Log, KeepsLog};
 ghost use Rattle.refutation_log.specs.declared.entries.Entry.{Entry as EntryView};
 ghost use Rattle.clause_exchange.specs.declared.views.Part.{Part as PartView};

@@ -112,6 +112,3 @@ fn explore(
     }
     Ok(found)
 }
-
-#[cfg(test)]
-mod tests;

@@ -103,6 +103,3 @@ fn build_within(
         Err(fault) => Err(fault),
     }
 }
-
-#[cfg(test)]
-mod tests;

@@ -171,6 +171,3 @@ fn names(alloc: Global, names: &[Name]) -> Result<Vec<Option<Name>>, AllocError>
     }
     Ok(named)
 }
-
-#[cfg(test)]
-mod tests;

@@ -4,10 +4,6 @@
 #![tactic(auto)]
 
 mod evaluate;
-#[cfg(test)]
-mod plain;
 mod rows;
-#[cfg(test)]
-mod tests;
 
 pub use evaluate::holds_at;

@@ -138,6 +138,3 @@ fn is_ended(entries: &[Entry]) -> bool
         None => false,
     }
 }
-
-#[cfg(test)]
-mod tests;

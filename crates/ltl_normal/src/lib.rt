@@ -7,7 +7,5 @@
 mod forms;
 mod memo;
 mod simplify;
-#[cfg(test)]
-mod tests;
 
 pub use forms::{negated, normal};

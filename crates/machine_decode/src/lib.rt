@@ -7,6 +7,3 @@
 mod decoding;
 
 pub use decoding::{Decoded, decode};
-
-#[cfg(test)]
-mod tests;

@@ -95,6 +95,3 @@ fn carry_out(
         }
     }
 }
-
-#[cfg(test)]
-mod tests;

@@ -154,6 +154,3 @@ pub fn accepted_is_annotated()
 pub fn numbered_suffices()
     ensures { NumberedSuffices }
 {}
-
-#[cfg(test)]
-mod tests;

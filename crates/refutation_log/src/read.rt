@@ -212,6 +212,3 @@ fn has_leading_zero(digits: &[u8]) -> bool
 {
     digits.len() > 1 && digits[0] == b'0'
 }
-
-#[cfg(test)]
-mod tests;

@@ -170,6 +170,3 @@ fn put_last(entries: &mut IndexMap<Clause, Derivation>, entry: Entry)
     let Entry { by, clause, hints } = entry;
     let _none = entries.insert(clause, Derivation { by, hints }).unwrap();
 }
-
-#[cfg(test)]
-mod tests;

@@ -389,6 +389,3 @@ fn keep_smaller(kept: &mut Option<Machine>, machine: Machine)
         *kept = Some(machine);
     }
 }
-
-#[cfg(test)]
-mod tests;

@@ -34,9 +34,9 @@ pub loop-preserved : goal.loop-preserved
 loop-preserved g c = (
   c.load.ensures.0 ∙ c.loop.invariant.0,
   c.load.ensures.1 ∙ c.loop.invariant.1,
-  λ part was. (c.load.ensures.2 c.fetch_add-ticket.result part (c.loop.invariant.2 part was)).1 c.if-load-ticket.false,
+  λ part was. (c.load.ensures.2 c.fetch_add-ticket.result part (c.loop.invariant.2 part was)).1 (search rules),
 )
 
 pub returns-then-load-ticket-clause-begun : goal.returns-then-load-ticket-clause-begun
 returns-then-load-ticket-clause-begun g c part was =
-    (c.load.ensures.2 c.fetch_add-ticket.result part (c.loop.invariant.2 part was)).0 c.if-load-ticket.true
+    (c.load.ensures.2 c.fetch_add-ticket.result part (c.loop.invariant.2 part was)).0 (search rules)

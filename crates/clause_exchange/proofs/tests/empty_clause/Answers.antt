@@ -1,5 +1,0 @@
-use Rattle.clause_exchange.proofs.Fixtures.{no_literal}
-use Rattle.clause_exchange.proofs.tests.empty_clause.Goals as goal
-
-pub returns-clause-clause : goal.returns-clause-clause
-returns-clause-clause c = no_literal c.in_ok-new.field-0 c.in_ok-new.ensures.ok

@@ -1,0 +1,3 @@
+mod SmallClauses
+mod EitherWay
+mod Passes

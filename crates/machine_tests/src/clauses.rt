@@ -1,0 +1,144 @@
+//! Problems whose clauses are known.
+
+use crate::fixtures::{
+    ANY, G, G_NOT_R, NEITHER, NOT_G, NOT_R, R, R_AND_G, R_NOT_G, automaton, checked, delay, edge,
+    wire,
+};
+use annotation_encode::{count, encode, variables};
+use clause_base::Clause;
+use letter_word::{Kind, Side};
+use machine_model::{Edge, Problem};
+use std::alloc::AllocError;
+use std::test::Fail;
+
+// The environment's problem for the specification of a delay, of size 1.
+fn delayed_environment(rt: &HostRuntime) -> Result<Problem, Fail> {
+    let edges = [
+        edge(0, NOT_R, 1),
+        edge(0, R, 2),
+        edge(0, ANY, 3),
+        edge(1, NEITHER, 1),
+        edge(1, R_NOT_G, 2),
+        edge(1, NOT_G, 3),
+        edge(2, G_NOT_R, 1),
+        edge(2, R_AND_G, 2),
+        edge(2, G, 3),
+    ];
+    let rejecting = [true; 4];
+    Ok(Problem {
+        automaton: automaton(rt, &edges, &rejecting)?,
+        inputs: 1,
+        outputs: 1,
+        side: Side::Environment,
+        kind: Kind::Moore,
+        size: 1,
+        version: 1,
+    })
+}
+
+// Eight inputs, no outputs, size 8, and two rejecting states.
+fn large(rt: &HostRuntime, edges: &[Edge]) -> Result<Problem, Fail> {
+    let rejecting = [true; 2];
+    Ok(Problem {
+        automaton: automaton(rt, edges, &rejecting)?,
+        inputs: 8,
+        outputs: 0,
+        side: Side::System,
+        kind: Kind::Mealy,
+        size: 8,
+        version: 1,
+    })
+}
+
+// The numbers of variables and of clauses.
+fn sizes(problem: Problem) -> Option<(u32, u64)> {
+    let problem = checked(problem)?;
+    Some((variables(&problem), count(&problem)?))
+}
+
+// A clause as its variables, negative where they are negated.
+fn signed(rt: &HostRuntime, clause: &Clause) -> Result<Vec<i64>, AllocError> {
+    let mut numbers = Vec::new(rt.alloc());
+    for lit in clause.lits() {
+        let var = i64::from(lit.var());
+        numbers.push(if lit.is_positive() { var } else { -var })?;
+    }
+    Ok(numbers)
+}
+
+// The clauses of these numbers, counted from 1, and how many there are.
+fn clauses_at(
+    rt: &HostRuntime,
+    problem: Problem,
+    places: &[usize],
+) -> Result<(usize, Vec<Vec<i64>>), Fail> {
+    let problem = checked(problem).ok_or("a problem within the limits")?;
+    let cnf = encode(rt.alloc(), &problem)?;
+    let mut clauses = Vec::new(rt.alloc());
+    for place in places {
+        let clause = cnf.clauses.get(place.saturating_sub(1)).ok_or("a clause")?;
+        clauses.push(signed(rt, clause)?)?;
+    }
+    Ok((cnf.clauses.len(), clauses))
+}
+
+#[test]
+fn variables_and_clauses(rt: HostRuntime) -> Result<(), Fail> {
+    assert_eq!(rt; sizes(delay(&rt, 1, 1)?), Some((20, 35)));
+    assert_eq!(rt; sizes(delayed_environment(&rt)?), Some((23, 63)));
+    assert_eq!(rt; sizes(wire(&rt)?), Some((8, 11)));
+    assert_eq!(rt; sizes(delay(&rt, 3, 1)?), Some((144, 847)));
+    assert_eq!(rt; sizes(delay(&rt, 3, 2)?), Some((144, 853)));
+    Ok(())
+}
+
+#[test]
+fn a_million_clauses_at_most(rt: HostRuntime) -> Result<(), Fail> {
+    let edges = [
+        edge(0, ANY, 0),
+        edge(0, ANY, 1),
+        edge(1, ANY, 0),
+        edge(1, ANY, 1),
+    ];
+    let few = checked(large(&rt, &edges[..3])?).and_then(|problem| count(&problem));
+    assert_eq!(rt; few, Some(837_633));
+    let many = checked(large(&rt, &edges)?).and_then(|problem| count(&problem));
+    assert_eq!(rt; many, None);
+    Ok(())
+}
+
+#[test]
+fn the_clauses_of_a_delay(rt: HostRuntime) -> Result<(), Fail> {
+    let places = [1, 2, 3, 4, 5, 6, 7, 8, 13, 21, 30, 31];
+    let (count, clauses) = clauses_at(&rt, delay(&rt, 1, 1)?, &places)?;
+    let want: [&[i64]; 12] = [
+        &[1],
+        &[2],
+        &[5],
+        &[-2, -5, 10],
+        &[-2, -6, 11],
+        &[-2, -7, 12],
+        &[-2, -8],
+        &[-1, -5, 14],
+        &[-1, 3, -10, 19],
+        &[-1, -3, -14, 19],
+        &[-1, -19, 20],
+        &[-1, -20],
+    ];
+    assert_eq!(rt; count, 35);
+    for (clause, want) in clauses.iter().zip(want) {
+        assert_eq!(rt; clause.as_slice(), want);
+    }
+    Ok(())
+}
+
+#[test]
+fn the_order_of_states(rt: HostRuntime) -> Result<(), Fail> {
+    let (count, clauses) = clauses_at(&rt, delay(&rt, 3, 2)?, &[848, 849, 850])?;
+    let want: [&[i64]; 3] = [&[-3], &[2, -6], &[2, 5, -9]];
+    assert_eq!(rt; count, 853);
+    for (clause, want) in clauses.iter().zip(want) {
+        assert_eq!(rt; clause.as_slice(), want);
+    }
+    Ok(())
+}

@@ -1,0 +1,147 @@
+//! Problems of few signals, and what is asked of a problem.
+ghost use Rattle.std.specs.Prelude.{◌≡◌, ◌^◌, ◌<◌, ◌≤◌, All, IfSome, length};
+ghost use Rattle.std.specs.Bool.{OnFalse};
+ghost use Rattle.machine_model.specs.Problem.{IsProblem};
+
+use letter_word::{Cube, Kind, Side};
+use machine_model::{Automaton, Edge, Machine, Problem, Row};
+use std::sync::Arc;
+use std::test::Fail;
+
+pub(crate) const ANY: Cube = Cube { must: 0, not: 0 };
+
+// Signal 0 is r and signal 1 is g.
+pub(crate) const R: Cube = Cube { must: 1, not: 0 };
+
+pub(crate) const NOT_R: Cube = Cube { must: 0, not: 1 };
+
+pub(crate) const G: Cube = Cube { must: 2, not: 0 };
+
+pub(crate) const NOT_G: Cube = Cube { must: 0, not: 2 };
+
+pub(crate) const R_AND_G: Cube = Cube { must: 3, not: 0 };
+
+pub(crate) const R_NOT_G: Cube = Cube { must: 1, not: 2 };
+
+pub(crate) const G_NOT_R: Cube = Cube { must: 2, not: 1 };
+
+pub(crate) const NEITHER: Cube = Cube { must: 0, not: 3 };
+
+pub(crate) fn edge(from: u32, cube: Cube, to: u32) -> Edge {
+    Edge { from, cube, to }
+}
+
+fn has_far_must(edges: &[Edge], letters: u32) -> bool
+    ensures { OnFalse result (All (λ e. e.cube.must < letters) edges.now) }
+{
+    edges.iter().any(|edge| edge.cube.must >= letters)
+}
+
+fn has_far_not(edges: &[Edge], letters: u32) -> bool
+    ensures { OnFalse result (All (λ e. e.cube.not < letters) edges.now) }
+{
+    edges.iter().any(|edge| edge.cube.not >= letters)
+}
+
+fn letters_of(signals: u32) -> u32
+    requires { signals ≤ 16 }
+    ensures { result ≡ 2 ^ signals }
+{
+    1 << signals
+}
+
+// The problem, if it is within the limits.
+pub(crate) fn checked(problem: Problem) -> Option<Problem>
+    ensures { IfSome result IsProblem }
+{
+    if problem.inputs > 8 || problem.outputs > 8 {
+        return None;
+    }
+    if problem.size == 0 || problem.size > 8 || problem.version == 0 || problem.version > 2 {
+        return None;
+    }
+    if problem.automaton.states() > 2000 {
+        return None;
+    }
+    let letters = letters_of(problem.inputs + problem.outputs);
+    if has_far_must(problem.automaton.edges(), letters) {
+        return None;
+    }
+    if has_far_not(problem.automaton.edges(), letters) {
+        return None;
+    }
+    Some(problem)
+}
+
+// The system's problem for the specification G ((r -> X g) && (!r -> X !g)).
+pub(crate) fn delay(rt: &HostRuntime, size: u32, version: u32) -> Result<Problem, Fail> {
+    let edges = [
+        edge(0, R, 1),
+        edge(0, NOT_R, 2),
+        edge(0, ANY, 0),
+        edge(1, NOT_G, 3),
+        edge(2, G, 3),
+        edge(3, ANY, 3),
+    ];
+    let rejecting = [false, true, true, true];
+    Ok(Problem {
+        automaton: automaton(rt, &edges, &rejecting)?,
+        inputs: 1,
+        outputs: 1,
+        side: Side::System,
+        kind: Kind::Mealy,
+        size,
+        version,
+    })
+}
+
+pub(crate) fn automaton(
+    rt: &HostRuntime,
+    edges: &[Edge],
+    rejecting: &[bool],
+) -> Result<Arc<Automaton>, Fail>
+    requires { length rejecting.now < 9 }
+{
+    let edges = Vec::from_slice(rt.alloc(), edges)?;
+    let automaton = Automaton::new(edges, Vec::from_slice(rt.alloc(), rejecting)?)?;
+    Ok(Arc::new(rt.alloc(), automaton)?)
+}
+
+// The system's problem for the specification G (g <-> r), of size 1.
+pub(crate) fn wire(rt: &HostRuntime) -> Result<Problem, Fail> {
+    let edges = [
+        edge(0, G_NOT_R, 1),
+        edge(0, R_NOT_G, 1),
+        edge(0, ANY, 0),
+        edge(1, ANY, 1),
+    ];
+    let rejecting = [false, true];
+    Ok(Problem {
+        automaton: automaton(rt, &edges, &rejecting)?,
+        inputs: 1,
+        outputs: 1,
+        side: Side::System,
+        kind: Kind::Mealy,
+        size: 1,
+        version: 1,
+    })
+}
+
+// What a machine does in each state on each letter.
+pub(crate) fn rows_of(rt: &HostRuntime, machine: &Machine) -> Result<Vec<Row>, Fail> {
+    let mut rows = Vec::new(rt.alloc());
+    for t in 0..machine.size() {
+        for letter in 0..letter_count(machine) {
+            let next = machine.next(t, letter);
+            let writes = machine.writes_at(t, letter);
+            rows.push(Row { next, writes })?;
+        }
+    }
+    Ok(rows)
+}
+
+pub(crate) fn letter_count(machine: &Machine) -> u32
+    ensures { result ≡ 2 ^ machine.now.reads }
+{
+    1 << machine.reads()
+}
