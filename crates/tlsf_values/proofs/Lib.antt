@@ -8,3 +8,5 @@ pub mod StepLemmas
 pub mod EvaluatorLemmas
 pub mod EvaluationLemmas
 pub mod FormLemmas
+pub mod CopyLemmas
+pub mod CheckedLemmas

@@ -17,6 +17,7 @@ mod numbers;
 mod operate;
 mod patterns;
 mod scope;
+mod set_builder;
 mod set_operation;
 mod steps;
 mod text_value;

@@ -65,7 +65,7 @@ impl Work {
     {
         let left = left.set(places.left)?;
         let right = right.set(places.right)?;
-        Ok(Value::Set(operation.combined(left, &right)?))
+        Ok(Value::Set(operation.combined(&left, &right)?))
     }
 
     pub(crate) fn on_connective(

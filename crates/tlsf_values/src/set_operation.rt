@@ -15,19 +15,20 @@ pub enum SetOperation {
 }
 
 impl SetOperation {
+    /// It takes time in proportion to the numbers of both sets.
     pub(crate) fn combined(
         self,
-        left: NumberSet,
+        left: &NumberSet,
         right: &NumberSet,
     ) -> Result<NumberSet, AllocError>
-        ensures { IfOk result (λ s. s ≡ combined self left right.now) }
+        ensures { IfOk result (λ s. s ≡ combined self left.now right.now) }
     {
-        let mut set = left;
+        let mut numbers = left.builder()?;
         match self {
-            SetOperation::Join => set.join(right)?,
-            SetOperation::Meet => set.meet(right),
-            SetOperation::Difference => set.subtract(right),
+            SetOperation::Join => numbers.join(right.shared())?,
+            SetOperation::Meet => numbers.meet(right.shared()),
+            SetOperation::Difference => numbers.subtract(right.shared()),
         }
-        Ok(set)
+        NumberSet::made(left.alloc, numbers)
     }
 }

@@ -9,6 +9,7 @@ ghost use Rattle.tlsf_values.specs.Sets.{passes, rest_from, set_of, step_count, 
 ghost use Rattle.tlsf_values.specs.Values.{numbers_in, steps_value};
 
 use crate::number_set::NumberSet;
+use crate::set_builder::SetBuilder;
 use crate::value::Value;
 use crate::work::{Work, fault};
 use std::alloc::{AllocError, Global};
@@ -85,19 +86,27 @@ fn following(number: i64, by: i128, last: i64) -> Option<i64>
     unless_passed(i128::from(number) + by, by, last)
 }
 
-/// The set of the numbers from the first one to the last, by the step from the first to the second.
-fn stepped(alloc: Global, first: i64, second: i64, last: i64) -> Result<NumberSet, AllocError>
+/// The numbers from the first one to the last, by the step from the first to the second.
+fn laid_out(alloc: Global, first: i64, second: i64, last: i64) -> Result<SetBuilder, AllocError>
     requires { int_eq first second ≡ false }
     ensures { IfOk result (λ s. s ≡ set_of (stepped first second last)) }
 {
     let by = step(first, second);
-    let mut set = NumberSet::new(alloc);
+    let mut set = SetBuilder::new(alloc);
     let mut next = unless_passed(i128::from(first), by, last);
     while let Some(number) = next {
         set.insert(number)?;
         next = following(number, by, last);
     }
     Ok(set)
+}
+
+/// The set of these numbers.
+fn stepped(alloc: Global, first: i64, second: i64, last: i64) -> Result<NumberSet, AllocError>
+    requires { int_eq first second ≡ false }
+    ensures { IfOk result (λ s. s ≡ set_of (stepped first second last)) }
+{
+    NumberSet::made(alloc, laid_out(alloc, first, second, last)?)
 }
 
 impl Work {

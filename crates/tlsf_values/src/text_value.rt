@@ -1,6 +1,7 @@
 // The public call: the value of an expression of a text.
 
-ghost use Rattle.std.specs.Prelude.{◌≡◌, IfOk, OnOk, [], map};
+ghost use Rattle.std.specs.Prelude.{◌≡◌, ◌+◌, IfOk, OnErr, OnOk, [], map, take};
+ghost use Rattle.ltl_formula.specs.Nodes.{Stands};
 ghost use Rattle.tlsf_values.specs.EnvSeen.{binding_of, buses_named, env_bound, env_names, signals_named, work_of};
 ghost use Rattle.tlsf_values.specs.NamesSeen.{names_seen};
 ghost use Rattle.tlsf_values.specs.Results.{IsOutcome};
@@ -12,9 +13,8 @@ use crate::names::Names;
 use crate::scope::Binding;
 use crate::value::Value;
 use crate::work::{MOST_DEPTH, Work};
-use ltl_formula::Formulas;
+use ltl_formula::{AddFault, FormulaId, Formulas};
 use std::alloc::{AllocError, Global};
-use std::mem;
 use text_base::Name;
 use tlsf_tokens::SpecFault;
 use tlsf_tree::{Expr, SpecTree};
@@ -90,9 +90,33 @@ fn bindings<'e>(alloc: Global, bound: &'e [(Name, Value)]) -> Result<Vec<Binding
     Ok(bindings)
 }
 
+/// Adds a node of the list to a copy of those before it.
+fn add_same(copy: &mut Formulas, formulas: &Formulas, id: FormulaId) -> Result<(), AllocError>
+    requires stands { Stands formulas.now id }
+    requires before { copy.old ≡ take id.0 formulas.now }
+    ensures { OnOk result (copy.new ≡ take (id.0 + 1) formulas.now) }
+{
+    match copy.add(formulas.node(id)) {
+        Ok(_) => Ok(()),
+        Err(AddFault::NoMemory) => Err(AllocError),
+        Err(AddFault::TooManyNodes) => unreachable!(),
+    }
+}
+
+/// A list of the same formulas.
+fn copied(alloc: Global, formulas: &Formulas) -> Result<Formulas, AllocError>
+    ensures { IfOk result (λ copy. copy ≡ formulas.now) }
+{
+    let mut copy = Formulas::new(alloc);
+    for place in 0..formulas.len() as u32 {
+        add_same(&mut copy, formulas, FormulaId(place))?;
+    }
+    Ok(copy)
+}
+
 /// The value of an expression of a text, or its first fault: the meter counts the evaluations, and the formulas that the
-/// value needs join the list. After a refusal the meter and the list may have grown.
-/// It makes a map of the text's names first; for several expressions of one text make `Names` once.
+/// value needs join the list. After a refusal the meter and the list are as before.
+/// It makes a map of the text's names and copies the list first; for several expressions of one text make `Names` once.
 pub fn value_of(
     tree: &SpecTree,
     expr: &Expr,
@@ -102,17 +126,19 @@ pub fn value_of(
 ) -> Result<Value, SpecFault>
     ensures value { IsOutcome result (work_of meter.new.done formulas.new) (value_at (env_names tree.now env.now) (env_bound env.now) (expr_seen expr.now) meter.old.depth (work_of meter.old.done formulas.old)) }
     ensures depth { meter.new.depth ≡ meter.old.depth }
+    ensures refused { OnErr result (formulas.new ≡ formulas.old) }
+    ensures uncounted { OnErr result (meter.new.done ≡ meter.old.done) }
 {
     let alloc = *env.bound.allocator();
     let names = Names::of_env(alloc, tree, env)?;
     let mut bound = bindings(alloc, &env.bound)?;
     let mut work = Work {
         done: meter.done,
-        formulas: mem::replace(formulas, Formulas::new(alloc)),
+        formulas: copied(alloc, formulas)?,
     };
     let left = MOST_DEPTH.saturating_sub(meter.depth);
-    let result = names.value(&mut bound, expr, left, &mut work);
+    let value = names.value(&mut bound, expr, left, &mut work)?;
     meter.done = work.done;
     *formulas = work.formulas;
-    result
+    Ok(value)
 }

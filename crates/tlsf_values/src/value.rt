@@ -86,7 +86,7 @@ impl From<Formula> for Value {
     }
 }
 
-/// Copies a set; it takes time in proportion to its numbers.
+/// It takes constant time: copies of a set share its numbers.
 impl Clone for Value {
     ghost is_clone = { λ value copy. copy ≡ value };
 

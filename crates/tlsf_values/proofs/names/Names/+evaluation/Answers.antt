@@ -1,4 +1,6 @@
 use Rattle.std.proofs.Common.{rules, drop, ◌∙◌}
+use Rattle.std.proofs.lemmas.Result.{err_from_is_err_and}
+use Rattle.tlsf_values.proofs.CheckedLemmas.{checked_fault}
 use Rattle.tlsf_values.proofs.EvaluatorLemmas.{value_too_deep, value_deeper, body_too_deep, body_deeper}
 use Rattle.tlsf_values.proofs.EvaluationLemmas.{call_fits, call_misfits, index_is, big_empty, big_of_set, big_of_run, rest_whole, arguments_more, chain_more, at_item, some_item}
 use Rattle.tlsf_values.proofs.FormLemmas.{chain_form, big_form}
@@ -75,6 +77,22 @@ steps-returns-clause-value t c =
     let last = rw (c.in_ok-second_value.ensures.bound ∙ bound) at c.in_ok-last_value.ensures.value in
     rw (c.in_ok-first_value.ensures.value, second, last, start_seen c.args.first.now, start_seen c.args.second.now, start_seen c.args.last.now, c.in_ok-from.ensures, c.in_ok-next.ensures, c.in_ok-to.ensures) (search rules)
 
+pub steps-returns-in_err-from-clause-value : goal.steps-returns-in_err-from-clause-value
+steps-returns-in_err-from-clause-value t c =
+    let p = err_from_is_err_and c.from_residual-in_err-from.result c.from_residual-in_err-from.ensures.1 in
+    let bound = c.in_ok-first_value.ensures.bound in
+    let second = rw bound at c.in_ok-second_value.ensures.value in
+    let last = rw (c.in_ok-second_value.ensures.bound ∙ bound) at c.in_ok-last_value.ensures.value in
+    rw (c.in_ok-first_value.ensures.value, second, last, start_seen c.args.first.now, p.1, p.2) (checked_fault _ _ _ _ c.in_err-from.ensures)
+
+pub windowed-returns-in_err-first-2-clause-value : goal.windowed-returns-in_err-first-2-clause-value
+windowed-returns-in_err-first-2-clause-value t c =
+    let p = err_from_is_err_and c.from_residual-in_err-first-2.result c.from_residual-in_err-first-2.ensures.1 in
+    let bound = c.in_ok-first.ensures.bound in
+    let second = rw bound at c.in_ok-last.ensures.value in
+    let last = rw (c.in_ok-last.ensures.bound ∙ bound) at c.in_ok-value.ensures.value in
+    rw (← c.in-Some.ensures, c.in_ok-first.ensures.value, second, last, start_seen c.args.from.now, p.1, p.2) (checked_fault _ _ _ _ c.in_err-first-2.ensures)
+
 pub form-returns-in_err-values-in-Set-clause-value : goal.form-returns-in_err-values-in-Set-clause-value
 form-returns-in_err-values-in-Set-clause-value t c = rw (set_form c.args.expr.now c.in-Set.parts (search rules)) (search rules)
 
@@ -104,7 +122,7 @@ over_ranges-returns-in_ok-last-in-Between-2-clause-value t c =
 pub over_ranges-returns-in_ok-members-in-Members-2-clause-value : goal.over_ranges-returns-in_ok-members-in-Members-2-clause-value
 unfolding evaluator
 over_ranges-returns-in_ok-members-in-Members-2-clause-value t c =
-    rw (big_of_set (evaluator (names_seen c.args.self.now) c.args.left) c.args.big.now.place c.args.big.now.connective (bound_seen c.args.bound.now.items) c.args.ranges.now c.in-Members.word c.in-Members.set (drop 1 c.args.ranges.now) c.args.big.now.part.now c.args.work.now c.value-in-Members.new.work c.in_ok-value-in-Members.value c.in_ok-members-in-Members.members (search rules) (search rules) (search rules)) (search (rules, rest_whole c.args.ranges.now))
+    rw (big_of_set (evaluator (names_seen c.args.self.now) c.args.left) c.args.big.now.place c.args.big.now.connective (bound_seen c.args.bound.now.items) c.args.ranges.now c.in-Members.word c.in-Members.set (drop 1 c.args.ranges.now) c.args.big.now.part.now c.args.work.now c.value-in-Members.new.work c.in_ok-value-in-Members.value c.in_ok-members-in-Members.members (search rules) (search rules) (search rules), ← c.in_ok-members-in-Members-2.ensures) (search (rules, rest_whole c.args.ranges.now))
 
 pub index-returns : goal.index-returns
 index-returns t c = record {

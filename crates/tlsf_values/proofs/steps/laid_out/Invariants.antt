@@ -1,6 +1,6 @@
 use Rattle.std.proofs.Common.{◌≡◌, [], length}
 use Rattle.tlsf_values.specs.Sets.{union, rest_from, those_from}
-use Rattle.tlsf_values.proofs.steps.stepped.Given as goal
+use Rattle.tlsf_values.proofs.steps.laid_out.Given as goal
 
 abbrev pub invariant-loop-next : goal.invariant-loop-next
 invariant-loop-next l = union [] (rest_from l.fn.first l.by l.fn.last) ≡ union l.set (those_from l.by l.fn.last l.next)

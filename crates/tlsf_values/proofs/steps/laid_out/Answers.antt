@@ -2,7 +2,7 @@ use Rattle.std.proofs.Common.{◌≡◌, ◌-ℤ◌, FitsSigned, arith}
 use Rattle.std.proofs.lemmas.Int.{ints, to_z-of_z}
 use mir.Syntax.{w128}
 use Rattle.tlsf_values.proofs.StepLemmas.{step_some}
-use Rattle.tlsf_values.proofs.steps.stepped.Goals as goal
+use Rattle.tlsf_values.proofs.steps.laid_out.Goals as goal
 
 pub following-next-requires-clause-some : goal.following-next-requires-clause-some
 following-next-requires-clause-some c =

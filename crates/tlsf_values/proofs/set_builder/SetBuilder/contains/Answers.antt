@@ -1,7 +1,7 @@
 use Rattle.std.proofs.Common.{ap, ◌∙◌, to_z-of_z}
 use Rattle.std.specs.Ordering.{int_eq}
 use Rattle.std.specs.List.{list_any}
-use Rattle.tlsf_values.proofs.number_set.NumberSet.contains.Goals as goal
+use Rattle.tlsf_values.proofs.set_builder.SetBuilder.contains.Goals as goal
 
 pub returns : goal.returns
 returns c =
