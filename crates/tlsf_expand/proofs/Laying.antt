@@ -22,6 +22,7 @@ use Rattle.tlsf_values.specs.Seen.{pattern_seen, member_seen, expr_seen}
 use Rattle.tlsf_values.specs.Values.{start_of, value_at}
 use Rattle.tlsf_expand.specs.Sections.{section_formula, section_value, added_value}
 use Rattle.tlsf_expand.specs.Signals.{first_of, other_width, width_of, bit_name, bit_names, bits_in, most_signals, TypedSignal, Extent, alone, wide, of_type, extent_value, Declared, declared, declaration_value, declarations_value}
+use Rattle.tlsf_expand.specs.Texts.{Text}
 use Rattle.tlsf_expand.specs.TextSeen.{declaration_seen}
 
 -- ---- enumerations
@@ -105,14 +106,14 @@ pub declarations_from : (xs : List CodeDeclaration) (i : ℕ) (x : CodeDeclarati
     map declaration_seen (drop i xs) ≡ declaration_seen x ∷ map declaration_seen (drop (i + 1) xs)
 declarations_from xs i x below is = at_drop_more (map declaration_seen) xs i x below ∙ ap (λ y. map declaration_seen (y ∷ drop (i + 1) xs)) (sym is)
 
-pub declaration_given : (ds : List Definition) (from : ℕ) (d next : Declared) (x : Declaration) (xs : List Declaration) (w w1 : Work) → declaration_value ds from d x w ≡ gives next w1 →
-    declarations_value ds from d (x ∷ xs) w ≡ declarations_value ds from next xs w1
-declaration_given ds from d next x xs w w1 e = ap (λ o. go_on o (λ d w. declarations_value ds from d xs w)) e
+pub declaration_given : (text : Text) (from : ℕ) (d next : Declared) (x : Declaration) (xs : List Declaration) (w w1 : Work) → declaration_value text from d x w ≡ gives next w1 →
+    declarations_value text from d (x ∷ xs) w ≡ declarations_value text from next xs w1
+declaration_given text from d next x xs w w1 e = ap (λ o. go_on o (λ d w. declarations_value text from d xs w)) e
 
-pub declaration_fault : (ds : List Definition) (from : ℕ) (d : Declared) (x : Declaration) (xs : List Declaration) (w : Work) (e : SpecFault) → IsFault (declaration_value ds from d x w) e →
-    IsFault (declarations_value ds from d (x ∷ xs) w) e
-declaration_fault ds from d x xs w NoMemory h = tt
-declaration_fault ds from d x xs w (At code place) h = ap (λ o. go_on o (λ d w. declarations_value ds from d xs w)) h
+pub declaration_fault : (text : Text) (from : ℕ) (d : Declared) (x : Declaration) (xs : List Declaration) (w : Work) (e : SpecFault) → IsFault (declaration_value text from d x w) e →
+    IsFault (declarations_value text from d (x ∷ xs) w) e
+declaration_fault text from d x xs w NoMemory h = tt
+declaration_fault text from d x xs w (At code place) h = ap (λ o. go_on o (λ d w. declarations_value text from d xs w)) h
 
 -- what an exit answers
 pub fault_out : {A B : Type 0} (f : A → B) (r : Result A SpecFault) (w : Work) (o : Outcome B) (x e : SpecFault) → r ≡ Err x → x ≡ e → IsFault o e → IsOutcomeAs f r w o
@@ -143,23 +144,23 @@ length-declared word number (wide n) d = length-append d.flat (bit_names word.na
 length-declared word number (of_type values) d =
     length-append d.flat (bit_names word.name 0 (width_of values)) ∙ ap (λ k. length d.flat + k) (length-bits word.name 0 (width_of values))
 
-few_chosen : (b : Bool) (ds : List Definition) (from : ℕ) (d : Declared) (x : Declaration) (extent : Extent) (w : Work) → nat_le (length d.flat + bits_in extent) most_signals ≡ b →
+few_chosen : (b : Bool) (text : Text) (from : ℕ) (d : Declared) (x : Declaration) (extent : Extent) (w : Work) → nat_le (length d.flat + bits_in extent) most_signals ≡ b →
     Few (choose b (λ w. gives (declared x.word (from + length d.flat) extent d) w) (λ w. fails TooManySignals x.word.span.start) w)
-few_chosen true ds from d x extent w e =
+few_chosen true text from d x extent w e =
     few _ w (subst (λ n. n ≤ 8) (sym (length-declared x.word (from + length d.flat) extent d)) (leb-true (length d.flat + bits_in extent) most_signals e))
-few_chosen false ds from d x extent w e = none _ _
+few_chosen false text from d x extent w e = none _ _
 
-few_declaration : (ds : List Definition) (from : ℕ) (d : Declared) (x : Declaration) (w : Work) → Few (declaration_value ds from d x w)
-few_declaration ds from d x w =
-    few_go_on (extent_value ds d.names x.shape w) _ (λ extent w. few_chosen (nat_le (length d.flat + bits_in extent) most_signals) ds from d x extent w refl)
+few_declaration : (text : Text) (from : ℕ) (d : Declared) (x : Declaration) (w : Work) → Few (declaration_value text from d x w)
+few_declaration text from d x w =
+    few_go_on (extent_value text d.names x.shape w) _ (λ extent w. few_chosen (nat_le (length d.flat + bits_in extent) most_signals) text from d x extent w refl)
 
-few_declarations : (ds : List Definition) (from : ℕ) (d : Declared) (xs : List Declaration) (w : Work) → length d.flat ≤ 8 → Few (declarations_value ds from d xs w)
-few_declarations ds from d [] w h = few d w h
-few_declarations ds from d (x ∷ xs) w h = few_from (declaration_value ds from d x w) _ (few_declaration ds from d x w) (λ d w h. few_declarations ds from d xs w h)
+few_declarations : (text : Text) (from : ℕ) (d : Declared) (xs : List Declaration) (w : Work) → length d.flat ≤ 8 → Few (declarations_value text from d xs w)
+few_declarations text from d [] w h = few d w h
+few_declarations text from d (x ∷ xs) w h = few_from (declaration_value text from d x w) _ (few_declaration text from d x w) (λ d w h. few_declarations text from d xs w h)
 
 few_in : (d : Declared) (w : Work) → Few (gives d w) → length d.flat ≤ 8
 few_in _ _ (few d w h) = h
 
-pub few_given : (ds : List Definition) (from : ℕ) (d : Declared) (xs : List Declaration) (w : Work) (next : Declared) (w1 : Work) → length d.flat ≤ 8 →
-    declarations_value ds from d xs w ≡ gives next w1 → length next.flat ≤ 8
-few_given ds from d xs w next w1 h e = few_in next w1 (subst Few e (few_declarations ds from d xs w h))
+pub few_given : (text : Text) (from : ℕ) (d : Declared) (xs : List Declaration) (w : Work) (next : Declared) (w1 : Work) → length d.flat ≤ 8 →
+    declarations_value text from d xs w ≡ gives next w1 → length next.flat ≤ 8
+few_given text from d xs w next w1 h e = few_in next w1 (subst Few e (few_declarations text from d xs w h))

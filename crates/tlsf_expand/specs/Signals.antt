@@ -1,6 +1,6 @@
 -- The signals that a text declares, with their numbers and flat names, or the first fault of its declarations: this project's
 -- profile of TLSF 1.1.
-use Rattle.std.specs.Prelude.{ℕ, zero, suc, ◌+◌, ◌==◌, nat_le, if◌then◌else◌, List, [], ◌∷◌, ◌++◌, length, Option, None, Some, pos, negsuc, codes, decimal}
+use Rattle.std.specs.Prelude.{ℕ, zero, suc, ◌+◌, ◌==◌, nat_le, if◌then◌else◌, Bool, true, false, List, [], ◌∷◌, ◌++◌, length, Option, None, Some, pos, negsuc, codes, decimal}
 use Rattle.tlsf_tokens.specs.declared.code.SpecCode.TheVariants.{UnknownName, WrongSort, NumberRange, TooManySignals}
 use Rattle.tlsf_grammar.specs.Tree.{Named, Pattern, Definition, parameter, function, enumeration, Shape, single, bus, typed, Declaration}
 use Rattle.tlsf_values.specs.declared.value.Value.{Value}
@@ -71,16 +71,24 @@ width_in place (Number (pos n)) = fine (wide n)
 width_in place (Number (negsuc n)) = faulty NumberRange place
 width_in place _ = faulty WrongSort place
 
-abbrev pub type_in : List Definition → Named → Meaning → Checked Extent
-type_in definitions word an_enumeration = fine (of_type (values_named word.name definitions))
-type_in definitions word undeclared = faulty UnknownName word.span.start
-type_in definitions word _ = faulty WrongSort word.span.start
+-- a signal of this name is declared
+abbrev pub declares : List ℕ → List Declaration → Bool
+declares name [] = false
+declares name (d ∷ ds) = if same_name d.word.name name then true else declares name ds
 
--- a width, or a type, may name the definitions and what is declared before it
-abbrev pub extent_value : List Definition → Names → Shape → Work → Outcome Extent
-extent_value definitions names single w = gives alone w
-extent_value definitions names (bus t) w = go_on (value_at names [] t 0 w) (λ v w. checked (width_in (start_of t) v) (λ extent w. gives extent w) w)
-extent_value definitions names (typed word) w = checked (type_in definitions word (names.means word.name)) (λ extent w. gives extent w) w
+-- the type of a declaration; another declared name, of a signal that comes later too, is of a wrong sort
+abbrev pub type_in : Text → Named → Meaning → Checked Extent
+type_in text word an_enumeration = fine (of_type (values_named word.name text.definitions))
+type_in text word undeclared =
+    if declares word.name text.inputs then faulty WrongSort word.span.start
+    else (if declares word.name text.outputs then faulty WrongSort word.span.start else faulty UnknownName word.span.start)
+type_in text word _ = faulty WrongSort word.span.start
+
+-- a width may name the definitions and the signals that are declared before it
+abbrev pub extent_value : Text → Names → Shape → Work → Outcome Extent
+extent_value text names single w = gives alone w
+extent_value text names (bus t) w = go_on (value_at names [] t 0 w) (λ v w. checked (width_in (start_of t) v) (λ extent w. gives extent w) w)
+extent_value text names (typed word) w = checked (type_in text word (names.means word.name)) (λ extent w. gives extent w) w
 
 -- a signal of an enumeration's type: its name's first byte in its declaration, its first bit's number, and the type's values
 pub record TypedSignal : Type 0 where
@@ -117,17 +125,17 @@ abbrev pub most_signals : ℕ
 most_signals = 8
 
 -- one more declaration, where the first signal of all has this number; one that passes the limit is refused at its name
-abbrev pub declaration_value : List Definition → ℕ → Declared → Declaration → Work → Outcome Declared
-declaration_value definitions from d x w =
-    go_on (extent_value definitions d.names x.shape w) (λ extent w.
+abbrev pub declaration_value : Text → ℕ → Declared → Declaration → Work → Outcome Declared
+declaration_value text from d x w =
+    go_on (extent_value text d.names x.shape w) (λ extent w.
     choose (nat_le (length d.flat + bits_in extent) most_signals)
     (λ w. gives (declared x.word (from + length d.flat) extent d) w) (λ w. fails TooManySignals x.word.span.start) w)
 
 -- the declarations in their order
-abbrev pub declarations_value : List Definition → ℕ → Declared → List Declaration → Work → Outcome Declared
-declarations_value definitions from d [] w = gives d w
-declarations_value definitions from d (x ∷ xs) w =
-    go_on (declaration_value definitions from d x w) (λ d w. declarations_value definitions from d xs w)
+abbrev pub declarations_value : Text → ℕ → Declared → List Declaration → Work → Outcome Declared
+declarations_value text from d [] w = gives d w
+declarations_value text from d (x ∷ xs) w =
+    go_on (declaration_value text from d x w) (λ d w. declarations_value text from d xs w)
 
 -- ---- all signals
 
@@ -143,8 +151,8 @@ none_yet names = record { names = names; flat = []; typed = [] }
 
 abbrev pub signals_value : Text → Work → Outcome Signals
 signals_value text w =
-    go_on (declarations_value text.definitions 0 (none_yet (with_definitions without_names text.definitions)) text.inputs w) (λ inputs w.
-    go_on (declarations_value text.definitions (length inputs.flat) (none_yet inputs.names) text.outputs w) (λ outputs w.
+    go_on (declarations_value text 0 (none_yet (with_definitions without_names text.definitions)) text.inputs w) (λ inputs w.
+    go_on (declarations_value text (length inputs.flat) (none_yet inputs.names) text.outputs w) (λ outputs w.
     gives (record { names = outputs.names; inputs = inputs.flat; outputs = outputs.flat; typed_inputs = inputs.typed; typed_outputs = outputs.typed }) w))
 
 -- the widths of the enumerations' values come first, and count no evaluation

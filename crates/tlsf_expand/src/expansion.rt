@@ -1,6 +1,6 @@
 // A whole text, expanded.
 
-ghost use Rattle.std.specs.Prelude.{◌≡◌, IfOk};
+ghost use Rattle.std.specs.Prelude.{◌≡◌, IfOk, vec_len};
 ghost use Rattle.tlsf_expand.specs.Expansion.{expanded, kind_of};
 ghost use Rattle.tlsf_expand.specs.Results.{IsExpansion, KeepsMeaning};
 ghost use Rattle.tlsf_expand.specs.SectionsSeen.{flat_seen};
@@ -33,7 +33,8 @@ fn kind_of(kind: Option<Kind>, tree: &SpecTree) -> Option<Kind>
 
 /// The sections in their order.
 fn listed(alloc: Global, sections: FlatSections) -> Result<Vec<Section>, AllocError>
-    ensures { IfOk result (λ list. sections_from list.items ≡ flat_seen sections) }
+    ensures each { IfOk result (λ list. sections_from list.items ≡ flat_seen sections) }
+    ensures six { IfOk result (λ list. vec_len list ≡ 6) }
 {
     let mut list = Vec::new(alloc);
     list.push(Section::new(sections.initially))?;
@@ -49,6 +50,7 @@ fn listed(alloc: Global, sections: FlatSections) -> Result<Vec<Section>, AllocEr
 /// that the text names.
 pub fn expand(alloc: Global, tree: &SpecTree, kind: Option<Kind>) -> Result<Spec, SpecFault>
     ensures expansion { IsExpansion result (expanded (text_seen tree.now) kind) }
+    ensures sections { IfOk result (λ spec. vec_len spec.sections ≡ 6) }
     ensures meaning { IfOk result (λ spec. KeepsMeaning (text_seen tree.now) spec.formulas spec.whole) }
 {
     let Some(kind) = kind_of(kind, tree) else {

@@ -1,18 +1,18 @@
 // The signals that a text declares, with their numbers and flat names.
 
 ghost use Rattle.std.specs.Prelude.{◌≡◌, ◌+◌, ◌≤◌, ◌++◌, IfOk, OnOk, map};
-ghost use Rattle.tlsf_expand.specs.Signals.{bit_name, bit_names, bits_in, declaration_value, declarations_value, declared, even_first, extent_value, none_yet, signals_value, type_in, uneven_value, width_in};
+ghost use Rattle.tlsf_expand.specs.Signals.{bit_name, bit_names, bits_in, declaration_value, declarations_value, declared, declares, even_first, extent_value, none_yet, signals_value, type_in, uneven_value, width_in};
 ghost use Rattle.tlsf_expand.specs.SignalsSeen.{declared_seen, extent_seen, signals_seen};
 ghost use Rattle.tlsf_expand.specs.TextSeen.{declaration_seen, shape_seen, text_seen};
 ghost use Rattle.tlsf_values.specs.NamesSeen.{names_seen};
 ghost use Rattle.tlsf_values.specs.Results.{IsCheckedAs, IsOutcomeAs};
-ghost use Rattle.tlsf_values.specs.Seen.{definition_seen, word_seen};
+ghost use Rattle.tlsf_values.specs.Seen.{word_seen};
 
 use crate::enumerations::{members_named, uneven_value, width};
 use std::alloc::{AllocError, Global};
 use text_base::{Name, push_number};
 use tlsf_tokens::{SpecCode, SpecFault};
-use tlsf_tree::{Declaration, Definition, Member, Shape, SpecTree, Word};
+use tlsf_tree::{Declaration, Member, Shape, SpecTree, Word};
 use tlsf_values::{Names, Value, Work};
 
 /// How many inputs there are at most, and how many outputs.
@@ -84,31 +84,46 @@ pub(crate) fn fault(code: SpecCode, place: u64) -> SpecFault
     SpecFault::At { code, place }
 }
 
+/// Whether a signal of this name is declared.
+fn declares(name: &Name, declarations: &[Declaration]) -> bool
+    ensures { result ≡ declares name.now (map declaration_seen declarations.now) }
+{
+    for declaration in declarations {
+        if declaration.word.name == *name {
+            return true;
+        }
+    }
+    false
+}
+
 /// Where the name is an enumeration's, a bus for its values.
 fn extent_of_type<'t>(
-    definitions: &'t [Definition],
+    tree: &'t SpecTree,
     names: &Names<'t>,
     word: &Word,
 ) -> Result<Extent<'t>, SpecFault>
-    ensures { IsCheckedAs extent_seen result (type_in (map definition_seen definitions.now) (word_seen word.now) ((names_seen names.now).means word.now.name)) }
+    ensures { IsCheckedAs extent_seen result (type_in (text_seen tree.now) (word_seen word.now) ((names_seen names.now).means word.now.name)) }
 {
     if !names.is_declared(&word.name) {
+        if declares(&word.name, &tree.inputs) || declares(&word.name, &tree.outputs) {
+            return Err(fault(SpecCode::WrongSort, word.span.start));
+        }
         return Err(fault(SpecCode::UnknownName, word.span.start));
     }
     if !names.is_enumeration(&word.name) {
         return Err(fault(SpecCode::WrongSort, word.span.start));
     }
-    Ok(Extent::OfType(members_named(definitions, &word.name)))
+    Ok(Extent::OfType(members_named(&tree.definitions, &word.name)))
 }
 
-/// What a declaration declares. A width, or a type, may name the definitions and what is declared before it.
+/// What a declaration declares. A width may name the definitions and the signals that are declared before it.
 fn declared_extent<'t>(
-    definitions: &'t [Definition],
+    tree: &'t SpecTree,
     names: &Names<'t>,
     shape: &'t Shape,
     work: &mut Work,
 ) -> Result<Extent<'t>, SpecFault>
-    ensures { IsOutcomeAs extent_seen result work.new (extent_value (map definition_seen definitions.now) (names_seen names.now) (shape_seen shape.now) work.old) }
+    ensures { IsOutcomeAs extent_seen result work.new (extent_value (text_seen tree.now) (names_seen names.now) (shape_seen shape.now) work.old) }
 {
     match shape {
         Shape::Single => Ok(Extent::Alone),
@@ -116,7 +131,7 @@ fn declared_extent<'t>(
             let value = names.value_of(width, work)?;
             extent_of(width.span.start, &value)
         }
-        Shape::Typed(word) => extent_of_type(definitions, names, word),
+        Shape::Typed(word) => extent_of_type(tree, names, word),
     }
 }
 
@@ -191,15 +206,15 @@ impl<'t> Declared<'t> {
     fn declaration(
         &mut self,
         alloc: Global,
-        definitions: &'t [Definition],
+        tree: &'t SpecTree,
         from: u32,
         declaration: &'t Declaration,
         work: &mut Work,
     ) -> Result<(), SpecFault>
         requires { from ≤ 8 }
-        ensures { IsOutcomeAs (λ _. declared_seen self.new) result work.new (declaration_value (map definition_seen definitions.now) from (declared_seen self.old) (declaration_seen declaration.now) work.old) }
+        ensures { IsOutcomeAs (λ _. declared_seen self.new) result work.new (declaration_value (text_seen tree.now) from (declared_seen self.old) (declaration_seen declaration.now) work.old) }
     {
-        let extent = declared_extent(definitions, &self.names, &declaration.shape, work)?;
+        let extent = declared_extent(tree, &self.names, &declaration.shape, work)?;
         let before = self.flat.len();
         if before as u128 + u128::from(extent.bits()) > MOST_SIGNALS as u128 {
             return Err(fault(SpecCode::TooManySignals, declaration.word.span.start));
@@ -213,16 +228,16 @@ impl<'t> Declared<'t> {
     fn declarations(
         &mut self,
         alloc: Global,
-        definitions: &'t [Definition],
+        tree: &'t SpecTree,
         from: u32,
         declarations: &'t [Declaration],
         work: &mut Work,
     ) -> Result<(), SpecFault>
         requires { from ≤ 8 }
-        ensures { IsOutcomeAs (λ _. declared_seen self.new) result work.new (declarations_value (map definition_seen definitions.now) from (declared_seen self.old) (map declaration_seen declarations.now) work.old) }
+        ensures { IsOutcomeAs (λ _. declared_seen self.new) result work.new (declarations_value (text_seen tree.now) from (declared_seen self.old) (map declaration_seen declarations.now) work.old) }
     {
         for declaration in declarations {
-            self.declaration(alloc, definitions, from, declaration, work)?;
+            self.declaration(alloc, tree, from, declaration, work)?;
         }
         Ok(())
     }
@@ -242,15 +257,9 @@ pub(crate) fn declared_signals<'t>(
     let mut names = Names::new(alloc);
     names.add_definitions(&tree.definitions)?;
     let mut inputs = Declared::none_yet(alloc, names);
-    inputs.declarations(alloc, &tree.definitions, 0, &tree.inputs, work)?;
+    inputs.declarations(alloc, tree, 0, &tree.inputs, work)?;
     let mut outputs = Declared::none_yet(alloc, inputs.names);
-    outputs.declarations(
-        alloc,
-        &tree.definitions,
-        inputs.flat.len() as u32,
-        &tree.outputs,
-        work,
-    )?;
+    outputs.declarations(alloc, tree, inputs.flat.len() as u32, &tree.outputs, work)?;
     Ok(Signals {
         names: outputs.names,
         inputs: inputs.flat,

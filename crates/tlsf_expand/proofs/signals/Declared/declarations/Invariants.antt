@@ -1,11 +1,10 @@
 use Rattle.std.proofs.Common.{◌≡◌, map, drop}
-use Rattle.tlsf_values.specs.Seen.{definition_seen}
 use Rattle.tlsf_expand.specs.Signals.{declarations_value}
 use Rattle.tlsf_expand.specs.SignalsSeen.{declared_seen}
-use Rattle.tlsf_expand.specs.TextSeen.{declaration_seen}
+use Rattle.tlsf_expand.specs.TextSeen.{declaration_seen, text_seen}
 use Rattle.tlsf_expand.proofs.signals.Declared.declarations.Given as goal
 
 abbrev pub invariant-loop-declaration : goal.invariant-loop-declaration
 invariant-loop-declaration l =
-    declarations_value (map definition_seen l.definitions) l.from (declared_seen l.fn.self) (map declaration_seen l.fn.declarations) l.fn.work
-    ≡ declarations_value (map definition_seen l.definitions) l.from (declared_seen l.self) (map declaration_seen (drop l.declaration-index l.declarations)) l.work
+    declarations_value (text_seen l.tree) l.from (declared_seen l.fn.self) (map declaration_seen l.fn.declarations) l.fn.work
+    ≡ declarations_value (text_seen l.tree) l.from (declared_seen l.self) (map declaration_seen (drop l.declaration-index l.declarations)) l.work
