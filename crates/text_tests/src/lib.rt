@@ -1,0 +1,11 @@
+// Tests of written texts: whole texts that are read or refused, values of expressions with their first faults, and
+// texts that are expanded, their flat lines written out. What it calls is the public surface of tlsf_reader,
+// tlsf_values and tlsf_expand; it stands on them, tlsf_tree, tlsf_tokens, ltl_formula, letter_word and text_base.
+#![tactic(auto)]
+
+#[cfg(test)]
+mod expansion;
+#[cfg(test)]
+mod reading;
+#[cfg(test)]
+mod values;
