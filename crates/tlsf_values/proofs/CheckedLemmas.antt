@@ -1,5 +1,5 @@
 -- Tests of sorts that fail.
-use Rattle.std.proofs.Common.{◌≡◌, ℕ, Result, Ok, Err, ap}
+use Rattle.std.proofs.Common.{Err, ap}
 use Rattle.tlsf_tokens.specs.declared.code.SpecFault.{SpecFault}
 use Rattle.tlsf_tokens.specs.declared.code.SpecFault.TheVariants.{NoMemory, At}
 use Rattle.tlsf_values.specs.declared.work.Work.{Work}

@@ -1,5 +1,5 @@
 -- The evaluator at one depth by that at the next one.
-use Rattle.std.proofs.Common.{◌≡◌, ℕ, zero, suc, ◌-◌, ◌≤◌, List, refl, ap, ◌∙◌, arith}
+use Rattle.std.proofs.Common.{◌≡◌, ℕ, zero, suc, ◌-◌, ◌≤◌, List, refl, ap, arith}
 use Rattle.tlsf_tree.specs.declared.expr.Expr.{Expr}
 use Rattle.tlsf_tokens.specs.declared.code.SpecCode.TheVariants.{TooDeep}
 use Rattle.tlsf_grammar.specs.Tree.{Body}

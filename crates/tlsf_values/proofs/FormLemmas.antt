@@ -1,7 +1,6 @@
 -- A chain and a big operator as plain trees.
 use Rattle.std.proofs.Common.{◌≡◌, ap, ◌∙◌, Vec, Box, Global}
 use mathlib.Core.Former.{Count}
-use Rattle.tlsf_tree.specs.declared.expr.Span.{Span}
 use Rattle.tlsf_tree.specs.declared.expr.Expr.{Expr}
 use Rattle.tlsf_tree.specs.declared.expr.Link.{Link}
 use Rattle.tlsf_tree.specs.declared.expr.Range.{Range}

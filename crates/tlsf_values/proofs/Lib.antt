@@ -1,4 +1,5 @@
 pub mod RowProofs
+pub mod ScopeLemmas
 pub mod SetLemmas
 pub mod CountLemmas
 pub mod NamesLemmas

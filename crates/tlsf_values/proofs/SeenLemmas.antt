@@ -1,11 +1,9 @@
 -- The written tree's rows of expressions, links and ranges as plain ones.
-use Rattle.std.proofs.Common.{◌≡◌, suc, List, [], ◌∷◌, length, refl, ap, ◌∙◌, Vec, Box, Global}
+use Rattle.std.proofs.Common.{◌≡◌, suc, List, [], ◌∷◌, length, refl, ap, ◌∙◌, Vec, Global}
 use mathlib.Core.Former.{Count}
 use Rattle.tlsf_tree.specs.declared.expr.Span.{Span}
 use Rattle.tlsf_tree.specs.declared.expr.Word.{Word}
 use Rattle.tlsf_tree.specs.declared.expr.Expr.{Expr}
-use Rattle.tlsf_tree.specs.declared.expr.Link.{Link}
-use Rattle.tlsf_tree.specs.declared.expr.Range.{Range}
 use Rattle.tlsf_tree.specs.declared.expr.Form as form
 use Rattle.tlsf_grammar.specs.Tree as plain
 use Rattle.tlsf_grammar.specs.Tree.{tree_span}

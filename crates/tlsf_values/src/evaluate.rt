@@ -4,14 +4,14 @@ ghost use Rattle.std.specs.Prelude.{◌≡◌, OnOk, length, map, []};
 ghost use Rattle.tlsf_values.specs.Names.{look_up};
 ghost use Rattle.tlsf_values.specs.NamesSeen.{names_seen, range_seen};
 ghost use Rattle.tlsf_values.specs.Results.{IsOutcome, IsOutcomeAs};
-ghost use Rattle.tlsf_values.specs.ScopeSeen.{bound_seen, code_body_seen, meaning_seen};
+ghost use Rattle.tlsf_values.specs.ScopeSeen.{code_body_seen, meaning_seen};
 ghost use Rattle.tlsf_values.specs.Seen.{alternative_seen, expr_seen, trees_seen, word_seen};
 ghost use Rattle.tlsf_values.specs.Values.{arguments_at, bit_value, call_value, chosen_value, evaluator, form_value, guard_value, index_value, meaning_value};
 
 use crate::names::Names;
 use crate::number_set::NumberSet;
 use crate::patterns::BusRange;
-use crate::scope::{Binding, BodyOf, Meaning};
+use crate::scope::{BodyOf, Meaning, Scope};
 use crate::steps::numbers_in;
 use crate::value::Value;
 use crate::work::{Work, fault};
@@ -23,13 +23,13 @@ impl<'t> Names<'t> {
     #[cycle(evaluation)]
     pub(crate) fn value(
         &self,
-        bound: &mut Vec<Binding<'t>>,
+        bound: &mut Scope<'t>,
         expr: &'t Expr,
         left: u32,
         work: &mut Work,
     ) -> Result<Value, SpecFault>
-        ensures value { IsOutcome result work.new ((evaluator (names_seen self.now) left).value (bound_seen bound.old.items) (expr_seen expr.now) work.old) }
-        ensures bound { OnOk result (bound.new.items ≡ bound.old.items) }
+        ensures value { IsOutcome result work.new ((evaluator (names_seen self.now) left).value (bound.old) (expr_seen expr.now) work.old) }
+        ensures bound { OnOk result (bound.new ≡ bound.old) }
     {
         if left == 0 {
             return Err(fault(SpecCode::TooDeep, expr.span.start));
@@ -43,13 +43,13 @@ impl<'t> Names<'t> {
     #[tactic(auto, using(crate::proofs::SeenLemmas::start_seen))]
     fn form(
         &self,
-        bound: &mut Vec<Binding<'t>>,
+        bound: &mut Scope<'t>,
         expr: &'t Expr,
         left: u32,
         work: &mut Work,
     ) -> Result<Value, SpecFault>
-        ensures value { IsOutcome result work.new (form_value (names_seen self.now) (evaluator (names_seen self.now) left) (bound_seen bound.old.items) (expr_seen expr.now) work.old) }
-        ensures bound { OnOk result (bound.new.items ≡ bound.old.items) }
+        ensures value { IsOutcome result work.new (form_value (names_seen self.now) (evaluator (names_seen self.now) left) (bound.old) (expr_seen expr.now) work.old) }
+        ensures bound { OnOk result (bound.new ≡ bound.old) }
     {
         let place = expr.span.start;
         match &expr.form {
@@ -111,7 +111,7 @@ impl<'t> Names<'t> {
             Meaning::Known(value) => Ok(value),
             Meaning::Signal(signal) => Ok(Value::Flat(work.signal_made(place, signal as usize)?)),
             Meaning::Definition([], body) => {
-                let mut inner = Vec::new(self.alloc);
+                let mut inner = Scope::new(self.alloc);
                 self.body(&mut inner, place, body, left, work)
             }
             Meaning::Definition(..) => Err(fault(SpecCode::WrongSort, place)),
@@ -124,13 +124,13 @@ impl<'t> Names<'t> {
     #[cycle(evaluation)]
     fn body(
         &self,
-        bound: &mut Vec<Binding<'t>>,
+        bound: &mut Scope<'t>,
         place: u64,
         body: BodyOf<'t>,
         left: u32,
         work: &mut Work,
     ) -> Result<Value, SpecFault>
-        ensures { IsOutcome result work.new ((evaluator (names_seen self.now) left).body (bound_seen bound.old.items) place (code_body_seen body.entry) work.old) }
+        ensures { IsOutcome result work.new ((evaluator (names_seen self.now) left).body (bound.old) place (code_body_seen body.entry) work.old) }
     {
         if left == 0 {
             return Err(fault(SpecCode::TooDeep, place));
@@ -151,13 +151,13 @@ impl<'t> Names<'t> {
     #[cycle(evaluation)]
     fn chosen(
         &self,
-        bound: &mut Vec<Binding<'t>>,
+        bound: &mut Scope<'t>,
         place: u64,
         alternatives: &'t [Alternative],
         left: u32,
         work: &mut Work,
     ) -> Result<Value, SpecFault>
-        ensures { IsOutcome result work.new (chosen_value (evaluator (names_seen self.now) left) (bound_seen bound.old.items) place (map alternative_seen alternatives.now) work.old) }
+        ensures { IsOutcome result work.new (chosen_value (evaluator (names_seen self.now) left) (bound.old) place (map alternative_seen alternatives.now) work.old) }
     {
         for alternative in alternatives {
             if self.guard(bound, alternative, left, work)? {
@@ -172,13 +172,13 @@ impl<'t> Names<'t> {
     #[tactic(auto, using(crate::proofs::SeenLemmas::start_seen))]
     fn guard(
         &self,
-        bound: &mut Vec<Binding<'t>>,
+        bound: &mut Scope<'t>,
         alternative: &'t Alternative,
         left: u32,
         work: &mut Work,
     ) -> Result<bool, SpecFault>
-        ensures value { IsOutcome result work.new (guard_value (evaluator (names_seen self.now) left) (bound_seen bound.old.items) (alternative_seen alternative.now).guard work.old) }
-        ensures bound { OnOk result (bound.new.items ≡ bound.old.items) }
+        ensures value { IsOutcome result work.new (guard_value (evaluator (names_seen self.now) left) (bound.old) (alternative_seen alternative.now).guard work.old) }
+        ensures bound { OnOk result (bound.new ≡ bound.old) }
     {
         match &alternative.guard {
             None => Ok(true),
@@ -194,15 +194,15 @@ impl<'t> Names<'t> {
     #[tactic(auto, using(crate::proofs::SeenLemmas::count_seen))]
     fn call(
         &self,
-        bound: &mut Vec<Binding<'t>>,
+        bound: &mut Scope<'t>,
         place: u64,
         word: &'t Word,
         arguments: &'t [Expr],
         left: u32,
         work: &mut Work,
     ) -> Result<Value, SpecFault>
-        ensures value { IsOutcome result work.new (call_value (evaluator (names_seen self.now) left) (bound_seen bound.old.items) place word.now.span.start (look_up (names_seen self.now) (bound_seen bound.old.items) word.now.name) (trees_seen arguments.now) work.old) }
-        ensures bound { OnOk result (bound.new.items ≡ bound.old.items) }
+        ensures value { IsOutcome result work.new (call_value (evaluator (names_seen self.now) left) (bound.old) place word.now.span.start (look_up (names_seen self.now) (bound.old) word.now.name) (trees_seen arguments.now) work.old) }
+        ensures bound { OnOk result (bound.new ≡ bound.old) }
     {
         match self.look_up(bound, &word.name)? {
             Meaning::Definition(words, body) => {
@@ -221,23 +221,20 @@ impl<'t> Names<'t> {
     #[cycle(evaluation)]
     fn arguments(
         &self,
-        bound: &mut Vec<Binding<'t>>,
+        bound: &mut Scope<'t>,
         words: &'t [Word],
         arguments: &'t [Expr],
         left: u32,
         work: &mut Work,
-    ) -> Result<Vec<Binding<'t>>, SpecFault>
+    ) -> Result<Scope<'t>, SpecFault>
         requires { length arguments.now ≡ length words.now }
-        ensures value { IsOutcomeAs (λ inner. bound_seen inner.items) result work.new (arguments_at (evaluator (names_seen self.now) left) (bound_seen bound.old.items) [] (map word_seen words.now) (trees_seen arguments.now) work.old) }
-        ensures bound { OnOk result (bound.new.items ≡ bound.old.items) }
+        ensures value { IsOutcome result work.new (arguments_at (evaluator (names_seen self.now) left) (bound.old) [] (map word_seen words.now) (trees_seen arguments.now) work.old) }
+        ensures bound { OnOk result (bound.new ≡ bound.old) }
     {
-        let mut inner = Vec::new(self.alloc);
+        let mut inner = Scope::new(self.alloc);
         for i in 0..words.len() {
             let value = self.value(bound, &arguments[i], left, work)?;
-            inner.push(Binding {
-                name: &words[i].name,
-                value,
-            })?;
+            inner.push(&words[i].name, value)?;
         }
         Ok(inner)
     }
@@ -247,18 +244,18 @@ impl<'t> Names<'t> {
     #[tactic(auto, using(crate::proofs::SeenLemmas::start_seen))]
     fn index(
         &self,
-        bound: &mut Vec<Binding<'t>>,
+        bound: &mut Scope<'t>,
         place: u64,
         word: &'t Word,
         index: &'t Expr,
         left: u32,
         work: &mut Work,
     ) -> Result<Value, SpecFault>
-        ensures value { IsOutcome result work.new (index_value (names_seen self.now) (evaluator (names_seen self.now) left) (bound_seen bound.old.items) place (word_seen word.now) (expr_seen index.now) work.old) }
-        ensures bound { OnOk result (bound.new.items ≡ bound.old.items) }
+        ensures value { IsOutcome result work.new (index_value (names_seen self.now) (evaluator (names_seen self.now) left) (bound.old) place (word_seen word.now) (expr_seen index.now) work.old) }
+        ensures bound { OnOk result (bound.new ≡ bound.old) }
     {
         let meaning = self.look_up(bound, &word.name)?;
-        if let Meaning::Signal(_) = meaning {
+        if meaning.is_no_bus() {
             self.value(bound, index, left, work)?;
             return Err(fault(SpecCode::WrongSort, word.span.start));
         }

@@ -7,7 +7,6 @@ ghost use Rattle.tlsf_values.specs.NamesSeen.{names_seen};
 ghost use Rattle.tlsf_values.specs.Operators.{operated};
 ghost use Rattle.tlsf_values.specs.Outcomes.{checked, gives, go_on};
 ghost use Rattle.tlsf_values.specs.Results.{IsOutcome, IsOutcomeAs};
-ghost use Rattle.tlsf_values.specs.ScopeSeen.{bound_seen};
 ghost use Rattle.tlsf_values.specs.Seen.{expr_seen, link_list_seen, range_list_seen, trees_seen, word_seen};
 ghost use Rattle.tlsf_values.specs.Sorts.{formula_in, number_in};
 ghost use Rattle.tlsf_values.specs.Values.{big_at, big_value, bind, chain_value, evaluator, start_of, steps_value, values_at, window_at};
@@ -17,7 +16,7 @@ use crate::formula::{Connective, Formula};
 use crate::members::Members;
 use crate::names::Names;
 use crate::numbers::Places;
-use crate::scope::Binding;
+use crate::scope::Scope;
 use crate::value::Value;
 use crate::work::{Work, fault};
 use tlsf_tokens::{SpecCode, SpecFault};
@@ -37,13 +36,13 @@ impl<'t> Names<'t> {
     #[tactic(auto, using(crate::proofs::SeenLemmas::start_seen))]
     pub(crate) fn part_values(
         &self,
-        bound: &mut Vec<Binding<'t>>,
+        bound: &mut Scope<'t>,
         parts: &'t [Expr],
         left: u32,
         work: &mut Work,
     ) -> Result<Vec<Value>, SpecFault>
-        ensures value { IsOutcomeAs (λ values. values.items) result work.new (values_at (evaluator (names_seen self.now) left) (bound_seen bound.old.items) [] (trees_seen parts.now) work.old) }
-        ensures bound { OnOk result (bound.new.items ≡ bound.old.items) }
+        ensures value { IsOutcomeAs (λ values. values.items) result work.new (values_at (evaluator (names_seen self.now) left) (bound.old) [] (trees_seen parts.now) work.old) }
+        ensures bound { OnOk result (bound.new ≡ bound.old) }
     {
         let mut values = Vec::new(self.alloc);
         for part in parts {
@@ -57,7 +56,7 @@ impl<'t> Names<'t> {
     #[tactic(auto, using(crate::proofs::SeenLemmas::start_seen))]
     pub(crate) fn steps(
         &self,
-        bound: &mut Vec<Binding<'t>>,
+        bound: &mut Scope<'t>,
         place: u64,
         first: &'t Expr,
         second: &'t Expr,
@@ -65,11 +64,11 @@ impl<'t> Names<'t> {
         left: u32,
         work: &mut Work,
     ) -> Result<Value, SpecFault>
-        ensures value { IsOutcome result work.new (let r = evaluator (names_seen self.now) left in let b = bound_seen bound.old.items in
+        ensures value { IsOutcome result work.new (let r = evaluator (names_seen self.now) left in let b = bound.old in
             let t = expr_seen first.now in let u = expr_seen second.now in let v = expr_seen last.now in
             go_on (r.value b t work.old) (λ x w. go_on (r.value b u w) (λ y w. go_on (r.value b v w) (λ z w.
             checked (number_in (start_of t) x) (λ x w. checked (number_in (start_of u) y) (λ y w. checked (number_in (start_of v) z) (λ z w. steps_value place x y z w) w) w) w)))) }
-        ensures bound { OnOk result (bound.new.items ≡ bound.old.items) }
+        ensures bound { OnOk result (bound.new ≡ bound.old) }
     {
         let first_value = self.value(bound, first, left, work)?;
         let second_value = self.value(bound, second, left, work)?;
@@ -85,16 +84,16 @@ impl<'t> Names<'t> {
     #[tactic(auto, using(crate::proofs::SeenLemmas::start_seen))]
     pub(crate) fn chain(
         &self,
-        bound: &mut Vec<Binding<'t>>,
+        bound: &mut Scope<'t>,
         place: u64,
         first: &'t Expr,
         rest: &'t [Link],
         left: u32,
         work: &mut Work,
     ) -> Result<Value, SpecFault>
-        ensures value { IsOutcome result work.new (let r = evaluator (names_seen self.now) left in let b = bound_seen bound.old.items in let t = expr_seen first.now in
+        ensures value { IsOutcome result work.new (let r = evaluator (names_seen self.now) left in let b = bound.old in let t = expr_seen first.now in
             go_on (r.value b t work.old) (λ v w. chain_value (names_seen self.now) r b place (start_of t) v (link_list_seen rest.now) w)) }
-        ensures bound { OnOk result (bound.new.items ≡ bound.old.items) }
+        ensures bound { OnOk result (bound.new ≡ bound.old) }
     {
         let mut value = self.value(bound, first, left, work)?;
         for link in rest {
@@ -114,7 +113,7 @@ impl<'t> Names<'t> {
     #[tactic(auto, using(crate::proofs::SeenLemmas::start_seen))]
     pub(crate) fn pair(
         &self,
-        bound: &mut Vec<Binding<'t>>,
+        bound: &mut Scope<'t>,
         place: u64,
         op: Op,
         first: &'t Expr,
@@ -122,9 +121,9 @@ impl<'t> Names<'t> {
         left: u32,
         work: &mut Work,
     ) -> Result<Value, SpecFault>
-        ensures value { IsOutcome result work.new (let r = evaluator (names_seen self.now) left in let b = bound_seen bound.old.items in let t = expr_seen first.now in let u = expr_seen second.now in
+        ensures value { IsOutcome result work.new (let r = evaluator (names_seen self.now) left in let b = bound.old in let t = expr_seen first.now in let u = expr_seen second.now in
             go_on (r.value b t work.old) (λ x w. go_on (r.value b u w) (λ y w. operated (names_seen self.now) op (record { own = place; left = start_of t; right = start_of u }) x y w))) }
-        ensures bound { OnOk result (bound.new.items ≡ bound.old.items) }
+        ensures bound { OnOk result (bound.new ≡ bound.old) }
     {
         let first_value = self.value(bound, first, left, work)?;
         let second_value = self.value(bound, second, left, work)?;
@@ -141,17 +140,17 @@ impl<'t> Names<'t> {
     #[tactic(auto, using(crate::proofs::SeenLemmas::start_seen))]
     pub(crate) fn counted(
         &self,
-        bound: &mut Vec<Binding<'t>>,
+        bound: &mut Scope<'t>,
         place: u64,
         number: &'t Expr,
         part: &'t Expr,
         left: u32,
         work: &mut Work,
     ) -> Result<Value, SpecFault>
-        ensures value { IsOutcome result work.new (let r = evaluator (names_seen self.now) left in let b = bound_seen bound.old.items in let n = expr_seen number.now in let t = expr_seen part.now in
+        ensures value { IsOutcome result work.new (let r = evaluator (names_seen self.now) left in let b = bound.old in let n = expr_seen number.now in let t = expr_seen part.now in
             go_on (r.value b n work.old) (λ m w. go_on (r.value b t w) (λ v w.
             checked (number_in (start_of n) m) (λ z w. checked (formula_in (start_of t) v) (λ x w. checked (count_in (start_of n) z) (λ k w. count_value place k x w) w) w) w))) }
-        ensures bound { OnOk result (bound.new.items ≡ bound.old.items) }
+        ensures bound { OnOk result (bound.new ≡ bound.old) }
     {
         let number_value = self.value(bound, number, left, work)?;
         let value = self.value(bound, part, left, work)?;
@@ -166,7 +165,7 @@ impl<'t> Names<'t> {
     #[tactic(auto, using(crate::proofs::SeenLemmas::start_seen))]
     pub(crate) fn windowed(
         &self,
-        bound: &mut Vec<Binding<'t>>,
+        bound: &mut Scope<'t>,
         place: u64,
         op: Op,
         from: &'t Expr,
@@ -175,8 +174,8 @@ impl<'t> Names<'t> {
         left: u32,
         work: &mut Work,
     ) -> Result<Value, SpecFault>
-        ensures value { IsOutcome result work.new (window_at (evaluator (names_seen self.now) left) (bound_seen bound.old.items) place (window_of op) (expr_seen from.now) (expr_seen to.now) (expr_seen part.now) work.old) }
-        ensures bound { OnOk result (bound.new.items ≡ bound.old.items) }
+        ensures value { IsOutcome result work.new (window_at (evaluator (names_seen self.now) left) (bound.old) place (window_of op) (expr_seen from.now) (expr_seen to.now) (expr_seen part.now) work.old) }
+        ensures bound { OnOk result (bound.new ≡ bound.old) }
     {
         let Some(connective) = Connective::of_window(op) else {
             return Err(fault(SpecCode::WrongSort, place));
@@ -197,7 +196,7 @@ impl<'t> Names<'t> {
     #[tactic(auto, using(crate::proofs::SeenLemmas::start_seen))]
     pub(crate) fn big(
         &self,
-        bound: &mut Vec<Binding<'t>>,
+        bound: &mut Scope<'t>,
         place: u64,
         op: Op,
         ranges: &'t [Range],
@@ -205,8 +204,8 @@ impl<'t> Names<'t> {
         left: u32,
         work: &mut Work,
     ) -> Result<Value, SpecFault>
-        ensures value { IsOutcome result work.new (big_at (evaluator (names_seen self.now) left) (bound_seen bound.old.items) place (joining_of op) (range_list_seen ranges.now) (expr_seen part.now) work.old) }
-        ensures bound { OnOk result (bound.new.items ≡ bound.old.items) }
+        ensures value { IsOutcome result work.new (big_at (evaluator (names_seen self.now) left) (bound.old) place (joining_of op) (range_list_seen ranges.now) (expr_seen part.now) work.old) }
+        ensures bound { OnOk result (bound.new ≡ bound.old) }
     {
         let Some(connective) = Connective::of_big(op) else {
             return Err(fault(SpecCode::WrongSort, place));
@@ -224,14 +223,14 @@ impl<'t> Names<'t> {
     #[tactic(auto, using(crate::proofs::SeenLemmas::start_seen))]
     fn over_ranges(
         &self,
-        bound: &mut Vec<Binding<'t>>,
+        bound: &mut Scope<'t>,
         big: &Big<'t>,
         ranges: &'t [Range],
         left: u32,
         work: &mut Work,
     ) -> Result<Formula, SpecFault>
-        ensures value { IsOutcome result work.new (big_value (evaluator (names_seen self.now) left) big.now.place big.now.connective (bound_seen bound.old.items) (range_list_seen ranges.now) (expr_seen big.now.part.now) work.old) }
-        ensures bound { OnOk result (bound.new.items ≡ bound.old.items) }
+        ensures value { IsOutcome result work.new (big_value (evaluator (names_seen self.now) left) big.now.place big.now.connective (bound.old) (range_list_seen ranges.now) (expr_seen big.now.part.now) work.old) }
+        ensures bound { OnOk result (bound.new ≡ bound.old) }
     {
         match ranges {
             [] => {
@@ -269,7 +268,7 @@ impl<'t> Names<'t> {
     #[tactic(auto, using(crate::proofs::SeenLemmas::start_seen))]
     fn over_members(
         &self,
-        bound: &mut Vec<Binding<'t>>,
+        bound: &mut Scope<'t>,
         big: &Big<'t>,
         word: &'t Word,
         members: Members,
@@ -277,17 +276,14 @@ impl<'t> Names<'t> {
         left: u32,
         work: &mut Work,
     ) -> Result<Formula, SpecFault>
-        ensures value { IsOutcome result work.new (let r = evaluator (names_seen self.now) left in let b = bound_seen bound.old.items in
+        ensures value { IsOutcome result work.new (let r = evaluator (names_seen self.now) left in let b = bound.old in
             joined_over big.now.place big.now.connective (λ z w. big_value r big.now.place big.now.connective (bind (word_seen word.now) (Value.Number z) b) (range_list_seen ranges.now) (expr_seen big.now.part.now) w) (members_seen members) None work.old) }
-        ensures bound { OnOk result (bound.new.items ≡ bound.old.items) }
+        ensures bound { OnOk result (bound.new ≡ bound.old) }
     {
         let mut members = members;
         let mut so_far = None;
         while let Some(number) = members.next() {
-            bound.push(Binding {
-                name: &word.name,
-                value: Value::Number(number),
-            })?;
+            bound.push(&word.name, Value::Number(number))?;
             let formula = self.over_ranges(bound, big, ranges, left, work)?;
             bound.pop();
             so_far = Some(work.joined_with(big.place, big.connective, so_far, formula)?);

@@ -1,23 +1,97 @@
 // Bound names, and what a name means where they hide others.
 
-ghost use Rattle.std.specs.Prelude.{◌≡◌, IfOk, OnOk, find, map, reverse};
+ghost use Rattle.std.specs.Prelude.{◌≡◌, ◌∷◌, [], IfOk, OnOk, drop, find};
 ghost use Rattle.std.specs.Option.{option_map};
 ghost use Rattle.tlsf_values.specs.Names.{look_up, same_name};
 ghost use Rattle.tlsf_values.specs.NamesSeen.{names_seen};
-ghost use Rattle.tlsf_values.specs.ScopeSeen.{binding_seen, bound_seen, meaning_seen};
+ghost use Rattle.tlsf_values.specs.ScopeSeen.{meaning_seen};
+ghost use Rattle.tlsf_values.specs.Values.{is_no_bus};
 
 use crate::names::{Entry, Names};
 use crate::value::Value;
 use ltl_formula::FormulaId;
 use std::alloc::{AllocError, Global};
+use std::collections::HashMap;
+use std::marker::Model;
 use text_base::Name;
 use tlsf_tree::{Alternative, Body, Expr, Word};
 
 /// A bound name with its value.
 #[derive(Drop)]
 pub(crate) struct Binding<'t> {
-    pub(crate) name: &'t Name,
-    pub(crate) value: Value,
+    name: &'t Name,
+    value: Value,
+    /// The place of the binding that this one hides.
+    hides: Option<usize>,
+}
+
+/// The bound names with their values. A contract sees them as a list, the latest first.
+#[derive(Drop)]
+pub(crate) struct Scope<'t> {
+    bindings: Vec<Binding<'t>>,
+    /// The place of each name's latest binding.
+    latest: HashMap<&'t Name, usize>,
+}
+
+impl<'t> Model for Scope<'t> {
+    ghost use Rattle.std.specs.Prelude.{List};
+    ghost use Rattle.tlsf_values.specs.Names.{Binding};
+    ghost use Rattle.tlsf_values.specs.ScopeSeen.{bound_seen, IsIndexed};
+
+    ghost Value = { List Binding };
+
+    ghost view = { λ s. bound_seen s.bindings.items };
+
+    ghost invariant = { λ s. IsIndexed s.bindings.items s.latest };
+}
+
+impl<'t> Scope<'t> {
+    /// No names. It takes no memory.
+    pub(crate) fn new(alloc: Global) -> Scope<'t>
+        ensures { result ≡ [] }
+    {
+        Scope {
+            bindings: Vec::new(alloc),
+            latest: HashMap::new(alloc),
+        }
+    }
+
+    /// Binds a name, which hides what it meant before.
+    pub(crate) fn push(&mut self, name: &'t Name, value: Value) -> Result<(), AllocError>
+        ensures { OnOk result (self.new ≡ record { name = name.now; value = value } ∷ self.old) }
+    {
+        self.bindings.reserve(1)?;
+        let place = self.bindings.len();
+        let hides = self.latest.insert(name, place)?;
+        let Ok(()) = self.bindings.push(Binding { name, value, hides }) else {
+            unreachable!();
+        };
+        Ok(())
+    }
+
+    /// Takes the latest binding back, so that its name means what it meant before.
+    pub(crate) fn pop(&mut self)
+        ensures { self.new ≡ drop 1 self.old }
+    {
+        let Some(binding) = self.bindings.pop() else {
+            return;
+        };
+        let Some(hidden) = binding.hides else {
+            self.latest.remove(&binding.name);
+            return;
+        };
+        let Ok(_) = self.latest.insert(binding.name, hidden) else {
+            unreachable!();
+        };
+    }
+
+    /// The value of the latest binding of the name. It takes time for one look-up, whatever the number of bindings.
+    pub(crate) fn value(&self, name: &Name) -> Option<&Value>
+        ensures { option_map (λ v. v.now) result ≡ option_map (λ b. b.value) (find (λ b. same_name b.name name.now) self.now) }
+    {
+        let place = *self.latest.get(&name)?;
+        Some(&self.bindings[place].value)
+    }
 }
 
 /// The body of a definition.
@@ -37,30 +111,26 @@ pub(crate) enum Meaning<'t> {
     Undeclared,
 }
 
-fn last_bound<'b, 't>(bound: &'b [Binding<'t>], name: &Name) -> Option<&'b Binding<'t>>
-    ensures { option_map (λ b. binding_seen b.now) result ≡ find (λ b. same_name b.name name.now) (bound_seen bound.now) }
-{
-    let mut left = bound.len();
-    while left > 0 {
-        left -= 1;
-        if bound[left].name == name {
-            return Some(&bound[left]);
+impl Meaning<'_> {
+    /// Whether it is no bus, whatever its value may be.
+    pub(crate) fn is_no_bus(&self) -> bool
+        ensures { result ≡ is_no_bus (meaning_seen self.now) }
+    {
+        match self {
+            Meaning::Signal(_) | Meaning::Enumeration => true,
+            Meaning::Definition(words, _) => !words.is_empty(),
+            Meaning::Known(_) | Meaning::Undeclared => false,
         }
     }
-    None
 }
 
 impl<'t> Names<'t> {
     /// What a name means; the last one that is bound hides all others.
-    pub(crate) fn look_up(
-        &self,
-        bound: &[Binding<'t>],
-        name: &Name,
-    ) -> Result<Meaning<'t>, AllocError>
-        ensures { IfOk result (λ m. meaning_seen m ≡ look_up (names_seen self.now) (bound_seen bound.now) name.now) }
+    pub(crate) fn look_up(&self, bound: &Scope<'t>, name: &Name) -> Result<Meaning<'t>, AllocError>
+        ensures { IfOk result (λ m. meaning_seen m ≡ look_up (names_seen self.now) bound.now name.now) }
     {
-        if let Some(binding) = last_bound(bound, name) {
-            return Ok(Meaning::Known(binding.value.clone()?));
+        if let Some(value) = bound.value(name) {
+            return Ok(Meaning::Known(value.clone()?));
         }
         Ok(self.declared(name))
     }

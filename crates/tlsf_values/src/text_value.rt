@@ -1,16 +1,15 @@
 // The public call: the value of an expression of a text.
 
-ghost use Rattle.std.specs.Prelude.{◌≡◌, ◌+◌, IfOk, OnErr, OnOk, [], map, take};
+ghost use Rattle.std.specs.Prelude.{◌≡◌, ◌+◌, IfOk, OnErr, OnOk, [], map, reverse, take};
 ghost use Rattle.ltl_formula.specs.Nodes.{Stands};
 ghost use Rattle.tlsf_values.specs.EnvSeen.{binding_of, buses_named, env_bound, env_names, signals_named, work_of};
 ghost use Rattle.tlsf_values.specs.NamesSeen.{names_seen};
 ghost use Rattle.tlsf_values.specs.Results.{IsOutcome};
-ghost use Rattle.tlsf_values.specs.ScopeSeen.{binding_seen};
 ghost use Rattle.tlsf_values.specs.Seen.{expr_seen};
 ghost use Rattle.tlsf_values.specs.Values.{value_at};
 
 use crate::names::Names;
-use crate::scope::Binding;
+use crate::scope::Scope;
 use crate::value::Value;
 use crate::work::{MOST_DEPTH, Work};
 use ltl_formula::{AddFault, FormulaId, Formulas};
@@ -38,11 +37,12 @@ pub struct Meter {
 }
 
 impl<'t> Names<'t> {
-    /// The value of an expression of the text that has these names, where no name is bound and no node entered.
+    /// The value of an expression of the text that has these names, where no name is bound and no node entered. After a
+    /// refusal nothing is said of `work`.
     pub fn value_of(&self, expr: &'t Expr, work: &mut Work) -> Result<Value, SpecFault>
         ensures value { IsOutcome result work.new (value_at (names_seen self.now) [] (expr_seen expr.now) 0 work.old) }
     {
-        let mut bound = Vec::new(self.alloc);
+        let mut bound = Scope::new(self.alloc);
         self.value(&mut bound, expr, MOST_DEPTH, work)
     }
 
@@ -76,18 +76,14 @@ impl<'t> Names<'t> {
     }
 }
 
-fn bindings<'e>(alloc: Global, bound: &'e [(Name, Value)]) -> Result<Vec<Binding<'e>>, AllocError>
-    ensures { IfOk result (λ bindings. map binding_seen bindings.items ≡ map binding_of bound.now) }
+fn scope<'e>(alloc: Global, bound: &'e [(Name, Value)]) -> Result<Scope<'e>, AllocError>
+    ensures { IfOk result (λ scope. scope ≡ reverse (map binding_of bound.now)) }
 {
-    let mut bindings = Vec::new(alloc);
+    let mut scope = Scope::new(alloc);
     for entry in bound {
-        let value = entry.1.clone()?;
-        bindings.push(Binding {
-            name: &entry.0,
-            value,
-        })?;
+        scope.push(&entry.0, entry.1.clone()?)?;
     }
-    Ok(bindings)
+    Ok(scope)
 }
 
 /// Adds a node of the list to a copy of those before it.
@@ -131,7 +127,7 @@ pub fn value_of(
 {
     let alloc = *env.bound.allocator();
     let names = Names::of_env(alloc, tree, env)?;
-    let mut bound = bindings(alloc, &env.bound)?;
+    let mut bound = scope(alloc, &env.bound)?;
     let mut work = Work {
         done: meter.done,
         formulas: copied(alloc, formulas)?,

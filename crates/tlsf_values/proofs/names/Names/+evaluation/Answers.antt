@@ -9,46 +9,46 @@ use Rattle.tlsf_values.specs.Names.{look_up}
 use Rattle.tlsf_values.specs.NamesSeen.{names_seen}
 use Rattle.tlsf_values.specs.Seen.{expr_seen}
 use Rattle.tlsf_values.specs.Values.{evaluator, start_of}
-use Rattle.tlsf_values.specs.ScopeSeen.{bound_seen, code_body_seen}
+use Rattle.tlsf_values.specs.ScopeSeen.{code_body_seen}
 use Rattle.tlsf_values.proofs.names.Names.+evaluation.Goals as goal
 use Rattle.tlsf_values.proofs.names.Names.+evaluation.Goals.{call-in-Definition+else-arguments-words+in_ok-inner-in-Definition, call-in-Undeclared, call-in_default}
 
 pub value-returns-then-left-eq0-clause-value : goal.value-returns-then-left-eq0-clause-value
 value-returns-then-left-eq0-clause-value t c =
-    rw (value_too_deep (names_seen c.args.self.now) c.args.left (bound_seen c.args.bound.now.items) c.args.expr.now c.args.work.now (search rules)) (search rules)
+    rw (value_too_deep (names_seen c.args.self.now) c.args.left c.args.bound.now c.args.expr.now c.args.work.now (search rules)) (search rules)
 
 pub value-returns-in_err-count-clause-value : goal.value-returns-in_err-count-clause-value
 value-returns-in_err-count-clause-value t c =
-    rw (value_deeper (names_seen c.args.self.now) c.args.left (bound_seen c.args.bound.now.items) c.args.expr.now c.args.work.now (search rules)) (search rules)
+    rw (value_deeper (names_seen c.args.self.now) c.args.left c.args.bound.now c.args.expr.now c.args.work.now (search rules)) (search rules)
 
 pub value-returns-clause-value : goal.value-returns-clause-value
 value-returns-clause-value t c =
-    rw (value_deeper (names_seen c.args.self.now) c.args.left (bound_seen c.args.bound.now.items) c.args.expr.now c.args.work.now (search rules)) (search rules)
+    rw (value_deeper (names_seen c.args.self.now) c.args.left c.args.bound.now c.args.expr.now c.args.work.now (search rules)) (search rules)
 
 pub body-returns-then-left-eq0 : goal.body-returns-then-left-eq0
 body-returns-then-left-eq0 t c =
-    rw (body_too_deep (names_seen c.args.self.now) c.args.left (bound_seen c.args.bound.now.items) c.args.place (code_body_seen c.args.body) c.args.work.now (search rules)) (search rules)
+    rw (body_too_deep (names_seen c.args.self.now) c.args.left c.args.bound.now c.args.place (code_body_seen c.args.body) c.args.work.now (search rules)) (search rules)
 
 pub body-returns-in-Plain : goal.body-returns-in-Plain
 body-returns-in-Plain t c =
-    rw (body_deeper (names_seen c.args.self.now) c.args.left (bound_seen c.args.bound.now.items) c.args.place (code_body_seen c.args.body) c.args.work.now (search rules)) (search rules)
+    rw (body_deeper (names_seen c.args.self.now) c.args.left c.args.bound.now c.args.place (code_body_seen c.args.body) c.args.work.now (search rules)) (search rules)
 
 pub body-returns-in-Guarded : goal.body-returns-in-Guarded
 body-returns-in-Guarded t c =
-    rw (body_deeper (names_seen c.args.self.now) c.args.left (bound_seen c.args.bound.now.items) c.args.place (code_body_seen c.args.body) c.args.work.now (search rules)) (search rules)
+    rw (body_deeper (names_seen c.args.self.now) c.args.left c.args.bound.now c.args.place (code_body_seen c.args.body) c.args.work.now (search rules)) (search rules)
 
 pub call-returns-then-arguments-words-clause-value : goal.call-returns-then-arguments-words-clause-value
 call-returns-then-arguments-words-clause-value t c =
-    rw (call_misfits (evaluator (names_seen c.args.self.now) c.args.left) (bound_seen c.args.bound.now.items) c.args.place c.args.word.now.span.start (look_up (names_seen c.args.self.now) (bound_seen c.args.bound.now.items) c.args.word.now.name) c.in-Definition.words.now (code_body_seen c.in-Definition.body) c.args.arguments.now c.args.work.now (search rules) (search rules)) (search rules)
+    rw (call_misfits (evaluator (names_seen c.args.self.now) c.args.left) c.args.bound.now c.args.place c.args.word.now.span.start (look_up (names_seen c.args.self.now) c.args.bound.now c.args.word.now.name) c.in-Definition.words.now (code_body_seen c.in-Definition.body) c.args.arguments.now c.args.work.now (search rules) (search rules)) (search rules)
 
 pub call-returns-in_err-inner-in-Definition-clause-value : goal.call-returns-in_err-inner-in-Definition-clause-value
 call-returns-in_err-inner-in-Definition-clause-value t c =
-    rw (call_fits (evaluator (names_seen c.args.self.now) c.args.left) (bound_seen c.args.bound.now.items) c.args.place c.args.word.now.span.start (look_up (names_seen c.args.self.now) (bound_seen c.args.bound.now.items) c.args.word.now.name) c.in-Definition.words.now (code_body_seen c.in-Definition.body) c.args.arguments.now c.args.work.now (search rules) (search rules)) (search rules)
+    rw (call_fits (evaluator (names_seen c.args.self.now) c.args.left) c.args.bound.now c.args.place c.args.word.now.span.start (look_up (names_seen c.args.self.now) c.args.bound.now c.args.word.now.name) c.in-Definition.words.now (code_body_seen c.in-Definition.body) c.args.arguments.now c.args.work.now (search rules) (search rules)) (search rules)
 
 pub call-returns-clause-value : goal.call-returns-clause-value
 call-returns-clause-value t c = elim c.match-branch-2.branch [
   | call-in-Definition+else-arguments-words+in_ok-inner-in-Definition w ↦
-      rw (w.result-is, w.work-is, call_fits (evaluator (names_seen c.args.self.now) c.args.left) (bound_seen c.args.bound.now.items) c.args.place c.args.word.now.span.start (look_up (names_seen c.args.self.now) (bound_seen c.args.bound.now.items) c.args.word.now.name) w.in-Definition.words.now (code_body_seen w.in-Definition.body) c.args.arguments.now c.args.work.now (search rules) (search rules)) (search rules)
+      rw (w.result-is, w.work-is, call_fits (evaluator (names_seen c.args.self.now) c.args.left) c.args.bound.now c.args.place c.args.word.now.span.start (look_up (names_seen c.args.self.now) c.args.bound.now c.args.word.now.name) w.in-Definition.words.now (code_body_seen w.in-Definition.body) c.args.arguments.now c.args.work.now (search rules) (search rules)) (search rules)
   | call-in-Undeclared w ↦ search rules
   | call-in_default w ↦ search rules
 ]
@@ -58,17 +58,17 @@ arguments-returns-in_err-value-clause-value t c =
     let word = some_item c.args.words.now c.loop-i.i (search rules) in
     let e = c.index-arguments-i.result in
     let at = at_item c.args.arguments.now c.loop-i.i e (search rules) c.index-arguments-i.is in
-    rw (c.loop-i.invariant.1 ∙ arguments_more (evaluator (names_seen c.args.self.now) c.args.left) (bound_seen c.args.bound.now.items) (bound_seen c.loop-i.inner.items) c.args.words.now c.args.arguments.now c.loop-i.i word.0 e c.loop-i.work word.1 at) (search rules)
+    rw (c.loop-i.invariant.1 ∙ arguments_more (evaluator (names_seen c.args.self.now) c.args.left) c.args.bound.now c.loop-i.inner c.args.words.now c.args.arguments.now c.loop-i.i word.0 e c.loop-i.work word.1 at) (search rules)
 
 pub chain-loop-link-preserved : goal.chain-loop-link-preserved
 chain-loop-link-preserved t c =
     let at = at_item c.args.rest.now c.loop-link.link-index c.link-item.result (search rules) c.link-item.is in
-    (search rules, c.loop-link.invariant.1 ∙ chain_more (names_seen c.args.self.now) (evaluator (names_seen c.args.self.now) c.args.left) (bound_seen c.args.bound.now.items) c.args.place (start_of (expr_seen c.args.first.now)) c.loop-link.value c.args.rest.now c.loop-link.link-index c.link-item.result c.loop-link.work at ∙ search (rules, start_seen))
+    (search rules, c.loop-link.invariant.1 ∙ chain_more (names_seen c.args.self.now) (evaluator (names_seen c.args.self.now) c.args.left) c.args.bound.now c.args.place (start_of (expr_seen c.args.first.now)) c.loop-link.value c.args.rest.now c.loop-link.link-index c.link-item.result c.loop-link.work at ∙ search (rules, start_seen))
 
 pub chain-returns-in_err-value-2-clause-value : goal.chain-returns-in_err-value-2-clause-value
 chain-returns-in_err-value-2-clause-value t c =
     let at = at_item c.args.rest.now c.loop-link.link-index c.link-item.result (search rules) c.link-item.is in
-    rw (c.in_ok-value.ensures.value, c.loop-link.invariant.1 ∙ chain_more (names_seen c.args.self.now) (evaluator (names_seen c.args.self.now) c.args.left) (bound_seen c.args.bound.now.items) c.args.place (start_of (expr_seen c.args.first.now)) c.loop-link.value c.args.rest.now c.loop-link.link-index c.link-item.result c.loop-link.work at) (search (rules, start_seen))
+    rw (c.in_ok-value.ensures.value, c.loop-link.invariant.1 ∙ chain_more (names_seen c.args.self.now) (evaluator (names_seen c.args.self.now) c.args.left) c.args.bound.now c.args.place (start_of (expr_seen c.args.first.now)) c.loop-link.value c.args.rest.now c.loop-link.link-index c.link-item.result c.loop-link.work at) (search (rules, start_seen))
 
 pub steps-returns-clause-value : goal.steps-returns-clause-value
 steps-returns-clause-value t c =
@@ -113,20 +113,20 @@ form-returns-in-Big-clause-value t c = rw (big_form c.args.expr.now c.in-Big.op 
 
 pub over_ranges-returns-in_ok-value-in-empty-clause-value : goal.over_ranges-returns-in_ok-value-in-empty-clause-value
 over_ranges-returns-in_ok-value-in-empty-clause-value t c =
-    rw (big_empty (evaluator (names_seen c.args.self.now) c.args.left) c.args.big.now.place c.args.big.now.connective (bound_seen c.args.bound.now.items) c.args.ranges.now c.args.big.now.part.now c.args.work.now c.in-empty.len_below) (search rules)
+    rw (big_empty (evaluator (names_seen c.args.self.now) c.args.left) c.args.big.now.place c.args.big.now.connective c.args.bound.now c.args.ranges.now c.args.big.now.part.now c.args.work.now c.in-empty.len_below) (search rules)
 
 pub over_ranges-returns-in_ok-last-in-Between-2-clause-value : goal.over_ranges-returns-in_ok-last-in-Between-2-clause-value
 over_ranges-returns-in_ok-last-in-Between-2-clause-value t c =
-    rw (big_of_run (evaluator (names_seen c.args.self.now) c.args.left) c.args.big.now.place c.args.big.now.connective (bound_seen c.args.bound.now.items) c.args.ranges.now c.in-Between.word c.in-Between.low c.in-Between.high c.in-Between.low_strict c.in-Between.high_strict (drop 1 c.args.ranges.now) c.args.big.now.part.now c.args.work.now c.value-in-Between.new.work c.value-in-Between-2.new.work c.in_ok-first-in-Between.first c.in_ok-last-in-Between.last c.in_ok-first-in-Between-2.first c.in_ok-last-in-Between-2.last (search rules) (search rules) (search rules) (search rules) (search rules)) (search (rules, rest_whole c.args.ranges.now))
+    rw (big_of_run (evaluator (names_seen c.args.self.now) c.args.left) c.args.big.now.place c.args.big.now.connective c.args.bound.now c.args.ranges.now c.in-Between.word c.in-Between.low c.in-Between.high c.in-Between.low_strict c.in-Between.high_strict (drop 1 c.args.ranges.now) c.args.big.now.part.now c.args.work.now c.value-in-Between.new.work c.value-in-Between-2.new.work c.in_ok-first-in-Between.first c.in_ok-last-in-Between.last c.in_ok-first-in-Between-2.first c.in_ok-last-in-Between-2.last (search rules) (search rules) (search rules) (search rules) (search rules)) (search (rules, rest_whole c.args.ranges.now))
 
 pub over_ranges-returns-in_ok-members-in-Members-2-clause-value : goal.over_ranges-returns-in_ok-members-in-Members-2-clause-value
 unfolding evaluator
 over_ranges-returns-in_ok-members-in-Members-2-clause-value t c =
-    rw (big_of_set (evaluator (names_seen c.args.self.now) c.args.left) c.args.big.now.place c.args.big.now.connective (bound_seen c.args.bound.now.items) c.args.ranges.now c.in-Members.word c.in-Members.set (drop 1 c.args.ranges.now) c.args.big.now.part.now c.args.work.now c.value-in-Members.new.work c.in_ok-value-in-Members.value c.in_ok-members-in-Members.members (search rules) (search rules) (search rules), ← c.in_ok-members-in-Members-2.ensures) (search (rules, rest_whole c.args.ranges.now))
+    rw (big_of_set (evaluator (names_seen c.args.self.now) c.args.left) c.args.big.now.place c.args.big.now.connective c.args.bound.now c.args.ranges.now c.in-Members.word c.in-Members.set (drop 1 c.args.ranges.now) c.args.big.now.part.now c.args.work.now c.value-in-Members.new.work c.in_ok-value-in-Members.value c.in_ok-members-in-Members.members (search rules) (search rules) (search rules), ← c.in_ok-members-in-Members-2.ensures) (search (rules, rest_whole c.args.ranges.now))
 
 pub index-returns : goal.index-returns
 index-returns t c = record {
   value =
-      rw (index_is (names_seen c.args.self.now) (evaluator (names_seen c.args.self.now) c.args.left) (bound_seen c.args.bound.now.items) c.args.place c.args.word.now c.args.index.now c.args.work.now c.meaning_value.new.work c.value-2.new.work c.in_ok-bus.bus c.in_ok-value-2.value c.in_ok-bus-2.bus c.in_ok-number.number (search rules) (search rules) (search rules) (search rules)) (search rules);
+      rw (index_is (names_seen c.args.self.now) (evaluator (names_seen c.args.self.now) c.args.left) c.args.bound.now c.args.place c.args.word.now c.args.index.now c.args.work.now c.meaning_value.new.work c.value-2.new.work c.in_ok-bus.bus c.in_ok-value-2.value c.in_ok-bus-2.bus c.in_ok-number.number (search rules) (search rules) (search rules) (search rules)) (search rules);
   bound = search rules;
 }

@@ -2,7 +2,6 @@ use Rattle.std.proofs.Common.{◌≡◌, ◌+◌, ◌*◌, ◌^◌, length, [], 
 use Rattle.tlsf_values.specs.Counts.{joined_over}
 use Rattle.tlsf_values.specs.MembersSeen.{members_seen}
 use Rattle.tlsf_values.specs.NamesSeen.{names_seen}
-use Rattle.tlsf_values.specs.ScopeSeen.{bound_seen}
 use Rattle.tlsf_values.specs.Seen.{alternative_seen, expr_seen, link_list_seen, range_list_seen, trees_seen, word_seen}
 use Rattle.tlsf_values.specs.Values.{arguments_at, big_value, bind, chain_value, chosen_value, evaluator, start_of, values_at}
 use Rattle.tlsf_values.specs.declared.value.Value.TheVariants.{Number}
@@ -65,37 +64,37 @@ decreases-over_members l = 2 ^ 70 * l.left + 2 * length l.ranges.now + 2
 abbrev pub invariant-chosen-loop-alternative : goal.invariant-chosen-loop-alternative
 invariant-chosen-loop-alternative l =
     let r = evaluator (names_seen l.self) l.left in
-    (l.bound.items ≡ l.fn.bound.items) ×
-    (chosen_value r (bound_seen l.fn.bound.items) l.place (map alternative_seen l.alternatives) l.fn.work ≡ chosen_value r (bound_seen l.fn.bound.items) l.place (map alternative_seen (drop l.alternative-index l.alternatives)) l.work)
+    (l.bound ≡ l.fn.bound) ×
+    (chosen_value r l.fn.bound l.place (map alternative_seen l.alternatives) l.fn.work ≡ chosen_value r l.fn.bound l.place (map alternative_seen (drop l.alternative-index l.alternatives)) l.work)
 
 abbrev pub invariant-arguments-loop-i : goal.invariant-arguments-loop-i
 invariant-arguments-loop-i l =
     let r = evaluator (names_seen l.self) l.left in
-    let b = bound_seen l.fn.bound.items in
-    (l.bound.items ≡ l.fn.bound.items) ×
-    (arguments_at r b [] (map word_seen l.words) (trees_seen l.arguments) l.fn.work ≡ arguments_at r b (bound_seen l.inner.items) (map word_seen (drop l.i l.words)) (trees_seen (drop l.i l.arguments)) l.work)
+    let b = l.fn.bound in
+    (l.bound ≡ l.fn.bound) ×
+    (arguments_at r b [] (map word_seen l.words) (trees_seen l.arguments) l.fn.work ≡ arguments_at r b l.inner (map word_seen (drop l.i l.words)) (trees_seen (drop l.i l.arguments)) l.work)
 
 abbrev pub invariant-part_values-loop-part : goal.invariant-part_values-loop-part
 invariant-part_values-loop-part l =
     let r = evaluator (names_seen l.self) l.left in
-    let b = bound_seen l.fn.bound.items in
-    (l.bound.items ≡ l.fn.bound.items) ×
+    let b = l.fn.bound in
+    (l.bound ≡ l.fn.bound) ×
     (values_at r b [] (trees_seen l.parts) l.fn.work ≡ values_at r b l.values.items (trees_seen (drop l.part-index l.parts)) l.work)
 
 abbrev pub invariant-chain-loop-link : goal.invariant-chain-loop-link
 invariant-chain-loop-link l =
     let names = names_seen l.self in
     let r = evaluator names l.left in
-    let b = bound_seen l.fn.bound.items in
+    let b = l.fn.bound in
     let t = expr_seen l.first in
-    (l.bound.items ≡ l.fn.bound.items) ×
+    (l.bound ≡ l.fn.bound) ×
     (chain_value names r b l.place (start_of t) l.initial.value (link_list_seen l.rest) l.initial.work ≡ chain_value names r b l.place (start_of t) l.value (link_list_seen (drop l.link-index l.rest)) l.work)
 
 abbrev pub invariant-over_members-loop-number : goal.invariant-over_members-loop-number
 invariant-over_members-loop-number l =
     let r = evaluator (names_seen l.self) l.left in
-    let b = bound_seen l.fn.bound.items in
-    (l.bound.items ≡ l.fn.bound.items) ×
+    let b = l.fn.bound in
+    (l.bound ≡ l.fn.bound) ×
     (
     joined_over l.big.place l.big.connective (λ z w. big_value r l.big.place l.big.connective (bind (word_seen l.word) (Number z) b) (range_list_seen l.ranges) (expr_seen l.big.part.now) w) (members_seen l.fn.members) None l.fn.work ≡
     joined_over l.big.place l.big.connective (λ z w. big_value r l.big.place l.big.connective (bind (word_seen l.word) (Number z) b) (range_list_seen l.ranges) (expr_seen l.big.part.now) w) (members_seen l.members) l.so_far l.work)
