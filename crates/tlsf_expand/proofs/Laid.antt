@@ -3,7 +3,7 @@ use Rattle.std.proofs.Common.{ℕ, ◌+◌, List, [], ◌∷◌, length, Option,
 use Rattle.std.specs.Prelude.{nat_le}
 use Rattle.letter_word.specs.Word.{Word}
 use Rattle.ltl_formula.specs.Nodes.{IsNodeList}
-use Rattle.tlsf_grammar.specs.Tree.{Named, Definition, Shape, single, bus, typed, Declaration}
+use Rattle.tlsf_grammar.specs.Tree.{Named, Shape, single, bus, typed, Declaration}
 use Rattle.tlsf_values.specs.declared.work.Work.{Work}
 use Rattle.tlsf_values.specs.Outcomes.{Outcome, gives, Checked, fine, faulty, checked}
 use Rattle.tlsf_values.specs.Names.{Names, with_definitions, without_names}

@@ -11,7 +11,7 @@ use Rattle.tlsf_tokens.specs.declared.code.SpecCode.TheVariants.{TooManySignals}
 use Rattle.tlsf_tree.specs.declared.expr.Expr.{Expr}
 use Rattle.tlsf_tree.specs.declared.spec.Member.{Member}
 use Rattle.tlsf_tree.specs.declared.spec.Declaration.{Declaration as CodeDeclaration}
-use Rattle.tlsf_grammar.specs.Tree.{Tree, Named, Pattern, Definition, Declaration}
+use Rattle.tlsf_grammar.specs.Tree.{Tree, Named, Pattern, Declaration}
 use Rattle.tlsf_values.specs.declared.value.Value.{Value}
 use Rattle.tlsf_values.specs.declared.work.Work.{Work}
 use Rattle.tlsf_values.specs.Names.{Names}

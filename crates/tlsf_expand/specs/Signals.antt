@@ -1,6 +1,7 @@
 -- The signals that a text declares, with their numbers and flat names, or the first fault of its declarations: this project's
 -- profile of TLSF 1.1.
-use Rattle.std.specs.Prelude.{ℕ, zero, suc, ◌+◌, ◌==◌, nat_le, if◌then◌else◌, Bool, true, false, List, [], ◌∷◌, ◌++◌, length, Option, None, Some, pos, negsuc, codes, decimal}
+use Rattle.std.specs.Prelude.{ℕ, zero, suc, ◌+◌, ◌==◌, nat_le, if◌then◌else◌, Bool, List, [], ◌∷◌, ◌++◌, length, Option, None, Some, pos, negsuc, codes, decimal}
+use Rattle.std.specs.List.{list_any}
 use Rattle.tlsf_tokens.specs.declared.code.SpecCode.TheVariants.{UnknownName, WrongSort, NumberRange, TooManySignals}
 use Rattle.tlsf_grammar.specs.Tree.{Named, Pattern, Definition, parameter, function, enumeration, Shape, single, bus, typed, Declaration}
 use Rattle.tlsf_values.specs.declared.value.Value.{Value}
@@ -71,10 +72,9 @@ width_in place (Number (pos n)) = fine (wide n)
 width_in place (Number (negsuc n)) = faulty NumberRange place
 width_in place _ = faulty WrongSort place
 
--- a signal of this name is declared
+-- some declaration is of a signal of this name
 abbrev pub declares : List ℕ → List Declaration → Bool
-declares name [] = false
-declares name (d ∷ ds) = if same_name d.word.name name then true else declares name ds
+declares name ds = list_any (λ d. same_name d.word.name name) ds
 
 -- the type of a declaration; another declared name, of a signal that comes later too, is of a wrong sort
 abbrev pub type_in : Text → Named → Meaning → Checked Extent
