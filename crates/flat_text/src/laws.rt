@@ -1,0 +1,23 @@
+// Laws of the definitions, which no code needs.
+
+ghost use Rattle.flat_text.specs.Laws.{FlatFaultsAreDetermined, FlatTextsAreDetermined, FlatTextsHaveNoFault, TreesAreSeenAlike};
+
+/// Reading and expansion see one text in a tree.
+pub fn trees_are_seen_alike()
+    ensures { TreesAreSeenAlike }
+{}
+
+/// No text is two things, flat.
+pub fn flat_texts_are_determined()
+    ensures { FlatTextsAreDetermined }
+{}
+
+/// A text that is expanded has no fault.
+pub fn flat_texts_have_no_fault()
+    ensures { FlatTextsHaveNoFault }
+{}
+
+/// A text has at most one first fault.
+pub fn flat_faults_are_determined()
+    ensures { FlatFaultsAreDetermined }
+{}
