@@ -178,9 +178,18 @@ struct Found {
 }
 
 fn evaluated(alloc: Global, definitions: Vec<Definition>, expr: &Expr) -> Result<Found, SpecFault> {
+    evaluated_from(alloc, definitions, expr, Meter { done: 0, depth: 0 })
+}
+
+fn evaluated_from(
+    alloc: Global,
+    definitions: Vec<Definition>,
+    expr: &Expr,
+    meter: Meter,
+) -> Result<Found, SpecFault> {
     let tree = text(alloc, definitions)?;
     let env = env(alloc)?;
-    let mut meter = Meter { done: 0, depth: 0 };
+    let mut meter = meter;
     let mut formulas = Formulas::new(alloc);
     let value = value_of(&tree, expr, &env, &mut meter, &mut formulas)?;
     Ok(Found {
@@ -200,7 +209,16 @@ fn fault_among(
     definitions: Vec<Definition>,
     expr: Made,
 ) -> Result<Option<(SpecCode, u64)>, SpecFault> {
-    match evaluated(alloc, definitions, &expr?) {
+    fault_from(alloc, definitions, expr, Meter { done: 0, depth: 0 })
+}
+
+fn fault_from(
+    alloc: Global,
+    definitions: Vec<Definition>,
+    expr: Made,
+    meter: Meter,
+) -> Result<Option<(SpecCode, u64)>, SpecFault> {
+    match evaluated_from(alloc, definitions, &expr?, meter) {
         Ok(_) => Ok(None),
         Err(SpecFault::At { code, place }) => Ok(Some((code, place))),
         Err(SpecFault::NoMemory) => Err(SpecFault::NoMemory),
@@ -353,5 +371,159 @@ fn windows_join_what_is_counted(rt: HostRuntime) -> Result<(), Fail> {
     assert!(rt; matches!(none.value, Value::Flat(FormulaId(0))));
     assert_eq!(rt; none.formulas.len(), 1);
     assert_eq!(rt; none.formulas.node(FormulaId(0)), Node::True);
+    Ok(())
+}
+
+// ---- what is one node, what is counted, and how deep it stands
+
+#[test]
+fn ranges_and_chains_are_one_node(rt: HostRuntime) -> Result<(), Fail> {
+    let alloc = rt.alloc();
+    let mut ranges = Vec::new(alloc);
+    ranges.push(below(alloc, b"i", 0, 1)?)?;
+    ranges.push(below(alloc, b"j", 0, 1)?)?;
+    let part = Box::new(alloc, truth(40, true))?;
+    let op = Op::And;
+    let both = expr(1, Form::Big { op, ranges, part });
+    assert_eq!(rt; evaluated(alloc, Vec::new(alloc), &both)?.done, 6);
+    let mut rest = Vec::new(alloc);
+    for right in [number(3, 2), number(5, 3)] {
+        let op = Op::Plus;
+        rest.push(Link { op, right })?;
+    }
+    let first = Box::new(alloc, number(1, 1))?;
+    let six = evaluated(
+        alloc,
+        Vec::new(alloc),
+        &expr(1, Form::Chain { first, rest }),
+    )?;
+    assert!(rt; matches!(six.value, Value::Number(6)));
+    assert_eq!(rt; six.done, 4);
+    Ok(())
+}
+
+// Once both operands are evaluated, the left one becomes a node before the right one.
+#[test]
+fn truths_become_nodes_at_their_operator(rt: HostRuntime) -> Result<(), Fail> {
+    let alloc = rt.alloc();
+    let until = pair(alloc, 1, Op::Until, truth(1, true), named(alloc, 8, b"r")?)?;
+    let until = evaluated(alloc, Vec::new(alloc), &until)?;
+    assert_eq!(rt; until.formulas.len(), 3);
+    assert_eq!(rt; until.formulas.node(FormulaId(0)), Node::Signal(0));
+    assert_eq!(rt; until.formulas.node(FormulaId(1)), Node::True);
+    let until = pair(alloc, 1, Op::Until, truth(1, true), truth(8, false))?;
+    let until = evaluated(alloc, Vec::new(alloc), &until)?;
+    assert_eq!(rt; until.formulas.len(), 3);
+    assert_eq!(rt; until.formulas.node(FormulaId(0)), Node::True);
+    assert_eq!(rt; until.formulas.node(FormulaId(1)), Node::False);
+    Ok(())
+}
+
+// `t = true;`
+fn always_true(alloc: Global) -> Result<Vec<Definition>, SpecFault> {
+    let mut definitions = Vec::new(alloc);
+    definitions.push(Definition::Parameter {
+        word: word(alloc, 0, b"t")?,
+        value: truth(4, true),
+    })?;
+    Ok(definitions)
+}
+
+// `f(i) = otherwise : true;`
+fn otherwise_true(alloc: Global) -> Result<Vec<Definition>, SpecFault> {
+    let mut alternatives = Vec::new(alloc);
+    alternatives.push(Alternative {
+        guard: None,
+        value: truth(19, true),
+    })?;
+    let mut arguments = Vec::new(alloc);
+    arguments.push(word(alloc, 2, b"i")?)?;
+    let mut definitions = Vec::new(alloc);
+    definitions.push(Definition::Function {
+        word: word(alloc, 0, b"f")?,
+        arguments,
+        body: Body::Guarded(alternatives),
+    })?;
+    Ok(definitions)
+}
+
+// A guard and an alternative's expression stand as deep as a body, two below the call's node.
+#[test]
+fn guards_and_alternatives_stand_two_deeper(rt: HostRuntime) -> Result<(), Fail> {
+    let alloc = rt.alloc();
+    for (depth, expected) in [(1020, None), (1021, Some((SpecCode::TooDeep, 7)))] {
+        let meter = Meter { done: 0, depth };
+        let f_of_1 = call(alloc, 158, b"f", number(160, 1));
+        let fault = fault_from(alloc, positive_only(alloc)?, f_of_1, meter)?;
+        assert_eq!(rt; fault, expected);
+    }
+    for (depth, expected) in [(1021, None), (1022, Some((SpecCode::TooDeep, 19)))] {
+        let meter = Meter { done: 0, depth };
+        let f_of_1 = call(alloc, 158, b"f", number(160, 1));
+        let fault = fault_from(alloc, otherwise_true(alloc)?, f_of_1, meter)?;
+        assert_eq!(rt; fault, expected);
+    }
+    Ok(())
+}
+
+// The word of an index that is a definition is a call alone; parentheses are a node.
+#[test]
+fn a_word_is_a_call_and_parentheses_are_a_node(rt: HostRuntime) -> Result<(), Fail> {
+    let alloc = rt.alloc();
+    for (depth, expected) in [(1021, None), (1022, Some((SpecCode::TooDeep, 4)))] {
+        let mut definitions = Vec::new(alloc);
+        definitions.push(Definition::Parameter {
+            word: word(alloc, 0, b"c")?,
+            value: named(alloc, 4, b"b")?,
+        })?;
+        let meter = Meter { done: 0, depth };
+        let bit = index(alloc, 90, b"c", number(92, 0));
+        assert_eq!(rt; fault_from(alloc, definitions, bit, meter)?, expected);
+    }
+    let paren = Form::Paren(Box::new(alloc, truth(2, true))?);
+    let found = evaluated(alloc, Vec::new(alloc), &expr(1, paren))?;
+    assert_eq!(rt; found.done, 2);
+    Ok(())
+}
+
+#[test]
+fn a_name_of_a_definition_is_a_node_and_a_call(rt: HostRuntime) -> Result<(), Fail> {
+    let alloc = rt.alloc();
+    for (depth, expected) in [
+        (1021, None),
+        (1022, Some((SpecCode::TooDeep, 4))),
+        (1023, Some((SpecCode::TooDeep, 90))),
+        (1024, Some((SpecCode::TooDeep, 90))),
+    ] {
+        let meter = Meter { done: 0, depth };
+        let t = named(alloc, 90, b"t");
+        let fault = fault_from(alloc, always_true(alloc)?, t, meter)?;
+        assert_eq!(rt; fault, expected);
+    }
+    Ok(())
+}
+
+// Of two limits that one node passes, the depth comes first; of two that one X passes, the evaluations do.
+#[test]
+fn limits_have_their_order(rt: HostRuntime) -> Result<(), Fail> {
+    let alloc = rt.alloc();
+    let most = 1_000_000;
+    for (done, depth, code) in [
+        (most, 1023, SpecCode::ExpandTooLong),
+        (most, 1024, SpecCode::TooDeep),
+    ] {
+        let meter = Meter { done, depth };
+        let fault = fault_from(alloc, Vec::new(alloc), Ok(truth(7, true)), meter)?;
+        assert_eq!(rt; fault, Some((code, 7)));
+    }
+    for (done, code) in [
+        (most - 1026, SpecCode::ExpandTooLong),
+        (most - 1027, SpecCode::TooManyNodes),
+    ] {
+        let meter = Meter { done, depth: 0 };
+        let next = counted(alloc, 5, number(7, 1024), named(alloc, 13, b"r")?);
+        let fault = fault_from(alloc, Vec::new(alloc), next, meter)?;
+        assert_eq!(rt; fault, Some((code, 5)));
+    }
     Ok(())
 }
