@@ -183,6 +183,25 @@ fn a_full_list_is_met_at_the_whole(rt: HostRuntime) -> Result<(), Fail> {
     Ok(())
 }
 
+// An unknown type is no fault of reading: a missing part, and kinds that differ, come before it.
+#[test]
+fn types_are_tested_in_evaluation(rt: HostRuntime) -> Result<(), Fail> {
+    let alloc = rt.alloc();
+    let text = text_of(alloc, b"", b"INPUTS { T t; }")?;
+    let fault = expand_text(alloc, &text, None).err();
+    let code = SpecCode::Missing;
+    assert_eq!(rt; fault, Some(SpecFault::At { code, place: 91 }));
+    let text = b"INFO { TITLE: \"t\" DESCRIPTION: \"d\" SEMANTICS: Moore TARGET: Mealy }\n\
+        MAIN { INPUTS { T t; } OUTPUTS { } }\n";
+    let fault = expand_text(alloc, text, None).err();
+    let code = SpecCode::TargetDiffers;
+    assert_eq!(rt; fault, Some(SpecFault::At { code, place: 60 }));
+    let fault = expand_text(alloc, text, Some(Kind::Moore)).err();
+    let code = SpecCode::UnknownName;
+    assert_eq!(rt; fault, Some(SpecFault::At { code, place: 84 }));
+    Ok(())
+}
+
 #[test]
 fn parts_of_a_text_have_their_order(rt: HostRuntime) -> Result<(), Fail> {
     let alloc = rt.alloc();

@@ -1,7 +1,8 @@
 // Flat lines of whole texts, and their first faults.
 
 use crate::fixtures::{
-    assert_expanded, assert_formula_refused, assert_guarantees, assert_refused_at_mark, text_of,
+    assert_expanded, assert_formula_refused, assert_guarantees, assert_refused_at_mark, lines_of,
+    text_of,
 };
 use flat_text::expand_text;
 use letter_word::Kind;
@@ -58,22 +59,51 @@ fn enumerations_are_expanded(rt: HostRuntime) -> Result<(), Fail> {
     )
 }
 
-// One grant at a time for two clients, and every request is granted.
+/// One grant at a time for two clients, and every request is granted.
+const ARBITER: &[u8] = b"INFO {
+  TITLE: \"Arbiter\"
+  DESCRIPTION: \"One grant at a time, every request is granted\"
+  SEMANTICS: Mealy
+  TARGET: Mealy
+}
+GLOBAL {
+  PARAMETERS {
+    n = 2;
+  }
+  DEFINITIONS {
+    none(b, i, j) = &&[i <= t <= j] !b[t];
+    m(i, j) = (i + j) / 2;
+    mone(b, i, j) =
+      i > j : false
+      i == j : true
+      i < j : (none(b, i, m(i, j)) && mone(b, m(i, j) + 1, j))
+           || (mone(b, i, m(i, j)) && none(b, m(i, j) + 1, j));
+  }
+}
+MAIN {
+  INPUTS {
+    r[n];
+  }
+  OUTPUTS {
+    g[n];
+  }
+  ASSERT {
+    mone(g, 0, n - 1);
+  }
+  GUARANTEE {
+    &&[0 <= i < n] G (r[i] -> F g[i]);
+  }
+}
+";
+
 #[test]
 fn the_arbiter_of_two_clients_is_expanded(rt: HostRuntime) -> Result<(), Fail> {
-    assert_expanded(
-        &rt,
-        rt.alloc(),
-        b"none(b, i, j) = &&[i <= t <= j] !b[t]; m(i, j) = (i + j) / 2; \
-          mone(b, i, j) = i > j : false i == j : true \
-          i < j : (none(b, i, m(i, j)) && mone(b, m(i, j) + 1, j)) \
-          || (mone(b, i, m(i, j)) && none(b, m(i, j) + 1, j)); n = 2;",
-        b"INPUTS { r[n]; } OUTPUTS { g[n]; } ASSERT { mone(g, 0, n - 1); } \
-          GUARANTEE { &&[0 <= i < n] G (r[i] -> F g[i]); }",
-        b"inputs r[0] r[1]\noutputs g[0] g[1]\n\
+    let spec = expand_text(rt.alloc(), ARBITER, None)?;
+    let lines = b"inputs r[0] r[1]\noutputs g[0] g[1]\n\
           assert ((!g[0] && true) || (true && !g[1]))\n\
-          guarantee ((G (r[0] -> (F g[0]))) && (G (r[1] -> (F g[1]))))\n",
-    )
+          guarantee ((G (r[0] -> (F g[0]))) && (G (r[1] -> (F g[1]))))\n";
+    assert_eq!(rt; lines_of(rt.alloc(), &spec)?.as_slice(), lines.as_slice());
+    Ok(())
 }
 
 #[test]

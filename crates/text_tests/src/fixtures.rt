@@ -101,7 +101,7 @@ fn push_section(
 }
 
 /// The signals, then each section's formulas, a line each.
-fn lines_of(alloc: Global, spec: &Spec) -> Result<Vec<u8>, Fail> {
+pub(crate) fn lines_of(alloc: Global, spec: &Spec) -> Result<Vec<u8>, Fail> {
     let words: [&[u8]; 6] = [
         b"initially ",
         b"preset ",
