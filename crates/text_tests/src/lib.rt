@@ -13,6 +13,8 @@ mod fixtures;
 #[cfg(test)]
 mod meaning;
 #[cfg(test)]
+mod operators;
+#[cfg(test)]
 mod reading;
 #[cfg(test)]
 mod values;

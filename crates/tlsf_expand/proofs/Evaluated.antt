@@ -20,7 +20,7 @@ use Rattle.tlsf_values.specs.Outcomes.{gives, go_on, faulty}
 use Rattle.tlsf_values.specs.Names.{Names, Binding, Meaning, look_up}
 use Rattle.tlsf_values.specs.Sorts.{bus_in}
 use Rattle.tlsf_values.specs.Counts.{joining_of, window_of}
-use Rattle.tlsf_values.specs.Values.{Evaluator, evaluator, start_of, tree_count, values_at, arguments_at, meaning_value, call_value, guard_value, chosen_value, body_value, is_no_bus, word_value, chain_value, window_at, bind, big_value, big_at, form_value, value_at}
+use Rattle.tlsf_values.specs.Values.{Evaluator, evaluator, start_of, tree_count, values_at, arguments_at, meaning_value, call_value, guard_value, chosen_value, body_value, is_never_a_bus, word_value, chain_value, window_at, bind, big_value, big_at, form_value, value_at}
 use Rattle.tlsf_expand.specs.Senses as senses
 use Rattle.tlsf_expand.specs.WrittenTruth as written
 use Rattle.tlsf_expand.specs.Senses.{Sense, a_number, a_truth, a_formula, nothing}
@@ -69,7 +69,7 @@ module _ (w : Word) (names : Names) (has : HasPlainNames names) (r : Evaluator) 
   keeps_word : (place : ℕ) (meaning : Meaning) (ref : Referent) (work : Work) → IsNodeList work.formulas → AlikeMeaning w work.formulas meaning ref
       → Keeps work.formulas (λ b nodes. AlikeBus b (name_sense w m ref)) (word_value r place meaning work)
   keeps_word place meaning ref work list h =
-      keeps_choose (is_no_bus meaning) _ _ work _
+      keeps_choose (is_never_a_bus meaning) _ _ work _
       (λ _. keeps_given _ (faulty WrongSort place) work list (alike_other WrongSort place _))
       (λ _. keeps_found place meaning ref work list h)
 

@@ -77,7 +77,7 @@ pub record RowsEvaluate : Type 0 where
   pub unknown_name : alone (some_names []) (named (from 113) (codes "x")) ≡ fails code.UnknownName 113
   pub index_out : alone (some_names []) (index (from 116) (word (codes "b") 116) (num 118 2)) ≡ fails code.IndexOut 118
   pub last_bit : alone (some_names []) (index (from 116) (word (codes "b") 116) (num 118 1)) ≡ gives (Flat (id 0)) (ended 2 (node.Signal 2 ∷ []))
-  pub signal_is_no_bus : (nodes : List Node) → value_at (some_names []) [] (index (from 116) (word (codes "r") 116) (num 118 0)) 0 (ended 0 nodes) ≡ fails code.WrongSort 116
+  pub signal_is_never_a_bus : (nodes : List Node) → value_at (some_names []) [] (index (from 116) (word (codes "r") 116) (num 118 0)) 0 (ended 0 nodes) ≡ fails code.WrongSort 116
   pub index_before_sorts : alone (some_names []) (index (from 116) (word (codes "r") 116) (named (from 118) (codes "x"))) ≡ fails code.UnknownName 118
   pub zero_divisor : alone (some_names []) (chain (from 86) (num 86 1) (link op.Div (num 90 0) no_links)) ≡ fails code.ZeroDivisor 90
   pub rounds_to_zero : alone (some_names []) (chain (from 1) (number (from 1) (Some (negsuc 6))) (link op.Div (num 5 2) no_links)) ≡ gives (Number (negsuc 2)) (ended 3 [])

@@ -89,16 +89,16 @@ bit_value place at bus i w =
     choose (int_le (pos 0) i && int_lt i (pos bus.width)) (λ w. go_on (made place (node.Signal (bus.first + unsigned_abs i)) w) (λ id w. gives (Flat id) w)) (λ w. fails IndexOut at) w
 
 -- a single signal, an enumeration and a function that wants arguments are no buses, whatever the index is
-abbrev pub is_no_bus : Meaning → Bool
-is_no_bus (a_signal k) = true
-is_no_bus an_enumeration = true
-is_no_bus (a_definition (word ∷ words) body) = true
-is_no_bus _ = false
+abbrev pub is_never_a_bus : Meaning → Bool
+is_never_a_bus (a_signal k) = true
+is_never_a_bus an_enumeration = true
+is_never_a_bus (a_definition (word ∷ words) body) = true
+is_never_a_bus _ = false
 
 -- the bus that the word of an index stands for, or its wrong sort
 abbrev pub word_value : Evaluator → ℕ → Meaning → Work → Outcome (Checked ℕ)
 word_value r place m w =
-    choose (is_no_bus m) (λ w. gives (faulty WrongSort place) w)
+    choose (is_never_a_bus m) (λ w. gives (faulty WrongSort place) w)
     (λ w. go_on (meaning_value r place m w) (λ v w. gives (bus_in place v) w)) w
 
 -- the word is looked up, the index is evaluated, and then their sorts are tested

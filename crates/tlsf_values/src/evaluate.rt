@@ -255,7 +255,7 @@ impl<'t> Names<'t> {
         ensures bound { OnOk result (bound.new ≡ bound.old) }
     {
         let meaning = self.look_up(bound, &word.name)?;
-        if meaning.is_no_bus() {
+        if meaning.is_never_a_bus() {
             self.value(bound, index, left, work)?;
             return Err(fault(SpecCode::WrongSort, word.span.start));
         }

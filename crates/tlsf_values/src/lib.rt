@@ -32,6 +32,3 @@ pub use set_operation::SetOperation;
 pub use text_value::{Env, Meter, value_of};
 pub use value::Value;
 pub use work::{MOST_DEPTH, MOST_EVALUATIONS, Work};
-
-#[cfg(test)]
-mod tests;

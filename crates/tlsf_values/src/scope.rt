@@ -5,7 +5,7 @@ ghost use Rattle.std.specs.Option.{option_map};
 ghost use Rattle.tlsf_values.specs.Names.{look_up, same_name};
 ghost use Rattle.tlsf_values.specs.NamesSeen.{names_seen};
 ghost use Rattle.tlsf_values.specs.ScopeSeen.{meaning_seen};
-ghost use Rattle.tlsf_values.specs.Values.{is_no_bus};
+ghost use Rattle.tlsf_values.specs.Values.{is_never_a_bus};
 
 use crate::names::{Entry, Names};
 use crate::value::Value;
@@ -113,8 +113,8 @@ pub(crate) enum Meaning<'t> {
 
 impl Meaning<'_> {
     /// Whether it is no bus, whatever its value may be.
-    pub(crate) fn is_no_bus(&self) -> bool
-        ensures { result ≡ is_no_bus (meaning_seen self.now) }
+    pub(crate) fn is_never_a_bus(&self) -> bool
+        ensures { result ≡ is_never_a_bus (meaning_seen self.now) }
     {
         match self {
             Meaning::Signal(_) | Meaning::Enumeration => true,

@@ -1,6 +1,5 @@
-// Sets, operators and enumerations, as texts use them.
+// Operators on values: numbers, sets, and a bus beside a member of an enumeration.
 
-use crate::{Names, NumberSet, Places, Value, Work};
 use ltl_formula::{FormulaId, Formulas, Node};
 use std::alloc::Global;
 use std::process::Abort;
@@ -8,6 +7,7 @@ use std::test::Fail;
 use text_base::Name;
 use tlsf_tokens::{SpecCode, SpecFault};
 use tlsf_tree::{Definition, Member, Op, Pattern, Span, Word};
+use tlsf_values::{Names, NumberSet, Places, Value, Work};
 
 const PLACES: Places = Places {
     own: 86,
