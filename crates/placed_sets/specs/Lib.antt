@@ -1,0 +1,5 @@
+pub mod Bits
+pub mod Chunks
+pub mod Placed
+pub mod Sets
+pub mod Shown

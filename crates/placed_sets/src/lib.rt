@@ -1,0 +1,15 @@
+// Sets of numbers as bits of places. A `Numbering` gives each number that it meets a place, once for all; a
+// `PlacedSet` is the words of those bits, with the numbers over which they stand. So the union, the intersection
+// and the difference of two sets take a step for 64 places and look no number up. The contract above this layer:
+// what a call answers is the union, intersection or difference of lists that rise. It stands on std alone.
+#![tactic(auto)]
+
+mod number_list;
+mod numbering;
+mod placed_set;
+#[cfg(test)]
+mod tests;
+mod words;
+
+pub use numbering::Numbering;
+pub use placed_set::PlacedSet;
