@@ -1,6 +1,5 @@
 pub mod RowProofs
 pub mod ScopeLemmas
-pub mod SetLemmas
 pub mod CountLemmas
 pub mod NamesLemmas
 pub mod PatternLemmas
@@ -11,3 +10,4 @@ pub mod EvaluationLemmas
 pub mod FormLemmas
 pub mod CopyLemmas
 pub mod CheckedLemmas
+pub mod OverLemmas

@@ -1,6 +1,6 @@
 -- Numbers that are stepped through.
-use Rattle.std.proofs.Common.{◌≡◌, ℕ, suc, ◌+◌, ◌-◌, ◌/◌, ◌<◌, Bool, true, false, cond, ltb, List, [], ◌∷◌, ◌++◌, length, get_or, drop, ℤ, Err, pos, ◌+ℤ◌, ◌-ℤ◌, FitsSigned, w64, refl, sym, ap, ◌∙◌, arith}
-use Rattle.std.proofs.lemmas.List.{at_drop_more}
+use Rattle.std.proofs.Common.{◌≡◌, ℕ, suc, ◌+◌, ◌-◌, ◌/◌, ◌<◌, Bool, true, false, cond, ltb, List, [], ◌∷◌, ◌++◌, length, get_or, drop, map, ℤ, Err, Option, Some, pos, ◌+ℤ◌, ◌-ℤ◌, FitsSigned, w64, refl, sym, ap, ◌∙◌, arith}
+use Rattle.std.proofs.lemmas.List.{at_drop_more, append_assoc}
 use Rattle.std.specs.Prelude.{int_lt, unsigned_abs}
 use Rattle.std.specs.Ordering.{int_eq}
 use Rattle.std.proofs.Math.Nat.{div-eq_of_lt, div-eq-sub-div}
@@ -9,14 +9,19 @@ use Rattle.std.proofs.lemmas.Int.{ints}
 use Rattle.tlsf_tokens.specs.declared.code.SpecFault.{SpecFault}
 use Rattle.tlsf_tokens.specs.declared.code.SpecFault.TheVariants.{NoMemory, At}
 use Rattle.tlsf_tree.specs.declared.expr.Expr.{Expr}
-use Rattle.tlsf_values.specs.declared.value.Value.{Value}
-use Rattle.tlsf_values.specs.Outcomes.{Checked, and_then}
+use Rattle.tlsf_values.specs.declared.held.Held.{Held}
+use Rattle.tlsf_values.specs.HeldSeen.{held_seen}
+use Rattle.tlsf_values.specs.Outcomes.{Checked, and_then, counted, gives}
 use Rattle.tlsf_values.specs.Results.{IsChecked, IsCheckedAs}
 use Rattle.tlsf_values.specs.Seen.{trees_seen}
 use Rattle.tlsf_values.specs.Sorts.{number_in}
-use Rattle.tlsf_values.specs.Values.{numbers_in}
+use Rattle.tlsf_values.specs.Values.{numbers_in, steps_value}
 use Rattle.tlsf_values.proofs.SeenLemmas.{start_seen}
-use Rattle.tlsf_values.specs.Sets.{numbers_from, passes, steps_to, left_from, rest_from}
+use Rattle.tlsf_values.specs.Steps.{numbers_from, passes, steps_to, left_from, rest_from, those_from, step_count, stepped}
+use Rattle.placed_sets.specs.Sets.{set_of}
+use Rattle.tlsf_values.specs.declared.work.Work.{Work}
+use Rattle.tlsf_values.specs.declared.value.Value.{Value}
+use Rattle.tlsf_values.specs.declared.value.Value.TheVariants.{Set}
 
 pub divided : (d s : ℕ) → 0 < s → d / s ≡ cond (ltb d s) 0 (suc ((d - s) / s))
 divided d s some = by (ltb d s) refl
@@ -96,15 +101,26 @@ rest_none z by last here = ap (λ b. numbers_from z by (cond b 0 (suc (steps_to 
 -- ---- the numbers of a written set
 
 -- the first part whose value isn't a number
-pub numbers_fault : (so_far : List ℤ) (parts : List Expr) (values : List Value) (i : ℕ) (p : Expr) (v : Value) (e : SpecFault) (whole : Checked (List ℤ)) →
-    whole ≡ numbers_in so_far (trees_seen (drop i parts)) (drop i values) → i < length parts → i < length values → p ≡ get_or parts i p → v ≡ get_or values i v →
-    IsChecked {A = ℤ} (Err e) (number_in p.span.start v) → IsCheckedAs {A = List ℤ} (λ xs. xs) (Err e) whole
+pub numbers_fault : (so_far : List ℤ) (parts : List Expr) (values : List Held) (i : ℕ) (p : Expr) (v : Held) (e : SpecFault) (whole : Checked (List ℤ)) →
+    whole ≡ numbers_in so_far (trees_seen (drop i parts)) (map held_seen (drop i values)) → i < length parts → i < length values → p ≡ get_or parts i p → v ≡ get_or values i v →
+    IsChecked {A = ℤ} (Err e) (number_in p.span.start (held_seen v)) → IsCheckedAs {A = List ℤ} (λ xs. xs) (Err e) whole
 numbers_fault so_far parts values i p v NoMemory whole is part_in value_in part_is value_is h = tt
 numbers_fault so_far parts values i p v (At code place) whole is part_in value_in part_is value_is h =
     is
-    ∙ at_drop_more (λ ps. numbers_in so_far (trees_seen ps) (drop i values)) parts i p part_in
-    ∙ ap (λ x. numbers_in so_far (trees_seen (x ∷ drop (i + 1) parts)) (drop i values)) (sym part_is)
-    ∙ at_drop_more (λ vs. numbers_in so_far (trees_seen (p ∷ drop (i + 1) parts)) vs) values i v value_in
-    ∙ ap (λ x. numbers_in so_far (trees_seen (p ∷ drop (i + 1) parts)) (x ∷ drop (i + 1) values)) (sym value_is)
-    ∙ ap (λ at. and_then (number_in at v) (λ z. numbers_in (so_far ++ z ∷ []) (trees_seen (drop (i + 1) parts)) (drop (i + 1) values))) (start_seen p)
-    ∙ ap (λ c. and_then c (λ z. numbers_in (so_far ++ z ∷ []) (trees_seen (drop (i + 1) parts)) (drop (i + 1) values))) h
+    ∙ at_drop_more (λ ps. numbers_in so_far (trees_seen ps) (map held_seen (drop i values))) parts i p part_in
+    ∙ ap (λ x. numbers_in so_far (trees_seen (x ∷ drop (i + 1) parts)) (map held_seen (drop i values))) (sym part_is)
+    ∙ at_drop_more (λ vs. numbers_in so_far (trees_seen (p ∷ drop (i + 1) parts)) (map held_seen vs)) values i v value_in
+    ∙ ap (λ x. numbers_in so_far (trees_seen (p ∷ drop (i + 1) parts)) (map held_seen (x ∷ drop (i + 1) values))) (sym value_is)
+    ∙ ap (λ at. and_then (number_in at (held_seen v)) (λ z. numbers_in (so_far ++ z ∷ []) (trees_seen (drop (i + 1) parts)) (map held_seen (drop (i + 1) values)))) (start_seen p)
+    ∙ ap (λ c. and_then c (λ z. numbers_in (so_far ++ z ∷ []) (trees_seen (drop (i + 1) parts)) (map held_seen (drop (i + 1) values)))) h
+
+-- one more number of those that are stepped through is laid out
+pub laid_more : (rest numbers more : List ℤ) (z step last : ℤ) (next : Option ℤ) → rest ≡ numbers ++ those_from step last (Some z) → more ≡ numbers ++ z ∷ []
+    → rest_from (z +ℤ step) step last ≡ those_from step last next → rest ≡ more ++ those_from step last next
+laid_more rest numbers more z step last next was is after =
+    was ∙ ap (λ xs. numbers ++ z ∷ xs) after ∙ sym (append_assoc numbers (z ∷ []) (those_from step last next)) ∙ ap (λ xs. xs ++ those_from step last next) (sym is)
+
+-- all numbers are laid out and make the set
+pub stepped_set : (place : ℕ) (a b c : ℤ) (w counted_work : Work) (v : Value) (zs : List ℤ) → int_eq a b ≡ false → counted place (step_count a b c) w ≡ gives tt counted_work → zs ≡ stepped a b c
+    → v ≡ Set (set_of zs) → steps_value place a b c w ≡ gives v counted_work
+stepped_set place a b c w counted_work v zs differ count laid is = rw (differ, count, is, laid) refl

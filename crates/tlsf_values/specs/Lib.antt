@@ -1,4 +1,4 @@
-pub mod Sets
+pub mod Steps
 pub mod Outcomes
 pub mod Results
 pub mod Names
@@ -16,3 +16,4 @@ pub mod MembersSeen
 pub mod Seen
 pub mod NamesSeen
 pub mod ScopeSeen
+pub mod HeldSeen

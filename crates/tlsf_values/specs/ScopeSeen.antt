@@ -1,5 +1,5 @@
 -- The code's bound names and meanings as the definition sees them.
-use Rattle.std.specs.Prelude.{ℕ, ◌≡◌, List, [], ◌∷◌, map, reverse, length, Option, None, Some, if◌then◌else◌}
+use Rattle.std.specs.Prelude.{ℕ, ◌≡◌, List, [], ◌∷◌, map, reverse, length, Option, None, Some, ℤ, if◌then◌else◌}
 use Rattle.std.specs.Borrow.{Bor}
 use Rattle.std.specs.HashMap.{HashMap, get}
 use Rattle.tlsf_grammar.specs.Tree as plain
@@ -8,15 +8,16 @@ use Rattle.tlsf_values.specs.declared.scope.BodyOf.{BodyOf}
 use Rattle.tlsf_values.specs.declared.scope.BodyOf.TheVariants.{Plain, Guarded}
 use Rattle.tlsf_values.specs.declared.scope.Meaning.{Meaning as CodeMeaning}
 use Rattle.tlsf_values.specs.declared.scope.Meaning.TheVariants.{Known, Signal, Definition, Enumeration, Undeclared}
-use Rattle.tlsf_values.specs.Names.{Binding, same_name, Meaning, known, a_signal, a_definition, an_enumeration, undeclared}
+use Rattle.tlsf_values.specs.HeldSeen.{HeldBinding, held_seen, IsOver}
+use Rattle.tlsf_values.specs.Names.{same_name, Meaning, known, a_signal, a_definition, an_enumeration, undeclared}
 use Rattle.tlsf_values.specs.Seen.{word_seen, expr_seen, alternative_seen}
 
-abbrev pub binding_seen : CodeBinding → Binding
+abbrev pub binding_seen : CodeBinding → HeldBinding
 binding_seen b = record { name = b.name.now; value = b.value }
 
 -- the latest binding stands last in the code
-abbrev pub bound_seen : List CodeBinding → List Binding
-bound_seen bs = map binding_seen (reverse bs)
+abbrev pub bindings_seen : List CodeBinding → List HeldBinding
+bindings_seen bs = map binding_seen (reverse bs)
 
 -- the place of the latest binding of a name, among bindings of which the latest stands first
 abbrev pub latest_place : List ℕ → List CodeBinding → Option ℕ
@@ -38,8 +39,13 @@ code_body_seen (Plain e) = plain.plain (expr_seen e.now)
 code_body_seen (Guarded alternatives) = plain.guarded (map alternative_seen alternatives.now)
 
 abbrev pub meaning_seen : CodeMeaning → Meaning
-meaning_seen (Known v) = known v
+meaning_seen (Known v) = known (held_seen v)
 meaning_seen (Signal k) = a_signal k
 meaning_seen (Definition words body) = a_definition (map word_seen words.now) (code_body_seen body)
 meaning_seen Enumeration = an_enumeration
 meaning_seen Undeclared = undeclared
+
+-- what is known stands over these numbers
+abbrev pub IsMeantOver : List ℤ → CodeMeaning → Type 0
+IsMeantOver us (Known v) = IsOver us v
+IsMeantOver us _ = Unit {0}

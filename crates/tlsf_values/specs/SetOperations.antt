@@ -2,7 +2,7 @@
 use Rattle.std.specs.Prelude.{List, ℤ}
 use Rattle.tlsf_values.specs.declared.set_operation.SetOperation.{SetOperation}
 use Rattle.tlsf_values.specs.declared.set_operation.SetOperation.TheVariants.{Join, Meet, Difference}
-use Rattle.tlsf_values.specs.Sets.{union, intersection, difference}
+use Rattle.placed_sets.specs.Sets.{union, intersection, difference}
 
 abbrev pub combined : SetOperation → List ℤ → List ℤ → List ℤ
 combined Join xs ys = union xs ys

@@ -1,15 +1,18 @@
 // Operators whose operands may be buses and members of enumerations, and all operators with two operands.
 
-ghost use Rattle.std.specs.Prelude.{◌≡◌};
+ghost use Rattle.std.specs.Prelude.{◌≡◌, List, ℤ, IfOk};
+ghost use Rattle.placed_sets.specs.Placed.{IsPrefix};
+ghost use Rattle.tlsf_values.specs.HeldSeen.{held_seen, IsOver};
 ghost use Rattle.tlsf_values.specs.NamesSeen.{names_seen};
 ghost use Rattle.tlsf_values.specs.Operators.{equated, matched_at, operated};
-ghost use Rattle.tlsf_values.specs.Results.{IsOutcome};
+ghost use Rattle.tlsf_values.specs.Results.{IsOutcome, IsOutcomeAs};
 
 use crate::formula::{Connective, Formula, Pairing};
+use crate::held::Held;
 use crate::names::Names;
 use crate::numbers::{Arithmetic, Comparison, Places};
+use crate::progress::Progress;
 use crate::set_operation::SetOperation;
-use crate::value::Value;
 use crate::work::{Work, fault};
 use tlsf_tokens::{SpecCode, SpecFault};
 use tlsf_tree::Op;
@@ -34,21 +37,17 @@ impl<'t> Names<'t> {
         &self,
         work: &mut Work,
         places: Places,
-        left: &Value,
-        right: &Value,
+        left: &Held,
+        right: &Held,
     ) -> Result<Formula, SpecFault>
-        ensures { IsOutcome result work.new (equated (names_seen self.now) places left.now right.now work.old) }
+        ensures { IsOutcome result work.new (equated (names_seen self.now) places (held_seen left.now) (held_seen right.now) work.old) }
     {
         match (left, right) {
-            (Value::Number(left), _) => Ok(Formula::Sure(*left == right.number(places.right)?)),
-            (Value::Bus(bus), Value::EnumValue(member)) => self.matched(
-                work, places, *bus, *member,
-            ),
-            (Value::EnumValue(member), Value::Bus(bus)) => self.matched(
-                work, places, *bus, *member,
-            ),
-            (Value::Bus(_), _) => Err(fault(SpecCode::WrongSort, places.right)),
-            (Value::EnumValue(_), _) => Err(fault(SpecCode::WrongSort, places.right)),
+            (Held::Number(left), _) => Ok(Formula::Sure(*left == right.number(places.right)?)),
+            (Held::Bus(bus), Held::EnumValue(member)) => self.matched(work, places, *bus, *member),
+            (Held::EnumValue(member), Held::Bus(bus)) => self.matched(work, places, *bus, *member),
+            (Held::Bus(_), _) => Err(fault(SpecCode::WrongSort, places.right)),
+            (Held::EnumValue(_), _) => Err(fault(SpecCode::WrongSort, places.right)),
             _ => Err(fault(SpecCode::WrongSort, places.left)),
         }
     }
@@ -57,50 +56,87 @@ impl<'t> Names<'t> {
         &self,
         work: &mut Work,
         places: Places,
-        left: &Value,
-        right: &Value,
-    ) -> Result<Value, SpecFault>
-        ensures { IsOutcome result work.new (operated (names_seen self.now) Op.Unequal places left.now right.now work.old) }
+        left: &Held,
+        right: &Held,
+    ) -> Result<Held, SpecFault>
+        ensures value { IsOutcomeAs held_seen result work.new (operated (names_seen self.now) Op.Unequal places (held_seen left.now) (held_seen right.now) work.old) }
+        ensures over { IfOk result (λ v. (us : List ℤ) → IsOver us v) }
     {
         let equal = self.equated(work, places, left, right)?;
-        Ok(Value::from(work.opposed(places.own, equal)?))
+        Ok(Held::from(work.opposed(places.own, equal)?))
     }
 
     /// The value of an operator over its two operands, which were evaluated, or the first fault that it has. The sorts are
-    /// tested from left to right. On sets it takes time in proportion to their numbers.
-    pub fn operated(
+    /// tested from left to right. On sets it takes time in proportion to a 64th of the numbers that have a place.
+    pub(crate) fn operated(
         &self,
-        work: &mut Work,
+        progress: &mut Progress,
         op: Op,
         places: Places,
-        left: Value,
-        right: Value,
-    ) -> Result<Value, SpecFault>
-        ensures { IsOutcome result work.new (operated (names_seen self.now) op places left right work.old) }
+        left: Held,
+        right: Held,
+    ) -> Result<Held, SpecFault>
+        requires left { IsOver progress.old.numbers left }
+        requires right { IsOver progress.old.numbers right }
+        ensures value { IsOutcomeAs held_seen result progress.new.work (operated (names_seen self.now) op places (held_seen left) (held_seen right) progress.old.work) }
+        ensures over { IfOk result (λ v. IsOver progress.new.numbers v) }
+        ensures grows { IsPrefix progress.old.numbers progress.new.numbers }
     {
         match op {
-            Op::Mul => work.arithmetic(Arithmetic::Mul, places, &left, &right),
-            Op::Div => work.arithmetic(Arithmetic::Div, places, &left, &right),
-            Op::Rem => work.arithmetic(Arithmetic::Rem, places, &left, &right),
-            Op::Plus => work.arithmetic(Arithmetic::Plus, places, &left, &right),
-            Op::Minus => work.arithmetic(Arithmetic::Minus, places, &left, &right),
-            Op::Difference => work.on_sets(SetOperation::Difference, places, left, right),
-            Op::Meet => work.on_sets(SetOperation::Meet, places, left, right),
-            Op::Join => work.on_sets(SetOperation::Join, places, left, right),
-            Op::Equal => Ok(Value::from(self.equated(work, places, &left, &right)?)),
-            Op::Unequal => self.unequated(work, places, &left, &right),
-            Op::Less => work.compared(Comparison::Less, places, &left, &right),
-            Op::LessEqual => work.compared(Comparison::LessEqual, places, &left, &right),
-            Op::Greater => work.compared(Comparison::Greater, places, &left, &right),
-            Op::GreaterEqual => work.compared(Comparison::GreaterEqual, places, &left, &right),
-            Op::Element => work.element(places, &left, right),
-            Op::And => work.on_connective(Connective::And, places, &left, &right),
-            Op::Or => work.on_connective(Connective::Or, places, &left, &right),
-            Op::Implies => work.on_connective(Connective::Implies, places, &left, &right),
-            Op::Equiv => work.on_connective(Connective::Equiv, places, &left, &right),
-            Op::WeakUntil => work.on_pairing(Pairing::WeakUntil, places, &left, &right),
-            Op::Until => work.on_pairing(Pairing::Until, places, &left, &right),
-            Op::Release => work.on_pairing(Pairing::Release, places, &left, &right),
+            Op::Mul => progress
+                .work
+                .arithmetic(Arithmetic::Mul, places, &left, &right),
+            Op::Div => progress
+                .work
+                .arithmetic(Arithmetic::Div, places, &left, &right),
+            Op::Rem => progress
+                .work
+                .arithmetic(Arithmetic::Rem, places, &left, &right),
+            Op::Plus => progress
+                .work
+                .arithmetic(Arithmetic::Plus, places, &left, &right),
+            Op::Minus => progress
+                .work
+                .arithmetic(Arithmetic::Minus, places, &left, &right),
+            Op::Difference => progress.on_sets(SetOperation::Difference, places, left, right),
+            Op::Meet => progress.on_sets(SetOperation::Meet, places, left, right),
+            Op::Join => progress.on_sets(SetOperation::Join, places, left, right),
+            Op::Equal => Ok(Held::from(self.equated(&mut progress.work, places, &left, &right)?)),
+            Op::Unequal => self.unequated(&mut progress.work, places, &left, &right),
+            Op::Less => progress
+                .work
+                .compared(Comparison::Less, places, &left, &right),
+            Op::LessEqual => progress
+                .work
+                .compared(Comparison::LessEqual, places, &left, &right),
+            Op::Greater => progress
+                .work
+                .compared(Comparison::Greater, places, &left, &right),
+            Op::GreaterEqual => progress
+                .work
+                .compared(Comparison::GreaterEqual, places, &left, &right),
+            Op::Element => progress.element(places, &left, right),
+            Op::And => progress
+                .work
+                .on_connective(Connective::And, places, &left, &right),
+            Op::Or => progress
+                .work
+                .on_connective(Connective::Or, places, &left, &right),
+            Op::Implies => progress
+                .work
+                .on_connective(Connective::Implies, places, &left, &right),
+            Op::Equiv => progress
+                .work
+                .on_connective(Connective::Equiv, places, &left, &right),
+            Op::WeakUntil => progress
+                .work
+                .on_pairing(Pairing::WeakUntil, places, &left, &right),
+            Op::Until => progress
+                .work
+                .on_pairing(Pairing::Until, places, &left, &right),
+            Op::Release => progress
+                .work
+                .on_pairing(Pairing::Release, places, &left, &right),
             _ => Err(fault(SpecCode::WrongSort, places.own)),
         }
     }

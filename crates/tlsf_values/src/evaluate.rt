@@ -1,19 +1,21 @@
 // The value of an expression, form by form: numbers, truths, names, calls, and what stands for its one part.
 
-ghost use Rattle.std.specs.Prelude.{◌≡◌, OnOk, length, map, []};
+ghost use Rattle.std.specs.Prelude.{◌≡◌, List, ℤ, IfOk, OnOk, length, map, []};
+ghost use Rattle.placed_sets.specs.Placed.{IsPrefix};
+ghost use Rattle.tlsf_values.specs.HeldSeen.{AllOver, bound_seen, held_seen, IsOver};
 ghost use Rattle.tlsf_values.specs.Names.{look_up};
 ghost use Rattle.tlsf_values.specs.NamesSeen.{names_seen, range_seen};
 ghost use Rattle.tlsf_values.specs.Results.{IsOutcome, IsOutcomeAs};
-ghost use Rattle.tlsf_values.specs.ScopeSeen.{code_body_seen, meaning_seen};
+ghost use Rattle.tlsf_values.specs.ScopeSeen.{code_body_seen, IsMeantOver, meaning_seen};
 ghost use Rattle.tlsf_values.specs.Seen.{alternative_seen, expr_seen, trees_seen, word_seen};
 ghost use Rattle.tlsf_values.specs.Values.{arguments_at, bit_value, call_value, chosen_value, evaluator, form_value, guard_value, index_value, meaning_value};
 
+use crate::held::Held;
 use crate::names::Names;
-use crate::number_set::NumberSet;
 use crate::patterns::BusRange;
+use crate::progress::Progress;
 use crate::scope::{BodyOf, Meaning, Scope};
 use crate::steps::numbers_in;
-use crate::value::Value;
 use crate::work::{Work, fault};
 use tlsf_tokens::{SpecCode, SpecFault};
 use tlsf_tree::{Alternative, Expr, Form, Word};
@@ -26,16 +28,19 @@ impl<'t> Names<'t> {
         bound: &mut Scope<'t>,
         expr: &'t Expr,
         left: u32,
-        work: &mut Work,
-    ) -> Result<Value, SpecFault>
-        ensures value { IsOutcome result work.new ((evaluator (names_seen self.now) left).value (bound.old) (expr_seen expr.now) work.old) }
+        progress: &mut Progress,
+    ) -> Result<Held, SpecFault>
+        requires over { AllOver progress.old.numbers bound.old }
+        ensures value { IsOutcomeAs held_seen result progress.new.work ((evaluator (names_seen self.now) left).value (bound_seen bound.old) (expr_seen expr.now) progress.old.work) }
         ensures bound { OnOk result (bound.new ≡ bound.old) }
+        ensures over { IfOk result (λ v. IsOver progress.new.numbers v) }
+        ensures grows { IsPrefix progress.old.numbers progress.new.numbers }
     {
         if left == 0 {
             return Err(fault(SpecCode::TooDeep, expr.span.start));
         }
-        work.count(expr.span.start, 1)?;
-        self.form(bound, expr, left - 1, work)
+        progress.work.count(expr.span.start, 1)?;
+        self.form(bound, expr, left - 1, progress)
     }
 
     /// The value of a node, which was entered and counted.
@@ -46,53 +51,60 @@ impl<'t> Names<'t> {
         bound: &mut Scope<'t>,
         expr: &'t Expr,
         left: u32,
-        work: &mut Work,
-    ) -> Result<Value, SpecFault>
-        ensures value { IsOutcome result work.new (form_value (names_seen self.now) (evaluator (names_seen self.now) left) (bound.old) (expr_seen expr.now) work.old) }
+        progress: &mut Progress,
+    ) -> Result<Held, SpecFault>
+        requires over { AllOver progress.old.numbers bound.old }
+        ensures value { IsOutcomeAs held_seen result progress.new.work (form_value (names_seen self.now) (evaluator (names_seen self.now) left) (bound_seen bound.old) (expr_seen expr.now) progress.old.work) }
         ensures bound { OnOk result (bound.new ≡ bound.old) }
+        ensures over { IfOk result (λ v. IsOver progress.new.numbers v) }
+        ensures grows { IsPrefix progress.old.numbers progress.new.numbers }
     {
         let place = expr.span.start;
         match &expr.form {
-            Form::Number(Some(number)) => Ok(Value::Number(*number)),
+            Form::Number(Some(number)) => Ok(Held::Number(*number)),
             Form::Number(None) => Err(fault(SpecCode::NumberRange, place)),
-            Form::Truth(truth) => Ok(Value::Truth(*truth)),
+            Form::Truth(truth) => Ok(Held::Truth(*truth)),
             Form::Named(name) => {
                 let meaning = self.look_up(bound, name)?;
-                self.meaning_value(place, meaning, left, work)
+                self.meaning_value(place, meaning, left, progress)
             }
-            Form::Call { word, arguments } => self.call(bound, place, word, arguments, left, work),
-            Form::Index { word, index } => self.index(bound, place, word, index, left, work),
+            Form::Call { word, arguments } => self.call(
+                bound, place, word, arguments, left, progress,
+            ),
+            Form::Index { word, index } => self.index(bound, place, word, index, left, progress),
             Form::SizeOf(part) => {
-                let value = self.value(bound, part, left, work)?;
+                let value = self.value(bound, part, left, progress)?;
                 let bus = value.bus(part.span.start)?;
-                Ok(Value::Number(i64::from(self.bus(bus).width)))
+                Ok(Held::Number(i64::from(self.bus(bus).width)))
             }
-            Form::Paren(part) => self.value(bound, part, left, work),
+            Form::Paren(part) => self.value(bound, part, left, progress),
             Form::Set(parts) => {
-                let values = self.part_values(bound, parts, left, work)?;
+                let values = self.part_values(bound, parts, left, progress)?;
                 let numbers = numbers_in(self.alloc, parts, &values)?;
-                Ok(Value::Set(NumberSet::of(self.alloc, &numbers)?))
+                Ok(progress.set_of(&numbers)?)
             }
             Form::Steps {
                 first,
                 second,
                 last,
-            } => self.steps(bound, place, first, second, last, left, work),
-            Form::Chain { first, rest } => self.chain(bound, place, first, rest, left, work),
+            } => self.steps(bound, place, first, second, last, left, progress),
+            Form::Chain { first, rest } => self.chain(bound, place, first, rest, left, progress),
             Form::Pair {
                 op,
                 left: first,
                 right,
-            } => self.pair(bound, place, *op, first, right, left, work),
+            } => self.pair(bound, place, *op, first, right, left, progress),
             Form::Prefix { op, part } => {
-                let value = self.value(bound, part, left, work)?;
-                work.prefixed(*op, place, part.span.start, &value)
+                let value = self.value(bound, part, left, progress)?;
+                progress.work.prefixed(*op, place, part.span.start, &value)
             }
-            Form::Count { count, part } => self.counted(bound, place, count, part, left, work),
+            Form::Count { count, part } => self.counted(bound, place, count, part, left, progress),
             Form::Window { op, from, to, part } => self.windowed(
-                bound, place, *op, from, to, part, left, work,
+                bound, place, *op, from, to, part, left, progress,
             ),
-            Form::Big { op, ranges, part } => self.big(bound, place, *op, ranges, part, left, work),
+            Form::Big { op, ranges, part } => self.big(
+                bound, place, *op, ranges, part, left, progress,
+            ),
         }
     }
 
@@ -103,16 +115,21 @@ impl<'t> Names<'t> {
         place: u64,
         meaning: Meaning<'t>,
         left: u32,
-        work: &mut Work,
-    ) -> Result<Value, SpecFault>
-        ensures { IsOutcome result work.new (meaning_value (evaluator (names_seen self.now) left) place (meaning_seen meaning.entry) work.old) }
+        progress: &mut Progress,
+    ) -> Result<Held, SpecFault>
+        requires over { IsMeantOver progress.old.numbers meaning }
+        ensures value { IsOutcomeAs held_seen result progress.new.work (meaning_value (evaluator (names_seen self.now) left) place (meaning_seen meaning.entry) progress.old.work) }
+        ensures over { IfOk result (λ v. IsOver progress.new.numbers v) }
+        ensures grows { IsPrefix progress.old.numbers progress.new.numbers }
     {
         match meaning {
             Meaning::Known(value) => Ok(value),
-            Meaning::Signal(signal) => Ok(Value::Flat(work.signal_made(place, signal as usize)?)),
+            Meaning::Signal(signal) => Ok(Held::Flat(
+                progress.work.signal_made(place, signal as usize)?,
+            )),
             Meaning::Definition([], body) => {
                 let mut inner = Scope::new(self.alloc);
-                self.body(&mut inner, place, body, left, work)
+                self.body(&mut inner, place, body, left, progress)
             }
             Meaning::Definition(..) => Err(fault(SpecCode::WrongSort, place)),
             Meaning::Enumeration => Err(fault(SpecCode::WrongSort, place)),
@@ -128,21 +145,24 @@ impl<'t> Names<'t> {
         place: u64,
         body: BodyOf<'t>,
         left: u32,
-        work: &mut Work,
-    ) -> Result<Value, SpecFault>
-        ensures { IsOutcome result work.new ((evaluator (names_seen self.now) left).body (bound.old) place (code_body_seen body.entry) work.old) }
+        progress: &mut Progress,
+    ) -> Result<Held, SpecFault>
+        requires over { AllOver progress.old.numbers bound.old }
+        ensures value { IsOutcomeAs held_seen result progress.new.work ((evaluator (names_seen self.now) left).body (bound_seen bound.old) place (code_body_seen body.entry) progress.old.work) }
+        ensures over { IfOk result (λ v. IsOver progress.new.numbers v) }
+        ensures grows { IsPrefix progress.old.numbers progress.new.numbers }
     {
         if left == 0 {
             return Err(fault(SpecCode::TooDeep, place));
         }
         match body {
-            BodyOf::Plain(value) => self.value(bound, value, left - 1, work),
+            BodyOf::Plain(value) => self.value(bound, value, left - 1, progress),
             BodyOf::Guarded(alternatives) => self.chosen(
                 bound,
                 place,
                 alternatives,
                 left - 1,
-                work,
+                progress,
             ),
         }
     }
@@ -155,13 +175,16 @@ impl<'t> Names<'t> {
         place: u64,
         alternatives: &'t [Alternative],
         left: u32,
-        work: &mut Work,
-    ) -> Result<Value, SpecFault>
-        ensures { IsOutcome result work.new (chosen_value (evaluator (names_seen self.now) left) (bound.old) place (map alternative_seen alternatives.now) work.old) }
+        progress: &mut Progress,
+    ) -> Result<Held, SpecFault>
+        requires over { AllOver progress.old.numbers bound.old }
+        ensures value { IsOutcomeAs held_seen result progress.new.work (chosen_value (evaluator (names_seen self.now) left) (bound_seen bound.old) place (map alternative_seen alternatives.now) progress.old.work) }
+        ensures over { IfOk result (λ v. IsOver progress.new.numbers v) }
+        ensures grows { IsPrefix progress.old.numbers progress.new.numbers }
     {
         for alternative in alternatives {
-            if self.guard(bound, alternative, left, work)? {
-                return self.value(bound, &alternative.value, left, work);
+            if self.guard(bound, alternative, left, progress)? {
+                return self.value(bound, &alternative.value, left, progress);
             }
         }
         Err(fault(SpecCode::NoGuard, place))
@@ -175,15 +198,17 @@ impl<'t> Names<'t> {
         bound: &mut Scope<'t>,
         alternative: &'t Alternative,
         left: u32,
-        work: &mut Work,
+        progress: &mut Progress,
     ) -> Result<bool, SpecFault>
-        ensures value { IsOutcome result work.new (guard_value (evaluator (names_seen self.now) left) (bound.old) (alternative_seen alternative.now).guard work.old) }
+        requires over { AllOver progress.old.numbers bound.old }
+        ensures value { IsOutcome result progress.new.work (guard_value (evaluator (names_seen self.now) left) (bound_seen bound.old) (alternative_seen alternative.now).guard progress.old.work) }
         ensures bound { OnOk result (bound.new ≡ bound.old) }
+        ensures grows { IsPrefix progress.old.numbers progress.new.numbers }
     {
         match &alternative.guard {
             None => Ok(true),
             Some(guard) => {
-                let value = self.value(bound, guard, left, work)?;
+                let value = self.value(bound, guard, left, progress)?;
                 value.truth(guard.span.start)
             }
         }
@@ -199,18 +224,21 @@ impl<'t> Names<'t> {
         word: &'t Word,
         arguments: &'t [Expr],
         left: u32,
-        work: &mut Work,
-    ) -> Result<Value, SpecFault>
-        ensures value { IsOutcome result work.new (call_value (evaluator (names_seen self.now) left) (bound.old) place word.now.span.start (look_up (names_seen self.now) (bound.old) word.now.name) (trees_seen arguments.now) work.old) }
+        progress: &mut Progress,
+    ) -> Result<Held, SpecFault>
+        requires over { AllOver progress.old.numbers bound.old }
+        ensures value { IsOutcomeAs held_seen result progress.new.work (call_value (evaluator (names_seen self.now) left) (bound_seen bound.old) place word.now.span.start (look_up (names_seen self.now) (bound_seen bound.old) word.now.name) (trees_seen arguments.now) progress.old.work) }
         ensures bound { OnOk result (bound.new ≡ bound.old) }
+        ensures over { IfOk result (λ v. IsOver progress.new.numbers v) }
+        ensures grows { IsPrefix progress.old.numbers progress.new.numbers }
     {
         match self.look_up(bound, &word.name)? {
             Meaning::Definition(words, body) => {
                 if arguments.len() != words.len() {
                     return Err(fault(SpecCode::WrongSort, place));
                 }
-                let mut inner = self.arguments(bound, words, arguments, left, work)?;
-                self.body(&mut inner, place, body, left, work)
+                let mut inner = self.arguments(bound, words, arguments, left, progress)?;
+                self.body(&mut inner, place, body, left, progress)
             }
             Meaning::Undeclared => Err(fault(SpecCode::UnknownName, word.span.start)),
             _ => Err(fault(SpecCode::WrongSort, place)),
@@ -225,15 +253,18 @@ impl<'t> Names<'t> {
         words: &'t [Word],
         arguments: &'t [Expr],
         left: u32,
-        work: &mut Work,
+        progress: &mut Progress,
     ) -> Result<Scope<'t>, SpecFault>
-        requires { length arguments.now ≡ length words.now }
-        ensures value { IsOutcome result work.new (arguments_at (evaluator (names_seen self.now) left) (bound.old) [] (map word_seen words.now) (trees_seen arguments.now) work.old) }
+        requires length { length arguments.now ≡ length words.now }
+        requires over { AllOver progress.old.numbers bound.old }
+        ensures value { IsOutcomeAs bound_seen result progress.new.work (arguments_at (evaluator (names_seen self.now) left) (bound_seen bound.old) [] (map word_seen words.now) (trees_seen arguments.now) progress.old.work) }
         ensures bound { OnOk result (bound.new ≡ bound.old) }
+        ensures over { IfOk result (λ inner. AllOver progress.new.numbers inner) }
+        ensures grows { IsPrefix progress.old.numbers progress.new.numbers }
     {
         let mut inner = Scope::new(self.alloc);
         for i in 0..words.len() {
-            let value = self.value(bound, &arguments[i], left, work)?;
+            let value = self.value(bound, &arguments[i], left, progress)?;
             inner.push(&words[i].name, value)?;
         }
         Ok(inner)
@@ -249,33 +280,39 @@ impl<'t> Names<'t> {
         word: &'t Word,
         index: &'t Expr,
         left: u32,
-        work: &mut Work,
-    ) -> Result<Value, SpecFault>
-        ensures value { IsOutcome result work.new (index_value (names_seen self.now) (evaluator (names_seen self.now) left) (bound.old) place (word_seen word.now) (expr_seen index.now) work.old) }
+        progress: &mut Progress,
+    ) -> Result<Held, SpecFault>
+        requires over { AllOver progress.old.numbers bound.old }
+        ensures value { IsOutcomeAs held_seen result progress.new.work (index_value (names_seen self.now) (evaluator (names_seen self.now) left) (bound_seen bound.old) place (word_seen word.now) (expr_seen index.now) progress.old.work) }
         ensures bound { OnOk result (bound.new ≡ bound.old) }
+        ensures over { IfOk result (λ v. IsOver progress.new.numbers v) }
+        ensures grows { IsPrefix progress.old.numbers progress.new.numbers }
     {
         let meaning = self.look_up(bound, &word.name)?;
         if meaning.is_never_a_bus() {
-            self.value(bound, index, left, work)?;
+            self.value(bound, index, left, progress)?;
             return Err(fault(SpecCode::WrongSort, word.span.start));
         }
-        let bus = self.meaning_value(word.span.start, meaning, left, work)?;
-        let value = self.value(bound, index, left, work)?;
+        let bus = self.meaning_value(word.span.start, meaning, left, progress)?;
+        let value = self.value(bound, index, left, progress)?;
         let bus = bus.bus(word.span.start)?;
         let number = value.number(index.span.start)?;
-        work.bit(place, index.span.start, self.bus(bus), number)
+        progress
+            .work
+            .bit(place, index.span.start, self.bus(bus), number)
     }
 }
 
 impl Work {
     /// The bit of a bus with this number, which stands at the second byte.
-    fn bit(&mut self, place: u64, at: u64, bus: BusRange, number: i64) -> Result<Value, SpecFault>
-        ensures { IsOutcome result self.new (bit_value place at (range_seen bus) number self.old) }
+    fn bit(&mut self, place: u64, at: u64, bus: BusRange, number: i64) -> Result<Held, SpecFault>
+        ensures over { IfOk result (λ v. (us : List ℤ) → IsOver us v) }
+        ensures value { IsOutcomeAs held_seen result self.new (bit_value place at (range_seen bus) number self.old) }
     {
         if number < 0 || number >= i64::from(bus.width) {
             return Err(fault(SpecCode::IndexOut, at));
         }
         let signal = bus.first as usize + number as usize;
-        Ok(Value::Flat(self.signal_made(place, signal)?))
+        Ok(Held::Flat(self.signal_made(place, signal)?))
     }
 }

@@ -1,6 +1,8 @@
 // The value of an expression with several operands, which are evaluated from left to right before any is tested.
 
-ghost use Rattle.std.specs.Prelude.{◌≡◌, OnOk, [], None};
+ghost use Rattle.std.specs.Prelude.{◌≡◌, IfOk, OnOk, map, [], None};
+ghost use Rattle.placed_sets.specs.Placed.{IsPrefix};
+ghost use Rattle.tlsf_values.specs.HeldSeen.{AllOver, bound_seen, held_seen, IsOver};
 ghost use Rattle.tlsf_values.specs.Counts.{count_in, count_value, joined_over, joining_of, window_of};
 ghost use Rattle.tlsf_values.specs.MembersSeen.{members_seen};
 ghost use Rattle.tlsf_values.specs.NamesSeen.{names_seen};
@@ -9,16 +11,18 @@ ghost use Rattle.tlsf_values.specs.Outcomes.{checked, gives, go_on};
 ghost use Rattle.tlsf_values.specs.Results.{IsOutcome, IsOutcomeAs};
 ghost use Rattle.tlsf_values.specs.Seen.{expr_seen, link_list_seen, range_list_seen, trees_seen, word_seen};
 ghost use Rattle.tlsf_values.specs.Sorts.{formula_in, number_in};
+ghost use Rattle.tlsf_values.specs.declared.value.Value.TheVariants.{Number};
 ghost use Rattle.tlsf_values.specs.Values.{big_at, big_value, bind, chain_value, evaluator, start_of, steps_value, values_at, window_at};
 
 use crate::counts::count;
 use crate::formula::{Connective, Formula};
+use crate::held::Held;
 use crate::members::Members;
 use crate::names::Names;
 use crate::numbers::Places;
+use crate::progress::Progress;
 use crate::scope::Scope;
-use crate::value::Value;
-use crate::work::{Work, fault};
+use crate::work::fault;
 use tlsf_tokens::{SpecCode, SpecFault};
 use tlsf_tree::{Expr, Link, Op, Range, Word};
 
@@ -39,14 +43,16 @@ impl<'t> Names<'t> {
         bound: &mut Scope<'t>,
         parts: &'t [Expr],
         left: u32,
-        work: &mut Work,
-    ) -> Result<Vec<Value>, SpecFault>
-        ensures value { IsOutcomeAs (λ values. values.items) result work.new (values_at (evaluator (names_seen self.now) left) (bound.old) [] (trees_seen parts.now) work.old) }
+        progress: &mut Progress,
+    ) -> Result<Vec<Held>, SpecFault>
+        requires over { AllOver progress.old.numbers bound.old }
+        ensures value { IsOutcomeAs (λ values. map held_seen values.items) result progress.new.work (values_at (evaluator (names_seen self.now) left) (bound_seen bound.old) [] (trees_seen parts.now) progress.old.work) }
         ensures bound { OnOk result (bound.new ≡ bound.old) }
+        ensures grows { IsPrefix progress.old.numbers progress.new.numbers }
     {
         let mut values = Vec::new(self.alloc);
         for part in parts {
-            values.push(self.value(bound, part, left, work)?)?;
+            values.push(self.value(bound, part, left, progress)?)?;
         }
         Ok(values)
     }
@@ -62,21 +68,24 @@ impl<'t> Names<'t> {
         second: &'t Expr,
         last: &'t Expr,
         left: u32,
-        work: &mut Work,
-    ) -> Result<Value, SpecFault>
-        ensures value { IsOutcome result work.new (let r = evaluator (names_seen self.now) left in let b = bound.old in
+        progress: &mut Progress,
+    ) -> Result<Held, SpecFault>
+        requires over { AllOver progress.old.numbers bound.old }
+        ensures value { IsOutcomeAs held_seen result progress.new.work (let r = evaluator (names_seen self.now) left in let b = bound_seen bound.old in
             let t = expr_seen first.now in let u = expr_seen second.now in let v = expr_seen last.now in
-            go_on (r.value b t work.old) (λ x w. go_on (r.value b u w) (λ y w. go_on (r.value b v w) (λ z w.
+            go_on (r.value b t progress.old.work) (λ x w. go_on (r.value b u w) (λ y w. go_on (r.value b v w) (λ z w.
             checked (number_in (start_of t) x) (λ x w. checked (number_in (start_of u) y) (λ y w. checked (number_in (start_of v) z) (λ z w. steps_value place x y z w) w) w) w)))) }
         ensures bound { OnOk result (bound.new ≡ bound.old) }
+        ensures over { IfOk result (λ v. IsOver progress.new.numbers v) }
+        ensures grows { IsPrefix progress.old.numbers progress.new.numbers }
     {
-        let first_value = self.value(bound, first, left, work)?;
-        let second_value = self.value(bound, second, left, work)?;
-        let last_value = self.value(bound, last, left, work)?;
+        let first_value = self.value(bound, first, left, progress)?;
+        let second_value = self.value(bound, second, left, progress)?;
+        let last_value = self.value(bound, last, left, progress)?;
         let from = first_value.number(first.span.start)?;
         let next = second_value.number(second.span.start)?;
         let to = last_value.number(last.span.start)?;
-        work.stepped(self.alloc, place, from, next, to)
+        progress.stepped(self.alloc, place, from, next, to)
     }
 
     /// Operators that join to the left, in the node at this byte.
@@ -89,21 +98,24 @@ impl<'t> Names<'t> {
         first: &'t Expr,
         rest: &'t [Link],
         left: u32,
-        work: &mut Work,
-    ) -> Result<Value, SpecFault>
-        ensures value { IsOutcome result work.new (let r = evaluator (names_seen self.now) left in let b = bound.old in let t = expr_seen first.now in
-            go_on (r.value b t work.old) (λ v w. chain_value (names_seen self.now) r b place (start_of t) v (link_list_seen rest.now) w)) }
+        progress: &mut Progress,
+    ) -> Result<Held, SpecFault>
+        requires over { AllOver progress.old.numbers bound.old }
+        ensures value { IsOutcomeAs held_seen result progress.new.work (let r = evaluator (names_seen self.now) left in let b = bound_seen bound.old in let t = expr_seen first.now in
+            go_on (r.value b t progress.old.work) (λ v w. chain_value (names_seen self.now) r b place (start_of t) v (link_list_seen rest.now) w)) }
         ensures bound { OnOk result (bound.new ≡ bound.old) }
+        ensures over { IfOk result (λ v. IsOver progress.new.numbers v) }
+        ensures grows { IsPrefix progress.old.numbers progress.new.numbers }
     {
-        let mut value = self.value(bound, first, left, work)?;
+        let mut value = self.value(bound, first, left, progress)?;
         for link in rest {
-            let right = self.value(bound, &link.right, left, work)?;
+            let right = self.value(bound, &link.right, left, progress)?;
             let places = Places {
                 own: place,
                 left: first.span.start,
                 right: link.right.span.start,
             };
-            value = self.operated(work, link.op, places, value, right)?;
+            value = self.operated(progress, link.op, places, value, right)?;
         }
         Ok(value)
     }
@@ -119,20 +131,23 @@ impl<'t> Names<'t> {
         first: &'t Expr,
         second: &'t Expr,
         left: u32,
-        work: &mut Work,
-    ) -> Result<Value, SpecFault>
-        ensures value { IsOutcome result work.new (let r = evaluator (names_seen self.now) left in let b = bound.old in let t = expr_seen first.now in let u = expr_seen second.now in
-            go_on (r.value b t work.old) (λ x w. go_on (r.value b u w) (λ y w. operated (names_seen self.now) op (record { own = place; left = start_of t; right = start_of u }) x y w))) }
+        progress: &mut Progress,
+    ) -> Result<Held, SpecFault>
+        requires over { AllOver progress.old.numbers bound.old }
+        ensures value { IsOutcomeAs held_seen result progress.new.work (let r = evaluator (names_seen self.now) left in let b = bound_seen bound.old in let t = expr_seen first.now in let u = expr_seen second.now in
+            go_on (r.value b t progress.old.work) (λ x w. go_on (r.value b u w) (λ y w. operated (names_seen self.now) op (record { own = place; left = start_of t; right = start_of u }) x y w))) }
         ensures bound { OnOk result (bound.new ≡ bound.old) }
+        ensures over { IfOk result (λ v. IsOver progress.new.numbers v) }
+        ensures grows { IsPrefix progress.old.numbers progress.new.numbers }
     {
-        let first_value = self.value(bound, first, left, work)?;
-        let second_value = self.value(bound, second, left, work)?;
+        let first_value = self.value(bound, first, left, progress)?;
+        let second_value = self.value(bound, second, left, progress)?;
         let places = Places {
             own: place,
             left: first.span.start,
             right: second.span.start,
         };
-        self.operated(work, op, places, first_value, second_value)
+        self.operated(progress, op, places, first_value, second_value)
     }
 
     /// `X[number] part`, in the node at this byte.
@@ -145,19 +160,22 @@ impl<'t> Names<'t> {
         number: &'t Expr,
         part: &'t Expr,
         left: u32,
-        work: &mut Work,
-    ) -> Result<Value, SpecFault>
-        ensures value { IsOutcome result work.new (let r = evaluator (names_seen self.now) left in let b = bound.old in let n = expr_seen number.now in let t = expr_seen part.now in
-            go_on (r.value b n work.old) (λ m w. go_on (r.value b t w) (λ v w.
+        progress: &mut Progress,
+    ) -> Result<Held, SpecFault>
+        requires over { AllOver progress.old.numbers bound.old }
+        ensures value { IsOutcomeAs held_seen result progress.new.work (let r = evaluator (names_seen self.now) left in let b = bound_seen bound.old in let n = expr_seen number.now in let t = expr_seen part.now in
+            go_on (r.value b n progress.old.work) (λ m w. go_on (r.value b t w) (λ v w.
             checked (number_in (start_of n) m) (λ z w. checked (formula_in (start_of t) v) (λ x w. checked (count_in (start_of n) z) (λ k w. count_value place k x w) w) w) w))) }
         ensures bound { OnOk result (bound.new ≡ bound.old) }
+        ensures over { IfOk result (λ v. IsOver progress.new.numbers v) }
+        ensures grows { IsPrefix progress.old.numbers progress.new.numbers }
     {
-        let number_value = self.value(bound, number, left, work)?;
-        let value = self.value(bound, part, left, work)?;
+        let number_value = self.value(bound, number, left, progress)?;
+        let value = self.value(bound, part, left, progress)?;
         let times = number_value.number(number.span.start)?;
         let formula = value.formula(part.span.start)?;
         let times = count(number.span.start, times)?;
-        work.counted_next(place, times, formula)
+        progress.work.counted_next(place, times, formula)
     }
 
     /// `F[from:to] part` or `G[from:to] part`, in the node at this byte.
@@ -172,23 +190,28 @@ impl<'t> Names<'t> {
         to: &'t Expr,
         part: &'t Expr,
         left: u32,
-        work: &mut Work,
-    ) -> Result<Value, SpecFault>
-        ensures value { IsOutcome result work.new (window_at (evaluator (names_seen self.now) left) (bound.old) place (window_of op) (expr_seen from.now) (expr_seen to.now) (expr_seen part.now) work.old) }
+        progress: &mut Progress,
+    ) -> Result<Held, SpecFault>
+        requires over { AllOver progress.old.numbers bound.old }
+        ensures value { IsOutcomeAs held_seen result progress.new.work (window_at (evaluator (names_seen self.now) left) (bound_seen bound.old) place (window_of op) (expr_seen from.now) (expr_seen to.now) (expr_seen part.now) progress.old.work) }
         ensures bound { OnOk result (bound.new ≡ bound.old) }
+        ensures over { IfOk result (λ v. IsOver progress.new.numbers v) }
+        ensures grows { IsPrefix progress.old.numbers progress.new.numbers }
     {
         let Some(connective) = Connective::of_window(op) else {
             return Err(fault(SpecCode::WrongSort, place));
         };
-        let first = self.value(bound, from, left, work)?;
-        let last = self.value(bound, to, left, work)?;
-        let value = self.value(bound, part, left, work)?;
+        let first = self.value(bound, from, left, progress)?;
+        let last = self.value(bound, to, left, progress)?;
+        let value = self.value(bound, part, left, progress)?;
         let first = first.number(from.span.start)?;
         let last = last.number(to.span.start)?;
         let formula = value.formula(part.span.start)?;
         let first = count(from.span.start, first)?;
         let last = count(to.span.start, last)?;
-        work.window(place, connective, first, last, formula)
+        progress
+            .work
+            .window(place, connective, first, last, formula)
     }
 
     /// `&&[ranges] part` or `||[ranges] part`, in the node at this byte.
@@ -202,10 +225,13 @@ impl<'t> Names<'t> {
         ranges: &'t [Range],
         part: &'t Expr,
         left: u32,
-        work: &mut Work,
-    ) -> Result<Value, SpecFault>
-        ensures value { IsOutcome result work.new (big_at (evaluator (names_seen self.now) left) (bound.old) place (joining_of op) (range_list_seen ranges.now) (expr_seen part.now) work.old) }
+        progress: &mut Progress,
+    ) -> Result<Held, SpecFault>
+        requires over { AllOver progress.old.numbers bound.old }
+        ensures value { IsOutcomeAs held_seen result progress.new.work (big_at (evaluator (names_seen self.now) left) (bound_seen bound.old) place (joining_of op) (range_list_seen ranges.now) (expr_seen part.now) progress.old.work) }
         ensures bound { OnOk result (bound.new ≡ bound.old) }
+        ensures over { IfOk result (λ v. IsOver progress.new.numbers v) }
+        ensures grows { IsPrefix progress.old.numbers progress.new.numbers }
     {
         let Some(connective) = Connective::of_big(op) else {
             return Err(fault(SpecCode::WrongSort, place));
@@ -215,7 +241,7 @@ impl<'t> Names<'t> {
             connective,
             part,
         };
-        Ok(Value::from(self.over_ranges(bound, &big, ranges, left, work)?))
+        Ok(Held::from(self.over_ranges(bound, &big, ranges, left, progress)?))
     }
 
     /// The formulas of all members of the ranges, joined.
@@ -227,21 +253,22 @@ impl<'t> Names<'t> {
         big: &Big<'t>,
         ranges: &'t [Range],
         left: u32,
-        work: &mut Work,
+        progress: &mut Progress,
     ) -> Result<Formula, SpecFault>
-        ensures value { IsOutcome result work.new (big_value (evaluator (names_seen self.now) left) big.now.place big.now.connective (bound.old) (range_list_seen ranges.now) (expr_seen big.now.part.now) work.old) }
+        requires over { AllOver progress.old.numbers bound.old }
+        ensures value { IsOutcome result progress.new.work (big_value (evaluator (names_seen self.now) left) big.now.place big.now.connective (bound_seen bound.old) (range_list_seen ranges.now) (expr_seen big.now.part.now) progress.old.work) }
         ensures bound { OnOk result (bound.new ≡ bound.old) }
+        ensures grows { IsPrefix progress.old.numbers progress.new.numbers }
     {
         match ranges {
             [] => {
-                let value = self.value(bound, big.part, left, work)?;
+                let value = self.value(bound, big.part, left, progress)?;
                 value.formula(big.part.span.start)
             }
             [Range::Members { word, set }, more @ ..] => {
-                let value = self.value(bound, set, left, work)?;
-                let members = value.set(set.span.start)?;
-                let members = Members::of_set(self.alloc, &members)?;
-                self.over_members(bound, big, word, members, more, left, work)
+                let value = self.value(bound, set, left, progress)?;
+                let members = Members::of(self.alloc, value, set.span.start)?;
+                self.over_members(bound, big, word, members, more, left, progress)
             }
             [
                 Range::Between {
@@ -253,12 +280,14 @@ impl<'t> Names<'t> {
                 },
                 more @ ..,
             ] => {
-                let first = self.value(bound, low, left, work)?;
-                let last = self.value(bound, high, left, work)?;
-                let first = first.number(low.span.start)?;
-                let last = last.number(high.span.start)?;
-                let members = Members::between(first, *low_strict, *high_strict, last);
-                self.over_members(bound, big, word, members, more, left, work)
+                let first = self
+                    .value(bound, low, left, progress)?
+                    .into_number(low.span.start);
+                let last = self
+                    .value(bound, high, left, progress)?
+                    .into_number(high.span.start);
+                let members = Members::between(first?, *low_strict, *high_strict, last?);
+                self.over_members(bound, big, word, members, more, left, progress)
             }
         }
     }
@@ -274,19 +303,25 @@ impl<'t> Names<'t> {
         members: Members,
         ranges: &'t [Range],
         left: u32,
-        work: &mut Work,
+        progress: &mut Progress,
     ) -> Result<Formula, SpecFault>
-        ensures value { IsOutcome result work.new (let r = evaluator (names_seen self.now) left in let b = bound.old in
-            joined_over big.now.place big.now.connective (λ z w. big_value r big.now.place big.now.connective (bind (word_seen word.now) (Value.Number z) b) (range_list_seen ranges.now) (expr_seen big.now.part.now) w) (members_seen members) None work.old) }
+        requires over { AllOver progress.old.numbers bound.old }
+        ensures value { IsOutcome result progress.new.work (let r = evaluator (names_seen self.now) left in let b = bound_seen bound.old in
+            joined_over big.now.place big.now.connective (λ z w. big_value r big.now.place big.now.connective (bind (word_seen word.now) (Number z) b) (range_list_seen ranges.now) (expr_seen big.now.part.now) w) (members_seen members) None progress.old.work) }
         ensures bound { OnOk result (bound.new ≡ bound.old) }
+        ensures grows { IsPrefix progress.old.numbers progress.new.numbers }
     {
         let mut members = members;
         let mut so_far = None;
         while let Some(number) = members.next() {
-            bound.push(&word.name, Value::Number(number))?;
-            let formula = self.over_ranges(bound, big, ranges, left, work)?;
+            bound.push_number(&word.name, number)?;
+            let formula = self.over_ranges(bound, big, ranges, left, progress)?;
             bound.pop();
-            so_far = Some(work.joined_with(big.place, big.connective, so_far, formula)?);
+            so_far = Some(
+                progress
+                    .work
+                    .joined_with(big.place, big.connective, so_far, formula)?,
+            );
         }
         Ok(big.connective.of_all(so_far))
     }

@@ -4,7 +4,6 @@ ghost use Rattle.std.specs.Prelude.{◌≡◌};
 ghost use Rattle.tlsf_values.specs.Formulas.{connective_of, connected, flat_made, node_of, opposed, over_both, over_one, pairing_of, sign_of, truth_node, truth_of};
 ghost use Rattle.tlsf_values.specs.Results.{IsOutcome};
 
-use crate::value::Value;
 use crate::work::Work;
 use ltl_formula::{FormulaId, Node};
 use tlsf_tokens::SpecFault;

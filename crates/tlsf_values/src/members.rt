@@ -1,11 +1,15 @@
 // What a big operator goes over.
 
-ghost use Rattle.std.specs.Prelude.{◌≡◌, IfOk};
+ghost use Rattle.std.specs.Prelude.{◌≡◌};
+ghost use Rattle.tlsf_values.specs.HeldSeen.{held_seen};
 ghost use Rattle.tlsf_values.specs.MembersSeen.{IsNext, listed_seen, members_seen, run_seen};
+ghost use Rattle.tlsf_values.specs.Results.{IsCheckedAs};
+ghost use Rattle.tlsf_values.specs.Sorts.{set_in};
 ghost use Rattle.tlsf_values.specs.Values.{high_of, low_of, run_of};
 
-use crate::number_set::NumberSet;
-use std::alloc::{AllocError, Global};
+use crate::held::Held;
+use std::alloc::Global;
+use tlsf_tokens::SpecFault;
 
 /// The numbers of a list from a place on.
 #[derive(Drop)]
@@ -76,9 +80,11 @@ impl Run {
 }
 
 impl Members {
-    pub(crate) fn of_set(alloc: Global, set: &NumberSet) -> Result<Members, AllocError>
-        ensures { IfOk result (λ members. members_seen members ≡ set.now) }
+    /// The numbers of a value that must be a set, as an operand at this byte.
+    pub(crate) fn of(alloc: Global, value: Held, place: u64) -> Result<Members, SpecFault>
+        ensures { IsCheckedAs members_seen result (set_in place (held_seen value)) }
     {
+        let set = value.set(place)?;
         Ok(Members::Listed(Listed {
             numbers: set.numbers(alloc)?,
             place: 0,

@@ -1,18 +1,16 @@
 // Sets of numbers.
 
 ghost use Rattle.std.specs.Prelude.{◌≡◌, IfOk};
-ghost use Rattle.tlsf_values.specs.Sets.{is_in, set_of};
+ghost use Rattle.placed_sets.specs.Sets.{set_of};
 
-use crate::set_builder::SetBuilder;
+use placed_sets::{Numbering, PlacedSet};
 use std::alloc::{AllocError, Global};
 use std::marker::Model;
-use std::rc::Rc;
 
 /// A set of numbers; its copies share the numbers. A contract sees it as the list of them, which rises strictly.
 #[derive(Debug, Drop)]
 pub struct NumberSet {
-    pub(crate) alloc: Global,
-    numbers: Rc<SetBuilder>,
+    set: PlacedSet,
 }
 
 impl Model for NumberSet {
@@ -20,7 +18,7 @@ impl Model for NumberSet {
 
     ghost Value = { List ℤ };
 
-    ghost view = { λ s. s.numbers.value };
+    ghost view = { λ s. s.set.members };
 }
 
 impl NumberSet {
@@ -28,42 +26,23 @@ impl NumberSet {
     pub fn of(alloc: Global, numbers: &[i64]) -> Result<NumberSet, AllocError>
         ensures { IfOk result (λ s. s ≡ set_of numbers.now) }
     {
-        NumberSet::made(alloc, SetBuilder::of(alloc, numbers)?)
+        let set = Numbering::new(alloc).set_of(numbers)?;
+        Ok(NumberSet { set })
     }
 
-    /// The set that was made.
-    pub(crate) fn made(alloc: Global, numbers: SetBuilder) -> Result<NumberSet, AllocError>
-        ensures { IfOk result (λ s. s ≡ numbers) }
+    /// The set by itself. It takes constant time.
+    pub(crate) fn of_placed(set: &PlacedSet) -> Result<NumberSet, AllocError>
+        ensures { IfOk result (λ s. s ≡ set.now.members) }
     {
-        let numbers = Rc::new(alloc, numbers)?;
-        Ok(NumberSet { alloc, numbers })
+        Ok(NumberSet { set: set.clone()? })
     }
 
     /// The numbers of the set, which rise.
     pub fn numbers(&self, alloc: Global) -> Result<Vec<i64>, AllocError>
-        ensures { IfOk result (λ v. v.items ≡ self.now) }
+        ensures numbers { IfOk result (λ v. v.items ≡ self.now) }
+        ensures rising { IfOk result (λ v. set_of v.items ≡ v.items) }
     {
-        self.numbers.numbers(alloc)
-    }
-
-    /// Whether the set has the number. It takes time in proportion to the logarithm of its size.
-    pub fn contains(&self, number: i64) -> bool
-        ensures { result ≡ is_in self.now number }
-    {
-        self.numbers.contains(number)
-    }
-
-    /// A copy of the numbers, to be changed.
-    pub(crate) fn builder(&self) -> Result<SetBuilder, AllocError>
-        ensures { IfOk result (λ s. s ≡ self.now) }
-    {
-        self.shared().clone()
-    }
-
-    pub(crate) fn shared(&self) -> &SetBuilder
-        ensures { result.now ≡ self.now }
-    {
-        &self.numbers
+        self.set.numbers(alloc)
     }
 }
 
@@ -72,10 +51,8 @@ impl Clone for NumberSet {
     ghost is_clone = { λ set copy. copy ≡ set };
 
     fn clone(&self) -> Result<NumberSet, AllocError> {
-        let numbers = self.numbers.clone()?;
         Ok(NumberSet {
-            alloc: self.alloc,
-            numbers,
+            set: self.set.clone()?,
         })
     }
 }

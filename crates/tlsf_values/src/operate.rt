@@ -1,13 +1,13 @@
 // Operators on values, each once its operands are evaluated.
 
-ghost use Rattle.std.specs.Prelude.{◌≡◌, map};
-ghost use Rattle.tlsf_values.specs.Operators.{arithmetic, compared, denied, element, on_connective, on_pairing, on_sets, prefixed, signed};
-ghost use Rattle.tlsf_values.specs.Results.{IsOutcome};
+ghost use Rattle.std.specs.Prelude.{◌≡◌, List, ℤ, IfOk};
+ghost use Rattle.tlsf_values.specs.HeldSeen.{held_seen, IsOver};
+ghost use Rattle.tlsf_values.specs.Operators.{arithmetic, compared, denied, on_connective, on_pairing, prefixed, signed};
+ghost use Rattle.tlsf_values.specs.Results.{IsOutcomeAs};
 
 use crate::formula::{Connective, Pairing, Sign};
+use crate::held::Held;
 use crate::numbers::{Arithmetic, Comparison, Places};
-use crate::set_operation::SetOperation;
-use crate::value::Value;
 use crate::work::{Work, fault};
 use tlsf_tokens::{SpecCode, SpecFault};
 use tlsf_tree::Op;
@@ -17,108 +17,88 @@ impl Work {
         &mut self,
         operation: Arithmetic,
         places: Places,
-        left: &Value,
-        right: &Value,
-    ) -> Result<Value, SpecFault>
-        ensures { IsOutcome result self.new (arithmetic operation places left.now right.now self.old) }
+        left: &Held,
+        right: &Held,
+    ) -> Result<Held, SpecFault>
+        ensures value { IsOutcomeAs held_seen result self.new (arithmetic operation places (held_seen left.now) (held_seen right.now) self.old) }
+        ensures over { IfOk result (λ v. (us : List ℤ) → IsOver us v) }
     {
         let left = left.number(places.left)?;
         let right = right.number(places.right)?;
-        Ok(Value::Number(operation.computed(places, left, right)?))
+        Ok(Held::Number(operation.computed(places, left, right)?))
     }
 
     pub(crate) fn compared(
         &mut self,
         comparison: Comparison,
         places: Places,
-        left: &Value,
-        right: &Value,
-    ) -> Result<Value, SpecFault>
-        ensures { IsOutcome result self.new (compared comparison places left.now right.now self.old) }
+        left: &Held,
+        right: &Held,
+    ) -> Result<Held, SpecFault>
+        ensures value { IsOutcomeAs held_seen result self.new (compared comparison places (held_seen left.now) (held_seen right.now) self.old) }
+        ensures over { IfOk result (λ v. (us : List ℤ) → IsOver us v) }
     {
         let left = left.number(places.left)?;
         let right = right.number(places.right)?;
-        Ok(Value::Truth(comparison.holds(left, right)))
-    }
-
-    pub(crate) fn element(
-        &mut self,
-        places: Places,
-        left: &Value,
-        right: Value,
-    ) -> Result<Value, SpecFault>
-        ensures { IsOutcome result self.new (element places left.now right self.old) }
-    {
-        let number = left.number(places.left)?;
-        let set = right.set(places.right)?;
-        Ok(Value::Truth(set.contains(number)))
-    }
-
-    pub(crate) fn on_sets(
-        &mut self,
-        operation: SetOperation,
-        places: Places,
-        left: Value,
-        right: Value,
-    ) -> Result<Value, SpecFault>
-        ensures { IsOutcome result self.new (on_sets operation places left right self.old) }
-    {
-        let left = left.set(places.left)?;
-        let right = right.set(places.right)?;
-        Ok(Value::Set(operation.combined(&left, &right)?))
+        Ok(Held::Truth(comparison.holds(left, right)))
     }
 
     pub(crate) fn on_connective(
         &mut self,
         connective: Connective,
         places: Places,
-        left: &Value,
-        right: &Value,
-    ) -> Result<Value, SpecFault>
-        ensures { IsOutcome result self.new (on_connective connective places left.now right.now self.old) }
+        left: &Held,
+        right: &Held,
+    ) -> Result<Held, SpecFault>
+        ensures value { IsOutcomeAs held_seen result self.new (on_connective connective places (held_seen left.now) (held_seen right.now) self.old) }
+        ensures over { IfOk result (λ v. (us : List ℤ) → IsOver us v) }
     {
         let left = left.formula(places.left)?;
         let right = right.formula(places.right)?;
-        Ok(Value::from(self.connected(places.own, connective, left, right)?))
+        Ok(Held::from(self.connected(places.own, connective, left, right)?))
     }
 
     pub(crate) fn on_pairing(
         &mut self,
         pairing: Pairing,
         places: Places,
-        left: &Value,
-        right: &Value,
-    ) -> Result<Value, SpecFault>
-        ensures { IsOutcome result self.new (on_pairing pairing places left.now right.now self.old) }
+        left: &Held,
+        right: &Held,
+    ) -> Result<Held, SpecFault>
+        ensures value { IsOutcomeAs held_seen result self.new (on_pairing pairing places (held_seen left.now) (held_seen right.now) self.old) }
+        ensures over { IfOk result (λ v. (us : List ℤ) → IsOver us v) }
     {
         let left = left.formula(places.left)?;
         let right = right.formula(places.right)?;
-        Ok(Value::from(self.over_both(places.own, pairing, left, right)?))
+        Ok(Held::from(self.over_both(places.own, pairing, left, right)?))
     }
 
-    fn signed(&mut self, sign: Sign, own: u64, place: u64, part: &Value) -> Result<Value, SpecFault>
-        ensures { IsOutcome result self.new (signed sign own place part.now self.old) }
+    fn signed(&mut self, sign: Sign, own: u64, place: u64, part: &Held) -> Result<Held, SpecFault>
+        ensures value { IsOutcomeAs held_seen result self.new (signed sign own place (held_seen part.now) self.old) }
+        ensures over { IfOk result (λ v. (us : List ℤ) → IsOver us v) }
     {
         let part = part.formula(place)?;
-        Ok(Value::from(self.over_one(own, sign, part)?))
+        Ok(Held::from(self.over_one(own, sign, part)?))
     }
 
-    fn denied(&mut self, own: u64, place: u64, part: &Value) -> Result<Value, SpecFault>
-        ensures { IsOutcome result self.new (denied own place part.now self.old) }
+    fn denied(&mut self, own: u64, place: u64, part: &Held) -> Result<Held, SpecFault>
+        ensures value { IsOutcomeAs held_seen result self.new (denied own place (held_seen part.now) self.old) }
+        ensures over { IfOk result (λ v. (us : List ℤ) → IsOver us v) }
     {
         let part = part.formula(place)?;
-        Ok(Value::from(self.opposed(own, part)?))
+        Ok(Held::from(self.opposed(own, part)?))
     }
 
     /// A sign before its one operand.
-    pub fn prefixed(
+    pub(crate) fn prefixed(
         &mut self,
         op: Op,
         own: u64,
         place: u64,
-        part: &Value,
-    ) -> Result<Value, SpecFault>
-        ensures { IsOutcome result self.new (prefixed op own place part.now self.old) }
+        part: &Held,
+    ) -> Result<Held, SpecFault>
+        ensures value { IsOutcomeAs held_seen result self.new (prefixed op own place (held_seen part.now) self.old) }
+        ensures over { IfOk result (λ v. (us : List ℤ) → IsOver us v) }
     {
         match op {
             Op::Not => self.denied(own, place, part),

@@ -1,14 +1,16 @@
 // Bound names, and what a name means where they hide others.
 
-ghost use Rattle.std.specs.Prelude.{◌≡◌, ◌∷◌, [], IfOk, OnOk, drop, find};
+ghost use Rattle.std.specs.Prelude.{◌≡◌, ◌∷◌, [], List, ℤ, IfOk, OnOk, drop, find};
 ghost use Rattle.std.specs.Option.{option_map};
 ghost use Rattle.tlsf_values.specs.Names.{look_up, same_name};
 ghost use Rattle.tlsf_values.specs.NamesSeen.{names_seen};
-ghost use Rattle.tlsf_values.specs.ScopeSeen.{meaning_seen};
+ghost use Rattle.tlsf_values.specs.HeldSeen.{AllOver, bound_seen};
+ghost use Rattle.tlsf_values.specs.ScopeSeen.{IsMeantOver, meaning_seen};
 ghost use Rattle.tlsf_values.specs.Values.{is_never_a_bus};
+ghost use Rattle.tlsf_values.specs.declared.value.Value.TheVariants.{Number};
 
+use crate::held::Held;
 use crate::names::{Entry, Names};
-use crate::value::Value;
 use ltl_formula::FormulaId;
 use std::alloc::{AllocError, Global};
 use std::collections::HashMap;
@@ -20,7 +22,7 @@ use tlsf_tree::{Alternative, Body, Expr, Word};
 #[derive(Drop)]
 pub(crate) struct Binding<'t> {
     name: &'t Name,
-    value: Value,
+    value: Held,
     /// The place of the binding that this one hides.
     hides: Option<usize>,
 }
@@ -35,12 +37,12 @@ pub(crate) struct Scope<'t> {
 
 impl<'t> Model for Scope<'t> {
     ghost use Rattle.std.specs.Prelude.{List};
-    ghost use Rattle.tlsf_values.specs.Names.{Binding};
-    ghost use Rattle.tlsf_values.specs.ScopeSeen.{bound_seen, IsIndexed};
+    ghost use Rattle.tlsf_values.specs.HeldSeen.{HeldBinding};
+    ghost use Rattle.tlsf_values.specs.ScopeSeen.{bindings_seen, IsIndexed};
 
-    ghost Value = { List Binding };
+    ghost Value = { List HeldBinding };
 
-    ghost view = { λ s. bound_seen s.bindings.items };
+    ghost view = { λ s. bindings_seen s.bindings.items };
 
     ghost invariant = { λ s. IsIndexed s.bindings.items s.latest };
 }
@@ -57,7 +59,7 @@ impl<'t> Scope<'t> {
     }
 
     /// Binds a name, which hides what it meant before.
-    pub(crate) fn push(&mut self, name: &'t Name, value: Value) -> Result<(), AllocError>
+    pub(crate) fn push(&mut self, name: &'t Name, value: Held) -> Result<(), AllocError>
         ensures { OnOk result (self.new ≡ record { name = name.now; value = value } ∷ self.old) }
     {
         self.bindings.reserve(1)?;
@@ -67,6 +69,14 @@ impl<'t> Scope<'t> {
             unreachable!();
         };
         Ok(())
+    }
+
+    /// Binds a name to a number.
+    pub(crate) fn push_number(&mut self, name: &'t Name, number: i64) -> Result<(), AllocError>
+        ensures new { OnOk result (self.new ≡ record { name = name.now; value = Held.Number number } ∷ self.old) }
+        ensures seen { OnOk result (bound_seen self.new ≡ record { name = name.now; value = Number number } ∷ bound_seen self.old) }
+    {
+        self.push(name, Held::Number(number))
     }
 
     /// Takes the latest binding back, so that its name means what it meant before.
@@ -86,7 +96,7 @@ impl<'t> Scope<'t> {
     }
 
     /// The value of the latest binding of the name. It takes time for one look-up, whatever the number of bindings.
-    pub(crate) fn value(&self, name: &Name) -> Option<&Value>
+    pub(crate) fn value(&self, name: &Name) -> Option<&Held>
         ensures { option_map (λ v. v.now) result ≡ option_map (λ b. b.value) (find (λ b. same_name b.name name.now) self.now) }
     {
         let place = *self.latest.get(&name)?;
@@ -104,7 +114,7 @@ pub(crate) enum BodyOf<'t> {
 /// What a name means.
 #[derive(Drop)]
 pub(crate) enum Meaning<'t> {
-    Known(Value),
+    Known(Held),
     Signal(u32),
     Definition(&'t [Word], BodyOf<'t>),
     Enumeration,
@@ -127,7 +137,8 @@ impl Meaning<'_> {
 impl<'t> Names<'t> {
     /// What a name means; the last one that is bound hides all others.
     pub(crate) fn look_up(&self, bound: &Scope<'t>, name: &Name) -> Result<Meaning<'t>, AllocError>
-        ensures { IfOk result (λ m. meaning_seen m ≡ look_up (names_seen self.now) bound.now name.now) }
+        ensures value { IfOk result (λ m. meaning_seen m ≡ look_up (names_seen self.now) (bound_seen bound.now) name.now) }
+        ensures over { IfOk result (λ m. (us : List ℤ) → AllOver us bound.now → IsMeantOver us m) }
     {
         if let Some(value) = bound.value(name) {
             return Ok(Meaning::Known(value.clone()?));
@@ -136,13 +147,14 @@ impl<'t> Names<'t> {
     }
 
     fn declared(&self, name: &Name) -> Meaning<'t>
-        ensures { meaning_seen result ≡ (names_seen self.now).means name.now }
+        ensures value { meaning_seen result ≡ (names_seen self.now).means name.now }
+        ensures over { (us : List ℤ) → IsMeantOver us result }
     {
         match self.entry(name) {
             None => Meaning::Undeclared,
             Some(Entry::Signal(signal)) => Meaning::Signal(signal),
-            Some(Entry::Bus(bus)) => Meaning::Known(Value::Bus(bus)),
-            Some(Entry::Member(member)) => Meaning::Known(Value::EnumValue(member)),
+            Some(Entry::Bus(bus)) => Meaning::Known(Held::Bus(bus)),
+            Some(Entry::Member(member)) => Meaning::Known(Held::EnumValue(member)),
             Some(Entry::Enumeration) => Meaning::Enumeration,
             Some(Entry::Parameter(value)) => Meaning::Definition(&[], BodyOf::Plain(value)),
             Some(Entry::Function(words, Body::Plain(value))) => Meaning::Definition(

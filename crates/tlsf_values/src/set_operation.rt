@@ -1,9 +1,10 @@
 // The operators of sets.
 
 ghost use Rattle.std.specs.Prelude.{◌≡◌, IfOk};
+ghost use Rattle.placed_sets.specs.Placed.{IsPrefix};
 ghost use Rattle.tlsf_values.specs.SetOperations.{combined};
 
-use crate::number_set::NumberSet;
+use placed_sets::{Numbering, PlacedSet};
 use std::alloc::AllocError;
 
 /// An operator on two sets of numbers.
@@ -15,20 +16,22 @@ pub enum SetOperation {
 }
 
 impl SetOperation {
-    /// It takes time in proportion to the numbers of both sets.
+    /// It takes time in proportion to a 64th of the numbers that have a place.
     pub(crate) fn combined(
         self,
-        left: &NumberSet,
-        right: &NumberSet,
-    ) -> Result<NumberSet, AllocError>
-        ensures { IfOk result (λ s. s ≡ combined self left.now right.now) }
+        numbers: &Numbering,
+        left: &PlacedSet,
+        right: &PlacedSet,
+    ) -> Result<PlacedSet, AllocError>
+        requires left { IsPrefix left.now.over numbers.now }
+        requires right { IsPrefix right.now.over numbers.now }
+        ensures members { IfOk result (λ s. s.members ≡ combined self left.now.members right.now.members) }
+        ensures over { IfOk result (λ s. IsPrefix s.over numbers.now) }
     {
-        let mut numbers = left.builder()?;
         match self {
-            SetOperation::Join => numbers.join(right.shared())?,
-            SetOperation::Meet => numbers.meet(right.shared()),
-            SetOperation::Difference => numbers.subtract(right.shared()),
+            SetOperation::Join => numbers.joined(left, right),
+            SetOperation::Meet => numbers.met(left, right),
+            SetOperation::Difference => numbers.without(left, right),
         }
-        NumberSet::made(left.alloc, numbers)
     }
 }

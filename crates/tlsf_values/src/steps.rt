@@ -1,28 +1,26 @@
 // Sets as they are written, once their parts are evaluated.
 
-ghost use Rattle.std.specs.Prelude.{◌≡◌, ◌+ℤ◌, ◌-ℤ◌, ◌<◌, ◌^◌, [], false, pos, unsigned_abs, FitsSigned, IfOk};
+ghost use Rattle.std.specs.Prelude.{◌≡◌, ◌+ℤ◌, ◌-ℤ◌, ◌<◌, ◌^◌, [], false, pos, unsigned_abs, FitsSigned, IfOk, map};
 ghost use Rattle.std.proofs.Common.{w64};
 ghost use Rattle.std.specs.Ordering.{int_eq};
-ghost use Rattle.tlsf_values.specs.Results.{IsCheckedAs, IsOutcome};
+ghost use Rattle.tlsf_values.specs.HeldSeen.{held_seen};
+ghost use Rattle.tlsf_values.specs.Results.{IsCheckedAs};
 ghost use Rattle.tlsf_values.specs.Seen.{trees_seen};
-ghost use Rattle.tlsf_values.specs.Sets.{passes, rest_from, set_of, step_count, stepped, those_from};
-ghost use Rattle.tlsf_values.specs.Values.{numbers_in, steps_value};
+ghost use Rattle.tlsf_values.specs.Steps.{passes, rest_from, step_count, stepped, those_from};
+ghost use Rattle.tlsf_values.specs.Values.{numbers_in};
 
-use crate::number_set::NumberSet;
-use crate::set_builder::SetBuilder;
-use crate::value::Value;
-use crate::work::{Work, fault};
+use crate::held::Held;
 use std::alloc::{AllocError, Global};
-use tlsf_tokens::{SpecCode, SpecFault};
+use tlsf_tokens::SpecFault;
 use tlsf_tree::Expr;
 
 /// The numbers that the values of these expressions are.
 pub(crate) fn numbers_in(
     alloc: Global,
     parts: &[Expr],
-    values: &[Value],
+    values: &[Held],
 ) -> Result<Vec<i64>, SpecFault>
-    ensures { IsCheckedAs (λ numbers. numbers.items) result (numbers_in [] (trees_seen parts.now) values.now) }
+    ensures { IsCheckedAs (λ numbers. numbers.items) result (numbers_in [] (trees_seen parts.now) (map held_seen values.now)) }
 {
     let mut numbers = Vec::new(alloc);
     for (i, part) in parts.iter().enumerate() {
@@ -54,7 +52,7 @@ fn step(from: i64, to: i64) -> i128
 }
 
 /// How many numbers there are from the first one to the last, by the step from the first to the second.
-fn step_count(first: i64, second: i64, last: i64) -> u128
+pub(crate) fn step_count(first: i64, second: i64, last: i64) -> u128
     requires { int_eq first second ≡ false }
     ensures { result ≡ step_count first second last }
 {
@@ -87,44 +85,21 @@ fn following(number: i64, by: i128, last: i64) -> Option<i64>
 }
 
 /// The numbers from the first one to the last, by the step from the first to the second.
-fn laid_out(alloc: Global, first: i64, second: i64, last: i64) -> Result<SetBuilder, AllocError>
+pub(crate) fn laid_out(
+    alloc: Global,
+    first: i64,
+    second: i64,
+    last: i64,
+) -> Result<Vec<i64>, AllocError>
     requires { int_eq first second ≡ false }
-    ensures { IfOk result (λ s. s ≡ set_of (stepped first second last)) }
+    ensures { IfOk result (λ v. v.items ≡ stepped first second last) }
 {
     let by = step(first, second);
-    let mut set = SetBuilder::new(alloc);
+    let mut numbers = Vec::new(alloc);
     let mut next = unless_passed(i128::from(first), by, last);
     while let Some(number) = next {
-        set.insert(number)?;
+        numbers.push(number)?;
         next = following(number, by, last);
     }
-    Ok(set)
-}
-
-/// The set of these numbers.
-fn stepped(alloc: Global, first: i64, second: i64, last: i64) -> Result<NumberSet, AllocError>
-    requires { int_eq first second ≡ false }
-    ensures { IfOk result (λ s. s ≡ set_of (stepped first second last)) }
-{
-    NumberSet::made(alloc, laid_out(alloc, first, second, last)?)
-}
-
-impl Work {
-    /// `{first, second .. last}`, whose members are counted before they are laid out.
-    pub(crate) fn stepped(
-        &mut self,
-        alloc: Global,
-        place: u64,
-        first: i64,
-        second: i64,
-        last: i64,
-    ) -> Result<Value, SpecFault>
-        ensures { IsOutcome result self.new (steps_value place first second last self.old) }
-    {
-        if first == second {
-            return Err(fault(SpecCode::NumberRange, place));
-        }
-        self.count(place, step_count(first, second, last))?;
-        Ok(Value::Set(stepped(alloc, first, second, last)?))
-    }
+    Ok(numbers)
 }

@@ -3,12 +3,14 @@
 ghost use Rattle.std.specs.Prelude.{◌≡◌, ◌+◌, IfOk, OnErr, OnOk, [], map, reverse, take};
 ghost use Rattle.ltl_formula.specs.Nodes.{Stands};
 ghost use Rattle.tlsf_values.specs.EnvSeen.{binding_of, buses_named, env_bound, env_names, signals_named, work_of};
+ghost use Rattle.tlsf_values.specs.HeldSeen.{AllOver, bound_seen};
 ghost use Rattle.tlsf_values.specs.NamesSeen.{names_seen};
 ghost use Rattle.tlsf_values.specs.Results.{IsOutcome};
 ghost use Rattle.tlsf_values.specs.Seen.{expr_seen};
 ghost use Rattle.tlsf_values.specs.Values.{value_at};
 
 use crate::names::Names;
+use crate::progress::Progress;
 use crate::scope::Scope;
 use crate::value::Value;
 use crate::work::{MOST_DEPTH, Work};
@@ -43,7 +45,10 @@ impl<'t> Names<'t> {
         ensures value { IsOutcome result work.new (value_at (names_seen self.now) [] (expr_seen expr.now) 0 work.old) }
     {
         let mut bound = Scope::new(self.alloc);
-        self.value(&mut bound, expr, MOST_DEPTH, work)
+        let mut progress = Progress::of(self.alloc, work.taken(self.alloc));
+        let value = self.value(&mut bound, expr, MOST_DEPTH, &mut progress);
+        *work = progress.work;
+        Ok(value?.shown()?)
     }
 
     fn add_signals(&mut self, signals: &[(Name, u32)]) -> Result<(), AllocError>
@@ -76,12 +81,20 @@ impl<'t> Names<'t> {
     }
 }
 
-fn scope<'e>(alloc: Global, bound: &'e [(Name, Value)]) -> Result<Scope<'e>, AllocError>
-    ensures { IfOk result (λ scope. scope ≡ reverse (map binding_of bound.now)) }
+/// The bound names, of which the sets stand over numbers that have a place.
+fn scope<'e>(
+    alloc: Global,
+    bound: &'e [(Name, Value)],
+    progress: &mut Progress,
+) -> Result<Scope<'e>, AllocError>
+    ensures value { IfOk result (λ scope. bound_seen scope ≡ reverse (map binding_of bound.now)) }
+    ensures over { IfOk result (λ scope. AllOver progress.new.numbers scope) }
+    ensures work { progress.new.work ≡ progress.old.work }
 {
     let mut scope = Scope::new(alloc);
     for entry in bound {
-        scope.push(&entry.0, entry.1.clone()?)?;
+        let value = progress.held(alloc, &entry.1)?;
+        scope.push(&entry.0, value)?;
     }
     Ok(scope)
 }
@@ -127,14 +140,15 @@ pub fn value_of(
 {
     let alloc = *env.bound.allocator();
     let names = Names::of_env(alloc, tree, env)?;
-    let mut bound = scope(alloc, &env.bound)?;
-    let mut work = Work {
+    let work = Work {
         done: meter.done,
         formulas: copied(alloc, formulas)?,
     };
+    let mut progress = Progress::of(alloc, work);
+    let mut bound = scope(alloc, &env.bound, &mut progress)?;
     let left = MOST_DEPTH.saturating_sub(meter.depth);
-    let value = names.value(&mut bound, expr, left, &mut work)?;
-    meter.done = work.done;
-    *formulas = work.formulas;
+    let value = names.value(&mut bound, expr, left, &mut progress)?.shown()?;
+    meter.done = progress.work.done;
+    *formulas = progress.work.formulas;
     Ok(value)
 }

@@ -1,7 +1,7 @@
 use Rattle.std.proofs.Common.{◌≡◌, false, FitsSigned, w64, arith}
 use Rattle.std.proofs.lemmas.Int.{ints, to_z-of_z}
 use mir.Syntax.{w128}
-use Rattle.tlsf_values.specs.Sets.{passes}
+use Rattle.tlsf_values.specs.Steps.{passes}
 use Rattle.tlsf_values.proofs.StepLemmas.{rest_step}
 use Rattle.tlsf_values.proofs.steps.unless_passed.Goals as goal
 

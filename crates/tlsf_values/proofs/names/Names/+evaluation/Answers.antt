@@ -1,54 +1,60 @@
-use Rattle.std.proofs.Common.{rules, drop, ◌∙◌}
+use Rattle.std.proofs.Common.{◌≡◌, [], ◌∷◌, ◌++◌, None, rules, ap, drop, map, of_z, refl, to_z, w64, ◌∙◌}
+use Rattle.std.proofs.lemmas.List.{map-append}
 use Rattle.std.proofs.lemmas.Result.{err_from_is_err_and}
+use Rattle.tlsf_values.proofs.OverLemmas.{growth, prefix_same, prefix_then, over_grown, all_grown}
 use Rattle.tlsf_values.proofs.CheckedLemmas.{checked_fault}
 use Rattle.tlsf_values.proofs.EvaluatorLemmas.{value_too_deep, value_deeper, body_too_deep, body_deeper}
-use Rattle.tlsf_values.proofs.EvaluationLemmas.{call_fits, call_misfits, index_is, big_empty, big_of_set, big_of_run, rest_whole, arguments_more, chain_more, at_item, some_item}
+use Rattle.tlsf_values.proofs.EvaluationLemmas.{call_fits, call_misfits, index_is, big_empty, big_of_set, big_of_run, big_run_low, big_run_high, rest_whole, arguments_more, chain_more, at_item, some_item, arguments_step, chosen_step, values_step, joined_step, joined_fault, joining_fault}
 use Rattle.tlsf_values.proofs.FormLemmas.{chain_form, big_form}
 use Rattle.tlsf_values.proofs.SeenLemmas.{start_seen, set_form, call_form}
+use Rattle.tlsf_values.specs.HeldSeen.{bound_seen, held_seen}
 use Rattle.tlsf_values.specs.Names.{look_up}
 use Rattle.tlsf_values.specs.NamesSeen.{names_seen}
-use Rattle.tlsf_values.specs.Seen.{expr_seen}
-use Rattle.tlsf_values.specs.Values.{evaluator, start_of}
+use Rattle.tlsf_values.specs.Counts.{joined_over}
+use Rattle.tlsf_values.specs.MembersSeen.{members_seen}
+use Rattle.tlsf_values.specs.Seen.{expr_seen, range_list_seen, word_seen}
+use Rattle.tlsf_values.specs.Values.{big_value, bind, evaluator, start_of}
+use Rattle.tlsf_values.specs.declared.value.Value.TheVariants.{Number}
 use Rattle.tlsf_values.specs.ScopeSeen.{code_body_seen}
 use Rattle.tlsf_values.proofs.names.Names.+evaluation.Goals as goal
 use Rattle.tlsf_values.proofs.names.Names.+evaluation.Goals.{call-in-Definition+else-arguments-words+in_ok-inner-in-Definition, call-in-Undeclared, call-in_default}
 
 pub value-returns-then-left-eq0-clause-value : goal.value-returns-then-left-eq0-clause-value
 value-returns-then-left-eq0-clause-value t c =
-    rw (value_too_deep (names_seen c.args.self.now) c.args.left c.args.bound.now c.args.expr.now c.args.work.now (search rules)) (search rules)
+    rw (value_too_deep (names_seen c.args.self.now) c.args.left (bound_seen c.args.bound.now) c.args.expr.now c.args.progress.now.work (search rules)) (search rules)
 
 pub value-returns-in_err-count-clause-value : goal.value-returns-in_err-count-clause-value
 value-returns-in_err-count-clause-value t c =
-    rw (value_deeper (names_seen c.args.self.now) c.args.left c.args.bound.now c.args.expr.now c.args.work.now (search rules)) (search rules)
+    rw (value_deeper (names_seen c.args.self.now) c.args.left (bound_seen c.args.bound.now) c.args.expr.now c.args.progress.now.work (search rules)) (search rules)
 
 pub value-returns-clause-value : goal.value-returns-clause-value
 value-returns-clause-value t c =
-    rw (value_deeper (names_seen c.args.self.now) c.args.left c.args.bound.now c.args.expr.now c.args.work.now (search rules)) (search rules)
+    rw (value_deeper (names_seen c.args.self.now) c.args.left (bound_seen c.args.bound.now) c.args.expr.now c.args.progress.now.work (search rules)) (search rules)
 
 pub body-returns-then-left-eq0 : goal.body-returns-then-left-eq0
 body-returns-then-left-eq0 t c =
-    rw (body_too_deep (names_seen c.args.self.now) c.args.left c.args.bound.now c.args.place (code_body_seen c.args.body) c.args.work.now (search rules)) (search rules)
+    rw (body_too_deep (names_seen c.args.self.now) c.args.left (bound_seen c.args.bound.now) c.args.place (code_body_seen c.args.body) c.args.progress.now.work (search rules)) (search rules)
 
 pub body-returns-in-Plain : goal.body-returns-in-Plain
 body-returns-in-Plain t c =
-    rw (body_deeper (names_seen c.args.self.now) c.args.left c.args.bound.now c.args.place (code_body_seen c.args.body) c.args.work.now (search rules)) (search rules)
+    rw (body_deeper (names_seen c.args.self.now) c.args.left (bound_seen c.args.bound.now) c.args.place (code_body_seen c.args.body) c.args.progress.now.work (search rules)) (search rules)
 
 pub body-returns-in-Guarded : goal.body-returns-in-Guarded
 body-returns-in-Guarded t c =
-    rw (body_deeper (names_seen c.args.self.now) c.args.left c.args.bound.now c.args.place (code_body_seen c.args.body) c.args.work.now (search rules)) (search rules)
+    rw (body_deeper (names_seen c.args.self.now) c.args.left (bound_seen c.args.bound.now) c.args.place (code_body_seen c.args.body) c.args.progress.now.work (search rules)) (search rules)
 
 pub call-returns-then-arguments-words-clause-value : goal.call-returns-then-arguments-words-clause-value
 call-returns-then-arguments-words-clause-value t c =
-    rw (call_misfits (evaluator (names_seen c.args.self.now) c.args.left) c.args.bound.now c.args.place c.args.word.now.span.start (look_up (names_seen c.args.self.now) c.args.bound.now c.args.word.now.name) c.in-Definition.words.now (code_body_seen c.in-Definition.body) c.args.arguments.now c.args.work.now (search rules) (search rules)) (search rules)
+    rw (call_misfits (evaluator (names_seen c.args.self.now) c.args.left) (bound_seen c.args.bound.now) c.args.place c.args.word.now.span.start (look_up (names_seen c.args.self.now) (bound_seen c.args.bound.now) c.args.word.now.name) c.in-Definition.words.now (code_body_seen c.in-Definition.body) c.args.arguments.now c.args.progress.now.work (search rules) (search rules)) (search rules)
 
 pub call-returns-in_err-inner-in-Definition-clause-value : goal.call-returns-in_err-inner-in-Definition-clause-value
 call-returns-in_err-inner-in-Definition-clause-value t c =
-    rw (call_fits (evaluator (names_seen c.args.self.now) c.args.left) c.args.bound.now c.args.place c.args.word.now.span.start (look_up (names_seen c.args.self.now) c.args.bound.now c.args.word.now.name) c.in-Definition.words.now (code_body_seen c.in-Definition.body) c.args.arguments.now c.args.work.now (search rules) (search rules)) (search rules)
+    rw (call_fits (evaluator (names_seen c.args.self.now) c.args.left) (bound_seen c.args.bound.now) c.args.place c.args.word.now.span.start (look_up (names_seen c.args.self.now) (bound_seen c.args.bound.now) c.args.word.now.name) c.in-Definition.words.now (code_body_seen c.in-Definition.body) c.args.arguments.now c.args.progress.now.work (search rules) (search rules)) (search rules)
 
 pub call-returns-clause-value : goal.call-returns-clause-value
 call-returns-clause-value t c = elim c.match-branch-2.branch [
   | call-in-Definition+else-arguments-words+in_ok-inner-in-Definition w ↦
-      rw (w.result-is, w.work-is, call_fits (evaluator (names_seen c.args.self.now) c.args.left) c.args.bound.now c.args.place c.args.word.now.span.start (look_up (names_seen c.args.self.now) c.args.bound.now c.args.word.now.name) w.in-Definition.words.now (code_body_seen w.in-Definition.body) c.args.arguments.now c.args.work.now (search rules) (search rules)) (search rules)
+      rw (w.result-is, w.progress-is, call_fits (evaluator (names_seen c.args.self.now) c.args.left) (bound_seen c.args.bound.now) c.args.place c.args.word.now.span.start (look_up (names_seen c.args.self.now) (bound_seen c.args.bound.now) c.args.word.now.name) w.in-Definition.words.now (code_body_seen w.in-Definition.body) c.args.arguments.now c.args.progress.now.work (search rules) (search rules)) (search rules)
   | call-in-Undeclared w ↦ search rules
   | call-in_default w ↦ search rules
 ]
@@ -58,17 +64,17 @@ arguments-returns-in_err-value-clause-value t c =
     let word = some_item c.args.words.now c.loop-i.i (search rules) in
     let e = c.index-arguments-i.result in
     let at = at_item c.args.arguments.now c.loop-i.i e (search rules) c.index-arguments-i.is in
-    rw (c.loop-i.invariant.1 ∙ arguments_more (evaluator (names_seen c.args.self.now) c.args.left) c.args.bound.now c.loop-i.inner c.args.words.now c.args.arguments.now c.loop-i.i word.0 e c.loop-i.work word.1 at) (search rules)
+    rw (c.loop-i.invariant.4 ∙ arguments_more (evaluator (names_seen c.args.self.now) c.args.left) (bound_seen c.args.bound.now) (bound_seen c.loop-i.inner) c.args.words.now c.args.arguments.now c.loop-i.i word.0 e c.loop-i.progress.work word.1 at) (search rules)
 
 pub chain-loop-link-preserved : goal.chain-loop-link-preserved
 chain-loop-link-preserved t c =
     let at = at_item c.args.rest.now c.loop-link.link-index c.link-item.result (search rules) c.link-item.is in
-    (search rules, c.loop-link.invariant.1 ∙ chain_more (names_seen c.args.self.now) (evaluator (names_seen c.args.self.now) c.args.left) c.args.bound.now c.args.place (start_of (expr_seen c.args.first.now)) c.loop-link.value c.args.rest.now c.loop-link.link-index c.link-item.result c.loop-link.work at ∙ search (rules, start_seen))
+    (search rules, search (rules, prefix_then), search (rules, prefix_then, all_grown), search (rules, over_grown), c.loop-link.invariant.4 ∙ chain_more (names_seen c.args.self.now) (evaluator (names_seen c.args.self.now) c.args.left) (bound_seen c.args.bound.now) c.args.place (start_of (expr_seen c.args.first.now)) (held_seen c.loop-link.value) c.args.rest.now c.loop-link.link-index c.link-item.result c.loop-link.progress.work at ∙ search (rules, start_seen))
 
 pub chain-returns-in_err-value-2-clause-value : goal.chain-returns-in_err-value-2-clause-value
 chain-returns-in_err-value-2-clause-value t c =
     let at = at_item c.args.rest.now c.loop-link.link-index c.link-item.result (search rules) c.link-item.is in
-    rw (c.in_ok-value.ensures.value, c.loop-link.invariant.1 ∙ chain_more (names_seen c.args.self.now) (evaluator (names_seen c.args.self.now) c.args.left) c.args.bound.now c.args.place (start_of (expr_seen c.args.first.now)) c.loop-link.value c.args.rest.now c.loop-link.link-index c.link-item.result c.loop-link.work at) (search (rules, start_seen))
+    rw (c.in_ok-value.ensures.value, c.loop-link.invariant.4 ∙ chain_more (names_seen c.args.self.now) (evaluator (names_seen c.args.self.now) c.args.left) (bound_seen c.args.bound.now) c.args.place (start_of (expr_seen c.args.first.now)) (held_seen c.loop-link.value) c.args.rest.now c.loop-link.link-index c.link-item.result c.loop-link.progress.work at) (search (rules, start_seen))
 
 pub steps-returns-clause-value : goal.steps-returns-clause-value
 steps-returns-clause-value t c =
@@ -99,8 +105,8 @@ form-returns-in_err-values-in-Set-clause-value t c = rw (set_form c.args.expr.no
 pub form-returns-in_err-numbers-in-Set-clause-value : goal.form-returns-in_err-numbers-in-Set-clause-value
 form-returns-in_err-numbers-in-Set-clause-value t c = rw (set_form c.args.expr.now c.in-Set.parts (search rules)) (search rules)
 
-pub form-returns-in_ok-of-in-Set-clause-value : goal.form-returns-in_ok-of-in-Set-clause-value
-form-returns-in_ok-of-in-Set-clause-value t c = rw (set_form c.args.expr.now c.in-Set.parts (search rules)) (search rules)
+pub form-returns-in_ok-set_of-in-Set-clause-value : goal.form-returns-in_ok-set_of-in-Set-clause-value
+form-returns-in_ok-set_of-in-Set-clause-value t c = rw (set_form c.args.expr.now c.in-Set.parts (search rules)) (search rules)
 
 pub form-returns-in-Call-clause-value : goal.form-returns-in-Call-clause-value
 form-returns-in-Call-clause-value t c = rw (call_form c.args.expr.now c.in-Call.word c.in-Call.arguments (search rules)) (search rules)
@@ -113,20 +119,766 @@ form-returns-in-Big-clause-value t c = rw (big_form c.args.expr.now c.in-Big.op 
 
 pub over_ranges-returns-in_ok-value-in-empty-clause-value : goal.over_ranges-returns-in_ok-value-in-empty-clause-value
 over_ranges-returns-in_ok-value-in-empty-clause-value t c =
-    rw (big_empty (evaluator (names_seen c.args.self.now) c.args.left) c.args.big.now.place c.args.big.now.connective c.args.bound.now c.args.ranges.now c.args.big.now.part.now c.args.work.now c.in-empty.len_below) (search rules)
+    rw (big_empty (evaluator (names_seen c.args.self.now) c.args.left) c.args.big.now.place c.args.big.now.connective (bound_seen c.args.bound.now) c.args.ranges.now c.args.big.now.part.now c.args.progress.now.work c.in-empty.len_below) (search rules)
 
-pub over_ranges-returns-in_ok-last-in-Between-2-clause-value : goal.over_ranges-returns-in_ok-last-in-Between-2-clause-value
-over_ranges-returns-in_ok-last-in-Between-2-clause-value t c =
-    rw (big_of_run (evaluator (names_seen c.args.self.now) c.args.left) c.args.big.now.place c.args.big.now.connective c.args.bound.now c.args.ranges.now c.in-Between.word c.in-Between.low c.in-Between.high c.in-Between.low_strict c.in-Between.high_strict (drop 1 c.args.ranges.now) c.args.big.now.part.now c.args.work.now c.value-in-Between.new.work c.value-in-Between-2.new.work c.in_ok-first-in-Between.first c.in_ok-last-in-Between.last c.in_ok-first-in-Between-2.first c.in_ok-last-in-Between-2.last (search rules) (search rules) (search rules) (search rules) (search rules)) (search (rules, rest_whole c.args.ranges.now))
-
-pub over_ranges-returns-in_ok-members-in-Members-2-clause-value : goal.over_ranges-returns-in_ok-members-in-Members-2-clause-value
+pub over_ranges-returns-in_ok-members-in-Members-clause-value : goal.over_ranges-returns-in_ok-members-in-Members-clause-value
 unfolding evaluator
-over_ranges-returns-in_ok-members-in-Members-2-clause-value t c =
-    rw (big_of_set (evaluator (names_seen c.args.self.now) c.args.left) c.args.big.now.place c.args.big.now.connective c.args.bound.now c.args.ranges.now c.in-Members.word c.in-Members.set (drop 1 c.args.ranges.now) c.args.big.now.part.now c.args.work.now c.value-in-Members.new.work c.in_ok-value-in-Members.value c.in_ok-members-in-Members.members (search rules) (search rules) (search rules), ← c.in_ok-members-in-Members-2.ensures) (search (rules, rest_whole c.args.ranges.now))
+over_ranges-returns-in_ok-members-in-Members-clause-value t c =
+    rw (big_of_set (evaluator (names_seen c.args.self.now) c.args.left) c.args.big.now.place c.args.big.now.connective (bound_seen c.args.bound.now) c.args.ranges.now c.in-Members.word c.in-Members.set (drop 1 c.args.ranges.now) c.args.big.now.part.now c.args.progress.now.work c.value-in-Members.new.progress.work (held_seen c.in_ok-value-in-Members.value) (members_seen c.in_ok-members-in-Members.members) (search rules) (search rules) (search rules)) (search (rules, rest_whole c.args.ranges.now))
 
-pub index-returns : goal.index-returns
-index-returns t c = record {
-  value =
-      rw (index_is (names_seen c.args.self.now) (evaluator (names_seen c.args.self.now) c.args.left) c.args.bound.now c.args.place c.args.word.now c.args.index.now c.args.work.now c.meaning_value.new.work c.value-2.new.work c.in_ok-bus.bus c.in_ok-value-2.value c.in_ok-bus-2.bus c.in_ok-number.number (search rules) (search rules) (search rules) (search rules)) (search rules);
-  bound = search rules;
-}
+pub index-returns-clause-value : goal.index-returns-clause-value
+index-returns-clause-value t c =
+    rw (index_is (names_seen c.args.self.now) (evaluator (names_seen c.args.self.now) c.args.left) (bound_seen c.args.bound.now) c.args.place c.args.word.now c.args.index.now c.args.progress.now.work c.meaning_value.new.progress.work c.value-2.new.progress.work (held_seen c.in_ok-bus.bus) (held_seen c.in_ok-value-2.value) c.in_ok-bus-2.bus c.in_ok-number.number (search rules) (search rules) (search rules) (search rules)) (search rules)
+
+pub arguments-returns-clause-grows : goal.arguments-returns-clause-grows
+arguments-returns-clause-grows t c = search (rules, growth)
+
+pub arguments-returns-clause-over : goal.arguments-returns-clause-over
+arguments-returns-clause-over t c = search (rules, growth)
+
+pub arguments-returns-in_err-push-clause-grows : goal.arguments-returns-in_err-push-clause-grows
+arguments-returns-in_err-push-clause-grows t c = search (rules, growth)
+
+pub arguments-returns-in_err-push-clause-over : goal.arguments-returns-in_err-push-clause-over
+arguments-returns-in_err-push-clause-over t c = search (rules, growth)
+
+pub arguments-returns-in_err-value-clause-grows : goal.arguments-returns-in_err-value-clause-grows
+arguments-returns-in_err-value-clause-grows t c = search (rules, growth)
+
+pub arguments-returns-in_err-value-clause-over : goal.arguments-returns-in_err-value-clause-over
+arguments-returns-in_err-value-clause-over t c = search (rules, growth)
+
+pub arguments-value-requires : goal.arguments-value-requires
+arguments-value-requires t c = search (rules, growth)
+
+pub big-over_ranges-requires : goal.big-over_ranges-requires
+big-over_ranges-requires t c = search (rules, growth)
+
+pub big-returns-clause-grows : goal.big-returns-clause-grows
+big-returns-clause-grows t c = search (rules, growth)
+
+pub big-returns-clause-over : goal.big-returns-clause-over
+big-returns-clause-over t c = search (rules, growth)
+
+pub big-returns-in_default-clause-grows : goal.big-returns-in_default-clause-grows
+big-returns-in_default-clause-grows t c = search (rules, growth)
+
+pub big-returns-in_err-over_ranges-clause-grows : goal.big-returns-in_err-over_ranges-clause-grows
+big-returns-in_err-over_ranges-clause-grows t c = search (rules, growth)
+
+pub big-returns-in_err-over_ranges-clause-over : goal.big-returns-in_err-over_ranges-clause-over
+big-returns-in_err-over_ranges-clause-over t c = search (rules, growth)
+
+pub body-chosen-requires : goal.body-chosen-requires
+body-chosen-requires t c = search (rules, growth)
+
+pub body-value-requires : goal.body-value-requires
+body-value-requires t c = search (rules, growth)
+
+pub call-arguments-requires : goal.call-arguments-requires
+call-arguments-requires t c = search (rules, growth)
+
+pub call-body-requires : goal.call-body-requires
+call-body-requires t c = search (rules, growth)
+
+pub call-returns-clause-grows : goal.call-returns-clause-grows
+call-returns-clause-grows t c = elim c.match-branch-2.branch [
+  | call-in-Definition+else-arguments-words+in_ok-inner-in-Definition w ↦ rw w.progress-is (search (rules, prefix_then))
+  | call-in-Undeclared w ↦ rw w.progress-is (search (rules, prefix_same))
+  | call-in_default w ↦ rw w.progress-is (search (rules, prefix_same))
+]
+
+pub call-returns-clause-over : goal.call-returns-clause-over
+call-returns-clause-over t c = search (rules, growth)
+
+pub call-returns-in_err-inner-in-Definition-clause-grows : goal.call-returns-in_err-inner-in-Definition-clause-grows
+call-returns-in_err-inner-in-Definition-clause-grows t c = search (rules, growth)
+
+pub call-returns-in_err-inner-in-Definition-clause-over : goal.call-returns-in_err-inner-in-Definition-clause-over
+call-returns-in_err-inner-in-Definition-clause-over t c = search (rules, growth)
+
+pub call-returns-in_err-words-clause-grows : goal.call-returns-in_err-words-clause-grows
+call-returns-in_err-words-clause-grows t c = search (rules, growth)
+
+pub call-returns-in_err-words-clause-over : goal.call-returns-in_err-words-clause-over
+call-returns-in_err-words-clause-over t c = search (rules, growth)
+
+pub call-returns-then-arguments-words-clause-grows : goal.call-returns-then-arguments-words-clause-grows
+call-returns-then-arguments-words-clause-grows t c = search (rules, growth)
+
+pub chain-operated-requires-clause-left : goal.chain-operated-requires-clause-left
+chain-operated-requires-clause-left t c = search (rules, growth)
+
+pub chain-operated-requires-clause-right : goal.chain-operated-requires-clause-right
+chain-operated-requires-clause-right t c = search (rules, growth)
+
+pub chain-returns-clause-grows : goal.chain-returns-clause-grows
+chain-returns-clause-grows t c = search (rules, growth)
+
+pub chain-returns-clause-over : goal.chain-returns-clause-over
+chain-returns-clause-over t c = search (rules, growth)
+
+pub chain-returns-in_err-right-clause-grows : goal.chain-returns-in_err-right-clause-grows
+chain-returns-in_err-right-clause-grows t c = search (rules, growth)
+
+pub chain-returns-in_err-right-clause-over : goal.chain-returns-in_err-right-clause-over
+chain-returns-in_err-right-clause-over t c = search (rules, growth)
+
+pub chain-returns-in_err-value-2-clause-grows : goal.chain-returns-in_err-value-2-clause-grows
+chain-returns-in_err-value-2-clause-grows t c = search (rules, growth)
+
+pub chain-returns-in_err-value-2-clause-over : goal.chain-returns-in_err-value-2-clause-over
+chain-returns-in_err-value-2-clause-over t c = search (rules, growth)
+
+pub chain-returns-in_err-value-clause-grows : goal.chain-returns-in_err-value-clause-grows
+chain-returns-in_err-value-clause-grows t c = search (rules, growth)
+
+pub chain-returns-in_err-value-clause-over : goal.chain-returns-in_err-value-clause-over
+chain-returns-in_err-value-clause-over t c = search (rules, growth)
+
+pub chain-value-requires : goal.chain-value-requires
+chain-value-requires t c = search (rules, growth)
+
+pub chain-value-requires-in-loop-link : goal.chain-value-requires-in-loop-link
+chain-value-requires-in-loop-link t c = search (rules, growth)
+
+pub chosen-guard-requires : goal.chosen-guard-requires
+chosen-guard-requires t c = search (rules, growth)
+
+pub chosen-returns-clause-grows : goal.chosen-returns-clause-grows
+chosen-returns-clause-grows t c = search (rules, growth)
+
+pub chosen-returns-in_err-guard-clause-grows : goal.chosen-returns-in_err-guard-clause-grows
+chosen-returns-in_err-guard-clause-grows t c = search (rules, growth)
+
+pub chosen-returns-in_err-guard-clause-over : goal.chosen-returns-in_err-guard-clause-over
+chosen-returns-in_err-guard-clause-over t c = search (rules, growth)
+
+pub chosen-returns-then-branch-clause-grows : goal.chosen-returns-then-branch-clause-grows
+chosen-returns-then-branch-clause-grows t c = search (rules, growth)
+
+pub chosen-returns-then-branch-clause-over : goal.chosen-returns-then-branch-clause-over
+chosen-returns-then-branch-clause-over t c = search (rules, growth)
+
+pub chosen-value-requires : goal.chosen-value-requires
+chosen-value-requires t c = search (rules, growth)
+
+pub counted-returns-clause-grows : goal.counted-returns-clause-grows
+counted-returns-clause-grows t c = search (rules, growth)
+
+pub counted-returns-clause-over : goal.counted-returns-clause-over
+counted-returns-clause-over t c = search (rules, growth)
+
+pub counted-returns-in_err-formula-clause-grows : goal.counted-returns-in_err-formula-clause-grows
+counted-returns-in_err-formula-clause-grows t c = search (rules, growth)
+
+pub counted-returns-in_err-formula-clause-over : goal.counted-returns-in_err-formula-clause-over
+counted-returns-in_err-formula-clause-over t c = search (rules, growth)
+
+pub counted-returns-in_err-number_value-clause-grows : goal.counted-returns-in_err-number_value-clause-grows
+counted-returns-in_err-number_value-clause-grows t c = search (rules, growth)
+
+pub counted-returns-in_err-number_value-clause-over : goal.counted-returns-in_err-number_value-clause-over
+counted-returns-in_err-number_value-clause-over t c = search (rules, growth)
+
+pub counted-returns-in_err-times-2-clause-grows : goal.counted-returns-in_err-times-2-clause-grows
+counted-returns-in_err-times-2-clause-grows t c = search (rules, growth)
+
+pub counted-returns-in_err-times-2-clause-over : goal.counted-returns-in_err-times-2-clause-over
+counted-returns-in_err-times-2-clause-over t c = search (rules, growth)
+
+pub counted-returns-in_err-times-clause-grows : goal.counted-returns-in_err-times-clause-grows
+counted-returns-in_err-times-clause-grows t c = search (rules, growth)
+
+pub counted-returns-in_err-times-clause-over : goal.counted-returns-in_err-times-clause-over
+counted-returns-in_err-times-clause-over t c = search (rules, growth)
+
+pub counted-returns-in_err-value-clause-grows : goal.counted-returns-in_err-value-clause-grows
+counted-returns-in_err-value-clause-grows t c = search (rules, growth)
+
+pub counted-returns-in_err-value-clause-over : goal.counted-returns-in_err-value-clause-over
+counted-returns-in_err-value-clause-over t c = search (rules, growth)
+
+pub counted-value-requires : goal.counted-value-requires
+counted-value-requires t c = search (rules, growth)
+
+pub counted-value-requires-2 : goal.counted-value-requires-2
+counted-value-requires-2 t c = search (rules, growth)
+
+pub form-big-requires : goal.form-big-requires
+form-big-requires t c = search (rules, growth)
+
+pub form-call-requires : goal.form-call-requires
+form-call-requires t c = search (rules, growth)
+
+pub form-chain-requires : goal.form-chain-requires
+form-chain-requires t c = search (rules, growth)
+
+pub form-counted-requires : goal.form-counted-requires
+form-counted-requires t c = search (rules, growth)
+
+pub form-index-requires : goal.form-index-requires
+form-index-requires t c = search (rules, growth)
+
+pub form-meaning_value-requires : goal.form-meaning_value-requires
+form-meaning_value-requires t c = (search rules, c.in_ok-meaning-in-Named.ensures.over _ (search rules))
+
+pub form-pair-requires : goal.form-pair-requires
+form-pair-requires t c = search (rules, growth)
+
+pub form-part_values-requires : goal.form-part_values-requires
+form-part_values-requires t c = search (rules, growth)
+
+pub form-returns-in-Big-clause-grows : goal.form-returns-in-Big-clause-grows
+form-returns-in-Big-clause-grows t c = search (rules, growth)
+
+pub form-returns-in-Big-clause-over : goal.form-returns-in-Big-clause-over
+form-returns-in-Big-clause-over t c = search (rules, growth)
+
+pub form-returns-in-Call-clause-grows : goal.form-returns-in-Call-clause-grows
+form-returns-in-Call-clause-grows t c = search (rules, growth)
+
+pub form-returns-in-Call-clause-over : goal.form-returns-in-Call-clause-over
+form-returns-in-Call-clause-over t c = search (rules, growth)
+
+pub form-returns-in-Chain-clause-grows : goal.form-returns-in-Chain-clause-grows
+form-returns-in-Chain-clause-grows t c = search (rules, growth)
+
+pub form-returns-in-Chain-clause-over : goal.form-returns-in-Chain-clause-over
+form-returns-in-Chain-clause-over t c = search (rules, growth)
+
+pub form-returns-in-Count-clause-grows : goal.form-returns-in-Count-clause-grows
+form-returns-in-Count-clause-grows t c = search (rules, growth)
+
+pub form-returns-in-Count-clause-over : goal.form-returns-in-Count-clause-over
+form-returns-in-Count-clause-over t c = search (rules, growth)
+
+pub form-returns-in-Index-clause-grows : goal.form-returns-in-Index-clause-grows
+form-returns-in-Index-clause-grows t c = search (rules, growth)
+
+pub form-returns-in-Index-clause-over : goal.form-returns-in-Index-clause-over
+form-returns-in-Index-clause-over t c = search (rules, growth)
+
+pub form-returns-in-Number-None-clause-grows : goal.form-returns-in-Number-None-clause-grows
+form-returns-in-Number-None-clause-grows t c = search (rules, growth)
+
+pub form-returns-in-Number-Some-clause-grows : goal.form-returns-in-Number-Some-clause-grows
+form-returns-in-Number-Some-clause-grows t c = search (rules, growth)
+
+pub form-returns-in-Pair-clause-grows : goal.form-returns-in-Pair-clause-grows
+form-returns-in-Pair-clause-grows t c = search (rules, growth)
+
+pub form-returns-in-Pair-clause-over : goal.form-returns-in-Pair-clause-over
+form-returns-in-Pair-clause-over t c = search (rules, growth)
+
+pub form-returns-in-Paren-clause-grows : goal.form-returns-in-Paren-clause-grows
+form-returns-in-Paren-clause-grows t c = search (rules, growth)
+
+pub form-returns-in-Paren-clause-over : goal.form-returns-in-Paren-clause-over
+form-returns-in-Paren-clause-over t c = search (rules, growth)
+
+pub form-returns-in-Steps-clause-grows : goal.form-returns-in-Steps-clause-grows
+form-returns-in-Steps-clause-grows t c = search (rules, growth)
+
+pub form-returns-in-Steps-clause-over : goal.form-returns-in-Steps-clause-over
+form-returns-in-Steps-clause-over t c = search (rules, growth)
+
+pub form-returns-in-Truth-clause-grows : goal.form-returns-in-Truth-clause-grows
+form-returns-in-Truth-clause-grows t c = search (rules, growth)
+
+pub form-returns-in-Window-clause-grows : goal.form-returns-in-Window-clause-grows
+form-returns-in-Window-clause-grows t c = search (rules, growth)
+
+pub form-returns-in-Window-clause-over : goal.form-returns-in-Window-clause-over
+form-returns-in-Window-clause-over t c = search (rules, growth)
+
+pub form-returns-in_err-bus-in-SizeOf-clause-grows : goal.form-returns-in_err-bus-in-SizeOf-clause-grows
+form-returns-in_err-bus-in-SizeOf-clause-grows t c = search (rules, growth)
+
+pub form-returns-in_err-bus-in-SizeOf-clause-over : goal.form-returns-in_err-bus-in-SizeOf-clause-over
+form-returns-in_err-bus-in-SizeOf-clause-over t c = search (rules, growth)
+
+pub form-returns-in_err-meaning-in-Named-clause-grows : goal.form-returns-in_err-meaning-in-Named-clause-grows
+form-returns-in_err-meaning-in-Named-clause-grows t c = search (rules, growth)
+
+pub form-returns-in_err-meaning-in-Named-clause-over : goal.form-returns-in_err-meaning-in-Named-clause-over
+form-returns-in_err-meaning-in-Named-clause-over t c = search (rules, growth)
+
+pub form-returns-in_err-numbers-in-Set-clause-grows : goal.form-returns-in_err-numbers-in-Set-clause-grows
+form-returns-in_err-numbers-in-Set-clause-grows t c = search (rules, growth)
+
+pub form-returns-in_err-numbers-in-Set-clause-over : goal.form-returns-in_err-numbers-in-Set-clause-over
+form-returns-in_err-numbers-in-Set-clause-over t c = search (rules, growth)
+
+pub form-returns-in_err-set_of-in-Set-clause-grows : goal.form-returns-in_err-set_of-in-Set-clause-grows
+form-returns-in_err-set_of-in-Set-clause-grows t c = search (rules, growth)
+
+pub form-returns-in_err-set_of-in-Set-clause-over : goal.form-returns-in_err-set_of-in-Set-clause-over
+form-returns-in_err-set_of-in-Set-clause-over t c = search (rules, growth)
+
+pub form-returns-in_err-value-in-Prefix-clause-grows : goal.form-returns-in_err-value-in-Prefix-clause-grows
+form-returns-in_err-value-in-Prefix-clause-grows t c = search (rules, growth)
+
+pub form-returns-in_err-value-in-Prefix-clause-over : goal.form-returns-in_err-value-in-Prefix-clause-over
+form-returns-in_err-value-in-Prefix-clause-over t c = search (rules, growth)
+
+pub form-returns-in_err-value-in-SizeOf-clause-grows : goal.form-returns-in_err-value-in-SizeOf-clause-grows
+form-returns-in_err-value-in-SizeOf-clause-grows t c = search (rules, growth)
+
+pub form-returns-in_err-value-in-SizeOf-clause-over : goal.form-returns-in_err-value-in-SizeOf-clause-over
+form-returns-in_err-value-in-SizeOf-clause-over t c = search (rules, growth)
+
+pub form-returns-in_err-values-in-Set-clause-grows : goal.form-returns-in_err-values-in-Set-clause-grows
+form-returns-in_err-values-in-Set-clause-grows t c = search (rules, growth)
+
+pub form-returns-in_err-values-in-Set-clause-over : goal.form-returns-in_err-values-in-Set-clause-over
+form-returns-in_err-values-in-Set-clause-over t c = search (rules, growth)
+
+pub form-returns-in_ok-bus-in-SizeOf-clause-grows : goal.form-returns-in_ok-bus-in-SizeOf-clause-grows
+form-returns-in_ok-bus-in-SizeOf-clause-grows t c = search (rules, growth)
+
+pub form-returns-in_ok-meaning-in-Named-clause-grows : goal.form-returns-in_ok-meaning-in-Named-clause-grows
+form-returns-in_ok-meaning-in-Named-clause-grows t c = search (rules, growth)
+
+pub form-returns-in_ok-meaning-in-Named-clause-over : goal.form-returns-in_ok-meaning-in-Named-clause-over
+form-returns-in_ok-meaning-in-Named-clause-over t c = search (rules, growth)
+
+pub form-returns-in_ok-set_of-in-Set-clause-grows : goal.form-returns-in_ok-set_of-in-Set-clause-grows
+form-returns-in_ok-set_of-in-Set-clause-grows t c = search (rules, growth)
+
+pub form-returns-in_ok-set_of-in-Set-clause-over : goal.form-returns-in_ok-set_of-in-Set-clause-over
+form-returns-in_ok-set_of-in-Set-clause-over t c = search (rules, growth)
+
+pub form-returns-in_ok-value-in-Prefix-clause-grows : goal.form-returns-in_ok-value-in-Prefix-clause-grows
+form-returns-in_ok-value-in-Prefix-clause-grows t c = search (rules, growth)
+
+pub form-returns-in_ok-value-in-Prefix-clause-over : goal.form-returns-in_ok-value-in-Prefix-clause-over
+form-returns-in_ok-value-in-Prefix-clause-over t c = search (rules, growth)
+
+pub form-steps-requires : goal.form-steps-requires
+form-steps-requires t c = search (rules, growth)
+
+pub form-value-requires : goal.form-value-requires
+form-value-requires t c = search (rules, growth)
+
+pub form-value-requires-in-Paren : goal.form-value-requires-in-Paren
+form-value-requires-in-Paren t c = search (rules, growth)
+
+pub form-value-requires-in-Prefix : goal.form-value-requires-in-Prefix
+form-value-requires-in-Prefix t c = search (rules, growth)
+
+pub form-windowed-requires : goal.form-windowed-requires
+form-windowed-requires t c = search (rules, growth)
+
+pub guard-returns-in-None-clause-grows : goal.guard-returns-in-None-clause-grows
+guard-returns-in-None-clause-grows t c = search (rules, growth)
+
+pub guard-returns-in_err-value-in-Some-clause-grows : goal.guard-returns-in_err-value-in-Some-clause-grows
+guard-returns-in_err-value-in-Some-clause-grows t c = search (rules, growth)
+
+pub guard-returns-in_ok-value-in-Some-clause-grows : goal.guard-returns-in_ok-value-in-Some-clause-grows
+guard-returns-in_ok-value-in-Some-clause-grows t c = search (rules, growth)
+
+pub guard-value-requires : goal.guard-value-requires
+guard-value-requires t c = search (rules, growth)
+
+pub index-meaning_value-requires : goal.index-meaning_value-requires
+index-meaning_value-requires t c = (search rules, c.in_ok-meaning.ensures.over _ (search rules))
+
+pub index-returns-in_err-bus-2-clause-grows : goal.index-returns-in_err-bus-2-clause-grows
+index-returns-in_err-bus-2-clause-grows t c = search (rules, growth)
+
+pub index-returns-in_err-bus-2-clause-over : goal.index-returns-in_err-bus-2-clause-over
+index-returns-in_err-bus-2-clause-over t c = search (rules, growth)
+
+pub index-returns-in_err-bus-clause-grows : goal.index-returns-in_err-bus-clause-grows
+index-returns-in_err-bus-clause-grows t c = search (rules, growth)
+
+pub index-returns-in_err-bus-clause-over : goal.index-returns-in_err-bus-clause-over
+index-returns-in_err-bus-clause-over t c = search (rules, growth)
+
+pub index-returns-in_err-meaning-clause-grows : goal.index-returns-in_err-meaning-clause-grows
+index-returns-in_err-meaning-clause-grows t c = search (rules, growth)
+
+pub index-returns-in_err-meaning-clause-over : goal.index-returns-in_err-meaning-clause-over
+index-returns-in_err-meaning-clause-over t c = search (rules, growth)
+
+pub index-returns-in_err-number-clause-grows : goal.index-returns-in_err-number-clause-grows
+index-returns-in_err-number-clause-grows t c = search (rules, growth)
+
+pub index-returns-in_err-number-clause-over : goal.index-returns-in_err-number-clause-over
+index-returns-in_err-number-clause-over t c = search (rules, growth)
+
+pub index-returns-in_err-value-2-clause-grows : goal.index-returns-in_err-value-2-clause-grows
+index-returns-in_err-value-2-clause-grows t c = search (rules, growth)
+
+pub index-returns-in_err-value-2-clause-over : goal.index-returns-in_err-value-2-clause-over
+index-returns-in_err-value-2-clause-over t c = search (rules, growth)
+
+pub index-returns-in_err-value-clause-grows : goal.index-returns-in_err-value-clause-grows
+index-returns-in_err-value-clause-grows t c = search (rules, growth)
+
+pub index-returns-in_err-value-clause-over : goal.index-returns-in_err-value-clause-over
+index-returns-in_err-value-clause-over t c = search (rules, growth)
+
+pub index-returns-then-is_never_a_bus-clause-grows : goal.index-returns-then-is_never_a_bus-clause-grows
+index-returns-then-is_never_a_bus-clause-grows t c = search (rules, growth)
+
+pub index-value-requires : goal.index-value-requires
+index-value-requires t c = search (rules, growth)
+
+pub index-value-requires-2 : goal.index-value-requires-2
+index-value-requires-2 t c = search (rules, growth)
+
+pub meaning_value-body-requires : goal.meaning_value-body-requires
+meaning_value-body-requires t c = search (rules, growth)
+
+pub meaning_value-returns-in-Definition-clause-grows : goal.meaning_value-returns-in-Definition-clause-grows
+meaning_value-returns-in-Definition-clause-grows t c = search (rules, growth)
+
+pub meaning_value-returns-in-Definition-empty-default-clause-grows : goal.meaning_value-returns-in-Definition-empty-default-clause-grows
+meaning_value-returns-in-Definition-empty-default-clause-grows t c = search (rules, growth)
+
+pub meaning_value-returns-in-Definition-empty-default-clause-over : goal.meaning_value-returns-in-Definition-empty-default-clause-over
+meaning_value-returns-in-Definition-empty-default-clause-over t c = search (rules, growth)
+
+pub meaning_value-returns-in-Enumeration-clause-grows : goal.meaning_value-returns-in-Enumeration-clause-grows
+meaning_value-returns-in-Enumeration-clause-grows t c = search (rules, growth)
+
+pub meaning_value-returns-in-Known-clause-grows : goal.meaning_value-returns-in-Known-clause-grows
+meaning_value-returns-in-Known-clause-grows t c = search (rules, growth)
+
+pub meaning_value-returns-in-Known-clause-over : goal.meaning_value-returns-in-Known-clause-over
+meaning_value-returns-in-Known-clause-over t c = search (rules, growth)
+
+pub meaning_value-returns-in-Undeclared-clause-grows : goal.meaning_value-returns-in-Undeclared-clause-grows
+meaning_value-returns-in-Undeclared-clause-grows t c = search (rules, growth)
+
+pub meaning_value-returns-in_err-signal_made-in-Signal-clause-grows : goal.meaning_value-returns-in_err-signal_made-in-Signal-clause-grows
+meaning_value-returns-in_err-signal_made-in-Signal-clause-grows t c = search (rules, growth)
+
+pub meaning_value-returns-in_err-signal_made-in-Signal-clause-over : goal.meaning_value-returns-in_err-signal_made-in-Signal-clause-over
+meaning_value-returns-in_err-signal_made-in-Signal-clause-over t c = search (rules, growth)
+
+pub meaning_value-returns-in_ok-signal_made-in-Signal-clause-grows : goal.meaning_value-returns-in_ok-signal_made-in-Signal-clause-grows
+meaning_value-returns-in_ok-signal_made-in-Signal-clause-grows t c = search (rules, growth)
+
+pub over_members-over_ranges-requires : goal.over_members-over_ranges-requires
+over_members-over_ranges-requires t c = search (rules, growth)
+
+pub over_members-returns-clause-grows : goal.over_members-returns-clause-grows
+over_members-returns-clause-grows t c = search (rules, growth)
+
+pub over_members-returns-in_err-formula-clause-grows : goal.over_members-returns-in_err-formula-clause-grows
+over_members-returns-in_err-formula-clause-grows t c = search (rules, growth)
+
+pub over_members-returns-in_err-joined_with-clause-grows : goal.over_members-returns-in_err-joined_with-clause-grows
+over_members-returns-in_err-joined_with-clause-grows t c = search (rules, growth)
+
+pub over_members-returns-in_err-push_number-clause-grows : goal.over_members-returns-in_err-push_number-clause-grows
+over_members-returns-in_err-push_number-clause-grows t c = search (rules, growth)
+
+pub over_ranges-over_members-requires : goal.over_ranges-over_members-requires
+over_ranges-over_members-requires t c = search (rules, growth)
+
+pub over_ranges-returns-in_err-value-in-empty-clause-grows : goal.over_ranges-returns-in_err-value-in-empty-clause-grows
+over_ranges-returns-in_err-value-in-empty-clause-grows t c = search (rules, growth)
+
+pub over_ranges-returns-in_ok-value-in-empty-clause-grows : goal.over_ranges-returns-in_ok-value-in-empty-clause-grows
+over_ranges-returns-in_ok-value-in-empty-clause-grows t c = search (rules, growth)
+
+pub over_ranges-value-requires : goal.over_ranges-value-requires
+over_ranges-value-requires t c = search (rules, growth)
+
+pub over_ranges-value-requires-in-Members : goal.over_ranges-value-requires-in-Members
+over_ranges-value-requires-in-Members t c = search (rules, growth)
+
+pub pair-operated-requires-clause-left : goal.pair-operated-requires-clause-left
+pair-operated-requires-clause-left t c = search (rules, growth)
+
+pub pair-operated-requires-clause-right : goal.pair-operated-requires-clause-right
+pair-operated-requires-clause-right t c = search (rules, growth)
+
+pub pair-returns-clause-grows : goal.pair-returns-clause-grows
+pair-returns-clause-grows t c = search (rules, growth)
+
+pub pair-returns-clause-over : goal.pair-returns-clause-over
+pair-returns-clause-over t c = search (rules, growth)
+
+pub pair-returns-in_err-first_value-clause-grows : goal.pair-returns-in_err-first_value-clause-grows
+pair-returns-in_err-first_value-clause-grows t c = search (rules, growth)
+
+pub pair-returns-in_err-first_value-clause-over : goal.pair-returns-in_err-first_value-clause-over
+pair-returns-in_err-first_value-clause-over t c = search (rules, growth)
+
+pub pair-returns-in_err-second_value-clause-grows : goal.pair-returns-in_err-second_value-clause-grows
+pair-returns-in_err-second_value-clause-grows t c = search (rules, growth)
+
+pub pair-returns-in_err-second_value-clause-over : goal.pair-returns-in_err-second_value-clause-over
+pair-returns-in_err-second_value-clause-over t c = search (rules, growth)
+
+pub pair-value-requires : goal.pair-value-requires
+pair-value-requires t c = search (rules, growth)
+
+pub pair-value-requires-2 : goal.pair-value-requires-2
+pair-value-requires-2 t c = search (rules, growth)
+
+pub part_values-returns-clause-grows : goal.part_values-returns-clause-grows
+part_values-returns-clause-grows t c = search (rules, growth)
+
+pub part_values-returns-in_err-push-clause-grows : goal.part_values-returns-in_err-push-clause-grows
+part_values-returns-in_err-push-clause-grows t c = search (rules, growth)
+
+pub part_values-returns-in_err-value-clause-grows : goal.part_values-returns-in_err-value-clause-grows
+part_values-returns-in_err-value-clause-grows t c = search (rules, growth)
+
+pub part_values-value-requires : goal.part_values-value-requires
+part_values-value-requires t c = search (rules, growth)
+
+pub steps-returns-clause-grows : goal.steps-returns-clause-grows
+steps-returns-clause-grows t c = search (rules, growth)
+
+pub steps-returns-clause-over : goal.steps-returns-clause-over
+steps-returns-clause-over t c = search (rules, growth)
+
+pub steps-returns-in_err-first_value-clause-grows : goal.steps-returns-in_err-first_value-clause-grows
+steps-returns-in_err-first_value-clause-grows t c = search (rules, growth)
+
+pub steps-returns-in_err-first_value-clause-over : goal.steps-returns-in_err-first_value-clause-over
+steps-returns-in_err-first_value-clause-over t c = search (rules, growth)
+
+pub steps-returns-in_err-from-clause-grows : goal.steps-returns-in_err-from-clause-grows
+steps-returns-in_err-from-clause-grows t c = search (rules, growth)
+
+pub steps-returns-in_err-from-clause-over : goal.steps-returns-in_err-from-clause-over
+steps-returns-in_err-from-clause-over t c = search (rules, growth)
+
+pub steps-returns-in_err-last_value-clause-grows : goal.steps-returns-in_err-last_value-clause-grows
+steps-returns-in_err-last_value-clause-grows t c = search (rules, growth)
+
+pub steps-returns-in_err-last_value-clause-over : goal.steps-returns-in_err-last_value-clause-over
+steps-returns-in_err-last_value-clause-over t c = search (rules, growth)
+
+pub steps-returns-in_err-next-clause-grows : goal.steps-returns-in_err-next-clause-grows
+steps-returns-in_err-next-clause-grows t c = search (rules, growth)
+
+pub steps-returns-in_err-next-clause-over : goal.steps-returns-in_err-next-clause-over
+steps-returns-in_err-next-clause-over t c = search (rules, growth)
+
+pub steps-returns-in_err-second_value-clause-grows : goal.steps-returns-in_err-second_value-clause-grows
+steps-returns-in_err-second_value-clause-grows t c = search (rules, growth)
+
+pub steps-returns-in_err-second_value-clause-over : goal.steps-returns-in_err-second_value-clause-over
+steps-returns-in_err-second_value-clause-over t c = search (rules, growth)
+
+pub steps-returns-in_err-to-clause-grows : goal.steps-returns-in_err-to-clause-grows
+steps-returns-in_err-to-clause-grows t c = search (rules, growth)
+
+pub steps-returns-in_err-to-clause-over : goal.steps-returns-in_err-to-clause-over
+steps-returns-in_err-to-clause-over t c = search (rules, growth)
+
+pub steps-value-requires : goal.steps-value-requires
+steps-value-requires t c = search (rules, growth)
+
+pub steps-value-requires-2 : goal.steps-value-requires-2
+steps-value-requires-2 t c = search (rules, growth)
+
+pub steps-value-requires-3 : goal.steps-value-requires-3
+steps-value-requires-3 t c = search (rules, growth)
+
+pub value-form-requires : goal.value-form-requires
+value-form-requires t c = search (rules, growth)
+
+pub value-returns-clause-grows : goal.value-returns-clause-grows
+value-returns-clause-grows t c = search (rules, growth)
+
+pub value-returns-clause-over : goal.value-returns-clause-over
+value-returns-clause-over t c = search (rules, growth)
+
+pub value-returns-in_err-count-clause-grows : goal.value-returns-in_err-count-clause-grows
+value-returns-in_err-count-clause-grows t c = search (rules, growth)
+
+pub value-returns-in_err-count-clause-over : goal.value-returns-in_err-count-clause-over
+value-returns-in_err-count-clause-over t c = search (rules, growth)
+
+pub value-returns-then-left-eq0-clause-grows : goal.value-returns-then-left-eq0-clause-grows
+value-returns-then-left-eq0-clause-grows t c = search (rules, growth)
+
+pub windowed-returns-clause-grows : goal.windowed-returns-clause-grows
+windowed-returns-clause-grows t c = search (rules, growth)
+
+pub windowed-returns-clause-over : goal.windowed-returns-clause-over
+windowed-returns-clause-over t c = search (rules, growth)
+
+pub windowed-returns-in_default-clause-grows : goal.windowed-returns-in_default-clause-grows
+windowed-returns-in_default-clause-grows t c = search (rules, growth)
+
+pub windowed-returns-in_err-first-2-clause-grows : goal.windowed-returns-in_err-first-2-clause-grows
+windowed-returns-in_err-first-2-clause-grows t c = search (rules, growth)
+
+pub windowed-returns-in_err-first-2-clause-over : goal.windowed-returns-in_err-first-2-clause-over
+windowed-returns-in_err-first-2-clause-over t c = search (rules, growth)
+
+pub windowed-returns-in_err-first-3-clause-grows : goal.windowed-returns-in_err-first-3-clause-grows
+windowed-returns-in_err-first-3-clause-grows t c = search (rules, growth)
+
+pub windowed-returns-in_err-first-3-clause-over : goal.windowed-returns-in_err-first-3-clause-over
+windowed-returns-in_err-first-3-clause-over t c = search (rules, growth)
+
+pub windowed-returns-in_err-first-clause-grows : goal.windowed-returns-in_err-first-clause-grows
+windowed-returns-in_err-first-clause-grows t c = search (rules, growth)
+
+pub windowed-returns-in_err-first-clause-over : goal.windowed-returns-in_err-first-clause-over
+windowed-returns-in_err-first-clause-over t c = search (rules, growth)
+
+pub windowed-returns-in_err-formula-clause-grows : goal.windowed-returns-in_err-formula-clause-grows
+windowed-returns-in_err-formula-clause-grows t c = search (rules, growth)
+
+pub windowed-returns-in_err-formula-clause-over : goal.windowed-returns-in_err-formula-clause-over
+windowed-returns-in_err-formula-clause-over t c = search (rules, growth)
+
+pub windowed-returns-in_err-last-2-clause-grows : goal.windowed-returns-in_err-last-2-clause-grows
+windowed-returns-in_err-last-2-clause-grows t c = search (rules, growth)
+
+pub windowed-returns-in_err-last-2-clause-over : goal.windowed-returns-in_err-last-2-clause-over
+windowed-returns-in_err-last-2-clause-over t c = search (rules, growth)
+
+pub windowed-returns-in_err-last-3-clause-grows : goal.windowed-returns-in_err-last-3-clause-grows
+windowed-returns-in_err-last-3-clause-grows t c = search (rules, growth)
+
+pub windowed-returns-in_err-last-3-clause-over : goal.windowed-returns-in_err-last-3-clause-over
+windowed-returns-in_err-last-3-clause-over t c = search (rules, growth)
+
+pub windowed-returns-in_err-last-clause-grows : goal.windowed-returns-in_err-last-clause-grows
+windowed-returns-in_err-last-clause-grows t c = search (rules, growth)
+
+pub windowed-returns-in_err-last-clause-over : goal.windowed-returns-in_err-last-clause-over
+windowed-returns-in_err-last-clause-over t c = search (rules, growth)
+
+pub windowed-returns-in_err-value-clause-grows : goal.windowed-returns-in_err-value-clause-grows
+windowed-returns-in_err-value-clause-grows t c = search (rules, growth)
+
+pub windowed-returns-in_err-value-clause-over : goal.windowed-returns-in_err-value-clause-over
+windowed-returns-in_err-value-clause-over t c = search (rules, growth)
+
+pub windowed-value-requires : goal.windowed-value-requires
+windowed-value-requires t c = search (rules, growth)
+
+pub windowed-value-requires-2 : goal.windowed-value-requires-2
+windowed-value-requires-2 t c = search (rules, growth)
+
+pub windowed-value-requires-3 : goal.windowed-value-requires-3
+windowed-value-requires-3 t c = search (rules, growth)
+
+pub arguments-loop-i-preserved : goal.arguments-loop-i-preserved
+arguments-loop-i-preserved t c =
+    let word = c.index-words-i.result in
+    let e = c.index-arguments-i.result in
+    let word_at = at_item c.args.words.now c.loop-i.i word (search rules) c.index-words-i.is in
+    let at = at_item c.args.arguments.now c.loop-i.i e (search rules) c.index-arguments-i.is in
+    let pushed : c.push.new.self ≡ record { name = word.name; value = c.in_ok-value.value } ∷ c.loop-i.inner = search rules in (
+      search rules,
+      search (rules, prefix_then),
+      search (rules, all_grown),
+      search (rules, all_grown),
+      c.loop-i.invariant.4 ∙ arguments_step (evaluator (names_seen c.args.self.now) c.args.left) (bound_seen c.args.bound.now) (bound_seen c.loop-i.inner) (bound_seen c.push.new.self) c.args.words.now c.args.arguments.now c.loop-i.i word e c.loop-i.progress.work c.value.new.progress.work (held_seen c.in_ok-value.value)
+          word_at at (rw c.loop-i.invariant.0 at c.in_ok-value.ensures.value) (ap bound_seen pushed),
+    )
+
+pub chain-loop-link-init : goal.chain-loop-link-init
+chain-loop-link-init t c = (search rules, search rules, search (rules, all_grown), search rules, refl)
+
+pub chosen-loop-alternative-preserved : goal.chosen-loop-alternative-preserved
+chosen-loop-alternative-preserved t c =
+    let at = at_item c.args.alternatives.now c.loop-alternative.alternative-index c.alternative-item.result (search rules) c.alternative-item.is in
+    let guard = rw c.loop-alternative.invariant.0 at c.in_ok-guard.ensures.value in (
+      search rules,
+      search (rules, prefix_then),
+      search (rules, all_grown),
+      c.loop-alternative.invariant.3 ∙ chosen_step (evaluator (names_seen c.args.self.now) c.args.left) (bound_seen c.args.bound.now) c.args.place c.args.alternatives.now c.loop-alternative.alternative-index c.alternative-item.result c.loop-alternative.progress.work c.guard.new.progress.work
+          at (rw c.if-branch.false at guard),
+    )
+
+pub part_values-loop-part-preserved : goal.part_values-loop-part-preserved
+part_values-loop-part-preserved t c =
+    let at = at_item c.args.parts.now c.loop-part.part-index c.part-item.result (search rules) c.part-item.is in
+    let pushed : c.push.new.self.items ≡ c.loop-part.values.items ++ c.in_ok-value.field-0 ∷ [] = search rules in (
+      search rules,
+      search (rules, prefix_then),
+      search (rules, all_grown),
+      c.loop-part.invariant.3 ∙ values_step (evaluator (names_seen c.args.self.now) c.args.left) (bound_seen c.args.bound.now) (map held_seen c.loop-part.values.items) (map held_seen c.push.new.self.items) c.args.parts.now c.loop-part.part-index c.part-item.result c.loop-part.progress.work c.value.new.progress.work (held_seen c.in_ok-value.field-0)
+          at (rw c.loop-part.invariant.0 at c.in_ok-value.ensures.value) (ap (map held_seen) pushed ∙ map-append held_seen c.loop-part.values.items (c.in_ok-value.field-0 ∷ [])),
+    )
+
+pub over_members-returns-in_err-formula-clause-value : goal.over_members-returns-in_err-formula-clause-value
+over_members-returns-in_err-formula-clause-value t c =
+    let p = err_from_is_err_and c.from_residual-in_err-formula.result c.from_residual-in_err-formula.ensures.1 in
+    let same : to_z w64 (of_z w64 c.in-Some.number) ≡ c.in-Some.number = search rules in
+    let seen = c.in_ok-push_number.ensures.seen ∙ ap (λ z. record { name = c.args.word.now.name; value = Number z } ∷ bound_seen c.loop-number.bound) same ∙ ap (λ b. record { name = c.args.word.now.name; value = Number c.in-Some.number } ∷ bound_seen b) c.loop-number.invariant.0 in
+    rw (p.1, p.2) (joined_fault c.args.big.now.place c.args.big.now.connective (λ z w. big_value (evaluator (names_seen c.args.self.now) c.args.left) c.args.big.now.place c.args.big.now.connective (bind (word_seen c.args.word.now) (Number z) (bound_seen c.args.bound.now)) (range_list_seen c.args.ranges.now) (expr_seen c.args.big.now.part.now) w)
+    (joined_over c.args.big.now.place c.args.big.now.connective (λ z w. big_value (evaluator (names_seen c.args.self.now) c.args.left) c.args.big.now.place c.args.big.now.connective (bind (word_seen c.args.word.now) (Number z) (bound_seen c.args.bound.now)) (range_list_seen c.args.ranges.now) (expr_seen c.args.big.now.part.now) w) (members_seen c.args.members) None c.args.progress.now.work)
+    (members_seen c.loop-number.members) (members_seen c.next.new.self) c.in-Some.number c.loop-number.so_far c.loop-number.progress.work c.in_err-formula.field-0.0 c.loop-number.invariant.3 c.in-Some.ensures (rw seen at c.in_err-formula.ensures.value))
+
+pub over_members-returns-in_err-joined_with-clause-value : goal.over_members-returns-in_err-joined_with-clause-value
+over_members-returns-in_err-joined_with-clause-value t c =
+    let p = err_from_is_err_and c.from_residual-in_err-joined_with.result c.from_residual-in_err-joined_with.ensures.1 in
+    let same : to_z w64 (of_z w64 c.in-Some.number) ≡ c.in-Some.number = search rules in
+    let seen = c.in_ok-push_number.ensures.seen ∙ ap (λ z. record { name = c.args.word.now.name; value = Number z } ∷ bound_seen c.loop-number.bound) same ∙ ap (λ b. record { name = c.args.word.now.name; value = Number c.in-Some.number } ∷ bound_seen b) c.loop-number.invariant.0 in
+    rw (p.1, p.2) (joining_fault c.args.big.now.place c.args.big.now.connective (λ z w. big_value (evaluator (names_seen c.args.self.now) c.args.left) c.args.big.now.place c.args.big.now.connective (bind (word_seen c.args.word.now) (Number z) (bound_seen c.args.bound.now)) (range_list_seen c.args.ranges.now) (expr_seen c.args.big.now.part.now) w)
+    (joined_over c.args.big.now.place c.args.big.now.connective (λ z w. big_value (evaluator (names_seen c.args.self.now) c.args.left) c.args.big.now.place c.args.big.now.connective (bind (word_seen c.args.word.now) (Number z) (bound_seen c.args.bound.now)) (range_list_seen c.args.ranges.now) (expr_seen c.args.big.now.part.now) w) (members_seen c.args.members) None c.args.progress.now.work)
+    (members_seen c.loop-number.members) (members_seen c.next.new.self) c.in-Some.number c.loop-number.so_far c.loop-number.progress.work c.over_ranges.new.progress.work c.in_ok-formula.formula c.in_err-joined_with.field-0.0 c.loop-number.invariant.3 c.in-Some.ensures (rw seen at c.in_ok-formula.ensures.value) c.in_err-joined_with.ensures)
+
+pub over_members-loop-number-preserved : goal.over_members-loop-number-preserved
+over_members-loop-number-preserved t c =
+    let same : to_z w64 (of_z w64 c.in-Some.number) ≡ c.in-Some.number = search rules in
+    let seen = c.in_ok-push_number.ensures.seen ∙ ap (λ z. record { name = c.args.word.now.name; value = Number z } ∷ bound_seen c.loop-number.bound) same ∙ ap (λ b. record { name = c.args.word.now.name; value = Number c.in-Some.number } ∷ bound_seen b) c.loop-number.invariant.0 in (
+      search rules,
+      search (rules, prefix_then),
+      search (rules, all_grown),
+      c.loop-number.invariant.3 ∙ joined_step c.args.big.now.place c.args.big.now.connective (λ z w. big_value (evaluator (names_seen c.args.self.now) c.args.left) c.args.big.now.place c.args.big.now.connective (bind (word_seen c.args.word.now) (Number z) (bound_seen c.args.bound.now)) (range_list_seen c.args.ranges.now) (expr_seen c.args.big.now.part.now) w)
+          (members_seen c.loop-number.members) (members_seen c.next.new.self) c.in-Some.number c.loop-number.so_far c.loop-number.progress.work c.over_ranges.new.progress.work c.joined_with.new.self c.in_ok-formula.formula c.in_ok-joined_with.field-0
+          c.in-Some.ensures (rw seen at c.in_ok-formula.ensures.value) c.in_ok-joined_with.ensures,
+    )
+
+pub steps-returns-in_err-next-clause-value : goal.steps-returns-in_err-next-clause-value
+steps-returns-in_err-next-clause-value t c =
+    let p = err_from_is_err_and c.from_residual-in_err-next.result c.from_residual-in_err-next.ensures.1 in
+    let bound = c.in_ok-first_value.ensures.bound in
+    let second = rw bound at c.in_ok-second_value.ensures.value in
+    let last = rw (c.in_ok-second_value.ensures.bound ∙ bound) at c.in_ok-last_value.ensures.value in
+    rw (c.in_ok-first_value.ensures.value, second, last, start_seen c.args.first.now, start_seen c.args.second.now, c.in_ok-from.ensures, p.1, p.2) (checked_fault _ _ _ _ c.in_err-next.ensures)
+
+pub windowed-returns-in_err-last-2-clause-value : goal.windowed-returns-in_err-last-2-clause-value
+windowed-returns-in_err-last-2-clause-value t c =
+    let p = err_from_is_err_and c.from_residual-in_err-last-2.result c.from_residual-in_err-last-2.ensures.1 in
+    let bound = c.in_ok-first.ensures.bound in
+    let second = rw bound at c.in_ok-last.ensures.value in
+    let last = rw (c.in_ok-last.ensures.bound ∙ bound) at c.in_ok-value.ensures.value in
+    rw (← c.in-Some.ensures, c.in_ok-first.ensures.value, second, last, start_seen c.args.from.now, start_seen c.args.to.now, c.in_ok-first-2.ensures, p.1, p.2) (checked_fault _ _ _ _ c.in_err-last-2.ensures)
+
+pub counted-returns-in_err-times-clause-value : goal.counted-returns-in_err-times-clause-value
+counted-returns-in_err-times-clause-value t c =
+    let p = err_from_is_err_and c.from_residual-in_err-times.result c.from_residual-in_err-times.ensures.1 in
+    let second = rw c.in_ok-number_value.ensures.bound at c.in_ok-value.ensures.value in
+    rw (c.in_ok-number_value.ensures.value, second, start_seen c.args.number.now, p.1, p.2) (checked_fault _ _ _ _ c.in_err-times.ensures)
+
+pub over_ranges-returns-in_ok-last-in-Between-clause-value : goal.over_ranges-returns-in_ok-last-in-Between-clause-value
+over_ranges-returns-in_ok-last-in-Between-clause-value t c =
+    rw (big_of_run (evaluator (names_seen c.args.self.now) c.args.left) c.args.big.now.place c.args.big.now.connective (bound_seen c.args.bound.now) c.args.ranges.now c.in-Between.word c.in-Between.low c.in-Between.high c.in-Between.low_strict c.in-Between.high_strict (drop 1 c.args.ranges.now) c.args.big.now.part.now c.args.progress.now.work c.value-in-Between.new.progress.work c.value-in-Between-2.new.progress.work (held_seen c.in_ok-value-in-Between.field-0) (held_seen c.in_ok-value-in-Between-2.field-0) c.in_ok-first-in-Between.field-0 c.in_ok-last-in-Between.field-0
+    (search rules) (search rules) (search rules) (search rules) (search rules)) (search (rules, rest_whole c.args.ranges.now))
+
+pub over_ranges-returns-in_err-first-in-Between-clause-value : goal.over_ranges-returns-in_err-first-in-Between-clause-value
+over_ranges-returns-in_err-first-in-Between-clause-value t c =
+    let p = err_from_is_err_and c.from_residual-in_err-first-in-Between.result c.from_residual-in_err-first-in-Between.ensures.1 in
+    rw (p.1, p.2) (big_run_low (evaluator (names_seen c.args.self.now) c.args.left) c.args.big.now.place c.args.big.now.connective (bound_seen c.args.bound.now) c.args.ranges.now c.in-Between.word c.in-Between.low c.in-Between.high c.in-Between.low_strict c.in-Between.high_strict (drop 1 c.args.ranges.now) c.args.big.now.part.now c.args.progress.now.work c.value-in-Between.new.progress.work c.value-in-Between-2.new.progress.work (held_seen c.in_ok-value-in-Between.field-0) (held_seen c.in_ok-value-in-Between-2.field-0) c.in_err-first-in-Between.field-0.0 (search rules) (search rules) (search rules) (search rules))
+
+pub over_ranges-returns-in_err-last-in-Between-clause-value : goal.over_ranges-returns-in_err-last-in-Between-clause-value
+over_ranges-returns-in_err-last-in-Between-clause-value t c =
+    let p = err_from_is_err_and c.from_residual-in_err-last-in-Between.result c.from_residual-in_err-last-in-Between.ensures.1 in
+    rw (p.1, p.2) (big_run_high (evaluator (names_seen c.args.self.now) c.args.left) c.args.big.now.place c.args.big.now.connective (bound_seen c.args.bound.now) c.args.ranges.now c.in-Between.word c.in-Between.low c.in-Between.high c.in-Between.low_strict c.in-Between.high_strict (drop 1 c.args.ranges.now) c.args.big.now.part.now c.args.progress.now.work c.value-in-Between.new.progress.work c.value-in-Between-2.new.progress.work (held_seen c.in_ok-value-in-Between.field-0) (held_seen c.in_ok-value-in-Between-2.field-0) c.in_ok-first-in-Between.field-0 c.in_err-last-in-Between.field-0.0 (search rules) (search rules) (search rules) (search rules) (search rules))
+
+pub over_ranges-value-requires-in-Between-2 : goal.over_ranges-value-requires-in-Between-2
+over_ranges-value-requires-in-Between-2 t c = search (rules, growth)
+
+pub over_ranges-over_members-requires-in-Between : goal.over_ranges-over_members-requires-in-Between
+over_ranges-over_members-requires-in-Between t c = search (rules, growth)

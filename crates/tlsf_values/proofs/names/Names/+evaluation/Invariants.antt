@@ -1,4 +1,6 @@
 use Rattle.std.proofs.Common.{◌≡◌, ◌+◌, ◌*◌, ◌^◌, length, [], None, map, drop}
+use Rattle.placed_sets.specs.Placed.{IsPrefix}
+use Rattle.tlsf_values.specs.HeldSeen.{AllOver, bound_seen, held_seen, IsOver}
 use Rattle.tlsf_values.specs.Counts.{joined_over}
 use Rattle.tlsf_values.specs.MembersSeen.{members_seen}
 use Rattle.tlsf_values.specs.NamesSeen.{names_seen}
@@ -64,40 +66,41 @@ decreases-over_members l = 2 ^ 70 * l.left + 2 * length l.ranges.now + 2
 abbrev pub invariant-chosen-loop-alternative : goal.invariant-chosen-loop-alternative
 invariant-chosen-loop-alternative l =
     let r = evaluator (names_seen l.self) l.left in
-    (l.bound ≡ l.fn.bound) ×
-    (chosen_value r l.fn.bound l.place (map alternative_seen l.alternatives) l.fn.work ≡ chosen_value r l.fn.bound l.place (map alternative_seen (drop l.alternative-index l.alternatives)) l.work)
+    let b = bound_seen l.fn.bound in
+    (l.bound ≡ l.fn.bound) × IsPrefix l.fn.progress.numbers l.progress.numbers × AllOver l.progress.numbers l.bound ×
+    (chosen_value r b l.place (map alternative_seen l.alternatives) l.fn.progress.work ≡ chosen_value r b l.place (map alternative_seen (drop l.alternative-index l.alternatives)) l.progress.work)
 
 abbrev pub invariant-arguments-loop-i : goal.invariant-arguments-loop-i
 invariant-arguments-loop-i l =
     let r = evaluator (names_seen l.self) l.left in
-    let b = l.fn.bound in
-    (l.bound ≡ l.fn.bound) ×
-    (arguments_at r b [] (map word_seen l.words) (trees_seen l.arguments) l.fn.work ≡ arguments_at r b l.inner (map word_seen (drop l.i l.words)) (trees_seen (drop l.i l.arguments)) l.work)
+    let b = bound_seen l.fn.bound in
+    (l.bound ≡ l.fn.bound) × IsPrefix l.fn.progress.numbers l.progress.numbers × AllOver l.progress.numbers l.bound × AllOver l.progress.numbers l.inner ×
+    (arguments_at r b [] (map word_seen l.words) (trees_seen l.arguments) l.fn.progress.work ≡ arguments_at r b (bound_seen l.inner) (map word_seen (drop l.i l.words)) (trees_seen (drop l.i l.arguments)) l.progress.work)
 
 abbrev pub invariant-part_values-loop-part : goal.invariant-part_values-loop-part
 invariant-part_values-loop-part l =
     let r = evaluator (names_seen l.self) l.left in
-    let b = l.fn.bound in
-    (l.bound ≡ l.fn.bound) ×
-    (values_at r b [] (trees_seen l.parts) l.fn.work ≡ values_at r b l.values.items (trees_seen (drop l.part-index l.parts)) l.work)
+    let b = bound_seen l.fn.bound in
+    (l.bound ≡ l.fn.bound) × IsPrefix l.fn.progress.numbers l.progress.numbers × AllOver l.progress.numbers l.bound ×
+    (values_at r b [] (trees_seen l.parts) l.fn.progress.work ≡ values_at r b (map held_seen l.values.items) (trees_seen (drop l.part-index l.parts)) l.progress.work)
 
 abbrev pub invariant-chain-loop-link : goal.invariant-chain-loop-link
 invariant-chain-loop-link l =
     let names = names_seen l.self in
     let r = evaluator names l.left in
-    let b = l.fn.bound in
+    let b = bound_seen l.fn.bound in
     let t = expr_seen l.first in
-    (l.bound ≡ l.fn.bound) ×
-    (chain_value names r b l.place (start_of t) l.initial.value (link_list_seen l.rest) l.initial.work ≡ chain_value names r b l.place (start_of t) l.value (link_list_seen (drop l.link-index l.rest)) l.work)
+    (l.bound ≡ l.fn.bound) × IsPrefix l.fn.progress.numbers l.progress.numbers × AllOver l.progress.numbers l.bound × IsOver l.progress.numbers l.value ×
+    (chain_value names r b l.place (start_of t) (held_seen l.initial.value) (link_list_seen l.rest) l.initial.progress.work ≡ chain_value names r b l.place (start_of t) (held_seen l.value) (link_list_seen (drop l.link-index l.rest)) l.progress.work)
 
 abbrev pub invariant-over_members-loop-number : goal.invariant-over_members-loop-number
 invariant-over_members-loop-number l =
     let r = evaluator (names_seen l.self) l.left in
-    let b = l.fn.bound in
-    (l.bound ≡ l.fn.bound) ×
+    let b = bound_seen l.fn.bound in
+    (l.bound ≡ l.fn.bound) × IsPrefix l.fn.progress.numbers l.progress.numbers × AllOver l.progress.numbers l.bound ×
     (
-    joined_over l.big.place l.big.connective (λ z w. big_value r l.big.place l.big.connective (bind (word_seen l.word) (Number z) b) (range_list_seen l.ranges) (expr_seen l.big.part.now) w) (members_seen l.fn.members) None l.fn.work ≡
-    joined_over l.big.place l.big.connective (λ z w. big_value r l.big.place l.big.connective (bind (word_seen l.word) (Number z) b) (range_list_seen l.ranges) (expr_seen l.big.part.now) w) (members_seen l.members) l.so_far l.work)
+    joined_over l.big.place l.big.connective (λ z w. big_value r l.big.place l.big.connective (bind (word_seen l.word) (Number z) b) (range_list_seen l.ranges) (expr_seen l.big.part.now) w) (members_seen l.fn.members) None l.fn.progress.work ≡
+    joined_over l.big.place l.big.connective (λ z w. big_value r l.big.place l.big.connective (bind (word_seen l.word) (Number z) b) (range_list_seen l.ranges) (expr_seen l.big.part.now) w) (members_seen l.members) l.so_far l.progress.work)
 
 abbrev pub decreases-over_members-loop-number : goal.decreases-over_members-loop-number
 decreases-over_members-loop-number l = length (members_seen l.members)

@@ -2,7 +2,7 @@ use Rattle.std.proofs.Common.{◌≡◌, Some, None, reverse, sym, refl, ◌∙�
 use Rattle.std.proofs.lemmas.List.{length-reverse, reverse-reverse}
 use Rattle.std.proofs.lemmas.Option.{slice_get_read}
 use Rattle.tlsf_values.specs.Names.{same_name}
-use Rattle.tlsf_values.specs.ScopeSeen.{binding_seen, bound_seen, latest_place}
+use Rattle.tlsf_values.specs.ScopeSeen.{binding_seen, bindings_seen, latest_place}
 use Rattle.tlsf_values.proofs.ScopeLemmas.{latest_within, latest_found, latest_missing}
 use Rattle.tlsf_values.proofs.scope.Scope.value.Goals as goal
 
@@ -15,7 +15,7 @@ index-requires c =
 
 pub returns-in_err-place : goal.returns-in_err-place
 returns-in_err-place c =
-    let missing : find (λ b. same_name b.name c.args.name.now) (bound_seen c.self.inside.bindings.items) ≡ None = latest_missing c.args.name.now (reverse c.self.inside.bindings.items) (sym (c.self.invariant.found c.args.name) ∙ sym c.in_err-place.ensures.value) in
+    let missing : find (λ b. same_name b.name c.args.name.now) (bindings_seen c.self.inside.bindings.items) ≡ None = latest_missing c.args.name.now (reverse c.self.inside.bindings.items) (sym (c.self.invariant.found c.args.name) ∙ sym c.in_err-place.ensures.value) in
     rw (c.from_residual.ensures, ← c.self.view_is, missing) refl
 
 pub returns : goal.returns
@@ -26,7 +26,7 @@ returns c =
     let long : length (reverse c.self.inside.bindings.items) ≡ length c.self.inside.bindings.items = length-reverse c.self.inside.bindings.items in
     omega arith in
     let at : slice_get c.self.inside.bindings.items c.in_ok-place.field-0.now ≡ Some c.index.result.now = slice_get_read c.self.inside.bindings.items (length c.self.inside.bindings.items) c.in_ok-place.field-0.now c.index.result.now refl below c.index.ensures in
-    let found : find (λ b. same_name b.name c.args.name.now) (bound_seen c.self.inside.bindings.items) ≡ Some (binding_seen c.index.result.now) =
+    let found : find (λ b. same_name b.name c.args.name.now) (bindings_seen c.self.inside.bindings.items) ≡ Some (binding_seen c.index.result.now) =
     latest_found c.args.name.now (reverse c.self.inside.bindings.items) c.in_ok-place.field-0.now c.index.result.now place
     (ap (λ xs. slice_get xs c.in_ok-place.field-0.now) (reverse-reverse c.self.inside.bindings.items) ∙ at) in
     rw (← c.self.view_is, found) refl

@@ -1,0 +1,123 @@
+// What an evaluation adds to.
+
+ghost use Rattle.std.specs.Prelude.{◌≡◌, [], IfOk};
+ghost use Rattle.placed_sets.specs.Placed.{IsPrefix};
+ghost use Rattle.placed_sets.specs.Sets.{set_of};
+ghost use Rattle.tlsf_values.specs.HeldSeen.{held_seen, IsOver};
+ghost use Rattle.tlsf_values.specs.Operators.{element, on_sets};
+ghost use Rattle.tlsf_values.specs.Results.{IsOutcomeAs};
+ghost use Rattle.tlsf_values.specs.Values.{steps_value};
+ghost use Rattle.tlsf_values.specs.declared.value.Value.TheVariants.{Set};
+
+use crate::held::Held;
+use crate::numbers::Places;
+use crate::set_operation::SetOperation;
+use crate::steps::{laid_out, step_count};
+use crate::value::Value;
+use crate::work::{Work, fault};
+use placed_sets::Numbering;
+use std::alloc::{AllocError, Global};
+use tlsf_tokens::{SpecCode, SpecFault};
+
+/// The work of an evaluation, and the numbers that its sets stand over.
+#[derive(Drop)]
+pub(crate) struct Progress {
+    pub(crate) work: Work,
+    pub(crate) numbers: Numbering,
+}
+
+impl Progress {
+    /// No number has a place yet. It takes no memory.
+    pub(crate) fn of(alloc: Global, work: Work) -> Progress
+        ensures work { result.work ≡ work }
+        ensures numbers { result.numbers ≡ [] }
+    {
+        Progress {
+            work,
+            numbers: Numbering::new(alloc),
+        }
+    }
+
+    /// The value with a set's numbers in their places.
+    pub(crate) fn held(&mut self, alloc: Global, value: &Value) -> Result<Held, AllocError>
+        ensures value { IfOk result (λ v. held_seen v ≡ value.now) }
+        ensures over { IfOk result (λ v. IsOver self.new.numbers v) }
+        ensures grows { IsPrefix self.old.numbers self.new.numbers }
+        ensures work { self.new.work ≡ self.old.work }
+    {
+        match value {
+            Value::Number(number) => Ok(Held::Number(*number)),
+            Value::Truth(truth) => Ok(Held::Truth(*truth)),
+            Value::Set(set) => self.set_of(&set.numbers(alloc)?),
+            Value::Bus(bus) => Ok(Held::Bus(*bus)),
+            Value::EnumValue(member) => Ok(Held::EnumValue(*member)),
+            Value::Flat(id) => Ok(Held::Flat(*id)),
+        }
+    }
+
+    /// The set of these numbers, in any order.
+    pub(crate) fn set_of(&mut self, numbers: &[i64]) -> Result<Held, AllocError>
+        ensures value { IfOk result (λ v. held_seen v ≡ Set (set_of numbers.now)) }
+        ensures over { IfOk result (λ v. IsOver self.new.numbers v) }
+        ensures grows { IsPrefix self.old.numbers self.new.numbers }
+        ensures work { self.new.work ≡ self.old.work }
+    {
+        Ok(Held::Set(self.numbers.set_of(numbers)?))
+    }
+
+    /// `{first, second .. last}`, whose members are counted before they are laid out.
+    pub(crate) fn stepped(
+        &mut self,
+        alloc: Global,
+        place: u64,
+        first: i64,
+        second: i64,
+        last: i64,
+    ) -> Result<Held, SpecFault>
+        ensures value { IsOutcomeAs held_seen result self.new.work (steps_value place first second last self.old.work) }
+        ensures over { IfOk result (λ v. IsOver self.new.numbers v) }
+        ensures grows { IsPrefix self.old.numbers self.new.numbers }
+    {
+        if first == second {
+            return Err(fault(SpecCode::NumberRange, place));
+        }
+        self.work.count(place, step_count(first, second, last))?;
+        let numbers = laid_out(alloc, first, second, last)?;
+        Ok(self.set_of(&numbers)?)
+    }
+
+    /// Whether a number is a member. It takes one look-up.
+    pub(crate) fn element(
+        &mut self,
+        places: Places,
+        left: &Held,
+        right: Held,
+    ) -> Result<Held, SpecFault>
+        requires { IsOver self.old.numbers right }
+        ensures value { IsOutcomeAs held_seen result self.new.work (element places (held_seen left.now) (held_seen right) self.old.work) }
+        ensures over { IfOk result (λ v. IsOver self.new.numbers v) }
+        ensures grows { IsPrefix self.old.numbers self.new.numbers }
+    {
+        let number = left.number(places.left)?;
+        let set = right.set(places.right)?;
+        Ok(Held::Truth(self.numbers.contains(&set, number)))
+    }
+
+    pub(crate) fn on_sets(
+        &mut self,
+        operation: SetOperation,
+        places: Places,
+        left: Held,
+        right: Held,
+    ) -> Result<Held, SpecFault>
+        requires left { IsOver self.old.numbers left }
+        requires right { IsOver self.old.numbers right }
+        ensures value { IsOutcomeAs held_seen result self.new.work (on_sets operation places (held_seen left) (held_seen right) self.old.work) }
+        ensures over { IfOk result (λ v. IsOver self.new.numbers v) }
+        ensures grows { IsPrefix self.old.numbers self.new.numbers }
+    {
+        let left = left.set(places.left)?;
+        let right = right.set(places.right)?;
+        Ok(Held::Set(operation.combined(&self.numbers, &left, &right)?))
+    }
+}
