@@ -1,31 +1,51 @@
-// Operators on values: numbers, sets, and a bus beside a member of an enumeration.
+// Operators on values: numbers, sets, truths, and a bus beside a member of an enumeration.
 
-use ltl_formula::{FormulaId, Formulas, Node};
+use crate::values::{named, pair, prefix, text, word};
+use ltl_formula::{FormulaId, Formulas};
 use std::alloc::Global;
 use std::process::Abort;
 use std::test::Fail;
 use text_base::Name;
 use tlsf_tokens::{SpecCode, SpecFault};
-use tlsf_tree::{Definition, Member, Op, Pattern, Span, Word};
-use tlsf_values::{Names, NumberSet, Places, Value, Work};
+use tlsf_tree::{Definition, Expr, Member, Op, Pattern, Span};
+use tlsf_values::{Env, Meter, NumberSet, Value, value_of};
 
-const PLACES: Places = Places {
-    own: 86,
-    left: 87,
-    right: 90,
-};
+// Where the names `x` and `y` are bound to these values.
+fn bound(alloc: Global, x: Value, y: Value) -> Result<Env, SpecFault> {
+    let mut bound = Vec::new(alloc);
+    bound.push((Name::new(alloc, b"x")?, x))?;
+    bound.push((Name::new(alloc, b"y")?, y))?;
+    Ok(Env {
+        bound,
+        signals: Vec::new(alloc),
+        buses: Vec::new(alloc),
+    })
+}
 
-fn work(alloc: Global) -> Work {
-    Work {
-        done: 0,
-        formulas: Formulas::new(alloc),
-    }
+// The value of an expression, and the list of formulas.
+fn evaluated(
+    alloc: Global,
+    definitions: Vec<Definition>,
+    env: &Env,
+    expr: &Expr,
+) -> Result<(Value, Formulas), SpecFault> {
+    let tree = text(alloc, definitions)?;
+    let mut meter = Meter { done: 0, depth: 0 };
+    let mut formulas = Formulas::new(alloc);
+    let value = value_of(&tree, expr, env, &mut meter, &mut formulas)?;
+    Ok((value, formulas))
+}
+
+// `x op y`, with x at byte 87 and y at byte 90.
+fn applied(alloc: Global, op: Op, x: Value, y: Value) -> Result<Value, SpecFault> {
+    let (x_named, y_named) = (named(alloc, 87, b"x")?, named(alloc, 90, b"y")?);
+    let expr = pair(alloc, 86, op, x_named, y_named)?;
+    let env = bound(alloc, x, y)?;
+    Ok(evaluated(alloc, Vec::new(alloc), &env, &expr)?.0)
 }
 
 fn number_of(alloc: Global, op: Op, left: i64, right: i64) -> Result<Option<i64>, SpecFault> {
-    let names = Names::new(alloc);
-    let (left, right) = (Value::Number(left), Value::Number(right));
-    match names.operated(&mut work(alloc), op, PLACES, left, right)? {
+    match applied(alloc, op, Value::Number(left), Value::Number(right))? {
         Value::Number(number) => Ok(Some(number)),
         _ => Ok(None),
     }
@@ -61,10 +81,9 @@ fn numbers_have_64_bits(rt: HostRuntime) -> Result<(), Fail> {
 }
 
 fn set_of(alloc: Global, op: Op) -> Result<Vec<i64>, SpecFault> {
-    let names = Names::new(alloc);
     let left = Value::Set(NumberSet::of(alloc, &[5, -1, 3, 5])?);
     let right = Value::Set(NumberSet::of(alloc, &[3, 4])?);
-    match names.operated(&mut work(alloc), op, PLACES, left, right)? {
+    match applied(alloc, op, left, right)? {
         Value::Set(set) => Ok(set.numbers(alloc)?),
         _ => Ok(Vec::new(alloc)),
     }
@@ -85,19 +104,10 @@ fn sets_are_joined_met_and_subtracted(rt: HostRuntime) -> Result<(), Fail> {
     Ok(())
 }
 
-const SPAN: Span = Span { start: 0, end: 1 };
-
-fn word(alloc: Global, name: &[u8]) -> Result<Word, SpecFault> {
-    Ok(Word {
-        name: Name::new(alloc, name)?,
-        span: SPAN,
-    })
-}
-
 fn pattern(alloc: Global, bits: &[Option<bool>]) -> Result<Pattern, SpecFault> {
     Ok(Pattern {
         bits: Vec::from_slice(alloc, bits)?,
-        span: SPAN,
+        span: Span { start: 0, end: 1 },
     })
 }
 
@@ -108,11 +118,11 @@ fn one_member(alloc: Global) -> Result<Definition, SpecFault> {
     values.push(pattern(alloc, &[Some(false), Some(true)])?)?;
     let mut members = Vec::new(alloc);
     members.push(Member {
-        word: word(alloc, b"A")?,
+        word: word(alloc, 0, b"A")?,
         values,
     })?;
     Ok(Definition::Enumeration {
-        word: word(alloc, b"T")?,
+        word: word(alloc, 0, b"T")?,
         members,
     })
 }
@@ -121,13 +131,18 @@ fn one_member(alloc: Global) -> Result<Definition, SpecFault> {
 fn compared(alloc: Global, op: Op, width: u32) -> Result<(Option<FormulaId>, Formulas), SpecFault> {
     let mut definitions = Vec::new(alloc);
     definitions.push(one_member(alloc)?)?;
-    let mut names = Names::new(alloc);
-    names.add_definitions(&definitions)?;
-    names.add_bus(&Name::new(alloc, b"t")?, 0, width)?;
-    let mut work = work(alloc);
-    match names.operated(&mut work, op, PLACES, Value::Bus(0), Value::EnumValue(0))? {
-        Value::Flat(id) => Ok((Some(id), work.formulas)),
-        _ => Ok((None, work.formulas)),
+    let mut buses = Vec::new(alloc);
+    buses.push((Name::new(alloc, b"t")?, 0, width))?;
+    let env = Env {
+        bound: Vec::new(alloc),
+        signals: Vec::new(alloc),
+        buses,
+    };
+    let (bus, member) = (named(alloc, 87, b"t")?, named(alloc, 90, b"A")?);
+    let expr = pair(alloc, 86, op, bus, member)?;
+    match evaluated(alloc, definitions, &env, &expr)? {
+        (Value::Flat(id), formulas) => Ok((Some(id), formulas)),
+        (_, formulas) => Ok((None, formulas)),
     }
 }
 
@@ -152,12 +167,13 @@ fn a_bus_is_compared_with_a_member(rt: HostRuntime) -> Result<(), Fail> {
 
 #[test]
 fn truths_become_nodes_from_left_to_right(rt: HostRuntime) -> Result<(), Fail> {
-    let names = Names::new(rt.alloc());
-    let mut work = work(rt.alloc());
-    let (left, right) = (Value::Truth(true), Value::Truth(false));
-    let until = names.operated(&mut work, Op::Until, PLACES, left, right)?;
-    assert!(rt; matches!(until, Value::Flat(FormulaId(2))));
-    let next = work.prefixed(Op::Next, 1, 3, &until)?;
-    assert!(rt; matches!(next, Value::Flat(FormulaId(3))));
+    let alloc = rt.alloc();
+    let env = bound(alloc, Value::Truth(true), Value::Truth(false))?;
+    let (left, right) = (named(alloc, 3, b"x")?, named(alloc, 7, b"y")?);
+    let until = pair(alloc, 3, Op::Until, left, right)?;
+    let next = prefix(alloc, 1, Op::Next, until)?;
+    let found = evaluated(alloc, Vec::new(alloc), &env, &next)?;
+    assert!(rt; matches!(found.0, Value::Flat(FormulaId(3))));
+    assert_eq!(rt; found.1.len(), 4);
     Ok(())
 }

@@ -15,14 +15,14 @@ use tlsf_values::{Env, Meter, Value, value_of};
 
 // ---- expressions, each by its first byte
 
-type Made = Result<Expr, SpecFault>;
+pub(crate) type Made = Result<Expr, SpecFault>;
 
 fn expr(start: u64, form: Form) -> Expr {
     let span = Span { start, end: start };
     Expr { span, form }
 }
 
-fn word(alloc: Global, start: u64, name: &[u8]) -> Result<Word, SpecFault> {
+pub(crate) fn word(alloc: Global, start: u64, name: &[u8]) -> Result<Word, SpecFault> {
     let span = Span { start, end: start };
     Ok(Word {
         name: Name::new(alloc, name)?,
@@ -38,7 +38,7 @@ fn truth(start: u64, truth: bool) -> Expr {
     expr(start, Form::Truth(truth))
 }
 
-fn named(alloc: Global, start: u64, name: &[u8]) -> Made {
+pub(crate) fn named(alloc: Global, start: u64, name: &[u8]) -> Made {
     Ok(expr(start, Form::Named(Name::new(alloc, name)?)))
 }
 
@@ -48,7 +48,7 @@ fn index(alloc: Global, start: u64, name: &[u8], index: Expr) -> Made {
     Ok(expr(start, Form::Index { word, index }))
 }
 
-fn pair(alloc: Global, start: u64, op: Op, left: Expr, right: Expr) -> Made {
+pub(crate) fn pair(alloc: Global, start: u64, op: Op, left: Expr, right: Expr) -> Made {
     let left = Box::new(alloc, left)?;
     let right = Box::new(alloc, right)?;
     Ok(expr(start, Form::Pair { op, left, right }))
@@ -63,7 +63,7 @@ fn chain(alloc: Global, first: Expr, op: Op, right: Expr) -> Made {
     Ok(expr(start, Form::Chain { first, rest }))
 }
 
-fn prefix(alloc: Global, start: u64, op: Op, part: Expr) -> Made {
+pub(crate) fn prefix(alloc: Global, start: u64, op: Op, part: Expr) -> Made {
     let part = Box::new(alloc, part)?;
     Ok(expr(start, Form::Prefix { op, part }))
 }
@@ -139,7 +139,7 @@ fn member_of(alloc: Global, name: &[u8], set: Expr) -> Result<Range, SpecFault> 
 
 // ---- texts: a single signal `r` (0), a bus `b` of two signals (1, 2), and the definitions
 
-fn text(alloc: Global, definitions: Vec<Definition>) -> Result<SpecTree, SpecFault> {
+pub(crate) fn text(alloc: Global, definitions: Vec<Definition>) -> Result<SpecTree, SpecFault> {
     let info = Info {
         title: Name::new(alloc, b"")?,
         description: Name::new(alloc, b"")?,
