@@ -1,7 +1,5 @@
-// Tests of written texts: whole texts that are read or refused, values of expressions with their first faults, and
-// texts that are expanded, their flat lines written out. What it calls is the public surface of tlsf_reader,
-// tlsf_values, tlsf_expand and flat_text; it stands on them, tlsf_tree, tlsf_tokens, lasso_eval, ltl_formula,
-// letter_word and text_base.
+// Tests of written texts that are expanded, their flat lines written out, or refused with their first fault. What it calls is the
+// public surface of flat_text and tlsf_expand; it stands on them, tlsf_tokens, lasso_eval, ltl_formula, letter_word and text_base.
 #![tactic(auto)]
 
 #[cfg(test)]
@@ -12,9 +10,3 @@ mod expansion;
 mod fixtures;
 #[cfg(test)]
 mod meaning;
-#[cfg(test)]
-mod operators;
-#[cfg(test)]
-mod reading;
-#[cfg(test)]
-mod values;
