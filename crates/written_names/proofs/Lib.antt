@@ -1,0 +1,4 @@
+pub mod SeenLemmas
+pub mod FormLemmas
+pub mod KeepLemmas
+pub mod Walks
