@@ -7,7 +7,7 @@ use Rattle.std.proofs.lemmas.Bool.{cases_eq, cases_lt, eq-eqb, ne_eqb}
 use Rattle.std.proofs.lemmas.Bool.Decides.{nat_tests}
 use Rattle.std.proofs.lemmas.List.{get_or-append_right, get_or-replicate, get_or-set_other, get_or-set_same, get_or_append_left, get_or_past, length-replicate, take_all}
 use Rattle.std.proofs.lemmas.Nat.Bits.{bit_at-lt, bit_at-zero, bit_at_above, bit_at_and, bit_at_not, bit_at_or, bit_at_set_other, bit_at_set_same, bit_at_xor, same_from_bits}
-use Rattle.placed_sets.specs.Bits.{bit_of, both, either, first_alone, GainsPlace, has, IsBitwise, with_bit}
+use Rattle.placed_sets.specs.Bits.{bit_of, both, either, first_alone, GainsPlace, has, IsBitwise, LosesPlace, with_bit}
 
 pub no_bit : (k : ℕ) → has 0 k ≡ false
 no_bit k = ap (λ n. n == 1) (bit_at-zero k)
@@ -176,3 +176,38 @@ gains old grown new place same within is = record { at = at }
 
     at : (p : ℕ) → bit_of new p ≡ (p == place || bit_of old p)
     at p = ap (λ ws. bit_of ws p) is ∙ written p ∙ ap (λ b. p == place || b) (kept p)
+
+-- a word with one bit
+has-one_bit : (k j : ℕ) → k < 64 → has (with_bit 0 k) j ≡ (j == k)
+has-one_bit k j small =
+    elim (cases_eq j k) [
+      | inl same ↦ ap (λ i. has (with_bit 0 k) i) same ∙ ap (λ n. n == 1) (bit_at_set_same w64 0 k small) ∙ sym (eq-eqb j k same)
+      | inr other ↦ ap (λ n. n == 1) (bit_at_set_other w64 0 k small j other) ∙ no_bit j ∙ sym (ne_eqb j k other)
+    ]
+
+-- the bit of the place is cleared in its word
+pub loses : (old new : List ℕ) (place : ℕ) → place / 64 < length old → new ≡ set old (place / 64) (cleared (get_or old (place / 64) 0) (with_bit 0 (place % 64))) → LosesPlace old new place
+loses old new place within is = record { at = λ p. ap (λ ws. bit_of ws p) is ∙ written p }
+  where
+    written : (p : ℕ) → bit_of (set old (place / 64) (cleared (get_or old (place / 64) 0) (with_bit 0 (place % 64)))) p ≡ first_alone (bit_of old p) (p == place)
+    written p =
+        elim (cases_eq (p / 64) (place / 64)) [
+          | inl same_word ↦
+              ap (λ w. has w (p % 64))
+              (ap (λ k. get_or (set old (place / 64) (cleared (get_or old (place / 64) 0) (with_bit 0 (place % 64)))) k 0) same_word
+              ∙ get_or-set_same old (place / 64) (cleared (get_or old (place / 64) 0) (with_bit 0 (place % 64))) 0 within)
+              ∙ has-cleared (get_or old (place / 64) 0) (with_bit 0 (place % 64)) (p % 64)
+              ∙ ap (first_alone (has (get_or old (place / 64) 0) (p % 64))) (has-one_bit (place % 64) (p % 64) (omega arith) ∙ same_place same_word)
+              ∙ ap (λ k. first_alone (has (get_or old k 0) (p % 64)) (p == place)) (sym same_word)
+          | inr other ↦
+              ap (λ w. has w (p % 64)) (get_or-set_other old (place / 64) (p / 64) (cleared (get_or old (place / 64) 0) (with_bit 0 (place % 64))) 0 other)
+              ∙ alone-false (bit_of old p)
+              ∙ ap (first_alone (bit_of old p)) (sym (ne_eqb p place (λ e. other (ap (λ q. q / 64) e))))
+        ]
+      where
+        same_place : p / 64 ≡ place / 64 → (p % 64 == place % 64) ≡ (p == place)
+        same_place same_word =
+            elim (cases_eq p place) [
+              | inl here ↦ eq-eqb (p % 64) (place % 64) (ap (λ q. q % 64) here) ∙ sym (eq-eqb p place here)
+              | inr there ↦ let apart : p % 64 ≢ place % 64 = λ e. there (omega (arith, e, same_word)) in ne_eqb (p % 64) (place % 64) apart ∙ sym (ne_eqb p place there)
+            ]

@@ -1,7 +1,10 @@
 pub mod BitLemmas
 pub mod ChosenLemmas
 pub mod ChunkLemmas
+pub mod FewLemmas
 pub mod GainLemmas
+pub mod LossLemmas
+pub mod MixedLemmas
 pub mod OperatorLemmas
 pub mod PlaceLemmas
 pub mod RisingLemmas

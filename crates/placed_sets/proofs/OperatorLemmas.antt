@@ -40,7 +40,7 @@ pub shown_in : (view : PlacedView) (words : List ℕ) (us : List ℤ) (z : ℤ) 
 shown_in view words us z shown prefix =
     ap (λ l. is_in l z) shown.members ∙ is_in-set_of (chosen (bit_of words) 0 view.over) z ∙ ap (λ l. is_in l z) (sym (chosen-prefix (bit_of words) view.over us prefix shown.stands.within))
 
-rises-shown : (view : PlacedView) (words : List ℕ) → IsShownBy view words → Rises view.members
+pub rises-shown : (view : PlacedView) (words : List ℕ) → IsShownBy view words → Rises view.members
 rises-shown view words shown = subst Rises (sym shown.members) (rises-set_of (chosen (bit_of words) 0 view.over))
 
 module _ (us : List ℤ) (distinct : IsDistinct int_eq us) (left right made : PlacedView) (xs ys zs : List ℕ) (first : IsShownBy left xs) (second : IsShownBy right ys) (third : IsShownBy made zs)

@@ -10,7 +10,7 @@ use Rattle.std.proofs.lemmas.Cmp.{int_eq_equiv}
 use Rattle.std.proofs.lemmas.List.{append-nil}
 use Rattle.std.proofs.lemmas.Map.Keys.{IsDistinct-push}
 use Rattle.placed_sets.specs.Bits.{chosen, place_from}
-use Rattle.placed_sets.specs.Placed.{IsPrefix, Keeps}
+use Rattle.placed_sets.specs.Placed.{IsPrefix}
 use Rattle.placed_sets.specs.Sets.{is_in}
 use Rattle.placed_sets.specs.Shown.{HasPlace, IsNumbered}
 use Rattle.placed_sets.proofs.ChosenLemmas.{chosen_here, chosen_there, distinct-tail, not_chosen}
@@ -120,15 +120,17 @@ place_of_old us old v place was there = record { found = found; distinct = was.d
     small : place < 2 ^ 32
     small = let within : place < 0 + length us = (place_within v 0 us place found).1 in let few : length us ≤ 2 ^ 32 = was.few in omega arith
 
-pub keeps_more : (us vs more : List ℤ) → vs ≡ us ++ more → Keeps us vs
-keeps_more us vs more is ws prefix = record { more = prefix.more ++ more; is = is ∙ ap (λ l. l ++ more) prefix.is ∙ append_assoc ws prefix.more more }
-
 pub found_place : {S : Type 0} (us all : List ℤ) (old : HashMap ℤ ℕ S) (v : ℤ) (o : Option ℕ) → IsNumbered us old → us ≡ all → o ≡ get int_eq old v → IfSome o (HasPlace all v)
 found_place us all old v None was is at = tt
 found_place us all old v (Some place) was is at = subst (λ l. HasPlace l v place) is (place_of_old us old v place was (sym at))
 
-pub keeps_through : (us vs ws : List ℤ) → Keeps us vs → Keeps vs ws → Keeps us ws
-keeps_through us vs ws first second xs prefix = second xs (first xs prefix)
+pub prefix_itself : (us : List ℤ) → IsPrefix us us
+prefix_itself us = record { more = []; is = sym (append-nil us) }
 
-pub keeps_itself : (us : List ℤ) → IsPrefix us us
-keeps_itself us = record { more = []; is = sym (append-nil us) }
+pub prefix_through : (us vs ws : List ℤ) → IsPrefix us vs → IsPrefix vs ws → IsPrefix us ws
+prefix_through us vs ws first second =
+    record { more = first.more ++ second.more; is = second.is ∙ ap (λ l. l ++ second.more) first.is ∙ append_assoc us first.more second.more }
+
+-- few numbers stand over no list, which begins any list
+pub over_nothing : (over us : List ℤ) → over ≡ [] → IsPrefix over us
+over_nothing over us is = record { more = us; is = sym (ap (λ l. l ++ us) is) }

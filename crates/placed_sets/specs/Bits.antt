@@ -37,6 +37,10 @@ pub record IsBitwise (f : Bool → Bool → Bool) (xs ys zs : List ℕ) : Type 0
 pub record GainsPlace (old new : List ℕ) (place : ℕ) : Type 0 where
   pub at : (p : ℕ) → bit_of new p ≡ (p == place || bit_of old p)
 
+-- the same words without the bit of one place
+pub record LosesPlace (old new : List ℕ) (place : ℕ) : Type 0 where
+  pub at : (p : ℕ) → bit_of new p ≡ (bit_of old p && not (p == place))
+
 abbrev pub either : Bool → Bool → Bool
 either x y = x || y
 

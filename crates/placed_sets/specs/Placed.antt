@@ -6,10 +6,6 @@ pub record IsPrefix (us vs : List ℤ) : Type 0 where
   pub more : List ℤ
   pub is : vs ≡ us ++ more
 
--- what stood over the old list stands over the new one
-abbrev pub Keeps : List ℤ → List ℤ → Type 0
-Keeps old new = (us : List ℤ) → IsPrefix us old → IsPrefix us new
-
 -- the numbers over which a set stands, and those that it has, which rise
 pub record PlacedView : Type 0 where
   pub over : List ℤ

@@ -3,7 +3,7 @@ use Rattle.std.specs.Prelude.{◌≡◌, ◌≤◌, ◌<◌, ℕ, ◌^◌, false
 use Rattle.std.specs.HashMap.{HashMap, get}
 use Rattle.std.specs.List.{IsDistinct}
 use Rattle.std.specs.Ordering.{int_eq}
-use Rattle.placed_sets.specs.Bits.{bit_of, chosen, place_from}
+use Rattle.placed_sets.specs.Bits.{bit_of, chosen, first_alone, place_from}
 use Rattle.placed_sets.specs.Placed.{PlacedView}
 use Rattle.placed_sets.specs.Sets.{is_in, set_of}
 
@@ -39,6 +39,12 @@ pub record HasBitsOf (numbers us : List ℤ) (words : List ℕ) : Type 0 where
   pub members : (z : ℤ) → is_in (chosen (bit_of words) 0 us) z ≡ is_in numbers z
   pub within : (p : ℕ) → length us ≤ p → bit_of words p ≡ false
   pub few : length words ≤ 2 ^ 26
+
+-- the bits are those of the old words, without those of the places of these numbers
+pub record LosesBitsOf (numbers us : List ℤ) (old new : List ℕ) : Type 0 where
+  pub members : (z : ℤ) → is_in (chosen (bit_of new) 0 us) z ≡ first_alone (is_in (chosen (bit_of old) 0 us) z) (is_in numbers z)
+  pub none_new : (p : ℕ) → bit_of old p ≡ false → bit_of new p ≡ false
+  pub len : length new ≡ length old
 
 -- a list that is one of the two, and no shorter than either
 pub record IsLongerOf (us vs ws : List ℤ) : Type 0 where

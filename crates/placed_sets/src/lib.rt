@@ -1,9 +1,12 @@
-// Sets of numbers as bits of places. A `Numbering` gives each number that it meets a place, once for all; a
-// `PlacedSet` is the words of those bits, with the numbers over which they stand. So the union, the intersection
-// and the difference of two sets take a step for 64 places and look no number up. The contract above this layer:
-// what a call answers is the union, intersection or difference of lists that rise. It stands on std alone.
+// Sets of numbers in the form that takes less. Few numbers are a list of themselves. More are bits of places: a
+// `Numbering` gives a number a place when it comes into such a set, once for all, and the set is the words of those
+// bits, with the numbers over which they stand. So the union, the intersection and the difference of two sets take
+// a step for 64 places and look no number up. The contract above this layer: what a call answers is the union,
+// intersection or difference of lists that rise. It stands on std alone.
 #![tactic(auto)]
 
+mod bit_set;
+mod few_numbers;
 mod number_list;
 mod numbering;
 mod placed_set;

@@ -1,15 +1,17 @@
-// Places of numbers, and what two sets over the same places make.
+// Places of numbers, and what two sets make.
 
-ghost use Rattle.std.specs.Prelude.{◌≡◌, [], None, IfNone, IfOk, IfSome};
+ghost use Rattle.std.specs.Prelude.{◌≡◌, [], ◌∷◌, ◌++◌, None, IfNone, IfOk, IfSome};
 ghost use Rattle.std.specs.List.{IsDistinct};
 ghost use Rattle.std.specs.Ordering.{int_eq};
-ghost use Rattle.placed_sets.specs.Bits.{place_from};
-ghost use Rattle.placed_sets.specs.Placed.{IsPrefix, Keeps};
+ghost use Rattle.placed_sets.specs.Bits.{bit_of, chosen, place_from};
+ghost use Rattle.placed_sets.specs.Placed.{IsPrefix};
 ghost use Rattle.placed_sets.specs.Sets.{difference, intersection, is_in, set_of, union};
-ghost use Rattle.placed_sets.specs.Shown.{HasBitsOf, HasPlace};
+ghost use Rattle.placed_sets.specs.Shown.{HasBitsOf, HasPlace, LosesBitsOf, StandsOver};
 
+use crate::bit_set::BitSet;
+use crate::few_numbers::FewNumbers;
 use crate::number_list::NumberList;
-use crate::placed_set::PlacedSet;
+use crate::placed_set::{Form, PlacedSet};
 use crate::words;
 use std::alloc::{AllocError, Global};
 use std::collections::HashMap;
@@ -17,6 +19,10 @@ use std::marker::Model;
 
 /// How many numbers may have a place.
 const MOST: usize = 1 << 32;
+
+/// So many numbers are few: an operator on so few takes no longer than one on bits over many places, and most sets that a text writes out have
+/// no more. Bits take an eighth of a byte for each number that has a place, however few of them the set has.
+const FEW: usize = 32;
 
 /// The places of the numbers that were met. It only grows. A contract sees it as the list of the numbers, each at its place; no number comes twice.
 #[derive(Debug, Drop)]
@@ -52,57 +58,226 @@ impl Numbering {
         }
     }
 
-    /// The set of these numbers, in any order; those that have no place yet get one. It takes a look-up for each number, the words up to the
-    /// highest place, and a copy of 1,024 numbers where new ones come.
+    /// The set of these numbers, in any order. Up to 64 are sorted, and where at most 32 of them differ, they get no place. Of more, those that have no
+    /// place yet get one: it takes a look-up for each number, the words up to the highest place, and a copy of up to 1,024 numbers where new ones come.
+    /// Where 2^32 numbers have a place and one more needs it, the answer is want of memory.
     pub fn set_of(&mut self, numbers: &[i64]) -> Result<PlacedSet, AllocError>
-        ensures kept { Keeps self.old self.new }
+        ensures kept { IsPrefix self.old self.new }
         ensures ok { IfOk result (λ s. s.members ≡ set_of numbers.now) }
         ensures over { IfOk result (λ s. IsPrefix s.over self.new) }
     {
-        let words = self.bits(numbers)?;
-        let over = self.share()?;
-        PlacedSet::made(self.alloc, over, words)
+        if numbers.len() <= 2 * FEW {
+            let numbers = Vec::from_slice(self.alloc, numbers)?;
+            return self.sorted_of(numbers);
+        }
+        let bits = self.bits_of(numbers)?;
+        self.shrunk(bits)
     }
 
-    /// The numbers of both, and those that only one of the two has. It takes a step for 64 places.
-    pub fn joined(&self, left: &PlacedSet, right: &PlacedSet) -> Result<PlacedSet, AllocError>
-        requires left { IsPrefix left.now.over self.now }
-        requires right { IsPrefix right.now.over self.now }
+    /// The numbers of both, and those that only one of the two has. Few numbers with few take the time for sorting them, and get places where more than
+    /// 32 differ; few with bits take a copy of the words and a look-up for each of the few, which get places; bits with bits a step for 64 places. Where
+    /// numbers come that had no place, it also takes a copy of up to 1,024 numbers, and where 2^32 numbers have a place and one more needs it, the answer
+    /// is want of memory.
+    pub fn joined(&mut self, left: &PlacedSet, right: &PlacedSet) -> Result<PlacedSet, AllocError>
+        requires left { IsPrefix left.now.over self.old }
+        requires right { IsPrefix right.now.over self.old }
+        ensures kept { IsPrefix self.old self.new }
         ensures members { IfOk result (λ s. s.members ≡ union left.now.members right.now.members) }
-        ensures over { IfOk result (λ s. IsPrefix s.over self.now) }
+        ensures over { IfOk result (λ s. IsPrefix s.over self.new) }
     {
-        let words = words::joined(self.alloc, left.words(), right.words())?;
-        PlacedSet::made(self.alloc, left.longer_list(right)?, words)
+        match (left.form(), right.form()) {
+            (Form::Few(left), Form::Few(right)) => self.few_joined(left, right),
+            (Form::Few(few), Form::Bits(bits)) => self.bits_with_few(bits, few),
+            (Form::Bits(bits), Form::Few(few)) => self.bits_with_few(bits, few),
+            (Form::Bits(left), Form::Bits(right)) => self.bits_joined(left, right),
+        }
     }
 
-    /// The numbers that both have. It takes a step for 64 places.
+    /// The numbers that both have. Where one of the two has few, it takes a test by `contains` for each of them; else a step for 64 places, and where few
+    /// are left the time for sorting them.
     pub fn met(&self, left: &PlacedSet, right: &PlacedSet) -> Result<PlacedSet, AllocError>
         requires left { IsPrefix left.now.over self.now }
         requires right { IsPrefix right.now.over self.now }
         ensures members { IfOk result (λ s. s.members ≡ intersection left.now.members right.now.members) }
         ensures over { IfOk result (λ s. IsPrefix s.over self.now) }
     {
-        let words = words::met(self.alloc, left.words(), right.words())?;
-        PlacedSet::made(self.alloc, left.longer_list(right)?, words)
+        match (left.form(), right.form()) {
+            (Form::Few(few), _) => self.few_met(few, right),
+            (Form::Bits(_), Form::Few(few)) => self.few_met(few, left),
+            (Form::Bits(left), Form::Bits(right)) => self.bits_met(left, right),
+        }
     }
 
-    /// The numbers of the first set that the second one doesn't have. It takes a step for 64 places.
+    /// The numbers of the first set that the second one doesn't have. Where the first one has few, it takes a test by `contains` for each of them; bits
+    /// without few take a copy of the words and a look-up for each of the few; bits without bits a step for 64 places; and where few are left of bits, it
+    /// takes the time for sorting them.
     pub fn without(&self, left: &PlacedSet, right: &PlacedSet) -> Result<PlacedSet, AllocError>
         requires left { IsPrefix left.now.over self.now }
         requires right { IsPrefix right.now.over self.now }
         ensures members { IfOk result (λ s. s.members ≡ difference left.now.members right.now.members) }
         ensures over { IfOk result (λ s. IsPrefix s.over self.now) }
     {
-        let words = words::without(self.alloc, left.words(), right.words())?;
-        PlacedSet::made(self.alloc, left.longer_list(right)?, words)
+        match (left.form(), right.form()) {
+            (Form::Few(few), _) => self.few_without(few, right),
+            (Form::Bits(bits), Form::Few(few)) => self.bits_without_few(bits, few),
+            (Form::Bits(left), Form::Bits(right)) => self.bits_without(left, right),
+        }
     }
 
-    /// Whether the set has the number. It takes one look-up.
+    /// Whether the set has the number. It takes one look-up, or a binary search in few numbers.
     pub fn contains(&self, set: &PlacedSet, number: i64) -> bool
         requires { IsPrefix set.now.over self.now }
         ensures { result ≡ is_in set.now.members number }
     {
-        let words = set.words();
+        match set.form() {
+            Form::Few(few) => few.contains(number),
+            Form::Bits(bits) => self.has_bit(bits.words(), number),
+        }
+    }
+
+    /// The set of these numbers, which are sorted first. Those that are few then get no place.
+    fn sorted_of(&mut self, numbers: Vec<i64>) -> Result<PlacedSet, AllocError>
+        ensures kept { IsPrefix self.old self.new }
+        ensures members { IfOk result (λ s. s.members ≡ set_of numbers.items) }
+        ensures over { IfOk result (λ s. IsPrefix s.over self.new) }
+    {
+        let few = FewNumbers::set_of(self.alloc, numbers)?;
+        if few.len() <= FEW {
+            return Ok(PlacedSet::of_few(few));
+        }
+        let bits = self.bits_of(few.as_slice())?;
+        Ok(PlacedSet::of_bits(bits))
+    }
+
+    /// The set as a list of its numbers if they are few, for which bits would take far more.
+    fn shrunk(&self, bits: BitSet) -> Result<PlacedSet, AllocError>
+        requires over { IsPrefix bits.over self.now }
+        requires rising { set_of bits.members ≡ bits.members }
+        ensures members { IfOk result (λ s. s.members ≡ bits.members) }
+        ensures over { IfOk result (λ s. IsPrefix s.over self.now) }
+    {
+        if bits.has_more_than(FEW) {
+            return Ok(PlacedSet::of_bits(bits));
+        }
+        let few = FewNumbers::of_rising(self.alloc, bits.numbers(self.alloc)?)?;
+        Ok(PlacedSet::of_few(few))
+    }
+
+    fn bits_of(&mut self, numbers: &[i64]) -> Result<BitSet, AllocError>
+        ensures kept { IsPrefix self.old self.new }
+        ensures members { IfOk result (λ s. s.members ≡ set_of numbers.now) }
+        ensures rising { IfOk result (λ s. set_of s.members ≡ s.members) }
+        ensures over { IfOk result (λ s. IsPrefix s.over self.new) }
+    {
+        let words = Vec::new(self.alloc);
+        let words = self.with_places(words, numbers)?;
+        let over = self.share()?;
+        BitSet::made(self.alloc, over, words)
+    }
+
+    fn few_joined(&mut self, left: &FewNumbers, right: &FewNumbers) -> Result<PlacedSet, AllocError>
+        ensures kept { IsPrefix self.old self.new }
+        ensures members { IfOk result (λ s. s.members ≡ union left.now right.now) }
+        ensures over { IfOk result (λ s. IsPrefix s.over self.new) }
+    {
+        let numbers = left.followed_by(self.alloc, right)?;
+        self.sorted_of(numbers)
+    }
+
+    fn bits_with_few(&mut self, bits: &BitSet, few: &FewNumbers) -> Result<PlacedSet, AllocError>
+        requires { IsPrefix bits.now.over self.old }
+        ensures kept { IsPrefix self.old self.new }
+        ensures members { IfOk result (λ s. s.members ≡ union bits.now.members few.now) }
+        ensures turned { IfOk result (λ s. s.members ≡ union few.now bits.now.members) }
+        ensures over { IfOk result (λ s. IsPrefix s.over self.new) }
+    {
+        let words = Vec::from_slice(self.alloc, bits.words())?;
+        let words = self.with_places(words, few.as_slice())?;
+        let over = self.share()?;
+        let bits = BitSet::made(self.alloc, over, words)?;
+        Ok(PlacedSet::of_bits(bits))
+    }
+
+    fn bits_joined(&self, left: &BitSet, right: &BitSet) -> Result<PlacedSet, AllocError>
+        requires left { IsPrefix left.now.over self.now }
+        requires right { IsPrefix right.now.over self.now }
+        ensures members { IfOk result (λ s. s.members ≡ union left.now.members right.now.members) }
+        ensures over { IfOk result (λ s. IsPrefix s.over self.now) }
+    {
+        let words = words::joined(self.alloc, left.words(), right.words())?;
+        let bits = BitSet::made(self.alloc, left.longer_list(right)?, words)?;
+        Ok(PlacedSet::of_bits(bits))
+    }
+
+    fn few_met(&self, few: &FewNumbers, set: &PlacedSet) -> Result<PlacedSet, AllocError>
+        requires over { IsPrefix set.now.over self.now }
+        requires rising { set_of set.now.members ≡ set.now.members }
+        ensures members { IfOk result (λ s. s.members ≡ intersection few.now set.now.members) }
+        ensures turned { IfOk result (λ s. s.members ≡ intersection set.now.members few.now) }
+        ensures over { IfOk result (λ s. IsPrefix s.over self.now) }
+    {
+        let common = few
+            .as_slice()
+            .iter()
+            .copied()
+            .filter(|number| self.contains(set, *number))
+            .collect(self.alloc)?;
+        let few = FewNumbers::of_rising(self.alloc, common)?;
+        Ok(PlacedSet::of_few(few))
+    }
+
+    fn bits_met(&self, left: &BitSet, right: &BitSet) -> Result<PlacedSet, AllocError>
+        requires left { IsPrefix left.now.over self.now }
+        requires right { IsPrefix right.now.over self.now }
+        ensures members { IfOk result (λ s. s.members ≡ intersection left.now.members right.now.members) }
+        ensures over { IfOk result (λ s. IsPrefix s.over self.now) }
+    {
+        let words = words::met(self.alloc, left.words(), right.words())?;
+        let bits = BitSet::made(self.alloc, left.longer_list(right)?, words)?;
+        self.shrunk(bits)
+    }
+
+    fn few_without(&self, few: &FewNumbers, set: &PlacedSet) -> Result<PlacedSet, AllocError>
+        requires { IsPrefix set.now.over self.now }
+        ensures members { IfOk result (λ s. s.members ≡ difference few.now set.now.members) }
+        ensures over { IfOk result (λ s. IsPrefix s.over self.now) }
+    {
+        let alone = few
+            .as_slice()
+            .iter()
+            .copied()
+            .filter(|number| !self.contains(set, *number))
+            .collect(self.alloc)?;
+        let few = FewNumbers::of_rising(self.alloc, alone)?;
+        Ok(PlacedSet::of_few(few))
+    }
+
+    fn bits_without_few(&self, bits: &BitSet, few: &FewNumbers) -> Result<PlacedSet, AllocError>
+        requires { IsPrefix bits.now.over self.now }
+        ensures members { IfOk result (λ s. s.members ≡ difference bits.now.members few.now) }
+        ensures over { IfOk result (λ s. IsPrefix s.over self.now) }
+    {
+        let mut words = Vec::from_slice(self.alloc, bits.words())?;
+        self.clear_places(&mut words, few.as_slice());
+        let bits = bits.with_words(self.alloc, words)?;
+        self.shrunk(bits)
+    }
+
+    fn bits_without(&self, left: &BitSet, right: &BitSet) -> Result<PlacedSet, AllocError>
+        requires left { IsPrefix left.now.over self.now }
+        requires right { IsPrefix right.now.over self.now }
+        ensures members { IfOk result (λ s. s.members ≡ difference left.now.members right.now.members) }
+        ensures over { IfOk result (λ s. IsPrefix s.over self.now) }
+    {
+        let words = words::without(self.alloc, left.words(), right.words())?;
+        let bits = BitSet::made(self.alloc, left.longer_list(right)?, words)?;
+        self.shrunk(bits)
+    }
+
+    /// Whether the number has a place whose bit is set.
+    fn has_bit(&self, words: &[u64], number: i64) -> bool
+        ensures { result ≡ is_in (chosen (bit_of words.now) 0 self.now) number }
+    {
         match self.find(number) {
             Some(place) => words::has_place(words, place),
             None => false,
@@ -118,12 +293,12 @@ impl Numbering {
         self.places.get(&number).copied()
     }
 
-    /// The words with the bits of these numbers.
-    fn bits(&mut self, numbers: &[i64]) -> Result<Vec<u64>, AllocError>
-        ensures kept { Keeps self.old self.new }
-        ensures ok { IfOk result (λ v. HasBitsOf numbers.now self.new v.items) }
+    /// The words with the bits of these numbers as well; those that have no place yet get one.
+    fn with_places(&mut self, mut words: Vec<u64>, numbers: &[i64]) -> Result<Vec<u64>, AllocError>
+        requires { StandsOver self.old words.items }
+        ensures kept { IsPrefix self.old self.new }
+        ensures ok { IfOk result (λ v. HasBitsOf (chosen (bit_of words.items) 0 self.old ++ numbers.now) self.new v.items) }
     {
-        let mut words = Vec::new(self.alloc);
         for number in numbers {
             let place = self.place(*number)?;
             words::add_place(&mut words, place)?;
@@ -131,9 +306,27 @@ impl Numbering {
         Ok(words)
     }
 
+    /// Clears the bits of these numbers.
+    fn clear_places(&self, words: &mut [u64], numbers: &[i64])
+        ensures { LosesBitsOf numbers.now self.now words.old words.new }
+    {
+        for number in numbers {
+            self.clear_place(words, *number);
+        }
+    }
+
+    /// Clears the bit of the number, if it has a place.
+    fn clear_place(&self, words: &mut [u64], number: i64)
+        ensures { LosesBitsOf (number ∷ []) self.now words.old words.new }
+    {
+        if let Some(place) = self.find(number) {
+            words::clear_place(words, place);
+        }
+    }
+
     /// The place of the number, which it gets now if it had none.
     fn place(&mut self, number: i64) -> Result<usize, AllocError>
-        ensures kept { Keeps self.old self.new }
+        ensures kept { IsPrefix self.old self.new }
         ensures ok { IfOk result (λ place. HasPlace self.new number place) }
     {
         if let Some(place) = self.find(number) {

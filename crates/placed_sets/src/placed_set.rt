@@ -1,128 +1,82 @@
-// Sets as bits of places.
+// Sets of numbers in the form that takes less.
 
-ghost use Rattle.std.specs.Prelude.{◌≡◌, ◌+◌, ◌*◌, ◌<◌, ◌^◌, IfOk, OnOk};
-ghost use Rattle.std.specs.List.{IsDistinct};
-ghost use Rattle.std.specs.Ordering.{int_eq};
-ghost use Rattle.placed_sets.specs.Bits.{bit_of, chosen_before};
+ghost use Rattle.std.specs.Prelude.{◌≡◌, [], IfOk};
+ghost use Rattle.placed_sets.specs.Forms.{form_seen};
 ghost use Rattle.placed_sets.specs.Sets.{set_of};
-ghost use Rattle.placed_sets.specs.Shown.{IsLongerOf, IsShownBy, StandsOver};
 
-use crate::number_list::NumberList;
-use crate::words::{self, PLACES};
+use crate::bit_set::BitSet;
+use crate::few_numbers::FewNumbers;
 use std::alloc::{AllocError, Global};
 use std::marker::Model;
-use std::rc::Rc;
 
-/// A set of numbers that have places; its copies share what it holds. A contract sees the numbers over which it stands, those that have places as
-/// far as this set may reach, and the numbers that it has, as a list that rises strictly.
+/// The forms of a set.
+#[derive(Debug, Drop)]
+pub(crate) enum Form {
+    /// The numbers themselves. They need no places, so they stand over no numbers at all.
+    Few(FewNumbers),
+    /// A bit for each place up to the highest of the numbers that the set was made from.
+    Bits(BitSet),
+}
+
+/// A set of numbers; its copies share what it holds. At most 32 numbers are a list, 8 bytes a number. More are bits, an eighth of a byte for each place up
+/// to the highest of the numbers that the set was made from, which `met` and `without` may have left out of it, beside the list of all numbers that have
+/// a place, of which sets share all but the last 1,024 or fewer. A contract sees the numbers over which the bits stand, none where there are no bits,
+/// and the numbers that it has, as a list that rises strictly.
 #[derive(Debug, Drop)]
 pub struct PlacedSet {
-    over: NumberList,
-    words: Rc<Vec<u64>>,
+    form: Form,
 }
 
 impl Model for PlacedSet {
+    ghost use Rattle.placed_sets.specs.Forms.{form_seen};
     ghost use Rattle.placed_sets.specs.Placed.{PlacedView};
-    ghost use Rattle.placed_sets.specs.Shown.{members_of, StandsOver};
+    ghost use Rattle.placed_sets.specs.Sets.{set_of};
+    ghost use Rattle.std.specs.Prelude.{◌≡◌};
 
     ghost Value = { PlacedView };
 
-    ghost view = { λ s. record { over = s.over; members = members_of s.over s.words.value.items } };
+    ghost view = { λ s. form_seen s.form };
 
-    ghost invariant = { λ s. StandsOver s.over s.words.value.items };
+    ghost invariant = { λ s. set_of (form_seen s.form).members ≡ (form_seen s.form).members };
 }
 
 impl PlacedSet {
-    /// The numbers at the places of the words.
-    pub(crate) fn made(
-        alloc: Global,
-        over: NumberList,
-        words: Vec<u64>,
-    ) -> Result<PlacedSet, AllocError>
-        requires { StandsOver over words.items }
-        ensures over { IfOk result (λ s. s.over ≡ over) }
-        ensures shown { IfOk result (λ s. IsShownBy s words.items) }
+    pub(crate) fn of_few(few: FewNumbers) -> PlacedSet
+        requires { set_of few ≡ few }
+        ensures members { result.members ≡ few }
+        ensures over { result.over ≡ [] }
     {
-        let words = Rc::new(alloc, words)?;
-        Ok(PlacedSet { over, words })
-    }
-
-    pub(crate) fn words(&self) -> &[u64]
-        ensures { IsShownBy self.now result.now }
-    {
-        self.words.as_slice()
-    }
-
-    /// The numbers over which the two stand, of that one that stands over more.
-    pub(crate) fn longer_list(&self, other: &PlacedSet) -> Result<NumberList, AllocError>
-        ensures { IfOk result (λ l. IsLongerOf self.now.over other.now.over l) }
-    {
-        if self.over.len() < other.over.len() {
-            return other.over.clone();
+        PlacedSet {
+            form: Form::Few(few),
         }
-        self.over.clone()
     }
 
-    /// The numbers of the set, which rise. It takes a step for 64 places and the time for sorting the numbers.
+    pub(crate) fn of_bits(bits: BitSet) -> PlacedSet
+        requires { set_of bits.members ≡ bits.members }
+        ensures { result ≡ bits }
+    {
+        PlacedSet {
+            form: Form::Bits(bits),
+        }
+    }
+
+    pub(crate) fn form(&self) -> &Form
+        ensures seen { self.now ≡ form_seen result.now }
+        ensures rising { set_of self.now.members ≡ self.now.members }
+    {
+        &self.form
+    }
+
+    /// The numbers of the set, which rise. Few are copied; of bits it takes a step for 64 places and the time for sorting the numbers.
     pub fn numbers(&self, alloc: Global) -> Result<Vec<i64>, AllocError>
         ensures numbers { IfOk result (λ v. v.items ≡ self.now.members) }
         ensures rising { IfOk result (λ v. set_of v.items ≡ v.items) }
     {
-        let mut numbers = self.by_place(alloc)?;
-        numbers.sort_unstable();
-        Ok(numbers)
-    }
-
-    /// The numbers of the set, in the order of their places.
-    fn by_place(&self, alloc: Global) -> Result<Vec<i64>, AllocError>
-        ensures members { IfOk result (λ v. set_of v.items ≡ self.now.members) }
-        ensures distinct { IfOk result (λ v. IsDistinct int_eq v.items) }
-    {
-        let mut numbers = Vec::new(alloc);
-        for (index, word) in self.words.iter().enumerate() {
-            if *word != 0 {
-                push_word(&self.over, &self.words, index, &mut numbers)?;
-            }
+        match &self.form {
+            Form::Few(few) => Vec::from_slice(alloc, few.as_slice()),
+            Form::Bits(bits) => bits.numbers(alloc),
         }
-        Ok(numbers)
     }
-}
-
-/// Goes on from the numbers at the places before a word to those up to its end.
-fn push_word(
-    over: &NumberList,
-    words: &[u64],
-    index: usize,
-    numbers: &mut Vec<i64>,
-) -> Result<(), AllocError>
-    requires small { index < 2 ^ 26 }
-    requires before { numbers.old.items ≡ chosen_before words.now (64 * index) over.now }
-    ensures { OnOk result (numbers.new.items ≡ chosen_before words.now (64 * index + 64) over.now) }
-{
-    for bit in 0..PLACES {
-        push_place(over, words, index * PLACES + bit, numbers)?;
-    }
-    Ok(())
-}
-
-/// Goes on from the numbers at the places before this one to those up to it.
-fn push_place(
-    over: &NumberList,
-    words: &[u64],
-    place: usize,
-    numbers: &mut Vec<i64>,
-) -> Result<(), AllocError>
-    requires { numbers.old.items ≡ chosen_before words.now place over.now }
-    ensures { OnOk result (numbers.new.items ≡ chosen_before words.now (place + 1) over.now) }
-{
-    if !words::has_place(words, place) {
-        return Ok(());
-    }
-    let Some(number) = over.get(place) else {
-        return Ok(());
-    };
-    numbers.push(number)?;
-    Ok(())
 }
 
 /// It takes constant time.
@@ -130,8 +84,9 @@ impl Clone for PlacedSet {
     ghost is_clone = { λ set copy. copy ≡ set };
 
     fn clone(&self) -> Result<PlacedSet, AllocError> {
-        let over = self.over.clone()?;
-        let words = self.words.clone()?;
-        Ok(PlacedSet { over, words })
+        match &self.form {
+            Form::Few(few) => Ok(PlacedSet::of_few(few.clone()?)),
+            Form::Bits(bits) => Ok(PlacedSet::of_bits(bits.clone()?)),
+        }
     }
 }

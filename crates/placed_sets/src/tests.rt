@@ -1,6 +1,7 @@
 // Sets of numbers that were met in any order, beside the numbers that they have by hand.
 
 use crate::Numbering;
+use crate::placed_set::Form;
 use std::alloc::{AllocError, Global};
 use std::process::Abort;
 
@@ -87,5 +88,79 @@ fn a_number_without_a_place(rt: HostRuntime) -> Result<(), AllocError> {
     let set = numbering.set_of(&[10, 20])?;
     assert!(&rt; numbering.contains(&set, 20));
     assert!(&rt; !numbering.contains(&set, 30));
+    Ok(())
+}
+
+#[test]
+fn few_join_few_past_the_limit(rt: HostRuntime) -> Result<(), AllocError> {
+    let some = numbers_from(rt.alloc(), 1, 1, 17)?;
+    let others = numbers_from(rt.alloc(), 34, -1, 17)?;
+    let made = made_of(rt.alloc(), &some, &others)?;
+    assert!(&rt; made.joined == numbers_from(rt.alloc(), 1, 1, 34)?);
+    assert!(&rt; made.met.is_empty());
+    assert!(&rt; made.without == some);
+    Ok(())
+}
+
+#[test]
+fn bits_with_few(rt: HostRuntime) -> Result<(), AllocError> {
+    let bits = numbers_from(rt.alloc(), 1, 1, 33)?;
+    let made = made_of(rt.alloc(), &bits, &[34, 33, 0])?;
+    assert!(&rt; made.joined == numbers_from(rt.alloc(), 0, 1, 35)?);
+    assert!(&rt; made.met.as_slice() == [33].as_slice());
+    assert!(&rt; made.without == numbers_from(rt.alloc(), 1, 1, 32)?);
+    Ok(())
+}
+
+#[test]
+fn few_with_bits(rt: HostRuntime) -> Result<(), AllocError> {
+    let bits = numbers_from(rt.alloc(), 33, -1, 33)?;
+    let made = made_of(rt.alloc(), &[34, 33, 0], &bits)?;
+    assert!(&rt; made.joined == numbers_from(rt.alloc(), 0, 1, 35)?);
+    assert!(&rt; made.met.as_slice() == [33].as_slice());
+    assert!(&rt; made.without.as_slice() == [0, 34].as_slice());
+    Ok(())
+}
+
+#[test]
+fn bits_have_numbers(rt: HostRuntime) -> Result<(), AllocError> {
+    let mut numbering = Numbering::new(rt.alloc());
+    let bits = numbers_from(rt.alloc(), 10, 10, 33)?;
+    let set = numbering.set_of(&bits)?;
+    assert!(&rt; numbering.contains(&set, 330));
+    assert!(&rt; !numbering.contains(&set, 335));
+    Ok(())
+}
+
+#[test]
+fn few_are_no_bits(rt: HostRuntime) -> Result<(), AllocError> {
+    let mut numbering = Numbering::new(rt.alloc());
+    let many = numbers_from(rt.alloc(), 0, 1, 33)?;
+    let bits = numbering.set_of(&many)?;
+    let few = numbering.set_of(&numbers_from(rt.alloc(), 0, 1, 32)?)?;
+    assert!(&rt; matches!(bits.form(), Form::Bits(_)));
+    assert!(&rt; matches!(few.form(), Form::Few(_)));
+    Ok(())
+}
+
+#[test]
+fn equal_lists_joined_stay_few(rt: HostRuntime) -> Result<(), AllocError> {
+    let mut numbering = Numbering::new(rt.alloc());
+    let numbers = numbers_from(rt.alloc(), 1, 1, 20)?;
+    let set = numbering.set_of(&numbers)?;
+    let joined = numbering.joined(&set, &set)?;
+    assert!(&rt; matches!(joined.form(), Form::Few(_)));
+    assert!(&rt; joined.numbers(rt.alloc())? == numbers);
+    Ok(())
+}
+
+#[test]
+fn bits_without_themselves_are_few(rt: HostRuntime) -> Result<(), AllocError> {
+    let mut numbering = Numbering::new(rt.alloc());
+    let numbers = numbers_from(rt.alloc(), 1, 1, 33)?;
+    let set = numbering.set_of(&numbers)?;
+    let alone = numbering.without(&set, &set)?;
+    assert!(&rt; matches!(alone.form(), Form::Few(_)));
+    assert!(&rt; alone.numbers(rt.alloc())?.is_empty());
     Ok(())
 }

@@ -2,7 +2,7 @@
 
 ghost use Rattle.std.specs.Prelude.{◌≡◌, ◌==◌, ◌<◌, ◌≤◌, ◌+◌, ◌*◌, ◌/◌, ◌%◌, ◌^◌, length, max, min, IfOk, OnOk, vec_len, bit_and};
 ghost use Rattle.std.specs.Int.RustNames.{bit_xor};
-ghost use Rattle.placed_sets.specs.Bits.{bit_of, both, either, first_alone, GainsPlace, has, IsBitwise, with_bit};
+ghost use Rattle.placed_sets.specs.Bits.{bit_of, both, either, first_alone, GainsPlace, has, IsBitwise, LosesPlace, with_bit};
 
 use std::alloc::{AllocError, Global};
 
@@ -31,6 +31,17 @@ pub(crate) fn add_place(words: &mut Vec<u64>, place: usize) -> Result<(), AllocE
     }
     words[index] = with_bit(words[index], place % PLACES);
     Ok(())
+}
+
+/// Clears the bit of the place.
+pub(crate) fn clear_place(words: &mut [u64], place: usize)
+    ensures loses { LosesPlace words.old words.new place }
+    ensures len { length words.new ≡ length words.old }
+{
+    let index = place / PLACES;
+    if index < words.len() {
+        words[index] = cleared(words[index], with_bit(0, place % PLACES));
+    }
 }
 
 /// The bits that one of the two has.

@@ -18,7 +18,7 @@ use Rattle.tlsf_values.specs.Names.{Names}
 use Rattle.tlsf_values.specs.Outcomes.{Outcome, gives, fails, go_on, choose}
 use Rattle.tlsf_values.specs.Patterns.{all_values, values_made}
 use Rattle.tlsf_values.specs.Results.{IsFault, IsOutcomeAs}
-use Rattle.tlsf_values.specs.Seen.{pattern_seen, member_seen, expr_seen}
+use Rattle.written_names.specs.Seen.{pattern_seen, member_seen, expr_seen}
 use Rattle.tlsf_values.specs.Values.{start_of, value_at}
 use Rattle.tlsf_expand.specs.Sections.{section_formula, section_value, added_value}
 use Rattle.tlsf_expand.specs.Signals.{first_of, other_width, width_of, bit_name, bit_names, bits_in, most_signals, TypedSignal, Extent, alone, wide, of_type, extent_value, Declared, declared, declaration_value, declarations_value}

@@ -60,8 +60,8 @@ pub fn expand(alloc: Global, tree: &SpecTree, kind: Option<Kind>) -> Result<Spec
         done: 0,
         formulas: Formulas::new(alloc),
     };
-    let signals = declared_signals(alloc, tree, &mut work)?;
-    let sections = flat_sections(alloc, &signals, tree, &mut work)?;
+    let mut signals = declared_signals(alloc, tree, &mut work)?;
+    let sections = flat_sections(alloc, &mut signals, tree, &mut work)?;
     let whole = whole_formula(tree.info.strict, &sections, &mut work)?;
     Ok(Spec {
         inputs: signals.inputs,

@@ -8,7 +8,7 @@ ghost use Rattle.tlsf_expand.specs.TextSeen.{text_seen};
 ghost use Rattle.tlsf_values.specs.NamesSeen.{names_seen};
 ghost use Rattle.tlsf_values.specs.Outcomes.{gives, go_on};
 ghost use Rattle.tlsf_values.specs.Results.{IsOutcome, IsOutcomeAs};
-ghost use Rattle.tlsf_values.specs.Seen.{expr_seen};
+ghost use Rattle.written_names.specs.Seen.{expr_seen};
 
 use crate::signals::{Signals, TypedSignal, fault};
 use ltl_formula::{FormulaId, Node};
@@ -42,11 +42,12 @@ fn section_formula(place: u64, value: &Value, work: &mut Work) -> Result<Formula
 
 fn section<'t>(
     alloc: Global,
-    names: &Names<'t>,
+    names: &mut Names<'t>,
     exprs: &'t [Expr],
     work: &mut Work,
 ) -> Result<Vec<FormulaId>, SpecFault>
-    ensures { IsOutcomeAs (λ ids. ids.items) result work.new (section_value (names_seen names.now) (map expr_seen exprs.now) work.old) }
+    ensures value { IsOutcomeAs (λ ids. ids.items) result work.new (section_value (names_seen names.old) (map expr_seen exprs.now) work.old) }
+    ensures names { names_seen names.new ≡ names_seen names.old }
 {
     let mut ids = Vec::new(alloc);
     for expr in exprs {
@@ -68,11 +69,12 @@ fn written_section(tree: &SpecTree, place: usize) -> &[Expr]
 
 fn written_sections<'t>(
     alloc: Global,
-    names: &Names<'t>,
+    names: &mut Names<'t>,
     tree: &'t SpecTree,
     work: &mut Work,
 ) -> Result<FlatSections, SpecFault>
-    ensures { IsOutcomeAs flat_seen result work.new (written_sections (names_seen names.now) (text_seen tree.now).sections work.old) }
+    ensures value { IsOutcomeAs flat_seen result work.new (written_sections (names_seen names.old) (text_seen tree.now).sections work.old) }
+    ensures names { names_seen names.new ≡ names_seen names.old }
 {
     let initially = section(alloc, names, written_section(tree, 0), work)?;
     let preset = section(alloc, names, written_section(tree, 1), work)?;
@@ -108,13 +110,14 @@ fn add_typed(
 /// ASSERT.
 pub(crate) fn flat_sections<'t>(
     alloc: Global,
-    signals: &Signals<'t>,
+    signals: &mut Signals<'t>,
     tree: &'t SpecTree,
     work: &mut Work,
 ) -> Result<FlatSections, SpecFault>
-    ensures { IsOutcomeAs flat_seen result work.new (sections_value (signals_seen signals.now) (text_seen tree.now).sections work.old) }
+    ensures value { IsOutcomeAs flat_seen result work.new (sections_value (signals_seen signals.old) (text_seen tree.now).sections work.old) }
+    ensures signals { signals_seen signals.new ≡ signals_seen signals.old }
 {
-    let mut sections = written_sections(alloc, &signals.names, tree, work)?;
+    let mut sections = written_sections(alloc, &mut signals.names, tree, work)?;
     add_typed(&mut sections.require, &signals.typed_inputs, work)?;
     add_typed(&mut sections.assert, &signals.typed_outputs, work)?;
     Ok(sections)

@@ -6,7 +6,7 @@ ghost use Rattle.tlsf_expand.specs.SignalsSeen.{declared_seen, extent_seen, sign
 ghost use Rattle.tlsf_expand.specs.TextSeen.{declaration_seen, shape_seen, text_seen};
 ghost use Rattle.tlsf_values.specs.NamesSeen.{names_seen};
 ghost use Rattle.tlsf_values.specs.Results.{IsCheckedAs, IsOutcomeAs};
-ghost use Rattle.tlsf_values.specs.Seen.{word_seen};
+ghost use Rattle.written_names.specs.Seen.{word_seen};
 
 use crate::enumerations::{members_named, uneven_value, width};
 use std::alloc::{AllocError, Global};
@@ -119,11 +119,12 @@ fn extent_of_type<'t>(
 /// What a declaration declares. A width may name the definitions and the signals that are declared before it.
 fn declared_extent<'t>(
     tree: &'t SpecTree,
-    names: &Names<'t>,
+    names: &mut Names<'t>,
     shape: &'t Shape,
     work: &mut Work,
 ) -> Result<Extent<'t>, SpecFault>
-    ensures { IsOutcomeAs extent_seen result work.new (extent_value (text_seen tree.now) (names_seen names.now) (shape_seen shape.now) work.old) }
+    ensures value { IsOutcomeAs extent_seen result work.new (extent_value (text_seen tree.now) (names_seen names.old) (shape_seen shape.now) work.old) }
+    ensures names { names_seen names.new ≡ names_seen names.old }
 {
     match shape {
         Shape::Single => Ok(Extent::Alone),
@@ -214,7 +215,7 @@ impl<'t> Declared<'t> {
         requires { from ≤ 8 }
         ensures { IsOutcomeAs (λ _. declared_seen self.new) result work.new (declaration_value (text_seen tree.now) from (declared_seen self.old) (declaration_seen declaration.now) work.old) }
     {
-        let extent = declared_extent(tree, &self.names, &declaration.shape, work)?;
+        let extent = declared_extent(tree, &mut self.names, &declaration.shape, work)?;
         let before = self.flat.len();
         if before as u128 + u128::from(extent.bits()) > MOST_SIGNALS as u128 {
             return Err(fault(SpecCode::TooManySignals, declaration.word.span.start));

@@ -21,7 +21,7 @@ use Rattle.tlsf_tokens.specs.declared.code.SpecFault.{SpecFault}
 use Rattle.tlsf_tokens.specs.declared.code.SpecFault.TheVariants.{NoMemory, At}
 use Rattle.tlsf_values.specs.Results.{IsChecked, IsFault}
 use Rattle.tlsf_values.proofs.CheckedLemmas.{checked_fault}
-use Rattle.tlsf_values.specs.Seen.{alternative_seen, expr_seen, word_seen, trees_seen, link_list_seen, range_list_seen}
+use Rattle.written_names.specs.Seen.{alternative_seen, expr_seen, word_seen, trees_seen, link_list_seen, range_list_seen}
 use Rattle.tlsf_values.specs.Values.{Evaluator, arguments_at, values_at, chosen_value, guard_value, big_value, bind, bit_value, index_value, word_value, call_value, chain_value, high_of, low_of, run_of, tree_count}
 use Rattle.tlsf_values.specs.Counts.{joined_over, joined_with}
 use Rattle.tlsf_values.specs.declared.value.Value.TheVariants.{Number}

@@ -7,7 +7,10 @@ pub mod SeenLemmas
 pub mod StepLemmas
 pub mod EvaluatorLemmas
 pub mod EvaluationLemmas
-pub mod FormLemmas
+pub mod EnumeratedLemmas
+pub mod KnownLemmas
+pub mod PartLemmas
 pub mod CopyLemmas
 pub mod CheckedLemmas
 pub mod OverLemmas
+pub mod RepeatLemmas

@@ -13,7 +13,7 @@ use Rattle.tlsf_values.specs.declared.held.Held.{Held}
 use Rattle.tlsf_values.specs.HeldSeen.{held_seen}
 use Rattle.tlsf_values.specs.Outcomes.{Checked, and_then, counted, gives}
 use Rattle.tlsf_values.specs.Results.{IsChecked, IsCheckedAs}
-use Rattle.tlsf_values.specs.Seen.{trees_seen}
+use Rattle.written_names.specs.Seen.{trees_seen}
 use Rattle.tlsf_values.specs.Sorts.{number_in}
 use Rattle.tlsf_values.specs.Values.{numbers_in, steps_value}
 use Rattle.tlsf_values.proofs.SeenLemmas.{start_seen}
@@ -99,20 +99,6 @@ pub rest_none : (z by last : ℤ) → passes z by last ≡ true → rest_from z 
 rest_none z by last here = ap (λ b. numbers_from z by (cond b 0 (suc (steps_to z by last)))) here
 
 -- ---- the numbers of a written set
-
--- the first part whose value isn't a number
-pub numbers_fault : (so_far : List ℤ) (parts : List Expr) (values : List Held) (i : ℕ) (p : Expr) (v : Held) (e : SpecFault) (whole : Checked (List ℤ)) →
-    whole ≡ numbers_in so_far (trees_seen (drop i parts)) (map held_seen (drop i values)) → i < length parts → i < length values → p ≡ get_or parts i p → v ≡ get_or values i v →
-    IsChecked {A = ℤ} (Err e) (number_in p.span.start (held_seen v)) → IsCheckedAs {A = List ℤ} (λ xs. xs) (Err e) whole
-numbers_fault so_far parts values i p v NoMemory whole is part_in value_in part_is value_is h = tt
-numbers_fault so_far parts values i p v (At code place) whole is part_in value_in part_is value_is h =
-    is
-    ∙ at_drop_more (λ ps. numbers_in so_far (trees_seen ps) (map held_seen (drop i values))) parts i p part_in
-    ∙ ap (λ x. numbers_in so_far (trees_seen (x ∷ drop (i + 1) parts)) (map held_seen (drop i values))) (sym part_is)
-    ∙ at_drop_more (λ vs. numbers_in so_far (trees_seen (p ∷ drop (i + 1) parts)) (map held_seen vs)) values i v value_in
-    ∙ ap (λ x. numbers_in so_far (trees_seen (p ∷ drop (i + 1) parts)) (map held_seen (x ∷ drop (i + 1) values))) (sym value_is)
-    ∙ ap (λ at. and_then (number_in at (held_seen v)) (λ z. numbers_in (so_far ++ z ∷ []) (trees_seen (drop (i + 1) parts)) (map held_seen (drop (i + 1) values)))) (start_seen p)
-    ∙ ap (λ c. and_then c (λ z. numbers_in (so_far ++ z ∷ []) (trees_seen (drop (i + 1) parts)) (map held_seen (drop (i + 1) values)))) h
 
 -- one more number of those that are stepped through is laid out
 pub laid_more : (rest numbers more : List ℤ) (z step last : ℤ) (next : Option ℤ) → rest ≡ numbers ++ those_from step last (Some z) → more ≡ numbers ++ z ∷ []

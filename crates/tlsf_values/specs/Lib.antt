@@ -13,7 +13,10 @@ pub mod Values
 pub mod Rows
 pub mod EnvSeen
 pub mod MembersSeen
-pub mod Seen
+pub mod EnumeratedSeen
 pub mod NamesSeen
+pub mod MeaningsSeen
 pub mod ScopeSeen
 pub mod HeldSeen
+pub mod Matches
+pub mod PartsSeen

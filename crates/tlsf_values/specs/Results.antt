@@ -31,3 +31,9 @@ abbrev pub IsChecked : {A : Type 0} → Result A SpecFault → Checked A → Typ
 IsChecked (Ok a) o = o ≡ fine a
 IsChecked (Err NoMemory) o = ⊥
 IsChecked (Err (At code place)) o = o ≡ faulty code place
+
+-- the same, where the answer is seen as a plain value
+abbrev pub IsCheckedSeen : {A B : Type 0} → (A → B) → Result A SpecFault → Checked B → Type 0
+IsCheckedSeen f (Ok a) o = o ≡ fine (f a)
+IsCheckedSeen f (Err NoMemory) o = ⊥
+IsCheckedSeen f (Err (At code place)) o = o ≡ faulty code place

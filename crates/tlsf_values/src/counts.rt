@@ -1,6 +1,7 @@
 // Counted forms: an X that is repeated, and windows.
 
 ghost use Rattle.std.specs.Prelude.{◌≡◌, ◌≤◌, ◌-◌, List, ℤ, IfOk, IsTrue};
+ghost use Rattle.ltl_formula.specs.Nodes.{Grows};
 ghost use Rattle.tlsf_values.specs.Counts.{count_in, count_value, empty_truth, joined_or_nothing, joined_with, joining_of, nexts, window_between, window_of, window_value};
 ghost use Rattle.tlsf_values.specs.HeldSeen.{held_seen, IsOver};
 ghost use Rattle.tlsf_values.specs.Results.{IsChecked, IsOutcome, IsOutcomeAs};
@@ -77,7 +78,8 @@ impl Work {
         so_far: Option<Formula>,
         formula: Formula,
     ) -> Result<Formula, SpecFault>
-        ensures { IsOutcome result self.new (joined_with place connective so_far formula self.old) }
+        ensures value { IsOutcome result self.new (joined_with place connective so_far formula self.old) }
+        ensures grows { Grows self.old.formulas self.new.formulas }
     {
         match so_far {
             None => Ok(formula),
@@ -87,7 +89,8 @@ impl Work {
 
     /// So many X's before a formula. It takes time in proportion to what the limits of nodes and evaluations allow.
     fn nexts(&mut self, place: u64, count: u64, part: FormulaId) -> Result<FormulaId, SpecFault>
-        ensures { IsOutcome result self.new (nexts place count part self.old) }
+        ensures value { IsOutcome result self.new (nexts place count part self.old) }
+        ensures grows { Grows self.old.formulas self.new.formulas }
     {
         let mut id = part;
         let mut left = count;
@@ -106,6 +109,7 @@ impl Work {
         part: Formula,
     ) -> Result<Held, SpecFault>
         ensures value { IsOutcomeAs held_seen result self.new (count_value place count part self.old) }
+        ensures grows { Grows self.old.formulas self.new.formulas }
         ensures over { IfOk result (λ v. (us : List ℤ) → IsOver us v) }
     {
         let part = self.node_of(place, part)?;
@@ -122,7 +126,8 @@ impl Work {
         part: Formula,
     ) -> Result<FormulaId, SpecFault>
         requires { first ≤ last }
-        ensures { IsOutcome result self.new (window_between place pairing first last part self.old) }
+        ensures value { IsOutcome result self.new (window_between place pairing first last part self.old) }
+        ensures grows { Grows self.old.formulas self.new.formulas }
     {
         let part = self.node_of(place, part)?;
         let mut joined = self.nexts(place, first, part)?;
@@ -145,6 +150,7 @@ impl Work {
         part: Formula,
     ) -> Result<Held, SpecFault>
         ensures value { IsOutcomeAs held_seen result self.new (window_value place connective first last part self.old) }
+        ensures grows { Grows self.old.formulas self.new.formulas }
         ensures over { IfOk result (λ v. (us : List ℤ) → IsOver us v) }
     {
         if first > last {

@@ -1,13 +1,17 @@
 // The value of an expression, form by form: numbers, truths, names, calls, and what stands for its one part.
 
 ghost use Rattle.std.specs.Prelude.{◌≡◌, List, ℤ, IfOk, OnOk, length, map, []};
-ghost use Rattle.placed_sets.specs.Placed.{IsPrefix};
-ghost use Rattle.tlsf_values.specs.HeldSeen.{AllOver, bound_seen, held_seen, IsOver};
+ghost use Rattle.tlsf_values.specs.HeldSeen.{AllNumbered, AllOver, bound_seen, held_seen, IsOver};
+ghost use Rattle.ltl_formula.specs.Nodes.{Grows};
+ghost use Rattle.tlsf_values.specs.Matches.{Extends, Ready, Remembers};
 ghost use Rattle.tlsf_values.specs.Names.{look_up};
-ghost use Rattle.tlsf_values.specs.NamesSeen.{names_seen, range_seen};
+ghost use Rattle.tlsf_values.specs.EnumeratedSeen.{range_seen};
+ghost use Rattle.tlsf_values.specs.NamesSeen.{names_seen};
 ghost use Rattle.tlsf_values.specs.Results.{IsOutcome, IsOutcomeAs};
-ghost use Rattle.tlsf_values.specs.ScopeSeen.{code_body_seen, IsMeantOver, meaning_seen};
-ghost use Rattle.tlsf_values.specs.Seen.{alternative_seen, expr_seen, trees_seen, word_seen};
+ghost use Rattle.tlsf_values.specs.ScopeSeen.{code_body_seen, IsMeantOver, KnowsMeaning, meaning_seen};
+ghost use Rattle.written_names.specs.Known.{KnowsAlternatives, KnowsBody, KnowsGuard, KnowsTree, KnowsTrees, KnowsWords};
+ghost use Rattle.written_names.specs.Written.{IsWritten};
+ghost use Rattle.written_names.specs.Seen.{alternative_seen, expr_seen, trees_seen, word_seen};
 ghost use Rattle.tlsf_values.specs.Values.{arguments_at, bit_value, call_value, chosen_value, evaluator, form_value, guard_value, index_value, meaning_value};
 
 use crate::held::Held;
@@ -15,7 +19,7 @@ use crate::names::Names;
 use crate::patterns::BusRange;
 use crate::progress::Progress;
 use crate::scope::{BodyOf, Meaning, Scope};
-use crate::steps::numbers_in;
+use crate::steps::numbers_among;
 use crate::work::{Work, fault};
 use tlsf_tokens::{SpecCode, SpecFault};
 use tlsf_tree::{Alternative, Expr, Form, Word};
@@ -30,11 +34,13 @@ impl<'t> Names<'t> {
         left: u32,
         progress: &mut Progress,
     ) -> Result<Held, SpecFault>
-        requires over { AllOver progress.old.numbers bound.old }
+        requires ready { Ready (names_seen self.now) progress.old bound.old }
+        requires numbered { AllNumbered self.now.meanings.table bound.old }
+        requires known { KnowsTree self.now.meanings.table (expr_seen expr.now) }
         ensures value { IsOutcomeAs held_seen result progress.new.work ((evaluator (names_seen self.now) left).value (bound_seen bound.old) (expr_seen expr.now) progress.old.work) }
         ensures bound { OnOk result (bound.new ≡ bound.old) }
-        ensures over { IfOk result (λ v. IsOver progress.new.numbers v) }
-        ensures grows { IsPrefix progress.old.numbers progress.new.numbers }
+        ensures over { IfOk result (λ v. IsOver progress.new.numbering v) }
+        ensures grows { Extends (names_seen self.now) progress.old progress.new }
     {
         if left == 0 {
             return Err(fault(SpecCode::TooDeep, expr.span.start));
@@ -53,11 +59,13 @@ impl<'t> Names<'t> {
         left: u32,
         progress: &mut Progress,
     ) -> Result<Held, SpecFault>
-        requires over { AllOver progress.old.numbers bound.old }
+        requires ready { Ready (names_seen self.now) progress.old bound.old }
+        requires numbered { AllNumbered self.now.meanings.table bound.old }
+        requires known { KnowsTree self.now.meanings.table (expr_seen expr.now) }
         ensures value { IsOutcomeAs held_seen result progress.new.work (form_value (names_seen self.now) (evaluator (names_seen self.now) left) (bound_seen bound.old) (expr_seen expr.now) progress.old.work) }
         ensures bound { OnOk result (bound.new ≡ bound.old) }
-        ensures over { IfOk result (λ v. IsOver progress.new.numbers v) }
-        ensures grows { IsPrefix progress.old.numbers progress.new.numbers }
+        ensures over { IfOk result (λ v. IsOver progress.new.numbering v) }
+        ensures grows { Extends (names_seen self.now) progress.old progress.new }
     {
         let place = expr.span.start;
         match &expr.form {
@@ -65,7 +73,7 @@ impl<'t> Names<'t> {
             Form::Number(None) => Err(fault(SpecCode::NumberRange, place)),
             Form::Truth(truth) => Ok(Held::Truth(*truth)),
             Form::Named(name) => {
-                let meaning = self.look_up(bound, name)?;
+                let meaning = self.look_up(bound, place, name)?;
                 self.meaning_value(place, meaning, left, progress)
             }
             Form::Call { word, arguments } => self.call(
@@ -75,12 +83,12 @@ impl<'t> Names<'t> {
             Form::SizeOf(part) => {
                 let value = self.value(bound, part, left, progress)?;
                 let bus = value.bus(part.span.start)?;
-                Ok(Held::Number(i64::from(self.bus(bus).width)))
+                Ok(Held::Number(i64::from(self.enumerated.bus(bus).width)))
             }
             Form::Paren(part) => self.value(bound, part, left, progress),
             Form::Set(parts) => {
                 let values = self.part_values(bound, parts, left, progress)?;
-                let numbers = numbers_in(self.alloc, parts, &values)?;
+                let numbers = numbers_among(self.alloc, parts, &values)?;
                 Ok(progress.set_of(&numbers)?)
             }
             Form::Steps {
@@ -117,10 +125,12 @@ impl<'t> Names<'t> {
         left: u32,
         progress: &mut Progress,
     ) -> Result<Held, SpecFault>
-        requires over { IsMeantOver progress.old.numbers meaning }
+        requires over { IsMeantOver progress.old.numbering meaning }
+        requires remembers { Remembers (names_seen self.now) progress.old.work.formulas progress.old.matches }
+        requires known { KnowsMeaning self.now.meanings.table meaning }
         ensures value { IsOutcomeAs held_seen result progress.new.work (meaning_value (evaluator (names_seen self.now) left) place (meaning_seen meaning.entry) progress.old.work) }
-        ensures over { IfOk result (λ v. IsOver progress.new.numbers v) }
-        ensures grows { IsPrefix progress.old.numbers progress.new.numbers }
+        ensures over { IfOk result (λ v. IsOver progress.new.numbering v) }
+        ensures grows { Extends (names_seen self.now) progress.old progress.new }
     {
         match meaning {
             Meaning::Known(value) => Ok(value),
@@ -147,10 +157,12 @@ impl<'t> Names<'t> {
         left: u32,
         progress: &mut Progress,
     ) -> Result<Held, SpecFault>
-        requires over { AllOver progress.old.numbers bound.old }
+        requires ready { Ready (names_seen self.now) progress.old bound.old }
+        requires numbered { AllNumbered self.now.meanings.table bound.old }
+        requires known { KnowsBody self.now.meanings.table (code_body_seen body) }
         ensures value { IsOutcomeAs held_seen result progress.new.work ((evaluator (names_seen self.now) left).body (bound_seen bound.old) place (code_body_seen body.entry) progress.old.work) }
-        ensures over { IfOk result (λ v. IsOver progress.new.numbers v) }
-        ensures grows { IsPrefix progress.old.numbers progress.new.numbers }
+        ensures over { IfOk result (λ v. IsOver progress.new.numbering v) }
+        ensures grows { Extends (names_seen self.now) progress.old progress.new }
     {
         if left == 0 {
             return Err(fault(SpecCode::TooDeep, place));
@@ -177,10 +189,12 @@ impl<'t> Names<'t> {
         left: u32,
         progress: &mut Progress,
     ) -> Result<Held, SpecFault>
-        requires over { AllOver progress.old.numbers bound.old }
+        requires ready { Ready (names_seen self.now) progress.old bound.old }
+        requires numbered { AllNumbered self.now.meanings.table bound.old }
+        requires known { KnowsAlternatives self.now.meanings.table (map alternative_seen alternatives.now) }
         ensures value { IsOutcomeAs held_seen result progress.new.work (chosen_value (evaluator (names_seen self.now) left) (bound_seen bound.old) place (map alternative_seen alternatives.now) progress.old.work) }
-        ensures over { IfOk result (λ v. IsOver progress.new.numbers v) }
-        ensures grows { IsPrefix progress.old.numbers progress.new.numbers }
+        ensures over { IfOk result (λ v. IsOver progress.new.numbering v) }
+        ensures grows { Extends (names_seen self.now) progress.old progress.new }
     {
         for alternative in alternatives {
             if self.guard(bound, alternative, left, progress)? {
@@ -200,10 +214,12 @@ impl<'t> Names<'t> {
         left: u32,
         progress: &mut Progress,
     ) -> Result<bool, SpecFault>
-        requires over { AllOver progress.old.numbers bound.old }
+        requires ready { Ready (names_seen self.now) progress.old bound.old }
+        requires numbered { AllNumbered self.now.meanings.table bound.old }
+        requires known { KnowsGuard self.now.meanings.table (alternative_seen alternative.now).guard }
         ensures value { IsOutcome result progress.new.work (guard_value (evaluator (names_seen self.now) left) (bound_seen bound.old) (alternative_seen alternative.now).guard progress.old.work) }
         ensures bound { OnOk result (bound.new ≡ bound.old) }
-        ensures grows { IsPrefix progress.old.numbers progress.new.numbers }
+        ensures grows { Extends (names_seen self.now) progress.old progress.new }
     {
         match &alternative.guard {
             None => Ok(true),
@@ -226,13 +242,15 @@ impl<'t> Names<'t> {
         left: u32,
         progress: &mut Progress,
     ) -> Result<Held, SpecFault>
-        requires over { AllOver progress.old.numbers bound.old }
+        requires ready { Ready (names_seen self.now) progress.old bound.old }
+        requires numbered { AllNumbered self.now.meanings.table bound.old }
+        requires known { IsWritten self.now.meanings.table word.now.span.start word.now.name × KnowsTrees self.now.meanings.table (trees_seen arguments.now) }
         ensures value { IsOutcomeAs held_seen result progress.new.work (call_value (evaluator (names_seen self.now) left) (bound_seen bound.old) place word.now.span.start (look_up (names_seen self.now) (bound_seen bound.old) word.now.name) (trees_seen arguments.now) progress.old.work) }
         ensures bound { OnOk result (bound.new ≡ bound.old) }
-        ensures over { IfOk result (λ v. IsOver progress.new.numbers v) }
-        ensures grows { IsPrefix progress.old.numbers progress.new.numbers }
+        ensures over { IfOk result (λ v. IsOver progress.new.numbering v) }
+        ensures grows { Extends (names_seen self.now) progress.old progress.new }
     {
-        match self.look_up(bound, &word.name)? {
+        match self.look_up(bound, word.span.start, &word.name)? {
             Meaning::Definition(words, body) => {
                 if arguments.len() != words.len() {
                     return Err(fault(SpecCode::WrongSort, place));
@@ -256,16 +274,21 @@ impl<'t> Names<'t> {
         progress: &mut Progress,
     ) -> Result<Scope<'t>, SpecFault>
         requires length { length arguments.now ≡ length words.now }
-        requires over { AllOver progress.old.numbers bound.old }
+        requires ready { Ready (names_seen self.now) progress.old bound.old }
+        requires numbered { AllNumbered self.now.meanings.table bound.old }
+        requires known { KnowsWords self.now.meanings.table (map word_seen words.now) × KnowsTrees self.now.meanings.table (trees_seen arguments.now) }
         ensures value { IsOutcomeAs bound_seen result progress.new.work (arguments_at (evaluator (names_seen self.now) left) (bound_seen bound.old) [] (map word_seen words.now) (trees_seen arguments.now) progress.old.work) }
         ensures bound { OnOk result (bound.new ≡ bound.old) }
-        ensures over { IfOk result (λ inner. AllOver progress.new.numbers inner) }
-        ensures grows { IsPrefix progress.old.numbers progress.new.numbers }
+        ensures over { IfOk result (λ inner. AllOver progress.new.numbering inner) }
+        ensures numbered { IfOk result (λ inner. AllNumbered self.now.meanings.table inner) }
+        ensures grows { Extends (names_seen self.now) progress.old progress.new }
     {
         let mut inner = Scope::new(self.alloc);
         for i in 0..words.len() {
             let value = self.value(bound, &arguments[i], left, progress)?;
-            inner.push(&words[i].name, value)?;
+            let word = &words[i];
+            let number = self.meanings.number(word.span.start, &word.name);
+            inner.push(number, &word.name, value)?;
         }
         Ok(inner)
     }
@@ -282,13 +305,15 @@ impl<'t> Names<'t> {
         left: u32,
         progress: &mut Progress,
     ) -> Result<Held, SpecFault>
-        requires over { AllOver progress.old.numbers bound.old }
+        requires ready { Ready (names_seen self.now) progress.old bound.old }
+        requires numbered { AllNumbered self.now.meanings.table bound.old }
+        requires known { IsWritten self.now.meanings.table word.now.span.start word.now.name × KnowsTree self.now.meanings.table (expr_seen index.now) }
         ensures value { IsOutcomeAs held_seen result progress.new.work (index_value (names_seen self.now) (evaluator (names_seen self.now) left) (bound_seen bound.old) place (word_seen word.now) (expr_seen index.now) progress.old.work) }
         ensures bound { OnOk result (bound.new ≡ bound.old) }
-        ensures over { IfOk result (λ v. IsOver progress.new.numbers v) }
-        ensures grows { IsPrefix progress.old.numbers progress.new.numbers }
+        ensures over { IfOk result (λ v. IsOver progress.new.numbering v) }
+        ensures grows { Extends (names_seen self.now) progress.old progress.new }
     {
-        let meaning = self.look_up(bound, &word.name)?;
+        let meaning = self.look_up(bound, word.span.start, &word.name)?;
         if meaning.is_never_a_bus() {
             self.value(bound, index, left, progress)?;
             return Err(fault(SpecCode::WrongSort, word.span.start));
@@ -299,13 +324,14 @@ impl<'t> Names<'t> {
         let number = value.number(index.span.start)?;
         progress
             .work
-            .bit(place, index.span.start, self.bus(bus), number)
+            .bit(place, index.span.start, self.enumerated.bus(bus), number)
     }
 }
 
 impl Work {
     /// The bit of a bus with this number, which stands at the second byte.
     fn bit(&mut self, place: u64, at: u64, bus: BusRange, number: i64) -> Result<Held, SpecFault>
+        ensures grows { Grows self.old.formulas self.new.formulas }
         ensures over { IfOk result (λ v. (us : List ℤ) → IsOver us v) }
         ensures value { IsOutcomeAs held_seen result self.new (bit_value place at (range_seen bus) number self.old) }
     {

@@ -1,15 +1,17 @@
 // The value of an expression with several operands, which are evaluated from left to right before any is tested.
 
 ghost use Rattle.std.specs.Prelude.{◌≡◌, IfOk, OnOk, map, [], None};
-ghost use Rattle.placed_sets.specs.Placed.{IsPrefix};
-ghost use Rattle.tlsf_values.specs.HeldSeen.{AllOver, bound_seen, held_seen, IsOver};
+ghost use Rattle.tlsf_values.specs.HeldSeen.{AllNumbered, bound_seen, held_seen, IsOver};
 ghost use Rattle.tlsf_values.specs.Counts.{count_in, count_value, joined_over, joining_of, window_of};
+ghost use Rattle.tlsf_values.specs.Matches.{Extends, Ready};
 ghost use Rattle.tlsf_values.specs.MembersSeen.{members_seen};
 ghost use Rattle.tlsf_values.specs.NamesSeen.{names_seen};
 ghost use Rattle.tlsf_values.specs.Operators.{operated};
+ghost use Rattle.tlsf_values.specs.PartsSeen.{as_numbers};
 ghost use Rattle.tlsf_values.specs.Outcomes.{checked, gives, go_on};
 ghost use Rattle.tlsf_values.specs.Results.{IsOutcome, IsOutcomeAs};
-ghost use Rattle.tlsf_values.specs.Seen.{expr_seen, link_list_seen, range_list_seen, trees_seen, word_seen};
+ghost use Rattle.written_names.specs.Known.{KnowsLinks, KnowsRanges, KnowsTree, KnowsTrees, KnowsWord};
+ghost use Rattle.written_names.specs.Seen.{expr_seen, link_list_seen, range_list_seen, trees_seen, word_seen};
 ghost use Rattle.tlsf_values.specs.Sorts.{formula_in, number_in};
 ghost use Rattle.tlsf_values.specs.declared.value.Value.TheVariants.{Number};
 ghost use Rattle.tlsf_values.specs.Values.{big_at, big_value, bind, chain_value, evaluator, start_of, steps_value, values_at, window_at};
@@ -35,7 +37,8 @@ pub(crate) struct Big<'t> {
 }
 
 impl<'t> Names<'t> {
-    /// Several expressions from left to right.
+    /// The numbers that several expressions have as their values, from left to right. What is no number is let go at once: it will be
+    /// refused, and sets may be large.
     #[cycle(evaluation)]
     #[tactic(auto, using(crate::proofs::SeenLemmas::start_seen))]
     pub(crate) fn part_values(
@@ -44,15 +47,18 @@ impl<'t> Names<'t> {
         parts: &'t [Expr],
         left: u32,
         progress: &mut Progress,
-    ) -> Result<Vec<Held>, SpecFault>
-        requires over { AllOver progress.old.numbers bound.old }
-        ensures value { IsOutcomeAs (λ values. map held_seen values.items) result progress.new.work (values_at (evaluator (names_seen self.now) left) (bound_seen bound.old) [] (trees_seen parts.now) progress.old.work) }
+    ) -> Result<Vec<Option<i64>>, SpecFault>
+        requires ready { Ready (names_seen self.now) progress.old bound.old }
+        requires numbered { AllNumbered self.now.meanings.table bound.old }
+        requires known { KnowsTrees self.now.meanings.table (trees_seen parts.now) }
+        ensures value { IsOutcomeAs (λ values. values.items) result progress.new.work (as_numbers (values_at (evaluator (names_seen self.now) left) (bound_seen bound.old) [] (trees_seen parts.now) progress.old.work)) }
         ensures bound { OnOk result (bound.new ≡ bound.old) }
-        ensures grows { IsPrefix progress.old.numbers progress.new.numbers }
+        ensures grows { Extends (names_seen self.now) progress.old progress.new }
     {
         let mut values = Vec::new(self.alloc);
         for part in parts {
-            values.push(self.value(bound, part, left, progress)?)?;
+            let value = self.value(bound, part, left, progress)?;
+            values.push(value.into_number_if())?;
         }
         Ok(values)
     }
@@ -70,14 +76,16 @@ impl<'t> Names<'t> {
         left: u32,
         progress: &mut Progress,
     ) -> Result<Held, SpecFault>
-        requires over { AllOver progress.old.numbers bound.old }
+        requires ready { Ready (names_seen self.now) progress.old bound.old }
+        requires numbered { AllNumbered self.now.meanings.table bound.old }
+        requires known { KnowsTree self.now.meanings.table (expr_seen first.now) × KnowsTree self.now.meanings.table (expr_seen second.now) × KnowsTree self.now.meanings.table (expr_seen last.now) }
         ensures value { IsOutcomeAs held_seen result progress.new.work (let r = evaluator (names_seen self.now) left in let b = bound_seen bound.old in
             let t = expr_seen first.now in let u = expr_seen second.now in let v = expr_seen last.now in
             go_on (r.value b t progress.old.work) (λ x w. go_on (r.value b u w) (λ y w. go_on (r.value b v w) (λ z w.
             checked (number_in (start_of t) x) (λ x w. checked (number_in (start_of u) y) (λ y w. checked (number_in (start_of v) z) (λ z w. steps_value place x y z w) w) w) w)))) }
         ensures bound { OnOk result (bound.new ≡ bound.old) }
-        ensures over { IfOk result (λ v. IsOver progress.new.numbers v) }
-        ensures grows { IsPrefix progress.old.numbers progress.new.numbers }
+        ensures over { IfOk result (λ v. IsOver progress.new.numbering v) }
+        ensures grows { Extends (names_seen self.now) progress.old progress.new }
     {
         let first_value = self.value(bound, first, left, progress)?;
         let second_value = self.value(bound, second, left, progress)?;
@@ -100,12 +108,14 @@ impl<'t> Names<'t> {
         left: u32,
         progress: &mut Progress,
     ) -> Result<Held, SpecFault>
-        requires over { AllOver progress.old.numbers bound.old }
+        requires ready { Ready (names_seen self.now) progress.old bound.old }
+        requires numbered { AllNumbered self.now.meanings.table bound.old }
+        requires known { KnowsTree self.now.meanings.table (expr_seen first.now) × KnowsLinks self.now.meanings.table (link_list_seen rest.now) }
         ensures value { IsOutcomeAs held_seen result progress.new.work (let r = evaluator (names_seen self.now) left in let b = bound_seen bound.old in let t = expr_seen first.now in
             go_on (r.value b t progress.old.work) (λ v w. chain_value (names_seen self.now) r b place (start_of t) v (link_list_seen rest.now) w)) }
         ensures bound { OnOk result (bound.new ≡ bound.old) }
-        ensures over { IfOk result (λ v. IsOver progress.new.numbers v) }
-        ensures grows { IsPrefix progress.old.numbers progress.new.numbers }
+        ensures over { IfOk result (λ v. IsOver progress.new.numbering v) }
+        ensures grows { Extends (names_seen self.now) progress.old progress.new }
     {
         let mut value = self.value(bound, first, left, progress)?;
         for link in rest {
@@ -133,12 +143,14 @@ impl<'t> Names<'t> {
         left: u32,
         progress: &mut Progress,
     ) -> Result<Held, SpecFault>
-        requires over { AllOver progress.old.numbers bound.old }
+        requires ready { Ready (names_seen self.now) progress.old bound.old }
+        requires numbered { AllNumbered self.now.meanings.table bound.old }
+        requires known { KnowsTree self.now.meanings.table (expr_seen first.now) × KnowsTree self.now.meanings.table (expr_seen second.now) }
         ensures value { IsOutcomeAs held_seen result progress.new.work (let r = evaluator (names_seen self.now) left in let b = bound_seen bound.old in let t = expr_seen first.now in let u = expr_seen second.now in
             go_on (r.value b t progress.old.work) (λ x w. go_on (r.value b u w) (λ y w. operated (names_seen self.now) op (record { own = place; left = start_of t; right = start_of u }) x y w))) }
         ensures bound { OnOk result (bound.new ≡ bound.old) }
-        ensures over { IfOk result (λ v. IsOver progress.new.numbers v) }
-        ensures grows { IsPrefix progress.old.numbers progress.new.numbers }
+        ensures over { IfOk result (λ v. IsOver progress.new.numbering v) }
+        ensures grows { Extends (names_seen self.now) progress.old progress.new }
     {
         let first_value = self.value(bound, first, left, progress)?;
         let second_value = self.value(bound, second, left, progress)?;
@@ -162,13 +174,15 @@ impl<'t> Names<'t> {
         left: u32,
         progress: &mut Progress,
     ) -> Result<Held, SpecFault>
-        requires over { AllOver progress.old.numbers bound.old }
+        requires ready { Ready (names_seen self.now) progress.old bound.old }
+        requires numbered { AllNumbered self.now.meanings.table bound.old }
+        requires known { KnowsTree self.now.meanings.table (expr_seen number.now) × KnowsTree self.now.meanings.table (expr_seen part.now) }
         ensures value { IsOutcomeAs held_seen result progress.new.work (let r = evaluator (names_seen self.now) left in let b = bound_seen bound.old in let n = expr_seen number.now in let t = expr_seen part.now in
             go_on (r.value b n progress.old.work) (λ m w. go_on (r.value b t w) (λ v w.
             checked (number_in (start_of n) m) (λ z w. checked (formula_in (start_of t) v) (λ x w. checked (count_in (start_of n) z) (λ k w. count_value place k x w) w) w) w))) }
         ensures bound { OnOk result (bound.new ≡ bound.old) }
-        ensures over { IfOk result (λ v. IsOver progress.new.numbers v) }
-        ensures grows { IsPrefix progress.old.numbers progress.new.numbers }
+        ensures over { IfOk result (λ v. IsOver progress.new.numbering v) }
+        ensures grows { Extends (names_seen self.now) progress.old progress.new }
     {
         let number_value = self.value(bound, number, left, progress)?;
         let value = self.value(bound, part, left, progress)?;
@@ -192,11 +206,13 @@ impl<'t> Names<'t> {
         left: u32,
         progress: &mut Progress,
     ) -> Result<Held, SpecFault>
-        requires over { AllOver progress.old.numbers bound.old }
+        requires ready { Ready (names_seen self.now) progress.old bound.old }
+        requires numbered { AllNumbered self.now.meanings.table bound.old }
+        requires known { KnowsTree self.now.meanings.table (expr_seen from.now) × KnowsTree self.now.meanings.table (expr_seen to.now) × KnowsTree self.now.meanings.table (expr_seen part.now) }
         ensures value { IsOutcomeAs held_seen result progress.new.work (window_at (evaluator (names_seen self.now) left) (bound_seen bound.old) place (window_of op) (expr_seen from.now) (expr_seen to.now) (expr_seen part.now) progress.old.work) }
         ensures bound { OnOk result (bound.new ≡ bound.old) }
-        ensures over { IfOk result (λ v. IsOver progress.new.numbers v) }
-        ensures grows { IsPrefix progress.old.numbers progress.new.numbers }
+        ensures over { IfOk result (λ v. IsOver progress.new.numbering v) }
+        ensures grows { Extends (names_seen self.now) progress.old progress.new }
     {
         let Some(connective) = Connective::of_window(op) else {
             return Err(fault(SpecCode::WrongSort, place));
@@ -227,11 +243,13 @@ impl<'t> Names<'t> {
         left: u32,
         progress: &mut Progress,
     ) -> Result<Held, SpecFault>
-        requires over { AllOver progress.old.numbers bound.old }
+        requires ready { Ready (names_seen self.now) progress.old bound.old }
+        requires numbered { AllNumbered self.now.meanings.table bound.old }
+        requires known { KnowsRanges self.now.meanings.table (range_list_seen ranges.now) × KnowsTree self.now.meanings.table (expr_seen part.now) }
         ensures value { IsOutcomeAs held_seen result progress.new.work (big_at (evaluator (names_seen self.now) left) (bound_seen bound.old) place (joining_of op) (range_list_seen ranges.now) (expr_seen part.now) progress.old.work) }
         ensures bound { OnOk result (bound.new ≡ bound.old) }
-        ensures over { IfOk result (λ v. IsOver progress.new.numbers v) }
-        ensures grows { IsPrefix progress.old.numbers progress.new.numbers }
+        ensures over { IfOk result (λ v. IsOver progress.new.numbering v) }
+        ensures grows { Extends (names_seen self.now) progress.old progress.new }
     {
         let Some(connective) = Connective::of_big(op) else {
             return Err(fault(SpecCode::WrongSort, place));
@@ -255,10 +273,12 @@ impl<'t> Names<'t> {
         left: u32,
         progress: &mut Progress,
     ) -> Result<Formula, SpecFault>
-        requires over { AllOver progress.old.numbers bound.old }
+        requires ready { Ready (names_seen self.now) progress.old bound.old }
+        requires numbered { AllNumbered self.now.meanings.table bound.old }
+        requires known { KnowsRanges self.now.meanings.table (range_list_seen ranges.now) × KnowsTree self.now.meanings.table (expr_seen big.now.part.now) }
         ensures value { IsOutcome result progress.new.work (big_value (evaluator (names_seen self.now) left) big.now.place big.now.connective (bound_seen bound.old) (range_list_seen ranges.now) (expr_seen big.now.part.now) progress.old.work) }
         ensures bound { OnOk result (bound.new ≡ bound.old) }
-        ensures grows { IsPrefix progress.old.numbers progress.new.numbers }
+        ensures grows { Extends (names_seen self.now) progress.old progress.new }
     {
         match ranges {
             [] => {
@@ -286,6 +306,7 @@ impl<'t> Names<'t> {
                 let last = self
                     .value(bound, high, left, progress)?
                     .into_number(high.span.start);
+                // Both bounds are evaluated before either is refused for its sort.
                 let members = Members::between(first?, *low_strict, *high_strict, last?);
                 self.over_members(bound, big, word, members, more, left, progress)
             }
@@ -305,16 +326,19 @@ impl<'t> Names<'t> {
         left: u32,
         progress: &mut Progress,
     ) -> Result<Formula, SpecFault>
-        requires over { AllOver progress.old.numbers bound.old }
+        requires ready { Ready (names_seen self.now) progress.old bound.old }
+        requires numbered { AllNumbered self.now.meanings.table bound.old }
+        requires known { KnowsWord self.now.meanings.table (word_seen word.now) × KnowsRanges self.now.meanings.table (range_list_seen ranges.now) × KnowsTree self.now.meanings.table (expr_seen big.now.part.now) }
         ensures value { IsOutcome result progress.new.work (let r = evaluator (names_seen self.now) left in let b = bound_seen bound.old in
             joined_over big.now.place big.now.connective (λ z w. big_value r big.now.place big.now.connective (bind (word_seen word.now) (Number z) b) (range_list_seen ranges.now) (expr_seen big.now.part.now) w) (members_seen members) None progress.old.work) }
         ensures bound { OnOk result (bound.new ≡ bound.old) }
-        ensures grows { IsPrefix progress.old.numbers progress.new.numbers }
+        ensures grows { Extends (names_seen self.now) progress.old progress.new }
     {
+        let name = self.meanings.number(word.span.start, &word.name);
         let mut members = members;
         let mut so_far = None;
         while let Some(number) = members.next() {
-            bound.push_number(&word.name, number)?;
+            bound.push_number(name, &word.name, number)?;
             let formula = self.over_ranges(bound, big, ranges, left, progress)?;
             bound.pop();
             so_far = Some(

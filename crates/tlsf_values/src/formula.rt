@@ -1,6 +1,7 @@
 // What may stand where a formula is needed, and operators over it.
 
 ghost use Rattle.std.specs.Prelude.{◌≡◌};
+ghost use Rattle.ltl_formula.specs.Nodes.{Grows};
 ghost use Rattle.tlsf_values.specs.Formulas.{connective_of, connected, flat_made, node_of, opposed, over_both, over_one, pairing_of, sign_of, truth_node, truth_of};
 ghost use Rattle.tlsf_values.specs.Results.{IsOutcome};
 
@@ -105,7 +106,8 @@ pub(crate) fn truth_as_node(truth: bool) -> Node
 impl Work {
     /// The node of a formula that an operator at this byte needs.
     pub(crate) fn node_of(&mut self, place: u64, formula: Formula) -> Result<FormulaId, SpecFault>
-        ensures { IsOutcome result self.new (node_of place formula self.old) }
+        ensures value { IsOutcome result self.new (node_of place formula self.old) }
+        ensures grows { Grows self.old.formulas self.new.formulas }
     {
         match formula {
             Formula::Sure(truth) => self.made(place, truth_as_node(truth)),
@@ -114,7 +116,8 @@ impl Work {
     }
 
     pub(crate) fn flat_made(&mut self, place: u64, node: Node) -> Result<Formula, SpecFault>
-        ensures { IsOutcome result self.new (flat_made place node self.old) }
+        ensures value { IsOutcome result self.new (flat_made place node self.old) }
+        ensures grows { Grows self.old.formulas self.new.formulas }
     {
         Ok(Formula::Flat(self.made(place, node)?))
     }
@@ -127,7 +130,8 @@ impl Work {
         left: Formula,
         right: Formula,
     ) -> Result<Formula, SpecFault>
-        ensures { IsOutcome result self.new (over_both place pairing left right self.old) }
+        ensures value { IsOutcome result self.new (over_both place pairing left right self.old) }
+        ensures grows { Grows self.old.formulas self.new.formulas }
     {
         let left = self.node_of(place, left)?;
         let right = self.node_of(place, right)?;
@@ -140,7 +144,8 @@ impl Work {
         sign: Sign,
         part: Formula,
     ) -> Result<Formula, SpecFault>
-        ensures { IsOutcome result self.new (over_one place sign part self.old) }
+        ensures value { IsOutcome result self.new (over_one place sign part self.old) }
+        ensures grows { Grows self.old.formulas self.new.formulas }
     {
         let part = self.node_of(place, part)?;
         self.flat_made(place, sign.node(part))
@@ -153,7 +158,8 @@ impl Work {
         left: Formula,
         right: Formula,
     ) -> Result<Formula, SpecFault>
-        ensures { IsOutcome result self.new (connected place connective left right self.old) }
+        ensures value { IsOutcome result self.new (connected place connective left right self.old) }
+        ensures grows { Grows self.old.formulas self.new.formulas }
     {
         match (left, right) {
             (Formula::Sure(left), Formula::Sure(right)) => Ok(Formula::Sure(connective.truth(
@@ -164,7 +170,8 @@ impl Work {
     }
 
     pub(crate) fn opposed(&mut self, place: u64, formula: Formula) -> Result<Formula, SpecFault>
-        ensures { IsOutcome result self.new (opposed place formula self.old) }
+        ensures value { IsOutcome result self.new (opposed place formula self.old) }
+        ensures grows { Grows self.old.formulas self.new.formulas }
     {
         match formula {
             Formula::Sure(truth) => Ok(Formula::Sure(!truth)),

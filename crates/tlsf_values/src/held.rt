@@ -2,7 +2,8 @@
 
 ghost use Rattle.std.specs.Prelude.{◌≡◌, List, ℤ, IfOk};
 ghost use Rattle.tlsf_values.specs.HeldSeen.{held_seen, IsOver};
-ghost use Rattle.tlsf_values.specs.Results.{IsChecked, IsCheckedAs};
+ghost use Rattle.tlsf_values.specs.PartsSeen.{number_if};
+ghost use Rattle.tlsf_values.specs.Results.{IsChecked, IsCheckedSeen};
 ghost use Rattle.tlsf_values.specs.Sorts.{bus_in, formula_in, formula_value, number_in, set_in, truth_in};
 
 use crate::formula::Formula;
@@ -37,10 +38,21 @@ impl Held {
         }
     }
 
+    /// As `number`, of a value that is given away, so that nothing has to be dropped at the exits that come later.
     pub(crate) fn into_number(self, place: u64) -> Result<i64, SpecFault>
         ensures { IsChecked result (number_in place (held_seen self)) }
     {
         self.number(place)
+    }
+
+    /// The number, where it is one.
+    pub(crate) fn into_number_if(self) -> Option<i64>
+        ensures { result ≡ number_if (held_seen self) }
+    {
+        match self {
+            Held::Number(number) => Some(number),
+            _ => None,
+        }
     }
 
     pub(crate) fn truth(&self, place: u64) -> Result<bool, SpecFault>
@@ -61,8 +73,18 @@ impl Held {
         }
     }
 
-    pub(crate) fn set(self, place: u64) -> Result<PlacedSet, SpecFault>
-        ensures value { IsCheckedAs (λ s. s.members) result (set_in place (held_seen self)) }
+    pub(crate) fn set(&self, place: u64) -> Result<&PlacedSet, SpecFault>
+        ensures value { IsCheckedSeen (λ s. s.now.members) result (set_in place (held_seen self.now)) }
+        ensures same { IfOk result (λ s. self.now ≡ Held.Set s.now) }
+    {
+        match self {
+            Held::Set(set) => Ok(set),
+            _ => Err(fault(SpecCode::WrongSort, place)),
+        }
+    }
+
+    pub(crate) fn into_set(self, place: u64) -> Result<PlacedSet, SpecFault>
+        ensures value { IsCheckedSeen (λ s. s.members) result (set_in place (held_seen self)) }
         ensures same { IfOk result (λ s. self ≡ Held.Set s) }
     {
         match self {

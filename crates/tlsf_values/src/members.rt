@@ -84,7 +84,7 @@ impl Members {
     pub(crate) fn of(alloc: Global, value: Held, place: u64) -> Result<Members, SpecFault>
         ensures { IsCheckedAs members_seen result (set_in place (held_seen value)) }
     {
-        let set = value.set(place)?;
+        let set = value.into_set(place)?;
         Ok(Members::Listed(Listed {
             numbers: set.numbers(alloc)?,
             place: 0,

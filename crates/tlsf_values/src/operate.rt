@@ -1,6 +1,7 @@
 // Operators on values, each once its operands are evaluated.
 
 ghost use Rattle.std.specs.Prelude.{◌≡◌, List, ℤ, IfOk};
+ghost use Rattle.ltl_formula.specs.Nodes.{Grows};
 ghost use Rattle.tlsf_values.specs.HeldSeen.{held_seen, IsOver};
 ghost use Rattle.tlsf_values.specs.Operators.{arithmetic, compared, denied, on_connective, on_pairing, prefixed, signed};
 ghost use Rattle.tlsf_values.specs.Results.{IsOutcomeAs};
@@ -14,13 +15,13 @@ use tlsf_tree::Op;
 
 impl Work {
     pub(crate) fn arithmetic(
-        &mut self,
+        &self,
         operation: Arithmetic,
         places: Places,
         left: &Held,
         right: &Held,
     ) -> Result<Held, SpecFault>
-        ensures value { IsOutcomeAs held_seen result self.new (arithmetic operation places (held_seen left.now) (held_seen right.now) self.old) }
+        ensures value { IsOutcomeAs held_seen result self.now (arithmetic operation places (held_seen left.now) (held_seen right.now) self.now) }
         ensures over { IfOk result (λ v. (us : List ℤ) → IsOver us v) }
     {
         let left = left.number(places.left)?;
@@ -29,13 +30,13 @@ impl Work {
     }
 
     pub(crate) fn compared(
-        &mut self,
+        &self,
         comparison: Comparison,
         places: Places,
         left: &Held,
         right: &Held,
     ) -> Result<Held, SpecFault>
-        ensures value { IsOutcomeAs held_seen result self.new (compared comparison places (held_seen left.now) (held_seen right.now) self.old) }
+        ensures value { IsOutcomeAs held_seen result self.now (compared comparison places (held_seen left.now) (held_seen right.now) self.now) }
         ensures over { IfOk result (λ v. (us : List ℤ) → IsOver us v) }
     {
         let left = left.number(places.left)?;
@@ -51,6 +52,7 @@ impl Work {
         right: &Held,
     ) -> Result<Held, SpecFault>
         ensures value { IsOutcomeAs held_seen result self.new (on_connective connective places (held_seen left.now) (held_seen right.now) self.old) }
+        ensures grows { Grows self.old.formulas self.new.formulas }
         ensures over { IfOk result (λ v. (us : List ℤ) → IsOver us v) }
     {
         let left = left.formula(places.left)?;
@@ -66,6 +68,7 @@ impl Work {
         right: &Held,
     ) -> Result<Held, SpecFault>
         ensures value { IsOutcomeAs held_seen result self.new (on_pairing pairing places (held_seen left.now) (held_seen right.now) self.old) }
+        ensures grows { Grows self.old.formulas self.new.formulas }
         ensures over { IfOk result (λ v. (us : List ℤ) → IsOver us v) }
     {
         let left = left.formula(places.left)?;
@@ -75,6 +78,7 @@ impl Work {
 
     fn signed(&mut self, sign: Sign, own: u64, place: u64, part: &Held) -> Result<Held, SpecFault>
         ensures value { IsOutcomeAs held_seen result self.new (signed sign own place (held_seen part.now) self.old) }
+        ensures grows { Grows self.old.formulas self.new.formulas }
         ensures over { IfOk result (λ v. (us : List ℤ) → IsOver us v) }
     {
         let part = part.formula(place)?;
@@ -83,6 +87,7 @@ impl Work {
 
     fn denied(&mut self, own: u64, place: u64, part: &Held) -> Result<Held, SpecFault>
         ensures value { IsOutcomeAs held_seen result self.new (denied own place (held_seen part.now) self.old) }
+        ensures grows { Grows self.old.formulas self.new.formulas }
         ensures over { IfOk result (λ v. (us : List ℤ) → IsOver us v) }
     {
         let part = part.formula(place)?;
@@ -98,6 +103,7 @@ impl Work {
         part: &Held,
     ) -> Result<Held, SpecFault>
         ensures value { IsOutcomeAs held_seen result self.new (prefixed op own place (held_seen part.now) self.old) }
+        ensures grows { Grows self.old.formulas self.new.formulas }
         ensures over { IfOk result (λ v. (us : List ℤ) → IsOver us v) }
     {
         match op {

@@ -1,11 +1,13 @@
 // A bus compared with a member of an enumeration.
 
 ghost use Rattle.std.specs.Prelude.{◌≡◌, map};
+ghost use Rattle.ltl_formula.specs.Nodes.{Grows};
 ghost use Rattle.tlsf_values.specs.Patterns.{all_values, are_wide, bit_made, bits_made, joined_to, matched, or_truth, pattern_seen, values_joined, values_made};
-ghost use Rattle.tlsf_values.specs.Seen.{member_seen};
-ghost use Rattle.tlsf_values.specs.Results.{IsOutcome};
+ghost use Rattle.written_names.specs.Seen.{member_seen};
+ghost use Rattle.tlsf_values.specs.Results.{IsOutcome, IsOutcomeAs};
+ghost use Rattle.tlsf_values.specs.declared.formula.Formula.TheVariants.{Flat};
 
-use crate::formula::{Formula, Pairing, truth_as_node};
+use crate::formula::{Pairing, truth_as_node};
 use crate::numbers::Places;
 use crate::work::{Work, fault};
 use ltl_formula::{FormulaId, Node};
@@ -39,13 +41,14 @@ impl Work {
         first: u32,
         width: u32,
         values: &[Pattern],
-    ) -> Result<Formula, SpecFault>
-        ensures { IsOutcome result self.new (matched places first width (map pattern_seen values.now) self.old) }
+    ) -> Result<FormulaId, SpecFault>
+        ensures value { IsOutcomeAs Flat result self.new (matched places first width (map pattern_seen values.now) self.old) }
+        ensures grows { Grows self.old.formulas self.new.formulas }
     {
         if !are_so_wide(width, values) {
             return Err(fault(SpecCode::WrongSort, places.right));
         }
-        Ok(Formula::Flat(self.values_made(places.own, first, values)?))
+        self.values_made(places.own, first, values)
     }
 
     /// One of the values of these members stands at the signals from this one on. It counts no evaluation.
@@ -55,7 +58,8 @@ impl Work {
         first: u32,
         members: &[Member],
     ) -> Result<FormulaId, SpecFault>
-        ensures { IsOutcome result self.new (values_made place first (all_values (map member_seen members.now)) None self.old) }
+        ensures value { IsOutcome result self.new (values_made place first (all_values (map member_seen members.now)) None self.old) }
+        ensures grows { Grows self.old.formulas self.new.formulas }
     {
         let mut so_far = None;
         for member in members {
@@ -70,7 +74,8 @@ impl Work {
         first: u32,
         values: &[Pattern],
     ) -> Result<FormulaId, SpecFault>
-        ensures { IsOutcome result self.new (values_made place first (map pattern_seen values.now) None self.old) }
+        ensures value { IsOutcome result self.new (values_made place first (map pattern_seen values.now) None self.old) }
+        ensures grows { Grows self.old.formulas self.new.formulas }
     {
         let so_far = self.values_joined(place, first, values, None)?;
         self.or_truth(place, false, so_far)
@@ -84,7 +89,8 @@ impl Work {
         values: &[Pattern],
         so_far: Option<FormulaId>,
     ) -> Result<Option<FormulaId>, SpecFault>
-        ensures { IsOutcome result self.new (values_joined place first (map pattern_seen values.now) so_far self.old) }
+        ensures value { IsOutcome result self.new (values_joined place first (map pattern_seen values.now) so_far self.old) }
+        ensures grows { Grows self.old.formulas self.new.formulas }
     {
         let mut joined = so_far;
         for value in values {
@@ -101,7 +107,8 @@ impl Work {
         first: u32,
         bits: &[Option<bool>],
     ) -> Result<FormulaId, SpecFault>
-        ensures { IsOutcome result self.new (bits_made place first bits.now None self.old) }
+        ensures value { IsOutcome result self.new (bits_made place first bits.now None self.old) }
+        ensures grows { Grows self.old.formulas self.new.formulas }
     {
         let mut so_far = None;
         for (i, bit) in bits.iter().enumerate() {
@@ -114,7 +121,8 @@ impl Work {
     }
 
     fn bit_made(&mut self, place: u64, signal: usize, bit: bool) -> Result<FormulaId, SpecFault>
-        ensures { IsOutcome result self.new (bit_made place signal bit self.old) }
+        ensures value { IsOutcome result self.new (bit_made place signal bit self.old) }
+        ensures grows { Grows self.old.formulas self.new.formulas }
     {
         let id = self.signal_made(place, signal)?;
         if bit {
@@ -131,7 +139,8 @@ impl Work {
         so_far: Option<FormulaId>,
         id: FormulaId,
     ) -> Result<FormulaId, SpecFault>
-        ensures { IsOutcome result self.new (joined_to place pairing so_far id self.old) }
+        ensures value { IsOutcome result self.new (joined_to place pairing so_far id self.old) }
+        ensures grows { Grows self.old.formulas self.new.formulas }
     {
         match so_far {
             None => Ok(id),
@@ -146,7 +155,8 @@ impl Work {
         truth: bool,
         so_far: Option<FormulaId>,
     ) -> Result<FormulaId, SpecFault>
-        ensures { IsOutcome result self.new (or_truth place truth so_far self.old) }
+        ensures value { IsOutcome result self.new (or_truth place truth so_far self.old) }
+        ensures grows { Grows self.old.formulas self.new.formulas }
     {
         match so_far {
             None => self.made(place, truth_as_node(truth)),

@@ -1,27 +1,29 @@
 // Bound names, and what a name means where they hide others.
 
-ghost use Rattle.std.specs.Prelude.{◌≡◌, ◌∷◌, [], List, ℤ, IfOk, OnOk, drop, find};
+ghost use Rattle.std.specs.Prelude.{◌≡◌, ◌∷◌, [], List, ℕ, ℤ, Some, IfOk, OnOk, drop, find, nat_eq};
 ghost use Rattle.std.specs.Option.{option_map};
-ghost use Rattle.tlsf_values.specs.Names.{look_up, same_name};
+ghost use Rattle.tlsf_values.specs.Names.{look_up};
 ghost use Rattle.tlsf_values.specs.NamesSeen.{names_seen};
-ghost use Rattle.tlsf_values.specs.HeldSeen.{AllOver, bound_seen};
-ghost use Rattle.tlsf_values.specs.ScopeSeen.{IsMeantOver, meaning_seen};
+ghost use Rattle.tlsf_values.specs.HeldSeen.{AllNumbered, AllOver, bound_seen};
+ghost use Rattle.tlsf_values.specs.ScopeSeen.{IsMeantOver, KnowsMeaning, meaning_seen};
 ghost use Rattle.tlsf_values.specs.Values.{is_never_a_bus};
 ghost use Rattle.tlsf_values.specs.declared.value.Value.TheVariants.{Number};
+ghost use Rattle.written_names.specs.Written.{IsWritten, number_of};
 
 use crate::held::Held;
-use crate::names::{Entry, Names};
-use ltl_formula::FormulaId;
+use crate::meanings::Entry;
+use crate::names::Names;
 use std::alloc::{AllocError, Global};
 use std::collections::HashMap;
 use std::marker::Model;
 use text_base::Name;
 use tlsf_tree::{Alternative, Body, Expr, Word};
 
-/// A bound name with its value.
+/// A bound name with its number and its value.
 #[derive(Drop)]
 pub(crate) struct Binding<'t> {
     name: &'t Name,
+    number: usize,
     value: Held,
     /// The place of the binding that this one hides.
     hides: Option<usize>,
@@ -31,8 +33,8 @@ pub(crate) struct Binding<'t> {
 #[derive(Drop)]
 pub(crate) struct Scope<'t> {
     bindings: Vec<Binding<'t>>,
-    /// The place of each name's latest binding.
-    latest: HashMap<&'t Name, usize>,
+    /// The place of the latest binding of the name of each number.
+    latest: HashMap<usize, usize>,
 }
 
 impl<'t> Model for Scope<'t> {
@@ -58,25 +60,41 @@ impl<'t> Scope<'t> {
         }
     }
 
-    /// Binds a name, which hides what it meant before.
-    pub(crate) fn push(&mut self, name: &'t Name, value: Held) -> Result<(), AllocError>
-        ensures { OnOk result (self.new ≡ record { name = name.now; value = value } ∷ self.old) }
+    /// Binds the name of this number, which hides what it meant before.
+    pub(crate) fn push(
+        &mut self,
+        number: usize,
+        name: &'t Name,
+        value: Held,
+    ) -> Result<(), AllocError>
+        ensures { OnOk result (self.new ≡ record { name = name.now; number = number; value = value } ∷ self.old) }
     {
         self.bindings.reserve(1)?;
         let place = self.bindings.len();
-        let hides = self.latest.insert(name, place)?;
-        let Ok(()) = self.bindings.push(Binding { name, value, hides }) else {
+        let hides = self.latest.insert(number, place)?;
+        let binding = Binding {
+            name,
+            number,
+            value,
+            hides,
+        };
+        let Ok(()) = self.bindings.push(binding) else {
             unreachable!();
         };
         Ok(())
     }
 
-    /// Binds a name to a number.
-    pub(crate) fn push_number(&mut self, name: &'t Name, number: i64) -> Result<(), AllocError>
-        ensures new { OnOk result (self.new ≡ record { name = name.now; value = Held.Number number } ∷ self.old) }
-        ensures seen { OnOk result (bound_seen self.new ≡ record { name = name.now; value = Number number } ∷ bound_seen self.old) }
+    /// Binds the name of this number to a member of a range.
+    pub(crate) fn push_number(
+        &mut self,
+        number: usize,
+        name: &'t Name,
+        member: i64,
+    ) -> Result<(), AllocError>
+        ensures new { OnOk result (self.new ≡ record { name = name.now; number = number; value = Held.Number member } ∷ self.old) }
+        ensures seen { OnOk result (bound_seen self.new ≡ record { name = name.now; value = Number member } ∷ bound_seen self.old) }
     {
-        self.push(name, Held::Number(number))
+        self.push(number, name, Held::Number(member))
     }
 
     /// Takes the latest binding back, so that its name means what it meant before.
@@ -87,19 +105,19 @@ impl<'t> Scope<'t> {
             return;
         };
         let Some(hidden) = binding.hides else {
-            self.latest.remove(&binding.name);
+            self.latest.remove(&binding.number);
             return;
         };
-        let Ok(_) = self.latest.insert(binding.name, hidden) else {
+        let Ok(_) = self.latest.insert(binding.number, hidden) else {
             unreachable!();
         };
     }
 
-    /// The value of the latest binding of the name. It takes time for one look-up, whatever the number of bindings.
-    pub(crate) fn value(&self, name: &Name) -> Option<&Held>
-        ensures { option_map (λ v. v.now) result ≡ option_map (λ b. b.value) (find (λ b. same_name b.name name.now) self.now) }
+    /// The value of the latest binding of the name of this number. It takes time for one look-up, whatever the number of bindings.
+    pub(crate) fn value(&self, number: usize) -> Option<&Held>
+        ensures { option_map (λ v. v.now) result ≡ option_map (λ b. b.value) (find (λ b. nat_eq b.number number) self.now) }
     {
-        let place = *self.latest.get(&name)?;
+        let place = *self.latest.get(&number)?;
         Some(&self.bindings[place].value)
     }
 }
@@ -135,22 +153,34 @@ impl Meaning<'_> {
 }
 
 impl<'t> Names<'t> {
-    /// What a name means; the last one that is bound hides all others.
-    pub(crate) fn look_up(&self, bound: &Scope<'t>, name: &Name) -> Result<Meaning<'t>, AllocError>
+    /// What a name that stands at this byte means; the last one that is bound hides all others. It takes a few look-ups of numbers, whatever
+    /// the name's length.
+    pub(crate) fn look_up(
+        &self,
+        bound: &Scope<'t>,
+        byte: u64,
+        name: &Name,
+    ) -> Result<Meaning<'t>, AllocError>
+        requires numbered { AllNumbered self.now.meanings.table bound.now }
+        requires known { IsWritten self.now.meanings.table byte name.now }
         ensures value { IfOk result (λ m. meaning_seen m ≡ look_up (names_seen self.now) (bound_seen bound.now) name.now) }
         ensures over { IfOk result (λ m. (us : List ℤ) → AllOver us bound.now → IsMeantOver us m) }
+        ensures known { IfOk result (λ m. KnowsMeaning self.now.meanings.table m) }
     {
-        if let Some(value) = bound.value(name) {
+        let number = self.meanings.number(byte, name);
+        if let Some(value) = bound.value(number) {
             return Ok(Meaning::Known(value.clone()?));
         }
-        Ok(self.declared(name))
+        Ok(self.declared(number))
     }
 
-    fn declared(&self, name: &Name) -> Meaning<'t>
-        ensures value { meaning_seen result ≡ (names_seen self.now).means name.now }
+    /// What the name of this number means where it isn't bound.
+    fn declared(&self, number: usize) -> Meaning<'t>
+        ensures value { (name : List ℕ) → number_of self.now.meanings.table name ≡ Some number → meaning_seen result ≡ (names_seen self.now).means name }
         ensures over { (us : List ℤ) → IsMeantOver us result }
+        ensures known { KnowsMeaning self.now.meanings.table result }
     {
-        match self.entry(name) {
+        match self.meanings.entry_of(number) {
             None => Meaning::Undeclared,
             Some(Entry::Signal(signal)) => Meaning::Signal(signal),
             Some(Entry::Bus(bus)) => Meaning::Known(Held::Bus(bus)),

@@ -16,22 +16,23 @@ pub enum SetOperation {
 }
 
 impl SetOperation {
-    /// It takes time in proportion to a 64th of the numbers that have a place.
+    /// It takes time in proportion to a 64th of the numbers that have a place, or to the numbers of two sets that have few.
     pub(crate) fn combined(
         self,
-        numbers: &Numbering,
+        numbering: &mut Numbering,
         left: &PlacedSet,
         right: &PlacedSet,
     ) -> Result<PlacedSet, AllocError>
-        requires left { IsPrefix left.now.over numbers.now }
-        requires right { IsPrefix right.now.over numbers.now }
+        requires left { IsPrefix left.now.over numbering.old }
+        requires right { IsPrefix right.now.over numbering.old }
         ensures members { IfOk result (λ s. s.members ≡ combined self left.now.members right.now.members) }
-        ensures over { IfOk result (λ s. IsPrefix s.over numbers.now) }
+        ensures over { IfOk result (λ s. IsPrefix s.over numbering.new) }
+        ensures kept { IsPrefix numbering.old numbering.new }
     {
         match self {
-            SetOperation::Join => numbers.joined(left, right),
-            SetOperation::Meet => numbers.met(left, right),
-            SetOperation::Difference => numbers.without(left, right),
+            SetOperation::Join => numbering.joined(left, right),
+            SetOperation::Meet => numbering.met(left, right),
+            SetOperation::Difference => numbering.without(left, right),
         }
     }
 }

@@ -1,33 +1,35 @@
 // Sets as they are written, once their parts are evaluated.
 
-ghost use Rattle.std.specs.Prelude.{◌≡◌, ◌+ℤ◌, ◌-ℤ◌, ◌<◌, ◌^◌, [], false, pos, unsigned_abs, FitsSigned, IfOk, map};
+ghost use Rattle.std.specs.Prelude.{◌≡◌, ◌+ℤ◌, ◌-ℤ◌, ◌<◌, ◌^◌, [], false, pos, unsigned_abs, FitsSigned, IfOk};
 ghost use Rattle.std.proofs.Common.{w64};
 ghost use Rattle.std.specs.Ordering.{int_eq};
-ghost use Rattle.tlsf_values.specs.HeldSeen.{held_seen};
 ghost use Rattle.tlsf_values.specs.Results.{IsCheckedAs};
-ghost use Rattle.tlsf_values.specs.Seen.{trees_seen};
+ghost use Rattle.written_names.specs.Seen.{trees_seen};
 ghost use Rattle.tlsf_values.specs.Steps.{passes, rest_from, step_count, stepped, those_from};
-ghost use Rattle.tlsf_values.specs.Values.{numbers_in};
+ghost use Rattle.tlsf_values.specs.PartsSeen.{numbers_among};
 
-use crate::held::Held;
+use crate::work::fault;
 use std::alloc::{AllocError, Global};
-use tlsf_tokens::SpecFault;
+use tlsf_tokens::{SpecCode, SpecFault};
 use tlsf_tree::Expr;
 
-/// The numbers that the values of these expressions are.
-pub(crate) fn numbers_in(
+/// The numbers of the parts of a written set, of which each must have one.
+pub(crate) fn numbers_among(
     alloc: Global,
     parts: &[Expr],
-    values: &[Held],
+    values: &[Option<i64>],
 ) -> Result<Vec<i64>, SpecFault>
-    ensures { IsCheckedAs (λ numbers. numbers.items) result (numbers_in [] (trees_seen parts.now) (map held_seen values.now)) }
+    ensures { IsCheckedAs (λ numbers. numbers.items) result (numbers_among [] (trees_seen parts.now) values.now) }
 {
     let mut numbers = Vec::new(alloc);
     for (i, part) in parts.iter().enumerate() {
         let Some(value) = values.get(i) else {
             return Ok(numbers);
         };
-        numbers.push(value.number(part.span.start)?)?;
+        let Some(number) = *value else {
+            return Err(fault(SpecCode::WrongSort, part.span.start));
+        };
+        numbers.push(number)?;
     }
     Ok(numbers)
 }

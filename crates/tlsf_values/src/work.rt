@@ -1,6 +1,7 @@
 // What an evaluation adds to, and how much of it there may be.
 
 ghost use Rattle.std.specs.Prelude.{◌≡◌};
+ghost use Rattle.ltl_formula.specs.Nodes.{Grows};
 ghost use Rattle.tlsf_values.specs.Outcomes.{counted, made};
 ghost use Rattle.tlsf_values.specs.Results.{IsOutcome};
 
@@ -37,7 +38,8 @@ impl Work {
 
     /// Counts so many evaluations for the node of the written tree at this byte.
     pub(crate) fn count(&mut self, place: u64, evaluations: u128) -> Result<(), SpecFault>
-        ensures { IsOutcome result self.new (counted place evaluations self.old) }
+        ensures value { IsOutcome result self.new (counted place evaluations self.old) }
+        ensures grows { Grows self.old.formulas self.new.formulas }
     {
         let allowed = MOST_EVALUATIONS.saturating_sub(self.done);
         if evaluations > u128::from(allowed) {
@@ -49,7 +51,8 @@ impl Work {
 
     /// The id of a node in the list, for the node of the written tree at this byte.
     pub fn made(&mut self, place: u64, node: Node) -> Result<FormulaId, SpecFault>
-        ensures { IsOutcome result self.new (made place node self.old) }
+        ensures value { IsOutcome result self.new (made place node self.old) }
+        ensures grows { Grows self.old.formulas self.new.formulas }
     {
         if !self.formulas.can_add(node) {
             return Err(fault(SpecCode::WrongSort, place));
@@ -63,7 +66,8 @@ impl Work {
 
     /// The id of a signal's node.
     pub(crate) fn signal_made(&mut self, place: u64, signal: usize) -> Result<FormulaId, SpecFault>
-        ensures { IsOutcome result self.new (made place (Node.Signal signal) self.old) }
+        ensures value { IsOutcome result self.new (made place (Node.Signal signal) self.old) }
+        ensures grows { Grows self.old.formulas self.new.formulas }
     {
         match u32::try_from(signal) {
             Ok(signal) => self.made(place, Node::Signal(signal)),

@@ -1,18 +1,13 @@
-use Rattle.std.proofs.Common.{◌≡◌, sym, ◌∙◌, to_z-of_z, None}
-use Rattle.placed_sets.specs.Bits.{bit_of, place_from}
-use Rattle.placed_sets.specs.Shown.{HasPlace}
+use Rattle.std.proofs.Common.{◌≡◌, ap, subst, sym, ◌∙◌, to_z-of_z}
+use Rattle.placed_sets.specs.Forms.{form_seen}
+use Rattle.placed_sets.specs.Placed.{IsPrefix}
+use Rattle.placed_sets.specs.Sets.{is_in}
 use Rattle.placed_sets.proofs.OperatorLemmas.{shown_in}
-use Rattle.placed_sets.proofs.PlaceLemmas.{chosen_at, chosen_missing}
 use Rattle.placed_sets.proofs.numbering.Numbering.contains.Goals as goal
 
-pub returns-in-Some : goal.returns-in-Some
-returns-in-Some c =
-    let place : HasPlace c.args.self.now c.args.number c.in-Some.place = rw (to_z-of_z c.ranges.number) at c.in-Some.ensures.some in
-    c.has_place.ensures
-    ∙ sym (shown_in c.args.set.now c.words-words.result.now c.args.self.now c.args.number c.words-words.ensures c.requires
-    ∙ chosen_at (bit_of c.words-words.result.now) 0 c.args.self.now c.args.number c.in-Some.place c.find.ensures.distinct place.found)
-
-pub returns-in-None : goal.returns-in-None
-returns-in-None c =
-    let missing : place_from c.args.number 0 c.args.self.now ≡ None = rw (to_z-of_z c.ranges.number) at c.in-None.ensures.none in
-    sym (shown_in c.args.set.now c.words-words.result.now c.args.self.now c.args.number c.words-words.ensures c.requires ∙ chosen_missing (bit_of c.words-words.result.now) c.args.self.now c.args.number missing)
+pub returns-in-Bits : goal.returns-in-Bits
+returns-in-Bits c =
+    let same : c.args.set.now ≡ c.in-Bits.bits = c.form.ensures.seen ∙ ap form_seen c.in-Bits.is in
+    let prefix : IsPrefix c.in-Bits.bits.over c.args.self.now = subst (λ v. IsPrefix v.over c.args.self.now) same c.requires in
+    (rw (to_z-of_z c.ranges.number) at c.has_bit.ensures)
+    ∙ sym (ap (λ v. is_in v.members c.args.number) same ∙ shown_in c.in-Bits.bits c.words.result.now c.args.self.now c.args.number c.words.ensures prefix)

@@ -1,20 +1,28 @@
-use Rattle.std.proofs.Common.{◌≡◌, [], ◌∷◌, ◌++◌, None, rules, ap, drop, map, of_z, refl, to_z, w64, ◌∙◌}
+use Rattle.std.proofs.Common.{◌≡◌, [], ◌∷◌, ◌++◌, None, rules, ap, drop, map, of_z, refl, subst, sym, to_z, w64, ◌∙◌}
 use Rattle.std.proofs.lemmas.List.{map-append}
 use Rattle.std.proofs.lemmas.Result.{err_from_is_err_and}
-use Rattle.tlsf_values.proofs.OverLemmas.{growth, prefix_same, prefix_then, over_grown, all_grown}
+use Rattle.tlsf_values.proofs.OverLemmas.{all_grown, all_prefix, growth, over_grown, remembers_grown, work_grown}
 use Rattle.tlsf_values.proofs.CheckedLemmas.{checked_fault}
 use Rattle.tlsf_values.proofs.EvaluatorLemmas.{value_too_deep, value_deeper, body_too_deep, body_deeper}
 use Rattle.tlsf_values.proofs.EvaluationLemmas.{call_fits, call_misfits, index_is, big_empty, big_of_set, big_of_run, big_run_low, big_run_high, rest_whole, arguments_more, chain_more, at_item, some_item, arguments_step, chosen_step, values_step, joined_step, joined_fault, joining_fault}
-use Rattle.tlsf_values.proofs.FormLemmas.{chain_form, big_form}
-use Rattle.tlsf_values.proofs.SeenLemmas.{start_seen, set_form, call_form}
-use Rattle.tlsf_values.specs.HeldSeen.{bound_seen, held_seen}
+use Rattle.written_names.proofs.FormLemmas.{chain_form, big_form}
+use Rattle.tlsf_values.proofs.SeenLemmas.{start_seen}
+use Rattle.written_names.proofs.SeenLemmas.{set_form, call_form}
+use Rattle.tlsf_values.specs.Outcomes.{gives}
+use Rattle.placed_sets.specs.Sets.{set_of}
+use Rattle.tlsf_grammar.specs.Tree.{members, between}
+use Rattle.written_names.specs.Known.{KnowsRanges, KnowsTree}
+use Rattle.tlsf_values.specs.PartsSeen.{number_if}
+use Rattle.tlsf_values.proofs.PartLemmas.{parts_failing, parts_fault, parts_step, set_of_numbers}
+use Rattle.tlsf_values.proofs.KnownLemmas.{chosen_known, guard_known, link_known, tree_known, word_known}
+use Rattle.tlsf_values.specs.HeldSeen.{AllNumbered, AllOver, bound_seen, held_seen}
 use Rattle.tlsf_values.specs.Names.{look_up}
 use Rattle.tlsf_values.specs.NamesSeen.{names_seen}
 use Rattle.tlsf_values.specs.Counts.{joined_over}
 use Rattle.tlsf_values.specs.MembersSeen.{members_seen}
-use Rattle.tlsf_values.specs.Seen.{expr_seen, range_list_seen, word_seen}
-use Rattle.tlsf_values.specs.Values.{big_value, bind, evaluator, start_of}
-use Rattle.tlsf_values.specs.declared.value.Value.TheVariants.{Number}
+use Rattle.written_names.specs.Seen.{expr_seen, range_list_seen, trees_seen, word_seen}
+use Rattle.tlsf_values.specs.Values.{big_value, bind, evaluator, start_of, values_at}
+use Rattle.tlsf_values.specs.declared.value.Value.TheVariants.{Number, Set}
 use Rattle.tlsf_values.specs.ScopeSeen.{code_body_seen}
 use Rattle.tlsf_values.proofs.names.Names.+evaluation.Goals as goal
 use Rattle.tlsf_values.proofs.names.Names.+evaluation.Goals.{call-in-Definition+else-arguments-words+in_ok-inner-in-Definition, call-in-Undeclared, call-in_default}
@@ -64,12 +72,12 @@ arguments-returns-in_err-value-clause-value t c =
     let word = some_item c.args.words.now c.loop-i.i (search rules) in
     let e = c.index-arguments-i.result in
     let at = at_item c.args.arguments.now c.loop-i.i e (search rules) c.index-arguments-i.is in
-    rw (c.loop-i.invariant.4 ∙ arguments_more (evaluator (names_seen c.args.self.now) c.args.left) (bound_seen c.args.bound.now) (bound_seen c.loop-i.inner) c.args.words.now c.args.arguments.now c.loop-i.i word.0 e c.loop-i.progress.work word.1 at) (search rules)
+    rw (c.loop-i.invariant.5 ∙ arguments_more (evaluator (names_seen c.args.self.now) c.args.left) (bound_seen c.args.bound.now) (bound_seen c.loop-i.inner) c.args.words.now c.args.arguments.now c.loop-i.i word.0 e c.loop-i.progress.work word.1 at) (search rules)
 
 pub chain-loop-link-preserved : goal.chain-loop-link-preserved
 chain-loop-link-preserved t c =
     let at = at_item c.args.rest.now c.loop-link.link-index c.link-item.result (search rules) c.link-item.is in
-    (search rules, search (rules, prefix_then), search (rules, prefix_then, all_grown), search (rules, over_grown), c.loop-link.invariant.4 ∙ chain_more (names_seen c.args.self.now) (evaluator (names_seen c.args.self.now) c.args.left) (bound_seen c.args.bound.now) c.args.place (start_of (expr_seen c.args.first.now)) (held_seen c.loop-link.value) c.args.rest.now c.loop-link.link-index c.link-item.result c.loop-link.progress.work at ∙ search (rules, start_seen))
+    (search rules, search (rules, growth), all_grown c.in_ok-value-2.ensures.grows (all_grown c.in_ok-right.ensures.grows c.loop-link.invariant.2 c.in_ok-right.ensures.bound) refl, search (rules, growth), c.loop-link.invariant.4 ∙ chain_more (names_seen c.args.self.now) (evaluator (names_seen c.args.self.now) c.args.left) (bound_seen c.args.bound.now) c.args.place (start_of (expr_seen c.args.first.now)) (held_seen c.loop-link.value) c.args.rest.now c.loop-link.link-index c.link-item.result c.loop-link.progress.work at ∙ search (rules, start_seen))
 
 pub chain-returns-in_err-value-2-clause-value : goal.chain-returns-in_err-value-2-clause-value
 chain-returns-in_err-value-2-clause-value t c =
@@ -100,13 +108,13 @@ windowed-returns-in_err-first-2-clause-value t c =
     rw (← c.in-Some.ensures, c.in_ok-first.ensures.value, second, last, start_seen c.args.from.now, p.1, p.2) (checked_fault _ _ _ _ c.in_err-first-2.ensures)
 
 pub form-returns-in_err-values-in-Set-clause-value : goal.form-returns-in_err-values-in-Set-clause-value
-form-returns-in_err-values-in-Set-clause-value t c = rw (set_form c.args.expr.now c.in-Set.parts (search rules)) (search rules)
+form-returns-in_err-values-in-Set-clause-value t c = rw (set_form c.args.expr.now c.in-Set.parts (search rules)) (search (rules, parts_fault))
 
 pub form-returns-in_err-numbers-in-Set-clause-value : goal.form-returns-in_err-numbers-in-Set-clause-value
-form-returns-in_err-numbers-in-Set-clause-value t c = rw (set_form c.args.expr.now c.in-Set.parts (search rules)) (search rules)
+form-returns-in_err-numbers-in-Set-clause-value t c = rw (set_form c.args.expr.now c.in-Set.parts (search rules), set_of_numbers (values_at (evaluator (names_seen c.args.self.now) c.args.left) (bound_seen c.args.bound.now) [] (trees_seen c.in-Set.parts.items) c.args.progress.now.work) (trees_seen c.in-Set.parts.items) c.in_ok-values-in-Set.values.items c.part_values.new.progress.work (λ zs w. gives (Set (set_of zs)) w) (search rules)) (search rules)
 
 pub form-returns-in_ok-set_of-in-Set-clause-value : goal.form-returns-in_ok-set_of-in-Set-clause-value
-form-returns-in_ok-set_of-in-Set-clause-value t c = rw (set_form c.args.expr.now c.in-Set.parts (search rules)) (search rules)
+form-returns-in_ok-set_of-in-Set-clause-value t c = rw (set_form c.args.expr.now c.in-Set.parts (search rules), set_of_numbers (values_at (evaluator (names_seen c.args.self.now) c.args.left) (bound_seen c.args.bound.now) [] (trees_seen c.in-Set.parts.items) c.args.progress.now.work) (trees_seen c.in-Set.parts.items) c.in_ok-values-in-Set.values.items c.part_values.new.progress.work (λ zs w. gives (Set (set_of zs)) w) (search rules)) (search rules)
 
 pub form-returns-in-Call-clause-value : goal.form-returns-in-Call-clause-value
 form-returns-in-Call-clause-value t c = rw (call_form c.args.expr.now c.in-Call.word c.in-Call.arguments (search rules)) (search rules)
@@ -149,7 +157,9 @@ pub arguments-returns-in_err-value-clause-over : goal.arguments-returns-in_err-v
 arguments-returns-in_err-value-clause-over t c = search (rules, growth)
 
 pub arguments-value-requires : goal.arguments-value-requires
-arguments-value-requires t c = search (rules, growth)
+arguments-value-requires t c =
+    let at = at_item c.args.arguments.now c.loop-i.i c.index-arguments-i.result (search rules) c.index-arguments-i.is in
+    (search rules, (search (rules, growth), (search rules, tree_known c.args.self.now.meanings.table c.args.arguments.now c.loop-i.i c.index-arguments-i.result c.requires.known.1 at)))
 
 pub big-over_ranges-requires : goal.big-over_ranges-requires
 big-over_ranges-requires t c = search (rules, growth)
@@ -183,9 +193,9 @@ call-body-requires t c = search (rules, growth)
 
 pub call-returns-clause-grows : goal.call-returns-clause-grows
 call-returns-clause-grows t c = elim c.match-branch-2.branch [
-  | call-in-Definition+else-arguments-words+in_ok-inner-in-Definition w ↦ rw w.progress-is (search (rules, prefix_then))
-  | call-in-Undeclared w ↦ rw w.progress-is (search (rules, prefix_same))
-  | call-in_default w ↦ rw w.progress-is (search (rules, prefix_same))
+  | call-in-Definition+else-arguments-words+in_ok-inner-in-Definition w ↦ rw w.progress-is (search (rules, growth))
+  | call-in-Undeclared w ↦ rw w.progress-is (search (rules, growth))
+  | call-in_default w ↦ rw w.progress-is (search (rules, growth))
 ]
 
 pub call-returns-clause-over : goal.call-returns-clause-over
@@ -240,10 +250,14 @@ pub chain-value-requires : goal.chain-value-requires
 chain-value-requires t c = search (rules, growth)
 
 pub chain-value-requires-in-loop-link : goal.chain-value-requires-in-loop-link
-chain-value-requires-in-loop-link t c = search (rules, growth)
+chain-value-requires-in-loop-link t c =
+    let at = at_item c.args.rest.now c.loop-link.link-index c.link-item.result (search rules) c.link-item.is in
+    (search rules, (search (rules, growth), (search rules, link_known c.args.self.now.meanings.table c.args.rest.now c.loop-link.link-index c.link-item.result c.requires.known.1 at)))
 
 pub chosen-guard-requires : goal.chosen-guard-requires
-chosen-guard-requires t c = search (rules, growth)
+chosen-guard-requires t c =
+    let at = at_item c.args.alternatives.now c.loop-alternative.alternative-index c.alternative-item.result (search rules) c.alternative-item.is in
+    (search rules, (search (rules, growth), (search rules, guard_known c.args.self.now.meanings.table c.args.alternatives.now c.loop-alternative.alternative-index c.alternative-item.result c.requires.known at)))
 
 pub chosen-returns-clause-grows : goal.chosen-returns-clause-grows
 chosen-returns-clause-grows t c = search (rules, growth)
@@ -261,7 +275,9 @@ pub chosen-returns-then-branch-clause-over : goal.chosen-returns-then-branch-cla
 chosen-returns-then-branch-clause-over t c = search (rules, growth)
 
 pub chosen-value-requires : goal.chosen-value-requires
-chosen-value-requires t c = search (rules, growth)
+chosen-value-requires t c =
+    let at = at_item c.args.alternatives.now c.loop-alternative.alternative-index c.alternative-item.result (search rules) c.alternative-item.is in
+    (search rules, (all_grown c.in_ok-guard.ensures.grows c.loop-alternative.invariant.2 c.in_ok-guard.ensures.bound, (search rules, chosen_known c.args.self.now.meanings.table c.args.alternatives.now c.loop-alternative.alternative-index c.alternative-item.result c.requires.known at)))
 
 pub counted-returns-clause-grows : goal.counted-returns-clause-grows
 counted-returns-clause-grows t c = search (rules, growth)
@@ -303,16 +319,22 @@ pub counted-value-requires : goal.counted-value-requires
 counted-value-requires t c = search (rules, growth)
 
 pub counted-value-requires-2 : goal.counted-value-requires-2
-counted-value-requires-2 t c = search (rules, growth)
+counted-value-requires-2 t c = (search rules, (all_grown c.in_ok-number_value.ensures.grows (search rules) c.in_ok-number_value.ensures.bound, (search rules, search rules)))
 
 pub form-big-requires : goal.form-big-requires
-form-big-requires t c = search (rules, growth)
+form-big-requires t c =
+    let known = subst (KnowsTree c.args.self.now.meanings.table) (big_form c.args.expr.now c.in-Big.op c.in-Big.ranges c.in-Big.part (search rules)) c.requires.known in
+    (search rules, (search (rules, growth), (search rules, (search (rules, known.0), search (rules, known.1)))))
 
 pub form-call-requires : goal.form-call-requires
-form-call-requires t c = search (rules, growth)
+form-call-requires t c =
+    let known = subst (KnowsTree c.args.self.now.meanings.table) (call_form c.args.expr.now c.in-Call.word c.in-Call.arguments (search rules)) c.requires.known in
+    (search rules, (search (rules, growth), (search rules, (search (rules, known.0), search (rules, known.1)))))
 
 pub form-chain-requires : goal.form-chain-requires
-form-chain-requires t c = search (rules, growth)
+form-chain-requires t c =
+    let known = subst (KnowsTree c.args.self.now.meanings.table) (chain_form c.args.expr.now c.in-Chain.first c.in-Chain.rest (search rules)) c.requires.known in
+    (search rules, (search (rules, growth), (search rules, (search (rules, known.0), search (rules, known.1)))))
 
 pub form-counted-requires : goal.form-counted-requires
 form-counted-requires t c = search (rules, growth)
@@ -321,13 +343,15 @@ pub form-index-requires : goal.form-index-requires
 form-index-requires t c = search (rules, growth)
 
 pub form-meaning_value-requires : goal.form-meaning_value-requires
-form-meaning_value-requires t c = (search rules, c.in_ok-meaning-in-Named.ensures.over _ (search rules))
+form-meaning_value-requires t c = (search rules, (c.in_ok-meaning-in-Named.ensures.over _ (search rules), (search (rules, growth), c.in_ok-meaning-in-Named.ensures.known)))
 
 pub form-pair-requires : goal.form-pair-requires
 form-pair-requires t c = search (rules, growth)
 
 pub form-part_values-requires : goal.form-part_values-requires
-form-part_values-requires t c = search (rules, growth)
+form-part_values-requires t c =
+    let known = subst (KnowsTree c.args.self.now.meanings.table) (set_form c.args.expr.now c.in-Set.parts (search rules)) c.requires.known in
+    (search rules, (search (rules, growth), (search rules, search (rules, known))))
 
 pub form-returns-in-Big-clause-grows : goal.form-returns-in-Big-clause-grows
 form-returns-in-Big-clause-grows t c = search (rules, growth)
@@ -411,7 +435,7 @@ pub form-returns-in_err-numbers-in-Set-clause-over : goal.form-returns-in_err-nu
 form-returns-in_err-numbers-in-Set-clause-over t c = search (rules, growth)
 
 pub form-returns-in_err-set_of-in-Set-clause-grows : goal.form-returns-in_err-set_of-in-Set-clause-grows
-form-returns-in_err-set_of-in-Set-clause-grows t c = search (rules, growth)
+form-returns-in_err-set_of-in-Set-clause-grows t c = search (rules, growth, c.set_of.ensures.grows)
 
 pub form-returns-in_err-set_of-in-Set-clause-over : goal.form-returns-in_err-set_of-in-Set-clause-over
 form-returns-in_err-set_of-in-Set-clause-over t c = search (rules, growth)
@@ -444,7 +468,7 @@ pub form-returns-in_ok-meaning-in-Named-clause-over : goal.form-returns-in_ok-me
 form-returns-in_ok-meaning-in-Named-clause-over t c = search (rules, growth)
 
 pub form-returns-in_ok-set_of-in-Set-clause-grows : goal.form-returns-in_ok-set_of-in-Set-clause-grows
-form-returns-in_ok-set_of-in-Set-clause-grows t c = search (rules, growth)
+form-returns-in_ok-set_of-in-Set-clause-grows t c = search (rules, growth, c.set_of.ensures.grows)
 
 pub form-returns-in_ok-set_of-in-Set-clause-over : goal.form-returns-in_ok-set_of-in-Set-clause-over
 form-returns-in_ok-set_of-in-Set-clause-over t c = search (rules, growth)
@@ -483,7 +507,7 @@ pub guard-value-requires : goal.guard-value-requires
 guard-value-requires t c = search (rules, growth)
 
 pub index-meaning_value-requires : goal.index-meaning_value-requires
-index-meaning_value-requires t c = (search rules, c.in_ok-meaning.ensures.over _ (search rules))
+index-meaning_value-requires t c = (search rules, (c.in_ok-meaning.ensures.over _ (search rules), (search (rules, growth), c.in_ok-meaning.ensures.known)))
 
 pub index-returns-in_err-bus-2-clause-grows : goal.index-returns-in_err-bus-2-clause-grows
 index-returns-in_err-bus-2-clause-grows t c = search (rules, growth)
@@ -528,7 +552,7 @@ pub index-value-requires : goal.index-value-requires
 index-value-requires t c = search (rules, growth)
 
 pub index-value-requires-2 : goal.index-value-requires-2
-index-value-requires-2 t c = search (rules, growth)
+index-value-requires-2 t c = (search rules, (all_grown c.in_ok-bus.ensures.grows (search rules) refl, (search rules, search rules)))
 
 pub meaning_value-body-requires : goal.meaning_value-body-requires
 meaning_value-body-requires t c = search (rules, growth)
@@ -579,7 +603,10 @@ pub over_members-returns-in_err-push_number-clause-grows : goal.over_members-ret
 over_members-returns-in_err-push_number-clause-grows t c = search (rules, growth)
 
 pub over_ranges-over_members-requires : goal.over_ranges-over_members-requires
-over_ranges-over_members-requires t c = search (rules, growth)
+over_ranges-over_members-requires t c =
+    let is : range_list_seen c.args.ranges.now ≡ members (word_seen c.in-Members.word) (expr_seen c.in-Members.set) (range_list_seen (drop 1 c.args.ranges.now)) = search rules in
+    let known = subst (KnowsRanges c.args.self.now.meanings.table) is c.requires.known.0 in
+    (search rules, (all_grown c.in_ok-value-in-Members.ensures.grows (search rules) c.in_ok-value-in-Members.ensures.bound, (search rules, (search (rules, known.0), search (rules, known.2, rest_whole c.args.ranges.now), search (rules, c.requires.known.1)))))
 
 pub over_ranges-returns-in_err-value-in-empty-clause-grows : goal.over_ranges-returns-in_err-value-in-empty-clause-grows
 over_ranges-returns-in_err-value-in-empty-clause-grows t c = search (rules, growth)
@@ -594,7 +621,7 @@ pub over_ranges-value-requires-in-Members : goal.over_ranges-value-requires-in-M
 over_ranges-value-requires-in-Members t c = search (rules, growth)
 
 pub pair-operated-requires-clause-left : goal.pair-operated-requires-clause-left
-pair-operated-requires-clause-left t c = search (rules, growth)
+pair-operated-requires-clause-left t c = over_grown c.in_ok-first_value.first_value c.in_ok-second_value.ensures.grows c.in_ok-first_value.ensures.over
 
 pub pair-operated-requires-clause-right : goal.pair-operated-requires-clause-right
 pair-operated-requires-clause-right t c = search (rules, growth)
@@ -621,7 +648,7 @@ pub pair-value-requires : goal.pair-value-requires
 pair-value-requires t c = search (rules, growth)
 
 pub pair-value-requires-2 : goal.pair-value-requires-2
-pair-value-requires-2 t c = search (rules, growth)
+pair-value-requires-2 t c = (search rules, (all_grown c.in_ok-first_value.ensures.grows (search rules) c.in_ok-first_value.ensures.bound, (search rules, search rules)))
 
 pub part_values-returns-clause-grows : goal.part_values-returns-clause-grows
 part_values-returns-clause-grows t c = search (rules, growth)
@@ -633,10 +660,12 @@ pub part_values-returns-in_err-value-clause-grows : goal.part_values-returns-in_
 part_values-returns-in_err-value-clause-grows t c = search (rules, growth)
 
 pub part_values-value-requires : goal.part_values-value-requires
-part_values-value-requires t c = search (rules, growth)
+part_values-value-requires t c =
+    let at = at_item c.args.parts.now c.loop-part.part-index c.part-item.result (search rules) c.part-item.is in
+    (search rules, (search (rules, growth), (search rules, tree_known c.args.self.now.meanings.table c.args.parts.now c.loop-part.part-index c.part-item.result c.requires.known at)))
 
 pub steps-returns-clause-grows : goal.steps-returns-clause-grows
-steps-returns-clause-grows t c = search (rules, growth)
+steps-returns-clause-grows t c = search (rules, growth, c.stepped.ensures.grows)
 
 pub steps-returns-clause-over : goal.steps-returns-clause-over
 steps-returns-clause-over t c = search (rules, growth)
@@ -681,10 +710,10 @@ pub steps-value-requires : goal.steps-value-requires
 steps-value-requires t c = search (rules, growth)
 
 pub steps-value-requires-2 : goal.steps-value-requires-2
-steps-value-requires-2 t c = search (rules, growth)
+steps-value-requires-2 t c = (search rules, (all_grown c.in_ok-first_value.ensures.grows (search rules) c.in_ok-first_value.ensures.bound, (search rules, search rules)))
 
 pub steps-value-requires-3 : goal.steps-value-requires-3
-steps-value-requires-3 t c = search (rules, growth)
+steps-value-requires-3 t c = (search rules, (all_grown c.in_ok-second_value.ensures.grows (all_grown c.in_ok-first_value.ensures.grows (search rules) c.in_ok-first_value.ensures.bound) c.in_ok-second_value.ensures.bound, (search rules, search rules)))
 
 pub value-form-requires : goal.value-form-requires
 value-form-requires t c = search (rules, growth)
@@ -765,10 +794,10 @@ pub windowed-value-requires : goal.windowed-value-requires
 windowed-value-requires t c = search (rules, growth)
 
 pub windowed-value-requires-2 : goal.windowed-value-requires-2
-windowed-value-requires-2 t c = search (rules, growth)
+windowed-value-requires-2 t c = (search rules, (all_grown c.in_ok-first.ensures.grows (search rules) c.in_ok-first.ensures.bound, (search rules, search rules)))
 
 pub windowed-value-requires-3 : goal.windowed-value-requires-3
-windowed-value-requires-3 t c = search (rules, growth)
+windowed-value-requires-3 t c = (search rules, (all_grown c.in_ok-last.ensures.grows (all_grown c.in_ok-first.ensures.grows (search rules) c.in_ok-first.ensures.bound) c.in_ok-last.ensures.bound, (search rules, search rules)))
 
 pub arguments-loop-i-preserved : goal.arguments-loop-i-preserved
 arguments-loop-i-preserved t c =
@@ -776,25 +805,26 @@ arguments-loop-i-preserved t c =
     let e = c.index-arguments-i.result in
     let word_at = at_item c.args.words.now c.loop-i.i word (search rules) c.index-words-i.is in
     let at = at_item c.args.arguments.now c.loop-i.i e (search rules) c.index-arguments-i.is in
-    let pushed : c.push.new.self ≡ record { name = word.name; value = c.in_ok-value.value } ∷ c.loop-i.inner = search rules in (
+    let pushed : c.push.new.self ≡ record { name = word.name; number = c.number-number.result; value = c.in_ok-value.value } ∷ c.loop-i.inner = search rules in (
       search rules,
-      search (rules, prefix_then),
-      search (rules, all_grown),
-      search (rules, all_grown),
-      c.loop-i.invariant.4 ∙ arguments_step (evaluator (names_seen c.args.self.now) c.args.left) (bound_seen c.args.bound.now) (bound_seen c.loop-i.inner) (bound_seen c.push.new.self) c.args.words.now c.args.arguments.now c.loop-i.i word e c.loop-i.progress.work c.value.new.progress.work (held_seen c.in_ok-value.value)
+      search (rules, growth),
+      all_grown c.in_ok-value.ensures.grows c.loop-i.invariant.2 c.in_ok-value.ensures.bound,
+      subst (AllOver c.value.new.progress.numbering) (sym pushed) (c.in_ok-value.ensures.over, all_prefix c.loop-i.inner c.in_ok-value.ensures.grows.numbers c.loop-i.invariant.3),
+      subst (AllNumbered c.args.self.now.meanings.table) (sym pushed) (c.number-number.ensures, c.loop-i.invariant.4),
+      c.loop-i.invariant.5 ∙ arguments_step (evaluator (names_seen c.args.self.now) c.args.left) (bound_seen c.args.bound.now) (bound_seen c.loop-i.inner) (bound_seen c.push.new.self) c.args.words.now c.args.arguments.now c.loop-i.i word e c.loop-i.progress.work c.value.new.progress.work (held_seen c.in_ok-value.value)
           word_at at (rw c.loop-i.invariant.0 at c.in_ok-value.ensures.value) (ap bound_seen pushed),
     )
 
 pub chain-loop-link-init : goal.chain-loop-link-init
-chain-loop-link-init t c = (search rules, search rules, search (rules, all_grown), search rules, refl)
+chain-loop-link-init t c = (search rules, search rules, all_grown c.in_ok-value.ensures.grows (search rules) c.in_ok-value.ensures.bound, search rules, refl)
 
 pub chosen-loop-alternative-preserved : goal.chosen-loop-alternative-preserved
 chosen-loop-alternative-preserved t c =
     let at = at_item c.args.alternatives.now c.loop-alternative.alternative-index c.alternative-item.result (search rules) c.alternative-item.is in
     let guard = rw c.loop-alternative.invariant.0 at c.in_ok-guard.ensures.value in (
       search rules,
-      search (rules, prefix_then),
-      search (rules, all_grown),
+      search (rules, growth),
+      all_grown c.in_ok-guard.ensures.grows c.loop-alternative.invariant.2 c.in_ok-guard.ensures.bound,
       c.loop-alternative.invariant.3 ∙ chosen_step (evaluator (names_seen c.args.self.now) c.args.left) (bound_seen c.args.bound.now) c.args.place c.args.alternatives.now c.loop-alternative.alternative-index c.alternative-item.result c.loop-alternative.progress.work c.guard.new.progress.work
           at (rw c.if-branch.false at guard),
     )
@@ -802,12 +832,12 @@ chosen-loop-alternative-preserved t c =
 pub part_values-loop-part-preserved : goal.part_values-loop-part-preserved
 part_values-loop-part-preserved t c =
     let at = at_item c.args.parts.now c.loop-part.part-index c.part-item.result (search rules) c.part-item.is in
-    let pushed : c.push.new.self.items ≡ c.loop-part.values.items ++ c.in_ok-value.field-0 ∷ [] = search rules in (
+    let pushed : c.push.new.self.items ≡ c.loop-part.values.items ++ number_if (held_seen c.in_ok-value.value) ∷ [] = search rules in (
       search rules,
-      search (rules, prefix_then),
-      search (rules, all_grown),
-      c.loop-part.invariant.3 ∙ values_step (evaluator (names_seen c.args.self.now) c.args.left) (bound_seen c.args.bound.now) (map held_seen c.loop-part.values.items) (map held_seen c.push.new.self.items) c.args.parts.now c.loop-part.part-index c.part-item.result c.loop-part.progress.work c.value.new.progress.work (held_seen c.in_ok-value.field-0)
-          at (rw c.loop-part.invariant.0 at c.in_ok-value.ensures.value) (ap (map held_seen) pushed ∙ map-append held_seen c.loop-part.values.items (c.in_ok-value.field-0 ∷ [])),
+      search (rules, growth),
+      all_grown c.in_ok-value.ensures.grows c.loop-part.invariant.2 c.in_ok-value.ensures.bound,
+      c.loop-part.invariant.3 ∙ parts_step (evaluator (names_seen c.args.self.now) c.args.left) (bound_seen c.args.bound.now) c.loop-part.values.items c.push.new.self.items c.args.parts.now c.loop-part.part-index c.part-item.result c.loop-part.progress.work c.value.new.progress.work (held_seen c.in_ok-value.value)
+          at (rw c.loop-part.invariant.0 at c.in_ok-value.ensures.value) pushed,
     )
 
 pub over_members-returns-in_err-formula-clause-value : goal.over_members-returns-in_err-formula-clause-value
@@ -826,18 +856,19 @@ over_members-returns-in_err-joined_with-clause-value t c =
     let seen = c.in_ok-push_number.ensures.seen ∙ ap (λ z. record { name = c.args.word.now.name; value = Number z } ∷ bound_seen c.loop-number.bound) same ∙ ap (λ b. record { name = c.args.word.now.name; value = Number c.in-Some.number } ∷ bound_seen b) c.loop-number.invariant.0 in
     rw (p.1, p.2) (joining_fault c.args.big.now.place c.args.big.now.connective (λ z w. big_value (evaluator (names_seen c.args.self.now) c.args.left) c.args.big.now.place c.args.big.now.connective (bind (word_seen c.args.word.now) (Number z) (bound_seen c.args.bound.now)) (range_list_seen c.args.ranges.now) (expr_seen c.args.big.now.part.now) w)
     (joined_over c.args.big.now.place c.args.big.now.connective (λ z w. big_value (evaluator (names_seen c.args.self.now) c.args.left) c.args.big.now.place c.args.big.now.connective (bind (word_seen c.args.word.now) (Number z) (bound_seen c.args.bound.now)) (range_list_seen c.args.ranges.now) (expr_seen c.args.big.now.part.now) w) (members_seen c.args.members) None c.args.progress.now.work)
-    (members_seen c.loop-number.members) (members_seen c.next.new.self) c.in-Some.number c.loop-number.so_far c.loop-number.progress.work c.over_ranges.new.progress.work c.in_ok-formula.formula c.in_err-joined_with.field-0.0 c.loop-number.invariant.3 c.in-Some.ensures (rw seen at c.in_ok-formula.ensures.value) c.in_err-joined_with.ensures)
+    (members_seen c.loop-number.members) (members_seen c.next.new.self) c.in-Some.number c.loop-number.so_far c.loop-number.progress.work c.over_ranges.new.progress.work c.in_ok-formula.formula c.in_err-joined_with.field-0.0 c.loop-number.invariant.3 c.in-Some.ensures (rw seen at c.in_ok-formula.ensures.value) c.in_err-joined_with.ensures.value)
 
 pub over_members-loop-number-preserved : goal.over_members-loop-number-preserved
 over_members-loop-number-preserved t c =
+    let back : c.pop.new.self ≡ c.args.bound.now = search rules in
     let same : to_z w64 (of_z w64 c.in-Some.number) ≡ c.in-Some.number = search rules in
     let seen = c.in_ok-push_number.ensures.seen ∙ ap (λ z. record { name = c.args.word.now.name; value = Number z } ∷ bound_seen c.loop-number.bound) same ∙ ap (λ b. record { name = c.args.word.now.name; value = Number c.in-Some.number } ∷ bound_seen b) c.loop-number.invariant.0 in (
-      search rules,
-      search (rules, prefix_then),
-      search (rules, all_grown),
+      back,
+      search (rules, growth),
+      all_grown (work_grown c.in_ok-joined_with.ensures.grows refl refl) (all_grown c.in_ok-formula.ensures.grows c.loop-number.invariant.2 refl) (back ∙ sym c.loop-number.invariant.0),
       c.loop-number.invariant.3 ∙ joined_step c.args.big.now.place c.args.big.now.connective (λ z w. big_value (evaluator (names_seen c.args.self.now) c.args.left) c.args.big.now.place c.args.big.now.connective (bind (word_seen c.args.word.now) (Number z) (bound_seen c.args.bound.now)) (range_list_seen c.args.ranges.now) (expr_seen c.args.big.now.part.now) w)
           (members_seen c.loop-number.members) (members_seen c.next.new.self) c.in-Some.number c.loop-number.so_far c.loop-number.progress.work c.over_ranges.new.progress.work c.joined_with.new.self c.in_ok-formula.formula c.in_ok-joined_with.field-0
-          c.in-Some.ensures (rw seen at c.in_ok-formula.ensures.value) c.in_ok-joined_with.ensures,
+          c.in-Some.ensures (rw seen at c.in_ok-formula.ensures.value) c.in_ok-joined_with.ensures.value,
     )
 
 pub steps-returns-in_err-next-clause-value : goal.steps-returns-in_err-next-clause-value
@@ -878,7 +909,51 @@ over_ranges-returns-in_err-last-in-Between-clause-value t c =
     rw (p.1, p.2) (big_run_high (evaluator (names_seen c.args.self.now) c.args.left) c.args.big.now.place c.args.big.now.connective (bound_seen c.args.bound.now) c.args.ranges.now c.in-Between.word c.in-Between.low c.in-Between.high c.in-Between.low_strict c.in-Between.high_strict (drop 1 c.args.ranges.now) c.args.big.now.part.now c.args.progress.now.work c.value-in-Between.new.progress.work c.value-in-Between-2.new.progress.work (held_seen c.in_ok-value-in-Between.field-0) (held_seen c.in_ok-value-in-Between-2.field-0) c.in_ok-first-in-Between.field-0 c.in_err-last-in-Between.field-0.0 (search rules) (search rules) (search rules) (search rules) (search rules))
 
 pub over_ranges-value-requires-in-Between-2 : goal.over_ranges-value-requires-in-Between-2
-over_ranges-value-requires-in-Between-2 t c = search (rules, growth)
+over_ranges-value-requires-in-Between-2 t c = (search rules, (all_grown c.in_ok-value-in-Between.ensures.grows (search rules) c.in_ok-value-in-Between.ensures.bound, (search rules, search rules)))
 
 pub over_ranges-over_members-requires-in-Between : goal.over_ranges-over_members-requires-in-Between
-over_ranges-over_members-requires-in-Between t c = search (rules, growth)
+over_ranges-over_members-requires-in-Between t c =
+    let is : range_list_seen c.args.ranges.now ≡ between (expr_seen c.in-Between.low) c.in-Between.low_strict (word_seen c.in-Between.word) c.in-Between.high_strict (expr_seen c.in-Between.high) (range_list_seen (drop 1 c.args.ranges.now)) = search rules in
+    let known = subst (KnowsRanges c.args.self.now.meanings.table) is c.requires.known.0 in
+    (search rules, (all_grown c.in_ok-value-in-Between-2.ensures.grows (all_grown c.in_ok-value-in-Between.ensures.grows (search rules) c.in_ok-value-in-Between.ensures.bound) c.in_ok-value-in-Between-2.ensures.bound, (search rules, (search (rules, known.1), search (rules, known.3, rest_whole c.args.ranges.now), search (rules, c.requires.known.1)))))
+
+pub chain-operated-requires-clause-remembers : goal.chain-operated-requires-clause-remembers
+chain-operated-requires-clause-remembers t c = remembers_grown c.loop-link.bound c.in_ok-right.ensures.grows c.loop-link.invariant.2
+
+pub pair-operated-requires-clause-remembers : goal.pair-operated-requires-clause-remembers
+pair-operated-requires-clause-remembers t c = remembers_grown c.value.new.bound c.in_ok-second_value.ensures.grows (all_grown c.in_ok-first_value.ensures.grows (search rules) c.in_ok-first_value.ensures.bound)
+
+pub index-returns-clause-grows : goal.index-returns-clause-grows
+index-returns-clause-grows t c = search (rules, growth)
+
+pub over_ranges-returns-in_err-first-in-Between-clause-grows : goal.over_ranges-returns-in_err-first-in-Between-clause-grows
+over_ranges-returns-in_err-first-in-Between-clause-grows t c = search (rules, growth)
+
+pub over_ranges-returns-in_err-last-in-Between-clause-grows : goal.over_ranges-returns-in_err-last-in-Between-clause-grows
+over_ranges-returns-in_err-last-in-Between-clause-grows t c = search (rules, growth)
+
+pub over_ranges-returns-in_err-members-in-Members-clause-grows : goal.over_ranges-returns-in_err-members-in-Members-clause-grows
+over_ranges-returns-in_err-members-in-Members-clause-grows t c = search (rules, growth)
+
+pub over_ranges-returns-in_err-value-in-Between-2-clause-grows : goal.over_ranges-returns-in_err-value-in-Between-2-clause-grows
+over_ranges-returns-in_err-value-in-Between-2-clause-grows t c = search (rules, growth)
+
+pub over_ranges-returns-in_err-value-in-Between-clause-grows : goal.over_ranges-returns-in_err-value-in-Between-clause-grows
+over_ranges-returns-in_err-value-in-Between-clause-grows t c = search (rules, growth)
+
+pub over_ranges-returns-in_err-value-in-Members-clause-grows : goal.over_ranges-returns-in_err-value-in-Members-clause-grows
+over_ranges-returns-in_err-value-in-Members-clause-grows t c = search (rules, growth)
+
+pub over_ranges-returns-in_ok-last-in-Between-clause-grows : goal.over_ranges-returns-in_ok-last-in-Between-clause-grows
+over_ranges-returns-in_ok-last-in-Between-clause-grows t c = search (rules, growth)
+
+pub over_ranges-returns-in_ok-members-in-Members-clause-grows : goal.over_ranges-returns-in_ok-members-in-Members-clause-grows
+over_ranges-returns-in_ok-members-in-Members-clause-grows t c = search (rules, growth)
+
+pub over_ranges-value-requires-in-Between : goal.over_ranges-value-requires-in-Between
+over_ranges-value-requires-in-Between t c = search (rules, growth)
+
+pub arguments-number-number-requires : goal.arguments-number-number-requires
+arguments-number-number-requires t c =
+    let at = at_item c.args.words.now c.loop-i.i c.index-words-i.result (search rules) c.index-words-i.is in
+    word_known c.args.self.now.meanings.table c.args.words.now c.loop-i.i c.index-words-i.result c.requires.known.0 at

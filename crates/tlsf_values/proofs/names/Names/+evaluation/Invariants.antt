@@ -1,10 +1,12 @@
-use Rattle.std.proofs.Common.{◌≡◌, ◌+◌, ◌*◌, ◌^◌, length, [], None, map, drop}
-use Rattle.placed_sets.specs.Placed.{IsPrefix}
-use Rattle.tlsf_values.specs.HeldSeen.{AllOver, bound_seen, held_seen, IsOver}
+use Rattle.std.proofs.Common.{◌≡◌, ◌+◌, ◌*◌, ◌^◌, length, [], ◌++◌, None, map, drop}
+use Rattle.tlsf_values.specs.HeldSeen.{AllNumbered, AllOver, bound_seen, held_seen, IsOver}
 use Rattle.tlsf_values.specs.Counts.{joined_over}
+use Rattle.tlsf_values.specs.Matches.{Extends, Ready}
 use Rattle.tlsf_values.specs.MembersSeen.{members_seen}
 use Rattle.tlsf_values.specs.NamesSeen.{names_seen}
-use Rattle.tlsf_values.specs.Seen.{alternative_seen, expr_seen, link_list_seen, range_list_seen, trees_seen, word_seen}
+use Rattle.tlsf_values.specs.Outcomes.{gives, go_on}
+use Rattle.tlsf_values.specs.PartsSeen.{as_numbers}
+use Rattle.written_names.specs.Seen.{alternative_seen, expr_seen, link_list_seen, range_list_seen, trees_seen, word_seen}
 use Rattle.tlsf_values.specs.Values.{arguments_at, big_value, bind, chain_value, chosen_value, evaluator, start_of, values_at}
 use Rattle.tlsf_values.specs.declared.value.Value.TheVariants.{Number}
 use Rattle.tlsf_values.proofs.names.Names.+evaluation.Given as goal
@@ -67,22 +69,22 @@ abbrev pub invariant-chosen-loop-alternative : goal.invariant-chosen-loop-altern
 invariant-chosen-loop-alternative l =
     let r = evaluator (names_seen l.self) l.left in
     let b = bound_seen l.fn.bound in
-    (l.bound ≡ l.fn.bound) × IsPrefix l.fn.progress.numbers l.progress.numbers × AllOver l.progress.numbers l.bound ×
+    (l.bound ≡ l.fn.bound) × Extends (names_seen l.self) l.fn.progress l.progress × Ready (names_seen l.self) l.progress l.bound ×
     (chosen_value r b l.place (map alternative_seen l.alternatives) l.fn.progress.work ≡ chosen_value r b l.place (map alternative_seen (drop l.alternative-index l.alternatives)) l.progress.work)
 
 abbrev pub invariant-arguments-loop-i : goal.invariant-arguments-loop-i
 invariant-arguments-loop-i l =
     let r = evaluator (names_seen l.self) l.left in
     let b = bound_seen l.fn.bound in
-    (l.bound ≡ l.fn.bound) × IsPrefix l.fn.progress.numbers l.progress.numbers × AllOver l.progress.numbers l.bound × AllOver l.progress.numbers l.inner ×
+    (l.bound ≡ l.fn.bound) × Extends (names_seen l.self) l.fn.progress l.progress × Ready (names_seen l.self) l.progress l.bound × AllOver l.progress.numbering l.inner × AllNumbered l.self.meanings.table l.inner ×
     (arguments_at r b [] (map word_seen l.words) (trees_seen l.arguments) l.fn.progress.work ≡ arguments_at r b (bound_seen l.inner) (map word_seen (drop l.i l.words)) (trees_seen (drop l.i l.arguments)) l.progress.work)
 
 abbrev pub invariant-part_values-loop-part : goal.invariant-part_values-loop-part
 invariant-part_values-loop-part l =
     let r = evaluator (names_seen l.self) l.left in
     let b = bound_seen l.fn.bound in
-    (l.bound ≡ l.fn.bound) × IsPrefix l.fn.progress.numbers l.progress.numbers × AllOver l.progress.numbers l.bound ×
-    (values_at r b [] (trees_seen l.parts) l.fn.progress.work ≡ values_at r b (map held_seen l.values.items) (trees_seen (drop l.part-index l.parts)) l.progress.work)
+    (l.bound ≡ l.fn.bound) × Extends (names_seen l.self) l.fn.progress l.progress × Ready (names_seen l.self) l.progress l.bound ×
+    (as_numbers (values_at r b [] (trees_seen l.parts) l.fn.progress.work) ≡ go_on (as_numbers (values_at r b [] (trees_seen (drop l.part-index l.parts)) l.progress.work)) (λ zs w. gives (l.values.items ++ zs) w))
 
 abbrev pub invariant-chain-loop-link : goal.invariant-chain-loop-link
 invariant-chain-loop-link l =
@@ -90,14 +92,14 @@ invariant-chain-loop-link l =
     let r = evaluator names l.left in
     let b = bound_seen l.fn.bound in
     let t = expr_seen l.first in
-    (l.bound ≡ l.fn.bound) × IsPrefix l.fn.progress.numbers l.progress.numbers × AllOver l.progress.numbers l.bound × IsOver l.progress.numbers l.value ×
+    (l.bound ≡ l.fn.bound) × Extends (names_seen l.self) l.fn.progress l.progress × Ready (names_seen l.self) l.progress l.bound × IsOver l.progress.numbering l.value ×
     (chain_value names r b l.place (start_of t) (held_seen l.initial.value) (link_list_seen l.rest) l.initial.progress.work ≡ chain_value names r b l.place (start_of t) (held_seen l.value) (link_list_seen (drop l.link-index l.rest)) l.progress.work)
 
 abbrev pub invariant-over_members-loop-number : goal.invariant-over_members-loop-number
 invariant-over_members-loop-number l =
     let r = evaluator (names_seen l.self) l.left in
     let b = bound_seen l.fn.bound in
-    (l.bound ≡ l.fn.bound) × IsPrefix l.fn.progress.numbers l.progress.numbers × AllOver l.progress.numbers l.bound ×
+    (l.bound ≡ l.fn.bound) × Extends (names_seen l.self) l.fn.progress l.progress × Ready (names_seen l.self) l.progress l.bound ×
     (
     joined_over l.big.place l.big.connective (λ z w. big_value r l.big.place l.big.connective (bind (word_seen l.word) (Number z) b) (range_list_seen l.ranges) (expr_seen l.big.part.now) w) (members_seen l.fn.members) None l.fn.progress.work ≡
     joined_over l.big.place l.big.connective (λ z w. big_value r l.big.place l.big.connective (bind (word_seen l.word) (Number z) b) (range_list_seen l.ranges) (expr_seen l.big.part.now) w) (members_seen l.members) l.so_far l.progress.work)

@@ -1,0 +1,160 @@
+// Sets as bits of places.
+
+ghost use Rattle.std.specs.Prelude.{◌≡◌, ◌+◌, ◌*◌, ◌<◌, ◌^◌, IfOk, OnOk};
+ghost use Rattle.std.specs.List.{IsDistinct};
+ghost use Rattle.std.specs.Ordering.{int_eq};
+ghost use Rattle.placed_sets.specs.Bits.{chosen_before};
+ghost use Rattle.placed_sets.specs.Sets.{set_of};
+ghost use Rattle.placed_sets.specs.Shown.{IsLongerOf, IsShownBy, StandsOver};
+
+use crate::number_list::NumberList;
+use crate::words::{self, PLACES};
+use std::alloc::{AllocError, Global};
+use std::marker::Model;
+use std::rc::Rc;
+
+/// A set of numbers that have places; its copies share what it holds. It takes an eighth of a byte for each place up to the highest of the numbers that
+/// its words were made for, whether it has them or not.
+#[derive(Debug, Drop)]
+pub(crate) struct BitSet {
+    over: NumberList,
+    words: Rc<Vec<u64>>,
+}
+
+impl Model for BitSet {
+    ghost use Rattle.placed_sets.specs.Placed.{PlacedView};
+    ghost use Rattle.placed_sets.specs.Shown.{members_of, StandsOver};
+
+    ghost Value = { PlacedView };
+
+    ghost view = { λ s. record { over = s.over; members = members_of s.over s.words.value.items } };
+
+    ghost invariant = { λ s. StandsOver s.over s.words.value.items };
+}
+
+impl BitSet {
+    /// The numbers at the places of the words.
+    pub(crate) fn made(
+        alloc: Global,
+        over: NumberList,
+        words: Vec<u64>,
+    ) -> Result<BitSet, AllocError>
+        requires { StandsOver over words.items }
+        ensures over { IfOk result (λ s. s.over ≡ over) }
+        ensures shown { IfOk result (λ s. IsShownBy s words.items) }
+        ensures rising { IfOk result (λ s. set_of s.members ≡ s.members) }
+    {
+        let words = Rc::new(alloc, words)?;
+        Ok(BitSet { over, words })
+    }
+
+    /// The numbers at the places of other words, none of whose bits stands where this set can't have one.
+    pub(crate) fn with_words(&self, alloc: Global, words: Vec<u64>) -> Result<BitSet, AllocError>
+        requires { StandsOver self.now.over words.items }
+        ensures over { IfOk result (λ s. s.over ≡ self.now.over) }
+        ensures shown { IfOk result (λ s. IsShownBy s words.items) }
+        ensures rising { IfOk result (λ s. set_of s.members ≡ s.members) }
+    {
+        BitSet::made(alloc, self.over.clone()?, words)
+    }
+
+    pub(crate) fn words(&self) -> &[u64]
+        ensures { IsShownBy self.now result.now }
+    {
+        self.words.as_slice()
+    }
+
+    /// Whether the set has more than so many numbers. It stops at the word that has the first one past them.
+    pub(crate) fn has_more_than(&self, limit: usize) -> bool {
+        let mut left = limit;
+        for word in self.words.iter() {
+            let Some(rest) = left.checked_sub(word.count_ones() as usize) else {
+                return true;
+            };
+            left = rest;
+        }
+        false
+    }
+
+    /// The numbers over which the two stand, of that one that stands over more.
+    pub(crate) fn longer_list(&self, other: &BitSet) -> Result<NumberList, AllocError>
+        ensures { IfOk result (λ l. IsLongerOf self.now.over other.now.over l) }
+    {
+        if self.over.len() < other.over.len() {
+            return other.over.clone();
+        }
+        self.over.clone()
+    }
+
+    /// The numbers of the set, which rise. It takes a step for 64 places and the time for sorting the numbers.
+    pub(crate) fn numbers(&self, alloc: Global) -> Result<Vec<i64>, AllocError>
+        ensures numbers { IfOk result (λ v. v.items ≡ self.now.members) }
+        ensures rising { IfOk result (λ v. set_of v.items ≡ v.items) }
+    {
+        let mut numbers = self.by_place(alloc)?;
+        numbers.sort_unstable();
+        Ok(numbers)
+    }
+
+    /// The numbers of the set, in the order of their places.
+    fn by_place(&self, alloc: Global) -> Result<Vec<i64>, AllocError>
+        ensures members { IfOk result (λ v. set_of v.items ≡ self.now.members) }
+        ensures distinct { IfOk result (λ v. IsDistinct int_eq v.items) }
+    {
+        let mut numbers = Vec::new(alloc);
+        for (index, word) in self.words.iter().enumerate() {
+            if *word != 0 {
+                push_word(&self.over, &self.words, index, &mut numbers)?;
+            }
+        }
+        Ok(numbers)
+    }
+}
+
+/// Goes on from the numbers at the places before a word to those up to its end.
+fn push_word(
+    over: &NumberList,
+    words: &[u64],
+    index: usize,
+    numbers: &mut Vec<i64>,
+) -> Result<(), AllocError>
+    requires small { index < 2 ^ 26 }
+    requires before { numbers.old.items ≡ chosen_before words.now (64 * index) over.now }
+    ensures { OnOk result (numbers.new.items ≡ chosen_before words.now (64 * index + 64) over.now) }
+{
+    for bit in 0..PLACES {
+        push_place(over, words, index * PLACES + bit, numbers)?;
+    }
+    Ok(())
+}
+
+/// Goes on from the numbers at the places before this one to those up to it.
+fn push_place(
+    over: &NumberList,
+    words: &[u64],
+    place: usize,
+    numbers: &mut Vec<i64>,
+) -> Result<(), AllocError>
+    requires { numbers.old.items ≡ chosen_before words.now place over.now }
+    ensures { OnOk result (numbers.new.items ≡ chosen_before words.now (place + 1) over.now) }
+{
+    if !words::has_place(words, place) {
+        return Ok(());
+    }
+    let Some(number) = over.get(place) else {
+        return Ok(());
+    };
+    numbers.push(number)?;
+    Ok(())
+}
+
+/// It takes constant time.
+impl Clone for BitSet {
+    ghost is_clone = { λ set copy. copy ≡ set };
+
+    fn clone(&self) -> Result<BitSet, AllocError> {
+        let over = self.over.clone()?;
+        let words = self.words.clone()?;
+        Ok(BitSet { over, words })
+    }
+}
