@@ -10,8 +10,6 @@ mod few_numbers;
 mod number_list;
 mod numbering;
 mod placed_set;
-#[cfg(test)]
-mod tests;
 mod words;
 
 pub use numbering::Numbering;
