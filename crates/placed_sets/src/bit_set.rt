@@ -64,7 +64,8 @@ impl BitSet {
         self.words.as_slice()
     }
 
-    /// Whether the set has more than so many numbers. It stops at the word that has the first one past them.
+    /// Whether the set has more than so many numbers. It stops at the word that has the first one past them, so it counts the bits of nearly all words where
+    /// few numbers stand at high places, which takes longer than an operator.
     pub(crate) fn has_more_than(&self, limit: usize) -> bool {
         let mut left = limit;
         for word in self.words.iter() {

@@ -21,7 +21,8 @@ use std::marker::Model;
 const MOST: usize = 1 << 32;
 
 /// So many numbers are few: an operator on so few takes no longer than one on bits over many places, and most sets that a text writes out have
-/// no more. Bits take an eighth of a byte for each number that has a place, however few of them the set has.
+/// no more. Bits take an eighth of a byte for each number that has a place, however few of them the set has. How many an operator leaves of bits isn't
+/// asked, since that would take as long as the operator or longer.
 const FEW: usize = 32;
 
 /// The places of the numbers that were met. It only grows. A contract sees it as the list of the numbers, each at its place; no number comes twice.
@@ -58,9 +59,9 @@ impl Numbering {
         }
     }
 
-    /// The set of these numbers, in any order. Up to 64 are sorted, and where at most 32 of them differ, they get no place. Of more, those that have no
-    /// place yet get one: it takes a look-up for each number, the words up to the highest place, and a copy of up to 1,024 numbers where new ones come.
-    /// Where 2^32 numbers have a place and one more needs it, the answer is want of memory.
+    /// The set of these numbers, in any order: a list where at most 32 differ, else bits. Up to 64 are sorted, and those that make a list get no place. Of
+    /// more, those that have no place yet get one: it takes a look-up for each number, the words up to the highest place, of which the bits are counted up to
+    /// the 33rd, and a copy of up to 1,024 numbers where new ones come. Where 2^32 numbers have a place and one more needs it, the answer is want of memory.
     pub fn set_of(&mut self, numbers: &[i64]) -> Result<PlacedSet, AllocError>
         ensures kept { IsPrefix self.old self.new }
         ensures ok { IfOk result (λ s. s.members ≡ set_of numbers.now) }
@@ -74,10 +75,10 @@ impl Numbering {
         self.shrunk(bits)
     }
 
-    /// The numbers of both, and those that only one of the two has. Few numbers with few take the time for sorting them, and get places where more than
-    /// 32 differ; few with bits take a copy of the words and a look-up for each of the few, which get places; bits with bits a step for 64 places. Where
-    /// numbers come that had no place, it also takes a copy of up to 1,024 numbers, and where 2^32 numbers have a place and one more needs it, the answer
-    /// is want of memory.
+    /// The numbers of both, and those that only one of the two has. Two lists take what `set_of` takes of their numbers, and are bits where more than 32
+    /// differ. Bits stay bits: with a list it takes a copy of the words and a look-up for each number of the list, which gets a place; with bits a copy of the
+    /// longer words and a step for 64 places of the shorter. Where numbers come that had no place, it also takes a copy of up to 1,024 numbers, and where
+    /// 2^32 numbers have a place and one more needs it, the answer is want of memory.
     pub fn joined(&mut self, left: &PlacedSet, right: &PlacedSet) -> Result<PlacedSet, AllocError>
         requires left { IsPrefix left.now.over self.old }
         requires right { IsPrefix right.now.over self.old }
@@ -93,8 +94,8 @@ impl Numbering {
         }
     }
 
-    /// The numbers that both have. Where one of the two has few, it takes a test by `contains` for each of them; else a step for 64 places, and where few
-    /// are left the time for sorting them.
+    /// The numbers that both have. Where one of the two is a list, it takes a test by `contains` for each number of it, and makes a list. Of two that are bits
+    /// it takes a copy of the shorter words and a step for 64 of their places, and makes bits of as many words, however few numbers are left.
     pub fn met(&self, left: &PlacedSet, right: &PlacedSet) -> Result<PlacedSet, AllocError>
         requires left { IsPrefix left.now.over self.now }
         requires right { IsPrefix right.now.over self.now }
@@ -108,9 +109,9 @@ impl Numbering {
         }
     }
 
-    /// The numbers of the first set that the second one doesn't have. Where the first one has few, it takes a test by `contains` for each of them; bits
-    /// without few take a copy of the words and a look-up for each of the few; bits without bits a step for 64 places; and where few are left of bits, it
-    /// takes the time for sorting them.
+    /// The numbers of the first set that the second one doesn't have. Where the first one is a list, it takes a test by `contains` for each number of it, and
+    /// makes a list. Bits stay bits of as many words, however few numbers are left: it takes a copy of the words, and where the second one is a list, a look-up
+    /// for each number of it; where it is bits, a step for 64 of the places up to which both go.
     pub fn without(&self, left: &PlacedSet, right: &PlacedSet) -> Result<PlacedSet, AllocError>
         requires left { IsPrefix left.now.over self.now }
         requires right { IsPrefix right.now.over self.now }
@@ -234,7 +235,7 @@ impl Numbering {
     {
         let words = words::met(self.alloc, left.words(), right.words())?;
         let bits = BitSet::made(self.alloc, left.longer_list(right)?, words)?;
-        self.shrunk(bits)
+        Ok(PlacedSet::of_bits(bits))
     }
 
     fn few_without(&self, few: &FewNumbers, set: &PlacedSet) -> Result<PlacedSet, AllocError>
@@ -260,7 +261,7 @@ impl Numbering {
         let mut words = Vec::from_slice(self.alloc, bits.words())?;
         self.clear_places(&mut words, few.as_slice());
         let bits = bits.with_words(self.alloc, words)?;
-        self.shrunk(bits)
+        Ok(PlacedSet::of_bits(bits))
     }
 
     fn bits_without(&self, left: &BitSet, right: &BitSet) -> Result<PlacedSet, AllocError>
@@ -271,7 +272,7 @@ impl Numbering {
     {
         let words = words::without(self.alloc, left.words(), right.words())?;
         let bits = BitSet::made(self.alloc, left.longer_list(right)?, words)?;
-        self.shrunk(bits)
+        Ok(PlacedSet::of_bits(bits))
     }
 
     /// Whether the number has a place whose bit is set.

@@ -1,4 +1,4 @@
-// Sets of numbers in the form that takes less.
+// Sets of numbers in their two forms.
 
 ghost use Rattle.std.specs.Prelude.{◌≡◌, [], IfOk};
 ghost use Rattle.placed_sets.specs.Forms.{form_seen};
@@ -14,14 +14,15 @@ use std::marker::Model;
 pub(crate) enum Form {
     /// The numbers themselves. They need no places, so they stand over no numbers at all.
     Few(FewNumbers),
-    /// A bit for each place up to the highest of the numbers that the set was made from.
+    /// A bit for each place up to the highest of the numbers that the set was made from, however few of them it has.
     Bits(BitSet),
 }
 
-/// A set of numbers; its copies share what it holds. At most 32 numbers are a list, 8 bytes a number. More are bits, an eighth of a byte for each place up
-/// to the highest of the numbers that the set was made from, which `met` and `without` may have left out of it, beside the list of all numbers that have
-/// a place, of which sets share all but the last 1,024 or fewer. A contract sees the numbers over which the bits stand, none where there are no bits,
-/// and the numbers that it has, as a list that rises strictly.
+/// A set of numbers; its copies share what it holds. It is a list, 8 bytes a number, of at most 32 numbers, or bits, an eighth of a byte for each place up
+/// to the highest of the numbers that it was made from, beside the list of all numbers that have a place, of which sets share all but the last 1,024 or
+/// fewer. Numbers that are given, or two lists that are joined, are a list where at most 32 differ; what `met` makes with a list is one, and what `without`
+/// makes of one. All else that is made of bits keeps words of theirs, however few numbers are left. A contract sees the numbers over which the bits stand,
+/// none where there are no bits, and the numbers that it has, as a list that rises strictly.
 #[derive(Debug, Drop)]
 pub struct PlacedSet {
     form: Form,
@@ -67,7 +68,7 @@ impl PlacedSet {
         &self.form
     }
 
-    /// The numbers of the set, which rise. Few are copied; of bits it takes a step for 64 places and the time for sorting the numbers.
+    /// The numbers of the set, which rise. A list is copied; of bits it takes a step for 64 places and the time for sorting the numbers.
     pub fn numbers(&self, alloc: Global) -> Result<Vec<i64>, AllocError>
         ensures numbers { IfOk result (λ v. v.items ≡ self.now.members) }
         ensures rising { IfOk result (λ v. set_of v.items ≡ v.items) }

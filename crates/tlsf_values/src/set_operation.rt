@@ -16,7 +16,7 @@ pub enum SetOperation {
 }
 
 impl SetOperation {
-    /// It takes time in proportion to a 64th of the numbers that have a place, or to the numbers of two sets that have few.
+    /// It takes time in proportion to a 64th of the numbers that have a place, or to the numbers of two sets that are lists.
     pub(crate) fn combined(
         self,
         numbering: &mut Numbering,

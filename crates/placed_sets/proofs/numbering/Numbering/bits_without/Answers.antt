@@ -1,5 +1,4 @@
-use Rattle.std.proofs.Common.{◌≡◌, subst}
-use Rattle.std.specs.Prelude.{IfOk}
+use Rattle.std.proofs.Common.{ap, subst, ◌∙◌}
 use Rattle.std.specs.List.{IsDistinct}
 use Rattle.std.specs.Ordering.{int_eq}
 use Rattle.placed_sets.proofs.OperatorLemmas.{is_difference, made_over}
@@ -8,9 +7,8 @@ use Rattle.placed_sets.proofs.numbering.Numbering.bits_without.Goals as goal
 pub returns-clause-members : goal.returns-clause-members
 returns-clause-members c =
     let distinct : IsDistinct int_eq c.args.self.now = subst (IsDistinct int_eq) c.self.view_is c.self.invariant.distinct in
-    subst (λ l. IfOk c.shrunk.result (λ s. s.members ≡ l))
-    (is_difference c.args.self.now distinct c.args.left.now c.args.right.now c.in_ok-bits.bits c.words.result.now c.words-2.result.now c.in_ok-words.words.items c.words.ensures c.words-2.ensures
+    ap (λ s. s.members) c.of_bits.ensures
+    ∙ is_difference c.args.self.now distinct c.args.left.now c.args.right.now c.in_ok-bits.bits c.words.result.now c.words-2.result.now c.in_ok-words.words.items c.words.ensures c.words-2.ensures
     c.in_ok-bits.ensures.shown c.requires.left c.requires.right
     (made_over c.args.left.now.over c.args.right.now.over _ c.in_ok-bits.bits.over c.args.self.now c.in_ok-longer_list.ensures c.in_ok-bits.ensures.over c.requires.left c.requires.right)
-    c.in_ok-words.ensures.bits)
-    c.shrunk.ensures.members
+    c.in_ok-words.ensures.bits

@@ -1,5 +1,4 @@
-use Rattle.std.proofs.Common.{◌≡◌, length, drop, ap, subst, sym, rules, arith}
-use Rattle.std.specs.Prelude.{IfOk}
+use Rattle.std.proofs.Common.{◌≡◌, length, drop, ap, subst, sym, ◌∙◌, rules, arith}
 use Rattle.placed_sets.specs.Shown.{IsShownBy, LosesBitsOf, StandsOver}
 use Rattle.placed_sets.proofs.MixedLemmas.{is_difference_few, still_stands, written_back}
 use Rattle.placed_sets.proofs.numbering.Numbering.bits_without_few.Goals as goal
@@ -20,6 +19,5 @@ returns-clause-members c =
     let shown : IsShownBy c.in_ok-bits.bits c.clear_places.new.words =
     subst (IsShownBy c.in_ok-bits.bits) (written_back c.in_ok-words.words.len c.clear_places.new.words (drop (length c.clear_places.new.words) c.in_ok-words.words.items) long) c.in_ok-bits.ensures.shown
     in
-    subst (λ l. IfOk c.shrunk.result (λ s. s.members ≡ l))
-    (is_difference_few c.args.self.now c.args.few.now c.args.bits.now c.in_ok-bits.bits c.words.result.now c.clear_places.new.words c.words.ensures c.requires loses c.in_ok-bits.ensures.over shown)
-    c.shrunk.ensures.members
+    ap (λ s. s.members) c.of_bits.ensures
+    ∙ is_difference_few c.args.self.now c.args.few.now c.args.bits.now c.in_ok-bits.bits c.words.result.now c.clear_places.new.words c.words.ensures c.requires loses c.in_ok-bits.ensures.over shown
