@@ -1,27 +1,21 @@
--- What the code's loops lay one after the other: values of enumerations, bits, and the formulas of sections.
-use Rattle.std.proofs.Common.{◌≡◌, ℕ, suc, ◌+◌, ◌-◌, ◌<◌, ◌≤◌, zero, Bool, true, false, List, [], ◌∷◌, ◌++◌, length, get_or, drop, map, None, Some, Result, Err, refl, sym, ap, subst, ◌∙◌, append_assoc, arith, length-append}
+-- What the code's loops lay one after the other: values of enumerations, bits, and declarations.
+use Rattle.std.proofs.Common.{◌≡◌, ℕ, suc, ◌+◌, ◌-◌, ◌<◌, ◌≤◌, zero, Bool, true, false, List, [], ◌∷◌, ◌++◌, length, get_or, drop, map, Some, Result, Err, refl, sym, ap, subst, ◌∙◌, append_assoc, arith, length-append}
 use Rattle.std.proofs.lemmas.List.{at_drop_more}
 use Rattle.std.proofs.lemmas.Bool.{leb-true}
 use Rattle.std.specs.Prelude.{◌==◌, nat_le, if◌then◌else◌}
-use Rattle.ltl_formula.specs.declared.nodes.FormulaId.{FormulaId}
 use Rattle.tlsf_tokens.specs.declared.code.SpecFault.{SpecFault}
 use Rattle.tlsf_tokens.specs.declared.code.SpecFault.TheVariants.{NoMemory, At}
 use Rattle.tlsf_tokens.specs.declared.code.SpecCode.{SpecCode}
 use Rattle.tlsf_tokens.specs.declared.code.SpecCode.TheVariants.{TooManySignals}
-use Rattle.tlsf_tree.specs.declared.expr.Expr.{Expr}
 use Rattle.tlsf_tree.specs.declared.spec.Member.{Member}
 use Rattle.tlsf_tree.specs.declared.spec.Declaration.{Declaration as CodeDeclaration}
-use Rattle.tlsf_grammar.specs.Tree.{Tree, Named, Pattern, Declaration}
-use Rattle.tlsf_values.specs.declared.value.Value.{Value}
+use Rattle.tlsf_grammar.specs.Tree.{Named, Pattern, Declaration}
 use Rattle.tlsf_values.specs.declared.work.Work.{Work}
-use Rattle.tlsf_values.specs.Names.{Names}
 use Rattle.tlsf_values.specs.Outcomes.{Outcome, gives, fails, go_on, choose}
-use Rattle.tlsf_values.specs.Patterns.{all_values, values_made}
+use Rattle.tlsf_values.specs.Patterns.{all_values}
 use Rattle.tlsf_values.specs.Results.{IsFault, IsOutcomeAs}
-use Rattle.written_names.specs.Seen.{pattern_seen, member_seen, expr_seen}
-use Rattle.tlsf_values.specs.Values.{start_of, value_at}
-use Rattle.tlsf_expand.specs.Sections.{section_formula, section_value, added_value}
-use Rattle.tlsf_expand.specs.Signals.{first_of, other_width, width_of, bit_name, bit_names, bits_in, most_signals, TypedSignal, Extent, alone, wide, of_type, extent_value, Declared, declared, declaration_value, declarations_value}
+use Rattle.written_names.specs.Seen.{pattern_seen, member_seen}
+use Rattle.tlsf_expand.specs.Signals.{first_of, other_width, width_of, bit_name, bit_names, bits_in, most_signals, Extent, alone, wide, of_type, extent_value, Declared, declared, declaration_value, declarations_value}
 use Rattle.tlsf_expand.specs.Texts.{Text}
 use Rattle.tlsf_expand.specs.TextSeen.{declaration_seen}
 
@@ -50,55 +44,6 @@ bits_step flat pushed name bit width below is =
     let more : width - bit ≡ suc (width - (bit + 1)) = omega arith in
     ap (λ n. flat ++ bit_names name bit n) more ∙ sym (append_assoc flat (bit_name name bit ∷ []) (bit_names name (bit + 1) (width - (bit + 1))))
     ∙ ap (λ xs. xs ++ bit_names name (bit + 1) (width - (bit + 1))) (sym is)
-
--- ---- sections
-
--- what comes after those laid so far
-abbrev pub after_those : {A : Type 0} → List A → Outcome (List A) → Outcome (List A)
-after_those so_far o = go_on o (λ more w. gives (so_far ++ more) w)
-
-pub after_none : {A : Type 0} (o : Outcome (List A)) → o ≡ after_those [] o
-after_none (gives xs w) = refl
-after_none (fails code place) = refl
-
-pub one_more : {A : Type 0} (so_far : List A) (x : A) (o : Outcome (List A)) → after_those so_far (go_on o (λ xs w. gives (x ∷ xs) w)) ≡ after_those (so_far ++ x ∷ []) o
-one_more so_far x (gives xs w) = ap (λ ys. gives ys w) (sym (append_assoc so_far (x ∷ []) xs))
-one_more so_far x (fails code place) = refl
-
--- a formula of a section is laid
-pub formula_laid : (names : Names) (t : Tree) (ts : List Tree) (so_far : List FormulaId) (v : Value) (id : FormulaId) (w w1 w2 : Work) → value_at names [] t 0 w ≡ gives v w1 →
-    section_formula (start_of t) v w1 ≡ gives id w2 → after_those so_far (section_value names (t ∷ ts) w) ≡ after_those (so_far ++ id ∷ []) (section_value names ts w2)
-formula_laid names t ts so_far v id w w1 w2 value formula =
-    ap (λ o. after_those so_far (go_on o (λ v w. go_on (section_formula (start_of t) v w) (λ id w. go_on (section_value names ts w) (λ ids w. gives (id ∷ ids) w))))) value
-    ∙ ap (λ o. after_those so_far (go_on o (λ id w. go_on (section_value names ts w) (λ ids w. gives (id ∷ ids) w)))) formula
-    ∙ one_more so_far id (section_value names ts w2)
-
-pub value_fault : (names : Names) (t : Tree) (ts : List Tree) (so_far : List FormulaId) (w : Work) (e : SpecFault) → IsFault (value_at names [] t 0 w) e →
-    IsFault (after_those so_far (section_value names (t ∷ ts) w)) e
-value_fault names t ts so_far w NoMemory h = tt
-value_fault names t ts so_far w (At code place) h =
-    ap (λ o. after_those so_far (go_on o (λ v w. go_on (section_formula (start_of t) v w) (λ id w. go_on (section_value names ts w) (λ ids w. gives (id ∷ ids) w))))) h
-
-pub formula_fault : (names : Names) (t : Tree) (ts : List Tree) (so_far : List FormulaId) (v : Value) (w w1 : Work) (e : SpecFault) → value_at names [] t 0 w ≡ gives v w1 →
-    IsFault (section_formula (start_of t) v w1) e → IsFault (after_those so_far (section_value names (t ∷ ts) w)) e
-formula_fault names t ts so_far v w w1 NoMemory value h = tt
-formula_fault names t ts so_far v w w1 (At code place) value h =
-    ap (λ o. after_those so_far (go_on o (λ v w. go_on (section_formula (start_of t) v w) (λ id w. go_on (section_value names ts w) (λ ids w. gives (id ∷ ids) w))))) value
-    ∙ ap (λ o. after_those so_far (go_on o (λ id w. go_on (section_value names ts w) (λ ids w. gives (id ∷ ids) w)))) h
-
--- an added formula is laid
-pub added_laid : (t : TypedSignal) (ts : List TypedSignal) (so_far : List FormulaId) (id : FormulaId) (w w1 : Work) → values_made t.place t.first t.values None w ≡ gives id w1 →
-    after_those so_far (added_value (t ∷ ts) w) ≡ after_those (so_far ++ id ∷ []) (added_value ts w1)
-added_laid t ts so_far id w w1 made =
-    ap (λ o. after_those so_far (go_on o (λ id w. go_on (added_value ts w) (λ ids w. gives (id ∷ ids) w)))) made ∙ one_more so_far id (added_value ts w1)
-
-pub added_fault : (t : TypedSignal) (ts : List TypedSignal) (so_far : List FormulaId) (w : Work) (e : SpecFault) → IsFault (values_made t.place t.first t.values None w) e →
-    IsFault (after_those so_far (added_value (t ∷ ts) w)) e
-added_fault t ts so_far w NoMemory h = tt
-added_fault t ts so_far w (At code place) h = ap (λ o. after_those so_far (go_on o (λ id w. go_on (added_value ts w) (λ ids w. gives (id ∷ ids) w)))) h
-
-pub exprs_from : (exprs : List Expr) (i : ℕ) (e : Expr) → i < length exprs → e ≡ get_or exprs i e → map expr_seen (drop i exprs) ≡ expr_seen e ∷ map expr_seen (drop (i + 1) exprs)
-exprs_from exprs i e below is = at_drop_more (map expr_seen) exprs i e below ∙ ap (λ x. map expr_seen (x ∷ drop (i + 1) exprs)) (sym is)
 
 -- ---- declarations
 

@@ -12,12 +12,13 @@ use Rattle.tlsf_values.specs.declared.work.Work.{Work}
 use Rattle.tlsf_values.specs.declared.value.Value.{Value}
 use Rattle.tlsf_values.specs.Outcomes.{made}
 use Rattle.tlsf_values.specs.Names.{Names}
+use Rattle.tlsf_values.specs.SectionValues.{section_formula, section_value}
 use Rattle.tlsf_values.specs.Values.{start_of}
 use Rattle.tlsf_expand.specs.Senses.{Sense, true_in, implies, always, weakly, has_value}
 use Rattle.tlsf_expand.specs.WrittenTruth.{sense_at, true_at}
 use Rattle.tlsf_expand.specs.Texts.{Sections}
 use Rattle.tlsf_expand.specs.Signals.{TypedSignal, Signals}
-use Rattle.tlsf_expand.specs.Sections.{section_formula, section_value, written_sections, added_value, sections_value, joined_more, joined, standard_value, strict_value, whole_value}
+use Rattle.tlsf_expand.specs.Sections.{written_sections, added_value, sections_value, joined_more, joined, standard_value, strict_value, whole_value}
 use Rattle.tlsf_expand.specs.Meaning.{all_true, all_typed}
 use Rattle.tlsf_expand.proofs.Kept.{Keeps, refuses, keeps_go_on, keeps_given}
 use Rattle.tlsf_expand.proofs.Alike.{HasTruths, grown_truths, Alike, alike_number, alike_set, alike_bus, alike_member, alike_truth, alike_formula}

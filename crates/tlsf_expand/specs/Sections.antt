@@ -1,33 +1,18 @@
 -- The flat formulas of a text's sections, with those that are added for signals of a type, and the formula of the whole: this
 -- project's profile of TLSF 1.1.
-use Rattle.std.specs.Prelude.{ℕ, Bool, true, false, List, [], ◌∷◌, ◌++◌, None}
+use Rattle.std.specs.Prelude.{Bool, true, false, List, [], ◌∷◌, ◌++◌, None}
 use Rattle.ltl_formula.specs.declared.nodes.FormulaId.{FormulaId}
 use Rattle.ltl_formula.specs.declared.nodes.Node.TheVariants as node
-use Rattle.tlsf_tokens.specs.declared.code.SpecCode.TheVariants.{WrongSort}
 use Rattle.tlsf_grammar.specs.Tree.{Tree}
-use Rattle.tlsf_values.specs.declared.value.Value.{Value}
-use Rattle.tlsf_values.specs.declared.value.Value.TheVariants.{Truth, Flat}
 use Rattle.tlsf_values.specs.declared.work.Work.{Work}
-use Rattle.tlsf_values.specs.Outcomes.{Outcome, gives, fails, go_on, made}
+use Rattle.tlsf_values.specs.Outcomes.{Outcome, gives, go_on, made}
 use Rattle.tlsf_values.specs.Names.{Names}
-use Rattle.tlsf_values.specs.Formulas.{truth_node}
 use Rattle.tlsf_values.specs.Patterns.{values_made}
-use Rattle.tlsf_values.specs.Values.{start_of, value_at}
+use Rattle.tlsf_values.specs.SectionValues.{section_value}
 use Rattle.tlsf_expand.specs.Texts.{Sections}
 use Rattle.tlsf_expand.specs.Signals.{TypedSignal, Signals}
 
 -- ---- the sections
-
--- a formula of a section: a truth becomes a node
-abbrev pub section_formula : ℕ → Value → Work → Outcome FormulaId
-section_formula place (Truth b) w = made place (truth_node b) w
-section_formula place (Flat id) w = gives id w
-section_formula place _ w = fails WrongSort place
-
-abbrev pub section_value : Names → List Tree → Work → Outcome (List FormulaId)
-section_value names [] w = gives [] w
-section_value names (t ∷ ts) w =
-    go_on (value_at names [] t 0 w) (λ v w. go_on (section_formula (start_of t) v w) (λ id w. go_on (section_value names ts w) (λ ids w. gives (id ∷ ids) w)))
 
 abbrev pub written_sections : Names → Sections (List Tree) → Work → Outcome (Sections (List FormulaId))
 written_sections names s w =

@@ -61,7 +61,7 @@ pub fn expand(alloc: Global, tree: &SpecTree, kind: Option<Kind>) -> Result<Spec
         formulas: Formulas::new(alloc),
     };
     let mut signals = declared_signals(alloc, tree, &mut work)?;
-    let sections = flat_sections(alloc, &mut signals, tree, &mut work)?;
+    let sections = flat_sections(&mut signals, tree, &mut work)?;
     let whole = whole_formula(tree.info.strict, &sections, &mut work)?;
     Ok(Spec {
         inputs: signals.inputs,

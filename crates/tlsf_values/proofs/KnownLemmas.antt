@@ -1,11 +1,11 @@
 -- Bound names by their numbers, and what stays known as names are added.
-use Rattle.std.proofs.Common.{◌≡◌, ◌<◌, ◌≤◌, ◌+◌, ℕ, zero, suc, Bool, true, false, cond, ltb, List, [], ◌∷◌, ◌++◌, length, map, drop, find, get_or, Option, None, Some, refl, sym, ap, subst, ◌∙◌, arith}
+use Rattle.std.proofs.Common.{◌≡◌, ◌<◌, ◌≤◌, ◌+◌, ℕ, zero, suc, Bool, true, false, cond, ltb, List, [], ◌∷◌, ◌++◌, length, map, take, drop, find, get_or, Option, None, Some, refl, sym, ap, subst, ◌∙◌, arith}
 use Rattle.std.specs.Prelude.{if◌then◌else◌, nat_eq}
 use Rattle.std.specs.Cmp.Lexicographic.{bytes_decides, pointwise}
 use Rattle.std.specs.Map.{lookup}
 use Rattle.std.specs.Option.{option_map}
 use Rattle.std.proofs.lemmas.Bool.{eqb-true, eq-eqb, ltb-false}
-use Rattle.std.proofs.lemmas.List.{get_or_append_left, length-append}
+use Rattle.std.proofs.lemmas.List.{get_or_append_left, length-append, take_more}
 use Rattle.std.proofs.lemmas.List.Quantifiers.{position-Some}
 use Rattle.std.proofs.lemmas.List.Sums.{fails_before_first}
 use Rattle.std.specs.List.{position_or_len}
@@ -23,7 +23,7 @@ use Rattle.tlsf_tree.specs.declared.spec.Alternative.{Alternative}
 use Rattle.written_names.specs.Known.{KnowsAlternatives, KnowsGuard, KnowsLinks, KnowsTree, KnowsTrees, KnowsWord, KnowsWords}
 use Rattle.written_names.specs.Seen.{alternative_seen, body_seen, expr_seen, link_list_seen, trees_seen, word_seen}
 use Rattle.written_names.specs.Written.{NamesWritten, Keeps, number_of}
-use Rattle.written_names.proofs.KeepLemmas.{numbers_apart, number_kept, keeps_body, keeps_tree, keeps_words}
+use Rattle.written_names.proofs.KeepLemmas.{numbers_apart, number_kept, keeps_body, keeps_tree, keeps_trees, keeps_words}
 
 -- a bound name is found by its number where it is found by its bytes
 pub same_found : (table : NamesWritten) (name : List ℕ) (n : ℕ) (bs : List HeldBinding) → AllNumbered table bs → number_of table name ≡ Some n
@@ -155,6 +155,17 @@ trees_after table (e ∷ es) (suc i) known = trees_after table es i known.1
 
 pub tree_known : (table : NamesWritten) (es : List Expr) (i : ℕ) (e : Expr) → KnowsTrees table (trees_seen es) → drop i es ≡ e ∷ drop (i + 1) es → KnowsTree table (expr_seen e)
 tree_known table es i e known at = (subst (λ xs. KnowsTrees table (trees_seen xs)) at (trees_after table es i known)).0
+
+trees_pushed : (table : NamesWritten) (es : List Expr) (e : Expr) → KnowsTrees table (trees_seen es) → KnowsTree table (expr_seen e) → KnowsTrees table (trees_seen (es ++ e ∷ []))
+trees_pushed table [] e known one = (one, known)
+trees_pushed table (x ∷ es) e known one = (known.0, trees_pushed table es e known.1 one)
+
+-- one more of the first expressions is known
+pub trees_more : {old new : NamesWritten} (es : List Expr) (i : ℕ) (e : Expr) → i < length es → e ≡ get_or es i e → Keeps old new → KnowsTrees old (trees_seen (take i es)) → KnowsTree new (expr_seen e)
+    → KnowsTrees new (trees_seen (take (i + 1) es))
+trees_more {new = new} es i e within is kept known one =
+    subst (λ xs. KnowsTrees new (trees_seen xs)) (ap (λ x. take i es ++ x ∷ []) is ∙ sym (take_more es i e within))
+    (trees_pushed new (take i es) e (keeps_trees (trees_seen (take i es)) kept known) one)
 
 words_after : (table : NamesWritten) (ws : List Word) (i : ℕ) → KnowsWords table (map word_seen ws) → KnowsWords table (map word_seen (drop i ws))
 words_after table ws zero known = known

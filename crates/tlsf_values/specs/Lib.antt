@@ -10,6 +10,7 @@ pub mod Patterns
 pub mod Operators
 pub mod Counts
 pub mod Values
+pub mod SectionValues
 pub mod Rows
 pub mod EnvSeen
 pub mod MembersSeen

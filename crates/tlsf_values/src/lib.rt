@@ -21,6 +21,7 @@ mod operate;
 mod patterns;
 mod progress;
 mod scope;
+mod section;
 mod set_operation;
 mod steps;
 mod text_value;

@@ -3,8 +3,8 @@
 ghost use Rattle.std.specs.Prelude.{◌≡◌, Some, List, ℕ, IfOk, IfSome, OnOk, map};
 ghost use Rattle.tlsf_values.specs.MeaningsSeen.{entry_meaning, KnowsEntry, means_of};
 ghost use Rattle.tlsf_values.specs.Names.{also, without_names};
-ghost use Rattle.written_names.specs.Known.{KnowsBody, KnowsTree, KnowsWords};
-ghost use Rattle.written_names.specs.Seen.{body_seen, expr_seen, word_seen};
+ghost use Rattle.written_names.specs.Known.{KnowsBody, KnowsTree, KnowsTrees, KnowsWords};
+ghost use Rattle.written_names.specs.Seen.{body_seen, expr_seen, trees_seen, word_seen};
 ghost use Rattle.written_names.specs.Written.{IsWritten, Keeps, number_of};
 
 use std::alloc::{AllocError, Global};
@@ -74,6 +74,17 @@ impl<'t> Meanings<'t> {
         ensures keeps { Keeps self.old.table self.new.table }
     {
         self.table.add_expr(expr)
+    }
+
+    /// Makes the names of these expressions known.
+    pub(crate) fn read_exprs(&mut self, exprs: &[Expr]) -> Result<(), AllocError>
+        ensures known { OnOk result (KnowsTrees self.new.table (trees_seen exprs.now)) }
+        ensures means { means_of self.new ≡ means_of self.old }
+    {
+        for expr in exprs {
+            self.read_expr(expr)?;
+        }
+        Ok(())
     }
 
     /// Makes the names of a function's arguments and body known.

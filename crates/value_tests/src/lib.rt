@@ -6,6 +6,8 @@
 #[cfg(test)]
 mod operators;
 #[cfg(test)]
+mod sections;
+#[cfg(test)]
 mod sets;
 #[cfg(test)]
 mod values;

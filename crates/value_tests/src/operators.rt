@@ -112,7 +112,7 @@ fn pattern(alloc: Global, bits: &[Option<bool>]) -> Result<Pattern, SpecFault> {
 }
 
 // `enum T = A: 00, 01`
-fn one_member(alloc: Global) -> Result<Definition, SpecFault> {
+pub(crate) fn one_member(alloc: Global) -> Result<Definition, SpecFault> {
     let mut values = Vec::new(alloc);
     values.push(pattern(alloc, &[Some(false), Some(false)])?)?;
     values.push(pattern(alloc, &[Some(false), Some(true)])?)?;

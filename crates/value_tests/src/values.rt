@@ -30,11 +30,11 @@ pub(crate) fn word(alloc: Global, start: u64, name: &[u8]) -> Result<Word, SpecF
     })
 }
 
-fn number(start: u64, number: i64) -> Expr {
+pub(crate) fn number(start: u64, number: i64) -> Expr {
     expr(start, Form::Number(Some(number)))
 }
 
-fn truth(start: u64, truth: bool) -> Expr {
+pub(crate) fn truth(start: u64, truth: bool) -> Expr {
     expr(start, Form::Truth(truth))
 }
 
