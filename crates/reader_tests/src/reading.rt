@@ -1,36 +1,12 @@
 // Trees and refusals of whole texts.
 
+use crate::fixtures::{HEAD, assert_refused, asserting, first_formula, joined, repeat, text_of};
 use std::alloc::Global;
 use std::process::Abort;
 use std::test::Fail;
 use tlsf_reader::{MOST_BYTES, read};
-use tlsf_tokens::{SpecCode, SpecFault};
-use tlsf_tree::{Body, Definition, Expr, Form, Op, Shape, SpecTree};
-
-/// INFO, and MAIN up to its opening brace: 75 bytes.
-const HEAD: &[u8] =
-    b"INFO { TITLE: \"t\" DESCRIPTION: \"d\" SEMANTICS: Mealy TARGET: Mealy } MAIN { ";
-
-fn joined(alloc: Global, parts: &[&[u8]]) -> Result<Vec<u8>, Fail> {
-    let mut text = Vec::new(alloc);
-    for part in parts {
-        text.extend_from_slice(part)?;
-    }
-    Ok(text)
-}
-
-/// The text is refused for this reason at this byte.
-fn assert_refused(
-    rt: &impl Abort,
-    alloc: Global,
-    text: &[u8],
-    code: SpecCode,
-    place: u64,
-) -> Result<(), Fail> {
-    let fault = read(alloc, text).err();
-    assert_eq!(rt; fault, Some(SpecFault::At { code, place }), "{text:?}");
-    Ok(())
-}
+use tlsf_tokens::SpecCode;
+use tlsf_tree::{Body, Definition, Form, Shape};
 
 /// The text of this MAIN is refused for this reason at this byte of what stands in MAIN.
 fn assert_main_refused(
@@ -112,6 +88,7 @@ fn parts_of_main_are_refused_at_their_places(rt: HostRuntime) -> Result<(), Fail
         (b"INPUTS { a; } OUTPUTS { b; a; } }", SpecCode::Twice, 27),
         (b"INPUTS { a; a; } }", SpecCode::Twice, 12),
         (b"INPUTS { } ASSERT { a - } }", SpecCode::Unexpected, 24),
+        (b"ASSERT { a &&", SpecCode::Unexpected, 13),
         (b"ASSERT { a && [ } }", SpecCode::Unexpected, 14),
         (b"ASSERT { a < b < c; } }", SpecCode::Unexpected, 15),
         (b"ASSERT { f(); } }", SpecCode::Unexpected, 11),
@@ -121,15 +98,6 @@ fn parts_of_main_are_refused_at_their_places(rt: HostRuntime) -> Result<(), Fail
         assert_main_refused(&rt, alloc, main, code, place)?;
     }
     Ok(())
-}
-
-/// A text of this GLOBAL and this MAIN.
-fn text_of(alloc: Global, global: &[u8], main: &[u8]) -> Result<Vec<u8>, Fail> {
-    let info = b"INFO { TITLE: \"t\" DESCRIPTION: \"d\" SEMANTICS: Mealy TARGET: Mealy } ";
-    joined(
-        alloc,
-        &[info, b"GLOBAL { ", global, b" } MAIN { ", main, b" }"],
-    )
 }
 
 #[test]
@@ -149,6 +117,9 @@ fn definitions_are_refused_at_their_places(rt: HostRuntime) -> Result<(), Fail> 
             30,
         ),
         (b"DEFINITIONS { f = a h : b ;", SpecCode::Unexpected, 20),
+        (b"DEFINITIONS { f = a && [", SpecCode::Unexpected, 23),
+        (b"DEFINITIONS { f = g : (a && [", SpecCode::Unexpected, 28),
+        (b"DEFINITIONS { f = g : a h && [", SpecCode::Unexpected, 29),
         (
             b"PARAMETERS { } DEFINITIONS { } PARAMETERS { }",
             SpecCode::Twice,
@@ -160,48 +131,6 @@ fn definitions_are_refused_at_their_places(rt: HostRuntime) -> Result<(), Fail> 
         assert!(rt; place < 1000);
         assert_refused(&rt, alloc, &text, code, place + 77)?;
     }
-    Ok(())
-}
-
-/// The tree of a text that asserts this formula and nothing else.
-fn asserting(alloc: Global, formula: &[u8]) -> Result<SpecTree, Fail> {
-    let text = joined(
-        alloc,
-        &[HEAD, b"INPUTS { } OUTPUTS { } ASSERT { ", formula, b"; } }"],
-    )?;
-    Ok(read(alloc, &text)?)
-}
-
-/// The first formula that stands in the sections.
-fn first_formula(tree: &SpecTree) -> Result<&Expr, Fail> {
-    match tree.sections.iter().flatten().next() {
-        Some(formula) => Ok(formula),
-        None => Err(Fail::from("no formula")),
-    }
-}
-
-#[test]
-fn until_binds_looser_than_implies(rt: HostRuntime) -> Result<(), Fail> {
-    let tree = asserting(rt.alloc(), b"a -> b U c")?;
-    let formula = first_formula(&tree)?;
-    assert_eq!(rt; (formula.span.start, formula.span.end), (107, 117));
-    let Form::Pair { op, left, .. } = &formula.form else {
-        return Err(Fail::from("no pair"));
-    };
-    let inner = matches!(
-        &left.form,
-        Form::Pair {
-            op: Op::Implies,
-            ..
-        }
-    );
-    assert_eq!(rt; (*op, inner), (Op::Until, true));
-    let tree = asserting(rt.alloc(), b"a -> (b U c)")?;
-    let Form::Pair { op, right, .. } = &first_formula(&tree)?.form else {
-        return Err(Fail::from("no pair"));
-    };
-    let inner = matches!(&right.form, Form::Paren(_));
-    assert_eq!(rt; (*op, inner), (Op::Implies, true));
     Ok(())
 }
 
@@ -238,15 +167,6 @@ fn the_full_format_is_read(rt: HostRuntime) -> Result<(), Fail> {
     };
     assert_eq!(rt; alternatives.len(), 2);
     Ok(())
-}
-
-/// So many of these bytes.
-fn repeat(alloc: Global, bytes: &[u8], times: usize) -> Result<Vec<u8>, Fail> {
-    let mut text = Vec::new(alloc);
-    for _ in 0..times {
-        text.extend_from_slice(bytes)?;
-    }
-    Ok(text)
 }
 
 #[test]
