@@ -240,6 +240,3 @@ fn after_sign<'a>(kind: SignKind, rest: &'a [Lexeme<'a>]) -> &'a [Lexeme<'a>]
         _ => rest,
     }
 }
-
-#[cfg(test)]
-mod tests;

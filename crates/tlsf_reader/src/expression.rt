@@ -376,6 +376,3 @@ pub(crate) fn expressions(alloc: Global, ahead: &mut Ahead<'_>) -> Result<Vec<Ex
         };
     }
 }
-
-#[cfg(test)]
-mod tests;

@@ -195,6 +195,3 @@ pub(crate) fn bound(symbol: Symbol) -> Option<bool>
         _ => None,
     }
 }
-
-#[cfg(test)]
-mod tests;

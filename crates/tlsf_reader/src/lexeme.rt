@@ -90,6 +90,3 @@ pub(crate) fn lex(alloc: Global, text: &[u8]) -> Result<Lexed<'_>, AllocError>
         stop_at: list.stop_at,
     })
 }
-
-#[cfg(test)]
-mod tests;

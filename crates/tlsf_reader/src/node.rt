@@ -355,6 +355,3 @@ pub(crate) fn appended(list: Vec<Expr>, more: Vec<Expr>) -> Result<Vec<Expr>, Re
     }
     Ok(all)
 }
-
-#[cfg(test)]
-mod tests;

@@ -155,6 +155,3 @@ pub(crate) enum Refusal {
     /// So many lexemes were left, of which the first is refused; where none was left, the end is.
     At { left: usize },
 }
-
-#[cfg(test)]
-mod tests;
