@@ -1,5 +1,5 @@
 -- One step of the loops and of the calls of the evaluation.
-use Rattle.std.proofs.Common.{◌≡◌, ℕ, ℤ, Bool, false, Err, Option, None, Some, ◌+◌, ◌++◌, ◌<◌, List, [], ◌∷◌, length, map, take, drop, get_or, ◌-◌, refl, sym, ap, ◌∙◌, arith}
+use Rattle.std.proofs.Common.{◌≡◌, ℕ, ℤ, Bool, false, None, ◌+◌, ◌++◌, ◌<◌, List, [], ◌∷◌, length, map, take, drop, get_or, ◌-◌, refl, sym, ap, ◌∙◌, arith}
 use Rattle.std.proofs.lemmas.Bool.{eq-eqb, ne_eqb}
 use Rattle.std.proofs.lemmas.List.{length-map, length-drop, take_all, at_drop_more, get_or_default}
 use Rattle.tlsf_tree.specs.declared.expr.Expr.{Expr}
@@ -8,7 +8,6 @@ use Rattle.tlsf_tree.specs.declared.expr.Link.{Link}
 use Rattle.tlsf_tree.specs.declared.expr.Range.{Range}
 use Rattle.tlsf_tree.specs.declared.spec.Alternative.{Alternative}
 use Rattle.tlsf_values.specs.declared.formula.Connective.{Connective}
-use Rattle.tlsf_values.specs.declared.formula.Formula.{Formula}
 use Rattle.tlsf_values.specs.Sorts.{bus_in, formula_in, number_in, set_in}
 use Rattle.tlsf_tokens.specs.declared.code.SpecCode.TheVariants.{WrongSort}
 use Rattle.tlsf_grammar.specs.Tree.{Body, members, between}
@@ -16,14 +15,10 @@ use Rattle.tlsf_values.specs.declared.work.Work.{Work}
 use Rattle.tlsf_values.specs.declared.value.Value.{Value}
 use Rattle.tlsf_values.specs.Names.{Names, Binding, Meaning, a_definition, bus_at, look_up}
 use Rattle.tlsf_values.specs.Operators.{operated}
-use Rattle.tlsf_values.specs.Outcomes.{Outcome, fails, fine, gives, go_on, checked}
-use Rattle.tlsf_tokens.specs.declared.code.SpecFault.{SpecFault}
-use Rattle.tlsf_tokens.specs.declared.code.SpecFault.TheVariants.{NoMemory, At}
-use Rattle.tlsf_values.specs.Results.{IsChecked, IsFault}
-use Rattle.tlsf_values.proofs.CheckedLemmas.{checked_fault}
+use Rattle.tlsf_values.specs.Outcomes.{fails, fine, gives, go_on, checked}
 use Rattle.written_names.specs.Seen.{alternative_seen, expr_seen, word_seen, trees_seen, link_list_seen, range_list_seen}
 use Rattle.tlsf_values.specs.Values.{Evaluator, arguments_at, values_at, chosen_value, guard_value, big_value, bind, bit_value, index_value, word_value, call_value, chain_value, high_of, low_of, run_of, tree_count}
-use Rattle.tlsf_values.specs.Counts.{joined_over, joined_with}
+use Rattle.tlsf_values.specs.Counts.{joined_over}
 use Rattle.tlsf_values.specs.declared.value.Value.TheVariants.{Number}
 use Rattle.tlsf_values.proofs.SeenLemmas.{start_seen, count_seen}
 
@@ -107,41 +102,3 @@ pub chosen_step : (r : Evaluator) (bound : List Binding) (place : ℕ) (as' : Li
     drop i as' ≡ a ∷ drop (i + 1) as' → guard_value r bound (alternative_seen a).guard w ≡ gives false w1 →
     chosen_value r bound place (map alternative_seen (drop i as')) w ≡ chosen_value r bound place (map alternative_seen (drop (i + 1) as')) w1
 chosen_step r bound place as' i a w w1 p guard = rw (p, guard) refl
-
-pub values_step : (r : Evaluator) (bound : List Binding) (so_far more : List Value) (es : List Expr) (i : ℕ) (e : Expr) (w w1 : Work) (v : Value) →
-    drop i es ≡ e ∷ drop (i + 1) es → r.value bound (expr_seen e) w ≡ gives v w1 → more ≡ so_far ++ v ∷ [] →
-    values_at r bound so_far (trees_seen (drop i es)) w ≡ values_at r bound more (trees_seen (drop (i + 1) es)) w1
-values_step r bound so_far more es i e w w1 v p value is = rw (p, value, is) refl
-
-pub joined_step : (place : ℕ) (j : Connective) (f : ℤ → Work → Outcome Formula) (all rest : List ℤ) (z : ℤ) (so_far : Option Formula) (w w1 w2 : Work) (x y : Formula) →
-    all ≡ z ∷ rest → f z w ≡ gives x w1 → joined_with place j so_far x w1 ≡ gives y w2 → joined_over place j f all so_far w ≡ joined_over place j f rest (Some y) w2
-joined_step place j f all rest z so_far w w1 w2 x y is value joined = rw (is, value, joined) refl
-
-fault_goes_on : {A B : Type 0} (o : Outcome A) (f : A → Work → Outcome B) (e : SpecFault) → IsFault o e → IsFault (go_on o f) e
-fault_goes_on o f NoMemory h = tt
-fault_goes_on o f (At code place) h = rw h refl
-
--- the whole has the fault of a member's formula, or of joining it
-pub joined_fault : (place : ℕ) (j : Connective) (f : ℤ → Work → Outcome Formula) (whole : Outcome Formula) (all rest : List ℤ) (z : ℤ) (so_far : Option Formula) (w : Work) (e : SpecFault) →
-    whole ≡ joined_over place j f all so_far w → all ≡ z ∷ rest → IsFault (f z w) e → IsFault whole e
-joined_fault place j f whole all rest z so_far w e is next h =
-    rw (is, next) (fault_goes_on (f z w) (λ x w. go_on (joined_with place j so_far x w) (λ joined w. joined_over place j f rest (Some joined) w)) e h)
-
-pub joining_fault : (place : ℕ) (j : Connective) (f : ℤ → Work → Outcome Formula) (whole : Outcome Formula) (all rest : List ℤ) (z : ℤ) (so_far : Option Formula) (w w1 : Work) (x : Formula) (e : SpecFault) →
-    whole ≡ joined_over place j f all so_far w → all ≡ z ∷ rest → f z w ≡ gives x w1 → IsFault (joined_with place j so_far x w1) e → IsFault whole e
-joining_fault place j f whole all rest z so_far w w1 x e is next value h =
-    rw (is, next, value) (fault_goes_on (joined_with place j so_far x w1) (λ joined w. joined_over place j f rest (Some joined) w) e h)
-
--- the next range is between two bounds, of which the first is no number
-pub big_run_low : (r : Evaluator) (place : ℕ) (j : Connective) (bound : List Binding) (rs : List Range) (word : Word) (low high : Expr) (low_strict high_strict : Bool) (more : List Range) (t : Expr) (w w1 w2 : Work) (a b : Value) (e : SpecFault) →
-    range_list_seen rs ≡ between (expr_seen low) low_strict (word_seen word) high_strict (expr_seen high) (range_list_seen more) →
-    r.value bound (expr_seen low) w ≡ gives a w1 → r.value bound (expr_seen high) w1 ≡ gives b w2 → IsChecked {A = ℤ} (Err e) (number_in low.span.start a) →
-    IsFault (big_value r place j bound (range_list_seen rs) (expr_seen t) w) e
-big_run_low r place j bound rs word low high low_strict high_strict more t w w1 w2 a b e is first last h = rw (is, first, last, start_seen low) (checked_fault _ _ _ _ h)
-
--- the next range is between two bounds, of which the second is no number
-pub big_run_high : (r : Evaluator) (place : ℕ) (j : Connective) (bound : List Binding) (rs : List Range) (word : Word) (low high : Expr) (low_strict high_strict : Bool) (more : List Range) (t : Expr) (w w1 w2 : Work) (a b : Value) (x : ℤ) (e : SpecFault) →
-    range_list_seen rs ≡ between (expr_seen low) low_strict (word_seen word) high_strict (expr_seen high) (range_list_seen more) →
-    r.value bound (expr_seen low) w ≡ gives a w1 → r.value bound (expr_seen high) w1 ≡ gives b w2 → number_in low.span.start a ≡ fine x → IsChecked {A = ℤ} (Err e) (number_in high.span.start b) →
-    IsFault (big_value r place j bound (range_list_seen rs) (expr_seen t) w) e
-big_run_high r place j bound rs word low high low_strict high_strict more t w w1 w2 a b x e is first last from h = rw (is, first, last, start_seen low, start_seen high, from) (checked_fault _ _ _ _ h)

@@ -14,3 +14,4 @@ pub mod CopyLemmas
 pub mod CheckedLemmas
 pub mod OverLemmas
 pub mod RepeatLemmas
+pub mod LevelLemmas

@@ -1,7 +1,7 @@
 -- The numbers of a written set's parts.
-use Rattle.std.proofs.Common.{◌≡◌, ◌<◌, ◌+◌, ℕ, List, [], ◌∷◌, ◌++◌, length, map, drop, get_or, ℤ, Option, None, Some, Err, refl, sym, ap, ◌∙◌}
+use Rattle.std.proofs.Common.{◌≡◌, ◌<◌, ◌+◌, ℕ, List, [], ◌∷◌, ◌++◌, length, map, drop, get_or, ℤ, Option, None, Some, refl, sym, ap, ◌∙◌}
 use Rattle.std.proofs.lemmas.List.{append_assoc, append-nil, at_drop_more}
-use Rattle.tlsf_grammar.specs.Tree.{Tree, Trees, no_trees, tree}
+use Rattle.tlsf_grammar.specs.Tree.{Trees, no_trees, tree}
 use Rattle.tlsf_tokens.specs.declared.code.SpecCode.TheVariants.{WrongSort}
 use Rattle.tlsf_tokens.specs.declared.code.SpecFault.{SpecFault}
 use Rattle.tlsf_tokens.specs.declared.code.SpecFault.TheVariants.{NoMemory, At}
@@ -13,7 +13,7 @@ use Rattle.tlsf_values.specs.Names.{Binding}
 use Rattle.tlsf_values.specs.Outcomes.{Outcome, gives, fails, go_on, Checked, faulty, checked}
 use Rattle.tlsf_values.specs.PartsSeen.{as_numbers, number_if, numbers_among}
 use Rattle.tlsf_values.specs.Results.{IsFault}
-use Rattle.tlsf_values.specs.Values.{Evaluator, numbers_in, values_at, start_of}
+use Rattle.tlsf_values.specs.Values.{Evaluator, numbers_in, values_at}
 use Rattle.tlsf_values.proofs.SeenLemmas.{start_seen}
 use Rattle.written_names.specs.Seen.{expr_seen, trees_seen}
 

@@ -1,22 +1,13 @@
 -- Numbers that are stepped through.
-use Rattle.std.proofs.Common.{◌≡◌, ℕ, suc, ◌+◌, ◌-◌, ◌/◌, ◌<◌, Bool, true, false, cond, ltb, List, [], ◌∷◌, ◌++◌, length, get_or, drop, map, ℤ, Err, Option, Some, pos, ◌+ℤ◌, ◌-ℤ◌, FitsSigned, w64, refl, sym, ap, ◌∙◌, arith}
-use Rattle.std.proofs.lemmas.List.{at_drop_more, append_assoc}
+use Rattle.std.proofs.Common.{◌≡◌, ℕ, suc, ◌+◌, ◌-◌, ◌/◌, ◌<◌, Bool, true, false, cond, ltb, List, [], ◌∷◌, ◌++◌, ℤ, Option, Some, pos, ◌+ℤ◌, ◌-ℤ◌, FitsSigned, w64, refl, sym, ap, ◌∙◌, arith}
+use Rattle.std.proofs.lemmas.List.{append_assoc}
 use Rattle.std.specs.Prelude.{int_lt, unsigned_abs}
 use Rattle.std.specs.Ordering.{int_eq}
 use Rattle.std.proofs.Math.Nat.{div-eq_of_lt, div-eq-sub-div}
 use Rattle.std.proofs.lemmas.Bool.{ltb-true, ltb-false}
 use Rattle.std.proofs.lemmas.Int.{ints}
-use Rattle.tlsf_tokens.specs.declared.code.SpecFault.{SpecFault}
-use Rattle.tlsf_tokens.specs.declared.code.SpecFault.TheVariants.{NoMemory, At}
-use Rattle.tlsf_tree.specs.declared.expr.Expr.{Expr}
-use Rattle.tlsf_values.specs.declared.held.Held.{Held}
-use Rattle.tlsf_values.specs.HeldSeen.{held_seen}
-use Rattle.tlsf_values.specs.Outcomes.{Checked, and_then, counted, gives}
-use Rattle.tlsf_values.specs.Results.{IsChecked, IsCheckedAs}
-use Rattle.written_names.specs.Seen.{trees_seen}
-use Rattle.tlsf_values.specs.Sorts.{number_in}
-use Rattle.tlsf_values.specs.Values.{numbers_in, steps_value}
-use Rattle.tlsf_values.proofs.SeenLemmas.{start_seen}
+use Rattle.tlsf_values.specs.Outcomes.{counted, gives}
+use Rattle.tlsf_values.specs.Values.{steps_value}
 use Rattle.tlsf_values.specs.Steps.{numbers_from, passes, steps_to, left_from, rest_from, those_from, step_count, stepped}
 use Rattle.placed_sets.specs.Sets.{set_of}
 use Rattle.tlsf_values.specs.declared.work.Work.{Work}

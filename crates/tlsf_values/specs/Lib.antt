@@ -21,3 +21,4 @@ pub mod ScopeSeen
 pub mod HeldSeen
 pub mod Matches
 pub mod PartsSeen
+pub mod LevelsSeen

@@ -1,24 +1,25 @@
 // The value of an expression with several operands, which are evaluated from left to right before any is tested.
 
-ghost use Rattle.std.specs.Prelude.{◌≡◌, IfOk, OnOk, map, [], None};
+ghost use Rattle.std.specs.Prelude.{◌≡◌, ◌+◌, List, ℤ, IfErr, IfOk, OnOk, drop, length, map, reverse, []};
 ghost use Rattle.tlsf_values.specs.HeldSeen.{AllNumbered, bound_seen, held_seen, IsOver};
-ghost use Rattle.tlsf_values.specs.Counts.{count_in, count_value, joined_over, joining_of, window_of};
+ghost use Rattle.tlsf_tree.specs.declared.expr.Range.{Range as TreeRange};
+ghost use Rattle.tlsf_values.specs.Counts.{count_in, count_value, joining_of, window_of};
+ghost use Rattle.tlsf_values.specs.LevelsSeen.{AreFit, IsLess, IsOnward, onward, pending, turns};
 ghost use Rattle.tlsf_values.specs.Matches.{Extends, Ready};
-ghost use Rattle.tlsf_values.specs.MembersSeen.{members_seen};
 ghost use Rattle.tlsf_values.specs.NamesSeen.{names_seen};
 ghost use Rattle.tlsf_values.specs.Operators.{operated};
 ghost use Rattle.tlsf_values.specs.PartsSeen.{as_numbers};
 ghost use Rattle.tlsf_values.specs.Outcomes.{checked, gives, go_on};
-ghost use Rattle.tlsf_values.specs.Results.{IsOutcome, IsOutcomeAs};
-ghost use Rattle.written_names.specs.Known.{KnowsLinks, KnowsRanges, KnowsTree, KnowsTrees, KnowsWord};
-ghost use Rattle.written_names.specs.Seen.{expr_seen, link_list_seen, range_list_seen, trees_seen, word_seen};
+ghost use Rattle.tlsf_values.specs.Results.{IsFault, IsOutcome, IsOutcomeAs};
+ghost use Rattle.written_names.specs.Known.{KnowsLinks, KnowsRanges, KnowsTree, KnowsTrees};
+ghost use Rattle.written_names.specs.Seen.{expr_seen, link_list_seen, range_list_seen, trees_seen};
 ghost use Rattle.tlsf_values.specs.Sorts.{formula_in, number_in};
-ghost use Rattle.tlsf_values.specs.declared.value.Value.TheVariants.{Number};
-ghost use Rattle.tlsf_values.specs.Values.{big_at, big_value, bind, chain_value, evaluator, start_of, steps_value, values_at, window_at};
+ghost use Rattle.tlsf_values.specs.Values.{big_at, big_value, chain_value, evaluator, start_of, steps_value, values_at, window_at};
 
 use crate::counts::count;
 use crate::formula::{Connective, Formula};
 use crate::held::Held;
+use crate::levels::{Big, Level, inner_ranges};
 use crate::members::Members;
 use crate::names::Names;
 use crate::numbers::Places;
@@ -26,15 +27,7 @@ use crate::progress::Progress;
 use crate::scope::Scope;
 use crate::work::fault;
 use tlsf_tokens::{SpecCode, SpecFault};
-use tlsf_tree::{Expr, Link, Op, Range, Word};
-
-/// A big operator: the first byte of its node, what it joins by, and its body.
-#[derive(Drop)]
-pub(crate) struct Big<'t> {
-    place: u64,
-    connective: Connective,
-    part: &'t Expr,
-}
+use tlsf_tree::{Expr, Link, Op, Range};
 
 impl<'t> Names<'t> {
     /// The numbers that several expressions have as their values, from left to right. What is no number is let go at once: it will be
@@ -262,7 +255,7 @@ impl<'t> Names<'t> {
         Ok(Held::from(self.over_ranges(bound, &big, ranges, left, progress)?))
     }
 
-    /// The formulas of all members of the ranges, joined.
+    /// The formulas of all members of the ranges, joined. However many ranges there are, the depth of calls is the same.
     #[cycle(evaluation)]
     #[tactic(auto, using(crate::proofs::SeenLemmas::start_seen))]
     fn over_ranges(
@@ -280,15 +273,52 @@ impl<'t> Names<'t> {
         ensures bound { OnOk result (bound.new ≡ bound.old) }
         ensures grows { Extends (names_seen self.now) progress.old progress.new }
     {
+        let mut levels = Vec::new(self.alloc);
+        loop {
+            let inner = inner_ranges(ranges, &levels);
+            let Some(formula) = self.inward(bound, big, &mut levels, inner, left, progress)? else {
+                continue;
+            };
+            if let Some(whole) = big.go_on(bound, &mut levels, formula, &mut progress.work)? {
+                return Ok(whole);
+            }
+        }
+    }
+
+    /// Opens the next range, whose first member is bound, or evaluates the body where none is left: the formula of the innermost
+    /// member, where there is one now.
+    #[cycle(evaluation)]
+    #[tactic(auto, using(crate::proofs::SeenLemmas::start_seen))]
+    fn inward(
+        &self,
+        bound: &mut Scope<'t>,
+        big: &Big<'t>,
+        levels: &mut Vec<Level<'t>>,
+        ranges: &'t [Range],
+        left: u32,
+        progress: &mut Progress,
+    ) -> Result<Option<Formula>, SpecFault>
+        requires ready { Ready (names_seen self.now) progress.old bound.old }
+        requires numbered { AllNumbered self.now.meanings.table bound.old }
+        requires known { KnowsRanges self.now.meanings.table (range_list_seen ranges.now) × KnowsTree self.now.meanings.table (expr_seen big.now.part.now) }
+        ensures value { (all : List TreeRange) → IfOk result (λ next. IsOnward (evaluator (names_seen self.now) left) big.now
+            (onward (evaluator (names_seen self.now) left) big.now (bound_seen bound.old) ranges.now (reverse levels.old.items) progress.old.work) all next bound.new (reverse levels.new.items) progress.new.work) }
+        ensures fault { IfErr result (λ e. IsFault (big_value (evaluator (names_seen self.now) left) big.now.place big.now.connective (bound_seen bound.old) (range_list_seen ranges.now) (expr_seen big.now.part.now) progress.old.work) e) }
+        ensures less { (all : List TreeRange) → IfOk result (λ next. IsLess next all (reverse levels.new.items) (turns (length ranges.now) + pending (reverse levels.old.items))) }
+        ensures outer { OnOk result (drop (length (reverse levels.new.items)) bound.new ≡ drop (length (reverse levels.old.items)) bound.old) }
+        ensures fit { (us : List ℤ) → AreFit self.now.meanings.table us bound.old (reverse levels.old.items) → OnOk result (AreFit self.now.meanings.table us bound.new (reverse levels.new.items)) }
+        ensures grows { Extends (names_seen self.now) progress.old progress.new }
+    {
         match ranges {
             [] => {
                 let value = self.value(bound, big.part, left, progress)?;
-                value.formula(big.part.span.start)
+                Ok(Some(value.formula(big.part.span.start)?))
             }
-            [Range::Members { word, set }, more @ ..] => {
+            [Range::Members { word, set }, inner @ ..] => {
                 let value = self.value(bound, set, left, progress)?;
                 let members = Members::of(self.alloc, value, set.span.start)?;
-                self.over_members(bound, big, word, members, more, left, progress)
+                let level = self.level(word, members, inner);
+                Ok(big.begin(bound, levels, level)?)
             }
             [
                 Range::Between {
@@ -298,7 +328,7 @@ impl<'t> Names<'t> {
                     high_strict,
                     high,
                 },
-                more @ ..,
+                inner @ ..,
             ] => {
                 let first = self
                     .value(bound, low, left, progress)?
@@ -308,45 +338,9 @@ impl<'t> Names<'t> {
                     .into_number(high.span.start);
                 // Both bounds are evaluated before either is refused for its sort.
                 let members = Members::between(first?, *low_strict, *high_strict, last?);
-                self.over_members(bound, big, word, members, more, left, progress)
+                let level = self.level(word, members, inner);
+                Ok(big.begin(bound, levels, level)?)
             }
         }
-    }
-
-    /// The formulas of the members, each bound to the word, joined.
-    #[cycle(evaluation)]
-    #[tactic(auto, using(crate::proofs::SeenLemmas::start_seen))]
-    fn over_members(
-        &self,
-        bound: &mut Scope<'t>,
-        big: &Big<'t>,
-        word: &'t Word,
-        members: Members,
-        ranges: &'t [Range],
-        left: u32,
-        progress: &mut Progress,
-    ) -> Result<Formula, SpecFault>
-        requires ready { Ready (names_seen self.now) progress.old bound.old }
-        requires numbered { AllNumbered self.now.meanings.table bound.old }
-        requires known { KnowsWord self.now.meanings.table (word_seen word.now) × KnowsRanges self.now.meanings.table (range_list_seen ranges.now) × KnowsTree self.now.meanings.table (expr_seen big.now.part.now) }
-        ensures value { IsOutcome result progress.new.work (let r = evaluator (names_seen self.now) left in let b = bound_seen bound.old in
-            joined_over big.now.place big.now.connective (λ z w. big_value r big.now.place big.now.connective (bind (word_seen word.now) (Number z) b) (range_list_seen ranges.now) (expr_seen big.now.part.now) w) (members_seen members) None progress.old.work) }
-        ensures bound { OnOk result (bound.new ≡ bound.old) }
-        ensures grows { Extends (names_seen self.now) progress.old progress.new }
-    {
-        let name = self.meanings.number(word.span.start, &word.name);
-        let mut members = members;
-        let mut so_far = None;
-        while let Some(number) = members.next() {
-            bound.push_number(name, &word.name, number)?;
-            let formula = self.over_ranges(bound, big, ranges, left, progress)?;
-            bound.pop();
-            so_far = Some(
-                progress
-                    .work
-                    .joined_with(big.place, big.connective, so_far, formula)?,
-            );
-        }
-        Ok(big.connective.of_all(so_far))
     }
 }

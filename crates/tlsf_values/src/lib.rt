@@ -12,6 +12,7 @@ mod evaluate_operands;
 mod formula;
 mod held;
 pub mod laws;
+mod levels;
 mod meanings;
 mod members;
 mod names;

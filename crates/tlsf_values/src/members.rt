@@ -1,6 +1,6 @@
 // What a big operator goes over.
 
-ghost use Rattle.std.specs.Prelude.{◌≡◌};
+ghost use Rattle.std.specs.Prelude.{◌≡◌, ◌≤◌, ◌^◌, IfOk, length};
 ghost use Rattle.tlsf_values.specs.HeldSeen.{held_seen};
 ghost use Rattle.tlsf_values.specs.MembersSeen.{IsNext, listed_seen, members_seen, run_seen};
 ghost use Rattle.tlsf_values.specs.Results.{IsCheckedAs};
@@ -82,7 +82,8 @@ impl Run {
 impl Members {
     /// The numbers of a value that must be a set, as an operand at this byte.
     pub(crate) fn of(alloc: Global, value: Held, place: u64) -> Result<Members, SpecFault>
-        ensures { IsCheckedAs members_seen result (set_in place (held_seen value)) }
+        ensures value { IsCheckedAs members_seen result (set_in place (held_seen value)) }
+        ensures few { IfOk result (λ members. length (members_seen members) ≤ 2 ^ 65) }
     {
         let set = value.into_set(place)?;
         Ok(Members::Listed(Listed {
@@ -93,7 +94,8 @@ impl Members {
 
     /// The numbers between two bounds; a strict one is none of them. A bound that passes 64 bits leaves none.
     pub(crate) fn between(low: i64, low_strict: bool, high_strict: bool, high: i64) -> Members
-        ensures { members_seen result ≡ run_of (low_of low_strict low) (high_of high_strict high) }
+        ensures value { members_seen result ≡ run_of (low_of low_strict low) (high_of high_strict high) }
+        ensures few { length (members_seen result) ≤ 2 ^ 65 }
     {
         let Ok(next) = i64::try_from(low_bound(low, low_strict)) else {
             return Members::Run(NOTHING);

@@ -24,8 +24,9 @@ impl<'t> Names<'t> {
     /// and no node entered where each expression begins, a truth becomes a node, and what is no formula is of a wrong sort.
     /// After a refusal too the formulas that stood keep their ids; how many evaluations were done isn't said then. The names
     /// of all expressions are read first, in proportion to their nodes and the bytes of their names; what names mean stays
-    /// as it is. A bus is compared with a member once, in whichever of the expressions it comes again, and takes one look-up
-    /// from then on. Where an earlier call remembers the two, that once takes a step for each node of its list.
+    /// as it is. A bus and a member are compared once, and take one look-up wherever the expressions compare them again. Where an
+    /// earlier call remembers the two, that once takes a step for each node that was in the list then; and where anything was
+    /// compared, the end of the call takes a step for each node of the list.
     pub fn formulas_of(
         &mut self,
         exprs: &'t [Expr],

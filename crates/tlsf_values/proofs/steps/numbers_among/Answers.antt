@@ -1,4 +1,4 @@
-use Rattle.std.proofs.Common.{rules, ◌∙◌, ap}
+use Rattle.std.proofs.Common.{rules, ◌∙◌}
 use Rattle.tlsf_values.proofs.PartLemmas.{among_fault, among_step}
 use Rattle.tlsf_values.proofs.steps.numbers_among.Goals as goal
 

@@ -1,4 +1,4 @@
-use Rattle.std.proofs.Common.{rules, ◌∙◌, ap, subst, sym}
+use Rattle.std.proofs.Common.{◌∙◌, ap, subst, sym}
 use Rattle.std.specs.Prelude.{Some}
 use Rattle.tlsf_values.specs.MeaningsSeen.{AreKnown, entry_meaning, KnowsEntry}
 use Rattle.tlsf_values.specs.Names.{also}

@@ -1,10 +1,9 @@
-use Rattle.std.proofs.Common.{◌≡◌, [], ◌∷◌, ◌++◌, None, rules, ap, drop, map, of_z, refl, subst, sym, to_z, w64, ◌∙◌}
-use Rattle.std.proofs.lemmas.List.{map-append}
+use Rattle.std.proofs.Common.{◌≡◌, ◌+◌, ◌^◌, ◌≤◌, ◌<◌, [], ◌∷◌, ◌++◌, rules, ap, arith, drop, length, refl, reverse, subst, sym, ◌∙◌}
 use Rattle.std.proofs.lemmas.Result.{err_from_is_err_and}
-use Rattle.tlsf_values.proofs.OverLemmas.{all_grown, all_prefix, growth, over_grown, remembers_grown, work_grown}
+use Rattle.tlsf_values.proofs.OverLemmas.{all_grown, all_prefix, extends_then, growth, over_grown, remembers_grown, work_grown}
 use Rattle.tlsf_values.proofs.CheckedLemmas.{checked_fault}
 use Rattle.tlsf_values.proofs.EvaluatorLemmas.{value_too_deep, value_deeper, body_too_deep, body_deeper}
-use Rattle.tlsf_values.proofs.EvaluationLemmas.{call_fits, call_misfits, index_is, big_empty, big_of_set, big_of_run, big_run_low, big_run_high, rest_whole, arguments_more, chain_more, at_item, some_item, arguments_step, chosen_step, values_step, joined_step, joined_fault, joining_fault}
+use Rattle.tlsf_values.proofs.EvaluationLemmas.{call_fits, call_misfits, index_is, big_empty, big_of_set, big_of_run, rest_whole, arguments_more, chain_more, at_item, some_item, arguments_step, chosen_step}
 use Rattle.written_names.proofs.FormLemmas.{chain_form, big_form}
 use Rattle.tlsf_values.proofs.SeenLemmas.{start_seen}
 use Rattle.written_names.proofs.SeenLemmas.{set_form, call_form}
@@ -13,17 +12,18 @@ use Rattle.placed_sets.specs.Sets.{set_of}
 use Rattle.tlsf_grammar.specs.Tree.{members, between}
 use Rattle.written_names.specs.Known.{KnowsRanges, KnowsTree}
 use Rattle.tlsf_values.specs.PartsSeen.{number_if}
-use Rattle.tlsf_values.proofs.PartLemmas.{parts_failing, parts_fault, parts_step, set_of_numbers}
+use Rattle.tlsf_values.proofs.PartLemmas.{parts_fault, parts_step, set_of_numbers}
 use Rattle.tlsf_values.proofs.KnownLemmas.{chosen_known, guard_known, link_known, tree_known, word_known}
 use Rattle.tlsf_values.specs.HeldSeen.{AllNumbered, AllOver, bound_seen, held_seen}
 use Rattle.tlsf_values.specs.Names.{look_up}
 use Rattle.tlsf_values.specs.NamesSeen.{names_seen}
-use Rattle.tlsf_values.specs.Counts.{joined_over}
 use Rattle.tlsf_values.specs.MembersSeen.{members_seen}
 use Rattle.written_names.specs.Seen.{expr_seen, range_list_seen, trees_seen, word_seen}
-use Rattle.tlsf_values.specs.Values.{big_value, bind, evaluator, start_of, values_at}
-use Rattle.tlsf_values.specs.declared.value.Value.TheVariants.{Number, Set}
+use Rattle.tlsf_values.specs.Values.{evaluator, start_of, values_at}
+use Rattle.tlsf_values.specs.declared.value.Value.TheVariants.{Set}
 use Rattle.tlsf_values.specs.ScopeSeen.{code_body_seen}
+use Rattle.tlsf_values.proofs.LevelLemmas.{fit_grown, less_than, level_within, open_fit, opened}
+use Rattle.tlsf_values.specs.LevelsSeen.{inner_of, pending, turns}
 use Rattle.tlsf_values.proofs.names.Names.+evaluation.Goals as goal
 use Rattle.tlsf_values.proofs.names.Names.+evaluation.Goals.{call-in-Definition+else-arguments-words+in_ok-inner-in-Definition, call-in-Undeclared, call-in_default}
 
@@ -124,15 +124,6 @@ form-returns-in-Chain-clause-value t c = rw (chain_form c.args.expr.now c.in-Cha
 
 pub form-returns-in-Big-clause-value : goal.form-returns-in-Big-clause-value
 form-returns-in-Big-clause-value t c = rw (big_form c.args.expr.now c.in-Big.op c.in-Big.ranges c.in-Big.part (search rules)) (search rules)
-
-pub over_ranges-returns-in_ok-value-in-empty-clause-value : goal.over_ranges-returns-in_ok-value-in-empty-clause-value
-over_ranges-returns-in_ok-value-in-empty-clause-value t c =
-    rw (big_empty (evaluator (names_seen c.args.self.now) c.args.left) c.args.big.now.place c.args.big.now.connective (bound_seen c.args.bound.now) c.args.ranges.now c.args.big.now.part.now c.args.progress.now.work c.in-empty.len_below) (search rules)
-
-pub over_ranges-returns-in_ok-members-in-Members-clause-value : goal.over_ranges-returns-in_ok-members-in-Members-clause-value
-unfolding evaluator
-over_ranges-returns-in_ok-members-in-Members-clause-value t c =
-    rw (big_of_set (evaluator (names_seen c.args.self.now) c.args.left) c.args.big.now.place c.args.big.now.connective (bound_seen c.args.bound.now) c.args.ranges.now c.in-Members.word c.in-Members.set (drop 1 c.args.ranges.now) c.args.big.now.part.now c.args.progress.now.work c.value-in-Members.new.progress.work (held_seen c.in_ok-value-in-Members.value) (members_seen c.in_ok-members-in-Members.members) (search rules) (search rules) (search rules)) (search (rules, rest_whole c.args.ranges.now))
 
 pub index-returns-clause-value : goal.index-returns-clause-value
 index-returns-clause-value t c =
@@ -587,39 +578,6 @@ meaning_value-returns-in_err-signal_made-in-Signal-clause-over t c = search (rul
 pub meaning_value-returns-in_ok-signal_made-in-Signal-clause-grows : goal.meaning_value-returns-in_ok-signal_made-in-Signal-clause-grows
 meaning_value-returns-in_ok-signal_made-in-Signal-clause-grows t c = search (rules, growth)
 
-pub over_members-over_ranges-requires : goal.over_members-over_ranges-requires
-over_members-over_ranges-requires t c = search (rules, growth)
-
-pub over_members-returns-clause-grows : goal.over_members-returns-clause-grows
-over_members-returns-clause-grows t c = search (rules, growth)
-
-pub over_members-returns-in_err-formula-clause-grows : goal.over_members-returns-in_err-formula-clause-grows
-over_members-returns-in_err-formula-clause-grows t c = search (rules, growth)
-
-pub over_members-returns-in_err-joined_with-clause-grows : goal.over_members-returns-in_err-joined_with-clause-grows
-over_members-returns-in_err-joined_with-clause-grows t c = search (rules, growth)
-
-pub over_members-returns-in_err-push_number-clause-grows : goal.over_members-returns-in_err-push_number-clause-grows
-over_members-returns-in_err-push_number-clause-grows t c = search (rules, growth)
-
-pub over_ranges-over_members-requires : goal.over_ranges-over_members-requires
-over_ranges-over_members-requires t c =
-    let is : range_list_seen c.args.ranges.now ≡ members (word_seen c.in-Members.word) (expr_seen c.in-Members.set) (range_list_seen (drop 1 c.args.ranges.now)) = search rules in
-    let known = subst (KnowsRanges c.args.self.now.meanings.table) is c.requires.known.0 in
-    (search rules, (all_grown c.in_ok-value-in-Members.ensures.grows (search rules) c.in_ok-value-in-Members.ensures.bound, (search rules, (search (rules, known.0), search (rules, known.2, rest_whole c.args.ranges.now), search (rules, c.requires.known.1)))))
-
-pub over_ranges-returns-in_err-value-in-empty-clause-grows : goal.over_ranges-returns-in_err-value-in-empty-clause-grows
-over_ranges-returns-in_err-value-in-empty-clause-grows t c = search (rules, growth)
-
-pub over_ranges-returns-in_ok-value-in-empty-clause-grows : goal.over_ranges-returns-in_ok-value-in-empty-clause-grows
-over_ranges-returns-in_ok-value-in-empty-clause-grows t c = search (rules, growth)
-
-pub over_ranges-value-requires : goal.over_ranges-value-requires
-over_ranges-value-requires t c = search (rules, growth)
-
-pub over_ranges-value-requires-in-Members : goal.over_ranges-value-requires-in-Members
-over_ranges-value-requires-in-Members t c = search (rules, growth)
-
 pub pair-operated-requires-clause-left : goal.pair-operated-requires-clause-left
 pair-operated-requires-clause-left t c = over_grown c.in_ok-first_value.first_value c.in_ok-second_value.ensures.grows c.in_ok-first_value.ensures.over
 
@@ -840,37 +798,6 @@ part_values-loop-part-preserved t c =
           at (rw c.loop-part.invariant.0 at c.in_ok-value.ensures.value) pushed,
     )
 
-pub over_members-returns-in_err-formula-clause-value : goal.over_members-returns-in_err-formula-clause-value
-over_members-returns-in_err-formula-clause-value t c =
-    let p = err_from_is_err_and c.from_residual-in_err-formula.result c.from_residual-in_err-formula.ensures.1 in
-    let same : to_z w64 (of_z w64 c.in-Some.number) ≡ c.in-Some.number = search rules in
-    let seen = c.in_ok-push_number.ensures.seen ∙ ap (λ z. record { name = c.args.word.now.name; value = Number z } ∷ bound_seen c.loop-number.bound) same ∙ ap (λ b. record { name = c.args.word.now.name; value = Number c.in-Some.number } ∷ bound_seen b) c.loop-number.invariant.0 in
-    rw (p.1, p.2) (joined_fault c.args.big.now.place c.args.big.now.connective (λ z w. big_value (evaluator (names_seen c.args.self.now) c.args.left) c.args.big.now.place c.args.big.now.connective (bind (word_seen c.args.word.now) (Number z) (bound_seen c.args.bound.now)) (range_list_seen c.args.ranges.now) (expr_seen c.args.big.now.part.now) w)
-    (joined_over c.args.big.now.place c.args.big.now.connective (λ z w. big_value (evaluator (names_seen c.args.self.now) c.args.left) c.args.big.now.place c.args.big.now.connective (bind (word_seen c.args.word.now) (Number z) (bound_seen c.args.bound.now)) (range_list_seen c.args.ranges.now) (expr_seen c.args.big.now.part.now) w) (members_seen c.args.members) None c.args.progress.now.work)
-    (members_seen c.loop-number.members) (members_seen c.next.new.self) c.in-Some.number c.loop-number.so_far c.loop-number.progress.work c.in_err-formula.field-0.0 c.loop-number.invariant.3 c.in-Some.ensures (rw seen at c.in_err-formula.ensures.value))
-
-pub over_members-returns-in_err-joined_with-clause-value : goal.over_members-returns-in_err-joined_with-clause-value
-over_members-returns-in_err-joined_with-clause-value t c =
-    let p = err_from_is_err_and c.from_residual-in_err-joined_with.result c.from_residual-in_err-joined_with.ensures.1 in
-    let same : to_z w64 (of_z w64 c.in-Some.number) ≡ c.in-Some.number = search rules in
-    let seen = c.in_ok-push_number.ensures.seen ∙ ap (λ z. record { name = c.args.word.now.name; value = Number z } ∷ bound_seen c.loop-number.bound) same ∙ ap (λ b. record { name = c.args.word.now.name; value = Number c.in-Some.number } ∷ bound_seen b) c.loop-number.invariant.0 in
-    rw (p.1, p.2) (joining_fault c.args.big.now.place c.args.big.now.connective (λ z w. big_value (evaluator (names_seen c.args.self.now) c.args.left) c.args.big.now.place c.args.big.now.connective (bind (word_seen c.args.word.now) (Number z) (bound_seen c.args.bound.now)) (range_list_seen c.args.ranges.now) (expr_seen c.args.big.now.part.now) w)
-    (joined_over c.args.big.now.place c.args.big.now.connective (λ z w. big_value (evaluator (names_seen c.args.self.now) c.args.left) c.args.big.now.place c.args.big.now.connective (bind (word_seen c.args.word.now) (Number z) (bound_seen c.args.bound.now)) (range_list_seen c.args.ranges.now) (expr_seen c.args.big.now.part.now) w) (members_seen c.args.members) None c.args.progress.now.work)
-    (members_seen c.loop-number.members) (members_seen c.next.new.self) c.in-Some.number c.loop-number.so_far c.loop-number.progress.work c.over_ranges.new.progress.work c.in_ok-formula.formula c.in_err-joined_with.field-0.0 c.loop-number.invariant.3 c.in-Some.ensures (rw seen at c.in_ok-formula.ensures.value) c.in_err-joined_with.ensures.value)
-
-pub over_members-loop-number-preserved : goal.over_members-loop-number-preserved
-over_members-loop-number-preserved t c =
-    let back : c.pop.new.self ≡ c.args.bound.now = search rules in
-    let same : to_z w64 (of_z w64 c.in-Some.number) ≡ c.in-Some.number = search rules in
-    let seen = c.in_ok-push_number.ensures.seen ∙ ap (λ z. record { name = c.args.word.now.name; value = Number z } ∷ bound_seen c.loop-number.bound) same ∙ ap (λ b. record { name = c.args.word.now.name; value = Number c.in-Some.number } ∷ bound_seen b) c.loop-number.invariant.0 in (
-      back,
-      search (rules, growth),
-      all_grown (work_grown c.in_ok-joined_with.ensures.grows refl refl) (all_grown c.in_ok-formula.ensures.grows c.loop-number.invariant.2 refl) (back ∙ sym c.loop-number.invariant.0),
-      c.loop-number.invariant.3 ∙ joined_step c.args.big.now.place c.args.big.now.connective (λ z w. big_value (evaluator (names_seen c.args.self.now) c.args.left) c.args.big.now.place c.args.big.now.connective (bind (word_seen c.args.word.now) (Number z) (bound_seen c.args.bound.now)) (range_list_seen c.args.ranges.now) (expr_seen c.args.big.now.part.now) w)
-          (members_seen c.loop-number.members) (members_seen c.next.new.self) c.in-Some.number c.loop-number.so_far c.loop-number.progress.work c.over_ranges.new.progress.work c.joined_with.new.self c.in_ok-formula.formula c.in_ok-joined_with.field-0
-          c.in-Some.ensures (rw seen at c.in_ok-formula.ensures.value) c.in_ok-joined_with.ensures.value,
-    )
-
 pub steps-returns-in_err-next-clause-value : goal.steps-returns-in_err-next-clause-value
 steps-returns-in_err-next-clause-value t c =
     let p = err_from_is_err_and c.from_residual-in_err-next.result c.from_residual-in_err-next.ensures.1 in
@@ -893,30 +820,6 @@ counted-returns-in_err-times-clause-value t c =
     let second = rw c.in_ok-number_value.ensures.bound at c.in_ok-value.ensures.value in
     rw (c.in_ok-number_value.ensures.value, second, start_seen c.args.number.now, p.1, p.2) (checked_fault _ _ _ _ c.in_err-times.ensures)
 
-pub over_ranges-returns-in_ok-last-in-Between-clause-value : goal.over_ranges-returns-in_ok-last-in-Between-clause-value
-over_ranges-returns-in_ok-last-in-Between-clause-value t c =
-    rw (big_of_run (evaluator (names_seen c.args.self.now) c.args.left) c.args.big.now.place c.args.big.now.connective (bound_seen c.args.bound.now) c.args.ranges.now c.in-Between.word c.in-Between.low c.in-Between.high c.in-Between.low_strict c.in-Between.high_strict (drop 1 c.args.ranges.now) c.args.big.now.part.now c.args.progress.now.work c.value-in-Between.new.progress.work c.value-in-Between-2.new.progress.work (held_seen c.in_ok-value-in-Between.field-0) (held_seen c.in_ok-value-in-Between-2.field-0) c.in_ok-first-in-Between.field-0 c.in_ok-last-in-Between.field-0
-    (search rules) (search rules) (search rules) (search rules) (search rules)) (search (rules, rest_whole c.args.ranges.now))
-
-pub over_ranges-returns-in_err-first-in-Between-clause-value : goal.over_ranges-returns-in_err-first-in-Between-clause-value
-over_ranges-returns-in_err-first-in-Between-clause-value t c =
-    let p = err_from_is_err_and c.from_residual-in_err-first-in-Between.result c.from_residual-in_err-first-in-Between.ensures.1 in
-    rw (p.1, p.2) (big_run_low (evaluator (names_seen c.args.self.now) c.args.left) c.args.big.now.place c.args.big.now.connective (bound_seen c.args.bound.now) c.args.ranges.now c.in-Between.word c.in-Between.low c.in-Between.high c.in-Between.low_strict c.in-Between.high_strict (drop 1 c.args.ranges.now) c.args.big.now.part.now c.args.progress.now.work c.value-in-Between.new.progress.work c.value-in-Between-2.new.progress.work (held_seen c.in_ok-value-in-Between.field-0) (held_seen c.in_ok-value-in-Between-2.field-0) c.in_err-first-in-Between.field-0.0 (search rules) (search rules) (search rules) (search rules))
-
-pub over_ranges-returns-in_err-last-in-Between-clause-value : goal.over_ranges-returns-in_err-last-in-Between-clause-value
-over_ranges-returns-in_err-last-in-Between-clause-value t c =
-    let p = err_from_is_err_and c.from_residual-in_err-last-in-Between.result c.from_residual-in_err-last-in-Between.ensures.1 in
-    rw (p.1, p.2) (big_run_high (evaluator (names_seen c.args.self.now) c.args.left) c.args.big.now.place c.args.big.now.connective (bound_seen c.args.bound.now) c.args.ranges.now c.in-Between.word c.in-Between.low c.in-Between.high c.in-Between.low_strict c.in-Between.high_strict (drop 1 c.args.ranges.now) c.args.big.now.part.now c.args.progress.now.work c.value-in-Between.new.progress.work c.value-in-Between-2.new.progress.work (held_seen c.in_ok-value-in-Between.field-0) (held_seen c.in_ok-value-in-Between-2.field-0) c.in_ok-first-in-Between.field-0 c.in_err-last-in-Between.field-0.0 (search rules) (search rules) (search rules) (search rules) (search rules))
-
-pub over_ranges-value-requires-in-Between-2 : goal.over_ranges-value-requires-in-Between-2
-over_ranges-value-requires-in-Between-2 t c = (search rules, (all_grown c.in_ok-value-in-Between.ensures.grows (search rules) c.in_ok-value-in-Between.ensures.bound, (search rules, search rules)))
-
-pub over_ranges-over_members-requires-in-Between : goal.over_ranges-over_members-requires-in-Between
-over_ranges-over_members-requires-in-Between t c =
-    let is : range_list_seen c.args.ranges.now ≡ between (expr_seen c.in-Between.low) c.in-Between.low_strict (word_seen c.in-Between.word) c.in-Between.high_strict (expr_seen c.in-Between.high) (range_list_seen (drop 1 c.args.ranges.now)) = search rules in
-    let known = subst (KnowsRanges c.args.self.now.meanings.table) is c.requires.known.0 in
-    (search rules, (all_grown c.in_ok-value-in-Between-2.ensures.grows (all_grown c.in_ok-value-in-Between.ensures.grows (search rules) c.in_ok-value-in-Between.ensures.bound) c.in_ok-value-in-Between-2.ensures.bound, (search rules, (search (rules, known.1), search (rules, known.3, rest_whole c.args.ranges.now), search (rules, c.requires.known.1)))))
-
 pub chain-operated-requires-clause-remembers : goal.chain-operated-requires-clause-remembers
 chain-operated-requires-clause-remembers t c = remembers_grown c.loop-link.bound c.in_ok-right.ensures.grows c.loop-link.invariant.2
 
@@ -926,34 +829,124 @@ pair-operated-requires-clause-remembers t c = remembers_grown c.value.new.bound 
 pub index-returns-clause-grows : goal.index-returns-clause-grows
 index-returns-clause-grows t c = search (rules, growth)
 
-pub over_ranges-returns-in_err-first-in-Between-clause-grows : goal.over_ranges-returns-in_err-first-in-Between-clause-grows
-over_ranges-returns-in_err-first-in-Between-clause-grows t c = search (rules, growth)
-
-pub over_ranges-returns-in_err-last-in-Between-clause-grows : goal.over_ranges-returns-in_err-last-in-Between-clause-grows
-over_ranges-returns-in_err-last-in-Between-clause-grows t c = search (rules, growth)
-
-pub over_ranges-returns-in_err-members-in-Members-clause-grows : goal.over_ranges-returns-in_err-members-in-Members-clause-grows
-over_ranges-returns-in_err-members-in-Members-clause-grows t c = search (rules, growth)
-
-pub over_ranges-returns-in_err-value-in-Between-2-clause-grows : goal.over_ranges-returns-in_err-value-in-Between-2-clause-grows
-over_ranges-returns-in_err-value-in-Between-2-clause-grows t c = search (rules, growth)
-
-pub over_ranges-returns-in_err-value-in-Between-clause-grows : goal.over_ranges-returns-in_err-value-in-Between-clause-grows
-over_ranges-returns-in_err-value-in-Between-clause-grows t c = search (rules, growth)
-
-pub over_ranges-returns-in_err-value-in-Members-clause-grows : goal.over_ranges-returns-in_err-value-in-Members-clause-grows
-over_ranges-returns-in_err-value-in-Members-clause-grows t c = search (rules, growth)
-
-pub over_ranges-returns-in_ok-last-in-Between-clause-grows : goal.over_ranges-returns-in_ok-last-in-Between-clause-grows
-over_ranges-returns-in_ok-last-in-Between-clause-grows t c = search (rules, growth)
-
-pub over_ranges-returns-in_ok-members-in-Members-clause-grows : goal.over_ranges-returns-in_ok-members-in-Members-clause-grows
-over_ranges-returns-in_ok-members-in-Members-clause-grows t c = search (rules, growth)
-
-pub over_ranges-value-requires-in-Between : goal.over_ranges-value-requires-in-Between
-over_ranges-value-requires-in-Between t c = search (rules, growth)
-
 pub arguments-number-number-requires : goal.arguments-number-number-requires
 arguments-number-number-requires t c =
     let at = at_item c.args.words.now c.loop-i.i c.index-words-i.result (search rules) c.index-words-i.is in
     word_known c.args.self.now.meanings.table c.args.words.now c.loop-i.i c.index-words-i.result c.requires.known.0 at
+
+pub inward-returns-in_err-formula-in-empty-clause-fault : goal.inward-returns-in_err-formula-in-empty-clause-fault
+inward-returns-in_err-formula-in-empty-clause-fault t c =
+    let p = err_from_is_err_and c.from_residual-in_err-formula-in-empty.result c.from_residual-in_err-formula-in-empty.ensures.1 in
+    rw (p.1, p.2, big_empty (evaluator (names_seen c.args.self.now) c.args.left) c.args.big.now.place c.args.big.now.connective (bound_seen c.args.bound.now) c.args.ranges.now c.args.big.now.part.now c.args.progress.now.work c.in-empty.len_below, c.in_ok-value-in-empty.ensures.value) (checked_fault _ _ _ _ c.in_err-formula-in-empty.ensures)
+
+pub inward-returns-in_ok-begin-in-Members-clause-value : goal.inward-returns-in_ok-begin-in-Members-clause-value
+inward-returns-in_ok-begin-in-Members-clause-value t c = λ all.
+    opened (evaluator (names_seen c.args.self.now) c.args.left) c.args.big.now c.args.bound.now c.value-in-Members.new.bound c.begin.new.bound (reverse c.args.levels.now.items) (reverse c.begin.new.levels.items) c.level-level.result c.in-Members.word (drop 1 c.args.ranges.now) all (members_seen c.in_ok-members-in-Members.members) _ c.in_ok-begin-in-Members.field-0 c.value-in-Members.new.progress.work
+    (big_of_set (evaluator (names_seen c.args.self.now) c.args.left) c.args.big.now.place c.args.big.now.connective (bound_seen c.args.bound.now) c.args.ranges.now c.in-Members.word c.in-Members.set (drop 1 c.args.ranges.now) c.args.big.now.part.now c.args.progress.now.work c.value-in-Members.new.progress.work (held_seen c.in_ok-value-in-Members.value) (members_seen c.in_ok-members-in-Members.members) (search rules) (search rules) (search rules))
+    c.in_ok-value-in-Members.ensures.bound
+    (search rules)
+    (ap (λ l. l.inner.now) c.level-level.ensures.level ∙ rest_whole c.args.ranges.now)
+    (ap (λ l. members_seen l.members) c.level-level.ensures.level)
+    (ap (λ l. l.so_far) c.level-level.ensures.level)
+    (c.in_ok-begin-in-Members.ensures.value (evaluator (names_seen c.args.self.now) c.args.left) all c.value-in-Members.new.progress.work)
+
+pub inward-returns-in_ok-begin-in-Members-clause-less : goal.inward-returns-in_ok-begin-in-Members-clause-less
+inward-returns-in_ok-begin-in-Members-clause-less t c = λ all.
+    let few : length (members_seen c.level-level.result.members) ≤ 2 ^ 65 = rw (ap (λ l. length (members_seen l.members)) c.level-level.ensures.level) c.in_ok-members-in-Members.ensures.few in
+    let inner = ap (λ l. l.inner.now) c.level-level.ensures.level ∙ rest_whole c.args.ranges.now in
+    less_than c.in_ok-begin-in-Members.field-0 all (reverse c.begin.new.levels.items) (pending (c.level-level.result ∷ reverse c.args.levels.now.items)) (turns (length c.args.ranges.now) + pending (reverse c.args.levels.now.items))
+    (level_within c.level-level.result (reverse c.args.levels.now.items) c.args.ranges.now few inner (search rules)) (c.in_ok-begin-in-Members.ensures.less all)
+
+pub inward-returns-in_ok-begin-in-Members-clause-fit : goal.inward-returns-in_ok-begin-in-Members-clause-fit
+inward-returns-in_ok-begin-in-Members-clause-fit t c = λ us fit.
+    let is : range_list_seen c.args.ranges.now ≡ members (word_seen c.in-Members.word) (expr_seen c.in-Members.set) (range_list_seen (drop 1 c.args.ranges.now)) = search rules in
+    let known = subst (KnowsRanges c.args.self.now.meanings.table) is c.requires.known.0 in
+    let inner = ap (λ l. l.inner.now) c.level-level.ensures.level ∙ rest_whole c.args.ranges.now in
+    c.in_ok-begin-in-Members.ensures.fit c.args.self.now.meanings.table us
+    (open_fit c.args.self.now.meanings.table us c.args.bound.now c.value-in-Members.new.bound (reverse c.args.levels.now.items) c.level-level.result c.in_ok-value-in-Members.ensures.bound
+    (rw (ap (λ l. l.word.now.name) c.level-level.ensures.level) c.level-level.ensures.number) (rw inner known.2) fit)
+
+pub inward-returns-in_ok-begin-in-Between-clause-value : goal.inward-returns-in_ok-begin-in-Between-clause-value
+inward-returns-in_ok-begin-in-Between-clause-value t c = λ all.
+    opened (evaluator (names_seen c.args.self.now) c.args.left) c.args.big.now c.args.bound.now c.value-in-Between-2.new.bound c.begin-in-Between.new.bound (reverse c.args.levels.now.items) (reverse c.begin-in-Between.new.levels.items) c.level-level-in-Between.result c.in-Between.word (drop 1 c.args.ranges.now) all (members_seen c.between-members.result) _ c.in_ok-begin-in-Between.field-0 c.value-in-Between-2.new.progress.work
+    (big_of_run (evaluator (names_seen c.args.self.now) c.args.left) c.args.big.now.place c.args.big.now.connective (bound_seen c.args.bound.now) c.args.ranges.now c.in-Between.word c.in-Between.low c.in-Between.high c.in-Between.low_strict c.in-Between.high_strict (drop 1 c.args.ranges.now) c.args.big.now.part.now c.args.progress.now.work c.value-in-Between.new.progress.work c.value-in-Between-2.new.progress.work (held_seen c.in_ok-value-in-Between.field-0) (held_seen c.in_ok-value-in-Between-2.field-0) c.in_ok-first-in-Between.field-0 c.in_ok-last-in-Between.field-0
+    (search rules) (search rules) (search rules) (search rules) (search rules) ∙ search rules)
+    (c.in_ok-value-in-Between-2.ensures.bound ∙ c.in_ok-value-in-Between.ensures.bound)
+    (search rules)
+    (ap (λ l. l.inner.now) c.level-level-in-Between.ensures.level ∙ rest_whole c.args.ranges.now)
+    (ap (λ l. members_seen l.members) c.level-level-in-Between.ensures.level)
+    (ap (λ l. l.so_far) c.level-level-in-Between.ensures.level)
+    (c.in_ok-begin-in-Between.ensures.value (evaluator (names_seen c.args.self.now) c.args.left) all c.value-in-Between-2.new.progress.work)
+
+pub inward-returns-in_ok-begin-in-Between-clause-less : goal.inward-returns-in_ok-begin-in-Between-clause-less
+inward-returns-in_ok-begin-in-Between-clause-less t c = λ all.
+    let few : length (members_seen c.level-level-in-Between.result.members) ≤ 2 ^ 65 = rw (ap (λ l. length (members_seen l.members)) c.level-level-in-Between.ensures.level) c.between-members.ensures.few in
+    let inner = ap (λ l. l.inner.now) c.level-level-in-Between.ensures.level ∙ rest_whole c.args.ranges.now in
+    less_than c.in_ok-begin-in-Between.field-0 all (reverse c.begin-in-Between.new.levels.items) (pending (c.level-level-in-Between.result ∷ reverse c.args.levels.now.items)) (turns (length c.args.ranges.now) + pending (reverse c.args.levels.now.items))
+    (level_within c.level-level-in-Between.result (reverse c.args.levels.now.items) c.args.ranges.now few inner (search rules)) (c.in_ok-begin-in-Between.ensures.less all)
+
+pub inward-returns-in_ok-begin-in-Between-clause-fit : goal.inward-returns-in_ok-begin-in-Between-clause-fit
+inward-returns-in_ok-begin-in-Between-clause-fit t c = λ us fit.
+    let is : range_list_seen c.args.ranges.now ≡ between (expr_seen c.in-Between.low) c.in-Between.low_strict (word_seen c.in-Between.word) c.in-Between.high_strict (expr_seen c.in-Between.high) (range_list_seen (drop 1 c.args.ranges.now)) = search rules in
+    let known = subst (KnowsRanges c.args.self.now.meanings.table) is c.requires.known.0 in
+    let inner = ap (λ l. l.inner.now) c.level-level-in-Between.ensures.level ∙ rest_whole c.args.ranges.now in
+    c.in_ok-begin-in-Between.ensures.fit c.args.self.now.meanings.table us
+    (open_fit c.args.self.now.meanings.table us c.args.bound.now c.value-in-Between-2.new.bound (reverse c.args.levels.now.items) c.level-level-in-Between.result (c.in_ok-value-in-Between-2.ensures.bound ∙ c.in_ok-value-in-Between.ensures.bound)
+    (rw (ap (λ l. l.word.now.name) c.level-level-in-Between.ensures.level) c.level-level-in-Between.ensures.number) (rw inner known.3) fit)
+
+pub inward-value-requires-in-Between-2 : goal.inward-value-requires-in-Between-2
+inward-value-requires-in-Between-2 t c = (search rules, (all_grown c.in_ok-value-in-Between.ensures.grows (search rules) c.in_ok-value-in-Between.ensures.bound, (search rules, search rules)))
+
+pub over_ranges-loop-levels-smaller-in_default : goal.over_ranges-loop-levels-smaller-in_default
+over_ranges-loop-levels-smaller-in_default t c =
+    let inner : c.inner_ranges-inner.result.now ≡ inner_of c.args.ranges.now (reverse c.loop-levels.levels.items) = search rules in
+    rw (c.in_default.is, inner) at c.in_ok-formula.ensures.less c.args.ranges.now
+
+pub over_ranges-loop-levels-preserved-in_default : goal.over_ranges-loop-levels-preserved-in_default
+over_ranges-loop-levels-preserved-in_default t c =
+    let inner : c.inner_ranges-inner.result.now ≡ inner_of c.args.ranges.now (reverse c.loop-levels.levels.items) = search rules in
+    let fit = c.in_ok-formula.ensures.fit c.inward.new.progress.numbering (fit_grown c.loop-levels.bound (reverse c.loop-levels.levels.items) c.in_ok-formula.ensures.grows.numbers c.loop-levels.invariant.2) in (
+      c.in_ok-formula.ensures.outer ∙ c.loop-levels.invariant.0,
+      extends_then c.loop-levels.invariant.1 c.in_ok-formula.ensures.grows,
+      fit,
+      record { over = fit.over; remembers = c.in_ok-formula.ensures.grows.remembers c.loop-levels.invariant.3.remembers },
+      c.loop-levels.invariant.4 ∙ rw (c.in_default.is, inner) at c.in_ok-formula.ensures.value c.args.ranges.now,
+    )
+
+pub over_ranges-returns-in_err-whole-clause-value : goal.over_ranges-returns-in_err-whole-clause-value
+over_ranges-returns-in_err-whole-clause-value t c =
+    let p = err_from_is_err_and c.from_residual-in_err-whole.result c.from_residual-in_err-whole.ensures.1 in
+    let inner : c.inner_ranges-inner.result.now ≡ inner_of c.args.ranges.now (reverse c.loop-levels.levels.items) = search rules in
+    let whole = c.loop-levels.invariant.4 ∙ rw (c.in-Some.is, inner) at c.in_ok-formula.ensures.value [] in
+    rw (p.1, p.2, whole) (c.in_err-whole.ensures.fault (evaluator (names_seen c.args.self.now) c.args.left))
+
+pub over_ranges-returns-in_err-whole-clause-grows : goal.over_ranges-returns-in_err-whole-clause-grows
+over_ranges-returns-in_err-whole-clause-grows t c = extends_then c.loop-levels.invariant.1 (extends_then c.in_ok-formula.ensures.grows (work_grown c.in_err-whole.ensures.grows refl refl))
+
+pub over_ranges-returns-in-Some-2-clause-value : goal.over_ranges-returns-in-Some-2-clause-value
+over_ranges-returns-in-Some-2-clause-value t c =
+    let inner : c.inner_ranges-inner.result.now ≡ inner_of c.args.ranges.now (reverse c.loop-levels.levels.items) = search rules in
+    let none = rw c.in-Some-2.is at c.in_ok-whole.ensures.all in
+    c.loop-levels.invariant.4 ∙ (rw (c.in-Some.is, inner) at c.in_ok-formula.ensures.value []) ∙ rw (c.in-Some-2.is, none) at c.in_ok-whole.ensures.value (evaluator (names_seen c.args.self.now) c.args.left) []
+
+pub over_ranges-returns-in-Some-2-clause-grows : goal.over_ranges-returns-in-Some-2-clause-grows
+over_ranges-returns-in-Some-2-clause-grows t c = extends_then c.loop-levels.invariant.1 (extends_then c.in_ok-formula.ensures.grows (work_grown c.in_ok-whole.ensures.grows refl refl))
+
+pub over_ranges-loop-levels-smaller : goal.over_ranges-loop-levels-smaller
+over_ranges-loop-levels-smaller t c =
+    let inner : c.inner_ranges-inner.result.now ≡ inner_of c.args.ranges.now (reverse c.loop-levels.levels.items) = search rules in
+    let first = rw (c.in-Some.is, inner) at c.in_ok-formula.ensures.less [] in
+    let next = rw c.in_default-2.is at c.in_ok-whole.ensures.less c.args.ranges.now in
+    omega (arith, first, next)
+
+pub over_ranges-loop-levels-preserved : goal.over_ranges-loop-levels-preserved
+over_ranges-loop-levels-preserved t c =
+    let inner : c.inner_ranges-inner.result.now ≡ inner_of c.args.ranges.now (reverse c.loop-levels.levels.items) = search rules in
+    let fit = c.in_ok-whole.ensures.fit c.args.self.now.meanings.table c.inward.new.progress.numbering (c.in_ok-formula.ensures.fit c.inward.new.progress.numbering (fit_grown c.loop-levels.bound (reverse c.loop-levels.levels.items) c.in_ok-formula.ensures.grows.numbers c.loop-levels.invariant.2)) in
+    let later = extends_then c.in_ok-formula.ensures.grows (work_grown {new = record { work = c.go_on.new.work; numbering = c.inward.new.progress.numbering; matches = c.inward.new.progress.matches }} c.in_ok-whole.ensures.grows refl refl) in (
+      c.in_ok-whole.ensures.outer ∙ c.in_ok-formula.ensures.outer ∙ c.loop-levels.invariant.0,
+      extends_then c.loop-levels.invariant.1 later,
+      fit,
+      record { over = fit.over; remembers = later.remembers c.loop-levels.invariant.3.remembers },
+      c.loop-levels.invariant.4 ∙ (rw (c.in-Some.is, inner) at c.in_ok-formula.ensures.value []) ∙ rw c.in_default-2.is at c.in_ok-whole.ensures.value (evaluator (names_seen c.args.self.now) c.args.left) c.args.ranges.now,
+    )

@@ -1,14 +1,12 @@
-use Rattle.std.proofs.Common.{◌≡◌, ◌+◌, ◌*◌, ◌^◌, length, [], ◌++◌, None, map, drop}
+use Rattle.std.proofs.Common.{◌≡◌, ◌+◌, ◌*◌, ◌^◌, length, [], ◌++◌, map, drop, reverse}
 use Rattle.tlsf_values.specs.HeldSeen.{AllNumbered, AllOver, bound_seen, held_seen, IsOver}
-use Rattle.tlsf_values.specs.Counts.{joined_over}
+use Rattle.tlsf_values.specs.LevelsSeen.{AreFit, inner_of, onward, turns_left}
 use Rattle.tlsf_values.specs.Matches.{Extends, Ready}
-use Rattle.tlsf_values.specs.MembersSeen.{members_seen}
 use Rattle.tlsf_values.specs.NamesSeen.{names_seen}
 use Rattle.tlsf_values.specs.Outcomes.{gives, go_on}
 use Rattle.tlsf_values.specs.PartsSeen.{as_numbers}
 use Rattle.written_names.specs.Seen.{alternative_seen, expr_seen, link_list_seen, range_list_seen, trees_seen, word_seen}
-use Rattle.tlsf_values.specs.Values.{arguments_at, big_value, bind, chain_value, chosen_value, evaluator, start_of, values_at}
-use Rattle.tlsf_values.specs.declared.value.Value.TheVariants.{Number}
+use Rattle.tlsf_values.specs.Values.{arguments_at, big_value, chain_value, chosen_value, evaluator, start_of, values_at}
 use Rattle.tlsf_values.proofs.names.Names.+evaluation.Given as goal
 
 abbrev pub decreases-value : goal.decreases-value
@@ -60,10 +58,10 @@ abbrev pub decreases-big : goal.decreases-big
 decreases-big l = 2 ^ 70 * l.left + 2 ^ 66 + 1
 
 abbrev pub decreases-over_ranges : goal.decreases-over_ranges
-decreases-over_ranges l = 2 ^ 70 * l.left + 2 * length l.ranges.now + 1
+decreases-over_ranges l = 2 ^ 70 * l.left + 2
 
-abbrev pub decreases-over_members : goal.decreases-over_members
-decreases-over_members l = 2 ^ 70 * l.left + 2 * length l.ranges.now + 2
+abbrev pub decreases-inward : goal.decreases-inward
+decreases-inward l = 2 ^ 70 * l.left + 1
 
 abbrev pub invariant-chosen-loop-alternative : goal.invariant-chosen-loop-alternative
 invariant-chosen-loop-alternative l =
@@ -95,14 +93,11 @@ invariant-chain-loop-link l =
     (l.bound ≡ l.fn.bound) × Extends (names_seen l.self) l.fn.progress l.progress × Ready (names_seen l.self) l.progress l.bound × IsOver l.progress.numbering l.value ×
     (chain_value names r b l.place (start_of t) (held_seen l.initial.value) (link_list_seen l.rest) l.initial.progress.work ≡ chain_value names r b l.place (start_of t) (held_seen l.value) (link_list_seen (drop l.link-index l.rest)) l.progress.work)
 
-abbrev pub invariant-over_members-loop-number : goal.invariant-over_members-loop-number
-invariant-over_members-loop-number l =
+abbrev pub invariant-over_ranges-loop-levels : goal.invariant-over_ranges-loop-levels
+invariant-over_ranges-loop-levels l =
     let r = evaluator (names_seen l.self) l.left in
-    let b = bound_seen l.fn.bound in
-    (l.bound ≡ l.fn.bound) × Extends (names_seen l.self) l.fn.progress l.progress × Ready (names_seen l.self) l.progress l.bound ×
-    (
-    joined_over l.big.place l.big.connective (λ z w. big_value r l.big.place l.big.connective (bind (word_seen l.word) (Number z) b) (range_list_seen l.ranges) (expr_seen l.big.part.now) w) (members_seen l.fn.members) None l.fn.progress.work ≡
-    joined_over l.big.place l.big.connective (λ z w. big_value r l.big.place l.big.connective (bind (word_seen l.word) (Number z) b) (range_list_seen l.ranges) (expr_seen l.big.part.now) w) (members_seen l.members) l.so_far l.progress.work)
+    (drop (length (reverse l.levels.items)) l.bound ≡ l.fn.bound) × Extends (names_seen l.self) l.fn.progress l.progress × AreFit l.self.meanings.table l.progress.numbering l.bound (reverse l.levels.items) × Ready (names_seen l.self) l.progress l.bound ×
+    (big_value r l.big.place l.big.connective (bound_seen l.fn.bound) (range_list_seen l.ranges) (expr_seen l.big.part.now) l.fn.progress.work ≡ onward r l.big (bound_seen l.bound) (inner_of l.ranges (reverse l.levels.items)) (reverse l.levels.items) l.progress.work)
 
-abbrev pub decreases-over_members-loop-number : goal.decreases-over_members-loop-number
-decreases-over_members-loop-number l = length (members_seen l.members)
+abbrev pub decreases-over_ranges-loop-levels : goal.decreases-over_ranges-loop-levels
+decreases-over_ranges-loop-levels l = turns_left l.ranges (reverse l.levels.items)

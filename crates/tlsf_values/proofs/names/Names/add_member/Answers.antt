@@ -1,4 +1,4 @@
-use Rattle.std.proofs.Common.{rules, ◌∙◌}
+use Rattle.std.proofs.Common.{◌∙◌}
 use Rattle.tlsf_values.specs.MeaningsSeen.{means_of}
 use Rattle.tlsf_values.proofs.NamesLemmas.{member_added}
 use Rattle.tlsf_values.proofs.names.Names.add_member.Goals as goal

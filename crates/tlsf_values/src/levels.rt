@@ -1,0 +1,147 @@
+// The ranges of a big operator that are gone over, one inside the other. What is left of each stands in a list, so that the depth of
+// calls doesn't grow with the number of ranges.
+
+ghost use Rattle.std.specs.Prelude.{◌≡◌, ◌+◌, ◌≤◌, ◌^◌, ◌∷◌, [], List, ℤ, Some, None, IfErr, IfOk, IfSome, OnOk, drop, length, reverse};
+ghost use Rattle.ltl_formula.specs.Nodes.{Grows};
+ghost use Rattle.tlsf_tree.specs.declared.expr.Range.{Range as TreeRange};
+ghost use Rattle.tlsf_values.specs.Counts.{joined_with};
+ghost use Rattle.tlsf_values.specs.HeldSeen.{bound_seen};
+ghost use Rattle.tlsf_values.specs.LevelsSeen.{AreFit, IsLess, IsOnward, after, inner_of, level_value, pending, turns};
+ghost use Rattle.tlsf_values.specs.MembersSeen.{members_seen};
+ghost use Rattle.tlsf_values.specs.Outcomes.{gives, go_on};
+ghost use Rattle.tlsf_values.specs.Results.{IsFault, IsOutcomeAs};
+ghost use Rattle.tlsf_values.specs.Values.{Evaluator};
+ghost use Rattle.tlsf_values.specs.declared.work.Work.{Work as PlainWork};
+ghost use Rattle.written_names.specs.Seen.{word_seen};
+ghost use Rattle.written_names.specs.Known.{KnowsWord};
+ghost use Rattle.written_names.specs.Written.{NamesWritten, number_of};
+
+use crate::formula::{Connective, Formula};
+use crate::members::Members;
+use crate::names::Names;
+use crate::scope::Scope;
+use crate::work::Work;
+use std::alloc::AllocError;
+use tlsf_tokens::SpecFault;
+use tlsf_tree::{Expr, Range, Word};
+
+/// A big operator: the first byte of its node, what it joins by, and its body.
+#[derive(Drop)]
+pub(crate) struct Big<'t> {
+    pub(crate) place: u64,
+    pub(crate) connective: Connective,
+    pub(crate) part: &'t Expr,
+}
+
+/// A range that is gone over.
+#[derive(Drop)]
+pub(crate) struct Level<'t> {
+    pub(crate) word: &'t Word,
+    /// The number of the word's name.
+    pub(crate) number: usize,
+    /// The members that are left.
+    pub(crate) members: Members,
+    /// The ranges inside this one.
+    pub(crate) inner: &'t [Range],
+    /// What the members before have joined.
+    pub(crate) so_far: Option<Formula>,
+}
+
+/// The ranges inside the innermost one that is gone over; where none is, all.
+pub(crate) fn inner_ranges<'t>(ranges: &'t [Range], levels: &[Level<'t>]) -> &'t [Range]
+    ensures { result.now ≡ inner_of ranges.now (reverse levels.now) }
+{
+    match levels.last() {
+        Some(level) => level.inner,
+        None => ranges,
+    }
+}
+
+impl<'t> Names<'t> {
+    /// A range of which nothing is joined yet, over these members.
+    pub(crate) fn level(&self, word: &'t Word, members: Members, inner: &'t [Range]) -> Level<'t>
+        requires { KnowsWord self.now.meanings.table (word_seen word.now) }
+        ensures level { result ≡ record { word = word.entry; number = result.number; members = members; inner = inner.entry; so_far = None } }
+        ensures number { number_of self.now.meanings.table word.now.name ≡ Some result.number }
+    {
+        Level {
+            word,
+            number: self.meanings.number(word.span.start, &word.name),
+            members,
+            inner,
+            so_far: None,
+        }
+    }
+}
+
+impl<'t> Big<'t> {
+    /// Binds the level's next member, and the level stands innermost; or gives what its members have joined, where none is left.
+    pub(crate) fn begin(
+        &self,
+        bound: &mut Scope<'t>,
+        levels: &mut Vec<Level<'t>>,
+        level: Level<'t>,
+    ) -> Result<Option<Formula>, AllocError>
+        ensures value { (r : Evaluator) (ranges : List TreeRange) (w : PlainWork) → IfOk result (λ next. IsOnward r self.now
+            (go_on (level_value r self.now (bound_seen bound.old) (word_seen level.entry.word.now) level.entry.inner.now (members_seen level.entry.members) level.entry.so_far w) (λ x w. after r self.now (bound_seen bound.old) (reverse levels.old.items) x w))
+            ranges next bound.new (reverse levels.new.items) w) }
+        ensures less { (ranges : List TreeRange) → IfOk result (λ next. IsLess next ranges (reverse levels.new.items) (pending (level.entry ∷ reverse levels.old.items))) }
+        ensures all { IfOk result (λ next. IfSome next (λ _. levels.new.items ≡ levels.old.items)) }
+        ensures outer { OnOk result (drop (length (reverse levels.new.items)) bound.new ≡ drop (length (reverse levels.old.items)) bound.old) }
+        ensures fit { (table : NamesWritten) (us : List ℤ) → AreFit table us bound.old (level.entry ∷ reverse levels.old.items) → OnOk result (AreFit table us bound.new (reverse levels.new.items)) }
+    {
+        let mut level = level;
+        let Some(number) = level.members.next() else {
+            return Ok(Some(self.connective.of_all(level.so_far)));
+        };
+        bound.push_number(level.number, &level.word.name, number)?;
+        levels.push(level)?;
+        Ok(None)
+    }
+
+    /// Joins a member's formula to those of the level so far.
+    fn joined(
+        &self,
+        level: Level<'t>,
+        formula: Formula,
+        work: &mut Work,
+    ) -> Result<Level<'t>, SpecFault>
+        ensures value { IsOutcomeAs (λ l. l.so_far) result work.new (go_on (joined_with self.now.place self.now.connective level.entry.so_far formula work.old) (λ x w. gives (Some x) w)) }
+        ensures same { IfOk result (λ l. l ≡ record { word = level.entry.word; number = level.entry.number; members = level.entry.members; inner = level.entry.inner; so_far = l.so_far }) }
+        ensures grows { Grows work.old.formulas work.new.formulas }
+    {
+        let mut level = level;
+        let joined = work.joined_with(self.place, self.connective, level.so_far, formula)?;
+        level.so_far = Some(joined);
+        Ok(level)
+    }
+
+    /// The innermost level's member has this formula: the next member of the innermost level that has one is bound, or all are
+    /// gone over, and this is the formula of the whole.
+    pub(crate) fn go_on(
+        &self,
+        bound: &mut Scope<'t>,
+        levels: &mut Vec<Level<'t>>,
+        formula: Formula,
+        work: &mut Work,
+    ) -> Result<Option<Formula>, SpecFault>
+        ensures value { (r : Evaluator) (ranges : List TreeRange) → IfOk result (λ next. IsOnward r self.now (after r self.now (bound_seen bound.old) (reverse levels.old.items) formula work.old) ranges next bound.new (reverse levels.new.items) work.new) }
+        ensures fault { (r : Evaluator) → IfErr result (λ e. IsFault (after r self.now (bound_seen bound.old) (reverse levels.old.items) formula work.old) e) }
+        ensures less { (ranges : List TreeRange) → IfOk result (λ next. IsLess next ranges (reverse levels.new.items) (pending (reverse levels.old.items))) }
+        ensures all { IfOk result (λ next. IfSome next (λ _. levels.new.items ≡ [])) }
+        ensures outer { OnOk result (drop (length (reverse levels.new.items)) bound.new ≡ drop (length (reverse levels.old.items)) bound.old) }
+        ensures fit { (table : NamesWritten) (us : List ℤ) → AreFit table us bound.old (reverse levels.old.items) → OnOk result (AreFit table us bound.new (reverse levels.new.items)) }
+        ensures grows { Grows work.old.formulas work.new.formulas }
+    {
+        let mut formula = formula;
+        while let Some(level) = levels.pop() {
+            bound.pop();
+            let level = self.joined(level, formula, work)?;
+            match self.begin(bound, levels, level)? {
+                Some(joined) => formula = joined,
+                None => return Ok(None),
+            }
+        }
+        Ok(Some(formula))
+    }
+}
