@@ -39,7 +39,7 @@ fn formulas_around(alloc: Global, other: Expr) -> Result<(Vec<FormulaId>, Work),
 }
 
 #[test]
-fn a_truth_becomes_a_node_and_a_comparison_is_made_once(rt: HostRuntime) -> Result<(), Fail> {
+fn a_truth_becomes_a_node_and_equal_comparisons_have_one_id(rt: HostRuntime) -> Result<(), Fail> {
     let (ids, work) = formulas_around(rt.alloc(), truth(20, true))?;
     assert_eq!(rt;
         ids.as_slice(),

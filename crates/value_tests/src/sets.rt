@@ -128,7 +128,7 @@ fn numbers_in_any_order(rt: HostRuntime) -> Result<(), AllocError> {
     Ok(())
 }
 
-// At most 32 numbers in each, one of them written 70 times; those of the last row are more than 32 together.
+// At most 32 numbers in each, in one row a single number written 70 times; those of the last row are more than 32 together.
 #[test]
 fn lists(rt: HostRuntime) -> Result<(), AllocError> {
     for (left, right, wanted) in [
@@ -186,7 +186,7 @@ fn bits_beside_bits(rt: HostRuntime) -> Result<(), AllocError> {
     Ok(())
 }
 
-// Of bits all numbers are left, one of them, or none.
+// Of bits all numbers are left, some of them, one, or none.
 #[test]
 fn what_is_left_goes_on(rt: HostRuntime) -> Result<(), AllocError> {
     for (whole, other, rest, common) in [
