@@ -48,24 +48,31 @@ impl BitSet {
         Ok(BitSet { over, words })
     }
 
-    /// The numbers at the places of other words, none of whose bits stands where this set can't have one.
-    pub(crate) fn with_words(&self, alloc: Global, words: Vec<u64>) -> Result<BitSet, AllocError>
-        requires { StandsOver self.now.over words.items }
-        ensures over { IfOk result (λ s. s.over ≡ self.now.over) }
-        ensures shown { IfOk result (λ s. IsShownBy s words.items) }
-        ensures rising { IfOk result (λ s. set_of s.members ≡ s.members) }
-    {
-        BitSet::made(alloc, self.over.clone()?, words)
-    }
-
     pub(crate) fn words(&self) -> &[u64]
         ensures { IsShownBy self.now result.now }
     {
         self.words.as_slice()
     }
 
+    /// The words, to be changed: the set's own where no copy of the set shares them, else a copy of them.
+    pub(crate) fn into_words(self, alloc: Global) -> Result<Vec<u64>, AllocError>
+        ensures { IfOk result (λ v. IsShownBy self v.items) }
+    {
+        match Rc::try_unwrap(self.words) {
+            Ok(words) => Ok(words),
+            Err(shared) => Vec::from_slice(alloc, &shared),
+        }
+    }
+
+    /// The numbers over which the set stands.
+    pub(crate) fn list(&self) -> Result<NumberList, AllocError>
+        ensures { IfOk result (λ l. l ≡ self.now.over) }
+    {
+        self.over.clone()
+    }
+
     /// Whether the set has more than so many numbers. It stops at the word that has the first one past them, so it counts the bits of nearly all words where
-    /// few numbers stand at high places, which takes longer than an operator.
+    /// few numbers stand at high places, which takes as long as an operator, or longer where the processor has no instruction for it.
     pub(crate) fn has_more_than(&self, limit: usize) -> bool {
         let mut left = limit;
         for word in self.words.iter() {

@@ -76,50 +76,52 @@ impl Numbering {
     }
 
     /// The numbers of both, and those that only one of the two has. Two lists take what `set_of` takes of their numbers, and are bits where more than 32
-    /// differ. Bits stay bits: with a list it takes a copy of the words and a look-up for each number of the list, which gets a place; with bits a copy of the
-    /// longer words and a step for 64 places of the shorter. Where numbers come that had no place, it also takes a copy of up to 1,024 numbers, and where
-    /// 2^32 numbers have a place and one more needs it, the answer is want of memory.
-    pub fn joined(&mut self, left: &PlacedSet, right: &PlacedSet) -> Result<PlacedSet, AllocError>
-        requires left { IsPrefix left.now.over self.old }
+    /// differ. Bits stay bits, in the words of the first set: those words are copied only where a copy of that set shares them, or to have more of them. Then
+    /// it takes with a list a look-up for each number of the list, which gets a place, and with bits a step for 64 places of the second set; a list with bits
+    /// takes a copy of the words of the second. Where numbers come that had no place, it also takes a copy of up to 1,024 numbers, and where 2^32 numbers have
+    /// a place and one more needs it, the answer is want of memory.
+    pub fn joined(&mut self, left: PlacedSet, right: &PlacedSet) -> Result<PlacedSet, AllocError>
+        requires left { IsPrefix left.over self.old }
         requires right { IsPrefix right.now.over self.old }
         ensures kept { IsPrefix self.old self.new }
-        ensures members { IfOk result (λ s. s.members ≡ union left.now.members right.now.members) }
+        ensures members { IfOk result (λ s. s.members ≡ union left.members right.now.members) }
         ensures over { IfOk result (λ s. IsPrefix s.over self.new) }
     {
-        match (left.form(), right.form()) {
-            (Form::Few(left), Form::Few(right)) => self.few_joined(left, right),
-            (Form::Few(few), Form::Bits(bits)) => self.bits_with_few(bits, few),
+        match (left.into_form(), right.form()) {
+            (Form::Few(left), Form::Few(right)) => self.few_joined(&left, right),
+            (Form::Few(few), Form::Bits(bits)) => self.bits_with_few(bits.clone()?, &few),
             (Form::Bits(bits), Form::Few(few)) => self.bits_with_few(bits, few),
             (Form::Bits(left), Form::Bits(right)) => self.bits_joined(left, right),
         }
     }
 
     /// The numbers that both have. Where one of the two is a list, it takes a test by `contains` for each number of it, and makes a list. Of two that are bits
-    /// it takes a copy of the shorter words and a step for 64 of their places, and makes bits of as many words, however few numbers are left.
-    pub fn met(&self, left: &PlacedSet, right: &PlacedSet) -> Result<PlacedSet, AllocError>
-        requires left { IsPrefix left.now.over self.now }
+    /// it makes bits in the words of the first set, however few numbers are left: it takes a copy of those words where a copy of that set shares them, and a
+    /// step for 64 of the places up to which both go.
+    pub fn met(&self, left: PlacedSet, right: &PlacedSet) -> Result<PlacedSet, AllocError>
+        requires left { IsPrefix left.over self.now }
         requires right { IsPrefix right.now.over self.now }
-        ensures members { IfOk result (λ s. s.members ≡ intersection left.now.members right.now.members) }
+        ensures members { IfOk result (λ s. s.members ≡ intersection left.members right.now.members) }
         ensures over { IfOk result (λ s. IsPrefix s.over self.now) }
     {
-        match (left.form(), right.form()) {
-            (Form::Few(few), _) => self.few_met(few, right),
-            (Form::Bits(_), Form::Few(few)) => self.few_met(few, left),
+        match (left.into_form(), right.form()) {
+            (Form::Few(few), _) => self.few_met(&few, right),
+            (Form::Bits(bits), Form::Few(few)) => self.few_met(few, &PlacedSet::of_bits(bits)),
             (Form::Bits(left), Form::Bits(right)) => self.bits_met(left, right),
         }
     }
 
     /// The numbers of the first set that the second one doesn't have. Where the first one is a list, it takes a test by `contains` for each number of it, and
-    /// makes a list. Bits stay bits of as many words, however few numbers are left: it takes a copy of the words, and where the second one is a list, a look-up
-    /// for each number of it; where it is bits, a step for 64 of the places up to which both go.
-    pub fn without(&self, left: &PlacedSet, right: &PlacedSet) -> Result<PlacedSet, AllocError>
-        requires left { IsPrefix left.now.over self.now }
+    /// makes a list. Bits stay bits in the words of the first set, however few numbers are left: it takes a copy of those words where a copy of that set shares
+    /// them, and where the second one is a list, a look-up for each number of it; where it is bits, a step for 64 of the places up to which both go.
+    pub fn without(&self, left: PlacedSet, right: &PlacedSet) -> Result<PlacedSet, AllocError>
+        requires left { IsPrefix left.over self.now }
         requires right { IsPrefix right.now.over self.now }
-        ensures members { IfOk result (λ s. s.members ≡ difference left.now.members right.now.members) }
+        ensures members { IfOk result (λ s. s.members ≡ difference left.members right.now.members) }
         ensures over { IfOk result (λ s. IsPrefix s.over self.now) }
     {
-        match (left.form(), right.form()) {
-            (Form::Few(few), _) => self.few_without(few, right),
+        match (left.into_form(), right.form()) {
+            (Form::Few(few), _) => self.few_without(&few, right),
             (Form::Bits(bits), Form::Few(few)) => self.bits_without_few(bits, few),
             (Form::Bits(left), Form::Bits(right)) => self.bits_without(left, right),
         }
@@ -185,28 +187,28 @@ impl Numbering {
         self.sorted_of(numbers)
     }
 
-    fn bits_with_few(&mut self, bits: &BitSet, few: &FewNumbers) -> Result<PlacedSet, AllocError>
-        requires { IsPrefix bits.now.over self.old }
+    fn bits_with_few(&mut self, bits: BitSet, few: &FewNumbers) -> Result<PlacedSet, AllocError>
+        requires { IsPrefix bits.over self.old }
         ensures kept { IsPrefix self.old self.new }
-        ensures members { IfOk result (λ s. s.members ≡ union bits.now.members few.now) }
-        ensures turned { IfOk result (λ s. s.members ≡ union few.now bits.now.members) }
+        ensures members { IfOk result (λ s. s.members ≡ union bits.members few.now) }
+        ensures turned { IfOk result (λ s. s.members ≡ union few.now bits.members) }
         ensures over { IfOk result (λ s. IsPrefix s.over self.new) }
     {
-        let words = Vec::from_slice(self.alloc, bits.words())?;
-        let words = self.with_places(words, few.as_slice())?;
+        let words = self.with_places(bits.into_words(self.alloc)?, few.as_slice())?;
         let over = self.share()?;
         let bits = BitSet::made(self.alloc, over, words)?;
         Ok(PlacedSet::of_bits(bits))
     }
 
-    fn bits_joined(&self, left: &BitSet, right: &BitSet) -> Result<PlacedSet, AllocError>
-        requires left { IsPrefix left.now.over self.now }
+    fn bits_joined(&self, left: BitSet, right: &BitSet) -> Result<PlacedSet, AllocError>
+        requires left { IsPrefix left.over self.now }
         requires right { IsPrefix right.now.over self.now }
-        ensures members { IfOk result (λ s. s.members ≡ union left.now.members right.now.members) }
+        ensures members { IfOk result (λ s. s.members ≡ union left.members right.now.members) }
         ensures over { IfOk result (λ s. IsPrefix s.over self.now) }
     {
-        let words = words::joined(self.alloc, left.words(), right.words())?;
-        let bits = BitSet::made(self.alloc, left.longer_list(right)?, words)?;
+        let over = left.longer_list(right)?;
+        let words = words::joined(left.into_words(self.alloc)?, right.words())?;
+        let bits = BitSet::made(self.alloc, over, words)?;
         Ok(PlacedSet::of_bits(bits))
     }
 
@@ -227,14 +229,15 @@ impl Numbering {
         Ok(PlacedSet::of_few(few))
     }
 
-    fn bits_met(&self, left: &BitSet, right: &BitSet) -> Result<PlacedSet, AllocError>
-        requires left { IsPrefix left.now.over self.now }
+    fn bits_met(&self, left: BitSet, right: &BitSet) -> Result<PlacedSet, AllocError>
+        requires left { IsPrefix left.over self.now }
         requires right { IsPrefix right.now.over self.now }
-        ensures members { IfOk result (λ s. s.members ≡ intersection left.now.members right.now.members) }
+        ensures members { IfOk result (λ s. s.members ≡ intersection left.members right.now.members) }
         ensures over { IfOk result (λ s. IsPrefix s.over self.now) }
     {
-        let words = words::met(self.alloc, left.words(), right.words())?;
-        let bits = BitSet::made(self.alloc, left.longer_list(right)?, words)?;
+        let over = left.longer_list(right)?;
+        let words = words::met(left.into_words(self.alloc)?, right.words());
+        let bits = BitSet::made(self.alloc, over, words)?;
         Ok(PlacedSet::of_bits(bits))
     }
 
@@ -253,25 +256,27 @@ impl Numbering {
         Ok(PlacedSet::of_few(few))
     }
 
-    fn bits_without_few(&self, bits: &BitSet, few: &FewNumbers) -> Result<PlacedSet, AllocError>
-        requires { IsPrefix bits.now.over self.now }
-        ensures members { IfOk result (λ s. s.members ≡ difference bits.now.members few.now) }
+    fn bits_without_few(&self, bits: BitSet, few: &FewNumbers) -> Result<PlacedSet, AllocError>
+        requires { IsPrefix bits.over self.now }
+        ensures members { IfOk result (λ s. s.members ≡ difference bits.members few.now) }
         ensures over { IfOk result (λ s. IsPrefix s.over self.now) }
     {
-        let mut words = Vec::from_slice(self.alloc, bits.words())?;
+        let over = bits.list()?;
+        let mut words = bits.into_words(self.alloc)?;
         self.clear_places(&mut words, few.as_slice());
-        let bits = bits.with_words(self.alloc, words)?;
+        let bits = BitSet::made(self.alloc, over, words)?;
         Ok(PlacedSet::of_bits(bits))
     }
 
-    fn bits_without(&self, left: &BitSet, right: &BitSet) -> Result<PlacedSet, AllocError>
-        requires left { IsPrefix left.now.over self.now }
+    fn bits_without(&self, left: BitSet, right: &BitSet) -> Result<PlacedSet, AllocError>
+        requires left { IsPrefix left.over self.now }
         requires right { IsPrefix right.now.over self.now }
-        ensures members { IfOk result (λ s. s.members ≡ difference left.now.members right.now.members) }
+        ensures members { IfOk result (λ s. s.members ≡ difference left.members right.now.members) }
         ensures over { IfOk result (λ s. IsPrefix s.over self.now) }
     {
-        let words = words::without(self.alloc, left.words(), right.words())?;
-        let bits = BitSet::made(self.alloc, left.longer_list(right)?, words)?;
+        let over = left.longer_list(right)?;
+        let words = words::without(left.into_words(self.alloc)?, right.words());
+        let bits = BitSet::made(self.alloc, over, words)?;
         Ok(PlacedSet::of_bits(bits))
     }
 

@@ -68,6 +68,13 @@ impl PlacedSet {
         &self.form
     }
 
+    pub(crate) fn into_form(self) -> Form
+        ensures seen { self ≡ form_seen result }
+        ensures rising { set_of self.members ≡ self.members }
+    {
+        self.form
+    }
+
     /// The numbers of the set, which rise. A list is copied; of bits it takes a step for 64 places and the time for sorting the numbers.
     pub fn numbers(&self, alloc: Global) -> Result<Vec<i64>, AllocError>
         ensures numbers { IfOk result (λ v. v.items ≡ self.now.members) }

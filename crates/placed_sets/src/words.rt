@@ -1,10 +1,10 @@
 // Words of 64 bits, a bit for each place.
 
-ghost use Rattle.std.specs.Prelude.{◌≡◌, ◌==◌, ◌<◌, ◌≤◌, ◌+◌, ◌*◌, ◌/◌, ◌%◌, ◌^◌, length, max, min, IfOk, OnOk, vec_len, bit_and};
+ghost use Rattle.std.specs.Prelude.{◌≡◌, ◌==◌, ◌<◌, ◌≤◌, ◌+◌, ◌*◌, ◌/◌, ◌%◌, ◌^◌, ℕ, length, max, min, IfOk, OnOk, slice_index, vec_len, bit_and};
 ghost use Rattle.std.specs.Int.RustNames.{bit_xor};
 ghost use Rattle.placed_sets.specs.Bits.{bit_of, both, either, first_alone, GainsPlace, has, IsBitwise, LosesPlace, with_bit};
 
-use std::alloc::{AllocError, Global};
+use std::alloc::AllocError;
 
 /// How many places a word has.
 pub(crate) const PLACES: usize = 64;
@@ -26,9 +26,7 @@ pub(crate) fn add_place(words: &mut Vec<u64>, place: usize) -> Result<(), AllocE
     ensures len { OnOk result (vec_len words.new ≡ max (vec_len words.old) (place / 64 + 1)) }
 {
     let index = place / PLACES;
-    if words.len() <= index {
-        words.resize(index + 1, 0)?;
-    }
+    grow(words, index + 1)?;
     words[index] = with_bit(words[index], place % PLACES);
     Ok(())
 }
@@ -44,56 +42,44 @@ pub(crate) fn clear_place(words: &mut [u64], place: usize)
     }
 }
 
-/// The bits that one of the two has.
-pub(crate) fn joined(alloc: Global, left: &[u64], right: &[u64]) -> Result<Vec<u64>, AllocError>
-    ensures bits { IfOk result (λ v. IsBitwise either left.now right.now v.items) }
-    ensures len { IfOk result (λ v. vec_len v ≡ max (length left.now) (length right.now)) }
+/// The bits that one of the two has, written over the first words.
+pub(crate) fn joined(mut words: Vec<u64>, others: &[u64]) -> Result<Vec<u64>, AllocError>
+    ensures bits { IfOk result (λ v. IsBitwise either words.items others.now v.items) }
+    ensures len { IfOk result (λ v. vec_len v ≡ max (vec_len words) (length others.now)) }
 {
-    if left.len() < right.len() {
-        return joined_onto(alloc, right, left);
+    grow(&mut words, others.len())?;
+    set_bits(&mut words, others);
+    Ok(words)
+}
+
+/// The bits that both have, written over the first words.
+pub(crate) fn met(mut words: Vec<u64>, others: &[u64]) -> Vec<u64>
+    ensures bits { IsBitwise both words.items others.now result.items }
+    ensures len { vec_len result ≡ min (vec_len words) (length others.now) }
+{
+    words.truncate(others.len());
+    keep_bits(&mut words, others);
+    words
+}
+
+/// The bits of the first words that the second ones don't have, written over the first.
+pub(crate) fn without(mut words: Vec<u64>, others: &[u64]) -> Vec<u64>
+    ensures bits { IsBitwise first_alone words.items others.now result.items }
+    ensures len { vec_len result ≡ vec_len words }
+{
+    clear_bits(&mut words, others);
+    words
+}
+
+/// Adds empty words, so that there are at least so many.
+fn grow(words: &mut Vec<u64>, len: usize) -> Result<(), AllocError>
+    ensures same { OnOk result ((index : ℕ) → slice_index words.new.items index ≡ slice_index words.old.items index) }
+    ensures len { OnOk result (vec_len words.new ≡ max (vec_len words.old) len) }
+{
+    if words.len() < len {
+        words.resize(len, 0)?;
     }
-    joined_onto(alloc, left, right)
-}
-
-/// The bits that both have.
-pub(crate) fn met(alloc: Global, left: &[u64], right: &[u64]) -> Result<Vec<u64>, AllocError>
-    ensures bits { IfOk result (λ v. IsBitwise both left.now right.now v.items) }
-    ensures len { IfOk result (λ v. vec_len v ≡ min (length left.now) (length right.now)) }
-{
-    if left.len() < right.len() {
-        return met_within(alloc, left, right);
-    }
-    met_within(alloc, right, left)
-}
-
-/// The bits of the first words that the second ones don't have.
-pub(crate) fn without(alloc: Global, left: &[u64], right: &[u64]) -> Result<Vec<u64>, AllocError>
-    ensures bits { IfOk result (λ v. IsBitwise first_alone left.now right.now v.items) }
-    ensures len { IfOk result (λ v. vec_len v ≡ length left.now) }
-{
-    let mut words = Vec::from_slice(alloc, left)?;
-    clear_bits(&mut words, right);
-    Ok(words)
-}
-
-fn joined_onto(alloc: Global, longer: &[u64], shorter: &[u64]) -> Result<Vec<u64>, AllocError>
-    requires { length shorter.now ≤ length longer.now }
-    ensures bits { IfOk result (λ v. IsBitwise either longer.now shorter.now v.items) }
-    ensures len { IfOk result (λ v. vec_len v ≡ length longer.now) }
-{
-    let mut words = Vec::from_slice(alloc, longer)?;
-    set_bits(&mut words, shorter);
-    Ok(words)
-}
-
-fn met_within(alloc: Global, shorter: &[u64], longer: &[u64]) -> Result<Vec<u64>, AllocError>
-    requires { length shorter.now ≤ length longer.now }
-    ensures bits { IfOk result (λ v. IsBitwise both shorter.now longer.now v.items) }
-    ensures len { IfOk result (λ v. vec_len v ≡ length shorter.now) }
-{
-    let mut words = Vec::from_slice(alloc, shorter)?;
-    keep_bits(&mut words, longer);
-    Ok(words)
+    Ok(())
 }
 
 /// Sets the bits that the others have.

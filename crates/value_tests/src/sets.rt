@@ -61,9 +61,9 @@ fn is_made(
     requires right { IsPrefix right.now.over numbering.old }
     ensures kept { IsPrefix numbering.old numbering.new }
 {
-    let met = numbering.met(left, right)?;
-    let without = numbering.without(left, right)?;
-    let joined = numbering.joined(left, right)?;
+    let met = numbering.met(left.clone()?, right)?;
+    let without = numbering.without(left.clone()?, right)?;
+    let joined = numbering.joined(left.clone()?, right)?;
     Ok(
         has(alloc, &met, wanted.met)?
             && has(alloc, &without, wanted.without)?
@@ -101,8 +101,8 @@ fn is_parted(
     let mut numbering = Numbering::new(alloc);
     let whole_set = set_of(alloc, &mut numbering, whole)?;
     let other_set = set_of(alloc, &mut numbering, other)?;
-    let rest_set = numbering.without(&whole_set, &other_set)?;
-    let common_set = numbering.met(&whole_set, &other_set)?;
+    let rest_set = numbering.without(whole_set.clone()?, &other_set)?;
+    let common_set = numbering.met(whole_set, &other_set)?;
     let wanted = Wanted {
         joined: whole,
         met: NONE,
@@ -212,7 +212,7 @@ fn is_in(
     let mut numbering = Numbering::new(alloc);
     let whole = set_of(alloc, &mut numbering, whole)?;
     let other = set_of(alloc, &mut numbering, other)?;
-    let rest = numbering.without(&whole, &other)?;
+    let rest = numbering.without(whole.clone()?, &other)?;
     Ok((
         numbering.contains(&whole, number),
         numbering.contains(&rest, number),

@@ -8,7 +8,7 @@ pub returns-clause-members : goal.returns-clause-members
 returns-clause-members c =
     let distinct : IsDistinct int_eq c.args.self.now = subst (IsDistinct int_eq) c.self.view_is c.self.invariant.distinct in
     ap (λ s. s.members) c.of_bits.ensures
-    ∙ is_union c.args.self.now distinct c.args.left.now c.args.right.now c.in_ok-bits.bits c.words.result.now c.words-2.result.now c.in_ok-words.words.items c.words.ensures c.words-2.ensures
+    ∙ is_union c.args.self.now distinct c.args.left c.args.right.now c.in_ok-bits.bits c.in_ok-into_words.field-0.items c.words.result.now c.in_ok-words.words.items c.in_ok-into_words.ensures c.words.ensures
     c.in_ok-bits.ensures.shown c.requires.left c.requires.right
-    (made_over c.args.left.now.over c.args.right.now.over _ c.in_ok-bits.bits.over c.args.self.now c.in_ok-longer_list.ensures c.in_ok-bits.ensures.over c.requires.left c.requires.right)
+    (made_over c.args.left.over c.args.right.now.over _ c.in_ok-bits.bits.over c.args.self.now c.in_ok-over.ensures c.in_ok-bits.ensures.over c.requires.left c.requires.right)
     c.in_ok-words.ensures.bits
