@@ -1,5 +1,5 @@
 -- One step of the loops and of the calls of the evaluation.
-use Rattle.std.proofs.Common.{◌≡◌, ℕ, ℤ, Bool, false, None, ◌+◌, ◌++◌, ◌<◌, List, [], ◌∷◌, length, map, take, drop, get_or, ◌-◌, refl, sym, ap, ◌∙◌, arith}
+use Rattle.std.proofs.Common.{◌≡◌, ℕ, ℤ, Bool, false, None, ◌+◌, ◌<◌, List, [], ◌∷◌, length, map, take, drop, get_or, ◌-◌, refl, sym, ap, ◌∙◌, arith}
 use Rattle.std.proofs.lemmas.Bool.{eq-eqb, ne_eqb}
 use Rattle.std.proofs.lemmas.List.{length-map, length-drop, take_all, at_drop_more, get_or_default}
 use Rattle.tlsf_tree.specs.declared.expr.Expr.{Expr}
@@ -17,7 +17,7 @@ use Rattle.tlsf_values.specs.Names.{Names, Binding, Meaning, a_definition, bus_a
 use Rattle.tlsf_values.specs.Operators.{operated}
 use Rattle.tlsf_values.specs.Outcomes.{fails, fine, gives, go_on, checked}
 use Rattle.written_names.specs.Seen.{alternative_seen, expr_seen, word_seen, trees_seen, link_list_seen, range_list_seen}
-use Rattle.tlsf_values.specs.Values.{Evaluator, arguments_at, values_at, chosen_value, guard_value, big_value, bind, bit_value, index_value, word_value, call_value, chain_value, high_of, low_of, run_of, tree_count}
+use Rattle.tlsf_values.specs.Values.{Evaluator, arguments_at, chosen_value, guard_value, big_value, bind, bit_value, index_value, word_value, call_value, chain_value, high_of, low_of, run_of, tree_count}
 use Rattle.tlsf_values.specs.Counts.{joined_over}
 use Rattle.tlsf_values.specs.declared.value.Value.TheVariants.{Number}
 use Rattle.tlsf_values.proofs.SeenLemmas.{start_seen, count_seen}

@@ -1,11 +1,10 @@
 -- The ranges of a big operator that are gone over, one inside the other, the innermost first: what comes of what is left of them.
 use Rattle.std.specs.Prelude.{ℕ, zero, suc, ◌+◌, ◌*◌, ◌^◌, ◌≡◌, ◌<◌, ◌≤◌, List, [], ◌∷◌, length, drop, Option, None, Some, ℤ}
 use Rattle.tlsf_tree.specs.declared.expr.Range.{Range}
-use Rattle.tlsf_grammar.specs.Tree.{Named, Ranges, Tree}
+use Rattle.tlsf_grammar.specs.Tree.{Named}
 use Rattle.written_names.specs.Known.{KnowsRanges}
 use Rattle.written_names.specs.Seen.{expr_seen, range_list_seen, word_seen}
 use Rattle.written_names.specs.Written.{NamesWritten, number_of}
-use Rattle.tlsf_values.specs.declared.formula.Connective.{Connective}
 use Rattle.tlsf_values.specs.declared.formula.Formula.{Formula}
 use Rattle.tlsf_values.specs.declared.levels.Big.{Big}
 use Rattle.tlsf_values.specs.declared.levels.Level.{Level}

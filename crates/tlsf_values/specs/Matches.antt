@@ -1,5 +1,5 @@
 -- The formulas of buses that were compared with members: what is made once isn't made again, since the list of formulas only grows.
-use Rattle.std.specs.Prelude.{ℕ, ◌≡◌, Bool, ◌&&◌, nat_eq, List, Option, Some}
+use Rattle.std.specs.Prelude.{ℕ, ◌≡◌, Bool, ◌&&◌, nat_eq, List, Some}
 use Rattle.std.specs.HashMap.{HashMap, get}
 use Rattle.placed_sets.specs.Placed.{IsPrefix}
 use Rattle.ltl_formula.specs.declared.nodes.FormulaId.{FormulaId}

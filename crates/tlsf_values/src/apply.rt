@@ -1,12 +1,13 @@
 // Operators whose operands may be buses and members of enumerations, and all operators with two operands.
 
-ghost use Rattle.std.specs.Prelude.{◌≡◌, List, ℤ, IfOk};
+ghost use Rattle.std.specs.Prelude.{◌≡◌, List, ℤ, None, IfOk};
 ghost use Rattle.tlsf_values.specs.HeldSeen.{held_seen, IsOver};
 ghost use Rattle.ltl_formula.specs.Nodes.{Grows};
 ghost use Rattle.tlsf_values.specs.Matches.{Again, Extends, Remembers};
 ghost use Rattle.tlsf_values.specs.NamesSeen.{names_seen};
 ghost use Rattle.tlsf_values.specs.Operators.{equated, matched_at, operated};
 ghost use Rattle.tlsf_values.specs.Results.{IsOutcome, IsOutcomeAs};
+ghost use Rattle.tlsf_values.specs.SetOperations.{set_operation};
 ghost use Rattle.tlsf_values.specs.declared.formula.Formula.TheVariants.{Flat};
 
 use crate::formula::{Connective, Formula, Pairing};
@@ -121,10 +122,13 @@ impl<'t> Names<'t> {
         ensures over { IfOk result (λ v. IsOver progress.new.numbering v) }
         ensures grows { Extends (names_seen self.now) progress.old progress.new }
     {
-        self.applied(progress, op, places, &left, &right)
+        match SetOperation::of(op) {
+            Some(operation) => progress.on_sets(operation, places, left, &right),
+            None => self.applied(progress, op, places, &left, &right),
+        }
     }
 
-    /// The same, of operands that are let go by the caller, so that no arm has to.
+    /// The same of an operator that isn't one on sets, and of operands that are let go by the caller, so that no arm has to.
     fn applied(
         &self,
         progress: &mut Progress,
@@ -133,6 +137,7 @@ impl<'t> Names<'t> {
         left: &Held,
         right: &Held,
     ) -> Result<Held, SpecFault>
+        requires other { set_operation op ≡ None }
         requires left { IsOver progress.old.numbering left.now }
         requires right { IsOver progress.old.numbering right.now }
         requires remembers { Remembers (names_seen self.now) progress.old.work.formulas progress.old.matches }
@@ -156,9 +161,6 @@ impl<'t> Names<'t> {
             Op::Minus => progress
                 .work
                 .arithmetic(Arithmetic::Minus, places, left, right),
-            Op::Difference => progress.on_sets(SetOperation::Difference, places, left, right),
-            Op::Meet => progress.on_sets(SetOperation::Meet, places, left, right),
-            Op::Join => progress.on_sets(SetOperation::Join, places, left, right),
             Op::Equal => Ok(Held::from(self.equated(progress, places, left, right)?)),
             Op::Unequal => self.unequated(progress, places, left, right),
             Op::Less => progress

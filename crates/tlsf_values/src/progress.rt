@@ -111,20 +111,21 @@ impl Progress {
         Ok(Held::Truth(self.numbering.contains(set, number)))
     }
 
+    /// An operator on two sets, of which the left one is given away.
     pub(crate) fn on_sets(
         &mut self,
         operation: SetOperation,
         places: Places,
-        left: &Held,
+        left: Held,
         right: &Held,
     ) -> Result<Held, SpecFault>
-        requires left { IsOver self.old.numbering left.now }
+        requires left { IsOver self.old.numbering left }
         requires right { IsOver self.old.numbering right.now }
-        ensures value { IsOutcomeAs held_seen result self.new.work (on_sets operation places (held_seen left.now) (held_seen right.now) self.old.work) }
+        ensures value { IsOutcomeAs held_seen result self.new.work (on_sets operation places (held_seen left) (held_seen right.now) self.old.work) }
         ensures over { IfOk result (λ v. IsOver self.new.numbering v) }
         ensures grows { (names : Names) → Extends names self.old self.new }
     {
-        let left = left.set(places.left)?;
+        let left = left.into_set(places.left)?;
         let right = right.set(places.right)?;
         Ok(Held::Set(operation.combined(&mut self.numbering, left, right)?))
     }

@@ -2,10 +2,11 @@
 
 ghost use Rattle.std.specs.Prelude.{◌≡◌, IfOk};
 ghost use Rattle.placed_sets.specs.Placed.{IsPrefix};
-ghost use Rattle.tlsf_values.specs.SetOperations.{combined};
+ghost use Rattle.tlsf_values.specs.SetOperations.{combined, set_operation};
 
 use placed_sets::{Numbering, PlacedSet};
 use std::alloc::AllocError;
+use tlsf_tree::Op;
 
 /// An operator on two sets of numbers.
 #[derive(Clone, Copy, Debug, PartialEq, Eq)]
@@ -16,16 +17,29 @@ pub enum SetOperation {
 }
 
 impl SetOperation {
-    /// It takes time in proportion to a 64th of the numbers that have a place, or to the numbers of two sets that are lists.
+    /// The operation of an operator on sets, and none of any other.
+    pub(crate) fn of(op: Op) -> Option<SetOperation>
+        ensures { result ≡ set_operation op }
+    {
+        match op {
+            Op::Join => Some(SetOperation::Join),
+            Op::Meet => Some(SetOperation::Meet),
+            Op::Difference => Some(SetOperation::Difference),
+            _ => None,
+        }
+    }
+
+    /// It takes time in proportion to a 64th of the numbers that have a place, or to the numbers of two sets that are lists. The left set's memory serves
+    /// again where no copy shares it.
     pub(crate) fn combined(
         self,
         numbering: &mut Numbering,
-        left: &PlacedSet,
+        left: PlacedSet,
         right: &PlacedSet,
     ) -> Result<PlacedSet, AllocError>
-        requires left { IsPrefix left.now.over numbering.old }
+        requires left { IsPrefix left.over numbering.old }
         requires right { IsPrefix right.now.over numbering.old }
-        ensures members { IfOk result (λ s. s.members ≡ combined self left.now.members right.now.members) }
+        ensures members { IfOk result (λ s. s.members ≡ combined self left.members right.now.members) }
         ensures over { IfOk result (λ s. IsPrefix s.over numbering.new) }
         ensures kept { IsPrefix numbering.old numbering.new }
     {

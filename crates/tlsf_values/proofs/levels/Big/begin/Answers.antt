@@ -1,4 +1,4 @@
-use Rattle.std.proofs.Common.{rules, ◌≡◌, length, reverse, ◌++◌, ◌∷◌, [], ap, ◌∙◌, ◌*◌, suc, ◌<◌, to_z, of_z, w64}
+use Rattle.std.proofs.Common.{rules, ◌≡◌, length, reverse, ◌∷◌, ap, ◌∙◌, ◌*◌, suc, to_z, of_z, w64}
 use Rattle.std.proofs.lemmas.List.{reverse-append}
 use Rattle.tlsf_values.proofs.LevelLemmas.{level_less, level_more, level_step}
 use Rattle.tlsf_values.specs.LevelsSeen.{after, pending, turns}

@@ -1,4 +1,4 @@
-use Rattle.std.proofs.Common.{rules, ◌≡◌, ◌≤◌, length, reverse, ◌++◌, ◌∷◌, [], ap, ◌∙◌, drop, arith, ℤ, ◌<◌}
+use Rattle.std.proofs.Common.{rules, ◌≡◌, length, reverse, ◌++◌, ◌∷◌, [], ap, ◌∙◌, drop, arith}
 use Rattle.std.proofs.lemmas.List.{length-append, reverse-append}
 use Rattle.ltl_formula.proofs.Lists.{Grows-trans}
 use Rattle.tlsf_values.proofs.LevelLemmas.{after_step, fit_step, outer_step, pending_step}

@@ -1,4 +1,4 @@
-use Rattle.std.proofs.Common.{◌≡◌, ◌+◌, ◌^◌, ◌≤◌, ◌<◌, [], ◌∷◌, ◌++◌, rules, ap, arith, drop, length, refl, reverse, subst, sym, ◌∙◌}
+use Rattle.std.proofs.Common.{◌≡◌, ◌+◌, ◌^◌, ◌≤◌, [], ◌∷◌, ◌++◌, rules, ap, arith, drop, length, refl, reverse, subst, sym, ◌∙◌}
 use Rattle.std.proofs.lemmas.Result.{err_from_is_err_and}
 use Rattle.tlsf_values.proofs.OverLemmas.{all_grown, all_prefix, extends_then, growth, over_grown, remembers_grown, work_grown}
 use Rattle.tlsf_values.proofs.CheckedLemmas.{checked_fault}
