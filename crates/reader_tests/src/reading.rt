@@ -87,6 +87,7 @@ fn parts_of_main_are_refused_at_their_places(rt: HostRuntime) -> Result<(), Fail
         ),
         (b"INPUTS { a; } OUTPUTS { b; a; } }", SpecCode::Twice, 27),
         (b"INPUTS { a; a; } }", SpecCode::Twice, 12),
+        (b"OUTPUTS { a; } INPUTS { a; } }", SpecCode::Twice, 24),
         (b"INPUTS { } ASSERT { a - } }", SpecCode::Unexpected, 24),
         (b"ASSERT { a &&", SpecCode::Unexpected, 13),
         (b"ASSERT { a && [ } }", SpecCode::Unexpected, 14),
@@ -126,6 +127,11 @@ fn definitions_are_refused_at_their_places(rt: HostRuntime) -> Result<(), Fail> 
             31,
         ),
         (b"DEFINITIONS { enum E = A: 0 E: 1 }", SpecCode::Twice, 28),
+        (
+            b"DEFINITIONS { n = 1; } PARAMETERS { n = 2; }",
+            SpecCode::Twice,
+            36,
+        ),
     ] {
         let text = text_of(alloc, global, b"INPUTS { } OUTPUTS { }")?;
         assert!(rt; place < 1000);

@@ -112,6 +112,9 @@ fn indices_and_calls_are_tested_in_their_order(rt: HostRuntime) -> Result<(), Fa
         (b"$A[0]", SpecCode::WrongSort),
         (b"$n[0]", SpecCode::WrongSort),
         (b"b[$3]", SpecCode::IndexOut),
+        (b"b[$0 - 1]", SpecCode::IndexOut),
+        (b"&&[0 <= f < 1] $f(1)", SpecCode::WrongSort),
+        (b"&&[0 <= b < 1] $b[0]", SpecCode::WrongSort),
         (b"$x(y)", SpecCode::UnknownName),
         (b"$T(y)", SpecCode::WrongSort),
         (b"$A(y)", SpecCode::WrongSort),
@@ -120,6 +123,7 @@ fn indices_and_calls_are_tested_in_their_order(rt: HostRuntime) -> Result<(), Fa
     ] {
         assert_formula_refused(&rt, alloc, definitions, formula, code)?;
     }
+    assert_formula_refused(&rt, alloc, b"d = false : r;", b"$d", SpecCode::NoGuard)?;
     assert_formula_refused(&rt, alloc, b"p = 1 / $0;", b"p[y]", SpecCode::ZeroDivisor)
 }
 
@@ -138,6 +142,7 @@ fn sorts_are_tested_once_all_parts_are_evaluated(rt: HostRuntime) -> Result<(), 
         (b"X[$true] 1", SpecCode::WrongSort),
         (b"X[0 - 1] $1", SpecCode::WrongSort),
         (b"X[$0 - 1] r", SpecCode::NumberRange),
+        (b"F[true : 1] $z", SpecCode::UnknownName),
         (b"F[0 - 1 : $true] r", SpecCode::WrongSort),
         (b"G[0 - 1 : 2] $1", SpecCode::WrongSort),
         (b"&&[0 <= i < 2] $i", SpecCode::WrongSort),
@@ -180,6 +185,23 @@ fn a_full_list_is_met_at_the_whole(rt: HostRuntime) -> Result<(), Fail> {
     let fault = expand_text(alloc, &text, None).err();
     let code = SpecCode::TooManyNodes;
     assert_eq!(rt; fault, Some(SpecFault::At { code, place: 0 }));
+    Ok(())
+}
+
+// A kind that is given goes before those that the text names, and needs no two that agree.
+#[test]
+fn the_kind_is_the_one_given_or_the_text_s(rt: HostRuntime) -> Result<(), Fail> {
+    let alloc = rt.alloc();
+    let text = b"INFO { TITLE: \"t\" DESCRIPTION: \"d\" SEMANTICS: Moore TARGET: Moore }\n\
+        MAIN { INPUTS { } OUTPUTS { } }\n";
+    for (given, kind) in [
+        (None, Kind::Moore),
+        (Some(Kind::Mealy), Kind::Mealy),
+        (Some(Kind::Moore), Kind::Moore),
+    ] {
+        let spec = expand_text(alloc, text, given)?;
+        assert_eq!(rt; spec.kind, kind);
+    }
     Ok(())
 }
 
@@ -230,6 +252,11 @@ fn parts_of_a_text_have_their_order(rt: HostRuntime) -> Result<(), Fail> {
         (
             b"",
             b"OUTPUTS { b[2]; } INPUTS { r[SIZEOF $b]; }",
+            SpecCode::UnknownName,
+        ),
+        (
+            b"",
+            b"INPUTS { r[SIZEOF $r]; } OUTPUTS { }",
             SpecCode::UnknownName,
         ),
         (
@@ -293,14 +320,15 @@ fn added_formulas_of_inputs_come_first(rt: HostRuntime) -> Result<(), Fail> {
     Ok(())
 }
 
-/// The nodes of the text whose six sections are the inputs `e`, `r`, `a` and the outputs `s`, `t`, `h`.
+/// The nodes of the text whose six sections have two formulas each, over the input buses `e`, `r`, `a` and the output buses `s`, `t`, `h`.
 fn nodes_of_six_sections(alloc: Global, semantics: &[u8]) -> Result<Vec<Node>, SpecFault> {
     let mut text = Vec::new(alloc);
     for part in [
         b"INFO { TITLE: \"t\" DESCRIPTION: \"d\" SEMANTICS: ",
         semantics,
-        b" TARGET: Mealy } MAIN { INPUTS { e; r; a; } OUTPUTS { s; t; h; } INITIALLY { e; } ",
-        b"PRESET { s; } REQUIRE { r; } ASSERT { t; } ASSUME { a; } GUARANTEE { h; } }",
+        b" TARGET: Mealy } MAIN { INPUTS { e[2]; r[2]; a[2]; } OUTPUTS { s[2]; t[2]; h[2]; } ",
+        b"INITIALLY { e[0]; e[1]; } PRESET { s[0]; s[1]; } REQUIRE { r[0]; r[1]; } ",
+        b"ASSERT { t[0]; t[1]; } ASSUME { a[0]; a[1]; } GUARANTEE { h[0]; h[1]; } }",
     ] {
         text.extend_from_slice(part)?;
     }
@@ -308,54 +336,72 @@ fn nodes_of_six_sections(alloc: Global, semantics: &[u8]) -> Result<Vec<Node>, S
     Ok(nodes_of(alloc, &spec.formulas)?)
 }
 
-/// The nodes of `e`, `s`, `r`, `t`, `a` and `h`, the sections being evaluated in their order.
-const SIGNALS: [Node; 6] = [
+/// The nodes of the signals of `e`, `s`, `r`, `t`, `a` and `h`, the sections being evaluated in their order.
+const SIGNALS: [Node; 12] = [
     Node::Signal(0),
-    Node::Signal(3),
     Node::Signal(1),
-    Node::Signal(4),
+    Node::Signal(6),
+    Node::Signal(7),
     Node::Signal(2),
+    Node::Signal(3),
+    Node::Signal(8),
+    Node::Signal(9),
+    Node::Signal(4),
     Node::Signal(5),
+    Node::Signal(10),
+    Node::Signal(11),
 ];
 
 const fn id(place: u32) -> FormulaId {
     FormulaId(place)
 }
 
-// e -> (s && ((G r && a) -> (G t && h)))
+// e -> (s && ((G r && a) -> (G t && h))), each section being the conjunction of its two
 #[test]
 fn the_standard_whole_is_made_from_left_to_right(rt: HostRuntime) -> Result<(), Fail> {
     let nodes = nodes_of_six_sections(rt.alloc(), b"Mealy")?;
-    let (signals, whole) = nodes.split_at(6.min(nodes.len()));
+    let (signals, whole) = nodes.split_at(12.min(nodes.len()));
     assert_eq!(rt; signals, SIGNALS.as_slice());
     let expected = [
-        Node::Globally(id(2)),
-        Node::And(id(6), id(4)),
-        Node::Globally(id(3)),
-        Node::And(id(8), id(5)),
-        Node::Implies(id(7), id(9)),
-        Node::And(id(1), id(10)),
-        Node::Implies(id(0), id(11)),
+        Node::And(id(0), id(1)),
+        Node::And(id(2), id(3)),
+        Node::And(id(4), id(5)),
+        Node::Globally(id(14)),
+        Node::And(id(8), id(9)),
+        Node::And(id(15), id(16)),
+        Node::And(id(6), id(7)),
+        Node::Globally(id(18)),
+        Node::And(id(10), id(11)),
+        Node::And(id(19), id(20)),
+        Node::Implies(id(17), id(21)),
+        Node::And(id(13), id(22)),
+        Node::Implies(id(12), id(23)),
     ];
     assert_eq!(rt; whole, expected.as_slice());
     Ok(())
 }
 
-// e -> (s && (t W !r) && ((G r && a) -> h))
+// e -> (s && (t W !r) && ((G r && a) -> h)), each section being the conjunction of its two
 #[test]
 fn the_strict_whole_is_made_from_left_to_right(rt: HostRuntime) -> Result<(), Fail> {
     let nodes = nodes_of_six_sections(rt.alloc(), b"Mealy, Strict")?;
-    let (signals, whole) = nodes.split_at(6.min(nodes.len()));
+    let (signals, whole) = nodes.split_at(12.min(nodes.len()));
     assert_eq!(rt; signals, SIGNALS.as_slice());
     let expected = [
-        Node::Not(id(2)),
-        Node::WeakUntil(id(3), id(6)),
-        Node::And(id(1), id(7)),
-        Node::Globally(id(2)),
-        Node::And(id(9), id(4)),
-        Node::Implies(id(10), id(5)),
-        Node::And(id(8), id(11)),
-        Node::Implies(id(0), id(12)),
+        Node::And(id(0), id(1)),
+        Node::And(id(2), id(3)),
+        Node::And(id(6), id(7)),
+        Node::And(id(4), id(5)),
+        Node::Not(id(15)),
+        Node::WeakUntil(id(14), id(16)),
+        Node::And(id(13), id(17)),
+        Node::Globally(id(15)),
+        Node::And(id(8), id(9)),
+        Node::And(id(19), id(20)),
+        Node::And(id(10), id(11)),
+        Node::Implies(id(21), id(22)),
+        Node::And(id(18), id(23)),
+        Node::Implies(id(12), id(24)),
     ];
     assert_eq!(rt; whole, expected.as_slice());
     Ok(())
@@ -412,6 +458,9 @@ fn truths_beside_formulas_become_nodes(rt: HostRuntime) -> Result<(), Fail> {
         Node::And(id(1), id(2)),
     ];
     assert_eq!(rt; nodes.get(..4), Some(both.as_slice()));
+    let nodes = nodes_of_guarantee(rt.alloc(), b"Mealy", b"true U false;")?;
+    let truths = [Node::True, Node::False, Node::Until(id(0), id(1))];
+    assert_eq!(rt; nodes.get(..3), Some(truths.as_slice()));
     Ok(())
 }
 

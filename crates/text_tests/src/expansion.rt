@@ -2,7 +2,7 @@
 
 use crate::fixtures::{
     assert_expanded, assert_formula_refused, assert_guarantees, assert_refused_at_mark, lines_of,
-    text_of,
+    text_of, whole_has_text,
 };
 use flat_text::expand_text;
 use letter_word::Kind;
@@ -352,6 +352,24 @@ fn declarations_and_bodies_have_their_own_names(rt: HostRuntime) -> Result<(), F
     ] {
         let text = text_of(alloc, definitions, parts)?;
         assert_refused_at_mark(&rt, alloc, &text, code)?;
+    }
+    Ok(())
+}
+
+// A formula of some 400 nodes, whose text would have more bytes than any memory, and one of a few.
+#[test]
+fn a_text_that_is_too_long_is_refused_at_once(rt: HostRuntime) -> Result<(), Fail> {
+    let alloc = rt.alloc();
+    let definition = b"f(n, x) = n > 0 : f(n - 1, x && x) otherwise : x;";
+    for (parts, wanted) in [
+        (
+            b"INPUTS { r; } OUTPUTS { } GUARANTEE { f(400, r); }".as_slice(),
+            false,
+        ),
+        (b"INPUTS { r; } OUTPUTS { } GUARANTEE { f(4, r); }", true),
+    ] {
+        let spec = expand_text(alloc, &text_of(alloc, definition, parts)?, None)?;
+        assert!(rt; whole_has_text(alloc, &spec)? == wanted);
     }
     Ok(())
 }

@@ -100,6 +100,16 @@ fn push_section(
     Ok(())
 }
 
+/// Whether there is memory for the text of the formula of the whole.
+pub(crate) fn whole_has_text(alloc: Global, spec: &Spec) -> Result<bool, Fail> {
+    let names = sixteen_names(alloc, spec)?;
+    if (spec.whole.0 as usize) >= spec.formulas.len() {
+        return Err(Fail::from("no such formula"));
+    }
+    let mut text = Vec::new(alloc);
+    Ok(write_formula(&spec.formulas, spec.whole, &names, &mut text).is_ok())
+}
+
 /// The signals, then each section's formulas, a line each.
 pub(crate) fn lines_of(alloc: Global, spec: &Spec) -> Result<Vec<u8>, Fail> {
     let words: [&[u8]; 6] = [

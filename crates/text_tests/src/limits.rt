@@ -65,7 +65,8 @@ fn a_chain_is_one_node(rt: HostRuntime) -> Result<(), Fail> {
     Ok(())
 }
 
-// Eight for each member, the call, the counted form, its count, the signal, three X's and the body: 3 + 8 * 124999 is 999,995.
+// Eight for each member, the call, the counted form, its count, the signal, three X's and the body: 3 + 8 * 124999 is 999,995. With the
+// window they are nine, its X being one and its X X two more: 3 + 9 * 111110 is 999,993.
 #[test]
 fn each_added_x_is_an_evaluation(rt: HostRuntime) -> Result<(), Fail> {
     let alloc = rt.alloc();
@@ -73,6 +74,11 @@ fn each_added_x_is_an_evaluation(rt: HostRuntime) -> Result<(), Fail> {
         (b"&&[0 <= i < 124999] f(X[3] r)".as_slice(), None),
         (
             b"&&[0 <= i < 125000] f($X[3] r)",
+            Some(SpecCode::ExpandTooLong),
+        ),
+        (b"&&[0 <= i < 111110] f(G[0:2] r)", None),
+        (
+            b"&&[0 <= i < 111111] f($G[0:2] r)",
             Some(SpecCode::ExpandTooLong),
         ),
     ] {

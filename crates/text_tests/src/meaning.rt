@@ -7,15 +7,19 @@ use std::alloc::Global;
 use std::process::Abort;
 use std::test::Fail;
 
-/// Whether the formula of the whole of a text with these semantics holds on the word of letters without signals. ASSERT
-/// wants the input at each step, and ASSUME wants the output once.
-fn holds_in_silence(rt: &impl Abort, alloc: Global, semantics: &[u8]) -> Result<bool, Fail> {
+/// Whether the formula of the whole of a text holds on the word of letters without signals. The text is given from the value of SEMANTICS on.
+fn holds_in_silence(
+    rt: &impl Abort,
+    alloc: Global,
+    semantics: &[u8],
+    rest: &[u8],
+) -> Result<bool, Fail> {
     let mut text = Vec::new(alloc);
     for part in [
         b"INFO { TITLE: \"t\" DESCRIPTION: \"d\" SEMANTICS: ",
         semantics,
         b" TARGET: Mealy }\n",
-        b"MAIN { INPUTS { r; } OUTPUTS { h; } ASSERT { r; } ASSUME { F h; } }\n",
+        rest,
     ] {
         text.extend_from_slice(part)?;
     }
@@ -25,11 +29,26 @@ fn holds_in_silence(rt: &impl Abort, alloc: Global, semantics: &[u8]) -> Result<
     Ok(holds_at(alloc, &spec.formulas, spec.whole, &lasso, 0)?)
 }
 
-// The assumption fails, so by standard semantics nothing is owed; by strict semantics ASSERT is, as long as REQUIRE holds.
+// ASSERT wants the input at each step, and ASSUME wants the output once. The assumption fails, so by standard semantics nothing is owed; by strict
+// semantics ASSERT is, as long as REQUIRE holds.
 #[test]
 fn strict_semantics_owes_more(rt: HostRuntime) -> Result<(), Fail> {
     let alloc = rt.alloc();
-    assert!(rt; holds_in_silence(&rt, alloc, b"Mealy")?);
-    assert!(rt; !holds_in_silence(&rt, alloc, b"Mealy, Strict")?);
+    let main = b"MAIN { INPUTS { r; } OUTPUTS { h; } ASSERT { r; } ASSUME { F h; } }\n";
+    assert!(rt; holds_in_silence(&rt, alloc, b"Mealy", main)?);
+    assert!(rt; !holds_in_silence(&rt, alloc, b"Mealy, Strict", main)?);
+    Ok(())
+}
+
+// The environment owes an input of a type a value of the type. Where 0 is none, the word lacks it and nothing is owed; where 0 is one, `false` is.
+#[test]
+fn typed_inputs_are_assumed(rt: HostRuntime) -> Result<(), Fail> {
+    let alloc = rt.alloc();
+    let only_one = b"GLOBAL { DEFINITIONS { enum T = A: 1; } }\n\
+        MAIN { INPUTS { T t; } OUTPUTS { } GUARANTEE { false; } }\n";
+    assert!(rt; holds_in_silence(&rt, alloc, b"Mealy", only_one)?);
+    let any = b"GLOBAL { DEFINITIONS { enum T = A: *; } }\n\
+        MAIN { INPUTS { T t; } OUTPUTS { } GUARANTEE { false; } }\n";
+    assert!(rt; !holds_in_silence(&rt, alloc, b"Mealy", any)?);
     Ok(())
 }

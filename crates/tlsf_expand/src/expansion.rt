@@ -46,8 +46,8 @@ fn listed(alloc: Global, sections: FlatSections) -> Result<Vec<Section>, AllocEr
     Ok(list)
 }
 
-/// The flat sections of a text, with the formula of the whole, or its first fault. A kind that is given stands for those
-/// that the text names.
+/// The flat sections of a text, with the formula of the whole, or its first fault of those that come after reading and before
+/// normal forms. A kind that is given stands for those that the text names.
 pub fn expand(alloc: Global, tree: &SpecTree, kind: Option<Kind>) -> Result<Spec, SpecFault>
     ensures expansion { IsExpansion result (expanded (text_seen tree.now) kind) }
     ensures sections { IfOk result (λ spec. vec_len spec.sections ≡ 6) }
