@@ -72,7 +72,8 @@ impl BitSet {
     }
 
     /// Whether the set has more than so many numbers. It stops at the word that has the first one past them, so it counts the bits of nearly all words where
-    /// few numbers stand at high places, which takes as long as an operator, or longer where the processor has no instruction for it.
+    /// few numbers stand at high places, which takes about as long as an operator, and several times as
+    /// long in a program that is built without the processor's instruction for it.
     pub(crate) fn has_more_than(&self, limit: usize) -> bool {
         let mut left = limit;
         for word in self.words.iter() {

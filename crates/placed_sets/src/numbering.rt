@@ -76,10 +76,10 @@ impl Numbering {
     }
 
     /// The numbers of both, and those that only one of the two has. Two lists take what `set_of` takes of their numbers, and are bits where more than 32
-    /// differ. Bits stay bits, in the words of the first set: those words are copied only where a copy of that set shares them, or to have more of them. Then
-    /// it takes with a list a look-up for each number of the list, which gets a place, and with bits a step for 64 places of the second set; a list with bits
-    /// takes a copy of the words of the second. Where numbers come that had no place, it also takes a copy of up to 1,024 numbers, and where 2^32 numbers have
-    /// a place and one more needs it, the answer is want of memory.
+    /// differ. All else is bits. Two that are bits take a step for 64 places of the second set, in the words of the first. Bits and a list, either way round, take
+    /// a look-up for each number of the list, which gets a place, in the words of the bits. Those words are copied where they are the second set's or a copy of
+    /// the set shares them, and where there must be more of them. Where numbers come that had no place, it also takes a copy of up to 1,024 numbers, and where
+    /// 2^32 numbers have a place and one more needs it, the answer is want of memory.
     pub fn joined(&mut self, left: PlacedSet, right: &PlacedSet) -> Result<PlacedSet, AllocError>
         requires left { IsPrefix left.over self.old }
         requires right { IsPrefix right.now.over self.old }
@@ -97,7 +97,7 @@ impl Numbering {
 
     /// The numbers that both have. Where one of the two is a list, it takes a test by `contains` for each number of it, and makes a list. Of two that are bits
     /// it makes bits in the words of the first set, however few numbers are left: it takes a copy of those words where a copy of that set shares them, and a
-    /// step for 64 of the places up to which both go.
+    /// step for 64 places of the first set.
     pub fn met(&self, left: PlacedSet, right: &PlacedSet) -> Result<PlacedSet, AllocError>
         requires left { IsPrefix left.over self.now }
         requires right { IsPrefix right.now.over self.now }

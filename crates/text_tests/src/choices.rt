@@ -188,9 +188,8 @@ fn a_full_list_is_met_at_the_whole(rt: HostRuntime) -> Result<(), Fail> {
     Ok(())
 }
 
-// A kind that is given goes before those that the text names, and needs no two that agree.
 #[test]
-fn the_kind_is_the_one_given_or_the_text_s(rt: HostRuntime) -> Result<(), Fail> {
+fn a_given_kind_goes_before_that_of_the_text(rt: HostRuntime) -> Result<(), Fail> {
     let alloc = rt.alloc();
     let text = b"INFO { TITLE: \"t\" DESCRIPTION: \"d\" SEMANTICS: Moore TARGET: Moore }\n\
         MAIN { INPUTS { } OUTPUTS { } }\n";

@@ -7,7 +7,7 @@ use std::alloc::Global;
 use std::process::Abort;
 use std::test::Fail;
 
-/// Whether the formula of the whole of a text holds on the word of letters without signals. The text is given from the value of SEMANTICS on.
+/// Whether the formula of the whole of a text with these semantics, and these parts after INFO, holds on the word of letters without signals.
 fn holds_in_silence(
     rt: &impl Abort,
     alloc: Global,
@@ -40,7 +40,8 @@ fn strict_semantics_owes_more(rt: HostRuntime) -> Result<(), Fail> {
     Ok(())
 }
 
-// The environment owes an input of a type a value of the type. Where 0 is none, the word lacks it and nothing is owed; where 0 is one, `false` is.
+// The environment owes an input of a type a value of that type. Where 0 is no value of it, the word breaks that and nothing is owed; where it is one,
+// `false` is owed.
 #[test]
 fn typed_inputs_are_assumed(rt: HostRuntime) -> Result<(), Fail> {
     let alloc = rt.alloc();

@@ -29,8 +29,8 @@ impl SetOperation {
         }
     }
 
-    /// It takes time in proportion to a 64th of the numbers that have a place, or to the numbers of two sets that are lists. The left set's memory serves
-    /// again where no copy shares it.
+    /// It takes time in proportion to a 64th of the numbers that have a place, or to the numbers of two sets that are lists. Where the left set is bits that no
+    /// copy shares, bits are made in its memory.
     pub(crate) fn combined(
         self,
         numbering: &mut Numbering,
