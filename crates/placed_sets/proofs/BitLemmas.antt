@@ -1,13 +1,13 @@
 -- Bits of words, and of the words that operators make.
 use Rattle.std.proofs.Common.{◌≡◌, ◌≢◌, ℕ, ◌+◌, ◌-◌, ◌*◌, ◌/◌, ◌%◌, ◌^◌, ◌<◌, ◌≤◌, min, max, inl, inr, Bool, true, false, not, ◌||◌, ◌&&◌, List, ◌++◌, length, take, replicate, set, get_or, refl, sym, ap, ◌∙◌, arith}
-use Rattle.std.specs.Prelude.{◌==◌, bit_and, bit_or}
+use Rattle.std.specs.Prelude.{◌==◌, ◌↔◌, bit_and, bit_or}
 use Rattle.std.specs.Int.{bit_at, bit_not, w64}
 use Rattle.std.specs.Int.RustNames.{bit_xor}
 use Rattle.std.proofs.lemmas.Bool.{cases_eq, cases_lt, eq-eqb, ne_eqb}
 use Rattle.std.proofs.lemmas.Bool.Decides.{nat_tests}
 use Rattle.std.proofs.lemmas.List.{get_or-append_right, get_or-replicate, get_or-set_other, get_or-set_same, get_or_append_left, get_or_past, length-replicate, take_all}
 use Rattle.std.proofs.lemmas.Nat.Bits.{bit_at-lt, bit_at-zero, bit_at_above, bit_at_and, bit_at_not, bit_at_or, bit_at_set_other, bit_at_set_same, bit_at_xor, same_from_bits}
-use Rattle.placed_sets.specs.Bits.{bit_of, both, either, first_alone, GainsPlace, has, IsBitwise, LosesPlace, with_bit}
+use Rattle.placed_sets.specs.Bits.{AreBlank, bit_of, both, either, first_alone, GainsPlace, has, IsBitwise, LosesPlace, with_bit}
 
 pub no_bit : (k : ℕ) → has 0 k ≡ false
 no_bit k = ap (λ n. n == 1) (bit_at-zero k)
@@ -211,3 +211,38 @@ loses old new place within is = record { at = λ p. ap (λ ws. bit_of ws p) is �
               | inl here ↦ eq-eqb (p % 64) (place % 64) (ap (λ q. q % 64) here) ∙ sym (eq-eqb p place here)
               | inr there ↦ let apart : p % 64 ≢ place % 64 = λ e. there (omega (arith, e, same_word)) in ne_eqb (p % 64) (place % 64) apart ∙ sym (ne_eqb p place there)
             ]
+
+-- where two words together have no bits, neither has
+or_none : (a b : ℕ) → bit_or a b ≡ 0 → (a ≡ 0) × (b ≡ 0)
+or_none a b is = (same_from_bits a 0 (λ i. first i), same_from_bits b 0 (λ i. second i))
+  where
+    none : (i : ℕ) → max (bit_at a i) (bit_at b i) ≡ 0
+    none i = sym (bit_at_or a b i) ∙ ap (λ w. bit_at w i) is ∙ bit_at-zero i
+
+    first : (i : ℕ) → bit_at a i ≡ bit_at 0 i
+    first i = let zero_bit : bit_at a i ≡ 0 = omega (arith, none i) in zero_bit ∙ sym (bit_at-zero i)
+
+    second : (i : ℕ) → bit_at b i ≡ bit_at 0 i
+    second i = let zero_bit : bit_at b i ≡ 0 = omega (arith, none i) in zero_bit ∙ sym (bit_at-zero i)
+
+-- one more word
+pub blank_more : (words : List ℕ) (first index bits : ℕ) → first ≤ index → (bits ≡ 0) ↔ AreBlank words first index → (bit_or bits (get_or words index 0) ≡ 0) ↔ AreBlank words first (index + 1)
+blank_more words first index bits from so_far = (there, back)
+  where
+    there : bit_or bits (get_or words index 0) ≡ 0 → AreBlank words first (index + 1)
+    there is =
+        let parts = or_none bits (get_or words index 0) is in
+        let before = so_far.0 parts.0 in
+        record {
+          at = λ k low high.
+              elim (cases_eq k index) [
+                | inl same ↦ ap (λ j. get_or words j 0) same ∙ parts.1
+                | inr other ↦ before.at k low (omega (arith, other))
+              ];
+        }
+
+    back : AreBlank words first (index + 1) → bit_or bits (get_or words index 0) ≡ 0
+    back blank =
+        let nothing : bits ≡ 0 = so_far.1 (record { at = λ k low high. blank.at k low (omega arith) }) in
+        let word : get_or words index 0 ≡ 0 = blank.at index from (omega arith) in
+        ap (λ b. bit_or b (get_or words index 0)) nothing ∙ ap (bit_or 0) word

@@ -1,13 +1,13 @@
 -- The numbers of a list at places that pass a test.
-use Rattle.std.proofs.Common.{◌≡◌, ℕ, zero, suc, ◌+◌, ◌*◌, ◌/◌, ◌%◌, ◌<◌, ◌≤◌, inl, inr, Bool, true, false, ◌||◌, List, [], ◌∷◌, ◌++◌, length, take, drop, get_or, slice_get, Option, None, Some, ℤ, pos, refl, sym, ap, ◌∙◌, arith}
+use Rattle.std.proofs.Common.{◌≡◌, ℕ, zero, suc, ◌+◌, ◌*◌, ◌/◌, ◌%◌, ◌<◌, ◌≤◌, inl, inr, Bool, true, false, ◌||◌, List, [], ◌∷◌, ◌++◌, length, take, drop, get_or, min, slice_get, Option, None, Some, ℤ, pos, refl, sym, ap, ◌∙◌, arith}
 use Rattle.std.specs.Prelude.{if◌then◌else◌, slice_index}
 use Rattle.std.specs.List.{AllByRecursion, IsDistinct}
 use Rattle.std.specs.Ordering.{int_eq}
 use Rattle.std.proofs.lemmas.Bool.{cases_lt}
 use Rattle.std.proofs.lemmas.Cmp.{int_eq_equiv}
-use Rattle.std.proofs.lemmas.List.{append-nil, length-take-le, take-append-drop, take_all, take_more}
+use Rattle.std.proofs.lemmas.List.{append-nil, get_or_past, length-take-le, take-append-drop, take_all, take_more}
 use Rattle.std.proofs.lemmas.Option.{get_or_from_slice_get, slice_get-get_or, slice_get_within}
-use Rattle.placed_sets.specs.Bits.{bit_of, chosen, chosen_before, has}
+use Rattle.placed_sets.specs.Bits.{AreBlank, bit_of, chosen, chosen_before, has}
 use Rattle.placed_sets.specs.Placed.{IsPrefix}
 use Rattle.placed_sets.specs.Sets.{is_in}
 use Rattle.placed_sets.proofs.BitLemmas.{no_bit, no_bit_past}
@@ -147,14 +147,14 @@ before_word words index (suc n) us empty small =
     ap (λ p. chosen_before words p us) next ∙ before_skipped (bit_of words) (64 * index + n) us none ∙ before_word words index n us empty (omega arith)
 
 -- no place past the words is chosen
-pub before_all : (words : List ℕ) (us : List ℤ) → chosen_before words (64 * length words) us ≡ chosen (bit_of words) 0 us
-before_all words us =
-    elim (cases_lt (64 * length words) (length us)) [
+pub before_all : (words : List ℕ) (n : ℕ) (us : List ℤ) → 64 * length words ≤ n → chosen_before words n us ≡ chosen (bit_of words) 0 us
+before_all words n us all =
+    elim (cases_lt n (length us)) [
       | inl within ↦
-          let short : length (take (64 * length words) us) ≡ 64 * length words = length-take-le (64 * length words) us (omega (arith, within)) in
-          sym (chosen-prefix (bit_of words) (take (64 * length words) us) us (record { more = drop (64 * length words) us; is = sym (take-append-drop (64 * length words) us) })
-          (λ p h. no_bit_past words p (omega (arith, h, short))))
-      | inr past ↦ ap (chosen (bit_of words) 0) (take_all (64 * length words) us past)
+          let short : length (take n us) ≡ n = length-take-le n us (omega (arith, within)) in
+          sym (chosen-prefix (bit_of words) (take n us) us (record { more = drop n us; is = sym (take-append-drop n us) })
+          (λ p h. no_bit_past words p (omega (arith, h, short, all))))
+      | inr past ↦ ap (chosen (bit_of words) 0) (take_all n us past)
     ]
 
 -- one word is done
@@ -163,3 +163,22 @@ word_done words index us xs is = let next : 64 * index + 64 ≡ 64 * (index + 1)
 
 pub word_skipped : (words : List ℕ) (index : ℕ) (us xs : List ℤ) → xs ≡ chosen_before words (64 * index) us → slice_index words index ≡ 0 → xs ≡ chosen_before words (64 * (index + 1)) us
 word_skipped words index us xs is empty = word_done words index us xs (is ∙ sym (before_word words index 64 us empty (omega arith)))
+
+-- words without bits are passed over
+pub blank_skipped : (words : List ℕ) (first n : ℕ) (us xs : List ℤ) → xs ≡ chosen_before words (64 * first) us → AreBlank words first (first + n) → xs ≡ chosen_before words (64 * (first + n)) us
+blank_skipped words first zero us xs is blank = let same : 64 * first ≡ 64 * (first + 0) = omega arith in is ∙ ap (λ p. chosen_before words p us) same
+blank_skipped words first (suc n) us xs is blank =
+    let before : AreBlank words first (first + n) = record { at = λ index from to. blank.at index from (omega arith) } in
+    let next : 64 * (first + n + 1) ≡ 64 * (first + suc n) = omega arith in
+    word_skipped words (first + n) us xs (blank_skipped words first n us xs is before) (blank.at (first + n) (omega arith) (omega arith)) ∙ ap (λ p. chosen_before words p us) next
+
+-- the words past the end have no bits either
+pub blank_past : (words : List ℕ) (first end to : ℕ) → end ≡ min (length words) to → AreBlank words first end → AreBlank words first to
+blank_past words first end to is blank = record { at = at }
+  where
+    at : (index : ℕ) → first ≤ index → index < to → slice_index words index ≡ 0
+    at index from before =
+        elim (cases_lt index (length words)) [
+          | inl within ↦ blank.at index from (omega (arith, within))
+          | inr past ↦ get_or_past words index 0 past
+        ]

@@ -1,5 +1,5 @@
 -- Bits of places in words of 64 bits: this project's own.
-use Rattle.std.specs.Prelude.{◌≡◌, ◌==◌, ℕ, suc, ◌/◌, ◌%◌, ◌^◌, ◌*◌, Bool, ◌||◌, ◌&&◌, not, List, [], ◌∷◌, Option, None, Some, ℤ, slice_index, take, if◌then◌else◌, bit_or}
+use Rattle.std.specs.Prelude.{◌≡◌, ◌==◌, ℕ, suc, ◌<◌, ◌≤◌, ◌/◌, ◌%◌, ◌^◌, ◌*◌, Bool, ◌||◌, ◌&&◌, not, List, [], ◌∷◌, Option, None, Some, ℤ, slice_index, take, if◌then◌else◌, bit_or}
 use Rattle.std.specs.Int.{bit_at}
 use Rattle.std.specs.Ordering.{int_eq}
 
@@ -28,6 +28,10 @@ chosen_before words place us = chosen (bit_of words) 0 (take place us)
 abbrev pub place_from : ℤ → ℕ → List ℤ → Option ℕ
 place_from z k [] = None
 place_from z k (u ∷ us) = if int_eq z u then Some k else place_from z (suc k) us
+
+-- the words from one index up to another have no bits
+pub record AreBlank (words : List ℕ) (first end : ℕ) : Type 0 where
+  pub at : (index : ℕ) → first ≤ index → index < end → slice_index words index ≡ 0
 
 -- each place has in the last words what f makes of what it has in the first and in the second ones
 pub record IsBitwise (f : Bool → Bool → Bool) (xs ys zs : List ℕ) : Type 0 where

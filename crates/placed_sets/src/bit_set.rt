@@ -1,6 +1,6 @@
 // Sets as bits of places.
 
-ghost use Rattle.std.specs.Prelude.{◌≡◌, ◌+◌, ◌*◌, ◌<◌, ◌^◌, IfOk, OnOk};
+ghost use Rattle.std.specs.Prelude.{◌≡◌, ◌+◌, ◌*◌, ◌<◌, ◌≤◌, ◌^◌, length, IfOk, OnOk};
 ghost use Rattle.std.specs.List.{IsDistinct};
 ghost use Rattle.std.specs.Ordering.{int_eq};
 ghost use Rattle.placed_sets.specs.Bits.{chosen_before};
@@ -12,6 +12,10 @@ use crate::words::{self, PLACES};
 use std::alloc::{AllocError, Global};
 use std::marker::Model;
 use std::rc::Rc;
+
+/// So many words are passed over at once where none of them has a bit. An operator may leave a set few numbers, and such a set is listed as often as it is
+/// evaluated.
+const BLOCK: usize = 256;
 
 /// A set of numbers that have places; its copies share what it holds. It takes an eighth of a byte for each place up to the highest of the numbers that
 /// its words were made for, whether it has them or not.
@@ -111,13 +115,34 @@ impl BitSet {
         ensures distinct { IfOk result (λ v. IsDistinct int_eq v.items) }
     {
         let mut numbers = Vec::new(alloc);
-        for (index, word) in self.words.iter().enumerate() {
-            if *word != 0 {
-                push_word(&self.over, &self.words, index, &mut numbers)?;
-            }
+        for block in 0..self.words.len() / BLOCK + 1 {
+            push_block(&self.over, &self.words, block, &mut numbers)?;
         }
         Ok(numbers)
     }
+}
+
+/// Goes on from the numbers at the places before a block of words to those up to its end.
+fn push_block(
+    over: &NumberList,
+    words: &[u64],
+    block: usize,
+    numbers: &mut Vec<i64>,
+) -> Result<(), AllocError>
+    requires small { block < 2 ^ 32 }
+    requires within { 256 * block ≤ length words.now }
+    requires before { numbers.old.items ≡ chosen_before words.now (64 * (256 * block)) over.now }
+    ensures { OnOk result (numbers.new.items ≡ chosen_before words.now (64 * (256 * block + 256)) over.now) }
+{
+    let first = block * BLOCK;
+    let end = words.len().min(first + BLOCK);
+    if words::all_bits(words, first, end) == 0 {
+        return Ok(());
+    }
+    for step in 0..BLOCK {
+        push_word(over, words, first + step, numbers)?;
+    }
+    Ok(())
 }
 
 /// Goes on from the numbers at the places before a word to those up to its end.
@@ -127,10 +152,13 @@ fn push_word(
     index: usize,
     numbers: &mut Vec<i64>,
 ) -> Result<(), AllocError>
-    requires small { index < 2 ^ 26 }
+    requires small { index < 2 ^ 40 }
     requires before { numbers.old.items ≡ chosen_before words.now (64 * index) over.now }
     ensures { OnOk result (numbers.new.items ≡ chosen_before words.now (64 * index + 64) over.now) }
 {
+    if words::word_at(words, index) == 0 {
+        return Ok(());
+    }
     for bit in 0..PLACES {
         push_place(over, words, index * PLACES + bit, numbers)?;
     }

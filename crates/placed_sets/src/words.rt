@@ -1,8 +1,8 @@
 // Words of 64 bits, a bit for each place.
 
-ghost use Rattle.std.specs.Prelude.{◌≡◌, ◌==◌, ◌<◌, ◌≤◌, ◌+◌, ◌*◌, ◌/◌, ◌%◌, ◌^◌, ℕ, length, max, min, IfOk, OnOk, slice_index, vec_len, bit_and};
+ghost use Rattle.std.specs.Prelude.{◌≡◌, ◌↔◌, ◌==◌, ◌<◌, ◌≤◌, ◌+◌, ◌*◌, ◌/◌, ◌%◌, ◌^◌, ℕ, length, max, min, IfOk, OnOk, slice_index, vec_len, bit_and};
 ghost use Rattle.std.specs.Int.RustNames.{bit_xor};
-ghost use Rattle.placed_sets.specs.Bits.{bit_of, both, either, first_alone, GainsPlace, has, IsBitwise, LosesPlace, with_bit};
+ghost use Rattle.placed_sets.specs.Bits.{AreBlank, bit_of, both, either, first_alone, GainsPlace, has, IsBitwise, LosesPlace, with_bit};
 
 use std::alloc::AllocError;
 
@@ -17,6 +17,29 @@ pub(crate) fn has_place(words: &[u64], place: usize) -> bool
         Some(word) => has_bit(*word, place % PLACES),
         None => false,
     }
+}
+
+/// The word at the index; past the end it has no bits.
+pub(crate) fn word_at(words: &[u64], index: usize) -> u64
+    ensures { result ≡ slice_index words.now index }
+{
+    match words.get(index) {
+        Some(word) => *word,
+        None => 0,
+    }
+}
+
+/// The bits that any of the words from `first` up to `end` has.
+pub(crate) fn all_bits(words: &[u64], first: usize, end: usize) -> u64
+    requires order { first ≤ end }
+    requires within { end ≤ length words.now }
+    ensures { (result ≡ 0) ↔ AreBlank words.now first end }
+{
+    let mut bits = 0;
+    for index in first..end {
+        bits |= words[index];
+    }
+    bits
 }
 
 /// Sets the bit of the place.
