@@ -100,14 +100,21 @@ fn push_section(
     Ok(())
 }
 
-/// Whether there is memory for the text of the formula of the whole.
-pub(crate) fn whole_has_text(alloc: Global, spec: &Spec) -> Result<bool, Fail> {
-    let names = sixteen_names(alloc, spec)?;
-    if (spec.whole.0 as usize) >= spec.formulas.len() {
+/// Whether there is memory for the text of a formula of the list.
+fn has_text(alloc: Global, spec: &Spec, formula: FormulaId, names: &[Name]) -> Result<bool, Fail>
+    requires { length names.now ≡ 16 }
+{
+    if (formula.0 as usize) >= spec.formulas.len() {
         return Err(Fail::from("no such formula"));
     }
     let mut text = Vec::new(alloc);
-    Ok(write_formula(&spec.formulas, spec.whole, &names, &mut text).is_ok())
+    Ok(write_formula(&spec.formulas, formula, names, &mut text).is_ok())
+}
+
+/// Whether there is memory for the text of the formula of the whole.
+pub(crate) fn whole_has_text(alloc: Global, spec: &Spec) -> Result<bool, Fail> {
+    let names = sixteen_names(alloc, spec)?;
+    has_text(alloc, spec, spec.whole, &names)
 }
 
 /// The signals, then each section's formulas, a line each.
