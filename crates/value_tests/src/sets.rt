@@ -201,3 +201,49 @@ fn what_is_left_goes_on(rt: HostRuntime) -> Result<(), AllocError> {
     }
     Ok(())
 }
+
+// Whether the first set has a number, and whether the first set without the second one has it.
+fn tells(
+    numbering: &Numbering,
+    whole: &PlacedSet,
+    other: &PlacedSet,
+    number: i64,
+) -> Result<(bool, bool), AllocError>
+    requires left { IsPrefix whole.now.over numbering.now }
+    requires right { IsPrefix other.now.over numbering.now }
+{
+    let rest = numbering.without(whole.clone()?, other)?;
+    let before = numbering.contains(whole, number);
+    Ok((before, numbering.contains(&rest, number)))
+}
+
+// The same of the sets of these numbers.
+fn is_in(
+    alloc: Global,
+    whole: Progression,
+    other: Progression,
+    number: i64,
+) -> Result<(bool, bool), AllocError> {
+    let mut numbering = Numbering::new(alloc);
+    let whole = set_of(alloc, &mut numbering, whole)?;
+    let other = set_of(alloc, &mut numbering, other)?;
+    tells(&numbering, &whole, &other, number)
+}
+
+// Neither set has 335, which has no place, and the first ones lack 410, which has one.
+#[test]
+fn members(rt: HostRuntime) -> Result<(), AllocError> {
+    for (whole, number, wanted) in [
+        ((10, 10, 33), 10, (true, true)),
+        ((10, 10, 33), 20, (true, false)),
+        ((10, 10, 33), 330, (true, false)),
+        ((10, 10, 33), 335, (false, false)),
+        ((10, 10, 33), 410, (false, false)),
+        ((10, 10, 2), 10, (true, true)),
+        ((10, 10, 2), 20, (true, false)),
+        ((10, 10, 2), 335, (false, false)),
+    ] {
+        assert!(&rt; is_in(rt.alloc(), whole, (20, 10, 40), number)? == wanted);
+    }
+    Ok(())
+}
