@@ -1,6 +1,6 @@
 // Sets as bits of places.
 
-ghost use Rattle.std.specs.Prelude.{◌≡◌, ◌+◌, ◌*◌, ◌<◌, ◌≤◌, ◌^◌, length, IfOk, OnOk};
+ghost use Rattle.std.specs.Prelude.{◌≡◌, [], ◌+◌, ◌*◌, ◌<◌, ◌≤◌, ◌^◌, length, IfOk, OnOk};
 ghost use Rattle.std.specs.List.{IsDistinct};
 ghost use Rattle.std.specs.Ordering.{int_eq};
 ghost use Rattle.placed_sets.specs.Bits.{chosen_before};
@@ -68,6 +68,30 @@ impl BitSet {
         }
     }
 
+    /// Whether a copy of the set shares its words.
+    pub(crate) fn is_shared(&self) -> bool {
+        Rc::strong_count(&self.words) > 1
+    }
+
+    /// The words of the set, whatever bits they have, if no copy of it shares them.
+    pub(crate) fn into_own_words(self) -> Option<Vec<u64>> {
+        Rc::try_unwrap(self.words).ok()
+    }
+
+    /// The same set in a copy of its words, which is made in this room.
+    pub(crate) fn copied_into(self, alloc: Global, room: Vec<u64>) -> Result<BitSet, AllocError>
+        requires { room.items ≡ [] }
+        ensures { IfOk result (λ s. s ≡ self) }
+    {
+        let mut words = room;
+        words.extend_from_slice(&self.words)?;
+        let words = Rc::new(alloc, words)?;
+        Ok(BitSet {
+            over: self.over,
+            words,
+        })
+    }
+
     /// The numbers over which the set stands.
     pub(crate) fn list(&self) -> Result<NumberList, AllocError>
         ensures { IfOk result (λ l. l ≡ self.now.over) }
@@ -99,7 +123,7 @@ impl BitSet {
         self.over.clone()
     }
 
-    /// The numbers of the set, which rise. It takes a step for 64 places and the time for sorting the numbers.
+    /// The numbers of the set, which rise. It takes a step for 64 places, up to 320 more for each of the numbers, and the time for sorting them.
     pub(crate) fn numbers(&self, alloc: Global) -> Result<Vec<i64>, AllocError>
         ensures numbers { IfOk result (λ v. v.items ≡ self.now.members) }
         ensures rising { IfOk result (λ v. set_of v.items ≡ v.items) }
@@ -109,7 +133,7 @@ impl BitSet {
         Ok(numbers)
     }
 
-    /// The numbers of the set, in the order of their places.
+    /// The numbers of the set, in the order of their places. Blocks and words without a bit are passed over.
     fn by_place(&self, alloc: Global) -> Result<Vec<i64>, AllocError>
         ensures members { IfOk result (λ v. set_of v.items ≡ self.now.members) }
         ensures distinct { IfOk result (λ v. IsDistinct int_eq v.items) }

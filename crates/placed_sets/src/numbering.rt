@@ -33,6 +33,8 @@ pub struct Numbering {
     shared: NumberList,
     /// The numbers that no set stands over yet. They come after those that are shared.
     fresh: Vec<i64>,
+    /// The words of sets that were given back, whatever bits they have.
+    spare: Vec<Vec<u64>>,
 }
 
 impl Model for Numbering {
@@ -56,6 +58,7 @@ impl Numbering {
             places: HashMap::new(alloc),
             shared: NumberList::new(),
             fresh: Vec::new(alloc),
+            spare: Vec::new(alloc),
         }
     }
 
@@ -77,7 +80,7 @@ impl Numbering {
 
     /// The numbers of both, and those that only one of the two has. Two lists take what `set_of` takes of their numbers, and are bits where more than 32
     /// differ. All else is bits. Two that are bits take a step for 64 places of the second set, in the words of the first. Bits and a list, either way round, take
-    /// a look-up for each number of the list, which gets a place, in the words of the bits. Those words are copied where they are the second set's or a copy of
+    /// a look-up for each number of the list, which gets a place, in the words of the bits, and words up to the highest of those places. They are copied where they are the second set's or a copy of
     /// the set shares them, and where there must be more of them. Where numbers come that had no place, it also takes a copy of up to 1,024 numbers, and where
     /// 2^32 numbers have a place and one more needs it, the answer is want of memory.
     pub fn joined(&mut self, left: PlacedSet, right: &PlacedSet) -> Result<PlacedSet, AllocError>
@@ -89,41 +92,77 @@ impl Numbering {
     {
         match (left.into_form(), right.form()) {
             (Form::Few(left), Form::Few(right)) => self.few_joined(&left, right),
-            (Form::Few(few), Form::Bits(bits)) => self.bits_with_few(bits.clone()?, &few),
-            (Form::Bits(bits), Form::Few(few)) => self.bits_with_few(bits, few),
-            (Form::Bits(left), Form::Bits(right)) => self.bits_joined(left, right),
+            (Form::Few(few), Form::Bits(bits)) => {
+                let bits = self.unshared(bits.clone()?)?;
+                self.bits_with_few(bits, &few)
+            }
+            (Form::Bits(bits), Form::Few(few)) => {
+                let bits = self.unshared(bits)?;
+                self.bits_with_few(bits, few)
+            }
+            (Form::Bits(left), Form::Bits(right)) => {
+                let left = self.unshared(left)?;
+                self.bits_joined(left, right)
+            }
         }
     }
 
     /// The numbers that both have. Where one of the two is a list, it takes a test by `contains` for each number of it, and makes a list. Of two that are bits
     /// it makes bits in the words of the first set, however few numbers are left: it takes a copy of those words where a copy of that set shares them, and a
     /// step for 64 places of the first set.
-    pub fn met(&self, left: PlacedSet, right: &PlacedSet) -> Result<PlacedSet, AllocError>
-        requires left { IsPrefix left.over self.now }
-        requires right { IsPrefix right.now.over self.now }
+    pub fn met(&mut self, left: PlacedSet, right: &PlacedSet) -> Result<PlacedSet, AllocError>
+        requires left { IsPrefix left.over self.old }
+        requires right { IsPrefix right.now.over self.old }
+        ensures kept { self.new ≡ self.old }
         ensures members { IfOk result (λ s. s.members ≡ intersection left.members right.now.members) }
-        ensures over { IfOk result (λ s. IsPrefix s.over self.now) }
+        ensures over { IfOk result (λ s. IsPrefix s.over self.old) }
     {
         match (left.into_form(), right.form()) {
             (Form::Few(few), _) => self.few_met(&few, right),
             (Form::Bits(bits), Form::Few(few)) => self.few_met(few, &PlacedSet::of_bits(bits)),
-            (Form::Bits(left), Form::Bits(right)) => self.bits_met(left, right),
+            (Form::Bits(left), Form::Bits(right)) => {
+                let left = self.unshared(left)?;
+                self.bits_met(left, right)
+            }
         }
     }
 
     /// The numbers of the first set that the second one doesn't have. Where the first one is a list, it takes a test by `contains` for each number of it, and
     /// makes a list. Bits stay bits in the words of the first set, however few numbers are left: it takes a copy of those words where a copy of that set shares
     /// them, and where the second one is a list, a look-up for each number of it; where it is bits, a step for 64 of the places up to which both go.
-    pub fn without(&self, left: PlacedSet, right: &PlacedSet) -> Result<PlacedSet, AllocError>
-        requires left { IsPrefix left.over self.now }
-        requires right { IsPrefix right.now.over self.now }
+    pub fn without(&mut self, left: PlacedSet, right: &PlacedSet) -> Result<PlacedSet, AllocError>
+        requires left { IsPrefix left.over self.old }
+        requires right { IsPrefix right.now.over self.old }
+        ensures kept { self.new ≡ self.old }
         ensures members { IfOk result (λ s. s.members ≡ difference left.members right.now.members) }
-        ensures over { IfOk result (λ s. IsPrefix s.over self.now) }
+        ensures over { IfOk result (λ s. IsPrefix s.over self.old) }
     {
         match (left.into_form(), right.form()) {
             (Form::Few(few), _) => self.few_without(&few, right),
-            (Form::Bits(bits), Form::Few(few)) => self.bits_without_few(bits, few),
-            (Form::Bits(left), Form::Bits(right)) => self.bits_without(left, right),
+            (Form::Bits(bits), Form::Few(few)) => {
+                let bits = self.unshared(bits)?;
+                self.bits_without_few(bits, few)
+            }
+            (Form::Bits(left), Form::Bits(right)) => {
+                let left = self.unshared(left)?;
+                self.bits_without(left, right)
+            }
+        }
+    }
+
+    /// Takes a set that isn't needed any more: the next words are made in the memory of its own, where no copy shares them. It takes constant time. What is
+    /// kept is let go with the numbering; new memory is taken only where nothing is kept, so there are no more such vectors than sets that were held at once.
+    pub fn give_back(&mut self, set: PlacedSet)
+        ensures { self.new ≡ self.old }
+    {
+        let Form::Bits(bits) = set.into_form() else {
+            return;
+        };
+        let Some(words) = bits.into_own_words() else {
+            return;
+        };
+        if self.spare.push(words).is_err() {
+            // Without room for one more, the words are let go.
         }
     }
 
@@ -135,6 +174,33 @@ impl Numbering {
         match set.form() {
             Form::Few(few) => few.contains(number),
             Form::Bits(bits) => self.has_bit(bits.words(), number),
+        }
+    }
+
+    /// The same set, in words that no copy of it shares.
+    fn unshared(&mut self, bits: BitSet) -> Result<BitSet, AllocError>
+        ensures kept { self.new ≡ self.old }
+        ensures same { IfOk result (λ s. s ≡ bits) }
+    {
+        if !bits.is_shared() {
+            return Ok(bits);
+        }
+        let room = self.room();
+        bits.copied_into(self.alloc, room)
+    }
+
+    /// No words, in memory that was given back if there is some.
+    fn room(&mut self) -> Vec<u64>
+        ensures kept { self.new ≡ self.old }
+        ensures empty { result.items ≡ [] }
+        ensures distinct { IsDistinct int_eq self.old }
+    {
+        match self.spare.pop() {
+            Some(mut words) => {
+                words.clear();
+                words
+            }
+            None => Vec::new(self.alloc),
         }
     }
 
@@ -172,7 +238,7 @@ impl Numbering {
         ensures rising { IfOk result (λ s. set_of s.members ≡ s.members) }
         ensures over { IfOk result (λ s. IsPrefix s.over self.new) }
     {
-        let words = Vec::new(self.alloc);
+        let words = self.room();
         let words = self.with_places(words, numbers)?;
         let over = self.share()?;
         BitSet::made(self.alloc, over, words)

@@ -75,7 +75,8 @@ impl PlacedSet {
         self.form
     }
 
-    /// The numbers of the set, which rise. A list is copied; of bits it takes a step for 64 places and the time for sorting the numbers.
+    /// The numbers of the set, which rise. A list is copied; of bits it takes a step for 64 places, up to 320 more for each of the numbers,
+    /// and the time for sorting them.
     pub fn numbers(&self, alloc: Global) -> Result<Vec<i64>, AllocError>
         ensures numbers { IfOk result (λ v. v.items ≡ self.now.members) }
         ensures rising { IfOk result (λ v. set_of v.items ≡ v.items) }

@@ -90,6 +90,38 @@ fn is_made_of(
     is_made(alloc, &mut numbering, &left, &right, wanted)
 }
 
+// Whether a set without another has the numbers of rest, and is itself as it was.
+fn is_left(
+    alloc: Global,
+    numbering: &mut Numbering,
+    whole: (&PlacedSet, Progression),
+    other: &PlacedSet,
+    rest: Progression,
+) -> Result<bool, AllocError>
+    requires left { IsPrefix whole.0.now.over numbering.old }
+    requires right { IsPrefix other.now.over numbering.old }
+{
+    let (set, numbers) = whole;
+    let without = numbering.without(set.clone()?, other)?;
+    Ok(has(alloc, &without, rest)? && has(alloc, set, numbers)?)
+}
+
+// The same where a third set was given back, in whose memory the copy is made.
+fn is_left_in(
+    alloc: Global,
+    given: Progression,
+    whole: Progression,
+    other: Progression,
+    rest: Progression,
+) -> Result<bool, AllocError> {
+    let mut numbering = Numbering::new(alloc);
+    let whole_set = set_of(alloc, &mut numbering, whole)?;
+    let other_set = set_of(alloc, &mut numbering, other)?;
+    let given_set = set_of(alloc, &mut numbering, given)?;
+    numbering.give_back(given_set);
+    is_left(alloc, &mut numbering, (&whole_set, whole), &other_set, rest)
+}
+
 // Whether one set without another has the numbers of rest, and both have those of common: each of the two that are made is an operand again.
 fn is_parted(
     alloc: Global,
@@ -186,7 +218,7 @@ fn bits_beside_bits(rt: HostRuntime) -> Result<(), AllocError> {
     Ok(())
 }
 
-// Of bits all numbers are left, some of them, one, or none.
+// Of bits all numbers are left, some of them, one, or none; in the last row those of whole blocks of words are gone.
 #[test]
 fn what_is_left_goes_on(rt: HostRuntime) -> Result<(), AllocError> {
     for (whole, other, rest, common) in [
@@ -196,6 +228,12 @@ fn what_is_left_goes_on(rt: HostRuntime) -> Result<(), AllocError> {
         ((1, 1, 40), (41, 1, 40), (1, 1, 40), NONE),
         ((1, 1, 33), (32, -1, 32), (33, 1, 1), (1, 1, 32)),
         ((1, 1, 1000), (1, 1, 999), (1000, 1, 1), (1, 1, 999)),
+        (
+            (0, 1, 20000),
+            (0, 1, 17000),
+            (17000, 1, 3000),
+            (0, 1, 17000),
+        ),
     ] {
         assert!(&rt; is_parted(rt.alloc(), whole, other, rest, common)?);
     }
@@ -204,13 +242,13 @@ fn what_is_left_goes_on(rt: HostRuntime) -> Result<(), AllocError> {
 
 // Whether the first set has a number, and whether the first set without the second one has it.
 fn tells(
-    numbering: &Numbering,
+    numbering: &mut Numbering,
     whole: &PlacedSet,
     other: &PlacedSet,
     number: i64,
 ) -> Result<(bool, bool), AllocError>
-    requires left { IsPrefix whole.now.over numbering.now }
-    requires right { IsPrefix other.now.over numbering.now }
+    requires left { IsPrefix whole.now.over numbering.old }
+    requires right { IsPrefix other.now.over numbering.old }
 {
     let rest = numbering.without(whole.clone()?, other)?;
     let before = numbering.contains(whole, number);
@@ -227,7 +265,7 @@ fn is_in(
     let mut numbering = Numbering::new(alloc);
     let whole = set_of(alloc, &mut numbering, whole)?;
     let other = set_of(alloc, &mut numbering, other)?;
-    tells(&numbering, &whole, &other, number)
+    tells(&mut numbering, &whole, &other, number)
 }
 
 // Neither set has 335, which has no place, and the first ones lack 410, which has one.
@@ -244,6 +282,20 @@ fn members(rt: HostRuntime) -> Result<(), AllocError> {
         ((10, 10, 2), 335, (false, false)),
     ] {
         assert!(&rt; is_in(rt.alloc(), whole, (20, 10, 40), number)? == wanted);
+    }
+    Ok(())
+}
+
+// The set that is given back has more words than the copy, as many or fewer, or none, since it is a list.
+#[test]
+fn copies_in_memory_given_back(rt: HostRuntime) -> Result<(), AllocError> {
+    for (given, whole, other, rest) in [
+        ((1, 1, 1000), (1, 1, 100), (1, 1, 40), (41, 1, 60)),
+        ((100, -1, 100), (1, 1, 100), (1, 1, 2), (3, 1, 98)),
+        ((1, 1, 40), (1, 1, 1000), (1, 1, 999), (1000, 1, 1)),
+        ((1, 1, 2), (1, 1, 100), (1, 1, 40), (41, 1, 60)),
+    ] {
+        assert!(&rt; is_left_in(rt.alloc(), given, whole, other, rest)?);
     }
     Ok(())
 }
