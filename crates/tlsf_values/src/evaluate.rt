@@ -256,7 +256,9 @@ impl<'t> Names<'t> {
                     return Err(fault(SpecCode::WrongSort, place));
                 }
                 let mut inner = self.arguments(bound, words, arguments, left, progress)?;
-                self.body(&mut inner, place, body, left, progress)
+                let value = self.body(&mut inner, place, body, left, progress);
+                inner.give_back(&mut progress.numbering);
+                value
             }
             Meaning::Undeclared => Err(fault(SpecCode::UnknownName, word.span.start)),
             _ => Err(fault(SpecCode::WrongSort, place)),

@@ -13,6 +13,7 @@ ghost use Rattle.written_names.specs.Written.{IsWritten, number_of};
 use crate::held::Held;
 use crate::meanings::Entry;
 use crate::names::Names;
+use placed_sets::Numbering;
 use std::alloc::{AllocError, Global};
 use std::collections::HashMap;
 use std::marker::Model;
@@ -111,6 +112,17 @@ impl<'t> Scope<'t> {
         let Ok(_) = self.latest.insert(binding.number, hidden) else {
             unreachable!();
         };
+    }
+
+    /// Gives the sets that are bound back to their numbering.
+    pub(crate) fn give_back(self, numbering: &mut Numbering)
+        ensures { numbering.new ≡ numbering.old }
+    {
+        for binding in self.bindings {
+            if let Held::Set(set) = binding.value {
+                numbering.give_back(set);
+            }
+        }
     }
 
     /// The value of the latest binding of the name of this number. It takes time for one look-up, whatever the number of bindings.

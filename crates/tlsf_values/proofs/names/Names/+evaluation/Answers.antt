@@ -179,12 +179,12 @@ body-value-requires t c = search (rules, growth)
 pub call-arguments-requires : goal.call-arguments-requires
 call-arguments-requires t c = search (rules, growth)
 
-pub call-body-requires : goal.call-body-requires
-call-body-requires t c = search (rules, growth)
+pub call-body-value-requires : goal.call-body-value-requires
+call-body-value-requires t c = search (rules, growth)
 
 pub call-returns-clause-grows : goal.call-returns-clause-grows
 call-returns-clause-grows t c = elim c.match-branch-2.branch [
-  | call-in-Definition+else-arguments-words+in_ok-inner-in-Definition w ↦ rw w.progress-is (search (rules, growth))
+  | call-in-Definition+else-arguments-words+in_ok-inner-in-Definition w ↦ rw (w.progress-is, w.give_back.ensures) (search (rules, growth))
   | call-in-Undeclared w ↦ rw w.progress-is (search (rules, growth))
   | call-in_default w ↦ rw w.progress-is (search (rules, growth))
 ]
