@@ -18,7 +18,7 @@ use std::rc::Rc;
 const BLOCK: usize = 256;
 
 /// A set of numbers that have places; its copies share what it holds. It takes an eighth of a byte for each place up to the highest of the numbers that
-/// its words were made for, whether it has them or not.
+/// its words were made for, whether it has them or not, and the room that their vector has beyond them.
 #[derive(Debug, Drop)]
 pub(crate) struct BitSet {
     over: NumberList,

@@ -64,7 +64,8 @@ impl Numbering {
 
     /// The set of these numbers, in any order: a list where at most 32 differ, else bits. Up to 64 are sorted, and those that make a list get no place. Of
     /// more, those that have no place yet get one: it takes a look-up for each number, the words up to the highest place, of which the bits are counted up to
-    /// the 33rd, and a copy of up to 1,024 numbers where new ones come. Where 2^32 numbers have a place and one more needs it, the answer is want of memory.
+    /// the 33rd, and where new ones come a copy of up to 1,024 numbers, and of the list of their chunks for each chunk that is filled. Where 2^32 numbers have
+    /// a place and one more needs it, the answer is want of memory.
     pub fn set_of(&mut self, numbers: &[i64]) -> Result<PlacedSet, AllocError>
         ensures kept { IsPrefix self.old self.new }
         ensures ok { IfOk result (λ s. s.members ≡ set_of numbers.now) }
@@ -79,10 +80,10 @@ impl Numbering {
     }
 
     /// The numbers of both, and those that only one of the two has. Two lists take what `set_of` takes of their numbers, and are bits where more than 32
-    /// differ. All else is bits. Two that are bits take a step for 64 places of the second set, in the words of the first. Bits and a list, either way round, take
-    /// a look-up for each number of the list, which gets a place, in the words of the bits, and words up to the highest of those places. They are copied where they are the second set's or a copy of
-    /// the set shares them, and where there must be more of them. Where numbers come that had no place, it also takes a copy of up to 1,024 numbers, and where
-    /// 2^32 numbers have a place and one more needs it, the answer is want of memory.
+    /// differ. All else is bits. Two that are bits take a step for 64 places of the second set, in the words of the first. Bits and a list, either way round,
+    /// take a look-up for each number of the list, which gets a place, in the words of the bits, and words up to the highest of those places. The words of the
+    /// bits are copied where they are the second set's, where a copy of the set shares them, and where they have no room for more. Numbers that had no place
+    /// take what they take in `set_of`, and where 2^32 numbers have one and one more needs it, the answer is want of memory.
     pub fn joined(&mut self, left: PlacedSet, right: &PlacedSet) -> Result<PlacedSet, AllocError>
         requires left { IsPrefix left.over self.old }
         requires right { IsPrefix right.now.over self.old }
@@ -150,8 +151,9 @@ impl Numbering {
         }
     }
 
-    /// Takes a set that isn't needed any more: the next words are made in the memory of its own, where no copy shares them. It takes constant time. What is
-    /// kept is let go with the numbering; new memory is taken only where nothing is kept, so there are no more such vectors than sets that were held at once.
+    /// Takes a set that isn't needed any more. Where no copy shares its words, their vector is kept, and words that are made later, of a set that is laid out
+    /// or of a copy, are made in it; it is let go with the numbering at the latest. A list is let go at once. It takes constant time, but where the list of
+    /// what is kept must grow, and where nothing else holds what is let go.
     pub fn give_back(&mut self, set: PlacedSet)
         ensures { self.new ≡ self.old }
     {

@@ -106,7 +106,7 @@ fn is_left(
     Ok(has(alloc, &without, rest)? && has(alloc, set, numbers)?)
 }
 
-// The same where a third set was given back, in whose memory the copy is made.
+// The same where a third set was given back, in whose memory the copy is made if that set is bits.
 fn is_left_in(
     alloc: Global,
     given: Progression,
