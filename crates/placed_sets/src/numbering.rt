@@ -64,8 +64,8 @@ impl Numbering {
 
     /// The set of these numbers, in any order: a list where at most 32 differ, else bits. Up to 64 are sorted, and those that make a list get no place. Of
     /// more, those that have no place yet get one: it takes a look-up for each number, the words up to the highest place, of which the bits are counted up to
-    /// the 33rd, and where new ones come a copy of up to 1,024 numbers, and of the list of their chunks for each chunk that is filled. Where 2^32 numbers have
-    /// a place and one more needs it, the answer is want of memory.
+    /// the 33rd, and where new ones come a copy of up to 1,024 numbers, and of the list of their chunks for each chunk that is filled. Where at most 32 of them
+    /// differ, they are listed as by `numbers`. Where 2^32 numbers have a place and one more needs it, the answer is want of memory.
     pub fn set_of(&mut self, numbers: &[i64]) -> Result<PlacedSet, AllocError>
         ensures kept { IsPrefix self.old self.new }
         ensures ok { IfOk result (λ s. s.members ≡ set_of numbers.now) }
@@ -82,8 +82,9 @@ impl Numbering {
     /// The numbers of both, and those that only one of the two has. Two lists take what `set_of` takes of their numbers, and are bits where more than 32
     /// differ. All else is bits. Two that are bits take a step for 64 places of the second set, in the words of the first. Bits and a list, either way round,
     /// take a look-up for each number of the list, which gets a place, in the words of the bits, and words up to the highest of those places. The words of the
-    /// bits are copied where they are the second set's, where a copy of the set shares them, and where they have no room for more. Numbers that had no place
-    /// take what they take in `set_of`, and where 2^32 numbers have one and one more needs it, the answer is want of memory.
+    /// bits are copied where they are the second set's, where a copy of the set shares them, and where more are needed than they have room for, be it for the
+    /// places of a list or for those of other bits. Numbers that had no place take what they take in `set_of`, and where 2^32 numbers have one and one more
+    /// needs it, the answer is want of memory.
     pub fn joined(&mut self, left: PlacedSet, right: &PlacedSet) -> Result<PlacedSet, AllocError>
         requires left { IsPrefix left.over self.old }
         requires right { IsPrefix right.now.over self.old }
@@ -152,8 +153,8 @@ impl Numbering {
     }
 
     /// Takes a set that isn't needed any more. Where no copy shares its words, their vector is kept, and words that are made later, of a set that is laid out
-    /// or of a copy, are made in it; it is let go with the numbering at the latest. A list is let go at once. It takes constant time, but where the list of
-    /// what is kept must grow, and where nothing else holds what is let go.
+    /// or of a copy, are made in it; it is let go with that set then, else with the numbering. A list is let go at once. It takes constant time, except where
+    /// the list of what is kept must grow, and where the set was the last holder of its list of numbers.
     pub fn give_back(&mut self, set: PlacedSet)
         ensures { self.new ≡ self.old }
     {

@@ -21,9 +21,9 @@ pub(crate) enum Form {
 /// A set of numbers; its copies share what it holds. It is a list, 8 bytes a number, of at most 32 numbers, or bits, an eighth of a byte for each place up
 /// to the highest of the numbers that it was made from, beside the list of all numbers that have a place, of which sets share all but the last 1,024 or
 /// fewer. Numbers that are given, or two lists that are joined, are a list where at most 32 differ; what `met` makes with a list is one, and what `without`
-/// makes of one. All else that is made of bits keeps words of theirs, however few numbers are left; their vector may have room for twice as many, or for as
-/// many as that of a set which was given back had. A contract sees the numbers over which the bits stand, none where there are no bits, and the numbers that it
-/// has, as a list that rises strictly.
+/// makes of one. All else that is made of bits keeps words of theirs, however few numbers are left; their vector may have room for twice as many where it
+/// grew, for as many as that of the first set where `met` left fewer, or for as many as that of a set which was given back had. A contract sees the numbers
+/// over which the bits stand, none where there are no bits, and the numbers that it has, as a list that rises strictly.
 #[derive(Debug, Drop)]
 pub struct PlacedSet {
     form: Form,

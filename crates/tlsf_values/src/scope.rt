@@ -114,7 +114,7 @@ impl<'t> Scope<'t> {
         };
     }
 
-    /// Gives the sets that are bound back to the numbering, which makes other sets in their memory. It takes a step for each binding.
+    /// Gives the sets that are bound back to the numbering, which may make other sets in their memory. It takes a step for each binding.
     pub(crate) fn give_back(self, numbering: &mut Numbering)
         ensures { numbering.new ≡ numbering.old }
     {

@@ -106,7 +106,7 @@ fn is_left(
     Ok(has(alloc, &without, rest)? && has(alloc, set, numbers)?)
 }
 
-// The same where a third set was given back, in whose memory the copy is made if that set is bits.
+// The same where a third set was given back, in whose memory the copy is made if both it and the whole are bits.
 fn is_left_in(
     alloc: Global,
     given: Progression,
