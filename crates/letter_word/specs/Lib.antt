@@ -1,3 +1,4 @@
+pub mod Kinds
 pub mod Signals
 pub mod Cube
 pub mod Word

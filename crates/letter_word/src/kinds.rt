@@ -1,8 +1,23 @@
+ghost use Rattle.std.specs.Prelude.{◌≡◌};
+ghost use Rattle.letter_word.specs.Kinds.{other_kind};
+
 /// Whether a machine writes by the letter that it reads now (Mealy), or by its state alone (Moore).
 #[derive(Clone, Copy, Debug, PartialEq, Eq, Hash)]
 pub enum Kind {
     Mealy,
     Moore,
+}
+
+impl Kind {
+    /// The kind of the machines that play against machines of this kind.
+    pub fn other(self) -> Kind
+        ensures { result ≡ other_kind self }
+    {
+        match self {
+            Kind::Mealy => Kind::Moore,
+            Kind::Moore => Kind::Mealy,
+        }
+    }
 }
 
 /// Who plays: the system that is looked for, or the environment that it must withstand.

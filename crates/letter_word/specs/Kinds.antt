@@ -1,0 +1,8 @@
+use Rattle.letter_word.specs.declared.kinds.Kind.{Kind}
+use Rattle.letter_word.specs.declared.kinds.Kind.TheVariants.{Mealy, Moore}
+
+-- the kind of the machines that play against machines of this kind: who writes by the letter just read plays against one
+-- who writes before it reads (the duality of Mealy and Moore machines)
+abbrev pub other_kind : Kind → Kind
+other_kind Mealy = Moore
+other_kind Moore = Mealy
