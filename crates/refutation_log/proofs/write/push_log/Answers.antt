@@ -1,7 +1,7 @@
 use Rattle.refutation_log.specs.Text.{entry_line}
 use Rattle.refutation_log.specs.Shown.{shown}
 use Rattle.refutation_log.proofs.Growing.{text_more}
-use Rattle.refutation_log.proofs.write.write_entries.Goals as goal
+use Rattle.refutation_log.proofs.write.push_log.Goals as goal
 
 pub loop-i-preserved : goal.loop-i-preserved
 loop-i-preserved c =
