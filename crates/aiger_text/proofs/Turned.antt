@@ -1,6 +1,6 @@
 -- A circuit's run lassos as one side are those as the other, with the two parts of each letter in turn.
-use Rattle.std.proofs.Common.{◌≡◌, ℕ, ◌+◌, ◌-◌, ◌*◌, ◌/◌, ◌%◌, ◌^◌, ◌<◌, ◌≤◌, Bool, List, ◌++◌, length, get_or, refl, sym, ap, ◌∙◌, subst, arith, eqb, cond}
-use Rattle.std.specs.Prelude.{All, Contains, map}
+use Rattle.std.proofs.Common.{◌≡◌, ℕ, ◌+◌, ◌-◌, ◌*◌, ◌/◌, ◌%◌, ◌^◌, ◌<◌, Bool, List, ◌++◌, length, get_or, refl, sym, ap, ◌∙◌, subst, arith, eqb, cond}
+use Rattle.std.specs.Prelude.{map}
 use Rattle.std.proofs.Math.Nat.{div-lt_iff_lt-mul, mod-lt}
 use Rattle.std.proofs.lemmas.List.{get_or-map, length-append, length-map, map-append}
 use Rattle.std.proofs.lemmas.List.Elements.{All-map}
@@ -12,8 +12,8 @@ use Rattle.letter_word.specs.declared.letters.Letter.{Letter}
 use Rattle.letter_word.specs.Signals.{has}
 use Rattle.letter_word.specs.Word.{IsLassoOver, Word, lasso_len, letter_at, next, no_signals}
 use Rattle.letter_word.proofs.Positions.{letter_below}
-use Rattle.aiger_text.specs.Circuit.{Circuit, HasStates, HasStatesFor, IsCircuitRun, Occurs, OccursFor, Valuation}
-use Rattle.aiger_text.specs.Laws.{EitherSideHasTheStates, StatesAreOfEitherSide}
+use Rattle.aiger_text.specs.Circuit.{Circuit, HasStatesFor, IsCircuitRun, Occurs, OccursFor, Valuation}
+use Rattle.aiger_text.specs.Laws.{EitherSideHasTheStates}
 use Rattle.aiger_text.proofs.Bits.{has-div, has-mod}
 
 -- the low `a` bits of a number of a + b bits above the others
@@ -83,6 +83,9 @@ module _ (c : Circuit) (w : Word) (values : ℕ → Valuation) where
   small_at : (n : ℕ) → n ≡ ins + outs → IsLassoOver (ins + outs) w → (i : ℕ) → (letter_at w i).0 < 2 ^ n
   small_at n is over i = rw is (letter_below (ins + outs) w i over)
 
+  from_zero : (x k : ℕ) → has x (0 + k) ≡ has x k
+  from_zero x k = let e : 0 + k ≡ k = omega arith in ap (has x) e
+
   to_environment : IsCircuitRun System c w values → IsCircuitRun Environment c (turned ins outs w) values
   to_environment run = record {
     lasso = over-turned ins outs w (ins + outs) (omega arith) run.lasso;
@@ -91,17 +94,20 @@ module _ (c : Circuit) (w : Word) (values : ℕ → Valuation) where
     gates = λ i h. run.gates i (rw len-turned at h);
     reads = λ i h k within.
         let inside : i < lasso_len w = rw len-turned at h in
-        run.reads i inside k within
-        ∙ sym (ap (λ (l : Letter). has l.0 (outs + k)) (letter_at-turned ins outs w i inside) ∙ turn_high ins outs (letter_at w i).0 (small_at (ins + outs) refl run.lasso i) k within);
+        let letter : letter_at (turned ins outs w) i ≡ turned_letter ins outs (letter_at w i) = letter_at-turned ins outs w i inside in
+        run.reads i inside k within ∙ from_zero (letter_at w i).0 k
+        ∙ sym (ap (λ (l : Letter). has l.0 (outs + k)) letter ∙ turn_high ins outs (letter_at w i).0 (small_at (ins + outs) refl run.lasso i) k within);
     writes = λ i h k within.
         let inside : i < lasso_len w = rw len-turned at h in
+        let letter : letter_at (turned ins outs w) i ≡ turned_letter ins outs (letter_at w i) = letter_at-turned ins outs w i inside in
         run.writes i inside k within
-        ∙ sym (ap (λ (l : Letter). has l.0 k) (letter_at-turned ins outs w i inside) ∙ turn_low ins outs (letter_at w i).0 (small_at (ins + outs) refl run.lasso i) k within);
+        ∙ sym (from_zero (letter_at (turned ins outs w) i).0 k ∙ ap (λ (l : Letter). has l.0 k) letter ∙ turn_low ins outs (letter_at w i).0 (small_at (ins + outs) refl run.lasso i) k within);
   }
 
   to_system : IsCircuitRun Environment c w values → IsCircuitRun System c (turned outs ins w) values
   to_system run =
-      let over : IsLassoOver (outs + ins) w = let e : ins + outs ≡ outs + ins = omega arith in subst (λ n. IsLassoOver n w) e run.lasso in
+      let swapped : outs + ins ≡ ins + outs = omega arith in
+      let over : IsLassoOver (outs + ins) w = subst (λ n. IsLassoOver n w) (sym swapped) run.lasso in
       record {
         lasso = over-turned outs ins w (ins + outs) refl over;
         resets = run.resets;
@@ -109,12 +115,14 @@ module _ (c : Circuit) (w : Word) (values : ℕ → Valuation) where
         gates = λ i h. run.gates i (rw len-turned at h);
         reads = λ i h k within.
             let inside : i < lasso_len w = rw len-turned at h in
+            let letter : letter_at (turned outs ins w) i ≡ turned_letter outs ins (letter_at w i) = letter_at-turned outs ins w i inside in
             run.reads i inside k within
-            ∙ sym (ap (λ (l : Letter). has l.0 k) (letter_at-turned outs ins w i inside) ∙ turn_low outs ins (letter_at w i).0 (small_at (outs + ins) (omega arith) run.lasso i) k within);
+            ∙ sym (from_zero (letter_at (turned outs ins w) i).0 k ∙ ap (λ (l : Letter). has l.0 k) letter ∙ turn_low outs ins (letter_at w i).0 (small_at (outs + ins) swapped run.lasso i) k within);
         writes = λ i h k within.
             let inside : i < lasso_len w = rw len-turned at h in
-            run.writes i inside k within
-            ∙ sym (ap (λ (l : Letter). has l.0 (ins + k)) (letter_at-turned outs ins w i inside) ∙ turn_high outs ins (letter_at w i).0 (small_at (outs + ins) (omega arith) run.lasso i) k within);
+            let letter : letter_at (turned outs ins w) i ≡ turned_letter outs ins (letter_at w i) = letter_at-turned outs ins w i inside in
+            run.writes i inside k within ∙ from_zero (letter_at w i).0 k
+            ∙ sym (ap (λ (l : Letter). has l.0 (ins + k)) letter ∙ turn_high outs ins (letter_at w i).0 (small_at (outs + ins) swapped run.lasso i) k within);
       }
 
 -- the same values of the latches occur

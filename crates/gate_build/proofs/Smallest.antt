@@ -1,6 +1,6 @@
 -- A smallest machine meets all of its states, and the states that a machine meets are those of either side.
-use Rattle.std.proofs.Common.{◌≡◌, ℕ, ◌+◌, ◌<◌, ◌≤◌, List, [], ◌∷◌, length, get_or, inl, inr, refl, subst, ◌∙◌, arith}
-use Rattle.std.specs.Prelude.{All, Contains}
+use Rattle.std.proofs.Common.{◌≡◌, ℕ, ◌<◌, ◌≤◌, List, [], ◌∷◌, get_or, inl, inr, refl, subst, ◌∙◌, arith}
+use Rattle.std.specs.Prelude.{Contains}
 use Rattle.std.proofs.lemmas.Bool.{cases_lt}
 use Rattle.std.proofs.lemmas.List.{get_or_default}
 use Rattle.letter_word.specs.declared.kinds.Side.{Side}
@@ -8,9 +8,8 @@ use Rattle.letter_word.specs.declared.kinds.Side.TheVariants.{System}
 use Rattle.machine_model.specs.Accepts.{SideAccepts}
 use Rattle.machine_model.specs.Machine.{IsMachine, MachineModel, size_of}
 use Rattle.machine_model.specs.Problem.{IsMachineOf, automaton_of, sized}
-use Rattle.machine_model.specs.declared.problems.Problem.{Problem}
 use Rattle.machine_model.proofs.Tables.{size_pos}
-use Rattle.gate_build.specs.Laws.{EitherSideMeetsTheStates, HasCut, IsMet, IsMetFor, IsSmallestOf, MeetsStates, MeetsStatesFor, SmallestMeetsAllStates}
+use Rattle.gate_build.specs.Laws.{EitherSideMeetsTheStates, HasCut, IsMetFor, MeetsStates, MeetsStatesFor, SmallestMeetsAllStates}
 use Rattle.gate_build.proofs.Cuts.{machines_can_be_cut}
 use Rattle.gate_build.proofs.Listing.{IsComplete, all_there, complete, listed_first, met_of_reached}
 
