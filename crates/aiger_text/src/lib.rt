@@ -30,4 +30,5 @@ pub use laws::{
 pub use reading::{CircuitFile, read_circuit};
 pub use states::CircuitState;
 pub use symbols::Named;
+pub use words::{cut_at, is_numeral, number_within};
 pub use write::write_circuit;
