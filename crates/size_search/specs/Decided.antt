@@ -1,4 +1,4 @@
-use Rattle.std.specs.Prelude.{⊥, List}
+use Rattle.std.specs.Prelude.{List}
 use Rattle.machine_model.specs.Accepts.{SideAccepts}
 use Rattle.machine_model.specs.Machine.{IsMachine, MachineModel}
 use Rattle.machine_model.specs.Problem.{IsMachineOf, automaton_of}

@@ -1,4 +1,4 @@
-use Rattle.std.specs.Prelude.{◌≡◌, ℕ, List, Option}
+use Rattle.std.specs.Prelude.{◌≡◌, ℕ, Option}
 use Rattle.clause_base.specs.declared.formula.Cnf.{Cnf}
 use Rattle.clause_base.specs.Clause.{IsFormula}
 use Rattle.machine_model.specs.Problem.{IsProblem}
@@ -19,12 +19,15 @@ pub record SizeTaskModel : Type 0 where
 abbrev pub terms_of : Problem → Option ℕ → ℕ → Terms
 terms_of p limit seats = record { vars = variables_of p; base = base_clauses p; limit = limit; seats = seats }
 
--- What a task keeps of itself and of the formula that it hands to workers.
-pub record IsTask (t : SizeTaskModel) (formula : Cnf) : Type 0 where
+-- A task: its shared log is one of its problem's variables and base clauses (this project's own).
+pub record IsTask (t : SizeTaskModel) : Type 0 where
   pub of_problem : IsProblem t.problem
-  pub vars : formula.vars ≡ variables_of t.problem
-  pub clauses : formula.clauses.items ≡ base_clauses t.problem
-  pub vars_shared : t.exchange.terms.vars ≡ variables_of t.problem
-  pub base_shared : t.exchange.terms.base ≡ base_clauses t.problem
+  pub terms : t.exchange.terms ≡ terms_of t.problem t.exchange.terms.limit t.exchange.terms.seats
+
+-- What a task keeps of itself and of the formula that it hands to workers, which is that of its problem.
+pub record IsKept (t : SizeTaskModel) (formula : Cnf) : Type 0 where
+  pub task : IsTask t
+  pub vars : formula.vars ≡ t.exchange.terms.vars
+  pub clauses : formula.clauses.items ≡ t.exchange.terms.base
   pub is_formula : IsFormula formula.vars formula.clauses.items
   pub met : HasAccepted t.problem → IsMetBySome formula.vars formula.clauses.items

@@ -1,14 +1,15 @@
 //! A size, and turns on it.
 ghost use Rattle.std.specs.Prelude.{◌≡◌, ◌<◌, ◌≤◌, ℕ, ◌++◌, Some, None, Ok, IfOk, IfSome, All, Contains, map, length, slice_get};
+ghost use Rattle.machine_model.specs.Machine.{MachineModel};
 ghost use Rattle.machine_model.specs.Problem.{IsProblem};
 ghost use Rattle.clause_exchange.specs.SharedLog.{IsLogOn, PassView, new_pass};
 ghost use Rattle.clause_solver.specs.Turned.{IsLesson};
 ghost use Rattle.refutation_log.specs.Entry.{clauses_of};
 ghost use Rattle.refutation_log.specs.Log.{is_ended as is_ended_log};
 ghost use Rattle.refutation_log.specs.Teaches.{entries_by};
-ghost use Rattle.size_search.specs.Task.{terms_of};
+ghost use Rattle.size_search.specs.Task.{IsTask, terms_of};
 ghost use Rattle.size_search.specs.Seat.{GoesOn};
-ghost use Rattle.size_search.specs.Decided.{IsDecided};
+ghost use Rattle.size_search.specs.Decided.{IsAcceptedOf, IsClosedOn, IsDecided};
 ghost use Rattle.size_search.specs.SizeLog.{HoldsEnded, IsSizeLog};
 
 use crate::decided::Decided;
@@ -39,13 +40,13 @@ pub struct SizeTask {
 
 impl Model for SizeTask {
     ghost use Rattle.std.specs.Arc.{arc_value};
-    ghost use Rattle.size_search.specs.Task.{SizeTaskModel, IsTask};
+    ghost use Rattle.size_search.specs.Task.{SizeTaskModel, IsKept};
 
     ghost Value = { SizeTaskModel };
 
     ghost view = { λ t. record { problem = t.problem; exchange = t.exchange } };
 
-    ghost invariant = { λ t. IsTask (record { problem = t.problem; exchange = t.exchange }) (arc_value t.base) };
+    ghost invariant = { λ t. IsKept (record { problem = t.problem; exchange = t.exchange }) (arc_value t.base) };
 }
 
 /// A task with its seats, whose numbers are their places.
@@ -86,7 +87,7 @@ impl SizeTask {
     /// The problem of this size.
     pub fn problem(&self) -> &Problem
         ensures value { result.now ≡ self.now.problem }
-        ensures limits { IsProblem result.now }
+        ensures task { IsTask self.now }
     {
         &self.problem
     }
@@ -152,6 +153,7 @@ impl SizeTask {
         requires exchange { All (λ s. s.exchange ≡ self.exchange) seats.items }
         requires each { (number : ℕ) → number < self.exchange.terms.seats → Contains (map (λ s. s.number) seats.items) number }
         ensures log { IfOk result (IsSizeLog self.problem self.exchange.terms) }
+        ensures refutes { IfOk result (λ l. IsClosedOn self.exchange.terms l.log.entries → (m : MachineModel) → IsAcceptedOf self.problem m → ⊥) }
         ensures ended { IfOk result (λ l. All (λ s. HoldsEnded self.exchange.terms l.log.entries s.seen) seats.items) }
     {
         let passes = passes_of(alloc, seats)?;
