@@ -195,12 +195,12 @@ impl SizeTask {
             return Err(AllocError);
         };
         self.tell(seat, gate, Moment::AfterAppend);
-        Ok(match reply {
-            Reply::Closed => Some(Decided::Refuted),
-            Reply::Full => Some(Decided::Full),
-            _ if refutes => Some(Decided::Refuted),
-            _ => None,
-        })
+        match reply {
+            Reply::Closed => Ok(Some(Decided::Refuted)),
+            Reply::Full => Ok(Some(Decided::Full)),
+            _ if refutes => Ok(Some(Decided::Refuted)),
+            _ => Ok(None),
+        }
     }
 
     /// Lets a seat pass the gate, if its number isn't 0.
