@@ -9,3 +9,4 @@ pub mod Paths
 pub mod Existence
 pub mod Unrolled
 pub mod Examples
+pub mod PartsLemmas

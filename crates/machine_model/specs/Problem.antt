@@ -1,5 +1,7 @@
 use Rattle.std.specs.Prelude.{◌≡◌, ℕ, ◌+◌, ◌^◌, ◌<◌, ◌≤◌, ◌⊎◌, All}
 use Rattle.std.specs.Arc.{arc_value}
+use Rattle.letter_word.specs.declared.kinds.Kind.{Kind}
+use Rattle.letter_word.specs.declared.kinds.Side.{Side}
 use Rattle.letter_word.specs.declared.kinds.Side.TheVariants.{System, Environment}
 use Rattle.machine_model.specs.Machine.{MachineModel, size_of}
 use Rattle.machine_model.specs.Automaton.{AutomatonModel, states_of}
@@ -9,6 +11,31 @@ use Rattle.machine_model.specs.declared.problems.Problem.{Problem}
 -- the automaton of the problem's side
 abbrev pub automaton_of : Problem → AutomatonModel
 automaton_of p = arc_value p.automaton
+
+-- what a problem says, apart from where its automaton is kept
+pub record Parts : Type 0 where
+  pub automaton : AutomatonModel
+  pub inputs : ℕ
+  pub outputs : ℕ
+  pub side : Side
+  pub kind : Kind
+  pub size : ℕ
+  pub version : ℕ
+
+abbrev pub parts_of : Problem → Parts
+parts_of p = record {
+  automaton = automaton_of p;
+  inputs = p.inputs;
+  outputs = p.outputs;
+  side = p.side;
+  kind = p.kind;
+  size = p.size;
+  version = p.version;
+}
+
+-- the same problem for another number of states
+abbrev pub sized : Problem → ℕ → Problem
+sized p n = record p { size = n }
 
 -- how many signals the problem's machines read
 abbrev pub reads_of : Problem → ℕ
@@ -39,3 +66,12 @@ pub record IsMachineOf (p : Problem) (m : MachineModel) : Type 0 where
   pub size : size_of m ≡ p.size
   pub reads : m.reads ≡ reads_of p
   pub writes : m.writes ≡ writes_of p
+
+-- one problem is within the limits where the other is, and looks for the same machines
+pub record AreAlike (p q : Problem) : Type 0 where
+  pub problem : IsProblem p → IsProblem q
+  pub machines : (m : MachineModel) → IsMachineOf p m → IsMachineOf q m
+
+-- so it is where they say the same, wherever their automata are kept
+abbrev pub EqualPartsAreAlike : Type 0
+EqualPartsAreAlike = (p q : Problem) → parts_of p ≡ parts_of q → AreAlike p q

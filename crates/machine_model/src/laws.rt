@@ -1,6 +1,7 @@
-// Laws of run lassos and of accepted words. Each is the contract of a function that does nothing.
+// Laws of run lassos, of accepted words and of problems. Each is the contract of a function that does nothing.
 ghost use Rattle.machine_model.specs.Laws.{EveryReadLassoHasARun, RunsAreDetermined, MooreWritesBeforeReading, RunsStayWithin, RunsUnroll, AcceptanceIsOfTheWord, AcceptanceIsOfTheReadWord};
 ghost use Rattle.machine_model.specs.Example.{ExampleAccepts};
+ghost use Rattle.machine_model.specs.Problem.{EqualPartsAreAlike};
 
 /// Every lasso of read letters is the read part, as a word, of a run lasso.
 pub fn every_read_lasso_has_a_run()
@@ -35,6 +36,11 @@ pub fn acceptance_is_of_the_word()
 /// Of two run lassos on the same word of read letters, either both are accepted or none.
 pub fn acceptance_is_of_the_read_word()
     ensures { AcceptanceIsOfTheReadWord }
+{}
+
+/// Problems that say the same have the same limits and look for the same machines.
+pub fn equal_parts_are_alike()
+    ensures { EqualPartsAreAlike }
 {}
 
 #[cfg(test)]

@@ -4,6 +4,7 @@ ghost use Rattle.machine_model.specs.Machine.{MachineModel, IsMachine, IsRefused
 ghost use Rattle.machine_model.specs.declared.machines.MachineFault.{MachineFault};
 
 use letter_word::Kind;
+use std::alloc::AllocError;
 use std::marker::Model;
 
 /// What a machine does in one state on one read letter.
@@ -43,6 +44,19 @@ impl Model for Machine {
     ghost view = { λ m. record { kind = m.kind; reads = m.reads; writes = m.writes; table = m.table.items } };
 
     ghost invariant = { λ m. IsKept (record { kind = m.kind; reads = m.reads; writes = m.writes; table = m.table.items }) };
+}
+
+impl Clone for Machine {
+    ghost is_clone = { λ m copy. copy ≡ m };
+
+    fn clone(&self) -> Result<Machine, AllocError> {
+        Ok(Machine {
+            kind: self.kind,
+            reads: self.reads,
+            writes: self.writes,
+            table: self.table.clone()?,
+        })
+    }
 }
 
 impl Machine {

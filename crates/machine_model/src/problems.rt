@@ -1,7 +1,8 @@
-ghost use Rattle.std.specs.Prelude.{◌≡◌};
+ghost use Rattle.std.specs.Prelude.{◌≡◌, IfOk};
 
 use crate::automata::Automaton;
 use letter_word::{Kind, Side};
+use std::alloc::AllocError;
 use std::sync::Arc;
 
 /// The search for a machine of one side and size, which that side's automaton accepts.
@@ -24,7 +25,23 @@ pub struct Problem {
 }
 
 impl Problem {
-    ghost use Rattle.machine_model.specs.Problem.{reads_of, writes_of};
+    ghost use Rattle.machine_model.specs.Problem.{parts_of, reads_of, sized, writes_of};
+
+    /// The same problem for another number of states. The automaton is shared, and nothing is copied: an error means that
+    /// it has as many owners as can be counted.
+    pub fn sized(&self, size: u32) -> Result<Problem, AllocError>
+        ensures { IfOk result (λ p. parts_of p ≡ parts_of (sized self.now size)) }
+    {
+        Ok(Problem {
+            automaton: Arc::try_clone(&self.automaton)?,
+            inputs: self.inputs,
+            outputs: self.outputs,
+            side: self.side,
+            kind: self.kind,
+            size,
+            version: self.version,
+        })
+    }
 
     /// The number of signals that the machine reads.
     pub fn reads(&self) -> u32
