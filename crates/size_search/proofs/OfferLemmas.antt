@@ -23,42 +23,6 @@ use Rattle.refutation_log.proofs.StateLemmas.{is_ended-last, is_empty_clause-len
 use Rattle.clause_exchange.specs.SharedLog.{IsPrefix}
 use Rattle.clause_solver.proofs.NewLemmas.{teaching_clauses_are_new}
 
--- ---- what teaches over all entries teaches over a worker's own
-
-pub teaches_fewer : (clauses fewer : List (List Literal)) (clause : List Literal) → ((c : List Literal) → Contains fewer c → Contains clauses c) → Teaches clauses clause → Teaches fewer clause
-teaches_fewer clauses fewer clause part (inl e) = inl e
-teaches_fewer clauses fewer clause part (inr (l, trues, q)) = inr (l, trues, record {
-  member = q.member;
-  one_sign = q.one_sign;
-  others_false = q.others_false;
-  untouched = q.untouched;
-  not_falsified = λ c h. q.not_falsified c (part c h);
-  not_unit = λ c h. q.not_unit c (part c h);
-})
-
-own_clause : (number : ℕ) (log : List Entry) (c : List Literal) → Contains (clauses_of (entries_by number log)) c → Contains (clauses_of log) c
-own_clause number [] c h = h
-own_clause number (e ∷ log) c h = by (nat_eq e.by number) (own_clause number log c) h
-  where
-    by : (b : Bool) → (Contains (clauses_of (entries_by number log)) c → Contains (clauses_of log) c)
-        → Contains (clauses_of (cond b (e ∷ entries_by number log) (entries_by number log))) c → Contains (clauses_of (e ∷ log)) c
-    by true rest k =
-        elim (Contains-cases e.clause (clauses_of (entries_by number log)) c k) [
-          | inl s ↦ subst (Contains (clauses_of (e ∷ log))) s (Contains-head e.clause (clauses_of log))
-          | inr d ↦ Contains-later e.clause (clauses_of log) c (rest d)
-        ]
-    by false rest k = Contains-later e.clause (clauses_of log) c (rest k)
-
-pub teaches_own : (base : List (List Literal)) (log : List Entry) (number : ℕ) (clause : List Literal) → Teaches (base ++ clauses_of log) clause → Teaches (base ++ clauses_of (entries_by number log)) clause
-teaches_own base log number clause t = teaches_fewer (base ++ clauses_of log) (base ++ clauses_of (entries_by number log)) clause part t
-  where
-    part : (c : List Literal) → Contains (base ++ clauses_of (entries_by number log)) c → Contains (base ++ clauses_of log) c
-    part c h =
-        elim (Contains-append_cases base (clauses_of (entries_by number log)) c h) [
-          | inl d ↦ Contains-append_left base (clauses_of log) c d
-          | inr d ↦ Contains-append_right base (clauses_of log) c (own_clause number log c d)
-        ]
-
 -- ---- an entry was offered to a log
 
 pub record IsKnownAt (log : List Entry) (e : Entry) (new : List Entry) (reply : Reply) : Type 0 where

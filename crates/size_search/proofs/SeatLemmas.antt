@@ -93,3 +93,8 @@ fresh_numbers exchange passes n count each i p at =
     let same : Some p ≡ Some (new_pass exchange i) = sym at ∙ each i (omega arith) in
     let same' : p ≡ new_pass exchange i = cc in
     ap (λ (q : PassView). q.number) same'
+
+-- a worker's work, on the lists that its turn is lent
+pub work_shows : (p : PassView) (worker : WorkerModel) (entries seen : List Entry) (base : List (List Literal)) → IsWorkOf p worker entries → base ≡ p.exchange.terms.base → seen ≡ entries
+    → IsWorkingOn base seen worker
+work_shows p worker entries seen base w b s = subst (λ l. IsWorkingOn base l worker) (sym s) (subst (λ cs. IsWorkingOn cs entries worker) (sym b) w.working)

@@ -8,7 +8,8 @@ use Rattle.clause_base.specs.declared.formula.Cnf.{Cnf}
 use Rattle.clause_base.specs.Truth.{meets}
 use Rattle.clause_base.specs.Clause.{IsFormula}
 use Rattle.machine_model.specs.Machine.{MachineModel}
-use Rattle.machine_model.specs.Problem.{IsProblem}
+use Rattle.machine_model.specs.Automaton.{IsAutomaton}
+use Rattle.machine_model.specs.Problem.{IsProblem, automaton_of}
 use Rattle.machine_model.specs.declared.problems.Problem.{Problem}
 use Rattle.annotation_encode.specs.BaseClauses.{base_clauses}
 use Rattle.annotation_encode.specs.Laws.{HasAccepted, IsMetBySome}
@@ -87,10 +88,10 @@ abbrev terms_with : Problem → List (List Literal) → Option ℕ → ℕ → T
 terms_with p base limit seats = record { vars = variables_of p; base = base; limit = limit; seats = seats }
 
 -- a task of a formula that was just made
-pub opens : (p : Problem) (x : SharedLog) (cnf formula shared : Cnf) (limit : Option ℕ) (seats : ℕ) → IsProblem p → cnf.vars ≡ variables_of p → cnf.clauses.items ≡ base_clauses p
+pub opens : (p : Problem) (x : SharedLog) (cnf formula shared : Cnf) (limit : Option ℕ) (seats : ℕ) → IsProblem p → IsAutomaton (automaton_of p) → cnf.vars ≡ variables_of p → cnf.clauses.items ≡ base_clauses p
     → IsFormula cnf.vars cnf.clauses.items → (HasAccepted p → IsMetBySome cnf.vars cnf.clauses.items) → formula ≡ cnf → shared ≡ formula
     → x.terms ≡ record { vars = shared.vars; base = shared.clauses.items; limit = limit; seats = seats } → IsKept (record { problem = p; exchange = x }) formula
-opens p x cnf formula shared limit seats problem vars clauses is met same other terms =
+opens p x cnf formula shared limit seats problem automaton vars clauses is met same other terms =
     let v : x.terms.vars ≡ formula.vars = ap (λ (t : Terms). t.vars) terms ∙ ap (λ (f : Cnf). f.vars) other in
     let b : x.terms.base ≡ formula.clauses.items = ap (λ (t : Terms). t.base) terms ∙ ap (λ (f : Cnf). f.clauses.items) other in
     let v' : x.terms.vars ≡ variables_of p = v ∙ ap (λ (f : Cnf). f.vars) same ∙ vars in
@@ -98,6 +99,7 @@ opens p x cnf formula shared limit seats problem vars clauses is met same other 
     record {
       task = record {
         of_problem = problem;
+        of_automaton = automaton;
         terms = ap (λ n. record { vars = n; base = x.terms.base; limit = x.terms.limit; seats = x.terms.seats }) v' ∙ ap (λ cs. terms_with p cs x.terms.limit x.terms.seats) b';
       };
       vars = sym v;

@@ -1,7 +1,8 @@
 use Rattle.std.specs.Prelude.{◌≡◌, ℕ, Option}
 use Rattle.clause_base.specs.declared.formula.Cnf.{Cnf}
 use Rattle.clause_base.specs.Clause.{IsFormula}
-use Rattle.machine_model.specs.Problem.{IsProblem}
+use Rattle.machine_model.specs.Automaton.{IsAutomaton}
+use Rattle.machine_model.specs.Problem.{IsProblem, automaton_of}
 use Rattle.machine_model.specs.declared.problems.Problem.{Problem}
 use Rattle.annotation_encode.specs.BaseClauses.{base_clauses}
 use Rattle.annotation_encode.specs.Laws.{HasAccepted, IsMetBySome}
@@ -22,6 +23,7 @@ terms_of p limit seats = record { vars = variables_of p; base = base_clauses p; 
 -- A task: its shared log is one of its problem's variables and base clauses (this project's own).
 pub record IsTask (t : SizeTaskModel) : Type 0 where
   pub of_problem : IsProblem t.problem
+  pub of_automaton : IsAutomaton (automaton_of t.problem)
   pub terms : t.exchange.terms ≡ terms_of t.problem t.exchange.terms.limit t.exchange.terms.seats
 
 -- What a task keeps of itself and of the formula that it hands to workers, which is that of its problem.

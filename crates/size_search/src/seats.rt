@@ -3,7 +3,8 @@ ghost use Rattle.std.specs.Prelude.{◌≡◌, IfOk};
 ghost use Rattle.size_search.specs.Seat.{IsWorkOf};
 
 use clause_exchange::Pass;
-use clause_solver::{Worker, laws::work_goes_on};
+use clause_solver::Worker;
+use clause_solver::laws::work_goes_on;
 use refutation_log::Entry;
 use std::alloc::{AllocError, Global};
 use std::marker::Model;

@@ -18,7 +18,8 @@ use crate::size_log::SizeLog;
 use annotation_encode::encode;
 use clause_base::Cnf;
 use clause_exchange::{Exchange, Pass};
-use clause_solver::{Turned, laws::work_goes_on};
+use clause_solver::Turned;
+use clause_solver::laws::work_goes_on;
 use letter_word::Side;
 use machine_decode::decode;
 use machine_model::Problem;
@@ -73,6 +74,7 @@ impl SizeTask {
         ensures count { IfOk result (λ o. length o.seats.items ≡ seats) }
         ensures seats { IfOk result (λ o. (i : ℕ) → i < seats → slice_get o.seats.items i ≡ Some (new_pass o.task.exchange i)) }
     {
+        let _states = problem.automaton.states();
         let base = Arc::new(alloc, encode(alloc, &problem)?)?;
         let opened = Exchange::open(alloc, base.clone()?, limit, seats)?;
         let seats = seats_of(alloc, opened.passes)?;

@@ -3,11 +3,12 @@ use Rattle.std.specs.Arc.{arc_value}
 use Rattle.refutation_log.specs.Entry.{clauses_of}
 use Rattle.refutation_log.specs.Log.{is_ended}
 use Rattle.refutation_log.specs.Teaches.{Teaches, entries_by}
+use Rattle.refutation_log.proofs.TeachLemmas.{teaches-own}
 use Rattle.clause_exchange.specs.SharedLog.{IsOffered, IsPrefix, PassView}
 use Rattle.size_search.specs.Seat.{GoesOn}
 use Rattle.size_search.specs.Task.{SizeTaskModel, IsKept}
 use Rattle.size_search.proofs.SeatLemmas.{goes_turn, works_stay}
-use Rattle.size_search.proofs.OfferLemmas.{closed_ends, emptied, empty_ends, filled, full_is, grown, teaches_own}
+use Rattle.size_search.proofs.OfferLemmas.{closed_ends, emptied, empty_ends, filled, grown}
 use Rattle.size_search.proofs.TaskLemmas.{refuted}
 use Rattle.size_search.proofs.tasks.SizeTask.offer.Goals as goal
 
@@ -18,7 +19,7 @@ append-requires-clause-teaches g c =
     let own : entries_by seat.number seat.seen ≡ c.seat.inside.pass.own = sym c.requires.own ∙ ap (λ (p : PassView). p.own) (sym c.seat.view_is) in
     let same : base ≡ c.self.inside.exchange.terms.base = ap (λ (t : SizeTaskModel). t.exchange.terms.base) (sym c.self.view_is) in
     subst (λ cs. Teaches (cs ++ clauses_of c.seat.inside.pass.own) c.args.entry.clause) same
-    (subst (λ es. Teaches (base ++ clauses_of es) c.args.entry.clause) own (teaches_own base seat.seen seat.number c.args.entry.clause c.requires.lesson.teaches))
+    (subst (λ es. Teaches (base ++ clauses_of es) c.args.entry.clause) own (teaches-own base seat.seen seat.number c.args.entry.clause c.requires.lesson.teaches))
 
 pub invariant_of-seat : goal.invariant_of-seat
 invariant_of-seat g c = (c.seat.invariant.0 ∙ sym c.append.ensures.turn.number, works_stay c.seat.inside.pass c.append.new.pass c.seat.inside.work c.append.ensures.turn c.seat.invariant.1)

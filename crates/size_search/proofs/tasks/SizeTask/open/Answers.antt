@@ -1,3 +1,5 @@
+use Rattle.std.proofs.Common.{subst}
+use Rattle.machine_model.specs.Automaton.{IsAutomaton}
 use Rattle.std.specs.Arc.{arc_value}
 use Rattle.size_search.proofs.SeatLemmas.{fresh_numbers}
 use Rattle.size_search.proofs.TaskLemmas.{opens}
@@ -13,4 +15,4 @@ invariant_of-task c =
     let e = c.in_ok-encode.ensures in
     let o = c.in_ok-opened.ensures in
     opens c.args.problem c.in_ok-opened.opened.exchange c.in_ok-encode.field-0 (arc_value c.in_ok-base.base) (arc_value c.in_ok-clone.field-0) c.args.limit c.args.seats c.requires.problem
-    e.vars e.clauses e.formula e.met c.in_ok-base.ensures.ok c.in_ok-clone.ensures.cases o.terms
+    (subst IsAutomaton c.deref.ensures c.states-states.ensures.kept) e.vars e.clauses e.formula e.met c.in_ok-base.ensures.ok c.in_ok-clone.ensures.cases o.terms

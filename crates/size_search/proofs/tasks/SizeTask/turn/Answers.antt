@@ -8,7 +8,7 @@ use Rattle.clause_exchange.specs.SharedLog.{PassView, SharedLog}
 use Rattle.size_search.specs.Decided.{IsAcceptedOf, IsClosedOn}
 use Rattle.size_search.specs.Seat.{IsWorkOf}
 use Rattle.size_search.specs.Task.{SizeTaskModel, IsKept}
-use Rattle.size_search.proofs.SeatLemmas.{works_stay, work_reads, work_turns}
+use Rattle.size_search.proofs.SeatLemmas.{works_stay, work_reads, work_shows, work_turns}
 use Rattle.size_search.proofs.TaskLemmas.{refuted}
 use Rattle.size_search.proofs.tasks.SizeTask.turn.Goals as goal
 
@@ -31,6 +31,16 @@ returns-then-is_ended-clause-decided g c =
     subst (λ (q : PassView). IsClosedOn c.args.self.now.exchange.terms q.seen × ((m : MachineModel) → IsAcceptedOf c.args.self.now.problem m → ⊥)) (sym c.put_work.ensures)
     (refuted c.args.self.now (arc_value c.self.inside.base) c.seat.inside.pass c.read.new.pass (subst (λ (t : SizeTaskModel). IsKept t (arc_value c.self.inside.base)) c.self.view_is c.self.invariant) c.read.ensures.turn
     (ap (λ (p : PassView). p.exchange) same ∙ c.requires.exchange) ended)
+
+pub turn-requires-clause-working : goal.turn-requires-clause-working
+turn-requires-clause-working g c =
+    let same : c.seat.inside.pass ≡ c.args.seat.now = c.seat.view_is ∙ c.take_work.ensures.same in
+    let before = work_reads c.seat.inside.pass c.read.new.pass c.in_ok-work.work.worker c.in_ok-work.work.entries.items c.read.new.into.items c.read.ensures.turn c.in_ok-read.ensures.ok
+    (subst (λ (p : PassView). IsWorkOf p c.in_ok-work.work.worker c.in_ok-work.work.entries.items) (sym same) c.in_ok-work.ensures.work) in
+    let exchange : c.read.new.pass.exchange ≡ c.args.self.now.exchange = c.read.ensures.turn.exchange ∙ ap (λ (p : PassView). p.exchange) same ∙ c.requires.exchange in
+    work_shows c.read.new.pass c.in_ok-work.work.worker c.read.new.into.items c.deref-4.result.now c.deref-3.result.now.clauses.items before
+    (ap (λ (f : Cnf). f.clauses.items) c.deref-3.ensures ∙ c.self.invariant.clauses ∙ ap (λ (t : SizeTaskModel). t.exchange.terms.base) c.self.view_is ∙ ap (λ (x : SharedLog). x.terms.base) (sym exchange))
+    c.deref-4.ensures.value
 
 pub put_work-requires-2 : goal.put_work-requires-2
 put_work-requires-2 g c =
