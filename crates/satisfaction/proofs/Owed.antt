@@ -1,4 +1,4 @@
-use Rattle.std.proofs.Common.{◌≡◌, ◌≢◌, Bool, true, false, not, refl, sym, ap, ◌∙◌}
+use Rattle.std.proofs.Common.{◌≡◌, ◌≢◌, true, false, refl, sym, ◌∙◌, subst}
 use Rattle.letter_word.specs.declared.kinds.Kind.{Kind}
 use Rattle.letter_word.specs.declared.kinds.Kind.TheVariants.{Mealy, Moore}
 use Rattle.letter_word.specs.declared.kinds.Side.TheVariants.{System, Environment}
