@@ -4,3 +4,4 @@ pub mod Sides
 pub mod Meaning
 pub mod Sizes
 pub mod Whole
+pub mod Fitting

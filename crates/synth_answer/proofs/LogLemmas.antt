@@ -1,6 +1,6 @@
 -- What holds of the logs of a search holds of those of a document, however its lines are numbered.
-use Rattle.std.proofs.Common.{◌≡◌, ◌==◌, ℕ, ◌+◌, zero, suc, ◌<◌, List, [], ◌∷◌, ◌++◌, All, Any, length, map, get_or, refl, sym, ap, ◌∙◌, subst, arith, if◌then◌else◌}
-use Rattle.std.proofs.lemmas.List.Elements.{All-cons, All-head, All-map, All-nil, All-tail}
+use Rattle.std.proofs.Common.{◌≡◌, ℕ, ◌+◌, zero, suc, List, [], ◌∷◌, ◌++◌, All, Any, length, map, refl, sym, ap, subst, arith}
+use Rattle.std.proofs.lemmas.List.Elements.{All-cons, All-head, All-map, All-tail}
 use Rattle.size_search.specs.declared.size_log.SizeLog.{SizeLog}
 use Rattle.cert_text.specs.Parts.{LogPart}
 use Rattle.cert_text.specs.States.{logs_at}

@@ -1,13 +1,10 @@
 -- What a text's problems say of machines and of circuits.
-use Rattle.std.proofs.Common.{◌≡◌, ◌↔◌, ℕ, ◌<◌, ◌≤◌, Bool, true, false, List, Option, Some, None, IfSome, length, map, refl, sym, ap, ◌∙◌, subst, arith}
-use Rattle.std.specs.Option.{ForSome}
+use Rattle.std.proofs.Common.{◌≡◌, ℕ, ◌≤◌, Bool, true, false, List, Option, Some, None, IfSome, length, refl, sym, ap, ◌∙◌, subst}
 use Rattle.letter_word.specs.declared.kinds.Kind.{Kind}
 use Rattle.letter_word.specs.declared.kinds.Side.{Side}
 use Rattle.letter_word.specs.declared.kinds.Side.TheVariants.{System, Environment}
 use Rattle.letter_word.specs.Kinds.{other_kind}
-use Rattle.letter_word.specs.Word.{Word}
 use Rattle.ltl_formula.specs.Tree.{Tree}
-use Rattle.ltl_formula.specs.Nodes.{tree_at}
 use Rattle.machine_model.specs.Accepts.{SideAccepts}
 use Rattle.machine_model.specs.Automaton.{AutomatonModel, IsAutomaton}
 use Rattle.machine_model.specs.Machine.{IsMachine, MachineModel, size_of}
@@ -21,22 +18,18 @@ use Rattle.tlsf_expand.specs.Expansion.{Expanded}
 use Rattle.tlsf_expand.specs.Meaning.{means}
 use Rattle.tlsf_expand.specs.TextSeen.{FlatText}
 use Rattle.tlsf_reader.specs.Spec.{Spec}
-use Rattle.flat_text.specs.FlatNames.{HasPlainNames}
 use Rattle.flat_text.specs.Plain.{text_of}
-use Rattle.spec_problems.specs.declared.sides.Interface.{Interface}
 use Rattle.spec_problems.specs.declared.sides.SideProblems.{SideProblems}
-use Rattle.spec_problems.specs.OfFormula.{AcceptBySide, AreProblems, IsEnvironmentOver, IsProblemOver}
+use Rattle.spec_problems.specs.OfFormula.{AreProblems, IsEnvironmentOver, IsProblemOver}
 use Rattle.spec_problems.specs.OfText.{AreProblemsOf, SaysWhat, interface_of}
 use Rattle.satisfaction.specs.Wanted.{Says, Wanted}
-use Rattle.satisfaction.specs.Satisfaction.{CanLose, CircuitDefeats, CircuitSatisfies, Defeats, EachCanLose, IsEnvironmentFor, IsSystemFor, NoneSatisfies, Satisfies}
-use Rattle.satisfaction.specs.Laws.{IsCircuitFor}
-use Rattle.synth_engine.specs.declared.settings.Settings.{Settings}
+use Rattle.satisfaction.specs.Satisfaction.{EachCanLose, IsEnvironmentFor, IsSystemFor, NoneSatisfies}
 use Rattle.size_search.specs.Decided.{IsAcceptedOf}
 use Rattle.synth_answer.specs.Answer.{DoesItsPart}
 use Rattle.synth_answer.specs.Holds.{read_by, written_by}
 use Rattle.synth_answer.specs.Printed.{IsWantedBy}
-use Rattle.synth_answer.specs.Reply.{AreProblemsFor, HaveAutomata, IsCircuitWith, IsProblemFor, LawsHold}
-use Rattle.synth_answer.proofs.Sides.{IsOf, some_of}
+use Rattle.synth_answer.specs.Reply.{AreProblemsFor, IsCircuitWith, IsProblemFor, LawsHold}
+use Rattle.synth_answer.proofs.Sides.{some_of}
 
 -- == what a text wants ==
 
@@ -60,7 +53,12 @@ is_wanted text kind version spec s says are = record {
 
 one_for : (x : Expanded) (side : Side) (machines : Kind) (a : AutomatonModel) (p : Problem) → IsProblem p → IsProblemOver (interface_of 2 x) side machines a p → IsProblemFor x side machines p
 one_for x side machines a p within over = record {
-  within = within; inputs = over.inputs; outputs = over.outputs; of_side = over.side; kind_is = over.kind; version = over.version;
+  within = within;
+  inputs = over.inputs;
+  outputs = over.outputs;
+  of_side = over.side;
+  kind_is = over.kind;
+  version = over.version;
 }
 
 environment_for : (x : Expanded) (a : Option AutomatonModel) (e : Option Problem) → IsEnvironmentOver (interface_of 2 x) a e → IfSome e IsProblem
@@ -100,26 +98,30 @@ pub record IsSideOf (x : Wanted) (f : Tree) (side : Side) (p : Problem) : Type 0
   pub automaton : IsAutomaton (automaton_of p)
   pub accepts : AcceptsWhere (truth_of side) f (automaton_of p)
 
-reads_system : (p : Problem) → p.side ≡ System → reads_of p ≡ p.inputs
+pub reads_system : (p : Problem) → p.side ≡ System → reads_of p ≡ p.inputs
 reads_system p e = rw e refl
 
-writes_system : (p : Problem) → p.side ≡ System → writes_of p ≡ p.outputs
+pub writes_system : (p : Problem) → p.side ≡ System → writes_of p ≡ p.outputs
 writes_system p e = rw e refl
 
-reads_environment : (p : Problem) → p.side ≡ Environment → reads_of p ≡ p.outputs
+pub reads_environment : (p : Problem) → p.side ≡ Environment → reads_of p ≡ p.outputs
 reads_environment p e = rw e refl
 
-writes_environment : (p : Problem) → p.side ≡ Environment → writes_of p ≡ p.inputs
+pub writes_environment : (p : Problem) → p.side ≡ Environment → writes_of p ≡ p.inputs
 writes_environment p e = rw e refl
 
 pub sized_within : (p : Problem) (n : ℕ) → IsProblem p → 1 ≤ n → n ≤ 8 → IsProblem (sized p n)
 sized_within p n within some most = record {
-  inputs = within.inputs; outputs = within.outputs; some = some; size = most;
-  states = within.states; signals = within.signals; version = within.version;
+  inputs = within.inputs;
+  outputs = within.outputs;
+  some = some;
+  size = most;
+  states = within.states;
+  signals = within.signals;
+  version = within.version;
 }
 
 module _ (laws : LawsHold) (x : Wanted) (f : Tree) (says : Says f x) where
-
   system_for : (p : Problem) (n : ℕ) (m : MachineModel) → IsSideOf x f System p → IsMachine m → IsMachineOf (sized p n) m → IsSystemFor x m
   system_for p n m known made sought = record {
     machine = made;
@@ -159,7 +161,9 @@ module _ (laws : LawsHold) (x : Wanted) (f : Tree) (says : Says f x) where
       let sought = subst (λ k. IsMachineOf (sized p k) m) size (system_sought p m known system) in
       let accepted = (laws.systems x f (automaton_of p) m says known.accepts system).1 satisfies in
       none.none (record {
-        machine = m; made = system.machine; looked_for = sought;
+        machine = m;
+        made = system.machine;
+        looked_for = sought;
         accepted = subst (λ side. SideAccepts (automaton_of p) side m) (sym known.of_side) accepted;
       })
 

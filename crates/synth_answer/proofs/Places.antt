@@ -1,7 +1,7 @@
 -- The places of logs, and the order in which they stand.
-use Rattle.std.proofs.Common.{◌≡◌, ◌==◌, ℕ, zero, suc, ◌+◌, ◌-◌, ◌<◌, ◌≤◌, ◌⊎◌, inl, inr, true, false, ◌&&◌, ◌||◌, List, [], ◌∷◌, ◌++◌, All, Contains, IsTrue, length, map, get_or, refl, sym, ap, ◌∙◌, subst, arith, eq-eqb, add-zero, add-one, append_assoc}
+use Rattle.std.proofs.Common.{◌≡◌, ℕ, zero, suc, ◌+◌, ◌<◌, ◌≤◌, ◌⊎◌, inl, inr, true, List, [], ◌∷◌, ◌++◌, All, Contains, IsTrue, map, get_or, refl, sym, ap, ◌∙◌, subst, arith, eq-eqb, add-zero}
 use Rattle.std.proofs.lemmas.Bool.{lt-ltb}
-use Rattle.std.proofs.lemmas.List.Elements.{All-cons, All-head, All-nil, All-push, All-tail, All-weaker, Contains-append_left, Contains-append_right, Contains-push}
+use Rattle.std.proofs.lemmas.List.Elements.{All-cons, All-head, All-nil, All-push, All-tail, All-weaker, Contains-append_left, Contains-push}
 use Rattle.letter_word.specs.declared.kinds.Side.{Side}
 use Rattle.letter_word.specs.declared.kinds.Side.TheVariants.{System, Environment}
 use Rattle.size_board.specs.declared.events.Claim.{Claim}
@@ -10,7 +10,7 @@ use Rattle.synth_engine.specs.Logs as engine
 use Rattle.cert_text.specs.declared.order.Order.{Order}
 use Rattle.cert_text.specs.declared.order.Order.TheVariants.{UpTo, AnyUpTo}
 use Rattle.cert_text.specs.declared.order.Place.{Place}
-use Rattle.cert_text.specs.Order.{AreInOrder, may_end, may_follow, place, same_side}
+use Rattle.cert_text.specs.Order.{AreInOrder, may_follow, place, same_side}
 use Rattle.cert_text.specs.Parts.{LogPart}
 use Rattle.synth_answer.specs.Holds.{place_of, places_to}
 use Rattle.synth_answer.specs.Reply.{part_of}

@@ -1,9 +1,8 @@
 -- What holds of a side's problem, carried to what follows.
-use Rattle.std.proofs.Common.{◌≡◌, ℕ, List, All, Option, Some, None, IfSome, refl, sym, ◌∙◌, subst}
+use Rattle.std.proofs.Common.{◌≡◌, List, All, Option, Some, None, IfSome, refl, sym, subst}
 use Rattle.letter_word.specs.declared.kinds.Side.{Side}
 use Rattle.letter_word.specs.declared.kinds.Side.TheVariants.{System, Environment}
 use Rattle.machine_model.specs.declared.problems.Problem.{Problem}
-use Rattle.size_search.specs.declared.size_log.SizeLog.{SizeLog}
 use Rattle.synth_engine.specs.Outcomes.{OfSide}
 
 pub some_of : {A : Type 0} (P : A → Type 0) (o : Option A) (x : A) → IfSome o P → o ≡ Some x → P x

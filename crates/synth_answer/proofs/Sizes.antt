@@ -1,5 +1,5 @@
 -- Numbers of variables and of base clauses are small.
-use Rattle.std.proofs.Common.{◌≡◌, ℕ, zero, suc, ◌+◌, ◌*◌, ◌^◌, ◌<◌, ◌≤◌, Bool, true, false, List, Option, Some, None, length, refl, sym, ◌∙◌, subst, arith, if◌then◌else◌}
+use Rattle.std.proofs.Common.{◌≡◌, ℕ, ◌*◌, ◌^◌, ◌≤◌, Bool, true, false, Some, None, length, refl, arith, if◌then◌else◌}
 use Rattle.std.proofs.Math.Nat.{mul-le-mul, pow-le-pow_right}
 use Rattle.std.proofs.lemmas.Bool.{leb-true}
 use Rattle.letter_word.specs.declared.kinds.Kind.{Kind}
@@ -12,7 +12,7 @@ use Rattle.machine_model.specs.Problem.{IsProblem, automaton_of, reads_of, sized
 use Rattle.machine_model.specs.declared.problems.Problem.{Problem}
 use Rattle.product_bound.specs.Annotation.{bound_of, places_of, rejecting_count}
 use Rattle.annotation_encode.specs.BaseClauses.{base_clauses}
-use Rattle.annotation_encode.specs.Count.{AreCounted, allowed_sizes, count_of}
+use Rattle.annotation_encode.specs.Count.{count_of}
 use Rattle.annotation_encode.specs.Variables.{letter_count, move_count, number_count, variables_of, write_count, write_places}
 
 few_reads : (p : Problem) (side : Side) → p.side ≡ side → IsProblem p → reads_of p ≤ 8

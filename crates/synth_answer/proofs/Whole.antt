@@ -1,6 +1,6 @@
 -- From the outcome of a search to the answer.
-use Rattle.std.proofs.Common.{◌≡◌, ◌==◌, ◌≢◌, ℕ, zero, suc, ◌+◌, ◌-◌, ◌<◌, ◌≤◌, ◌^◌, ◌⊎◌, inl, inr, ◌↔◌, Bool, true, false, ◌&&◌, slice_index_or, List, [], ◌∷◌, ◌++◌, Option, Some, None, All, Any, Contains, IsTrue, IfSome, length, map, refl, sym, ap, ◌∙◌, subst, arith, is_some, if◌then◌else◌}
-use Rattle.std.proofs.lemmas.Bool.{lt-ltb, le-leb}
+use Rattle.std.proofs.Common.{◌≡◌, ◌==◌, ℕ, ◌+◌, ◌-◌, ◌<◌, ◌≤◌, ◌^◌, ◌⊎◌, inl, inr, true, false, List, [], ◌∷◌, ◌++◌, Option, Some, None, All, Any, Contains, IsTrue, IfSome, map, refl, sym, ap, ◌∙◌, subst, arith, is_some, if◌then◌else◌}
+use Rattle.std.proofs.lemmas.Bool.{le-leb}
 use Rattle.std.proofs.lemmas.List.Elements.{All-cons, All-contains, All-head, All-map, All-nil, All-same, All-tail, All-append, Contains-append_left, Contains-append_right}
 use Rattle.std.specs.List.{list_all}
 use Rattle.letter_word.specs.declared.kinds.Kind.{Kind}
@@ -8,16 +8,14 @@ use Rattle.letter_word.specs.declared.kinds.Side.{Side}
 use Rattle.letter_word.specs.declared.kinds.Side.TheVariants.{System, Environment}
 use Rattle.ltl_formula.specs.Tree.{Tree}
 use Rattle.ltl_formula.specs.Nodes.{tree_at}
-use Rattle.machine_model.specs.Accepts.{SideAccepts}
-use Rattle.machine_model.specs.Machine.{IsMachine, MachineModel, size_of}
-use Rattle.machine_model.specs.Problem.{IsMachineOf, IsProblem, automaton_of, sized}
+use Rattle.machine_model.specs.Machine.{MachineModel, size_of}
+use Rattle.machine_model.specs.Problem.{IsProblem, automaton_of, sized}
 use Rattle.machine_model.specs.declared.problems.Problem.{Problem}
 use Rattle.annotation_encode.specs.Count.{allowed_sizes}
 use Rattle.annotation_encode.specs.Laws.{HasNoAccepted}
 use Rattle.annotation_encode.specs.Variables.{variables_of}
 use Rattle.refutation_log.specs.declared.entries.Entry.{Entry}
 use Rattle.refutation_log.specs.Log.{IsClosed, IsFull}
-use Rattle.refutation_log.specs.Text as log_text
 use Rattle.refutation_log.specs.Teaches.{IsTaught}
 use Rattle.aiger_text.specs.Circuit.{Circuit, HasStates}
 use Rattle.aiger_text.specs.RoundTrip.{IsLineName, IsWritable}
@@ -31,13 +29,17 @@ use Rattle.spec_problems.specs.OfText.{AreProblemsOf, SaysWhat}
 use Rattle.satisfaction.specs.Wanted.{Says, Wanted}
 use Rattle.size_board.specs.declared.events.Claim.{Claim}
 use Rattle.size_search.specs.declared.size_log.SizeLog.{SizeLog}
-use Rattle.size_search.specs.Decided.{IsAcceptedOf}
 use Rattle.synth_engine.specs.declared.settings.Settings.{Settings}
 use Rattle.synth_engine.specs.Searched.{allowed_of}
 use Rattle.synth_engine.specs.Logs.{IsLogOf, base_at, sizes_to}
 use Rattle.synth_engine.specs.Logs as engine
 use Rattle.synth_engine.specs.Outcomes.{AreAllLogs, AreSmaller, IsFound, OfSide}
 use Rattle.synth_engine.specs.Outcomes as outcomes
+use Rattle.synth_engine.specs.declared.outcomes.Outcome.{Outcome}
+use Rattle.synth_engine.specs.declared.outcomes.Outcome.TheVariants as outcome
+use Rattle.program_replies.specs.declared.replies.Status.{Status}
+use Rattle.program_replies.specs.declared.replies.Status.TheVariants as status
+use Rattle.program_replies.specs.Statuses.{status_number}
 use Rattle.cert_text.specs.declared.documents.Verdict.{Verdict}
 use Rattle.cert_text.specs.declared.documents.Verdict.TheVariants.{Realizable, Unrealizable, Bounded, UnknownSizes, UnknownEntries}
 use Rattle.cert_text.specs.declared.order.Order.TheVariants.{UpTo, AnyUpTo}
@@ -46,16 +48,16 @@ use Rattle.cert_text.specs.Order.{AreInOrder, fits_max, fits_version, has_its_pl
 use Rattle.cert_text.specs.Parts.{Document, LogPart}
 use Rattle.cert_text.specs.Reading.{all_named}
 use Rattle.cert_text.specs.WellFormed.{IsFoundNumber, IsLogPart, IsWellFormed}
-use Rattle.cert_text.specs.States.{States, logs_at, numbered, written_comment_line}
+use Rattle.cert_text.specs.States.{logs_at, numbered, written_comment_line}
 use Rattle.synth_answer.specs.Answer.{Answers, CanBeBeaten, DoesItsPart, HasLog, IsBounded, IsRealizable, IsRefuted, IsUnrealizable, OfPrinted}
 use Rattle.synth_answer.specs.Answer as answer
 use Rattle.synth_answer.specs.Holds.{AreAsWanted, ForLog, Given, HasHeadOf, HasNames, HoldsFor, IsClosedFor, IsClosedLog, IsEndedLog, IsFirstOpen, IsFullFor, IsFullLog, machine_of, place_of, places_to, read_by, sizes_of, wanted_places, written_by}
 use Rattle.synth_answer.specs.Printed.{IsPrinted, Printed, given_by}
-use Rattle.synth_answer.specs.Reply.{AreProblemsFor, HaveAutomata, IsCircuitWith, IsMachineText, IsShort, IsTextOf, LawsHold, document_of, part_of}
+use Rattle.synth_answer.specs.Reply.{AreProblemsFor, HaveAutomata, IsCircuitWith, IsMachineText, IsShort, IsReplyTo, IsSearchedReply, IsTextOf, LawsHold, document_of, part_of}
 use Rattle.synth_answer.proofs.LogLemmas.{IsOfNoLine, all_parts_at, any_at, places_at, split_at}
 use Rattle.synth_answer.proofs.Meaning.{IsSideOf, are_problems_for, does_its_part, each_can_lose, is_wanted, none_satisfies, sized_within, wanted_of}
 use Rattle.synth_answer.proofs.Places.{IsClaimTo, claims_to, has_place, in_order_all, in_order_side, log_at, parts_at, parts_at_both, unmap}
-use Rattle.synth_answer.proofs.Sides.{Found, IsOf, all_both, all_map, all_three, at_side, find, if_some, of_side, on_both, on_side, out_of, some_of}
+use Rattle.synth_answer.proofs.Sides.{IsOf, all_both, all_map, all_three, at_side, find, if_some, of_side, on_both, on_side, out_of, some_of}
 use Rattle.synth_answer.proofs.Sizes.{few_clauses, few_variables}
 
 -- what is known of a text and of its problems
@@ -98,7 +100,6 @@ pub record FitsSize (given : Given) (max : ℕ) (side : Side) (n : ℕ) : Type 0
   pub most : n ≤ sizes_of given max side
 
 module _ (text : List ℕ) (kind : Option Kind) (settings : Settings) (spec : FlatText) (s : SideProblems) (k : Context text kind settings spec s) where
-
   abbrev pub the_text : Wanted
   the_text = wanted_of spec.expanded k.says.tree
 
@@ -118,14 +119,23 @@ module _ (text : List ℕ) (kind : Option Kind) (settings : Settings) (spec : Fl
   side_known System p of =
       let known = for_text.of_system in
       let at : IsSideOf the_text formula System s.system = record {
-        within = known.within; of_side = known.of_side; kind_is = known.kind_is; inputs = known.inputs; outputs = known.outputs;
-        automaton = k.automata.of_system; accepts = k.accept.system_where;
+        within = known.within;
+        of_side = known.of_side;
+        kind_is = known.kind_is;
+        inputs = known.inputs;
+        outputs = known.outputs;
+        automaton = k.automata.of_system;
+        accepts = k.accept.system_where;
       } in
       subst (IsSideOf the_text formula System) of at
   side_known Environment p of =
       let known = for_text.of_environment p of in
       record {
-        within = known.within; of_side = known.of_side; kind_is = known.kind_is; inputs = known.inputs; outputs = known.outputs;
+        within = known.within;
+        of_side = known.of_side;
+        kind_is = known.kind_is;
+        inputs = known.inputs;
+        outputs = known.outputs;
         automaton = k.automata.of_environment p of;
         accepts = some_of (λ q. AcceptsWhere true formula (automaton_of q)) s.environment p k.accept.environment_where of;
       }
@@ -377,7 +387,6 @@ module _ (text : List ℕ) (kind : Option Kind) (settings : Settings) (spec : Fl
       logs each all
 
   module _ (side : Side) (p : Problem) (of : IsOf s.system s.environment side p) (m : MachineModel) (logs : List SizeLog) (found : IsFound p settings m) (small : AreSmaller p settings m logs) where
-
     all_here : All IsHere logs
     all_here = to_sides side p of (λ q l. IsLogOf q settings l) logs small.each small.each
 
@@ -442,7 +451,7 @@ module _ (text : List ℕ) (kind : Option Kind) (settings : Settings) (spec : Fl
       none_smaller = λ n other some less made sought accepted.
           let log = log_below v c (IsClosedLog given settings.entries) (all_closed closed c) n (omega (arith, some)) less in
           let none = at_side s.system s.environment side (λ q. HasNoAccepted (sized q n)) p of
-              (closed_refutes log.log side n log.is_at log.holds (fits_below n (omega (arith, some)) less)) in
+          (closed_refutes log.log side n log.is_at log.holds (fits_below n (omega (arith, some)) less)) in
           none.none (record { machine = other; made = made; looked_for = sought; accepted = accepted });
     }
 
@@ -463,6 +472,7 @@ module _ (text : List ℕ) (kind : Option Kind) (settings : Settings) (spec : Fl
       where
         at : (l : SizeLog) → IsLogOf p settings l → (P : Problem → SizeLog → Type 0) → P p l → OfSide s.system s.environment (λ q. P q l) l.side
         at l log P h = subst (OfSide s.system s.environment (λ q. P q l)) (sym (log.side ∙ (side_known side p of).of_side)) (of_side s.system s.environment side (λ q. P q l) p of h)
+
         one_ended : (l : SizeLog) → IsLogOf p settings l → engine.IsClosedLog p settings l ⊎ engine.IsFullLog p settings l → IsEndedLog given settings.entries (part_of l)
         one_ended l log (inl closed) = inl (closed_part l (at l log (λ q l. IsLogOf q settings l) log) (at l log (λ q l. engine.IsClosedLog q settings l) closed))
         one_ended l log (inr full) = inr (full_part l (at l log (λ q l. IsLogOf q settings l) log) (at l log (λ q l. engine.IsFullLog q settings l) full))
@@ -485,7 +495,13 @@ module _ (text : List ℕ) (kind : Option Kind) (settings : Settings) (spec : Fl
       let c = made.circuit in
       let closed = all_closed System s.system refl m logs found small least.closed (Some c) in
       let tells : TellsMachine v System (size_of m) = record {
-        version = refl; has_place = refl; max = in_max System s.system refl m logs found small; found = refl; order = refl; machine = refl; places = refl;
+        version = refl;
+        has_place = refl;
+        max = in_max System s.system refl m logs found small;
+        found = refl;
+        order = refl;
+        machine = refl;
+        places = refl;
       } in
       let is_printed = machine_printed System s.system refl m logs found small v bytes tells made closed in
       answer.realizable (printed_text v (Some c) logs bytes is_printed) (size_of m) c refl
@@ -510,7 +526,13 @@ module _ (text : List ℕ) (kind : Option Kind) (settings : Settings) (spec : Fl
       let c = made.circuit in
       let closed = all_closed Environment p there.of m logs found small there.holds.closed (Some c) in
       let tells : TellsMachine v Environment (size_of m) = record {
-        version = refl; has_place = refl; max = in_max Environment p there.of m logs found small; found = refl; order = refl; machine = refl; places = refl;
+        version = refl;
+        has_place = refl;
+        max = in_max Environment p there.of m logs found small;
+        found = refl;
+        order = refl;
+        machine = refl;
+        places = refl;
       } in
       let is_printed = machine_printed Environment p there.of m logs found small v bytes tells made closed in
       answer.unrealizable (printed_text v (Some c) logs bytes is_printed) (size_of m) c refl
@@ -537,7 +559,13 @@ module _ (text : List ℕ) (kind : Option Kind) (settings : Settings) (spec : Fl
       let ended = all_ended side p there.of m logs found small there.holds.decided (Some c) in
       let full = any_full side p there.of m logs found small there.holds.full (Some c) in
       let tells : TellsMachine v side (size_of m) = record {
-        version = refl; has_place = refl; max = in_max side p there.of m logs found small; found = refl; order = refl; machine = refl; places = refl;
+        version = refl;
+        has_place = refl;
+        max = in_max side p there.of m logs found small;
+        found = refl;
+        order = refl;
+        machine = refl;
+        places = refl;
       } in
       let is_printed = machine_printed side p there.of m logs found small v bytes tells made (ended, full) in
       answer.bounded (printed_text v (Some c) logs bytes is_printed) side (size_of m) c refl
@@ -553,3 +581,186 @@ module _ (text : List ℕ) (kind : Option Kind) (settings : Settings) (spec : Fl
         full = full;
         can_fill = can_fill;
       })
+
+  -- == documents without a machine ==
+
+  side_most : (side : Side) → sizes_of given settings.max side ≤ settings.max
+  side_most System = (k.laws.sizes.allowed s.system settings.max).within
+  side_most Environment = by_problem s.environment
+    where
+      by_problem : (o : Option Problem) → allowed_of settings.max o ≤ settings.max
+      by_problem None = omega arith
+      by_problem (Some p) = (k.laws.sizes.allowed p settings.max).within
+
+  module _ (logs : List SizeLog) (all : AreAllLogs s.system s.environment settings logs) where
+    parts_of_all : map place_of (map part_of logs) ≡ places_to System (sizes_of given settings.max System) ++ places_to Environment (sizes_of given settings.max Environment)
+    parts_of_all = parts_at_both System Environment (sizes_of given settings.max System) (sizes_of given settings.max Environment) logs all.places
+
+    claims_fit : (side : Side) → All (λ claim. FitsSize given settings.max claim.side claim.size) (sizes_to side (sizes_of given settings.max side))
+    claims_fit side =
+        all_map (IsClaimTo side (sizes_of given settings.max side)) (λ claim. FitsSize given settings.max claim.side claim.size)
+        (fits_claim side (sizes_of given settings.max side) (omega arith)) (sizes_to side (sizes_of given settings.max side)) (claims_to side (sizes_of given settings.max side))
+
+    all_logs_fit : All (λ l. FitsSize given settings.max l.side l.size) logs
+    all_logs_fit =
+        unmap engine.place_of (λ claim. FitsSize given settings.max claim.side claim.size) logs
+        (All-same (λ claim. FitsSize given settings.max claim.side claim.size) (map engine.place_of logs)
+        (sizes_to System (sizes_of given settings.max System) ++ sizes_to Environment (sizes_of given settings.max Environment)) all.places
+        (All-append (λ claim. FitsSize given settings.max claim.side claim.size) (sizes_to System (sizes_of given settings.max System))
+        (sizes_to Environment (sizes_of given settings.max Environment)) (claims_fit System) (claims_fit Environment)))
+
+    -- a verdict that tells no machine
+    record TellsNone (v : Verdict) : Type 0 where
+      pub version : IsTrue (fits_version 3 v)
+      pub has_place : IsTrue (has_its_place false v)
+      pub max : IsTrue (fits_max settings.max v)
+      pub found : IsFoundNumber (may_tell_found 3 v) settings.max 0
+      pub order : order_of 3 v settings.max 0 ≡ AnyUpTo settings.max
+      pub machine : machine_of v ≡ None
+      pub places : wanted_places given 3 settings.max 0 v ≡ places_to System (sizes_of given settings.max System) ++ places_to Environment (sizes_of given settings.max Environment)
+
+    none_suits : (v : Verdict) → TellsNone v → AreAsWanted given settings.entries (lined None logs) v → Suits v None logs
+    none_suits v tells wanted = record {
+      version = tells.version;
+      has_place = tells.has_place;
+      all_names = tt;
+      max = tells.max;
+      found = tells.found;
+      order = subst (λ o. AreInOrder o (start_of o) (map part_of logs)) (sym tells.order)
+          (in_order_all settings.max (sizes_of given settings.max System) (sizes_of given settings.max Environment) (map part_of logs) parts_of_all (side_most System) (side_most Environment));
+      names = subst (λ o. IfSome o (λ q. Unit {0})) (sym tells.machine) tt;
+      number = subst (λ o. IfSome o (λ q. q.size ≤ sizes_of given settings.max q.side)) (sym tells.machine) tt;
+      places = parts_of_all ∙ sym tells.places;
+      here = all.each;
+      fits = all_logs_fit;
+      wanted = wanted;
+    }
+
+    none_printed : (v : Verdict) (bytes : List ℕ) → TellsNone v → IsTextOf spec.expanded.kind settings v None logs bytes → AreAsWanted given settings.entries (lined None logs) v
+        → IsPrinted given settings bytes (doc v None logs)
+    none_printed v bytes tells made wanted = printed v None logs bytes (none_suits v tells wanted) tt made
+
+    log_of : (v : Verdict) (side : Side) (P : LogPart → Type 0) → All P (lined None logs) → (n : ℕ) → 0 < n → n ≤ sizes_of given settings.max side → HasLog (doc v None logs) side n P
+    log_of v side P holds n some most =
+        has_log v None logs side n P (subst (λ ps. Contains ps (place side n)) (sym parts_of_all) (on_its_side side n some most)) holds
+      where
+        on_its_side : (side : Side) (n : ℕ) → 0 < n → n ≤ sizes_of given settings.max side
+            → Contains (places_to System (sizes_of given settings.max System) ++ places_to Environment (sizes_of given settings.max Environment)) (place side n)
+        on_its_side System n some most =
+            Contains-append_left (places_to System (sizes_of given settings.max System)) (places_to Environment (sizes_of given settings.max Environment)) (place System n)
+            (has_place System (sizes_of given settings.max System) n some most)
+        on_its_side Environment n some most =
+            Contains-append_right (places_to System (sizes_of given settings.max System)) (places_to Environment (sizes_of given settings.max Environment)) (place Environment n)
+            (has_place Environment (sizes_of given settings.max Environment) n some most)
+
+    closed_lines : All (λ l. OfSide s.system s.environment (λ p. engine.IsClosedLog p settings l) l.side) logs → All (IsClosedLog given settings.entries) (lined None logs)
+    closed_lines closed =
+        all_parts_at (IsClosedLog given settings.entries) (λ l n h. h) (first_line None) logs
+        (all_both IsHere (λ l. OfSide s.system s.environment (λ q. engine.IsClosedLog q settings l) l.side) (λ l. IsClosedLog given settings.entries (part_of l)) closed_part logs all.each closed)
+
+    ended_lines : All (λ l. OfSide s.system s.environment (λ p. engine.IsClosedLog p settings l) l.side ⊎ OfSide s.system s.environment (λ p. engine.IsFullLog p settings l) l.side) logs
+        → All (IsEndedLog given settings.entries) (lined None logs)
+    ended_lines ended =
+        all_parts_at (IsEndedLog given settings.entries) (λ l n h. h) (first_line None) logs
+        (all_both IsHere (λ l. OfSide s.system s.environment (λ p. engine.IsClosedLog p settings l) l.side ⊎ OfSide s.system s.environment (λ p. engine.IsFullLog p settings l) l.side)
+        (λ l. IsEndedLog given settings.entries (part_of l)) ended_part logs all.each ended)
+
+  pub no_size : (logs : List SizeLog) (bytes : List ℕ) → outcomes.HasNoSize s.system s.environment settings logs
+      → IsTextOf spec.expanded.kind settings UnknownSizes None logs bytes → Answers text kind settings bytes 30
+  no_size logs bytes none made =
+      let closed = closed_lines logs none.all none.closed in
+      let tells : TellsNone logs none.all UnknownSizes = record {
+        version = refl;
+        has_place = refl;
+        max = refl;
+        found = refl;
+        order = refl;
+        machine = refl;
+        places = refl;
+      } in
+      let is_printed = none_printed logs none.all UnknownSizes bytes tells made closed in
+      answer.no_size (printed_text UnknownSizes None logs bytes is_printed) refl
+      (record {
+        verdict = refl;
+        system = λ n some most. is_refuted UnknownSizes None logs n (log_of logs none.all UnknownSizes System (IsClosedLog given settings.entries) closed n some most)
+            (record { some = some; most = most });
+        environment = λ n some most. can_be_beaten UnknownSizes None logs n (log_of logs none.all UnknownSizes Environment (IsClosedLog given settings.entries) closed n some most)
+            (record { some = some; most = most });
+      })
+
+  -- the log that the search names is the first of the document that isn't closed
+  first_open : (side : Side) (size : ℕ) (logs : List SizeLog) → outcomes.HasNoEntries s.system s.environment settings side size logs
+      → IsFirstOpen given settings.entries (place side size) (lined None logs)
+  first_open side size logs none =
+      let split = split_at (first_line None) none.before none.named none.after in
+      let each = All-same IsHere (none.before ++ none.named ∷ none.after) logs (sym none.split) none.all.each in
+      let here = All-head IsHere none.named none.after (all_back IsHere none.before (none.named ∷ none.after) each) in
+      record {
+        before = lined None none.before;
+        named = record (part_of none.named) { line = split.place };
+        after = logs_at split.later (map part_of none.after);
+        split = ap (lined None) none.split ∙ split.split;
+        is_at = ap (λ claim. place claim.side claim.size) none.is_at;
+        full = full_part none.named here none.full;
+        first = all_parts_at (IsClosedLog given settings.entries) (λ l n h. h) (first_line None) none.before
+            (all_both IsHere (λ l. OfSide s.system s.environment (λ q. engine.IsClosedLog q settings l) l.side) (λ l. IsClosedLog given settings.entries (part_of l)) closed_part
+            none.before (all_front IsHere none.before (none.named ∷ none.after) each) none.first);
+      }
+
+  named_fits : (side : Side) (size : ℕ) (logs : List SizeLog) → outcomes.HasNoEntries s.system s.environment settings side size logs → IsTrue (is_in_range 1 settings.max size)
+  named_fits side size logs none =
+      let fits = All-same (λ l. FitsSize given settings.max l.side l.size) (none.before ++ none.named ∷ none.after) logs (sym none.split) (all_logs_fit logs none.all) in
+      let one = All-head (λ l. FitsSize given settings.max l.side l.size) none.named none.after
+      (all_back (λ l. FitsSize given settings.max l.side l.size) none.before (none.named ∷ none.after) fits) in
+      let at : FitsSize given settings.max side size = subst (λ claim. FitsSize given settings.max claim.side claim.size) none.is_at one in
+      let some = at.some in
+      let most = at.most in
+      let all = side_most side in
+      in_range 1 settings.max size (omega (arith, some)) (omega (arith, most, all))
+
+  pub no_entries : (side : Side) (size : ℕ) (logs : List SizeLog) (bytes : List ℕ) → outcomes.HasNoEntries s.system s.environment settings side size logs
+      → (outcomes.CannotFill s.system s.environment settings → ⊥)
+      → IsTextOf spec.expanded.kind settings (UnknownEntries side size) None logs bytes → Answers text kind settings bytes 30
+  no_entries side size logs bytes none can_fill made =
+      let v = UnknownEntries side size in
+      let ended = ended_lines logs none.all none.decided in
+      let named = first_open side size logs none in
+      let tells : TellsNone logs none.all v = record {
+        version = refl;
+        has_place = refl;
+        max = named_fits side size logs none;
+        found = refl;
+        order = refl;
+        machine = refl;
+        places = refl;
+      } in
+      let is_printed = none_printed logs none.all v bytes tells made (ended, named) in
+      answer.no_entries (printed_text v None logs bytes is_printed) side size refl
+      (record {
+        verdict = refl;
+        named = named;
+        system = log_of logs none.all v System (IsEndedLog given settings.entries) ended;
+        environment = log_of logs none.all v Environment (IsEndedLog given settings.entries) ended;
+        can_fill = can_fill;
+      })
+
+  -- == the whole ==
+
+  pub answered : (bytes : List ℕ) (ended : Status) → IsSearchedReply spec.expanded s settings bytes ended → Answers text kind settings bytes (status_number ended)
+  answered bytes ended r = by_outcome r.outcome r.real r.unreal r.bounded r.no_size r.no_entries r.decisive r.reply
+    where
+      at_status : (n : ℕ) (told : Status) → ended ≡ told → status_number told ≡ n → Answers text kind settings bytes n → Answers text kind settings bytes (status_number ended)
+      at_status n told is number a = subst (Answers text kind settings bytes) (sym (ap status_number is ∙ number)) a
+
+      by_outcome : (o : Outcome) → outcomes.OnReal (outcomes.IsSmallest s.system settings) o
+          → outcomes.OnUnreal (λ m logs. OfSide s.system s.environment (λ p. outcomes.IsSmallest p settings m logs) Environment) o
+          → outcomes.OnBounded (λ side m logs. OfSide s.system s.environment (λ p. outcomes.IsBounded p settings m logs) side) o
+          → outcomes.OnNoSize (outcomes.HasNoSize s.system s.environment settings) o
+          → outcomes.OnNoEntries (outcomes.HasNoEntries s.system s.environment settings) o
+          → (outcomes.CannotFill s.system s.environment settings → outcomes.IsDecisive o)
+          → IsReplyTo spec.expanded settings o bytes ended → Answers text kind settings bytes (status_number ended)
+      by_outcome (outcome.Real m logs) a b c d e decisive reply = at_status 10 status.Realizable reply.0 refl (real m logs.items bytes a reply.1)
+      by_outcome (outcome.Unreal m logs) a b c d e decisive reply = at_status 20 status.Unrealizable reply.0 refl (unreal m logs.items bytes b reply.1)
+      by_outcome (outcome.Bounded side m logs) a b c d e decisive reply = at_status 11 status.Bounded reply.0 refl (bounded side m logs.items bytes c decisive reply.1)
+      by_outcome (outcome.NoSize logs) a b c d e decisive reply = at_status 30 status.Unknown reply.0 refl (no_size logs.items bytes d reply.1)
+      by_outcome (outcome.NoEntries side size logs) a b c d e decisive reply = at_status 30 status.Unknown reply.0 refl (no_entries side size logs.items bytes e decisive reply.1)

@@ -28,6 +28,9 @@ use Rattle.cert_text.specs.declared.documents.Verdict.TheVariants as verdict
 use Rattle.cert_text.specs.Parts.{Document, LogPart}
 use Rattle.cert_text.specs.WellFormed.{IsWellFormed}
 use Rattle.cert_text.specs.States.{States, numbered}
+use Rattle.tlsf_tokens.specs.declared.code.SpecFault.{SpecFault}
+use Rattle.tlsf_tokens.specs.declared.code.SpecFault.TheVariants.{At, NoMemory}
+use Rattle.program_replies.specs.Lines.{refusal_line}
 use Rattle.program_replies.specs.declared.replies.Status.{Status}
 use Rattle.program_replies.specs.declared.replies.Status.TheVariants as status
 use Rattle.synth_answer.specs.Holds.{read_by, written_by}
@@ -107,6 +110,11 @@ IsReplyTo x settings (NoSize logs) bytes ended =
     (ended ≡ status.Unknown) × IsTextOf x.kind settings verdict.UnknownSizes None logs.items bytes
 IsReplyTo x settings (NoEntries side size logs) bytes ended =
     (ended ≡ status.Unknown) × IsTextOf x.kind settings (verdict.UnknownEntries side size) None logs.items bytes
+
+-- the bytes and the status for a fault of a text; for want of memory there are none
+abbrev pub IsRefusal : SpecFault → List ℕ → Status → Type 0
+IsRefusal (At code position) bytes ended = (bytes ≡ refusal_line code position) × (ended ≡ status.Refused)
+IsRefusal NoMemory bytes ended = ⊥
 
 -- == what is searched ==
 

@@ -5,7 +5,7 @@ ghost use Rattle.machine_model.specs.Problem.{automaton_of};
 ghost use Rattle.program_replies.specs.Statuses.{status_number};
 ghost use Rattle.tlsf_expand.specs.TextSeen.{spec_seen};
 ghost use Rattle.synth_answer.specs.Answer.{Answers};
-ghost use Rattle.synth_answer.specs.Reply.{AreProblemsFor, HaveAutomata, IsSearchedReply};
+ghost use Rattle.synth_answer.specs.Reply.{AreProblemsFor, HaveAutomata, IsRefusal, IsSearchedReply};
 
 use crate::facts::laws_hold;
 use crate::outcomes::reply_to;
@@ -42,8 +42,17 @@ pub fn answer<R: Threads + Wait + Sync, G: Gate + Sync>(
     laws_hold();
     match text_problems(alloc, text, kind, 2) {
         Ok(found) => searched(rt, alloc, found, settings, gate),
-        Err(SpecFault::At { code, place }) => refused(alloc, code, place),
-        Err(SpecFault::NoMemory) => Err(AllocError),
+        Err(fault) => refusal(alloc, fault),
+    }
+}
+
+// The reply to a text with this fault.
+fn refusal(alloc: Global, fault: SpecFault) -> Result<Reply, AllocError>
+    ensures { IfOk result (λ r. IsRefusal fault r.bytes.items r.status) }
+{
+    match fault {
+        SpecFault::At { code, place } => refused(alloc, code, place),
+        SpecFault::NoMemory => Err(AllocError),
     }
 }
 

@@ -39,13 +39,25 @@ pub fn reply_to(
         }
         Outcome::Unreal { machine, logs } => {
             let verdict = Verdict::Unrealizable(machine.size());
-            let bytes = machine_text(alloc, spec, settings, Side::Environment, verdict, &machine, logs)?;
+            let bytes = machine_text(
+                alloc,
+                spec,
+                settings,
+                Side::Environment,
+                verdict,
+                &machine,
+                logs,
+            )?;
             Ok(Reply {
                 bytes,
                 status: Status::Unrealizable,
             })
         }
-        Outcome::Bounded { side, machine, logs } => {
+        Outcome::Bounded {
+            side,
+            machine,
+            logs,
+        } => {
             let verdict = Verdict::Bounded(side, machine.size());
             let bytes = machine_text(alloc, spec, settings, side, verdict, &machine, logs)?;
             Ok(Reply {
@@ -54,7 +66,14 @@ pub fn reply_to(
             })
         }
         Outcome::NoSize { logs } => {
-            let bytes = document_text(alloc, spec.kind, settings, Verdict::UnknownSizes, None, logs)?;
+            let bytes = document_text(
+                alloc,
+                spec.kind,
+                settings,
+                Verdict::UnknownSizes,
+                None,
+                logs,
+            )?;
             Ok(Reply {
                 bytes,
                 status: Status::Unknown,
