@@ -1,0 +1,2 @@
+pub mod LineRead
+pub mod VerdictRead

@@ -1,10 +1,10 @@
 -- The logs of a document and the line that ends it, read one after the other (this project's own).
-use Rattle.std.specs.Prelude.{◌≡◌, ℕ, ◌+◌, ◌-◌, ◌^◌, Bool, Option, Some, None, List, [], ◌∷◌, length, drop, option_map, option_and_then, if◌then◌else◌, IsTrue}
-use Rattle.std.specs.Option.{option_or}
+use Rattle.std.specs.Prelude.{◌≡◌, ℕ, ◌+◌, ◌-◌, ◌^◌, ◌<◌, ◌≤◌, Option, Some, None, List, [], ◌∷◌, length, option_map, option_and_then, if◌then◌else◌}
+use Rattle.std.specs.Option.{option_map_or}
 use Rattle.letter_word.specs.declared.kinds.Side.{Side}
 use Rattle.letter_word.specs.declared.kinds.Side.TheVariants.{System, Environment}
 use Rattle.refutation_log.specs.declared.entries.Entry.{Entry}
-use Rattle.refutation_log.specs.Read.{IsReadAs, IsBadLine, IsTooShort}
+use Rattle.refutation_log.specs.Read.{StatesEntry, StatesEntries}
 use Rattle.aiger_text.specs.Words.{cut_at, number_within}
 use Rattle.cert_text.specs.declared.logs.Head.{Head}
 use Rattle.cert_text.specs.declared.order.Order.{Order}
@@ -25,8 +25,7 @@ head_behind side text =
 
 abbrev pub head_in : List ℕ → Option Head
 head_in line =
-    option_or (option_and_then (head_behind System) (behind (log_words System) line))
-    (option_and_then (head_behind Environment) (behind (log_words Environment) line))
+    option_map_or (head_behind System) (behind (log_words System) line) (option_and_then (head_behind Environment) (behind (log_words Environment) line))
 
 -- the head, where its log may come next
 abbrev pub next_head : Order → Place → List ℕ → Option Head
@@ -46,28 +45,36 @@ pub record LogsRead : Type 0 where
   pub logs : List LogPart
   pub bad : Option ℕ
 
--- What the lines from line n on state behind the log at the place `last`. Nothing stands behind the line `end`. Of a log whose
--- lines are bad, or end too early, the entries before that are read.
+-- the line behind line n is bad where something stands there
+abbrev pub bad_behind : ℕ → List ℕ → Option ℕ
+bad_behind n [] = None
+bad_behind n (_ ∷ _) = Some (n + 1)
+
+-- no entry's line comes next
+abbrev pub NoEntry : ℕ → List ℕ → Type 0
+NoEntry vars bytes = (e : Entry) (rest : List ℕ) → StatesEntry vars bytes e rest → ⊥
+
+-- These entries are the first that the bytes state, at most `count`, and where they are fewer no entry's line comes next.
+pub record AreFirstEntries (vars count : ℕ) (bytes : List ℕ) (entries : List Entry) (rest : List ℕ) : Type 0 where
+  pub stated : StatesEntries vars bytes entries rest
+  pub at_most : length entries ≤ count
+  pub stop : length entries < count → NoEntry vars rest
+
+-- What the lines from line n on state behind the log at the place `last`. Nothing stands behind the line `end`. Of a log that has
+-- fewer entries than its head says those before the first bad line are read.
 pub data ReadsLogs (order : Order) : Place → ℕ → List ℕ → LogsRead → Type 0 where
-  ended : (last : Place) (n : ℕ) (bytes : List ℕ)
-      → behind_end order last bytes ≡ Some []
-      → ReadsLogs order last n bytes (record { logs = []; bad = None })
-  behind_the_end : (last : Place) (n : ℕ) (bytes : List ℕ) (b : ℕ) (rest : List ℕ)
-      → behind_end order last bytes ≡ Some (b ∷ rest)
-      → ReadsLogs order last n bytes (record { logs = []; bad = Some (n + 1) })
+  ended : (last : Place) (n : ℕ) (bytes rest : List ℕ)
+      → behind_end order last bytes ≡ Some rest
+      → ReadsLogs order last n bytes (record { logs = []; bad = bad_behind n rest })
   no_head : (last : Place) (n : ℕ) (bytes : List ℕ)
       → behind_end order last bytes ≡ None → front (next_head order last) bytes ≡ None
       → ReadsLogs order last n bytes (record { logs = []; bad = Some n })
-  bad_entry : (last : Place) (n : ℕ) (bytes : List ℕ) (head : Head) (tail : List ℕ) (k : ℕ)
+  stopped : (last : Place) (n : ℕ) (bytes : List ℕ) (head : Head) (tail : List ℕ) (entries : List Entry) (rest : List ℕ)
       → behind_end order last bytes ≡ None → front (next_head order last) bytes ≡ Some (head, tail)
-      → (found : IsBadLine head.vars head.count tail k)
-      → ReadsLogs order last n bytes (record { logs = part_of head found.before n ∷ []; bad = Some (n + k) })
-  too_short : (last : Place) (n : ℕ) (bytes : List ℕ) (head : Head) (tail : List ℕ)
+      → AreFirstEntries head.vars head.count tail entries rest → length entries < head.count
+      → ReadsLogs order last n bytes (record { logs = part_of head entries n ∷ []; bad = Some (n + 1 + length entries) })
+  whole : (last : Place) (n : ℕ) (bytes : List ℕ) (head : Head) (tail : List ℕ) (entries : List Entry) (rest : List ℕ) (more : LogsRead)
       → behind_end order last bytes ≡ None → front (next_head order last) bytes ≡ Some (head, tail)
-      → (found : IsTooShort head.vars head.count tail)
-      → ReadsLogs order last n bytes (record { logs = part_of head found.entries n ∷ []; bad = Some (n + 1 + length found.entries) })
-  whole : (last : Place) (n : ℕ) (bytes : List ℕ) (head : Head) (tail : List ℕ) (entries : List Entry) (used : ℕ) (more : LogsRead)
-      → behind_end order last bytes ≡ None → front (next_head order last) bytes ≡ Some (head, tail)
-      → IsReadAs head.vars head.count tail entries used
-      → ReadsLogs order (place head.side head.size) (n + 1 + head.count) (drop used tail) more
+      → AreFirstEntries head.vars head.count tail entries rest → length entries ≡ head.count
+      → ReadsLogs order (place head.side head.size) (n + 1 + length entries) rest more
       → ReadsLogs order last n bytes (record { logs = part_of head entries n ∷ more.logs; bad = more.bad })

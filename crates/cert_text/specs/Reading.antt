@@ -67,7 +67,14 @@ fault_line (Cycle n) = n
 fault_line (Unsupported n) = n
 fault_line (TooLarge n) = n
 
--- What is read of a document's bytes. A missing name fails at the line `c`, and a missing line `c` where it is wanted.
+-- What is read of a circuit and the comment behind it. A missing name fails at the line `c`.
+pub data ReadsBehind (file : File) (comment : List ℕ) : DocumentLines → Type 0 where
+  unnamed : all_named file.circuit ≡ false
+      → ReadsBehind file comment (record { circuit = Stated file; header = (header_of true (file.comment_line + 1) comment).header; logs = []; bad = Some file.comment_line })
+  named : (body : BodyRead) → all_named file.circuit ≡ true → ReadsBody true (file.comment_line + 1) comment body
+      → ReadsBehind file comment (record { circuit = Stated file; header = body.header; logs = body.logs; bad = body.bad })
+
+-- What is read of a document's bytes. A missing line `c` fails where it is wanted.
 pub data Reads (bytes : List ℕ) : DocumentLines → Type 0 where
   without_circuit : (body : BodyRead) → begins_without_circuit bytes ≡ true → ReadsBody false 1 bytes body
       → Reads bytes (record { circuit = Absent; header = body.header; logs = body.logs; bad = body.bad })
@@ -75,12 +82,9 @@ pub data Reads (bytes : List ℕ) : DocumentLines → Type 0 where
       → Reads bytes (record { circuit = Faulty; header = no_header; logs = []; bad = Some (fault_line fault) })
   uncommented : (file : File) → begins_without_circuit bytes ≡ false → circuit.States bytes file → file.comment_at ≡ None
       → Reads bytes (record { circuit = Stated file; header = no_header; logs = []; bad = Some file.comment_line })
-  unnamed : (file : File) (at : ℕ) → begins_without_circuit bytes ≡ false → circuit.States bytes file → file.comment_at ≡ Some at
-      → all_named file.circuit ≡ false
-      → Reads bytes (record { circuit = Stated file; header = (header_of true (file.comment_line + 1) (drop at bytes)).header; logs = []; bad = Some file.comment_line })
-  with_circuit : (file : File) (at : ℕ) (body : BodyRead) → begins_without_circuit bytes ≡ false → circuit.States bytes file → file.comment_at ≡ Some at
-      → all_named file.circuit ≡ true → ReadsBody true (file.comment_line + 1) (drop at bytes) body
-      → Reads bytes (record { circuit = Stated file; header = body.header; logs = body.logs; bad = body.bad })
+  commented : (file : File) (at : ℕ) (lines : DocumentLines) → begins_without_circuit bytes ≡ false → circuit.States bytes file → file.comment_at ≡ Some at
+      → ReadsBehind file (drop at bytes) lines
+      → Reads bytes lines
 
 -- line n is the first that a document refuses without a text
 pub record IsFirstBadLine (bytes : List ℕ) (n : ℕ) : Type 0 where
@@ -112,3 +116,8 @@ document_of lines =
     option_and_then (λ version. option_and_then (λ verdict. option_and_then (λ kind. option_and_then (λ max.
     option_map (λ most. record { version = version; verdict = verdict; kind = kind; max = max; entries = most; found = lines.header.found; circuit = circuit_in lines.circuit; logs = lines.logs; name_lines = name_lines_in lines.circuit; comment_line = comment_line_in lines.circuit; verdict_line = comment_line_in lines.circuit + 2 })
     lines.header.entries) lines.header.max) lines.header.kind) lines.header.verdict) lines.header.version
+
+-- the bytes that a reader was given, and whether memory was wanted for some of them
+pub record Fed : Type 0 where
+  pub bytes : List ℕ
+  pub lost : Bool

@@ -208,9 +208,9 @@ fn kind_at(bytes: &[u8]) -> Option<(Kind, &[u8])>
     ensures { option_map (λ p. (p.0, p.1.now)) result ≡ front kind_in bytes.now }
 {
     let (line, rest) = cut_at(bytes, b'\n')?;
-    if line == b"kind Mealy" {
+    if line == b"kind Mealy".as_slice() {
         Some((Kind::Mealy, rest))
-    } else if line == b"kind Moore" {
+    } else if line == b"kind Moore".as_slice() {
         Some((Kind::Moore, rest))
     } else {
         None
@@ -229,7 +229,7 @@ fn limit_at(bytes: &[u8]) -> Option<(Option<u64>, &[u8])>
     ensures { option_map (λ p. (p.0, p.1.now)) result ≡ front entries_in bytes.now }
 {
     let (line, rest) = cut_at(bytes, b'\n')?;
-    if line == b"entries none" {
+    if line == b"entries none".as_slice() {
         return Some((None, rest));
     }
     let most = number_within(behind(line, b"entries ")?, 250_000)?;
@@ -253,7 +253,7 @@ fn number_behind(line: &[u8], words: &[u8]) -> Option<u32>
 fn any_verdict_in(line: &[u8]) -> Option<Verdict>
     ensures { result ≡ verdict_of_line line.now }
 {
-    if line == b"verdict unknown sizes" {
+    if line == b"verdict unknown sizes".as_slice() {
         return Some(Verdict::UnknownSizes);
     }
     if let Some(n) = number_behind(line, b"verdict realizable ") {

@@ -10,11 +10,13 @@ mod header;
 pub mod laws;
 mod logs;
 mod order;
+mod reader;
 mod reading;
 mod words;
 mod write;
 
 pub use documents::{Document, DocumentFault, LogPart, Verdict};
 pub use header::Header;
-pub use reading::{CircuitPart, DocumentLines};
+pub use reader::{DocumentReader, read_document};
+pub use reading::{CircuitPart, DocumentLines, read_lines};
 pub use write::write_document;

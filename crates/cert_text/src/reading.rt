@@ -1,7 +1,19 @@
-use crate::documents::LogPart;
-use crate::header::Header;
-use aiger_text::CircuitFile;
+// A document's bytes, line by line.
+ghost use Rattle.std.specs.Prelude.{◌≡◌, ◌+◌, ◌<◌, ◌^◌, [], IfOk, IfSome, Some, None, length, is_some};
+ghost use Rattle.std.specs.List.{list_all};
+ghost use Rattle.aiger_text.specs.declared.faults.CircuitFault.TheVariants.{NoMemory};
+ghost use Rattle.cert_text.specs.Reading.{ReadsBehind, ReadsBody, Reads, all_named as has_all_names, fault_line as line_of_fault, line_count, order_in, document_of as document_in};
+ghost use Rattle.cert_text.specs.Header.{no_header};
+ghost use Rattle.cert_text.specs.Shown.{shown_body};
+
+use crate::documents::{Document, LogPart, Verdict};
+use crate::header::{Header, read_header};
+use crate::logs::read_logs;
+use crate::order::{Order, order_of};
+use aiger_text::{Circuit, CircuitFault, CircuitFile, read_circuit};
+use std::alloc::{AllocError, Global};
 use std::marker::Model;
+use text_base::Name;
 
 /// What a document's bytes begin with.
 #[derive(Drop)]
@@ -29,4 +41,188 @@ impl Model for DocumentLines {
     ghost Value = { reading.DocumentLines };
 
     ghost view = { λ d. record { circuit = d.circuit; header = d.header; logs = d.logs.items; bad = d.bad } };
+}
+
+/// What was read of the lines behind a circuit, or without one.
+#[derive(Drop)]
+struct BodyRead {
+    header: Header,
+    logs: Vec<LogPart>,
+    bad: Option<u64>,
+}
+
+impl BodyRead {
+    fn behind(self, circuit: CircuitPart) -> DocumentLines
+        ensures { result ≡ record { circuit = circuit; header = self.header; logs = self.logs.items; bad = self.bad } }
+    {
+        DocumentLines {
+            circuit,
+            header: self.header,
+            logs: self.logs,
+            bad: self.bad,
+        }
+    }
+}
+
+/// Reads a document's lines up to the first that isn't what is wanted there, without the text that the document is for.
+///
+/// It is linear in the bytes.
+pub fn read_lines(alloc: Global, bytes: &[u8]) -> Result<DocumentLines, AllocError>
+    ensures { IfOk result (Reads bytes.now) }
+{
+    if bytes.starts_with(b"boundsyn ") {
+        let body = read_body(alloc, false, 1, bytes)?;
+        return Ok(body.behind(CircuitPart::Absent));
+    }
+    let file = match read_circuit(alloc, bytes) {
+        Ok(file) => file,
+        Err(fault) => {
+            let Some(line) = fault_line(fault) else {
+                return Err(AllocError);
+            };
+            return Ok(bad_at(alloc, CircuitPart::Faulty, line));
+        }
+    };
+    let Some(at) = file.comment_at else {
+        let line = file.comment_line;
+        return Ok(bad_at(alloc, CircuitPart::Stated(file), line));
+    };
+    read_behind(alloc, file, &bytes[at..])
+}
+
+// A document of which nothing but the circuit was read, with its first bad line.
+fn bad_at(alloc: Global, circuit: CircuitPart, line: u64) -> DocumentLines
+    ensures { result ≡ record { circuit = circuit; header = no_header; logs = []; bad = Some line } }
+{
+    DocumentLines {
+        circuit,
+        header: Header::none(),
+        logs: Vec::new(alloc),
+        bad: Some(line),
+    }
+}
+
+// Reads the lines behind a circuit and the line `c`.
+fn read_behind(
+    alloc: Global,
+    file: CircuitFile,
+    comment: &[u8],
+) -> Result<DocumentLines, AllocError>
+    requires { file.comment_line + length comment.now + 16 < 2 ^ 64 }
+    ensures { IfOk result (ReadsBehind file comment.now) }
+{
+    let line = file.comment_line;
+    if all_named(&file.circuit) {
+        let body = read_body(alloc, true, line + 1, comment)?;
+        Ok(body.behind(CircuitPart::Stated(file)))
+    } else {
+        Ok(DocumentLines {
+            circuit: CircuitPart::Stated(file),
+            header: read_header(true, line + 1, comment).header,
+            logs: Vec::new(alloc),
+            bad: Some(line),
+        })
+    }
+}
+
+// Reads the lines from line `first` on, behind a circuit or without one.
+fn read_body(
+    alloc: Global,
+    circuit: bool,
+    first: u64,
+    bytes: &[u8],
+) -> Result<BodyRead, AllocError>
+    requires { first + length bytes.now + 10 < 2 ^ 64 }
+    ensures { IfOk result (λ body. ReadsBody circuit first bytes.now (shown_body body)) }
+{
+    let read = read_header(circuit, first, bytes);
+    let header = read.header;
+    if header.bad.is_some() {
+        return Ok(BodyRead {
+            header,
+            logs: Vec::new(alloc),
+            bad: header.bad,
+        });
+    }
+    let order = header.order();
+    let logs = read_logs(alloc, order, first + header.lines(), read.rest)?;
+    Ok(BodyRead {
+        header,
+        logs: logs.logs,
+        bad: logs.bad,
+    })
+}
+
+impl Header {
+    // The order of the logs that a whole header wants.
+    fn order(&self) -> Order
+        ensures { result ≡ order_in self.now }
+    {
+        let version = self.version.unwrap_or(0);
+        let verdict = self.verdict.unwrap_or(Verdict::UnknownSizes);
+        order_of(version, verdict, self.max.unwrap_or(0), self.found)
+    }
+
+    // The number of lines of a whole header.
+    fn lines(&self) -> u64
+        ensures { result ≡ line_count self.now }
+    {
+        if self.found == 0 { 5 } else { 6 }
+    }
+}
+
+fn all_named(circuit: &Circuit) -> bool
+    ensures { result ≡ has_all_names circuit.now }
+{
+    are_named(&circuit.input_names) && are_named(&circuit.output_names)
+}
+
+fn are_named(names: &[Option<Name>]) -> bool
+    ensures { result ≡ list_all is_some names.now }
+{
+    names.iter().all(|name| name.is_some())
+}
+
+// The line of a fault, but for want of memory.
+fn fault_line(fault: CircuitFault) -> Option<u64>
+    ensures line { IfSome result (λ line. line ≡ line_of_fault fault) }
+    ensures no_memory { fault ≡ NoMemory → result ≡ None }
+{
+    match fault {
+        CircuitFault::NoMemory => None,
+        CircuitFault::BadHeader(line) => Some(line),
+        CircuitFault::BadLine(line) => Some(line),
+        CircuitFault::Undefined(line) => Some(line),
+        CircuitFault::DefinedTwice(line) => Some(line),
+        CircuitFault::Cycle(line) => Some(line),
+        CircuitFault::Unsupported(line) => Some(line),
+        CircuitFault::TooLarge(line) => Some(line),
+    }
+}
+
+impl DocumentLines {
+    /// The document, where no line of it is missing.
+    pub fn into_document(self, alloc: Global) -> Option<Document>
+        ensures { result ≡ document_in self }
+    {
+        let header = self.header;
+        let (circuit, name_lines, comment_line) = match self.circuit {
+            CircuitPart::Absent => (None, Vec::new(alloc), 0),
+            CircuitPart::Faulty => (None, Vec::new(alloc), 0),
+            CircuitPart::Stated(file) => (Some(file.circuit), file.name_lines, file.comment_line),
+        };
+        Some(Document {
+            version: header.version?,
+            verdict: header.verdict?,
+            kind: header.kind?,
+            max: header.max?,
+            entries: header.entries?,
+            found: header.found,
+            circuit,
+            logs: self.logs,
+            name_lines,
+            comment_line,
+            verdict_line: comment_line + 2,
+        })
+    }
 }
