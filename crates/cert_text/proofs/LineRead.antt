@@ -216,8 +216,15 @@ pub record IsFront {X : Type 0} (reading : List ℕ → Option X) (bytes : List 
   pub bytes_are : bytes ≡ line ++ 10 ∷ rest
   pub read : reading line ≡ Some x
 
+-- what a reading makes of a line, beside the bytes behind the line
+abbrev pub beside : {X : Type 0} → List ℕ → Option X → Option (X × List ℕ)
+beside {X = X} rest o = option_map {U = X × List ℕ} (λ (x : X). (x, rest)) o
+
+abbrev pub read_cut : {X : Type 0} → (List ℕ → Option X) → Option (List ℕ × List ℕ) → Option (X × List ℕ)
+read_cut {X = X} reading o = option_and_then {U = X × List ℕ} (λ (cut : List ℕ × List ℕ). beside cut.1 (reading cut.0)) o
+
 module _ {X : Type 0} (reading : List ℕ → Option X) (bytes : List ℕ) (x : X) (rest : List ℕ) where
-  front_line : (line behind : List ℕ) (o : Option X) → cut_at 10 bytes ≡ Some (line, behind) → reading line ≡ o → option_map (λ (x : X). (x, behind)) o ≡ Some (x, rest)
+  front_line : (line behind : List ℕ) (o : Option X) → cut_at 10 bytes ≡ Some (line, behind) → reading line ≡ o → beside behind o ≡ Some (x, rest)
       → IsFront reading bytes x rest
   front_line line behind None cut e is = absurd (cc)
   front_line line behind (Some y) cut e is =
@@ -225,8 +232,7 @@ module _ {X : Type 0} (reading : List ℕ → Option X) (bytes : List ℕ) (x : 
       let second : behind ≡ rest = ap (λ (o : Option (X × List ℕ)). (unwrap_or o (x, [])).1) is in
       record { line = line; bytes_are = cut_is 10 bytes line behind cut ∙ ap (λ (r : List ℕ). line ++ 10 ∷ r) second; read = e ∙ ap Some first }
 
-  front_by : (o : Option (List ℕ × List ℕ)) → cut_at 10 bytes ≡ o
-      → option_and_then (λ (cut : List ℕ × List ℕ). option_map (λ (x : X). (x, cut.1)) (reading cut.0)) o ≡ Some (x, rest) → IsFront reading bytes x rest
+  front_by : (o : Option (List ℕ × List ℕ)) → cut_at 10 bytes ≡ o → read_cut reading o ≡ Some (x, rest) → IsFront reading bytes x rest
   front_by None e is = absurd (cc)
   front_by (Some cut) e is = front_line cut.0 cut.1 (reading cut.0) e refl is
 

@@ -68,11 +68,15 @@ end_text = text_of_lines (codes "end" ∷ [])
 abbrev pub logs_text : List LogPart → List ℕ
 logs_text logs = flat_map part_text logs ++ end_text
 
+-- the lines before the logs
+abbrev pub header_text : Document → List ℕ
+header_text d =
+    text_of_lines (version_line d.version ∷ verdict_line d.verdict ∷ kind_line d.kind ∷ max_line d.max ∷ entries_line d.entries ∷ [])
+    ++ text_of_lines (found_lines d.found)
+
 -- the lines behind the circuit
 abbrev pub body_text : Document → List ℕ
-body_text d =
-    text_of_lines (version_line d.version ∷ verdict_line d.verdict ∷ kind_line d.kind ∷ max_line d.max ∷ entries_line d.entries ∷ [])
-    ++ text_of_lines (found_lines d.found) ++ logs_text d.logs
+body_text d = header_text d ++ logs_text d.logs
 
 -- the circuit as it is written, and the line `c`
 abbrev pub circuit_part : Option Circuit → List ℕ

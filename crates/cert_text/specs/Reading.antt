@@ -19,10 +19,12 @@ use Rattle.cert_text.specs.Order.{order_of, start_of}
 use Rattle.cert_text.specs.Header.{no_header, header_of}
 use Rattle.cert_text.specs.Logs.{LogsRead, ReadsLogs}
 
--- what is read of a document: its circuit, the lines of the header, the logs, each as far as it is good, and the first bad line
+-- What is read of a document: its circuit, the lines of the header with the line of the verdict, which is 0 where none is reached,
+-- the logs, each as far as it is good, and the first bad line.
 pub record DocumentLines : Type 0 where
   pub circuit : CircuitPart
   pub header : Header
+  pub verdict_line : ℕ
   pub logs : List LogPart
   pub bad : Option ℕ
 
@@ -70,18 +72,18 @@ fault_line (TooLarge n) = n
 -- What is read of a circuit and the comment behind it. A missing name fails at the line `c`.
 pub data ReadsBehind (file : File) (comment : List ℕ) : DocumentLines → Type 0 where
   unnamed : all_named file.circuit ≡ false
-      → ReadsBehind file comment (record { circuit = Stated file; header = (header_of true (file.comment_line + 1) comment).header; logs = []; bad = Some file.comment_line })
+      → ReadsBehind file comment (record { circuit = Stated file; header = (header_of true (file.comment_line + 1) comment).header; verdict_line = file.comment_line + 2; logs = []; bad = Some file.comment_line })
   named : (body : BodyRead) → all_named file.circuit ≡ true → ReadsBody true (file.comment_line + 1) comment body
-      → ReadsBehind file comment (record { circuit = Stated file; header = body.header; logs = body.logs; bad = body.bad })
+      → ReadsBehind file comment (record { circuit = Stated file; header = body.header; verdict_line = file.comment_line + 2; logs = body.logs; bad = body.bad })
 
 -- What is read of a document's bytes. A missing line `c` fails where it is wanted.
 pub data Reads (bytes : List ℕ) : DocumentLines → Type 0 where
   without_circuit : (body : BodyRead) → begins_without_circuit bytes ≡ true → ReadsBody false 1 bytes body
-      → Reads bytes (record { circuit = Absent; header = body.header; logs = body.logs; bad = body.bad })
+      → Reads bytes (record { circuit = Absent; header = body.header; verdict_line = 2; logs = body.logs; bad = body.bad })
   of_fault : (fault : CircuitFault) → begins_without_circuit bytes ≡ false → IsFirstFault bytes fault
-      → Reads bytes (record { circuit = Faulty; header = no_header; logs = []; bad = Some (fault_line fault) })
+      → Reads bytes (record { circuit = Faulty; header = no_header; verdict_line = 0; logs = []; bad = Some (fault_line fault) })
   uncommented : (file : File) → begins_without_circuit bytes ≡ false → circuit.States bytes file → file.comment_at ≡ None
-      → Reads bytes (record { circuit = Stated file; header = no_header; logs = []; bad = Some file.comment_line })
+      → Reads bytes (record { circuit = Stated file; header = no_header; verdict_line = 0; logs = []; bad = Some file.comment_line })
   commented : (file : File) (at : ℕ) (lines : DocumentLines) → begins_without_circuit bytes ≡ false → circuit.States bytes file → file.comment_at ≡ Some at
       → ReadsBehind file (drop at bytes) lines
       → Reads bytes lines
@@ -114,7 +116,7 @@ comment_line_in (Stated file) = file.comment_line
 abbrev pub document_of : DocumentLines → Option Document
 document_of lines =
     option_and_then (λ version. option_and_then (λ verdict. option_and_then (λ kind. option_and_then (λ max.
-    option_map (λ most. record { version = version; verdict = verdict; kind = kind; max = max; entries = most; found = lines.header.found; circuit = circuit_in lines.circuit; logs = lines.logs; name_lines = name_lines_in lines.circuit; comment_line = comment_line_in lines.circuit; verdict_line = comment_line_in lines.circuit + 2 })
+    option_map (λ most. record { version = version; verdict = verdict; kind = kind; max = max; entries = most; found = lines.header.found; circuit = circuit_in lines.circuit; logs = lines.logs; name_lines = name_lines_in lines.circuit; comment_line = comment_line_in lines.circuit; verdict_line = lines.verdict_line })
     lines.header.entries) lines.header.max) lines.header.kind) lines.header.verdict) lines.header.version
 
 -- the bytes that a reader was given, and whether memory was wanted for some of them

@@ -176,12 +176,11 @@ fn first_entries(
     count: u64,
     bytes: &[u8],
 ) -> Result<FirstEntries<'_>, AllocError>
-    ensures first { IfOk result (λ read. AreFirstEntries vars count bytes.now read.entries.items read.rest.now) }
-    ensures lines { IfOk result (λ read. length read.entries.items + length read.rest.now ≤ length bytes.now) }
+    ensures { IfOk result (λ read. AreFirstEntries vars count bytes.now read.entries.items read.rest.now) }
 {
     let mut entries = Vec::new(alloc);
     let mut rest = bytes;
-    for _ in 0..count {
+    while (entries.len() as u64) < count {
         let Some((entry, after)) = take_entry(alloc, vars, rest)? else {
             return Ok(FirstEntries { entries, rest });
         };

@@ -1,8 +1,8 @@
 // A document's bytes, line by line.
-ghost use Rattle.std.specs.Prelude.{◌≡◌, ◌+◌, ◌<◌, ◌^◌, [], IfOk, IfSome, Some, None, length, is_some};
+ghost use Rattle.std.specs.Prelude.{◌≡◌, ◌+◌, ◌<◌, ◌≤◌, ◌^◌, [], IfOk, IfSome, Some, None, length, is_some};
 ghost use Rattle.std.specs.List.{list_all};
 ghost use Rattle.aiger_text.specs.declared.faults.CircuitFault.TheVariants.{NoMemory};
-ghost use Rattle.cert_text.specs.Reading.{ReadsBehind, ReadsBody, Reads, all_named as has_all_names, fault_line as line_of_fault, line_count, order_in, document_of as document_in};
+ghost use Rattle.cert_text.specs.Reading.{ReadsBehind, ReadsBody, Reads, all_named as has_all_names, fault_line as line_of_fault, line_count, order_in, document_of as document_in, circuit_in, name_lines_in, comment_line_in};
 ghost use Rattle.cert_text.specs.Header.{no_header};
 ghost use Rattle.cert_text.specs.Shown.{shown_body};
 
@@ -30,6 +30,8 @@ pub enum CircuitPart {
 pub struct DocumentLines {
     pub circuit: CircuitPart,
     pub header: Header,
+    /// The line of the verdict, 0 where none is reached.
+    pub verdict_line: u64,
     /// The last one has the entries before the bad line.
     pub logs: Vec<LogPart>,
     pub bad: Option<u64>,
@@ -40,10 +42,10 @@ impl Model for DocumentLines {
 
     ghost Value = { reading.DocumentLines };
 
-    ghost view = { λ d. record { circuit = d.circuit; header = d.header; logs = d.logs.items; bad = d.bad } };
+    ghost view = { λ d. record { circuit = d.circuit; header = d.header; verdict_line = d.verdict_line; logs = d.logs.items; bad = d.bad } };
 }
 
-/// What was read of the lines behind a circuit, or without one.
+// What was read of the lines behind a circuit, or without one.
 #[derive(Drop)]
 struct BodyRead {
     header: Header,
@@ -52,12 +54,14 @@ struct BodyRead {
 }
 
 impl BodyRead {
-    fn behind(self, circuit: CircuitPart) -> DocumentLines
-        ensures { result ≡ record { circuit = circuit; header = self.header; logs = self.logs.items; bad = self.bad } }
+    // With its verdict in that line.
+    fn behind(self, circuit: CircuitPart, verdict_line: u64) -> DocumentLines
+        ensures { result ≡ record { circuit = circuit; header = self.header; verdict_line = verdict_line; logs = self.logs.items; bad = self.bad } }
     {
         DocumentLines {
             circuit,
             header: self.header,
+            verdict_line,
             logs: self.logs,
             bad: self.bad,
         }
@@ -72,7 +76,7 @@ pub fn read_lines(alloc: Global, bytes: &[u8]) -> Result<DocumentLines, AllocErr
 {
     if bytes.starts_with(b"boundsyn ") {
         let body = read_body(alloc, false, 1, bytes)?;
-        return Ok(body.behind(CircuitPart::Absent));
+        return Ok(body.behind(CircuitPart::Absent, 2));
     }
     let file = match read_circuit(alloc, bytes) {
         Ok(file) => file,
@@ -92,11 +96,12 @@ pub fn read_lines(alloc: Global, bytes: &[u8]) -> Result<DocumentLines, AllocErr
 
 // A document of which nothing but the circuit was read, with its first bad line.
 fn bad_at(alloc: Global, circuit: CircuitPart, line: u64) -> DocumentLines
-    ensures { result ≡ record { circuit = circuit; header = no_header; logs = []; bad = Some line } }
+    ensures { result ≡ record { circuit = circuit; header = no_header; verdict_line = 0; logs = []; bad = Some line } }
 {
     DocumentLines {
         circuit,
         header: Header::none(),
+        verdict_line: 0,
         logs: Vec::new(alloc),
         bad: Some(line),
     }
@@ -114,11 +119,12 @@ fn read_behind(
     let line = file.comment_line;
     if all_named(&file.circuit) {
         let body = read_body(alloc, true, line + 1, comment)?;
-        Ok(body.behind(CircuitPart::Stated(file)))
+        Ok(body.behind(CircuitPart::Stated(file), line + 2))
     } else {
         Ok(DocumentLines {
             circuit: CircuitPart::Stated(file),
             header: read_header(true, line + 1, comment).header,
+            verdict_line: line + 2,
             logs: Vec::new(alloc),
             bad: Some(line),
         })
@@ -165,7 +171,8 @@ impl Header {
 
     // The number of lines of a whole header.
     fn lines(&self) -> u64
-        ensures { result ≡ line_count self.now }
+        ensures count { result ≡ line_count self.now }
+        ensures few { result ≤ 6 }
     {
         if self.found == 0 { 5 } else { 6 }
     }
@@ -200,29 +207,70 @@ fn fault_line(fault: CircuitFault) -> Option<u64>
     }
 }
 
+// The circuit of a document, with the lines of its names and the line `c`.
+#[derive(Drop)]
+struct Stated {
+    circuit: Option<Circuit>,
+    name_lines: Vec<u64>,
+    comment_line: u64,
+}
+
+impl CircuitPart {
+    fn into_stated(self, alloc: Global) -> Stated
+        ensures circuit { result.circuit ≡ circuit_in self }
+        ensures name_lines { result.name_lines.items ≡ name_lines_in self }
+        ensures comment_line { result.comment_line ≡ comment_line_in self }
+    {
+        match self {
+            CircuitPart::Absent => Stated::none(alloc),
+            CircuitPart::Faulty => Stated::none(alloc),
+            CircuitPart::Stated(file) => Stated {
+                circuit: Some(file.circuit),
+                name_lines: file.name_lines,
+                comment_line: file.comment_line,
+            },
+        }
+    }
+}
+
+impl Stated {
+    fn none(alloc: Global) -> Stated
+        ensures circuit { result.circuit ≡ None }
+        ensures name_lines { result.name_lines.items ≡ [] }
+        ensures comment_line { result.comment_line ≡ 0 }
+    {
+        Stated {
+            circuit: None,
+            name_lines: Vec::new(alloc),
+            comment_line: 0,
+        }
+    }
+}
+
 impl DocumentLines {
     /// The document, where no line of it is missing.
-    pub fn into_document(self, alloc: Global) -> Option<Document>
+    pub(crate) fn into_document(self, alloc: Global) -> Option<Document>
         ensures { result ≡ document_in self }
     {
         let header = self.header;
-        let (circuit, name_lines, comment_line) = match self.circuit {
-            CircuitPart::Absent => (None, Vec::new(alloc), 0),
-            CircuitPart::Faulty => (None, Vec::new(alloc), 0),
-            CircuitPart::Stated(file) => (Some(file.circuit), file.name_lines, file.comment_line),
-        };
+        let version = header.version?;
+        let verdict = header.verdict?;
+        let kind = header.kind?;
+        let max = header.max?;
+        let entries = header.entries?;
+        let stated = self.circuit.into_stated(alloc);
         Some(Document {
-            version: header.version?,
-            verdict: header.verdict?,
-            kind: header.kind?,
-            max: header.max?,
-            entries: header.entries?,
+            version,
+            verdict,
+            kind,
+            max,
+            entries,
             found: header.found,
-            circuit,
+            circuit: stated.circuit,
             logs: self.logs,
-            name_lines,
-            comment_line,
-            verdict_line: comment_line + 2,
+            name_lines: stated.name_lines,
+            comment_line: stated.comment_line,
+            verdict_line: self.verdict_line,
         })
     }
 }

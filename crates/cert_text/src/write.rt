@@ -3,7 +3,7 @@ ghost use Rattle.std.specs.Prelude.{◌≡◌, ◌++◌, ◌∷◌, [], OnOk, On
 ghost use Rattle.std.specs.List.{flat_map};
 ghost use Rattle.aiger_text.specs.CircuitText.{numbers_line, text_of_lines};
 ghost use Rattle.aiger_text.specs.RoundTrip.{IsWritable};
-ghost use Rattle.cert_text.specs.Lines.{bounded_words as bounded_front, unknown_words as unknown_front, log_words as log_front, verdict_line, kind_line, entries_line, found_lines, head_line, part_text, circuit_part, document_text};
+ghost use Rattle.cert_text.specs.Lines.{bounded_words as bounded_front, unknown_words as unknown_front, log_words as log_front, verdict_line, kind_line, entries_line, found_lines, head_line, part_text, circuit_part, header_text, body_text, document_text};
 ghost use Rattle.cert_text.specs.WellFormed.{IsWellFormed};
 ghost use Rattle.cert_text.specs.States.{States, numbered};
 
@@ -36,15 +36,30 @@ fn text_of(alloc: Global, document: &Document) -> Result<Vec<u8>, AllocError>
 {
     let mut text = Vec::new(alloc);
     push_circuit(&mut text, &document.circuit)?;
-    push_numbered(&mut text, b"boundsyn ", u64::from(document.version))?;
-    push_verdict(&mut text, document.verdict)?;
-    push_kind(&mut text, document.kind)?;
-    push_numbered(&mut text, b"max ", u64::from(document.max))?;
-    push_limit(&mut text, document.entries)?;
-    push_found(&mut text, document.found)?;
-    push_logs(&mut text, &document.logs)?;
-    push_line(&mut text, b"end")?;
+    push_body(&mut text, document)?;
     Ok(text)
+}
+
+// Appends the lines behind the circuit.
+fn push_body(text: &mut Vec<u8>, document: &Document) -> Result<(), AllocError>
+    ensures { OnOk result (text.new.items ≡ text.old.items ++ body_text document.now) }
+{
+    push_header(text, document)?;
+    push_logs(text, &document.logs)?;
+    push_line(text, b"end")?;
+    Ok(())
+}
+
+fn push_header(text: &mut Vec<u8>, document: &Document) -> Result<(), AllocError>
+    ensures { OnOk result (text.new.items ≡ text.old.items ++ header_text document.now) }
+{
+    push_numbered(text, b"boundsyn ", u64::from(document.version))?;
+    push_verdict(text, document.verdict)?;
+    push_kind(text, document.kind)?;
+    push_numbered(text, b"max ", u64::from(document.max))?;
+    push_limit(text, document.entries)?;
+    push_found(text, document.found)?;
+    Ok(())
 }
 
 fn push_circuit(text: &mut Vec<u8>, circuit: &Option<Circuit>) -> Result<(), AllocError>
