@@ -1,13 +1,12 @@
 -- The automata of both sides fit problems over the signals of the list.
-use Rattle.std.proofs.Common.{◌≤◌, ℕ, List, Option, Some, None, Result, Ok, Err, All}
-use Rattle.std.specs.Prelude.{IfOk, IfSome, OnOk}
+use Rattle.std.proofs.Common.{◌≤◌, ℕ, List, Option, Some, None}
+use Rattle.std.specs.Prelude.{IfSome}
 use Rattle.ltl_formula.specs.declared.nodes.Node.{Node}
 use Rattle.ltl_formula.specs.ListSignals.{HasSignalsBelow, KeepsSignals}
 use Rattle.machine_model.specs.Automaton.{AutomatonModel, states_of}
-use Rattle.machine_model.specs.Problem.{NamesSignals}
 use Rattle.cobuchi_build.specs.Limits.{NamesSignalsOf}
 use Rattle.dual_search.specs.declared.automata.Automata.{Automata}
-use Rattle.dual_search.specs.Limits.{FitsProblem, FitProblems, FitProblemsOf}
+use Rattle.dual_search.specs.Limits.{FitsProblem, FitProblemsOf}
 
 fits : (n : ℕ) (new : List Node) (a : AutomatonModel) → HasSignalsBelow n new → NamesSignalsOf new a → states_of a ≤ 2000 → FitsProblem n a
 fits n new a below named few = record { states = few; signals = named.named n below }
