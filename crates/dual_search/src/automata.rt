@@ -36,6 +36,7 @@ pub fn problems(
     ensures system { IfOk result (λ a. AcceptsWhere false (tree_at formulas.old whole) a.system) }
     ensures environment { IfOk result (λ a. IfSome a.environment (AcceptsWhere true (tree_at formulas.old whole))) }
     ensures limits { IfOk result (FitProblemsOf formulas.old) }
+    ensures signals { OnOk result (KeepsSignals formulas.old formulas.new) }
     ensures too_large { result ≡ Err BuildFault.TooLarge → SystemPassesLimit (tree_at formulas.old whole) formulas.old formulas.new }
     ensures too_many { result ≡ Err BuildFault.TooManyNodes → both_forms (tree_at formulas.old whole) formulas.old ≡ record { nodes = formulas.new; made = None } }
     ensures grows { Grows formulas.old formulas.new }

@@ -15,6 +15,8 @@ use Rattle.dual_search.specs.BothForms.{both_forms}
 use Rattle.dual_search.specs.Sides.{AcceptsWhere, AreAutomataOf, SystemPassesLimit}
 use Rattle.tlsf_tokens.specs.declared.code.SpecCode.{SpecCode}
 use Rattle.tlsf_tokens.specs.declared.code.SpecCode.TheVariants.{TooManyNodes, AutomatonTooLarge}
+use Rattle.tlsf_tokens.specs.declared.code.SpecFault.{SpecFault}
+use Rattle.cobuchi_build.specs.declared.building.BuildFault.{BuildFault}
 use Rattle.spec_problems.specs.declared.sides.Interface.{Interface}
 use Rattle.spec_problems.specs.declared.sides.SideProblems.{SideProblems}
 
@@ -64,3 +66,9 @@ pub record AreProblems (s : SideProblems) : Type 0 where
 pub record AcceptBySide (f : Tree) (s : SideProblems) : Type 0 where
   pub system_where : AcceptsWhere false f (automaton_of s.system)
   pub environment_where : IfSome s.environment (λ p. AcceptsWhere true f (automaton_of p))
+
+-- the refusal of a text whose automata weren't given
+abbrev pub refusal_of : BuildFault → SpecFault
+refusal_of BuildFault.TooLarge = SpecFault.At AutomatonTooLarge 0
+refusal_of BuildFault.TooManyNodes = SpecFault.At TooManyNodes 0
+refusal_of BuildFault.NoMemory = SpecFault.NoMemory

@@ -1,11 +1,12 @@
 // The problems of both sides of a formula.
 
 ghost use Rattle.std.specs.Prelude.{◌≡◌, ℕ, Err, IfOk, OnOk};
+ghost use Rattle.ltl_formula.specs.ListSignals.{KeepsSignals};
 ghost use Rattle.ltl_formula.specs.Nodes.{Grows, IsNodeList, Stands, tree_at};
 ghost use Rattle.tlsf_tokens.specs.declared.code.SpecCode.{SpecCode as Code};
 ghost use Rattle.tlsf_tokens.specs.declared.code.SpecFault.TheVariants.{At};
 ghost use Rattle.tlsf_expand.specs.FewSignals.{HasFewSignals};
-ghost use Rattle.spec_problems.specs.OfFormula.{AcceptBySide, AreProblems, AreProblemsIn, IsFormFault, IsVersion};
+ghost use Rattle.spec_problems.specs.OfFormula.{AcceptBySide, AreProblems, AreProblemsIn, AreProblemsOver, IsEnvironmentOver, IsFormFault, IsProblemOver, IsVersion, refusal_of};
 
 use cobuchi_build::BuildFault;
 use dual_search::{Automata, problems};
@@ -54,12 +55,90 @@ pub fn problems_of(
     ensures meet { IfOk result AreProblems }
     ensures accept { IfOk result (AcceptBySide (tree_at formulas.old whole)) }
     ensures fault { (code : Code) (place : ℕ) → result ≡ Err (At code place) → IsFormFault (tree_at formulas.old whole) formulas.old code place }
+    ensures signals { OnOk result (KeepsSignals formulas.old formulas.new) }
     ensures grows { Grows formulas.old formulas.new }
     ensures list { IsNodeList formulas.new }
 {
     let automata = match problems(alloc, formulas, whole) {
         Ok(automata) => automata,
-        Err(fault) => return Err(fault_of(fault)),
+        Err(fault) => return Err(refusal_of(fault)),
     };
-    Ok(sides(alloc, interface, automata)?)
+    match sides(alloc, interface, automata) {
+        Ok(sides) => Ok(sides),
+        Err(_) => Err(SpecFault::NoMemory),
+    }
+}
+
+/// The refusal of a formula whose automata weren't given.
+fn refusal_of(fault: BuildFault) -> SpecFault
+    ensures { result ≡ refusal_of fault }
+{
+    match fault {
+        BuildFault::TooLarge => SpecFault::At {
+            code: SpecCode::AutomatonTooLarge,
+            place: 0,
+        },
+        BuildFault::TooManyNodes => SpecFault::At {
+            code: SpecCode::TooManyNodes,
+            place: 0,
+        },
+        BuildFault::NoMemory => SpecFault::NoMemory,
+    }
+}
+
+/// The problems of both sides over their automata.
+fn sides(
+    alloc: Global,
+    interface: Interface,
+    automata: Automata,
+) -> Result<SideProblems, AllocError>
+    ensures { IfOk result (AreProblemsOver interface automata) }
+{
+    let environment = environment(alloc, interface, automata.environment)?;
+    let system = problem(alloc, interface, Side::System, interface.kind, automata.system)?;
+    Ok(SideProblems {
+        system,
+        environment,
+    })
+}
+
+/// The environment's problem, if it has an automaton.
+fn environment(
+    alloc: Global,
+    interface: Interface,
+    automaton: Option<Automaton>,
+) -> Result<Option<Problem>, AllocError>
+    ensures { IfOk result (IsEnvironmentOver interface automaton) }
+{
+    match automaton {
+        Some(automaton) => Ok(Some(problem(
+            alloc,
+            interface,
+            Side::Environment,
+            interface.kind.other(),
+            automaton,
+        )?)),
+        None => Ok(None),
+    }
+}
+
+/// The problem of a side whose machines are of this kind.
+fn problem(
+    alloc: Global,
+    interface: Interface,
+    side: Side,
+    kind: Kind,
+    automaton: Automaton,
+) -> Result<Problem, AllocError>
+    ensures { IfOk result (IsProblemOver interface side kind automaton) }
+{
+    Ok(Problem {
+        automaton: Arc::new(alloc, automaton)?,
+        inputs: interface.inputs,
+        outputs: interface.outputs,
+        side,
+        kind,
+        size: 1,
+        version: interface.version,
+    })
 }

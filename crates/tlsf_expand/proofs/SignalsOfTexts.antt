@@ -3,7 +3,7 @@ use Rattle.std.proofs.Common.{◌≡◌, ℕ, zero, suc, ◌+◌, ◌<◌, ◌�
 use Rattle.std.proofs.lemmas.Bool.{cases_eq, cases_lt, leb-true, eqb-true}
 use Rattle.std.proofs.lemmas.List.{length-append, get_or_append_left, get_or_past}
 use Rattle.std.proofs.Math.Seq.{get_or-append_seam}
-use Rattle.std.specs.Prelude.{◌==◌, nat_le, if◌then◌else◌, slice_index_or, IfOk}
+use Rattle.std.specs.Prelude.{◌==◌, nat_le, if◌then◌else◌, slice_index_or, IfOk, pos, negsuc}
 use Rattle.letter_word.specs.declared.kinds.Kind.{Kind}
 use Rattle.ltl_formula.specs.declared.nodes.FormulaId.{FormulaId}
 use Rattle.ltl_formula.specs.declared.nodes.Node.{Node}
@@ -16,6 +16,7 @@ use Rattle.tlsf_tokens.specs.declared.code.SpecFault.{SpecFault}
 use Rattle.tlsf_grammar.specs.Tree.{Tree, Named, Pattern, Definition, parameter, function, enumeration, Member, Shape, single, bus, typed, Declaration, plain}
 use Rattle.tlsf_values.specs.declared.work.Work.{Work}
 use Rattle.tlsf_values.specs.declared.value.Value.{Value}
+use Rattle.tlsf_values.specs.declared.value.Value.TheVariants.{Number}
 use Rattle.tlsf_values.specs.Outcomes.{Outcome, gives, fails, go_on, choose, Checked, fine, faulty, checked}
 use Rattle.tlsf_values.specs.Names.{Names, BusRange, Meaning, known, a_signal, a_definition, an_enumeration, undeclared, bus_at, also, same_name, with_member, with_members, with_meaning, with_definition, with_definitions, with_signal, with_bus, without_names}
 use Rattle.tlsf_values.specs.Patterns.{all_values}
@@ -119,15 +120,19 @@ AllWide width (p ∷ ps) = (length p.bits ≡ width) × AllWide width ps
 
 all_wide : (width : ℕ) (ps : List Pattern) → other_width width ps ≡ None → AllWide width ps
 all_wide width [] e = tt
-all_wide width (p ∷ ps) e = by (length p.bits == width) refl e
+all_wide width (p ∷ ps) e = by (λ rest. all_wide width ps rest) (length p.bits == width) refl e
   where
-    by : (b : Bool) → (length p.bits == width) ≡ b → (if b then other_width width ps else Some p.span.start) ≡ None → AllWide width (p ∷ ps)
-    by true same e = (eqb-true (length p.bits) width same, all_wide width ps e)
-    by false same e = absurd (let never : ⊥ = cc in never)
+    by : (other_width width ps ≡ None → AllWide width ps) → (b : Bool) → (length p.bits == width) ≡ b → (if b then other_width width ps else Some p.span.start) ≡ None → AllWide width (p ∷ ps)
+    by others true same e = (eqb-true (length p.bits) width same, others e)
+    by others false same e = absurd (let never : ⊥ = cc in never)
 
 first_none : (a b : Option ℕ) → first_of a b ≡ None → (a ≡ None) × (b ≡ None)
 first_none None b e = (refl, e)
 first_none (Some k) b e = absurd (let never : ⊥ = cc in never)
+
+abbrev EvenIn : Option (List Pattern) → Type 0
+EvenIn None = Unit {0}
+EvenIn (Some ps) = AllWide (width_of ps) ps
 
 values_even : (name : List ℕ) (ds : List Definition) → uneven_value ds ≡ None → AllWide (width_of (values_named name ds)) (values_named name ds)
 values_even name [] e = tt
@@ -135,10 +140,6 @@ values_even name (d ∷ ds) e =
     let both : (uneven_in d ≡ None) × (uneven_value ds ≡ None) = first_none (uneven_in d) (uneven_value ds) e in
     by (values_in name d) (own d both.0) (values_even name ds both.1)
   where
-    abbrev EvenIn : Option (List Pattern) → Type 0
-    EvenIn None = Unit {0}
-    EvenIn (Some ps) = AllWide (width_of ps) ps
-
     own : (d : Definition) → uneven_in d ≡ None → EvenIn (values_in name d)
     own (parameter word t) e = tt
     own (function word arguments body) e = tt

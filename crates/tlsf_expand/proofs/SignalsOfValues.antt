@@ -30,9 +30,12 @@ use Rattle.tlsf_values.specs.declared.formula.Connective.TheVariants as connecti
 use Rattle.tlsf_values.specs.declared.formula.Sign.{Sign}
 use Rattle.tlsf_values.specs.declared.formula.Sign.TheVariants as sign
 use Rattle.tlsf_values.specs.declared.numbers.Arithmetic.{Arithmetic}
+use Rattle.tlsf_values.specs.declared.numbers.Arithmetic.TheVariants as arithmetic_is
+use Rattle.tlsf_values.specs.declared.numbers.Comparison.TheVariants as comparison_is
 use Rattle.tlsf_values.specs.declared.numbers.Comparison.{Comparison}
 use Rattle.tlsf_values.specs.declared.numbers.Places.{Places}
 use Rattle.tlsf_values.specs.declared.set_operation.SetOperation.{SetOperation}
+use Rattle.tlsf_values.specs.declared.set_operation.SetOperation.TheVariants as set_is
 use Rattle.placed_sets.specs.Sets.{is_in, set_of}
 use Rattle.tlsf_values.specs.Numbers.{computed, holds_of}
 use Rattle.tlsf_values.specs.SetOperations.{combined}
@@ -262,28 +265,28 @@ module _ (n : ℕ) where
     u_equated p _ _ work h = refused _ _
 
     u_operated : (o : Op) (p : Places) (a b : Value) (work : Work) → H work → Under n (operated names o p a b work)
-    u_operated op.Mul p a b work h = u_arithmetic _ p a b work h
-    u_operated op.Div p a b work h = u_arithmetic _ p a b work h
-    u_operated op.Rem p a b work h = u_arithmetic _ p a b work h
-    u_operated op.Plus p a b work h = u_arithmetic _ p a b work h
-    u_operated op.Minus p a b work h = u_arithmetic _ p a b work h
-    u_operated op.Difference p a b work h = u_on_sets _ p a b work h
-    u_operated op.Meet p a b work h = u_on_sets _ p a b work h
-    u_operated op.Join p a b work h = u_on_sets _ p a b work h
+    u_operated op.Mul p a b work h = u_arithmetic arithmetic_is.Mul p a b work h
+    u_operated op.Div p a b work h = u_arithmetic arithmetic_is.Div p a b work h
+    u_operated op.Rem p a b work h = u_arithmetic arithmetic_is.Rem p a b work h
+    u_operated op.Plus p a b work h = u_arithmetic arithmetic_is.Plus p a b work h
+    u_operated op.Minus p a b work h = u_arithmetic arithmetic_is.Minus p a b work h
+    u_operated op.Difference p a b work h = u_on_sets set_is.Difference p a b work h
+    u_operated op.Meet p a b work h = u_on_sets set_is.Meet p a b work h
+    u_operated op.Join p a b work h = u_on_sets set_is.Join p a b work h
     u_operated op.Equal p a b work h = u_as_value (u_equated p a b work h)
     u_operated op.Unequal p a b work h = u_as_value (u_go_on _ (u_equated p a b work h) (λ z w1 h1. u_opposed p.own z w1 h1))
-    u_operated op.Less p a b work h = u_compared _ p a b work h
-    u_operated op.LessEqual p a b work h = u_compared _ p a b work h
-    u_operated op.Greater p a b work h = u_compared _ p a b work h
-    u_operated op.GreaterEqual p a b work h = u_compared _ p a b work h
+    u_operated op.Less p a b work h = u_compared comparison_is.Less p a b work h
+    u_operated op.LessEqual p a b work h = u_compared comparison_is.LessEqual p a b work h
+    u_operated op.Greater p a b work h = u_compared comparison_is.Greater p a b work h
+    u_operated op.GreaterEqual p a b work h = u_compared comparison_is.GreaterEqual p a b work h
     u_operated op.Element p a b work h = u_element p a b work h
-    u_operated op.And p a b work h = u_on_connective _ p a b work h
-    u_operated op.Or p a b work h = u_on_connective _ p a b work h
-    u_operated op.Implies p a b work h = u_on_connective _ p a b work h
-    u_operated op.Equiv p a b work h = u_on_connective _ p a b work h
-    u_operated op.WeakUntil p a b work h = u_on_pairing _ p a b work h
-    u_operated op.Until p a b work h = u_on_pairing _ p a b work h
-    u_operated op.Release p a b work h = u_on_pairing _ p a b work h
+    u_operated op.And p a b work h = u_on_connective connective.And p a b work h
+    u_operated op.Or p a b work h = u_on_connective connective.Or p a b work h
+    u_operated op.Implies p a b work h = u_on_connective connective.Implies p a b work h
+    u_operated op.Equiv p a b work h = u_on_connective connective.Equiv p a b work h
+    u_operated op.WeakUntil p a b work h = u_on_pairing pairing.WeakUntil p a b work h
+    u_operated op.Until p a b work h = u_on_pairing pairing.Until p a b work h
+    u_operated op.Release p a b work h = u_on_pairing pairing.Release p a b work h
     u_operated _ p a b work h = refused _ _
 
     meaning_found : (bound : List Binding) (name : List ℕ) → MeaningBelow n (look_up names bound name)

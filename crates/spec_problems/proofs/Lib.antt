@@ -1,0 +1,4 @@
+pub mod Problems
+pub mod Refusals
+pub mod Whole
+pub mod OneAnswer
