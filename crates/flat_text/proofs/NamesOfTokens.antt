@@ -24,11 +24,11 @@ use Rattle.flat_text.specs.FlatNames.{IsOneWord}
 
 blank_byte : (b : ℕ) → is_blank b ≡ true → is_name_part b ≡ true → ⊥
 blank_byte b h part =
-    elim (or_cases (b == 32) (b == 9 || b == 13 || b == 10) h) [
-      | inl e ↦ at 32 (eqb-true b 32 e) refl
-      | inr h1 ↦ elim (or_cases (b == 9) (b == 13 || b == 10) h1) [
-        | inl e ↦ at 9 (eqb-true b 9 e) refl
-        | inr h2 ↦ elim (or_cases (b == 13) (b == 10) h2) [ inl e ↦ at 13 (eqb-true b 13 e) refl | inr e ↦ at 10 (eqb-true b 10 e) refl ]
+    elim (or_cases (b == 32 || b == 9 || b == 13) (b == 10) h) [
+      | inr e ↦ at 10 (eqb-true b 10 e) refl
+      | inl h1 ↦ elim (or_cases (b == 32 || b == 9) (b == 13) h1) [
+        | inr e ↦ at 13 (eqb-true b 13 e) refl
+        | inl h2 ↦ elim (or_cases (b == 32) (b == 9) h2) [ inl e ↦ at 32 (eqb-true b 32 e) refl | inr e ↦ at 9 (eqb-true b 9 e) refl ]
       ]
     ]
   where

@@ -65,7 +65,8 @@ module _ (P : List ℕ → Type 0) where
   parts _ _ (of_outputs l before after ls ms ds ps i b d a rest) h =
       let more = parts ms ps rest (names_behind P ls (after ∷ ms) h.1.1).1 in
       record { of_the_inputs = more.of_the_inputs; of_the_outputs = declarations ls ds d (names_before P ls (after ∷ ms) h.1.1) }
-  parts _ _ (of_section l before after s ls ms ts ps i b d a rest) h = parts ms ps rest (names_behind P ls (after ∷ ms) h.1.1).1
+  parts _ _ (of_section l before after s ls ms ts ps i b d a rest) h =
+      let more = parts ms ps rest (names_behind P ls (after ∷ ms) h.1.1).1 in record { of_the_inputs = more.of_the_inputs; of_the_outputs = more.of_the_outputs }
 
   main_parts : (ls : List Lexeme) (ps : List Part) → DerivesMain ls ps → NamesAre P ls → PartsDeclare ps
   main_parts _ _ (of_main l before after ls ps i b d a) h = parts ls ps d (names_before P ls (after ∷ []) h.1.1)
@@ -80,11 +81,11 @@ both_pass p xs ys h g = list_all-append p xs ys ∙ ap (λ b. b && list_all p ys
 
 small_blank : (b : ℕ) → is_blank b ≡ true → b < 48
 small_blank b h =
-    elim (or_cases (b == 32) (b == 9 || b == 13 || b == 10) h) [
-      | inl e ↦ let is : b ≡ 32 = eqb-true b 32 e in omega arith
-      | inr h1 ↦ elim (or_cases (b == 9) (b == 13 || b == 10) h1) [
-        | inl e ↦ let is : b ≡ 9 = eqb-true b 9 e in omega arith
-        | inr h2 ↦ elim (or_cases (b == 13) (b == 10) h2) [ inl e ↦ let is : b ≡ 13 = eqb-true b 13 e in omega arith | inr e ↦ let is : b ≡ 10 = eqb-true b 10 e in omega arith ]
+    elim (or_cases (b == 32 || b == 9 || b == 13) (b == 10) h) [
+      | inr e ↦ let is : b ≡ 10 = eqb-true b 10 e in omega arith
+      | inl h1 ↦ elim (or_cases (b == 32 || b == 9) (b == 13) h1) [
+        | inr e ↦ let is : b ≡ 13 = eqb-true b 13 e in omega arith
+        | inl h2 ↦ elim (or_cases (b == 32) (b == 9) h2) [ inl e ↦ let is : b ≡ 32 = eqb-true b 32 e in omega arith | inr e ↦ let is : b ≡ 9 = eqb-true b 9 e in omega arith ]
       ]
     ]
 
