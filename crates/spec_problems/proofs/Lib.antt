@@ -1,4 +1,3 @@
-pub mod Problems
 pub mod Refusals
 pub mod Whole
 pub mod OneAnswer

@@ -27,6 +27,6 @@ form_fault f old new BuildFault.TooLarge large many code place e = fault_at f ol
 form_fault f old new BuildFault.TooManyNodes large many code place e = fault_at f old TooManyNodes code 0 place e (no_room (ap (λ (b : Built). b.made) (many refl)))
 form_fault f old new BuildFault.NoMemory large many code place e = absurd (let never : ⊥ = cc in never)
 
--- of what a call answers
-pub same_refusal : {T : Type 0} (given refusal : SpecFault) (r : Result T SpecFault) (code : SpecCode) (place : ℕ) → r ≡ Err given → given ≡ refusal → r ≡ Err (At code place) → refusal ≡ At code place
-same_refusal given refusal r code place is same e = cc
+-- two refusals of a call
+pub same_fault : {T : Type 0} (a b : SpecFault) → ◌≡◌ {A = Result T SpecFault} (Err a) (Err b) → a ≡ b
+same_fault a b e = cc
