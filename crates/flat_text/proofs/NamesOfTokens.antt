@@ -177,6 +177,7 @@ lexed_names text (token ∷ tokens) lexemes formed e = by (λ ls more. lexed_nam
     by others (Some s) None is more e = absurd (let never : ⊥ = cc in never)
     by others (Some s) (Some ls) is more e =
         let same : lexeme_from text token s ∷ ls ≡ lexemes = cc in
-        subst (NamesAre IsOneWord) same
-        ((λ ident. formed_name (slice_range text token.start token.end) (formed.0 ∙ ap (λ k. Some (piece.Token k)) (name_kind token.kind (slice_range text token.start token.end) s is ident))),
-        others ls more)
+        subst (NamesAre IsOneWord) same (
+          (λ ident. formed_name (slice_range text token.start token.end) (formed.0 ∙ ap (λ k. Some (piece.Token k)) (name_kind token.kind (slice_range text token.start token.end) s is ident))),
+          others ls more,
+        )

@@ -4,7 +4,6 @@ use Rattle.letter_word.specs.declared.kinds.Kind.{Kind}
 use Rattle.letter_word.specs.declared.kinds.Side.{Side}
 use Rattle.letter_word.specs.declared.kinds.Side.TheVariants.{System, Environment}
 use Rattle.letter_word.specs.Kinds.{other_kind}
-use Rattle.ltl_formula.specs.declared.nodes.FormulaId.{FormulaId}
 use Rattle.ltl_formula.specs.declared.nodes.Node.{Node}
 use Rattle.ltl_formula.specs.Added.{Built}
 use Rattle.ltl_formula.specs.Nodes.{tree_at}
@@ -14,7 +13,6 @@ use Rattle.machine_model.specs.Automaton.{AutomatonModel}
 use Rattle.dual_search.specs.declared.automata.Automata.{Automata}
 use Rattle.dual_search.proofs.Sides.{answers_are_apart}
 use Rattle.tlsf_tokens.specs.declared.code.SpecCode.{SpecCode}
-use Rattle.tlsf_expand.specs.Expansion.{Expanded}
 use Rattle.tlsf_expand.specs.TextSeen.{FlatText}
 use Rattle.tlsf_reader.proofs.OneTree.{determined}
 use Rattle.tlsf_reader.proofs.NoFault.{no_fault as no_reading_fault}

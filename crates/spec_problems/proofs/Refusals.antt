@@ -1,5 +1,5 @@
 -- The refusal of a formula says why its automata weren't given.
-use Rattle.std.proofs.Common.{◌≡◌, ℕ, List, None, Result, Ok, Err, refl, sym, ap, subst, ◌∙◌}
+use Rattle.std.proofs.Common.{◌≡◌, ℕ, List, None, Result, Err, refl, ap, subst}
 use Rattle.ltl_formula.specs.declared.nodes.Node.{Node}
 use Rattle.ltl_formula.specs.Added.{Built}
 use Rattle.ltl_formula.specs.Tree.{Tree}
@@ -9,7 +9,7 @@ use Rattle.dual_search.specs.Sides.{SystemPassesLimit}
 use Rattle.tlsf_tokens.specs.declared.code.SpecCode.{SpecCode}
 use Rattle.tlsf_tokens.specs.declared.code.SpecCode.TheVariants.{TooManyNodes, AutomatonTooLarge}
 use Rattle.tlsf_tokens.specs.declared.code.SpecFault.{SpecFault}
-use Rattle.tlsf_tokens.specs.declared.code.SpecFault.TheVariants.{At, NoMemory}
+use Rattle.tlsf_tokens.specs.declared.code.SpecFault.TheVariants.{At}
 use Rattle.spec_problems.specs.OfFormula.{IsFormFault, no_room, too_large, refusal_of}
 
 same_code : (a b : SpecCode) (j k : ℕ) → At a j ≡ At b k → a ≡ b

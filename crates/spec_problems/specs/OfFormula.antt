@@ -1,6 +1,6 @@
 -- The problems of both sides of a formula, or the fault for which there are none: bounded synthesis of Finkbeiner and Schewe, with
 -- this project's limits.
-use Rattle.std.specs.Prelude.{◌≡◌, ◌≤◌, ◌⊎◌, ℕ, true, false, List, Option, Some, None, IfSome}
+use Rattle.std.specs.Prelude.{◌≡◌, ◌⊎◌, ℕ, true, false, List, Option, Some, None, IfSome}
 use Rattle.letter_word.specs.declared.kinds.Kind.{Kind}
 use Rattle.letter_word.specs.declared.kinds.Side.{Side}
 use Rattle.letter_word.specs.declared.kinds.Side.TheVariants.{System, Environment}

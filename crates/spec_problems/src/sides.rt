@@ -95,7 +95,13 @@ fn sides(
     ensures { IfOk result (AreProblemsOver interface automata) }
 {
     let environment = environment(alloc, interface, automata.environment)?;
-    let system = problem(alloc, interface, Side::System, interface.kind, automata.system)?;
+    let system = problem(
+        alloc,
+        interface,
+        Side::System,
+        interface.kind,
+        automata.system,
+    )?;
     Ok(SideProblems {
         system,
         environment,
