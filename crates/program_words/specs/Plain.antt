@@ -1,6 +1,6 @@
 -- Words of the plain form (this project's own): the program's name, a command, its names or its number, and then options,
 -- each as its name behind `--` and its value, in any order and each at most once.
-use Rattle.std.specs.Prelude.{◌≡◌, ◌==◌, ◌⊎◌, Bool, false, not, List, [], ◌∷◌, ◌++◌, Option, Some, None, IsTrue, codes, find, option_and_then, option_map}
+use Rattle.std.specs.Prelude.{◌≡◌, ◌==◌, ◌⊎◌, Bool, false, not, List, [], ◌∷◌, ◌++◌, Some, IsTrue, codes, find, option_map}
 use Rattle.std.specs.List.{list_any}
 use Rattle.std.specs.Str.{bytes_eq}
 use Rattle.clap.specs.Walk.{Text}
