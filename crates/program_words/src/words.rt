@@ -1,6 +1,6 @@
 ghost use Rattle.std.specs.Prelude.{◌≡◌, ◌≢◌, Some, None, map, option_map, option_and_then, string_bytes, IfOk, IsErrOf};
 ghost use Rattle.clap.specs.Words.{first_of, found_of, rows_of, subcommand_rows_of};
-ghost use Rattle.program_words.specs.Settings.{asked_by, asked_of, bench_asked, check_asked, entry_limit, expand_asked, gen_asked, kind_asked, kind_in, lasso_asked, limit_in, number_or, search_asked, settings_of, synth_asked};
+ghost use Rattle.program_words.specs.Settings.{asked_by, asked_of, bench_asked, check_asked, entry_limit, expand_asked, gen_asked, given_in, kind_asked, kind_in, lasso_asked, limit_in, number_or, search_asked, settings_of, synth_asked};
 
 use crate::command_line::program;
 use crate::numbers::number_in;
@@ -66,7 +66,7 @@ fn settings_in<'a>(matches: &ArgMatches<'a>) -> Option<Settings<'a>>
 }
 
 fn synth_in<'a>(own: &ArgMatches<'a>) -> Option<Settings<'a>>
-    ensures { option_map asked_by result ≡ synth_asked (rows_of (found_of own.now)) }
+    ensures { option_map asked_by result ≡ synth_asked (given_in (rows_of (found_of own.now))) }
 {
     Some(Settings::Synth {
         spec: text_of(own, "spec")?,
@@ -76,7 +76,7 @@ fn synth_in<'a>(own: &ArgMatches<'a>) -> Option<Settings<'a>>
 }
 
 fn check_in<'a>(own: &ArgMatches<'a>) -> Option<Settings<'a>>
-    ensures { option_map asked_by result ≡ check_asked (rows_of (found_of own.now)) }
+    ensures { option_map asked_by result ≡ check_asked (given_in (rows_of (found_of own.now))) }
 {
     Some(Settings::Check {
         spec: text_of(own, "spec")?,
@@ -85,14 +85,14 @@ fn check_in<'a>(own: &ArgMatches<'a>) -> Option<Settings<'a>>
 }
 
 fn expand_in<'a>(own: &ArgMatches<'a>) -> Option<Settings<'a>>
-    ensures { option_map asked_by result ≡ expand_asked (rows_of (found_of own.now)) }
+    ensures { option_map asked_by result ≡ expand_asked (given_in (rows_of (found_of own.now))) }
 {
     let spec = text_of(own, "spec")?;
     Some(Settings::Expand { spec })
 }
 
 fn lasso_in<'a>(own: &ArgMatches<'a>) -> Option<Settings<'a>>
-    ensures { option_map asked_by result ≡ lasso_asked (rows_of (found_of own.now)) }
+    ensures { option_map asked_by result ≡ lasso_asked (given_in (rows_of (found_of own.now))) }
 {
     Some(Settings::Lasso {
         spec: text_of(own, "spec")?,
@@ -101,14 +101,14 @@ fn lasso_in<'a>(own: &ArgMatches<'a>) -> Option<Settings<'a>>
 }
 
 fn gen_in<'a>(own: &ArgMatches<'a>) -> Option<Settings<'a>>
-    ensures { option_map asked_by result ≡ gen_asked (rows_of (found_of own.now)) }
+    ensures { option_map asked_by result ≡ gen_asked (given_in (rows_of (found_of own.now))) }
 {
     let clients = number_in(text_of(own, "clients")?, 1, 8)?;
     Some(Settings::Gen { clients })
 }
 
 fn bench_in<'a>(own: &ArgMatches<'a>) -> Option<Settings<'a>>
-    ensures { option_map asked_by result ≡ bench_asked (rows_of (found_of own.now)) }
+    ensures { option_map asked_by result ≡ bench_asked (given_in (rows_of (found_of own.now))) }
 {
     let clients = number_in(text_of(own, "clients")?, 1, 4)?;
     let workers = number_or(own, "workers", 4, 1, 8)?;
@@ -116,7 +116,7 @@ fn bench_in<'a>(own: &ArgMatches<'a>) -> Option<Settings<'a>>
 }
 
 fn search_in(own: &ArgMatches<'_>) -> Option<Search>
-    ensures { result ≡ search_asked (rows_of (found_of own.now)) }
+    ensures { result ≡ search_asked (given_in (rows_of (found_of own.now))) }
 {
     Some(Search {
         max: number_or(own, "max", 4, 1, 8)?,
@@ -127,7 +127,7 @@ fn search_in(own: &ArgMatches<'_>) -> Option<Search>
 
 // The number that an option has, or its default.
 fn number_or(own: &ArgMatches<'_>, id: &str, default: u32, least: u32, most: u32) -> Option<u32>
-    ensures { result ≡ number_or id.now default least most (rows_of (found_of own.now)) }
+    ensures { result ≡ number_or id.now default least most (given_in (rows_of (found_of own.now))) }
 {
     match text_of(own, id) {
         None => Some(default),
@@ -136,7 +136,7 @@ fn number_or(own: &ArgMatches<'_>, id: &str, default: u32, least: u32, most: u32
 }
 
 fn limit_or(own: &ArgMatches<'_>) -> Option<Option<u64>>
-    ensures { result ≡ entry_limit (rows_of (found_of own.now)) }
+    ensures { result ≡ entry_limit (given_in (rows_of (found_of own.now))) }
 {
     match text_of(own, "entries") {
         None => Some(Some(50_000)),
@@ -155,7 +155,7 @@ fn limit_in(text: &str) -> Option<Option<u64>>
 }
 
 fn kind_or(own: &ArgMatches<'_>) -> Option<Option<Kind>>
-    ensures { result ≡ kind_asked (rows_of (found_of own.now)) }
+    ensures { result ≡ kind_asked (given_in (rows_of (found_of own.now))) }
 {
     match text_of(own, "kind") {
         None => Some(None),
