@@ -1,5 +1,10 @@
 -- Which word a text states, said of its lines as a whole (this project's own).
-use Rattle.std.specs.Prelude.{◌≡◌, ◌≢◌, ◌↔◌, ◌<◌, ◌≤◌, ℕ, List, [], ◌∷◌, ◌++◌, Some, All, codes, length, map}
+use Rattle.std.specs.Prelude.{◌==◌, Bool, false, position, if◌then◌else◌, ◌≡◌, ◌≢◌, ◌↔◌, ◌<◌, ◌≤◌, ℕ, List, [], ◌∷◌, ◌++◌, Some, All, codes, length, map}
+use Rattle.std.specs.List.{list_any}
+use Rattle.std.specs.Option.{option_map_or}
+use Rattle.std.specs.Str.{bytes_eq}
+use Rattle.letter_word.specs.declared.letters.Letter.{Letter}
+use Rattle.letter_word.specs.Signals.{has}
 use Rattle.letter_word.specs.Word.{Word, lasso_len}
 use Rattle.lasso_word.specs.Lines.{parts_at}
 use Rattle.lasso_word.specs.WordText.{StatesWord, IsFirstBadLine, letter_of, most_letters}
@@ -15,6 +20,15 @@ pub record IsTextOfWord (bytes : List ℕ) (names : List (List ℕ)) (w : Word) 
   pub first_ring : All (λ line. line ≢ codes "ring") stem_lines
   pub goes_on : 0 < length w.ring
   pub few : lasso_len w ≤ most_letters
+
+-- a name of the line is the one of this signal, the first of that name
+abbrev pub names_signal : List (List ℕ) → ℕ → List ℕ → Bool
+names_signal names k name = option_map_or (λ place. place == k) (position (bytes_eq name) names) false
+
+-- the letter that a line states has exactly the signals that the line names
+abbrev pub LettersHaveTheirNames : Type 0
+LettersHaveTheirNames = (names : List (List ℕ)) (line : List ℕ) (letter : Letter) (k : ℕ) → letter_of names line ≡ Some letter →
+    has letter.0 k ≡ (if bytes_eq line (codes "-") then false else list_any (names_signal names k) (parts_at 32 line))
 
 -- what is read line by line is what the text states as a whole
 abbrev pub WordsAreStated : Type 0
