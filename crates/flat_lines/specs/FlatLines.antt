@@ -3,7 +3,6 @@
 use Rattle.std.specs.Prelude.{ℕ, Bool, List, [], ◌∷◌, ◌++◌, All, codes, flat_map, length, map, if◌then◌else◌}
 use Rattle.letter_word.specs.declared.kinds.Kind.{Kind}
 use Rattle.letter_word.specs.declared.kinds.Kind.TheVariants.{Mealy, Moore}
-use Rattle.ltl_formula.specs.declared.nodes.FormulaId.{FormulaId}
 use Rattle.ltl_formula.specs.declared.nodes.Node.{Node}
 use Rattle.ltl_formula.specs.Nodes.{IsNodeList, Stands, tree_at}
 use Rattle.ltl_formula.specs.ListSignals.{HasSignalsBelow}
@@ -63,7 +62,8 @@ abbrev pub LineStands : List Node → Line → Type 0
 LineStands nodes (Formula part id) = Stands nodes id
 LineStands nodes _ = Unit {0}
 
--- each formula stands in the list, and each signal has a name
+-- each formula stands in the list, which is one of formulas, and each signal has a name
 pub record CanBeWritten (flat : FlatText) : Type 0 where
+  pub list : IsNodeList flat.formulas
   pub stand : All (LineStands flat.formulas) (lines_in flat.expanded)
   pub named : HasSignalsBelow (length (all_names flat.expanded)) flat.formulas

@@ -1,4 +1,4 @@
-ghost use Rattle.std.specs.Prelude.{◌≡◌, ◌++◌, ◌∷◌, [], IfOk, OnOk, OnErr, IsErrOf};
+ghost use Rattle.std.specs.Prelude.{◌≡◌, ◌++◌, ◌∷◌, [], All, flat_map, IfOk, OnOk, OnErr, IsErrOf};
 ghost use Rattle.flat_lines.specs.FlatLines.{CanBeWritten, LineStands, all_names, ended_line, flat_bytes, kind_line, line_of};
 ghost use Rattle.ltl_formula.specs.Nodes.{IsNodeList};
 ghost use Rattle.outside_edge.specs.Bytes.{Gains, GainsFront};
@@ -25,8 +25,25 @@ pub fn put_flat<K: Sink>(alloc: Global, spec: &Spec, out: &mut K) -> Result<(), 
 {
     let names = all_names(alloc, spec)?;
     let lines = lines_in(alloc, spec)?;
-    for line in &lines {
-        put_line(alloc, spec, &names, *line, out)?;
+    put_lines(alloc, spec, &names, &lines, out)
+}
+
+fn put_lines<K: Sink>(
+    alloc: Global,
+    spec: &Spec,
+    names: &[Name],
+    lines: &[Line],
+    out: &mut K,
+) -> Result<(), SinkFault>
+    requires names { names.now ≡ all_names (spec_seen spec.now).expanded }
+    requires writable { CanBeWritten (spec_seen spec.now) }
+    requires stand { All (LineStands (spec_seen spec.now).formulas) lines.now }
+    ensures ok { OnOk result (Gains (K.written out.old) (K.written out.new) (flat_map (ended_line (spec_seen spec.now)) lines.now)) }
+    ensures front { OnErr result (GainsFront (K.written out.old) (K.written out.new) (flat_map (ended_line (spec_seen spec.now)) lines.now)) }
+    ensures failed { IsErrOf result SinkFault.Failed → Rose (K.faults out.old) (K.faults out.new) }
+{
+    for line in lines {
+        put_line(alloc, spec, names, *line, out)?;
     }
     Ok(())
 }
