@@ -1,6 +1,6 @@
 ghost use Rattle.std.specs.Prelude.{◌≡◌, ◌≢◌, Some, None, map, option_map, option_and_then, string_bytes, IfOk, IfSome, IsErrOf, ◌≤◌};
 ghost use Rattle.clap.specs.Words.{first_of, found_of, rows_of, subcommand_rows_of};
-ghost use Rattle.program_words.specs.Settings.{asked_by, asked_of, bench_asked, check_asked, entry_limit, expand_asked, gen_asked, IsInRange, IsSearchInRange, kind_asked, kind_in, lasso_asked, limit_in, number_or, search_asked, settings_of, synth_asked};
+ghost use Rattle.program_words.specs.Settings.{asked_by, asked_of, bench_asked, check_asked, entry_limit, expand_asked, gen_asked, given_in, IsInRange, IsSearchInRange, kind_asked, kind_in, lasso_asked, limit_in, number_or, search_asked, settings_of, synth_asked};
 
 use crate::command_line::program;
 use crate::numbers::number_in;
@@ -68,7 +68,7 @@ fn settings_in<'a>(matches: &ArgMatches<'a>) -> Option<Settings<'a>>
 }
 
 fn synth_in<'a>(own: &ArgMatches<'a>) -> Option<Settings<'a>>
-    ensures asked { option_map asked_by result ≡ synth_asked (rows_of (found_of own.now)) }
+    ensures asked { option_map asked_by result ≡ synth_asked (given_in (rows_of (found_of own.now))) }
     ensures ranges { IfSome result (λ s. IsInRange (asked_by s)) }
 {
     Some(Settings::Synth {
@@ -79,7 +79,7 @@ fn synth_in<'a>(own: &ArgMatches<'a>) -> Option<Settings<'a>>
 }
 
 fn check_in<'a>(own: &ArgMatches<'a>) -> Option<Settings<'a>>
-    ensures asked { option_map asked_by result ≡ check_asked (rows_of (found_of own.now)) }
+    ensures asked { option_map asked_by result ≡ check_asked (given_in (rows_of (found_of own.now))) }
     ensures ranges { IfSome result (λ s. IsInRange (asked_by s)) }
 {
     Some(Settings::Check {
@@ -89,7 +89,7 @@ fn check_in<'a>(own: &ArgMatches<'a>) -> Option<Settings<'a>>
 }
 
 fn expand_in<'a>(own: &ArgMatches<'a>) -> Option<Settings<'a>>
-    ensures asked { option_map asked_by result ≡ expand_asked (rows_of (found_of own.now)) }
+    ensures asked { option_map asked_by result ≡ expand_asked (given_in (rows_of (found_of own.now))) }
     ensures ranges { IfSome result (λ s. IsInRange (asked_by s)) }
 {
     let spec = text_of(own, "spec")?;
@@ -97,7 +97,7 @@ fn expand_in<'a>(own: &ArgMatches<'a>) -> Option<Settings<'a>>
 }
 
 fn lasso_in<'a>(own: &ArgMatches<'a>) -> Option<Settings<'a>>
-    ensures asked { option_map asked_by result ≡ lasso_asked (rows_of (found_of own.now)) }
+    ensures asked { option_map asked_by result ≡ lasso_asked (given_in (rows_of (found_of own.now))) }
     ensures ranges { IfSome result (λ s. IsInRange (asked_by s)) }
 {
     Some(Settings::Lasso {
@@ -107,7 +107,7 @@ fn lasso_in<'a>(own: &ArgMatches<'a>) -> Option<Settings<'a>>
 }
 
 fn gen_in<'a>(own: &ArgMatches<'a>) -> Option<Settings<'a>>
-    ensures asked { option_map asked_by result ≡ gen_asked (rows_of (found_of own.now)) }
+    ensures asked { option_map asked_by result ≡ gen_asked (given_in (rows_of (found_of own.now))) }
     ensures ranges { IfSome result (λ s. IsInRange (asked_by s)) }
 {
     let clients = number_in(text_of(own, "clients")?, 1, 8)?;
@@ -115,7 +115,7 @@ fn gen_in<'a>(own: &ArgMatches<'a>) -> Option<Settings<'a>>
 }
 
 fn bench_in<'a>(own: &ArgMatches<'a>) -> Option<Settings<'a>>
-    ensures asked { option_map asked_by result ≡ bench_asked (rows_of (found_of own.now)) }
+    ensures asked { option_map asked_by result ≡ bench_asked (given_in (rows_of (found_of own.now))) }
     ensures ranges { IfSome result (λ s. IsInRange (asked_by s)) }
 {
     let clients = number_in(text_of(own, "clients")?, 1, 4)?;
@@ -124,7 +124,7 @@ fn bench_in<'a>(own: &ArgMatches<'a>) -> Option<Settings<'a>>
 }
 
 fn search_in(own: &ArgMatches<'_>) -> Option<Search>
-    ensures asked { result ≡ search_asked (rows_of (found_of own.now)) }
+    ensures asked { result ≡ search_asked (given_in (rows_of (found_of own.now))) }
     ensures ranges { IfSome result IsSearchInRange }
 {
     Some(Search {
@@ -137,7 +137,7 @@ fn search_in(own: &ArgMatches<'_>) -> Option<Search>
 // The number that an option has, or its default.
 fn number_or(own: &ArgMatches<'_>, id: &str, default: u32, least: u32, most: u32) -> Option<u32>
     requires default { (least ≤ default) × (default ≤ most) }
-    ensures number { result ≡ number_or id.now default least most (rows_of (found_of own.now)) }
+    ensures number { result ≡ number_or id.now default least most (given_in (rows_of (found_of own.now))) }
     ensures within { IfSome result (λ n. (least ≤ n) × (n ≤ most)) }
 {
     match text_of(own, id) {
@@ -147,7 +147,7 @@ fn number_or(own: &ArgMatches<'_>, id: &str, default: u32, least: u32, most: u32
 }
 
 fn limit_or(own: &ArgMatches<'_>) -> Option<Option<u64>>
-    ensures asked { result ≡ entry_limit (rows_of (found_of own.now)) }
+    ensures asked { result ≡ entry_limit (given_in (rows_of (found_of own.now))) }
     ensures within { IfSome result (λ limit. IfSome limit (λ n. n ≤ 250000)) }
 {
     match text_of(own, "entries") {
@@ -168,7 +168,7 @@ fn limit_in(text: &str) -> Option<Option<u64>>
 }
 
 fn kind_or(own: &ArgMatches<'_>) -> Option<Option<Kind>>
-    ensures { result ≡ kind_asked (rows_of (found_of own.now)) }
+    ensures { result ≡ kind_asked (given_in (rows_of (found_of own.now))) }
 {
     match text_of(own, "kind") {
         None => Some(None),
