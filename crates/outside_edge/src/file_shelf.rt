@@ -179,20 +179,19 @@ mod tests {
         fs::write(&rt, name, bytes.as_slice())?;
         let cut = take(&mut shelf, name, 5000, &mut into);
         let whole = take(&mut shelf, name, 5001, &mut into);
-        let part = shelf.part(name, 4999, 7, &mut into);
-        let middle = shelf.part(name, 1, 4999, &mut into);
-        let none = shelf.part(name, 5001, 7, &mut into);
+        let (mut last, mut middle) = (Vec::new(rt.alloc()), Vec::new(rt.alloc()));
+        let two = shelf.part(name, 4999, 7, &mut last);
+        let many = shelf.part(name, 1, 4999, &mut middle);
+        let none = shelf.part(name, 5001, 7, &mut last);
         fs::remove_file(&rt, name)?;
         let gone = take(&mut shelf, name, u64::MAX, &mut into);
         assert_eq!(rt; cut, Err(ShelfFault::TooLong));
         assert_eq!(rt; whole, Ok(()));
         assert_eq!(rt; gone, Err(ShelfFault::Failed));
-        assert_eq!(rt; part, Ok(2));
-        assert_eq!(rt; middle, Ok(4999));
-        assert_eq!(rt; none, Ok(0));
-        assert!(rt; into.starts_with(&bytes));
-        assert!(rt; into.as_slice()[5001..5003] == bytes.as_slice()[4999..]);
-        assert!(rt; into.as_slice()[5003..] == bytes.as_slice()[1..5000]);
+        assert!(rt; into == bytes);
+        assert_eq!(rt; (two, many, none), (Ok(2), Ok(4999), Ok(0)));
+        assert_eq!(rt; last.as_slice(), b"ab".as_slice());
+        assert!(rt; bytes.starts_with(&middle));
         Ok(())
     }
 }

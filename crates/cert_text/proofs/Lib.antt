@@ -1,0 +1,12 @@
+pub mod LineRead
+pub mod VerdictRead
+pub mod EntriesLemmas
+pub mod WriteLemmas
+pub mod LogsLemmas
+pub mod HeadRead
+pub mod HeaderWhole
+pub mod LogsWhole
+pub mod CommentLine
+pub mod ReadingLemmas
+pub mod BodyLemmas
+pub mod Whole

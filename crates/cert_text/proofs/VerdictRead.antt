@@ -1,0 +1,114 @@
+-- The line of a verdict.
+use Rattle.std.proofs.Common.{◌≡◌, ℕ, ◌-◌, ◌^◌, ◌<◌, ◌≤◌, Bool, true, false, cond, Option, Some, None, List, ◌++◌, refl, sym, ap, subst, ◌∙◌, arith, decimal, inl, inr, ◌⊎◌}
+use Rattle.std.specs.Prelude.{option_map, option_and_then, codes, unwrap_or}
+use Rattle.std.specs.Option.{option_or}
+use Rattle.std.specs.Str.{bytes_eq}
+use Rattle.std.specs.Cmp.Lexicographic.{bytes_decides}
+use Rattle.letter_word.specs.declared.kinds.Side.{Side}
+use Rattle.letter_word.specs.declared.kinds.Side.TheVariants.{System, Environment}
+use Rattle.aiger_text.proofs.Numbers.{Lacks}
+use Rattle.cert_text.specs.declared.documents.Verdict.{Verdict}
+use Rattle.cert_text.specs.declared.documents.Verdict.TheVariants.{Realizable, Unrealizable, Bounded, UnknownSizes, UnknownEntries}
+use Rattle.cert_text.specs.Lines.{bounded_words, unknown_words, verdict_line}
+use Rattle.cert_text.specs.Order.{fits_version}
+use Rattle.cert_text.specs.Header.{number_behind, any_verdict_in, verdict_in}
+use Rattle.cert_text.proofs.LineRead.{capped_read, number_behind_is, text_lacks, words_lack}
+
+-- the number of a verdict
+abbrev pub number_in : Verdict → ℕ
+number_in (Realizable n) = n
+number_in (Unrealizable n) = n
+number_in (Bounded side n) = n
+number_in UnknownSizes = 0
+number_in (UnknownEntries side n) = n
+
+pub any_verdict_read : (verdict : Verdict) → number_in verdict < 2 ^ 32 → any_verdict_in (verdict_line verdict) ≡ Some verdict
+any_verdict_read (Realizable n) small = rw (capped_read n small) refl
+any_verdict_read (Unrealizable n) small = rw (capped_read n small) refl
+any_verdict_read (Bounded System n) small = rw (capped_read n small) refl
+any_verdict_read (Bounded Environment n) small = rw (capped_read n small) refl
+any_verdict_read UnknownSizes small = refl
+any_verdict_read (UnknownEntries System n) small = rw (capped_read n small) refl
+any_verdict_read (UnknownEntries Environment n) small = rw (capped_read n small) refl
+
+either_or : {X : Type 0} (o p : Option X) (x : X) → option_or o p ≡ Some x → (o ≡ Some x) ⊎ (p ≡ Some x)
+either_or None p x is = inr is
+either_or (Some y) p x is = inl is
+
+mapped : {X Y : Type 0} (f : X → Y) (o : Option X) (y : Y) → option_map f o ≡ Some y → (x : X) × (o ≡ Some x) × (f x ≡ y)
+mapped f None y is = absurd (cc)
+mapped f (Some x) y is = (x, refl, ap (λ o. unwrap_or o y) is)
+
+-- a verdict with a number, behind its words
+one_is : (words line : List ℕ) (f : ℕ → Verdict) (verdict : Verdict) → ((n : ℕ) → verdict_line (f n) ≡ words ++ decimal n) → ((n : ℕ) → number_in (f n) ≡ n)
+    → number_in verdict < 2 ^ 32 - 1 → option_map f (number_behind words line) ≡ Some verdict → line ≡ verdict_line verdict
+one_is words line f verdict text size small is =
+    let k = mapped f (number_behind words line) verdict is in
+    let n : number_in verdict ≡ k.0 = ap number_in (sym k.2) ∙ size k.0 in
+    let less : k.0 < 2 ^ 32 - 1 = subst (λ (m : ℕ). m < 2 ^ 32 - 1) n small in
+    number_behind_is words line k.0 less k.1 ∙ sym (text k.0) ∙ ap verdict_line k.2
+
+module _ (line : List ℕ) (verdict : Verdict) (small : number_in verdict < 2 ^ 32 - 1) where
+  numbered_is : option_or (option_map Realizable (number_behind (codes "verdict realizable ") line))
+      (option_or (option_map Unrealizable (number_behind (codes "verdict unrealizable ") line))
+      (option_or (option_map (Bounded System) (number_behind (bounded_words System) line))
+      (option_or (option_map (Bounded Environment) (number_behind (bounded_words Environment) line))
+      (option_or (option_map (UnknownEntries System) (number_behind (unknown_words System) line))
+      (option_map (UnknownEntries Environment) (number_behind (unknown_words Environment) line)))))) ≡ Some verdict → line ≡ verdict_line verdict
+  numbered_is is = elim (either_or _ _ verdict is) [
+      inl a ↦ one_is (codes "verdict realizable ") line Realizable verdict (λ n. refl) (λ n. refl) small a
+    | inr b ↦ elim (either_or _ _ verdict b) [
+        inl a ↦ one_is (codes "verdict unrealizable ") line Unrealizable verdict (λ n. refl) (λ n. refl) small a
+      | inr b ↦ elim (either_or _ _ verdict b) [
+          inl a ↦ one_is (bounded_words System) line (Bounded System) verdict (λ n. refl) (λ n. refl) small a
+        | inr b ↦ elim (either_or _ _ verdict b) [
+            inl a ↦ one_is (bounded_words Environment) line (Bounded Environment) verdict (λ n. refl) (λ n. refl) small a
+          | inr b ↦ elim (either_or _ _ verdict b) [
+              inl a ↦ one_is (unknown_words System) line (UnknownEntries System) verdict (λ n. refl) (λ n. refl) small a
+            | inr a ↦ one_is (unknown_words Environment) line (UnknownEntries Environment) verdict (λ n. refl) (λ n. refl) small a
+            ]
+          ]
+        ]
+      ]
+    ]
+
+  any_by : (b : Bool) → bytes_eq line (codes "verdict unknown sizes") ≡ b → any_verdict_in line ≡ Some verdict → line ≡ verdict_line verdict
+  any_by true e is =
+      let words : line ≡ codes "verdict unknown sizes" = (bytes_decides line (codes "verdict unknown sizes")).0 e in
+      let same : UnknownSizes ≡ verdict = ap (λ (o : Option Verdict). unwrap_or o UnknownSizes) (ap any_verdict_in (sym words) ∙ is) in
+      words ∙ ap verdict_line same
+  any_by false e is = numbered_is (rw e at is)
+
+  pub any_verdict_is : any_verdict_in line ≡ Some verdict → line ≡ verdict_line verdict
+  any_verdict_is is = any_by (bytes_eq line (codes "verdict unknown sizes")) refl is
+
+-- ---- with its version
+
+fits_by : (version : ℕ) (r verdict : Verdict) (b : Bool) → fits_version version r ≡ b → cond b (Some r) None ≡ Some verdict → (r ≡ verdict) × (fits_version version r ≡ true)
+fits_by version r verdict true e is = (ap (λ o. unwrap_or o r) is, e)
+fits_by version r verdict false e is = absurd (cc)
+
+verdict_by : (version : ℕ) (line : List ℕ) (verdict : Verdict) (o : Option Verdict) → any_verdict_in line ≡ o
+    → option_and_then (λ verdict. cond (fits_version version verdict) (Some verdict) None) o ≡ Some verdict
+    → (any_verdict_in line ≡ Some verdict) × (fits_version version verdict ≡ true)
+verdict_by version line verdict None e is = absurd (cc)
+verdict_by version line verdict (Some r) e is =
+    let k = fits_by version r verdict (fits_version version r) refl is in
+    (e ∙ ap Some k.0, ap (fits_version version) (sym k.0) ∙ k.1)
+
+pub verdict_parts : (version : ℕ) (line : List ℕ) (verdict : Verdict) → verdict_in version line ≡ Some verdict → (any_verdict_in line ≡ Some verdict) × (fits_version version verdict ≡ true)
+verdict_parts version line verdict is = verdict_by version line verdict (any_verdict_in line) refl is
+
+pub verdict_read : (version : ℕ) (verdict : Verdict) → number_in verdict < 2 ^ 32 → fits_version version verdict ≡ true → verdict_in version (verdict_line verdict) ≡ Some verdict
+verdict_read version verdict small fits =
+    ap (option_and_then (λ verdict. cond (fits_version version verdict) (Some verdict) None)) (any_verdict_read verdict small)
+    ∙ ap (λ b. cond b (Some verdict) None) fits
+
+pub verdict_lacks : (verdict : Verdict) → number_in verdict < 2 ^ 32 → Lacks 10 (verdict_line verdict)
+verdict_lacks (Realizable n) small = text_lacks (codes "verdict realizable ") n (words_lack (codes "verdict realizable ") refl) (omega arith)
+verdict_lacks (Unrealizable n) small = text_lacks (codes "verdict unrealizable ") n (words_lack (codes "verdict unrealizable ") refl) (omega arith)
+verdict_lacks (Bounded System n) small = text_lacks (bounded_words System) n (words_lack (bounded_words System) refl) (omega arith)
+verdict_lacks (Bounded Environment n) small = text_lacks (bounded_words Environment) n (words_lack (bounded_words Environment) refl) (omega arith)
+verdict_lacks UnknownSizes small = words_lack (codes "verdict unknown sizes") refl
+verdict_lacks (UnknownEntries System n) small = text_lacks (unknown_words System) n (words_lack (unknown_words System) refl) (omega arith)
+verdict_lacks (UnknownEntries Environment n) small = text_lacks (unknown_words Environment) n (words_lack (unknown_words Environment) refl) (omega arith)

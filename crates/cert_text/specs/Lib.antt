@@ -1,0 +1,10 @@
+pub mod Parts
+pub mod Lines
+pub mod Order
+pub mod Header
+pub mod Logs
+pub mod Reading
+pub mod WellFormed
+pub mod States
+pub mod Laws
+pub mod Shown
