@@ -1,0 +1,4 @@
+pub mod Searched
+pub mod Logs
+pub mod Outcomes
+pub mod Tasks

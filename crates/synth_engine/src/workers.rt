@@ -1,0 +1,163 @@
+//! What the workers do.
+ghost use Rattle.std.specs.Prelude.{◌≡◌, All, IfOk, IfSome, map};
+ghost use Rattle.synth_engine.specs.Tasks.{IsAllowed, IsCrewOf, IsVerdict, SizesFit};
+
+use crate::crews::{Crew, turn_on};
+use crate::sizes::Sizes;
+use letter_word::Side;
+use outside_edge::Gate;
+use size_board::{Board, Claim, ProblemNames};
+use size_search::Decided;
+use std::alloc::{AllocError, Global};
+use std::sync::{Mutex, Wait};
+use std::thread::{self, Threads};
+
+/// A worker takes so many turns at a size before it claims again.
+const TURNS: u32 = 64;
+
+/// What all workers share.
+#[derive_where(Clone, Copy)]
+pub struct Race<'a, 'b, P: ProblemNames, R: Wait, G: Gate> {
+    pub rt: &'a R,
+    pub alloc: Global,
+    pub board: &'b Mutex<Board<P>>,
+    pub sizes: &'a Sizes,
+    pub gate: &'a G,
+}
+
+impl<P: ProblemNames, R: Wait, G: Gate> Race<'_, '_, P, R, G> {
+    /// The work of one worker: it claims a size, takes turns there, and claims again, until no size is open. Where memory is wanted it
+    /// leaves its claim and ends.
+    pub fn work(&self, crew: &mut Crew) -> Result<(), AllocError>
+        requires sizes { SizesFit P.named self.now.sizes.now }
+        requires crew { IsCrewOf self.now.sizes.now crew.old }
+        ensures crew { IsCrewOf self.now.sizes.now crew.new }
+        ensures number { crew.new.number ≡ crew.old.number }
+    {
+        for _ in self.rt.forever() {
+            let Some(claim) = self.claim(crew.number)? else {
+                return Ok(());
+            };
+            if self.stay(crew, claim).is_err() {
+                let _ = self.board.lock(self.rt).leave(claim);
+                return Err(AllocError);
+            }
+        }
+        unreachable!()
+    }
+
+    /// Claims the size at which a worker is to go on.
+    fn claim(&self, worker: u32) -> Result<Option<Claim>, AllocError>
+        ensures { IfOk result (λ claim. IfSome claim (IsAllowed P.named)) }
+    {
+        self.board.lock(self.rt).claim(worker)
+    }
+
+    /// Takes turns at a size as long as it is open, a few at most.
+    fn stay(&self, crew: &mut Crew, claim: Claim) -> Result<(), AllocError>
+        requires sizes { SizesFit P.named self.now.sizes.now }
+        requires crew { IsCrewOf self.now.sizes.now crew.old }
+        requires claim { IsAllowed P.named claim }
+        ensures crew { IsCrewOf self.now.sizes.now crew.new }
+        ensures number { crew.new.number ≡ crew.old.number }
+    {
+        for _ in 0..TURNS {
+            if let Some(decided) = self.turn(crew, claim)? {
+                return self.mark(claim, decided);
+            }
+            if !self.is_open(claim) {
+                break;
+            }
+        }
+        Ok(())
+    }
+
+    /// One turn at a size.
+    fn turn(&self, crew: &mut Crew, claim: Claim) -> Result<Option<Decided>, AllocError>
+        requires sizes { SizesFit P.named self.now.sizes.now }
+        requires crew { IsCrewOf self.now.sizes.now crew.old }
+        requires claim { IsAllowed P.named claim }
+        ensures crew { IsCrewOf self.now.sizes.now crew.new }
+        ensures number { crew.new.number ≡ crew.old.number }
+        ensures verdict { IfOk result (λ answer. IfSome answer (IsVerdict P.named claim)) }
+    {
+        match claim.side {
+            Side::System => turn_on(
+                self.rt,
+                self.alloc,
+                &self.sizes.system,
+                &mut crew.system,
+                claim.size,
+                self.gate,
+            ),
+            Side::Environment => turn_on(
+                self.rt,
+                self.alloc,
+                &self.sizes.environment,
+                &mut crew.environment,
+                claim.size,
+                self.gate,
+            ),
+        }
+    }
+
+    /// Whether a size is still open.
+    fn is_open(&self, claim: Claim) -> bool {
+        self.board.lock(self.rt).is_open(claim.side, claim.size)
+    }
+
+    /// Marks on the board what was decided of a size.
+    fn mark(&self, claim: Claim, decided: Decided) -> Result<(), AllocError>
+        requires claim { IsAllowed P.named claim }
+        requires verdict { IsVerdict P.named claim decided }
+    {
+        let mut board = self.board.lock(self.rt);
+        match decided {
+            Decided::Found(machine) => board.mark_found(claim.side, machine),
+            Decided::Refuted => board.mark_refuted(claim.side, claim.size),
+            Decided::Full => board.mark_full(claim.side, claim.size),
+        }
+    }
+}
+
+/// Lets the workers race, each in a thread of its own where one can be made, and then does what they left. The workers come back, and the
+/// board.
+pub fn run_workers<'a, P: ProblemNames + Send + Sync, R: Threads + Wait + Sync, G: Gate + Sync>(
+    rt: &'a R,
+    alloc: Global,
+    board: Board<P>,
+    sizes: &'a Sizes,
+    own: &mut Crew,
+    crews: Vec<Crew>,
+    gate: &'a G,
+) -> Result<(Board<P>, Vec<Crew>), AllocError>
+    requires sizes { SizesFit P.named sizes.now }
+    requires own { IsCrewOf sizes.now own.old }
+    requires crews { All (IsCrewOf sizes.now) crews.items }
+    ensures own { IsCrewOf sizes.now own.new }
+    ensures own_number { own.new.number ≡ own.old.number }
+    ensures crews { IfOk result (λ raced. All (IsCrewOf sizes.now) raced.1.items) }
+    ensures numbers { IfOk result (λ raced. map (λ c. c.number) raced.1.items ≡ map (λ c. c.number) crews.items) }
+{
+    let board = Mutex::new(board);
+    let race = Race {
+        rt,
+        alloc,
+        board: &board,
+        sizes,
+        gate,
+    };
+    let crews = thread::map_vec(
+        rt,
+        crews,
+        &|mut crew: Crew| -> Crew
+            requires { IsCrewOf sizes.now crew }
+            ensures { IsCrewOf sizes.entry.now result × (result.number ≡ crew.number) }
+        {
+            let _ = race.work(&mut crew);
+            crew
+        },
+    )?;
+    race.work(own)?;
+    Ok((board.into_inner(), crews))
+}
