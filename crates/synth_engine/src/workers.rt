@@ -1,5 +1,6 @@
 //! What the workers do.
-ghost use Rattle.std.specs.Prelude.{◌≡◌, All, IfOk, IfSome, map};
+ghost use Rattle.std.specs.Prelude.{◌≡◌, ℕ, ◌<◌, All, IfOk, IfSome, slice_index_or, vec_len};
+ghost use Rattle.synth_engine.specs.declared.crews.Crew.{Crew as CrewView};
 ghost use Rattle.synth_engine.specs.Tasks.{IsAllowed, IsCrewOf, IsVerdict, SizesFit};
 
 use crate::crews::{Crew, turn_on};
@@ -44,6 +45,17 @@ impl<P: ProblemNames, R: Wait, G: Gate> Race<'_, '_, P, R, G> {
             }
         }
         unreachable!()
+    }
+
+    /// The worker after its work, whatever ended it.
+    fn after_work(&self, mut crew: Crew) -> Crew
+        requires sizes { SizesFit P.named self.now.sizes.now }
+        requires crew { IsCrewOf self.now.sizes.now crew }
+        ensures crew { IsCrewOf self.now.sizes.now result }
+        ensures number { result.number ≡ crew.number }
+    {
+        let _ = self.work(&mut crew);
+        crew
     }
 
     /// Claims the size at which a worker is to go on.
@@ -137,7 +149,8 @@ pub fn run_workers<'a, P: ProblemNames + Send + Sync, R: Threads + Wait + Sync, 
     ensures own { IsCrewOf sizes.now own.new }
     ensures own_number { own.new.number ≡ own.old.number }
     ensures crews { IfOk result (λ raced. All (IsCrewOf sizes.now) raced.1.items) }
-    ensures numbers { IfOk result (λ raced. map (λ c. c.number) raced.1.items ≡ map (λ c. c.number) crews.items) }
+    ensures count { IfOk result (λ raced. vec_len raced.1 ≡ vec_len crews) }
+    ensures numbers { IfOk result (λ raced. (i : ℕ) (d : CrewView) → i < vec_len crews → (slice_index_or raced.1.items i d).number ≡ (slice_index_or crews.items i d).number) }
 {
     let board = Mutex::new(board);
     let race = Race {
@@ -147,17 +160,10 @@ pub fn run_workers<'a, P: ProblemNames + Send + Sync, R: Threads + Wait + Sync, 
         sizes,
         gate,
     };
-    let crews = thread::map_vec(
-        rt,
-        crews,
-        &|mut crew: Crew| -> Crew
-            requires { IsCrewOf sizes.now crew }
-            ensures { IsCrewOf sizes.entry.now result × (result.number ≡ crew.number) }
-        {
-            let _ = race.work(&mut crew);
-            crew
-        },
-    )?;
+    let crews = thread::map_vec(rt, crews, &|crew: Crew| -> Crew
+        requires { SizesFit P.named race.sizes.now × IsCrewOf race.sizes.now crew }
+        ensures { IsCrewOf race.entry.sizes.now result × (result.number ≡ crew.number) }
+    { race.after_work(crew) })?;
     race.work(own)?;
     Ok((board.into_inner(), crews))
 }
