@@ -1,1 +1,3 @@
 pub mod WorkerLemmas
+pub mod HandLemmas
+pub mod SettledLemmas

@@ -2,3 +2,5 @@ pub mod Searched
 pub mod Logs
 pub mod Outcomes
 pub mod Tasks
+pub mod Hands
+pub mod Settled

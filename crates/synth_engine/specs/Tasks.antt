@@ -4,6 +4,8 @@ use Rattle.letter_word.specs.declared.kinds.Side.TheVariants.{System, Environmen
 use Rattle.machine_model.specs.Machine.{MachineModel, size_of}
 use Rattle.machine_model.specs.Problem.{parts_of, sized}
 use Rattle.machine_model.specs.declared.problems.Problem.{Problem}
+use Rattle.annotation_encode.specs.BaseClauses.{base_clauses}
+use Rattle.annotation_encode.specs.Variables.{variables_of}
 use Rattle.refutation_log.specs.declared.entries.Entry.{Entry}
 use Rattle.clause_exchange.specs.SharedLog.{PassView}
 use Rattle.size_board.specs.Names.{Named, SideHas, sizes_of, sought_by, sought_of}
@@ -15,12 +17,13 @@ use Rattle.size_search.specs.declared.size_log.SizeLog.{SizeLog}
 use Rattle.synth_engine.specs.declared.settings.Settings.{Settings}
 use Rattle.synth_engine.specs.declared.crews.Crew.{Crew}
 use Rattle.synth_engine.specs.declared.sizes.Sizes.{Sizes}
-use Rattle.synth_engine.specs.Logs.{IsClosedLog, IsFullLog, IsLogOf, place_of, sizes_to}
 
 -- The task of the problem at size n, with a seat for each worker and the caller.
 pub record IsTaskOf (p : Problem) (settings : Settings) (n : ℕ) (t : SizeTaskModel) : Type 0 where
   pub parts : parts_of t.problem ≡ parts_of (sized p n)
-  pub terms : t.exchange.terms ≡ terms_of (sized p n) settings.entries (settings.workers + 1)
+  pub vars : variables_of t.problem ≡ variables_of (sized p n)
+  pub base : base_clauses t.problem ≡ base_clauses (sized p n)
+  pub terms : t.exchange.terms ≡ terms_of t.problem settings.entries (settings.workers + 1)
 
 -- The tasks of the problem's sizes from `top` down, as far as they are left: the last one is that of the smallest size.
 pub record AreTasks (p : Problem) (settings : Settings) (top : ℕ) (tasks : List SizeTaskModel) : Type 0 where
@@ -66,18 +69,3 @@ abbrev pub IsVerdict : Named → Claim → Decided → Type 0
 IsVerdict names claim decided =
     (t : SizeTaskModel) × (seen : List Entry) × (sought_by names claim.side ≡ Some (sought_of t.problem)) × (t.problem.size ≡ claim.size)
     × IsDecided t.problem t.exchange.terms seen decided
-
--- The seats of each worker at these tasks, the caller's first, then those of worker 1 and so on.
-pub record AreCrews (count : ℕ) (tasks : List SizeTaskModel) (crews : List (List PassView)) : Type 0 where
-  pub all : length crews ≡ count
-  pub each : (w : ℕ) (seats : List PassView) → slice_get crews w ≡ Some seats → AreSeats w tasks seats
-
--- A log of the problem that is closed or full.
-pub record IsSettled (p : Problem) (settings : Settings) (l : SizeLog) : Type 0 where
-  pub log : IsLogOf p settings l
-  pub ended : IsClosedLog p settings l ⊎ IsFullLog p settings l
-
--- The logs of the problem's first sizes are settled.
-pub record AreSettled (p : Problem) (settings : Settings) (count : ℕ) (logs : List SizeLog) : Type 0 where
-  pub places : map place_of logs ≡ sizes_to p.side count
-  pub each : All (IsSettled p settings) logs

@@ -6,6 +6,7 @@
 #![tactic(auto)]
 
 mod crews;
+mod hands;
 mod outcomes;
 mod searching;
 mod settings;
