@@ -1,23 +1,25 @@
 -- Where a side accepts some machine of a problem, some assignment meets all base clauses: that of its numbered form.
-use Rattle.std.proofs.Common.{◌≡◌, ℕ, ◌<◌, ◌≤◌, List, sym, ◌∙◌, subst, arith}
+use Rattle.std.proofs.Common.{◌≡◌, ℕ, ◌<◌, ◌≤◌, inl, inr, true, false, List, sym, ap, ◌∙◌, subst, arith}
 use Rattle.clause_base.specs.Literal.{Literal}
 use Rattle.machine_model.specs.Accepts.{SideAccepts}
 use Rattle.machine_model.specs.Automaton.{IsAutomaton}
 use Rattle.machine_model.specs.Machine.{MachineModel, size_of}
-use Rattle.machine_model.specs.Problem.{IsMachineOf, IsProblem, automaton_of}
+use Rattle.machine_model.specs.Problem.{IsMachineOf, IsProblem, Parts, automaton_of, parts_of}
 use Rattle.machine_model.specs.declared.problems.Problem.{Problem}
+use Rattle.machine_model.proofs.PartsLemmas.{alike, kept_at}
 use Rattle.product_bound.specs.Laws.{HasValidAnnotation, IsNumberedForm}
 use Rattle.product_bound.specs.Numbered.{numbered_of}
-use Rattle.product_bound.proofs.Exists.{has_annotation}
+use Rattle.product_bound.proofs.Exists.{annotation_or_run, has_annotation}
+use Rattle.product_bound.proofs.Valid.{never_accepted}
 use Rattle.product_bound.proofs.Numbering.{numbered_form}
 use Rattle.annotation_encode.specs.Assigned.{IsAssignmentOf, assigned_values}
 use Rattle.annotation_encode.specs.BaseClauses.{base_clauses}
-use Rattle.annotation_encode.specs.Laws.{HasAccepted, IsMetBySome}
+use Rattle.annotation_encode.specs.Laws.{HasAccepted, HasNoAccepted, HaveEqualClauses, IsMetBySome, IsUnmet}
 use Rattle.annotation_encode.specs.Variables.{variables_of}
 use Rattle.annotation_encode.proofs.AssignedLemmas.{assigned}
 use Rattle.annotation_encode.proofs.Meets.{all_met}
 
-met_by_assigned : (p : Problem) → IsProblem p → IsAutomaton (automaton_of p) → HasAccepted p → IsMetBySome (variables_of p) (base_clauses p)
+pub met_by_assigned : (p : Problem) → IsProblem p → IsAutomaton (automaton_of p) → HasAccepted p → IsMetBySome (variables_of p) (base_clauses p)
 met_by_assigned p problem made accepted =
     let m : MachineModel = numbered_of accepted.machine in
     let form : IsNumberedForm accepted.machine (numbered_of accepted.machine) = numbered_form accepted.machine accepted.made in
@@ -44,3 +46,40 @@ met_by_some p vars clauses problem made v c accepted = back v c (met_by_assigned
   where
     back : vars ≡ variables_of p → clauses ≡ base_clauses p → IsMetBySome (variables_of p) (base_clauses p) → IsMetBySome vars clauses
     back v c h = subst (λ n. IsMetBySome n clauses) (sym v) (subst (λ cs. IsMetBySome (variables_of p) cs) (sym c) h)
+
+-- where no assignment meets the base clauses, the side accepts no machine
+none_accepted : (p : Problem) → IsProblem p → IsAutomaton (automaton_of p) → IsUnmet p → HasAccepted p → ⊥
+none_accepted p problem made unmet accepted =
+    let met : IsMetBySome (variables_of p) (base_clauses p) = met_by_assigned p problem made accepted in
+    let both : true ≡ false = sym met.met ∙ unmet.unmet met.values in
+    cc
+
+pub no_accepted : (p : Problem) → IsProblem p → IsAutomaton (automaton_of p) → IsUnmet p → HasNoAccepted p
+no_accepted p problem made unmet = record {
+  none = none_accepted p problem made unmet;
+  each_rejected = λ m machine fits.
+      let least : 1 ≤ p.size = problem.some in
+      let some : 0 < size_of m = rw fits.size (omega arith) in
+      elim (annotation_or_run p m made machine fits some) [
+        | inr refuted ↦ refuted
+        | inl annotation ↦ absurd (none_accepted p problem made unmet (record {
+          machine = m;
+          made = machine;
+          looked_for = fits;
+          accepted = λ w run. never_accepted p m annotation.numbers w run.0 made machine fits some annotation.valid run.1;
+        }))
+      ];
+}
+
+pub equal_clauses : (p q : Problem) → parts_of p ≡ parts_of q → HaveEqualClauses p q
+equal_clauses p q same =
+    record {
+      variables = ap (λ parts. variables_of (kept_at p parts)) same;
+      clauses = ap (λ parts. base_clauses (kept_at p parts)) same;
+      accepted = λ accepted. record {
+        machine = accepted.machine;
+        made = accepted.made;
+        looked_for = (alike p q same).machines accepted.machine accepted.looked_for;
+        accepted = subst (λ (parts : Parts). SideAccepts parts.automaton parts.side accepted.machine) same accepted.accepted;
+      };
+    }

@@ -18,6 +18,7 @@ use Rattle.letter_word.specs.declared.cubes.Cube.{Cube}
 use Rattle.letter_word.specs.declared.kinds.Side.{Side}
 use Rattle.letter_word.specs.declared.kinds.Side.TheVariants.{Environment, System}
 use Rattle.machine_model.specs.Automaton.{HasEdge, IsAutomaton, JoinsStates, states_of}
+use Rattle.machine_model.specs.Course.{letter_of}
 use Rattle.machine_model.specs.Machine.{IsMachine, MachineModel, next_of, size_of, writes_of}
 use Rattle.machine_model.specs.Problem as looked_for
 use Rattle.machine_model.specs.Problem.{IsMachineOf, IsProblem, NamesSignals, automaton_of, reads_of}
@@ -26,7 +27,7 @@ use Rattle.machine_model.specs.declared.automata.Edge.{Edge}
 use Rattle.machine_model.specs.declared.machines.Row.{Row}
 use Rattle.machine_model.specs.declared.problems.Problem.{Problem}
 use Rattle.machine_model.proofs.Tables.{no_row}
-use Rattle.product_bound.specs.Annotation.{HasNumber, IsValidAnnotation, bound_of, number_at, rise_at, whole_letter}
+use Rattle.product_bound.specs.Annotation.{HasNumber, IsValidAnnotation, bound_of, number_at, rise_at}
 use Rattle.product_bound.specs.Numbered.{IsNumbered, greatest_next}
 use Rattle.annotation_encode.specs.Assigned.{IsAssignmentOf, reaches}
 use Rattle.annotation_encode.specs.BaseClauses.{base_clauses, count_literals, each_below, fits_read, is, isnt, order_clause, read_signal, row_clause, row_count, row_move, signal_fits, start_clause, step_clause, write_literal, write_literals, written_signal}
@@ -158,8 +159,8 @@ module _ (p : Problem) (m : MachineModel) (numbers : List (Option ℕ)) (values 
   state_of : (place : ℕ) → place < row_count p → place / letter_count p < p.size
   state_of place h = (div-lt_iff_lt-mul some_letter).1 h
 
-  letter_of : (place : ℕ) → place % letter_count p < letter_count p
-  letter_of place = mod-lt place some_letter
+  letter_in : (place : ℕ) → place % letter_count p < letter_count p
+  letter_in place = mod-lt place some_letter
 
   place_is : (place : ℕ) → row_place p (place / letter_count p) (place % letter_count p) ≡ place
   place_is place = div-add-mod' place (letter_count p)
@@ -170,14 +171,14 @@ module _ (p : Problem) (m : MachineModel) (numbers : List (Option ℕ)) (values 
   row_value : (place to : ℕ) → place < row_count p → to < p.size → value_of values (row_move p place to) ≡ (next_at m place == to)
   row_value place to h hto =
       let at : value_of values (var_move p (place / letter_count p) (place % letter_count p) to) ≡ (next_at m (row_place p (place / letter_count p) (place % letter_count p)) == to)
-      = is_assigned.moves (place / letter_count p) (place % letter_count p) to (state_of place h) (letter_of place) hto
+      = is_assigned.moves (place / letter_count p) (place % letter_count p) to (state_of place h) (letter_in place) hto
       ∙ ap (λ x. x == to) (row_next (place / letter_count p) (place % letter_count p)) in
       subst (λ k. value_of values (row_move p k to) ≡ (next_at m k == to)) (place_is place) at
 
   row_within : (place : ℕ) → place < row_count p → next_at m place < p.size
   row_within place h =
       let t_small : place / letter_count p < size_of m = rw fits.size (state_of place h) in
-      let i_less : place % letter_count p < letter_count p = letter_of place in
+      let i_less : place % letter_count p < letter_count p = letter_in place in
       let i_small : place % letter_count p < 2 ^ m.reads = omega (arith, letters, i_less) in
       let next : next_of m (place / letter_count p) (place % letter_count p) < size_of m = machine.nexts (place / letter_count p) (place % letter_count p) t_small i_small in
       let same : next_of m (place / letter_count p) (place % letter_count p) ≡ next_at m place = row_next (place / letter_count p) (place % letter_count p) ∙ ap (next_at m) (place_is place) in
@@ -238,7 +239,7 @@ module _ (p : Problem) (m : MachineModel) (numbers : List (Option ℕ)) (values 
         forbidden says h value true both = absurd (e.cube.apart (written_signal p s) both h)
         forbidden says h value false only = sym value ∙ says only h
 
-    whole_fits : list_any test (write_literals p e.cube t i) ≡ false → Fits e.cube (whole_letter p.side m t i)
+    whole_fits : list_any test (write_literals p e.cube t i) ≡ false → Fits e.cube (letter_of p.side m t i)
     whole_fits none =
         let reads : reads_of p ≡ reads_at p.side p.inputs p.outputs = reads_same p.side p.inputs p.outputs in
         let writes : looked_for.writes_of p ≡ writes_at p.side p.inputs p.outputs = writes_same p.side p.inputs p.outputs in
@@ -270,7 +271,7 @@ module _ (p : Problem) (m : MachineModel) (numbers : List (Option ℕ)) (values 
               by_reach false h = inl (negative (var_count p t e.from c) ∙ ap not (value ∙ ap (λ o. reaches o c) at ∙ h))
               by_reach true h =
                   let below : c ≤ n = at_most c n h in
-                  let edge : HasEdge (automaton_of p) (whole_letter p.side m t i) e.from e.to = record { cube = e.cube; stands = there; fits = whole_fits none } in
+                  let edge : HasEdge (automaton_of p) (letter_of p.side m t i) e.from e.to = record { cube = e.cube; stands = there; fits = whole_fits none } in
                   let after : HasNumber p numbers (next_of m t i) e.to (n + rise_at (automaton_of p) e.to) = valid.edges t e.from n i e.to ht joins.from at i_small edge in
                   let then : HasNumber p numbers to e.to (n + rise_at (automaton_of p) e.to) = subst (λ s. HasNumber p numbers s e.to (n + rise_at (automaton_of p) e.to)) moved after in
                   let small : then.number ≤ bound_of p = valid.bounded to e.to then.number hto joins.to then.stands in

@@ -1,8 +1,8 @@
-use Rattle.std.specs.Prelude.{◌==◌, ℕ, zero, suc, ◌+◌, ◌-◌, ◌*◌, Bool, not, ◌&&◌, Option, Some, None, length, nat_le, if◌then◌else◌}
+use Rattle.std.specs.Prelude.{◌≡◌, ◌==◌, ℕ, zero, suc, ◌+◌, ◌-◌, ◌*◌, ◌<◌, ◌≤◌, Bool, not, ◌&&◌, Option, Some, None, is_some, length, nat_le, if◌then◌else◌}
 use Rattle.letter_word.specs.Signals.{has}
 use Rattle.letter_word.specs.declared.cubes.Cube.{Cube}
 use Rattle.machine_model.specs.Automaton.{rejects}
-use Rattle.machine_model.specs.Problem.{automaton_of}
+use Rattle.machine_model.specs.Problem.{automaton_of, sized}
 use Rattle.machine_model.specs.declared.automata.Edge.{Edge}
 use Rattle.machine_model.specs.declared.problems.Problem.{Problem}
 use Rattle.annotation_encode.specs.BaseClauses.{base_clauses, read_signal, row_count}
@@ -10,6 +10,23 @@ use Rattle.annotation_encode.specs.BaseClauses.{base_clauses, read_signal, row_c
 -- the number of base clauses, unless it passes a million (a limit of this project)
 abbrev pub count_of : Problem → Option ℕ
 count_of p = if nat_le (length (base_clauses p)) 1000000 then Some (length (base_clauses p)) else None
+
+-- the greatest number of states, of those up to this one, for which the problem has so few base clauses, and 0 where it
+-- has more for each (this project's own)
+unfoldable pub allowed_sizes : Problem → ℕ → ℕ
+allowed_sizes p zero = 0
+allowed_sizes p (suc n) = if is_some (count_of (sized p (suc n))) then suc n else allowed_sizes p n
+
+-- up to that number each has a count, and above it none has
+pub record AreCounted (p : Problem) (max : ℕ) : Type 0 where
+  pub within : allowed_sizes p max ≤ max
+  pub counted : (n : ℕ) → 1 ≤ n → n ≤ allowed_sizes p max → count_of (sized p n) ≡ Some (length (base_clauses (sized p n)))
+  pub uncounted : (n : ℕ) → allowed_sizes p max < n → n ≤ max → count_of (sized p n) ≡ None
+
+-- for more states there are no fewer base clauses, so the allowed sizes are those from 1 on (this project's own)
+pub record SizesRise : Type 0 where
+  pub clauses : (p : Problem) (n m : ℕ) → n ≤ m → length (base_clauses (sized p n)) ≤ length (base_clauses (sized p m))
+  pub allowed : (p : Problem) (max : ℕ) → AreCounted p max
 
 -- The parts of that number.
 

@@ -1,12 +1,14 @@
-use Rattle.std.specs.Prelude.{◌≡◌, ℕ, ◌<◌, ◌≤◌, Bool, true, List, length}
+use Rattle.std.specs.Prelude.{◌≡◌, ℕ, ◌<◌, ◌≤◌, Bool, true, false, List, length}
 use Rattle.clause_base.specs.Literal.{Literal}
 use Rattle.clause_base.specs.Truth.{meets}
 use Rattle.machine_model.specs.Accepts.{SideAccepts}
-use Rattle.machine_model.specs.Automaton.{states_of}
+use Rattle.machine_model.specs.Automaton.{IsAutomaton, states_of}
 use Rattle.machine_model.specs.Machine.{IsMachine, MachineModel}
-use Rattle.machine_model.specs.Problem.{IsMachineOf, automaton_of, writes_of}
+use Rattle.machine_model.specs.Problem.{IsMachineOf, IsProblem, automaton_of, parts_of, writes_of}
 use Rattle.machine_model.specs.declared.problems.Problem.{Problem}
 use Rattle.product_bound.specs.Annotation.{bound_of}
+use Rattle.product_bound.specs.Laws.{HasRejectingRun}
+use Rattle.annotation_encode.specs.BaseClauses.{base_clauses}
 use Rattle.annotation_encode.specs.Variables.{letter_count, var_count, var_move, var_write, variables_of, write_place}
 
 -- variables of different meaning are different: one that says where the machine moves stands before each that says
@@ -38,3 +40,31 @@ pub record HasAccepted (p : Problem) : Type 0 where
   pub made : IsMachine machine
   pub looked_for : IsMachineOf p machine
   pub accepted : SideAccepts (automaton_of p) p.side machine
+
+-- where a side accepts some machine of a problem, some assignment meets its base clauses (bounded synthesis of
+-- Finkbeiner and Schewe)
+abbrev pub AcceptedIsMet : Type 0
+AcceptedIsMet = (p : Problem) → IsProblem p → IsAutomaton (automaton_of p) → HasAccepted p → IsMetBySome (variables_of p) (base_clauses p)
+
+-- no assignment meets a problem's base clauses (propositional logic)
+pub record IsUnmet (p : Problem) : Type 0 where
+  pub unmet : (values : List Bool) → meets values (base_clauses p) ≡ false
+
+-- the side accepts no machine of the problem: each has a run lasso whose word the side's automaton accepts
+pub record HasNoAccepted (p : Problem) : Type 0 where
+  pub none : HasAccepted p → ⊥
+  pub each_rejected : (m : MachineModel) → IsMachine m → IsMachineOf p m → HasRejectingRun p m
+
+-- so it is where the base clauses are unmet (the same source)
+abbrev pub UnmetHasNoAccepted : Type 0
+UnmetHasNoAccepted = (p : Problem) → IsProblem p → IsAutomaton (automaton_of p) → IsUnmet p → HasNoAccepted p
+
+-- two problems have the same variables and base clauses, and their sides accept the same machines
+pub record HaveEqualClauses (p q : Problem) : Type 0 where
+  pub variables : variables_of p ≡ variables_of q
+  pub clauses : base_clauses p ≡ base_clauses q
+  pub accepted : HasAccepted p → HasAccepted q
+
+-- so it is where they say the same, wherever their automata are kept
+abbrev pub EqualPartsHaveEqualClauses : Type 0
+EqualPartsHaveEqualClauses = (p q : Problem) → parts_of p ≡ parts_of q → HaveEqualClauses p q

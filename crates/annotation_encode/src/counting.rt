@@ -1,16 +1,14 @@
 ghost use Rattle.std.specs.Prelude.{◌≡◌, ◌-◌, ◌*◌, ◌^◌, ◌≤◌, length, if◌then◌else◌};
 ghost use Rattle.machine_model.specs.Automaton.{JoinsStates, states_of};
-ghost use Rattle.machine_model.specs.Problem.{IsProblem, automaton_of, reads_of};
-ghost use Rattle.product_bound.specs.Annotation.{bound_of};
-ghost use Rattle.annotation_encode.specs.BaseClauses.{edge_clauses};
+ghost use Rattle.machine_model.specs.Problem.{IsProblem, automaton_of, reads_of, sized};
+ghost use Rattle.annotation_encode.specs.BaseClauses.{edge_clauses, row_count};
 ghost use Rattle.annotation_encode.specs.Variables.{number_count};
-ghost use Rattle.annotation_encode.specs.Count.{count_of, free_below, is_free, order_count, target_count};
+ghost use Rattle.annotation_encode.specs.Count.{allowed_sizes, count_of, free_below, is_free, order_count, target_count};
 
 use crate::clauses::read_signal;
-use crate::numbering::{number_count, row_count};
+use crate::numbering::letter_count;
 use letter_word::{Cube, Letter};
 use machine_model::{Edge, Problem};
-use product_bound::bound_of;
 
 /// The greatest number of base clauses of a problem that is worked on.
 const MOST_CLAUSES: u64 = 1_000_000;
@@ -23,11 +21,39 @@ pub fn count(problem: &Problem) -> Option<u64>
     requires { IsProblem problem.now }
     ensures { result ≡ count_of problem.now }
 {
-    let bound = bound_of(problem);
-    let mut total = u64::from(row_count(problem)) + 1 + u64::from(order_count(problem));
+    count_at(problem, problem.size)
+}
+
+/// The greatest number of states, from 1 to `max`, for which the problem has at most 1,000,000 base clauses, and 0 where
+/// it has more for each. For fewer states there are fewer clauses. The problem's own size isn't looked at.
+///
+/// Takes at most `max` times as long as `count`, and no memory.
+pub fn allowed_sizes(problem: &Problem, max: u32) -> u32
+    requires problem { IsProblem problem.now }
+    requires max { max ≤ 8 }
+    ensures value { result ≡ allowed_sizes problem.now max }
+    ensures within { result ≤ max }
+{
+    for fewer in (0..max).rev() {
+        if count_at(problem, fewer + 1).is_some() {
+            return fewer + 1;
+        }
+    }
+    0
+}
+
+/// The number of base clauses for this many states, or None where it passes 1,000,000.
+fn count_at(problem: &Problem, size: u32) -> Option<u64>
+    requires problem { IsProblem problem.now }
+    requires some { 1 ≤ size }
+    requires size { size ≤ 8 }
+    ensures { result ≡ count_of (sized problem.now size) }
+{
+    let numbers = number_count(problem, size);
+    let mut total = u64::from(row_count(problem, size)) + 1 + u64::from(order_count(problem, size));
     let edges = problem.automaton.edges();
     for edge in edges {
-        total += edge_count(problem, bound, *edge);
+        total += edge_count(problem, size, numbers, *edge);
         if total > MOST_CLAUSES {
             return None;
         }
@@ -35,49 +61,76 @@ pub fn count(problem: &Problem) -> Option<u64>
     Some(total)
 }
 
+/// How many numbers a pair may have.
+fn number_count(problem: &Problem, size: u32) -> u32
+    requires problem { IsProblem problem.now }
+    requires size { size ≤ 8 }
+    ensures value { result ≡ number_count (sized problem.now size) }
+    ensures small { result ≤ 16001 }
+{
+    size * problem.automaton.rejecting_count() + 1
+}
+
+/// How many rows a machine has.
+fn row_count(problem: &Problem, size: u32) -> u32
+    requires problem { IsProblem problem.now }
+    requires size { size ≤ 8 }
+    ensures value { result ≡ row_count (sized problem.now size) }
+    ensures small { result ≤ 2048 }
+{
+    size * letter_count(problem)
+}
+
 /// How many clauses order the states.
-fn order_count(problem: &Problem) -> u32
-    requires { IsProblem problem.now }
-    ensures value { result ≡ order_count problem.now }
+fn order_count(problem: &Problem, size: u32) -> u32
+    requires problem { IsProblem problem.now }
+    requires size { size ≤ 8 }
+    ensures value { result ≡ order_count (sized problem.now size) }
     ensures small { result ≤ 12288 }
 {
     if problem.version != 2 {
         return 0;
     }
-    let later = later_states(problem);
-    row_count(problem) * later
+    let later = later_states(size);
+    row_count(problem, size) * later
 }
 
 /// The number of states from 2 on.
-fn later_states(problem: &Problem) -> u32
-    requires { IsProblem problem.now }
-    ensures value { result ≡ problem.now.size - 2 }
+fn later_states(size: u32) -> u32
+    requires { size ≤ 8 }
+    ensures value { result ≡ size - 2 }
     ensures small { result ≤ 6 }
 {
-    problem.size.saturating_sub(2)
+    size.saturating_sub(2)
 }
 
-/// How many clauses an edge has.
-fn edge_count(problem: &Problem, bound: u32, edge: Edge) -> u64
+/// How many clauses an edge has, where a pair may have so many numbers.
+fn edge_count(problem: &Problem, size: u32, numbers: u32, edge: Edge) -> u64
     requires problem { IsProblem problem.now }
-    requires bound { bound ≡ bound_of problem.now }
+    requires some { 1 ≤ size }
+    requires size { size ≤ 8 }
+    requires numbers { numbers ≡ number_count (sized problem.now size) }
+    requires few { numbers ≤ 16001 }
     requires edge { JoinsStates (states_of (automaton_of problem.now)) edge }
-    ensures value { result ≡ length (edge_clauses problem.now edge) }
+    ensures value { result ≡ length (edge_clauses (sized problem.now size) edge) }
     ensures small { result ≤ 262160384 }
 {
-    let clauses = problem.size * state_count(problem, bound, edge);
+    let clauses = size * state_count(problem, size, numbers, edge);
     u64::from(clauses)
 }
 
 /// How many of them are about one state.
-fn state_count(problem: &Problem, bound: u32, edge: Edge) -> u32
+fn state_count(problem: &Problem, size: u32, numbers: u32, edge: Edge) -> u32
     requires problem { IsProblem problem.now }
-    requires bound { bound ≡ bound_of problem.now }
+    requires some { 1 ≤ size }
+    requires size { size ≤ 8 }
+    requires numbers { numbers ≡ number_count (sized problem.now size) }
+    requires few { numbers ≤ 16001 }
     requires edge { JoinsStates (states_of (automaton_of problem.now)) edge }
-    ensures value { result ≡ 2 ^ free_below problem.now edge.cube (reads_of problem.now) * (target_count problem.now edge * number_count problem.now) }
+    ensures value { result ≡ 2 ^ free_below problem.now edge.cube (reads_of problem.now) * (target_count (sized problem.now size) edge * number_count (sized problem.now size)) }
     ensures small { result ≤ 32770048 }
 {
-    let steps = target_count(problem, edge) * number_count(problem, bound);
+    let steps = target_count(problem, size, edge) * numbers;
     fitting_letters(problem, edge.cube) * steps
 }
 
@@ -116,15 +169,17 @@ fn free_signal(cube: Cube, signal: u32) -> u32
 }
 
 /// To how many states an edge has clauses, from each state.
-fn target_count(problem: &Problem, edge: Edge) -> u32
+fn target_count(problem: &Problem, size: u32, edge: Edge) -> u32
     requires problem { IsProblem problem.now }
+    requires some { 1 ≤ size }
+    requires size { size ≤ 8 }
     requires edge { JoinsStates (states_of (automaton_of problem.now)) edge }
-    ensures value { result ≡ target_count problem.now edge }
+    ensures value { result ≡ target_count (sized problem.now size) edge }
     ensures small { result ≤ 8 }
 {
     if edge.from == edge.to && !problem.automaton.is_rejecting(edge.to) {
-        problem.size - 1
+        size - 1
     } else {
-        problem.size
+        size
     }
 }

@@ -2,7 +2,8 @@
 //!
 //! The contract above this layer: `encode` gives exactly the clauses of the definition, in their order, and where the
 //! side accepts some machine of the problem some assignment meets them all: `assignment_of` gives that of a machine and
-//! a valid annotation. `count` is their number. `variables`, `var_move`, `var_write` and `var_count` are the numbers of
+//! a valid annotation. `count` is their number, and
+//! `allowed_sizes` the number of sizes for which there aren't too many. `variables`, `var_move`, `var_write` and `var_count` are the numbers of
 //! the variables, and no two variables of different meaning are the same. It stands on product_bound and clause_base.
 #![tactic(auto)]
 
@@ -14,5 +15,5 @@ mod numbering;
 
 pub use assigning::assignment_of;
 pub use clauses::encode;
-pub use counting::count;
+pub use counting::{allowed_sizes, count};
 pub use numbering::{var_count, var_move, var_write, variables};

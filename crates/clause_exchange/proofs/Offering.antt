@@ -1,11 +1,10 @@
 -- What a turn leaves: what was offered or copied, seen from the pass.
-use Rattle.std.proofs.Common.{◌≡◌, ℕ, ◌+◌, ◌<◌, ◌≢◌, ⊎_elim, nat_eq, cond, List, [], ◌∷◌, ◌++◌, Option, Some, None, Result, Ok, Err, IfOk, IfErr, OnOk, OnErr, length, take, slice_get, sym, refl, ap, ◌∙◌, subst, arith, All, eq-eqb, ne_eqb}
+use Rattle.std.proofs.Common.{◌≡◌, ℕ, ◌+◌, ◌<◌, ◌≢◌, nat_eq, cond, List, [], ◌∷◌, ◌++◌, Option, Some, None, Result, Ok, Err, IfOk, IfErr, OnOk, OnErr, length, take, slice_get, sym, refl, ap, ◌∙◌, subst, All, eq-eqb, ne_eqb}
 use Rattle.std.proofs.lemmas.List.Elements.{All-push, filter-append}
 use Rattle.std.proofs.lemmas.List.{append-nil, take_more}
 use Rattle.std.proofs.lemmas.Option.{slice_get_within, get_or_from_slice_get}
 use Rattle.std.specs.declared.alloc.AllocError.{AllocError}
 use Rattle.atomic_table.specs.Seated.{TableId}
-use Rattle.clause_base.specs.Literal.{Literal}
 use Rattle.clause_base.specs.Clause.{IsWithin}
 use Rattle.refutation_log.specs.declared.entries.Entry.{Entry}
 use Rattle.refutation_log.specs.declared.turns.Turn.TheVariants.{Append}
@@ -18,7 +17,8 @@ use Rattle.refutation_log.specs.State.{Log}
 use Rattle.refutation_log.specs.Teaches.{Teaches, entries_by, IsTaught}
 use Rattle.refutation_log.specs.Turn.{reply_to, log_after, log_replied}
 use Rattle.refutation_log.proofs.LegalLemmas.{legal_turn}
-use Rattle.refutation_log.proofs.Lists.{slice_get-push, take-append, take-append_all, take_drop}
+use Rattle.refutation_log.proofs.TeachLemmas.{taught-push}
+use Rattle.refutation_log.proofs.Lists.{take-append_all, take_drop}
 use Rattle.clause_exchange.specs.declared.exchange.Refused.{Refused}
 use Rattle.clause_exchange.specs.declared.views.Part.{Part}
 use Rattle.clause_exchange.specs.SharedLog.{PassView, IsPrefix, IsLogOn, IsAfterTurn, IsOffered}
@@ -36,16 +36,6 @@ entries_by-own n log e is = filter-append (λ (x : Entry). nat_eq x.by n) log (e
 
 pub entries_by-other : (n : ℕ) (log : List Entry) (e : Entry) → e.by ≢ n → entries_by n (log ++ e ∷ []) ≡ entries_by n log
 entries_by-other n log e not = filter-append (λ (x : Entry). nat_eq x.by n) log (e ∷ []) ∙ ap (λ b. entries_by n log ++ cond b (e ∷ []) []) (ne_eqb e.by n not) ∙ append-nil (entries_by n log)
-
-taught_push : (base : List (List Literal)) (log : List Entry) (e : Entry) → IsTaught base log → Teaches (base ++ clauses_of (entries_by e.by log)) e.clause → IsTaught base (log ++ e ∷ [])
-taught_push base log e taught teaches i d at = ⊎_elim
-    (λ (there : slice_get log i ≡ Some d).
-    let lt : i < length log = slice_get_within log i d there in
-    subst (λ es. Teaches (base ++ clauses_of (entries_by d.by es)) d.clause) (sym (take-append i log (e ∷ []) (omega arith))) (taught i d there))
-    (λ (last : (i ≡ length log) × (e ≡ d)).
-    subst (λ (x : List Entry × Entry). Teaches (base ++ clauses_of (entries_by x.1.by x.0)) x.1.clause)
-    (λ k. (sym (ap (λ j. take j (log ++ e ∷ [])) last.0 ∙ take-append_all log (e ∷ [])) k, last.1 k)) teaches)
-    (slice_get-push log e i d at)
 
 -- ---- what a turn may leave
 
@@ -77,7 +67,7 @@ moved_added part value left e opens sound added legal room = record {
   is_log = record {
     legal = legal;
     taught = subst (IsTaught part.terms.base) (sym added)
-        (taught_push part.terms.base value.entries e opens.is_log.taught
+        (taught-push part.terms.base value.entries e opens.is_log.taught
         (subst (λ es. Teaches (part.terms.base ++ clauses_of es) e.clause) (opens.part_of.own ∙ ap (λ n. entries_by n value.entries) (sym sound.by_is)) sound.teaches));
     of_passes = subst (All (λ d. d.by < part.terms.seats)) (sym added)
         (All-push (λ d. d.by < part.terms.seats) value.entries e opens.is_log.of_passes (subst (λ n. n < part.terms.seats) (sym sound.by_is) opens.part_of.number_below));

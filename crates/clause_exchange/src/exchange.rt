@@ -2,7 +2,7 @@
 ghost use Rattle.std.specs.Prelude.{◌≡◌, ℕ, suc, ◌<◌, ◌≤◌, [], ◌∷◌, ◌++◌, Some, None, IfOk, IfErr, OnOk, OnErr, All, Contains, map, length, slice_get};
 ghost use Rattle.std.specs.Arc.{arc_value};
 ghost use Rattle.clause_base.specs.Clause.{IsWithin, IsFormula};
-ghost use Rattle.refutation_log.specs.Entry.{clauses_of};
+ghost use Rattle.refutation_log.specs.Entry.{clauses_of, AreSorted};
 ghost use Rattle.refutation_log.specs.Follows.{Follows};
 ghost use Rattle.refutation_log.specs.Teaches.{Teaches};
 ghost use Rattle.clause_exchange.specs.SharedLog.{IsPrefix, IsLogOn, IsAfterTurn, IsOffered, HoldsAllOf, new_pass};
@@ -140,6 +140,7 @@ impl Exchange {
         requires exchange { All (λ p. p.exchange ≡ self) passes.items }
         requires each { (number : ℕ) → number < self.terms.seats → Contains (map (λ p. p.number) passes.items) number }
         ensures log { IsLogOn self.terms result.entries }
+        ensures sorted { AreSorted result.entries }
         ensures limit { result.limit ≡ self.terms.limit }
         ensures passes { All (HoldsAllOf result.entries) passes.items }
     {

@@ -10,3 +10,4 @@ pub mod Places
 pub mod TrueAccepted
 pub mod Accepting
 pub mod Ordered
+pub mod LimitsKept

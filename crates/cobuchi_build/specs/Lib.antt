@@ -2,4 +2,5 @@ pub mod Occurring
 pub mod Explored
 pub mod Sizes
 pub mod Built
+pub mod Limits
 pub mod Laws

@@ -2,7 +2,9 @@ ghost use Rattle.std.specs.Prelude.{◌≡◌, ◌≤◌, Err, IfOk, OnOk, lengt
 ghost use Rattle.ltl_formula.specs.NormalForm.{IsNormal};
 ghost use Rattle.ltl_formula.specs.Nodes.{IsNodeList, Stands, tree_at};
 ghost use Rattle.cobuchi_build.specs.Built.{AcceptsExactly, IsAutomatonOf, IsFinished, PassesLimit};
+ghost use Rattle.cobuchi_build.specs.Limits.{NamesSignalsOf};
 ghost use Rattle.cobuchi_build.specs.Occurring.{untils_of};
+ghost use Rattle.machine_model.specs.Automaton.{states_of};
 
 use crate::exploring::Found;
 use crate::untils::untils_of;
@@ -71,6 +73,8 @@ pub fn build(alloc: Global, formulas: &Formulas, f: FormulaId) -> Result<Automat
     ensures automaton { IfOk result (λ a. IsAutomatonOf formulas.now f a) }
     ensures within { OnOk result (PassesLimit formulas.now f → ⊥) }
     ensures accepts { IfOk result (λ a. AcceptsExactly formulas.now f a) }
+    ensures signals { IfOk result (NamesSignalsOf formulas.now) }
+    ensures small { IfOk result (λ a. states_of a ≤ MAX_STATES) }
 
     ensures too_large { result ≡ Err BuildFault.TooLarge → PassesLimit formulas.now f }
     ensures nodes { result ≡ Err BuildFault.TooManyNodes → ⊥ }

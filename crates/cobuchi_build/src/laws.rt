@@ -1,4 +1,5 @@
 // Laws of the automaton of a formula. Each is the contract of a function that does nothing.
+ghost use Rattle.cobuchi_build.specs.Limits.{AutomataKeepLimits};
 ghost use Rattle.cobuchi_build.specs.Laws.{OneAutomatonPerFormula, TheAutomatonAcceptsExactly, UntilsAreThoseThatOccur};
 
 /// The automaton of a formula in normal form accepts exactly the lassos on which the formula is true.
@@ -14,4 +15,10 @@ pub fn one_automaton_per_formula()
 /// The until formulas that the counter counts are those that occur in the formula.
 pub fn untils_are_those_that_occur()
     ensures { UntilsAreThoseThatOccur }
+{}
+
+/// The cubes of a formula's automaton name no signals but those of the list, and an automaton within the limits has at most 2,000
+/// states.
+pub fn automata_keep_limits()
+    ensures { AutomataKeepLimits }
 {}

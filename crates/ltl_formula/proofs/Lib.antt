@@ -4,3 +4,4 @@ pub mod Futures
 pub mod Trees
 pub mod NodeEquality
 pub mod Lists
+pub mod ListSignals

@@ -201,7 +201,7 @@ module _ (old new : List Node) (node : Node) where
   last-tree (Ok id) last grown = ap (tree_at new) last.0 ∙ ap (λ xs. tree_at xs (record { 0 = length old })) grown ∙ tree_at-last old node
 
 -- a node's formula has the node's signal and those of its parts
-SignalsBelow-tree_of : (n i : ℕ) (trees : List Tree) (node : Node) → PartsBelow i node → SignalBelow n node → ((p : FormulaId) → p.0 < i → SignalsBelow n (pick trees p)) → SignalsBelow n (tree_of trees node)
+pub SignalsBelow-tree_of : (n i : ℕ) (trees : List Tree) (node : Node) → PartsBelow i node → SignalBelow n node → ((p : FormulaId) → p.0 < i → SignalsBelow n (pick trees p)) → SignalsBelow n (tree_of trees node)
 SignalsBelow-tree_of n i trees True parts signal each = tt
 SignalsBelow-tree_of n i trees False parts signal each = tt
 SignalsBelow-tree_of n i trees (Signal s) parts signal each = signal

@@ -5,4 +5,5 @@ pub mod Nodes
 pub mod Added
 pub mod Text
 pub mod Written
+pub mod ListSignals
 pub mod Laws

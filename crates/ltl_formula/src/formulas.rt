@@ -1,4 +1,4 @@
-ghost use Rattle.std.specs.Prelude.{◌≡◌, ◌↔◌, ◌<◌, ◌≤◌, IsTrue, [], ◌∷◌, ◌++◌, Err, Some, None, IfOk, IfErr, OnOk, OnErr, length, position, slice_get};
+ghost use Rattle.std.specs.Prelude.{◌≡◌, ℕ, ◌↔◌, ◌<◌, ◌≤◌, IsTrue, [], ◌∷◌, ◌++◌, Ok, Err, Some, None, IfOk, IfErr, OnOk, OnErr, length, position, slice_get};
 ghost use Rattle.ltl_formula.specs.Nodes.{Grows, IsNodeList, PartsBelow, SignalBelow, Stands, tree_at, tree_of, trees_of};
 ghost use Rattle.ltl_formula.specs.Added.{added, node_eq};
 ghost use Rattle.ltl_formula.specs.declared.nodes.TheConstants.{MAX_SIGNALS};
@@ -75,12 +75,13 @@ impl Formulas {
         }
     }
 
-    /// The id of an equal node that stands, else the new last one. Its parts must stand, and its signal
-    /// be below 16. It is refused where 1,024 nodes stand and this one is new; the list is then as before.
+    /// The id of an equal node that stands, which takes no memory, else the new last one. Its parts must stand,
+    /// and its signal be below 16. It is refused where 1,024 nodes stand and this one is new; the list is then as before.
     pub fn add(&mut self, node: Node) -> Result<FormulaId, AddFault>
         requires parts { PartsBelow (length self.old) node }
         requires signal { SignalBelow MAX_SIGNALS node }
         ensures ok { IfOk result (λ id. added self.old node ≡ record { nodes = self.new; made = Some id }) }
+        ensures known { (place : ℕ) → position (node_eq node) self.old ≡ Some place → result ≡ Ok (record { 0 = place }) }
         ensures too_many { result ≡ Err AddFault.TooManyNodes → (added self.old node).made ≡ None }
         ensures full { (added self.old node).made ≡ None → result ≡ Err AddFault.TooManyNodes }
         ensures err { OnErr result (self.new ≡ self.old) }

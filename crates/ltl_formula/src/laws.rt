@@ -1,5 +1,6 @@
 // Laws of truth and of lists of formulas. Each is the contract of a function that does nothing.
 ghost use Rattle.ltl_formula.specs.Laws.{GrowingKeepsFormulas, OneIdPerFormula, OperatorsMean, OperatorsUnfold, SignalsAreBelow, TruthIsOfTheFuture};
+ghost use Rattle.ltl_formula.specs.ListSignals.{SignalsOfListsAreKept};
 
 /// Until, finally and globally mean what they mean on the infinite word, without a bound on the steps.
 pub fn operators_mean()
@@ -29,4 +30,9 @@ pub fn one_id_per_formula()
 /// The formulas of a list speak of signals below 16 alone.
 pub fn signals_are_below()
     ensures { SignalsAreBelow }
+{}
+
+/// The formulas of a list have no signals but those of its nodes, and a list that takes a node gets none but the node's.
+pub fn signals_of_lists_are_kept()
+    ensures { SignalsOfListsAreKept }
 {}

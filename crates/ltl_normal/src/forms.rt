@@ -1,6 +1,7 @@
 ghost use Rattle.std.specs.Prelude.{◌≡◌, ◌≤◌, Bool, ℕ, Err, IfOk, OnOk, None, Some, false, length, not, true};
 ghost use Rattle.ltl_formula.specs.Nodes.{Grows, IsNodeList, PartsBelow, SignalBelow, Stands, tree_at, tree_of, trees_of};
 ghost use Rattle.ltl_formula.specs.Added.{added};
+ghost use Rattle.ltl_formula.specs.ListSignals.{KeepsSignals};
 ghost use Rattle.ltl_formula.specs.declared.nodes.TheConstants.{MAX_NODES, MAX_SIGNALS};
 ghost use Rattle.ltl_normal.specs.NormalNodes.{constant_node, form_in, join_ids, literal_step, next_id, nodes_to, whole_node};
 ghost use Rattle.ltl_formula.specs.NormalForm.{IsNormal};
@@ -24,6 +25,7 @@ pub fn normal(formulas: &mut Formulas, f: FormulaId) -> Result<FormulaId, AddFau
     ensures tree { IfOk result (λ id. tree_at formulas.new id ≡ normal_of (tree_at formulas.old f)) }
     ensures truth { IfOk result (λ id. HasTruthOf (tree_at formulas.old f) (tree_at formulas.new id)) }
     ensures shape { IfOk result (λ id. IsNormal (tree_at formulas.new id)) }
+    ensures signals { OnOk result (KeepsSignals formulas.old formulas.new) }
     ensures grows { Grows formulas.old formulas.new }
     ensures list { IsNodeList formulas.new }
 {
@@ -39,6 +41,7 @@ pub fn negated(formulas: &mut Formulas, f: FormulaId) -> Result<FormulaId, AddFa
     ensures tree { IfOk result (λ id. tree_at formulas.new id ≡ negated_of (tree_at formulas.old f)) }
     ensures truth { IfOk result (λ id. OpposesTruthOf (tree_at formulas.old f) (tree_at formulas.new id)) }
     ensures shape { IfOk result (λ id. IsNormal (tree_at formulas.new id)) }
+    ensures signals { OnOk result (KeepsSignals formulas.old formulas.new) }
     ensures grows { Grows formulas.old formulas.new }
     ensures list { IsNodeList formulas.new }
 {

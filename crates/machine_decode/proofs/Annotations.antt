@@ -13,12 +13,13 @@ use Rattle.letter_word.specs.Cube.{Fits}
 use Rattle.letter_word.specs.Signals.{has}
 use Rattle.machine_model.specs.Accepts.{SideAccepts}
 use Rattle.machine_model.specs.Automaton.{IsAutomaton, JoinsStates, rejects, states_of}
+use Rattle.machine_model.specs.Course.{letter_of}
 use Rattle.machine_model.specs.Machine.{IsMachine, MachineModel, next_of, size_of, writes_of}
 use Rattle.machine_model.specs.Problem as looked_for
 use Rattle.machine_model.specs.Problem.{IsMachineOf, IsProblem, automaton_of, reads_of}
 use Rattle.machine_model.specs.declared.automata.Edge.{Edge}
 use Rattle.machine_model.specs.declared.problems.Problem.{Problem}
-use Rattle.product_bound.specs.Annotation.{HasNumber, IsValidAnnotation, bound_of, number_at, rise_at, whole_letter}
+use Rattle.product_bound.specs.Annotation.{HasNumber, IsValidAnnotation, bound_of, number_at, rise_at}
 use Rattle.annotation_encode.specs.BaseClauses.{base_clauses, count_literals, fits_read, is, is_idle, isnt, read_signal, row_count, row_move, signal_fits, step_clause, write_literal, write_literals, written_signal}
 use Rattle.annotation_encode.specs.Variables.{letter_count, row_place, var_count, var_move, var_write}
 use Rattle.annotation_encode.proofs.BaseClausesAll.{HoldsOfKinds, kinds_hold}
@@ -92,7 +93,7 @@ module _ (p : Problem) (values : List Bool) (problem : IsProblem p) (made : IsAu
     start_is = reached 0 0 (rise_at (automaton_of p) 0) problem.some made.some (rise_small p 0 problem) (alone (value_of values (var_count p 0 0 (rise_at (automaton_of p) 0))) kinds.start)
 
     module _ (e : Edge) (t i c : ℕ) (there : Contains (automaton_of p).edges e) (ht : t < p.size) (hi : i < letter_count p) (hc : c ≤ bound_of p)
-        (true_here : value_of values (var_count p t e.from c) ≡ true) (fitting : Fits e.cube (whole_letter p.side m t i)) where
+        (true_here : value_of values (var_count p t e.from c) ≡ true) (fitting : Fits e.cube (letter_of p.side m t i)) where
       joins : JoinsStates (states_of (automaton_of p)) e
       joins = All-contains (JoinsStates (states_of (automaton_of p))) (automaton_of p).edges e made.edges there
 

@@ -11,3 +11,4 @@ pub mod BackedLeaves
 pub mod Distinct
 pub mod NextStep
 pub mod Kept
+pub mod NamedSignals

@@ -8,3 +8,4 @@ pub mod Steps
 pub mod Covers
 pub mod Search
 pub mod NextStep
+pub mod CoverSignals

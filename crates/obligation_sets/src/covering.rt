@@ -1,5 +1,6 @@
 ghost use Rattle.std.specs.Prelude.{◌≡◌, ◌<◌, ◌≤◌, All, Err, IfOk, OnOk, length};
 ghost use Rattle.ltl_formula.specs.Nodes.{Stands};
+ghost use Rattle.obligation_sets.specs.CoverSignals.{NameSignalsOf};
 ghost use Rattle.obligation_sets.specs.Covers.{covers_of, set_leaves};
 ghost use Rattle.obligation_sets.specs.Search.{AfterStep, FitsIds};
 
@@ -50,6 +51,7 @@ pub fn covers(
 ) -> Result<Vec<Cover>, CoverFault>
     requires { All (Stands formulas.now) set.now }
     ensures covers { IfOk result (λ v. v.items ≡ covers_of formulas.now set.now) }
+    ensures signals { IfOk result (λ v. NameSignalsOf formulas.now v.items) }
     ensures few_leaves { OnOk result (length (set_leaves formulas.now set.now) ≤ MAX_LEAVES) }
     ensures too_many { result ≡ Err CoverFault.TooManyLeaves → MAX_LEAVES < length (set_leaves formulas.now set.now) }
 {

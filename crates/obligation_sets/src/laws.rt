@@ -1,4 +1,5 @@
 // Laws of covers. Each is the contract of a function that does nothing.
+ghost use Rattle.obligation_sets.specs.CoverSignals.{CoversNameSignals};
 ghost use Rattle.obligation_sets.specs.NextStep.{CoversAreTheNextStep, CoversStayNormal, LeavesGoOn};
 
 /// A set holds at a position exactly where one of its covers is met there.
@@ -14,4 +15,9 @@ pub fn covers_stay_normal()
 /// The leaves of a branch are those of what comes of its first step.
 pub fn leaves_go_on()
     ensures { LeavesGoOn }
+{}
+
+/// The covers of a set name no signals but those of the list that its formulas stand in.
+pub fn covers_name_signals()
+    ensures { CoversNameSignals }
 {}

@@ -1,6 +1,7 @@
 -- What a shelf holds. This project's own.
-use Rattle.std.specs.Prelude.{◌≡◌, ℕ, ◌≤◌, List, [], ◌∷◌, ◌++◌, length, Option, None, Some, unwrap_or, if◌then◌else◌, IfSome, nat_eq}
+use Rattle.std.specs.Prelude.{◌≡◌, ℕ, ◌≤◌, ◌↔◌, List, [], ◌∷◌, ◌++◌, length, take, drop, Option, None, Some, unwrap_or, if◌then◌else◌, IfSome, IfOk, Result, nat_eq}
 use Rattle.std.specs.Cmp.Lexicographic.{pointwise}
+use Rattle.outside_edge.specs.declared.shelf.ShelfFault.{ShelfFault}
 
 -- the bytes under each name that is there
 abbrev pub Files : Type 0
@@ -21,3 +22,24 @@ pub record Takes (told : Option Files) (name : List ℕ) (limit : ℕ) (before a
   pub gained : after ≡ before ++ bytes
   pub within : length bytes ≤ limit
   pub same : IfSome told (λ files. bytes ≡ bytes_under files name)
+
+-- A list of bytes gained this many of those under the name from a place on, at most so many. None came exactly where the
+-- place isn't below their number. They are any bytes where the files aren't told.
+pub record TakesPart (told : Option Files) (name : List ℕ) (from most : ℕ) (before after : List ℕ) (count : ℕ) : Type 0 where
+  pub bytes : List ℕ
+  pub gained : after ≡ before ++ bytes
+  pub counted : length bytes ≡ count
+  pub within : count ≤ most
+  pub same : IfSome told (λ files. bytes ≡ take count (drop from (bytes_under files name)))
+  pub ended : IfSome told (λ files. (count ≡ 0) ↔ (length (bytes_under files name) ≤ from))
+
+-- as many as there are, up to the most, of the bytes from a place on
+abbrev pub part_of : List ℕ → ℕ → ℕ → List ℕ
+part_of bytes from most = take most (drop from bytes)
+
+-- a list of bytes gained at most so many others, and the answer of a call that appended them is how many
+pub record Appends (most : ℕ) (before after : List ℕ) (answer : Result ℕ ShelfFault) : Type 0 where
+  pub bytes : List ℕ
+  pub gained : after ≡ before ++ bytes
+  pub within : length bytes ≤ most
+  pub counted : IfOk answer (λ count. length bytes ≡ count)

@@ -43,6 +43,14 @@ AnswersTake old name (Err shelf.Failed) new =
     IsTrue (take_fails old name) × (new ≡ record old { calls = one_more old.calls; failed = old.failed ++ name ∷ [] })
 AnswersTake old name (Err shelf.NoMemory) new = new ≡ old
 
+-- What taking a part answers, and leaves. A call that wants memory isn't counted, and no part is too long.
+abbrev pub AnswersPart : ShelfState → List ℕ → Result ℕ ShelfFault → ShelfState → Type 0
+AnswersPart old name (Ok _) new = (take_fails old name ≡ false) × (new ≡ record old { calls = one_more old.calls })
+AnswersPart old name (Err shelf.TooLong) new = ⊥
+AnswersPart old name (Err shelf.Failed) new =
+    IsTrue (take_fails old name) × (new ≡ record old { calls = one_more old.calls; failed = old.failed ++ name ∷ [] })
+AnswersPart old name (Err shelf.NoMemory) new = new ≡ old
+
 -- What putting bytes answers, and leaves. A call that wants memory isn't counted.
 abbrev pub AnswersPut : SinkState → List ℕ → Result (Unit {0}) SinkFault → SinkState → Type 0
 AnswersPut old bytes (Ok _) new =

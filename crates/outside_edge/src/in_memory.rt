@@ -1,7 +1,7 @@
 //! Files that are kept in memory, as the two shelves have them.
 ghost use Rattle.std.specs.Prelude.{◌≡◌};
 ghost use Rattle.std.specs.Option.{option_copied};
-ghost use Rattle.outside_edge.specs.Files.{files_of};
+ghost use Rattle.outside_edge.specs.Files.{files_of, part_of as part_from};
 
 use crate::FileBytes;
 use text_base::Name;
@@ -16,4 +16,12 @@ pub fn find<'a>(files: &'a [(Name, FileBytes)], name: &str) -> Option<&'a [u8]>
         }
     }
     None
+}
+
+/// As many as there are, up to `most`, of the bytes from a place on.
+pub fn part_of(bytes: &[u8], from: u64, most: u64) -> &[u8]
+    ensures { result.now ≡ part_from bytes.now from most }
+{
+    let rest = &bytes[bytes.len().min(from as usize)..];
+    &rest[..rest.len().min(most as usize)]
 }

@@ -1,14 +1,14 @@
-ghost use Rattle.std.specs.Prelude.{◌≡◌, ◌≢◌, ℕ, ◌<◌, ◌≤◌, List, length, Some, IfSome, OnOk, OnErr, IsErrOf};
+ghost use Rattle.std.specs.Prelude.{◌≡◌, ◌≢◌, ℕ, ◌<◌, ◌≤◌, List, length, Some, IfOk, IfSome, OnOk, OnErr, IsErrOf, ◌++◌};
 ghost use Rattle.outside_edge.specs.Faults.{Rose, count_of};
-ghost use Rattle.outside_edge.specs.Files.{bytes_under, files_of, Takes};
+ghost use Rattle.outside_edge.specs.Files.{bytes_under, files_of, part_of as part_from, Takes, TakesPart};
 
-use crate::in_memory::find;
+use crate::in_memory::{find, part_of};
 use crate::{FileBytes, Shelf, ShelfFault};
-use std::alloc::Global;
+use std::alloc::{AllocError, Global};
 use std::marker::Model;
 use text_base::Name;
 
-/// Files in memory, of which taking fails at stated calls, and at a name that isn't there.
+/// Files in memory, of which taking, whole or in parts, fails at stated calls, and at a name that isn't there.
 #[derive(Debug, Drop)]
 pub struct MemoryShelf {
     alloc: Global,
@@ -27,7 +27,7 @@ impl Model for MemoryShelf {
 }
 
 impl MemoryShelf {
-    ghost use Rattle.std.specs.Prelude.{[], None, if◌then◌else◌};
+    ghost use Rattle.std.specs.Prelude.{[], ◌∷◌, None, if◌then◌else◌};
     ghost use Rattle.std.specs.Option.{option_copied};
     ghost use Rattle.outside_edge.specs.Memory.{one_more, take_fails};
 
@@ -59,10 +59,19 @@ impl MemoryShelf {
     {
         self.calls = self.calls.saturating_add(1);
     }
+
+    fn count_failure(&mut self, name: &str) -> Result<(), AllocError>
+        ensures counted { OnOk result (self.new ≡ record self.old { calls = one_more self.old.calls; failed = self.old.failed ++ name.now ∷ [] }) }
+        ensures err { OnErr result (self.new ≡ self.old) }
+    {
+        self.failed.push(Name::new(self.alloc, name.as_bytes())?)?;
+        self.count_call();
+        Ok(())
+    }
 }
 
 impl Shelf for MemoryShelf {
-    ghost use Rattle.outside_edge.specs.Memory.{AnswersTake};
+    ghost use Rattle.outside_edge.specs.Memory.{AnswersTake, AnswersPart};
 
     ghost files = { λ shelf. Some (files_of shelf.files) };
 
@@ -84,8 +93,7 @@ impl Shelf for MemoryShelf {
         ensures never_falls { (any : List ℕ) → count_of self.old.failed any ≤ count_of self.new.failed any }
     {
         let Some(bytes) = self.found(name) else {
-            self.failed.push(Name::new(self.alloc, name.as_bytes())?)?;
-            self.count_call();
+            self.count_failure(name)?;
             return Err(ShelfFault::Failed);
         };
         if bytes.len() as u64 > limit {
@@ -96,13 +104,44 @@ impl Shelf for MemoryShelf {
         self.count_call();
         Ok(())
     }
+
+    fn part(
+        &mut self,
+        name: &str,
+        from: u64,
+        most: u64,
+        into: &mut Vec<u8>,
+    ) -> Result<u64, ShelfFault>
+        requires { 1 ≤ most }
+        ensures exact { AnswersPart self.old name.now result self.new }
+        ensures whole { OnOk result (into.new.items ≡ into.old.items ++ part_from (bytes_under (files_of self.old.files) name.now) from most) }
+        ensures ok { IfOk result (TakesPart (Some (files_of self.old.files)) name.now from most into.old.items into.new.items) }
+        ensures err { OnErr result (into.new.items ≡ into.old.items) }
+        ensures files { Some (files_of self.new.files) ≡ Some (files_of self.old.files) }
+        ensures too_long { ¬ IsErrOf result ShelfFault.TooLong }
+        ensures failed { IsErrOf result ShelfFault.Failed
+            → Rose (count_of self.old.failed name.now) (count_of self.new.failed name.now) }
+        ensures not_failed { ¬ IsErrOf result ShelfFault.Failed
+            → count_of self.new.failed name.now ≡ count_of self.old.failed name.now }
+        ensures others { (other : List ℕ) → other ≢ name.now → count_of self.new.failed other ≡ count_of self.old.failed other }
+        ensures never_falls { (any : List ℕ) → count_of self.old.failed any ≤ count_of self.new.failed any }
+    {
+        let Some(bytes) = self.found(name) else {
+            self.count_failure(name)?;
+            return Err(ShelfFault::Failed);
+        };
+        let part = part_of(bytes, from, most);
+        let count = part.len() as u64;
+        into.extend_from_slice(part)?;
+        self.count_call();
+        Ok(count)
+    }
 }
 
 #[cfg(test)]
 mod tests {
     use super::*;
     use crate::PlainShelf;
-    use std::alloc::AllocError;
     use std::test::Fail;
 
     // One file of this name, with the bytes `abc`.
@@ -124,10 +163,22 @@ mod tests {
         (answer, into.len())
     }
 
+    // Takes a part through the bound, and gives the answer with how many bytes came.
+    fn part<H: Shelf>(
+        alloc: Global,
+        shelf: &mut H,
+        name: &str,
+        from: u64,
+    ) -> (Result<u64, ShelfFault>, usize) {
+        let mut into = Vec::new(alloc);
+        let answer = shelf.part(name, from, 2, &mut into);
+        (answer, into.len())
+    }
+
     #[test]
     fn fails_at_stated_calls_and_missing_names(rt: HostRuntime) -> Result<(), Fail> {
         let alloc = rt.alloc();
-        let failing = Vec::from_slice(alloc, &[2])?;
+        let failing = Vec::from_slice(alloc, &[2, 6])?;
         let mut shelf = MemoryShelf::new(alloc, files(alloc, b"spec")?, failing);
         assert_eq!(rt; take(alloc, &mut shelf, "spec", 3), (Ok(()), 3));
         assert_eq!(rt;
@@ -142,6 +193,12 @@ mod tests {
             take(alloc, &mut shelf, "word", 3),
             (Err(ShelfFault::Failed), 0)
         );
+        assert_eq!(rt; part(alloc, &mut shelf, "spec", 0), (Ok(2), 2));
+        assert_eq!(rt;
+            part(alloc, &mut shelf, "spec", 2),
+            (Err(ShelfFault::Failed), 0)
+        );
+        assert_eq!(rt; part(alloc, &mut shelf, "spec", 2), (Ok(1), 1));
         Ok(())
     }
 
@@ -151,6 +208,8 @@ mod tests {
         let mut shelf = PlainShelf::new(files(alloc, b"spec")?);
         assert_eq!(rt; take(alloc, &mut shelf, "spec", u64::MAX), (Ok(()), 3));
         assert_eq!(rt; take(alloc, &mut shelf, "word", 0), (Ok(()), 0));
+        assert_eq!(rt; part(alloc, &mut shelf, "spec", 3), (Ok(0), 0));
+        assert_eq!(rt; part(alloc, &mut shelf, "word", 0), (Ok(0), 0));
         assert_eq!(rt;
             take(alloc, &mut shelf, "spec", 2),
             (Err(ShelfFault::TooLong), 0)

@@ -1,7 +1,8 @@
-ghost use Rattle.std.specs.Prelude.{◌≡◌, Some};
-ghost use Rattle.outside_edge.specs.Files.{files_of};
+ghost use Rattle.std.specs.Prelude.{◌≡◌, ◌≢◌, ℕ, ◌≤◌, ◌++◌, List, Some, IfOk, OnOk, OnErr, IsErrOf};
+ghost use Rattle.outside_edge.specs.Faults.{Rose};
+ghost use Rattle.outside_edge.specs.Files.{bytes_under, files_of, part_of as part_from, TakesPart};
 
-use crate::in_memory::find;
+use crate::in_memory::{find, part_of};
 use crate::{FileBytes, Shelf, ShelfFault};
 use std::marker::Model;
 use text_base::Name;
@@ -42,5 +43,28 @@ impl Shelf for PlainShelf {
         }
         into.extend_from_slice(bytes)?;
         Ok(())
+    }
+
+    fn part(
+        &mut self,
+        name: &str,
+        from: u64,
+        most: u64,
+        into: &mut Vec<u8>,
+    ) -> Result<u64, ShelfFault>
+        requires { 1 ≤ most }
+        ensures whole { OnOk result (into.new.items ≡ into.old.items ++ part_from (bytes_under (files_of self.old) name.now) from most) }
+        ensures ok { IfOk result (TakesPart (Some (files_of self.old)) name.now from most into.old.items into.new.items) }
+        ensures err { OnErr result (into.new.items ≡ into.old.items) }
+        ensures files { Some (files_of self.new) ≡ Some (files_of self.old) }
+        ensures too_long { ¬ IsErrOf result ShelfFault.TooLong }
+        ensures failed { IsErrOf result ShelfFault.Failed → Rose 0 0 }
+        ensures not_failed { ¬ IsErrOf result ShelfFault.Failed → ◌≡◌ {A = ℕ} 0 0 }
+        ensures others { (other : List ℕ) → other ≢ name.now → ◌≡◌ {A = ℕ} 0 0 }
+        ensures never_falls { (any : List ℕ) → 0 ≤ 0 }
+    {
+        let part = part_of(find(&self.files, name).unwrap_or(&[]), from, most);
+        into.extend_from_slice(part)?;
+        Ok(part.len() as u64)
     }
 }

@@ -1,7 +1,7 @@
-ghost use Rattle.std.specs.Prelude.{◌≡◌, ◌≢◌, ℕ, ◌<◌, ◌≤◌, List, length, Option, IfSome, OnOk, OnErr, IsErrOf};
+ghost use Rattle.std.specs.Prelude.{◌≡◌, ◌≢◌, ℕ, ◌<◌, ◌≤◌, List, length, Option, IfOk, IfSome, OnOk, OnErr, IsErrOf};
 ghost use Rattle.outside_edge.specs.declared.shelf.ShelfFault.TheVariants.{NoMemory};
 ghost use Rattle.outside_edge.specs.Faults.{Rose};
-ghost use Rattle.outside_edge.specs.Files.{Files, bytes_under, Takes};
+ghost use Rattle.outside_edge.specs.Files.{Files, bytes_under, Takes, TakesPart};
 
 use std::alloc::{AllocError, AllocFailed};
 
@@ -31,7 +31,7 @@ impl<T: Drop> From<AllocFailed<T>> for ShelfFault {
     }
 }
 
-/// Files under names, which are taken one at a time.
+/// Files under names, which are taken one at a time, whole or in parts.
 pub trait Shelf {
     /// The bytes under each name, where the shelf tells them.
     ghost files: { Self → Option Files };
@@ -50,6 +50,30 @@ pub trait Shelf {
         ensures too_long { IsErrOf result ShelfFault.TooLong
             → IfSome (files self.old) (λ files. limit < length (bytes_under files name.now)) }
         ensures no_limit { limit ≡ u64.MAX → ¬ IsErrOf result ShelfFault.TooLong }
+
+        // A failure raises the count of its name, and nothing else raises a count.
+        ensures failed { IsErrOf result ShelfFault.Failed
+            → Rose (faults self.old name.now) (faults self.new name.now) }
+        ensures not_failed { ¬ IsErrOf result ShelfFault.Failed
+            → faults self.new name.now ≡ faults self.old name.now }
+        ensures others { (other : List ℕ) → other ≢ name.now → faults self.new other ≡ faults self.old other }
+        ensures never_falls { (any : List ℕ) → faults self.old any ≤ faults self.new any };
+
+    /// Appends at most `most` of the file's bytes from the place `from` on, and says how many: 0 where
+    /// no byte stands there. A name that the shelf doesn't have fails, or is a file with no bytes.
+    /// After a refusal `into` is as before.
+    fn part(
+        &mut self,
+        name: &str,
+        from: u64,
+        most: u64,
+        into: &mut Vec<u8>,
+    ) -> Result<u64, ShelfFault>
+        requires { 1 ≤ most }
+        ensures ok { IfOk result (TakesPart (files self.old) name.now from most into.old.items into.new.items) }
+        ensures err { OnErr result (into.new.items ≡ into.old.items) }
+        ensures files { files self.new ≡ files self.old }
+        ensures too_long { ¬ IsErrOf result ShelfFault.TooLong }
 
         // A failure raises the count of its name, and nothing else raises a count.
         ensures failed { IsErrOf result ShelfFault.Failed

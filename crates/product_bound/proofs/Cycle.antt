@@ -8,14 +8,14 @@ use Rattle.letter_word.specs.declared.letters.Letter.{Letter}
 use Rattle.letter_word.proofs.Positions.{next_within, next-inner, next-last, after-own, after_round}
 use Rattle.machine_model.specs.Accepts.{Accepts, Path}
 use Rattle.machine_model.specs.Automaton.{HasEdge, rejects}
+use Rattle.machine_model.specs.Course.{letter_of}
 use Rattle.machine_model.specs.Machine.{MachineModel, IsMachine, next_of, size_of, writes_of}
 use Rattle.machine_model.specs.Problem.{automaton_of}
 use Rattle.machine_model.specs.Run.{IsRunLasso, read_part, written_part}
 use Rattle.machine_model.specs.declared.problems.Problem.{Problem}
-use Rattle.product_bound.specs.Annotation.{whole_letter}
 use Rattle.product_bound.specs.Product.{IsRejectingCycle, IsStepOf, Leads, states_of_cycle, step_at, word_of_cycle}
 use Rattle.product_bound.specs.declared.laws.ProductStep.{ProductStep}
-use Rattle.product_bound.proofs.Letters.{read_part-joined, written_part-joined}
+use Rattle.machine_model.proofs.Readings.{read_part-joined, written_part-joined}
 
 module _ (p : Problem) (m : MachineModel) (path : List ProductStep) (from : ℕ) (machine : IsMachine m) (some : 0 < size_of m) (cycle : IsRejectingCycle p m path from) where
   last : ℕ
@@ -39,13 +39,13 @@ module _ (p : Problem) (m : MachineModel) (path : List ProductStep) (from : ℕ)
   leads i h = let e : last ≡ length path - 1 = is_last in cycle.steps.leads i (omega arith)
 
   whole : ProductStep → Letter
-  whole step = whole_letter p.side m step.t step.letter
+  whole step = letter_of p.side m step.t step.letter
 
-  joined-word : w.stem ++ w.ring ≡ map (λ step. whole_letter p.side m step.t step.letter) (take (length path - 1) path)
+  joined-word : w.stem ++ w.ring ≡ map (λ step. letter_of p.side m step.t step.letter) (take (length path - 1) path)
   joined-word =
       let b : from < last = below in
       let e : last ≡ length path - 1 = is_last in
-      let f : ProductStep → Letter = λ (step : ProductStep). whole_letter p.side m step.t step.letter in
+      let f : ProductStep → Letter = λ (step : ProductStep). letter_of p.side m step.t step.letter in
       let front : take from path ≡ take from (take (length path - 1) path) = sym (take-take from (length path - 1) path (omega arith)) in
       let whole_path : take from (take (length path - 1) path) ++ drop from (take (length path - 1) path) ≡ take (length path - 1) path = take-append-drop from (take (length path - 1) path) in
       let split : map f (take from (take (length path - 1) path) ++ drop from (take (length path - 1) path)) ≡ map f (take from (take (length path - 1) path)) ++ map f (drop from (take (length path - 1) path)) = map-append f (take from (take (length path - 1) path)) (drop from (take (length path - 1) path)) in
@@ -76,10 +76,10 @@ module _ (p : Problem) (m : MachineModel) (path : List ProductStep) (from : ℕ)
       let r : length w.ring ≡ last - from = ring-length in
       omega arith
 
-  letter_is : (i : ℕ) → i < last → letter_at w i ≡ whole_letter p.side m (step_at path i).t (step_at path i).letter
+  letter_is : (i : ℕ) → i < last → letter_at w i ≡ letter_of p.side m (step_at path i).t (step_at path i).letter
   letter_is i h =
       let e : last ≡ length path - 1 = is_last in
-      let f : ProductStep → Letter = λ (step : ProductStep). whole_letter p.side m step.t step.letter in
+      let f : ProductStep → Letter = λ (step : ProductStep). letter_of p.side m step.t step.letter in
       let d : ProductStep = record { t = 0; q = 0; letter = 0 } in
       let within : i < length (take (length path - 1) path) = simp length-take (omega arith) in
       let inside : i < length path - 1 = omega arith in

@@ -1,4 +1,4 @@
--- A machine that its side accepts has a valid annotation.
+-- A machine has a valid annotation, or a rejecting run.
 use Rattle.std.proofs.Common.{◌≡◌, ℕ, zero, suc, ◌+◌, ◌-◌, ◌*◌, ◌^◌, ◌<◌, ◌≤◌, ◌⊎◌, inl, inr, List, [], ◌∷◌, map, refl, sym, ap, ◌∙◌, subst, arith, Option, Some, None}
 use Rattle.std.specs.Prelude.{All, Contains}
 use Rattle.std.specs.List.{range_with_len}
@@ -8,18 +8,19 @@ use Rattle.std.proofs.lemmas.List.FromFn.{get_or-map-range_with_len, length-map-
 use Rattle.letter_word.specs.Cube.{Fits}
 use Rattle.machine_model.specs.Accepts.{SideAccepts}
 use Rattle.machine_model.specs.Automaton.{HasEdge, IsAutomaton, JoinsStates, states_of}
+use Rattle.machine_model.specs.Course.{letter_of}
 use Rattle.machine_model.specs.Machine.{MachineModel, IsMachine, next_of, size_of}
 use Rattle.machine_model.specs.Problem.{IsMachineOf, automaton_of}
 use Rattle.machine_model.specs.declared.automata.Edge.{Edge}
 use Rattle.machine_model.specs.declared.problems.Problem.{Problem}
-use Rattle.product_bound.specs.Annotation.{HasNumber, IsValidAnnotation, bound_of, number_at, places_of, rise_at, whole_letter}
-use Rattle.product_bound.specs.Laws.{HasValidAnnotation}
+use Rattle.product_bound.specs.Annotation.{HasNumber, IsValidAnnotation, bound_of, number_at, places_of, rise_at}
+use Rattle.product_bound.specs.Laws.{HasRejectingRun, HasValidAnnotation}
 use Rattle.product_bound.specs.declared.laws.ProductStep.{ProductStep}
 use Rattle.product_bound.proofs.Decide.{each_below, each_in}
 use Rattle.product_bound.proofs.Letters.{fits_or_not, to_within}
 use Rattle.product_bound.proofs.Levels.{ClosedLevels, IsClosed, Wants, closed_levels}
-use Rattle.product_bound.proofs.Sums.{total}
-use Rattle.product_bound.proofs.Trails.{Trail, place, place_within, places, rise, rise-place, same_pair, trail_small}
+use Rattle.product_bound.proofs.Sums.{Once, total}
+use Rattle.product_bound.proofs.Trails.{Trail, once_or_run, place, place_within, places, rise, rise-place, same_pair, trail_small}
 
 -- an arrow of the product, from place to place
 record Arrow (p : Problem) (m : MachineModel) (u v : ℕ) : Type 0 where
@@ -30,7 +31,7 @@ record Arrow (p : Problem) (m : MachineModel) (u v : ℕ) : Type 0 where
   is_state : t < p.size
   is_from : q < states_of (automaton_of p)
   is_letter : read < 2 ^ m.reads
-  edge : HasEdge (automaton_of p) (whole_letter p.side m t read) q r
+  edge : HasEdge (automaton_of p) (letter_of p.side m t read) q r
   from_is : u ≡ place p t q
   to_is : v ≡ place p (next_of m t read) r
 
@@ -42,6 +43,7 @@ record Found (p : Problem) (m : MachineModel) (v c : ℕ) : Type 0 where
   is_state : t < p.size
   is_from : q < states_of (automaton_of p)
   trail : Trail p m steps t q
+  once : Once (places_of p) (rise p) (place p t q ∷ places p steps)
   at : v ≡ place p t q
   counts : total (rise p) (place p t q ∷ places p steps) ≡ c
 
@@ -60,7 +62,7 @@ unfolding number_of
 number_of-positive zero h = absurd (omega arith)
 number_of-positive (suc c) h = let e : c ≡ suc c - 1 = omega arith in ap Some e
 
-module _ (p : Problem) (m : MachineModel) (made : IsAutomaton (automaton_of p)) (machine : IsMachine m) (fits : IsMachineOf p m) (some : 0 < size_of m) (accepts : SideAccepts (automaton_of p) p.side m) where
+module _ (p : Problem) (m : MachineModel) (made : IsAutomaton (automaton_of p)) (machine : IsMachine m) (fits : IsMachineOf p m) (some : 0 < size_of m) where
   start : Found p m 0 (rise p 0)
   start =
       let n : 0 < states_of (automaton_of p) = made.some in
@@ -72,14 +74,15 @@ module _ (p : Problem) (m : MachineModel) (made : IsAutomaton (automaton_of p)) 
         is_state = rw (sym fits.size) some;
         is_from = n;
         trail = (refl, refl);
+        once = (place_within p 0 0 (rw (sym fits.size) some) n, ((λ _ there. absurd (let within : there.0 < 0 = there.1 in omega arith)), tt));
         at = sym z;
         counts = let e : rise p (0 * states_of (automaton_of p) + 0) ≡ rise p 0 = ap (rise p) z in omega (arith, e);
       }
 
-  along : (u v c : ℕ) → Arrow p m u v → Found p m u c → Found p m v (c + rise p v)
+  along : (u v c : ℕ) → Arrow p m u v → Found p m u c → Found p m v (c + rise p v) ⊎ HasRejectingRun p m
   along u v c arrow found =
       let same : (arrow.t ≡ found.t) × (arrow.q ≡ found.q) = same_pair p arrow.t arrow.q found.t found.q arrow.is_from found.is_from (sym arrow.from_is ∙ found.at) in
-      let edge : HasEdge (automaton_of p) (whole_letter p.side m found.t arrow.read) found.q arrow.r = rw (same.0, same.1) at arrow.edge in
+      let edge : HasEdge (automaton_of p) (letter_of p.side m found.t arrow.read) found.q arrow.r = rw (same.0, same.1) at arrow.edge in
       let step : ProductStep = record { t = found.t; q = found.q; letter = arrow.read } in
       let t' : ℕ = next_of m found.t arrow.read in
       let small : found.t < size_of m = rw fits.size found.is_state in
@@ -87,31 +90,38 @@ module _ (p : Problem) (m : MachineModel) (made : IsAutomaton (automaton_of p)) 
       let to : v ≡ place p t' arrow.r = rw same.0 at arrow.to_is in
       let counts : total (rise p) (place p found.t found.q ∷ places p found.steps) ≡ c = found.counts in
       let here : rise p v ≡ rise p (place p t' arrow.r) = ap (rise p) to in
-      record {
-        t = t';
-        q = arrow.r;
-        steps = step ∷ found.steps;
-        is_state = rw (sym fits.size) next_small;
-        is_from = to_within (automaton_of p) (whole_letter p.side m found.t arrow.read) found.q arrow.r made edge;
-        trail = (found.is_state, (found.is_from, (record { letter = arrow.is_letter; moves = refl; edge = edge }, found.trail)));
-        at = to;
-        counts = omega (arith, counts, here);
-      }
+      let is_state : t' < p.size = rw (sym fits.size) next_small in
+      let is_from : arrow.r < states_of (automaton_of p) = to_within (automaton_of p) (letter_of p.side m found.t arrow.read) found.q arrow.r made edge in
+      let trail : Trail p m (step ∷ found.steps) t' arrow.r = (found.is_state, (found.is_from, (record { letter = arrow.is_letter; moves = refl; edge = edge }, found.trail))) in
+      elim (once_or_run p m machine some (step ∷ found.steps) t' arrow.r trail is_state is_from found.once) [
+        | inr refuted ↦ inr refuted
+        | inl once ↦ inl (record {
+          t = t';
+          q = arrow.r;
+          steps = step ∷ found.steps;
+          is_state = is_state;
+          is_from = is_from;
+          trail = trail;
+          once = once;
+          at = to;
+          counts = omega (arith, counts, here);
+        })
+      ]
 
   within : (v c : ℕ) → Found p m v c → v < places_of p
   within v c found = rw found.at (place_within p found.t found.q found.is_state found.is_from)
 
   small : (v c : ℕ) → Found p m v c → c ≤ bound_of p
-  small v c found = subst (λ k. k ≤ bound_of p) found.counts (trail_small p m machine some accepts found.steps found.t found.q found.trail found.is_state found.is_from)
+  small v c found = subst (λ k. k ≤ bound_of p) found.counts (trail_small p m machine some found.steps found.t found.q found.once)
 
   -- what an edge asks of levels, from a state and on a letter
   Kept : (ℕ → ℕ) → ℕ → ℕ → Edge → Type 0
-  Kept f t read e = Fits e.cube (whole_letter p.side m t read) → 0 < f (place p t e.from) → f (place p t e.from) + rise p (place p (next_of m t read) e.to) ≤ f (place p (next_of m t read) e.to)
+  Kept f t read e = Fits e.cube (letter_of p.side m t read) → 0 < f (place p t e.from) → f (place p t e.from) + rise p (place p (next_of m t read) e.to) ≤ f (place p (next_of m t read) e.to)
 
   kept_or_wants : (f : ℕ → ℕ) (t read : ℕ) → t < p.size → read < 2 ^ m.reads → (e : Edge) → Contains (automaton_of p).edges e → Kept f t read e ⊎ Wants (rise p) (Arrow p m) f
   unfolding Kept
   kept_or_wants f t read ht hi e there =
-      elim (fits_or_not e.cube (whole_letter p.side m t read)) [
+      elim (fits_or_not e.cube (letter_of p.side m t read)) [
         | inr misses ↦ inl (λ it_fits _. absurd (misses it_fits))
         | inl it_fits ↦ elim (cases_lt (f (place p (next_of m t read) e.to)) (f (place p t e.from) + rise p (place p (next_of m t read) e.to))) [
           | inr enough ↦ inl (λ _ _. enough)
@@ -161,8 +171,8 @@ module _ (p : Problem) (m : MachineModel) (made : IsAutomaton (automaton_of p)) 
         | inr v ↦ inr v
       ]
 
-  levels : ClosedLevels (rise p) (Arrow p m) (Found p m)
-  levels = closed_levels (places_of p) (bound_of p) (rise p) (Arrow p m) (Found p m) start along within small look
+  levels : ClosedLevels (rise p) (Arrow p m) (Found p m) ⊎ HasRejectingRun p m
+  levels = closed_levels (places_of p) (bound_of p) (rise p) (Arrow p m) (Found p m) start (HasRejectingRun p m) along within small look
 
   module _ (found : ClosedLevels (rise p) (Arrow p m) (Found p m)) where
     numbers : List (Option ℕ)
@@ -196,7 +206,7 @@ module _ (p : Problem) (m : MachineModel) (made : IsAutomaton (automaton_of p)) 
           has_number 0 0 (rise_at (automaton_of p) 0) (rw (sym fits.size) some) n (rw (← same) here);
       edges = λ t q c read r ht hq e hi edge.
           let level : found.level (place p t q) ≡ suc c = level_is t q c ht hq e in
-          let to : r < states_of (automaton_of p) = to_within (automaton_of p) (whole_letter p.side m t read) q r made edge in
+          let to : r < states_of (automaton_of p) = to_within (automaton_of p) (letter_of p.side m t read) q r made edge in
           let t_small : t < size_of m = rw fits.size ht in
           let next_small : next_of m t read < size_of m = machine.nexts t read t_small hi in
           let arrow : Arrow p m (place p t q) (place p (next_of m t read) r) = record {
@@ -224,5 +234,8 @@ module _ (p : Problem) (m : MachineModel) (made : IsAutomaton (automaton_of p)) 
       valid = valid;
     }
 
-  pub has_annotation : HasValidAnnotation p m
-  has_annotation = annotation levels
+  pub annotation_or_run : HasValidAnnotation p m ⊎ HasRejectingRun p m
+  annotation_or_run = elim levels [ inl found ↦ inl (annotation found) | inr refuted ↦ inr refuted ]
+
+  pub has_annotation : SideAccepts (automaton_of p) p.side m → HasValidAnnotation p m
+  has_annotation accepts = elim annotation_or_run [ inl annotation ↦ annotation | inr refuted ↦ absurd (accepts refuted.word (refuted.states, refuted.run) refuted.accepted) ]

@@ -1,33 +1,13 @@
--- Whole letters and their two parts; automaton edges and their states; the test of a cube.
-use Rattle.std.proofs.Common.{◌≡◌, ℕ, ◌^◌, ◌<◌, ◌⊎◌, inl, inr}
+-- Automaton edges and their states; the test of a cube.
+use Rattle.std.proofs.Common.{ℕ, ◌<◌, ◌⊎◌, inl, inr}
 use Rattle.std.specs.Prelude.{bit_and}
 use Rattle.std.proofs.lemmas.Bool.{cases_eq}
-use Rattle.std.proofs.lemmas.Nat.{div-add-mod', div-mul-add, mod-mul-add}
 use Rattle.std.proofs.lemmas.List.Elements.{All-contains}
 use Rattle.letter_word.specs.declared.cubes.Cube.{Cube}
-use Rattle.letter_word.specs.declared.kinds.Side.{Side}
-use Rattle.letter_word.specs.declared.kinds.Side.TheVariants.{System, Environment}
 use Rattle.letter_word.specs.declared.letters.Letter.{Letter}
 use Rattle.letter_word.specs.Cube.{Fits}
 use Rattle.letter_word.proofs.Sets.{apart, apart_empty, covers, covered}
 use Rattle.machine_model.specs.Automaton.{AutomatonModel, HasEdge, IsAutomaton, JoinsStates, states_of}
-use Rattle.machine_model.specs.Machine.{MachineModel}
-use Rattle.machine_model.specs.Run.{joined, read_part, written_part}
-
-pub read_part-joined : (side : Side) (m : MachineModel) (read written : ℕ) → read < 2 ^ m.reads → written < 2 ^ m.writes
-    → read_part side m (record { 0 = joined side m read written }) ≡ read
-read_part-joined System m read written hr hw = mod-mul-add written (2 ^ m.reads) read hr
-read_part-joined Environment m read written hr hw = div-mul-add read (2 ^ m.writes) written hw
-
-pub written_part-joined : (side : Side) (m : MachineModel) (read written : ℕ) → read < 2 ^ m.reads → written < 2 ^ m.writes
-    → written_part side m (record { 0 = joined side m read written }) ≡ written
-written_part-joined System m read written hr hw = div-mul-add written (2 ^ m.reads) read hr
-written_part-joined Environment m read written hr hw = mod-mul-add read (2 ^ m.writes) written hw
-
-pub joined-parts : (side : Side) (m : MachineModel) (letter : Letter)
-    → joined side m (read_part side m letter) (written_part side m letter) ≡ letter.0
-joined-parts System m letter = div-add-mod' letter.0 (2 ^ m.reads)
-joined-parts Environment m letter = div-add-mod' letter.0 (2 ^ m.writes)
 
 pub to_within : (a : AutomatonModel) (letter : Letter) (q r : ℕ) → IsAutomaton a → HasEdge a letter q r → r < states_of a
 to_within a letter q r made e =

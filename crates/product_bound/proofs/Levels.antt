@@ -1,5 +1,6 @@
 -- Levels that are closed under the arrows of a finite graph. A node's level is 0 where no number was found for it yet, else
--- one more than its number. Where no number passes b, raising levels as long as an arrow wants it comes to an end.
+-- one more than its number. Where no number passes b, raising levels as long as an arrow wants it comes to an end. An arrow
+-- may show V in place of a number.
 use Rattle.std.proofs.Common.{◌≡◌, ℕ, zero, suc, ◌+◌, ◌-◌, ◌*◌, ◌<◌, ◌≤◌, ◌⊎◌, inl, inr, sym, ap, ◌∙◌, subst, arith}
 use Rattle.std.proofs.lemmas.Bool.{cases_eq}
 use Rattle.product_bound.proofs.Sums.{sum_below, sum_below-most, sum_below-with_value, with_value, with_value-same, with_value-other}
@@ -25,16 +26,14 @@ pub record ClosedLevels (r : ℕ → ℕ) (Arrow : ℕ → ℕ → Type 0) (Foun
   pub sound : Sound r Found level
   pub closed : IsClosed r Arrow level
 
-module _ (n b : ℕ) (r : ℕ → ℕ) (Arrow : ℕ → ℕ → Type 0) (Found : ℕ → ℕ → Type 0) (start : Found 0 (r 0)) (along : (u v c : ℕ) → Arrow u v → Found u c → Found v (c + r v)) (within : (v c : ℕ) → Found v c → v < n) (bounded : (v c : ℕ) → Found v c → c ≤ b) (look : (f : ℕ → ℕ) → IsClosed r Arrow f ⊎ Wants r Arrow f) where
-  raised : (f : ℕ → ℕ) → Sound r Found f → (w : Wants r Arrow f) → Sound r Found (with_value f w.to (f w.from + r w.to))
-  raised f sound w = record {
+module _ (n b : ℕ) (r : ℕ → ℕ) (Arrow : ℕ → ℕ → Type 0) (Found : ℕ → ℕ → Type 0) (start : Found 0 (r 0)) (V : Type 0) (along : (u v c : ℕ) → Arrow u v → Found u c → Found v (c + r v) ⊎ V) (within : (v c : ℕ) → Found v c → v < n) (bounded : (v c : ℕ) → Found v c → c ≤ b) (look : (f : ℕ → ℕ) → IsClosed r Arrow f ⊎ Wants r Arrow f) where
+  raised : (f : ℕ → ℕ) → Sound r Found f → (w : Wants r Arrow f) → Found w.to ((f w.from - 1) + r w.to) → Sound r Found (with_value f w.to (f w.from + r w.to))
+  raised f sound w there = record {
     found = λ v c e. elim (cases_eq v w.to) [
       | inl same ↦
           let level : with_value f w.to (f w.from + r w.to) v ≡ f w.from + r w.to = rw same (with_value-same f w.to (f w.from + r w.to)) in
           let has : 0 < f w.from = w.has in
-          let before : f w.from ≡ suc (f w.from - 1) = omega arith in
           let is : (f w.from - 1) + r w.to ≡ c = omega (arith, level, e) in
-          let there : Found w.to ((f w.from - 1) + r w.to) = along w.from w.to (f w.from - 1) w.arrow (sound.found w.from (f w.from - 1) before) in
           subst (λ k. Found v k) is (subst (λ k. Found k ((f w.from - 1) + r w.to)) (sym same) there)
       | inr ne ↦ sound.found v c (sym (with_value-other f w.to (f w.from + r w.to) v ne) ∙ e)
     ];
@@ -59,20 +58,23 @@ module _ (n b : ℕ) (r : ℕ → ℕ) (Arrow : ℕ → ℕ → Type 0) (Found :
             omega arith
       ]
 
-  raise : (fuel : ℕ) (f : ℕ → ℕ) → Sound r Found f → n * suc b < sum_below n f + fuel → ClosedLevels r Arrow Found
+  raise : (fuel : ℕ) (f : ℕ → ℕ) → Sound r Found f → n * suc b < sum_below n f + fuel → ClosedLevels r Arrow Found ⊎ V
   raise zero f sound enough =
       let most : sum_below n f ≤ n * suc b = sum_below-most n (suc b) f (λ v _. level_small f sound v) in
       absurd (omega (arith, most, enough))
   raise (suc fuel) f sound enough =
       elim (look f) [
-        | inl closed ↦ record { level = f; sound = sound; closed = closed }
+        | inl closed ↦ inl (record { level = f; sound = sound; closed = closed })
         | inr w ↦
-            let new : Sound r Found (with_value f w.to (f w.from + r w.to)) = raised f sound w in
             let has : 0 < f w.from = w.has in
-            let number : Found w.to ((f w.from - 1) + r w.to) = along w.from w.to (f w.from - 1) w.arrow (sound.found w.from (f w.from - 1) (omega arith)) in
-            let more : sum_below n (with_value f w.to (f w.from + r w.to)) + f w.to ≡ sum_below n f + (f w.from + r w.to) = sum_below-with_value n f w.to (f w.from + r w.to) (within w.to ((f w.from - 1) + r w.to) number) in
-            let low : f w.to < f w.from + r w.to = w.low in
-            raise fuel (with_value f w.to (f w.from + r w.to)) new (omega (arith, more, low, enough))
+            elim (along w.from w.to (f w.from - 1) w.arrow (sound.found w.from (f w.from - 1) (omega arith))) [
+              | inr v ↦ inr v
+              | inl number ↦
+                  let new : Sound r Found (with_value f w.to (f w.from + r w.to)) = raised f sound w number in
+                  let more : sum_below n (with_value f w.to (f w.from + r w.to)) + f w.to ≡ sum_below n f + (f w.from + r w.to) = sum_below-with_value n f w.to (f w.from + r w.to) (within w.to ((f w.from - 1) + r w.to) number) in
+                  let low : f w.to < f w.from + r w.to = w.low in
+                  raise fuel (with_value f w.to (f w.from + r w.to)) new (omega (arith, more, low, enough))
+            ]
       ]
 
   only_start : ℕ → ℕ
@@ -93,5 +95,5 @@ module _ (n b : ℕ) (r : ℕ → ℕ) (Arrow : ℕ → ℕ → Type 0) (Found :
     start = omega (arith, with_value-same (λ _. 0) 0 (suc (r 0)));
   }
 
-  pub closed_levels : ClosedLevels r Arrow Found
+  pub closed_levels : ClosedLevels r Arrow Found ⊎ V
   closed_levels = raise (suc (n * suc b)) only_start start_sound (omega arith)

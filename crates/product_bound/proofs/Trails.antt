@@ -1,17 +1,17 @@
--- Trails of the product: the steps that were taken, the latest first. Where a side accepts a machine, no trail meets a pair
--- with a rejecting state twice, so none meets more of them than there are.
-use Rattle.std.proofs.Common.{◌≡◌, ℕ, zero, suc, ◌+◌, ◌-◌, ◌*◌, ◌/◌, ◌%◌, ◌<◌, ◌≤◌, inl, inr, List, [], ◌∷◌, ◌++◌, length, refl, sym, ap, ◌∙◌, subst, arith, Bool, true, false, cond}
+-- Trails of the product: the steps that were taken, the latest first. A trail that meets a pair with a rejecting state twice
+-- has a rejecting run; one that doesn't meets no more of them than there are.
+use Rattle.std.proofs.Common.{◌≡◌, ℕ, zero, suc, ◌+◌, ◌-◌, ◌*◌, ◌/◌, ◌%◌, ◌<◌, ◌≤◌, ◌⊎◌, inl, inr, List, [], ◌∷◌, ◌++◌, length, refl, sym, ap, ◌∙◌, subst, arith, Bool, true, false, cond}
 use Rattle.std.specs.Prelude.{Contains, IsTrue}
-use Rattle.std.proofs.lemmas.Bool.{cases_eq}
+use Rattle.std.proofs.lemmas.Bool.{cases_eq, cases_lt}
 use Rattle.std.proofs.lemmas.List.{get_or_append_left, get_or_push, length_push}
 use Rattle.std.proofs.lemmas.Nat.{div-mul-add, mod-mul-add, mul-add-lt}
 use Rattle.std.proofs.Math.Nat.{mul_comm}
-use Rattle.machine_model.specs.Accepts.{SideAccepts}
 use Rattle.machine_model.specs.Automaton.{rejects, states_of}
 use Rattle.machine_model.specs.Machine.{MachineModel, IsMachine, size_of}
 use Rattle.machine_model.specs.Problem.{automaton_of}
 use Rattle.machine_model.specs.declared.problems.Problem.{Problem}
 use Rattle.product_bound.specs.Annotation.{bound_of, places_of, rise_at}
+use Rattle.product_bound.specs.Laws.{HasRejectingRun}
 use Rattle.product_bound.specs.Product.{IsProductPath, IsRejectingCycle, Leads, states_of_cycle, step_at, word_of_cycle}
 use Rattle.product_bound.specs.declared.laws.ProductStep.{ProductStep}
 use Rattle.product_bound.proofs.Cycle.{accepted, run}
@@ -132,10 +132,25 @@ was_at p m (step ∷ steps) s r t q trail hq (suc k, h, e) =
       same_q = ap (λ x. x.q) here ∙ before.same_q;
     }
 
-module _ (p : Problem) (m : MachineModel) (machine : IsMachine m) (some : 0 < size_of m) (accepts : SideAccepts (automaton_of p) p.side m) where
-  -- a pair with a rejecting state isn't met again
-  not_again : (steps : List ProductStep) (t q : ℕ) → Trail p m steps t q → q < states_of (automaton_of p) → 0 < rise p (place p t q) → Contains (places p steps) (place p t q) → ⊥
-  not_again steps t q trail hq counts there =
+contains_or_not : (xs : List ℕ) (x : ℕ) → Contains xs x ⊎ (Contains xs x → ⊥)
+contains_or_not [] x = inr (λ there. absurd (let within : there.0 < 0 = there.1 in omega arith))
+contains_or_not (y ∷ ys) x =
+    elim (cases_eq y x) [
+      | inl e ↦ inl (0, omega arith, e)
+      | inr ne ↦ elim (contains_or_not ys x) [
+        | inl there ↦ inl (suc there.0, (let within : there.0 < length ys = there.1 in omega arith), there.2)
+        | inr none ↦ inr (later ne none)
+      ]
+    ]
+  where
+    later : (y ≡ x → ⊥) → (Contains ys x → ⊥) → Contains (y ∷ ys) x → ⊥
+    later ne none (zero, h, e) = ne e
+    later ne none (suc k, h, e) = none (k, omega arith, e)
+
+module _ (p : Problem) (m : MachineModel) (machine : IsMachine m) (some : 0 < size_of m) where
+  -- where a pair with a rejecting state is met again, the steps since then are a rejecting run
+  met_again : (steps : List ProductStep) (t q : ℕ) → Trail p m steps t q → q < states_of (automaton_of p) → 0 < rise p (place p t q) → Contains (places p steps) (place p t q) → HasRejectingRun p m
+  met_again steps t q trail hq counts there =
       let was : WasAt steps t q = was_at p m steps t q t q trail hq there in
       let inside : was.at < length (front steps) = was.inside in
       let path : List ProductStep = front steps ++ (at_pair t q ∷ []) in
@@ -154,20 +169,34 @@ module _ (p : Problem) (m : MachineModel) (machine : IsMachine m) (some : 0 < si
         met_below = omega arith;
         rejecting = subst (λ k. IsTrue (rejects (automaton_of p) k)) (sym (ap (λ x. x.q) here ∙ was.same_q)) rejecting;
       } in
-      accepts (word_of_cycle p m path was.at) (states_of_cycle path, run p m path was.at machine some cycle) (accepted p m path was.at machine some cycle)
+      record {
+        word = word_of_cycle p m path was.at;
+        states = states_of_cycle path;
+        run = run p m path was.at machine some cycle;
+        accepted = accepted p m path was.at machine some cycle;
+      }
     where
       rejecting_here : (b : Bool) → 0 < cond b 1 0 → IsTrue b
       rejecting_here true h = refl
       rejecting_here false h = absurd (omega arith)
 
-  once : (steps : List ProductStep) (t q : ℕ) → Trail p m steps t q → t < p.size → q < states_of (automaton_of p) → Once (places_of p) (rise p) (place p t q ∷ places p steps)
-  once [] t q trail ht hq = (place_within p t q ht hq, (not_again [] t q trail hq, tt))
-  once (step ∷ steps) t q trail ht hq = (
-    place_within p t q ht hq,
-    (not_again (step ∷ steps) t q trail hq, once steps step.t step.q trail.1.1.1 trail.0 trail.1.0),
-  )
+  -- a trail on which none is met twice
+  abbrev pub IsOnce : List ProductStep → ℕ → ℕ → Type 0
+  IsOnce steps t q = Once (places_of p) (rise p) (place p t q ∷ places p steps)
 
-  pub trail_small : (steps : List ProductStep) (t q : ℕ) → Trail p m steps t q → t < p.size → q < states_of (automaton_of p) → total (rise p) (place p t q ∷ places p steps) ≤ bound_of p
-  trail_small steps t q trail ht hq =
-      let most : total (rise p) (place p t q ∷ places p steps) ≤ sum_below (places_of p) (rise p) = total-once (places_of p) (rise p) (place p t q ∷ places p steps) (once steps t q trail ht hq) in
+  -- one more pair
+  pub once_or_run : (steps : List ProductStep) (t q : ℕ) → Trail p m steps t q → t < p.size → q < states_of (automaton_of p) → Once (places_of p) (rise p) (places p steps)
+      → IsOnce steps t q ⊎ HasRejectingRun p m
+  once_or_run steps t q trail ht hq once =
+      elim (cases_lt 0 (rise p (place p t q))) [
+        | inr none ↦ inl (place_within p t q ht hq, ((λ counts _. absurd (omega (arith, none, counts))), once))
+        | inl counts ↦ elim (contains_or_not (places p steps) (place p t q)) [
+          | inl there ↦ inr (met_again steps t q trail hq counts there)
+          | inr new ↦ inl (place_within p t q ht hq, ((λ _ there. new there), once))
+        ]
+      ]
+
+  pub trail_small : (steps : List ProductStep) (t q : ℕ) → IsOnce steps t q → total (rise p) (place p t q ∷ places p steps) ≤ bound_of p
+  trail_small steps t q once =
+      let most : total (rise p) (place p t q ∷ places p steps) ≤ sum_below (places_of p) (rise p) = total-once (places_of p) (rise p) (place p t q ∷ places p steps) once in
       rw (← all_rises p) most

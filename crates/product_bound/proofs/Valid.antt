@@ -4,12 +4,14 @@ use Rattle.letter_word.specs.Word.{Word, lasso_len, next, letter_at}
 use Rattle.letter_word.proofs.Positions.{next_within, next-inner}
 use Rattle.machine_model.specs.Accepts.{Accepts, Path}
 use Rattle.machine_model.specs.Automaton.{HasEdge, IsAutomaton, states_of}
+use Rattle.machine_model.specs.Course.{letter_of}
 use Rattle.machine_model.specs.Machine.{MachineModel, IsMachine, next_of, size_of, writes_of}
 use Rattle.machine_model.specs.Problem.{IsMachineOf, automaton_of}
 use Rattle.machine_model.specs.Run.{IsRunLasso, joined, read_part}
 use Rattle.machine_model.specs.declared.problems.Problem.{Problem}
-use Rattle.product_bound.specs.Annotation.{HasNumber, IsValidAnnotation, number_at, rise_at, whole_letter}
-use Rattle.product_bound.proofs.Letters.{joined-parts, to_within}
+use Rattle.product_bound.specs.Annotation.{HasNumber, IsValidAnnotation, number_at, rise_at}
+use Rattle.machine_model.proofs.Readings.{joined-parts}
+use Rattle.product_bound.proofs.Letters.{to_within}
 
 -- a run's states are the machine's
 pub states_within : (p : Problem) (m : MachineModel) (w : Word) (states : List ℕ) → IsMachine m → IsRunLasso m p.side w states
@@ -30,7 +32,7 @@ record Reaches (p : Problem) (numbers : List (Option ℕ)) (w : Word) (states : 
   has : HasNumber p numbers (slice_index states i) q least
 
 module _ (p : Problem) (m : MachineModel) (numbers : List (Option ℕ)) (w : Word) (states : List ℕ) (made : IsAutomaton (automaton_of p)) (machine : IsMachine m) (fits : IsMachineOf p m) (some : 0 < size_of m) (valid : IsValidAnnotation p m numbers) (run : IsRunLasso m p.side w states) where
-  letter_is : (i : ℕ) → i < lasso_len w → whole_letter p.side m (slice_index states i) (read_part p.side m (letter_at w i)) ≡ letter_at w i
+  letter_is : (i : ℕ) → i < lasso_len w → letter_of p.side m (slice_index states i) (read_part p.side m (letter_at w i)) ≡ letter_at w i
   letter_is i h =
       let e : joined p.side m (read_part p.side m (letter_at w i)) (writes_of m (slice_index states i) (read_part p.side m (letter_at w i))) ≡ (letter_at w i).0
       = rw (sym (run.writes i h)) (joined-parts p.side m (letter_at w i)) in
@@ -42,7 +44,7 @@ module _ (p : Problem) (m : MachineModel) (numbers : List (Option ℕ)) (w : Wor
       let s : ℕ = slice_index states i in
       let read : ℕ = read_part p.side m (letter_at w i) in
       let small : s < p.size = rw (sym fits.size) (states_within p m w states machine run some i at.position) in
-      let edge' : HasEdge (automaton_of p) (whole_letter p.side m s read) q r = subst (λ l. HasEdge (automaton_of p) l q r) (sym (letter_is i at.position)) edge in
+      let edge' : HasEdge (automaton_of p) (letter_of p.side m s read) q r = subst (λ l. HasEdge (automaton_of p) l q r) (sym (letter_is i at.position)) edge in
       let after : HasNumber p numbers (next_of m s read) r (at.has.number + rise_at (automaton_of p) r)
       = valid.edges s q at.has.number read r small at.state at.has.stands (run.reads i at.position) edge' in
       let enough : least ≤ at.has.number = at.has.enough in

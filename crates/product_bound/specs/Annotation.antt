@@ -1,10 +1,8 @@
 use Rattle.std.specs.Prelude.{◌≡◌, ℕ, ◌+◌, ◌*◌, ◌^◌, ◌<◌, ◌≤◌, List, Option, Some, None, count_by, slice_index_or, if◌then◌else◌}
-use Rattle.letter_word.specs.declared.kinds.Side.{Side}
-use Rattle.letter_word.specs.declared.letters.Letter.{Letter}
 use Rattle.machine_model.specs.Automaton.{AutomatonModel, HasEdge, rejects, states_of}
-use Rattle.machine_model.specs.Machine.{MachineModel, next_of, writes_of}
+use Rattle.machine_model.specs.Course.{letter_of}
+use Rattle.machine_model.specs.Machine.{MachineModel, next_of}
 use Rattle.machine_model.specs.Problem.{automaton_of}
-use Rattle.machine_model.specs.Run.{joined}
 use Rattle.machine_model.specs.declared.problems.Problem.{Problem}
 
 -- how much a number rises at an edge into a state: 1 where the state is rejecting, else 0 (bounded synthesis of
@@ -29,10 +27,6 @@ places_of p = p.size * states_of (automaton_of p)
 abbrev pub number_at : Problem → List (Option ℕ) → ℕ → ℕ → Option ℕ
 number_at p numbers t q = slice_index_or numbers (t * states_of (automaton_of p) + q) None
 
--- the whole letter of what a machine reads in state t and what it then writes
-abbrev pub whole_letter : Side → MachineModel → ℕ → ℕ → Letter
-whole_letter side m t read = record { 0 = joined side m read (writes_of m t read) }
-
 -- the pair (t, q) has a number of at least `least`
 pub record HasNumber (p : Problem) (numbers : List (Option ℕ)) (t q least : ℕ) : Type 0 where
   pub number : ℕ
@@ -46,5 +40,5 @@ pub record IsValidAnnotation (p : Problem) (m : MachineModel) (numbers : List (O
   pub bounded : (t q c : ℕ) → t < p.size → q < states_of (automaton_of p) → number_at p numbers t q ≡ Some c → c ≤ bound_of p
   pub start : HasNumber p numbers 0 0 (rise_at (automaton_of p) 0)
   pub edges : (t q c i r : ℕ) → t < p.size → q < states_of (automaton_of p) → number_at p numbers t q ≡ Some c → i < 2 ^ m.reads
-      → HasEdge (automaton_of p) (whole_letter p.side m t i) q r
+      → HasEdge (automaton_of p) (letter_of p.side m t i) q r
       → HasNumber p numbers (next_of m t i) r (c + rise_at (automaton_of p) r)

@@ -1,10 +1,11 @@
 use Rattle.std.specs.Prelude.{◌≡◌, ℕ, ◌+◌, ◌^◌, ◌<◌, ◌≤◌, All, List, Option, Some}
 use Rattle.letter_word.specs.Cube.{Fits}
+use Rattle.machine_model.specs.Course.{letter_of}
 use Rattle.machine_model.specs.Machine.{MachineModel, next_of}
 use Rattle.machine_model.specs.Problem.{automaton_of}
 use Rattle.machine_model.specs.declared.automata.Edge.{Edge}
 use Rattle.machine_model.specs.declared.problems.Problem.{Problem}
-use Rattle.product_bound.specs.Annotation.{HasNumber, number_at, rise_at, whole_letter}
+use Rattle.product_bound.specs.Annotation.{HasNumber, number_at, rise_at}
 
 -- The rule of a valid annotation, part by part (this project's own).
 
@@ -18,7 +19,7 @@ pub record KeepsNumber (p : Problem) (numbers : List (Option ℕ)) (t q s r : �
 
 -- so it is along this edge, from state t on this read letter, if it fits the whole letter
 pub record KeepsEdge (p : Problem) (m : MachineModel) (numbers : List (Option ℕ)) (t read : ℕ) (e : Edge) : Type 0 where
-  pub edge : Fits e.cube (whole_letter p.side m t read) → KeepsNumber p numbers t e.from (next_of m t read) e.to
+  pub edge : Fits e.cube (letter_of p.side m t read) → KeepsNumber p numbers t e.from (next_of m t read) e.to
 
 -- along each edge
 pub record KeepsEdges (p : Problem) (m : MachineModel) (numbers : List (Option ℕ)) (t read : ℕ) : Type 0 where

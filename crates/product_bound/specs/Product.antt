@@ -2,10 +2,10 @@ use Rattle.std.specs.Prelude.{◌≡◌, ℕ, ◌+◌, ◌-◌, ◌^◌, ◌<◌
 use Rattle.letter_word.specs.declared.letters.Letter.{Letter}
 use Rattle.letter_word.specs.Word.{Word}
 use Rattle.machine_model.specs.Automaton.{HasEdge, rejects}
+use Rattle.machine_model.specs.Course.{letter_of}
 use Rattle.machine_model.specs.Machine.{MachineModel, next_of, size_of}
 use Rattle.machine_model.specs.Problem.{automaton_of}
 use Rattle.machine_model.specs.declared.problems.Problem.{Problem}
-use Rattle.product_bound.specs.Annotation.{whole_letter}
 use Rattle.product_bound.specs.declared.laws.ProductStep.{ProductStep}
 
 -- the step at a place of a path, by default the start
@@ -16,7 +16,7 @@ step_at path k = slice_index_or path k (record { t = 0; q = 0; letter = 0 })
 pub record Leads (p : Problem) (m : MachineModel) (step after : ProductStep) : Type 0 where
   pub letter : step.letter < 2 ^ m.reads
   pub moves : after.t ≡ next_of m step.t step.letter
-  pub edge : HasEdge (automaton_of p) (whole_letter p.side m step.t step.letter) step.q after.q
+  pub edge : HasEdge (automaton_of p) (letter_of p.side m step.t step.letter) step.q after.q
 
 -- a step of the machine's: one of its states, and a letter that it reads
 pub record IsStepOf (m : MachineModel) (step : ProductStep) : Type 0 where
@@ -44,7 +44,7 @@ pub record IsRejectingCycle (p : Problem) (m : MachineModel) (path : List Produc
 
 -- the whole letters of steps
 abbrev pub letters_of : Problem → MachineModel → List ProductStep → List Letter
-letters_of p m steps = map (λ step. whole_letter p.side m step.t step.letter) steps
+letters_of p m steps = map (λ step. letter_of p.side m step.t step.letter) steps
 
 -- the word of a path that comes back to place `from`: what is read and written before `from` once, and then again
 -- and again what is read and written up to the end

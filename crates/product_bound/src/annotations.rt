@@ -1,13 +1,11 @@
 ghost use Rattle.std.specs.Prelude.{◌≡◌, ◌↔◌, ◌^◌, ◌<◌, All, IsTrue, length};
 ghost use Rattle.machine_model.specs.Accepts.{SideAccepts};
 ghost use Rattle.machine_model.specs.Automaton.{states_of};
-ghost use Rattle.machine_model.specs.Machine.{size_of};
 ghost use Rattle.machine_model.specs.Problem.{IsMachineOf, IsProblem, automaton_of};
-ghost use Rattle.product_bound.specs.Annotation.{HasNumber, IsValidAnnotation, bound_of, number_at, places_of, rise_at, whole_letter};
+ghost use Rattle.product_bound.specs.Annotation.{HasNumber, IsValidAnnotation, bound_of, number_at, places_of, rise_at};
 ghost use Rattle.product_bound.specs.Kept.{IsWithin, KeepsEdges, KeepsLetters, KeepsNumber, KeepsStates};
 
-use letter_word::{Letter, Side};
-use machine_model::{Automaton, Machine, Problem};
+use machine_model::{Automaton, Machine, Problem, whole_letter};
 
 /// How often rejecting states may have been met where the machine and the automaton are in two states at once.
 ///
@@ -141,7 +139,7 @@ fn keeps_edges(
     requires letter { read < 2 ^ machine.now.reads }
     ensures { IsTrue result ↔ KeepsEdges problem.now machine.now numbers.now t read }
 {
-    let letter = whole_letter(problem.side, machine, t, read);
+    let letter = whole_letter(machine, problem.side, t, read);
     let next = machine.next(t, read);
     let edges = problem.automaton.edges();
     for edge in edges {
@@ -204,17 +202,4 @@ fn rise_at(automaton: &Automaton, q: u32) -> u32
     ensures { result ≡ rise_at automaton.now q }
 {
     if automaton.is_rejecting(q) { 1 } else { 0 }
-}
-
-/// The letter of what the machine reads in state `t` and of what it then writes.
-pub(crate) fn whole_letter(side: Side, machine: &Machine, t: u32, read: u32) -> Letter
-    requires state { t < size_of machine.now }
-    requires letter { read < 2 ^ machine.now.reads }
-    ensures { result ≡ whole_letter side machine.now t read }
-{
-    let written = machine.writes_at(t, read);
-    match side {
-        Side::System => Letter((written << machine.reads()) + read),
-        Side::Environment => Letter((read << machine.writes()) + written),
-    }
 }

@@ -4,12 +4,12 @@ ghost use Rattle.std.specs.List.{range_with_len};
 ghost use Rattle.machine_model.specs.Accepts.{Accepts};
 ghost use Rattle.machine_model.specs.Problem.{IsMachineOf, IsProblem, automaton_of};
 ghost use Rattle.machine_model.specs.Run.{IsRunLasso};
-ghost use Rattle.product_bound.specs.Laws.{AcceptedIsAnnotated, IsNumberedForm, NumberedSuffices};
+ghost use Rattle.product_bound.specs.Laws.{AcceptedIsAnnotated, AcceptedOrRejected, IsNumberedForm, NumberedSuffices};
 ghost use Rattle.product_bound.specs.Numbered.{named_before, numbered_of, numbered_row, place_in};
 
-use crate::annotations::{letter_count, whole_letter};
+use crate::annotations::letter_count;
 use letter_word::{Lasso, Letter};
-use machine_model::{Machine, Problem, Row, RunLasso};
+use machine_model::{Machine, Problem, Row, RunLasso, whole_letter};
 use std::alloc::{AllocError, Global};
 
 /// A step of a path in the product of a machine and an automaton: the pair of their states, and the letter that the
@@ -64,7 +64,7 @@ fn letters_of(
 {
     let mut letters = Vec::with_capacity(alloc, steps.len())?;
     for step in steps {
-        letters.push(whole_letter(problem.side, machine, step.t, step.letter))?;
+        letters.push(whole_letter(machine, problem.side, step.t, step.letter))?;
     }
     Ok(letters)
 }
@@ -148,6 +148,11 @@ fn place_in(states: &[u32], state: u32) -> usize
 /// A side accepts a machine exactly where the machine has a valid annotation.
 pub fn accepted_is_annotated()
     ensures { AcceptedIsAnnotated }
+{}
+
+/// A machine of a problem is accepted by its side, or has a run that the side's automaton accepts.
+pub fn accepted_or_rejected()
+    ensures { AcceptedOrRejected }
 {}
 
 /// Each machine has a numbered one of its kind and size with the same run lassos.

@@ -2,7 +2,8 @@
 //!
 //! The contract above this layer: a side accepts a machine exactly where it has a valid annotation, whose numbers are
 //! at most the number of the machine's states times that of rejecting states. `laws` has this, the run lasso that a
-//! cycle through a rejecting state gives, and that each machine has a numbered one with the same runs.
+//! cycle through a rejecting state gives, that a machine which isn't accepted has such a run, and that each machine has a
+//! numbered one with the same runs.
 //! It stands on machine_model.
 #![tactic(auto)]
 

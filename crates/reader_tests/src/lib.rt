@@ -1,14 +1,7 @@
-// Tests of whole texts that are read or refused, each refusal with its byte: trees of expressions, spellings, and the parts of a text.
-// What it calls is the public surface of tlsf_reader; it stands on it, tlsf_tree, tlsf_tokens, letter_word and text_base.
+// Tests of what no tree shows as text: the bytes that trees span, and that a text of a million bytes is read. All else that is read or
+// refused is told by the stored run of text_rows. What it calls is the public surface of tlsf_reader; it stands on it, tlsf_tree,
+// tlsf_tokens and text_base.
 #![tactic(auto)]
 
 #[cfg(test)]
-mod expressions;
-#[cfg(test)]
-mod fixtures;
-#[cfg(test)]
-mod printing;
-#[cfg(test)]
 mod reading;
-#[cfg(test)]
-mod spellings;

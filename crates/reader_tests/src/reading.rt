@@ -1,193 +1,107 @@
-// Trees and refusals of whole texts.
+// Spans, and the longest text.
 
-use crate::fixtures::{HEAD, assert_refused, asserting, first_formula, joined, repeat, text_of};
 use std::alloc::Global;
 use std::process::Abort;
 use std::test::Fail;
 use tlsf_reader::{MOST_BYTES, read};
-use tlsf_tokens::SpecCode;
-use tlsf_tree::{Body, Definition, Form, Shape};
+use tlsf_tokens::{SpecCode, SpecFault};
+use tlsf_tree::{Expr, Form, SpecTree};
 
-/// The text of this MAIN is refused for this reason at this byte of what stands in MAIN.
-fn assert_main_refused(
+/// INFO, and MAIN up to its opening brace: 75 bytes.
+const HEAD: &[u8] =
+    b"INFO { TITLE: \"t\" DESCRIPTION: \"d\" SEMANTICS: Mealy TARGET: Mealy } MAIN { ";
+
+fn joined(alloc: Global, parts: &[&[u8]]) -> Result<Vec<u8>, Fail> {
+    let mut text = Vec::new(alloc);
+    for part in parts {
+        text.extend_from_slice(part)?;
+    }
+    Ok(text)
+}
+
+/// So many of these bytes.
+fn repeat(alloc: Global, bytes: &[u8], times: usize) -> Result<Vec<u8>, Fail> {
+    let mut text = Vec::new(alloc);
+    for _ in 0..times {
+        text.extend_from_slice(bytes)?;
+    }
+    Ok(text)
+}
+
+/// A text that asserts this formula and nothing else. The formula begins at byte 107.
+fn assertion(alloc: Global, formula: &[u8]) -> Result<Vec<u8>, Fail> {
+    joined(
+        alloc,
+        &[HEAD, b"INPUTS { } OUTPUTS { } ASSERT { ", formula, b"; } }"],
+    )
+}
+
+/// The tree of a text that asserts this formula and nothing else.
+fn asserting(alloc: Global, formula: &[u8]) -> Result<SpecTree, Fail> {
+    let text = assertion(alloc, formula)?;
+    Ok(read(alloc, &text)?)
+}
+
+/// The first formula that stands in the sections.
+fn first_formula(tree: &SpecTree) -> Result<&Expr, Fail> {
+    match tree.sections.iter().flatten().next() {
+        Some(formula) => Ok(formula),
+        None => Err(Fail::from("no formula")),
+    }
+}
+
+// ---- places
+
+/// The formula spans these bytes of it.
+fn assert_span(
     rt: &impl Abort,
     alloc: Global,
-    main: &[u8],
-    code: SpecCode,
-    place: u64,
+    formula: &[u8],
+    start: u64,
+    end: u64,
 ) -> Result<(), Fail> {
-    let text = joined(alloc, &[HEAD, main])?;
-    assert_eq!(rt; HEAD.len(), 75);
-    assert!(rt; place < 1000);
-    assert_refused(rt, alloc, &text, code, place + 75)
-}
-
-#[test]
-fn texts_are_refused_at_their_first_fault(rt: HostRuntime) -> Result<(), Fail> {
-    let alloc = rt.alloc();
-    for (text, code, place) in [
-        (b"".as_slice(), SpecCode::Unexpected, 0),
-        (b"INFO }", SpecCode::Unexpected, 5),
-        (b"INFO $", SpecCode::BadByte, 5),
-        (b"INFO /* { }", SpecCode::Unclosed, 5),
-        (b"INFO ~", SpecCode::Unsupported, 5),
-        (b"INFO { SUM", SpecCode::Unsupported, 7),
-        (b"INFO { ] ~", SpecCode::Unexpected, 7),
-        (
-            b"INFO { TITLE: \"t\" } MAIN { } }",
-            SpecCode::Unexpected,
-            29,
-        ),
-        (b"INFO { TITLE: \"t\" } MAIN { }", SpecCode::Missing, 18),
-        (b"INFO { SEMANTICS: Finite", SpecCode::Unsupported, 18),
-        (
-            b"INFO { SEMANTICS: Mealy, Finite }",
-            SpecCode::Unsupported,
-            25,
-        ),
-        (
-            b"INFO { SEMANTICS: Mealy Finite }",
-            SpecCode::Unexpected,
-            24,
-        ),
-        (
-            b"INFO { SEMANTICS: Strict, Strict }",
-            SpecCode::Unexpected,
-            26,
-        ),
-        (b"INFO { TARGET: Finite }", SpecCode::Unexpected, 15),
-        (b"INFO { TAGS: Finite, TITLE", SpecCode::Unexpected, 21),
-        (
-            b"INFO { TITLE: \"t\" TITLE: \"u\" } MAIN { }",
-            SpecCode::Twice,
-            18,
-        ),
-        (
-            b"INFO { TITLE: \"t\" TITLE: \"u\" } MAIN",
-            SpecCode::Unexpected,
-            35,
-        ),
-    ] {
-        assert_refused(&rt, alloc, text, code, place)?;
-    }
-    Ok(())
-}
-
-#[test]
-fn parts_of_main_are_refused_at_their_places(rt: HostRuntime) -> Result<(), Fail> {
-    let alloc = rt.alloc();
-    for (main, code, place) in [
-        (b"}".as_slice(), SpecCode::Missing, 0),
-        (b"INPUTS { } }", SpecCode::Missing, 11),
-        (b"OUTPUTS { } ASSERT { } }", SpecCode::Missing, 23),
-        (
-            b"INPUTS { } OUTPUTS { } ASSERT { } INVARIANTS { } }",
-            SpecCode::Twice,
-            34,
-        ),
-        (b"INPUTS { a; } OUTPUTS { b; a; } }", SpecCode::Twice, 27),
-        (b"INPUTS { a; a; } }", SpecCode::Twice, 12),
-        (b"OUTPUTS { a; } INPUTS { a; } }", SpecCode::Twice, 24),
-        (b"INPUTS { } ASSERT { a - } }", SpecCode::Unexpected, 24),
-        (b"ASSERT { a &&", SpecCode::Unexpected, 13),
-        (b"ASSERT { a && [ } }", SpecCode::Unexpected, 14),
-        (b"ASSERT { a < b < c; } }", SpecCode::Unexpected, 15),
-        (b"ASSERT { f(); } }", SpecCode::Unexpected, 11),
-        (b"ASSERT { a } }", SpecCode::Unexpected, 11),
-        (b"INPUTS { a; a; } ASSERT { ] } }", SpecCode::Unexpected, 26),
-    ] {
-        assert_main_refused(&rt, alloc, main, code, place)?;
-    }
-    Ok(())
-}
-
-#[test]
-fn definitions_are_refused_at_their_places(rt: HostRuntime) -> Result<(), Fail> {
-    let alloc = rt.alloc();
-    for (global, code, place) in [
-        (
-            b"DEFINITIONS { enum E = A: 2".as_slice(),
-            SpecCode::Unexpected,
-            26,
-        ),
-        (b"DEFINITIONS { enum E = A: 0 1", SpecCode::Unexpected, 28),
-        (b"DEFINITIONS { enum E = A: 0 B x", SpecCode::Unexpected, 30),
-        (
-            b"DEFINITIONS { f = g : b ( c ) : d ;",
-            SpecCode::Unexpected,
-            30,
-        ),
-        (b"DEFINITIONS { f = a h : b ;", SpecCode::Unexpected, 20),
-        (b"DEFINITIONS { f = a && [", SpecCode::Unexpected, 23),
-        (b"DEFINITIONS { f = g : (a && [", SpecCode::Unexpected, 28),
-        (b"DEFINITIONS { f = g : a h && [", SpecCode::Unexpected, 29),
-        (
-            b"PARAMETERS { } DEFINITIONS { } PARAMETERS { }",
-            SpecCode::Twice,
-            31,
-        ),
-        (b"DEFINITIONS { enum E = A: 0 E: 1 }", SpecCode::Twice, 28),
-        (
-            b"DEFINITIONS { n = 1; } PARAMETERS { n = 2; }",
-            SpecCode::Twice,
-            36,
-        ),
-    ] {
-        let text = text_of(alloc, global, b"INPUTS { } OUTPUTS { }")?;
-        assert!(rt; place < 1000);
-        assert_refused(&rt, alloc, &text, code, place + 77)?;
-    }
-    Ok(())
-}
-
-#[test]
-fn the_full_format_is_read(rt: HostRuntime) -> Result<(), Fail> {
-    let alloc = rt.alloc();
-    let global = b"PARAMETERS { n = 3; } DEFINITIONS { enum T = A: 00, 0* B: 1* ; \
-        f(x) = x == 0 : a otherwise : X[2] a; s = {0, 2 .. n} (+) {}; \
-        g = a : b && [i IN s] c[i] : d; }";
-    let main = b"INPUTS { a; c[n]; T t; } OUTPUTS { b; } \
-        REQUIREMENTS { &&[i IN s, 0 <= j < n] c[i] -> F[1:3] a; } INVARIANTS { t == A; f(0); }";
-    let text = text_of(alloc, global, main)?;
-    let tree = read(alloc, &text)?;
+    let tree = asserting(alloc, formula)?;
+    let span = first_formula(&tree)?.span;
+    assert!(rt; start < 1000 && end < 1000);
     assert_eq!(rt;
-        (
-            tree.definitions.len(),
-            tree.inputs.len(),
-            tree.outputs.len()
-        ),
-        (5, 3, 1)
+        (span.start, span.end),
+        (start + 107, end + 107),
+        "{formula:?}"
     );
-    let mut counts = [0; 6];
-    for (count, section) in counts.iter_mut().zip(&tree.sections) {
-        *count = section.len();
-    }
-    assert_eq!(rt; counts, [0, 0, 1, 2, 0, 0]);
-    assert!(rt; matches!(&tree.inputs[2].shape, Shape::Typed(_)));
-    let Definition::Function {
-        body: Body::Guarded(alternatives),
-        ..
-    } = &tree.definitions[4]
-    else {
-        return Err(Fail::from("no guards"));
-    };
-    assert_eq!(rt; alternatives.len(), 2);
     Ok(())
 }
 
 #[test]
-fn written_nesting_is_bounded(rt: HostRuntime) -> Result<(), Fail> {
+fn trees_span_their_texts(rt: HostRuntime) -> Result<(), Fail> {
     let alloc = rt.alloc();
-    let open = repeat(alloc, b"(", 129)?;
-    let text = joined(alloc, &[HEAD, b"INPUTS { } OUTPUTS { } ASSERT { ", &open])?;
-    assert_refused(&rt, alloc, &text, SpecCode::TooDeep, 107 + 126)?;
-    let open = repeat(alloc, b"(", 126)?;
-    let close = repeat(alloc, b")", 126)?;
-    let text = joined(alloc, &[&open, b"a", &close])?;
-    let tree = asserting(alloc, &text)?;
-    assert!(rt; matches!(&first_formula(&tree)?.form, Form::Paren(_)));
+    for (formula, start, end) in [
+        (b" a  ".as_slice(), 1, 2),
+        (b" a + b * c ", 1, 10),
+        (b" ( a ) ", 1, 6),
+        (b" f ( a ) ", 1, 8),
+        (b" { a , b } ", 1, 10),
+        (b" X [ 2 ] a ", 1, 10),
+        (b" && [ i IN s ] a ", 1, 16),
+        (b" a -> b ", 1, 7),
+        (b"a -> b U c", 0, 10),
+        (b"( 71 )", 0, 6),
+    ] {
+        assert_span(&rt, alloc, formula, start, end)?;
+    }
     Ok(())
 }
+
+#[test]
+fn parts_span_their_own_texts(rt: HostRuntime) -> Result<(), Fail> {
+    let tree = asserting(rt.alloc(), b"( 71 )")?;
+    let Form::Paren(part) = &first_formula(&tree)?.form else {
+        return Err(Fail::from("no parentheses"));
+    };
+    assert_eq!(rt; (part.span.start, part.span.end), (109, 111));
+    Ok(())
+}
+
+// ---- length
 
 #[test]
 fn a_text_of_a_million_bytes_is_read(rt: HostRuntime) -> Result<(), Fail> {
@@ -206,5 +120,11 @@ fn a_text_of_a_million_bytes_is_read(rt: HostRuntime) -> Result<(), Fail> {
     assert!(rt; read(alloc, &text).is_ok());
     let blanks = repeat(alloc, b" ", 1000)?;
     let long = joined(alloc, &[&text, &blanks])?;
-    assert_refused(&rt, alloc, &long, SpecCode::TooLong, 1_048_576)
+    let code = SpecCode::TooLong;
+    let place = 1_048_576;
+    assert_eq!(rt;
+        read(alloc, &long).err(),
+        Some(SpecFault::At { code, place })
+    );
+    Ok(())
 }

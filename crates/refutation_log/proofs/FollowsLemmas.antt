@@ -1,8 +1,10 @@
 -- What follows stays so in a longer list, and is implied.
-use Rattle.std.proofs.Common.{◌≡◌, ℕ, suc, zero, ◌-◌, Bool, true, false, not, ◌||◌, nat_eq, cond, List, [], ◌∷◌, ◌++◌, Option, Some, None, map, slice_get, refl, sym, ap, ◌∙◌, true≢false}
+use Rattle.std.proofs.Common.{◌≡◌, ℕ, suc, zero, ◌-◌, ◌<◌, ◌≤◌, ◌≢◌, Bool, true, false, not, ◌||◌, nat_eq, cond, List, [], ◌∷◌, ◌++◌, Option, Some, None, map, slice_get, length, All, refl, sym, ap, ◌∙◌, true≢false, arith}
 use Rattle.std.specs.Cmp.{first_so, second_so}
 use Rattle.std.specs.Option.{option_map_or, option_and_then}
 use Rattle.std.proofs.lemmas.List.Elements.{All-nil, All-cons}
+use Rattle.std.proofs.lemmas.Option.{slice_get_within}
+use Rattle.std.proofs.lemmas.Bool.Decides.{Decides-eqb}
 use Rattle.clause_base.specs.Literal.{Literal, negated}
 use Rattle.clause_base.specs.Truth.{is_true_literal, is_true_clause, meets}
 use Rattle.clause_base.specs.Partial.{is_falsified, unit_of, AgreesWith}
@@ -89,3 +91,26 @@ Follows-implied values clauses clause hints h m = by (is_true_clause values clau
     by : (b : Bool) → is_true_clause values clause ≡ b → b ≡ true
     by true e = refl
     by false e = absurd (no_conflict values clauses (map negated clause) hints m (false_agrees values clause e) h)
+
+-- ---- the clauses that hints name
+
+named : (clauses : List (List Literal)) (n : ℕ) (c : List Literal) → clause_named clauses n ≡ Some c → (0 < n) × (n ≤ length clauses)
+named clauses n c h = by (nat_eq n 0) refl h
+  where
+    by : (b : Bool) → nat_eq n 0 ≡ b → cond b None (slice_get clauses (n - 1)) ≡ Some c → (0 < n) × (n ≤ length clauses)
+    by true e k = absurd (cc)
+    by false e k =
+        let lt = slice_get_within clauses (n - 1) c k in
+        let some : n ≢ 0 = λ z. true≢false (sym ((Decides-eqb n 0).1 z) ∙ e) in
+        (omega arith, omega (arith, lt))
+
+pub hints-named : (clauses : List (List Literal)) (trues : List Literal) (hints : List ℕ) → leads_to_conflict clauses trues hints ≡ true
+    → All (λ n. (0 < n) × (n ≤ length clauses)) hints
+hints-named clauses trues [] h = absurd (true≢false (sym h))
+hints-named clauses trues (n ∷ []) h =
+    let k = behind_test (is_falsified trues) (clause_named clauses n) h in
+    All-cons (λ m. (0 < m) × (m ≤ length clauses)) n [] (named clauses n k.0 k.1) (All-nil (λ m. (0 < m) × (m ≤ length clauses)))
+hints-named clauses trues (n ∷ m ∷ hints) h =
+    let k = behind_test (λ l. leads_to_conflict clauses (l ∷ trues) (m ∷ hints)) (unit_named clauses trues n) h in
+    let c = behind_chain (unit_of trues) (clause_named clauses n) k.0 k.1 in
+    All-cons (λ j. (0 < j) × (j ≤ length clauses)) n (m ∷ hints) (named clauses n c.0 c.1) (hints-named clauses (k.0 ∷ trues) (m ∷ hints) k.2)

@@ -98,7 +98,7 @@ le_cases a b = by (nat_lt a b) refl
     by true e = inl (ltb-true a b e)
     by false e = inr (ltb-false a b e)
 
-unended_before : (log : List Entry) → AllPairs (λ (d e : Entry). d.clause ≢ []) log → is_ended log ≡ false → (k : ℕ) (d : Entry) → k < length log → (get_or log k d).clause ≢ []
+pub unended_before : (log : List Entry) → AllPairs (λ (d e : Entry). d.clause ≢ []) log → is_ended log ≡ false → (k : ℕ) (d : Entry) → k < length log → (get_or log k d).clause ≢ []
 unended_before log pairs open' k d lt e =
     elim (le_cases (k + 1) (length log)) [
       | inl p ↦ pairs k (k + 1) d (omega arith) p e
@@ -138,6 +138,12 @@ legal_push vars base limit log e n h within follows unknown open' below = record
     by i d (inr p) =
         subst (λ (c : Entry). Follows (base ++ clauses_of (take i (log ++ e ∷ []))) c.clause c.hints) p.1
         (subst (λ es. Follows (base ++ clauses_of es) e.clause e.hints) (sym (ap (λ j. take j (log ++ e ∷ [])) p.0 ∙ take-append_all log (e ∷ []))) here)
+
+pub legal_grows : (vars : ℕ) (base : List (List Literal)) (limit : Option ℕ) (log : List Entry) (e : Entry) → IsLegal vars base limit log → IsWithin vars e.clause
+    → Follows (base ++ clauses_of log) e.clause e.hints → place_of e.clause log ≡ None → is_ended log ≡ false → is_at_limit limit log ≡ false
+    → IsLegal vars base limit (log ++ e ∷ [])
+legal_grows vars base limit log e h within follows unknown open' below =
+    legal_push vars base limit log e (length log) h within (subst (λ es. Follows (base ++ clauses_of es) e.clause e.hints) (sym (take-length log)) follows) unknown open' below
 
 -- ---- runs
 

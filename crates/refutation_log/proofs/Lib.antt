@@ -7,3 +7,6 @@ pub mod Words
 pub mod Numbers
 pub mod LineLemmas
 pub mod Outcomes
+pub mod TeachLemmas
+pub mod CodeLemmas
+pub mod WritableLemmas

@@ -1,12 +1,14 @@
-use Rattle.std.specs.Prelude.{◌≡◌, ℕ, Bool, true, false, List, [], ◌++◌, Option, Some, slice_get, All, length}
+use Rattle.std.specs.Prelude.{◌≡◌, ℕ, ◌+◌, ◌^◌, ◌<◌, ◌≤◌, Bool, true, false, List, [], ◌∷◌, ◌++◌, Option, Some, None, slice_get, All, Contains, length}
 use Rattle.clause_base.specs.Literal.{Literal}
+use Rattle.clause_base.specs.Clause.{IsWithin}
 use Rattle.clause_base.specs.Truth.{is_true_clause, meets}
 use Rattle.refutation_log.specs.declared.entries.Entry.{Entry}
 use Rattle.refutation_log.specs.declared.turns.Turn.{Turn}
-use Rattle.refutation_log.specs.Entry.{clauses_of}
+use Rattle.refutation_log.specs.Entry.{clauses_of, AreSorted}
 use Rattle.refutation_log.specs.Follows.{Follows, clause_named}
-use Rattle.refutation_log.specs.Log.{IsLegal, IsClosed}
-use Rattle.refutation_log.specs.Turn.{run_of, IsSoundRun}
+use Rattle.refutation_log.specs.Log.{IsLegal, IsClosed, IsFull, is_ended}
+use Rattle.refutation_log.specs.Teaches.{Teaches, IsTaught, entries_by}
+use Rattle.refutation_log.specs.Turn.{run_of, IsSoundRun, place_of, is_at_limit}
 use Rattle.refutation_log.specs.Text.{log_text, IsWritable}
 use Rattle.refutation_log.specs.Read.{IsReadAs, IsBadLine, IsTooShort}
 
@@ -50,3 +52,37 @@ pub record OutcomesAreApart : Type 0 where
 -- The lines that are written of entries which lines may state are read as these entries, whatever comes after them.
 pub record WrittenIsRead : Type 0 where
   pub back : (vars : ℕ) (log : List Entry) (more : List ℕ) → All (IsWritable vars) log → IsReadAs vars (length log) (log_text log ++ more) log (length (log_text log))
+
+-- A log grows by one entry: a legal one stays legal where the clause is new and follows, and the log is neither ended nor at its
+-- limit; a taught one stays taught where the entry teaches over the base clauses and the entries of its worker.
+pub record LogsGrow : Type 0 where
+  pub legal : (vars : ℕ) (base : List (List Literal)) (limit : Option ℕ) (log : List Entry) (e : Entry) → IsLegal vars base limit log → IsWithin vars e.clause
+      → Follows (base ++ clauses_of log) e.clause e.hints → place_of e.clause log ≡ None → is_ended log ≡ false → is_at_limit limit log ≡ false
+      → IsLegal vars base limit (log ++ e ∷ [])
+  pub taught : (base : List (List Literal)) (log : List Entry) (e : Entry) → IsTaught base log → Teaches (base ++ clauses_of (entries_by e.by log)) e.clause
+      → IsTaught base (log ++ e ∷ [])
+
+-- What teaches over many clauses teaches over fewer of them: so over the first of them, and over the base clauses and the entries of
+-- one worker, where it teaches over those of all workers.
+pub record TeachingNarrows : Type 0 where
+  pub fewer : (more fewer : List (List Literal)) (clause : List Literal) → ((c : List Literal) → Contains fewer c → Contains more c)
+      → Teaches more clause → Teaches fewer clause
+  pub first : (clauses more : List (List Literal)) (clause : List Literal) → Teaches (clauses ++ more) clause → Teaches clauses clause
+  pub own : (base : List (List Literal)) (log : List Entry) (worker : ℕ) (clause : List Literal) → Teaches (base ++ clauses_of log) clause
+      → Teaches (base ++ clauses_of (entries_by worker log)) clause
+
+-- Over v variables there are 3 ^ v clauses, each variable being in a clause as it is, negated or not at all. So a legal log of sorted
+-- clauses has at most as many entries, and fewer where it isn't ended: a limit of at least 3 ^ v is never reached. No log is both
+-- closed and full.
+pub record LogsAreBounded : Type 0 where
+  pub all : (vars : ℕ) (base : List (List Literal)) (limit : Option ℕ) (log : List Entry) → IsLegal vars base limit log → AreSorted log → length log ≤ 3 ^ vars
+  pub unended : (vars : ℕ) (base : List (List Literal)) (limit : Option ℕ) (log : List Entry) → IsLegal vars base limit log → AreSorted log
+      → is_ended log ≡ false → length log < 3 ^ vars
+  pub full : (vars : ℕ) (base : List (List Literal)) (most : ℕ) (log : List Entry) → IsFull vars base (Some most) log → AreSorted log → most < 3 ^ vars
+  pub apart : (vars : ℕ) (base : List (List Literal)) (limit : Option ℕ) (log : List Entry) → IsClosed vars base limit log → IsFull vars base limit log → ⊥
+
+-- Lines may state the entries of a legal log of sorted clauses, of workers whose numbers are below 2 ^ 32: what follows has hints that
+-- name clauses, and so none is 0.
+pub record LegalLogsAreWritable : Type 0 where
+  pub writable : (vars : ℕ) (base : List (List Literal)) (limit : Option ℕ) (log : List Entry) → IsLegal vars base limit log → vars ≤ 2 ^ 30
+      → length base + length log ≤ 2 ^ 64 → AreSorted log → All (λ e. e.by < 2 ^ 32) log → All (IsWritable vars) log

@@ -77,3 +77,10 @@ pub record StatesHint (bytes : List ℕ) (h : ℕ) (rest : List ℕ) : Type 0 wh
 pub record StatesHints (bytes : List ℕ) (hints : List ℕ) (rest : List ℕ) : Type 0 where
   pub of_hints : All IsHint hints
   pub text : bytes ≡ flat_map hint_word hints ++ 48 ∷ 10 ∷ rest
+
+-- The lines of these entries were appended, and are read back: over any number of variables for which lines may state the entries,
+-- and whatever comes after them, the lines state these entries (this project's own).
+pub record IsReadBack (entries : List Entry) (old new : List ℕ) : Type 0 where
+  pub written : List ℕ
+  pub appended : new ≡ old ++ written
+  pub back : (vars : ℕ) (more : List ℕ) → All (IsWritable vars) entries → IsReadAs vars (length entries) (written ++ more) entries (length written)

@@ -83,6 +83,21 @@ impl Clone for Entry {
     }
 }
 
+impl Entry {
+    ghost use Rattle.refutation_log.specs.Shown.{shown};
+
+    // The entry as a log shows it.
+    pub(crate) fn view(&self) -> EntryRef<'_>
+        ensures { shown result ≡ self.now }
+    {
+        EntryRef {
+            by: self.by,
+            clause: &self.clause,
+            hints: &self.hints,
+        }
+    }
+}
+
 /// An entry as it stands in a log.
 #[derive(Clone, Copy, Debug)]
 pub struct EntryRef<'a> {

@@ -1,6 +1,6 @@
 //! Laws of the definitions, each the contract of a function that does nothing.
 ghost use Rattle.refutation_log.specs.Examples.{FollowsByExample};
-ghost use Rattle.refutation_log.specs.Laws.{RunsStayLegal, LogsAreSound, PrefixesStay, OutcomesAreApart, WrittenIsRead};
+ghost use Rattle.refutation_log.specs.Laws.{RunsStayLegal, LogsAreSound, PrefixesStay, OutcomesAreApart, WrittenIsRead, LogsGrow, TeachingNarrows, LogsAreBounded, LegalLogsAreWritable};
 
 /// Over every list of turns in which each append is sound at its turn, by any number of workers, the log stays legal: each of its
 /// clauses stands once, and follows from the base clauses and the entries before it.
@@ -30,7 +30,28 @@ pub fn outcomes_are_apart()
     ensures { OutcomesAreApart }
 {}
 
-/// What `write_log` wrote is read as what was written, where each hint is at least 1 and no variable passes the number of variables.
+/// What `write_log` or `write_entries` wrote is read as what was written, where each hint is at least 1 and no variable passes the number of variables.
 pub fn written_is_read()
     ensures { WrittenIsRead }
+{}
+
+/// A legal log stays legal with one more entry that follows, and a taught one stays taught with one more that teaches.
+pub fn logs_grow()
+    ensures { LogsGrow }
+{}
+
+/// What teaches over many clauses teaches over fewer of them.
+pub fn teaching_narrows()
+    ensures { TeachingNarrows }
+{}
+
+/// A legal log over v variables that isn't ended has fewer than 3^v entries, so such a limit is never reached; no log is both closed
+/// and full.
+pub fn logs_are_bounded()
+    ensures { LogsAreBounded }
+{}
+
+/// The entries of a legal log of sorted clauses can be written and read back.
+pub fn legal_logs_are_writable()
+    ensures { LegalLogsAreWritable }
 {}

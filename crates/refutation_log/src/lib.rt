@@ -16,4 +16,4 @@ pub use entries::{Entry, EntryRef, Hints};
 pub use read::{LogText, LogTextFault, read_log};
 pub use state::LogState;
 pub use turns::{Reply, Turn};
-pub use write::write_log;
+pub use write::{write_entries, write_log};

@@ -1,5 +1,5 @@
 ghost use Rattle.std.specs.Bool.{OnTrue};
-ghost use Rattle.std.specs.Prelude.{if◌then◌else◌, [], ◌∷◌, ◌≢◌, nat_lt, nat_eq, slice_index, length, ◌&&◌, ◌≡◌, ◌++◌, ◌-◌, ◌^◌, ℕ, List, All, IfOk, IfSome, IfNone, IsErrOf};
+ghost use Rattle.std.specs.Prelude.{if◌then◌else◌, [], ◌∷◌, ◌≢◌, nat_lt, nat_eq, slice_index, length, ◌&&◌, ◌≡◌, ◌++◌, ◌-◌, ◌^◌, ℕ, List, All, IfOk, IfSome, IfNone, IsErrOf, Err, ◌<◌};
 ghost use Rattle.refutation_log.specs.declared.read.LogTextFault.TheVariants.{BadLine, WrongCount, NoMemory};
 ghost use Rattle.clause_base.specs.Clause.{IsClause, IsWithin};
 ghost use Rattle.refutation_log.specs.Read.{StatesEntry, IsReadAs, IsBadLine, IsTooShort, IsReadBy, StatesNumber, StatesLiteral, StatesLiterals, StatesHint, StatesHints};
@@ -51,6 +51,9 @@ pub fn read_log(alloc: Global, lines: &[u8], vars: u32, count: u64) -> Result<Lo
     ensures ok { IfOk result (λ log. IsReadAs vars count lines.now log.entries.items log.used) }
     ensures bad_line { (n : ℕ) → IsErrOf result (BadLine n) → IsBadLine vars count lines.now n }
     ensures wrong_count { IsErrOf result WrongCount → IsTooShort vars count lines.now }
+
+    // No memory is asked for before the first line is there, whatever the count.
+    ensures no_lines { lines.now ≡ [] → 0 < count → result ≡ Err WrongCount }
 {
     let mut entries = Vec::new(alloc);
     let mut rest = lines;

@@ -1,6 +1,8 @@
-ghost use Rattle.std.specs.Prelude.{◌≡◌, ℕ, ◌+◌, ◌<◌, ◌≤◌, ◌&&◌, not, List, [], ◌∷◌, ◌++◌, Some, None, length, map, slice_get, OnOk};
+ghost use Rattle.std.specs.Prelude.{◌≡◌, ℕ, ◌+◌, ◌^◌, ◌<◌, ◌≤◌, ◌&&◌, not, List, [], ◌∷◌, ◌++◌, Some, None, length, map, slice_get, IfOk, IsOk, OnOk};
 ghost use Rattle.indexmap.specs.IndexMap.{spare};
+ghost use Rattle.clause_base.specs.Clause.{IsClause};
 ghost use Rattle.refutation_log.specs.declared.turns.Turn.TheVariants.{Append};
+ghost use Rattle.refutation_log.specs.Entry.{AreSorted};
 ghost use Rattle.refutation_log.specs.Log.{is_ended};
 ghost use Rattle.refutation_log.specs.Turn.{is_at_limit, place_of as place_in, reply_to as reply_for, reply_of, log_after};
 ghost use Rattle.refutation_log.specs.Shown.{shown};
@@ -15,8 +17,8 @@ use std::marker::Model;
 
 /// A log with its limit, on which each call of `turn` is one event.
 ///
-/// Seen by contracts as its list of entries, its limit, and how many more entries fit without memory being asked for. An equal
-/// clause is found by hashing.
+/// Seen by contracts as its list of entries, its limit, and how many more entries fit without memory being asked for. The clause of
+/// each entry is sorted, with each variable once. An equal clause is found by hashing.
 #[derive(Debug, Drop)]
 pub struct LogState {
     entries: IndexMap<Clause, Derivation>,
@@ -27,6 +29,8 @@ impl Model for LogState {
     ghost Value = { Log };
 
     ghost view = { λ s. record { entries = map entry_of s.entries.entries; limit = s.limit; spare = spare s.entries } };
+
+    ghost invariant = { λ s. AreSorted (map entry_of s.entries.entries) };
 }
 
 impl LogState {
@@ -43,7 +47,9 @@ impl LogState {
 
     /// The number of entries.
     pub fn entries(&self) -> usize
-        ensures { result ≡ length self.now.entries }
+        ensures len { result ≡ length self.now.entries }
+        ensures small { result < 2 ^ 63 }
+        ensures sorted { AreSorted self.now.entries }
     {
         self.entries.len()
     }
@@ -87,21 +93,39 @@ impl LogState {
         }
     }
 
+    /// The entries, in their order. Takes memory for the list, and moves the entries.
+    pub fn into_entries(self) -> Result<Vec<Entry>, AllocError>
+        ensures entries { IfOk result (λ entries. entries.items ≡ self.entries) }
+        ensures sorted { AreSorted self.entries }
+    {
+        let LogState { entries, limit: _ } = self;
+        let alloc = *entries.allocator();
+        entries
+            .into_iter()
+            .map(|(clause, Derivation { by, hints })| Entry { by, clause, hints })
+            .collect(alloc)
+    }
+
     /// Makes room for one entry, and under a limit for one more than it still allows. Asks for memory only where that room is
     /// missing; without a limit it then doubles what there is.
     pub fn reserve(&mut self) -> Result<(), AllocError>
         ensures kept { KeepsLog self.old self.new }
         ensures room { OnOk result (IsReserved self.new) }
+        ensures stands { IsReserved self.old → IsOk result }
         ensures spare { self.old.spare ≤ self.new.spare }
     {
-        let more = match self.limit {
-            Some(most) => most.saturating_sub(self.entries.len() as u64),
-            None => 0,
+        let len = self.entries.len();
+        let most = match self.limit {
+            Some(most) => len.max(most as usize),
+            None => len,
         };
-        let Some(room) = more.checked_add(1) else {
+        if most < self.entries.capacity() {
+            return Ok(());
+        }
+        let Some(room) = (most - len).checked_add(1) else {
             return Err(AllocError);
         };
-        self.entries.reserve(room as usize)
+        self.entries.reserve(room)
     }
 
     /// One event of the log: an entry is offered, or the log is read. Takes no memory.
@@ -165,8 +189,10 @@ fn put_last(entries: &mut IndexMap<Clause, Derivation>, entry: Entry)
     requires room { 0 < spare entries.old }
     requires unknown { place_in entry.clause (map entry_of entries.old.entries) ≡ None }
     ensures last { map entry_of entries.new.entries ≡ map entry_of entries.old.entries ++ entry ∷ [] }
+    ensures sorted { IsClause entry.clause }
     ensures spare { spare entries.old ≤ spare entries.new + 1 }
 {
     let Entry { by, clause, hints } = entry;
+    let _sorted = clause.lits();
     let _none = entries.insert(clause, Derivation { by, hints }).unwrap();
 }

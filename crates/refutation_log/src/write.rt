@@ -1,9 +1,10 @@
 ghost use Rattle.std.specs.Prelude.{◌≡◌, ◌++◌, OnOk, OnErr, ◌∷◌, []};
 ghost use Rattle.std.specs.List.{flat_map};
 ghost use Rattle.refutation_log.specs.Text.{literal_word, hint_word, entry_line, log_text, Grows};
+ghost use Rattle.refutation_log.specs.Read.{IsReadBack};
 ghost use Rattle.refutation_log.specs.Shown.{shown};
 
-use crate::{EntryRef, Hints, LogState};
+use crate::{Entry, EntryRef, Hints, LogState};
 use clause_base::{Clause, Lit};
 use std::alloc::AllocError;
 use text_base::push_number;
@@ -11,22 +12,47 @@ use text_base::push_number;
 /// Appends the entry lines of a log. After want of memory `out` is as before.
 pub fn write_log(log: &LogState, out: &mut Vec<u8>) -> Result<(), AllocError>
     ensures ok { OnOk result (out.new.items ≡ out.old.items ++ log_text log.now.entries) }
+    ensures read_back { OnOk result (IsReadBack log.now.entries out.old.items out.new.items) }
     ensures err { OnErr result (out.new.items ≡ out.old.items) }
 {
     let before = out.len();
-    if let Err(error) = write_entries(log, out) {
+    if let Err(error) = push_log(log, out) {
         out.truncate(before);
         return Err(error);
     }
     Ok(())
 }
 
-fn write_entries(log: &LogState, out: &mut Vec<u8>) -> Result<(), AllocError>
+/// Appends the lines of these entries. After want of memory `out` is as before.
+pub fn write_entries(entries: &[Entry], out: &mut Vec<u8>) -> Result<(), AllocError>
+    ensures ok { OnOk result (out.new.items ≡ out.old.items ++ log_text entries.now) }
+    ensures read_back { OnOk result (IsReadBack entries.now out.old.items out.new.items) }
+    ensures err { OnErr result (out.new.items ≡ out.old.items) }
+{
+    let before = out.len();
+    if let Err(error) = push_entries(entries, out) {
+        out.truncate(before);
+        return Err(error);
+    }
+    Ok(())
+}
+
+fn push_log(log: &LogState, out: &mut Vec<u8>) -> Result<(), AllocError>
     ensures ok { OnOk result (out.new.items ≡ out.old.items ++ log_text log.now.entries) }
     ensures grown { Grows out.old.items out.new.items }
 {
     for i in 0..log.entries() {
         write_entry(&log.entry(i), out)?;
+    }
+    Ok(())
+}
+
+fn push_entries(entries: &[Entry], out: &mut Vec<u8>) -> Result<(), AllocError>
+    ensures ok { OnOk result (out.new.items ≡ out.old.items ++ log_text entries.now) }
+    ensures grown { Grows out.old.items out.new.items }
+{
+    for entry in entries {
+        write_entry(&entry.view(), out)?;
     }
     Ok(())
 }

@@ -1,10 +1,12 @@
-use Rattle.std.proofs.Common.{◌≡◌, ℕ, ◌+◌, ◌≤◌, Option, Some, None, refl, sym, ap, subst, arith}
+use Rattle.std.proofs.Common.{◌≡◌, ℕ, ◌+◌, ◌<◌, ◌≤◌, Option, Some, None, refl, sym, ap, subst, arith}
 use Rattle.letter_word.specs.declared.kinds.Side.{Side}
 use Rattle.machine_model.specs.Machine.{MachineModel, size_of}
-use Rattle.size_board.specs.Names.{Named, SideHas, sizes_of, sought_by}
+use Rattle.size_board.specs.Names.{Named, IsSearchable, SideHas, sizes_of, sought_by, sought_of}
+use Rattle.machine_model.specs.Problem.{IsProblem, sized}
+use Rattle.machine_model.specs.declared.problems.Problem.{Problem}
 use Rattle.std.specs.Option.{option_map_or}
 use Rattle.size_board.specs.Board.{BoardModel, IsSound, high_of, machine_of}
-use Rattle.size_board.specs.Laws.{BoundsAreTrue, HasHigh, SoughtOfProblem}
+use Rattle.size_board.specs.Laws.{BoundsAreTrue, HasHigh, SoughtIsProblem, SoughtOfProblem}
 
 has_high : (names : Named) (b : BoardModel) (side : Side) (o : Option MachineModel) → machine_of b side ≡ o → IsSound names b → high_of names b side ≤ sizes_of names side → HasHigh names b side
 has_high names b side None is sound h =
@@ -25,3 +27,21 @@ sought_of_problem p m = (
   λ is. (is.machine, record { kind = is.kind; size = is.size; reads = is.reads; writes = is.writes }, is.accepted),
   λ is. record { machine = is.0; kind = is.1.kind; size = is.1.size; reads = is.1.reads; writes = is.1.writes; accepted = is.2 },
 )
+
+pub sized_problem : (p : Problem) (n : ℕ) → IsSearchable (sought_of p) → 0 < n → n ≤ 8 → IsProblem (sized p n)
+sized_problem p n s some few = record { inputs = s.inputs; outputs = s.outputs; some = some; size = few; states = s.states; signals = s.signals; version = s.version }
+
+pub sought_is_problem : SoughtIsProblem
+sought_is_problem = record {
+  searchable = λ p is. record { inputs = is.inputs; outputs = is.outputs; states = is.states; signals = is.signals; version = is.version };
+  problem = sized_problem;
+  parts = λ p q same size. λ i. record {
+    automaton = (same i).automaton;
+    inputs = (same i).inputs;
+    outputs = (same i).outputs;
+    side = (same i).side;
+    kind = (same i).kind;
+    size = size i;
+    version = (same i).version;
+  };
+}

@@ -5,3 +5,4 @@ pub mod Firsts
 pub mod Updates
 pub mod LawProofs
 pub mod Fixtures
+pub mod Problems

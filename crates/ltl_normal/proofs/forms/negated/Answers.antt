@@ -1,3 +1,4 @@
+use Rattle.ltl_normal.proofs.SignalsKept.{signals_kept}
 use Rattle.std.proofs.Common.{false}
 use Rattle.ltl_formula.specs.Nodes.{tree_at}
 use Rattle.ltl_formula.specs.NormalForm.{IsNormal}
@@ -18,3 +19,7 @@ pub returns-clause-shape : goal.returns-clause-shape
 returns-clause-shape c =
     result-is false c.args.f c.args.formulas.now c.form_of.new.formulas c.form_of.ensures.list c.requires (λ t. IsNormal t)
     (IsNormal-table false (tree_at c.args.formulas.now c.args.f)) c.form_of.result c.form_of.ensures.performs
+
+pub returns-clause-signals : goal.returns-clause-signals
+returns-clause-signals c =
+    signals_kept false c.args.formulas.now c.form_of.new.formulas c.args.f c.form_of.result c.form_of.ensures.list c.requires c.form_of.ensures.performs.ok

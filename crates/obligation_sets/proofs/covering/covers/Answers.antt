@@ -1,4 +1,5 @@
-use Rattle.std.proofs.Common.{List, [], ◌∷◌, ◌++◌, ◌∙◌, ap, arith}
+use Rattle.obligation_sets.proofs.NamedSignals.{signals_named}
+use Rattle.std.proofs.Common.{List, [], ◌∷◌, ◌++◌, ◌∙◌, ap, arith, rules}
 use Rattle.obligation_sets.specs.Branch.{Branch}
 use Rattle.obligation_sets.proofs.Along.{along-start_at, along-more, top_fits, top_places, weight-less}
 use Rattle.obligation_sets.proofs.covering.covers.Goals as goal
@@ -25,3 +26,6 @@ loop-branch-preserved c = record {
   along = along-more c.args.formulas.now c.in_ok-start.ensures.list c.args.set.now _ _ _ _ _ c.loop-branch.invariant.along c.in-Some.ensures.items _ _ _ _ c.in_ok-step.ensures c.in_ok-leaves.ensures;
   few = c.if-leaves-gt-MAX_LEAVES.false;
 }
+
+pub returns-clause-signals : goal.returns-clause-signals
+returns-clause-signals c = signals_named c.args.formulas.now c.args.set.now c.in_ok-collect.field-0.items (search rules)

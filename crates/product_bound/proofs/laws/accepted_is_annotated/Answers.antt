@@ -8,6 +8,6 @@ pub returns : goal.returns
 returns c = λ p m problem made machine fits.
     let size : 1 ≤ p.size = problem.some in
     let some : 0 < size_of m = rw fits.size (omega arith) in (
-      λ accepts. has_annotation p m made machine fits some accepts,
+      has_annotation p m made machine fits some,
       λ annotation w run. never_accepted p m annotation.numbers w run.0 made machine fits some annotation.valid run.1,
     )

@@ -1,4 +1,4 @@
-use Rattle.std.proofs.Common.{[], ◌∷◌, length-append, arith}
+use Rattle.std.proofs.Common.{ℕ, List, [], ◌∷◌, ◌==◌, ◌∙◌, length, length-append, true≢false, sym, ap, arith}
 use Rattle.refutation_log.proofs.LineLemmas.{lines_more}
 use Rattle.refutation_log.proofs.read.read_log.Goals as goal
 
@@ -9,4 +9,13 @@ loop-n-preserved c =
     (rw c.in-Some.is at c.in_ok-entry.ensures) in
     let len = length-append c.loop-n.entries.items (c.in-Some.entry ∷ []) in
     let n = c.loop-n.invariant.1 in
-    rw items (more, omega (arith, len, n))
+    rw items (
+      more,
+      omega (arith, len, n),
+      λ none.
+          let rest = (c.loop-n.invariant.2 none).0 in
+          absurd (true≢false (sym (ap (λ (xs : List ℕ). length xs == 0) rest) ∙ sym c.if-is_empty.ensures)),
+    )
+
+pub returns-clause-no_lines : goal.returns-clause-no_lines
+returns-clause-no_lines c = λ none some. let start = c.loop-n.invariant.2 none in let at = start.1 in let high = c.loop-n.auto.n-end in absurd (omega arith)

@@ -1,0 +1,135 @@
+-- For more states there are no fewer base clauses, so the sizes that have a count are those from 1 on.
+use Rattle.std.proofs.Common.{◌≡◌, ℕ, zero, suc, ◌+◌, ◌-◌, ◌*◌, ◌^◌, ◌<◌, ◌≤◌, ◌⊎◌, inl, inr, Bool, true, false, not, List, [], ◌∷◌, Some, None, length, refl, sym, ap, ◌∙◌, subst, arith, cond}
+use Rattle.std.specs.Prelude.{◌==◌, ◌&&◌, is_some}
+use Rattle.std.specs.List.{flat_map}
+use Rattle.std.proofs.Math.Nat.{mul-le-mul}
+use Rattle.std.proofs.lemmas.Bool.{cases_eq, cases_lt, cond-true, cond-false}
+use Rattle.std.proofs.lemmas.List.{length-append}
+use Rattle.letter_word.specs.declared.cubes.Cube.{Cube}
+use Rattle.machine_model.specs.Automaton.{rejects}
+use Rattle.machine_model.specs.Problem.{automaton_of, reads_of, sized}
+use Rattle.machine_model.specs.declared.automata.Edge.{Edge}
+use Rattle.machine_model.specs.declared.problems.Problem.{Problem}
+use Rattle.product_bound.specs.Annotation.{rejecting_count}
+use Rattle.annotation_encode.specs.BaseClauses.{base_clauses, edge_clauses, row_count}
+use Rattle.annotation_encode.specs.Count.{AreCounted, SizesRise, allowed_sizes, count_of, free_below, order_count, target_count}
+use Rattle.annotation_encode.specs.Variables.{letter_count, number_count}
+use Rattle.annotation_encode.proofs.ClauseCount.{count_none, count_some, length-base, length-edge}
+
+flat_more : {X Y : Type 0} (f g : X → List Y) (xs : List X) → ((x : X) → length (f x) ≤ length (g x)) → length (flat_map f xs) ≤ length (flat_map g xs)
+flat_more f g [] more = omega arith
+flat_more f g (x ∷ xs) more =
+    let rest : length (flat_map f xs) ≤ length (flat_map g xs) = flat_more f g xs more in
+    let here : length (f x) ≤ length (g x) = more x in
+    let one : length (flat_map f (x ∷ xs)) ≡ length (f x) + length (flat_map f xs) = length-append (f x) (flat_map f xs) in
+    let other : length (flat_map g (x ∷ xs)) ≡ length (g x) + length (flat_map g xs) = length-append (g x) (flat_map g xs) in
+    omega (arith, rest, here, one, other)
+
+module _ (p : Problem) (n m : ℕ) (more : n ≤ m) where
+  targets_rise : (e : Edge) → target_count (sized p n) e ≤ target_count (sized p m) e
+  targets_rise e = go ((e.from == e.to) && not (rejects (automaton_of p) e.to))
+    where
+      go : (b : Bool) → cond b (n - 1) n ≤ cond b (m - 1) m
+      go true = omega arith
+      go false = more
+
+  numbers_rise : number_count (sized p n) ≤ number_count (sized p m)
+  numbers_rise =
+      let product : n * rejecting_count (automaton_of p) ≤ m * rejecting_count (automaton_of p) = mul-le-mul more (omega arith) in
+      omega arith
+
+  rows_rise : row_count (sized p n) ≤ row_count (sized p m)
+  rows_rise = mul-le-mul more (let same : letter_count p ≤ letter_count p = omega arith in same)
+
+  orders_rise : order_count (sized p n) ≤ order_count (sized p m)
+  orders_rise = go (p.version == 2)
+    where
+      go : (b : Bool) → cond b (row_count (sized p n) * (n - 2)) 0 ≤ cond b (row_count (sized p m) * (m - 2)) 0
+      go true = mul-le-mul rows_rise (omega arith)
+      go false = omega arith
+
+  free_same : (cube : Cube) (k : ℕ) → free_below (sized p n) cube k ≡ free_below (sized p m) cube k
+  free_same cube k = refl
+
+  edges_rise : (e : Edge) → length (edge_clauses (sized p n) e) ≤ length (edge_clauses (sized p m) e)
+  edges_rise e =
+      let fitting : 2 ^ free_below (sized p n) e.cube (reads_of p) ≤ 2 ^ free_below (sized p m) e.cube (reads_of p) = let same : 2 ^ free_below (sized p n) e.cube (reads_of p) ≡ 2 ^ free_below (sized p m) e.cube (reads_of p) = ap (λ k. 2 ^ k) (free_same e.cube (reads_of p)) in omega arith in
+      let product : n * (2 ^ free_below (sized p n) e.cube (reads_of p) * (target_count (sized p n) e * number_count (sized p n))) ≤ m * (2 ^ free_below (sized p m) e.cube (reads_of p) * (target_count (sized p m) e * number_count (sized p m)))
+      = mul-le-mul more (mul-le-mul fitting (mul-le-mul (targets_rise e) numbers_rise)) in
+      let one : length (edge_clauses (sized p n) e) ≡ n * (2 ^ free_below (sized p n) e.cube (reads_of p) * (target_count (sized p n) e * number_count (sized p n))) = length-edge (sized p n) e in
+      let other : length (edge_clauses (sized p m) e) ≡ m * (2 ^ free_below (sized p m) e.cube (reads_of p) * (target_count (sized p m) e * number_count (sized p m))) = length-edge (sized p m) e in
+      subst (λ k. k ≤ length (edge_clauses (sized p m) e)) (sym one) (subst (λ k. n * (2 ^ free_below (sized p n) e.cube (reads_of p) * (target_count (sized p n) e * number_count (sized p n))) ≤ k) (sym other) product)
+
+  clauses_rise : length (base_clauses (sized p n)) ≤ length (base_clauses (sized p m))
+  clauses_rise =
+      let one : length (base_clauses (sized p n)) ≡ row_count (sized p n) + 1 + order_count (sized p n) + length (flat_map (edge_clauses (sized p n)) (automaton_of p).edges) = length-base (sized p n) in
+      let other : length (base_clauses (sized p m)) ≡ row_count (sized p m) + 1 + order_count (sized p m) + length (flat_map (edge_clauses (sized p m)) (automaton_of p).edges) = length-base (sized p m) in
+      let edges : length (flat_map (edge_clauses (sized p n)) (automaton_of p).edges) ≤ length (flat_map (edge_clauses (sized p m)) (automaton_of p).edges) = flat_more (edge_clauses (sized p n)) (edge_clauses (sized p m)) (automaton_of p).edges edges_rise in
+      let rows : row_count (sized p n) ≤ row_count (sized p m) = rows_rise in
+      let orders : order_count (sized p n) ≤ order_count (sized p m) = orders_rise in
+      let total : row_count (sized p n) + 1 + order_count (sized p n) + length (flat_map (edge_clauses (sized p n)) (automaton_of p).edges) ≤ row_count (sized p m) + 1 + order_count (sized p m) + length (flat_map (edge_clauses (sized p m)) (automaton_of p).edges) = sums rows orders edges in
+      subst (λ k. k ≤ length (base_clauses (sized p m))) (sym one) (subst (λ k. row_count (sized p n) + 1 + order_count (sized p n) + length (flat_map (edge_clauses (sized p n)) (automaton_of p).edges) ≤ k) (sym other) total)
+    where
+      sums : {a b c x y z : ℕ} → a ≤ x → b ≤ y → c ≤ z → a + 1 + b + c ≤ x + 1 + y + z
+      sums f g h = omega arith
+
+-- one size is tried after the other, from above
+module _ (p : Problem) (max n : ℕ) (some : 0 < n) (so_far : allowed_sizes p max ≡ allowed_sizes p n) where
+  unfolded : allowed_sizes p max ≡ cond (is_some (count_of (sized p (n - 1 + 1)))) (n - 1 + 1) (allowed_sizes p (n - 1))
+  unfolding allowed_sizes
+  unfolded =
+      let at : n ≡ suc (n - 1) = omega arith in
+      let one : suc (n - 1) ≡ n - 1 + 1 = omega arith in
+      so_far ∙ ap (allowed_sizes p) at ∙ ap (λ k. cond (is_some (count_of (sized p k))) k (allowed_sizes p (n - 1))) one
+
+  pub goes_on : is_some (count_of (sized p (n - 1 + 1))) ≡ false → allowed_sizes p max ≡ allowed_sizes p (n - 1)
+  goes_on none = unfolded ∙ cond-false (is_some (count_of (sized p (n - 1 + 1)))) (n - 1 + 1) (allowed_sizes p (n - 1)) none
+
+  pub stops : is_some (count_of (sized p (n - 1 + 1))) ≡ true → n - 1 + 1 ≡ allowed_sizes p max
+  stops there = sym (unfolded ∙ cond-true (is_some (count_of (sized p (n - 1 + 1)))) (n - 1 + 1) (allowed_sizes p (n - 1)) there)
+
+pub none_left : (p : Problem) (max n : ℕ) → n ≤ 0 → allowed_sizes p max ≡ allowed_sizes p n → 0 ≡ allowed_sizes p max
+unfolding allowed_sizes
+none_left p max n least so_far = let zero_left : n ≡ 0 = omega arith in sym (so_far ∙ ap (allowed_sizes p) zero_left)
+
+-- whether a problem has a count
+few_or_many : (p : Problem) → (length (base_clauses p) ≤ 1000000) ⊎ (1000000 < length (base_clauses p))
+few_or_many p = elim (cases_lt 1000000 (length (base_clauses p))) [ inl many ↦ inr many | inr few ↦ inl few ]
+
+counted : (p : Problem) (max : ℕ) → AreCounted p max
+unfolding allowed_sizes
+counted p zero = record {
+  within = omega arith;
+  counted = λ n some within. absurd (omega arith);
+  uncounted = λ n above within. absurd (omega arith);
+}
+counted p (suc k) =
+    elim (few_or_many (sized p (suc k))) [
+      | inl few ↦
+          let some : count_of (sized p (suc k)) ≡ Some (length (base_clauses (sized p (suc k)))) = sym (count_some (sized p (suc k)) (length (base_clauses (sized p (suc k)))) refl few) in
+          let is : allowed_sizes p (suc k) ≡ suc k = cond-true (is_some (count_of (sized p (suc k)))) (suc k) (allowed_sizes p k) (ap is_some some) in
+          record {
+            within = omega (arith, is);
+            counted = λ n least within.
+                let below : n ≤ suc k = omega (arith, is, within) in
+                let small : length (base_clauses (sized p n)) ≤ 1000000 = let rises : length (base_clauses (sized p n)) ≤ length (base_clauses (sized p (suc k))) = clauses_rise p n (suc k) below in omega (arith, rises, few) in
+                sym (count_some (sized p n) (length (base_clauses (sized p n))) refl small);
+            uncounted = λ n above within. absurd (omega (arith, is, above, within));
+          }
+      | inr many ↦
+          let none : count_of (sized p (suc k)) ≡ None = sym (count_none (sized p (suc k)) many) in
+          let is : allowed_sizes p (suc k) ≡ allowed_sizes p k = cond-false (is_some (count_of (sized p (suc k)))) (suc k) (allowed_sizes p k) (ap is_some none) in
+          let before : AreCounted p k = counted p k in
+          let within : allowed_sizes p k ≤ k = before.within in
+          record {
+            within = omega (arith, is, within);
+            counted = λ n least below. before.counted n least (omega (arith, is, below));
+            uncounted = λ n above below. elim (cases_eq n (suc k)) [
+              | inl e ↦ subst (λ i. count_of (sized p i) ≡ None) (sym e) none
+              | inr ne ↦ before.uncounted n (omega (arith, is, above)) (omega (arith, below, ne))
+            ];
+          }
+    ]
+
+pub sizes_rise : SizesRise
+sizes_rise = record { clauses = clauses_rise; allowed = counted }

@@ -1,0 +1,62 @@
+-- The command line that `clap` is set up with (this project's own): a subcommand for each command, with its required
+-- names or its number, and options that take one value each. Nothing else is set, and there is no help.
+use Rattle.std.specs.Prelude.{◌≡◌, List, [], ◌∷◌, Some, true, false, codes}
+use Rattle.clap.specs.Walk.{Rule, Text}
+use Rattle.clap.specs.Simple.{App, Shape, new_rule, new_shape, shape_of}
+use Rattle.clap.specs.declared.builder.command.Command.{Command}
+use Rattle.clap.specs.declared.builder.command.Command.TheViews.{out-Command as fields_of}
+
+-- what must be given, by its place
+abbrev pub required : Text → Rule
+required id = record (new_rule id) { required = true }
+
+-- an option `--name value`
+abbrev pub option : Text → Rule
+option name = record (new_rule name) { long = Some name }
+
+abbrev pub command : Text → List Rule → Shape
+command name rules = record (new_shape name) { rules = rules }
+
+abbrev pub spec : Rule
+spec = required (codes "spec")
+
+abbrev pub clients : Rule
+clients = required (codes "clients")
+
+abbrev pub workers : Rule
+workers = option (codes "workers")
+
+abbrev pub synth : Shape
+synth = command (codes "synth")
+    (spec ∷ option (codes "max") ∷ option (codes "entries") ∷ workers ∷ option (codes "kind") ∷ [])
+
+abbrev pub check : Shape
+check = command (codes "check") (spec ∷ required (codes "certificate") ∷ [])
+
+abbrev pub expand : Shape
+expand = command (codes "expand") (spec ∷ [])
+
+abbrev pub lasso : Shape
+lasso = command (codes "lasso") (spec ∷ required (codes "word") ∷ [])
+
+abbrev pub gen : Shape
+gen = command (codes "gen") (clients ∷ [])
+
+abbrev pub bench : Shape
+bench = command (codes "bench") (clients ∷ workers ∷ [])
+
+abbrev pub program : App
+program = record {
+  top = record (new_shape (codes "boundsyn")) {
+    is_leaf = false;
+    disable_help_flag = true;
+    disable_help_subcommand = true;
+    subcommand_required = true;
+  };
+  subs = synth ∷ check ∷ expand ∷ lasso ∷ gen ∷ bench ∷ [];
+}
+
+-- a command without subcommands and global arguments is set up so
+pub record IsSetUpAs (shape : Shape) (c : Command) : Type 0 where
+  pub shape_is : shape_of c ≡ shape
+  pub no_globals : (fields_of c).has_globals ≡ false

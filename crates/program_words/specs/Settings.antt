@@ -1,0 +1,109 @@
+-- What the words of a command line ask for (this project's own).
+use Rattle.std.specs.Prelude.{◌==◌, ℕ, List, Option, Some, None, codes, length, option_map, option_and_then, if◌then◌else◌}
+use Rattle.std.specs.Option.{option_map_or}
+use Rattle.std.specs.Str.{bytes_eq}
+use Rattle.letter_word.specs.declared.kinds.Kind.{Kind}
+use Rattle.letter_word.specs.declared.kinds.Kind.TheVariants.{Mealy, Moore}
+use Rattle.clap.specs.Walk.{Row, Text, first_of}
+use Rattle.clap.specs.Simple.{subcommand_of}
+use Rattle.clap.specs.Faults.{fault_of}
+use Rattle.program_words.specs.declared.settings.Search.{Search}
+use Rattle.program_words.specs.declared.settings.Settings.{Settings}
+use Rattle.program_words.specs.declared.settings.Settings.TheVariants as settings
+use Rattle.program_words.specs.CommandLine.{program}
+use Rattle.program_words.specs.Numbers.{number_in}
+
+-- a command with its names, its number and its options
+pub data Asked : Type 0 where
+  synth : Text → Search → Option Kind → Asked
+  check : Text → Text → Asked
+  expand : Text → Asked
+  lasso : Text → Text → Asked
+  gen : ℕ → Asked
+  bench : ℕ → ℕ → Asked
+
+-- what settings of the code ask for
+abbrev pub asked_by : Settings → Asked
+asked_by (settings.Synth spec search kind) = synth spec.now search kind
+asked_by (settings.Check spec certificate) = check spec.now certificate.now
+asked_by (settings.Expand spec) = expand spec.now
+asked_by (settings.Lasso spec word) = lasso spec.now word.now
+asked_by (settings.Gen clients) = gen clients
+asked_by (settings.Bench clients workers) = bench clients workers
+
+-- ---- the values of options, each with its default
+
+abbrev pub number_or : Text → ℕ → ℕ → ℕ → List Row → Option ℕ
+number_or id default least most rows = option_map_or (number_in least most) (first_of id rows) (Some default)
+
+abbrev pub most_size : List Row → Option ℕ
+most_size = number_or (codes "max") 4 1 8
+
+abbrev pub worker_count : List Row → Option ℕ
+worker_count = number_or (codes "workers") 4 1 8
+
+-- a number of entries, or `none` for no limit
+abbrev pub limit_in : Text → Option (Option ℕ)
+limit_in text = if bytes_eq text (codes "none") then Some None else option_map Some (number_in 0 250000 text)
+
+abbrev pub entry_limit : List Row → Option (Option ℕ)
+entry_limit rows = option_map_or limit_in (first_of (codes "entries") rows) (Some (Some 50000))
+
+abbrev pub kind_in : Text → Option (Option Kind)
+kind_in text = if bytes_eq text (codes "mealy") then Some (Some Mealy)
+    else if bytes_eq text (codes "moore") then Some (Some Moore) else None
+
+-- without the option the kind is the text's own
+abbrev pub kind_asked : List Row → Option (Option Kind)
+kind_asked rows = option_map_or kind_in (first_of (codes "kind") rows) (Some None)
+
+abbrev pub search_asked : List Row → Option Search
+search_asked rows =
+    option_and_then (λ max. option_and_then (λ entries. option_map (λ workers.
+    record { max = max; entries = entries; workers = workers })
+    (worker_count rows)) (entry_limit rows)) (most_size rows)
+
+-- ---- each command
+
+abbrev pub synth_asked : List Row → Option Asked
+synth_asked rows =
+    option_and_then (λ spec. option_and_then (λ search. option_map (synth spec search) (kind_asked rows))
+    (search_asked rows)) (first_of (codes "spec") rows)
+
+abbrev pub check_asked : List Row → Option Asked
+check_asked rows =
+    option_and_then (λ spec. option_map (check spec) (first_of (codes "certificate") rows)) (first_of (codes "spec") rows)
+
+abbrev pub expand_asked : List Row → Option Asked
+expand_asked rows = option_map expand (first_of (codes "spec") rows)
+
+abbrev pub lasso_asked : List Row → Option Asked
+lasso_asked rows =
+    option_and_then (λ spec. option_map (lasso spec) (first_of (codes "word") rows)) (first_of (codes "spec") rows)
+
+abbrev pub gen_asked : List Row → Option Asked
+gen_asked rows = option_map gen (option_and_then (number_in 1 8) (first_of (codes "clients") rows))
+
+abbrev pub bench_asked : List Row → Option Asked
+bench_asked rows =
+    option_and_then (λ clients. option_map (bench clients) (worker_count rows))
+    (option_and_then (number_in 1 4) (first_of (codes "clients") rows))
+
+abbrev pub command_asked : Text → List Row → Option Asked
+command_asked name rows =
+    if bytes_eq name (codes "synth") then synth_asked rows
+    else if bytes_eq name (codes "check") then check_asked rows
+    else if bytes_eq name (codes "expand") then expand_asked rows
+    else if bytes_eq name (codes "lasso") then lasso_asked rows
+    else if bytes_eq name (codes "gen") then gen_asked rows
+    else if bytes_eq name (codes "bench") then bench_asked rows
+    else None
+
+-- by the matches of a subcommand
+abbrev pub asked_of : Option (Text × List Row) → Option Asked
+asked_of matched = option_and_then (λ (m : Text × List Row). command_asked m.0 m.1) matched
+
+-- What the words ask for, where `clap` takes them for its command line, and each value is in its range; the first word is
+-- the program's name.
+abbrev pub settings_of : List Text → Option Asked
+settings_of words = if length (fault_of program words) == 0 then asked_of (subcommand_of program words) else None

@@ -1,0 +1,87 @@
+// The command line, as `clap` is set up.
+ghost use Rattle.std.specs.Prelude.{◌≡◌, [], ◌∷◌, false, IfOk};
+ghost use Rattle.clap.specs.Words.{app_of, rule_of};
+ghost use Rattle.program_words.specs.CommandLine.{IsSetUpAs, bench, check, clients, command, expand, gen, lasso, option, program, required, spec, synth, workers};
+
+use clap::{Arg, Command};
+use std::alloc::{AllocError, Global};
+
+// The whole command line. It has no help.
+pub(crate) fn program<'a>(alloc: Global) -> Result<Command<'a>, AllocError>
+    ensures { IfOk result (λ c. app_of c ≡ program) }
+{
+    let program = Command::new(alloc, "boundsyn")
+        .disable_help_flag(true)
+        .disable_help_subcommand(true)
+        .subcommand_required(true);
+    program
+        .subcommand(synth(alloc)?)?
+        .subcommand(check(alloc)?)?
+        .subcommand(expand(alloc)?)?
+        .subcommand(lasso(alloc)?)?
+        .subcommand(generate(alloc)?)?
+        .subcommand(bench(alloc)?)
+}
+
+fn synth<'a>(alloc: Global) -> Result<Command<'a>, AllocError>
+    ensures { IfOk result (IsSetUpAs synth) }
+{
+    Command::new(alloc, "synth")
+        .arg(required(alloc, "spec"))?
+        .arg(option(alloc, "max"))?
+        .arg(option(alloc, "entries"))?
+        .arg(option(alloc, "workers"))?
+        .arg(option(alloc, "kind"))
+}
+
+fn check<'a>(alloc: Global) -> Result<Command<'a>, AllocError>
+    ensures { IfOk result (IsSetUpAs check) }
+{
+    Command::new(alloc, "check")
+        .arg(required(alloc, "spec"))?
+        .arg(required(alloc, "certificate"))
+}
+
+fn expand<'a>(alloc: Global) -> Result<Command<'a>, AllocError>
+    ensures { IfOk result (IsSetUpAs expand) }
+{
+    Command::new(alloc, "expand").arg(required(alloc, "spec"))
+}
+
+fn lasso<'a>(alloc: Global) -> Result<Command<'a>, AllocError>
+    ensures { IfOk result (IsSetUpAs lasso) }
+{
+    Command::new(alloc, "lasso")
+        .arg(required(alloc, "spec"))?
+        .arg(required(alloc, "word"))
+}
+
+fn generate<'a>(alloc: Global) -> Result<Command<'a>, AllocError>
+    ensures { IfOk result (IsSetUpAs gen) }
+{
+    Command::new(alloc, "gen").arg(required(alloc, "clients"))
+}
+
+fn bench<'a>(alloc: Global) -> Result<Command<'a>, AllocError>
+    ensures { IfOk result (IsSetUpAs bench) }
+{
+    Command::new(alloc, "bench")
+        .arg(required(alloc, "clients"))?
+        .arg(option(alloc, "workers"))
+}
+
+// What must be given, by its place.
+fn required<'a>(alloc: Global, id: &'a str) -> Arg<'a>
+    ensures rule { rule_of result ≡ required id.entry.now }
+    ensures own { result.global ≡ false }
+{
+    Arg::new(alloc, id).required(true)
+}
+
+// An option `--name value`.
+fn option<'a>(alloc: Global, name: &'a str) -> Arg<'a>
+    ensures rule { rule_of result ≡ option name.entry.now }
+    ensures own { result.global ≡ false }
+{
+    Arg::new(alloc, name).long(name)
+}

@@ -1,0 +1,13 @@
+//! The words of the command line.
+//!
+//! `read_words` gives exactly the settings that the words ask for, or refuses them; which words ask for what is
+//! `settings_of` in `specs/`. Stands on `clap`, whose matches are all that is read, and on `text_base` for numbers.
+#![tactic(auto)]
+
+mod command_line;
+mod numbers;
+mod settings;
+mod words;
+
+pub use settings::{Search, Settings};
+pub use words::{WordsFault, read_words};

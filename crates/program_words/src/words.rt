@@ -1,0 +1,181 @@
+ghost use Rattle.std.specs.Prelude.{◌≡◌, ◌≢◌, Some, None, map, option_map, option_and_then, string_bytes, IfOk, IsErrOf};
+ghost use Rattle.clap.specs.Words.{first_of, found_of, rows_of, subcommand_rows_of};
+ghost use Rattle.program_words.specs.Settings.{asked_by, asked_of, bench_asked, check_asked, entry_limit, expand_asked, gen_asked, kind_asked, kind_in, lasso_asked, limit_in, number_or, search_asked, settings_of, synth_asked};
+
+use crate::command_line::program;
+use crate::numbers::number_in;
+use crate::settings::{Search, Settings};
+use clap::ArgMatches;
+use clap::error::ErrorKind;
+use letter_word::Kind;
+use std::alloc::{AllocError, Global};
+
+/// Why words ask for nothing.
+#[derive(Clone, Copy)]
+pub enum WordsFault {
+    /// They are no words of the command line, or a number is out of its range.
+    Refused,
+    /// There was no memory.
+    NoMemory,
+}
+
+impl From<AllocError> for WordsFault {
+    ghost use Rattle.program_words.specs.declared.words.WordsFault.TheVariants.{NoMemory};
+
+    ghost from_gives = { λ _ fault. fault ≡ NoMemory };
+
+    fn from(_error: AllocError) -> WordsFault {
+        WordsFault::NoMemory
+    }
+}
+
+/// What the words ask for; the first of them is the program's name.
+pub fn read_words(alloc: Global, words: &[String]) -> Result<Settings<'_>, WordsFault>
+    ensures settings { IfOk result (λ s. settings_of (map string_bytes words.now) ≡ Some (asked_by s)) }
+    ensures refused { IsErrOf result WordsFault.Refused → settings_of (map string_bytes words.now) ≡ None }
+{
+    let program = program(alloc)?;
+    match program.try_get_matches_from(words) {
+        Ok(matches) => settings_in(&matches).ok_or(WordsFault::Refused),
+        Err(error) => Err(fault_by(error.kind())),
+    }
+}
+
+fn fault_by(kind: ErrorKind) -> WordsFault
+    ensures { result ≡ WordsFault.Refused → kind ≢ ErrorKind.OutOfMemory }
+{
+    match kind {
+        ErrorKind::OutOfMemory => WordsFault::NoMemory,
+        _ => WordsFault::Refused,
+    }
+}
+
+fn settings_in<'a>(matches: &ArgMatches<'a>) -> Option<Settings<'a>>
+    ensures { option_map asked_by result ≡ asked_of (subcommand_rows_of matches.now) }
+{
+    let (name, own) = matches.subcommand()?;
+    match name {
+        "synth" => synth_in(own),
+        "check" => check_in(own),
+        "expand" => expand_in(own),
+        "lasso" => lasso_in(own),
+        "gen" => gen_in(own),
+        "bench" => bench_in(own),
+        _ => None,
+    }
+}
+
+fn synth_in<'a>(own: &ArgMatches<'a>) -> Option<Settings<'a>>
+    ensures { option_map asked_by result ≡ synth_asked (rows_of (found_of own.now)) }
+{
+    Some(Settings::Synth {
+        spec: text_of(own, "spec")?,
+        search: search_in(own)?,
+        kind: kind_or(own)?,
+    })
+}
+
+fn check_in<'a>(own: &ArgMatches<'a>) -> Option<Settings<'a>>
+    ensures { option_map asked_by result ≡ check_asked (rows_of (found_of own.now)) }
+{
+    Some(Settings::Check {
+        spec: text_of(own, "spec")?,
+        certificate: text_of(own, "certificate")?,
+    })
+}
+
+fn expand_in<'a>(own: &ArgMatches<'a>) -> Option<Settings<'a>>
+    ensures { option_map asked_by result ≡ expand_asked (rows_of (found_of own.now)) }
+{
+    let spec = text_of(own, "spec")?;
+    Some(Settings::Expand { spec })
+}
+
+fn lasso_in<'a>(own: &ArgMatches<'a>) -> Option<Settings<'a>>
+    ensures { option_map asked_by result ≡ lasso_asked (rows_of (found_of own.now)) }
+{
+    Some(Settings::Lasso {
+        spec: text_of(own, "spec")?,
+        word: text_of(own, "word")?,
+    })
+}
+
+fn gen_in<'a>(own: &ArgMatches<'a>) -> Option<Settings<'a>>
+    ensures { option_map asked_by result ≡ gen_asked (rows_of (found_of own.now)) }
+{
+    let clients = number_in(text_of(own, "clients")?, 1, 8)?;
+    Some(Settings::Gen { clients })
+}
+
+fn bench_in<'a>(own: &ArgMatches<'a>) -> Option<Settings<'a>>
+    ensures { option_map asked_by result ≡ bench_asked (rows_of (found_of own.now)) }
+{
+    let clients = number_in(text_of(own, "clients")?, 1, 4)?;
+    let workers = number_or(own, "workers", 4, 1, 8)?;
+    Some(Settings::Bench { clients, workers })
+}
+
+fn search_in(own: &ArgMatches<'_>) -> Option<Search>
+    ensures { result ≡ search_asked (rows_of (found_of own.now)) }
+{
+    Some(Search {
+        max: number_or(own, "max", 4, 1, 8)?,
+        entries: limit_or(own)?,
+        workers: number_or(own, "workers", 4, 1, 8)?,
+    })
+}
+
+// The number that an option has, or its default.
+fn number_or(own: &ArgMatches<'_>, id: &str, default: u32, least: u32, most: u32) -> Option<u32>
+    ensures { result ≡ number_or id.now default least most (rows_of (found_of own.now)) }
+{
+    match text_of(own, id) {
+        None => Some(default),
+        Some(text) => number_in(text, least, most),
+    }
+}
+
+fn limit_or(own: &ArgMatches<'_>) -> Option<Option<u64>>
+    ensures { result ≡ entry_limit (rows_of (found_of own.now)) }
+{
+    match text_of(own, "entries") {
+        None => Some(Some(50_000)),
+        Some(text) => limit_in(text),
+    }
+}
+
+fn limit_in(text: &str) -> Option<Option<u64>>
+    ensures { result ≡ limit_in text.now }
+{
+    if text == "none" {
+        return Some(None);
+    }
+    let entries = number_in(text, 0, 250_000)?;
+    Some(Some(u64::from(entries)))
+}
+
+fn kind_or(own: &ArgMatches<'_>) -> Option<Option<Kind>>
+    ensures { result ≡ kind_asked (rows_of (found_of own.now)) }
+{
+    match text_of(own, "kind") {
+        None => Some(None),
+        Some(text) => kind_in(text),
+    }
+}
+
+fn kind_in(text: &str) -> Option<Option<Kind>>
+    ensures { result ≡ kind_in text.now }
+{
+    match text {
+        "mealy" => Some(Some(Kind::Mealy)),
+        "moore" => Some(Some(Kind::Moore)),
+        _ => None,
+    }
+}
+
+// The text that was given for an argument.
+fn text_of<'a>(own: &ArgMatches<'a>, id: &str) -> Option<&'a str>
+    ensures { option_map (λ s. s.now) result ≡ first_of id.now (rows_of (found_of own.now)) }
+{
+    own.get_str(id)
+}
