@@ -1,3 +1,4 @@
 pub mod WorkerLemmas
 pub mod HandLemmas
 pub mod SettledLemmas
+pub mod PlanLemmas

@@ -121,6 +121,7 @@ module _ (p : Problem) (settings : Settings) (t : SizeTaskModel) (l : SizeLog) (
       limit = answer.0.limit ∙ limit_is;
       legal = to_log Legal answer.0.log.legal;
       taught = subst (λ b. IsTaught b l.log.entries) base_is answer.0.log.taught;
+      sorted = answer.0.sorted;
       by = λ k d h. let e = answer.0.log.of_passes k d h in let s = seats_are in omega arith;
     };
     ended = is_ended answer.1;

@@ -4,3 +4,5 @@ pub mod Outcomes
 pub mod Tasks
 pub mod Hands
 pub mod Settled
+pub mod Plans
+pub mod Concluded

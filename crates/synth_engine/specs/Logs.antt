@@ -6,6 +6,7 @@ use Rattle.machine_model.specs.Problem.{sized}
 use Rattle.machine_model.specs.declared.problems.Problem.{Problem}
 use Rattle.annotation_encode.specs.BaseClauses.{base_clauses}
 use Rattle.annotation_encode.specs.Variables.{variables_of}
+use Rattle.refutation_log.specs.Entry.{AreSorted}
 use Rattle.refutation_log.specs.Log.{IsClosed, IsFull, IsLegal}
 use Rattle.refutation_log.specs.Teaches.{IsTaught}
 use Rattle.size_board.specs.declared.events.Claim.{Claim}
@@ -27,7 +28,7 @@ abbrev pub base_at : Problem → ℕ → List (List Literal)
 base_at p n = base_clauses (sized p n)
 
 -- A log of the problem at the log's size: with the numbers of variables and of base clauses of that problem; legal over
--- these base clauses and under the limit of the settings; taught; and each entry is of a worker that the settings allow,
+-- these base clauses and under the limit of the settings; taught; each clause in its one written order; and each entry is of a worker that the settings allow,
 -- or of the caller, whose number is 0 (this project's own).
 pub record IsLogOf (p : Problem) (settings : Settings) (l : SizeLog) : Type 0 where
   pub side : l.side ≡ p.side
@@ -36,6 +37,7 @@ pub record IsLogOf (p : Problem) (settings : Settings) (l : SizeLog) : Type 0 wh
   pub limit : l.log.limit ≡ settings.entries
   pub legal : IsLegal l.vars (base_at p l.size) settings.entries l.log.entries
   pub taught : IsTaught (base_at p l.size) l.log.entries
+  pub sorted : AreSorted l.log.entries
   pub by : All (λ e. e.by ≤ settings.workers) l.log.entries
 
 -- The log is closed over its problem's base clauses.

@@ -4,13 +4,14 @@ use Rattle.letter_word.specs.declared.kinds.Side.TheVariants.{System, Environmen
 use Rattle.machine_model.specs.Machine.{MachineModel, size_of}
 use Rattle.machine_model.specs.Problem.{sized}
 use Rattle.machine_model.specs.declared.problems.Problem.{Problem}
+use Rattle.annotation_encode.specs.Count.{allowed_sizes}
 use Rattle.annotation_encode.specs.Variables.{variables_of}
 use Rattle.size_search.specs.declared.size_log.SizeLog.{SizeLog}
 use Rattle.size_search.specs.Decided.{IsAcceptedOf}
 use Rattle.synth_engine.specs.declared.settings.Settings.{Settings}
 use Rattle.synth_engine.specs.declared.outcomes.Outcome.{Outcome}
 use Rattle.synth_engine.specs.declared.outcomes.Outcome.TheVariants.{Real, Unreal, Bounded, NoSize, NoEntries}
-use Rattle.synth_engine.specs.Searched.{allowed_of, allowed_sizes, problem_by}
+use Rattle.synth_engine.specs.Searched.{allowed_of}
 use Rattle.synth_engine.specs.Logs.{HasNone, IsClosedLog, IsFullLog, IsLogOf, place_of, sizes_to}
 
 -- What each outcome of a search holds (this project's own).

@@ -5,9 +5,11 @@
 //! size_search for the turns at one size, and on size_board for which size a worker takes next.
 #![tactic(auto)]
 
+mod concluding;
 mod crews;
 mod hands;
 mod outcomes;
+mod plans;
 mod searching;
 mod settings;
 mod settling;

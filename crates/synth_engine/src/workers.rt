@@ -1,11 +1,15 @@
 //! What the workers do.
 ghost use Rattle.std.specs.Prelude.{◌≡◌, ℕ, ◌<◌, All, IfOk, IfSome, slice_index_or, vec_len};
 ghost use Rattle.synth_engine.specs.declared.crews.Crew.{Crew as CrewView};
+ghost use Rattle.size_board.specs.Names.{AreNamed};
+ghost use Rattle.synth_engine.specs.Plans.{IsWinner};
 ghost use Rattle.synth_engine.specs.Tasks.{IsAllowed, IsCrewOf, IsVerdict, SizesFit};
 
 use crate::crews::{Crew, turn_on};
+use crate::plans::Plan;
 use crate::sizes::Sizes;
 use letter_word::Side;
+use machine_model::Machine;
 use outside_edge::Gate;
 use size_board::{Board, Claim, ProblemNames};
 use size_search::Decided;
@@ -132,27 +136,42 @@ impl<P: ProblemNames, R: Wait, G: Gate> Race<'_, '_, P, R, G> {
     }
 }
 
-/// Lets the workers race, each in a thread of its own where one can be made, and then does what they left. The workers come back, and the
-/// board.
+/// A machine that was found, of the side that accepts it.
+#[derive(Drop)]
+pub struct Winner {
+    pub side: Side,
+    pub machine: Machine,
+}
+
+/// Lets the workers race, each in a thread of its own where one can be made, and then does what they left. Gives the workers back, and a
+/// machine if one was found.
 pub fn run_workers<'a, P: ProblemNames + Send + Sync, R: Threads + Wait + Sync, G: Gate + Sync>(
     rt: &'a R,
     alloc: Global,
-    board: Board<P>,
+    plan: Plan,
     sizes: &'a Sizes,
     own: &mut Crew,
     crews: Vec<Crew>,
     gate: &'a G,
-) -> Result<(Board<P>, Vec<Crew>), AllocError>
+) -> Result<(Option<Winner>, Vec<Crew>), AllocError>
+    requires named { AreNamed P.named plan.system plan.environment plan.system_sizes plan.environment_sizes }
     requires sizes { SizesFit P.named sizes.now }
     requires own { IsCrewOf sizes.now own.old }
     requires crews { All (IsCrewOf sizes.now) crews.items }
     ensures own { IsCrewOf sizes.now own.new }
     ensures own_number { own.new.number ≡ own.old.number }
+    ensures winner { IfOk result (λ raced. IfSome raced.0 (IsWinner P.named)) }
     ensures crews { IfOk result (λ raced. All (IsCrewOf sizes.now) raced.1.items) }
     ensures count { IfOk result (λ raced. vec_len raced.1 ≡ vec_len crews) }
     ensures numbers { IfOk result (λ raced. (i : ℕ) (d : CrewView) → i < vec_len crews → (slice_index_or raced.1.items i d).number ≡ (slice_index_or crews.items i d).number) }
 {
-    let board = Mutex::new(board);
+    let board = Mutex::new(Board::<P>::new(
+        alloc,
+        plan.system,
+        plan.environment,
+        plan.system_sizes,
+        plan.environment_sizes,
+    )?);
     let race = Race {
         rt,
         alloc,
@@ -165,5 +184,17 @@ pub fn run_workers<'a, P: ProblemNames + Send + Sync, R: Threads + Wait + Sync, 
         ensures { IsCrewOf race.entry.sizes.now result × (result.number ≡ crew.number) }
     { race.after_work(crew) })?;
     race.work(own)?;
-    Ok((board.into_inner(), crews))
+    Ok((winner_of(board.into_inner()), crews))
+}
+
+/// The machine that a board kept, the system's if it has one.
+fn winner_of<P: ProblemNames>(board: Board<P>) -> Option<Winner>
+    ensures { IfSome result (IsWinner P.named) }
+{
+    let side = match board.found(Side::System) {
+        Some(_) => Side::System,
+        None => Side::Environment,
+    };
+    let machine = board.into_found(side)?;
+    Some(Winner { side, machine })
 }
