@@ -51,6 +51,10 @@ no_tasks p settings top = record { few = omega arith; each = λ k u at. absurd (
     never : (k : ℕ) (u : SizeTaskModel) → slice_get [] k ≡ Some u → ⊥
     never k u at = cc
 
+pub tasks_of_none : (p : Problem) (settings : Settings) (tasks : List SizeTaskModel) → length tasks ≡ 0 → AreTasks p settings (length tasks) tasks
+tasks_of_none p settings [] none = no_tasks p settings 0
+tasks_of_none p settings (t ∷ ts) none = absurd (omega arith)
+
 pub racks_push : {Z : Type 0} (n : ℕ) (tasks later_tasks : List SizeTaskModel) (racks later : List (Vec PassView Z)) (t : SizeTaskModel) (v : Vec PassView Z) → AreRacks n tasks racks
     → later_tasks ≡ tasks ++ t ∷ [] → later ≡ racks ++ v ∷ [] → v.items ≡ new_seats t.exchange n → AreRacks n later_tasks later
 racks_push {Z} n tasks later_tasks racks later t v are tasks_are racks_are is = rw (tasks_are, racks_are) (go tasks racks are)

@@ -1,4 +1,4 @@
-use Rattle.std.specs.Prelude.{◌≡◌, ℕ, ◌-◌, ◌<◌, ◌≤◌, ◌++◌, Option, Some, None, List, All, length, map, true, false, slice_index_or}
+use Rattle.std.specs.Prelude.{◌≡◌, ℕ, ◌-◌, ◌<◌, ◌≤◌, ◌∷◌, ◌++◌, Option, Some, None, List, All, length, map, true, false}
 use Rattle.letter_word.specs.declared.kinds.Side.{Side}
 use Rattle.letter_word.specs.declared.kinds.Side.TheVariants.{System, Environment}
 use Rattle.machine_model.specs.Machine.{MachineModel, size_of}
@@ -42,11 +42,13 @@ pub record AreAllSettled (system : Problem) (environment : Option Problem) (sett
   pub places : map place_of logs ≡ sizes_to System (allowed_sizes system settings.max) ++ sizes_to Environment (allowed_of settings.max environment)
   pub each : All (λ l. OfSide system environment (λ p. IsSettled p settings l) l.side) logs
 
--- Whether the log at a place is the first that isn't closed.
-pub record IsFirstOpen (logs : List SizeLog) (k : ℕ) : Type 0 where
-  pub within : k < length logs
-  pub before : (j : ℕ) (d : SizeLog) → j < k → is_ended (slice_index_or logs j d).log.entries ≡ true
-  pub here : (d : SizeLog) → is_ended (slice_index_or logs k d).log.entries ≡ false
+-- A log is the first one that isn't closed.
+pub record IsFirstOpen (logs : List SizeLog) (l : SizeLog) : Type 0 where
+  pub before : List SizeLog
+  pub after : List SizeLog
+  pub split : logs ≡ before ++ l ∷ after
+  pub here : is_ended l.log.entries ≡ false
+  pub first : All (λ d. is_ended d.log.entries ≡ true) before
 
 -- All allowed sizes of both sides are left to be settled.
 pub record AreLeft (system : Problem) (environment : Option Problem) (settings : Settings) (s e : Unsettled) : Type 0 where

@@ -92,7 +92,7 @@ fn settle_all<R: Wait>(
 fn with_machine(side: Side, machine: Machine, logs: Vec<SizeLog>) -> Outcome
     ensures { (s : ProblemView) (e : Option ProblemView) (settings : SettingsView) → OfSide s e (IsSettledBelow side settings machine logs.items) side → IsOutcomeOf s e settings result }
 {
-    if first_open(&logs).is_some() {
+    if let Some(_) = first_open(&logs) {
         return Outcome::Bounded {
             side,
             machine,
@@ -109,24 +109,22 @@ fn with_machine(side: Side, machine: Machine, logs: Vec<SizeLog>) -> Outcome
 fn without_machine(logs: Vec<SizeLog>) -> Outcome
     ensures { (s : ProblemView) (e : Option ProblemView) (settings : SettingsView) → AreAllSettled s e settings logs.items → IsOutcomeOf s e settings result }
 {
-    let Some(place) = first_open(&logs) else {
+    let Some(log) = first_open(&logs) else {
         return Outcome::NoSize { logs };
     };
-    Outcome::NoEntries {
-        side: logs[place].side,
-        size: logs[place].size,
-        logs,
-    }
+    let side = log.side;
+    let size = log.size;
+    Outcome::NoEntries { side, size, logs }
 }
 
-/// The place of the first log that isn't closed.
-fn first_open(logs: &[SizeLog]) -> Option<usize>
+/// The first log that isn't closed.
+fn first_open(logs: &[SizeLog]) -> Option<&SizeLog>
     ensures none { IfNone result (All (λ l. is_ended l.log.entries ≡ true) logs.now) }
-    ensures some { IfSome result (IsFirstOpen logs.now) }
+    ensures some { IfSome result (λ l. IsFirstOpen logs.now l.now) }
 {
-    for (place, log) in logs.iter().enumerate() {
+    for log in logs {
         if !log.log.is_closed() {
-            return Some(place);
+            return Some(log);
         }
     }
     None

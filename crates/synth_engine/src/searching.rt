@@ -5,11 +5,17 @@ ghost use Rattle.letter_word.specs.declared.kinds.Side.TheVariants.{System, Envi
 ghost use Rattle.synth_engine.specs.Searched.{IsSearched};
 ghost use Rattle.synth_engine.specs.Outcomes.{CannotFill, ClosedRefute, HasNoEntries, HasNoSize, IsBounded, IsDecisive, IsSmallest, OfSide, OnBounded, OnNoEntries, OnNoSize, OnReal, OnUnreal, logs_of};
 
+use crate::concluding::conclude;
+use crate::crews::seats_by_side;
 use crate::outcomes::Outcome;
+use crate::plans::Plan;
 use crate::settings::Settings;
+use crate::settling::Unsettled;
+use crate::workers::run_workers;
 use machine_model::Problem;
 use outside_edge::Gate;
 use std::alloc::{AllocError, Global};
+use std::marker::Brand;
 use std::sync::Wait;
 use std::thread::Threads;
 
@@ -39,5 +45,23 @@ pub fn search<R: Threads + Wait + Sync, G: Gate + Sync>(
     ensures refuted { IfOk result (λ outcome. ClosedRefute system environment settings (logs_of outcome)) }
     ensures decisive { CannotFill system environment settings → IfOk result IsDecisive }
 {
-    Err(AllocError)
+    let plan = Plan::new(system, environment, settings.max);
+    let field = plan.open(alloc, settings)?;
+    let (sizes, mut crews) = field.hand_out(alloc, settings.workers)?;
+    let Some(mut own) = crews.pop() else {
+        unreachable!()
+    };
+    let (winner, mut crews) =
+        run_workers::<Brand, R, G>(rt, alloc, plan, &sizes, &mut own, crews, gate)?;
+    crews.push(own)?;
+    let (of_system, of_environment) = seats_by_side(alloc, crews)?;
+    let system = Unsettled {
+        tasks: sizes.system,
+        crews: of_system,
+    };
+    let environment = Unsettled {
+        tasks: sizes.environment,
+        crews: of_environment,
+    };
+    conclude(rt, alloc, winner, system, environment)
 }

@@ -1,7 +1,6 @@
-use Rattle.std.proofs.Common.{◌≡◌, ℕ, ◌<◌, true, get_or}
+use Rattle.std.proofs.Common.{◌≡◌, All, take, true}
 use Rattle.refutation_log.specs.Log.{is_ended}
-use Rattle.size_search.specs.declared.size_log.SizeLog.{SizeLog}
 use Rattle.synth_engine.proofs.concluding.first_open.Given as goal
 
-abbrev pub invariant-loop-place : goal.invariant-loop-place
-invariant-loop-place l = (j : ℕ) (d : SizeLog) → j < l.place → is_ended (get_or l.logs j d).log.entries ≡ true
+abbrev pub invariant-loop-log : goal.invariant-loop-log
+invariant-loop-log l = All (λ d. is_ended d.log.entries ≡ true) (take l.log-index l.logs)

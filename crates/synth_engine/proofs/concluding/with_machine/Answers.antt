@@ -1,0 +1,11 @@
+use Rattle.std.proofs.Common.{◌≡◌, All, subst, true}
+use Rattle.refutation_log.specs.Log.{is_ended}
+use Rattle.synth_engine.specs.Concluded.{IsFirstOpen, IsSettledBelow}
+use Rattle.synth_engine.specs.Outcomes.{OfSide}
+use Rattle.synth_engine.proofs.ConcludedLemmas.{bounded_outcome, real_outcome, unreal_outcome}
+use Rattle.synth_engine.proofs.concluding.with_machine.Goals as goal
+
+pub returns-in-Some : goal.returns-in-Some
+returns-in-Some c = λ s e settings below.
+    let first : IsFirstOpen c.args.logs.items c.in-Some.field-0.now = rw (← c.deref.ensures.value) c.in-Some.ensures.some in
+    bounded_outcome s e settings c.args.machine c.args.side c.args.logs c.in-Some.field-0.now below first
