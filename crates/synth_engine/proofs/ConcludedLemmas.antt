@@ -1,7 +1,7 @@
 -- The outcomes of settled sizes.
-use Rattle.std.proofs.Common.{◌≡◌, ℕ, zero, suc, ◌+◌, ◌-◌, ◌*◌, ◌^◌, ◌<◌, ◌≤◌, ◌⊎◌, Bool, true, false, List, [], ◌∷◌, ◌++◌, All, Any, map, length, get_or, refl, sym, ◌∙◌, ap, subst, arith, length-append, inl, inr, Global}
+use Rattle.std.proofs.Common.{◌≡◌, ℕ, zero, suc, ◌+◌, ◌-◌, ◌^◌, ◌<◌, ◌≤◌, ◌⊎◌, Bool, true, false, List, [], ◌∷◌, ◌++◌, All, map, length, get_or, refl, sym, ◌∙◌, ap, subst, arith, length-append, inl, inr, Global}
 use Rattle.std.specs.Prelude.{Vec, Option, Some, None, unwrap_or}
-use Rattle.std.proofs.lemmas.List.{get_or_append_left, get_or_push, length-map, map-append}
+use Rattle.std.proofs.lemmas.List.{get_or_append_left, length-map, map-append}
 use Rattle.std.proofs.lemmas.List.Elements.{All-append, All-cons, All-nil}
 use Rattle.std.proofs.Math.ListN.{get_or-map}
 use Rattle.std.proofs.Math.Seq.{get_or-append_seam}
@@ -17,11 +17,10 @@ use Rattle.refutation_log.proofs.CodeLemmas.{never_full}
 use Rattle.size_board.specs.declared.events.Claim.{Claim}
 use Rattle.size_search.specs.declared.size_log.SizeLog.{SizeLog}
 use Rattle.synth_engine.specs.declared.settings.Settings.{Settings}
-use Rattle.synth_engine.specs.declared.outcomes.Outcome.{Outcome}
 use Rattle.synth_engine.specs.declared.outcomes.Outcome.TheVariants.{Real, Unreal, Bounded, NoSize, NoEntries}
 use Rattle.synth_engine.specs.Searched.{allowed_of}
 use Rattle.synth_engine.specs.Logs.{HasNone, IsClosedLog, IsFullLog, IsLogOf, base_at, place_of, sizes_to}
-use Rattle.synth_engine.specs.Outcomes.{CannotFill, ClosedRefute, HasNoEntries, HasNoSize, IsBounded, IsDecisive, IsFound, IsOutOfReach, IsSmallest, OfSide}
+use Rattle.synth_engine.specs.Outcomes.{CannotFill, ClosedRefute, IsBounded, IsFound, IsOutOfReach, IsSmallest, OfSide}
 use Rattle.synth_engine.specs.Settled.{AreSettled, FoundOrNot, IsFoundBelow, IsSettled}
 use Rattle.synth_engine.specs.Concluded.{AreAllSettled, IsFirstOpen, IsOutcomeOf, IsSettledBelow}
 
@@ -343,8 +342,8 @@ all_settled s e settings of_system of_environment logs side system environment i
     rw is (record {
       places = map-append place_of of_system of_environment ∙ (λ i. (system.places ∙ ap (λ x. sizes_to x (allowed_sizes s settings.max)) side) i ++ environment_places e settings of_environment environment i);
       each = All-append (λ l. OfSide s e (λ p. IsSettled p settings l) l.side) of_system of_environment
-        (λ k d h. let x = system.each k d h in subst (OfSide s e (λ p. IsSettled p settings (get_or of_system k d))) (sym (x.log.side ∙ side)) x)
-        (environment_each s e settings of_environment environment);
+          (λ k d h. let x = system.each k d h in subst (OfSide s e (λ p. IsSettled p settings (get_or of_system k d))) (sym (x.log.side ∙ side)) x)
+          (environment_each s e settings of_environment environment);
     })
 
 -- of the environment a machine was found, or its sizes are settled; there is nothing to be found where it has no problem

@@ -1,15 +1,15 @@
 -- Seats that are dealt out and come back.
-use Rattle.std.proofs.Common.{◌≡◌, ℕ, zero, suc, ◌+◌, ◌-◌, ◌<◌, ◌≤◌, List, [], ◌∷◌, ◌++◌, All, Contains, map, length, get_or, refl, sym, ◌∙◌, ap, arith, drop, length-append, inl, inr}
+use Rattle.std.proofs.Common.{◌≡◌, ℕ, suc, ◌+◌, ◌-◌, ◌<◌, ◌≤◌, List, [], ◌∷◌, ◌++◌, All, Contains, map, length, get_or, refl, sym, ◌∙◌, ap, arith, drop, length-append, inl, inr}
 use Rattle.std.specs.Prelude.{Vec, vec_len}
 use Rattle.std.proofs.lemmas.List.{get_or_push, map-append, same_from_push}
-use Rattle.std.proofs.lemmas.List.Elements.{All-append, All-cons, All-nil}
+use Rattle.std.proofs.lemmas.List.Elements.{All-cons, All-nil}
 use Rattle.std.proofs.lemmas.Bool.{cases_lt}
-use Rattle.clause_exchange.specs.SharedLog.{PassView, SharedLog, new_pass}
+use Rattle.clause_exchange.specs.SharedLog.{PassView, SharedLog}
 use Rattle.size_search.specs.Seat.{GoesOn}
 use Rattle.size_search.specs.Task.{SizeTaskModel}
 use Rattle.synth_engine.specs.Tasks.{AreSeats}
 use Rattle.synth_engine.proofs.WorkerLemmas.{as_many}
-use Rattle.synth_engine.specs.Hands.{AreAtFrom, AreCrewsFrom, AreDrawn, AreRacks, joined, new_seats}
+use Rattle.synth_engine.specs.Hands.{AreAtFrom, AreCrewsFrom, AreDrawn, joined}
 
 -- what holds of each element of a list holds of its last one
 pub last_of : {X : Type 0} (P : X → Type 0) (ys xs : List X) (x : X) → ys ≡ xs ++ x ∷ [] → All P ys → P x

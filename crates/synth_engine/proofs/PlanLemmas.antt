@@ -1,8 +1,8 @@
 -- Sizes that are opened, and seats that are handed out.
-use Rattle.std.proofs.Common.{◌≡◌, ℕ, zero, suc, ◌+◌, ◌-◌, ◌<◌, ◌≤◌, List, [], ◌∷◌, ◌++◌, All, map, length, get_or, refl, sym, ◌∙◌, ap, subst, arith, drop, length-append, inl, inr}
-use Rattle.std.specs.Prelude.{Vec, Option, Some, None, slice_get, vec_len}
+use Rattle.std.proofs.Common.{◌≡◌, ℕ, zero, suc, ◌+◌, ◌-◌, ◌<◌, List, [], ◌∷◌, ◌++◌, All, map, length, get_or, refl, sym, ◌∙◌, ap, subst, arith, drop, length-append, inl, inr}
+use Rattle.std.specs.Prelude.{Vec, Some, slice_get, vec_len}
 use Rattle.std.proofs.lemmas.Bool.{cases_lt}
-use Rattle.std.proofs.lemmas.List.{ext_get_or, get_or_append_left, get_or_push, map-append, same_from_push}
+use Rattle.std.proofs.lemmas.List.{ext_get_or, get_or_append_left, get_or_push, same_from_push}
 use Rattle.std.proofs.lemmas.List.Elements.{All-append, All-cons, All-nil}
 use Rattle.std.proofs.lemmas.Option.{get_or_from_slice_get}
 use Rattle.machine_model.specs.Problem.{parts_of, sized}
@@ -47,7 +47,7 @@ tasks_push p settings top tasks later t are is small task =
 
 pub no_tasks : (p : Problem) (settings : Settings) (top : ℕ) → AreTasks p settings top []
 no_tasks p settings top = record { few = omega arith; each = λ k u at. absurd (never k u at) }
-    where
+  where
     never : (k : ℕ) (u : SizeTaskModel) → slice_get [] k ≡ Some u → ⊥
     never k u at = cc
 
@@ -58,7 +58,7 @@ tasks_of_none p settings (t ∷ ts) none = absurd (omega arith)
 pub racks_push : {Z : Type 0} (n : ℕ) (tasks later_tasks : List SizeTaskModel) (racks later : List (Vec PassView Z)) (t : SizeTaskModel) (v : Vec PassView Z) → AreRacks n tasks racks
     → later_tasks ≡ tasks ++ t ∷ [] → later ≡ racks ++ v ∷ [] → v.items ≡ new_seats t.exchange n → AreRacks n later_tasks later
 racks_push {Z} n tasks later_tasks racks later t v are tasks_are racks_are is = rw (tasks_are, racks_are) (go tasks racks are)
-    where
+  where
     go : (ts : List SizeTaskModel) (vs : List (Vec PassView Z)) → AreRacks n ts vs → AreRacks n (ts ++ t ∷ []) (vs ++ v ∷ [])
     go [] [] here = (is, tt)
     go [] (w ∷ ws) here = absurd here
@@ -108,8 +108,7 @@ hand n (t ∷ ts) (v ∷ vs) (w ∷ ws) (s ∷ ss) a b e are =
     let here : v.items ≡ w.items ++ s ∷ [] = ap (λ l. get_or l 0 []) e in
     let there : map items vs ≡ joined ws ss = ap (λ l. drop 1 l) e in
     let one = same_from_push w.items (new_seats t.exchange n) s (new_pass t.exchange n) (sym here ∙ are.0) in
-    let more = hand n ts vs ws ss (omega arith) (omega arith) there are.1 in
-    (
+    let more = hand n ts vs ws ss (omega arith) (omega arith) there are.1 in (
       (one.0, more.0),
       (λ i. (one.1 i).exchange ∷ more.1 i),
       All-cons (λ (s : PassView). s.number ≡ n) s ss (ap (λ (x : PassView). x.number) one.1) more.2,
@@ -142,11 +141,10 @@ no_workers sizes top = record { seats = All-nil (IsCrewOf sizes); numbers = λ i
 crews_at : {Z : Type 0} (top : ℕ) (tasks : List SizeTaskModel) (crews : List Crew) (side : Crew → Vec PassView Z) → ((i : ℕ) (d : Crew) → i < length crews → AreSeats (top - i) tasks (side (get_or crews i d)).items)
     → AreCrewsFrom top tasks (map side crews)
 crews_at top tasks [] side each = tt
-crews_at top tasks (c ∷ cs) side each =
-    (
-      rw (sym (let e : top - 0 ≡ top = omega arith in e)) (each 0 c (omega arith)),
-      crews_at (top - 1) tasks cs side (λ i d h. rw (let e : top - 1 - i ≡ top - suc i = omega arith in e) (each (suc i) d (omega arith))),
-    )
+crews_at top tasks (c ∷ cs) side each = (
+  rw (sym (let e : top - 0 ≡ top = omega arith in e)) (each 0 c (omega arith)),
+  crews_at (top - 1) tasks cs side (λ i d h. rw (let e : top - 1 - i ≡ top - suc i = omega arith in e) (each (suc i) d (omega arith))),
+)
 
 pub system_crews : (sizes : Sizes) (top : ℕ) (crews : List Crew) → AreWorkersOf sizes top crews → AreCrewsFrom top sizes.system.items (map (λ c. c.system) crews)
 system_crews sizes top crews are =

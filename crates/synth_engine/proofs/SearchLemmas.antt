@@ -1,6 +1,6 @@
 -- From the plan of a search to its outcome.
-use Rattle.std.proofs.Common.{◌≡◌, ℕ, zero, suc, ◌+◌, ◌-◌, ◌<◌, ◌≤◌, List, [], ◌∷◌, ◌++◌, All, map, length, get_or, refl, sym, ◌∙◌, ap, subst, arith, length-append, Global}
-use Rattle.std.specs.Prelude.{Vec, Option, Some, None, Result, Ok, Err, IfOk, IfSome, slice_get, vec_len}
+use Rattle.std.proofs.Common.{◌≡◌, ℕ, ◌+◌, ◌-◌, ◌<◌, ◌≤◌, List, [], ◌∷◌, ◌++◌, All, map, length, get_or, refl, sym, ◌∙◌, ap, subst, arith, length-append}
+use Rattle.std.specs.Prelude.{Option, Some, None, Result, Ok, Err, IfOk, IfSome, slice_get}
 use Rattle.std.specs.Option.{ForSome, option_map}
 use Rattle.std.proofs.lemmas.List.{get_or_append_left, length-map}
 use Rattle.std.proofs.lemmas.Option.{slice_get-get_or}
@@ -117,7 +117,7 @@ unfolding plan_at
 sizes_fit s e max settings plan sizes is are =
     let here : AreSizesOf (plan_at s e max) settings sizes = subst (λ x. AreSizesOf x settings sizes) (plan_is s e max plan is) are in
     subst (λ x. SizesFit (named_of x) sizes) (sym (plan_is s e max plan is))
-      (fit_side (named_of (plan_at s e max)) System s settings (allowed_sizes s max) sizes.system.items refl refl here.system, fit_environment s e max settings sizes.environment.items here.environment)
+    (fit_side (named_of (plan_at s e max)) System s settings (allowed_sizes s max) sizes.system.items refl refl here.system, fit_environment s e max settings sizes.environment.items here.environment)
 
 -- WORKERS
 
@@ -126,13 +126,12 @@ pub workers_pop : (sizes : Sizes) (top : ℕ) (crews front : List Crew) (c : Cre
 workers_pop sizes top crews front c are is =
     let n : length crews ≡ length front + 1 = ap length is ∙ length-append front (c ∷ []) in
     let at : (i : ℕ) (d : Crew) → i < length front → get_or crews i d ≡ get_or front i d = λ i d h. ap (λ xs. get_or xs i d) is ∙ get_or_append_left front (c ∷ []) d i h in
-    let all : All (IsCrewOf sizes) (front ++ c ∷ []) = subst (All (IsCrewOf sizes)) is are.seats in
-    (
+    let all : All (IsCrewOf sizes) (front ++ c ∷ []) = subst (All (IsCrewOf sizes)) is are.seats in (
       record { seats = front_of (IsCrewOf sizes) front c all; numbers = λ i d h. ap (λ (x : Crew). x.number) (sym (at i d h)) ∙ are.numbers i d (omega arith) },
       last_of (IsCrewOf sizes) crews front c is are.seats,
       ap (λ (x : Crew). x.number) (sym (ap (λ xs. get_or xs (length front) c) is ∙ seam front c)) ∙ are.numbers (length front) c (omega arith),
     )
-    where
+  where
     seam : (xs : List Crew) (x : Crew) → get_or (xs ++ x ∷ []) (length xs) x ≡ x
     seam [] x = refl
     seam (y ∷ ys) x = seam ys x
@@ -197,18 +196,17 @@ environment_length (Some p) settings count tasks none are = sym are.all
 -- there are tasks of its size and of each smaller one
 pub winner_within : (s : Problem) (e : Option Problem) (max : ℕ) (settings : Settings) (plan : Plan) (sizes : Sizes) (w : Winner) → IsPlanOf s e max plan → AreSizesOf plan settings sizes → IsWinner (named_of plan) w
     → (w.side ≡ System → size_of w.machine ≤ length sizes.system.items) × (w.side ≡ Environment → size_of w.machine ≤ length sizes.environment.items)
-winner_within s e max settings plan sizes w is are winner =
-    (
-      λ side.
-          let most : size_of w.machine ≤ sizes_of (named_of plan) System = rw (sym side) winner.allowed in
-          let all : length sizes.system.items ≡ plan.system_sizes = are.system.all in
-          omega arith,
-      λ side.
-          let most : size_of w.machine ≤ sizes_of (named_of plan) Environment = rw (sym side) winner.allowed in
-          let all : plan.environment_sizes ≡ length sizes.environment.items = environment_length plan.environment settings plan.environment_sizes sizes.environment.items
-            (λ none. is.environment_sizes ∙ ap (allowed_of max) (sym is.environment_is ∙ none)) are.environment in
-          omega arith,
-    )
+winner_within s e max settings plan sizes w is are winner = (
+  λ side.
+      let most : size_of w.machine ≤ sizes_of (named_of plan) System = subst (λ x. size_of w.machine ≤ sizes_of (named_of plan) x) side winner.allowed in
+      let all : length sizes.system.items ≡ plan.system_sizes = are.system.all in
+      omega arith,
+  λ side.
+      let most : size_of w.machine ≤ sizes_of (named_of plan) Environment = subst (λ x. size_of w.machine ≤ sizes_of (named_of plan) x) side winner.allowed in
+      let all : plan.environment_sizes ≡ length sizes.environment.items = environment_length plan.environment settings plan.environment_sizes sizes.environment.items
+      (λ none. is.environment_sizes ∙ ap (allowed_of max) (sym is.environment_is ∙ none)) are.environment in
+      omega arith,
+)
 
 found_of : (p : Problem) (settings : Settings) (m : MachineModel) → IsAccepted (sought_of p) (size_of m) m → size_of m ≤ allowed_sizes p settings.max → IsFound p settings m
 found_of p settings m is most = record {

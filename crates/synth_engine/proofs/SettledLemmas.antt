@@ -1,27 +1,24 @@
 -- Settled sizes, one after the other.
-use Rattle.std.proofs.Common.{◌≡◌, ℕ, suc, ◌+◌, ◌-◌, ◌<◌, ◌≤◌, List, [], ◌∷◌, ◌++◌, All, map, length, refl, sym, ◌∙◌, ap, subst, arith, add-one, length-append, inl, inr}
+use Rattle.std.proofs.Common.{◌≡◌, ℕ, suc, ◌+◌, ◌-◌, ◌≤◌, List, [], ◌∷◌, ◌++◌, length, refl, sym, ◌∙◌, ap, subst, arith, add-one, length-append, inl, inr}
 use Rattle.std.specs.Prelude.{Option, Some, slice_get, ◌⊎◌}
 use Rattle.std.proofs.lemmas.List.{map-append}
 use Rattle.std.proofs.lemmas.List.Elements.{All-append, All-cons, All-nil}
-use Rattle.std.proofs.lemmas.Option.{slice_get-get_or, slice_get_read}
 use Rattle.clause_base.specs.Literal.{Literal}
 use Rattle.letter_word.specs.declared.kinds.Side.TheVariants.{System, Environment}
 use Rattle.machine_model.specs.Accepts.{SideAccepts}
-use Rattle.machine_model.specs.Machine.{IsMachine, MachineModel, size_of}
-use Rattle.machine_model.specs.Problem.{IsMachineOf, Parts, automaton_of, parts_of, reads_of, sized, writes_of}
+use Rattle.machine_model.specs.Machine.{MachineModel, size_of}
+use Rattle.machine_model.specs.Problem.{Parts, parts_of, reads_of, sized, writes_of}
 use Rattle.machine_model.specs.declared.problems.Problem.{Problem}
 use Rattle.machine_model.proofs.Tables.{size_pos}
 use Rattle.refutation_log.proofs.Lists.{slice_get-append}
 use Rattle.refutation_log.specs.Log.{IsClosed, IsFull, IsLegal}
 use Rattle.refutation_log.specs.Teaches.{IsTaught}
-use Rattle.size_board.specs.declared.events.Claim.{Claim}
-use Rattle.size_search.specs.Task.{SizeTaskModel, terms_of}
+use Rattle.size_search.specs.Task.{SizeTaskModel}
 use Rattle.size_search.specs.Decided.{IsAcceptedOf, IsClosedOn, IsFullOn}
 use Rattle.size_search.specs.declared.size_log.SizeLog.{SizeLog}
 use Rattle.synth_engine.specs.declared.settings.Settings.{Settings}
-use Rattle.synth_engine.specs.declared.settling.Answer.{Answer}
 use Rattle.synth_engine.specs.declared.settling.Answer.TheVariants.{Machine, Log}
-use Rattle.synth_engine.specs.Logs.{HasNone, IsClosedLog, IsFullLog, IsLogOf, base_at, place_of, sizes_to}
+use Rattle.synth_engine.specs.Logs.{IsClosedLog, IsFullLog, base_at, place_of}
 use Rattle.synth_engine.specs.Tasks.{AreTasks, IsTaskOf}
 use Rattle.synth_engine.specs.Settled.{AreSettled, IsAnswerOf, IsFoundBelow, IsSettled}
 
@@ -60,12 +57,11 @@ pub tasks_pop : (p : Problem) (settings : Settings) (top : ℕ) (tasks rest : Li
     → AreTasks p settings top rest × IsTaskOf p settings (top - length rest) t
 tasks_pop p settings top tasks rest t is are =
     let n : length tasks ≡ length rest + 1 = ap length is ∙ length-append rest (t ∷ []) in
-    let few : length tasks ≤ top = are.few in
-    (
+    let few : length tasks ≤ top = are.few in (
       record { few = omega arith; each = λ k u at. are.each k u (rw is (slice_get-append rest (t ∷ []) k u at)) },
       are.each (length rest) t (rw is (last_there rest t)),
     )
-    where
+  where
     last_there : (xs : List SizeTaskModel) (x : SizeTaskModel) → slice_get (xs ++ x ∷ []) (length xs) ≡ Some x
     last_there [] x = refl
     last_there (y ∷ ys) x = last_there ys x

@@ -1,14 +1,13 @@
 -- Seats at their tasks, and what is decided at them.
-use Rattle.std.proofs.Common.{◌≡◌, ℕ, ◌-◌, ◌<◌, ◌≤◌, List, All, map, length, get_or, set, sym, ◌∙◌, ap, subst, arith}
+use Rattle.std.proofs.Common.{◌≡◌, ℕ, ◌-◌, ◌<◌, ◌≤◌, List, All, map, length, get_or, set, sym, ◌∙◌, ap, arith}
 use Rattle.std.specs.Prelude.{Vec, Option, Some, None, Result, Ok, Err, IfOk, IfSome, slice_get}
 use Rattle.std.proofs.Math.Seq.{map-set_same}
 use Rattle.std.proofs.lemmas.List.{get_or-map, length-map, with_items_is}
 use Rattle.std.specs.Vec.{with_items}
-use Rattle.std.proofs.lemmas.Option.{slice_get-get_or}
 use Rattle.letter_word.specs.declared.kinds.Side.{Side}
 use Rattle.refutation_log.specs.declared.entries.Entry.{Entry}
 use Rattle.clause_exchange.specs.SharedLog.{PassView, SharedLog}
-use Rattle.size_board.specs.Names.{Named, sizes_of, sought_by, sought_of}
+use Rattle.size_board.specs.Names.{Named, sizes_of}
 use Rattle.size_board.specs.declared.events.Claim.{Claim}
 use Rattle.size_search.specs.Task.{SizeTaskModel}
 use Rattle.size_search.specs.Decided.{IsDecided}

@@ -1,4 +1,4 @@
-use Rattle.std.specs.Prelude.{◌≡◌, ℕ, zero, suc, ◌+◌, ◌-◌, ◌<◌, ⊤, List, [], ◌∷◌, ◌++◌, Vec, All, map, length}
+use Rattle.std.specs.Prelude.{◌≡◌, ℕ, zero, suc, ◌-◌, ⊤, List, [], ◌∷◌, ◌++◌, Vec, map, length}
 use Rattle.clause_exchange.specs.SharedLog.{PassView, SharedLog, new_pass}
 use Rattle.size_search.specs.Task.{SizeTaskModel}
 use Rattle.synth_engine.specs.Tasks.{AreSeats}

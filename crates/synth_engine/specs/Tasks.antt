@@ -1,19 +1,17 @@
-use Rattle.std.specs.Prelude.{◌≡◌, ℕ, ◌+◌, ◌-◌, ◌<◌, ◌≤◌, ◌⊎◌, List, Option, Some, All, Contains, map, length, slice_get}
+use Rattle.std.specs.Prelude.{◌≡◌, ℕ, ◌+◌, ◌-◌, ◌<◌, ◌≤◌, List, Some, All, map, length, slice_get}
 use Rattle.letter_word.specs.declared.kinds.Side.{Side}
 use Rattle.letter_word.specs.declared.kinds.Side.TheVariants.{System, Environment}
-use Rattle.machine_model.specs.Machine.{MachineModel, size_of}
 use Rattle.machine_model.specs.Problem.{parts_of, sized}
 use Rattle.machine_model.specs.declared.problems.Problem.{Problem}
 use Rattle.annotation_encode.specs.BaseClauses.{base_clauses}
 use Rattle.annotation_encode.specs.Variables.{variables_of}
 use Rattle.refutation_log.specs.declared.entries.Entry.{Entry}
 use Rattle.clause_exchange.specs.SharedLog.{PassView}
-use Rattle.size_board.specs.Names.{Named, SideHas, sizes_of, sought_by, sought_of}
+use Rattle.size_board.specs.Names.{Named, sizes_of, sought_by, sought_of}
 use Rattle.size_board.specs.declared.events.Claim.{Claim}
 use Rattle.size_search.specs.Task.{SizeTaskModel, terms_of}
 use Rattle.size_search.specs.Decided.{IsDecided}
 use Rattle.size_search.specs.declared.decided.Decided.{Decided}
-use Rattle.size_search.specs.declared.size_log.SizeLog.{SizeLog}
 use Rattle.synth_engine.specs.declared.settings.Settings.{Settings}
 use Rattle.synth_engine.specs.declared.crews.Crew.{Crew}
 use Rattle.synth_engine.specs.declared.sizes.Sizes.{Sizes}

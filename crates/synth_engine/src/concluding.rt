@@ -80,7 +80,10 @@ fn settle_all<R: Wait>(
     }
     let all = environment.tasks.len();
     let of_environment = environment.settle(rt, alloc, all)?;
-    let Settled { machine, logs: mut more } = of_environment;
+    let Settled {
+        machine,
+        logs: mut more,
+    } = of_environment;
     if let Some(machine) = machine {
         return Ok(with_machine(Side::Environment, machine, more));
     }

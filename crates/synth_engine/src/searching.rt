@@ -51,8 +51,9 @@ pub fn search<R: Threads + Wait + Sync, G: Gate + Sync>(
     let Some(mut own) = crews.pop() else {
         unreachable!()
     };
-    let (winner, mut crews) =
-        run_workers::<Brand, R, G>(rt, alloc, plan, &sizes, &mut own, crews, gate)?;
+    let (winner, mut crews) = run_workers::<Brand, R, G>(
+        rt, alloc, plan, &sizes, &mut own, crews, gate,
+    )?;
     crews.push(own)?;
     let (of_system, of_environment) = seats_by_side(alloc, crews)?;
     let system = Unsettled {

@@ -39,12 +39,7 @@ pub struct Settled {
 
 impl Unsettled {
     /// Settles the first so many sizes, up to the first one at which there is a machine.
-    pub fn settle<R: Wait>(
-        self,
-        rt: &R,
-        alloc: Global,
-        count: usize,
-    ) -> Result<Settled, AllocError>
+    pub fn settle<R: Wait>(self, rt: &R, alloc: Global, count: usize) -> Result<Settled, AllocError>
         requires seats { HasItsSeats self }
         requires count { count ≤ length self.tasks.items }
         ensures { (p : ProblemView) (settings : SettingsView) → AreTasks p settings (length self.tasks.items) self.tasks.items → IfOk result (AreFirstSettled p settings count) }
@@ -71,11 +66,7 @@ impl Unsettled {
     }
 
     /// Settles the smallest size that is left.
-    fn settle_next<R: Wait>(
-        self,
-        rt: &R,
-        alloc: Global,
-    ) -> Result<(Answer, Unsettled), AllocError>
+    fn settle_next<R: Wait>(self, rt: &R, alloc: Global) -> Result<(Answer, Unsettled), AllocError>
         requires some { 0 < length self.tasks.items }
         requires seats { HasItsSeats self }
         ensures seats { IfOk result (λ r. HasItsSeats r.1) }

@@ -179,10 +179,14 @@ pub fn run_workers<'a, P: ProblemNames + Send + Sync, R: Threads + Wait + Sync, 
         sizes,
         gate,
     };
-    let crews = thread::map_vec(rt, crews, &|crew: Crew| -> Crew
-        requires { SizesFit P.named race.sizes.now × IsCrewOf race.sizes.now crew }
-        ensures { IsCrewOf race.entry.sizes.now result × (result.number ≡ crew.number) }
-    { race.after_work(crew) })?;
+    let crews = thread::map_vec(
+        rt,
+        crews,
+        &|crew: Crew| -> Crew
+            requires { SizesFit P.named race.sizes.now × IsCrewOf race.sizes.now crew }
+            ensures { IsCrewOf race.entry.sizes.now result × (result.number ≡ crew.number) }
+        { race.after_work(crew) },
+    )?;
     race.work(own)?;
     Ok((winner_of(board.into_inner()), crews))
 }

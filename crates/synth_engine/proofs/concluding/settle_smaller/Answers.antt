@@ -1,9 +1,7 @@
-use Rattle.std.proofs.Common.{◌≡◌, ℕ, ◌-◌, ◌<◌, ◌≤◌, length, sym, ◌∙◌, ap, subst, arith}
-use Rattle.std.specs.Prelude.{unwrap_or}
-use Rattle.machine_model.specs.Machine.{MachineModel, size_of}
+use Rattle.std.proofs.Common.{◌≡◌, ◌-◌, length, ap, subst}
+use Rattle.machine_model.specs.Machine.{size_of}
 use Rattle.machine_model.specs.declared.problems.Problem.{Problem}
-use Rattle.annotation_encode.specs.Count.{allowed_sizes}
-use Rattle.synth_engine.specs.Outcomes.{IsFound, OfSide}
+use Rattle.synth_engine.specs.Outcomes.{IsFound}
 use Rattle.synth_engine.specs.Tasks.{AreTasks}
 use Rattle.synth_engine.specs.Settled.{FoundOrNot}
 use Rattle.synth_engine.specs.Concluded.{IsLeft, IsSettledBelow}

@@ -1,8 +1,5 @@
-use Rattle.std.proofs.Common.{◌≡◌, All, subst, true}
-use Rattle.refutation_log.specs.Log.{is_ended}
-use Rattle.synth_engine.specs.Concluded.{IsFirstOpen, IsSettledBelow}
-use Rattle.synth_engine.specs.Outcomes.{OfSide}
-use Rattle.synth_engine.proofs.ConcludedLemmas.{bounded_outcome, real_outcome, unreal_outcome}
+use Rattle.synth_engine.specs.Concluded.{IsFirstOpen}
+use Rattle.synth_engine.proofs.ConcludedLemmas.{bounded_outcome}
 use Rattle.synth_engine.proofs.concluding.with_machine.Goals as goal
 
 pub returns-in-Some : goal.returns-in-Some

@@ -1,7 +1,5 @@
-use Rattle.std.proofs.Common.{◌≡◌, ℕ, ◌+◌, ◌-◌, ◌<◌, ◌≤◌, [], ◌∷◌, List, length, sym, ◌∙◌, ap, arith, length-append, inl, inr}
+use Rattle.std.proofs.Common.{◌≡◌, ◌+◌, ◌-◌, [], ◌∷◌, length, sym, ◌∙◌, ap, arith, length-append, inl, inr}
 use Rattle.clause_exchange.specs.SharedLog.{PassView}
-use Rattle.refutation_log.specs.declared.entries.Entry.{Entry}
-use Rattle.size_search.specs.Decided.{IsClosedOn, IsFullOn}
 use Rattle.size_search.specs.SizeLog.{HoldsEnded}
 use Rattle.synth_engine.proofs.HandLemmas.{at_all, at_goes_on, at_numbers, at_pop, last_of}
 use Rattle.synth_engine.proofs.settling.settle_task.Goals as goal
@@ -12,7 +10,7 @@ finish-requires g c = record { exchange = (at_pop (length c.args.seats.items - 1
 pub close-requires-clause-exchange : goal.close-requires-clause-exchange
 close-requires-clause-exchange g c =
     at_all (length c.args.seats.items - 1) c.args.task.exchange c.push.new.self.items
-      (at_goes_on (length c.args.seats.items - 1) c.args.task.exchange c.args.seats.items c.pop.new.self.items c.push.new.self.items c.in-Some.own c.finish.new.seat c.requires.seats c.in-Some.ensures.items c.in_ok-decided.ensures.goes_on c.in_ok-push.ensures.items)
+    (at_goes_on (length c.args.seats.items - 1) c.args.task.exchange c.args.seats.items c.pop.new.self.items c.push.new.self.items c.in-Some.own c.finish.new.seat c.requires.seats c.in-Some.ensures.items c.in_ok-decided.ensures.goes_on c.in_ok-push.ensures.items)
 
 pub close-requires-clause-each : goal.close-requires-clause-each
 close-requires-clause-each g c =
@@ -25,7 +23,7 @@ close-requires-clause-each g c =
 pub close-requires-in-Full-clause-exchange : goal.close-requires-in-Full-clause-exchange
 close-requires-in-Full-clause-exchange g c =
     at_all (length c.args.seats.items - 1) c.args.task.exchange c.push.new.self.items
-      (at_goes_on (length c.args.seats.items - 1) c.args.task.exchange c.args.seats.items c.pop.new.self.items c.push.new.self.items c.in-Some.own c.finish.new.seat c.requires.seats c.in-Some.ensures.items c.in_ok-decided.ensures.goes_on c.in_ok-push.ensures.items)
+    (at_goes_on (length c.args.seats.items - 1) c.args.task.exchange c.args.seats.items c.pop.new.self.items c.push.new.self.items c.in-Some.own c.finish.new.seat c.requires.seats c.in-Some.ensures.items c.in_ok-decided.ensures.goes_on c.in_ok-push.ensures.items)
 
 pub close-requires-in-Full-clause-each : goal.close-requires-in-Full-clause-each
 close-requires-in-Full-clause-each g c =

@@ -9,5 +9,5 @@ invariant-loop-number l = record {
   count : length l.crews.items + l.number ≡ l.fn.workers + 1;
   system : AreRacks l.number l.fn.self.sizes.system.items l.system.items;
   environment : AreRacks l.number l.fn.self.sizes.environment.items l.environment.items;
-  workers : AreWorkersOf l.fn.self.sizes l.fn.workers l.crews.items
+  workers : AreWorkersOf l.fn.self.sizes l.fn.workers l.crews.items;
 }

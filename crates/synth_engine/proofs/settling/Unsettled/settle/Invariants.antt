@@ -10,5 +10,5 @@ invariant-loop g l = record {
   seats : HasItsSeats l.left;
   left : length l.left.tasks.items + l.counter ≡ length l.fn.self.tasks.items;
   settled : (p : Problem) (settings : Settings) → AreTasks p settings (length l.fn.self.tasks.items) l.fn.self.tasks.items
-    → AreTasks p settings (length l.fn.self.tasks.items) l.left.tasks.items × AreSettled p settings l.counter l.logs.items
+      → AreTasks p settings (length l.fn.self.tasks.items) l.left.tasks.items × AreSettled p settings l.counter l.logs.items;
 }

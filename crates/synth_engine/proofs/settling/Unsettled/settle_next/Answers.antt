@@ -1,4 +1,4 @@
-use Rattle.std.proofs.Common.{◌≡◌, ◌-◌, ◌<◌, ◌+◌, [], ◌∷◌, ◌++◌, length, sym, ◌∙◌, ap, arith, length-append}
+use Rattle.std.proofs.Common.{◌≡◌, ◌-◌, ◌<◌, length, sym, ◌∙◌, arith}
 use Rattle.size_search.specs.Task.{SizeTaskModel}
 use Rattle.synth_engine.proofs.HandLemmas.{collected, crews_some, front_of, last_of}
 use Rattle.synth_engine.proofs.settling.Unsettled.settle_next.Goals as goal
@@ -15,7 +15,7 @@ pub settle_task-requires-clause-seats : goal.settle_task-requires-clause-seats
 settle_task-requires-clause-seats g c =
     rw c.in_ok-seats.ensures.as_many
     ((collected (length c.args.self.crews.items - 1) c.pop.new.self.items c.in-Some.task c.args.self.crews.items c.in_ok-seats.crews.items c.in_ok-seats.seats.items c.in_ok-seats.ensures
-        (rw (sym c.in-Some.ensures.items) c.requires.seats.crews)).1)
+    (rw (sym c.in-Some.ensures.items) c.requires.seats.crews)).1)
 
 pub returns-clause-seats : goal.returns-clause-seats
 returns-clause-seats g c =
@@ -24,6 +24,6 @@ returns-clause-seats g c =
     record {
       some = omega arith;
       crews = rw many ((collected (length c.args.self.crews.items - 1) c.pop.new.self.items c.in-Some.task c.args.self.crews.items c.in_ok-seats.crews.items c.in_ok-seats.seats.items c.in_ok-seats.ensures
-        (rw (sym c.in-Some.ensures.items) c.requires.seats.crews)).0);
+          (rw (sym c.in-Some.ensures.items) c.requires.seats.crews)).0);
       all = rw many (front_of (λ (t : SizeTaskModel). t.exchange.terms.seats ≡ length c.args.self.crews.items) c.pop.new.self.items c.in-Some.task (rw (sym c.in-Some.ensures.items) c.requires.seats.all));
     }
