@@ -28,3 +28,4 @@ pub mod ReadingsStated
 pub mod GroupLemmas
 pub mod TourLemmas
 pub mod TourDone
+pub mod Turned

@@ -85,22 +85,30 @@ pub record RunsOn (side : Side) (c : Circuit) (reads : Word) : Type 0 where
 abbrev pub RunsOnEveryInput : Side → Circuit → Type 0
 RunsOnEveryInput side c = (reads : Word) → IsLassoOver (length c.inputs) reads → RunsOn side c reads
 
--- the latches have these values at some position of some run lasso
-pub record Occurs (c : Circuit) (latches : List Bool) : Type 0 where
+-- the latches have these values at some position of some run lasso of the circuit that plays this side
+pub record OccursFor (side : Side) (c : Circuit) (latches : List Bool) : Type 0 where
   pub word : Word
   pub values : ℕ → Valuation
-  pub run : IsCircuitRun System c word values
+  pub run : IsCircuitRun side c word values
   pub at : ℕ
   pub within : at < lasso_len word
   pub latches_are : latch_values c (values at) ≡ latches
 
--- the circuit's number of states: that many valuations of the latches occur in its run lassos
-pub record HasStates (c : Circuit) (n : ℕ) : Type 0 where
+-- that many valuations of the latches occur in its run lassos
+pub record HasStatesFor (side : Side) (c : Circuit) (n : ℕ) : Type 0 where
   pub states : List (List Bool)
   pub count : length states ≡ n
   pub different : (i k : ℕ) (d : List Bool) → i < k → k < length states → slice_index_or states i d ≢ slice_index_or states k d
-  pub each_occurs : All (Occurs c) states
-  pub all_there : (latches : List Bool) → Occurs c latches → Contains states latches
+  pub each_occurs : All (OccursFor side c) states
+  pub all_there : (latches : List Bool) → OccursFor side c latches → Contains states latches
+
+-- both as the system's circuit: by a law it makes no difference which side the circuit plays
+abbrev pub Occurs : Circuit → List Bool → Type 0
+Occurs c latches = OccursFor System c latches
+
+-- the circuit's number of states
+abbrev pub HasStates : Circuit → ℕ → Type 0
+HasStates c n = HasStatesFor System c n
 
 -- where the latches have the same values the outputs do, whatever the input letter is
 pub record IsMooreCircuit (c : Circuit) : Type 0 where

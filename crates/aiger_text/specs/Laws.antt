@@ -1,9 +1,9 @@
 -- Laws of circuits (AIGER 1.9).
-use Rattle.std.specs.Prelude.{◌≡◌, ℕ, ◌+◌, ◌<◌, Bool, List, length}
+use Rattle.std.specs.Prelude.{◌≡◌, ◌↔◌, ℕ, ◌+◌, ◌<◌, Bool, List, length}
 use Rattle.letter_word.specs.declared.kinds.Side.{Side}
 use Rattle.letter_word.specs.Word.{Word, SameWord, nth_letter}
 use Rattle.letter_word.specs.Signals.{has}
-use Rattle.aiger_text.specs.Circuit.{Circuit, Valuation, literal_value, first_read, IsCircuitRun}
+use Rattle.aiger_text.specs.Circuit.{Circuit, HasStates, HasStatesFor, IsCircuitRun, Occurs, OccursFor, Valuation, first_read, literal_value}
 use Rattle.aiger_text.specs.CircuitType.{IsDefined}
 use Rattle.aiger_text.specs.Step.{HasValues}
 
@@ -24,3 +24,11 @@ abbrev pub RunsAreDetermined : Circuit → Type 0
 RunsAreDetermined c =
     (side : Side) (v w : Word) (in_v in_w : ℕ → Valuation) → IsCircuitRun side c v in_v → IsCircuitRun side c w in_w
     → ReadsTheSame side c v w → SameWord v w
+
+-- whichever side the circuit plays, the same values of its latches occur, and as many
+pub record StatesAreOfEitherSide (c : Circuit) : Type 0 where
+  pub occurs : (side : Side) (latches : List Bool) → OccursFor side c latches ↔ Occurs c latches
+  pub number : (side : Side) (n : ℕ) → HasStatesFor side c n ↔ HasStates c n
+
+abbrev pub EitherSideHasTheStates : Type 0
+EitherSideHasTheStates = (c : Circuit) → StatesAreOfEitherSide c

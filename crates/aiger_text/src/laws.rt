@@ -2,7 +2,7 @@
 ghost use Rattle.letter_word.specs.declared.kinds.Side.{Side};
 ghost use Rattle.aiger_text.specs.Circuit.{RunsOnEveryInput};
 ghost use Rattle.aiger_text.specs.FileLaws.{FilesStateOneThing, FilesHaveOneFault, FaultsStateNothing};
-ghost use Rattle.aiger_text.specs.Laws.{ValuationsAgree, RunsAreDetermined};
+ghost use Rattle.aiger_text.specs.Laws.{EitherSideHasTheStates, ValuationsAgree, RunsAreDetermined};
 ghost use Rattle.aiger_text.specs.RoundTrip.{WrittenIsRead, CommentsAreRead, ReadingsAreStated, ReadingsAgree};
 
 use crate::circuits::Circuit;
@@ -27,6 +27,11 @@ pub fn runs_are_determined(circuit: &Circuit)
 {
     let _order = &circuit.order;
 }
+
+/// The number of states of a circuit doesn't depend on the side that it plays.
+pub fn either_side_has_the_states()
+    ensures { EitherSideHasTheStates }
+{}
 
 /// A file without fault states one thing.
 pub fn files_state_one_thing()

@@ -23,11 +23,12 @@ mod write;
 pub use circuits::{Circuit, Gate, Latch};
 pub use faults::CircuitFault;
 pub use laws::{
-    comments_are_read, faults_state_nothing, files_have_one_fault, files_state_one_thing,
-    readings_agree, readings_are_stated, runs_are_determined, runs_on_every_input,
-    valuations_agree, written_is_read,
+    comments_are_read, either_side_has_the_states, faults_state_nothing, files_have_one_fault,
+    files_state_one_thing, readings_agree, readings_are_stated, runs_are_determined,
+    runs_on_every_input, valuations_agree, written_is_read,
 };
 pub use reading::{CircuitFile, read_circuit};
 pub use states::CircuitState;
 pub use symbols::Named;
+pub use words::{cut_at, is_numeral, number_within};
 pub use write::write_circuit;

@@ -6,8 +6,8 @@ ghost use Rattle.aiger_text.specs.Words.{cut_at, is_byte, leads_well, is_numeral
 
 use text_base::{Cursor, read_number};
 
-// What stands before the first separator and what stands behind it, where there is one.
-pub(crate) fn cut_at(bytes: &[u8], separator: u8) -> Option<(&[u8], &[u8])>
+/// What stands before the first separator and what stands behind it, where there is one.
+pub fn cut_at(bytes: &[u8], separator: u8) -> Option<(&[u8], &[u8])>
     ensures { option_map (λ parts. (parts.0.now, parts.1.now)) result ≡ cut_at separator bytes.now }
 {
     let place = place_of(bytes, separator)?;
@@ -33,8 +33,8 @@ fn leads_well(word: &[u8]) -> bool
     }
 }
 
-// Whether a word is a number without leading zeros.
-pub(crate) fn is_numeral(word: &[u8]) -> bool
+/// Whether a word is a number without leading zeros.
+pub fn is_numeral(word: &[u8]) -> bool
     ensures { result ≡ is_numeral word.now }
 {
     leads_well(word) && all_digits(word)
@@ -46,8 +46,8 @@ fn all_digits(word: &[u8]) -> bool
     word.iter().all(|byte| byte.is_ascii_digit())
 }
 
-// The number that a word writes, where it is at most `most`.
-pub(crate) fn number_within(word: &[u8], most: u64) -> Option<u64>
+/// The number that a word writes, where it is a number without leading zeros of at most `most`.
+pub fn number_within(word: &[u8], most: u64) -> Option<u64>
     ensures number { result ≡ number_within most word.now }
     ensures within { IfSome result (λ n. n ≤ most) }
 {

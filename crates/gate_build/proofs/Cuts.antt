@@ -17,7 +17,7 @@ use Rattle.machine_model.specs.Machine.{IsMachine, MachineModel, next_of, row_of
 use Rattle.machine_model.specs.Run.{IsRunLasso, read_part, written_part}
 use Rattle.machine_model.proofs.Determined.{stays_within}
 use Rattle.gate_build.specs.Laws.{HasCut, MachinesCanBeCut, MeetsStates}
-use Rattle.gate_build.proofs.Listing.{IsComplete, complete, is_in, listed_first, met_states, reached_within, stays_in}
+use Rattle.gate_build.proofs.Listing.{IsComplete, complete, is_in, listed_few, listed_first, met_states, reached_within, stays_in}
 
 -- the place where a search found a number, or 0
 place_from : (xs : List ℕ) (x : ℕ) → (((k : ℕ) → k < length xs → get_or xs k 0 ≢ x) ⊎ Contains xs x) → ℕ
@@ -176,6 +176,7 @@ module _ (m : MachineModel) (machine : IsMachine m) (xs : List ℕ) (c : IsCompl
     reads = refl;
     writes = refl;
     meets = subst (λ (n : ℕ). MeetsStates m n) (sym size) (met_states m machine xs c);
+    few = rw size (listed_few m machine xs c.listed);
     runs = λ side w. (
       (λ run. (map (λ t. get_or xs t 0) run.0, to_old side w run.0 run.1)),
       (λ run. (map place_of run.0, to_places side w run.0 run.1)),

@@ -11,3 +11,4 @@ pub mod Listing
 pub mod Cuts
 pub mod States
 pub mod Bounds
+pub mod Smallest

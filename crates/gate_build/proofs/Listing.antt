@@ -18,7 +18,7 @@ use Rattle.machine_model.proofs.Closing.{state_within}
 use Rattle.machine_model.proofs.Determined.{state_after-same, states-run}
 use Rattle.machine_model.proofs.Existence.{has_run}
 use Rattle.machine_model.proofs.Pigeonhole.{IsRepeated, pigeonhole}
-use Rattle.gate_build.specs.Laws.{IsMet, MeetsStates}
+use Rattle.gate_build.specs.Laws.{IsMet, IsMetFor, MeetsStates}
 
 -- what holds of each number below n in one of two ways holds of all in the first, or of some in the second
 either_below : (P Q : ℕ → Type 0) (n : ℕ) → ((k : ℕ) → k < n → P k ⊎ Q k) → ((k : ℕ) → k < n → P k) ⊎ ((k : ℕ) × (k < n) × Q k)
@@ -90,9 +90,9 @@ module _ (m : MachineModel) (machine : IsMachine m) where
   pub reached_within : (s : ℕ) → IsReached m s → s < size_of m
   reached_within s r = subst (λ (t : ℕ). t < size_of m) r.leads (state_within m machine (word_of r.letters) (over r.letters r.readable) (length r.letters))
 
-  met_of_reached : (s : ℕ) → IsReached m s → IsMet m s
-  met_of_reached s r =
-      let h : HasRunOn m System (word_of r.letters) = has_run m System (word_of r.letters) machine (over r.letters r.readable) in
+  pub met_of_reached : (side : Side) (s : ℕ) → IsReached m s → IsMetFor side m s
+  met_of_reached side s r =
+      let h : HasRunOn m side (word_of r.letters) = has_run m side (word_of r.letters) machine (over r.letters r.readable) in
       let ring : 0 < length h.word.ring = h.run.ring in
       record {
         word = h.word;
@@ -101,8 +101,8 @@ module _ (m : MachineModel) (machine : IsMachine m) where
         at = after h.word 0 (length r.letters);
         within = after_within h.word 0 (length r.letters) h.run.ring (omega (arith, ring));
         state_is =
-            states-run m System h.word h.states h.run (length r.letters)
-            ∙ state_after-same m (read_lasso System m h.word) (word_of r.letters) (length r.letters) (λ k _. ap (λ (l : Letter). l.0) (h.same.letters k)) ∙ r.leads;
+            states-run m side h.word h.states h.run (length r.letters)
+            ∙ state_after-same m (read_lasso side m h.word) (word_of r.letters) (length r.letters) (λ k _. ap (λ (l : Letter). l.0) (h.same.letters k)) ∙ r.leads;
       }
 
   -- different states that letters lead to, the first one among them
@@ -112,7 +112,7 @@ module _ (m : MachineModel) (machine : IsMachine m) where
     pub different : (i k : ℕ) → i < k → k < length xs → get_or xs i 0 ≢ get_or xs k 0
     pub reached : (k : ℕ) → k < length xs → IsReached m (get_or xs k 0)
 
-  listed_few : (xs : List ℕ) → IsListed xs → length xs ≤ size_of m
+  pub listed_few : (xs : List ℕ) → IsListed xs → length xs ≤ size_of m
   listed_few xs l = elim (cases_lt (size_of m) (length xs)) [
     | inr few ↦ few
     | inl many ↦
@@ -197,15 +197,18 @@ module _ (m : MachineModel) (machine : IsMachine m) where
       subst (λ (t : ℕ). Contains xs t) (sym moves) (c.closed before.0 (read_part side m (letter_at w (after w 0 j))) before.1 (run.reads (after w 0 j) here))
 
   -- a complete list has all states that are met
+  pub all_there : (xs : List ℕ) → IsComplete xs → (side : Side) (state : ℕ) → IsMetFor side m state → Contains xs state
+  all_there xs c side state met =
+      subst (λ (t : ℕ). Contains xs t) (ap (λ i. get_or met.states i 0) (after-own met.word met.at met.within) ∙ met.state_is)
+      (stays_in xs c side met.word met.states met.run met.at)
+
   pub met_states : (xs : List ℕ) → IsComplete xs → MeetsStates m (length xs)
   met_states xs c = record {
     states = xs;
     count = refl;
     different = c.listed.different;
-    each_met = λ k d h. subst (λ (t : ℕ). IsMet m t) (get_or_default xs k 0 d h) (met_of_reached (get_or xs k 0) (c.listed.reached k h));
-    all_there = λ state met.
-        subst (λ (t : ℕ). Contains xs t) (ap (λ i. get_or met.states i 0) (after-own met.word met.at met.within) ∙ met.state_is)
-        (stays_in xs c System met.word met.states met.run met.at);
+    each_met = λ k d h. subst (λ (t : ℕ). IsMet m t) (get_or_default xs k 0 d h) (met_of_reached System (get_or xs k 0) (c.listed.reached k h));
+    all_there = all_there xs c System;
   }
 
   -- the machine meets some number of states, at most all that it has

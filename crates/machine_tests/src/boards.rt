@@ -9,7 +9,7 @@ ghost use Rattle.size_board.specs.Fixtures.{IsOfAllWords, no_words, NothingAccep
 
 use letter_word::{Cube, Kind, Side};
 use machine_model::{Automaton, Edge, Machine, Problem, Row};
-use size_board::{Board, ProblemNames};
+use size_board::{Board, Claim, ProblemNames};
 use std::alloc::{AllocError, AllocGlobal, Global};
 use std::marker::Brand;
 use std::process::Abort;
@@ -63,6 +63,8 @@ fn problem(alloc: Global, side: Side, automaton: Automaton) -> Result<Problem, F
     ensures kind { IfOk result (λ p. p.kind ≡ Mealy) }
     ensures inputs { IfOk result (λ p. p.inputs ≡ 1) }
     ensures outputs { IfOk result (λ p. p.outputs ≡ 1) }
+    ensures side { IfOk result (λ p. p.side ≡ side) }
+    ensures version { IfOk result (λ p. p.version ≡ 2) }
 {
     Ok(Problem {
         automaton: Arc::new(alloc, automaton)?,
@@ -115,6 +117,14 @@ fn claims_in_turn<P: ProblemNames + Drop, R: Abort + AllocGlobal>(
     ] {
         assert_eq!(rt; next(&mut board)?, Some(want));
     }
+    let problem = board.problem_at(Claim {
+        side: SYSTEM,
+        size: 2,
+    })?;
+    assert_eq!(rt;
+        (problem.side, problem.size, problem.version),
+        (SYSTEM, 2, 2)
+    );
     refute_all(&mut board)?;
     assert_eq!(rt; next(&mut board)?, None);
     assert_eq!(rt; board.bounds(SYSTEM), (3, 3));
@@ -191,6 +201,8 @@ fn keeps_the_smallest<P: ProblemNames + Drop, R: Abort + AllocGlobal>(
     board.mark_found(SYSTEM, machine(rt.alloc(), 2)?)?;
     assert_eq!(rt; board.bounds(SYSTEM), (1, 1));
     assert_eq!(rt; next(&mut board)?, None);
+    let kept = board.into_found(SYSTEM).ok_or("none")?;
+    assert_eq!(rt; kept.size(), 1);
     Ok(())
 }
 

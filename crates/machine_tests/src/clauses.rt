@@ -4,7 +4,7 @@ use crate::fixtures::{
     ANY, G, G_NOT_R, NEITHER, NOT_G, NOT_R, R, R_AND_G, R_NOT_G, automaton, checked, delay, edge,
     wire,
 };
-use annotation_encode::{count, encode, variables};
+use annotation_encode::{allowed_sizes, count, encode, variables};
 use clause_base::Clause;
 use letter_word::{Kind, Side};
 use machine_model::{Edge, Problem};
@@ -56,6 +56,12 @@ fn sizes(problem: Problem) -> Option<(u32, u64)> {
     Some((variables(&problem), count(&problem)?))
 }
 
+// The number of base clauses, and of the sizes up to 8 that have few enough.
+fn counts(problem: Problem) -> Option<(Option<u64>, u32)> {
+    let problem = checked(problem)?;
+    Some((count(&problem), allowed_sizes(&problem, 8)))
+}
+
 // A clause as its variables, negative where they are negated.
 fn signed(rt: &HostRuntime, clause: &Clause) -> Result<Vec<i64>, AllocError> {
     let mut numbers = Vec::new(rt.alloc());
@@ -87,7 +93,7 @@ fn variables_and_clauses(rt: HostRuntime) -> Result<(), Fail> {
     assert_eq!(rt; sizes(delay(&rt, 1, 1)?), Some((20, 35)));
     assert_eq!(rt; sizes(delayed_environment(&rt)?), Some((23, 63)));
     assert_eq!(rt; sizes(wire(&rt)?), Some((8, 11)));
-    assert_eq!(rt; sizes(delay(&rt, 3, 1)?), Some((144, 847)));
+    assert_eq!(rt; sizes(delay(&rt, 1, 1)?.sized(3)?), Some((144, 847)));
     assert_eq!(rt; sizes(delay(&rt, 3, 2)?), Some((144, 853)));
     Ok(())
 }
@@ -100,10 +106,10 @@ fn a_million_clauses_at_most(rt: HostRuntime) -> Result<(), Fail> {
         edge(1, ANY, 0),
         edge(1, ANY, 1),
     ];
-    let few = checked(large(&rt, &edges[..3])?).and_then(|problem| count(&problem));
-    assert_eq!(rt; few, Some(837_633));
-    let many = checked(large(&rt, &edges)?).and_then(|problem| count(&problem));
-    assert_eq!(rt; many, None);
+    let few = counts(large(&rt, &edges[..3])?);
+    assert_eq!(rt; few, Some((Some(837_633), 8)));
+    let many = counts(large(&rt, &edges)?);
+    assert_eq!(rt; many, Some((None, 7)));
     Ok(())
 }
 

@@ -49,7 +49,8 @@ fn decoded(
     }
     let decoded = decode(rt.alloc(), &problem, &assignment)?;
     let again = assignment_of(rt.alloc(), &problem, &decoded.machine, &decoded.annotation)?;
-    let rows = rows_of(rt, &decoded.machine)?;
+    let machine = decoded.machine.clone()?;
+    let rows = rows_of(rt, &machine)?;
     Ok(Some((rows, decoded.annotation.numbers, again.values)))
 }
 

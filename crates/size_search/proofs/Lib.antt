@@ -1,0 +1,3 @@
+pub mod OfferLemmas
+pub mod SeatLemmas
+pub mod TaskLemmas

@@ -1,0 +1,4 @@
+pub mod Task
+pub mod Seat
+pub mod Decided
+pub mod SizeLog
