@@ -1,5 +1,5 @@
 -- What the words of a command line ask for (this project's own).
-use Rattle.std.specs.Prelude.{◌==◌, ℕ, List, Option, Some, None, codes, length, option_map, option_and_then, if◌then◌else◌}
+use Rattle.std.specs.Prelude.{◌==◌, ◌≤◌, ℕ, IfSome, List, Option, Some, None, codes, length, option_map, option_and_then, if◌then◌else◌}
 use Rattle.std.specs.Option.{option_map_or}
 use Rattle.std.specs.Str.{bytes_eq}
 use Rattle.letter_word.specs.declared.kinds.Kind.{Kind}
@@ -30,6 +30,22 @@ asked_by (settings.Expand spec) = expand spec.now
 asked_by (settings.Lasso spec word) = lasso spec.now word.now
 asked_by (settings.Gen clients) = gen clients
 asked_by (settings.Bench clients workers) = bench clients workers
+
+-- numbers lie in their ranges
+pub record IsSearchInRange (s : Search) : Type 0 where
+  pub some_size : 1 ≤ s.max
+  pub most_size : s.max ≤ 8
+  pub entries : IfSome s.entries (λ most. most ≤ 250000)
+  pub some_worker : 1 ≤ s.workers
+  pub most_workers : s.workers ≤ 8
+
+abbrev pub IsInRange : Asked → Type 0
+IsInRange (synth spec search kind) = IsSearchInRange search
+IsInRange (check spec certificate) = Unit {0}
+IsInRange (expand spec) = Unit {0}
+IsInRange (lasso spec word) = Unit {0}
+IsInRange (gen clients) = (1 ≤ clients) × (clients ≤ 8)
+IsInRange (bench clients workers) = ((1 ≤ clients) × (clients ≤ 4)) × ((1 ≤ workers) × (workers ≤ 8))
 
 -- ---- the values of options, each with its default
 
