@@ -48,16 +48,22 @@ pub record IsAnswering (n : ℕ) : Type 0 where
 
 answering_0 : IsAnswering 0
 answering_0 = record { among = (0, omega arith, refl); no_2 = λ e. omega arith; no_3 = λ e. omega arith; no_4 = λ e. omega arith; no_5 = λ e. omega arith }
+
 answering_1 : IsAnswering 1
 answering_1 = record { among = (1, omega arith, refl); no_2 = λ e. omega arith; no_3 = λ e. omega arith; no_4 = λ e. omega arith; no_5 = λ e. omega arith }
+
 answering_10 : IsAnswering 10
 answering_10 = record { among = (2, omega arith, refl); no_2 = λ e. omega arith; no_3 = λ e. omega arith; no_4 = λ e. omega arith; no_5 = λ e. omega arith }
+
 answering_11 : IsAnswering 11
 answering_11 = record { among = (3, omega arith, refl); no_2 = λ e. omega arith; no_3 = λ e. omega arith; no_4 = λ e. omega arith; no_5 = λ e. omega arith }
+
 answering_20 : IsAnswering 20
 answering_20 = record { among = (4, omega arith, refl); no_2 = λ e. omega arith; no_3 = λ e. omega arith; no_4 = λ e. omega arith; no_5 = λ e. omega arith }
+
 answering_30 : IsAnswering 30
 answering_30 = record { among = (5, omega arith, refl); no_2 = λ e. omega arith; no_3 = λ e. omega arith; no_4 = λ e. omega arith; no_5 = λ e. omega arith }
+
 answering_40 : IsAnswering 40
 answering_40 = record { among = (6, omega arith, refl); no_2 = λ e. omega arith; no_3 = λ e. omega arith; no_4 = λ e. omega arith; no_5 = λ e. omega arith }
 

@@ -2,7 +2,10 @@
 use Rattle.std.specs.Prelude.{◌≡◌, ℕ, Option, List, [], ◌∷◌, IfSome}
 use Rattle.outside_edge.specs.Files.{Files, bytes_under}
 use Rattle.program_words.specs.Settings.{Asked, synth, check, expand, lasso, gen, bench}
+use Rattle.program_words.specs.declared.settings.Search.{Search}
 use Rattle.arbiter_text.specs.Arbiter.{generated_text}
+use Rattle.synth_engine.specs.declared.settings.Settings.{Settings}
+use Rattle.synth_answer.specs.Answer.{Answers}
 
 -- the files that a command reads
 abbrev pub names_of : Asked → List (List ℕ)
@@ -28,11 +31,14 @@ pub record HoldsOfFile (told : Option Files) (name : List ℕ) (P : List ℕ →
   pub are_told : IfSome told (λ files. bytes ≡ bytes_under files name)
   pub holds : P bytes
 
+-- how the words bound a search
+abbrev pub bounds_of : Search → Settings
+bounds_of search = record { max = search.max; entries = search.entries; workers = search.workers }
+
 -- the bytes and the status that may answer what was asked
 abbrev pub AnswersAsked : Option Files → Asked → List ℕ → ℕ → Type 0
-AnswersAsked told (synth spec search kind) bytes status = ⊥
+AnswersAsked told (synth spec search kind) bytes status = HoldsOfFile told spec (λ text. Answers text kind (bounds_of search) bytes status)
 AnswersAsked told (check spec certificate) bytes status = ⊥
 AnswersAsked told (expand spec) bytes status = ⊥
-AnswersAsked told (lasso spec word) bytes status = ⊥
 AnswersAsked told (gen clients) bytes status = (bytes ≡ generated_text clients) × (status ≡ 0)
 AnswersAsked told (bench clients workers) bytes status = ⊥

@@ -14,6 +14,12 @@ pub record ReadFailed (words : List (List ℕ)) (before after : List ℕ → ℕ
   pub named : Contains (names_of asked) name
   pub rose : Rose (before name) (after name)
 
+-- What a command replies: the line of a file of it that couldn't be read, or its answer.
+pub data RepliesTo (told : Option Files) (before after : List ℕ → ℕ) (asked : Asked) (bytes : List ℕ) (status : ℕ) : Type 0 where
+  unread : (name : List ℕ) → Contains (names_of asked) name → Rose (before name) (after name) → status ≡ 3 → bytes ≡ codes "cannot read\n" →
+      RepliesTo told before after asked bytes status
+  answers : Contains (statuses_of asked) status → AnswersAsked told asked bytes status → RepliesTo told before after asked bytes status
+
 -- the answer to what the words ask for
 pub record AnswersWords (words : List (List ℕ)) (told : Option Files) (bytes : List ℕ) (status : ℕ) : Type 0 where
   pub asked : Asked

@@ -5,6 +5,7 @@
 //! Stands on those crates, on program_words for the words and on outside_edge for files and for what is written.
 #![tactic(auto)]
 
+mod files;
 mod laws;
 mod lines;
 mod replies;
