@@ -58,6 +58,7 @@ one_for x side machines a p within over = record {
   outputs = over.outputs;
   of_side = over.side;
   kind_is = over.kind;
+  size = over.size;
   version = over.version;
 }
 

@@ -16,7 +16,9 @@ use Rattle.synth_engine.specs.declared.settings.Settings.{Settings}
 use Rattle.synth_engine.specs.Logs.{base_at}
 use Rattle.cert_text.specs.Parts.{Document}
 use Rattle.cert_text.specs.States.{States}
-use Rattle.synth_answer.specs.Holds.{ForLog, Given, HoldsFor}
+use Rattle.document_check.specs.Facts.{Facts}
+use Rattle.document_check.specs.Holds.{HoldsFor}
+use Rattle.synth_answer.specs.Holds.{ForLog}
 
 -- What a text wants: the names of its signals and its kind are those of its flat form, and on a lasso the text's written tree says
 -- what is true. A kind that is given stands for those that the text names.
@@ -30,7 +32,7 @@ pub record IsWantedBy (text : List ℕ) (kind : Option Kind) (x : Wanted) : Type
   pub read : Reads text tree
   pub meaning : (w : Word) → x.means w ≡ means w (text_of tree)
 
-abbrev pub given_by : FlatText → SideProblems → Given
+abbrev pub given_by : FlatText → SideProblems → Facts
 given_by spec problems = record {
   inputs = spec.expanded.inputs;
   outputs = spec.expanded.outputs;
@@ -40,7 +42,7 @@ given_by spec problems = record {
 
 -- The bytes are a document of version 3 with the settings' numbers, which holds for the text: no line of it is bad. Each log is
 -- taught, and each entry is of a worker that was asked for, or of the caller, whose number is 0.
-pub record IsPrinted (x : Given) (settings : Settings) (bytes : List ℕ) (d : Document) : Type 0 where
+pub record IsPrinted (x : Facts) (settings : Settings) (bytes : List ℕ) (d : Document) : Type 0 where
   pub states : States bytes d
   pub holds : HoldsFor x d
   pub version : d.version ≡ 3

@@ -125,6 +125,7 @@ pub record IsProblemFor (x : Expanded) (side : Side) (kind : Kind) (p : Problem)
   pub outputs : p.outputs ≡ length x.outputs
   pub of_side : p.side ≡ side
   pub kind_is : p.kind ≡ kind
+  pub size : p.size ≡ 1
   pub version : p.version ≡ 2
 
 pub record AreProblemsFor (x : Expanded) (s : SideProblems) : Type 0 where
