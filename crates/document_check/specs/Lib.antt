@@ -1,0 +1,4 @@
+pub mod Facts
+pub mod Holds
+pub mod FirstBad
+pub mod Laws
