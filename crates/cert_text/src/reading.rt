@@ -244,7 +244,7 @@ impl Stated {
 
 impl DocumentLines {
     /// The document, where no line of it is missing.
-    pub(crate) fn into_document(self, alloc: Global) -> Option<Document>
+    pub fn into_document(self, alloc: Global) -> Option<Document>
         ensures { result ≡ document_in self }
     {
         let header = self.header;

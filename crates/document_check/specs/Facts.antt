@@ -1,7 +1,6 @@
 -- What a document is checked against: the names of a text, and the problems of its two sides (this project's own).
-use Rattle.std.specs.Prelude.{◌==◌, ℕ, ◌-◌, Option, Some, None, List, [], ◌∷◌, ◌++◌, map, min, option_map, if◌then◌else◌}
+use Rattle.std.specs.Prelude.{◌==◌, ℕ, zero, suc, ◌-◌, Option, Some, List, [], ◌∷◌, ◌++◌, min, option_map, if◌then◌else◌}
 use Rattle.std.specs.Option.{option_map_or}
-use Rattle.std.specs.List.{range_with_len}
 use Rattle.letter_word.specs.declared.kinds.Kind.{Kind}
 use Rattle.letter_word.specs.declared.kinds.Side.{Side}
 use Rattle.letter_word.specs.declared.kinds.Side.TheVariants.{System, Environment}
@@ -10,6 +9,7 @@ use Rattle.machine_model.specs.declared.problems.Problem.{Problem}
 use Rattle.annotation_encode.specs.Count.{allowed_sizes}
 use Rattle.cert_text.specs.declared.documents.Verdict.{Verdict}
 use Rattle.cert_text.specs.declared.documents.Verdict.TheVariants.{Realizable, Unrealizable, Bounded, UnknownSizes, UnknownEntries}
+use Rattle.document_check.specs.declared.facts.Size.{Size}
 
 -- The names of the inputs and outputs, and the problem of the system and of the environment, if it has one. Their kinds, sizes and
 -- versions aren't looked at: those are the document's.
@@ -33,14 +33,10 @@ problem_at facts kind version Environment size =
 abbrev pub allowed_at : Facts → Kind → ℕ → ℕ → Side → ℕ
 allowed_at facts kind version max side = option_map_or (λ (p : Problem). allowed_sizes p max) (problem_at facts kind version side 1) 0
 
--- a log's side and size
-pub record Size : Type 0 where
-  pub side : Side
-  pub size : ℕ
-
 -- the sizes of a side from 1 up to a number
 abbrev pub sizes_to : Side → ℕ → List Size
-sizes_to side count = map (λ n. record { side = side; size = n }) (range_with_len 1 count)
+sizes_to side zero = []
+sizes_to side (suc n) = sizes_to side n ++ record { side = side; size = suc n } ∷ []
 
 -- The logs that a verdict wants, by rising size, the system's first: those below a machine's size, or those of all allowed sizes.
 -- Of versions 1 and 2, a counter-machine has none, and beside a system's machine that was found stand the logs below its size.

@@ -1,6 +1,6 @@
 -- The first line of a document that fails for a text (this project's own). Each test has at most one line at which it fails; the
 -- smallest of these lines is the first bad one. What a verdict says of the logs is tested last.
-use Rattle.std.specs.Prelude.{◌≡◌, ◌==◌, ℕ, ◌+◌, Bool, true, false, not, ◌&&◌, ◌||◌, Option, Some, None, List, [], ◌∷◌, length, codes, min, nat_le, MatchOption, option_map, option_and_then, slice_get, slice_index, if◌then◌else◌}
+use Rattle.std.specs.Prelude.{◌≡◌, ◌==◌, ℕ, ◌+◌, Bool, true, false, not, ◌&&◌, ◌||◌, Option, Some, None, List, [], ◌∷◌, length, codes, min, nat_le, nat_lt, MatchOption, option_map, option_and_then, slice_index, slice_index_or, if◌then◌else◌}
 use Rattle.std.specs.Option.{option_or, option_map_or}
 use Rattle.std.specs.Str.{bytes_eq}
 use Rattle.letter_word.specs.declared.kinds.Kind.{Kind}
@@ -8,6 +8,7 @@ use Rattle.letter_word.specs.declared.kinds.Side.{Side}
 use Rattle.letter_word.specs.declared.kinds.Side.TheVariants.{System, Environment}
 use Rattle.machine_model.specs.declared.problems.Problem.{Problem}
 use Rattle.annotation_encode.specs.BaseClauses.{base_clauses}
+use Rattle.annotation_encode.specs.Count.{count_of}
 use Rattle.annotation_encode.specs.Variables.{variables_of}
 use Rattle.refutation_log.specs.declared.entries.Entry.{Entry}
 use Rattle.refutation_log.specs.Log.{is_ended, IsLegal}
@@ -25,8 +26,10 @@ use Rattle.cert_text.specs.Parts.{LogPart}
 use Rattle.cert_text.specs.Order.{same_side}
 use Rattle.cert_text.specs.Header.{behind}
 use Rattle.cert_text.specs.Reading.{DocumentLines, Reads}
-use Rattle.document_check.specs.Facts.{Facts, Size, problem_at, allowed_at, wanted_sizes, read_names, written_names, circuit_side}
-use Rattle.document_check.specs.Holds.{is_allowed, may_be_full, size_of, first_open, names_open}
+use Rattle.document_check.specs.declared.facts.Asked.{Asked}
+use Rattle.document_check.specs.declared.facts.Size.{Size}
+use Rattle.document_check.specs.Facts.{Facts, problem_at, allowed_at, wanted_sizes, read_names, written_names, circuit_side}
+use Rattle.document_check.specs.Holds.{is_allowed, may_be_full, first_open, names_open}
 
 -- the smaller one of two lines, where they are there
 abbrev pub earliest : Option ℕ → Option ℕ → Option ℕ
@@ -78,7 +81,7 @@ counts_line facts line =
 -- whether the name is another than that of this number
 abbrev pub is_other : List (List ℕ) → Option ℕ → List ℕ → Bool
 is_other names None name = false
-is_other names (Some place) name = option_map_or (λ wanted. not (bytes_eq name wanted)) (slice_get names place) false
+is_other names (Some place) name = nat_lt place (length names) && not (bytes_eq name (slice_index_or names place []))
 
 abbrev pub names_other : List (List ℕ) → List ℕ → Bool
 names_other names text = option_map_or (λ words. is_other names (number_within (length names) words.0) words.1) (cut_at 32 text) false
@@ -113,12 +116,6 @@ circuit_line facts bytes header (Stated file) = stated_line facts (side_in heade
 -- == the numbers ==
 
 -- what a document asks for, once its line `max` is good
-pub record Asked : Type 0 where
-  pub version : ℕ
-  pub verdict : Verdict
-  pub kind : Kind
-  pub max : ℕ
-
 abbrev pub asked_in : Header → Option Asked
 asked_in h =
     option_and_then (λ version. option_and_then (λ verdict. option_and_then (λ kind.
@@ -132,10 +129,9 @@ abbrev pub environment_sizes : Facts → Asked → ℕ
 environment_sizes facts a = allowed_at facts a.kind a.version a.max Environment
 
 -- the line of a verdict whose number passes the allowed sizes, else that of a machine that was found and has more states
-abbrev pub number_line : Facts → Asked → ℕ → ℕ → Option ℕ
-number_line facts a found line =
-    if is_allowed a.verdict (system_sizes facts a) (environment_sizes facts a)
-    then (if nat_le found (system_sizes facts a) then None else Some (line + 4)) else Some line
+abbrev pub number_line : Verdict → ℕ → ℕ → ℕ → ℕ → Option ℕ
+number_line verdict found system environment line =
+    if is_allowed verdict system environment then (if nat_le found system then None else Some (line + 4)) else Some line
 
 -- == the logs ==
 
@@ -154,7 +150,7 @@ abbrev pub suffices : Bool → Option ℕ → List Entry → Bool
 suffices full limit entries = is_ended entries || (full && is_at_limit limit entries)
 
 abbrev pub has_numbers : LogPart → Problem → Bool
-has_numbers l p = (l.vars == variables_of p) && (l.base == length (base_clauses p))
+has_numbers l p = (l.vars == variables_of p) && option_map_or (λ n. l.base == n) (count_of p) false
 
 -- The line at which a log fails over a problem: that of its head where its numbers aren't the problem's, that of its first entry that
 -- isn't legal, or the one behind its last entry where it had to be closed, or full.
@@ -172,9 +168,9 @@ is_size_of s l = same_side s.side l.side && (s.size == l.size)
 
 -- The first line at which the logs fail, of which these sizes are wanted: a further log, a log of another size or of a side without
 -- a problem, one that fails itself, and at `end` a log that is missing.
-pub data LogsFail (facts : Facts) (kind : Kind) (version : ℕ) (full : Bool) (limit : Option ℕ) (end : Option ℕ) : List Size → List LogPart → Option ℕ → Type 0 where
+pub data LogsFail (facts : Facts) (kind : Kind) (version : ℕ) (full : Bool) (limit : Option ℕ) (end : ℕ) : List Size → List LogPart → Option ℕ → Type 0 where
   all_there : LogsFail facts kind version full limit end [] [] None
-  one_missing : (s : Size) (sizes : List Size) → LogsFail facts kind version full limit end (s ∷ sizes) [] end
+  one_missing : (s : Size) (sizes : List Size) → LogsFail facts kind version full limit end (s ∷ sizes) [] (Some end)
   one_more : (l : LogPart) (logs : List LogPart) → LogsFail facts kind version full limit end [] (l ∷ logs) (Some l.line)
   another : (s : Size) (sizes : List Size) (l : LogPart) (logs : List LogPart) → is_size_of s l ≡ false
       → LogsFail facts kind version full limit end (s ∷ sizes) (l ∷ logs) (Some l.line)
@@ -193,10 +189,10 @@ abbrev pub line_behind : ℕ → List LogPart → ℕ
 line_behind n [] = n
 line_behind n (l ∷ logs) = line_behind (l.line + 1 + length l.entries) logs
 
--- the line in which a document whose lines are good has `end`
-abbrev pub end_line : DocumentLines → Option ℕ
-end_line lines =
-    option_map_or (λ n. None) lines.bad (Some (line_behind (lines.verdict_line + (if lines.header.found == 0 then 4 else 5)) lines.logs))
+-- The line behind the logs that were read, in which the document has `end` where nothing before it is bad. A line that isn't what is
+-- wanted among the logs is this one too.
+abbrev pub end_line : DocumentLines → ℕ
+end_line lines = line_behind (lines.verdict_line + (if lines.header.found == 0 then 4 else 5)) lines.logs
 
 -- a whole header's logs
 abbrev pub wanted_in : Facts → Asked → ℕ → List Size
@@ -214,7 +210,10 @@ LogsFailIn facts lines a first =
 pub record FailsBehind (facts : Facts) (lines : DocumentLines) (a : Asked) (first : Option ℕ) : Type 0 where
   pub logs : Option ℕ
   pub logs_fail : LogsFailIn facts lines a logs
-  pub first_is : first ≡ earliest (number_line facts a lines.header.found lines.verdict_line) logs
+  pub first_is : first ≡ earliest (number_line a.verdict lines.header.found (system_sizes facts a) (environment_sizes facts a) lines.verdict_line) logs
+
+abbrev pub FailsIn : Facts → DocumentLines → Option ℕ → Type 0
+FailsIn facts lines first = MatchOption (asked_in lines.header) (first ≡ None) (λ a. FailsBehind facts lines a first)
 
 -- the verdict's line, where it names another log than the first that isn't closed
 abbrev pub last_line : DocumentLines → Option ℕ
@@ -224,7 +223,7 @@ last_line lines =
 -- the first line at which the lines fail that were read of the bytes, if any
 pub record Fails (facts : Facts) (bytes : List ℕ) (lines : DocumentLines) (first : Option ℕ) : Type 0 where
   pub behind : Option ℕ
-  pub fails : MatchOption (asked_in lines.header) (behind ≡ None) (λ a. FailsBehind facts lines a behind)
+  pub fails : FailsIn facts lines behind
   pub first_is : first ≡ option_or (earliest (circuit_line facts bytes lines.header lines.circuit) (earliest lines.bad behind)) (last_line lines)
 
 -- line n is the first bad line of the bytes for this text

@@ -1,11 +1,12 @@
 -- When a document holds for a text (this project's own).
-use Rattle.std.specs.Prelude.{◌≡◌, ◌==◌, ℕ, ◌≤◌, ◌⊎◌, ⊤, Bool, true, false, not, ◌&&◌, ◌||◌, Option, Some, None, List, [], ◌∷◌, map, length, IsTrue, IfSome, nat_le, is_some, option_map, if◌then◌else◌}
+use Rattle.std.specs.Prelude.{◌≡◌, ◌==◌, ℕ, ◌≤◌, ◌⊎◌, ⊤, Bool, true, false, ◌&&◌, Option, Some, None, List, [], ◌∷◌, map, IsTrue, IfSome, nat_le, is_some, if◌then◌else◌}
 use Rattle.clause_base.specs.Literal.{Literal}
 use Rattle.letter_word.specs.declared.kinds.Kind.{Kind}
 use Rattle.letter_word.specs.declared.kinds.Side.{Side}
 use Rattle.letter_word.specs.declared.kinds.Side.TheVariants.{System, Environment}
 use Rattle.machine_model.specs.declared.problems.Problem.{Problem}
 use Rattle.annotation_encode.specs.BaseClauses.{base_clauses}
+use Rattle.annotation_encode.specs.Count.{count_of}
 use Rattle.annotation_encode.specs.Variables.{variables_of}
 use Rattle.refutation_log.specs.declared.entries.Entry.{Entry}
 use Rattle.refutation_log.specs.Log.{is_ended, IsClosed, IsFull}
@@ -14,7 +15,8 @@ use Rattle.cert_text.specs.declared.documents.Verdict.{Verdict}
 use Rattle.cert_text.specs.declared.documents.Verdict.TheVariants.{Realizable, Unrealizable, Bounded, UnknownSizes, UnknownEntries}
 use Rattle.cert_text.specs.Parts.{LogPart, Document}
 use Rattle.cert_text.specs.Order.{same_side}
-use Rattle.document_check.specs.Facts.{Facts, Size, problem_at, allowed_at, wanted_sizes, read_names, written_names, circuit_side}
+use Rattle.document_check.specs.declared.facts.Size.{Size}
+use Rattle.document_check.specs.Facts.{Facts, problem_at, allowed_at, wanted_sizes, read_names, written_names, circuit_side}
 
 -- the number of a verdict is at most that of its side's allowed sizes
 abbrev pub is_allowed : Verdict → ℕ → ℕ → Bool
@@ -63,12 +65,17 @@ IsAsWanted true vars base limit entries = IsClosed vars base limit entries ⊎ I
 -- a log over the base clauses of this problem
 pub record IsLogOf (full : Bool) (limit : Option ℕ) (l : LogPart) (p : Problem) : Type 0 where
   pub vars : l.vars ≡ variables_of p
-  pub base : l.base ≡ length (base_clauses p)
+  pub base : count_of p ≡ Some l.base
   pub wanted : IsAsWanted full (variables_of p) (base_clauses p) limit l.entries
+
+-- there is such a problem, and the log is over its base clauses
+abbrev pub IsLogOfSome : Bool → Option ℕ → LogPart → Option Problem → Type 0
+IsLogOfSome full limit l None = ⊥
+IsLogOfSome full limit l (Some p) = IsLogOf full limit l p
 
 -- the log is over the base clauses of its side's problem of its size, for this kind and version
 abbrev pub HoldsAt : Facts → Kind → ℕ → Bool → Option ℕ → LogPart → Type 0
-HoldsAt facts kind version full limit l = IfSome (problem_at facts kind version l.side l.size) (IsLogOf full limit l)
+HoldsAt facts kind version full limit l = IsLogOfSome full limit l (problem_at facts kind version l.side l.size)
 
 abbrev pub AllHold : Facts → Kind → ℕ → Bool → Option ℕ → List LogPart → Type 0
 AllHold facts kind version full limit [] = ⊤

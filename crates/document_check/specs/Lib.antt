@@ -2,3 +2,4 @@ pub mod Facts
 pub mod Holds
 pub mod FirstBad
 pub mod Laws
+pub mod Shown

@@ -4,6 +4,11 @@
 //! each log that it is legal and closed, or full where that is allowed. Stands on cert_text, annotation_encode and log_checker.
 #![tactic(auto)]
 
+mod check;
+mod circuits;
 mod facts;
+pub mod laws;
+mod logs;
 
+pub use check::check_document;
 pub use facts::TextFacts;
