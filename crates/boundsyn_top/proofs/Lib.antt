@@ -1,10 +1,3 @@
-pub mod Lassos
-pub mod Wires
-pub mod Bytes
-pub mod TokenLemmas
-pub mod EquivalenceLemmas
-pub mod SinkLemmas
-pub mod ReaderLemmas
-pub mod ReplyLemmas
-pub mod RunLemmas
-pub mod Machines
+mod SinkLemmas
+mod RunLemmas
+mod ReplyLemmas

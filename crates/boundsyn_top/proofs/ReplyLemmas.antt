@@ -1,67 +1,61 @@
 -- What makes a reply one of those that a run may write.
-use Rattle.std.specs.Prelude.{IfSome, option_map, codes}
-use Rattle.std.specs.Fmt.{digits}
-use Rattle.std.specs.Str.{bytes_eq}
-use Rattle.std.proofs.Common.{◌≡◌, ◌≢◌, ℕ, suc, ◌<◌, ◌≤◌, Bool, ◌&&◌, List, [], ◌∷◌, length, refl, sym, ◌∙◌, ap, subst, arith, Option, Some, None, replicate}
+use Rattle.std.specs.Prelude.{Contains, IfSome, codes}
+use Rattle.std.proofs.Common.{◌≡◌, ◌≢◌, ◌<◌, ℕ, suc, List, [], ◌∷◌, length, replicate, refl, sym, arith, Option, Some, None}
 use Rattle.std.proofs.lemmas.List.{length-replicate}
+use Rattle.letter_word.specs.declared.kinds.Kind.{Kind}
 use Rattle.outside_edge.specs.Faults.{Rose}
-use Rattle.outside_edge.specs.Files.{Files, bytes_under, Takes}
-use Rattle.boundsyn_top.specs.EquivalenceText.{Equivalence, IsEquivalenceText}
-use Rattle.boundsyn_top.specs.Faults.{TooLong, Unsupported, refusal_line, longest_text}
-use Rattle.boundsyn_top.specs.Settings.{Settings, default_settings, settings_of, is_file_name}
-use Rattle.boundsyn_top.specs.Answer.{Answers, refused, realizable}
-use Rattle.boundsyn_top.specs.Wire.{SaysWire, wire_document}
-use Rattle.boundsyn_top.specs.Run.{IsReply, cannot_read, answered}
-use Rattle.boundsyn_top.proofs.EquivalenceLemmas.{only_if}
-use Rattle.boundsyn_top.proofs.Wires.{wire_answers}
+use Rattle.outside_edge.specs.Files.{Files, bytes_under}
+use Rattle.program_replies.specs.declared.replies.Status.{Status}
+use Rattle.program_replies.specs.declared.replies.Status.TheVariants.{Done, Refused, CannotRead}
+use Rattle.program_replies.specs.Statuses.{status_number}
+use Rattle.program_replies.specs.Lines.{refusal_line}
+use Rattle.program_words.specs.declared.settings.Search.{Search}
+use Rattle.program_words.specs.Settings.{Asked, settings_of, gen, synth}
+use Rattle.tlsf_tokens.specs.declared.code.SpecCode.TheVariants.{TooLong}
+use Rattle.tlsf_reader.specs.Faults.{most_bytes, too_long}
+use Rattle.flat_text.specs.FlatOf.{of_reading}
+use Rattle.spec_problems.specs.OfText.{of_text}
+use Rattle.synth_engine.specs.declared.settings.Settings.{Settings}
+use Rattle.synth_answer.specs.Answer.{Answers, refused, realizable, unrealizable, bounded, no_size, no_entries}
+use Rattle.arbiter_text.specs.Arbiter.{generated_text}
+use Rattle.boundsyn_top.specs.Commands.{AnswersAsked, bounds_of, statuses_of}
+use Rattle.boundsyn_top.specs.Run.{IsForeign, IsReply, RepliesTo, unread, answers, answered, cannot_read}
 
-unsupported_line : refusal_line Unsupported 0 ≡ codes "refused 17 Unsupported at 0\n"
-unfolding digits
-unsupported_line = refl
+pub reply_of : (words : List (List ℕ)) (told : Option Files) (before after : List ℕ → ℕ) (asked : Asked) (bytes : List ℕ) (status : ℕ) →
+    settings_of words ≡ Some asked → Contains (statuses_of asked) status → AnswersAsked told asked bytes status →
+    IsReply words told before after bytes status
+reply_of words told before after asked bytes status is_asked status_is answer =
+    answered (record { asked = asked; is_asked = is_asked; status_is = status_is; answer = answer })
 
-too_long_line : refusal_line TooLong longest_text ≡ codes "refused 1 TooLong at 1048576\n"
-unfolding digits
-too_long_line = refl
+pub reply_generated : (words : List (List ℕ)) (told : Option Files) (before after : List ℕ → ℕ) (clients : ℕ) (bytes : List ℕ) (status : Status) →
+    settings_of words ≡ Some (gen clients) → bytes ≡ generated_text clients → status ≡ Done →
+    IsReply words told before after bytes (status_number status)
+reply_generated words told before after clients bytes status is_asked is done =
+    rw done (reply_of words told before after (gen clients) bytes 0 is_asked (0, omega arith, refl) (is, refl))
 
-pub answers_unsupported : (text spec bytes : List ℕ) → length text ≤ longest_text → ((e : Equivalence) → IsEquivalenceText text e → ⊥) →
-    bytes ≡ codes "refused 17 Unsupported at 0\n" → Answers text (default_settings spec) bytes 1
-answers_unsupported text spec bytes short none is = refused Unsupported 0 refl (short, none, refl) (is ∙ sym unsupported_line)
+-- what a command replies is what a run may write
+pub reply_by : (words : List (List ℕ)) (told : Option Files) (before after : List ℕ → ℕ) (asked : Asked) (bytes : List ℕ) (status : ℕ) →
+    settings_of words ≡ Some asked → RepliesTo told before after asked bytes status → IsReply words told before after bytes status
+reply_by words told before after asked bytes status is_asked (unread name named rose status_is is) =
+    cannot_read status_is (record { asked = asked; is_asked = is_asked; name = name; named = named; rose = rose }) is
+reply_by words told before after asked bytes status is_asked (answers status_is answer) =
+    reply_of words told before after asked bytes status is_asked status_is answer
 
-pub answers_wire : (text spec bytes input output : List ℕ) (inverted : Bool) → length text ≤ longest_text → SaysWire text input output inverted →
-    bytes ≡ wire_document inverted input output → Answers text (default_settings spec) bytes 10
-answers_wire text spec bytes input output inverted short w is =
-    realizable w.equivalence refl (record { short_enough = short; says = w.says })
-    (wire_answers w.equivalence spec bytes w.says.input_name w.says.output_name
-    (is ∙ rw (w.inverted_is, w.input_is, w.output_is)))
+-- the statuses of an answer of `synth`
+synth_status : (text : List ℕ) (kind : Option Kind) (settings : Settings) (bytes : List ℕ) (status : ℕ) →
+    Answers text kind settings bytes status → Contains (1 ∷ 10 ∷ 11 ∷ 20 ∷ 30 ∷ []) status
+synth_status text kind settings bytes status (refused code position is fault line) = (0, omega arith, sym is)
+synth_status text kind settings bytes status (realizable p n c is holds) = (1, omega arith, sym is)
+synth_status text kind settings bytes status (unrealizable p n c is holds) = (3, omega arith, sym is)
+synth_status text kind settings bytes status (bounded p side n c is holds) = (2, omega arith, sym is)
+synth_status text kind settings bytes status (no_size p is holds) = (4, omega arith, sym is)
+synth_status text kind settings bytes status (no_entries p side n is holds) = (4, omega arith, sym is)
 
--- words of the plain form set the defaults
-default_of : (words : List (List ℕ)) (s : Settings) → settings_of words ≡ Some s → s ≡ default_settings s.spec
-default_of [] s is = cc
-default_of (program ∷ []) s is = cc
-default_of (program ∷ command ∷ []) s is = cc
-default_of (program ∷ command ∷ spec ∷ []) s is =
-    let t = only_if (bytes_eq command (codes "synth") && is_file_name spec) (Some (default_settings spec)) s is in
-    let whole : default_settings spec ≡ s = cc in
-    subst (λ u. u ≡ default_settings u.spec) whole refl
-default_of (program ∷ command ∷ spec ∷ more ∷ words) s is = cc
-
-asked_of : (words : List (List ℕ)) (spec : List ℕ) (o : Option Settings) → settings_of words ≡ o → option_map (λ s. s.spec) o ≡ Some spec →
-    settings_of words ≡ Some (default_settings spec)
-asked_of words spec None is named = cc
-asked_of words spec (Some s) is named =
-    let spec_is : s.spec ≡ spec = cc in
-    is ∙ ap Some (default_of words s is ∙ ap default_settings spec_is)
-
-pub asked : (words : List (List ℕ)) (spec : List ℕ) → option_map (λ s. s.spec) (settings_of words) ≡ Some spec →
-    settings_of words ≡ Some (default_settings spec)
-asked words spec named = asked_of words spec (settings_of words) refl named
-
-not_asked_of : (o : Option Settings) → option_map (λ s. s.spec) o ≡ None → o ≡ None
-not_asked_of None is = refl
-not_asked_of (Some s) is = cc
-
-pub not_asked : (words : List (List ℕ)) → option_map (λ s. s.spec) (settings_of words) ≡ None → settings_of words ≡ None
-not_asked words is = not_asked_of (settings_of words) is
+pub synth_answered : (told : Option Files) (before after : List ℕ → ℕ) (spec text : List ℕ) (search : Search) (kind : Option Kind) (bytes : List ℕ) (status : ℕ) →
+    IfSome told (λ files. text ≡ bytes_under files spec) → Answers text kind (bounds_of search) bytes status →
+    RepliesTo told before after (synth spec search kind) bytes status
+synth_answered told before after spec text search kind bytes status are answer =
+    answers (synth_status text kind (bounds_of search) bytes status answer) (record { bytes = text; are_told = are; holds = answer })
 
 -- a text of one byte too many
 long_text : (n : ℕ) → (text : List ℕ) × (n < length text)
@@ -72,43 +66,22 @@ too_long_text : (told : Option Files) (spec : List ℕ) (limit : ℕ) → IfSome
 too_long_text None spec limit long = let t = long_text limit in (t.0, tt, t.1)
 too_long_text (Some files) spec limit long = (bytes_under files spec, refl, long)
 
-pub reply_too_long : (words : List (List ℕ)) (told : Option Files) (before after : List ℕ → ℕ) (spec bytes : List ℕ) →
-    settings_of words ≡ Some (default_settings spec) → IfSome told (λ files. longest_text < length (bytes_under files spec)) →
-    bytes ≡ codes "refused 1 TooLong at 1048576\n" → IsReply words told before after bytes 1
-reply_too_long words told before after spec bytes asks long is =
-    let t = too_long_text told spec longest_text long in
-    answered (record {
-      settings = default_settings spec;
-      asked = asks;
-      text = t.0;
-      told_text = t.1;
-      answer = refused TooLong longest_text refl (t.2, refl) (is ∙ sym too_long_line);
-    })
+pub synth_too_long : (told : Option Files) (before after : List ℕ → ℕ) (spec : List ℕ) (search : Search) (kind : Option Kind) (bytes : List ℕ) (status : Status) →
+    IfSome told (λ files. most_bytes < length (bytes_under files spec)) → bytes ≡ refusal_line TooLong most_bytes → status ≡ Refused →
+    RepliesTo told before after (synth spec search kind) bytes (status_number status)
+synth_too_long told before after spec search kind bytes status long is ended =
+    let t = too_long_text told spec most_bytes long in
+    rw ended (synth_answered told before after spec t.0 search kind bytes 1 t.1
+    (refused TooLong most_bytes refl (of_text TooLong most_bytes (of_reading TooLong most_bytes (too_long t.2))) is))
 
-told_same : (told : Option Files) (spec text bytes : List ℕ) → text ≡ bytes → IfSome told (λ files. bytes ≡ bytes_under files spec) →
-    IfSome told (λ files. text ≡ bytes_under files spec)
-told_same None spec text bytes is same = tt
-told_same (Some files) spec text bytes is same = is ∙ same
+pub synth_unread : (told : Option Files) (before after : List ℕ → ℕ) (spec : List ℕ) (search : Search) (kind : Option Kind) (bytes : List ℕ) (status : Status) →
+    Rose (before spec) (after spec) → bytes ≡ codes "cannot read\n" → status ≡ CannotRead →
+    RepliesTo told before after (synth spec search kind) bytes (status_number status)
+synth_unread told before after spec search kind bytes status rose is ended =
+    rw ended (unread spec (0, omega arith, refl) rose refl is)
 
-pub reply_answered : (words : List (List ℕ)) (told : Option Files) (before after : List ℕ → ℕ) (spec text bytes : List ℕ) (limit status : ℕ) →
-    settings_of words ≡ Some (default_settings spec) → Takes told spec limit [] text → Answers text (default_settings spec) bytes status →
-    IsReply words told before after bytes status
-reply_answered words told before after spec text bytes limit status asks takes answer =
-    answered (record {
-      settings = default_settings spec;
-      asked = asks;
-      text = text;
-      told_text = told_same told spec text takes.bytes takes.gained takes.same;
-      answer = answer;
-    })
-
-pub reply_unread : (words : List (List ℕ)) (told : Option Files) (before after : List ℕ → ℕ) (spec bytes : List ℕ) →
-    settings_of words ≡ Some (default_settings spec) → Rose (before spec) (after spec) →
-    bytes ≡ codes "cannot read\n" → IsReply words told before after bytes 3
-reply_unread words told before after spec bytes asks rose is =
-    cannot_read refl (record { settings = default_settings spec; asked = asks; rose = rose }) is
-
--- a file that the words don't name is another one
-pub another_file : (words : List (List ℕ)) (spec name : List ℕ) → settings_of words ≡ Some (default_settings spec) →
-    (((s : Settings) × (settings_of words ≡ Some s) × (s.spec ≡ name)) → ⊥) → name ≢ spec
-another_file words spec name asks other same = other (default_settings spec, asks, sym same)
+-- a file that the words don't name is another one than that of `synth`
+pub another_file : (words : List (List ℕ)) (spec name : List ℕ) (search : Search) (kind : Option Kind) → settings_of words ≡ Some (synth spec search kind) →
+    IsForeign words name → name ≢ spec
+another_file words spec name search kind is_asked foreign same =
+    let other = rw is_asked at foreign in other (0, omega arith, sym same)

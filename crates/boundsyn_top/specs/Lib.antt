@@ -1,11 +1,3 @@
-pub mod Tokens
-pub mod EquivalenceText
-pub mod EquivalenceMeaning
-pub mod Satisfaction
-pub mod Faults
-pub mod Settings
-pub mod Answer
-pub mod Wire
-pub mod Reading
+pub mod Commands
+pub mod Files
 pub mod Run
-pub mod Status

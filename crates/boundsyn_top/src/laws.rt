@@ -1,8 +1,7 @@
-//! Laws of the definitions, and what a run answers where nothing outside can fail.
-ghost use Rattle.std.specs.Prelude.{[], ◌∷◌, map, string_bytes, Contains, IsSome};
-ghost use Rattle.boundsyn_top.specs.EquivalenceText.{TextsSayOneThing};
-ghost use Rattle.boundsyn_top.specs.Satisfaction.{OneStateSuffices};
-ghost use Rattle.boundsyn_top.specs.Settings.{settings_of};
+//! What a run answers where nothing outside can fail.
+ghost use Rattle.std.specs.Prelude.{◌∷◌, map, string_bytes, Contains, IfSome};
+ghost use Rattle.program_words.specs.Settings.{settings_of};
+ghost use Rattle.boundsyn_top.specs.Commands.{statuses_of};
 
 use crate::run;
 use outside_edge::{Gate, PlainShelf, PlainSink};
@@ -10,17 +9,7 @@ use std::alloc::Global;
 use std::sync::Wait;
 use std::thread::Threads;
 
-/// No text says two equivalences.
-pub fn texts_say_one_thing()
-    ensures { TextsSayOneThing }
-{}
-
-/// Every equivalence is satisfied by a machine of one state.
-pub fn one_state_suffices()
-    ensures { OneStateSuffices }
-{}
-
-/// Over a shelf and a sink that never fail, words of the plain form get an answer, or memory was wanted.
+/// Over a shelf and a sink that never fail, words that ask for something get an answer, or memory was wanted.
 pub fn run_over_plain<R, G>(
     rt: &R,
     alloc: Global,
@@ -32,7 +21,7 @@ pub fn run_over_plain<R, G>(
 where
     R: Threads + Wait + Sync,
     G: Gate + Sync,
-    ensures { IsSome (settings_of (map string_bytes words.now)) → Contains (1 ∷ 10 ∷ 5 ∷ []) result }
+    ensures { IfSome (settings_of (map string_bytes words.now)) (λ asked. Contains (5 ∷ statuses_of asked) result) }
 {
     run(rt, alloc, words, shelf, out, gate)
 }

@@ -1,96 +1,112 @@
 //! What a run writes, before it is written.
-ghost use Rattle.std.specs.Prelude.{◌≡◌, ◌≢◌, ◌≤◌, ℕ, List, length, map, codes, string_bytes, Some, IfOk};
-ghost use Rattle.boundsyn_top.specs.Faults.{SpecCode, IsFirstFault, refusal_line, longest_text};
-ghost use Rattle.boundsyn_top.specs.Settings.{Settings, settings_of, default_settings};
-ghost use Rattle.boundsyn_top.specs.Answer.{Answers};
-ghost use Rattle.boundsyn_top.specs.Run.{IsReply};
-ghost use Rattle.boundsyn_top.specs.Status.{status_number};
+ghost use Rattle.std.specs.Prelude.{◌≡◌, ◌≢◌, ◌≤◌, ℕ, List, map, string_bytes, IfOk, IfSome};
+ghost use Rattle.arbiter_text.specs.Arbiter.{generated_text};
+ghost use Rattle.program_replies.specs.Lines.{refusal_line};
+ghost use Rattle.program_replies.specs.Statuses.{status_number};
+ghost use Rattle.program_words.specs.Settings.{synth};
+ghost use Rattle.boundsyn_top.specs.Commands.{bounds_of};
+ghost use Rattle.boundsyn_top.specs.Run.{IsForeign, IsReply, RepliesTo};
 
-use crate::documents::document;
-use crate::reader::read_wire;
-use crate::words::spec_name;
-use outside_edge::{Shelf, ShelfFault};
+use crate::files::{LONGEST_TEXT, Taken, cannot_read, take_text};
+use arbiter_text::write_arbiter;
+use letter_word::Kind;
+use outside_edge::{Gate, Shelf};
+use program_replies::{Reply, Status, refused, whole};
+use program_words::{Search, Settings, WordsFault, read_words};
 use std::alloc::{AllocError, Global};
+use std::sync::Wait;
+use std::thread::Threads;
+use synth_answer::answer;
+use tlsf_tokens::SpecCode;
 
-// The most bytes that a text may have.
-const LONGEST_TEXT: u64 = 1_048_576;
-
-/// With which status a run ends.
-#[derive(Clone, Copy)]
-pub enum Status {
-    Refused = 1,
-    WordsRefused = 2,
-    CannotRead = 3,
-    CannotWrite = 4,
-    NoMemory = 5,
-    Realizable = 10,
-}
-
-impl Status {
-    ghost use Rattle.boundsyn_top.specs.Status.{status_number};
-
-    pub fn number(self) -> u8
-        ensures { result ≡ status_number self }
-    {
-        self as u8
-    }
-}
-
-/// Bytes of whole lines, and the status once they are written.
-#[derive(Drop)]
-pub struct Reply {
-    pub bytes: Vec<u8>,
-    pub status: Status,
-}
-
-/// The reply to the words, for which their text is taken from the shelf.
-pub fn reply_to<H: Shelf>(
+/// The reply to the words, for which their files are taken from the shelf.
+pub fn reply_to<R, H, G>(
+    rt: &R,
     alloc: Global,
     words: &[String],
     shelf: &mut H,
+    gate: &G,
 ) -> Result<Reply, AllocError>
+where
+    R: Threads + Wait + Sync,
+    H: Shelf,
+    G: Gate + Sync,
     ensures reply { IfOk result (λ r. IsReply (map string_bytes words.now) (H.files shelf.old)
         (H.faults shelf.old) (H.faults shelf.new) r.bytes.items (status_number r.status)) }
     ensures files { H.files shelf.new ≡ H.files shelf.old }
-    ensures other_files { (name : List ℕ)
-        → ¬ ((settings : Settings) × (settings_of (map string_bytes words.now) ≡ Some settings) × (settings.spec ≡ name))
-        → H.faults shelf.new name ≡ H.faults shelf.old name }
+    ensures other_files { (name : List ℕ) → IsForeign (map string_bytes words.now) name → H.faults shelf.new name ≡ H.faults shelf.old name }
 {
-    let Some(spec) = spec_name(words) else {
-        return whole(alloc, b"words refused\n", Status::WordsRefused);
+    let settings = match read_words(alloc, words) {
+        Ok(settings) => settings,
+        Err(WordsFault::Refused) => {
+            return whole(alloc, b"words refused\n", Status::WordsRefused);
+        }
+        Err(WordsFault::NoMemory) => return Err(AllocError),
     };
-    let mut text = Vec::new(alloc);
-    match shelf.take(spec, LONGEST_TEXT, &mut text) {
-        Ok(()) => answer(alloc, &text),
-        Err(ShelfFault::TooLong) => whole(
-            alloc,
-            b"refused 1 TooLong at 1048576\n",
-            Status::Refused,
-        ),
-        Err(ShelfFault::Failed) => whole(alloc, b"cannot read\n", Status::CannotRead),
-        Err(ShelfFault::NoMemory) => Err(AllocError),
+    match settings {
+        Settings::Synth { spec, search, kind } => {
+            synthesized(rt, alloc, shelf, spec, search, kind, gate)
+        }
+        Settings::Gen { clients } => generated(alloc, clients),
+        _ => Err(AllocError),
     }
 }
 
-// The reply to a text that isn't too long.
-fn answer(alloc: Global, text: &[u8]) -> Result<Reply, AllocError>
-    requires { length text.now ≤ longest_text }
-    ensures { IfOk result (λ r. (spec : List ℕ) → Answers text.now (default_settings spec) r.bytes.items (status_number r.status)) }
+// The reply to `synth`.
+fn synthesized<R, H, G>(
+    rt: &R,
+    alloc: Global,
+    shelf: &mut H,
+    spec: &str,
+    search: Search,
+    kind: Option<Kind>,
+    gate: &G,
+) -> Result<Reply, AllocError>
+where
+    R: Threads + Wait + Sync,
+    H: Shelf,
+    G: Gate + Sync,
+    requires some_size { 1 ≤ search.max }
+    requires most_size { search.max ≤ 8 }
+    requires entries { IfSome search.entries (λ most. most ≤ 250000) }
+    requires workers { search.workers ≤ 8 }
+    ensures reply { IfOk result (λ r. RepliesTo (H.files shelf.old) (H.faults shelf.old) (H.faults shelf.new) (synth spec.now search kind) r.bytes.items (status_number r.status)) }
+    ensures files { H.files shelf.new ≡ H.files shelf.old }
+    ensures other_files { (name : List ℕ) → name ≢ spec.now → H.faults shelf.new name ≡ H.faults shelf.old name }
 {
-    match read_wire(text) {
-        Some(wire) => Ok(Reply {
-            bytes: document(alloc, wire)?,
-            status: Status::Realizable,
-        }),
-        None => whole(alloc, b"refused 17 Unsupported at 0\n", Status::Refused),
+    match take_text(alloc, shelf, spec)? {
+        Taken::Whole(text) => answer(rt, alloc, &text, kind, bounds(search), gate),
+        Taken::TooLong => too_long(alloc),
+        Taken::Unread => cannot_read(alloc),
     }
 }
 
-fn whole(alloc: Global, bytes: &[u8], status: Status) -> Result<Reply, AllocError>
-    ensures { IfOk result (λ r. (r.bytes.items ≡ bytes.now) × (r.status ≡ status)) }
+// How a search is bounded.
+fn bounds(search: Search) -> synth_engine::Settings
+    ensures { result ≡ bounds_of search }
 {
+    synth_engine::Settings {
+        max: search.max,
+        entries: search.entries,
+        workers: search.workers,
+    }
+}
+
+// The reply to a text that is too long.
+fn too_long(alloc: Global) -> Result<Reply, AllocError>
+    ensures { IfOk result (λ r. (r.bytes.items ≡ refusal_line SpecCode.TooLong 1048576) × (r.status ≡ Status.Refused)) }
+{
+    refused(alloc, SpecCode::TooLong, LONGEST_TEXT)
+}
+
+// The reply of the text of an arbiter.
+fn generated(alloc: Global, clients: u32) -> Result<Reply, AllocError>
+    ensures { IfOk result (λ r. (r.bytes.items ≡ generated_text clients) × (r.status ≡ Status.Done)) }
+{
+    let mut bytes = Vec::new(alloc);
+    write_arbiter(clients, &mut bytes)?;
     Ok(Reply {
-        bytes: Vec::from_slice(alloc, bytes)?,
-        status,
+        bytes,
+        status: Status::Done,
     })
 }

@@ -1,14 +1,14 @@
 //! The top call.
-ghost use Rattle.std.specs.Prelude.{◌≡◌, ◌≢◌, ◌⊎◌, ℕ, List, Option, [], ◌∷◌, map, codes, string_bytes, Contains, Some, None, IfSome, IsSome, IsNone};
+ghost use Rattle.std.specs.Prelude.{◌≡◌, ◌⊎◌, ℕ, List, [], ◌∷◌, map, codes, string_bytes, Contains, None, IfSome, IsSome};
 ghost use Rattle.outside_edge.specs.Faults.{Rose};
-ghost use Rattle.outside_edge.specs.Files.{bytes_under};
-ghost use Rattle.boundsyn_top.specs.Faults.{SpecCode, IsFirstFault};
-ghost use Rattle.boundsyn_top.specs.Settings.{Settings, settings_of};
-ghost use Rattle.boundsyn_top.specs.Run.{ReadFailed, AnswersWords, IsReply, Gained, GainedPart};
+ghost use Rattle.program_words.specs.Settings.{settings_of};
+ghost use Rattle.boundsyn_top.specs.Commands.{statuses_of};
+ghost use Rattle.boundsyn_top.specs.Run.{AnswersWords, Gained, GainedPart, IsForeign, IsReply, ReadFailed, ReadsWell, answering};
 
 use crate::lines::put_lines;
-use crate::replies::{Status, reply_to};
+use crate::replies::reply_to;
 use outside_edge::{Gate, Shelf, Sink, SinkFault};
+use program_replies::Status;
 use std::alloc::Global;
 use std::sync::Wait;
 use std::thread::Threads;
@@ -16,28 +16,26 @@ use std::thread::Threads;
 /// Does what the words ask for, and gives the status to end with. The first word is the program's name.
 /// Each line is one call of `put`, its end included.
 ///
-/// 10: a circuit was found, and its document written. 1: the text is refused. 2: the words are refused.
-/// 3: the text couldn't be read. 4: not all could be written. 5: memory was wanted.
+/// 0: done, or accepted. 10, 11, 20, 30: what `synth` found. 1: the text is refused. 40: the other file is refused at a line. 2: the
+/// words are refused. 3: a file couldn't be read. 4: not all could be written. 5: memory was wanted.
 pub fn run<R, H, K, G>(
-    _rt: &R,
+    rt: &R,
     alloc: Global,
     words: &[String],
     shelf: &mut H,
     out: &mut K,
-    _gate: &G,
+    gate: &G,
 ) -> u8
 where
     R: Threads + Wait + Sync,
     H: Shelf,
     K: Sink,
     G: Gate + Sync,
-    ensures statuses { Contains (1 ∷ 2 ∷ 3 ∷ 4 ∷ 5 ∷ 10 ∷ []) result }
+    ensures statuses { Contains (2 ∷ 3 ∷ 4 ∷ 5 ∷ answering) result }
 
     // What is written whole.
-    ensures realizable { result ≡ 10 → Gained (K.written out.old) (K.written out.new)
-        (λ bytes. AnswersWords (map string_bytes words.now) (H.files shelf.old) bytes 10) }
-    ensures refused { result ≡ 1 → Gained (K.written out.old) (K.written out.new)
-        (λ bytes. AnswersWords (map string_bytes words.now) (H.files shelf.old) bytes 1) }
+    ensures answered { Contains answering result → Gained (K.written out.old) (K.written out.new)
+        (λ bytes. AnswersWords (map string_bytes words.now) (H.files shelf.old) bytes result) }
     ensures words_refused { result ≡ 2 → Gained (K.written out.old) (K.written out.new)
         (λ bytes. (settings_of (map string_bytes words.now) ≡ None) × (bytes ≡ codes "words refused\n")) }
     ensures cannot_read { result ≡ 3 → Gained (K.written out.old) (K.written out.new)
@@ -49,21 +47,15 @@ where
         (λ bytes status. IsReply (map string_bytes words.now) (H.files shelf.old) (H.faults shelf.old) (H.faults shelf.new) bytes status) }
 
     // When each refusal comes, unless something outside failed or memory was wanted.
-    ensures fault_is_refused { IfSome (settings_of (map string_bytes words.now)) (λ settings.
-        IfSome (H.files shelf.old) (λ files. (code : SpecCode) (place : ℕ) →
-        IsFirstFault (bytes_under files settings.spec) code place → Contains (1 ∷ 3 ∷ 4 ∷ 5 ∷ []) result)) }
     ensures bad_words_are_refused { settings_of (map string_bytes words.now) ≡ None → Contains (2 ∷ 4 ∷ 5 ∷ []) result }
-    ensures complete { IfSome (settings_of (map string_bytes words.now)) (λ settings. IsSome (H.files shelf.old)
-        → ¬ Rose (H.faults shelf.old settings.spec) (H.faults shelf.new settings.spec)
-        → ¬ Rose (K.faults out.old) (K.faults out.new) → Contains (1 ∷ 10 ∷ 5 ∷ []) result) }
+    ensures complete { IfSome (settings_of (map string_bytes words.now)) (λ asked. ReadsWell asked (H.faults shelf.old) (H.faults shelf.new)
+        → ¬ Rose (K.faults out.old) (K.faults out.new) → Contains (5 ∷ statuses_of asked) result) }
 
     // No other file is taken.
     ensures files { H.files shelf.new ≡ H.files shelf.old }
-    ensures other_files { (name : List ℕ)
-        → ¬ ((settings : Settings) × (settings_of (map string_bytes words.now) ≡ Some settings) × (settings.spec ≡ name))
-        → H.faults shelf.new name ≡ H.faults shelf.old name }
+    ensures other_files { (name : List ℕ) → IsForeign (map string_bytes words.now) name → H.faults shelf.new name ≡ H.faults shelf.old name }
 {
-    let Ok(reply) = reply_to(alloc, words, shelf) else {
+    let Ok(reply) = reply_to(rt, alloc, words, shelf, gate) else {
         return Status::NoMemory.number();
     };
     match put_lines(out, &reply.bytes) {

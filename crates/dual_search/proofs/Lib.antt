@@ -5,3 +5,4 @@ pub mod Playing
 pub mod Sides
 pub mod Repeats
 pub mod Defeats
+pub mod Fitting

@@ -1,9 +1,13 @@
-ghost use Rattle.std.specs.Prelude.{◌≡◌, Err, IfOk, IfSome, OnOk, None, false, true};
+ghost use Rattle.std.specs.Prelude.{◌≡◌, ◌≤◌, Err, IfOk, IfSome, OnOk, None, false, true};
 ghost use Rattle.ltl_formula.specs.NormalForm.{IsNormal};
+ghost use Rattle.ltl_formula.specs.ListSignals.{KeepsSignals};
 ghost use Rattle.ltl_formula.specs.Nodes.{Grows, IsNodeList, Stands, tree_at};
 ghost use Rattle.cobuchi_build.specs.Built.{AcceptsExactly};
+ghost use Rattle.cobuchi_build.specs.Limits.{NamesSignalsOf};
 ghost use Rattle.dual_search.specs.BothForms.{AreForms, IsFormWhere, both_forms, fault_of};
+ghost use Rattle.dual_search.specs.Limits.{FitProblemsOf};
 ghost use Rattle.dual_search.specs.Sides.{AcceptsWhere, AreAutomataOf, IsWithinLimits, SystemPassesLimit};
+ghost use Rattle.machine_model.specs.Automaton.{states_of};
 
 use cobuchi_build::{BuildFault, build};
 use ltl_formula::{AddFault, FormulaId, Formulas};
@@ -31,6 +35,8 @@ pub fn problems(
     ensures automata { IfOk result (AreAutomataOf (tree_at formulas.old whole) formulas.old formulas.new) }
     ensures system { IfOk result (λ a. AcceptsWhere false (tree_at formulas.old whole) a.system) }
     ensures environment { IfOk result (λ a. IfSome a.environment (AcceptsWhere true (tree_at formulas.old whole))) }
+    ensures limits { IfOk result (FitProblemsOf formulas.old) }
+    ensures signals { OnOk result (KeepsSignals formulas.old formulas.new) }
     ensures too_large { result ≡ Err BuildFault.TooLarge → SystemPassesLimit (tree_at formulas.old whole) formulas.old formulas.new }
     ensures too_many { result ≡ Err BuildFault.TooManyNodes → both_forms (tree_at formulas.old whole) formulas.old ≡ record { nodes = formulas.new; made = None } }
     ensures grows { Grows formulas.old formulas.new }
@@ -58,6 +64,7 @@ fn both_forms(formulas: &mut Formulas, whole: FormulaId) -> Result<FormIds, Buil
     ensures made { IfOk result (λ ids. AreForms (tree_at formulas.old whole) formulas.old formulas.new ids.negated ids.normal) }
     ensures negated { IfOk result (λ ids. IsFormWhere false (tree_at formulas.old whole) formulas.new ids.negated) }
     ensures normal { IfOk result (λ ids. IsFormWhere true (tree_at formulas.old whole) formulas.new ids.normal) }
+    ensures signals { OnOk result (KeepsSignals formulas.old formulas.new) }
     ensures too_large { result ≡ Err BuildFault.TooLarge → ⊥ }
     ensures too_many { result ≡ Err BuildFault.TooManyNodes → both_forms (tree_at formulas.old whole) formulas.old ≡ record { nodes = formulas.new; made = None } }
     ensures grows { Grows formulas.old formulas.new }
@@ -94,6 +101,8 @@ fn build_within(
     requires normal { IsNormal (tree_at formulas.now f) }
     ensures within { IfOk result (IsWithinLimits formulas.now f) }
     ensures accepts { IfOk result (λ a. IfSome a (AcceptsExactly formulas.now f)) }
+    ensures signals { IfOk result (λ a. IfSome a (NamesSignalsOf formulas.now)) }
+    ensures small { IfOk result (λ a. IfSome a (λ automaton. states_of automaton ≤ 2000)) }
     ensures too_large { result ≡ Err BuildFault.TooLarge → ⊥ }
     ensures nodes { result ≡ Err BuildFault.TooManyNodes → ⊥ }
 {

@@ -6,3 +6,5 @@ pub mod OneFault
 pub mod Starts
 pub mod DeclaredNames
 pub mod OneCode
+pub mod NamesOfTokens
+pub mod NamesOfTrees

@@ -1,3 +1,4 @@
 pub mod Plain
 pub mod FlatOf
 pub mod Laws
+pub mod FlatNames

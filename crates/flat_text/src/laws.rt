@@ -1,5 +1,6 @@
 // Laws of the definitions, which no code needs.
 
+ghost use Rattle.flat_text.specs.FlatNames.{FlatNamesAreWords};
 ghost use Rattle.flat_text.specs.Laws.{FlatFaultsAreDetermined, FlatTextsAreDetermined, FlatTextsHaveNoFault, TreesAreSeenAlike};
 
 /// Reading and expansion see one text in a tree.
@@ -20,4 +21,9 @@ pub fn flat_texts_have_no_fault()
 /// A text has at most one first fault.
 pub fn flat_faults_are_determined()
     ensures { FlatFaultsAreDetermined }
+{}
+
+/// The flat names of a text's signals aren't empty, and hold no blank and no line end.
+pub fn flat_names_are_words()
+    ensures { FlatNamesAreWords }
 {}

@@ -1,7 +1,9 @@
 // From the bytes of a text to its flat sections.
 
-ghost use Rattle.std.specs.Prelude.{◌≡◌, ℕ, Err, IfOk, vec_len};
+ghost use Rattle.std.specs.Prelude.{◌≡◌, ℕ, Err, IfOk, length, vec_len};
+ghost use Rattle.flat_text.specs.FlatNames.{HasPlainNames};
 ghost use Rattle.flat_text.specs.FlatOf.{IsFlatFault, IsFlatOf};
+ghost use Rattle.tlsf_expand.specs.FewSignals.{HasFewSignals};
 ghost use Rattle.tlsf_expand.specs.TextSeen.{spec_seen};
 ghost use Rattle.tlsf_tokens.specs.declared.code.SpecCode.{SpecCode as Code};
 ghost use Rattle.tlsf_tokens.specs.declared.code.SpecFault.TheVariants.{At};
@@ -16,6 +18,8 @@ use tlsf_tokens::SpecFault;
 /// that the text names.
 pub fn expand_text(alloc: Global, text: &[u8], kind: Option<Kind>) -> Result<Spec, SpecFault>
     ensures flat { IfOk result (λ spec. IsFlatOf text.now kind (spec_seen spec)) }
+    ensures few { IfOk result (λ spec. HasFewSignals (length spec.inputs.items) (length spec.outputs.items) spec.formulas) }
+    ensures names { IfOk result (λ spec. HasPlainNames (spec_seen spec).expanded) }
     ensures sections { IfOk result (λ spec. vec_len spec.sections ≡ 6) }
     ensures fault { (code : Code) (place : ℕ) → result ≡ Err (At code place) → IsFlatFault text.now kind code place }
 {

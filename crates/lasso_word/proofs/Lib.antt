@@ -1,2 +1,4 @@
 pub mod Cuts
 pub mod Readings
+pub mod Stating
+pub mod Naming

@@ -6,11 +6,11 @@ use Rattle.lasso_word.specs.Lines.{parts_at, IsCut}
 use Rattle.lasso_word.specs.WordText.{SoFar, WordReading, bad_line, continued, read_from}
 
 -- there is always a last part
-some_part : (mark : ℕ) (bytes : List ℕ) → 0 < length (parts_at mark bytes)
+pub some_part : (mark : ℕ) (bytes : List ℕ) → 0 < length (parts_at mark bytes)
 some_part mark bytes = omega (arith, length-slice_split (λ b. b == mark) bytes)
 
 -- where more parts follow, the first one is a line
-read_line : (names parts : List (List ℕ)) (line : List ℕ) (so_far : SoFar) (n : ℕ) → 0 < length parts →
+pub read_line : (names parts : List (List ℕ)) (line : List ℕ) (so_far : SoFar) (n : ℕ) → 0 < length parts →
     read_from names (line ∷ parts) so_far n ≡ option_map_or (λ longer. read_from names parts longer (n + 1)) (continued names so_far line) (bad_line n)
 read_line names [] line so_far n some = absurd (omega arith)
 read_line names (next ∷ more) line so_far n some = refl

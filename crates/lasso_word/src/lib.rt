@@ -4,6 +4,7 @@
 //! states stands in `specs/`. Stands on `letter_word` for letters and lassos, and on `text_base` for names.
 #![tactic(auto)]
 
+pub mod laws;
 mod letters;
 mod lines;
 mod word;

@@ -1,5 +1,5 @@
 use clause_base::{Clause, Lit};
-use refutation_log::{Entry, Hints, LogState, Turn, write_log};
+use refutation_log::{Entry, Hints, LogState, Turn, write_entries, write_log};
 use std::alloc::Global;
 use std::test::Fail;
 
@@ -33,6 +33,9 @@ fn writes_entry_lines(rt: HostRuntime) -> Result<(), Fail> {
     let mut out = b"log\n".to_vec(rt.alloc())?;
     write_log(&log, &mut out)?;
     let want = b"log\n0 -3 12 0 7 40 0\n1 0 1 2 3 4 8 31 30 13 21 0\n";
+    assert_eq!(rt; out.as_slice(), want.as_slice());
+    out.truncate(4);
+    write_entries(&log.into_entries()?, &mut out)?;
     assert_eq!(rt; out.as_slice(), want.as_slice());
     Ok(())
 }

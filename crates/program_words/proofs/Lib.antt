@@ -1,2 +1,5 @@
 pub mod Building
 pub mod Reading
+pub mod PlainSteps
+pub mod PlainWalks
+pub mod PlainLaws

@@ -1,5 +1,5 @@
 -- What the words of a command line ask for (this project's own).
-use Rattle.std.specs.Prelude.{◌==◌, ℕ, List, Option, Some, None, codes, length, option_map, option_and_then, if◌then◌else◌}
+use Rattle.std.specs.Prelude.{◌==◌, ◌≤◌, ℕ, IfSome, List, Option, Some, None, codes, length, option_map, option_and_then, if◌then◌else◌}
 use Rattle.std.specs.Option.{option_map_or}
 use Rattle.std.specs.Str.{bytes_eq}
 use Rattle.letter_word.specs.declared.kinds.Kind.{Kind}
@@ -31,77 +31,100 @@ asked_by (settings.Lasso spec word) = lasso spec.now word.now
 asked_by (settings.Gen clients) = gen clients
 asked_by (settings.Bench clients workers) = bench clients workers
 
+-- numbers lie in their ranges
+pub record IsSearchInRange (s : Search) : Type 0 where
+  pub some_size : 1 ≤ s.max
+  pub most_size : s.max ≤ 8
+  pub entries : IfSome s.entries (λ most. most ≤ 250000)
+  pub some_worker : 1 ≤ s.workers
+  pub most_workers : s.workers ≤ 8
+
+abbrev pub IsInRange : Asked → Type 0
+IsInRange (synth spec search kind) = IsSearchInRange search
+IsInRange (check spec certificate) = Unit {0}
+IsInRange (expand spec) = Unit {0}
+IsInRange (lasso spec word) = Unit {0}
+IsInRange (gen clients) = (1 ≤ clients) × (clients ≤ 8)
+IsInRange (bench clients workers) = ((1 ≤ clients) × (clients ≤ 4)) × ((1 ≤ workers) × (workers ≤ 8))
+
 -- ---- the values of options, each with its default
 
-abbrev pub number_or : Text → ℕ → ℕ → ℕ → List Row → Option ℕ
-number_or id default least most rows = option_map_or (number_in least most) (first_of id rows) (Some default)
+-- the text that was given for each argument
+abbrev pub Given : Type 0
+Given = Text → Option Text
 
-abbrev pub most_size : List Row → Option ℕ
+abbrev pub number_or : Text → ℕ → ℕ → ℕ → Given → Option ℕ
+number_or id default least most given = option_map_or (number_in least most) (given id) (Some default)
+
+abbrev pub most_size : Given → Option ℕ
 most_size = number_or (codes "max") 4 1 8
 
-abbrev pub worker_count : List Row → Option ℕ
+abbrev pub worker_count : Given → Option ℕ
 worker_count = number_or (codes "workers") 4 1 8
 
 -- a number of entries, or `none` for no limit
 abbrev pub limit_in : Text → Option (Option ℕ)
 limit_in text = if bytes_eq text (codes "none") then Some None else option_map Some (number_in 0 250000 text)
 
-abbrev pub entry_limit : List Row → Option (Option ℕ)
-entry_limit rows = option_map_or limit_in (first_of (codes "entries") rows) (Some (Some 50000))
+abbrev pub entry_limit : Given → Option (Option ℕ)
+entry_limit given = option_map_or limit_in (given (codes "entries")) (Some (Some 50000))
 
 abbrev pub kind_in : Text → Option (Option Kind)
 kind_in text = if bytes_eq text (codes "mealy") then Some (Some Mealy)
     else if bytes_eq text (codes "moore") then Some (Some Moore) else None
 
 -- without the option the kind is the text's own
-abbrev pub kind_asked : List Row → Option (Option Kind)
-kind_asked rows = option_map_or kind_in (first_of (codes "kind") rows) (Some None)
+abbrev pub kind_asked : Given → Option (Option Kind)
+kind_asked given = option_map_or kind_in (given (codes "kind")) (Some None)
 
-abbrev pub search_asked : List Row → Option Search
-search_asked rows =
+abbrev pub search_asked : Given → Option Search
+search_asked given =
     option_and_then (λ max. option_and_then (λ entries. option_map (λ workers.
     record { max = max; entries = entries; workers = workers })
-    (worker_count rows)) (entry_limit rows)) (most_size rows)
+    (worker_count given)) (entry_limit given)) (most_size given)
 
 -- ---- each command
 
-abbrev pub synth_asked : List Row → Option Asked
-synth_asked rows =
-    option_and_then (λ spec. option_and_then (λ search. option_map (synth spec search) (kind_asked rows))
-    (search_asked rows)) (first_of (codes "spec") rows)
+abbrev pub synth_asked : Given → Option Asked
+synth_asked given =
+    option_and_then (λ spec. option_and_then (λ search. option_map (synth spec search) (kind_asked given))
+    (search_asked given)) (given (codes "spec"))
 
-abbrev pub check_asked : List Row → Option Asked
-check_asked rows =
-    option_and_then (λ spec. option_map (check spec) (first_of (codes "certificate") rows)) (first_of (codes "spec") rows)
+abbrev pub check_asked : Given → Option Asked
+check_asked given =
+    option_and_then (λ spec. option_map (check spec) (given (codes "certificate"))) (given (codes "spec"))
 
-abbrev pub expand_asked : List Row → Option Asked
-expand_asked rows = option_map expand (first_of (codes "spec") rows)
+abbrev pub expand_asked : Given → Option Asked
+expand_asked given = option_map expand (given (codes "spec"))
 
-abbrev pub lasso_asked : List Row → Option Asked
-lasso_asked rows =
-    option_and_then (λ spec. option_map (lasso spec) (first_of (codes "word") rows)) (first_of (codes "spec") rows)
+abbrev pub lasso_asked : Given → Option Asked
+lasso_asked given =
+    option_and_then (λ spec. option_map (lasso spec) (given (codes "word"))) (given (codes "spec"))
 
-abbrev pub gen_asked : List Row → Option Asked
-gen_asked rows = option_map gen (option_and_then (number_in 1 8) (first_of (codes "clients") rows))
+abbrev pub gen_asked : Given → Option Asked
+gen_asked given = option_map gen (option_and_then (number_in 1 8) (given (codes "clients")))
 
-abbrev pub bench_asked : List Row → Option Asked
-bench_asked rows =
-    option_and_then (λ clients. option_map (bench clients) (worker_count rows))
-    (option_and_then (number_in 1 4) (first_of (codes "clients") rows))
+abbrev pub bench_asked : Given → Option Asked
+bench_asked given =
+    option_and_then (λ clients. option_map (bench clients) (worker_count given))
+    (option_and_then (number_in 1 4) (given (codes "clients")))
 
-abbrev pub command_asked : Text → List Row → Option Asked
-command_asked name rows =
-    if bytes_eq name (codes "synth") then synth_asked rows
-    else if bytes_eq name (codes "check") then check_asked rows
-    else if bytes_eq name (codes "expand") then expand_asked rows
-    else if bytes_eq name (codes "lasso") then lasso_asked rows
-    else if bytes_eq name (codes "gen") then gen_asked rows
-    else if bytes_eq name (codes "bench") then bench_asked rows
+abbrev pub command_asked : Text → Given → Option Asked
+command_asked name given =
+    if bytes_eq name (codes "synth") then synth_asked given
+    else if bytes_eq name (codes "check") then check_asked given
+    else if bytes_eq name (codes "expand") then expand_asked given
+    else if bytes_eq name (codes "lasso") then lasso_asked given
+    else if bytes_eq name (codes "gen") then gen_asked given
+    else if bytes_eq name (codes "bench") then bench_asked given
     else None
+
+abbrev pub given_in : List Row → Given
+given_in rows id = first_of id rows
 
 -- by the matches of a subcommand
 abbrev pub asked_of : Option (Text × List Row) → Option Asked
-asked_of matched = option_and_then (λ (m : Text × List Row). command_asked m.0 m.1) matched
+asked_of matched = option_and_then (λ (m : Text × List Row). command_asked m.0 (given_in m.1)) matched
 
 -- What the words ask for, where `clap` takes them for its command line, and each value is in its range; the first word is
 -- the program's name.

@@ -5,6 +5,7 @@
 #![tactic(auto)]
 
 mod command_line;
+pub mod laws;
 mod numbers;
 mod settings;
 mod words;

@@ -9,7 +9,7 @@ use text_base::{Cursor, read_number};
 // The number that a word is, if it is one from the least to the most.
 pub(crate) fn number_in(text: &str, least: u32, most: u32) -> Option<u32>
     ensures number { result ≡ number_in least most text.now }
-    ensures within { IfSome result (λ n. n ≤ most) }
+    ensures within { IfSome result (λ n. (least ≤ n) × (n ≤ most)) }
 {
     let bytes = text.as_bytes();
     if !is_numeral(bytes) {

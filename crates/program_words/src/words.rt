@@ -1,6 +1,6 @@
-ghost use Rattle.std.specs.Prelude.{◌≡◌, ◌≢◌, Some, None, map, option_map, option_and_then, string_bytes, IfOk, IsErrOf};
+ghost use Rattle.std.specs.Prelude.{◌≡◌, ◌≢◌, Some, None, map, option_map, option_and_then, string_bytes, IfOk, IfSome, IsErrOf, ◌≤◌};
 ghost use Rattle.clap.specs.Words.{first_of, found_of, rows_of, subcommand_rows_of};
-ghost use Rattle.program_words.specs.Settings.{asked_by, asked_of, bench_asked, check_asked, entry_limit, expand_asked, gen_asked, kind_asked, kind_in, lasso_asked, limit_in, number_or, search_asked, settings_of, synth_asked};
+ghost use Rattle.program_words.specs.Settings.{asked_by, asked_of, bench_asked, check_asked, entry_limit, expand_asked, gen_asked, given_in, IsInRange, IsSearchInRange, kind_asked, kind_in, lasso_asked, limit_in, number_or, search_asked, settings_of, synth_asked};
 
 use crate::command_line::program;
 use crate::numbers::number_in;
@@ -33,6 +33,7 @@ impl From<AllocError> for WordsFault {
 pub fn read_words(alloc: Global, words: &[String]) -> Result<Settings<'_>, WordsFault>
     ensures settings { IfOk result (λ s. settings_of (map string_bytes words.now) ≡ Some (asked_by s)) }
     ensures refused { IsErrOf result WordsFault.Refused → settings_of (map string_bytes words.now) ≡ None }
+    ensures ranges { IfOk result (λ s. IsInRange (asked_by s)) }
 {
     let program = program(alloc)?;
     match program.try_get_matches_from(words) {
@@ -51,7 +52,8 @@ fn fault_by(kind: ErrorKind) -> WordsFault
 }
 
 fn settings_in<'a>(matches: &ArgMatches<'a>) -> Option<Settings<'a>>
-    ensures { option_map asked_by result ≡ asked_of (subcommand_rows_of matches.now) }
+    ensures asked { option_map asked_by result ≡ asked_of (subcommand_rows_of matches.now) }
+    ensures ranges { IfSome result (λ s. IsInRange (asked_by s)) }
 {
     let (name, own) = matches.subcommand()?;
     match name {
@@ -66,7 +68,8 @@ fn settings_in<'a>(matches: &ArgMatches<'a>) -> Option<Settings<'a>>
 }
 
 fn synth_in<'a>(own: &ArgMatches<'a>) -> Option<Settings<'a>>
-    ensures { option_map asked_by result ≡ synth_asked (rows_of (found_of own.now)) }
+    ensures asked { option_map asked_by result ≡ synth_asked (given_in (rows_of (found_of own.now))) }
+    ensures ranges { IfSome result (λ s. IsInRange (asked_by s)) }
 {
     Some(Settings::Synth {
         spec: text_of(own, "spec")?,
@@ -76,7 +79,8 @@ fn synth_in<'a>(own: &ArgMatches<'a>) -> Option<Settings<'a>>
 }
 
 fn check_in<'a>(own: &ArgMatches<'a>) -> Option<Settings<'a>>
-    ensures { option_map asked_by result ≡ check_asked (rows_of (found_of own.now)) }
+    ensures asked { option_map asked_by result ≡ check_asked (given_in (rows_of (found_of own.now))) }
+    ensures ranges { IfSome result (λ s. IsInRange (asked_by s)) }
 {
     Some(Settings::Check {
         spec: text_of(own, "spec")?,
@@ -85,14 +89,16 @@ fn check_in<'a>(own: &ArgMatches<'a>) -> Option<Settings<'a>>
 }
 
 fn expand_in<'a>(own: &ArgMatches<'a>) -> Option<Settings<'a>>
-    ensures { option_map asked_by result ≡ expand_asked (rows_of (found_of own.now)) }
+    ensures asked { option_map asked_by result ≡ expand_asked (given_in (rows_of (found_of own.now))) }
+    ensures ranges { IfSome result (λ s. IsInRange (asked_by s)) }
 {
     let spec = text_of(own, "spec")?;
     Some(Settings::Expand { spec })
 }
 
 fn lasso_in<'a>(own: &ArgMatches<'a>) -> Option<Settings<'a>>
-    ensures { option_map asked_by result ≡ lasso_asked (rows_of (found_of own.now)) }
+    ensures asked { option_map asked_by result ≡ lasso_asked (given_in (rows_of (found_of own.now))) }
+    ensures ranges { IfSome result (λ s. IsInRange (asked_by s)) }
 {
     Some(Settings::Lasso {
         spec: text_of(own, "spec")?,
@@ -101,14 +107,16 @@ fn lasso_in<'a>(own: &ArgMatches<'a>) -> Option<Settings<'a>>
 }
 
 fn gen_in<'a>(own: &ArgMatches<'a>) -> Option<Settings<'a>>
-    ensures { option_map asked_by result ≡ gen_asked (rows_of (found_of own.now)) }
+    ensures asked { option_map asked_by result ≡ gen_asked (given_in (rows_of (found_of own.now))) }
+    ensures ranges { IfSome result (λ s. IsInRange (asked_by s)) }
 {
     let clients = number_in(text_of(own, "clients")?, 1, 8)?;
     Some(Settings::Gen { clients })
 }
 
 fn bench_in<'a>(own: &ArgMatches<'a>) -> Option<Settings<'a>>
-    ensures { option_map asked_by result ≡ bench_asked (rows_of (found_of own.now)) }
+    ensures asked { option_map asked_by result ≡ bench_asked (given_in (rows_of (found_of own.now))) }
+    ensures ranges { IfSome result (λ s. IsInRange (asked_by s)) }
 {
     let clients = number_in(text_of(own, "clients")?, 1, 4)?;
     let workers = number_or(own, "workers", 4, 1, 8)?;
@@ -116,7 +124,8 @@ fn bench_in<'a>(own: &ArgMatches<'a>) -> Option<Settings<'a>>
 }
 
 fn search_in(own: &ArgMatches<'_>) -> Option<Search>
-    ensures { result ≡ search_asked (rows_of (found_of own.now)) }
+    ensures asked { result ≡ search_asked (given_in (rows_of (found_of own.now))) }
+    ensures ranges { IfSome result IsSearchInRange }
 {
     Some(Search {
         max: number_or(own, "max", 4, 1, 8)?,
@@ -127,7 +136,9 @@ fn search_in(own: &ArgMatches<'_>) -> Option<Search>
 
 // The number that an option has, or its default.
 fn number_or(own: &ArgMatches<'_>, id: &str, default: u32, least: u32, most: u32) -> Option<u32>
-    ensures { result ≡ number_or id.now default least most (rows_of (found_of own.now)) }
+    requires default { (least ≤ default) × (default ≤ most) }
+    ensures number { result ≡ number_or id.now default least most (given_in (rows_of (found_of own.now))) }
+    ensures within { IfSome result (λ n. (least ≤ n) × (n ≤ most)) }
 {
     match text_of(own, id) {
         None => Some(default),
@@ -136,7 +147,8 @@ fn number_or(own: &ArgMatches<'_>, id: &str, default: u32, least: u32, most: u32
 }
 
 fn limit_or(own: &ArgMatches<'_>) -> Option<Option<u64>>
-    ensures { result ≡ entry_limit (rows_of (found_of own.now)) }
+    ensures asked { result ≡ entry_limit (given_in (rows_of (found_of own.now))) }
+    ensures within { IfSome result (λ limit. IfSome limit (λ n. n ≤ 250000)) }
 {
     match text_of(own, "entries") {
         None => Some(Some(50_000)),
@@ -145,7 +157,8 @@ fn limit_or(own: &ArgMatches<'_>) -> Option<Option<u64>>
 }
 
 fn limit_in(text: &str) -> Option<Option<u64>>
-    ensures { result ≡ limit_in text.now }
+    ensures asked { result ≡ limit_in text.now }
+    ensures within { IfSome result (λ limit. IfSome limit (λ n. n ≤ 250000)) }
 {
     if text == "none" {
         return Some(None);
@@ -155,7 +168,7 @@ fn limit_in(text: &str) -> Option<Option<u64>>
 }
 
 fn kind_or(own: &ArgMatches<'_>) -> Option<Option<Kind>>
-    ensures { result ≡ kind_asked (rows_of (found_of own.now)) }
+    ensures { result ≡ kind_asked (given_in (rows_of (found_of own.now))) }
 {
     match text_of(own, "kind") {
         None => Some(None),

@@ -48,7 +48,26 @@ fn push_names(lines: &mut Lines, word: &[u8], names: &[Name]) -> Result<(), Allo
     lines.push(b"\n")
 }
 
-/// A line for each formula of a section. A formula whose text no memory holds is named so.
+/// A line of a formula. One whose text no memory holds is named so.
+fn push_line(
+    lines: &mut Lines,
+    word: &[u8],
+    spec: &Spec,
+    formula: FormulaId,
+    names: &[Name],
+) -> Result<(), AllocError>
+    requires { length names.now ≡ 16 }
+{
+    lines.push(word)?;
+    if (formula.0 as usize) >= spec.formulas.len() {
+        lines.push(b"(no formula)")?;
+    } else if write_formula(&spec.formulas, formula, names, &mut lines.bytes).is_err() {
+        lines.push(b"(too long)")?;
+    }
+    lines.push(b"\n")
+}
+
+/// A line for each formula of a section.
 fn push_section(
     lines: &mut Lines,
     word: &[u8],
@@ -59,13 +78,7 @@ fn push_section(
     requires { length names.now ≡ 16 }
 {
     for &formula in section.formulas() {
-        lines.push(word)?;
-        if (formula.0 as usize) >= spec.formulas.len() {
-            lines.push(b"(no formula)")?;
-        } else if write_formula(&spec.formulas, formula, names, &mut lines.bytes).is_err() {
-            lines.push(b"(too long)")?;
-        }
-        lines.push(b"\n")?;
+        push_line(lines, word, spec, formula, names)?;
     }
     Ok(())
 }

@@ -1,4 +1,4 @@
-// Whole texts whose one guarantee is true.
+// Whole texts that guarantee what is true.
 
 use flat_text::expand_text;
 use ltl_formula::Node;
@@ -29,18 +29,23 @@ pub(crate) fn text_of(
     Ok(text)
 }
 
-/// Whether GUARANTEE has one formula, and that is `true`.
+/// Whether GUARANTEE has formulas, and each of them is `true`.
 fn guarantees_true(spec: &Spec) -> bool {
     let Some(section) = spec.sections.last() else {
         return false;
     };
-    match section.formulas() {
-        [id] if (id.0 as usize) < spec.formulas.len() => spec.formulas.node(*id) == Node::True,
-        _ => false,
+    for &formula in section.formulas() {
+        if (formula.0 as usize) >= spec.formulas.len() {
+            return false;
+        }
+        if spec.formulas.node(formula) != Node::True {
+            return false;
+        }
     }
+    !section.formulas().is_empty()
 }
 
-/// The text of these definitions and parts is expanded, and its one guarantee is true.
+/// The text of these definitions and parts is expanded, and what it guarantees is true.
 pub(crate) fn assert_true(
     rt: &impl Abort,
     alloc: Global,

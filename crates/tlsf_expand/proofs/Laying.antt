@@ -83,7 +83,7 @@ length-bits : (name : List ℕ) (k n : ℕ) → length (bit_names name k n) ≡ 
 length-bits name k zero = refl
 length-bits name k (suc n) = ap suc (length-bits name (k + 1) n)
 
-length-declared : (word : Named) (number : ℕ) (extent : Extent) (d : Declared) → length (declared word number extent d).flat ≡ length d.flat + bits_in extent
+pub length-declared : (word : Named) (number : ℕ) (extent : Extent) (d : Declared) → length (declared word number extent d).flat ≡ length d.flat + bits_in extent
 length-declared word number alone d = length-append d.flat (word.name ∷ [])
 length-declared word number (wide n) d = length-append d.flat (bit_names word.name 0 n) ∙ ap (λ k. length d.flat + k) (length-bits word.name 0 n)
 length-declared word number (of_type values) d =

@@ -16,3 +16,5 @@ pub mod Expanded
 pub mod RowProofs
 pub mod Laying
 pub mod Finished
+pub mod SignalsOfValues
+pub mod SignalsOfTexts

@@ -5,6 +5,7 @@ pub mod Signals
 pub mod Sections
 pub mod Expansion
 pub mod Meaning
+pub mod FewSignals
 pub mod Laws
 pub mod Rows
 pub mod TextSeen

@@ -1,7 +1,8 @@
 // A whole text, expanded.
 
-ghost use Rattle.std.specs.Prelude.{◌≡◌, IfOk, vec_len};
+ghost use Rattle.std.specs.Prelude.{◌≡◌, IfOk, length, vec_len};
 ghost use Rattle.tlsf_expand.specs.Expansion.{expanded, kind_of};
+ghost use Rattle.tlsf_expand.specs.FewSignals.{HasFewSignals};
 ghost use Rattle.tlsf_expand.specs.Results.{IsExpansion, KeepsMeaning};
 ghost use Rattle.tlsf_expand.specs.SectionsSeen.{flat_seen};
 ghost use Rattle.tlsf_expand.specs.Texts.{sections_from};
@@ -52,6 +53,7 @@ pub fn expand(alloc: Global, tree: &SpecTree, kind: Option<Kind>) -> Result<Spec
     ensures expansion { IsExpansion result (expanded (text_seen tree.now) kind) }
     ensures sections { IfOk result (λ spec. vec_len spec.sections ≡ 6) }
     ensures meaning { IfOk result (λ spec. KeepsMeaning (text_seen tree.now) spec.formulas spec.whole) }
+    ensures few { IfOk result (λ spec. HasFewSignals (length spec.inputs.items) (length spec.outputs.items) spec.formulas) }
 {
     let Some(kind) = kind_of(kind, tree) else {
         return Err(fault(SpecCode::TargetDiffers, tree.info.target_at));

@@ -1,5 +1,6 @@
 // Laws of the definitions, which no code needs.
 
+ghost use Rattle.tlsf_expand.specs.FewSignals.{ExpansionHasFewSignals};
 ghost use Rattle.tlsf_expand.specs.Laws.{ExpansionKeepsMeaning};
 ghost use Rattle.tlsf_expand.specs.Rows.{RowsExpand};
 
@@ -11,4 +12,9 @@ pub fn expansion_keeps_meaning()
 /// The worked rows have their flat sections, their first faults or their meaning.
 pub fn rows_expand()
     ensures { RowsExpand }
+{}
+
+/// A text that is expanded has at most 8 inputs and at most 8 outputs, and its formulas speak of those signals alone.
+pub fn expansion_has_few_signals()
+    ensures { ExpansionHasFewSignals }
 {}

@@ -1,5 +1,6 @@
 use Rattle.std.proofs.Common.{Err, ap}
 use Rattle.ltl_formula.specs.Nodes.{tree_at}
+use Rattle.ltl_formula.proofs.ListSignals.{KeepsSignals-trans}
 use Rattle.ltl_formula.proofs.Trees.{tree_at-grown}
 use Rattle.dual_search.proofs.Sides.{forms_made, negated_form, no_normal, normal_form, node_fault}
 use Rattle.dual_search.proofs.automata.both_forms.Goals as goal
@@ -27,3 +28,6 @@ pub returns-clause-normal : goal.returns-clause-normal
 returns-clause-normal c =
     normal_form (tree_at c.args.formulas.now c.args.whole) (tree_at c.negated.new.formulas c.args.whole) c.normal.new.formulas c.in-Ok-normal.id
     (tree_at-grown c.args.formulas.now c.negated.new.formulas c.args.whole c.negated.ensures.grows c.requires) c.in-Ok-normal.ensures.stands c.in-Ok-normal.ensures.shape c.in-Ok-normal.ensures.truth
+
+pub returns-clause-signals : goal.returns-clause-signals
+returns-clause-signals c = KeepsSignals-trans c.args.formulas.now c.negated.new.formulas c.normal.new.formulas c.in-Ok.ensures.signals c.in-Ok-normal.ensures.signals

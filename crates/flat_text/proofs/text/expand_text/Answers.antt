@@ -1,6 +1,7 @@
 use Rattle.std.proofs.Common.{Err, ap, ◌∙◌}
 use Rattle.std.proofs.lemmas.Result.{err_from_is_err_and}
 use Rattle.flat_text.specs.FlatOf.{of_reading}
+use Rattle.flat_text.proofs.NamesOfTrees.{plain_names}
 use Rattle.flat_text.proofs.Whole.{flat_of, fault_of, same_error}
 use Rattle.flat_text.proofs.text.expand_text.Goals as goal
 
@@ -14,3 +15,7 @@ returns-clause-flat c = flat_of c.args.text.now c.args.kind c.in_ok-tree.tree c.
 
 pub returns-clause-fault : goal.returns-clause-fault
 returns-clause-fault c = fault_of c.args.text.now c.args.kind c.in_ok-tree.tree c.expand.result c.in_ok-tree.ensures.tree c.expand.ensures.expansion
+
+pub returns-clause-names : goal.returns-clause-names
+returns-clause-names c =
+    plain_names c.args.text.now c.args.kind c.expand.result (flat_of c.args.text.now c.args.kind c.in_ok-tree.tree c.expand.result c.in_ok-tree.ensures.tree c.expand.ensures.expansion c.expand.ensures.meaning)

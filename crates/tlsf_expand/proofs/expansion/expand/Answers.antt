@@ -3,7 +3,7 @@ use Rattle.tlsf_expand.specs.SectionsSeen.{flat_seen}
 use Rattle.tlsf_expand.specs.SignalsSeen.{signals_seen}
 use Rattle.tlsf_expand.specs.TextSeen.{text_seen}
 use Rattle.std.proofs.lemmas.Result.{err_from_is_err_and}
-use Rattle.tlsf_expand.proofs.Finished.{meaning_kept, sections_fault, whole_fault}
+use Rattle.tlsf_expand.proofs.Finished.{few_signals, meaning_kept, sections_fault, whole_fault}
 use Rattle.tlsf_expand.proofs.expansion.expand.Goals as goal
 
 pub returns-clause-meaning : goal.returns-clause-meaning
@@ -27,3 +27,8 @@ pub returns-in_err-listed-clause-expansion : goal.returns-in_err-listed-clause-e
 returns-in_err-listed-clause-expansion c =
     let p = err_from_is_err_and c.from_residual-in_err-listed.result c.from_residual-in_err-listed.ensures.1 in
     rw (p.1, p.2) tt
+
+pub returns-clause-few : goal.returns-clause-few
+returns-clause-few c =
+    few_signals (text_seen c.args.tree.now) c.args.kind c.in-Some.kind (signals_seen c.in_ok-signals.signals) (flat_seen c.in_ok-sections.sections) c.in_ok-whole.whole
+    c.declared_signals.new.work c.flat_sections.new.work c.whole_formula.new.work (sym c.in-Some.ensures) (rw c.new.ensures at c.in_ok-signals.ensures) c.in_ok-sections.ensures.value c.in_ok-whole.ensures

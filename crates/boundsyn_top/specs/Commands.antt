@@ -1,0 +1,44 @@
+-- What each command may write whole, and with which status (this project's own).
+use Rattle.std.specs.Prelude.{◌≡◌, ℕ, Option, List, [], ◌∷◌, IfSome}
+use Rattle.outside_edge.specs.Files.{Files, bytes_under}
+use Rattle.program_words.specs.Settings.{Asked, synth, check, expand, lasso, gen, bench}
+use Rattle.program_words.specs.declared.settings.Search.{Search}
+use Rattle.arbiter_text.specs.Arbiter.{generated_text}
+use Rattle.synth_engine.specs.declared.settings.Settings.{Settings}
+use Rattle.synth_answer.specs.Answer.{Answers}
+
+-- the files that a command reads
+abbrev pub names_of : Asked → List (List ℕ)
+names_of (synth spec search kind) = spec ∷ []
+names_of (check spec certificate) = spec ∷ certificate ∷ []
+names_of (expand spec) = spec ∷ []
+names_of (lasso spec word) = spec ∷ word ∷ []
+names_of (gen clients) = []
+names_of (bench clients workers) = []
+
+-- the statuses with which it answers
+abbrev pub statuses_of : Asked → List ℕ
+statuses_of (synth spec search kind) = 1 ∷ 10 ∷ 11 ∷ 20 ∷ 30 ∷ []
+statuses_of (check spec certificate) = 0 ∷ 1 ∷ 40 ∷ []
+statuses_of (expand spec) = 0 ∷ 1 ∷ []
+statuses_of (lasso spec word) = 0 ∷ 1 ∷ 40 ∷ []
+statuses_of (gen clients) = 0 ∷ []
+statuses_of (bench clients workers) = 10 ∷ 20 ∷ 30 ∷ []
+
+-- Something holds of the bytes of a file: of those that the shelf has under its name, where it tells its files.
+pub record HoldsOfFile (told : Option Files) (name : List ℕ) (P : List ℕ → Type 0) : Type 0 where
+  pub bytes : List ℕ
+  pub are_told : IfSome told (λ files. bytes ≡ bytes_under files name)
+  pub holds : P bytes
+
+-- how the words bound a search
+abbrev pub bounds_of : Search → Settings
+bounds_of search = record { max = search.max; entries = search.entries; workers = search.workers }
+
+-- the bytes and the status that may answer what was asked
+abbrev pub AnswersAsked : Option Files → Asked → List ℕ → ℕ → Type 0
+AnswersAsked told (synth spec search kind) bytes status = HoldsOfFile told spec (λ text. Answers text kind (bounds_of search) bytes status)
+AnswersAsked told (check spec certificate) bytes status = ⊥
+AnswersAsked told (expand spec) bytes status = ⊥
+AnswersAsked told (gen clients) bytes status = (bytes ≡ generated_text clients) × (status ≡ 0)
+AnswersAsked told (bench clients workers) bytes status = ⊥

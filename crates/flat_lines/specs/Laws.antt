@@ -1,0 +1,11 @@
+-- Laws of written flat texts.
+use Rattle.std.specs.Prelude.{◌≡◌, Option, Some}
+use Rattle.letter_word.specs.declared.kinds.Kind.{Kind}
+use Rattle.tlsf_expand.specs.Texts.{Text}
+use Rattle.tlsf_expand.specs.Expansion.{expanded}
+use Rattle.tlsf_expand.specs.TextSeen.{FlatText, flat_in}
+use Rattle.flat_lines.specs.FlatLines.{CanBeWritten}
+
+-- what comes of a text can be written
+abbrev pub ExpandedCanBeWritten : Type 0
+ExpandedCanBeWritten = (text : Text) (kind : Option Kind) (flat : FlatText) → flat_in (expanded text kind) ≡ Some flat → CanBeWritten flat

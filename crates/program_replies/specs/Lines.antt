@@ -1,0 +1,13 @@
+-- The lines that the program writes where it refuses a file (this project's own).
+use Rattle.std.specs.Prelude.{ℕ, List, ◌++◌, codes, decimal}
+use Rattle.tlsf_tokens.specs.declared.code.SpecCode.{SpecCode}
+use Rattle.tlsf_tokens.specs.Codes.{name_of, number_of}
+
+-- a text: `refused K NAME at P`, with the fault's number and word, and its byte place
+abbrev pub refusal_line : SpecCode → ℕ → List ℕ
+refusal_line code place =
+    codes "refused " ++ decimal (number_of code) ++ codes " " ++ name_of code ++ codes " at " ++ decimal place ++ codes "\n"
+
+-- a certificate or a word: `refused at line N`, with the number of the line, from 1
+abbrev pub line_refusal : ℕ → List ℕ
+line_refusal line = codes "refused at line " ++ decimal line ++ codes "\n"

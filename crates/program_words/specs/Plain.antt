@@ -1,0 +1,62 @@
+-- Words of the plain form (this project's own): the program's name, a command, its names or its number, and then options,
+-- each as its name behind `--` and its value, in any order and each at most once.
+use Rattle.std.specs.Prelude.{◌≡◌, ◌==◌, ◌⊎◌, Bool, false, not, List, [], ◌∷◌, ◌++◌, Some, IsTrue, codes, find, option_map}
+use Rattle.std.specs.List.{list_any}
+use Rattle.std.specs.Str.{bytes_eq}
+use Rattle.clap.specs.Walk.{Text}
+use Rattle.program_words.specs.Numbers.{number_in}
+use Rattle.program_words.specs.Settings.{Given, synth_asked, bench_asked, check, expand, gen, lasso, settings_of}
+
+-- a text that is given for an argument
+pub record Item : Type 0 where
+  pub id : Text
+  pub text : Text
+
+-- neither empty nor with a hyphen in front
+abbrev pub is_plain : Text → Bool
+is_plain [] = false
+is_plain (b ∷ bs) = not (b == 45)
+
+abbrev pub has_item : Text → List Item → Bool
+has_item id items = list_any (λ (x : Item). bytes_eq x.id id) items
+
+abbrev pub given_by : List Item → Given
+given_by items id = option_map (λ (x : Item). x.text) (find (λ (x : Item). bytes_eq x.id id) items)
+
+abbrev pub option_words : List Item → List Text
+option_words [] = []
+option_words (o ∷ more) = (codes "--" ++ o.id) ∷ o.text ∷ option_words more
+
+abbrev pub IsAmong : Text → List Text → Type 0
+IsAmong id [] = ⊥
+IsAmong id (known ∷ more) = (id ≡ known) ⊎ IsAmong id more
+
+-- each of the options has one of these names, a plain value, and a name that none has before it
+abbrev pub AreOptions : List Text → List Item → List Item → Type 0
+AreOptions known before [] = Unit {0}
+AreOptions known before (o ∷ more) =
+    IsAmong o.id known × IsTrue (is_plain o.text) × (has_item o.id before ≡ false) × AreOptions known (before ++ o ∷ []) more
+
+abbrev pub synth_options : List Text
+synth_options = codes "max" ∷ codes "entries" ∷ codes "workers" ∷ codes "kind" ∷ []
+
+abbrev pub bench_options : List Text
+bench_options = codes "workers" ∷ []
+
+abbrev pub item : Text → Text → Item
+item id text = record { id = id; text = text }
+
+-- words of the plain form ask for what they say
+pub record PlainWordsAreRead : Type 0 where
+  pub synth_words : (program spec : Text) (options : List Item) → IsTrue (is_plain spec) → AreOptions synth_options [] options →
+      settings_of (program ∷ codes "synth" ∷ spec ∷ option_words options) ≡ synth_asked (given_by (item (codes "spec") spec ∷ options))
+  pub check_words : (program spec certificate : Text) → IsTrue (is_plain spec) → IsTrue (is_plain certificate) →
+      settings_of (program ∷ codes "check" ∷ spec ∷ certificate ∷ []) ≡ Some (check spec certificate)
+  pub expand_words : (program spec : Text) → IsTrue (is_plain spec) →
+      settings_of (program ∷ codes "expand" ∷ spec ∷ []) ≡ Some (expand spec)
+  pub lasso_words : (program spec word : Text) → IsTrue (is_plain spec) → IsTrue (is_plain word) →
+      settings_of (program ∷ codes "lasso" ∷ spec ∷ word ∷ []) ≡ Some (lasso spec word)
+  pub gen_words : (program clients : Text) → IsTrue (is_plain clients) →
+      settings_of (program ∷ codes "gen" ∷ clients ∷ []) ≡ option_map gen (number_in 1 8 clients)
+  pub bench_words : (program clients : Text) (options : List Item) → IsTrue (is_plain clients) → AreOptions bench_options [] options →
+      settings_of (program ∷ codes "bench" ∷ clients ∷ option_words options) ≡ bench_asked (given_by (item (codes "clients") clients ∷ options))

@@ -1,0 +1,3 @@
+pub mod OfFormula
+pub mod OfText
+pub mod Laws

@@ -1,0 +1,42 @@
+-- The problems of both sides of a text, or its first fault of all: this project's profile of TLSF 1.1 and its order of refusals, in
+-- which the faults of normal forms and automata come last.
+use Rattle.std.specs.Prelude.{◌≡◌, ℕ, List, Option, length}
+use Rattle.letter_word.specs.declared.kinds.Kind.{Kind}
+use Rattle.ltl_formula.specs.declared.nodes.FormulaId.{FormulaId}
+use Rattle.ltl_formula.specs.declared.nodes.Node.{Node}
+use Rattle.ltl_formula.specs.Nodes.{tree_at}
+use Rattle.tlsf_tokens.specs.declared.code.SpecCode.{SpecCode}
+use Rattle.tlsf_reader.specs.Spec.{Spec}
+use Rattle.tlsf_reader.specs.Reads.{Reads}
+use Rattle.tlsf_expand.specs.Expansion.{Expanded}
+use Rattle.tlsf_expand.specs.Results.{KeepsMeaning}
+use Rattle.tlsf_expand.specs.TextSeen.{FlatText}
+use Rattle.flat_text.specs.FlatOf.{IsFlatFault, IsFlatOf}
+use Rattle.flat_text.specs.Plain.{text_of}
+use Rattle.spec_problems.specs.declared.sides.Interface.{Interface}
+use Rattle.spec_problems.specs.declared.sides.SideProblems.{SideProblems}
+use Rattle.spec_problems.specs.OfFormula.{AreProblemsIn, IsFormFault}
+
+-- what both problems of a text share
+abbrev pub interface_of : ℕ → Expanded → Interface
+interface_of version x = record { inputs = length x.inputs; outputs = length x.outputs; kind = x.kind; version = version }
+
+-- The text is this one, flat, in whose list the normal forms of the whole stand too, and these are the problems of the whole. A kind
+-- that is given stands for those that the text names.
+pub record AreProblemsOf (text : List ℕ) (kind : Option Kind) (version : ℕ) (spec : FlatText) (s : SideProblems) : Type 0 where
+  pub flat : FlatText
+  pub is_flat : IsFlatOf text kind flat
+  pub same : spec.expanded ≡ flat.expanded
+  pub problems : AreProblemsIn (interface_of version flat.expanded) (tree_at flat.formulas flat.expanded.whole) flat.formulas spec.formulas s
+
+-- the text's first fault: that of reading or expansion, and where it has a flat text, that of normal forms and automata
+pub data IsFirstFault (text : List ℕ) (kind : Option Kind) : SpecCode → ℕ → Type 0 where
+  of_text : (code : SpecCode) (place : ℕ) → IsFlatFault text kind code place → IsFirstFault text kind code place
+  of_problems : (flat : FlatText) (code : SpecCode) (place : ℕ) → IsFlatOf text kind flat
+      → IsFormFault (tree_at flat.formulas flat.expanded.whole) flat.formulas code place → IsFirstFault text kind code place
+
+-- the text has a tree, and a formula of a list holds on a lasso exactly where the tree means so
+pub record SaysWhat (text : List ℕ) (nodes : List Node) (whole : FormulaId) : Type 0 where
+  pub tree : Spec
+  pub read : Reads text tree
+  pub meaning : KeepsMeaning (text_of tree) nodes whole

@@ -1,0 +1,7 @@
+pub mod Places
+pub mod LogLemmas
+pub mod Sides
+pub mod Meaning
+pub mod Sizes
+pub mod Whole
+pub mod Fitting

@@ -1,0 +1,190 @@
+-- What a text's problems say of machines and of circuits.
+use Rattle.std.proofs.Common.{◌≡◌, ℕ, ◌≤◌, Bool, true, false, List, Option, Some, None, IfSome, length, refl, sym, ap, ◌∙◌, subst}
+use Rattle.letter_word.specs.declared.kinds.Kind.{Kind}
+use Rattle.letter_word.specs.declared.kinds.Side.{Side}
+use Rattle.letter_word.specs.declared.kinds.Side.TheVariants.{System, Environment}
+use Rattle.letter_word.specs.Kinds.{other_kind}
+use Rattle.ltl_formula.specs.Tree.{Tree}
+use Rattle.machine_model.specs.Accepts.{SideAccepts}
+use Rattle.machine_model.specs.Automaton.{AutomatonModel, IsAutomaton}
+use Rattle.machine_model.specs.Machine.{IsMachine, MachineModel, size_of}
+use Rattle.machine_model.specs.Problem.{IsMachineOf, IsProblem, automaton_of, reads_of, sized, writes_of}
+use Rattle.machine_model.specs.Run.{IsRunLasso}
+use Rattle.machine_model.specs.declared.problems.Problem.{Problem}
+use Rattle.annotation_encode.specs.Laws.{HasNoAccepted}
+use Rattle.aiger_text.specs.Circuit.{Circuit}
+use Rattle.dual_search.specs.Sides.{AcceptsWhere}
+use Rattle.tlsf_expand.specs.Expansion.{Expanded}
+use Rattle.tlsf_expand.specs.Meaning.{means}
+use Rattle.tlsf_expand.specs.TextSeen.{FlatText}
+use Rattle.tlsf_reader.specs.Spec.{Spec}
+use Rattle.flat_text.specs.Plain.{text_of}
+use Rattle.spec_problems.specs.declared.sides.SideProblems.{SideProblems}
+use Rattle.spec_problems.specs.OfFormula.{AreProblems, IsEnvironmentOver, IsProblemOver}
+use Rattle.spec_problems.specs.OfText.{AreProblemsOf, SaysWhat, interface_of}
+use Rattle.satisfaction.specs.Wanted.{Says, Wanted}
+use Rattle.satisfaction.specs.Satisfaction.{EachCanLose, IsEnvironmentFor, IsSystemFor, NoneSatisfies}
+use Rattle.size_search.specs.Decided.{IsAcceptedOf}
+use Rattle.synth_answer.specs.Answer.{DoesItsPart}
+use Rattle.synth_answer.specs.Holds.{read_by, written_by}
+use Rattle.synth_answer.specs.Printed.{IsWantedBy}
+use Rattle.synth_answer.specs.Reply.{AreProblemsFor, IsCircuitWith, IsProblemFor, LawsHold}
+use Rattle.synth_answer.proofs.Sides.{some_of}
+
+-- == what a text wants ==
+
+abbrev pub wanted_of : Expanded → Spec → Wanted
+wanted_of x tree = record { inputs = x.inputs; outputs = x.outputs; kind = x.kind; means = λ w. means w (text_of tree) }
+
+pub is_wanted : (text : List ℕ) (kind : Option Kind) (version : ℕ) (spec : FlatText) (s : SideProblems) (says : SaysWhat text spec.formulas spec.expanded.whole)
+    → AreProblemsOf text kind version spec s → IsWantedBy text kind (wanted_of spec.expanded says.tree)
+is_wanted text kind version spec s says are = record {
+  flat = are.flat;
+  is_flat = are.is_flat;
+  inputs = ap (λ x. x.inputs) are.same;
+  outputs = ap (λ x. x.outputs) are.same;
+  kind_is = ap (λ x. x.kind) are.same;
+  tree = says.tree;
+  read = says.read;
+  meaning = λ w. refl;
+}
+
+-- == its problems ==
+
+one_for : (x : Expanded) (side : Side) (machines : Kind) (a : AutomatonModel) (p : Problem) → IsProblem p → IsProblemOver (interface_of 2 x) side machines a p → IsProblemFor x side machines p
+one_for x side machines a p within over = record {
+  within = within;
+  inputs = over.inputs;
+  outputs = over.outputs;
+  of_side = over.side;
+  kind_is = over.kind;
+  version = over.version;
+}
+
+environment_for : (x : Expanded) (a : Option AutomatonModel) (e : Option Problem) → IsEnvironmentOver (interface_of 2 x) a e → IfSome e IsProblem
+    → (p : Problem) → e ≡ Some p → IsProblemFor x Environment (other_kind x.kind) p
+environment_for x None None over within p is = absurd (cc)
+environment_for x None (Some q) over within p is = absurd over
+environment_for x (Some a) None over within p is = absurd over
+environment_for x (Some a) (Some q) over within p is =
+    some_of (IsProblemFor x Environment (other_kind x.kind)) (Some q) p (one_for x Environment (other_kind x.kind) a q within over) is
+
+pub are_problems_for : (text : List ℕ) (kind : Option Kind) (spec : FlatText) (s : SideProblems) → AreProblems s → AreProblemsOf text kind 2 spec s → AreProblemsFor spec.expanded s
+are_problems_for text kind spec s meet are =
+    let over = are.problems.problems in
+    let flat : AreProblemsFor are.flat.expanded s = record {
+      of_system = one_for are.flat.expanded System are.flat.expanded.kind are.problems.automata.system s.system meet.is_system over.of_system;
+      of_environment = environment_for are.flat.expanded are.problems.automata.environment s.environment over.of_environment meet.is_environment;
+    } in
+    subst (λ x. AreProblemsFor x s) (sym are.same) flat
+
+-- == machines ==
+
+abbrev pub truth_of : Side → Bool
+truth_of System = false
+truth_of Environment = true
+
+abbrev pub kind_for : Side → Kind → Kind
+kind_for System kind = kind
+kind_for Environment kind = other_kind kind
+
+-- what is known of the problem of a side of a text
+pub record IsSideOf (x : Wanted) (f : Tree) (side : Side) (p : Problem) : Type 0 where
+  pub within : IsProblem p
+  pub of_side : p.side ≡ side
+  pub kind_is : p.kind ≡ kind_for side x.kind
+  pub inputs : p.inputs ≡ length x.inputs
+  pub outputs : p.outputs ≡ length x.outputs
+  pub automaton : IsAutomaton (automaton_of p)
+  pub accepts : AcceptsWhere (truth_of side) f (automaton_of p)
+
+pub reads_system : (p : Problem) → p.side ≡ System → reads_of p ≡ p.inputs
+reads_system p e = rw e refl
+
+pub writes_system : (p : Problem) → p.side ≡ System → writes_of p ≡ p.outputs
+writes_system p e = rw e refl
+
+pub reads_environment : (p : Problem) → p.side ≡ Environment → reads_of p ≡ p.outputs
+reads_environment p e = rw e refl
+
+pub writes_environment : (p : Problem) → p.side ≡ Environment → writes_of p ≡ p.inputs
+writes_environment p e = rw e refl
+
+pub sized_within : (p : Problem) (n : ℕ) → IsProblem p → 1 ≤ n → n ≤ 8 → IsProblem (sized p n)
+sized_within p n within some most = record {
+  inputs = within.inputs;
+  outputs = within.outputs;
+  some = some;
+  size = most;
+  states = within.states;
+  signals = within.signals;
+  version = within.version;
+}
+
+module _ (laws : LawsHold) (x : Wanted) (f : Tree) (says : Says f x) where
+  system_for : (p : Problem) (n : ℕ) (m : MachineModel) → IsSideOf x f System p → IsMachine m → IsMachineOf (sized p n) m → IsSystemFor x m
+  system_for p n m known made sought = record {
+    machine = made;
+    kind = sought.kind ∙ known.kind_is;
+    reads = sought.reads ∙ reads_system (sized p n) known.of_side ∙ known.inputs;
+    writes = sought.writes ∙ writes_system (sized p n) known.of_side ∙ known.outputs;
+  }
+
+  system_sought : (p : Problem) (m : MachineModel) → IsSideOf x f System p → IsSystemFor x m → IsMachineOf (sized p (size_of m)) m
+  system_sought p m known system = record {
+    kind = system.kind ∙ sym known.kind_is;
+    size = refl;
+    reads = system.reads ∙ sym known.inputs ∙ sym (reads_system (sized p (size_of m)) known.of_side);
+    writes = system.writes ∙ sym known.outputs ∙ sym (writes_system (sized p (size_of m)) known.of_side);
+  }
+
+  environment_for_text : (p : Problem) (n : ℕ) (m : MachineModel) → IsSideOf x f Environment p → IsMachine m → IsMachineOf (sized p n) m → IsEnvironmentFor x m
+  environment_for_text p n m known made sought = record {
+    machine = made;
+    kind = sought.kind ∙ known.kind_is;
+    reads = sought.reads ∙ reads_environment (sized p n) known.of_side ∙ known.outputs;
+    writes = sought.writes ∙ writes_environment (sized p n) known.of_side ∙ known.inputs;
+  }
+
+  environment_sought : (p : Problem) (m : MachineModel) → IsSideOf x f Environment p → IsEnvironmentFor x m → IsMachineOf (sized p (size_of m)) m
+  environment_sought p m known environment = record {
+    kind = environment.kind ∙ sym known.kind_is;
+    size = refl;
+    reads = environment.reads ∙ sym known.outputs ∙ sym (reads_environment (sized p (size_of m)) known.of_side);
+    writes = environment.writes ∙ sym known.inputs ∙ sym (writes_environment (sized p (size_of m)) known.of_side);
+  }
+
+  -- no machine of a refuted size satisfies
+  pub none_satisfies : (p : Problem) (n : ℕ) → IsSideOf x f System p → HasNoAccepted (sized p n) → NoneSatisfies x n
+  none_satisfies p n known none m size satisfies =
+      let system = satisfies.system in
+      let sought = subst (λ k. IsMachineOf (sized p k) m) size (system_sought p m known system) in
+      let accepted = (laws.systems x f (automaton_of p) m says known.accepts system).1 satisfies in
+      none.none (record {
+        machine = m;
+        made = system.machine;
+        looked_for = sought;
+        accepted = subst (λ side. SideAccepts (automaton_of p) side m) (sym known.of_side) accepted;
+      })
+
+  -- each machine of the environment of a refuted size can lose
+  pub each_can_lose : (p : Problem) (n : ℕ) → IsSideOf x f Environment p → HasNoAccepted (sized p n) → EachCanLose x n
+  each_can_lose p n known none e size environment =
+      let sought = subst (λ k. IsMachineOf (sized p k) e) size (environment_sought p e known environment) in
+      let rejected = none.each_rejected e environment.machine sought in
+      laws.can_lose x f (automaton_of p) e rejected.word says known.accepts
+      (rejected.states, subst (λ side. IsRunLasso e side rejected.word rejected.states) known.of_side rejected.run) rejected.accepted
+
+  -- the circuit of an accepted machine does its side's part
+  pub does_its_part : (side : Side) (p : Problem) (n : ℕ) (m : MachineModel) (c : Circuit) → IsSideOf x f side p → IsAcceptedOf (sized p n) m
+      → IsCircuitWith m (read_by side x.inputs x.outputs) (written_by side x.inputs x.outputs) c → DoesItsPart x side c
+  does_its_part System p n m c known accepted circuit =
+      let system = system_for p n m known accepted.machine accepted.looked_for in
+      let accepts = subst (λ side. SideAccepts (automaton_of p) side m) known.of_side accepted.accepted in
+      laws.circuits x m c ((laws.systems x f (automaton_of p) m says known.accepts system).0 accepts)
+      (record { kind = circuit.kind; runs = circuit.runs }) circuit.inputs circuit.outputs
+  does_its_part Environment p n m c known accepted circuit =
+      let environment = environment_for_text p n m known accepted.machine accepted.looked_for in
+      let accepts = subst (λ side. SideAccepts (automaton_of p) side m) known.of_side accepted.accepted in
+      laws.counters x m c ((laws.environments x f (automaton_of p) m says known.accepts environment).0 accepts)
+      (record { kind = circuit.kind; runs = circuit.runs }) circuit.inputs circuit.outputs

@@ -1,0 +1,33 @@
+use Rattle.std.proofs.lemmas.Result.{IfOk-weaker}
+use Rattle.tlsf_expand.specs.TextSeen.{spec_seen}
+use Rattle.synth_answer.specs.Reply.{IsReplyTo, IsSearchedReply}
+use Rattle.synth_answer.proofs.Fitting.{outcome_fits}
+use Rattle.synth_answer.proofs.answering.searched.Goals as goal
+
+pub search-requires-clause-environment : goal.search-requires-clause-environment
+search-requires-clause-environment g c κs within = λ p is.
+    let known = c.requires.problems.of_environment p is in
+    record { within = known.within; of_side = known.of_side; version = known.version }
+
+pub reply_to-requires : goal.reply_to-requires
+reply_to-requires g c =
+    let e = c.in_ok-outcome.ensures in
+    outcome_fits (spec_seen c.args.found.spec).expanded c.args.found.problems c.requires.problems c.args.settings c.requires.most_size c.sizes_rise.ensures c.in_ok-outcome.outcome e.real e.unreal e.bounded
+
+pub returns : goal.returns
+returns g c =
+    let e = c.in_ok-outcome.ensures in
+    IfOk-weaker c.reply_to.result
+    (λ r. IsReplyTo (spec_seen c.args.found.spec).expanded c.args.settings c.in_ok-outcome.outcome r.bytes.items r.status)
+    (λ r. IsSearchedReply (spec_seen c.args.found.spec).expanded c.args.found.problems c.args.settings r.bytes.items r.status)
+    (λ r reply. record {
+      automata = c.automata_are_kept.ensures;
+      outcome = c.in_ok-outcome.outcome;
+      real = e.real;
+      unreal = e.unreal;
+      bounded = e.bounded;
+      no_size = e.no_size;
+      no_entries = e.no_entries;
+      decisive = λ cannot. e.decisive cannot;
+      reply = reply;
+    }) c.reply_to.ensures

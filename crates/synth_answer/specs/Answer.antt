@@ -1,0 +1,113 @@
+-- The answers of `synth` to a text, each with its status (this project's own).
+use Rattle.std.specs.Prelude.{◌≡◌, ℕ, ◌<◌, ◌≤◌, List, Option, Some, Any, Contains}
+use Rattle.letter_word.specs.declared.kinds.Kind.{Kind}
+use Rattle.letter_word.specs.declared.kinds.Side.{Side}
+use Rattle.letter_word.specs.declared.kinds.Side.TheVariants.{System, Environment}
+use Rattle.aiger_text.specs.Circuit.{Circuit, HasStates, RunsOnEveryInput}
+use Rattle.tlsf_tokens.specs.declared.code.SpecCode.{SpecCode}
+use Rattle.spec_problems.specs.OfText.{IsFirstFault}
+use Rattle.satisfaction.specs.Wanted.{Wanted}
+use Rattle.satisfaction.specs.Satisfaction.{CircuitDefeats, CircuitSatisfies, EachCanLose, NoneSatisfies}
+use Rattle.synth_engine.specs.declared.settings.Settings.{Settings}
+use Rattle.synth_engine.specs.Outcomes.{CannotFill}
+use Rattle.cert_text.specs.declared.documents.Verdict.TheVariants.{Realizable, Unrealizable, Bounded, UnknownSizes, UnknownEntries}
+use Rattle.cert_text.specs.Order.{place}
+use Rattle.cert_text.specs.Parts.{Document, LogPart}
+use Rattle.program_replies.specs.Lines.{refusal_line}
+use Rattle.synth_answer.specs.Holds.{Given, IsClosedLog, IsEndedLog, IsFirstOpen, IsFullLog, place_of, sizes_of}
+use Rattle.synth_answer.specs.Printed.{Printed, given_by}
+
+-- == sizes without a machine ==
+
+-- a log of this side and size stands in the document, of which something holds
+pub record HasLog (d : Document) (side : Side) (n : ℕ) (P : LogPart → Type 0) : Type 0 where
+  pub log : LogPart
+  pub stands : Contains d.logs log
+  pub is_at : place_of log ≡ place side n
+  pub holds : P log
+
+-- no machine of the system of n states satisfies, as a closed log over the text's base clauses shows
+pub record IsRefuted (x : Wanted) (given : Given) (d : Document) (n : ℕ) : Type 0 where
+  pub log : HasLog d System n (IsClosedLog given d.entries)
+  pub none : NoneSatisfies x n
+
+-- each machine of the environment of n states can lose, as a closed log over the text's base clauses shows
+pub record CanBeBeaten (x : Wanted) (given : Given) (d : Document) (n : ℕ) : Type 0 where
+  pub log : HasLog d Environment n (IsClosedLog given d.entries)
+  pub each : EachCanLose x n
+
+-- == the circuit of a side, read back ==
+
+-- what its side owes to the text
+abbrev pub DoesItsPart : Wanted → Side → Circuit → Type 0
+DoesItsPart x System c = CircuitSatisfies x c
+DoesItsPart x Environment c = CircuitDefeats x c
+
+-- == each answer with a document ==
+
+-- a circuit of exactly n states that satisfies, and no machine of fewer states does
+pub record IsRealizable (x : Wanted) (given : Given) (d : Document) (n : ℕ) (c : Circuit) : Type 0 where
+  pub verdict : d.verdict ≡ Realizable n
+  pub circuit : d.circuit ≡ Some c
+  pub satisfies : CircuitSatisfies x c
+  pub runs : RunsOnEveryInput System c
+  pub states : HasStates c n
+  pub smaller : (k : ℕ) → 0 < k → k < n → IsRefuted x given d k
+
+-- a circuit of the environment of exactly n states that defeats every machine, and no machine of fewer states does
+pub record IsUnrealizable (x : Wanted) (given : Given) (d : Document) (n : ℕ) (c : Circuit) : Type 0 where
+  pub verdict : d.verdict ≡ Unrealizable n
+  pub circuit : d.circuit ≡ Some c
+  pub defeats : CircuitDefeats x c
+  pub runs : RunsOnEveryInput Environment c
+  pub states : HasStates c n
+  pub smaller : (k : ℕ) → 0 < k → k < n → CanBeBeaten x given d k
+
+-- a circuit of a side of at most n states, and not all smaller sizes are refuted: a log is full, which the limit allows
+pub record IsBounded (x : Wanted) (given : Given) (settings : Settings) (d : Document) (side : Side) (n : ℕ) (c : Circuit) : Type 0 where
+  pub verdict : d.verdict ≡ Bounded side n
+  pub circuit : d.circuit ≡ Some c
+  pub does : DoesItsPart x side c
+  pub runs : RunsOnEveryInput side c
+  pub count : ℕ
+  pub few : count ≤ n
+  pub states : HasStates c count
+  pub smaller : (k : ℕ) → 0 < k → k < n → HasLog d side k (IsEndedLog given d.entries)
+  pub full : Any (IsFullLog given d.entries) d.logs
+  pub can_fill : CannotFill given.system given.environment settings → ⊥
+
+-- no machine of an allowed size of either side
+pub record HasNoSize (x : Wanted) (given : Given) (d : Document) : Type 0 where
+  pub verdict : d.verdict ≡ UnknownSizes
+  pub system : (k : ℕ) → 0 < k → k ≤ sizes_of given d.max System → IsRefuted x given d k
+  pub environment : (k : ℕ) → 0 < k → k ≤ sizes_of given d.max Environment → CanBeBeaten x given d k
+
+-- no machine was found, and the named log is full, and the first that isn't closed, which the limit allows
+pub record HasNoEntries (given : Given) (settings : Settings) (d : Document) (side : Side) (n : ℕ) : Type 0 where
+  pub verdict : d.verdict ≡ UnknownEntries side n
+  pub named : IsFirstOpen given d.entries (place side n) d.logs
+  pub system : (k : ℕ) → 0 < k → k ≤ sizes_of given d.max System → HasLog d System k (IsEndedLog given d.entries)
+  pub environment : (k : ℕ) → 0 < k → k ≤ sizes_of given d.max Environment → HasLog d Environment k (IsEndedLog given d.entries)
+  pub can_fill : CannotFill given.system given.environment settings → ⊥
+
+-- == the answer ==
+
+-- what of a printed document holds for the text, with what it wants and gives
+abbrev pub OfPrinted : {text : List ℕ} {kind : Option Kind} {settings : Settings} {bytes : List ℕ}
+    → (Wanted → Given → Document → Type 0) → Printed text kind settings bytes → Type 0
+OfPrinted P p = P p.wanted (given_by p.spec p.problems) p.document
+
+-- The bytes and the status that answer a text: the line of its first fault, or a document for it.
+pub data Answers (text : List ℕ) (kind : Option Kind) (settings : Settings) (bytes : List ℕ) (status : ℕ) : Type 0 where
+  refused : (code : SpecCode) (position : ℕ) → status ≡ 1 → IsFirstFault text kind code position → bytes ≡ refusal_line code position
+      → Answers text kind settings bytes status
+  realizable : (p : Printed text kind settings bytes) (n : ℕ) (c : Circuit) → status ≡ 10
+      → OfPrinted (λ x given d. IsRealizable x given d n c) p → Answers text kind settings bytes status
+  unrealizable : (p : Printed text kind settings bytes) (n : ℕ) (c : Circuit) → status ≡ 20
+      → OfPrinted (λ x given d. IsUnrealizable x given d n c) p → Answers text kind settings bytes status
+  bounded : (p : Printed text kind settings bytes) (side : Side) (n : ℕ) (c : Circuit) → status ≡ 11
+      → OfPrinted (λ x given d. IsBounded x given settings d side n c) p → Answers text kind settings bytes status
+  no_size : (p : Printed text kind settings bytes) → status ≡ 30
+      → OfPrinted (λ x given d. HasNoSize x given d) p → Answers text kind settings bytes status
+  no_entries : (p : Printed text kind settings bytes) (side : Side) (n : ℕ) → status ≡ 30
+      → OfPrinted (λ x given d. HasNoEntries given settings d side n) p → Answers text kind settings bytes status

@@ -1,0 +1,4 @@
+pub mod Holds
+pub mod Printed
+pub mod Answer
+pub mod Reply

@@ -1,0 +1,72 @@
+//! Documents of version 3 over the logs of a search.
+ghost use Rattle.std.specs.Prelude.{◌≡◌, ◌<◌, ◌^◌, All, IfOk, length, map};
+ghost use Rattle.synth_answer.specs.Reply.{IsShort, IsTextOf, part_of as part_seen};
+
+use aiger_text::Circuit;
+use cert_text::{Document, LogPart, Verdict, write_document};
+use letter_word::Kind;
+use size_search::SizeLog;
+use std::alloc::{AllocError, Global};
+use synth_engine::Settings;
+
+/// The text of a document with these settings.
+pub fn document_text(
+    alloc: Global,
+    kind: Kind,
+    settings: Settings,
+    verdict: Verdict,
+    circuit: Option<Circuit>,
+    logs: Vec<SizeLog>,
+) -> Result<Vec<u8>, AllocError>
+    ensures { IfOk result (λ bytes. IsTextOf kind settings verdict circuit logs.items bytes.items) }
+{
+    let document = Document {
+        version: 3,
+        verdict,
+        kind,
+        max: settings.max,
+        entries: settings.entries,
+        found: 0,
+        circuit,
+        logs: parts_of(alloc, logs)?,
+        name_lines: Vec::new(alloc),
+        comment_line: 0,
+        verdict_line: 0,
+    };
+    let mut bytes = Vec::new(alloc);
+    write_document(&document, &mut bytes)?;
+    Ok(bytes)
+}
+
+fn parts_of(alloc: Global, logs: Vec<SizeLog>) -> Result<Vec<LogPart>, AllocError>
+    ensures parts { IfOk result (λ parts. parts.items ≡ map part_seen logs.items) }
+    ensures short { IfOk result (λ parts. All IsShort logs.items) }
+{
+    let mut parts = Vec::new(alloc);
+    for log in logs {
+        parts.push(part_of(log)?)?;
+    }
+    Ok(parts)
+}
+
+fn part_of(log: SizeLog) -> Result<LogPart, AllocError>
+    ensures part { IfOk result (λ part. part ≡ part_seen log) }
+    ensures short { IfOk result (λ part. IsShort log) }
+{
+    let SizeLog {
+        side,
+        size,
+        vars,
+        base,
+        log,
+    } = log;
+    let _count = log.entries();
+    Ok(LogPart {
+        side,
+        size,
+        vars,
+        base,
+        entries: log.into_entries()?,
+        line: 0,
+    })
+}

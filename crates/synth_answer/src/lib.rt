@@ -1,0 +1,14 @@
+//! The answer of `synth`: from the bytes of a text to the bytes of a document and a status.
+//!
+//! The contract above this layer: `answer` gives what `Answers` says of the text. It is the line of the text's first fault, or a
+//! document that holds for the text, whose circuit, read back, does what its status says, with logs over the text's base clauses.
+//! It stands on spec_problems for the problems of a text, on synth_engine for the search, on gate_build for circuits, on cert_text
+//! for documents and on satisfaction for what machines and circuits owe to a text.
+#![tactic(auto)]
+
+mod answering;
+mod documents;
+mod facts;
+mod outcomes;
+
+pub use answering::answer;

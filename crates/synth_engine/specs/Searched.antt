@@ -1,0 +1,16 @@
+use Rattle.std.specs.Prelude.{◌≡◌, ℕ, Option}
+use Rattle.std.specs.Option.{option_map_or}
+use Rattle.letter_word.specs.declared.kinds.Side.{Side}
+use Rattle.machine_model.specs.Problem.{IsProblem}
+use Rattle.machine_model.specs.declared.problems.Problem.{Problem}
+use Rattle.annotation_encode.specs.Count.{allowed_sizes}
+
+-- A problem of this side whose sizes are searched, over base clauses of version 2 (this project's own).
+pub record IsSearched (side : Side) (p : Problem) : Type 0 where
+  pub within : IsProblem p
+  pub of_side : p.side ≡ side
+  pub version : p.version ≡ 2
+
+-- the number of allowed sizes of a side, none where it has no problem
+abbrev pub allowed_of : ℕ → Option Problem → ℕ
+allowed_of max problem = option_map_or (λ p. allowed_sizes p max) problem 0

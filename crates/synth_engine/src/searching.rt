@@ -1,0 +1,68 @@
+//! The search.
+ghost use Rattle.std.specs.Prelude.{◌≡◌, ◌≤◌, Some, IfOk};
+ghost use Rattle.std.specs.Option.{ForSome};
+ghost use Rattle.letter_word.specs.declared.kinds.Side.TheVariants.{System, Environment};
+ghost use Rattle.synth_engine.specs.Searched.{IsSearched};
+ghost use Rattle.synth_engine.specs.Outcomes.{CannotFill, ClosedRefute, HasNoEntries, HasNoSize, IsBounded, IsDecisive, IsSmallest, OfSide, OnBounded, OnNoEntries, OnNoSize, OnReal, OnUnreal, logs_of};
+
+use crate::concluding::conclude;
+use crate::crews::seats_by_side;
+use crate::outcomes::Outcome;
+use crate::plans::Plan;
+use crate::settings::Settings;
+use crate::settling::Unsettled;
+use crate::workers::run_workers;
+use machine_model::Problem;
+use outside_edge::Gate;
+use std::alloc::{AllocError, Global};
+use std::marker::Brand;
+use std::sync::Wait;
+use std::thread::Threads;
+
+/// Searches the allowed sizes of both sides, until one side has a machine whose smaller sizes are all decided, or all sizes are. The
+/// `size` of the problems isn't used.
+///
+/// It waits for the workers, each of which passes the gate at three moments of its turns. The error is want of memory of the caller
+/// itself; a worker that wants memory ends, and the others and the caller do its work.
+pub fn search<R: Threads + Wait + Sync, G: Gate + Sync>(
+    rt: &R,
+    alloc: Global,
+    system: Problem,
+    environment: Option<Problem>,
+    settings: Settings,
+    gate: &G,
+) -> Result<Outcome, AllocError>
+    requires some_size { 1 ≤ settings.max }
+    requires most_size { settings.max ≤ 8 }
+    requires workers { settings.workers ≤ 8 }
+    requires system { IsSearched System system }
+    requires environment { ForSome environment (IsSearched Environment) }
+    ensures real { IfOk result (OnReal (IsSmallest system settings)) }
+    ensures unreal { IfOk result (OnUnreal (λ machine logs. OfSide system environment (λ p. IsSmallest p settings machine logs) Environment)) }
+    ensures bounded { IfOk result (OnBounded (λ side machine logs. OfSide system environment (λ p. IsBounded p settings machine logs) side)) }
+    ensures no_size { IfOk result (OnNoSize (HasNoSize system environment settings)) }
+    ensures no_entries { IfOk result (OnNoEntries (HasNoEntries system environment settings)) }
+    ensures refuted { IfOk result (λ outcome. ClosedRefute system environment settings (logs_of outcome)) }
+    ensures decisive { CannotFill system environment settings → IfOk result IsDecisive }
+{
+    let plan = Plan::new(system, environment, settings.max);
+    let field = plan.open(alloc, settings)?;
+    let (sizes, mut crews) = field.hand_out(alloc, settings.workers)?;
+    let Some(mut own) = crews.pop() else {
+        unreachable!()
+    };
+    let (winner, mut crews) = run_workers::<Brand, R, G>(
+        rt, alloc, plan, &sizes, &mut own, crews, gate,
+    )?;
+    crews.push(own)?;
+    let (of_system, of_environment) = seats_by_side(alloc, crews)?;
+    let system = Unsettled {
+        tasks: sizes.system,
+        crews: of_system,
+    };
+    let environment = Unsettled {
+        tasks: sizes.environment,
+        crews: of_environment,
+    };
+    conclude(rt, alloc, winner, system, environment)
+}

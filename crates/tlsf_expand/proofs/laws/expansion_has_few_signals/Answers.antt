@@ -1,0 +1,5 @@
+use Rattle.tlsf_expand.proofs.SignalsOfTexts.{expansion_has_few_signals as law}
+use Rattle.tlsf_expand.proofs.laws.expansion_has_few_signals.Goals as goal
+
+pub returns : goal.returns
+returns c = law
