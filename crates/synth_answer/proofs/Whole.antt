@@ -58,7 +58,7 @@ use Rattle.synth_answer.proofs.Held.{AreAsWanted, AreOfKind, HasHeadOf, HasNames
 use Rattle.synth_answer.specs.Printed.{IsPrinted, Printed, given_by}
 use Rattle.synth_answer.specs.Reply.{AreProblemsFor, HaveAutomata, IsCircuitWith, IsMachineText, IsShort, IsReplyTo, IsSearchedReply, IsTextOf, LawsHold, document_of, part_of}
 use Rattle.synth_answer.proofs.LogLemmas.{IsOfNoLine, all_parts_at, any_at, places_at, split_at}
-use Rattle.synth_answer.proofs.Meaning.{IsSideOf, are_problems_for, does_its_part, each_can_lose, is_wanted, none_satisfies, sized_within, wanted_of}
+use Rattle.synth_answer.proofs.Meaning.{IsSideOf, are_problems_for, does_its_part, each_can_lose, is_wanted, none_satisfies, problems_by_its_kind, sized_within, wanted_of}
 use Rattle.synth_answer.proofs.Places.{IsClaimTo, claims_to, has_place, in_order_all, in_order_side, log_at, parts_at, parts_at_both, unmap}
 use Rattle.synth_answer.proofs.Sides.{IsOf, all_both, all_map, all_three, at_side, find, of_side, on_both, on_side, out_of, some_of}
 use Rattle.synth_answer.proofs.Sizes.{few_clauses, few_variables}
@@ -285,6 +285,7 @@ module _ (text : List ℕ) (kind : Option Kind) (settings : Settings) (spec : Fl
   printed v c logs bytes suits writable made = record {
     states = made.stated (well_formed v c logs suits made.short) writable;
     holds = holds_for v c logs suits;
+    no_bad_line = λ n bad. k.laws.bad_lines.holding_has_none given bytes (doc v c logs) n (made.stated (well_formed v c logs suits made.short) writable) (holds_for v c logs suits) bad;
     version = refl;
     max = refl;
     entries = refl;
@@ -302,6 +303,7 @@ module _ (text : List ℕ) (kind : Option Kind) (settings : Settings) (spec : Fl
     problems = s;
     are_problems = k.are;
     document = doc v c logs;
+    by_its_kind = problems_by_its_kind text kind spec s k.are;
     is_printed = is_printed;
   }
 
