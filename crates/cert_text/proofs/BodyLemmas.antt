@@ -1,12 +1,12 @@
 -- The lines behind a circuit, or without one.
-use Rattle.std.proofs.Common.{◌≡◌, ℕ, ◌+◌, ◌≤◌, Bool, true, false, Option, Some, None, List, [], ◌++◌, length, refl, sym, ap, subst, ◌∙◌, arith}
+use Rattle.std.proofs.Common.{◌≡◌, ℕ, ◌+◌, ◌≤◌, Bool, true, false, Option, Some, None, List, [], length, refl, sym, ap, subst, ◌∙◌, arith}
 use Rattle.std.specs.Prelude.{is_some}
 use Rattle.std.proofs.lemmas.List.{length-append}
 use Rattle.cert_text.specs.declared.order.Order.{Order}
 use Rattle.cert_text.specs.Order.{start_of}
 use Rattle.cert_text.specs.Header.{HeaderRead, header_of}
 use Rattle.cert_text.specs.Logs.{LogsRead, ReadsLogs}
-use Rattle.cert_text.specs.Reading.{BodyRead, ReadsBody, of_header, line_count, order_in}
+use Rattle.cert_text.specs.Reading.{ReadsBody, of_header, line_count, order_in}
 use Rattle.cert_text.proofs.HeaderWhole.{good_header, lines_text}
 use Rattle.cert_text.proofs.ReadingLemmas.{body_reads}
 

@@ -1,17 +1,14 @@
 -- Where a circuit's comment stands: its line and its bytes are no more than the file's bytes.
-use Rattle.std.proofs.Common.{◌≡◌, ℕ, ◌+◌, ◌-◌, ◌≤◌, Bool, true, false, ◌&&◌, cond, Option, Some, None, List, [], ◌∷◌, ◌++◌, length, take, drop, refl, sym, ap, subst, ◌∙◌, arith, nat_eq}
+use Rattle.std.proofs.Common.{◌≡◌, ℕ, ◌+◌, ◌-◌, ◌≤◌, Bool, true, false, cond, Option, Some, None, List, [], ◌∷◌, ◌++◌, length, drop, refl, sym, ap, subst, ◌∙◌, arith}
 use Rattle.std.specs.Prelude.{Result, Ok, Err, option_map, codes, unwrap_or, IfSome}
-use Rattle.std.specs.List.{slice_split, join_with_byte, onto_first}
-use Rattle.std.specs.Cmp.Lexicographic.{pointwise}
+use Rattle.std.specs.List.{join_with_byte, onto_first}
 use Rattle.std.specs.Str.{bytes_eq}
 use Rattle.std.proofs.lemmas.List.{length-append, length-drop}
 use Rattle.std.proofs.lemmas.List.Splits.{join_with_byte-slice_split}
 use Rattle.aiger_text.specs.declared.faults.CircuitFault.{CircuitFault}
 use Rattle.aiger_text.specs.declared.faults.CircuitFault.TheVariants.{BadHeader, BadLine}
-use Rattle.aiger_text.specs.Words.{is_byte}
-use Rattle.aiger_text.specs.CircuitFile.{File, States, Draft, Body, Names, Ending, Parts, lines_of, and_then, on_line, is_whole, is_nil, with_line, body_from, ending_from, with_symbol, symbol_in, no_names, no_lines, parts_behind, parts_of_lines, parts_of, counts_in, header_of, file_of}
+use Rattle.aiger_text.specs.CircuitFile.{File, States, Draft, Body, Names, Ending, Parts, lines_of, and_then, on_line, is_whole, is_nil, with_line, body_from, ending_from, with_symbol, symbol_in, no_names, no_lines, parts_behind, parts_of_lines, parts_of, counts_in, header_of}
 use Rattle.aiger_text.proofs.Scanning.{HasPiece, has_piece}
-use Rattle.cert_text.specs.Header.{behind}
 use Rattle.cert_text.specs.Reading.{begins_without_circuit}
 use Rattle.cert_text.proofs.LineRead.{behind_is}
 
@@ -59,7 +56,7 @@ last_by names n most e false is = absurd (cc)
 more_by : (names : Names) (n : ℕ) (line next : List ℕ) (rest : List (List ℕ)) (e : Ending) (b : Bool)
     → ((more : Names) → ending_from more (n + 1) (next ∷ rest) ≡ Ok e → Fits (n + 1 + size (next ∷ rest)) e.line e.comment)
     → cond b (fine (record { names = names; line = n; comment = Some (join_with_byte 10 (next ∷ rest)) }))
-        (and_then (λ more. ending_from more (n + 1) (next ∷ rest)) (with_symbol names n (symbol_in names line))) ≡ Ok e
+    (and_then (λ more. ending_from more (n + 1) (next ∷ rest)) (with_symbol names n (symbol_in names line))) ≡ Ok e
     → Fits (n + size (line ∷ next ∷ rest)) e.line e.comment
 more_by names n line next rest e true later is =
     let s = size_more line next rest in
@@ -161,7 +158,7 @@ comment_within bytes file at states is = at_by bytes at states.parts.ending.comm
 no_circuit : (tail : List ℕ) → HasPiece (lines_of tail) → parts_of (codes "boundsyn " ++ tail) ≡ Err (BadHeader 1)
 no_circuit tail has =
     ap (λ (ps : List (List ℕ)). parts_of_lines (length (codes "boundsyn " ++ tail) + 1)
-        (onto_first 98 (onto_first 111 (onto_first 117 (onto_first 110 (onto_first 100 (onto_first 115 (onto_first 121 (onto_first 110 (onto_first 32 ps)))))))))) has.are
+    (onto_first 98 (onto_first 111 (onto_first 117 (onto_first 110 (onto_first 100 (onto_first 115 (onto_first 121 (onto_first 110 (onto_first 32 ps)))))))))) has.are
 
 begins_by : (bytes : List ℕ) (parts : Parts) (b : Bool) → begins_without_circuit bytes ≡ b → parts_of bytes ≡ Ok parts → b ≡ false
 begins_by bytes parts true e is =

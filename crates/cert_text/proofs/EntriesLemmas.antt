@@ -1,11 +1,9 @@
 -- The first entries of a text.
-use Rattle.std.proofs.Common.{◌≡◌, ◌≢◌, ℕ, suc, ◌+◌, ◌-◌, ◌<◌, ◌≤◌, List, [], ◌∷◌, ◌++◌, length, take, drop, refl, sym, ap, subst, ◌∙◌, arith, append_assoc, decimal}
-use Rattle.std.specs.Prelude.{All, flat_map}
-use Rattle.std.proofs.lemmas.List.{append-nil, append_cancel_left, length-append, length-drop, take_all}
-use Rattle.std.proofs.lemmas.List.Elements.{All-cons}
+use Rattle.std.proofs.Common.{◌≡◌, ℕ, suc, ◌+◌, ◌-◌, ◌<◌, ◌≤◌, List, [], ◌∷◌, ◌++◌, length, take, drop, refl, sym, ap, subst, ◌∙◌, arith, append_assoc}
+use Rattle.std.proofs.lemmas.List.{append-nil, length-append, length-drop, take_all}
 use Rattle.std.proofs.Math.Seq.{drop-append_seam}
 use Rattle.refutation_log.specs.declared.entries.Entry.{Entry}
-use Rattle.refutation_log.specs.Text.{entry_line, log_text, IsWritable}
+use Rattle.refutation_log.specs.Text.{entry_line, log_text}
 use Rattle.refutation_log.specs.Read.{StatesEntry, StatesEntries, IsReadAs, IsBadLine, IsTooShort}
 use Rattle.refutation_log.proofs.Words.{entry_same}
 use Rattle.cert_text.specs.Logs.{NoEntry, AreFirstEntries}
@@ -100,6 +98,7 @@ first_same vars count bytes xs ys r s h g = as_many vars bytes xs ys r s h.state
         let most = b.at_most in
         let le = no_more vars bytes zs ws t u a.stated (a.stop (omega arith)) b.stated in
         omega (arith, le)
+
     n : length xs ≡ length ys
     n = grind (arith, fewer xs ys r s h g, fewer ys xs s r g h)
 

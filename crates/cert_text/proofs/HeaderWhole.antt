@@ -1,5 +1,5 @@
 -- A header as a whole: it has no bad line exactly where its text stands there.
-use Rattle.std.proofs.Common.{◌≡◌, ℕ, zero, suc, ◌+◌, ◌-◌, ◌^◌, ◌<◌, ◌≤◌, Bool, true, false, ◌&&◌, cond, Option, Some, None, List, [], ◌∷◌, ◌++◌, refl, sym, ap, subst, ◌∙◌, arith, decimal, append_assoc, inl, inr, ◌⊎◌}
+use Rattle.std.proofs.Common.{◌≡◌, ℕ, zero, suc, ◌+◌, ◌^◌, ◌<◌, ◌≤◌, Bool, true, false, ◌&&◌, cond, Option, Some, None, List, [], ◌∷◌, ◌++◌, refl, sym, ap, subst, ◌∙◌, arith, decimal, append_assoc, inl, inr}
 use Rattle.std.specs.Prelude.{option_map, option_and_then, codes, unwrap_or, nat_le, IfSome}
 use Rattle.std.specs.List.{list_all}
 use Rattle.std.specs.Str.{bytes_eq}
@@ -9,7 +9,6 @@ use Rattle.std.proofs.lemmas.Bool.{le-leb, leb-true}
 use Rattle.std.proofs.lemmas.List.{append_cancel_left}
 use Rattle.letter_word.specs.declared.kinds.Kind.{Kind}
 use Rattle.letter_word.specs.declared.kinds.Kind.TheVariants.{Mealy, Moore}
-use Rattle.letter_word.specs.declared.kinds.Side.{Side}
 use Rattle.aiger_text.specs.Words.{number_within}
 use Rattle.aiger_text.specs.CircuitText.{text_of_lines}
 use Rattle.aiger_text.proofs.Numbers.{Lacks, both, all_digits, number_within-decimal}
@@ -18,9 +17,9 @@ use Rattle.cert_text.specs.declared.documents.Verdict.TheVariants.{Realizable, U
 use Rattle.cert_text.specs.declared.header.Header.{Header}
 use Rattle.cert_text.specs.Lines.{version_line, verdict_line, kind_line, max_line, entries_line, found_lines}
 use Rattle.cert_text.specs.Order.{fits_max, fits_version, has_its_place, is_in_range, may_tell_found}
-use Rattle.cert_text.specs.Header.{HeaderRead, entries_in, found_at, found_in, front, header_of, in_range, kind_in, max_in, on_entries, on_found, on_kind, on_max, on_verdict, on_version, verdict_in, version_in, behind}
+use Rattle.cert_text.specs.Header.{entries_in, found_at, found_in, front, header_of, kind_in, max_in, on_entries, on_found, on_kind, on_max, on_verdict, on_version, verdict_in, version_in, behind}
 use Rattle.cert_text.specs.WellFormed.{IsFoundNumber}
-use Rattle.cert_text.proofs.LineRead.{range_is, range_read, follows_words, words_read, number_is, front_is, front_read, front_none, text_lacks, words_lack}
+use Rattle.cert_text.proofs.LineRead.{range_is, range_read, follows_words, words_read, number_is, front_is, front_read, text_lacks, words_lack}
 use Rattle.cert_text.proofs.VerdictRead.{number_in, any_verdict_is, verdict_parts, verdict_read, verdict_lacks}
 use Rattle.cert_text.proofs.HeadRead.{last_step}
 
@@ -56,7 +55,7 @@ entries_read (Some n) within =
     never_none n (omega arith) (bytes_eq (codes "entries " ++ decimal n) (codes "entries none")) refl in
     ap (λ b. cond b (Some None) (option_and_then (λ word. option_map (λ n. Some n) (number_within 250000 word)) (behind (codes "entries ") (codes "entries " ++ decimal n)))) other
     ∙ words_read (codes "entries ") (decimal n) (λ word. option_map (λ n. Some n) (number_within 250000 word)) (Some n)
-      (ap (option_map (λ n. Some n)) (number_within-decimal n (omega arith) 250000 within))
+    (ap (option_map (λ n. Some n)) (number_within-decimal n (omega arith) 250000 within))
 
 pub record IsEntries (line : List ℕ) (entries : Option ℕ) : Type 0 where
   pub line_is : line ≡ entries_line entries
@@ -191,11 +190,11 @@ header_steps circuit first b0 b1 b2 b3 b4 b5 rest v r k m e f e0 e1 place e2 e3 
     ap (on_version circuit first) e0
     ∙ ap (on_verdict (record { version = Some v; verdict = None; kind = None; max = None; entries = None; found = 0; bad = None }) circuit first v) e1
     ∙ ap (λ b. cond b (on_kind (record { version = Some v; verdict = Some r; kind = None; max = None; entries = None; found = 0; bad = None }) first v r (front kind_in b2))
-        (record { header = record { version = Some v; verdict = Some r; kind = None; max = None; entries = None; found = 0; bad = Some (first + 1) }; rest = [] })) place
+    (record { header = record { version = Some v; verdict = Some r; kind = None; max = None; entries = None; found = 0; bad = Some (first + 1) }; rest = [] })) place
     ∙ ap (on_kind (record { version = Some v; verdict = Some r; kind = None; max = None; entries = None; found = 0; bad = None }) first v r) e2
     ∙ ap (on_max (record { version = Some v; verdict = Some r; kind = Some k; max = None; entries = None; found = 0; bad = None }) first v r) e3
     ∙ ap (λ b. cond b (on_entries (record { version = Some v; verdict = Some r; kind = Some k; max = Some m; entries = None; found = 0; bad = None }) first v r m (front entries_in b4))
-        (record { header = record { version = Some v; verdict = Some r; kind = Some k; max = Some m; entries = None; found = 0; bad = Some (first + 1) }; rest = [] })) fits
+    (record { header = record { version = Some v; verdict = Some r; kind = Some k; max = Some m; entries = None; found = 0; bad = Some (first + 1) }; rest = [] })) fits
     ∙ ap (on_entries (record { version = Some v; verdict = Some r; kind = Some k; max = Some m; entries = None; found = 0; bad = None }) first v r m) e4
     ∙ found
 
@@ -342,14 +341,14 @@ header_read circuit first v r k m e f rest ranges other =
     let b0 : List ℕ = text_of_lines (version_line v ∷ verdict_line r ∷ kind_line k ∷ max_line m ∷ entries_line e ∷ []) ++ b5 in
     ap (header_of circuit first) (append_assoc (text_of_lines (version_line v ∷ verdict_line r ∷ kind_line k ∷ max_line m ∷ entries_line e ∷ [])) (text_of_lines (found_lines f)) rest)
     ∙ header_steps circuit first b0 b1 b2 b3 b4 b5 rest v r k m e f
-      (ap (front version_in) (sym (first_line (version_line v) (verdict_line r ∷ kind_line k ∷ max_line m ∷ entries_line e ∷ []) b5))
-      ∙ front_read version_in (version_line v) b1 v (text_lacks (codes "boundsyn ") v (words_lack (codes "boundsyn ") refl) (omega arith)) (range_read (codes "boundsyn ") 1 3 v (omega arith) v_in.0 v_in.1))
-      (ap (front (verdict_in v)) (sym (first_line (verdict_line r) (kind_line k ∷ max_line m ∷ entries_line e ∷ []) b5))
-      ∙ front_read (verdict_in v) (verdict_line r) b2 r (verdict_lacks r (omega arith)) (verdict_read v r (omega arith) ranges.fits))
-      ranges.its_place
-      (ap (front kind_in) (sym (first_line (kind_line k) (max_line m ∷ entries_line e ∷ []) b5)) ∙ front_read kind_in (kind_line k) b3 k (kind_lacks k) (kind_read k))
-      (ap (front max_in) (sym (first_line (max_line m) (entries_line e ∷ []) b5))
-      ∙ front_read max_in (max_line m) b4 m (text_lacks (codes "max ") m (words_lack (codes "max ") refl) (omega arith)) (range_read (codes "max ") 1 8 m (omega arith) m_in.0 m_in.1))
-      ranges.number
-      (ap (front entries_in) (sym (first_line (entries_line e) [] b5)) ∙ front_read entries_in (entries_line e) b5 e (entries_lacks e ranges.within) (entries_read e ranges.within))
-      (found_read v r k m e (may_tell_found v r) f rest (omega arith) ranges.found_number other)
+    (ap (front version_in) (sym (first_line (version_line v) (verdict_line r ∷ kind_line k ∷ max_line m ∷ entries_line e ∷ []) b5))
+    ∙ front_read version_in (version_line v) b1 v (text_lacks (codes "boundsyn ") v (words_lack (codes "boundsyn ") refl) (omega arith)) (range_read (codes "boundsyn ") 1 3 v (omega arith) v_in.0 v_in.1))
+    (ap (front (verdict_in v)) (sym (first_line (verdict_line r) (kind_line k ∷ max_line m ∷ entries_line e ∷ []) b5))
+    ∙ front_read (verdict_in v) (verdict_line r) b2 r (verdict_lacks r (omega arith)) (verdict_read v r (omega arith) ranges.fits))
+    ranges.its_place
+    (ap (front kind_in) (sym (first_line (kind_line k) (max_line m ∷ entries_line e ∷ []) b5)) ∙ front_read kind_in (kind_line k) b3 k (kind_lacks k) (kind_read k))
+    (ap (front max_in) (sym (first_line (max_line m) (entries_line e ∷ []) b5))
+    ∙ front_read max_in (max_line m) b4 m (text_lacks (codes "max ") m (words_lack (codes "max ") refl) (omega arith)) (range_read (codes "max ") 1 8 m (omega arith) m_in.0 m_in.1))
+    ranges.number
+    (ap (front entries_in) (sym (first_line (entries_line e) [] b5)) ∙ front_read entries_in (entries_line e) b5 e (entries_lacks e ranges.within) (entries_read e ranges.within))
+    (found_read v r k m e (may_tell_found v r) f rest (omega arith) ranges.found_number other)

@@ -1,20 +1,19 @@
 -- One line read, and written.
-use Rattle.std.proofs.Common.{◌≡◌, ◌≢◌, ℕ, zero, suc, ◌+◌, ◌-◌, ◌^◌, ◌<◌, ◌≤◌, Bool, true, false, not, ◌&&◌, cond, eqb, Option, Some, None, List, [], ◌∷◌, ◌++◌, length, take, drop, refl, sym, ap, subst, ◌∙◌, arith, slice_get, decimal, append_assoc, nat_eq}
-use Rattle.std.specs.Prelude.{option_map, option_and_then, nat_le, unwrap_or, All, codes, map, min}
-use Rattle.std.specs.List.{list_all, starts_with, slice_split, join_with_byte, count_by}
+use Rattle.std.proofs.Common.{◌≡◌, ℕ, ◌+◌, ◌-◌, ◌^◌, ◌<◌, ◌≤◌, Bool, true, false, not, ◌&&◌, cond, eqb, Option, Some, None, List, [], ◌∷◌, ◌++◌, length, take, drop, refl, sym, ap, subst, ◌∙◌, arith, slice_get, decimal, nat_eq}
+use Rattle.std.specs.Prelude.{option_map, option_and_then, nat_le, unwrap_or, min}
+use Rattle.std.specs.List.{list_all, slice_split, join_with_byte, count_by}
 use Rattle.std.specs.Char.{is_ascii_digit}
-use Rattle.std.specs.Str.{all_ascii_digits, bytes_eq}
+use Rattle.std.specs.Str.{all_ascii_digits}
 use Rattle.std.specs.Cmp.Lexicographic.{pointwise, bytes_decides}
-use Rattle.std.proofs.lemmas.Bool.{eqb-true, eq-eqb, le-leb, leb-true}
+use Rattle.std.proofs.lemmas.Bool.{eq-eqb, le-leb, leb-true}
 use Rattle.std.proofs.lemmas.List.{take-append-drop}
 use Rattle.std.proofs.lemmas.List.Elements.{All-append, All-cons}
 use Rattle.std.proofs.lemmas.List.Splits.{join_with_byte-slice_split, length-slice_split}
 use Rattle.std.proofs.Math.Seq.{take-append_seam, drop-append_seam}
-use Rattle.text_base.specs.Numerals.{decimal_value, IsNumeralOf}
+use Rattle.text_base.specs.Numerals.{decimal_value}
 use Rattle.text_base.proofs.NumeralLemmas.{numeral_is_decimal, decimal_is_numeral}
 use Rattle.aiger_text.specs.Words.{is_byte, cut_at, leads_well, is_numeral, number_within}
 use Rattle.aiger_text.proofs.WordLemmas.{none-of_other}
-use Rattle.aiger_text.proofs.HeaderLemmas.{is_value, digits_of}
 use Rattle.aiger_text.proofs.Numbers.{both, is_numeral-decimal, number_within-decimal, decimal-lacks, Lacks, cut_at-seam}
 use Rattle.aiger_text.proofs.Scanning.{cuts, HasPiece}
 use Rattle.cert_text.specs.Header.{behind, in_range, capped, number_behind, front}

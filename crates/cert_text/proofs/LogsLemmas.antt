@@ -70,7 +70,6 @@ module _ (order : Order) (first : ℕ) (bytes : List ℕ) (done : List LogPart) 
 -- ---- one way
 
 module _ (order : Order) where
-
   heads_same : (last : Place) (bytes : List ℕ) (head other : Head) (tail rest : List ℕ) → front (next_head order last) bytes ≡ Some (head, tail)
       → front (next_head order last) bytes ≡ Some (other, rest) → (head ≡ other) × (tail ≡ rest)
   heads_same last bytes head other tail rest a b =

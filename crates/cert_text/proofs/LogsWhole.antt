@@ -1,26 +1,24 @@
 -- The logs as a whole: no line of them is bad exactly where their text stands there, in order.
-use Rattle.std.proofs.Common.{◌≡◌, ℕ, suc, ◌+◌, ◌-◌, ◌^◌, ◌<◌, ◌≤◌, Bool, true, false, cond, Option, Some, None, List, [], ◌∷◌, ◌++◌, length, refl, sym, ap, subst, ◌∙◌, arith, append_assoc}
-use Rattle.std.specs.Prelude.{All, option_map, option_and_then, codes, unwrap_or, IsTrue}
+use Rattle.std.proofs.Common.{◌≡◌, ℕ, suc, ◌+◌, Bool, true, false, cond, Option, Some, None, List, [], ◌∷◌, ◌++◌, length, refl, sym, ap, subst, ◌∙◌, arith, append_assoc}
+use Rattle.std.specs.Prelude.{All}
 use Rattle.std.specs.List.{flat_map}
 use Rattle.std.proofs.lemmas.List.Elements.{All-cons}
 use Rattle.letter_word.specs.declared.kinds.Side.{Side}
 use Rattle.letter_word.specs.declared.kinds.Side.TheVariants.{System, Environment}
 use Rattle.refutation_log.specs.declared.entries.Entry.{Entry}
-use Rattle.refutation_log.specs.Text.{log_text, IsWritable}
-use Rattle.refutation_log.specs.Read.{StatesEntries}
-use Rattle.aiger_text.specs.Words.{cut_at}
+use Rattle.refutation_log.specs.Text.{log_text}
 use Rattle.aiger_text.specs.CircuitText.{text_of_lines, numbers_line}
 use Rattle.cert_text.specs.declared.logs.Head.{Head}
 use Rattle.cert_text.specs.declared.order.Order.{Order}
 use Rattle.cert_text.specs.declared.order.Place.{Place}
 use Rattle.cert_text.specs.Parts.{LogPart}
 use Rattle.cert_text.specs.Lines.{part_text, logs_text, end_text, log_words, head_line}
-use Rattle.cert_text.specs.Order.{place, may_follow, may_end, AreInOrder}
+use Rattle.cert_text.specs.Order.{place, may_end, AreInOrder}
 use Rattle.cert_text.specs.Header.{front, found_in, behind}
 use Rattle.cert_text.specs.Logs.{LogsRead, ReadsLogs, ended, no_head, stopped, whole, AreFirstEntries, bad_behind, behind_end, next_head, part_of}
 use Rattle.cert_text.specs.WellFormed.{IsLogPart}
 use Rattle.cert_text.specs.States.{AreAt}
-use Rattle.cert_text.proofs.LineRead.{behind_is, front_is, front_read, front_none, words_lack}
+use Rattle.cert_text.proofs.LineRead.{behind_is, front_is, front_read, front_none}
 use Rattle.cert_text.proofs.HeadRead.{HasSizes, line_of, next_is, next_read, head_lacks}
 use Rattle.cert_text.proofs.HeaderWhole.{first_line}
 
@@ -47,7 +45,6 @@ module _ (order : Order) where
       let k = end_by last bytes [] (may_end order last) refl is in
       record { text = k.1; in_order = k.0; at = tt; parts = no_parts }
   end_is last n bytes (b ∷ rest) is good = absurd (cc)
-
 
   one_part : (last : Place) (n : ℕ) (bytes tail rest : List ℕ) (head : Head) (entries : List Entry) (logs : List LogPart)
       → front (next_head order last) bytes ≡ Some (head, tail) → AreFirstEntries head.vars head.count tail entries rest → length entries ≡ head.count
@@ -143,4 +140,4 @@ no_found max (l ∷ logs) parts =
     let fits : HasSizes (head_of l) = record { size = part.size; vars = part.vars; base = part.base; count = part.count } in
     ap (front (found_in max)) (logs_cons l logs)
     ∙ front_none (found_in max) (line_of (head_of l)) (log_text l.entries ++ logs_text logs) (head_lacks (head_of l) fits)
-      (found_words max l.side (numbers_line (l.size ∷ l.vars ∷ l.base ∷ length l.entries ∷ [])))
+    (found_words max l.side (numbers_line (l.size ∷ l.vars ∷ l.base ∷ length l.entries ∷ [])))

@@ -1,12 +1,8 @@
 -- A document's bytes are read in one way.
-use Rattle.std.proofs.Common.{◌≡◌, ℕ, ◌+◌, Bool, true, false, Option, Some, None, List, [], ◌∷◌, drop, refl, sym, ap, subst, ◌∙◌}
-use Rattle.std.specs.Prelude.{unwrap_or}
+use Rattle.std.proofs.Common.{◌≡◌, ℕ, ◌+◌, Bool, true, false, Some, None, List, [], drop, refl, sym, ap, subst, ◌∙◌}
 use Rattle.aiger_text.specs.declared.faults.CircuitFault.{CircuitFault}
-use Rattle.aiger_text.specs.CircuitFile.{File, IsFirstFault}
-use Rattle.aiger_text.specs.CircuitFile as circuit
+use Rattle.aiger_text.specs.CircuitFile.{File}
 use Rattle.aiger_text.proofs.FileFacts.{files_state_one_thing, faults_state_nothing, files_have_one_fault}
-use Rattle.cert_text.specs.declared.order.Order.{Order}
-use Rattle.cert_text.specs.declared.reading.CircuitPart.{CircuitPart}
 use Rattle.cert_text.specs.declared.reading.CircuitPart.TheVariants.{Absent, Faulty, Stated}
 use Rattle.cert_text.specs.Order.{start_of}
 use Rattle.cert_text.specs.Header.{HeaderRead, no_header, header_of}

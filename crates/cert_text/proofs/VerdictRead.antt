@@ -1,10 +1,9 @@
 -- The line of a verdict.
-use Rattle.std.proofs.Common.{◌≡◌, ℕ, ◌-◌, ◌^◌, ◌<◌, ◌≤◌, Bool, true, false, cond, Option, Some, None, List, ◌++◌, refl, sym, ap, subst, ◌∙◌, arith, decimal, inl, inr, ◌⊎◌}
+use Rattle.std.proofs.Common.{◌≡◌, ℕ, ◌-◌, ◌^◌, ◌<◌, Bool, true, false, cond, Option, Some, None, List, ◌++◌, refl, sym, ap, subst, ◌∙◌, arith, decimal, inl, inr, ◌⊎◌}
 use Rattle.std.specs.Prelude.{option_map, option_and_then, codes, unwrap_or}
 use Rattle.std.specs.Option.{option_or}
 use Rattle.std.specs.Str.{bytes_eq}
 use Rattle.std.specs.Cmp.Lexicographic.{bytes_decides}
-use Rattle.letter_word.specs.declared.kinds.Side.{Side}
 use Rattle.letter_word.specs.declared.kinds.Side.TheVariants.{System, Environment}
 use Rattle.aiger_text.proofs.Numbers.{Lacks}
 use Rattle.cert_text.specs.declared.documents.Verdict.{Verdict}
@@ -56,21 +55,21 @@ module _ (line : List ℕ) (verdict : Verdict) (small : number_in verdict < 2 ^ 
       (option_or (option_map (UnknownEntries System) (number_behind (unknown_words System) line))
       (option_map (UnknownEntries Environment) (number_behind (unknown_words Environment) line)))))) ≡ Some verdict → line ≡ verdict_line verdict
   numbered_is is = elim (either_or _ _ verdict is) [
-      inl a ↦ one_is (codes "verdict realizable ") line Realizable verdict (λ n. refl) (λ n. refl) small a
+    | inl a ↦ one_is (codes "verdict realizable ") line Realizable verdict (λ n. refl) (λ n. refl) small a
     | inr b ↦ elim (either_or _ _ verdict b) [
-        inl a ↦ one_is (codes "verdict unrealizable ") line Unrealizable verdict (λ n. refl) (λ n. refl) small a
+      | inl a ↦ one_is (codes "verdict unrealizable ") line Unrealizable verdict (λ n. refl) (λ n. refl) small a
       | inr b ↦ elim (either_or _ _ verdict b) [
-          inl a ↦ one_is (bounded_words System) line (Bounded System) verdict (λ n. refl) (λ n. refl) small a
+        | inl a ↦ one_is (bounded_words System) line (Bounded System) verdict (λ n. refl) (λ n. refl) small a
         | inr b ↦ elim (either_or _ _ verdict b) [
-            inl a ↦ one_is (bounded_words Environment) line (Bounded Environment) verdict (λ n. refl) (λ n. refl) small a
+          | inl a ↦ one_is (bounded_words Environment) line (Bounded Environment) verdict (λ n. refl) (λ n. refl) small a
           | inr b ↦ elim (either_or _ _ verdict b) [
-              inl a ↦ one_is (unknown_words System) line (UnknownEntries System) verdict (λ n. refl) (λ n. refl) small a
+            | inl a ↦ one_is (unknown_words System) line (UnknownEntries System) verdict (λ n. refl) (λ n. refl) small a
             | inr a ↦ one_is (unknown_words Environment) line (UnknownEntries Environment) verdict (λ n. refl) (λ n. refl) small a
-            ]
           ]
         ]
       ]
     ]
+  ]
 
   any_by : (b : Bool) → bytes_eq line (codes "verdict unknown sizes") ≡ b → any_verdict_in line ≡ Some verdict → line ≡ verdict_line verdict
   any_by true e is =

@@ -1,6 +1,6 @@
 -- Documents as a whole: what bytes state, and what is read of them.
-use Rattle.std.proofs.Common.{◌≡◌, ℕ, zero, suc, ◌+◌, Bool, true, false, cond, Option, Some, None, List, [], ◌∷◌, ◌++◌, length, drop, refl, sym, ap, subst, ◌∙◌, arith, append_assoc}
-use Rattle.std.specs.Prelude.{All, IfSome, is_some, unwrap_or}
+use Rattle.std.proofs.Common.{◌≡◌, ℕ, suc, ◌+◌, Bool, true, false, Option, Some, None, List, [], ◌∷◌, ◌++◌, length, drop, refl, sym, ap, subst, ◌∙◌, arith, append_assoc}
+use Rattle.std.specs.Prelude.{All, IfSome, is_some}
 use Rattle.std.specs.List.{flat_map}
 use Rattle.std.proofs.Math.Seq.{drop-append-add}
 use Rattle.std.proofs.lemmas.List.Elements.{All-cons}
@@ -14,19 +14,19 @@ use Rattle.cert_text.specs.declared.documents.Verdict.{Verdict}
 use Rattle.cert_text.specs.declared.header.Header.{Header}
 use Rattle.cert_text.specs.declared.order.Order.{Order}
 use Rattle.cert_text.specs.declared.order.Place.{Place}
-use Rattle.cert_text.specs.declared.reading.CircuitPart.TheVariants.{Absent, Faulty, Stated}
+use Rattle.cert_text.specs.declared.reading.CircuitPart.TheVariants.{Absent, Stated}
 use Rattle.cert_text.specs.Parts.{LogPart, Document}
 use Rattle.cert_text.specs.Lines.{part_text, logs_text, body_text, document_text, end_text}
-use Rattle.cert_text.specs.Order.{AreInOrder, has_its_place, may_tell_found, order_of, place, start_of}
+use Rattle.cert_text.specs.Order.{AreInOrder, has_its_place, order_of, place, start_of}
 use Rattle.cert_text.specs.Header.{HeaderRead, header_of}
 use Rattle.cert_text.specs.Logs.{LogsRead, ReadsLogs}
 use Rattle.cert_text.specs.Reading.{DocumentLines, BodyRead, ReadsBody, of_header, of_logs, ReadsBehind, unnamed, named, Reads, without_circuit, of_fault, uncommented, commented, IsFirstBadLine, all_named, begins_without_circuit, document_of, line_count, order_in}
 use Rattle.cert_text.specs.WellFormed.{IsLogPart, IsWellFormed}
-use Rattle.cert_text.specs.States.{AreAt, HasText, StandsBehind, States, logs_at, logs_line, numbered, written_comment_line}
+use Rattle.cert_text.specs.States.{AreAt, HasText, States, logs_at, logs_line, numbered}
 use Rattle.cert_text.specs.Laws.{WrittenIsRead}
 use Rattle.cert_text.proofs.HeaderWhole.{GoodHeader, HasRanges, good_header, header_read, header_with, lines_text}
 use Rattle.cert_text.proofs.LogsLemmas.{some_none, some_same}
-use Rattle.cert_text.proofs.LogsWhole.{GoodLogs, good_logs, logs_read, no_found}
+use Rattle.cert_text.proofs.LogsWhole.{good_logs, logs_read, no_found}
 use Rattle.cert_text.proofs.ReadingLemmas.{body_reads, reads_same}
 use Rattle.cert_text.proofs.CommentLine.{begins_with_circuit}
 
@@ -192,8 +192,17 @@ text_by bytes d None is w text verdict at =
       reads = without_circuit (record { header = header d w; logs = d.logs; bad = None }) (ap begins_without_circuit text.0 ∙ begins d) reads;
       good = refl;
       document = ap Some (λ k. record {
-        version = d.version; verdict = d.verdict; kind = d.kind; max = d.max; entries = d.entries; found = d.found; circuit = sym is k; logs = d.logs;
-        name_lines = sym text.1 k; comment_line = sym text.2 k; verdict_line = sym (verdict ∙ ap (λ (n : ℕ). n + 2) text.2) k;
+        version = d.version;
+        verdict = d.verdict;
+        kind = d.kind;
+        max = d.max;
+        entries = d.entries;
+        found = d.found;
+        circuit = sym is k;
+        logs = d.logs;
+        name_lines = sym text.1 k;
+        comment_line = sym text.2 k;
+        verdict_line = sym (verdict ∙ ap (λ (n : ℕ). n + 2) text.2) k;
       });
     }
 text_by bytes d (Some c) is w text verdict at =
@@ -209,8 +218,17 @@ text_by bytes d (Some c) is w text verdict at =
           (named (record { header = header d w; logs = d.logs; bad = None }) all reads);
       good = refl;
       document = ap Some (λ k. record {
-        version = d.version; verdict = d.verdict; kind = d.kind; max = d.max; entries = d.entries; found = d.found; circuit = sym (is ∙ ap Some (sym text.circuit_is)) k; logs = d.logs;
-        name_lines = sym text.name_lines k; comment_line = sym text.comment_line k; verdict_line = sym (verdict ∙ ap (λ (n : ℕ). n + 2) text.comment_line) k;
+        version = d.version;
+        verdict = d.verdict;
+        kind = d.kind;
+        max = d.max;
+        entries = d.entries;
+        found = d.found;
+        circuit = sym (is ∙ ap Some (sym text.circuit_is)) k;
+        logs = d.logs;
+        name_lines = sym text.name_lines k;
+        comment_line = sym text.comment_line k;
+        verdict_line = sym (verdict ∙ ap (λ (n : ℕ). n + 2) text.comment_line) k;
       });
     }
 
@@ -261,7 +279,14 @@ module _ (d : Document) (w : IsWellFormed d) where
   numbered_well : IsWellFormed (numbered d)
   numbered_well =
       record {
-        version = w.version; verdict = w.verdict; circuit = w.circuit; named = w.named; max = w.max; number = w.number; entries = w.entries; found = w.found;
+        version = w.version;
+        verdict = w.verdict;
+        circuit = w.circuit;
+        named = w.named;
+        max = w.max;
+        number = w.number;
+        entries = w.entries;
+        found = w.found;
         order = same_order (order_of d.version d.verdict d.max d.found) (start_of (order_of d.version d.verdict d.max d.found)) (logs_line (numbered d)) d.logs w.order;
         logs = same_parts (logs_line (numbered d)) d.logs w.logs;
       }
@@ -270,12 +295,11 @@ module _ (d : Document) (w : IsWellFormed d) where
   same_body = ap (λ (t : List ℕ). lines_text d.version d.verdict d.kind d.max d.entries d.found ++ (t ++ end_text)) (same_texts (logs_line (numbered d)) d.logs)
 
   circuit_by : (c : Option Circuit) → d.circuit ≡ c → IfSome c CommentsAreRead → IfSome c IsWritable → HasText (document_text d) c (numbered d)
-  circuit_by None is read fits =
-      (
-        ap (λ (o : Option Circuit). document_text (record d { circuit = o })) is ∙ sym same_body,
-        ap (λ (o : Option Circuit). (numbered (record d { circuit = o })).name_lines) is,
-        ap (λ (o : Option Circuit). (numbered (record d { circuit = o })).comment_line) is,
-      )
+  circuit_by None is read fits = (
+    ap (λ (o : Option Circuit). document_text (record d { circuit = o })) is ∙ sym same_body,
+    ap (λ (o : Option Circuit). (numbered (record d { circuit = o })).name_lines) is,
+    ap (λ (o : Option Circuit). (numbered (record d { circuit = o })).comment_line) is,
+  )
   circuit_by (Some c) is read fits =
       let only = read (body_text d) fits in
       let whole : document_text d ≡ circuit_text c ++ comment_text (Some (body_text d)) =

@@ -1,11 +1,10 @@
 -- The five or six lines of a document before its logs, read one after the other (this project's own).
-use Rattle.std.specs.Prelude.{◌==◌, ℕ, ◌+◌, ◌-◌, ◌^◌, Bool, true, false, ◌&&◌, Option, Some, None, List, [], ◌∷◌, length, drop, codes, min, nat_le, nat_lt, nat_eq, option_map, option_and_then, if◌then◌else◌}
+use Rattle.std.specs.Prelude.{ℕ, ◌+◌, ◌-◌, ◌^◌, Bool, true, false, Option, Some, None, List, [], length, drop, codes, min, nat_le, nat_eq, option_map, option_and_then, if◌then◌else◌}
 use Rattle.std.specs.List.{starts_with}
 use Rattle.std.specs.Option.{option_or}
 use Rattle.std.specs.Str.{bytes_eq}
 use Rattle.letter_word.specs.declared.kinds.Kind.{Kind}
 use Rattle.letter_word.specs.declared.kinds.Kind.TheVariants.{Mealy, Moore}
-use Rattle.letter_word.specs.declared.kinds.Side.{Side}
 use Rattle.letter_word.specs.declared.kinds.Side.TheVariants.{System, Environment}
 use Rattle.aiger_text.specs.Words.{cut_at, is_numeral, number_within}
 use Rattle.text_base.specs.Numerals.{decimal_value}
@@ -13,7 +12,7 @@ use Rattle.cert_text.specs.declared.documents.Verdict.{Verdict}
 use Rattle.cert_text.specs.declared.documents.Verdict.TheVariants.{Realizable, Unrealizable, Bounded, UnknownSizes, UnknownEntries}
 use Rattle.cert_text.specs.declared.header.Header.{Header}
 use Rattle.cert_text.specs.Lines.{bounded_words, unknown_words}
-use Rattle.cert_text.specs.Order.{has_its_place, fits_version, fits_max, may_tell_found, is_in_range}
+use Rattle.cert_text.specs.Order.{has_its_place, fits_version, fits_max, may_tell_found}
 
 -- what follows these bytes at a line's begin
 abbrev pub behind : List ℕ → List ℕ → Option (List ℕ)

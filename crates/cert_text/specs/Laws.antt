@@ -1,5 +1,5 @@
 -- Laws of documents (this project's own).
-use Rattle.std.specs.Prelude.{◌≡◌, ℕ, Option, Some, None, List, IfSome}
+use Rattle.std.specs.Prelude.{◌≡◌, ℕ, Some, None, List, IfSome}
 use Rattle.aiger_text.specs.RoundTrip.{IsWritable}
 use Rattle.cert_text.specs.Parts.{Document}
 use Rattle.cert_text.specs.Lines.{document_text}

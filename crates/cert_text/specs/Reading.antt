@@ -1,14 +1,12 @@
 -- What the bytes of a document state line by line, and the first line that isn't what is wanted there, without the text that the
 -- document is for (this project's own).
-use Rattle.std.specs.Prelude.{◌≡◌, ◌==◌, ℕ, ◌+◌, Bool, true, false, ◌&&◌, Option, Some, None, List, [], ◌∷◌, drop, codes, unwrap_or, is_some, nat_eq, option_map, option_and_then, if◌then◌else◌}
+use Rattle.std.specs.Prelude.{◌≡◌, ◌==◌, ℕ, ◌+◌, Bool, true, false, ◌&&◌, Option, Some, None, List, [], drop, codes, unwrap_or, is_some, nat_eq, option_map, option_and_then, if◌then◌else◌}
 use Rattle.std.specs.List.{starts_with, list_all}
-use Rattle.letter_word.specs.declared.kinds.Kind.{Kind}
 use Rattle.aiger_text.specs.declared.faults.CircuitFault.{CircuitFault}
 use Rattle.aiger_text.specs.declared.faults.CircuitFault.TheVariants.{NoMemory, BadHeader, BadLine, Undefined, DefinedTwice, Cycle, Unsupported, TooLarge}
 use Rattle.aiger_text.specs.Circuit.{Circuit}
 use Rattle.aiger_text.specs.CircuitFile.{File, IsFirstFault}
 use Rattle.aiger_text.specs.CircuitFile as circuit
-use Rattle.cert_text.specs.declared.documents.Verdict.{Verdict}
 use Rattle.cert_text.specs.declared.documents.Verdict.TheVariants.{UnknownSizes}
 use Rattle.cert_text.specs.declared.header.Header.{Header}
 use Rattle.cert_text.specs.declared.order.Order.{Order}
@@ -47,7 +45,7 @@ pub data ReadsBody (circuit : Bool) (first : ℕ) (bytes : List ℕ) : BodyRead 
       → ReadsBody circuit first bytes (record { header = (header_of circuit first bytes).header; logs = []; bad = Some n })
   of_logs : (more : LogsRead) → (header_of circuit first bytes).header.bad ≡ None
       → ReadsLogs (order_in (header_of circuit first bytes).header) (start_of (order_in (header_of circuit first bytes).header))
-          (first + line_count (header_of circuit first bytes).header) (header_of circuit first bytes).rest more
+      (first + line_count (header_of circuit first bytes).header) (header_of circuit first bytes).rest more
       → ReadsBody circuit first bytes (record { header = (header_of circuit first bytes).header; logs = more.logs; bad = more.bad })
 
 -- each input and each output has a name

@@ -1,5 +1,5 @@
 -- Documents whose parts fit each other (this project's own).
-use Rattle.std.specs.Prelude.{◌≡◌, ℕ, ◌<◌, ◌≤◌, ◌^◌, ◌⊎◌, ⊤, Bool, true, false, List, length, All, IsTrue, IfSome, is_some, MatchOption}
+use Rattle.std.specs.Prelude.{◌≡◌, ℕ, ◌<◌, ◌≤◌, ◌^◌, ◌⊎◌, Bool, true, false, length, All, IsTrue, IfSome, is_some}
 use Rattle.refutation_log.specs.Text.{IsWritable}
 use Rattle.cert_text.specs.Parts.{LogPart, Document}
 use Rattle.cert_text.specs.Order.{AreInOrder, fits_max, fits_version, has_its_place, is_in_range, may_tell_found, order_of, start_of}

@@ -6,7 +6,8 @@ ghost use Rattle.cert_text.specs.Order.{may_tell_found};
 
 use crate::documents::Verdict;
 use crate::order::{fits_max, fits_version, has_its_place, may_tell_found};
-use crate::words::{behind, capped, cut_at, in_range, number_within};
+use crate::words::{behind, capped, in_range};
+use aiger_text::{cut_at, number_within};
 use letter_word::{Kind, Side};
 
 /// What the lines of a document before its logs state, each as far as those before it are good.

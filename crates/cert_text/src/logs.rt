@@ -9,7 +9,8 @@ ghost use Rattle.cert_text.specs.Shown.{shown_logs};
 
 use crate::documents::LogPart;
 use crate::order::{Order, Place};
-use crate::words::{behind, cut_at, number_within};
+use crate::words::behind;
+use aiger_text::{cut_at, number_within};
 use letter_word::Side;
 use refutation_log::{Entry, LogTextFault, read_log};
 use std::alloc::{AllocError, Global};
@@ -111,11 +112,7 @@ fn ended(logs: Vec<LogPart>, n: u64, behind: &[u8]) -> LogsRead
     requires { n + 1 < 2 ^ 64 }
     ensures { shown_logs result ≡ record { logs = logs.items; bad = bad_behind n behind.now } }
 {
-    let bad = if behind.is_empty() {
-        None
-    } else {
-        Some(n + 1)
-    };
+    let bad = if behind.is_empty() { None } else { Some(n + 1) };
     LogsRead { logs, bad }
 }
 
@@ -191,11 +188,7 @@ fn first_entries(
 }
 
 // The entry whose line comes first, and the bytes behind it.
-fn take_entry(
-    alloc: Global,
-    vars: u32,
-    bytes: &[u8],
-) -> Result<Option<(Entry, &[u8])>, AllocError>
+fn take_entry(alloc: Global, vars: u32, bytes: &[u8]) -> Result<Option<(Entry, &[u8])>, AllocError>
     ensures { IfOk result (IsReadBy (λ entry. entry) (StatesEntry vars bytes.now)) }
 {
     let mut log = match read_log(alloc, bytes, vars, 1) {

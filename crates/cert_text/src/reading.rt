@@ -132,12 +132,7 @@ fn read_behind(
 }
 
 // Reads the lines from line `first` on, behind a circuit or without one.
-fn read_body(
-    alloc: Global,
-    circuit: bool,
-    first: u64,
-    bytes: &[u8],
-) -> Result<BodyRead, AllocError>
+fn read_body(alloc: Global, circuit: bool, first: u64, bytes: &[u8]) -> Result<BodyRead, AllocError>
     requires { first + length bytes.now + 10 < 2 ^ 64 }
     ensures { IfOk result (λ body. ReadsBody circuit first bytes.now (shown_body body)) }
 {
@@ -249,7 +244,7 @@ impl Stated {
 
 impl DocumentLines {
     /// The document, where no line of it is missing.
-    pub(crate) fn into_document(self, alloc: Global) -> Option<Document>
+    pub fn into_document(self, alloc: Global) -> Option<Document>
         ensures { result ≡ document_in self }
     {
         let header = self.header;

@@ -1,4 +1,4 @@
-use Rattle.std.proofs.Common.{◌≡◌, ◌-◌, ◌≤◌, length}
+use Rattle.std.proofs.Common.{◌-◌, ◌≤◌, length}
 use Rattle.refutation_log.specs.Read.{StatesEntries}
 use Rattle.cert_text.proofs.logs.first_entries.Given as goal
 

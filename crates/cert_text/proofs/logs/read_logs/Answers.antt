@@ -1,10 +1,6 @@
-use Rattle.std.proofs.Common.{◌≡◌, ℕ, ◌+◌, ◌≤◌, List, [], ◌∷◌, ◌++◌, Some, None, length, refl, sym, ap, subst, ◌∙◌, arith, rules}
-use Rattle.refutation_log.specs.declared.entries.Entry.{Entry}
-use Rattle.cert_text.specs.Parts.{LogPart}
-use Rattle.cert_text.specs.Order.{start_of, place}
-use Rattle.cert_text.specs.Header.{front}
-use Rattle.cert_text.specs.Logs.{LogsRead, ReadsLogs, AreFirstEntries, behind_end, next_head, part_of}
-use Rattle.cert_text.proofs.LogsLemmas.{Goes, goes_start, goes_ended, goes_no_head, goes_stopped, goes_whole, lines_fit}
+use Rattle.std.proofs.Common.{◌≡◌, ◌+◌, ◌≤◌, [], ◌∷◌, ◌++◌, length, sym, arith, rules}
+use Rattle.cert_text.specs.Logs.{part_of}
+use Rattle.cert_text.proofs.LogsLemmas.{goes_ended, goes_no_head, goes_stopped, goes_whole, lines_fit}
 use Rattle.cert_text.proofs.logs.read_logs.Goals as goal
 use Rattle.cert_text.proofs.logs.read_logs.Goals.{In_ok-entries, In_ok-push}
 

@@ -1,6 +1,5 @@
-use Rattle.std.proofs.Common.{◌≡◌, false, Some, [], sym, ap, ◌∙◌, rules}
-use Rattle.aiger_text.specs.CircuitFile.{File}
-use Rattle.cert_text.specs.Reading.{named, unnamed, all_named}
+use Rattle.std.proofs.Common.{ap, rules}
+use Rattle.cert_text.specs.Reading.{named, unnamed}
 use Rattle.cert_text.specs.Shown.{shown_body}
 use Rattle.cert_text.proofs.reading.read_behind.Goals as goal
 

@@ -1,4 +1,4 @@
-use Rattle.std.proofs.Common.{◌≡◌, true, false, sym, ◌∙◌, arith, rules}
+use Rattle.std.proofs.Common.{◌≡◌, true, false, sym, arith, rules}
 use Rattle.std.specs.Prelude.{is_some}
 use Rattle.cert_text.specs.Shown.{shown_header, shown_logs}
 use Rattle.cert_text.proofs.BodyLemmas.{bad_header, rest_fits, good_logs_behind}

@@ -1,10 +1,10 @@
-use Rattle.std.proofs.Common.{◌≡◌, ℕ, ◌+◌, ◌-◌, ◌^◌, ◌<◌, ◌≤◌, Bool, true, false, Some, None, List, [], length, take, drop, sym, ap, subst, ◌∙◌, arith, rules, inl, inr}
+use Rattle.std.proofs.Common.{◌≡◌, ℕ, ◌-◌, ◌^◌, ◌<◌, true, false, Some, None, List, [], length, take, drop, sym, ap, subst, ◌∙◌, arith, rules, inl, inr}
 use Rattle.std.proofs.lemmas.List.{take_all, length-drop}
 use Rattle.std.proofs.lemmas.Result.{IfOk-weaker}
 use Rattle.aiger_text.specs.CircuitFile.{File, IsFirstFault}
 use Rattle.cert_text.specs.declared.reading.CircuitPart.TheVariants.{Stated}
 use Rattle.cert_text.specs.Header.{no_header}
-use Rattle.cert_text.specs.Reading.{DocumentLines, Reads, ReadsBehind, without_circuit, of_fault, uncommented, commented, begins_without_circuit}
+use Rattle.cert_text.specs.Reading.{Reads, ReadsBehind, without_circuit, of_fault, uncommented, commented, begins_without_circuit}
 use Rattle.cert_text.specs.Shown.{shown_body}
 use Rattle.cert_text.proofs.LogsLemmas.{some_none}
 use Rattle.cert_text.proofs.CommentLine.{comment_fits}

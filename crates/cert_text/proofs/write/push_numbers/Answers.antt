@@ -1,4 +1,4 @@
-use Rattle.std.proofs.Common.{◌≡◌, ℕ, List, ◌++◌, sym, ap, ◌∙◌, decimal}
+use Rattle.std.proofs.Common.{ℕ, List, ◌++◌, sym, ap, ◌∙◌, decimal}
 use Rattle.std.proofs.lemmas.List.{take_all}
 use Rattle.aiger_text.proofs.Lines.{with_spaces, numbers_line-cons}
 use Rattle.cert_text.proofs.write.push_numbers.Goals as goal

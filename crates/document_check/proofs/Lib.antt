@@ -1,0 +1,11 @@
+pub mod ReadFacts
+pub mod SizeLemmas
+pub mod FaultNumbers
+pub mod LineLemmas
+pub mod LogFailLemmas
+pub mod ProblemLemmas
+pub mod AskedLemmas
+pub mod LogsLineLemmas
+pub mod FirstBadLemmas
+pub mod DocumentLemmas
+pub mod HoldLemmas

@@ -1,0 +1,105 @@
+-- Problems that say the same.
+use Rattle.std.proofs.Common.{◌≡◌, ℕ, zero, suc, ◌+◌, ◌≤◌, ◌==◌, ◌&&◌, Bool, true, false, cond, Option, Some, None, List, length, refl, sym, ap, subst, ◌∙◌, inl, inr, ◌⊎◌}
+use Rattle.std.specs.Prelude.{is_some, nat_le, All, IfSome, option_map, unwrap_or}
+use Rattle.std.specs.Option.{option_map_or}
+use Rattle.machine_model.specs.Automaton.{states_of}
+use Rattle.clause_base.specs.Literal.{Literal}
+use Rattle.letter_word.specs.declared.kinds.Kind.{Kind}
+use Rattle.letter_word.specs.declared.kinds.Side.{Side}
+use Rattle.letter_word.specs.declared.kinds.Side.TheVariants.{System, Environment}
+use Rattle.letter_word.specs.Kinds.{other_kind}
+use Rattle.machine_model.specs.declared.problems.Problem.{Problem}
+use Rattle.machine_model.specs.Problem.{IsProblem, NamesSignals, Parts, parts_of, sized}
+use Rattle.annotation_encode.specs.BaseClauses.{base_clauses}
+use Rattle.annotation_encode.specs.Count.{allowed_sizes, count_of}
+use Rattle.annotation_encode.specs.Variables.{variables_of}
+use Rattle.annotation_encode.proofs.Further.{equal_clauses}
+use Rattle.refutation_log.specs.Log.{IsLegal}
+use Rattle.log_checker.specs.Faults.{IsLogFault}
+use Rattle.cert_text.specs.Parts.{LogPart}
+use Rattle.document_check.specs.Facts.{Facts, allowed_at, clause_version, problem_at}
+use Rattle.document_check.specs.FirstBad.{has_numbers, LogFails, other_numbers, bad_entry, left_open, is_good}
+use Rattle.document_check.specs.Shown.{AreFacts, IsProblemAt}
+
+same_count : (p q : Problem) → parts_of p ≡ parts_of q → count_of p ≡ count_of q
+same_count p q same =
+    ap (λ (cs : List (List Literal)). cond (nat_le (length cs) 1000000) (Some (length cs)) None) (equal_clauses p q same).clauses
+
+sized_same : (p q : Problem) (n : ℕ) → parts_of p ≡ parts_of q → parts_of (sized p n) ≡ parts_of (sized q n)
+sized_same p q n same = ap (λ (x : Parts). record x { size = n }) same
+
+same_allowed : (p q : Problem) (max : ℕ) → parts_of p ≡ parts_of q → allowed_sizes p max ≡ allowed_sizes q max
+unfolding allowed_sizes
+same_allowed p q zero same = refl
+same_allowed p q (suc n) same =
+    ap (λ (o : Option ℕ). cond (is_some o) (suc n) (allowed_sizes p n)) (same_count (sized p (suc n)) (sized q (suc n)) (sized_same p q (suc n) same))
+    ∙ ap (λ (m : ℕ). cond (is_some (count_of (sized q (suc n)))) (suc n) m) (same_allowed p q n same)
+
+allowed_by : (q : Problem) (max : ℕ) (o : Option Problem) → IsProblemAt o (Some q) → Some (allowed_sizes q max) ≡ option_map (λ (p : Problem). allowed_sizes p max) o
+allowed_by q max None is = absurd is
+allowed_by q max (Some p) is = ap Some (same_allowed q p max is)
+
+allowed_at_by : (n max : ℕ) (o : Option Problem) → Some n ≡ option_map (λ (p : Problem). allowed_sizes p max) o → n ≡ option_map_or (λ (p : Problem). allowed_sizes p max) o 0
+allowed_at_by n max None is = absurd (cc)
+allowed_at_by n max (Some p) is = ap (λ (o : Option ℕ). unwrap_or o n) is
+
+-- the allowed sizes of a problem that says what the text's does
+pub allowed_is : (facts : Facts) (kind : Kind) (version max : ℕ) (side : Side) (q : Problem) → IsProblemAt (problem_at facts kind version side 1) (Some q)
+    → allowed_sizes q max ≡ allowed_at facts kind version max side
+allowed_is facts kind version max side q is =
+    allowed_at_by (allowed_sizes q max) max (problem_at facts kind version side 1) (allowed_by q max (problem_at facts kind version side 1) is)
+
+-- a log fails over two problems that say the same at one line
+module _ (full : Bool) (limit : Option ℕ) (l : LogPart) (q p : Problem) (same : parts_of q ≡ parts_of p) where
+  numbers_same : has_numbers l q ≡ has_numbers l p
+  numbers_same = λ i. (l.vars == (equal_clauses q p same).variables i) && option_map_or (λ n. l.base == n) (same_count q p same i) false
+
+  legal_over : IsLegal (variables_of q) (base_clauses q) limit l.entries → IsLegal (variables_of p) (base_clauses p) limit l.entries
+  legal_over g =
+      subst (λ (v : ℕ). IsLegal v (base_clauses p) limit l.entries) (equal_clauses q p same).variables
+      (subst (λ (b : List (List Literal)). IsLegal (variables_of q) b limit l.entries) (equal_clauses q p same).clauses g)
+
+  pub fails_over : (o : Option ℕ) → LogFails full limit l q o → LogFails full limit l p o
+  fails_over o (other_numbers e) = other_numbers (sym numbers_same ∙ e)
+  fails_over o (bad_entry f n x) = bad_entry f (sym numbers_same ∙ n) (subst (λ (b : List (List Literal)). IsLogFault b limit l.entries f) (equal_clauses q p same).clauses x)
+  fails_over o (left_open n g s) = left_open (sym numbers_same ∙ n) (legal_over g) s
+  fails_over o (is_good n g s) = is_good (sym numbers_same ∙ n) (legal_over g) s
+
+-- ---- the problems are problems
+
+a_version : (version : ℕ) → (clause_version version ≡ 1) ⊎ (clause_version version ≡ 2)
+a_version version = by (version == 1)
+  where
+    by : (b : Bool) → (cond b 1 2 ≡ (let n : ℕ = 1 in n)) ⊎ (cond b 1 2 ≡ (let n : ℕ = 2 in n))
+    by true = inl refl
+    by false = inr refl
+
+module _ (kind : Kind) (version size : ℕ) (some : 1 ≤ size) (few : size ≤ 8) where
+  again : (p : Problem) → IsProblem p → IsProblem (record p { kind = kind; size = size; version = clause_version version })
+  again p is = record { inputs = is.inputs; outputs = is.outputs; some = some; size = few; states = is.states; signals = is.signals; version = a_version version }
+
+  moved : (p q : Problem) → parts_of q ≡ parts_of p → IsProblem p → IsProblem q
+  moved p q same is =
+      let e : parts_of p ≡ parts_of q = sym same in
+      record {
+        inputs = subst (λ (x : Parts). x.inputs ≤ 8) e is.inputs;
+        outputs = subst (λ (x : Parts). x.outputs ≤ 8) e is.outputs;
+        some = subst (λ (x : Parts). 1 ≤ x.size) e is.some;
+        size = subst (λ (x : Parts). x.size ≤ 8) e is.size;
+        states = subst (λ (x : Parts). states_of x.automaton ≤ 2000) e is.states;
+        signals = subst (λ (x : Parts). All (NamesSignals (x.inputs + x.outputs)) x.automaton.edges) e is.signals;
+        version = subst (λ (x : Parts). (x.version ≡ 1) ⊎ (x.version ≡ 2)) e is.version;
+      }
+
+environment_by : (kind : Kind) (version size : ℕ) → 1 ≤ size → size ≤ 8 → (o : Option Problem) (q : Problem) → IfSome o IsProblem
+    → IsProblemAt (option_map (λ (p : Problem). record p { kind = other_kind kind; size = size; version = clause_version version }) o) (Some q) → IsProblem q
+environment_by kind version size some few None q all is = absurd is
+environment_by kind version size some few (Some p) q all is =
+    moved (other_kind kind) version size some few (record p { kind = other_kind kind; size = size; version = clause_version version }) q is (again (other_kind kind) version size some few p all)
+
+-- a problem that says what a text's does is one
+pub is_problem : (facts : Facts) (kind : Kind) (version : ℕ) (side : Side) (size : ℕ) (q : Problem) → AreFacts facts → 1 ≤ size → size ≤ 8
+    → IsProblemAt (problem_at facts kind version side size) (Some q) → IsProblem q
+is_problem facts kind version System size q are some few is =
+    moved kind version size some few (record facts.system { kind = kind; size = size; version = clause_version version }) q is (again kind version size some few facts.system are.system)
+is_problem facts kind version Environment size q are some few is = environment_by kind version size some few facts.environment q are.environment is

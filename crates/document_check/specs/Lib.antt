@@ -1,0 +1,5 @@
+pub mod Facts
+pub mod Holds
+pub mod FirstBad
+pub mod Laws
+pub mod Shown

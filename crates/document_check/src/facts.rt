@@ -1,0 +1,208 @@
+// What a text gives for a check, and the sizes that a document wants.
+ghost use Rattle.std.specs.Prelude.{◌≡◌, ◌++◌, ◌≤◌, ◌^◌, All, IfOk, OnOk, option_map};
+ghost use Rattle.machine_model.specs.Problem.{IsProblem, parts_of};
+ghost use Rattle.document_check.specs.Facts.{allowed_at, clause_version, problem_at, read_names, sizes_to, wanted_sizes, written_names};
+ghost use Rattle.document_check.specs.FirstBad.{asked_in as asked_of};
+ghost use Rattle.document_check.specs.Shown.{AreFacts, facts_of, IsProblemAt, IsSize};
+
+use annotation_encode::allowed_sizes;
+use cert_text::{Header, Verdict};
+use letter_word::{Kind, Side};
+use machine_model::Problem;
+use std::alloc::{AllocError, Global};
+use text_base::Name;
+
+/// What a document is checked against. The kinds, sizes and versions of the problems aren't looked at: a document has its own.
+#[derive(Clone, Copy)]
+pub struct TextFacts<'a> {
+    /// The names of the inputs, and of the outputs.
+    pub inputs: &'a [Name],
+    pub outputs: &'a [Name],
+    /// The system's problem, and the environment's, if it has an automaton.
+    pub system: &'a Problem,
+    pub environment: Option<&'a Problem>,
+}
+
+/// A log's side and size.
+#[derive(Clone, Copy)]
+pub struct Size {
+    pub side: Side,
+    pub size: u32,
+}
+
+/// What a document asks for, once its line `max` is good.
+#[derive(Clone, Copy)]
+pub struct Asked {
+    pub version: u32,
+    pub verdict: Verdict,
+    pub kind: Kind,
+    pub max: u32,
+}
+
+/// What a header asks for, where it is good so far.
+pub fn asked_in(header: &Header) -> Option<Asked>
+    ensures { result ≡ asked_of header.now }
+{
+    let version = header.version?;
+    let verdict = header.verdict?;
+    let kind = header.kind?;
+    let max = header.max?;
+    Some(Asked {
+        version,
+        verdict,
+        kind,
+        max,
+    })
+}
+
+impl<'a> TextFacts<'a> {
+    /// The names that a circuit of that side reads.
+    pub(crate) fn read_names(self, side: Side) -> &'a [Name]
+        ensures { result.now ≡ read_names (facts_of self.entry) side }
+    {
+        match side {
+            Side::System => self.inputs,
+            Side::Environment => self.outputs,
+        }
+    }
+
+    /// The names that a circuit of that side writes.
+    pub(crate) fn written_names(self, side: Side) -> &'a [Name]
+        ensures { result.now ≡ written_names (facts_of self.entry) side }
+    {
+        match side {
+            Side::System => self.outputs,
+            Side::Environment => self.inputs,
+        }
+    }
+
+    /// The problem of one size of one side, for a document of this kind and version.
+    pub(crate) fn problem_at(
+        self,
+        kind: Kind,
+        version: u32,
+        side: Side,
+        size: u32,
+    ) -> Result<Option<Problem>, AllocError>
+        ensures { IfOk result (IsProblemAt (problem_at (facts_of self.entry) kind version side size)) }
+    {
+        match side {
+            Side::System => {
+                let problem = problem_for(self.system, kind, version, size)?;
+                Ok(Some(problem))
+            }
+            Side::Environment => {
+                let Some(problem) = self.environment else {
+                    return Ok(None);
+                };
+                let problem = problem_for(problem, kind.other(), version, size)?;
+                Ok(Some(problem))
+            }
+        }
+    }
+
+    /// The number of a side's allowed sizes.
+    pub(crate) fn allowed_at(
+        self,
+        kind: Kind,
+        version: u32,
+        max: u32,
+        side: Side,
+    ) -> Result<u32, AllocError>
+        requires facts { AreFacts (facts_of self) }
+        requires max { max ≤ 8 }
+        ensures value { IfOk result (λ n. n ≡ allowed_at (facts_of self.entry) kind version max side) }
+        ensures few { IfOk result (λ n. n ≤ 8) }
+    {
+        match self.problem_at(kind, version, side, 1)? {
+            Some(problem) => Ok(allowed_sizes(&problem, max)),
+            None => Ok(0),
+        }
+    }
+}
+
+// The same problem for another kind, size and version.
+fn problem_for(
+    problem: &Problem,
+    kind: Kind,
+    version: u32,
+    size: u32,
+) -> Result<Problem, AllocError>
+    ensures { IfOk result (λ p. parts_of p ≡ parts_of (record problem.now { kind = kind; size = size; version = clause_version version })) }
+{
+    let sized = problem.sized(size)?;
+    Ok(Problem {
+        automaton: sized.automaton,
+        inputs: sized.inputs,
+        outputs: sized.outputs,
+        side: sized.side,
+        kind,
+        size: sized.size,
+        version: if version == 1 { 1 } else { 2 },
+    })
+}
+
+/// The sizes of the logs that a verdict wants.
+pub fn wanted_sizes(
+    alloc: Global,
+    asked: Asked,
+    found: u32,
+    system: u32,
+    environment: u32,
+) -> Result<Vec<Size>, AllocError>
+    requires system { system ≤ 8 }
+    requires environment { environment ≤ 8 }
+    ensures sizes { IfOk result (λ sizes. sizes.items ≡ wanted_sizes asked.version asked.verdict found system environment) }
+    ensures few { IfOk result (λ sizes. All IsSize sizes.items) }
+{
+    let mut sizes = Vec::new(alloc);
+    match asked.verdict {
+        Verdict::Realizable(n) => {
+            push_sizes(&mut sizes, Side::System, n.saturating_sub(1).min(system))?;
+        }
+        Verdict::Unrealizable(n) => {
+            if asked.version == 3 {
+                push_sizes(
+                    &mut sizes,
+                    Side::Environment,
+                    n.saturating_sub(1).min(environment),
+                )?;
+            }
+        }
+        Verdict::Bounded(Side::System, n) => {
+            push_sizes(&mut sizes, Side::System, n.saturating_sub(1).min(system))?;
+        }
+        Verdict::Bounded(Side::Environment, n) => {
+            push_sizes(
+                &mut sizes,
+                Side::Environment,
+                n.saturating_sub(1).min(environment),
+            )?;
+        }
+        Verdict::UnknownSizes => {
+            push_sizes(&mut sizes, Side::System, system)?;
+            push_sizes(&mut sizes, Side::Environment, environment)?;
+        }
+        Verdict::UnknownEntries(_, _) => {
+            if found == 0 {
+                push_sizes(&mut sizes, Side::System, system)?;
+                push_sizes(&mut sizes, Side::Environment, environment)?;
+            } else {
+                push_sizes(&mut sizes, Side::System, (found - 1).min(system))?;
+            }
+        }
+    }
+    Ok(sizes)
+}
+
+// Appends the sizes of a side from 1 up to a number.
+fn push_sizes(sizes: &mut Vec<Size>, side: Side, count: u32) -> Result<(), AllocError>
+    requires { count ≤ 8 }
+    ensures sizes { OnOk result (sizes.new.items ≡ sizes.old.items ++ sizes_to side count) }
+    ensures few { OnOk result (All IsSize sizes.old.items → All IsSize sizes.new.items) }
+{
+    for n in 0..count {
+        sizes.push(Size { side, size: n + 1 })?;
+    }
+    Ok(())
+}
