@@ -1,14 +1,13 @@
 -- Each name among the lexemes of a text is one word of one line.
-use Rattle.std.proofs.Common.{◌≡◌, ℕ, zero, suc, Bool, true, false, cond, inl, inr, List, [], ◌∷◌, ◌++◌, drop, Option, None, Some, refl, sym, ap, subst, ◌∙◌}
-use Rattle.std.specs.Prelude.{◌≢◌, ◌==◌, ◌&&◌, ◌||◌, not, nat_eq, if◌then◌else◌, codes, find, option_map, slice_range, IsTrue}
+use Rattle.std.proofs.Common.{◌≡◌, ℕ, zero, suc, Bool, true, false, inl, inr, List, [], ◌∷◌, drop, Option, None, Some, refl, sym, ap, subst, ◌∙◌}
+use Rattle.std.specs.Prelude.{◌≢◌, ◌==◌, ◌&&◌, ◌||◌, not, nat_eq, if◌then◌else◌, codes, find, option_map, slice_range}
 use Rattle.std.specs.Char.{is_ascii_digit}
-use Rattle.std.specs.List.{list_all, list_any, starts_with}
+use Rattle.std.specs.List.{list_all, starts_with}
 use Rattle.std.specs.Str.{bytes_eq}
-use Rattle.std.proofs.lemmas.Bool.{and_parts, cases_Bool, eqb-true, false≢true, or_cases}
-use Rattle.tlsf_tokens.specs.Words.{is_blank, is_name_start, is_name_part, is_among, signs, sign_words, keywords, unsupported_words, unsupported_signs}
-use Rattle.tlsf_tokens.specs.Pieces.{word_piece, text_before, quoted_piece, comment_piece, sign_piece, mark_piece, piece_of}
+use Rattle.std.proofs.lemmas.Bool.{and_parts, eqb-true, false≢true, or_cases}
+use Rattle.tlsf_tokens.specs.Words.{is_blank, is_name_start, is_name_part, is_among, signs, unsupported_signs}
+use Rattle.tlsf_tokens.specs.Pieces.{word_piece, text_before, quoted_piece, comment_piece, mark_piece, piece_of}
 use Rattle.tlsf_tokens.specs.Cuts.{AreFormed}
-use Rattle.tlsf_tokens.specs.declared.code.SpecCode.TheVariants.{Unclosed, Unsupported}
 use Rattle.tlsf_tokens.specs.declared.token.Token.{Token}
 use Rattle.tlsf_tokens.specs.declared.token.TokenKind.{TokenKind}
 use Rattle.tlsf_tokens.specs.declared.token.TokenKind.TheVariants as kind
@@ -17,7 +16,7 @@ use Rattle.tlsf_tokens.specs.declared.token.Piece.TheVariants as piece
 use Rattle.tlsf_tree.specs.declared.symbol.Symbol.{Symbol}
 use Rattle.tlsf_tree.specs.declared.symbol.Symbol.TheVariants as symbol
 use Rattle.tlsf_grammar.specs.Lexemes.{Lexeme, Is}
-use Rattle.tlsf_reader.specs.Symbols.{Spelled, sign_spellings, keyword_spellings, meaning_of, symbol_of, lexeme_from, then_lexemes, lexemes_of}
+use Rattle.tlsf_reader.specs.Symbols.{Spelled, sign_spellings, keyword_spellings, symbol_of, lexeme_from, then_lexemes, lexemes_of}
 use Rattle.flat_text.specs.FlatNames.{IsOneWord}
 
 -- ---- a name as bytes

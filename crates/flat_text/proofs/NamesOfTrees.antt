@@ -1,6 +1,6 @@
 -- The names that a text declares, and those of its flat form, are words.
 use Rattle.std.proofs.Common.{◌≡◌, ℕ, zero, suc, ◌+◌, ◌<◌, ◌≤◌, inl, inr, Bool, true, false, List, [], ◌∷◌, ◌++◌, length, Option, None, Some, Result, Ok, Err, All, refl, sym, ap, subst, ◌∙◌, arith}
-use Rattle.std.specs.Prelude.{◌≢◌, ◌==◌, ◌&&◌, ◌||◌, not, nat_le, codes, decimal, IfOk, IsTrue}
+use Rattle.std.specs.Prelude.{◌≢◌, ◌==◌, ◌&&◌, ◌||◌, not, nat_le, codes, decimal, IfOk}
 use Rattle.std.specs.List.{list_all}
 use Rattle.std.proofs.lemmas.Bool.{eqb-true, leb-true, or_cases}
 use Rattle.std.proofs.lemmas.Fmt.{decimal_digit}
@@ -12,14 +12,12 @@ use Rattle.tlsf_tokens.specs.declared.code.SpecCode.{SpecCode}
 use Rattle.tlsf_tokens.specs.declared.code.SpecCode.TheVariants.{TooManySignals}
 use Rattle.tlsf_tokens.specs.declared.code.SpecFault.{SpecFault}
 use Rattle.tlsf_tokens.proofs.Cutting.{formed}
-use Rattle.tlsf_tree.specs.declared.symbol.Symbol.TheVariants as symbol
-use Rattle.tlsf_grammar.specs.Tree.{Named, Declaration, Part, inputs, outputs, section, Written}
-use Rattle.tlsf_grammar.specs.Lexemes.{Lexeme, Is}
+use Rattle.tlsf_grammar.specs.Tree.{Named, Declaration, Part, Written}
+use Rattle.tlsf_grammar.specs.Lexemes.{Lexeme}
 use Rattle.tlsf_grammar.specs.Texts.{DerivesDeclarations, of_no_declaration, of_single, of_bus, of_typed, DerivesParts, of_no_part, of_inputs, of_outputs, of_section, DerivesMain, of_main, DerivesText, of_text}
 use Rattle.tlsf_values.specs.declared.work.Work.{Work}
 use Rattle.tlsf_values.specs.Outcomes.{Outcome, gives, fails, go_on, choose}
 use Rattle.tlsf_reader.specs.Spec.{Spec, inputs_of, outputs_of, spec_of}
-use Rattle.tlsf_reader.specs.Reads.{Reads}
 use Rattle.tlsf_expand.specs.Texts.{Text}
 use Rattle.tlsf_expand.specs.Signals.{Extent, alone, wide, of_type, width_of, bits_in, extent_value, bit_name, bit_names, Declared, declared, most_signals, declaration_value, declarations_value, Signals, none_yet, signals_value, uneven_value, even_first, signals_of}
 use Rattle.tlsf_expand.specs.Sections.{sections_value, whole_value}

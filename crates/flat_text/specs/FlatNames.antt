@@ -8,7 +8,6 @@ use Rattle.tlsf_reader.specs.Reads.{Reads}
 use Rattle.tlsf_expand.specs.Expansion.{Expanded, expanded}
 use Rattle.tlsf_expand.specs.TextSeen.{FlatText, flat_in}
 use Rattle.flat_text.specs.Plain.{text_of}
-use Rattle.flat_text.specs.FlatOf.{IsFlatOf}
 
 -- a name that stands in one word of one line: it isn't empty, and no byte of it is a blank or ends a line
 pub record IsOneWord (name : List ℕ) : Type 0 where

@@ -1,4 +1,4 @@
-use Rattle.std.specs.Prelude.{◌^◌, ◌<◌, ℕ, List, All, Contains}
+use Rattle.std.specs.Prelude.{◌^◌, ◌<◌, ℕ, List, All}
 use Rattle.ltl_formula.specs.declared.nodes.FormulaId.{FormulaId}
 use Rattle.ltl_formula.specs.declared.nodes.Node.{Node}
 use Rattle.ltl_formula.specs.ListSignals.{HasSignalsBelow}
