@@ -287,6 +287,7 @@ module _ (text : List ℕ) (kind : Option Kind) (settings : Settings) (spec : Fl
     holds = holds_for v c logs suits;
     no_bad_line = λ n bad. k.laws.bad_lines.holding_has_none given bytes (doc v c logs) n (made.stated (well_formed v c logs suits made.short) writable) (holds_for v c logs suits) bad;
     version = refl;
+    kind = sym for_text.of_system.kind_is;
     max = refl;
     entries = refl;
     taught = all_parts_at (ForLog given (λ p q. IsTaught (base_at p q.size) q.entries)) (λ l n h. h) (first_line c) logs

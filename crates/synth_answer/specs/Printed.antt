@@ -41,13 +41,15 @@ given_by spec problems = record {
   environment = problems.environment;
 }
 
--- The bytes are a document of version 3 with the settings' numbers, which holds for the text: the test of documents finds no bad line.
--- Each log is taught, and each entry is of a worker that was asked for, or of the caller, whose number is 0.
+-- The bytes are a document of version 3 with the kind of the system's machines and the settings' numbers, which holds for the text: the
+-- test of documents finds no bad line. Each log is taught, and each entry is of a worker that was asked for, or of the caller, whose
+-- number is 0.
 pub record IsPrinted (x : Facts) (settings : Settings) (bytes : List ℕ) (d : Document) : Type 0 where
   pub states : States bytes d
   pub holds : HoldsFor x d
   pub no_bad_line : (n : ℕ) → IsFirstBadFor x bytes n → ⊥
   pub version : d.version ≡ 3
+  pub kind : d.kind ≡ x.system.kind
   pub max : d.max ≡ settings.max
   pub entries : d.entries ≡ settings.entries
   pub taught : All (ForLog x (λ p l. IsTaught (base_at p l.size) l.entries)) d.logs
