@@ -11,10 +11,14 @@ use Rattle.synth_engine.specs.Tasks.{AreSeats}
 use Rattle.synth_engine.proofs.WorkerLemmas.{as_many}
 use Rattle.synth_engine.specs.Hands.{AreAtFrom, AreCrewsFrom, AreDrawn, joined}
 
+-- a list with one element more
+pub push_count : {X : Type 0} (ys xs : List X) (x : X) → ys ≡ xs ++ x ∷ [] → length ys ≡ length xs + 1
+push_count ys xs x e = ap length e ∙ length-append xs (x ∷ [])
+
 -- what holds of each element of a list holds of its last one
 pub last_of : {X : Type 0} (P : X → Type 0) (ys xs : List X) (x : X) → ys ≡ xs ++ x ∷ [] → All P ys → P x
 last_of P ys xs x e all =
-    let n : length ys ≡ length xs + 1 = ap length e ∙ length-append xs (x ∷ []) in
+    let n : length ys ≡ length xs + 1 = push_count ys xs x e in
     let at : get_or ys (length xs) x ≡ x = ap (λ l. get_or l (length xs) x) e ∙ get_or_push xs x x (length xs) refl in
     rw (sym at) (all (length xs) x (omega arith))
 

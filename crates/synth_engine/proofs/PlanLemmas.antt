@@ -1,11 +1,13 @@
 -- Sizes that are opened, and seats that are handed out.
-use Rattle.std.proofs.Common.{◌≡◌, ℕ, zero, suc, ◌+◌, ◌-◌, ◌<◌, List, [], ◌∷◌, ◌++◌, All, map, length, get_or, refl, sym, ◌∙◌, ap, subst, arith, drop, length-append, inl, inr}
-use Rattle.std.specs.Prelude.{Vec, Some, slice_get, vec_len}
+use Rattle.std.proofs.Common.{◌≡◌, ℕ, zero, suc, ◌+◌, ◌-◌, ◌<◌, ◌≤◌, List, [], ◌∷◌, ◌++◌, All, map, length, get_or, refl, sym, ◌∙◌, ap, subst, arith, drop, length-append, inl, inr, Global}
+use Rattle.std.specs.Prelude.{Vec, Some, Result, Ok, Err, IfOk, slice_get, vec_len}
+use Rattle.std.specs.List.{AllZip}
 use Rattle.std.proofs.lemmas.Bool.{cases_lt}
-use Rattle.std.proofs.lemmas.List.{ext_get_or, get_or_append_left, get_or_push, same_from_push}
+use Rattle.std.proofs.lemmas.List.{ext_get_or, get_or_append_left, get_or_push, length-map, same_from_push}
 use Rattle.std.proofs.lemmas.List.Elements.{All-append, All-cons, All-nil}
-use Rattle.std.proofs.lemmas.Option.{get_or_from_slice_get}
-use Rattle.machine_model.specs.Problem.{parts_of, sized}
+use Rattle.std.proofs.lemmas.Option.{get_or_from_slice_get, slice_get-get_or}
+use Rattle.machine_model.specs.Problem.{IsProblem, parts_of, sized}
+use Rattle.machine_model.proofs.PartsLemmas.{alike}
 use Rattle.machine_model.specs.declared.problems.Problem.{Problem}
 use Rattle.annotation_encode.specs.BaseClauses.{base_clauses}
 use Rattle.annotation_encode.specs.Variables.{variables_of}
@@ -13,12 +15,13 @@ use Rattle.annotation_encode.proofs.Further.{equal_clauses}
 use Rattle.refutation_log.proofs.Lists.{slice_get-push}
 use Rattle.clause_exchange.specs.SharedLog.{PassView, SharedLog, new_pass}
 use Rattle.size_search.specs.Task.{SizeTaskModel, terms_of}
+use Rattle.size_search.specs.declared.tasks.Opened.{Opened}
 use Rattle.synth_engine.specs.declared.settings.Settings.{Settings}
 use Rattle.synth_engine.specs.declared.crews.Crew.{Crew}
 use Rattle.synth_engine.specs.declared.sizes.Sizes.{Sizes}
 use Rattle.synth_engine.specs.Tasks.{AreSeats, AreTasks, IsCrewOf, IsTaskOf}
 use Rattle.synth_engine.specs.Hands.{AreCrewsFrom, AreDrawn, AreRacks, joined, new_seats}
-use Rattle.synth_engine.specs.Plans.{AreWorkersOf}
+use Rattle.synth_engine.specs.Plans.{AreProblemsDown, AreTasksUpTo, AreWorkersOf, IsOpenedFor}
 use Rattle.synth_engine.proofs.HandLemmas.{items}
 
 -- OPENED SIZES
@@ -153,3 +156,111 @@ system_crews sizes top crews are =
 pub environment_crews : (sizes : Sizes) (top : ℕ) (crews : List Crew) → AreWorkersOf sizes top crews → AreCrewsFrom top sizes.environment.items (map (λ c. c.environment) crews)
 environment_crews sizes top crews are =
     crews_at top sizes.environment.items crews (λ (c : Crew). c.environment) (λ i d h. subst (λ k. AreSeats k sizes.environment.items (get_or crews i d).environment.items) (are.numbers i d h) (are.seats i d h).environment)
+
+-- PROBLEMS OF ALL SIZES, OPENED
+
+zip_push : {A B : Type 0} (R : A → B → Type 0) (xs : List A) (ys : List B) (x : A) (y : B) → AllZip R xs ys → R x y → AllZip R (xs ++ x ∷ []) (ys ++ y ∷ [])
+zip_push R [] [] x y all one = (one, tt)
+zip_push R [] (b ∷ bs) x y all one = absurd all
+zip_push R (a ∷ as') [] x y all one = absurd all
+zip_push R (a ∷ as') (b ∷ bs) x y all one = (all.0, zip_push R as' bs x y all.1 one)
+
+pub opened_push : (settings : Settings) (ps : List Problem) (os later : List Opened) (p : Problem) (o : Opened) → AllZip (IsOpenedFor settings) ps os → later ≡ os ++ o ∷ [] → IsOpenedFor settings p o
+    → AllZip (IsOpenedFor settings) (ps ++ p ∷ []) later
+opened_push settings ps os later p o all is one = rw is (zip_push (IsOpenedFor settings) ps os p o all one)
+
+zip_length : {A B : Type 0} (R : A → B → Type 0) (xs : List A) (ys : List B) → AllZip R xs ys → length ys ≡ length xs
+zip_length R [] [] all = refl
+zip_length R [] (b ∷ bs) all = absurd all
+zip_length R (a ∷ as') [] all = absurd all
+zip_length R (a ∷ as') (b ∷ bs) all = let e = zip_length R as' bs all.1 in omega arith
+
+-- what threads opened, one for each problem
+zip_results : {E : Type 0} (settings : Settings) (ps : List Problem) (os : List Opened) (rs : List (Result Opened E)) → rs ≡ map (λ o. Ok o) os → length rs ≡ length ps
+    → ((i : ℕ) (d : Result Opened E) (p : Problem) → i < length ps → IfOk (get_or rs i d) (IsOpenedFor settings (get_or ps i p))) → AllZip (IsOpenedFor settings) ps os
+zip_results settings [] [] rs is n each = tt
+zip_results settings [] (o ∷ os) rs is n each = let m = ap length is in absurd (omega arith)
+zip_results settings (p ∷ ps) [] rs is n each = let m = ap length is in absurd (omega arith)
+zip_results {E} settings (p ∷ ps) (o ∷ os) [] is n each = absurd (omega arith)
+zip_results {E} settings (p ∷ ps) (o ∷ os) (r ∷ rs) is n each =
+    let head : r ≡ Ok o = ap (λ l. get_or l 0 r) is in
+    let P : Result Opened E → Type 0 = λ (x : Result Opened E). IfOk x (IsOpenedFor settings p) in (
+      subst P head (each 0 r p (omega arith)),
+      zip_results settings ps os rs (ap (λ l. drop 1 l) is) (omega arith) (λ i d q h. each (suc i) d q (omega arith)),
+    )
+
+pub opened_at_once : {E F Z : Type 0} (settings : Settings) (ps : List Problem) (rs : List (Result Opened E)) (r : Result (Vec Opened Z) F) → length rs ≡ length ps
+    → ((i : ℕ) (d : Result Opened E) (p : Problem) → i < length ps → IfOk (get_or rs i d) (IsOpenedFor settings (get_or ps i p))) → IfOk r (λ all. rs ≡ map (λ o. Ok o) all.items)
+    → IfOk r (λ all. AllZip (IsOpenedFor settings) ps all.items)
+opened_at_once settings ps rs (Ok all) n each is = zip_results settings ps all.items rs is n each
+opened_at_once settings ps rs (Err e) n each is = tt
+
+-- each size's problem is within the limits
+pub problems_are : (p : Problem) (count : ℕ) (ps : List Problem) → IsProblem p → count ≤ 8 → AreProblemsDown p count ps → All IsProblem ps
+problems_are p count ps problem few down k d h =
+    let q : Problem = get_or ps k d in
+    let all : length ps ≡ count = down.all in
+    let same : parts_of q ≡ parts_of (sized p (count - k)) = down.each k q (slice_get-get_or ps k d h) in
+    let here : IsProblem (sized p (count - k)) = record {
+      inputs = problem.inputs;
+      outputs = problem.outputs;
+      some = omega arith;
+      size = omega arith;
+      states = problem.states;
+      signals = problem.signals;
+      version = problem.version;
+    } in
+    (alike (sized p (count - k)) q (sym same)).problem here
+
+pub problems_push : (p : Problem) (count : ℕ) (ps later : List Problem) (q : Problem) → ((k : ℕ) (x : Problem) → slice_get ps k ≡ Some x → parts_of x ≡ parts_of (sized p (count - k))) → later ≡ ps ++ q ∷ []
+    → parts_of q ≡ parts_of (sized p (count - length ps)) → (k : ℕ) (x : Problem) → slice_get later k ≡ Some x → parts_of x ≡ parts_of (sized p (count - k))
+problems_push p count ps later q each is here k x at =
+    let at' : slice_get (ps ++ q ∷ []) k ≡ Some x = subst (λ l. slice_get l k ≡ Some x) is at in
+    elim (slice_get-push ps q k x at') [
+      | inl old ↦ each k x old
+      | inr new ↦ subst (λ y. parts_of y ≡ parts_of (sized p (count - k))) new.1 (here ∙ ap (λ j. parts_of (sized p (count - j))) (sym new.0))
+    ]
+
+abbrev pub task_of : Opened → SizeTaskModel
+task_of o = o.task
+
+zip_at : (settings : Settings) (ps : List Problem) (os : List Opened) (k : ℕ) (t : SizeTaskModel) → AllZip (IsOpenedFor settings) ps os → slice_get (map task_of os) k ≡ Some t
+    → (q : Problem) × (o : Opened) × (slice_get ps k ≡ Some q) × (o.task ≡ t) × IsOpenedFor settings q o
+zip_at settings [] [] k t all at = absurd (nothing k t at)
+  where
+    nothing : (k : ℕ) (u : SizeTaskModel) → slice_get [] k ≡ Some u → ⊥
+    nothing k u at = cc
+zip_at settings [] (o ∷ os) k t all at = absurd all
+zip_at settings (p ∷ ps) [] k t all at = absurd all
+zip_at settings (p ∷ ps) (o ∷ os) zero t all at = (p, o, refl, same o.task t at, all.0)
+  where
+    same : (a b : SizeTaskModel) → Some a ≡ Some b → a ≡ b
+    same a b e = cc
+zip_at settings (p ∷ ps) (o ∷ os) (suc k) t all at = zip_at settings ps os k t all.1 at
+
+pub tasks_up_to : (p : Problem) (settings : Settings) (count : ℕ) (ps : List Problem) (os : List Opened) (tasks : List SizeTaskModel) → AreProblemsDown p count ps → AllZip (IsOpenedFor settings) ps os
+    → tasks ≡ map task_of os → AreTasksUpTo p settings count tasks
+tasks_up_to p settings count ps os tasks down all is =
+    let n : length (map task_of os) ≡ length os = length-map os task_of in
+    let m : length os ≡ length ps = zip_length (IsOpenedFor settings) ps os all in
+    let c : length ps ≡ count = down.all in
+    rw is (record {
+      all = omega arith;
+      each = record {
+        few = omega arith;
+        each = λ k t at.
+            let x = zip_at settings ps os k t all at in
+            let task : IsTaskOf p settings (count - k) x.1.task = task_opened p x.0 settings (count - k) x.1.task (down.each k x.0 x.2) x.4.problem x.4.terms in
+            subst (IsTaskOf p settings (count - k)) x.3 task;
+      };
+    })
+
+zip_racks : (settings : Settings) (ps : List Problem) (os : List Opened) → AllZip (IsOpenedFor settings) ps os → AreRacks (settings.workers + 1) (map task_of os) (map (λ o. o.seats) os)
+zip_racks settings [] [] all = tt
+zip_racks settings [] (o ∷ os) all = absurd all
+zip_racks settings (p ∷ ps) [] all = absurd all
+zip_racks settings (p ∷ ps) (o ∷ os) all = (all.0.seats, zip_racks settings ps os all.1)
+
+pub racks_of : (settings : Settings) (ps : List Problem) (os : List Opened) (tasks : List SizeTaskModel) (racks : List (Vec PassView Global)) → AllZip (IsOpenedFor settings) ps os → tasks ≡ map task_of os
+    → racks ≡ map (λ o. o.seats) os → AreRacks (settings.workers + 1) tasks racks
+racks_of settings ps os tasks racks all tasks_are racks_are = rw (tasks_are, racks_are) (zip_racks settings ps os all)

@@ -1,10 +1,12 @@
-use Rattle.std.specs.Prelude.{◌≡◌, ℕ, ◌+◌, ◌-◌, ◌<◌, ◌≤◌, Option, Some, None, List, All, length, slice_index_or}
+use Rattle.std.specs.Prelude.{◌≡◌, ℕ, ◌+◌, ◌-◌, ◌<◌, ◌≤◌, Option, Some, None, List, All, length, slice_get, slice_index_or}
 use Rattle.std.specs.Option.{option_map}
 use Rattle.machine_model.specs.Machine.{size_of}
 use Rattle.machine_model.specs.declared.problems.Problem.{Problem}
 use Rattle.annotation_encode.specs.Count.{allowed_sizes}
 use Rattle.size_board.specs.Names.{Named, SideHas, sizes_of, sought_by, sought_of}
-use Rattle.size_search.specs.Task.{SizeTaskModel}
+use Rattle.machine_model.specs.Problem.{parts_of, sized}
+use Rattle.size_search.specs.Task.{SizeTaskModel, terms_of}
+use Rattle.size_search.specs.declared.tasks.Opened.{Opened}
 use Rattle.synth_engine.specs.declared.settings.Settings.{Settings}
 use Rattle.synth_engine.specs.declared.plans.Plan.{Plan}
 use Rattle.synth_engine.specs.declared.plans.Field.{Field}
@@ -13,7 +15,7 @@ use Rattle.synth_engine.specs.declared.sizes.Sizes.{Sizes}
 use Rattle.synth_engine.specs.declared.workers.Winner.{Winner}
 use Rattle.synth_engine.specs.Searched.{allowed_of}
 use Rattle.synth_engine.specs.Tasks.{AreTasks, IsCrewOf}
-use Rattle.synth_engine.specs.Hands.{AreRacks}
+use Rattle.synth_engine.specs.Hands.{AreRacks, new_seats}
 
 -- A plan of these problems: it has them, and the numbers of their allowed sizes.
 pub record IsPlanOf (system : Problem) (environment : Option Problem) (max : ℕ) (plan : Plan) : Type 0 where
@@ -32,6 +34,17 @@ named_of plan = record {
   system_sizes = plan.system_sizes;
   environment_sizes = plan.environment_sizes;
 }
+
+-- The problem with each size from a number down to 1, wherever the automaton is kept.
+pub record AreProblemsDown (p : Problem) (count : ℕ) (problems : List Problem) : Type 0 where
+  pub all : length problems ≡ count
+  pub each : (k : ℕ) (q : Problem) → slice_get problems k ≡ Some q → parts_of q ≡ parts_of (sized p (count - k))
+
+-- A problem's size is opened: its task with all seats.
+pub record IsOpenedFor (settings : Settings) (p : Problem) (o : Opened) : Type 0 where
+  pub problem : o.task.problem ≡ p
+  pub terms : o.task.exchange.terms ≡ terms_of p settings.entries (settings.workers + 1)
+  pub seats : o.seats.items ≡ new_seats o.task.exchange (settings.workers + 1)
 
 -- The tasks of a problem's first sizes, from the largest one down.
 pub record AreTasksUpTo (p : Problem) (settings : Settings) (count : ℕ) (tasks : List SizeTaskModel) : Type 0 where

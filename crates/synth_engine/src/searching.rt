@@ -46,7 +46,7 @@ pub fn search<R: Threads + Wait + Sync, G: Gate + Sync>(
     ensures decisive { CannotFill system environment settings → IfOk result IsDecisive }
 {
     let plan = Plan::new(system, environment, settings.max);
-    let field = plan.open(alloc, settings)?;
+    let field = plan.open(rt, alloc, settings)?;
     let (sizes, mut crews) = field.hand_out(alloc, settings.workers)?;
     let Some(mut own) = crews.pop() else {
         unreachable!()

@@ -1,10 +1,11 @@
-use Rattle.std.proofs.Common.{◌≡◌, ◌+◌, [], ◌∷◌, length, refl, sym, ◌∙◌, ap, arith, length-append}
+use Rattle.std.proofs.Common.{◌≡◌, ◌+◌, length, refl, sym, ◌∙◌, arith}
 use Rattle.std.specs.Prelude.{IfOk}
 use Rattle.synth_engine.specs.declared.outcomes.Outcome.{Outcome}
 use Rattle.letter_word.specs.declared.kinds.Side.TheVariants.{Environment}
 use Rattle.synth_engine.specs.Outcomes.{ClosedRefute, HasNoEntries, HasNoSize, IsBounded, IsDecisive, IsSmallest, OfSide, OnBounded, OnNoEntries, OnNoSize, OnReal, OnUnreal, logs_of}
 use Rattle.synth_engine.specs.Plans.{AreSizesOf, AreWorkersOf, IsWinner, named_of}
 use Rattle.synth_engine.specs.Concluded.{IsOutcomeOf}
+use Rattle.synth_engine.proofs.HandLemmas.{push_count}
 use Rattle.synth_engine.proofs.PlanLemmas.{environment_crews, system_crews}
 use Rattle.synth_engine.proofs.SearchLemmas.{all_left, environment_seats, if_ok, plan_named, sizes_fit, system_seats, winner_is, winner_some, winner_within, workers_back, workers_pop}
 use Rattle.synth_engine.proofs.searching.search.Goals as goal
@@ -18,7 +19,7 @@ workers_are : (g : _) (c : In-Some g) → AreWorkersOf c.in_ok-sizes.sizes c.arg
 workers_are g c = rw c.in_ok-sizes.ensures.sizes c.in_ok-sizes.ensures.crews
 
 pub open-requires-clause-environment : goal.open-requires-clause-environment
-open-requires-clause-environment g c = λ x is. (c.requires.environment x (sym c.new-plan.ensures.environment_is ∙ is)).within
+open-requires-clause-environment g c κs within = λ x is. (c.requires.environment x (sym c.new-plan.ensures.environment_is ∙ is)).within
 
 pub run_workers-requires-clause-named : goal.run_workers-requires-clause-named
 run_workers-requires-clause-named g c κs within =
@@ -52,8 +53,8 @@ back_count g c =
     let raced : c.in_ok-winner.crews.len ≡ length c.in_ok-winner.crews.items = c.in_ok-winner.crews.ok.0 in
     let count = c.in_ok-winner.ensures.count in
     let all : length c.in_ok-sizes.crews.items ≡ c.args.settings.workers + 1 = c.in_ok-sizes.ensures.count in
-    let one : length c.in_ok-sizes.crews.items ≡ length c.pop.new.self.items + 1 = ap length c.in-Some.ensures.items ∙ length-append c.pop.new.self.items (c.in-Some.own ∷ []) in
-    let later : length c.push.new.self.items ≡ length c.in_ok-winner.crews.items + 1 = ap length c.in_ok-push.ensures.items ∙ length-append c.in_ok-winner.crews.items (c.run_workers.new.own ∷ []) in
+    let one : length c.in_ok-sizes.crews.items ≡ length c.pop.new.self.items + 1 = push_count c.in_ok-sizes.crews.items c.pop.new.self.items c.in-Some.own c.in-Some.ensures.items in
+    let later : length c.push.new.self.items ≡ length c.in_ok-winner.crews.items + 1 = push_count c.push.new.self.items c.in_ok-winner.crews.items c.run_workers.new.own c.in_ok-push.ensures.items in
     omega arith
 
 all_sizes : (g : _) (c : In_ok-of_system g) → AreSizesOf c.new-plan.result c.args.settings c.in_ok-sizes.sizes

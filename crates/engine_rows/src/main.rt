@@ -1,0 +1,195 @@
+//! Searches of small games whose answers are known, with none, one, two and eight workers, and with gates that hold workers back. What
+//! the stored run must print was worked out by hand: numbers of states, which logs stand, and which of them are closed.
+#![tactic(auto)]
+
+ghost use Rattle.std.specs.Prelude.{◌≤◌};
+ghost use Rattle.std.specs.Option.{ForSome};
+ghost use Rattle.letter_word.specs.declared.kinds.Side.TheVariants.{System, Environment};
+ghost use Rattle.synth_engine.specs.Searched.{IsSearched};
+
+mod games;
+
+use games::{arbiter, crowd, delay, delay_spoiled, foresight, foresight_spoiled};
+use machine_model::Problem;
+use outside_edge::{Gate, HoldGate, OpenGate, ShareGate};
+use size_search::SizeLog;
+use std::alloc::Global;
+use std::io;
+use std::sync::Wait;
+use std::thread::Threads;
+use synth_engine::{Outcome, Settings, search};
+
+/// What bounds the searches that name no other bounds.
+const USUAL: Settings = Settings {
+    max: 4,
+    entries: Some(50_000),
+    workers: 0,
+};
+
+/// Searches, and prints what came of it.
+fn tell<R: Threads + Wait + Sync + Print, G: Gate + Sync>(
+    rt: &R,
+    alloc: Global,
+    name: &str,
+    problems: (Problem, Option<Problem>),
+    settings: Settings,
+    gate: &G,
+) -> anyhow::Result<()>
+    requires max { settings.max ≤ 8 }
+    requires some { 1 ≤ settings.max }
+    requires workers { settings.workers ≤ 8 }
+    requires system { IsSearched System problems.0 }
+    requires environment { ForSome problems.1 (IsSearched Environment) }
+{
+    let (system, environment) = problems;
+    let outcome = search(rt, alloc, system, environment, settings, gate)?;
+    print!(rt; "{name}, {} workers: ", settings.workers)?;
+    tell_outcome(rt, &outcome)?;
+    Ok(())
+}
+
+fn tell_outcome(rt: &impl Print, outcome: &Outcome) -> io::Result<()> {
+    match outcome {
+        Outcome::Real { machine, logs } => {
+            println!(rt; "real {}", machine.size())?;
+            tell_logs(rt, logs)
+        }
+        Outcome::Unreal { machine, logs } => {
+            println!(rt; "unreal {}", machine.size())?;
+            tell_logs(rt, logs)
+        }
+        Outcome::Bounded {
+            side,
+            machine,
+            logs,
+        } => {
+            println!(rt; "bounded {side:?} {}", machine.size())?;
+            tell_logs(rt, logs)
+        }
+        Outcome::NoSize { logs } => {
+            println!(rt; "no size")?;
+            tell_logs(rt, logs)
+        }
+        Outcome::NoEntries { side, size, logs } => {
+            println!(rt; "no entries {side:?} {size}")?;
+            tell_logs(rt, logs)
+        }
+    }
+}
+
+fn tell_logs(rt: &impl Print, logs: &[SizeLog]) -> io::Result<()> {
+    for log in logs {
+        let state = if log.log.is_closed() {
+            "closed"
+        } else if log.log.is_full() {
+            "full"
+        } else {
+            "open"
+        };
+        println!(rt;
+            "  {:?} {}: {state}, over {} variables and {} clauses",
+            log.side, log.size, log.vars, log.base
+        )?;
+    }
+    Ok(())
+}
+
+/// Whether the entries of the first log are of two workers at least, the caller apart.
+fn is_shared(outcome: &Outcome) -> bool {
+    let Outcome::NoSize { logs } = outcome else {
+        return false;
+    };
+    let Some(log) = logs.first() else {
+        return false;
+    };
+    let mut first = 0;
+    for place in 0..log.log.entries() {
+        let by = log.log.entry(place).by;
+        if first == 0 {
+            first = by;
+        } else if by != 0 && by != first {
+            return true;
+        }
+    }
+    false
+}
+
+fn main(rt: HostRuntime) -> anyhow::Result<()> {
+    let alloc = rt.alloc();
+    for workers in [0, 1, 2, 8] {
+        let settings = Settings { workers, ..USUAL };
+        let both = (delay(alloc)?, Some(delay_spoiled(alloc)?));
+        tell(&rt, alloc, "delay", both, settings, &OpenGate)?;
+        let both = (foresight(alloc)?, Some(foresight_spoiled(alloc)?));
+        tell(&rt, alloc, "foresight", both, settings, &OpenGate)?;
+        tell(
+            &rt,
+            alloc,
+            "arbiter",
+            (arbiter(alloc)?, None),
+            settings,
+            &OpenGate,
+        )?;
+    }
+    let small = Settings { max: 1, ..USUAL };
+    let both = (delay(alloc)?, Some(delay_spoiled(alloc)?));
+    tell(&rt, alloc, "delay of one state", both, small, &OpenGate)?;
+    let endless = Settings {
+        entries: None,
+        ..small
+    };
+    let both = (delay(alloc)?, Some(delay_spoiled(alloc)?));
+    tell(
+        &rt,
+        alloc,
+        "delay of one state without a limit",
+        both,
+        endless,
+        &OpenGate,
+    )?;
+    let none = Settings {
+        entries: Some(0),
+        ..small
+    };
+    let both = (delay(alloc)?, Some(delay_spoiled(alloc)?));
+    tell(
+        &rt,
+        alloc,
+        "delay of one state without entries",
+        both,
+        none,
+        &OpenGate,
+    )?;
+    tell(
+        &rt,
+        alloc,
+        "delay of one state against nobody",
+        (delay(alloc)?, None),
+        small,
+        &OpenGate,
+    )?;
+    tell(&rt, alloc, "crowd", (crowd(alloc)?, None), USUAL, &OpenGate)?;
+    let held = Settings {
+        workers: 2,
+        ..USUAL
+    };
+    let gate = HoldGate::new();
+    tell(
+        &rt,
+        alloc,
+        "arbiter held",
+        (arbiter(alloc)?, None),
+        held,
+        &gate,
+    )?;
+    println!(&rt; "met {}", gate.met())?;
+    let shared = Settings {
+        workers: 4,
+        ..small
+    };
+    let gate = ShareGate::new(2);
+    let outcome = search(&rt, alloc, arbiter(alloc)?, None, shared, &gate)?;
+    tell_outcome(&rt, &outcome)?;
+    println!(&rt; "shared {}, met {}", is_shared(&outcome), gate.met())?;
+    Ok(())
+}
