@@ -1,0 +1,105 @@
+//! The search on the text of an arbiter, and its three lines.
+ghost use Rattle.std.specs.Prelude.{◌≡◌, ◌≤◌, ◌++◌, IfOk, OnOk};
+ghost use Rattle.program_replies.specs.Statuses.{status_number};
+ghost use Rattle.bench_answer.specs.Bench.{BenchAnswer, HasVerdict, IsDocument, bounds_of, lines_of, states_of, word_of};
+
+use arbiter_text::write_arbiter;
+use cert_text::laws::documents_are_determined;
+use cert_text::{DocumentFault, Verdict, read_document};
+use outside_edge::Gate;
+use program_replies::{Reply, Status};
+use std::alloc::{AllocError, Global};
+use std::sync::Wait;
+use std::thread::Threads;
+use synth_answer::answer;
+use synth_engine::Settings;
+use text_base::push_number;
+
+/// The answer to the text of an arbiter of that many clients, searched up to 4 states without a limit on entries: the lines
+/// `clients K`, `verdict V` and `states N` with status 10, 20 or 30. N is 0 where no machine of an allowed size exists.
+///
+/// It waits for the workers of the search, each of which passes the gate at three moments of its turns.
+pub fn bench_answer<R: Threads + Wait + Sync, G: Gate + Sync>(
+    rt: &R,
+    alloc: Global,
+    clients: u32,
+    workers: u32,
+    gate: &G,
+) -> Result<Reply, AllocError>
+    requires some_client { 1 ≤ clients }
+    requires most_clients { clients ≤ 4 }
+    requires workers { workers ≤ 8 }
+    ensures { IfOk result (λ r. BenchAnswer clients workers r.bytes.items (status_number r.status)) }
+{
+    let mut text = Vec::new(alloc);
+    write_arbiter(clients, &mut text)?;
+    let found = answer(rt, alloc, &text, None, bounds(workers), gate)?;
+    // The text of an arbiter has no fault, which no law says yet.
+    if let Status::Refused = found.status {
+        return Err(AllocError);
+    }
+    documents_are_determined();
+    let verdict = verdict_in(alloc, &found.bytes)?;
+    Ok(Reply {
+        bytes: lines(alloc, clients, verdict)?,
+        status: found.status,
+    })
+}
+
+// How the search is bounded.
+fn bounds(workers: u32) -> Settings
+    ensures { result ≡ bounds_of workers }
+{
+    Settings {
+        max: 4,
+        entries: None,
+        workers,
+    }
+}
+
+// The verdict of the document that the bytes state.
+fn verdict_in(alloc: Global, bytes: &[u8]) -> Result<Verdict, AllocError>
+    requires { IsDocument bytes.now }
+    ensures { IfOk result (HasVerdict bytes.now) }
+{
+    documents_are_determined();
+    match read_document(alloc, bytes) {
+        Ok(document) => Ok(document.verdict),
+        Err(DocumentFault::NoMemory) => Err(AllocError),
+        Err(DocumentFault::BadLine(_)) => unreachable!(),
+    }
+}
+
+// The three lines.
+fn lines(alloc: Global, clients: u32, verdict: Verdict) -> Result<Vec<u8>, AllocError>
+    ensures { IfOk result (λ bytes. bytes.items ≡ lines_of clients verdict) }
+{
+    let mut bytes = Vec::new(alloc);
+    bytes.extend_from_slice(b"clients ")?;
+    push_number(&mut bytes, u64::from(clients))?;
+    bytes.extend_from_slice(b"\nverdict ")?;
+    bytes.extend_from_slice(word(verdict))?;
+    bytes.extend_from_slice(b"\nstates ")?;
+    push_number(&mut bytes, u64::from(states(verdict)))?;
+    bytes.extend_from_slice(b"\n")?;
+    Ok(bytes)
+}
+
+fn word(verdict: Verdict) -> &'static [u8]
+    ensures { result.now ≡ word_of verdict }
+{
+    match verdict {
+        Verdict::Realizable(_) => b"realizable",
+        Verdict::Unrealizable(_) => b"unrealizable",
+        Verdict::Bounded(..) | Verdict::UnknownSizes | Verdict::UnknownEntries(..) => b"unknown",
+    }
+}
+
+fn states(verdict: Verdict) -> u32
+    ensures { result ≡ states_of verdict }
+{
+    match verdict {
+        Verdict::Realizable(size) | Verdict::Unrealizable(size) => size,
+        Verdict::Bounded(..) | Verdict::UnknownSizes | Verdict::UnknownEntries(..) => 0,
+    }
+}
