@@ -10,7 +10,10 @@ use Rattle.program_replies.specs.declared.replies.Status.TheVariants.{Done, Refu
 use Rattle.program_replies.specs.Statuses.{status_number}
 use Rattle.program_replies.specs.Lines.{refusal_line}
 use Rattle.program_words.specs.declared.settings.Search.{Search}
-use Rattle.program_words.specs.Settings.{Asked, settings_of, gen, synth}
+use Rattle.program_words.specs.Settings.{Asked, settings_of, bench, gen, synth}
+use Rattle.cert_text.specs.declared.documents.Verdict.{Verdict}
+use Rattle.cert_text.specs.declared.documents.Verdict.TheVariants as verdict
+use Rattle.bench_answer.specs.Bench.{BenchAnswer, HasStatus}
 use Rattle.tlsf_tokens.specs.declared.code.SpecCode.TheVariants.{TooLong}
 use Rattle.tlsf_reader.specs.Faults.{most_bytes, too_long}
 use Rattle.flat_text.specs.FlatOf.{of_reading}
@@ -99,3 +102,14 @@ asked_not words is = rw is refl
 
 pub unanswered : (words : List (List ℕ)) (asked : Asked) → settings_of words ≡ Some asked → is_answered asked ≡ false → asked_in words ≡ None
 unanswered words asked is so = rw (is, so) refl
+
+bench_status : (v : Verdict) (status : ℕ) → HasStatus v status → Contains (10 ∷ 20 ∷ 30 ∷ []) status
+bench_status (verdict.Realizable n) status is = (0, omega arith, sym is)
+bench_status (verdict.Unrealizable n) status is = (1, omega arith, sym is)
+bench_status (verdict.Bounded side n) status is = absurd is
+bench_status verdict.UnknownSizes status is = (2, omega arith, sym is)
+bench_status (verdict.UnknownEntries side n) status is = absurd is
+
+pub bench_replies : (told : Option Files) (before after : List ℕ → ℕ) (clients workers : ℕ) (bytes : List ℕ) (status : ℕ) →
+    BenchAnswer clients workers bytes status → RepliesTo told before after (bench clients workers) bytes status
+bench_replies told before after clients workers bytes status answer = answers (bench_status answer.verdict status answer.has_status) answer

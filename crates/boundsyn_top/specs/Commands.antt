@@ -6,6 +6,7 @@ use Rattle.program_words.specs.declared.settings.Search.{Search}
 use Rattle.arbiter_text.specs.Arbiter.{generated_text}
 use Rattle.synth_engine.specs.declared.settings.Settings.{Settings}
 use Rattle.synth_answer.specs.Answer.{Answers}
+use Rattle.bench_answer.specs.Bench.{BenchAnswer}
 
 -- the commands that are answered
 abbrev pub is_answered : Asked → Bool
@@ -14,7 +15,7 @@ is_answered (check spec certificate) = false
 is_answered (expand spec) = false
 is_answered (lasso spec word) = false
 is_answered (gen clients) = true
-is_answered (bench clients workers) = false
+is_answered (bench clients workers) = true
 
 -- what the words ask for, where that is answered
 abbrev pub asked_in : List (List ℕ) → Option Asked
@@ -55,4 +56,4 @@ AnswersAsked told (check spec certificate) bytes status = ⊥
 AnswersAsked told (expand spec) bytes status = ⊥
 AnswersAsked told (lasso spec word) bytes status = ⊥
 AnswersAsked told (gen clients) bytes status = (bytes ≡ generated_text clients) × (status ≡ 0)
-AnswersAsked told (bench clients workers) bytes status = ⊥
+AnswersAsked told (bench clients workers) bytes status = BenchAnswer clients workers bytes status

@@ -1,14 +1,16 @@
 //! What a run writes, before it is written.
-ghost use Rattle.std.specs.Prelude.{◌≡◌, ◌≢◌, ◌≤◌, ℕ, List, codes, map, string_bytes, IfOk, IfSome};
+ghost use Rattle.std.specs.Prelude.{◌≡◌, ◌≢◌, ◌≤◌, ℕ, List, Option, codes, map, string_bytes, IfOk, IfSome};
 ghost use Rattle.arbiter_text.specs.Arbiter.{generated_text};
+ghost use Rattle.outside_edge.specs.Files.{Files};
 ghost use Rattle.program_replies.specs.Lines.{refusal_line};
 ghost use Rattle.program_replies.specs.Statuses.{status_number};
-ghost use Rattle.program_words.specs.Settings.{synth};
+ghost use Rattle.program_words.specs.Settings.{bench, synth};
 ghost use Rattle.boundsyn_top.specs.Commands.{bounds_of};
 ghost use Rattle.boundsyn_top.specs.Run.{IsForeign, IsReply, RepliesTo};
 
 use crate::files::{LONGEST_TEXT, Taken, cannot_read, take_text};
 use arbiter_text::write_arbiter;
+use bench_answer::bench_answer;
 use letter_word::Kind;
 use outside_edge::{Gate, Shelf};
 use program_replies::{Reply, Status, refused, whole};
@@ -46,11 +48,11 @@ where
             synthesized(rt, alloc, shelf, spec, search, kind, gate)
         }
         Settings::Gen { clients } => generated(alloc, clients),
+        Settings::Bench { clients, workers } => benched(rt, alloc, clients, workers, gate),
         // The other commands aren't answered yet.
-        Settings::Check { .. }
-        | Settings::Expand { .. }
-        | Settings::Lasso { .. }
-        | Settings::Bench { .. } => words_refused(alloc),
+        Settings::Check { .. } | Settings::Expand { .. } | Settings::Lasso { .. } => words_refused(
+            alloc,
+        ),
     }
 }
 
@@ -88,6 +90,25 @@ fn words_refused(alloc: Global) -> Result<Reply, AllocError>
     ensures { IfOk result (λ r. (r.bytes.items ≡ codes "words refused\n") × (r.status ≡ Status.WordsRefused)) }
 {
     whole(alloc, b"words refused\n", Status::WordsRefused)
+}
+
+// The reply to `bench`, which reads no file.
+fn benched<R, G>(
+    rt: &R,
+    alloc: Global,
+    clients: u32,
+    workers: u32,
+    gate: &G,
+) -> Result<Reply, AllocError>
+where
+    R: Threads + Wait + Sync,
+    G: Gate + Sync,
+    requires some_client { 1 ≤ clients }
+    requires most_clients { clients ≤ 4 }
+    requires workers { workers ≤ 8 }
+    ensures { IfOk result (λ r. (told : Option Files) (before after : List ℕ → ℕ) → RepliesTo told before after (bench clients workers) r.bytes.items (status_number r.status)) }
+{
+    bench_answer(rt, alloc, clients, workers, gate)
 }
 
 // How a search is bounded.

@@ -1,8 +1,9 @@
 use Rattle.std.specs.Prelude.{string_bytes}
 use Rattle.std.proofs.Common.{map, refl}
 use Rattle.std.proofs.lemmas.Result.{IfOk-weaker}
-use Rattle.program_words.specs.Settings.{gen}
-use Rattle.boundsyn_top.proofs.ReplyLemmas.{asked_is, reply_generated}
+use Rattle.program_words.specs.Settings.{bench, gen}
+use Rattle.program_replies.specs.Statuses.{status_number}
+use Rattle.boundsyn_top.proofs.ReplyLemmas.{asked_is, reply_by, reply_generated}
 use Rattle.boundsyn_top.proofs.replies.reply_to.Goals as goal
 
 pub returns-in-Gen-clause-reply : goal.returns-in-Gen-clause-reply
@@ -12,3 +13,11 @@ returns-in-Gen-clause-reply g c =
     (λ r is. reply_generated (map string_bytes c.args.words.now) _ _ _ c.in-Gen.clients r.bytes.items r.status
     (asked_is (map string_bytes c.args.words.now) (gen c.in-Gen.clients) asks refl) is.0 is.1)
     c.generated.ensures
+
+pub returns-in-Bench-clause-reply : goal.returns-in-Bench-clause-reply
+returns-in-Bench-clause-reply g c =
+    let asks = rw c.in-Bench.is at c.in-Ok.ensures.settings in
+    IfOk-weaker c.benched.result _ _
+    (λ r replies. reply_by (map string_bytes c.args.words.now) _ _ _ (bench c.in-Bench.clients c.in-Bench.workers) r.bytes.items (status_number r.status)
+    (asked_is (map string_bytes c.args.words.now) (bench c.in-Bench.clients c.in-Bench.workers) asks refl) (replies _ _ _))
+    c.benched.ensures
