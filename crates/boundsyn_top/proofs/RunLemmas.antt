@@ -7,8 +7,8 @@ use Rattle.std.specs.List.{All}
 use Rattle.outside_edge.specs.Faults.{Rose}
 use Rattle.outside_edge.specs.Files.{Files}
 use Rattle.outside_edge.specs.Bytes.{Gains, GainsFront}
-use Rattle.program_words.specs.Settings.{Asked, settings_of, synth, check, expand, lasso, gen, bench}
-use Rattle.boundsyn_top.specs.Commands.{statuses_of}
+use Rattle.program_words.specs.Settings.{Asked, synth, check, expand, lasso, gen, bench}
+use Rattle.boundsyn_top.specs.Commands.{asked_in, statuses_of}
 use Rattle.boundsyn_top.specs.Run.{ReadFailed, ReadsWell, AnswersWords, IsReply, words_refused, cannot_read, answered, answering, Gained, GainedPart}
 use Rattle.boundsyn_top.proofs.SinkLemmas.{gains_nothing}
 
@@ -17,12 +17,12 @@ pub record Promise (words : List (List ℕ)) (told : Option Files) (before after
     (written later : Option (List ℕ)) (faults faults_after result : ℕ) : Type 0 where
   pub statuses : Contains (2 ∷ 3 ∷ 4 ∷ 5 ∷ answering) result
   pub answered : Contains answering result → Gained written later (λ bytes. AnswersWords words told bytes result)
-  pub words_refused : result ≡ 2 → Gained written later (λ bytes. (settings_of words ≡ None) × (bytes ≡ codes "words refused\n"))
+  pub words_refused : result ≡ 2 → Gained written later (λ bytes. (asked_in words ≡ None) × (bytes ≡ codes "words refused\n"))
   pub cannot_read : result ≡ 3 → Gained written later (λ bytes. ReadFailed words before after × (bytes ≡ codes "cannot read\n"))
   pub cannot_write : result ≡ 4 → Rose faults faults_after
   pub cut_short : (result ≡ 4) ⊎ (result ≡ 5) → GainedPart written later (λ bytes status. IsReply words told before after bytes status)
-  pub bad_words_are_refused : settings_of words ≡ None → Contains (2 ∷ 4 ∷ 5 ∷ []) result
-  pub complete : IfSome (settings_of words) (λ asked. ReadsWell asked before after → (Rose faults faults_after → ⊥) → Contains (5 ∷ statuses_of asked) result)
+  pub bad_words_are_refused : asked_in words ≡ None → Contains (2 ∷ 4 ∷ 5 ∷ []) result
+  pub complete : IfSome (asked_in words) (λ asked. ReadsWell asked before after → (Rose faults faults_after → ⊥) → Contains (5 ∷ statuses_of asked) result)
 
 pub if_some_all : {X : Type 0} (o : Option X) (P : X → Type 0) → ((x : X) → P x) → IfSome o P
 if_some_all None P h = tt
@@ -69,7 +69,7 @@ answering_40 = record { among = (6, omega arith, refl); no_2 = λ e. omega arith
 
 -- all statuses of a command are so
 all_answering : (asked : Asked) → All IsAnswering (statuses_of asked)
-all_answering (synth spec search kind) =
+all_answering (synth spec wanted kind) =
     All-cons IsAnswering 1 (10 ∷ 11 ∷ 20 ∷ 30 ∷ []) answering_1
     (All-cons IsAnswering 10 (11 ∷ 20 ∷ 30 ∷ []) answering_10
     (All-cons IsAnswering 11 (20 ∷ 30 ∷ []) answering_11
@@ -127,7 +127,7 @@ no_cut n m is four five (inl e) = four (sym is ∙ e)
 no_cut n m is four five (inr e) = five (sym is ∙ e)
 
 module _ (words : List (List ℕ)) (told : Option Files) (before after : List ℕ → ℕ) (written later : Option (List ℕ)) (faults faults_after : ℕ) where
-  whole_words : (bytes : List ℕ) (n : ℕ) → Gains written later bytes → n ≡ 2 → settings_of words ≡ None → bytes ≡ codes "words refused\n" →
+  whole_words : (bytes : List ℕ) (n : ℕ) → Gains written later bytes → n ≡ 2 → asked_in words ≡ None → bytes ≡ codes "words refused\n" →
       Promise words told before after written later faults faults_after n
   whole_words bytes n gained n_is none is = record {
     statuses = (0, omega arith, sym n_is);
@@ -137,7 +137,7 @@ module _ (words : List (List ℕ)) (told : Option Files) (before after : List �
     cannot_write = λ e. absurd (omega (arith, n_is, e));
     cut_short = λ e. absurd (no_cut n 2 n_is (λ h. omega arith) (λ h. omega arith) e);
     bad_words_are_refused = λ e. (0, omega arith, sym n_is);
-    complete = if_none (settings_of words) _ none;
+    complete = if_none (asked_in words) _ none;
   }
 
   whole_unread : (bytes : List ℕ) (n : ℕ) → Gains written later bytes → n ≡ 3 → ReadFailed words before after → bytes ≡ codes "cannot read\n" →
@@ -149,8 +149,8 @@ module _ (words : List (List ℕ)) (told : Option Files) (before after : List �
     cannot_read = λ e. record { bytes = bytes; gained = gained; holds = (failed, is) };
     cannot_write = λ e. absurd (omega (arith, n_is, e));
     cut_short = λ e. absurd (no_cut n 3 n_is (λ h. omega arith) (λ h. omega arith) e);
-    bad_words_are_refused = λ e. absurd (clash (settings_of words) failed.asked failed.is_asked e);
-    complete = if_asked (settings_of words) failed.asked _ failed.is_asked (λ well written_all. absurd (well failed.name failed.named failed.rose));
+    bad_words_are_refused = λ e. absurd (clash (asked_in words) failed.asked failed.is_asked e);
+    complete = if_asked (asked_in words) failed.asked _ failed.is_asked (λ well written_all. absurd (well failed.name failed.named failed.rose));
   }
 
   whole_answer : (bytes : List ℕ) (n : ℕ) → Gains written later bytes → AnswersWords words told bytes n →
@@ -164,8 +164,8 @@ module _ (words : List (List ℕ)) (told : Option Files) (before after : List �
         cannot_read = λ e. absurd (is.no_3 e);
         cannot_write = λ e. absurd (is.no_4 e);
         cut_short = λ e. absurd (no_cut n n refl is.no_4 is.no_5 e);
-        bad_words_are_refused = λ e. absurd (clash (settings_of words) a.asked a.is_asked e);
-        complete = if_asked (settings_of words) a.asked _ a.is_asked (λ well written_all. among_own a.asked n a.status_is);
+        bad_words_are_refused = λ e. absurd (clash (asked_in words) a.asked a.is_asked e);
+        complete = if_asked (asked_in words) a.asked _ a.is_asked (λ well written_all. among_own a.asked n a.status_is);
       }
 
   -- all was written
@@ -200,7 +200,7 @@ module _ (words : List (List ℕ)) (told : Option Files) (before after : List �
     cannot_write = λ e. rose;
     cut_short = λ e. part;
     bad_words_are_refused = λ e. (1, omega arith, sym n_is);
-    complete = if_some_all (settings_of words) _ (λ s well written_all. absurd (written_all rose));
+    complete = if_some_all (asked_in words) _ (λ s well written_all. absurd (written_all rose));
   }
 
   -- memory was wanted
@@ -214,7 +214,7 @@ module _ (words : List (List ℕ)) (told : Option Files) (before after : List �
     cannot_write = λ e. absurd (omega (arith, n_is, e));
     cut_short = λ e. part;
     bad_words_are_refused = λ e. (2, omega arith, sym n_is);
-    complete = if_some_all (settings_of words) _ (λ s well written_all. (0, omega arith, sym n_is));
+    complete = if_some_all (asked_in words) _ (λ s well written_all. (0, omega arith, sym n_is));
   }
 
 -- no count of 0 rose to 0

@@ -3,13 +3,13 @@ use Rattle.std.specs.Prelude.{◌≡◌, ℕ, ◌⊎◌, Option, Some, None, Lis
 use Rattle.outside_edge.specs.Faults.{Rose}
 use Rattle.outside_edge.specs.Files.{Files}
 use Rattle.outside_edge.specs.Bytes.{Gains, GainsFront}
-use Rattle.program_words.specs.Settings.{Asked, settings_of}
-use Rattle.boundsyn_top.specs.Commands.{AnswersAsked, names_of, statuses_of}
+use Rattle.program_words.specs.Settings.{Asked}
+use Rattle.boundsyn_top.specs.Commands.{AnswersAsked, asked_in, names_of, statuses_of}
 
 -- the shelf's count of a file that the words name rose
 pub record ReadFailed (words : List (List ℕ)) (before after : List ℕ → ℕ) : Type 0 where
   pub asked : Asked
-  pub is_asked : settings_of words ≡ Some asked
+  pub is_asked : asked_in words ≡ Some asked
   pub name : List ℕ
   pub named : Contains (names_of asked) name
   pub rose : Rose (before name) (after name)
@@ -23,13 +23,13 @@ pub data RepliesTo (told : Option Files) (before after : List ℕ → ℕ) (aske
 -- the answer to what the words ask for
 pub record AnswersWords (words : List (List ℕ)) (told : Option Files) (bytes : List ℕ) (status : ℕ) : Type 0 where
   pub asked : Asked
-  pub is_asked : settings_of words ≡ Some asked
+  pub is_asked : asked_in words ≡ Some asked
   pub status_is : Contains (statuses_of asked) status
   pub answer : AnswersAsked told asked bytes status
 
 -- What a run writes whole, with its status: the answer, or the line of refused words or of a file that couldn't be read.
 pub data IsReply (words : List (List ℕ)) (told : Option Files) (before after : List ℕ → ℕ) (bytes : List ℕ) (status : ℕ) : Type 0 where
-  words_refused : status ≡ 2 → settings_of words ≡ None → bytes ≡ codes "words refused\n" →
+  words_refused : status ≡ 2 → asked_in words ≡ None → bytes ≡ codes "words refused\n" →
       IsReply words told before after bytes status
   cannot_read : status ≡ 3 → ReadFailed words before after → bytes ≡ codes "cannot read\n" →
       IsReply words told before after bytes status
@@ -57,4 +57,4 @@ ReadsWell asked before after = (name : List ℕ) → Contains (names_of asked) n
 
 -- no command reads the file
 abbrev pub IsForeign : List (List ℕ) → List ℕ → Type 0
-IsForeign words name = IfSome (settings_of words) (λ asked. Contains (names_of asked) name → ⊥)
+IsForeign words name = IfSome (asked_in words) (λ asked. Contains (names_of asked) name → ⊥)

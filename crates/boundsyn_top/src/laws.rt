@@ -1,7 +1,6 @@
 //! What a run answers where nothing outside can fail.
 ghost use Rattle.std.specs.Prelude.{◌∷◌, map, string_bytes, Contains, IfSome};
-ghost use Rattle.program_words.specs.Settings.{settings_of};
-ghost use Rattle.boundsyn_top.specs.Commands.{statuses_of};
+ghost use Rattle.boundsyn_top.specs.Commands.{asked_in, statuses_of};
 
 use crate::run;
 use outside_edge::{Gate, PlainShelf, PlainSink};
@@ -21,7 +20,7 @@ pub fn run_over_plain<R, G>(
 where
     R: Threads + Wait + Sync,
     G: Gate + Sync,
-    ensures { IfSome (settings_of (map string_bytes words.now)) (λ asked. Contains (5 ∷ statuses_of asked) result) }
+    ensures { IfSome (asked_in (map string_bytes words.now)) (λ asked. Contains (5 ∷ statuses_of asked) result) }
 {
     run(rt, alloc, words, shelf, out, gate)
 }

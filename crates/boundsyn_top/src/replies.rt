@@ -1,5 +1,5 @@
 //! What a run writes, before it is written.
-ghost use Rattle.std.specs.Prelude.{◌≡◌, ◌≢◌, ◌≤◌, ℕ, List, map, string_bytes, IfOk, IfSome};
+ghost use Rattle.std.specs.Prelude.{◌≡◌, ◌≢◌, ◌≤◌, ℕ, List, codes, map, string_bytes, IfOk, IfSome};
 ghost use Rattle.arbiter_text.specs.Arbiter.{generated_text};
 ghost use Rattle.program_replies.specs.Lines.{refusal_line};
 ghost use Rattle.program_replies.specs.Statuses.{status_number};
@@ -38,9 +38,7 @@ where
 {
     let settings = match read_words(alloc, words) {
         Ok(settings) => settings,
-        Err(WordsFault::Refused) => {
-            return whole(alloc, b"words refused\n", Status::WordsRefused);
-        }
+        Err(WordsFault::Refused) => return words_refused(alloc),
         Err(WordsFault::NoMemory) => return Err(AllocError),
     };
     match settings {
@@ -48,7 +46,11 @@ where
             synthesized(rt, alloc, shelf, spec, search, kind, gate)
         }
         Settings::Gen { clients } => generated(alloc, clients),
-        _ => Err(AllocError),
+        // The other commands aren't answered yet.
+        Settings::Check { .. }
+        | Settings::Expand { .. }
+        | Settings::Lasso { .. }
+        | Settings::Bench { .. } => words_refused(alloc),
     }
 }
 
@@ -79,6 +81,13 @@ where
         Taken::TooLong => too_long(alloc),
         Taken::Unread => cannot_read(alloc),
     }
+}
+
+// The reply to words that ask for nothing that is answered.
+fn words_refused(alloc: Global) -> Result<Reply, AllocError>
+    ensures { IfOk result (λ r. (r.bytes.items ≡ codes "words refused\n") × (r.status ≡ Status.WordsRefused)) }
+{
+    whole(alloc, b"words refused\n", Status::WordsRefused)
 }
 
 // How a search is bounded.

@@ -1,8 +1,7 @@
 //! The top call.
 ghost use Rattle.std.specs.Prelude.{◌≡◌, ◌⊎◌, ℕ, List, [], ◌∷◌, map, codes, string_bytes, Contains, None, IfSome, IsSome};
 ghost use Rattle.outside_edge.specs.Faults.{Rose};
-ghost use Rattle.program_words.specs.Settings.{settings_of};
-ghost use Rattle.boundsyn_top.specs.Commands.{statuses_of};
+ghost use Rattle.boundsyn_top.specs.Commands.{asked_in, statuses_of};
 ghost use Rattle.boundsyn_top.specs.Run.{AnswersWords, Gained, GainedPart, IsForeign, IsReply, ReadFailed, ReadsWell, answering};
 
 use crate::lines::put_lines;
@@ -37,7 +36,7 @@ where
     ensures answered { Contains answering result → Gained (K.written out.old) (K.written out.new)
         (λ bytes. AnswersWords (map string_bytes words.now) (H.files shelf.old) bytes result) }
     ensures words_refused { result ≡ 2 → Gained (K.written out.old) (K.written out.new)
-        (λ bytes. (settings_of (map string_bytes words.now) ≡ None) × (bytes ≡ codes "words refused\n")) }
+        (λ bytes. (asked_in (map string_bytes words.now) ≡ None) × (bytes ≡ codes "words refused\n")) }
     ensures cannot_read { result ≡ 3 → Gained (K.written out.old) (K.written out.new)
         (λ bytes. ReadFailed (map string_bytes words.now) (H.faults shelf.old) (H.faults shelf.new) × (bytes ≡ codes "cannot read\n")) }
 
@@ -47,8 +46,8 @@ where
         (λ bytes status. IsReply (map string_bytes words.now) (H.files shelf.old) (H.faults shelf.old) (H.faults shelf.new) bytes status) }
 
     // When each refusal comes, unless something outside failed or memory was wanted.
-    ensures bad_words_are_refused { settings_of (map string_bytes words.now) ≡ None → Contains (2 ∷ 4 ∷ 5 ∷ []) result }
-    ensures complete { IfSome (settings_of (map string_bytes words.now)) (λ asked. ReadsWell asked (H.faults shelf.old) (H.faults shelf.new)
+    ensures bad_words_are_refused { asked_in (map string_bytes words.now) ≡ None → Contains (2 ∷ 4 ∷ 5 ∷ []) result }
+    ensures complete { IfSome (asked_in (map string_bytes words.now)) (λ asked. ReadsWell asked (H.faults shelf.old) (H.faults shelf.new)
         → ¬ Rose (K.faults out.old) (K.faults out.new) → Contains (5 ∷ statuses_of asked) result) }
 
     // No other file is taken.

@@ -16,9 +16,10 @@ use Rattle.satisfaction.specs.Laws.{AcceptedSystemsSatisfy, AcceptedEnvironments
 
 pub accepted_systems_satisfy : AcceptedSystemsSatisfy
 accepted_systems_satisfy x f a m says exact system =
-    let made = accepted_machines_make true f a System m exact in
-    ( λ accepts. record { system = system; means = λ w run. sym (says.same w) ∙ (made.0 accepts).runs w run }
-    , λ satisfies. made.1 (record { runs = λ w run. says.same w ∙ satisfies.means w run }) )
+    let made = accepted_machines_make true f a System m exact in (
+      λ accepts. record { system = system; means = λ w run. sym (says.same w) ∙ (made.0 accepts).runs w run },
+      λ satisfies. made.1 (record { runs = λ w run. says.same w ∙ satisfies.means w run }),
+    )
 
 not_the_other : (k : Kind) → k ≡ other_kind k → ⊥
 not_the_other Mealy e = absurd (cc)
@@ -47,16 +48,17 @@ is_system x m e machine environment partners = record {
 
 pub accepted_environments_defeat : AcceptedEnvironmentsDefeat
 accepted_environments_defeat x f a e says exact environment =
-    let made = accepted_counter_machines_defeat f a e environment.machine exact in
-    ( λ accepts. record {
+    let made = accepted_counter_machines_defeat f a e environment.machine exact in (
+      λ accepts. record {
         environment = environment;
         plays = λ m system. (made.0 accepts).plays m system.machine (are_partners x m e system environment);
         loses = λ m w system play. sym (says.same w) ∙ (made.0 accepts).loses m w system.machine (are_partners x m e system environment) play;
-      }
-    , λ defeats. made.1 (record {
+      },
+      λ defeats. made.1 (record {
         plays = λ m machine partners. defeats.plays m (is_system x m e machine environment partners);
         loses = λ m w machine partners play. says.same w ∙ defeats.loses m w (is_system x m e machine environment partners) play;
-      }) )
+      }),
+    )
 
 pub rejected_environments_can_lose : RejectedEnvironmentsCanLose
 rejected_environments_can_lose x f a e w says exact run accepted = record {

@@ -5,3 +5,4 @@ pub mod Meaning
 pub mod Sizes
 pub mod Whole
 pub mod Fitting
+pub mod Held

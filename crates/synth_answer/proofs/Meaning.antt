@@ -14,9 +14,16 @@ use Rattle.machine_model.specs.declared.problems.Problem.{Problem}
 use Rattle.annotation_encode.specs.Laws.{HasNoAccepted}
 use Rattle.aiger_text.specs.Circuit.{Circuit}
 use Rattle.dual_search.specs.Sides.{AcceptsWhere}
-use Rattle.tlsf_expand.specs.Expansion.{Expanded}
+use Rattle.tlsf_expand.specs.Expansion.{Expanded, expanded_as, kind_of}
 use Rattle.tlsf_expand.specs.Meaning.{means}
-use Rattle.tlsf_expand.specs.TextSeen.{FlatText}
+use Rattle.tlsf_expand.specs.TextSeen.{FlatText, flat_in}
+use Rattle.tlsf_expand.specs.Texts.{Text}
+use Rattle.tlsf_expand.specs.Signals.{signals_of}
+use Rattle.tlsf_expand.specs.Sections.{sections_value, whole_value}
+use Rattle.tlsf_values.specs.declared.work.Work.{Work}
+use Rattle.tlsf_values.specs.Outcomes.{Outcome, fails, gives, go_on}
+use Rattle.flat_text.specs.FlatOf.{IsFlatOf}
+use Rattle.std.specs.Option.{option_map_or}
 use Rattle.tlsf_reader.specs.Spec.{Spec}
 use Rattle.flat_text.specs.Plain.{text_of}
 use Rattle.spec_problems.specs.declared.sides.SideProblems.{SideProblems}
@@ -58,6 +65,7 @@ one_for x side machines a p within over = record {
   outputs = over.outputs;
   of_side = over.side;
   kind_is = over.kind;
+  size = over.size;
   version = over.version;
 }
 
@@ -77,6 +85,41 @@ are_problems_for text kind spec s meet are =
       of_environment = environment_for are.flat.expanded are.problems.automata.environment s.environment over.of_environment meet.is_environment;
     } in
     subst (λ x. AreProblemsFor x s) (sym are.same) flat
+
+-- == the kind that a text is taken with ==
+
+through : {A : Type 0} (o : Outcome A) (f : A → Work → Outcome Expanded) (kind : Kind) → ((a : A) (w : Work) (flat : FlatText) → flat_in (f a w) ≡ Some flat → flat.expanded.kind ≡ kind)
+    → (flat : FlatText) → flat_in (go_on o f) ≡ Some flat → flat.expanded.kind ≡ kind
+through (gives a w) f kind h flat e = h a w flat e
+through (fails code position) f kind h flat e = absurd (cc)
+
+kind_of_flat : (o : Option Kind) (t : Text) (flat : FlatText) → flat_in (expanded_as o t) ≡ Some flat → o ≡ Some flat.expanded.kind
+kind_of_flat None t flat e = absurd (cc)
+kind_of_flat (Some kind) t flat e =
+    let is = through (signals_of t) (λ signals w. go_on (sections_value signals t.sections w) (λ sections w. go_on (whole_value t.strict sections w) (λ whole w.
+    gives (record { inputs = signals.inputs; outputs = signals.outputs; kind = kind; strict = t.strict; sections = sections; whole = whole }) w))) kind
+    (λ signals w. through (sections_value signals t.sections w) (λ sections w. go_on (whole_value t.strict sections w) (λ whole w.
+    gives (record { inputs = signals.inputs; outputs = signals.outputs; kind = kind; strict = t.strict; sections = sections; whole = whole }) w)) kind
+    (λ sections w. through (whole_value t.strict sections w) (λ whole w.
+    gives (record { inputs = signals.inputs; outputs = signals.outputs; kind = kind; strict = t.strict; sections = sections; whole = whole }) w) kind
+    (λ whole w flat e. sym (ap (λ o. option_map_or (λ (x : FlatText). x.expanded.kind) o kind) e)))) flat e in
+    ap (λ y. Some y) (sym is)
+
+flat_by_its_kind : (text : List ℕ) (kind : Option Kind) (flat : FlatText) → IsFlatOf text kind flat → IsFlatOf text (Some flat.expanded.kind) flat
+flat_by_its_kind text kind flat is = record {
+  tree = is.tree;
+  read = is.read;
+  expanded = subst (λ o. flat_in (expanded_as o (text_of is.tree)) ≡ Some flat) (kind_of_flat (kind_of kind (text_of is.tree)) (text_of is.tree) flat is.expanded) is.expanded;
+  meaning = is.meaning;
+}
+
+pub problems_by_its_kind : (text : List ℕ) (kind : Option Kind) (spec : FlatText) (s : SideProblems) → AreProblemsOf text kind 2 spec s → AreProblemsOf text (Some spec.expanded.kind) 2 spec s
+problems_by_its_kind text kind spec s are = record {
+  flat = are.flat;
+  is_flat = subst (λ (x : Expanded). IsFlatOf text (Some x.kind) are.flat) (sym are.same) (flat_by_its_kind text kind are.flat are.is_flat);
+  same = are.same;
+  problems = are.problems;
+}
 
 -- == machines ==
 

@@ -12,7 +12,8 @@ use Rattle.cert_text.specs.declared.order.Order.TheVariants.{UpTo, AnyUpTo}
 use Rattle.cert_text.specs.declared.order.Place.{Place}
 use Rattle.cert_text.specs.Order.{AreInOrder, may_follow, place, same_side}
 use Rattle.cert_text.specs.Parts.{LogPart}
-use Rattle.synth_answer.specs.Holds.{place_of, places_to}
+use Rattle.synth_answer.specs.Holds.{place_of}
+use Rattle.synth_answer.proofs.Held.{places_to}
 use Rattle.synth_answer.specs.Reply.{part_of}
 
 -- == from the search's sizes to places ==

@@ -58,3 +58,8 @@ all_three P Q R S f xs a b c = λ k d h. f _ (a k d h) (b k d h) (c k d h)
 pub at_side : (s : Problem) (e : Option Problem) (side : Side) (P : Problem → Type 0) (p : Problem) → IsOf s e side p → OfSide s e P side → P p
 at_side s e System P p of h = subst P of h
 at_side s e Environment P p of h = subst (λ o. OfSide s o P Environment) of h
+
+pub on_both_of : (s : Problem) (e : Option Problem) (side : Side) (P Q R : Problem → Type 0) → ((p : Problem) → IsOf s e side p → P p → Q p → R p) → OfSide s e P side → OfSide s e Q side → OfSide s e R side
+on_both_of s e System P Q R f h k = f s refl h k
+on_both_of s None Environment P Q R f h k = h
+on_both_of s (Some p) Environment P Q R f h k = f p refl h k

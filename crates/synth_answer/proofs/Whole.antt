@@ -51,13 +51,16 @@ use Rattle.cert_text.specs.WellFormed.{IsFoundNumber, IsLogPart, IsWellFormed}
 use Rattle.cert_text.specs.States.{logs_at, numbered, written_comment_line}
 use Rattle.synth_answer.specs.Answer.{Answers, CanBeBeaten, DoesItsPart, HasLog, IsBounded, IsRealizable, IsRefuted, IsUnrealizable, OfPrinted}
 use Rattle.synth_answer.specs.Answer as answer
-use Rattle.synth_answer.specs.Holds.{AreAsWanted, ForLog, Given, HasHeadOf, HasNames, HoldsFor, IsClosedFor, IsClosedLog, IsEndedLog, IsFirstOpen, IsFullFor, IsFullLog, machine_of, place_of, places_to, read_by, sizes_of, wanted_places, written_by}
+use Rattle.document_check.specs.Facts.{Facts}
+use Rattle.document_check.specs.Holds as check
+use Rattle.synth_answer.specs.Holds.{ForLog, IsClosedFor, IsClosedLog, IsEndedLog, IsFirstOpen, IsFullFor, IsFullLog, place_of, read_by, sizes_of, written_by}
+use Rattle.synth_answer.proofs.Held.{AreAsWanted, AreOfKind, HasHeadOf, HasNames, IsAllowedLog, held, machine_of, named_of, places_to, wanted_places}
 use Rattle.synth_answer.specs.Printed.{IsPrinted, Printed, given_by}
 use Rattle.synth_answer.specs.Reply.{AreProblemsFor, HaveAutomata, IsCircuitWith, IsMachineText, IsShort, IsReplyTo, IsSearchedReply, IsTextOf, LawsHold, document_of, part_of}
 use Rattle.synth_answer.proofs.LogLemmas.{IsOfNoLine, all_parts_at, any_at, places_at, split_at}
-use Rattle.synth_answer.proofs.Meaning.{IsSideOf, are_problems_for, does_its_part, each_can_lose, is_wanted, none_satisfies, sized_within, wanted_of}
+use Rattle.synth_answer.proofs.Meaning.{IsSideOf, are_problems_for, does_its_part, each_can_lose, is_wanted, none_satisfies, problems_by_its_kind, sized_within, wanted_of}
 use Rattle.synth_answer.proofs.Places.{IsClaimTo, claims_to, has_place, in_order_all, in_order_side, log_at, parts_at, parts_at_both, unmap}
-use Rattle.synth_answer.proofs.Sides.{IsOf, all_both, all_map, all_three, at_side, find, if_some, of_side, on_both, on_side, out_of, some_of}
+use Rattle.synth_answer.proofs.Sides.{IsOf, all_both, all_map, all_three, at_side, find, of_side, on_both, on_side, out_of, some_of}
 use Rattle.synth_answer.proofs.Sizes.{few_clauses, few_variables}
 
 -- what is known of a text and of its problems
@@ -95,7 +98,7 @@ all_back P [] ys all = all
 all_back P (x ∷ xs) ys all = all_back P xs ys (All-tail P x (xs ++ ys) all)
 
 -- the size of a log is an allowed one
-pub record FitsSize (given : Given) (max : ℕ) (side : Side) (n : ℕ) : Type 0 where
+pub record FitsSize (given : Facts) (max : ℕ) (side : Side) (n : ℕ) : Type 0 where
   pub some : 0 < n
   pub most : n ≤ sizes_of given max side
 
@@ -103,7 +106,7 @@ module _ (text : List ℕ) (kind : Option Kind) (settings : Settings) (spec : Fl
   abbrev pub the_text : Wanted
   the_text = wanted_of spec.expanded k.says.tree
 
-  abbrev pub given : Given
+  abbrev pub given : Facts
   given = given_by spec s
 
   abbrev pub formula : Tree
@@ -238,8 +241,8 @@ module _ (text : List ℕ) (kind : Option Kind) (settings : Settings) (spec : Fl
     pub found : IsFoundNumber (may_tell_found 3 v) settings.max 0
     pub order : AreInOrder (order_of 3 v settings.max 0) (start_of (order_of 3 v settings.max 0)) (map part_of logs)
     pub names : IfSome (machine_of v) (λ m. IfSome c (HasNames given m.side))
-    pub number : IfSome (machine_of v) (λ m. m.size ≤ sizes_of given settings.max m.side)
-    pub places : map place_of (map part_of logs) ≡ wanted_places given 3 settings.max 0 v
+    pub number : IfSome (named_of v) (λ q. q.size ≤ sizes_of given settings.max q.side)
+    pub places : map place_of (map part_of logs) ≡ wanted_places given settings.max v
     pub here : All IsHere logs
     pub fits : All (λ l. FitsSize given settings.max l.side l.size) logs
     pub wanted : AreAsWanted given settings.entries (lined c logs) v
@@ -258,24 +261,31 @@ module _ (text : List ℕ) (kind : Option Kind) (settings : Settings) (spec : Fl
     logs = All-map IsLogPart part_of logs (all_three IsHere (λ l. FitsSize given settings.max l.side l.size) IsShort (λ l. IsLogPart (part_of l)) log_part logs suits.here suits.fits short);
   }
 
-  holds_for : (v : Verdict) (c : Option Circuit) (logs : List SizeLog) → Suits v c logs → HoldsFor given (doc v c logs)
-  holds_for v c logs suits = record {
-    kind = sym for_text.of_system.kind_is;
-    system_version = for_text.of_system.version;
-    environment_version = if_some (λ p. p.version ≡ 2) s.environment (λ p of. (for_text.of_environment p of).version);
-    names = suits.names;
-    number = suits.number;
-    found = omega arith;
-    places = places_at (first_line c) (map part_of logs) ∙ suits.places;
-    heads = all_parts_at (ForLog given HasHeadOf) same_head (first_line c) logs (all_map IsHere (λ l. ForLog given HasHeadOf (part_of l)) head_part logs suits.here);
-    logs = suits.wanted;
+  of_kind : AreOfKind given spec.expanded.kind
+  of_kind = record {
+    kind_is = for_text.of_system.kind_is;
+    size = for_text.of_system.size;
+    version = for_text.of_system.version;
+    other_kind_is = λ p is. (for_text.of_environment p is).kind_is;
+    other_size = λ p is. (for_text.of_environment p is).size;
+    other_version = λ p is. (for_text.of_environment p is).version;
   }
+
+  holds_for : (v : Verdict) (c : Option Circuit) (logs : List SizeLog) → Suits v c logs → check.HoldsFor given (doc v c logs)
+  holds_for v c logs suits =
+      held k.laws.sizes given spec.expanded.kind settings.max settings.entries of_kind v c (lined c logs) (doc v c logs) suits.has_place suits.names suits.number
+      (places_at (first_line c) (map part_of logs) ∙ suits.places)
+      (all_parts_at (ForLog given HasHeadOf) same_head (first_line c) logs (all_map IsHere (λ l. ForLog given HasHeadOf (part_of l)) head_part logs suits.here))
+      (all_parts_at (IsAllowedLog given settings.max) (λ l n h. h) (first_line c) logs
+      (all_map (λ l. FitsSize given settings.max l.side l.size) (λ l. IsAllowedLog given settings.max (part_of l)) (λ l h. (h.some, h.most)) logs suits.fits))
+      suits.wanted
 
   printed : (v : Verdict) (c : Option Circuit) (logs : List SizeLog) (bytes : List ℕ) → Suits v c logs → IfSome c IsWritable
       → IsTextOf spec.expanded.kind settings v c logs bytes → IsPrinted given settings bytes (doc v c logs)
   printed v c logs bytes suits writable made = record {
     states = made.stated (well_formed v c logs suits made.short) writable;
     holds = holds_for v c logs suits;
+    no_bad_line = λ n bad. k.laws.bad_lines.holding_has_none given bytes (doc v c logs) n (made.stated (well_formed v c logs suits made.short) writable) (holds_for v c logs suits) bad;
     version = refl;
     max = refl;
     entries = refl;
@@ -293,6 +303,7 @@ module _ (text : List ℕ) (kind : Option Kind) (settings : Settings) (spec : Fl
     problems = s;
     are_problems = k.are;
     document = doc v c logs;
+    by_its_kind = problems_by_its_kind text kind spec s k.are;
     is_printed = is_printed;
   }
 
@@ -367,7 +378,8 @@ module _ (text : List ℕ) (kind : Option Kind) (settings : Settings) (spec : Fl
     pub found : IsFoundNumber (may_tell_found 3 v) settings.max 0
     pub order : order_of 3 v settings.max 0 ≡ UpTo side (n - 1)
     pub machine : machine_of v ≡ Some (place side n)
-    pub places : wanted_places given 3 settings.max 0 v ≡ places_to side (n - 1)
+    pub named : named_of v ≡ Some (place side n)
+    pub places : wanted_places given settings.max v ≡ places_to side (n - 1)
 
   fits_claim : (side : Side) (n : ℕ) → n ≤ sizes_of given settings.max side → (claim : Claim) → IsClaimTo side n claim → FitsSize given settings.max claim.side claim.size
   fits_claim side n most claim h =
@@ -415,7 +427,7 @@ module _ (text : List ℕ) (kind : Option Kind) (settings : Settings) (spec : Fl
       found = tells.found;
       order = subst (λ o. AreInOrder o (start_of o) (map part_of logs)) (sym tells.order) (in_order_side side (size_of m - 1) (map part_of logs) parts);
       names = subst (λ o. IfSome o (λ q. HasNames given q.side c)) (sym tells.machine) (record { reads = made.inputs; writes = made.outputs });
-      number = subst (λ o. IfSome o (λ q. q.size ≤ sizes_of given settings.max q.side)) (sym tells.machine) (size_of_found side p m of found);
+      number = subst (λ o. IfSome o (λ q. q.size ≤ sizes_of given settings.max q.side)) (sym tells.named) (size_of_found side p m of found);
       places = parts ∙ sym tells.places;
       here = all_here;
       fits = all_fit;
@@ -501,6 +513,7 @@ module _ (text : List ℕ) (kind : Option Kind) (settings : Settings) (spec : Fl
         found = refl;
         order = refl;
         machine = refl;
+        named = refl;
         places = refl;
       } in
       let is_printed = machine_printed System s.system refl m logs found small v bytes tells made closed in
@@ -532,6 +545,7 @@ module _ (text : List ℕ) (kind : Option Kind) (settings : Settings) (spec : Fl
         found = refl;
         order = refl;
         machine = refl;
+        named = refl;
         places = refl;
       } in
       let is_printed = machine_printed Environment p there.of m logs found small v bytes tells made closed in
@@ -565,6 +579,7 @@ module _ (text : List ℕ) (kind : Option Kind) (settings : Settings) (spec : Fl
         found = refl;
         order = refl;
         machine = refl;
+        named = refl;
         places = refl;
       } in
       let is_printed = machine_printed side p there.of m logs found small v bytes tells made (ended, full) in
@@ -617,7 +632,8 @@ module _ (text : List ℕ) (kind : Option Kind) (settings : Settings) (spec : Fl
       pub found : IsFoundNumber (may_tell_found 3 v) settings.max 0
       pub order : order_of 3 v settings.max 0 ≡ AnyUpTo settings.max
       pub machine : machine_of v ≡ None
-      pub places : wanted_places given 3 settings.max 0 v ≡ places_to System (sizes_of given settings.max System) ++ places_to Environment (sizes_of given settings.max Environment)
+      pub number : IfSome (named_of v) (λ q. q.size ≤ sizes_of given settings.max q.side)
+      pub places : wanted_places given settings.max v ≡ places_to System (sizes_of given settings.max System) ++ places_to Environment (sizes_of given settings.max Environment)
 
     none_suits : (v : Verdict) → TellsNone v → AreAsWanted given settings.entries (lined None logs) v → Suits v None logs
     none_suits v tells wanted = record {
@@ -629,7 +645,7 @@ module _ (text : List ℕ) (kind : Option Kind) (settings : Settings) (spec : Fl
       order = subst (λ o. AreInOrder o (start_of o) (map part_of logs)) (sym tells.order)
           (in_order_all settings.max (sizes_of given settings.max System) (sizes_of given settings.max Environment) (map part_of logs) parts_of_all (side_most System) (side_most Environment));
       names = subst (λ o. IfSome o (λ q. Unit {0})) (sym tells.machine) tt;
-      number = subst (λ o. IfSome o (λ q. q.size ≤ sizes_of given settings.max q.side)) (sym tells.machine) tt;
+      number = tells.number;
       places = parts_of_all ∙ sym tells.places;
       here = all.each;
       fits = all_logs_fit;
@@ -676,6 +692,7 @@ module _ (text : List ℕ) (kind : Option Kind) (settings : Settings) (spec : Fl
         found = refl;
         order = refl;
         machine = refl;
+        number = tt;
         places = refl;
       } in
       let is_printed = none_printed logs none.all UnknownSizes bytes tells made closed in
@@ -707,12 +724,15 @@ module _ (text : List ℕ) (kind : Option Kind) (settings : Settings) (spec : Fl
             none.before (all_front IsHere none.before (none.named ∷ none.after) each) none.first);
       }
 
-  named_fits : (side : Side) (size : ℕ) (logs : List SizeLog) → outcomes.HasNoEntries s.system s.environment settings side size logs → IsTrue (is_in_range 1 settings.max size)
-  named_fits side size logs none =
+  named_at : (side : Side) (size : ℕ) (logs : List SizeLog) → outcomes.HasNoEntries s.system s.environment settings side size logs → FitsSize given settings.max side size
+  named_at side size logs none =
       let fits = All-same (λ l. FitsSize given settings.max l.side l.size) (none.before ++ none.named ∷ none.after) logs (sym none.split) (all_logs_fit logs none.all) in
       let one = All-head (λ l. FitsSize given settings.max l.side l.size) none.named none.after
       (all_back (λ l. FitsSize given settings.max l.side l.size) none.before (none.named ∷ none.after) fits) in
-      let at : FitsSize given settings.max side size = subst (λ claim. FitsSize given settings.max claim.side claim.size) none.is_at one in
+      subst (λ claim. FitsSize given settings.max claim.side claim.size) none.is_at one
+
+  named_fits : (side : Side) (size : ℕ) → FitsSize given settings.max side size → IsTrue (is_in_range 1 settings.max size)
+  named_fits side size at =
       let some = at.some in
       let most = at.most in
       let all = side_most side in
@@ -728,10 +748,11 @@ module _ (text : List ℕ) (kind : Option Kind) (settings : Settings) (spec : Fl
       let tells : TellsNone logs none.all v = record {
         version = refl;
         has_place = refl;
-        max = named_fits side size logs none;
+        max = named_fits side size (named_at side size logs none);
         found = refl;
         order = refl;
         machine = refl;
+        number = (named_at side size logs none).most;
         places = refl;
       } in
       let is_printed = none_printed logs none.all v bytes tells made (ended, named) in

@@ -12,9 +12,10 @@ use Rattle.synth_engine.specs.declared.settings.Settings.{Settings}
 use Rattle.synth_engine.specs.Outcomes.{CannotFill}
 use Rattle.cert_text.specs.declared.documents.Verdict.TheVariants.{Realizable, Unrealizable, Bounded, UnknownSizes, UnknownEntries}
 use Rattle.cert_text.specs.Order.{place}
+use Rattle.document_check.specs.Facts.{Facts}
 use Rattle.cert_text.specs.Parts.{Document, LogPart}
 use Rattle.program_replies.specs.Lines.{refusal_line}
-use Rattle.synth_answer.specs.Holds.{Given, IsClosedLog, IsEndedLog, IsFirstOpen, IsFullLog, place_of, sizes_of}
+use Rattle.synth_answer.specs.Holds.{IsClosedLog, IsEndedLog, IsFirstOpen, IsFullLog, place_of, sizes_of}
 use Rattle.synth_answer.specs.Printed.{Printed, given_by}
 
 -- == sizes without a machine ==
@@ -27,12 +28,12 @@ pub record HasLog (d : Document) (side : Side) (n : ℕ) (P : LogPart → Type 0
   pub holds : P log
 
 -- no machine of the system of n states satisfies, as a closed log over the text's base clauses shows
-pub record IsRefuted (x : Wanted) (given : Given) (d : Document) (n : ℕ) : Type 0 where
+pub record IsRefuted (x : Wanted) (given : Facts) (d : Document) (n : ℕ) : Type 0 where
   pub log : HasLog d System n (IsClosedLog given d.entries)
   pub none : NoneSatisfies x n
 
 -- each machine of the environment of n states can lose, as a closed log over the text's base clauses shows
-pub record CanBeBeaten (x : Wanted) (given : Given) (d : Document) (n : ℕ) : Type 0 where
+pub record CanBeBeaten (x : Wanted) (given : Facts) (d : Document) (n : ℕ) : Type 0 where
   pub log : HasLog d Environment n (IsClosedLog given d.entries)
   pub each : EachCanLose x n
 
@@ -46,7 +47,7 @@ DoesItsPart x Environment c = CircuitDefeats x c
 -- == each answer with a document ==
 
 -- a circuit of exactly n states that satisfies, and no machine of fewer states does
-pub record IsRealizable (x : Wanted) (given : Given) (d : Document) (n : ℕ) (c : Circuit) : Type 0 where
+pub record IsRealizable (x : Wanted) (given : Facts) (d : Document) (n : ℕ) (c : Circuit) : Type 0 where
   pub verdict : d.verdict ≡ Realizable n
   pub circuit : d.circuit ≡ Some c
   pub satisfies : CircuitSatisfies x c
@@ -55,7 +56,7 @@ pub record IsRealizable (x : Wanted) (given : Given) (d : Document) (n : ℕ) (c
   pub smaller : (k : ℕ) → 0 < k → k < n → IsRefuted x given d k
 
 -- a circuit of the environment of exactly n states that defeats every machine, and no machine of fewer states does
-pub record IsUnrealizable (x : Wanted) (given : Given) (d : Document) (n : ℕ) (c : Circuit) : Type 0 where
+pub record IsUnrealizable (x : Wanted) (given : Facts) (d : Document) (n : ℕ) (c : Circuit) : Type 0 where
   pub verdict : d.verdict ≡ Unrealizable n
   pub circuit : d.circuit ≡ Some c
   pub defeats : CircuitDefeats x c
@@ -64,7 +65,7 @@ pub record IsUnrealizable (x : Wanted) (given : Given) (d : Document) (n : ℕ) 
   pub smaller : (k : ℕ) → 0 < k → k < n → CanBeBeaten x given d k
 
 -- a circuit of a side of at most n states, and not all smaller sizes are refuted: a log is full, which the limit allows
-pub record IsBounded (x : Wanted) (given : Given) (settings : Settings) (d : Document) (side : Side) (n : ℕ) (c : Circuit) : Type 0 where
+pub record IsBounded (x : Wanted) (given : Facts) (settings : Settings) (d : Document) (side : Side) (n : ℕ) (c : Circuit) : Type 0 where
   pub verdict : d.verdict ≡ Bounded side n
   pub circuit : d.circuit ≡ Some c
   pub does : DoesItsPart x side c
@@ -77,13 +78,13 @@ pub record IsBounded (x : Wanted) (given : Given) (settings : Settings) (d : Doc
   pub can_fill : CannotFill given.system given.environment settings → ⊥
 
 -- no machine of an allowed size of either side
-pub record HasNoSize (x : Wanted) (given : Given) (d : Document) : Type 0 where
+pub record HasNoSize (x : Wanted) (given : Facts) (d : Document) : Type 0 where
   pub verdict : d.verdict ≡ UnknownSizes
   pub system : (k : ℕ) → 0 < k → k ≤ sizes_of given d.max System → IsRefuted x given d k
   pub environment : (k : ℕ) → 0 < k → k ≤ sizes_of given d.max Environment → CanBeBeaten x given d k
 
 -- no machine was found, and the named log is full, and the first that isn't closed, which the limit allows
-pub record HasNoEntries (given : Given) (settings : Settings) (d : Document) (side : Side) (n : ℕ) : Type 0 where
+pub record HasNoEntries (given : Facts) (settings : Settings) (d : Document) (side : Side) (n : ℕ) : Type 0 where
   pub verdict : d.verdict ≡ UnknownEntries side n
   pub named : IsFirstOpen given d.entries (place side n) d.logs
   pub system : (k : ℕ) → 0 < k → k ≤ sizes_of given d.max System → HasLog d System k (IsEndedLog given d.entries)
@@ -94,7 +95,7 @@ pub record HasNoEntries (given : Given) (settings : Settings) (d : Document) (si
 
 -- what of a printed document holds for the text, with what it wants and gives
 abbrev pub OfPrinted : {text : List ℕ} {kind : Option Kind} {settings : Settings} {bytes : List ℕ}
-    → (Wanted → Given → Document → Type 0) → Printed text kind settings bytes → Type 0
+    → (Wanted → Facts → Document → Type 0) → Printed text kind settings bytes → Type 0
 OfPrinted P p = P p.wanted (given_by p.spec p.problems) p.document
 
 -- The bytes and the status that answer a text: the line of its first fault, or a document for it.

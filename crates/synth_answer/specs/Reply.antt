@@ -15,6 +15,7 @@ use Rattle.gate_build.specs.Laws.{HasTheRunsOf, HasTheStatesOf, SmallestMeetsAll
 use Rattle.annotation_encode.specs.Count.{SizesRise}
 use Rattle.refutation_log.specs.Laws.{LegalLogsAreWritable}
 use Rattle.size_laws.specs.Refuted.{ClosedLogsRefute}
+use Rattle.document_check.specs.Laws.{BadLinesAreDetermined}
 use Rattle.satisfaction.specs.Laws.{AcceptedEnvironmentsDefeat, AcceptedSystemsSatisfy, CircuitsDefeat, CircuitsSatisfy, RejectedEnvironmentsCanLose}
 use Rattle.spec_problems.specs.declared.sides.SideProblems.{SideProblems}
 use Rattle.tlsf_expand.specs.Expansion.{Expanded}
@@ -125,6 +126,7 @@ pub record IsProblemFor (x : Expanded) (side : Side) (kind : Kind) (p : Problem)
   pub outputs : p.outputs ≡ length x.outputs
   pub of_side : p.side ≡ side
   pub kind_is : p.kind ≡ kind
+  pub size : p.size ≡ 1
   pub version : p.version ≡ 2
 
 pub record AreProblemsFor (x : Expanded) (s : SideProblems) : Type 0 where
@@ -160,3 +162,4 @@ pub record LawsHold : Type 0 where
   pub can_lose : RejectedEnvironmentsCanLose
   pub circuits : CircuitsSatisfy
   pub counters : CircuitsDefeat
+  pub bad_lines : BadLinesAreDetermined

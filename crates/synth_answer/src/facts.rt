@@ -2,6 +2,7 @@
 ghost use Rattle.synth_answer.specs.Reply.{LawsHold};
 
 use annotation_encode::laws::sizes_rise;
+use document_check::laws::bad_lines_are_determined;
 use gate_build::laws::smallest_meets_all_states;
 use refutation_log::laws::legal_logs_are_writable;
 use satisfaction::laws::{
@@ -23,4 +24,5 @@ pub fn laws_hold()
     rejected_environments_can_lose();
     circuits_satisfy();
     circuits_defeat();
+    bad_lines_are_determined();
 }

@@ -1,9 +1,9 @@
 -- A text's list of formulas has no signals but those that the text declares.
-use Rattle.std.proofs.Common.{◌≡◌, ℕ, zero, suc, ◌+◌, ◌<◌, ◌≤◌, inl, inr, Bool, true, false, List, [], ◌∷◌, ◌++◌, length, Option, None, Some, Result, Ok, Err, get_or, refl, sym, ap, subst, arith}
+use Rattle.std.proofs.Common.{◌≡◌, ℕ, ◌+◌, ◌<◌, ◌≤◌, inl, inr, Bool, true, false, List, [], ◌∷◌, ◌++◌, length, Option, None, Some, refl, sym, subst, arith}
 use Rattle.std.proofs.lemmas.Bool.{cases_eq, cases_lt, leb-true, eqb-true}
 use Rattle.std.proofs.lemmas.List.{length-append, get_or_append_left, get_or_past}
 use Rattle.std.proofs.Math.Seq.{get_or-append_seam}
-use Rattle.std.specs.Prelude.{◌==◌, nat_le, if◌then◌else◌, slice_index_or, IfOk, pos, negsuc}
+use Rattle.std.specs.Prelude.{◌==◌, nat_le, if◌then◌else◌, pos, negsuc}
 use Rattle.letter_word.specs.declared.kinds.Kind.{Kind}
 use Rattle.ltl_formula.specs.declared.nodes.FormulaId.{FormulaId}
 use Rattle.ltl_formula.specs.declared.nodes.Node.{Node}
@@ -12,24 +12,20 @@ use Rattle.ltl_formula.specs.ListSignals.{HasSignalsBelow}
 use Rattle.ltl_formula.proofs.ListSignals.{HasSignalsBelow-more, HasSignalsBelow-none}
 use Rattle.tlsf_tokens.specs.declared.code.SpecCode.{SpecCode}
 use Rattle.tlsf_tokens.specs.declared.code.SpecCode.TheVariants.{TooManySignals, UnknownName, WrongSort}
-use Rattle.tlsf_tokens.specs.declared.code.SpecFault.{SpecFault}
 use Rattle.tlsf_grammar.specs.Tree.{Tree, Named, Pattern, Definition, parameter, function, enumeration, Member, Shape, single, bus, typed, Declaration, plain}
 use Rattle.tlsf_values.specs.declared.work.Work.{Work}
 use Rattle.tlsf_values.specs.declared.value.Value.{Value}
 use Rattle.tlsf_values.specs.declared.value.Value.TheVariants.{Number}
 use Rattle.tlsf_values.specs.Outcomes.{Outcome, gives, fails, go_on, choose, Checked, fine, faulty, checked}
-use Rattle.tlsf_values.specs.Names.{Names, BusRange, Meaning, known, a_signal, a_definition, an_enumeration, undeclared, bus_at, also, same_name, with_member, with_members, with_meaning, with_definition, with_definitions, with_signal, with_bus, without_names}
+use Rattle.tlsf_values.specs.Names.{Names, BusRange, Meaning, known, a_signal, a_definition, an_enumeration, undeclared, bus_at, also, same_name, with_member, with_members, with_meaning, with_definition, with_definitions, with_bus, without_names}
 use Rattle.tlsf_values.specs.Patterns.{all_values}
-use Rattle.tlsf_values.specs.Values.{start_of, value_at}
-use Rattle.tlsf_expand.specs.declared.spec.Spec.{Spec}
+use Rattle.tlsf_values.specs.Values.{start_of}
 use Rattle.tlsf_expand.specs.Texts.{Sections, Text}
-use Rattle.tlsf_expand.specs.Signals.{values_in, or_those, values_named, width_of, other_width, first_of, uneven_in, uneven_value, Extent, alone, wide, of_type, bits_in, width_in, declares, type_in, extent_value, TypedSignal, Declared, declared, bit_names, most_signals, declaration_value, declarations_value, Signals, none_yet, signals_value, even_first, signals_of}
-use Rattle.tlsf_expand.specs.Sections.{written_sections, added_value, with_added, sections_value, joined_more, joined, standard_value, strict_value, whole_value}
-use Rattle.tlsf_expand.specs.Expansion.{Expanded, kind_of, expanded_as, expanded}
+use Rattle.tlsf_expand.specs.Signals.{values_in, or_those, values_named, width_of, other_width, first_of, uneven_in, uneven_value, Extent, alone, wide, of_type, bits_in, width_in, declares, type_in, extent_value, TypedSignal, Declared, declared, most_signals, declarations_value, Signals, none_yet, signals_value, even_first, signals_of}
+use Rattle.tlsf_expand.specs.Sections.{written_sections, added_value, sections_value, joined_more, joined, standard_value, strict_value, whole_value}
+use Rattle.tlsf_expand.specs.Expansion.{Expanded, kind_of, expanded_as}
 use Rattle.tlsf_expand.specs.FewSignals.{HasFewSignals, ExpansionHasFewSignals}
-use Rattle.tlsf_expand.specs.TextSeen.{FlatText, spec_seen, flat_in}
-use Rattle.tlsf_expand.specs.Results.{IsExpansion}
-use Rattle.tlsf_expand.proofs.SignalsOfValues.{Under, under, refused, MeaningBelow, NamesBelow, FitFrom, u_go_on, u_checked, u_choose, u_made, u_values_made, u_value_at, u_section}
+use Rattle.tlsf_expand.proofs.SignalsOfValues.{Under, under, refused, MeaningBelow, NamesBelow, FitFrom, u_go_on, u_made, u_values_made, u_value_at, u_section}
 use Rattle.tlsf_expand.proofs.Laying.{length-declared}
 
 -- ---- more signals

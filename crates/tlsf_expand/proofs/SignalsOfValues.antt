@@ -3,7 +3,6 @@ use Rattle.std.proofs.Common.{◌≡◌, ℕ, zero, suc, ◌+◌, ◌-◌, ◌<�
 use Rattle.std.proofs.lemmas.Bool.{and_parts, eqb-true}
 use Rattle.std.proofs.lemmas.Int.{ints}
 use Rattle.std.specs.Prelude.{◌==◌, ◌&&◌, nat_le, find, pos, int_le, int_lt, unsigned_abs}
-use Rattle.std.specs.List.{list_all}
 use Rattle.std.specs.Ordering.{int_eq}
 use Rattle.ltl_formula.specs.declared.nodes.FormulaId.{FormulaId}
 use Rattle.ltl_formula.specs.declared.nodes.Node.{Node}
@@ -45,8 +44,8 @@ use Rattle.tlsf_values.specs.Sorts.{number_in, truth_in, set_in, bus_in, formula
 use Rattle.tlsf_values.specs.Steps.{step_count, stepped}
 use Rattle.tlsf_values.specs.Formulas.{pairing_of, connective_of, sign_of, truth_of, truth_node, node_of, flat_made, over_both, over_one, connected, opposed}
 use Rattle.tlsf_values.specs.Patterns.{joined_to, or_truth, bit_made, bits_made, values_made, are_wide, matched}
-use Rattle.tlsf_values.specs.Counts.{count_in, nexts, count_value, window_more, window_between, window_of, empty_truth, window_value, joining_of, joined_with, joined_over}
-use Rattle.tlsf_values.specs.Operators.{on_numbers, arithmetic, compared, on_sets, element, as_value, on_connective, on_pairing, matched_at, equated, operated, signed, denied, prefixed}
+use Rattle.tlsf_values.specs.Counts.{count_in, nexts, count_value, window_more, window_of, empty_truth, window_value, joining_of, joined_with, joined_over}
+use Rattle.tlsf_values.specs.Operators.{arithmetic, compared, on_sets, element, as_value, on_connective, on_pairing, equated, operated, signed, prefixed}
 use Rattle.tlsf_values.specs.Values.{Evaluator, evaluator, start_of, tree_count, meaning_value, values_at, bind, arguments_at, call_value, guard_value, chosen_value, body_value, bit_value, is_never_a_bus, word_value, index_value, numbers_in, steps_value, chain_value, window_parts, window_at, low_of, high_of, run_of, big_value, big_at, form_value, value_at}
 use Rattle.tlsf_values.specs.SectionValues.{section_formula, section_value}
 

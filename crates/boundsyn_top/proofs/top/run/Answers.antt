@@ -1,6 +1,6 @@
 use Rattle.std.specs.Prelude.{string_bytes}
 use Rattle.std.proofs.Common.{sym, arith, map}
-use Rattle.program_words.specs.Settings.{settings_of}
+use Rattle.boundsyn_top.specs.Commands.{asked_in}
 use Rattle.boundsyn_top.proofs.RunLemmas.{if_some_all, run_done, run_wants, run_failed}
 use Rattle.boundsyn_top.proofs.top.run.Goals as goal
 
@@ -9,7 +9,7 @@ returns-in_default-clause-statuses g c = (3, omega arith, sym c.number.ensures)
 
 pub returns-in_default-clause-complete : goal.returns-in_default-clause-complete
 returns-in_default-clause-complete g c =
-    if_some_all (settings_of (map string_bytes c.args.words.now)) _ (λ asked well written_all. (0, omega arith, sym c.number.ensures))
+    if_some_all (asked_in (map string_bytes c.args.words.now)) _ (λ asked well written_all. (0, omega arith, sym c.number.ensures))
 
 pub returns-in-Ok-put_lines-clause-statuses : goal.returns-in-Ok-put_lines-clause-statuses
 returns-in-Ok-put_lines-clause-statuses g c =
@@ -51,7 +51,7 @@ returns-clause-statuses g c = (3, omega arith, sym c.number-in-Err-NoMemory.ensu
 
 pub returns-clause-complete : goal.returns-clause-complete
 returns-clause-complete g c =
-    if_some_all (settings_of (map string_bytes c.args.words.now)) _ (λ asked well written_all. (0, omega arith, sym c.number-in-Err-NoMemory.ensures))
+    if_some_all (asked_in (map string_bytes c.args.words.now)) _ (λ asked well written_all. (0, omega arith, sym c.number-in-Err-NoMemory.ensures))
 
 pub returns-clause-bad_words_are_refused : goal.returns-clause-bad_words_are_refused
 returns-clause-bad_words_are_refused g c = λ none. (2, omega arith, sym c.number-in-Err-NoMemory.ensures)

@@ -1,5 +1,7 @@
-use Rattle.std.proofs.Common.{sym}
+use Rattle.std.proofs.Common.{length, subst, sym}
 use Rattle.tlsf_expand.specs.SectionsSeen.{flat_seen}
+use Rattle.tlsf_expand.specs.FewSignals.{HasFewSignals}
+use Rattle.tlsf_expand.specs.Signals.{Signals}
 use Rattle.tlsf_expand.specs.SignalsSeen.{signals_seen}
 use Rattle.tlsf_expand.specs.TextSeen.{text_seen}
 use Rattle.std.proofs.lemmas.Result.{err_from_is_err_and}
@@ -30,5 +32,6 @@ returns-in_err-listed-clause-expansion c =
 
 pub returns-clause-few : goal.returns-clause-few
 returns-clause-few c =
-    few_signals (text_seen c.args.tree.now) c.args.kind c.in-Some.kind (signals_seen c.in_ok-signals.signals) (flat_seen c.in_ok-sections.sections) c.in_ok-whole.whole
-    c.declared_signals.new.work c.flat_sections.new.work c.whole_formula.new.work (sym c.in-Some.ensures) (rw c.new.ensures at c.in_ok-signals.ensures) c.in_ok-sections.ensures.value c.in_ok-whole.ensures
+    subst (λ (s : Signals). HasFewSignals (length s.inputs) (length s.outputs) c.whole_formula.new.work.formulas) (sym c.in_ok-sections.ensures.signals)
+    (few_signals (text_seen c.args.tree.now) c.args.kind c.in-Some.kind (signals_seen c.in_ok-signals.signals) (flat_seen c.in_ok-sections.sections) c.in_ok-whole.whole
+    c.declared_signals.new.work c.flat_sections.new.work c.whole_formula.new.work (sym c.in-Some.ensures) (rw c.new.ensures at c.in_ok-signals.ensures) c.in_ok-sections.ensures.value c.in_ok-whole.ensures)
