@@ -44,9 +44,11 @@ where
         Err(WordsFault::NoMemory) => return Err(AllocError),
     };
     match settings {
-        Settings::Synth { spec, search, kind } => {
-            synthesized(rt, alloc, shelf, spec, search, kind, gate)
-        }
+        Settings::Synth {
+            spec,
+            search: wanted,
+            kind,
+        } => { synthesized(rt, alloc, shelf, spec, wanted, kind, gate) }
         Settings::Gen { clients } => generated(alloc, clients),
         Settings::Bench { clients, workers } => benched(rt, alloc, clients, workers, gate),
         // The other commands aren't answered yet.
@@ -62,7 +64,7 @@ fn synthesized<R, H, G>(
     alloc: Global,
     shelf: &mut H,
     spec: &str,
-    search: Search,
+    wanted: Search,
     kind: Option<Kind>,
     gate: &G,
 ) -> Result<Reply, AllocError>
@@ -70,16 +72,16 @@ where
     R: Threads + Wait + Sync,
     H: Shelf,
     G: Gate + Sync,
-    requires some_size { 1 ≤ search.max }
-    requires most_size { search.max ≤ 8 }
-    requires entries { IfSome search.entries (λ most. most ≤ 250000) }
-    requires workers { search.workers ≤ 8 }
-    ensures reply { IfOk result (λ r. RepliesTo (H.files shelf.old) (H.faults shelf.old) (H.faults shelf.new) (synth spec.now search kind) r.bytes.items (status_number r.status)) }
+    requires some_size { 1 ≤ wanted.max }
+    requires most_size { wanted.max ≤ 8 }
+    requires entries { IfSome wanted.entries (λ most. most ≤ 250000) }
+    requires workers { wanted.workers ≤ 8 }
+    ensures reply { IfOk result (λ r. RepliesTo (H.files shelf.old) (H.faults shelf.old) (H.faults shelf.new) (synth spec.now wanted kind) r.bytes.items (status_number r.status)) }
     ensures files { H.files shelf.new ≡ H.files shelf.old }
     ensures other_files { (name : List ℕ) → name ≢ spec.now → H.faults shelf.new name ≡ H.faults shelf.old name }
 {
     match take_text(alloc, shelf, spec)? {
-        Taken::Whole(text) => answer(rt, alloc, &text, kind, bounds(search), gate),
+        Taken::Whole(text) => answer(rt, alloc, &text, kind, bounds(wanted), gate),
         Taken::TooLong => too_long(alloc),
         Taken::Unread => cannot_read(alloc),
     }
@@ -112,13 +114,13 @@ where
 }
 
 // How a search is bounded.
-fn bounds(search: Search) -> synth_engine::Settings
-    ensures { result ≡ bounds_of search }
+fn bounds(wanted: Search) -> synth_engine::Settings
+    ensures { result ≡ bounds_of wanted }
 {
     synth_engine::Settings {
-        max: search.max,
-        entries: search.entries,
-        workers: search.workers,
+        max: wanted.max,
+        entries: wanted.entries,
+        workers: wanted.workers,
     }
 }
 

@@ -24,7 +24,7 @@ pub data Asked : Type 0 where
 
 -- what settings of the code ask for
 abbrev pub asked_by : Settings → Asked
-asked_by (settings.Synth spec search kind) = synth spec.now search kind
+asked_by (settings.Synth spec wanted kind) = synth spec.now wanted kind
 asked_by (settings.Check spec certificate) = check spec.now certificate.now
 asked_by (settings.Expand spec) = expand spec.now
 asked_by (settings.Lasso spec word) = lasso spec.now word.now
@@ -40,7 +40,7 @@ pub record IsSearchInRange (s : Search) : Type 0 where
   pub most_workers : s.workers ≤ 8
 
 abbrev pub IsInRange : Asked → Type 0
-IsInRange (synth spec search kind) = IsSearchInRange search
+IsInRange (synth spec wanted kind) = IsSearchInRange wanted
 IsInRange (check spec certificate) = Unit {0}
 IsInRange (expand spec) = Unit {0}
 IsInRange (lasso spec word) = Unit {0}
@@ -87,7 +87,7 @@ search_asked given =
 
 abbrev pub synth_asked : Given → Option Asked
 synth_asked given =
-    option_and_then (λ spec. option_and_then (λ search. option_map (synth spec search) (kind_asked given))
+    option_and_then (λ spec. option_and_then (λ wanted. option_map (synth spec wanted) (kind_asked given))
     (search_asked given)) (given (codes "spec"))
 
 abbrev pub check_asked : Given → Option Asked
