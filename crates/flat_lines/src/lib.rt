@@ -9,4 +9,5 @@ mod lines;
 mod names;
 mod put;
 
+pub use names::all_names;
 pub use put::put_flat;

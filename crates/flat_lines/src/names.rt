@@ -7,8 +7,8 @@ use std::alloc::{AllocError, Global};
 use text_base::Name;
 use tlsf_expand::Spec;
 
-// The names of all signals, by their numbers.
-pub(crate) fn all_names(alloc: Global, spec: &Spec) -> Result<Vec<Name>, AllocError>
+/// The names of all signals, by their numbers: those of the inputs, and then those of the outputs.
+pub fn all_names(alloc: Global, spec: &Spec) -> Result<Vec<Name>, AllocError>
     ensures { IfOk result (λ names. names.items ≡ all_names (spec_seen spec.now).expanded) }
 {
     let mut names = Vec::new(alloc);

@@ -1,0 +1,34 @@
+-- A text has one answer to `expand`.
+use Rattle.std.proofs.Common.{◌≡◌, ℕ, List, [], ◌∷◌, None, Contains, sym, ap, ◌∙◌, arith}
+use Rattle.tlsf_tokens.specs.declared.code.SpecCode.{SpecCode}
+use Rattle.tlsf_expand.specs.TextSeen.{FlatText}
+use Rattle.flat_text.specs.FlatOf.{IsFlatFault, IsFlatOf}
+use Rattle.flat_text.specs.Laws.{FlatFaultsAreDetermined, FlatTextsAreDetermined, FlatTextsHaveNoFault}
+use Rattle.flat_lines.specs.FlatLines.{flat_bytes}
+use Rattle.program_replies.specs.Lines.{refusal_line}
+use Rattle.flat_answer.specs.Expand.{ExpandAnswers, refused, written}
+use Rattle.flat_answer.specs.Laws.{ExpandAnswersAreDue, HasFlatFault}
+
+-- the line of one fault at one place
+pub same_line : (code code' : SpecCode) (place place' : ℕ) → (code ≡ code') × (place ≡ place') → refusal_line code place ≡ refusal_line code' place'
+same_line code code' place place' same = ap (λ c. refusal_line c place) same.0 ∙ ap (refusal_line code') same.1
+
+statuses : (text bytes : List ℕ) (status : ℕ) → ExpandAnswers text bytes status → Contains (0 ∷ 1 ∷ []) status
+statuses text bytes status (refused code place is fault line) = (1, omega arith, sym is)
+statuses text bytes status (written flat is is_flat line) = (0, omega arith, sym is)
+
+has_fault : (text bytes : List ℕ) (status : ℕ) → ExpandAnswers text bytes status → status ≡ 1 → HasFlatFault text
+has_fault text bytes status (refused code place is fault line) one = record { code = code; place = place; fault = fault }
+has_fault text bytes status (written flat is is_flat line) one = absurd (omega (arith, is, one))
+
+module _ (one_fault : FlatFaultsAreDetermined) (one_flat : FlatTextsAreDetermined) (apart : FlatTextsHaveNoFault) where
+  of_fault : (text bytes : List ℕ) (status : ℕ) (code : SpecCode) (place : ℕ) → ExpandAnswers text bytes status → IsFlatFault text None code place → (status ≡ 1) × (bytes ≡ refusal_line code place)
+  of_fault text bytes status code place (refused c p is fault line) due = (is, line ∙ same_line c code p place (one_fault text None c code p place fault due))
+  of_fault text bytes status code place (written flat is is_flat line) due = absurd (apart text None flat code place is_flat due)
+
+  of_flat : (text bytes : List ℕ) (status : ℕ) (flat : FlatText) → ExpandAnswers text bytes status → IsFlatOf text None flat → (status ≡ 0) × (bytes ≡ flat_bytes flat)
+  of_flat text bytes status flat (refused code place is fault line) due = absurd (apart text None flat code place due fault)
+  of_flat text bytes status flat (written other is is_flat line) due = (is, line ∙ ap flat_bytes (one_flat text None other flat is_flat due))
+
+  pub are_due : ExpandAnswersAreDue
+  are_due = record { statuses = statuses; refused = has_fault; of_fault = of_fault; of_flat = of_flat }

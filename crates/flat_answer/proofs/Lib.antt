@@ -1,0 +1,3 @@
+pub mod ExpandOnce
+pub mod LassoOnce
+pub mod Replies

@@ -1,0 +1,20 @@
+use Rattle.std.proofs.Common.{None, Err, ap}
+use Rattle.tlsf_expand.specs.TextSeen.{spec_seen}
+use Rattle.flat_text.specs.Plain.{text_of}
+use Rattle.flat_answer.proofs.Replies.{refused_expand, refused_lasso}
+use Rattle.flat_answer.proofs.texts.expanded.Goals as goal
+
+pub returns-in-Ok-clause-writable : goal.returns-in-Ok-clause-writable
+returns-in-Ok-clause-writable c =
+    let flat = c.in-Ok.ensures.flat in
+    c.expanded_can_be_written.ensures (text_of flat.tree) None (spec_seen c.in-Ok.spec) flat.expanded
+
+pub returns-in_ok-refusal-in-Err-clause-refused : goal.returns-in_ok-refusal-in-Err-clause-refused
+returns-in_ok-refusal-in-Err-clause-refused c =
+    let reply = c.in_ok-refusal-in-Err.field-0 in
+    refused_expand c.args.text.now c.in-Err.fault reply.bytes.items reply.status (λ code place is. c.in-Err.ensures.fault code place (ap Err is)) c.in_ok-refusal-in-Err.ensures
+
+pub returns-in_ok-refusal-in-Err-clause-refused_to_words : goal.returns-in_ok-refusal-in-Err-clause-refused_to_words
+returns-in_ok-refusal-in-Err-clause-refused_to_words c =
+    let reply = c.in_ok-refusal-in-Err.field-0 in
+    refused_lasso c.args.text.now c.in-Err.fault reply.bytes.items reply.status (λ code place is. c.in-Err.ensures.fault code place (ap Err is)) c.in_ok-refusal-in-Err.ensures

@@ -1,0 +1,37 @@
+-- The answer of `lasso` to a text and a word (this project's own). No kind is given, so those that the text names count.
+use Rattle.std.specs.Prelude.{◌≡◌, ℕ, Bool, true, false, List, None, codes}
+use Rattle.letter_word.specs.Word.{Word}
+use Rattle.tlsf_tokens.specs.declared.code.SpecCode.{SpecCode}
+use Rattle.tlsf_reader.specs.Spec.{Spec}
+use Rattle.tlsf_reader.specs.Reads.{Reads}
+use Rattle.tlsf_expand.specs.Meaning.{means}
+use Rattle.tlsf_expand.specs.TextSeen.{FlatText}
+use Rattle.flat_text.specs.Plain.{text_of}
+use Rattle.flat_text.specs.FlatOf.{IsFlatFault, IsFlatOf}
+use Rattle.flat_lines.specs.FlatLines.{all_names}
+use Rattle.lasso_word.specs.WordText.{IsFirstBadLine, StatesWord}
+use Rattle.program_replies.specs.Lines.{line_refusal, refusal_line}
+
+abbrev pub truth_line : Bool → List ℕ
+truth_line true = codes "true\n"
+truth_line false = codes "false\n"
+
+-- The word states a lasso over the signals of the text, the inputs first, and this is whether the written text means so on it.
+pub record IsTruthOn (text word : List ℕ) (truth : Bool) : Type 0 where
+  pub tree : Spec
+  pub reads : Reads text tree
+  pub flat : FlatText
+  pub is_flat : IsFlatOf text None flat
+  pub lasso : Word
+  pub states : StatesWord word (all_names flat.expanded) lasso
+  pub exactly : truth ≡ means lasso (text_of tree)
+
+-- The bytes and the status: the line of the text's first fault of those before normal forms, that of the word's first bad line over
+-- the signals of the text, or whether the text means so on the lasso.
+pub data LassoAnswers (text word bytes : List ℕ) (status : ℕ) : Type 0 where
+  refused : (code : SpecCode) (place : ℕ) → status ≡ 1 → IsFlatFault text None code place → bytes ≡ refusal_line code place
+      → LassoAnswers text word bytes status
+  bad_line : (flat : FlatText) (line : ℕ) → status ≡ 40 → IsFlatOf text None flat → IsFirstBadLine word (all_names flat.expanded) line
+      → bytes ≡ line_refusal line → LassoAnswers text word bytes status
+  told : (truth : Bool) → status ≡ 0 → IsTruthOn text word truth → bytes ≡ truth_line truth
+      → LassoAnswers text word bytes status

@@ -1,0 +1,4 @@
+pub mod Expand
+pub mod Lasso
+pub mod Expansions
+pub mod Laws

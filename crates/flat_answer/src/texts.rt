@@ -1,0 +1,55 @@
+//! A text that is expanded first, before anything else is read.
+ghost use Rattle.std.specs.Prelude.{ℕ, List, None, IfOk, length};
+ghost use Rattle.ltl_formula.specs.Nodes.{Stands};
+ghost use Rattle.tlsf_expand.specs.FewSignals.{HasFewSignals};
+ghost use Rattle.tlsf_expand.specs.TextSeen.{spec_seen};
+ghost use Rattle.flat_text.specs.FlatNames.{HasPlainNames};
+ghost use Rattle.flat_text.specs.FlatOf.{IsFlatOf};
+ghost use Rattle.flat_lines.specs.FlatLines.{CanBeWritten};
+ghost use Rattle.program_replies.specs.Statuses.{status_number};
+ghost use Rattle.flat_answer.specs.Expand.{ExpandAnswers};
+ghost use Rattle.flat_answer.specs.Lasso.{LassoAnswers};
+ghost use Rattle.flat_answer.specs.Expansions.{IfFlat, IfRefused, IsRefusal};
+
+use flat_lines::laws::expanded_can_be_written;
+use flat_text::expand_text;
+use program_replies::{Reply, refused};
+use std::alloc::{AllocError, Global};
+use tlsf_expand::Spec;
+use tlsf_tokens::SpecFault;
+
+/// What came of expanding a text.
+#[derive(Drop)]
+pub enum Expansion {
+    /// The flat text.
+    Flat(Spec),
+    /// The reply to a text with a fault.
+    Refused(Reply),
+}
+
+/// A text, flat, or the reply with the line of its first fault, which answers it whatever else was asked.
+pub fn expanded(alloc: Global, text: &[u8]) -> Result<Expansion, AllocError>
+    ensures flat { IfOk result (IfFlat (λ spec. IsFlatOf text.now None (spec_seen spec))) }
+    ensures few { IfOk result (IfFlat (λ spec. HasFewSignals (length spec.inputs.items) (length spec.outputs.items) spec.formulas)) }
+    ensures names { IfOk result (IfFlat (λ spec. HasPlainNames (spec_seen spec).expanded)) }
+    ensures stands { IfOk result (IfFlat (λ spec. Stands spec.formulas spec.whole)) }
+    ensures writable { IfOk result (IfFlat (λ spec. CanBeWritten (spec_seen spec))) }
+    ensures refused { IfOk result (IfRefused (λ r. ExpandAnswers text.now r.bytes.items (status_number r.status))) }
+    ensures refused_to_words { IfOk result (IfRefused (λ r. (word : List ℕ) → LassoAnswers text.now word r.bytes.items (status_number r.status))) }
+{
+    expanded_can_be_written();
+    match expand_text(alloc, text, None) {
+        Ok(spec) => Ok(Expansion::Flat(spec)),
+        Err(fault) => Ok(Expansion::Refused(refusal(alloc, fault)?)),
+    }
+}
+
+// The reply to a text with this fault.
+fn refusal(alloc: Global, fault: SpecFault) -> Result<Reply, AllocError>
+    ensures { IfOk result (λ r. IsRefusal fault r.bytes.items r.status) }
+{
+    match fault {
+        SpecFault::At { code, place } => refused(alloc, code, place),
+        SpecFault::NoMemory => Err(AllocError),
+    }
+}
