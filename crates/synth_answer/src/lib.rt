@@ -12,3 +12,4 @@ mod facts;
 mod outcomes;
 
 pub use answering::answer;
+pub use facts::laws_hold;

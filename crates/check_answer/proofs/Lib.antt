@@ -1,0 +1,6 @@
+mod OfKind
+mod SameFacts
+mod Determined
+mod Told
+mod Accepted
+mod Answered

@@ -1,0 +1,97 @@
+-- The answer of `check` to a text and a certificate (this project's own).
+use Rattle.std.specs.Prelude.{◌≡◌, ℕ, ◌<◌, ◌≤◌, ⊤, true, List, ◌++◌, Some, All, codes, decimal}
+use Rattle.letter_word.specs.declared.kinds.Kind.{Kind}
+use Rattle.letter_word.specs.declared.kinds.Kind.TheVariants.{Mealy, Moore}
+use Rattle.letter_word.specs.declared.kinds.Side.{Side}
+use Rattle.letter_word.specs.declared.kinds.Side.TheVariants.{System, Environment}
+use Rattle.refutation_log.specs.Log.{is_ended}
+use Rattle.tlsf_tokens.specs.declared.code.SpecCode.{SpecCode}
+use Rattle.tlsf_expand.specs.TextSeen.{FlatText}
+use Rattle.spec_problems.specs.declared.sides.SideProblems.{SideProblems}
+use Rattle.spec_problems.specs.OfText.{AreProblemsOf, IsFirstFault}
+use Rattle.satisfaction.specs.Wanted.{Wanted}
+use Rattle.satisfaction.specs.Satisfaction.{EachCanLose, NoneSatisfies}
+use Rattle.cert_text.specs.declared.documents.Verdict.{Verdict}
+use Rattle.cert_text.specs.declared.documents.Verdict.TheVariants.{Realizable, Unrealizable, Bounded, UnknownSizes, UnknownEntries}
+use Rattle.cert_text.specs.Parts.{Document}
+use Rattle.cert_text.specs.States.{States}
+use Rattle.document_check.specs.Facts.{Facts, allowed_at}
+use Rattle.document_check.specs.Holds.{HoldsFor}
+use Rattle.document_check.specs.FirstBad.{IsFirstBadFor}
+use Rattle.program_replies.specs.Lines.{line_refusal, refusal_line}
+use Rattle.synth_answer.specs.Printed.{IsWantedBy, given_by}
+
+-- == the line of a document that is accepted ==
+
+-- what is told of a machine whose smaller sizes aren't all refuted begins with its side
+abbrev pub bounded_words : Side → List ℕ
+bounded_words System = codes "bounded system "
+bounded_words Environment = codes "bounded environment "
+
+abbrev pub kind_word : Kind → List ℕ
+kind_word Mealy = codes "Mealy"
+kind_word Moore = codes "Moore"
+
+-- what is told of a verdict: the same of both without a machine
+abbrev pub verdict_words : Verdict → List ℕ
+verdict_words (Realizable n) = codes "realizable " ++ decimal n
+verdict_words (Unrealizable n) = codes "unrealizable " ++ decimal n
+verdict_words (Bounded side n) = bounded_words side ++ decimal n
+verdict_words UnknownSizes = codes "unknown"
+verdict_words (UnknownEntries side n) = codes "unknown"
+
+abbrev pub accepted_line : Verdict → Kind → List ℕ
+accepted_line verdict kind = codes "accepted " ++ verdict_words verdict ++ codes " as " ++ kind_word kind ++ codes "\n"
+
+-- == the text ==
+
+-- A text's flat form and the problems of its two sides. It is taken with a kind given, so that kinds of its own that differ are no
+-- fault; which kind makes no difference, since the test of documents takes a document's own in its place, and its version too.
+pub record Given (text : List ℕ) : Type 0 where
+  pub spec : FlatText
+  pub problems : SideProblems
+  pub are_problems : AreProblemsOf text (Some Mealy) 2 spec problems
+
+-- what the text gives to the test of documents
+abbrev pub facts_in : {text : List ℕ} → Given text → Facts
+facts_in g = given_by g.spec g.problems
+
+-- == a document that is accepted ==
+
+-- no machine of n states of this side: none of the system satisfies, or each of the environment can lose
+abbrev pub HasNoMachine : Wanted → Side → ℕ → Type 0
+HasNoMachine x System n = NoneSatisfies x n
+HasNoMachine x Environment n = EachCanLose x n
+
+-- What a verdict says of sizes, with the numbers of allowed sizes: that a machine is the smallest of its side, or that there is none.
+-- A counter-machine of the older versions comes without logs, and logs that may be full say nothing.
+abbrev pub SaysOfSizes : Wanted → ℕ → ℕ → ℕ → Verdict → Type 0
+SaysOfSizes x version system environment (Realizable n) = (k : ℕ) → 0 < k → k < n → NoneSatisfies x k
+SaysOfSizes x version system environment (Unrealizable n) = version ≡ 3 → (k : ℕ) → 0 < k → k < n → EachCanLose x k
+SaysOfSizes x version system environment (Bounded side n) = ⊤
+SaysOfSizes x version system environment UnknownSizes =
+    ((k : ℕ) → 0 < k → k ≤ system → NoneSatisfies x k) × ((k : ℕ) → 0 < k → k ≤ environment → EachCanLose x k)
+SaysOfSizes x version system environment (UnknownEntries side n) = ⊤
+
+-- The bytes state the document, which holds for the text. What is wanted of machines is what the text wants, with the document's
+-- kind, and each log that ends with the empty clause shows that its side has no machine of its size; so the verdict says what it does
+-- of sizes. Nothing is said of the circuit but that it reads and has the text's names.
+pub record IsAccepted (text certificate : List ℕ) (given : Facts) (d : Document) : Type 0 where
+  pub states : States certificate d
+  pub holds : HoldsFor given d
+  pub wanted : Wanted
+  pub is_wanted : IsWantedBy text (Some d.kind) wanted
+  pub refuted : All (λ l. is_ended l.entries ≡ true → HasNoMachine wanted l.side l.size) d.logs
+  pub told : SaysOfSizes wanted d.version (allowed_at given d.kind d.version d.max System) (allowed_at given d.kind d.version d.max Environment) d.verdict
+
+-- == the answer ==
+
+-- The bytes and the status that answer a text and a certificate: the line of the text's first fault, that of the certificate's first
+-- bad line for the text, or that of the document that it states.
+pub data CheckAnswers (text certificate bytes : List ℕ) (status : ℕ) : Type 0 where
+  refused : (code : SpecCode) (position : ℕ) → status ≡ 1 → IsFirstFault text (Some Mealy) code position → bytes ≡ refusal_line code position
+      → CheckAnswers text certificate bytes status
+  bad_line : (g : Given text) (n : ℕ) → status ≡ 40 → IsFirstBadFor (facts_in g) certificate n → bytes ≡ line_refusal n
+      → CheckAnswers text certificate bytes status
+  accepted : (g : Given text) (d : Document) → status ≡ 0 → IsAccepted text certificate (facts_in g) d → bytes ≡ accepted_line d.verdict d.kind
+      → CheckAnswers text certificate bytes status

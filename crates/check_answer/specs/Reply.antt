@@ -1,0 +1,40 @@
+-- How the answers of `check` are made (this project's own).
+use Rattle.std.specs.Prelude.{◌≡◌, ℕ, List, Some}
+use Rattle.letter_word.specs.declared.kinds.Kind.{Kind}
+use Rattle.letter_word.specs.declared.kinds.Kind.TheVariants.{Mealy}
+use Rattle.ltl_formula.specs.Nodes.{tree_at}
+use Rattle.tlsf_expand.specs.TextSeen.{spec_seen}
+use Rattle.spec_problems.specs.declared.texts.TextProblems.{TextProblems}
+use Rattle.spec_problems.specs.OfFormula.{AcceptBySide, AreProblems}
+use Rattle.spec_problems.specs.OfText.{AreProblemsOf, SaysWhat}
+use Rattle.cert_text.specs.declared.documents.DocumentFault.{DocumentFault}
+use Rattle.cert_text.specs.declared.documents.DocumentFault.TheVariants as fault
+use Rattle.cert_text.specs.declared.documents.Verdict.{Verdict}
+use Rattle.program_replies.specs.Lines.{line_refusal}
+use Rattle.program_replies.specs.Statuses.{status_number}
+use Rattle.program_replies.specs.declared.replies.Status.{Status}
+use Rattle.program_replies.specs.declared.replies.Status.TheVariants as ended
+use Rattle.check_answer.specs.declared.answering.Problems.{Problems}
+use Rattle.check_answer.specs.declared.answering.Problems.TheVariants.{Of, Refused}
+use Rattle.check_answer.specs.Answer.{CheckAnswers, accepted_line}
+
+-- a text that was read and expanded, with a kind given, and its problems
+pub record IsTaken (text : List ℕ) (t : TextProblems) : Type 0 where
+  pub problems : AreProblemsOf text (Some Mealy) 2 (spec_seen t.spec) t.problems
+  pub meet : AreProblems t.problems
+  pub accept : AcceptBySide (tree_at t.spec.formulas t.spec.whole) t.problems
+  pub means : SaysWhat text t.spec.formulas t.spec.whole
+
+-- A text's problems, or a reply that answers the text with whatever certificate.
+abbrev pub AreTakenOf : List ℕ → Problems → Type 0
+AreTakenOf text (Of t) = IsTaken text t
+AreTakenOf text (Refused r) = (certificate : List ℕ) → CheckAnswers text certificate r.bytes.items (status_number r.status)
+
+-- the bytes and the status for a fault of a document; for want of memory there are none
+abbrev pub IsLineRefusal : DocumentFault → List ℕ → Status → Type 0
+IsLineRefusal (fault.BadLine n) bytes status = (bytes ≡ line_refusal n) × (status ≡ ended.LineRefused)
+IsLineRefusal fault.NoMemory bytes status = ⊥
+
+-- the bytes and the status for a document that holds, with this verdict and kind
+abbrev pub IsAcceptance : Verdict → Kind → List ℕ → Status → Type 0
+IsAcceptance verdict kind bytes status = (bytes ≡ accepted_line verdict kind) × (status ≡ ended.Done)

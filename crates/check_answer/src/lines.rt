@@ -1,0 +1,65 @@
+//! The line of a document that is accepted.
+ghost use Rattle.std.specs.Prelude.{◌≡◌, ◌++◌, decimal, IfOk, OnOk};
+ghost use Rattle.check_answer.specs.Answer.{bounded_words as words_of_bounded, kind_word as word_of_kind, verdict_words};
+ghost use Rattle.check_answer.specs.Reply.{IsAcceptance};
+
+use cert_text::Verdict;
+use letter_word::{Kind, Side};
+use program_replies::{Reply, Status};
+use std::alloc::{AllocError, Global};
+use text_base::push_number;
+
+/// The reply to a document that holds, with this verdict and kind.
+pub fn acceptance(alloc: Global, verdict: Verdict, kind: Kind) -> Result<Reply, AllocError>
+    ensures { IfOk result (λ r. IsAcceptance verdict kind r.bytes.items r.status) }
+{
+    let mut bytes = Vec::new(alloc);
+    bytes.extend_from_slice(b"accepted ")?;
+    push_verdict(&mut bytes, verdict)?;
+    bytes.extend_from_slice(b" as ")?;
+    bytes.extend_from_slice(kind_word(kind))?;
+    bytes.extend_from_slice(b"\n")?;
+    Ok(Reply {
+        bytes,
+        status: Status::Done,
+    })
+}
+
+fn push_verdict(bytes: &mut Vec<u8>, verdict: Verdict) -> Result<(), AllocError>
+    ensures { OnOk result (bytes.new.items ≡ bytes.old.items ++ verdict_words verdict) }
+{
+    match verdict {
+        Verdict::Realizable(n) => push_numbered(bytes, b"realizable ", n),
+        Verdict::Unrealizable(n) => push_numbered(bytes, b"unrealizable ", n),
+        Verdict::Bounded(side, n) => push_numbered(bytes, bounded_words(side), n),
+        Verdict::UnknownSizes => bytes.extend_from_slice(b"unknown"),
+        Verdict::UnknownEntries(..) => bytes.extend_from_slice(b"unknown"),
+    }
+}
+
+// Appends words, with the space behind them, and a number.
+fn push_numbered(bytes: &mut Vec<u8>, words: &[u8], number: u32) -> Result<(), AllocError>
+    ensures { OnOk result (bytes.new.items ≡ bytes.old.items ++ (words.now ++ decimal number)) }
+{
+    bytes.extend_from_slice(words)?;
+    push_number(bytes, u64::from(number))?;
+    Ok(())
+}
+
+fn bounded_words(side: Side) -> &'static [u8]
+    ensures { result.now ≡ words_of_bounded side }
+{
+    match side {
+        Side::System => b"bounded system ",
+        Side::Environment => b"bounded environment ",
+    }
+}
+
+fn kind_word(kind: Kind) -> &'static [u8]
+    ensures { result.now ≡ word_of_kind kind }
+{
+    match kind {
+        Kind::Mealy => b"Mealy",
+        Kind::Moore => b"Moore",
+    }
+}
