@@ -1,3 +1,5 @@
 mod SinkLemmas
-mod RunLemmas
+mod FileLemmas
 mod ReplyLemmas
+mod RefusalLemmas
+mod RunLemmas

@@ -1,107 +1,119 @@
--- What makes a reply one of those that a run may write.
-use Rattle.std.specs.Prelude.{Contains, IfSome, codes}
-use Rattle.std.proofs.Common.{◌≡◌, ◌≢◌, ◌<◌, true, false, ℕ, suc, List, [], ◌∷◌, length, replicate, refl, sym, arith, Option, Some, None}
-use Rattle.std.proofs.lemmas.List.{length-replicate}
+-- What makes a reply one of those that a command, and a run, may write.
+use Rattle.std.specs.Prelude.{Contains, IfOk, Result, Ok, Err, codes}
+use Rattle.std.proofs.Common.{◌≡◌, ◌≢◌, ℕ, List, [], ◌∷◌, ◌<◌, ◌≤◌, length, refl, sym, subst, arith, Option, Some, None}
 use Rattle.letter_word.specs.declared.kinds.Kind.{Kind}
 use Rattle.outside_edge.specs.Faults.{Rose}
-use Rattle.outside_edge.specs.Files.{Files, bytes_under}
+use Rattle.outside_edge.specs.Files.{Files}
+use Rattle.program_replies.specs.declared.replies.Reply.{Reply}
 use Rattle.program_replies.specs.declared.replies.Status.{Status}
-use Rattle.program_replies.specs.declared.replies.Status.TheVariants.{Done, Refused, CannotRead, WordsRefused}
+use Rattle.program_replies.specs.declared.replies.Status.TheVariants.{CannotRead, Done, WordsRefused}
 use Rattle.program_replies.specs.Statuses.{status_number}
 use Rattle.program_replies.specs.Lines.{refusal_line}
 use Rattle.program_words.specs.declared.settings.Search.{Search}
-use Rattle.program_words.specs.Settings.{Asked, settings_of, bench, gen, synth}
+use Rattle.program_words.specs.Settings.{Asked, settings_of, bench, check, expand, gen, lasso, synth}
 use Rattle.cert_text.specs.declared.documents.Verdict.{Verdict}
 use Rattle.cert_text.specs.declared.documents.Verdict.TheVariants as verdict
+use Rattle.arbiter_text.specs.Arbiter.{generated_text}
 use Rattle.bench_answer.specs.Bench.{BenchAnswer, HasStatus}
 use Rattle.tlsf_tokens.specs.declared.code.SpecCode.TheVariants.{TooLong}
 use Rattle.tlsf_reader.specs.Faults.{most_bytes, too_long}
 use Rattle.flat_text.specs.FlatOf.{of_reading}
 use Rattle.spec_problems.specs.OfText.{of_text}
 use Rattle.synth_engine.specs.declared.settings.Settings.{Settings}
-use Rattle.synth_answer.specs.Answer.{Answers, refused, realizable, unrealizable, bounded, no_size, no_entries}
-use Rattle.arbiter_text.specs.Arbiter.{generated_text}
-use Rattle.boundsyn_top.specs.Commands.{AnswersAsked, asked_in, bounds_of, is_answered, statuses_of}
-use Rattle.boundsyn_top.specs.Run.{IsForeign, IsReply, RepliesTo, unread, answers, answered, cannot_read, words_refused}
+use Rattle.synth_answer.specs.Answer.{Answers, realizable, unrealizable, bounded, no_size, no_entries}
+use Rattle.synth_answer.specs.Answer as synthesis
+use Rattle.check_answer.specs.Answer.{CheckAnswers, accepted}
+use Rattle.check_answer.specs.Answer as certificate
+use Rattle.flat_answer.specs.Expand.{ExpandAnswers, written}
+use Rattle.flat_answer.specs.Expand as expansion
+use Rattle.flat_answer.specs.Lasso.{LassoAnswers}
+use Rattle.flat_answer.specs.Lasso as lassos
+use Rattle.boundsyn_top.specs.declared.output.Output.{Output}
+use Rattle.boundsyn_top.specs.declared.output.Output.TheVariants.{Whole}
+use Rattle.boundsyn_top.specs.Output.{IsExpansion, IsWholeOf, bytes_of, status_of}
+use Rattle.boundsyn_top.specs.Files as file
+use Rattle.boundsyn_top.specs.Files.{AreOfFile, HoldsOfFile, IsUntaken, RepliesByFile}
+use Rattle.boundsyn_top.specs.Commands.{MayAnswer, bounds_of, names_of, statuses_of}
+use Rattle.boundsyn_top.specs.Run.{Asks, IsForeign, IsOutputFor, IsOutputOf, IsReply, RepliesTo, answers, answered, cannot_read, unread, words_refused}
+use Rattle.boundsyn_top.proofs.FileLemmas.{rose_later, some_bytes, too_long_text}
 
-pub reply_of : (words : List (List ℕ)) (told : Option Files) (before after : List ℕ → ℕ) (asked : Asked) (bytes : List ℕ) (status : ℕ) →
-    asked_in words ≡ Some asked → Contains (statuses_of asked) status → AnswersAsked told asked bytes status →
-    IsReply words told before after bytes status
-reply_of words told before after asked bytes status is_asked status_is answer =
-    answered (record { asked = asked; is_asked = is_asked; status_is = status_is; answer = answer })
+-- == the words ==
 
-pub reply_generated : (words : List (List ℕ)) (told : Option Files) (before after : List ℕ → ℕ) (clients : ℕ) (bytes : List ℕ) (status : Status) →
-    asked_in words ≡ Some (gen clients) → bytes ≡ generated_text clients → status ≡ Done →
-    IsReply words told before after bytes (status_number status)
-reply_generated words told before after clients bytes status is_asked is done =
-    rw done (reply_of words told before after (gen clients) bytes 0 is_asked (0, omega arith, refl) (is, refl))
+words_unasked : (words : List (List ℕ)) (told : Option Files) (before after : List ℕ → ℕ) (bytes : List ℕ) (status : Status) →
+    settings_of words ≡ None → bytes ≡ codes "words refused\n" → status ≡ WordsRefused → IsReply words told before after bytes (status_number status)
+words_unasked words told before after bytes status none is ended = rw ended (words_refused refl (record { none = none }) is)
 
 -- what a command replies is what a run may write
-pub reply_by : (words : List (List ℕ)) (told : Option Files) (before after : List ℕ → ℕ) (asked : Asked) (bytes : List ℕ) (status : ℕ) →
-    asked_in words ≡ Some asked → RepliesTo told before after asked bytes status → IsReply words told before after bytes status
-reply_by words told before after asked bytes status is_asked (unread name named rose status_is is) =
-    cannot_read status_is (record { asked = asked; is_asked = is_asked; name = name; named = named; rose = rose }) is
-reply_by words told before after asked bytes status is_asked (answers status_is answer) =
-    reply_of words told before after asked bytes status is_asked status_is answer
+reply_by : (words : List (List ℕ)) (told : Option Files) (before after : List ℕ → ℕ) (asked : Asked) (bytes : List ℕ) (status : ℕ) →
+    Asks words asked → RepliesTo told before after asked bytes status → IsReply words told before after bytes status
+reply_by words told before after asked bytes status asks (unread name named rose status_is is) =
+    cannot_read status_is (record { asked = asked; asks = asks; name = name; named = named; rose = rose }) is
+reply_by words told before after asked bytes status asks (answers status_is answer) =
+    answered (record { asked = asked; asks = asks; status_is = status_is; answer = answer })
 
--- the statuses of an answer of `synth`
+pub output_by : (words : List (List ℕ)) (told : Option Files) (before after : List ℕ → ℕ) (asked : Asked) (output : Output) →
+    settings_of words ≡ Some asked → IsOutputOf told before after asked output → IsOutputFor words told before after output
+output_by words told before after asked output is o = record {
+  reply = reply_by words told before after asked (bytes_of output) (status_of output) (record { settings = is }) o.replies;
+  writable = o.writable;
+}
+
+-- a file that the words don't name isn't one of the command
+pub unnamed : (words : List (List ℕ)) (asked : Asked) (name : List ℕ) → settings_of words ≡ Some asked → IsForeign words name →
+    Contains (names_of asked) name → ⊥
+unnamed words asked name is foreign = foreign asked (record { settings = is })
+
+-- a file that is neither of two
+pub neither : (a b name : List ℕ) → (Contains (a ∷ b ∷ []) name → ⊥) → (name ≢ a) × (name ≢ b)
+neither a b name other = (λ same. other (0, omega arith, sym same), λ same. other (1, omega arith, sym same))
+
+-- == outputs ==
+
+-- what holds of the output of a reply
+pub whole_is : {E : Type 0} (P : Output → Type 0) (reply : Result Reply E) (result : Result Output E) → IsWholeOf reply result →
+    IfOk reply (λ r. P (Whole r)) → IfOk result P
+whole_is P (Ok reply) (Ok output) is h = subst P (sym is) h
+whole_is P (Ok reply) (Err error) is h = absurd is
+whole_is P (Err error) (Ok output) is h = absurd is
+whole_is P (Err error) (Err other) is h = tt
+
+-- the output of a command's reply
+pub whole_of : (told : Option Files) (before after : List ℕ → ℕ) (asked : Asked) (reply : Reply) →
+    RepliesTo told before after asked reply.bytes.items (status_number reply.status) → IsOutputOf told before after asked (Whole reply)
+whole_of told before after asked reply replies = record { replies = replies; writable = tt }
+
+pub unasked_output : (words : List (List ℕ)) (told : Option Files) (before after : List ℕ → ℕ) (reply : Reply) →
+    settings_of words ≡ None → reply.bytes.items ≡ codes "words refused\n" → reply.status ≡ WordsRefused →
+    IsOutputFor words told before after (Whole reply)
+unasked_output words told before after reply none is ended = record {
+  reply = words_unasked words told before after reply.bytes.items reply.status none is ended;
+  writable = tt;
+}
+
+-- == the statuses of answers ==
+
 synth_status : (text : List ℕ) (kind : Option Kind) (settings : Settings) (bytes : List ℕ) (status : ℕ) →
     Answers text kind settings bytes status → Contains (1 ∷ 10 ∷ 11 ∷ 20 ∷ 30 ∷ []) status
-synth_status text kind settings bytes status (refused code position is fault line) = (0, omega arith, sym is)
+synth_status text kind settings bytes status (synthesis.refused code position is fault line) = (0, omega arith, sym is)
 synth_status text kind settings bytes status (realizable p n c is holds) = (1, omega arith, sym is)
 synth_status text kind settings bytes status (unrealizable p n c is holds) = (3, omega arith, sym is)
 synth_status text kind settings bytes status (bounded p side n c is holds) = (2, omega arith, sym is)
 synth_status text kind settings bytes status (no_size p is holds) = (4, omega arith, sym is)
 synth_status text kind settings bytes status (no_entries p side n is holds) = (4, omega arith, sym is)
 
-pub synth_answered : (told : Option Files) (before after : List ℕ → ℕ) (spec text : List ℕ) (wanted : Search) (kind : Option Kind) (bytes : List ℕ) (status : ℕ) →
-    IfSome told (λ files. text ≡ bytes_under files spec) → Answers text kind (bounds_of wanted) bytes status →
-    RepliesTo told before after (synth spec wanted kind) bytes status
-synth_answered told before after spec text wanted kind bytes status are answer =
-    answers (synth_status text kind (bounds_of wanted) bytes status answer) (record { bytes = text; are_told = are; holds = answer })
+check_status : (text document bytes : List ℕ) (status : ℕ) → CheckAnswers text document bytes status → Contains (0 ∷ 1 ∷ 40 ∷ []) status
+check_status text document bytes status (certificate.refused code place is fault line) = (1, omega arith, sym is)
+check_status text document bytes status (certificate.bad_line given n is bad line) = (2, omega arith, sym is)
+check_status text document bytes status (accepted given d is holds line) = (0, omega arith, sym is)
 
--- a text of one byte too many
-long_text : (n : ℕ) → (text : List ℕ) × (n < length text)
-long_text n = (replicate (suc n) 0, omega (arith, length-replicate {A = ℕ} (suc n) 0))
+expand_status : (text bytes : List ℕ) (status : ℕ) → ExpandAnswers text bytes status → Contains (0 ∷ 1 ∷ []) status
+expand_status text bytes status (expansion.refused code place is fault line) = (1, omega arith, sym is)
+expand_status text bytes status (written spec is flat line) = (0, omega arith, sym is)
 
-too_long_text : (told : Option Files) (spec : List ℕ) (limit : ℕ) → IfSome told (λ files. limit < length (bytes_under files spec)) →
-    (text : List ℕ) × IfSome told (λ files. text ≡ bytes_under files spec) × (limit < length text)
-too_long_text None spec limit long = let t = long_text limit in (t.0, tt, t.1)
-too_long_text (Some files) spec limit long = (bytes_under files spec, refl, long)
-
-pub synth_too_long : (told : Option Files) (before after : List ℕ → ℕ) (spec : List ℕ) (wanted : Search) (kind : Option Kind) (bytes : List ℕ) (status : Status) →
-    IfSome told (λ files. most_bytes < length (bytes_under files spec)) → bytes ≡ refusal_line TooLong most_bytes → status ≡ Refused →
-    RepliesTo told before after (synth spec wanted kind) bytes (status_number status)
-synth_too_long told before after spec wanted kind bytes status long is ended =
-    let t = too_long_text told spec most_bytes long in
-    rw ended (synth_answered told before after spec t.0 wanted kind bytes 1 t.1
-    (refused TooLong most_bytes refl (of_text TooLong most_bytes (of_reading TooLong most_bytes (too_long t.2))) is))
-
-pub synth_unread : (told : Option Files) (before after : List ℕ → ℕ) (spec : List ℕ) (wanted : Search) (kind : Option Kind) (bytes : List ℕ) (status : Status) →
-    Rose (before spec) (after spec) → bytes ≡ codes "cannot read\n" → status ≡ CannotRead →
-    RepliesTo told before after (synth spec wanted kind) bytes (status_number status)
-synth_unread told before after spec wanted kind bytes status rose is ended =
-    rw ended (unread spec (0, omega arith, refl) rose refl is)
-
--- a file that the words don't name is another one than that of `synth`
-pub another_file : (words : List (List ℕ)) (spec name : List ℕ) (wanted : Search) (kind : Option Kind) → asked_in words ≡ Some (synth spec wanted kind) →
-    IsForeign words name → name ≢ spec
-another_file words spec name wanted kind is_asked foreign same =
-    let other = rw is_asked at foreign in other (0, omega arith, sym same)
-
-pub words_unasked : (words : List (List ℕ)) (told : Option Files) (before after : List ℕ → ℕ) (bytes : List ℕ) (status : Status) →
-    asked_in words ≡ None → bytes ≡ codes "words refused\n" → status ≡ WordsRefused → IsReply words told before after bytes (status_number status)
-words_unasked words told before after bytes status none is ended = rw ended (words_refused refl none is)
-
--- what the words ask for, where that is answered, and nothing where it isn't
-pub asked_is : (words : List (List ℕ)) (asked : Asked) → settings_of words ≡ Some asked → is_answered asked ≡ true → asked_in words ≡ Some asked
-asked_is words asked is so = rw (is, so) refl
-
-pub asked_not : (words : List (List ℕ)) → settings_of words ≡ None → asked_in words ≡ None
-asked_not words is = rw is refl
-
-pub unanswered : (words : List (List ℕ)) (asked : Asked) → settings_of words ≡ Some asked → is_answered asked ≡ false → asked_in words ≡ None
-unanswered words asked is so = rw (is, so) refl
+lasso_status : (text word bytes : List ℕ) (status : ℕ) → LassoAnswers text word bytes status → Contains (0 ∷ 1 ∷ 40 ∷ []) status
+lasso_status text word bytes status (lassos.refused code place is fault line) = (1, omega arith, sym is)
+lasso_status text word bytes status (lassos.bad_line spec n is flat bad line) = (2, omega arith, sym is)
+lasso_status text word bytes status (lassos.told truth is holds line) = (0, omega arith, sym is)
 
 bench_status : (v : Verdict) (status : ℕ) → HasStatus v status → Contains (10 ∷ 20 ∷ 30 ∷ []) status
 bench_status (verdict.Realizable n) status is = (0, omega arith, sym is)
@@ -110,6 +122,130 @@ bench_status (verdict.Bounded side n) status is = absurd is
 bench_status verdict.UnknownSizes status is = (2, omega arith, sym is)
 bench_status (verdict.UnknownEntries side n) status is = absurd is
 
-pub bench_replies : (told : Option Files) (before after : List ℕ → ℕ) (clients workers : ℕ) (bytes : List ℕ) (status : ℕ) →
-    BenchAnswer clients workers bytes status → RepliesTo told before after (bench clients workers) bytes status
-bench_replies told before after clients workers bytes status answer = answers (bench_status answer.verdict status answer.has_status) answer
+module _ (shelf : Option Files) (before after : List ℕ → ℕ) where
+  replies : (asked : Asked) (bytes : List ℕ) (status : ℕ) → Contains (statuses_of asked) status → MayAnswer shelf asked bytes status →
+      RepliesTo shelf before after asked bytes status
+  replies asked bytes status status_is may = answers status_is (record { answer = may })
+
+  -- a text that isn't taken, where the first fault of a text that is too long answers the command
+  untaken : (asked : Asked) (spec : List ℕ) (bytes : List ℕ) (status : ℕ) → Contains (names_of asked) spec →
+      ((text : List ℕ) → AreOfFile shelf spec text → most_bytes < length text → bytes ≡ refusal_line TooLong most_bytes → status ≡ 1 →
+      RepliesTo shelf before after asked bytes status) →
+      IsUntaken shelf before after spec bytes status → RepliesTo shelf before after asked bytes status
+  untaken asked spec bytes status named longer (file.too_long long ended is) =
+      let t = too_long_text shelf spec most_bytes long in longer t.0 t.1 t.2 is ended
+  untaken asked spec bytes status named longer (file.unread rose ended is) = unread spec named rose ended is
+
+  -- == synth ==
+
+  pub synth_answered : (spec text : List ℕ) (wanted : Search) (kind : Option Kind) (bytes : List ℕ) (status : ℕ) →
+      AreOfFile shelf spec text → Answers text kind (bounds_of wanted) bytes status →
+      RepliesTo shelf before after (synth spec wanted kind) bytes status
+  synth_answered spec text wanted kind bytes status are answer =
+      replies (synth spec wanted kind) bytes status (synth_status text kind (bounds_of wanted) bytes status answer)
+      (record { bytes = text; are_told = are; holds = answer })
+
+  pub synth_untaken : (spec : List ℕ) (wanted : Search) (kind : Option Kind) (bytes : List ℕ) (status : ℕ) →
+      IsUntaken shelf before after spec bytes status → RepliesTo shelf before after (synth spec wanted kind) bytes status
+  synth_untaken spec wanted kind bytes status =
+      untaken (synth spec wanted kind) spec bytes status (0, omega arith, refl)
+      (λ text are long is ended. synth_answered spec text wanted kind bytes status are
+      (synthesis.refused TooLong most_bytes ended (of_text TooLong most_bytes (of_reading TooLong most_bytes (too_long long))) is))
+
+  -- whatever the other file is
+  pub whatever : (name : List ℕ) (P : List ℕ → Type 0) (bytes : List ℕ) (status : ℕ) → ((lines : List ℕ) → P lines) →
+      RepliesByFile shelf before after name P bytes status
+  whatever name P bytes status all = let some = some_bytes shelf name in file.of_file (record { bytes = some.0; are_told = some.1; holds = all some.0 })
+
+  pub of_bytes : (name lines : List ℕ) (P : List ℕ → Type 0) (bytes : List ℕ) (status : ℕ) → AreOfFile shelf name lines → P lines →
+      RepliesByFile shelf before after name P bytes status
+  of_bytes name lines P bytes status are holds = file.of_file (record { bytes = lines; are_told = are; holds = holds })
+
+  pub unread_file : (name : List ℕ) (P : List ℕ → Type 0) (bytes : List ℕ) (status : Status) → Rose (before name) (after name) →
+      bytes ≡ codes "cannot read\n" → status ≡ CannotRead → RepliesByFile shelf before after name P bytes (status_number status)
+  unread_file name P bytes status rose is ended = rw ended (file.count_rose rose refl is)
+
+  -- == check ==
+
+  check_answered : (spec document text lines : List ℕ) (bytes : List ℕ) (status : ℕ) → AreOfFile shelf spec text → AreOfFile shelf document lines →
+      CheckAnswers text lines bytes status → RepliesTo shelf before after (check spec document) bytes status
+  check_answered spec document text lines bytes status are are_lines answer =
+      replies (check spec document) bytes status (check_status text lines bytes status answer)
+      (record { bytes = text; are_told = are; holds = record { bytes = lines; are_told = are_lines; holds = answer } })
+
+  -- the text alone is refused
+  check_refused : (spec document text : List ℕ) (bytes : List ℕ) (status : ℕ) → AreOfFile shelf spec text →
+      ((lines : List ℕ) → CheckAnswers text lines bytes status) → RepliesTo shelf before after (check spec document) bytes status
+  check_refused spec document text bytes status are answer =
+      let some = some_bytes shelf document in check_answered spec document text some.0 bytes status are some.1 (answer some.0)
+
+  pub check_untaken : (spec document : List ℕ) (bytes : List ℕ) (status : ℕ) →
+      IsUntaken shelf before after spec bytes status → RepliesTo shelf before after (check spec document) bytes status
+  check_untaken spec document bytes status =
+      untaken (check spec document) spec bytes status (0, omega arith, refl)
+      (λ text are long is ended. check_refused spec document text bytes status are
+      (λ lines. certificate.refused TooLong most_bytes ended (of_text TooLong most_bytes (of_reading TooLong most_bytes (too_long long))) is))
+
+  pub check_by_file : (middle : List ℕ → ℕ) (spec document text : List ℕ) (bytes : List ℕ) (status : ℕ) → AreOfFile shelf spec text →
+      ((any : List ℕ) → before any ≤ middle any) → RepliesByFile shelf middle after document (λ lines. CheckAnswers text lines bytes status) bytes status →
+      RepliesTo shelf before after (check spec document) bytes status
+  check_by_file middle spec document text bytes status are more (file.count_rose rose ended is) =
+      unread document (1, omega arith, refl) (rose_later (before document) (middle document) (after document) (more document) rose) ended is
+  check_by_file middle spec document text bytes status are more (file.of_file h) =
+      check_answered spec document text h.bytes bytes status are h.are_told h.holds
+
+  -- == expand ==
+
+  pub expand_answered : (spec text : List ℕ) (output : Output) → AreOfFile shelf spec text → IsExpansion text output →
+      IsOutputOf shelf before after (expand spec) output
+  expand_answered spec text output are e = record {
+    replies = replies (expand spec) (bytes_of output) (status_of output) (expand_status text (bytes_of output) (status_of output) e.answers)
+        (record { bytes = text; are_told = are; holds = e.answers });
+    writable = e.writable;
+  }
+
+  pub expand_untaken : (spec : List ℕ) (bytes : List ℕ) (status : ℕ) →
+      IsUntaken shelf before after spec bytes status → RepliesTo shelf before after (expand spec) bytes status
+  expand_untaken spec bytes status =
+      untaken (expand spec) spec bytes status (0, omega arith, refl)
+      (λ text are long is ended. replies (expand spec) bytes status (1, omega arith, sym ended)
+      (record { bytes = text; are_told = are; holds = expansion.refused TooLong most_bytes ended (of_reading TooLong most_bytes (too_long long)) is }))
+
+  -- == lasso ==
+
+  lasso_answered : (spec word text lines : List ℕ) (bytes : List ℕ) (status : ℕ) → AreOfFile shelf spec text → AreOfFile shelf word lines →
+      LassoAnswers text lines bytes status → RepliesTo shelf before after (lasso spec word) bytes status
+  lasso_answered spec word text lines bytes status are are_lines answer =
+      replies (lasso spec word) bytes status (lasso_status text lines bytes status answer)
+      (record { bytes = text; are_told = are; holds = record { bytes = lines; are_told = are_lines; holds = answer } })
+
+  lasso_refused : (spec word text : List ℕ) (bytes : List ℕ) (status : ℕ) → AreOfFile shelf spec text →
+      ((lines : List ℕ) → LassoAnswers text lines bytes status) → RepliesTo shelf before after (lasso spec word) bytes status
+  lasso_refused spec word text bytes status are answer =
+      let some = some_bytes shelf word in lasso_answered spec word text some.0 bytes status are some.1 (answer some.0)
+
+  pub lasso_untaken : (spec word : List ℕ) (bytes : List ℕ) (status : ℕ) →
+      IsUntaken shelf before after spec bytes status → RepliesTo shelf before after (lasso spec word) bytes status
+  lasso_untaken spec word bytes status =
+      untaken (lasso spec word) spec bytes status (0, omega arith, refl)
+      (λ text are long is ended. lasso_refused spec word text bytes status are
+      (λ lines. lassos.refused TooLong most_bytes ended (of_reading TooLong most_bytes (too_long long)) is))
+
+  pub lasso_by_file : (middle : List ℕ → ℕ) (spec word text : List ℕ) (bytes : List ℕ) (status : ℕ) → AreOfFile shelf spec text →
+      ((any : List ℕ) → before any ≤ middle any) → RepliesByFile shelf middle after word (λ lines. LassoAnswers text lines bytes status) bytes status →
+      RepliesTo shelf before after (lasso spec word) bytes status
+  lasso_by_file middle spec word text bytes status are more (file.count_rose rose ended is) =
+      unread word (1, omega arith, refl) (rose_later (before word) (middle word) (after word) (more word) rose) ended is
+  lasso_by_file middle spec word text bytes status are more (file.of_file h) =
+      lasso_answered spec word text h.bytes bytes status are h.are_told h.holds
+
+  -- == gen and bench ==
+
+  pub generated : (clients : ℕ) (bytes : List ℕ) (status : Status) → bytes ≡ generated_text clients → status ≡ Done →
+      RepliesTo shelf before after (gen clients) bytes (status_number status)
+  generated clients bytes status is done = rw done (replies (gen clients) bytes 0 (0, omega arith, refl) (is, refl))
+
+  pub bench_answered : (clients workers : ℕ) (bytes : List ℕ) (status : ℕ) → BenchAnswer clients workers bytes status →
+      RepliesTo shelf before after (bench clients workers) bytes status
+  bench_answered clients workers bytes status answer =
+      replies (bench clients workers) bytes status (bench_status answer.verdict status answer.has_status) answer

@@ -1,42 +1,41 @@
 -- What a run promises, from its reply and what became of it.
-use Rattle.std.specs.Prelude.{IfSome, Contains, ◌⊎◌, codes}
+use Rattle.std.specs.Prelude.{Contains, ◌⊎◌, codes, Result, Ok, Err, OnOk, OnErr, IsErrOf}
 use Rattle.std.proofs.Common.{◌≡◌, ◌<◌, ℕ, List, [], ◌∷◌, refl, sym, ◌∙◌, subst, arith, inl, inr, Option, Some, None}
-use Rattle.std.proofs.lemmas.Bool.{false≢true}
 use Rattle.std.proofs.lemmas.List.Elements.{All-contains, All-cons, All-nil, Contains-append_right}
 use Rattle.std.specs.List.{All}
 use Rattle.outside_edge.specs.Faults.{Rose}
 use Rattle.outside_edge.specs.Files.{Files}
 use Rattle.outside_edge.specs.Bytes.{Gains, GainsFront}
+use Rattle.outside_edge.specs.declared.sink.SinkFault.{SinkFault}
+use Rattle.outside_edge.specs.declared.sink.SinkFault.TheVariants.{Failed, NoMemory}
+use Rattle.tlsf_tokens.specs.declared.code.SpecCode.{SpecCode}
+use Rattle.program_replies.specs.Lines.{line_refusal, refusal_line}
 use Rattle.program_words.specs.Settings.{Asked, synth, check, expand, lasso, gen, bench}
-use Rattle.boundsyn_top.specs.Commands.{asked_in, statuses_of}
-use Rattle.boundsyn_top.specs.Run.{ReadFailed, ReadsWell, AnswersWords, IsReply, words_refused, cannot_read, answered, answering, Gained, GainedPart}
+use Rattle.boundsyn_top.specs.Commands.{AnswersAsked, statuses_of}
+use Rattle.boundsyn_top.specs.Faults.{RefusalsAreDetermined}
+use Rattle.boundsyn_top.specs.Run.{AnswersWords, AskForNothing, Asks, EndsWith, Gained, GainedPart, IsEnding, IsReply, LineFails, ReadFailed, ReadsWell, TextFails, answered, answering, cannot_read, prevented, says, words_refused}
 use Rattle.boundsyn_top.proofs.SinkLemmas.{gains_nothing}
 
 -- the clauses of `run` that speak of its result, at plain values
-pub record Promise (words : List (List ℕ)) (told : Option Files) (before after : List ℕ → ℕ)
+pub record Promise (words : List (List ℕ)) (shelf : Option Files) (before after : List ℕ → ℕ)
     (written later : Option (List ℕ)) (faults faults_after result : ℕ) : Type 0 where
   pub statuses : Contains (2 ∷ 3 ∷ 4 ∷ 5 ∷ answering) result
-  pub answered : Contains answering result → Gained written later (λ bytes. AnswersWords words told bytes result)
-  pub words_refused : result ≡ 2 → Gained written later (λ bytes. (asked_in words ≡ None) × (bytes ≡ codes "words refused\n"))
+  pub answered : Contains answering result → Gained written later (λ bytes. AnswersWords words shelf bytes result)
+  pub words_refused : result ≡ 2 → Gained written later (λ bytes. AskForNothing words × (bytes ≡ codes "words refused\n"))
   pub cannot_read : result ≡ 3 → Gained written later (λ bytes. ReadFailed words before after × (bytes ≡ codes "cannot read\n"))
   pub cannot_write : result ≡ 4 → Rose faults faults_after
-  pub cut_short : (result ≡ 4) ⊎ (result ≡ 5) → GainedPart written later (λ bytes status. IsReply words told before after bytes status)
-  pub bad_words_are_refused : asked_in words ≡ None → Contains (2 ∷ 4 ∷ 5 ∷ []) result
-  pub complete : IfSome (asked_in words) (λ asked. ReadsWell asked before after → (Rose faults faults_after → ⊥) → Contains (5 ∷ statuses_of asked) result)
+  pub cut_short : (result ≡ 4) ⊎ (result ≡ 5) → GainedPart written later (λ bytes status. IsReply words shelf before after bytes status)
+  pub bad_words_are_refused : AskForNothing words → Contains (2 ∷ 4 ∷ 5 ∷ []) result
+  pub fault_is_refused : (code : SpecCode) (place : ℕ) → TextFails words shelf code place → EndsWith written later (refusal_line code place) 1 result
+  pub bad_line_is_refused : (n : ℕ) → LineFails words shelf n → EndsWith written later (line_refusal n) 40 result
+  pub complete : (asked : Asked) → Asks words asked → ReadsWell asked before after → (Rose faults faults_after → ⊥) → Contains (5 ∷ statuses_of asked) result
 
-pub if_some_all : {X : Type 0} (o : Option X) (P : X → Type 0) → ((x : X) → P x) → IfSome o P
-if_some_all None P h = tt
-if_some_all (Some x) P h = h x
+-- words ask for one thing, or for nothing
+one_asked : (words : List (List ℕ)) (a b : Asked) → Asks words a → Asks words b → a ≡ b
+one_asked words a b x y = let e : Some a ≡ Some b = sym x.settings ∙ y.settings in cc
 
--- what holds of what is asked for
-if_asked : (o : Option Asked) (s : Asked) (P : Asked → Type 0) → o ≡ Some s → P s → IfSome o P
-if_asked o s P is h = subst (λ p. IfSome p P) (sym is) h
-
-if_none : (o : Option Asked) (P : Asked → Type 0) → o ≡ None → IfSome o P
-if_none o P is = subst (λ p. IfSome p P) (sym is) tt
-
-clash : (o : Option Asked) (s : Asked) → o ≡ Some s → o ≡ None → ⊥
-clash o s is isnt = let e : Some s ≡ None = sym is ∙ isnt in cc
+clash : (words : List (List ℕ)) (a : Asked) → Asks words a → AskForNothing words → ⊥
+clash words a x y = let e : Some a ≡ None = sym x.settings ∙ y.none in cc
 
 -- an answer has a status from 0 on that is none of 2, 3, 4, 5
 pub record IsAnswering (n : ℕ) : Type 0 where
@@ -126,9 +125,9 @@ no_cut : (n m : ℕ) → n ≡ m → (m ≡ 4 → ⊥) → (m ≡ 5 → ⊥) →
 no_cut n m is four five (inl e) = four (sym is ∙ e)
 no_cut n m is four five (inr e) = five (sym is ∙ e)
 
-module _ (words : List (List ℕ)) (told : Option Files) (before after : List ℕ → ℕ) (written later : Option (List ℕ)) (faults faults_after : ℕ) where
-  whole_words : (bytes : List ℕ) (n : ℕ) → Gains written later bytes → n ≡ 2 → asked_in words ≡ None → bytes ≡ codes "words refused\n" →
-      Promise words told before after written later faults faults_after n
+module _ (words : List (List ℕ)) (shelf : Option Files) (before after : List ℕ → ℕ) (written later : Option (List ℕ)) (faults faults_after : ℕ) where
+  whole_words : (bytes : List ℕ) (n : ℕ) → Gains written later bytes → n ≡ 2 → AskForNothing words → bytes ≡ codes "words refused\n" →
+      Promise words shelf before after written later faults faults_after n
   whole_words bytes n gained n_is none is = record {
     statuses = (0, omega arith, sym n_is);
     answered = λ h. absurd (not_answering n 2 n_is (omega arith) (omega arith) h);
@@ -137,25 +136,47 @@ module _ (words : List (List ℕ)) (told : Option Files) (before after : List �
     cannot_write = λ e. absurd (omega (arith, n_is, e));
     cut_short = λ e. absurd (no_cut n 2 n_is (λ h. omega arith) (λ h. omega arith) e);
     bad_words_are_refused = λ e. (0, omega arith, sym n_is);
-    complete = if_none (asked_in words) _ none;
+    fault_is_refused = λ code place f. absurd (clash words f.asked f.asks none);
+    bad_line_is_refused = λ line f. absurd (clash words f.asked f.asks none);
+    complete = λ asked asks well written_all. absurd (clash words asked asks none);
   }
 
   whole_unread : (bytes : List ℕ) (n : ℕ) → Gains written later bytes → n ≡ 3 → ReadFailed words before after → bytes ≡ codes "cannot read\n" →
-      Promise words told before after written later faults faults_after n
-  whole_unread bytes n gained n_is failed is = record {
+      Promise words shelf before after written later faults faults_after n
+  whole_unread bytes n gained n_is rose is = record {
     statuses = (1, omega arith, sym n_is);
     answered = λ h. absurd (not_answering n 3 n_is (omega arith) (omega arith) h);
     words_refused = λ e. absurd (omega (arith, n_is, e));
-    cannot_read = λ e. record { bytes = bytes; gained = gained; holds = (failed, is) };
+    cannot_read = λ e. record { bytes = bytes; gained = gained; holds = (rose, is) };
     cannot_write = λ e. absurd (omega (arith, n_is, e));
     cut_short = λ e. absurd (no_cut n 3 n_is (λ h. omega arith) (λ h. omega arith) e);
-    bad_words_are_refused = λ e. absurd (clash (asked_in words) failed.asked failed.is_asked e);
-    complete = if_asked (asked_in words) failed.asked _ failed.is_asked (λ well written_all. absurd (well failed.name failed.named failed.rose));
+    bad_words_are_refused = λ e. absurd (clash words rose.asked rose.asks e);
+    fault_is_refused = λ code place f. prevented (0, omega arith, sym n_is);
+    bad_line_is_refused = λ line f. prevented (0, omega arith, sym n_is);
+    complete = λ asked asks well written_all. absurd (subst (λ a. ReadsWell a before after) (one_asked words asked rose.asked asks rose.asks) well rose.name rose.named rose.rose);
   }
 
-  whole_answer : (bytes : List ℕ) (n : ℕ) → Gains written later bytes → AnswersWords words told bytes n →
-      Promise words told before after written later faults faults_after n
-  whole_answer bytes n gained a =
+  -- the answer, where the text has a fault or the other file a bad line
+  at_fault : RefusalsAreDetermined → (bytes : List ℕ) (n : ℕ) → AnswersWords words shelf bytes n →
+      (code : SpecCode) (place : ℕ) → TextFails words shelf code place → (n ≡ 1) × (bytes ≡ refusal_line code place)
+  at_fault law bytes n a code place f =
+      law.of_text f.files f.asked bytes n code place f.fault
+      (subst (λ x. AnswersAsked (Some f.files) x bytes n) (one_asked words a.asked f.asked a.asks f.asks)
+      (subst (λ o. AnswersAsked o a.asked bytes n) f.are_told a.answer))
+
+  at_line : RefusalsAreDetermined → (bytes : List ℕ) (n : ℕ) → AnswersWords words shelf bytes n →
+      (line : ℕ) → LineFails words shelf line → (n ≡ 40) × (bytes ≡ line_refusal line)
+  at_line law bytes n a line f =
+      law.of_line f.files f.asked bytes n line f.bad
+      (subst (λ x. AnswersAsked (Some f.files) x bytes n) (one_asked words a.asked f.asked a.asks f.asks)
+      (subst (λ o. AnswersAsked o a.asked bytes n) f.are_told a.answer))
+
+  ends : (bytes line : List ℕ) (n status : ℕ) → Gains written later bytes → (n ≡ status) × (bytes ≡ line) → EndsWith written later line status n
+  ends bytes line n status gained e = says e.0 (subst (λ b. Gains written later b) e.1 gained)
+
+  whole_answer : RefusalsAreDetermined → (bytes : List ℕ) (n : ℕ) → Gains written later bytes → AnswersWords words shelf bytes n →
+      Promise words shelf before after written later faults faults_after n
+  whole_answer law bytes n gained a =
       let is = is_answering a.asked n a.status_is in
       record {
         statuses = among_all n is.among;
@@ -164,34 +185,30 @@ module _ (words : List (List ℕ)) (told : Option Files) (before after : List �
         cannot_read = λ e. absurd (is.no_3 e);
         cannot_write = λ e. absurd (is.no_4 e);
         cut_short = λ e. absurd (no_cut n n refl is.no_4 is.no_5 e);
-        bad_words_are_refused = λ e. absurd (clash (asked_in words) a.asked a.is_asked e);
-        complete = if_asked (asked_in words) a.asked _ a.is_asked (λ well written_all. among_own a.asked n a.status_is);
+        bad_words_are_refused = λ e. absurd (clash words a.asked a.asks e);
+        fault_is_refused = λ code place f. ends bytes (refusal_line code place) n 1 gained (at_fault law bytes n a code place f);
+        bad_line_is_refused = λ line f. ends bytes (line_refusal line) n 40 gained (at_line law bytes n a line f);
+        complete = λ asked asks well written_all. subst (λ x. Contains (5 ∷ statuses_of x) n) (one_asked words a.asked asked a.asks asks) (among_own a.asked n a.status_is);
       }
 
   -- all was written
-  pub run_whole : (bytes : List ℕ) (n : ℕ) → IsReply words told before after bytes n → Gains written later bytes →
-      Promise words told before after written later faults faults_after n
-  run_whole bytes n (words_refused n_is none is) gained = whole_words bytes n gained n_is none is
-  run_whole bytes n (cannot_read n_is failed is) gained = whole_unread bytes n gained n_is failed is
-  run_whole bytes n (answered a) gained = whole_answer bytes n gained a
+  run_whole : RefusalsAreDetermined → (bytes : List ℕ) (n : ℕ) → IsReply words shelf before after bytes n → Gains written later bytes →
+      Promise words shelf before after written later faults faults_after n
+  run_whole law bytes n (words_refused n_is none is) gained = whole_words bytes n gained n_is none is
+  run_whole law bytes n (cannot_read n_is rose is) gained = whole_unread bytes n gained n_is rose is
+  run_whole law bytes n (answered a) gained = whole_answer law bytes n gained a
 
-  -- the same, where the bytes and the status have other names
-  pub run_done : (bytes given : List ℕ) (n m : ℕ) → n ≡ m → given ≡ bytes → IsReply words told before after bytes m →
-      Gains written later given → Promise words told before after written later faults faults_after n
-  run_done bytes given n m same is reply gained =
-      run_whole bytes n (subst (λ k. IsReply words told before after bytes k) (sym same) reply) (subst (λ b. Gains written later b) is gained)
-
-  pub part_of : (bytes : List ℕ) (n : ℕ) → IsReply words told before after bytes n → GainsFront written later bytes →
-      GainedPart written later (λ bytes status. IsReply words told before after bytes status)
+  part_of : (bytes : List ℕ) (n : ℕ) → IsReply words shelf before after bytes n → GainsFront written later bytes →
+      GainedPart written later (λ bytes status. IsReply words shelf before after bytes status)
   part_of bytes n reply front = record { front = front.front; gained = front.gained; allowed = inr (bytes, n, front, reply) }
 
-  pub part_nothing : later ≡ written → GainedPart written later (λ bytes status. IsReply words told before after bytes status)
+  part_nothing : later ≡ written → GainedPart written later (λ bytes status. IsReply words shelf before after bytes status)
   part_nothing same = record { front = []; gained = gains_nothing written later same; allowed = inl refl }
 
   -- the sink failed
-  pub run_failed : (n : ℕ) → n ≡ 4 → Rose faults faults_after →
-      GainedPart written later (λ bytes status. IsReply words told before after bytes status) →
-      Promise words told before after written later faults faults_after n
+  run_failed : (n : ℕ) → n ≡ 4 → Rose faults faults_after →
+      GainedPart written later (λ bytes status. IsReply words shelf before after bytes status) →
+      Promise words shelf before after written later faults faults_after n
   run_failed n n_is rose part = record {
     statuses = (2, omega arith, sym n_is);
     answered = λ h. absurd (not_answering n 4 n_is (omega arith) (omega arith) h);
@@ -200,12 +217,14 @@ module _ (words : List (List ℕ)) (told : Option Files) (before after : List �
     cannot_write = λ e. rose;
     cut_short = λ e. part;
     bad_words_are_refused = λ e. (1, omega arith, sym n_is);
-    complete = if_some_all (asked_in words) _ (λ s well written_all. absurd (written_all rose));
+    fault_is_refused = λ code place f. prevented (1, omega arith, sym n_is);
+    bad_line_is_refused = λ line f. prevented (1, omega arith, sym n_is);
+    complete = λ asked asks well written_all. absurd (written_all rose);
   }
 
   -- memory was wanted
-  pub run_wants : (n : ℕ) → n ≡ 5 → GainedPart written later (λ bytes status. IsReply words told before after bytes status) →
-      Promise words told before after written later faults faults_after n
+  run_wants : (n : ℕ) → n ≡ 5 → GainedPart written later (λ bytes status. IsReply words shelf before after bytes status) →
+      Promise words shelf before after written later faults faults_after n
   run_wants n n_is part = record {
     statuses = (3, omega arith, sym n_is);
     answered = λ h. absurd (not_answering n 5 n_is (omega arith) (omega arith) h);
@@ -214,16 +233,26 @@ module _ (words : List (List ℕ)) (told : Option Files) (before after : List �
     cannot_write = λ e. absurd (omega (arith, n_is, e));
     cut_short = λ e. part;
     bad_words_are_refused = λ e. (2, omega arith, sym n_is);
-    complete = if_some_all (asked_in words) _ (λ s well written_all. (0, omega arith, sym n_is));
+    fault_is_refused = λ code place f. prevented (2, omega arith, sym n_is);
+    bad_line_is_refused = λ line f. prevented (2, omega arith, sym n_is);
+    complete = λ asked asks well written_all. (0, omega arith, sym n_is);
   }
+
+  -- memory was wanted before anything was written
+  pub run_silent : (n : ℕ) → n ≡ 5 → later ≡ written → Promise words shelf before after written later faults faults_after n
+  run_silent n n_is same = run_wants n n_is (part_nothing same)
+
+  -- what became of a reply
+  pub run_ended : RefusalsAreDetermined → (bytes : List ℕ) (status : ℕ) → IsReply words shelf before after bytes status →
+      (put : Result (Unit {0}) SinkFault) → OnOk put (Gains written later bytes) → OnErr put (GainsFront written later bytes) →
+      (IsErrOf put Failed → Rose faults faults_after) → (result : ℕ) → IsEnding put status result →
+      Promise words shelf before after written later faults faults_after result
+  run_ended law bytes status reply (Ok u) gained front rose result is =
+      run_whole law bytes result (subst (λ k. IsReply words shelf before after bytes k) (sym is) reply) gained
+  run_ended law bytes status reply (Err Failed) gained front rose result is = run_failed result is (rose refl) (part_of bytes status reply front)
+  run_ended law bytes status reply (Err NoMemory) gained front rose result is = run_wants result is (part_of bytes status reply front)
 
 -- no count of 0 rose to 0
 pub none_rose : Rose 0 0 → ⊥
 none_rose (inl lt) = omega arith
 none_rose (inr both) = omega (arith, both.0)
-
--- where nothing outside can fail, what is complete is so at once
-pub plain_complete : (o : Option Asked) (P : Asked → Type 0) →
-    IfSome o (λ asked. ReadsWell asked (λ name. 0) (λ name. 0) → (Rose 0 0 → ⊥) → P asked) → IfSome o P
-plain_complete None P complete = tt
-plain_complete (Some asked) P complete = complete (λ name named. none_rose) none_rose

@@ -1,12 +1,38 @@
 -- Files that a command takes (this project's own).
-use Rattle.std.specs.Prelude.{◌≡◌, ℕ, ◌<◌, Option, List, IfSome, length}
+use Rattle.std.specs.Prelude.{◌≡◌, ℕ, ◌<◌, Option, List, IfSome, codes, length}
 use Rattle.outside_edge.specs.Faults.{Rose}
 use Rattle.outside_edge.specs.Files.{Files, bytes_under}
+use Rattle.tlsf_tokens.specs.declared.code.SpecCode.TheVariants.{TooLong}
+use Rattle.tlsf_reader.specs.Faults.{most_bytes}
+use Rattle.program_replies.specs.Lines.{refusal_line}
+use Rattle.program_replies.specs.Statuses.{status_number}
 use Rattle.boundsyn_top.specs.declared.files.Taken.{Taken}
-use Rattle.boundsyn_top.specs.declared.files.Taken.TheVariants.{Whole, TooLong, Unread}
+use Rattle.boundsyn_top.specs.declared.files.Taken.TheVariants.{Whole, Refused}
 
--- What taking a file gives: its bytes, as the shelf tells them; or it has more bytes than the limit; or its count of faults rose.
-abbrev pub IsTaken : Option Files → (List ℕ → ℕ) → (List ℕ → ℕ) → List ℕ → ℕ → Taken → Type 0
-IsTaken told before after name limit (Whole bytes) = IfSome told (λ files. bytes.items ≡ bytes_under files name)
-IsTaken told before after name limit TooLong = IfSome told (λ files. limit < length (bytes_under files name))
-IsTaken told before after name limit Unread = Rose (before name) (after name)
+-- the bytes are those of the file, where the shelf tells its files
+abbrev pub AreOfFile : Option Files → List ℕ → List ℕ → Type 0
+AreOfFile told name bytes = IfSome told (λ files. bytes ≡ bytes_under files name)
+
+-- Something holds of the bytes of a file.
+pub record HoldsOfFile (told : Option Files) (name : List ℕ) (P : List ℕ → Type 0) : Type 0 where
+  pub bytes : List ℕ
+  pub are_told : AreOfFile told name bytes
+  pub holds : P bytes
+
+-- the reply where a text isn't taken: it has more bytes than a text may have, or its count of faults rose
+pub data IsUntaken (told : Option Files) (before after : List ℕ → ℕ) (name bytes : List ℕ) (status : ℕ) : Type 0 where
+  too_long : IfSome told (λ files. most_bytes < length (bytes_under files name)) → status ≡ 1 → bytes ≡ refusal_line TooLong most_bytes
+      → IsUntaken told before after name bytes status
+  unread : Rose (before name) (after name) → status ≡ 3 → bytes ≡ codes "cannot read\n"
+      → IsUntaken told before after name bytes status
+
+-- what taking a text gives: its bytes, or the reply where it isn't taken
+abbrev pub IsTaken : Option Files → (List ℕ → ℕ) → (List ℕ → ℕ) → List ℕ → Taken → Type 0
+IsTaken told before after name (Whole bytes) = AreOfFile told name bytes.items
+IsTaken told before after name (Refused reply) = IsUntaken told before after name reply.bytes.items (status_number reply.status)
+
+-- the reply that a file of any length gives: the line where its count of faults rose, or what something holds of with its bytes
+pub data RepliesByFile (told : Option Files) (before after : List ℕ → ℕ) (name : List ℕ) (P : List ℕ → Type 0) (bytes : List ℕ) (status : ℕ) : Type 0 where
+  count_rose : Rose (before name) (after name) → status ≡ 3 → bytes ≡ codes "cannot read\n"
+      → RepliesByFile told before after name P bytes status
+  of_file : HoldsOfFile told name P → RepliesByFile told before after name P bytes status

@@ -1,3 +1,5 @@
-pub mod Commands
+pub mod Output
 pub mod Files
+pub mod Commands
+pub mod Faults
 pub mod Run

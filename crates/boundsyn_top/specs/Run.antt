@@ -1,15 +1,33 @@
 -- What one run of the program may write, and with which status it ends (this project's own).
-use Rattle.std.specs.Prelude.{◌≡◌, ℕ, ◌⊎◌, Option, Some, None, List, [], ◌∷◌, Contains, IfSome, codes}
+use Rattle.std.specs.Prelude.{◌≡◌, ℕ, ◌⊎◌, Option, Some, None, List, [], ◌∷◌, Contains, codes, Result, Ok, Err}
 use Rattle.outside_edge.specs.Faults.{Rose}
 use Rattle.outside_edge.specs.Files.{Files}
 use Rattle.outside_edge.specs.Bytes.{Gains, GainsFront}
-use Rattle.program_words.specs.Settings.{Asked}
-use Rattle.boundsyn_top.specs.Commands.{AnswersAsked, asked_in, names_of, statuses_of}
+use Rattle.outside_edge.specs.declared.sink.SinkFault.{SinkFault}
+use Rattle.outside_edge.specs.declared.sink.SinkFault.TheVariants.{Failed, NoMemory}
+use Rattle.tlsf_tokens.specs.declared.code.SpecCode.{SpecCode}
+use Rattle.program_words.specs.Settings.{Asked, settings_of}
+use Rattle.boundsyn_top.specs.declared.output.Output.{Output}
+use Rattle.boundsyn_top.specs.Output.{IsWritable, bytes_of, status_of}
+use Rattle.boundsyn_top.specs.Commands.{AnswersAsked, names_of, statuses_of}
+use Rattle.boundsyn_top.specs.Faults.{HasBadLine, HasFault}
+
+-- == the words ==
+
+-- the words ask for this
+pub record Asks (words : List (List ℕ)) (asked : Asked) : Type 0 where
+  pub settings : settings_of words ≡ Some asked
+
+-- the words ask for nothing
+pub record AskForNothing (words : List (List ℕ)) : Type 0 where
+  pub none : settings_of words ≡ None
+
+-- == what is replied ==
 
 -- the shelf's count of a file that the words name rose
 pub record ReadFailed (words : List (List ℕ)) (before after : List ℕ → ℕ) : Type 0 where
   pub asked : Asked
-  pub is_asked : asked_in words ≡ Some asked
+  pub asks : Asks words asked
   pub name : List ℕ
   pub named : Contains (names_of asked) name
   pub rose : Rose (before name) (after name)
@@ -23,21 +41,33 @@ pub data RepliesTo (told : Option Files) (before after : List ℕ → ℕ) (aske
 -- the answer to what the words ask for
 pub record AnswersWords (words : List (List ℕ)) (told : Option Files) (bytes : List ℕ) (status : ℕ) : Type 0 where
   pub asked : Asked
-  pub is_asked : asked_in words ≡ Some asked
+  pub asks : Asks words asked
   pub status_is : Contains (statuses_of asked) status
   pub answer : AnswersAsked told asked bytes status
 
 -- What a run writes whole, with its status: the answer, or the line of refused words or of a file that couldn't be read.
 pub data IsReply (words : List (List ℕ)) (told : Option Files) (before after : List ℕ → ℕ) (bytes : List ℕ) (status : ℕ) : Type 0 where
-  words_refused : status ≡ 2 → asked_in words ≡ None → bytes ≡ codes "words refused\n" →
+  words_refused : status ≡ 2 → AskForNothing words → bytes ≡ codes "words refused\n" →
       IsReply words told before after bytes status
   cannot_read : status ≡ 3 → ReadFailed words before after → bytes ≡ codes "cannot read\n" →
       IsReply words told before after bytes status
   answered : AnswersWords words told bytes status → IsReply words told before after bytes status
 
+-- what is written is a command's reply
+pub record IsOutputOf (told : Option Files) (before after : List ℕ → ℕ) (asked : Asked) (output : Output) : Type 0 where
+  pub replies : RepliesTo told before after asked (bytes_of output) (status_of output)
+  pub writable : IsWritable output
+
+-- what is written is a run's reply
+pub record IsOutputFor (words : List (List ℕ)) (told : Option Files) (before after : List ℕ → ℕ) (output : Output) : Type 0 where
+  pub reply : IsReply words told before after (bytes_of output) (status_of output)
+  pub writable : IsWritable output
+
 -- the statuses of an answer
 abbrev pub answering : List ℕ
 answering = 0 ∷ 1 ∷ 10 ∷ 11 ∷ 20 ∷ 30 ∷ 40 ∷ []
+
+-- == what the sink gained ==
 
 -- the bytes that were gained are whole, and so is what holds of them
 pub record Gained (now later : Option (List ℕ)) (P : List ℕ → Type 0) : Type 0 where
@@ -51,10 +81,39 @@ pub record GainedPart (now later : Option (List ℕ)) (P : List ℕ → ℕ → 
   pub gained : Gains now later front
   pub allowed : (front ≡ []) ⊎ ((bytes : List ℕ) × (status : ℕ) × GainsFront now later bytes × P bytes status)
 
+-- A refusal's line is told with its status, unless something outside failed or memory was wanted.
+pub data EndsWith (now later : Option (List ℕ)) (line : List ℕ) (status result : ℕ) : Type 0 where
+  says : result ≡ status → Gains now later line → EndsWith now later line status result
+  prevented : Contains (3 ∷ 4 ∷ 5 ∷ []) result → EndsWith now later line status result
+
+-- the status to end with, once what has a status was written or not
+abbrev pub IsEnding : Result (Unit {0}) SinkFault → ℕ → ℕ → Type 0
+IsEnding (Ok _) status result = result ≡ status
+IsEnding (Err Failed) status result = result ≡ 4
+IsEnding (Err NoMemory) status result = result ≡ 5
+
+-- == causes ==
+
+-- the text that the words name has this first fault
+pub record TextFails (words : List (List ℕ)) (told : Option Files) (code : SpecCode) (place : ℕ) : Type 0 where
+  pub asked : Asked
+  pub asks : Asks words asked
+  pub files : Files
+  pub are_told : told ≡ Some files
+  pub fault : HasFault files asked code place
+
+-- the other file that the words name has this first bad line, and the text has no fault
+pub record LineFails (words : List (List ℕ)) (told : Option Files) (n : ℕ) : Type 0 where
+  pub asked : Asked
+  pub asks : Asks words asked
+  pub files : Files
+  pub are_told : told ≡ Some files
+  pub bad : HasBadLine files asked n
+
 -- no count rose of a file that is read
 abbrev pub ReadsWell : Asked → (List ℕ → ℕ) → (List ℕ → ℕ) → Type 0
 ReadsWell asked before after = (name : List ℕ) → Contains (names_of asked) name → Rose (before name) (after name) → ⊥
 
 -- no command reads the file
 abbrev pub IsForeign : List (List ℕ) → List ℕ → Type 0
-IsForeign words name = IfSome (asked_in words) (λ asked. Contains (names_of asked) name → ⊥)
+IsForeign words name = (asked : Asked) → Asks words asked → Contains (names_of asked) name → ⊥

@@ -1,12 +1,28 @@
-//! What a run answers where nothing outside can fail.
-ghost use Rattle.std.specs.Prelude.{◌∷◌, map, string_bytes, Contains, IfSome};
-ghost use Rattle.boundsyn_top.specs.Commands.{asked_in, statuses_of};
+//! Laws of the answers, and what a run answers where nothing outside can fail.
+ghost use Rattle.std.specs.Prelude.{◌∷◌, map, string_bytes, Contains};
+ghost use Rattle.program_words.specs.Settings.{Asked};
+ghost use Rattle.boundsyn_top.specs.Commands.{statuses_of};
+ghost use Rattle.boundsyn_top.specs.Faults.{RefusalsAreDetermined};
+ghost use Rattle.boundsyn_top.specs.Run.{Asks};
 
 use crate::run;
+use check_answer::laws::checks_are_determined;
+use flat_answer::laws::{expand_answers_are_due, lasso_answers_are_due};
 use outside_edge::{Gate, PlainShelf, PlainSink};
+use spec_problems::laws::problems_of_texts_are_determined;
 use std::alloc::Global;
 use std::sync::Wait;
 use std::thread::Threads;
+
+/// Nothing but its line answers the first fault of a text, or the first bad line of another file.
+pub fn refusals_are_determined()
+    ensures { RefusalsAreDetermined }
+{
+    problems_of_texts_are_determined();
+    expand_answers_are_due();
+    lasso_answers_are_due();
+    checks_are_determined();
+}
 
 /// Over a shelf and a sink that never fail, words that ask for something get an answer, or memory was wanted.
 pub fn run_over_plain<R, G>(
@@ -20,7 +36,7 @@ pub fn run_over_plain<R, G>(
 where
     R: Threads + Wait + Sync,
     G: Gate + Sync,
-    ensures { IfSome (asked_in (map string_bytes words.now)) (λ asked. Contains (5 ∷ statuses_of asked) result) }
+    ensures { (asked : Asked) → Asks (map string_bytes words.now) asked → Contains (5 ∷ statuses_of asked) result }
 {
     run(rt, alloc, words, shelf, out, gate)
 }

@@ -5,10 +5,15 @@
 //! Stands on those crates, on program_words for the words and on outside_edge for files and for what is written.
 #![tactic(auto)]
 
+mod arbiters;
+mod certificates;
 mod files;
-mod laws;
+mod flat;
+pub mod laws;
 mod lines;
+mod output;
 mod replies;
+mod synthesis;
 mod top;
 
 pub use laws::run_over_plain;

@@ -1,10 +1,15 @@
 //! The top call.
-ghost use Rattle.std.specs.Prelude.{◌≡◌, ◌⊎◌, ℕ, List, [], ◌∷◌, map, codes, string_bytes, Contains, None, IfSome, IsSome};
+ghost use Rattle.std.specs.Prelude.{◌≡◌, ◌⊎◌, ℕ, List, [], ◌∷◌, map, codes, string_bytes, Contains};
 ghost use Rattle.outside_edge.specs.Faults.{Rose};
-ghost use Rattle.boundsyn_top.specs.Commands.{asked_in, statuses_of};
-ghost use Rattle.boundsyn_top.specs.Run.{AnswersWords, Gained, GainedPart, IsForeign, IsReply, ReadFailed, ReadsWell, answering};
+ghost use Rattle.program_replies.specs.Lines.{line_refusal, refusal_line};
+ghost use Rattle.program_replies.specs.Statuses.{status_number};
+ghost use Rattle.program_words.specs.Settings.{Asked};
+ghost use Rattle.tlsf_tokens.specs.declared.code.SpecCode.{SpecCode};
+ghost use Rattle.boundsyn_top.specs.Commands.{statuses_of};
+ghost use Rattle.boundsyn_top.specs.Run.{AnswersWords, AskForNothing, Asks, EndsWith, Gained, GainedPart, IsEnding, IsForeign, IsReply, LineFails, ReadFailed, ReadsWell, TextFails, answering};
 
-use crate::lines::put_lines;
+use crate::laws::refusals_are_determined;
+use crate::output::put_output;
 use crate::replies::reply_to;
 use outside_edge::{Gate, Shelf, Sink, SinkFault};
 use program_replies::Status;
@@ -36,7 +41,7 @@ where
     ensures answered { Contains answering result → Gained (K.written out.old) (K.written out.new)
         (λ bytes. AnswersWords (map string_bytes words.now) (H.files shelf.old) bytes result) }
     ensures words_refused { result ≡ 2 → Gained (K.written out.old) (K.written out.new)
-        (λ bytes. (asked_in (map string_bytes words.now) ≡ None) × (bytes ≡ codes "words refused\n")) }
+        (λ bytes. AskForNothing (map string_bytes words.now) × (bytes ≡ codes "words refused\n")) }
     ensures cannot_read { result ≡ 3 → Gained (K.written out.old) (K.written out.new)
         (λ bytes. ReadFailed (map string_bytes words.now) (H.faults shelf.old) (H.faults shelf.new) × (bytes ≡ codes "cannot read\n")) }
 
@@ -46,19 +51,32 @@ where
         (λ bytes status. IsReply (map string_bytes words.now) (H.files shelf.old) (H.faults shelf.old) (H.faults shelf.new) bytes status) }
 
     // When each refusal comes, unless something outside failed or memory was wanted.
-    ensures bad_words_are_refused { asked_in (map string_bytes words.now) ≡ None → Contains (2 ∷ 4 ∷ 5 ∷ []) result }
-    ensures complete { IfSome (asked_in (map string_bytes words.now)) (λ asked. ReadsWell asked (H.faults shelf.old) (H.faults shelf.new)
-        → ¬ Rose (K.faults out.old) (K.faults out.new) → Contains (5 ∷ statuses_of asked) result) }
+    ensures bad_words_are_refused { AskForNothing (map string_bytes words.now) → Contains (2 ∷ 4 ∷ 5 ∷ []) result }
+    ensures fault_is_refused { (code : SpecCode) (place : ℕ) → TextFails (map string_bytes words.now) (H.files shelf.old) code place
+        → EndsWith (K.written out.old) (K.written out.new) (refusal_line code place) 1 result }
+    ensures bad_line_is_refused { (n : ℕ) → LineFails (map string_bytes words.now) (H.files shelf.old) n
+        → EndsWith (K.written out.old) (K.written out.new) (line_refusal n) 40 result }
+    ensures complete { (asked : Asked) → Asks (map string_bytes words.now) asked → ReadsWell asked (H.faults shelf.old) (H.faults shelf.new)
+        → ¬ Rose (K.faults out.old) (K.faults out.new) → Contains (5 ∷ statuses_of asked) result }
 
     // No other file is taken.
     ensures files { H.files shelf.new ≡ H.files shelf.old }
     ensures other_files { (name : List ℕ) → IsForeign (map string_bytes words.now) name → H.faults shelf.new name ≡ H.faults shelf.old name }
 {
-    let Ok(reply) = reply_to(rt, alloc, words, shelf, gate) else {
+    refusals_are_determined();
+    let Ok(output) = reply_to(rt, alloc, words, shelf, gate) else {
         return Status::NoMemory.number();
     };
-    match put_lines(out, &reply.bytes) {
-        Ok(()) => reply.status.number(),
+    let status = output.status();
+    status_after(put_output(alloc, &output, out), status)
+}
+
+// The status to end with, once what has this status was written or not.
+fn status_after(written: Result<(), SinkFault>, status: Status) -> u8
+    ensures { IsEnding written (status_number status) result }
+{
+    match written {
+        Ok(()) => status.number(),
         Err(SinkFault::Failed) => Status::CannotWrite.number(),
         Err(SinkFault::NoMemory) => Status::NoMemory.number(),
     }

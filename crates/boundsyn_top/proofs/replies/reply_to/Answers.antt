@@ -1,23 +1,23 @@
 use Rattle.std.specs.Prelude.{string_bytes}
-use Rattle.std.proofs.Common.{map, refl}
+use Rattle.std.proofs.Common.{map}
 use Rattle.std.proofs.lemmas.Result.{IfOk-weaker}
-use Rattle.program_words.specs.Settings.{bench, gen}
-use Rattle.program_replies.specs.Statuses.{status_number}
-use Rattle.boundsyn_top.proofs.ReplyLemmas.{asked_is, reply_by, reply_generated}
+use Rattle.program_words.specs.Settings.{asked_by}
+use Rattle.boundsyn_top.proofs.ReplyLemmas.{output_by, unasked_output, unnamed, whole_is}
 use Rattle.boundsyn_top.proofs.replies.reply_to.Goals as goal
 
-pub returns-in-Gen-clause-reply : goal.returns-in-Gen-clause-reply
-returns-in-Gen-clause-reply g c =
-    let asks = rw c.in-Gen.is at c.in-Ok.ensures.settings in
-    IfOk-weaker c.generated.result _ _
-    (λ r is. reply_generated (map string_bytes c.args.words.now) _ _ _ c.in-Gen.clients r.bytes.items r.status
-    (asked_is (map string_bytes c.args.words.now) (gen c.in-Gen.clients) asks refl) is.0 is.1)
-    c.generated.ensures
+pub returns-in-Ok-clause-output : goal.returns-in-Ok-clause-output
+returns-in-Ok-clause-output g c =
+    IfOk-weaker c.obey.result _ _
+    (λ o output. output_by (map string_bytes c.args.words.now) _ _ _ (asked_by c.in-Ok.settings) o c.in-Ok.ensures.settings output)
+    c.obey.ensures.output
 
-pub returns-in-Bench-clause-reply : goal.returns-in-Bench-clause-reply
-returns-in-Bench-clause-reply g c =
-    let asks = rw c.in-Bench.is at c.in-Ok.ensures.settings in
-    IfOk-weaker c.benched.result _ _
-    (λ r replies. reply_by (map string_bytes c.args.words.now) _ _ _ (bench c.in-Bench.clients c.in-Bench.workers) r.bytes.items (status_number r.status)
-    (asked_is (map string_bytes c.args.words.now) (bench c.in-Bench.clients c.in-Bench.workers) asks refl) (replies _ _ _))
-    c.benched.ensures
+pub returns-in-Ok-clause-other_files : goal.returns-in-Ok-clause-other_files
+returns-in-Ok-clause-other_files g c = λ name foreign.
+    c.obey.ensures.other_files name (unnamed (map string_bytes c.args.words.now) (asked_by c.in-Ok.settings) name c.in-Ok.ensures.settings foreign)
+
+pub returns-in-Err-Refused-clause-output : goal.returns-in-Err-Refused-clause-output
+returns-in-Err-Refused-clause-output g c =
+    whole_is _ c.words_refused.result c.whole_output.result c.whole_output.ensures
+    (IfOk-weaker c.words_refused.result _ _
+    (λ r is. unasked_output (map string_bytes c.args.words.now) _ _ _ r (c.in-Err-Refused.ensures.refused (cc)) is.0 is.1)
+    c.words_refused.ensures)

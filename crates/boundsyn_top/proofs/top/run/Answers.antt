@@ -1,57 +1,47 @@
 use Rattle.std.specs.Prelude.{string_bytes}
-use Rattle.std.proofs.Common.{sym, arith, map}
-use Rattle.boundsyn_top.specs.Commands.{asked_in}
-use Rattle.boundsyn_top.proofs.RunLemmas.{if_some_all, run_done, run_wants, run_failed}
+use Rattle.std.proofs.Common.{map, refl}
+use Rattle.boundsyn_top.specs.Output.{bytes_of, status_of}
+use Rattle.boundsyn_top.proofs.RunLemmas.{run_ended, run_silent}
 use Rattle.boundsyn_top.proofs.top.run.Goals as goal
 
-pub returns-in_default-clause-statuses : goal.returns-in_default-clause-statuses
-returns-in_default-clause-statuses g c = (3, omega arith, sym c.number.ensures)
+pub returns-in_default : goal.returns-in_default
+returns-in_default g c =
+    let p = run_silent (map string_bytes c.args.words.now) (g.H.Shelf.files c.args.shelf.now) (g.H.Shelf.faults c.args.shelf.now)
+    (g.H.Shelf.faults c.reply_to.new.shelf) (g.K.Sink.written c.args.out.now) (g.K.Sink.written c.args.out.now)
+    (g.K.Sink.faults c.args.out.now) (g.K.Sink.faults c.args.out.now) c.number.result c.number.ensures refl in
+    record {
+      statuses = p.statuses;
+      answered = p.answered;
+      words_refused = p.words_refused;
+      cannot_read = p.cannot_read;
+      cannot_write = p.cannot_write;
+      cut_short = p.cut_short;
+      bad_words_are_refused = p.bad_words_are_refused;
+      fault_is_refused = p.fault_is_refused;
+      bad_line_is_refused = p.bad_line_is_refused;
+      complete = p.complete;
+      files = c.reply_to.ensures.files;
+      other_files = c.reply_to.ensures.other_files;
+    }
 
-pub returns-in_default-clause-complete : goal.returns-in_default-clause-complete
-returns-in_default-clause-complete g c =
-    if_some_all (asked_in (map string_bytes c.args.words.now)) _ (λ asked well written_all. (0, omega arith, sym c.number.ensures))
-
-pub returns-in-Ok-put_lines-clause-statuses : goal.returns-in-Ok-put_lines-clause-statuses
-returns-in-Ok-put_lines-clause-statuses g c =
-    (run_done (map string_bytes c.args.words.now) (g.H.Shelf.files c.args.shelf.now) (g.H.Shelf.faults c.args.shelf.now)
-    (g.H.Shelf.faults c.reply_to.new.shelf) (g.K.Sink.written c.args.out.now) (g.K.Sink.written c.put_lines.new.out) 0 0
-    c.in-Ok.reply.bytes.items c.deref.result.now c.number-in-Ok-put_lines.result _ c.number-in-Ok-put_lines.ensures
-    c.deref.ensures.value c.in-Ok.ensures.reply c.in-Ok-put_lines.ensures.ok).statuses
-
-pub returns-in-Ok-put_lines-clause-answered : goal.returns-in-Ok-put_lines-clause-answered
-returns-in-Ok-put_lines-clause-answered g c =
-    (run_done (map string_bytes c.args.words.now) (g.H.Shelf.files c.args.shelf.now) (g.H.Shelf.faults c.args.shelf.now)
-    (g.H.Shelf.faults c.reply_to.new.shelf) (g.K.Sink.written c.args.out.now) (g.K.Sink.written c.put_lines.new.out) 0 0
-    c.in-Ok.reply.bytes.items c.deref.result.now c.number-in-Ok-put_lines.result _ c.number-in-Ok-put_lines.ensures
-    c.deref.ensures.value c.in-Ok.ensures.reply c.in-Ok-put_lines.ensures.ok).answered
-
-pub returns-in-Ok-put_lines-clause-cannot_read : goal.returns-in-Ok-put_lines-clause-cannot_read
-returns-in-Ok-put_lines-clause-cannot_read g c =
-    (run_done (map string_bytes c.args.words.now) (g.H.Shelf.files c.args.shelf.now) (g.H.Shelf.faults c.args.shelf.now)
-    (g.H.Shelf.faults c.reply_to.new.shelf) (g.K.Sink.written c.args.out.now) (g.K.Sink.written c.put_lines.new.out) 0 0
-    c.in-Ok.reply.bytes.items c.deref.result.now c.number-in-Ok-put_lines.result _ c.number-in-Ok-put_lines.ensures
-    c.deref.ensures.value c.in-Ok.ensures.reply c.in-Ok-put_lines.ensures.ok).cannot_read
-
-pub returns-in-Ok-put_lines-clause-complete : goal.returns-in-Ok-put_lines-clause-complete
-returns-in-Ok-put_lines-clause-complete g c =
-    (run_done (map string_bytes c.args.words.now) (g.H.Shelf.files c.args.shelf.now) (g.H.Shelf.faults c.args.shelf.now)
-    (g.H.Shelf.faults c.reply_to.new.shelf) (g.K.Sink.written c.args.out.now) (g.K.Sink.written c.put_lines.new.out)
-    (g.K.Sink.faults c.args.out.now) (g.K.Sink.faults c.put_lines.new.out)
-    c.in-Ok.reply.bytes.items c.deref.result.now c.number-in-Ok-put_lines.result _ c.number-in-Ok-put_lines.ensures
-    c.deref.ensures.value c.in-Ok.ensures.reply c.in-Ok-put_lines.ensures.ok).complete
-
-pub returns-in-Err-Failed-clause-statuses : goal.returns-in-Err-Failed-clause-statuses
-returns-in-Err-Failed-clause-statuses g c = (2, omega arith, sym c.number-in-Err-Failed.ensures)
-
-pub returns-in-Err-Failed-clause-bad_words_are_refused : goal.returns-in-Err-Failed-clause-bad_words_are_refused
-returns-in-Err-Failed-clause-bad_words_are_refused g c = λ none. (1, omega arith, sym c.number-in-Err-Failed.ensures)
-
-pub returns-clause-statuses : goal.returns-clause-statuses
-returns-clause-statuses g c = (3, omega arith, sym c.number-in-Err-NoMemory.ensures)
-
-pub returns-clause-complete : goal.returns-clause-complete
-returns-clause-complete g c =
-    if_some_all (asked_in (map string_bytes c.args.words.now)) _ (λ asked well written_all. (0, omega arith, sym c.number-in-Err-NoMemory.ensures))
-
-pub returns-clause-bad_words_are_refused : goal.returns-clause-bad_words_are_refused
-returns-clause-bad_words_are_refused g c = λ none. (2, omega arith, sym c.number-in-Err-NoMemory.ensures)
+pub returns : goal.returns
+returns g c =
+    let p = run_ended (map string_bytes c.args.words.now) (g.H.Shelf.files c.args.shelf.now) (g.H.Shelf.faults c.args.shelf.now)
+    (g.H.Shelf.faults c.reply_to.new.shelf) (g.K.Sink.written c.args.out.now) (g.K.Sink.written c.put_output.new.out)
+    (g.K.Sink.faults c.args.out.now) (g.K.Sink.faults c.put_output.new.out) c.refusals_are_determined.ensures
+    (bytes_of c.in-Ok.output) (status_of c.in-Ok.output) c.in-Ok.ensures.output.reply c.put_output.result c.put_output.ensures.ok
+    c.put_output.ensures.front c.put_output.ensures.failed c.status_after.result (rw c.status-status.ensures at c.status_after.ensures) in
+    record {
+      statuses = p.statuses;
+      answered = p.answered;
+      words_refused = p.words_refused;
+      cannot_read = p.cannot_read;
+      cannot_write = p.cannot_write;
+      cut_short = p.cut_short;
+      bad_words_are_refused = p.bad_words_are_refused;
+      fault_is_refused = p.fault_is_refused;
+      bad_line_is_refused = p.bad_line_is_refused;
+      complete = p.complete;
+      files = c.reply_to.ensures.files;
+      other_files = c.reply_to.ensures.other_files;
+    }

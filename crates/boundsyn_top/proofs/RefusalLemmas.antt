@@ -1,0 +1,74 @@
+-- Nothing but its line answers a fault, or a bad line.
+use Rattle.std.proofs.Common.{◌≡◌, ℕ, List, ◌∙◌, refl, Option, Some}
+use Rattle.letter_word.specs.declared.kinds.Kind.{Kind}
+use Rattle.tlsf_tokens.specs.declared.code.SpecCode.{SpecCode}
+use Rattle.outside_edge.specs.Files.{Files, bytes_under}
+use Rattle.program_replies.specs.Lines.{line_refusal, refusal_line}
+use Rattle.program_words.specs.Settings.{Asked, bench, check, expand, gen, lasso, synth}
+use Rattle.spec_problems.specs.OfText.{IsFirstFault}
+use Rattle.spec_problems.specs.Laws.{ProblemsOfTextsAreDetermined}
+use Rattle.synth_engine.specs.declared.settings.Settings.{Settings}
+use Rattle.synth_answer.specs.Answer.{Answers, refused, realizable, unrealizable, bounded, no_size, no_entries}
+use Rattle.synth_answer.specs.Printed.{Printed}
+use Rattle.check_answer.specs.Answer.{CheckAnswers}
+use Rattle.check_answer.specs.Laws.{ChecksAreDetermined}
+use Rattle.flat_answer.specs.Expand.{ExpandAnswers}
+use Rattle.flat_answer.specs.Lasso.{LassoAnswers}
+use Rattle.flat_answer.specs.Laws.{ExpandAnswersAreDue, LassoAnswersAreDue}
+use Rattle.boundsyn_top.specs.Files.{HoldsOfFile}
+use Rattle.boundsyn_top.specs.Commands.{AnswersAsked, bounds_of}
+use Rattle.boundsyn_top.specs.Faults.{HasBadLine, HasFault, RefusalsAreDetermined}
+use Rattle.boundsyn_top.proofs.FileLemmas.{of_told}
+
+same_line : (code code' : SpecCode) (place place' : ℕ) → code ≡ code' → place ≡ place' → refusal_line code place ≡ refusal_line code' place'
+same_line code code' place place' a b = rw (a, b) refl
+
+module _ (problems : ProblemsOfTextsAreDetermined) where
+  no_fault : (text : List ℕ) (kind : Option Kind) (settings : Settings) (bytes : List ℕ) (code : SpecCode) (place : ℕ) →
+      Printed text kind settings bytes → IsFirstFault text kind code place → ⊥
+  no_fault text kind settings bytes code place p fault = problems.no_fault text kind 2 p.spec p.problems code place p.are_problems fault
+
+  synth_fault : (text : List ℕ) (kind : Option Kind) (settings : Settings) (bytes : List ℕ) (status : ℕ) (code : SpecCode) (place : ℕ) →
+      Answers text kind settings bytes status → IsFirstFault text kind code place → (status ≡ 1) × (bytes ≡ refusal_line code place)
+  synth_fault text kind settings bytes status code place (refused other at ended first line) fault =
+      let e = problems.one_fault text kind other code at place first fault in (ended, line ∙ same_line other code at place e.0 e.1)
+  synth_fault text kind settings bytes status code place (realizable p n c is holds) fault = absurd (no_fault text kind settings bytes code place p fault)
+  synth_fault text kind settings bytes status code place (unrealizable p n c is holds) fault = absurd (no_fault text kind settings bytes code place p fault)
+  synth_fault text kind settings bytes status code place (bounded p side n c is holds) fault = absurd (no_fault text kind settings bytes code place p fault)
+  synth_fault text kind settings bytes status code place (no_size p is holds) fault = absurd (no_fault text kind settings bytes code place p fault)
+  synth_fault text kind settings bytes status code place (no_entries p side n is holds) fault = absurd (no_fault text kind settings bytes code place p fault)
+
+module _ (problems : ProblemsOfTextsAreDetermined) (checks : ChecksAreDetermined) (expansions : ExpandAnswersAreDue) (truths : LassoAnswersAreDue) where
+  of_text : (files : Files) (asked : Asked) (bytes : List ℕ) (status : ℕ) (code : SpecCode) (place : ℕ) → HasFault files asked code place →
+      AnswersAsked (Some files) asked bytes status → (status ≡ 1) × (bytes ≡ refusal_line code place)
+  of_text files (synth spec wanted kind) bytes status code place fault a =
+      synth_fault problems (bytes_under files spec) kind (bounds_of wanted) bytes status code place
+      (of_told files spec (λ text. Answers text kind (bounds_of wanted) bytes status) a.answer) fault
+  of_text files (check spec document) bytes status code place fault a =
+      let h = of_told files spec (λ text. HoldsOfFile (Some files) document (λ lines. CheckAnswers text lines bytes status)) a.answer in
+      checks.of_fault (bytes_under files spec) h.bytes bytes status code place h.holds fault
+  of_text files (expand spec) bytes status code place fault a =
+      expansions.of_fault (bytes_under files spec) bytes status code place (of_told files spec (λ text. ExpandAnswers text bytes status) a.answer) fault
+  of_text files (lasso spec word) bytes status code place fault a =
+      let h = of_told files spec (λ text. HoldsOfFile (Some files) word (λ lines. LassoAnswers text lines bytes status)) a.answer in
+      truths.of_fault (bytes_under files spec) h.bytes bytes status code place h.holds fault
+  of_text files (gen clients) bytes status code place fault a = absurd fault
+  of_text files (bench clients workers) bytes status code place fault a = absurd fault
+
+  of_line : (files : Files) (asked : Asked) (bytes : List ℕ) (status n : ℕ) → HasBadLine files asked n →
+      AnswersAsked (Some files) asked bytes status → (status ≡ 40) × (bytes ≡ line_refusal n)
+  of_line files (synth spec wanted kind) bytes status n bad a = absurd bad
+  of_line files (check spec document) bytes status n bad a =
+      let h = of_told files spec (λ text. HoldsOfFile (Some files) document (λ lines. CheckAnswers text lines bytes status)) a.answer in
+      checks.of_bad_line (bytes_under files spec) (bytes_under files document) bytes status bad.given n
+      (of_told files document (λ lines. CheckAnswers (bytes_under files spec) lines bytes status) h) bad.bad
+  of_line files (expand spec) bytes status n bad a = absurd bad
+  of_line files (lasso spec word) bytes status n bad a =
+      let h = of_told files spec (λ text. HoldsOfFile (Some files) word (λ lines. LassoAnswers text lines bytes status)) a.answer in
+      truths.of_bad_line (bytes_under files spec) (bytes_under files word) bytes status bad.flat n
+      (of_told files word (λ lines. LassoAnswers (bytes_under files spec) lines bytes status) h) bad.is_flat bad.bad
+  of_line files (gen clients) bytes status n bad a = absurd bad
+  of_line files (bench clients workers) bytes status n bad a = absurd bad
+
+  pub determined : RefusalsAreDetermined
+  determined = record { of_text = of_text; of_line = of_line }

@@ -1,0 +1,52 @@
+-- What keeps a command from its work: the first fault of its text, or the first bad line of its other file (this project's own).
+use Rattle.std.specs.Prelude.{◌≡◌, ℕ, Some, None, List}
+use Rattle.letter_word.specs.declared.kinds.Kind.TheVariants.{Mealy}
+use Rattle.tlsf_tokens.specs.declared.code.SpecCode.{SpecCode}
+use Rattle.flat_text.specs.FlatOf.{IsFlatFault, IsFlatOf}
+use Rattle.spec_problems.specs.OfText.{IsFirstFault}
+use Rattle.document_check.specs.FirstBad.{IsFirstBadFor}
+use Rattle.check_answer.specs.Answer.{Given, facts_in}
+use Rattle.lasso_word.specs.WordText.{IsFirstBadLine}
+use Rattle.flat_lines.specs.FlatLines.{all_names}
+use Rattle.tlsf_expand.specs.TextSeen.{FlatText}
+use Rattle.outside_edge.specs.Files.{Files, bytes_under}
+use Rattle.program_replies.specs.Lines.{line_refusal, refusal_line}
+use Rattle.program_words.specs.Settings.{Asked, synth, check, expand, lasso, gen, bench}
+use Rattle.boundsyn_top.specs.Commands.{AnswersAsked}
+
+-- The first fault of the text that a command takes. `check` takes it as with a kind that is given, and `expand` and `lasso` have no
+-- normal forms and no automata.
+abbrev pub HasFault : Files → Asked → SpecCode → ℕ → Type 0
+HasFault files (synth spec wanted kind) code place = IsFirstFault (bytes_under files spec) kind code place
+HasFault files (check spec certificate) code place = IsFirstFault (bytes_under files spec) (Some Mealy) code place
+HasFault files (expand spec) code place = IsFlatFault (bytes_under files spec) None code place
+HasFault files (lasso spec word) code place = IsFlatFault (bytes_under files spec) None code place
+HasFault files (gen clients) code place = ⊥
+HasFault files (bench clients workers) code place = ⊥
+
+-- the text has no fault, and this is the certificate's first bad line for it
+pub record IsBadCertificate (text certificate : List ℕ) (line : ℕ) : Type 0 where
+  pub given : Given text
+  pub bad : IsFirstBadFor (facts_in given) certificate line
+
+-- the text has no fault, and this is the first bad line of the word over its signals
+pub record IsBadWord (text word : List ℕ) (line : ℕ) : Type 0 where
+  pub flat : FlatText
+  pub is_flat : IsFlatOf text None flat
+  pub bad : IsFirstBadLine word (all_names flat.expanded) line
+
+-- The text has no fault, and this is the first bad line of the other file.
+abbrev pub HasBadLine : Files → Asked → ℕ → Type 0
+HasBadLine files (synth spec wanted kind) n = ⊥
+HasBadLine files (check spec certificate) n = IsBadCertificate (bytes_under files spec) (bytes_under files certificate) n
+HasBadLine files (expand spec) n = ⊥
+HasBadLine files (lasso spec word) n = IsBadWord (bytes_under files spec) (bytes_under files word) n
+HasBadLine files (gen clients) n = ⊥
+HasBadLine files (bench clients workers) n = ⊥
+
+-- nothing but its line answers a fault, or a bad line
+pub record RefusalsAreDetermined : Type 0 where
+  pub of_text : (files : Files) (asked : Asked) (bytes : List ℕ) (status : ℕ) (code : SpecCode) (place : ℕ) → HasFault files asked code place
+      → AnswersAsked (Some files) asked bytes status → (status ≡ 1) × (bytes ≡ refusal_line code place)
+  pub of_line : (files : Files) (asked : Asked) (bytes : List ℕ) (status n : ℕ) → HasBadLine files asked n
+      → AnswersAsked (Some files) asked bytes status → (status ≡ 40) × (bytes ≡ line_refusal n)

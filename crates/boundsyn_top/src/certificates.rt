@@ -1,0 +1,85 @@
+//! The reply to `check`.
+ghost use Rattle.std.specs.Prelude.{◌≡◌, ◌≢◌, ℕ, List, IfOk};
+ghost use Rattle.check_answer.specs.Answer.{CheckAnswers};
+ghost use Rattle.check_answer.specs.Reply.{IsTaken};
+ghost use Rattle.spec_problems.specs.OfFormula.{AreProblems};
+ghost use Rattle.program_replies.specs.Statuses.{status_number};
+ghost use Rattle.program_words.specs.Settings.{check};
+ghost use Rattle.boundsyn_top.specs.Files.{RepliesByFile};
+ghost use Rattle.boundsyn_top.specs.Run.{IsOutputOf};
+
+use crate::files::{Taken, cannot_read, take_parts, take_text};
+use crate::output::{Output, whole_output};
+use check_answer::{Problems, check_answer, problems_or_refusal};
+use outside_edge::Shelf;
+use program_replies::Reply;
+use spec_problems::TextProblems;
+use std::alloc::{AllocError, Global};
+use std::sync::Wait;
+use std::thread::Threads;
+
+/// Checks a document against a text. The document is taken only once the text has its problems.
+pub fn check_certificate<R, H>(
+    rt: &R,
+    alloc: Global,
+    shelf: &mut H,
+    spec: &str,
+    certificate: &str,
+) -> Result<Output, AllocError>
+where
+    R: Threads + Wait + Sync,
+    H: Shelf,
+    ensures output { IfOk result (IsOutputOf (H.files shelf.old) (H.faults shelf.old) (H.faults shelf.new) (check spec.now certificate.now)) }
+    ensures files { H.files shelf.new ≡ H.files shelf.old }
+    ensures other_files { (name : List ℕ) → name ≢ spec.now → name ≢ certificate.now → H.faults shelf.new name ≡ H.faults shelf.old name }
+{
+    match take_text(alloc, shelf, spec)? {
+        Taken::Whole(text) => whole_output(check_by(rt, alloc, shelf, &text, certificate)),
+        Taken::Refused(reply) => Ok(Output::Whole(reply)),
+    }
+}
+
+// Takes a document, and checks it against a text, unless the text has a fault.
+fn check_by<R, H>(
+    rt: &R,
+    alloc: Global,
+    shelf: &mut H,
+    text: &[u8],
+    certificate: &str,
+) -> Result<Reply, AllocError>
+where
+    R: Threads + Wait + Sync,
+    H: Shelf,
+    ensures reply { IfOk result (λ r. RepliesByFile (H.files shelf.old) (H.faults shelf.old) (H.faults shelf.new)
+        certificate.now (λ document. CheckAnswers text.now document r.bytes.items (status_number r.status)) r.bytes.items (status_number r.status)) }
+    ensures files { H.files shelf.new ≡ H.files shelf.old }
+    ensures other_files { (name : List ℕ) → name ≢ certificate.now → H.faults shelf.new name ≡ H.faults shelf.old name }
+{
+    match problems_or_refusal(alloc, text)? {
+        Problems::Of(found) => checked(rt, alloc, shelf, &found, certificate),
+        Problems::Refused(reply) => Ok(reply),
+    }
+}
+
+// Takes a document, and checks it against a text that has problems.
+fn checked<R, H>(
+    rt: &R,
+    alloc: Global,
+    shelf: &mut H,
+    found: &TextProblems,
+    certificate: &str,
+) -> Result<Reply, AllocError>
+where
+    R: Threads + Wait + Sync,
+    H: Shelf,
+    requires { AreProblems found.now.problems }
+    ensures reply { (text : List ℕ) → IsTaken text found.now → IfOk result (λ r. RepliesByFile (H.files shelf.old) (H.faults shelf.old) (H.faults shelf.new)
+        certificate.now (λ document. CheckAnswers text document r.bytes.items (status_number r.status)) r.bytes.items (status_number r.status)) }
+    ensures files { H.files shelf.new ≡ H.files shelf.old }
+    ensures other_files { (name : List ℕ) → name ≢ certificate.now → H.faults shelf.new name ≡ H.faults shelf.old name }
+{
+    match take_parts(alloc, shelf, certificate)? {
+        Some(document) => check_answer(rt, alloc, found, &document),
+        None => cannot_read(alloc),
+    }
+}

@@ -1,0 +1,96 @@
+//! The replies to `expand` and `lasso`, which want the flat form of a text.
+ghost use Rattle.std.specs.Prelude.{◌≡◌, ◌≢◌, ℕ, List, None, IfOk, length};
+ghost use Rattle.flat_answer.specs.Lasso.{LassoAnswers};
+ghost use Rattle.ltl_formula.specs.Nodes.{Stands};
+ghost use Rattle.tlsf_expand.specs.FewSignals.{HasFewSignals};
+ghost use Rattle.flat_text.specs.FlatOf.{IsFlatOf};
+ghost use Rattle.program_replies.specs.Statuses.{status_number};
+ghost use Rattle.program_words.specs.Settings.{expand, lasso};
+ghost use Rattle.tlsf_expand.specs.TextSeen.{spec_seen};
+ghost use Rattle.boundsyn_top.specs.Files.{RepliesByFile};
+ghost use Rattle.boundsyn_top.specs.Output.{IsExpansion};
+ghost use Rattle.boundsyn_top.specs.Run.{IsOutputOf};
+
+use crate::files::{Taken, cannot_read, take_text, take_whole};
+use crate::output::{Output, whole_output};
+use flat_answer::{Expansion, expanded, lasso_answer};
+use outside_edge::Shelf;
+use program_replies::Reply;
+use std::alloc::{AllocError, Global};
+use tlsf_expand::Spec;
+
+/// The flat form of a text.
+pub fn expand_spec<H: Shelf>(alloc: Global, shelf: &mut H, spec: &str) -> Result<Output, AllocError>
+    ensures output { IfOk result (IsOutputOf (H.files shelf.old) (H.faults shelf.old) (H.faults shelf.new) (expand spec.now)) }
+    ensures files { H.files shelf.new ≡ H.files shelf.old }
+    ensures other_files { (name : List ℕ) → name ≢ spec.now → H.faults shelf.new name ≡ H.faults shelf.old name }
+{
+    match take_text(alloc, shelf, spec)? {
+        Taken::Whole(text) => flat_output(alloc, &text),
+        Taken::Refused(reply) => Ok(Output::Whole(reply)),
+    }
+}
+
+fn flat_output(alloc: Global, text: &[u8]) -> Result<Output, AllocError>
+    ensures { IfOk result (IsExpansion text.now) }
+{
+    match expanded(alloc, text)? {
+        Expansion::Flat(spec) => Ok(Output::Flat(spec)),
+        Expansion::Refused(reply) => Ok(Output::Whole(reply)),
+    }
+}
+
+/// Whether a text holds on a lasso. The lasso's file is taken only once the text is expanded.
+pub fn tell_truth<H: Shelf>(
+    alloc: Global,
+    shelf: &mut H,
+    spec: &str,
+    word: &str,
+) -> Result<Output, AllocError>
+    ensures output { IfOk result (IsOutputOf (H.files shelf.old) (H.faults shelf.old) (H.faults shelf.new) (lasso spec.now word.now)) }
+    ensures files { H.files shelf.new ≡ H.files shelf.old }
+    ensures other_files { (name : List ℕ) → name ≢ spec.now → name ≢ word.now → H.faults shelf.new name ≡ H.faults shelf.old name }
+{
+    match take_text(alloc, shelf, spec)? {
+        Taken::Whole(text) => whole_output(tell_by(alloc, shelf, &text, word)),
+        Taken::Refused(reply) => Ok(Output::Whole(reply)),
+    }
+}
+
+// Takes the file of a lasso, and tells whether a text holds on it, unless the text has a fault.
+fn tell_by<H: Shelf>(
+    alloc: Global,
+    shelf: &mut H,
+    text: &[u8],
+    word: &str,
+) -> Result<Reply, AllocError>
+    ensures reply { IfOk result (λ r. RepliesByFile (H.files shelf.old) (H.faults shelf.old) (H.faults shelf.new)
+        word.now (λ lines. LassoAnswers text.now lines r.bytes.items (status_number r.status)) r.bytes.items (status_number r.status)) }
+    ensures files { H.files shelf.new ≡ H.files shelf.old }
+    ensures other_files { (name : List ℕ) → name ≢ word.now → H.faults shelf.new name ≡ H.faults shelf.old name }
+{
+    match expanded(alloc, text)? {
+        Expansion::Flat(flat) => told(alloc, shelf, &flat, word),
+        Expansion::Refused(reply) => Ok(reply),
+    }
+}
+
+// Takes the file of a lasso, and tells whether a flat text holds on it.
+fn told<H: Shelf>(
+    alloc: Global,
+    shelf: &mut H,
+    flat: &Spec,
+    word: &str,
+) -> Result<Reply, AllocError>
+    requires few { HasFewSignals (length flat.now.inputs.items) (length flat.now.outputs.items) flat.now.formulas }
+    requires stands { Stands flat.now.formulas flat.now.whole }
+    ensures reply { (text : List ℕ) → IsFlatOf text None (spec_seen flat.now) → IfOk result (λ r. RepliesByFile (H.files shelf.old) (H.faults shelf.old) (H.faults shelf.new)
+        word.now (λ lines. LassoAnswers text lines r.bytes.items (status_number r.status)) r.bytes.items (status_number r.status)) }
+    ensures files { H.files shelf.new ≡ H.files shelf.old }
+    ensures other_files { (name : List ℕ) → name ≢ word.now → H.faults shelf.new name ≡ H.faults shelf.old name }
+{
+    match take_whole(alloc, shelf, word)? {
+        Some(lines) => lasso_answer(alloc, flat, &lines),
+        None => cannot_read(alloc),
+    }
+}
