@@ -4,16 +4,15 @@ use Rattle.std.proofs.lemmas.List.{append_assoc, map-append, take-take, take-app
 use Rattle.clause_base.specs.Literal.{Literal}
 use Rattle.refutation_log.specs.declared.entries.Entry.{Entry}
 use Rattle.refutation_log.specs.Entry.{clauses_of}
-use Rattle.unit_propagate.specs.declared.watches.Watch.{Watch}
 use Rattle.unit_propagate.specs.Watched.{IsWatching}
 use Rattle.unit_propagate.proofs.LawsLemmas.{IsWatching-append}
 
-pub watching_more : (base : List (List Literal)) (seen more : List Entry) (watched : List Watch) → IsWatching (base ++ clauses_of seen) watched → IsWatching (base ++ clauses_of (seen ++ more)) watched
+pub watching_more : (base : List (List Literal)) (seen more : List Entry) (watched : List (List Literal)) → IsWatching (base ++ clauses_of seen) watched → IsWatching (base ++ clauses_of (seen ++ more)) watched
 watching_more base seen more watched w =
     subst (λ cs. IsWatching cs watched) (append_assoc base (clauses_of seen) (clauses_of more) ∙ ap (λ cs. base ++ cs) (sym (map-append (λ (e : Entry). e.clause) seen more)))
     (IsWatching-append (base ++ clauses_of seen) (clauses_of more) watched w)
 
-pub watching_longer : (base : List (List Literal)) (entries : List Entry) (few many : ℕ) (watched : List Watch) → few ≤ many → IsWatching (base ++ clauses_of (take few entries)) watched
+pub watching_longer : (base : List (List Literal)) (entries : List Entry) (few many : ℕ) (watched : List (List Literal)) → few ≤ many → IsWatching (base ++ clauses_of (take few entries)) watched
     → IsWatching (base ++ clauses_of (take many entries)) watched
 watching_longer base entries few many watched le w =
     let parts : take few entries ++ drop few (take many entries) ≡ take many entries =

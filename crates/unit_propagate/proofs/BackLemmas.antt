@@ -6,7 +6,6 @@ use Rattle.clause_base.specs.Literal.{Literal, negated}
 use Rattle.clause_base.proofs.Members.{Contains-filter, filter-Contains}
 use Rattle.refutation_log.proofs.Lists.{slice_get-append}
 use Rattle.unit_propagate.specs.declared.marks.Mark.{Mark}
-use Rattle.unit_propagate.specs.declared.watches.Watch.{Watch}
 use Rattle.unit_propagate.specs.declared.propagator.Propagator.{Propagator}
 use Rattle.unit_propagate.specs.Marks.{MarkList}
 use Rattle.unit_propagate.specs.Watches.{Guard}
@@ -24,11 +23,8 @@ pub IsKept-back : (s : Propagator) (after : MarkList) (level kept : ℕ) → aft
     → ((rest : List Mark) × (s.marks.marks ≡ after.marks ++ rest)) → kept ≡ min s.kept (length after.marks) → IsKept s → IsKept (record s { marks = after; place = kept; kept = kept })
 IsKept-back s after level kept vars is prefix low k = record {
   listed = rw vars k.listed;
-  guarded = record {
-    first = λ j p at n. guard p.first p.second (k.guarded.first j p at n);
-    second = λ j p at n. guard p.second p.first (k.guarded.second j p at n);
-  };
-  done = λ j u p lt at there. let m = k.done j u p lt at there in (m.0, stays m.0 m.1 (let z : m.0.level ≡ 0 = m.3 in omega arith), m.2, m.3);
+  guarded = λ j c l at is. guard l c (k.guarded j c l at is);
+  done = λ j u l lt at there. let m = k.done j u l lt at there in (m.0, stays m.0 m.1 (let z : m.0.level ≡ 0 = m.3 in omega arith), m.2, m.3);
   place = omega arith;
   kept = omega arith;
   forced = k.forced;
@@ -37,8 +33,8 @@ IsKept-back s after level kept vars is prefix low k = record {
     stays : (m : Mark) → Contains s.marks.marks m → m.level ≤ level → Contains after.marks m
     stays m c l = subst (λ ms. Contains ms m) (sym is) (filter-Contains (λ (m : Mark). nat_le m.level level) s.marks.marks m c (passes m.level level l))
 
-    guard : (a b : Literal) → Guard s.marks.marks s.place s.kept a b → Guard after.marks kept kept a b
-    guard a b g i m lt at e =
+    guard : (a : Literal) (c : List Literal) → Guard s.marks.marks s.place s.kept a c → Guard after.marks kept kept a c
+    guard a c g i m lt at e =
         let before : slice_get s.marks.marks i ≡ Some m = ap (λ ms. slice_get ms i) prefix.1 ∙ slice_get-append after.marks prefix.0 i m at in
         let le : s.kept ≤ s.place = k.kept in
         let small : i < s.kept = omega arith in
@@ -51,11 +47,8 @@ IsKept-back s after level kept vars is prefix low k = record {
 pub IsKept-clear : (s : Propagator) (after : MarkList) → after.vars ≡ s.marks.vars → after.marks ≡ [] → IsKept s → IsKept (record s { marks = after; place = 0; kept = 0; done = 0 })
 IsKept-clear s after vars is k = record {
   listed = rw vars k.listed;
-  guarded = record {
-    first = λ j p at n i m lt. absurd (omega arith);
-    second = λ j p at n i m lt. absurd (omega arith);
-  };
-  done = λ j u p lt. absurd (omega arith);
+  guarded = λ j c l at is i m lt. absurd (omega arith);
+  done = λ j u l lt. absurd (omega arith);
   place = omega arith;
   kept = omega arith;
   forced = omega arith;

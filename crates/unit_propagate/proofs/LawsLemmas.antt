@@ -11,7 +11,6 @@ use Rattle.clause_base.proofs.Members.{filter-none}
 use Rattle.refutation_log.proofs.Lists.{slice_get-append}
 use Rattle.refutation_log.proofs.FollowsLemmas.{clause_named-append}
 use Rattle.unit_propagate.specs.declared.marks.Mark.{Mark}
-use Rattle.unit_propagate.specs.declared.watches.Watch.{Watch}
 use Rattle.unit_propagate.specs.Trail.{literals_of}
 use Rattle.unit_propagate.specs.Sound.{IsReason, IsSound}
 use Rattle.unit_propagate.specs.Watched.{IsWatching}
@@ -34,7 +33,7 @@ IsSound-append clauses more marks s = record {
   reasons = λ i m n at is. IsReason-append clauses more n (literals_of (take i marks)) m.lit (s.reasons i m n at is);
 }
 
-pub IsWatching-append : (clauses more : List (List Literal)) (watched : List Watch) → IsWatching clauses watched → IsWatching (clauses ++ more) watched
+pub IsWatching-append : (clauses more : List (List Literal)) (watched : List (List Literal)) → IsWatching clauses watched → IsWatching (clauses ++ more) watched
 IsWatching-append clauses more watched w i watch at = let c = w i watch at in (c.0, slice_get-append clauses more i c.0 c.1, c.2)
 
 pub longer_lists_keep : LongerListsKeep

@@ -2,6 +2,7 @@ pub mod Places
 pub mod TrailLemmas
 pub mod MarksLemmas
 pub mod RowsLemmas
+pub mod ArenaLemmas
 pub mod WatchesLemmas
 pub mod PropagatorLemmas
 pub mod RewatchLemmas

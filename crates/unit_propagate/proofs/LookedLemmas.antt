@@ -6,25 +6,24 @@ use Rattle.clause_base.specs.Literal.{Literal, negated}
 use Rattle.unit_propagate.specs.declared.marks.Mark.{Mark}
 use Rattle.unit_propagate.specs.declared.propagator.Propagator.{Propagator}
 use Rattle.unit_propagate.specs.Trail.{literals_of}
-use Rattle.unit_propagate.specs.Watched.{AreLookedAt}
+use Rattle.unit_propagate.specs.Watched.{AreLookedAt, HasTrue}
 use Rattle.unit_propagate.specs.Watches.{Guard}
 use Rattle.unit_propagate.specs.Propagator.{IsKept}
 use Rattle.unit_propagate.proofs.Places.{slice_get-Contains}
 use Rattle.unit_propagate.proofs.TrailLemmas.{literal-of, mark-of}
 use Rattle.unit_propagate.proofs.LawsLemmas.{slice_get-taken}
 
-guarded : (marks : List Mark) (place kept : ℕ) (a b : Literal) → Guard marks place kept a b → Contains (literals_of (take place marks)) (negated a) → Contains (literals_of marks) b
-guarded marks place kept a b g h =
+guarded : (marks : List Mark) (place kept : ℕ) (a : Literal) (c : List Literal) → Guard marks place kept a c → Contains (literals_of (take place marks)) (negated a) → HasTrue marks c
+guarded marks place kept a c g h =
     let m = mark-of (take place marks) (negated a) h in
     let i = slice_get-Contains (take place marks) m.0 m.1 in
     let lt : i.0 < length (take place marks) = slice_get_within (take place marks) i.0 m.0 i.1 in
     let len : length (take place marks) ≡ min place (length marks) = length-take place marks in
     let n = g i.0 m.0 (omega arith) (slice_get-taken place marks i.0 m.0 i.1) m.2 in
-    subst (Contains (literals_of marks)) n.2 (literal-of marks n.0 n.1)
+    (n.0.lit, n.2, literal-of marks n.0 n.1)
 
-pub looked_at : (s : Propagator) → IsKept s → AreLookedAt s.marks.marks s.watches.pairs s.place
+pub looked_at : (s : Propagator) → IsKept s → AreLookedAt s.marks.marks s.watches.watched s.place
 looked_at s k = record {
   within = k.place;
-  first = λ i p at n. guarded s.marks.marks s.place s.kept p.first p.second (k.guarded.first i p at n);
-  second = λ i p at n. guarded s.marks.marks s.place s.kept p.second p.first (k.guarded.second i p at n);
+  holds = λ i c l at is. guarded s.marks.marks s.place s.kept l c (k.guarded i c l at is);
 }

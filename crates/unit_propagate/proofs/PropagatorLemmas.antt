@@ -13,12 +13,11 @@ use Rattle.clause_base.proofs.Tests.{Decides-is_falsified, fails}
 use Rattle.refutation_log.specs.Follows.{clause_named, is_falsified_named}
 use Rattle.refutation_log.proofs.Lists.{slice_get-push, slice_get-append, take-append, take-append_all}
 use Rattle.unit_propagate.specs.declared.marks.Mark.{Mark}
-use Rattle.unit_propagate.specs.declared.watches.Watch.{Watch}
 use Rattle.unit_propagate.specs.declared.propagator.Propagator.{Propagator}
 use Rattle.unit_propagate.specs.Trail.{IsFree, IsTrail, highest_level, literals_of}
 use Rattle.unit_propagate.specs.Sound.{IsReason, Extends}
 use Rattle.unit_propagate.specs.Marks.{MarkList, room_of}
-use Rattle.unit_propagate.specs.Watched.{IsWatching}
+use Rattle.unit_propagate.specs.Watched.{IsWatching, IsWatched, HasTrue}
 use Rattle.unit_propagate.specs.Rows.{row_at, code_of}
 use Rattle.unit_propagate.specs.Watches.{IsListed, IsGuarded, IsDone, Guard}
 use Rattle.unit_propagate.specs.Propagator.{IsKept, IsPending, IsVisiting, IsVisited, Goes, Stays}
@@ -101,22 +100,19 @@ Extends-push clauses first cur m number x level reason r = record {
 pub IsKept-push : (s : Propagator) (m : Mark) (after : MarkList) → after ≡ record { vars = s.marks.vars; marks = s.marks.marks ++ m ∷ [] } → IsKept s → IsKept (record s { marks = after })
 IsKept-push s m after e k = subst (λ ms. IsKept (record s { marks = ms })) (sym e) (record {
   listed = k.listed;
-  guarded = record {
-    first = λ j p at n. guard p.first p.second (k.guarded.first j p at n);
-    second = λ j p at n. guard p.second p.first (k.guarded.second j p at n);
-  };
-  done = λ i j p l a b. let h = k.done i j p l a b in (h.0, Contains-append_left s.marks.marks (m ∷ []) h.0 h.1, h.2, h.3);
+  guarded = λ j c l at is. guard l c (k.guarded j c l at is);
+  done = λ i j l lt a b. let h = k.done i j l lt a b in (h.0, Contains-append_left s.marks.marks (m ∷ []) h.0 h.1, h.2, h.3);
   place = let l : length (s.marks.marks ++ m ∷ []) ≡ length s.marks.marks + 1 = length_push s.marks.marks m in let p : s.place ≤ length s.marks.marks = k.place in omega arith;
   kept = k.kept;
   forced = k.forced;
 })
   where
-    guard : (a b : Literal) → Guard s.marks.marks s.place s.kept a b → Guard (s.marks.marks ++ m ∷ []) s.place s.kept a b
-    guard a b g i x l at is =
+    guard : (a : Literal) (c : List Literal) → Guard s.marks.marks s.place s.kept a c → Guard (s.marks.marks ++ m ∷ []) s.place s.kept a c
+    guard a c g i x l at is =
         let h = g i x l (sym (slice_get-front s.marks.marks (m ∷ []) i (let p : s.place ≤ length s.marks.marks = k.place in omega arith)) ∙ at) is in
         (h.0, Contains-append_left s.marks.marks (m ∷ []) h.0 h.1, h.2, h.3)
 
-pub Goes-same : (clauses : List (List Literal)) (s : Propagator) → IsKept s → IsWatching clauses s.watches.pairs → Goes clauses s s
+pub Goes-same : (clauses : List (List Literal)) (s : Propagator) → IsKept s → IsWatching clauses s.watches.watched → Goes clauses s s
 Goes-same clauses s k w = record { kept = k; watching = w; vars = refl; extends = λ first x. x; size = omega arith }
 
 pub Goes-trans : (clauses : List (List Literal)) (a b c : Propagator) → Goes clauses a b → Goes clauses b c → Goes clauses a c
@@ -125,11 +121,11 @@ Goes-trans clauses a b c p q = record {
   watching = q.watching;
   vars = q.vars ∙ p.vars;
   extends = λ first x. q.extends first (p.extends first x);
-  size = let x : length a.watches.pairs ≤ length b.watches.pairs = p.size in let y : length b.watches.pairs ≤ length c.watches.pairs = q.size in omega arith;
+  size = let x : length a.watches.watched ≤ length b.watches.watched = p.size in let y : length b.watches.watched ≤ length c.watches.watched = q.size in omega arith;
 }
 
 pub Goes-push : (clauses : List (List Literal)) (s : Propagator) (m : Mark) (after : MarkList) (number : ℕ) → after ≡ record { vars = s.marks.vars; marks = s.marks.marks ++ m ∷ [] }
-    → IsKept s → IsWatching clauses s.watches.pairs → m.level ≡ highest_level s.marks.marks → m.reason ≡ Some number → IsReason clauses number (literals_of s.marks.marks) m.lit
+    → IsKept s → IsWatching clauses s.watches.watched → m.level ≡ highest_level s.marks.marks → m.reason ≡ Some number → IsReason clauses number (literals_of s.marks.marks) m.lit
     → Goes clauses s (record s { marks = after })
 Goes-push clauses s m after number e k w level reason r = record {
   kept = IsKept-push s m after e k;
@@ -140,10 +136,10 @@ Goes-push clauses s m after number e k w level reason r = record {
 }
 
 pub Stays-same : (s : Propagator) (after : MarkList) → Stays s (record s { marks = after })
-Stays-same s after = record { size = refl; units = λ k p at e. at; place = refl }
+Stays-same s after = record { size = refl; units = λ k l at. at; place = refl }
 
 pub Stays-trans : (a b c : Propagator) → Stays a b → Stays b c → Stays a c
-Stays-trans a b c p q = record { size = q.size ∙ p.size; units = λ k w at e. p.units k w (q.units k w at e) e; place = q.place ∙ p.place }
+Stays-trans a b c p q = record { size = q.size ∙ p.size; units = λ k l at. p.units k l (q.units k l at); place = q.place ∙ p.place }
 
 -- ---- looking at a clause of the list
 
@@ -153,8 +149,7 @@ IsVisiting-push clauses s m after l i e v = record {
   kept = IsKept-push s m after e v.kept;
   watching = v.watching;
   falsified = grown (negated l) v.falsified;
-  first = λ k p at n is. elim (v.first k p at n is) [ inl h ↦ inl (grown p.second h) | inr h ↦ inr h ];
-  second = λ k p at n is. elim (v.second k p at n is) [ inl h ↦ inl (grown p.first h) | inr h ↦ inr h ];
+  seen = λ k c at is. elim (v.seen k c at is) [ inl h ↦ inl (h.0, h.1, grown h.0 h.2) | inr h ↦ inr h ];
 }
   where
     grown : (x : Literal) → Contains (literals_of s.marks.marks) x → Contains (literals_of after.marks) x
@@ -175,28 +170,20 @@ later rows l i k k' at h = by (less i h.0 h.1)
 
 -- the clause at the place needs nothing more
 pub passed : (clauses : List (List Literal)) (s : Propagator) (l : Literal) (i k : ℕ) → IsVisiting clauses s l i → slice_get (row_at s.watches.rows (code_of l)) i ≡ Some k
-    → ((p : Watch) → slice_get s.watches.pairs k ≡ Some p → p.first ≢ p.second → (p.first ≡ l → Contains (literals_of s.marks.marks) p.second) × (p.second ≡ l → Contains (literals_of s.marks.marks) p.first))
-    → IsVisiting clauses s l (i + 1)
+    → ((c : List Literal) → slice_get s.watches.watched k ≡ Some c → IsWatched c l → HasTrue s.marks.marks c) → IsVisiting clauses s l (i + 1)
 passed clauses s l i k v at says = record {
   kept = v.kept;
   watching = v.watching;
   falsified = v.falsified;
-  first = λ k' p there n is. elim (v.first k' p there n is) [
+  seen = λ k' c there is. elim (v.seen k' c there is) [
     | inl h ↦ inl h
-    | inr h ↦ elim (later s.watches.rows l i k k' at h) [ inl e ↦ inl ((says p (subst (λ x. slice_get s.watches.pairs x ≡ Some p) e there) n).0 is) | inr b ↦ inr b ]
-  ];
-  second = λ k' p there n is. elim (v.second k' p there n is) [
-    | inl h ↦ inl h
-    | inr h ↦ elim (later s.watches.rows l i k k' at h) [ inl e ↦ inl ((says p (subst (λ x. slice_get s.watches.pairs x ≡ Some p) e there) n).1 is) | inr b ↦ inr b ]
+    | inr h ↦ elim (later s.watches.rows l i k k' at h) [ inl e ↦ inl (says c (subst (λ x. slice_get s.watches.watched x ≡ Some c) e there) is) | inr b ↦ inr b ]
   ];
 }
 
 -- at the list's end all are looked at
 pub visited : (clauses : List (List Literal)) (s : Propagator) (l : Literal) (i : ℕ) → IsVisiting clauses s l i → slice_get (row_at s.watches.rows (code_of l)) i ≡ None → IsVisited s l
-visited clauses s l i v none = record {
-  first = λ k p at n is. elim (v.first k p at n is) [ inl h ↦ h | inr h ↦ absurd (gone k h) ];
-  second = λ k p at n is. elim (v.second k p at n is) [ inl h ↦ h | inr h ↦ absurd (gone k h) ];
-}
+visited clauses s l i v none = record { seen = λ k c at is. elim (v.seen k c at is) [ inl h ↦ h | inr h ↦ absurd (gone k h) ] }
   where
     past : (xs : List ℕ) (i j : ℕ) (k : ℕ) → slice_get xs i ≡ None → i ≤ j → slice_get xs j ≡ Some k → ⊥
     past [] i j k a b c = cc
@@ -208,15 +195,12 @@ visited clauses s l i v none = record {
     gone k h = past (row_at s.watches.rows (code_of l)) i h.0 k none h.1 h.2
 
 -- nothing of a list is looked at
-pub unvisited : (clauses : List (List Literal)) (s : Propagator) (l : Literal) → IsKept s → IsWatching clauses s.watches.pairs → Contains (literals_of s.marks.marks) (negated l) → IsVisiting clauses s l 0
+pub unvisited : (clauses : List (List Literal)) (s : Propagator) (l : Literal) → IsKept s → IsWatching clauses s.watches.watched → Contains (literals_of s.marks.marks) (negated l) → IsVisiting clauses s l 0
 unvisited clauses s l k w f = record {
   kept = k;
   watching = w;
   falsified = f;
-  first = λ j p at n is. inr (let h = k.listed.first j p at n in let g = slice_get-Contains (row_at s.watches.rows (code_of p.first)) j h in
-      (g.0, omega arith, subst (λ x. slice_get (row_at s.watches.rows (code_of x)) g.0 ≡ Some j) is g.1));
-  second = λ j p at n is. inr (let h = k.listed.second j p at n in let g = slice_get-Contains (row_at s.watches.rows (code_of p.second)) j h in
-      (g.0, omega arith, subst (λ x. slice_get (row_at s.watches.rows (code_of x)) g.0 ≡ Some j) is g.1));
+  seen = λ j c at is. inr (let g = slice_get-Contains (row_at s.watches.rows (code_of l)) j (k.listed.listed j c l at is) in (g.0, omega arith, g.1));
 }
 
 -- the place moves past a literal that was looked at
@@ -225,10 +209,7 @@ pub advanced : (s : Propagator) (m : Mark) (kept : ℕ) → IsKept s → slice_g
     → IsKept (record s { place = s.place + 1; kept = kept })
 advanced s m kept k at v how = record {
   listed = k.listed;
-  guarded = record {
-    first = λ j p there n. guard p.first p.second (k.guarded.first j p there n) (λ e. v.first j p there n e);
-    second = λ j p there n. guard p.second p.first (k.guarded.second j p there n) (λ e. v.second j p there n e);
-  };
+  guarded = λ j c l there is. guard l c (k.guarded j c l there is) (λ e. v.seen j c there (subst (IsWatched c) e is));
   done = k.done;
   place = let lt : s.place < length s.marks.marks = slice_get_within s.marks.marks s.place m at in omega arith;
   kept = below how;
@@ -248,14 +229,15 @@ advanced s m kept k at v how = record {
         by (suc i) zero l = absurd (omega arith)
         by (suc i) (suc n) l = elim (by i n (omega arith)) [ inl a ↦ inl (omega arith) | inr e ↦ inr (ap suc e) ]
 
-    guard : (a b : Literal) → Guard s.marks.marks s.place s.kept a b → (a ≡ negated m.lit → Contains (literals_of s.marks.marks) b) → Guard s.marks.marks (s.place + 1) kept a b
-    guard a b g here i x l there is = elim (split i l) [
+    guard : (a : Literal) (c : List Literal) → Guard s.marks.marks s.place s.kept a c → (a ≡ negated m.lit → HasTrue s.marks.marks c) → Guard s.marks.marks (s.place + 1) kept a c
+    guard a c g here i x l there is = elim (split i l) [
       | inl lt ↦ let h = g i x lt there is in (h.0, h.1, h.2, λ low. h.3 (old how low lt))
       | inr e ↦
           let same : m ≡ x = let w : slice_get s.marks.marks s.place ≡ Some x = subst (λ j. slice_get s.marks.marks j ≡ Some x) e there in cc in
           let isa : a ≡ negated m.lit = sym (ap negated (ap (λ (y : Mark). y.lit) same ∙ is) ∙ negated-negated a) in
-          let n = mark-of s.marks.marks b (here isa) in
-          (n.0, n.1, n.2, λ low. top n.0 n.1 x same e how low)
+          let t = here isa in
+          let n = mark-of s.marks.marks t.0 t.2 in
+          (n.0, n.1, subst (Contains c) (sym n.2) t.1, λ low. top n.0 n.1 x same e how low)
     ]
       where
         old : (kept ≡ s.kept) ⊎ ((kept ≡ s.place + 1) × (s.kept ≡ s.place) × (m.level ≡ highest_level s.marks.marks)) → i < kept → i < s.place → i < s.kept
@@ -310,7 +292,7 @@ valueless marks l t f = All-from_contains (λ (m : Mark). m.lit.var ≢ l.var) m
     sign false true = inr refl
     sign false false = inl refl
 
-pub Goes-advance : (clauses : List (List Literal)) (s : Propagator) (m : Mark) (kept : ℕ) → IsKept s → IsWatching clauses s.watches.pairs → slice_get s.marks.marks s.place ≡ Some m → IsVisited s (negated m.lit)
+pub Goes-advance : (clauses : List (List Literal)) (s : Propagator) (m : Mark) (kept : ℕ) → IsKept s → IsWatching clauses s.watches.watched → slice_get s.marks.marks s.place ≡ Some m → IsVisited s (negated m.lit)
     → (kept ≡ s.kept) ⊎ ((kept ≡ s.place + 1) × (s.kept ≡ s.place) × (m.level ≡ highest_level s.marks.marks))
     → Goes clauses s (record s { place = s.place + 1; kept = kept })
 Goes-advance clauses s m kept k w at v how = record { kept = advanced s m kept k at v how; watching = w; vars = refl; extends = λ first x. x; size = omega arith }

@@ -1,70 +1,206 @@
 -- A clause watches another literal, and clauses are watched anew.
-use Rattle.std.proofs.Common.{◌≡◌, ◌≢◌, ℕ, suc, zero, ◌+◌, ◌-◌, ◌*◌, ◌<◌, ◌≤◌, min, Bool, true, false, cond, List, [], ◌∷◌, ◌++◌, ◌⊎◌, inl, inr, Option, Some, None, set, take, slice_get, length, length-append, Contains, All, refl, sym, subst, ap, ◌∙◌, true≢false, arith}
-use Rattle.std.specs.Prelude.{Result, Ok, Err, OnOk, OnErr}
+use Rattle.std.proofs.Common.{◌≡◌, ◌≢◌, ℕ, suc, zero, ◌+◌, ◌-◌, ◌*◌, ◌^◌, ◌<◌, ◌≤◌, min, Bool, true, false, cond, not, filter, get_or, List, [], ◌∷◌, ◌++◌, ◌⊎◌, inl, inr, Option, Some, None, set, take, slice_get, length, length-append, Contains, All, refl, sym, subst, ap, ◌∙◌, true≢false, arith}
+use Rattle.std.specs.Prelude.{Result, Ok, Err, OnOk, OnErr, AllPairs}
 use Rattle.std.proofs.lemmas.List.{length_push, length-set}
-use Rattle.std.proofs.lemmas.List.Elements.{All-contains, Contains-append_left, Contains-push}
+use Rattle.std.proofs.lemmas.List.Elements.{All-contains, All-nil, All-cons, All-weaker, Contains-append_left, Contains-push}
+use Rattle.std.proofs.lemmas.List.Kept.{AllPairs-filter}
 use Rattle.std.proofs.lemmas.Option.{slice_get_within}
 use Rattle.clause_base.specs.Literal.{Literal, negated, literal_eq}
-use Rattle.clause_base.specs.Clause.{IsWithin}
+use Rattle.clause_base.specs.Clause.{IsWithin, IsClause, IsRisingFrom}
+use Rattle.clause_base.proofs.Members.{Contains-head, Contains-later, Contains-cases, Contains-filter, filter-Contains}
 use Rattle.clause_base.specs.Equality.{Decides-literal_eq}
 use Rattle.refutation_log.proofs.Lists.{slice_get-push, slice_get-append}
 use Rattle.unit_propagate.specs.declared.marks.Mark.{Mark}
-use Rattle.unit_propagate.specs.declared.watches.Watch.{Watch}
 use Rattle.unit_propagate.specs.declared.propagator.Propagator.{Propagator}
 use Rattle.unit_propagate.specs.Trail.{IsTrail, highest_level, literals_of}
 use Rattle.unit_propagate.specs.Marks.{MarkList, room_of}
-use Rattle.unit_propagate.specs.Watched.{IsWatching, IsWatchOf}
+use Rattle.unit_propagate.specs.Watched.{IsWatching, IsWatchOf, IsWatched, HasTrue}
 use Rattle.unit_propagate.specs.Rows.{row_at, code_of, AddsTo, DropsAt}
-use Rattle.unit_propagate.specs.Watches.{WatchList, IsListed, IsGuarded, IsDone, Guard, Rewatches, Adds, KeepsWatches, RowsGrow, IsOther, moved}
+use Rattle.unit_propagate.specs.Watches.{WatchList, IsListed, IsGuarded, IsDone, Guard, Rewatches, CanRewatch, Adds, AddsAlone, KeepsWatches, RowsGrow, IsSide, exchanged, ordered, differs}
 use Rattle.unit_propagate.specs.Propagator.{IsKept, IsPending, IsVisiting, Goes, Stays}
 use Rattle.unit_propagate.proofs.Places.{slice_get-Contains, Contains-slice_get, slice_get-set_same, slice_get-set_other, slice_get-last, slice_get-front, AllPairs-slice_get, All-slice_get}
 use Rattle.unit_propagate.proofs.TrailLemmas.{one_sign, literal-of, mark-of, highest_above}
 use Rattle.unit_propagate.proofs.RowsLemmas.{RowsGrow-adds, added_there, same_or_not}
 use Rattle.unit_propagate.proofs.PropagatorLemmas.{same_literal, code_same, Goes-trans}
+use Rattle.unit_propagate.proofs.StepLemmas.{list_fits}
 
-moved_first : (p : Watch) (from to : Literal) → p.first ≡ from → moved p from to ≡ record { first = to; second = p.second }
-moved_first p from to e = ap (λ b. cond b (record { first = to; second = p.second }) (record { first = p.first; second = to })) ((Decides-literal_eq p.first from).1 e)
+three : (i j : ℕ) → (i < j) ⊎ ((i ≡ j) ⊎ (j < i))
+three zero zero = inr (inl refl)
+three zero (suc j) = inl (omega arith)
+three (suc i) zero = inr (inr (omega arith))
+three (suc i) (suc j) = elim (three i j) [ inl a ↦ inl (omega arith) | inr b ↦ elim b [ inl c ↦ inr (inl (ap suc c)) | inr d ↦ inr (inr (omega arith)) ] ]
 
-moved_second : (p : Watch) (from to : Literal) → p.first ≢ from → moved p from to ≡ record { first = p.first; second = to }
-moved_second p from to n = by (literal_eq p.first from) refl
-  where
-    by : (b : Bool) → literal_eq p.first from ≡ b → ◌≡◌ {A = Watch} (cond b (record { first = to; second = p.second }) (record { first = p.first; second = to })) (record { first = p.first; second = to })
-    by true e = absurd (n ((Decides-literal_eq p.first from).0 e))
-    by false e = refl
+-- elements that are apart come once
+once_in : (xs : List Literal) → AllPairs (λ (p q : Literal). p ≢ q) xs → (i j : ℕ) (x : Literal) → slice_get xs i ≡ Some x → slice_get xs j ≡ Some x → i ≡ j
+once_in xs h i j x a b = elim (three i j) [
+  | inl l ↦ absurd (AllPairs-slice_get (λ (p q : Literal). p ≢ q) xs i j x x h l a b refl)
+  | inr r ↦ elim r [ inl e ↦ e | inr l ↦ absurd (AllPairs-slice_get (λ (p q : Literal). p ≢ q) xs j i x x h l b a refl) ]
+]
+
+-- the literals of a clause are of different variables
+rising_above : (v : ℕ) (c : List Literal) → IsRisingFrom v c → All (λ (l : Literal). v < l.var) c
+rising_above v [] r = All-nil (λ l. v < l.var)
+rising_above v (x ∷ c) r = All-cons (λ (l : Literal). v < l.var) x c r.0 (All-weaker (λ (l : Literal). x.var < l.var) (λ l. v < l.var) (λ l h. let a : v < x.var = r.0 in omega arith) c (rising_above x.var c r.1))
+
+rising_apart : (v : ℕ) (c : List Literal) → IsRisingFrom v c → AllPairs (λ (p q : Literal). p ≢ q) c
+rising_apart v [] r i j d l m e = omega arith
+rising_apart v (x ∷ c) r zero zero d l m e = omega arith
+rising_apart v (x ∷ c) r zero (suc j) d l m e =
+    let a : x.var < (get_or c j d).var = rising_above x.var c r.1 j d (omega arith) in let b : x.var ≡ (get_or c j d).var = ap (λ (l : Literal). l.var) e in omega arith
+rising_apart v (x ∷ c) r (suc i) zero d l m e = omega arith
+rising_apart v (x ∷ c) r (suc i) (suc j) d l m e = rising_apart x.var c r.1 i j d (omega arith) (omega arith) e
+
+clause_apart : (c : List Literal) → IsClause c → AllPairs (λ (p q : Literal). p ≢ q) c
+clause_apart c r = rising_apart 0 c r
+
+-- two literals of a clause change places
+module _ (c : List Literal) (p j : ℕ) (from to : Literal) (at_p : slice_get c p ≡ Some from) (at_j : slice_get c j ≡ Some to) (n : p ≢ j) where
+  size_after : length (exchanged c p j from to) ≡ length c
+  size_after = length-set (set c p to) j from ∙ length-set c p to
+
+  now_p : slice_get (exchanged c p j from to) p ≡ Some to
+  now_p = slice_get-set_other (set c p to) j p from n ∙ slice_get-set_same c p to (slice_get_within c p from at_p)
+
+  now_j : slice_get (exchanged c p j from to) j ≡ Some from
+  now_j = slice_get-set_same (set c p to) j from (let e : length (set c p to) ≡ length c = length-set c p to in let l : j < length c = slice_get_within c j to at_j in omega arith)
+
+  now_other : (q : ℕ) → q ≢ p → q ≢ j → slice_get (exchanged c p j from to) q ≡ slice_get c q
+  now_other q np nj = slice_get-set_other (set c p to) j q from nj ∙ slice_get-set_other c p q to np
+
+  origin : (q : ℕ) (x : Literal) → slice_get (exchanged c p j from to) q ≡ Some x → ((q ≡ p) × (x ≡ to)) ⊎ (((q ≡ j) × (x ≡ from)) ⊎ ((q ≢ p) × (q ≢ j) × (slice_get c q ≡ Some x)))
+  origin q x h = elim (same_or_not q p) [
+    | inl e ↦ inl (e, let a = now_p in let b : slice_get (exchanged c p j from to) p ≡ Some x = subst (λ y. slice_get (exchanged c p j from to) y ≡ Some x) e h in cc)
+    | inr np ↦ inr (elim (same_or_not q j) [
+      | inl e ↦ inl (e, let a = now_j in let b : slice_get (exchanged c p j from to) j ≡ Some x = subst (λ y. slice_get (exchanged c p j from to) y ≡ Some x) e h in cc)
+      | inr nj ↦ inr (np, nj, sym (now_other q np nj) ∙ h)
+    ])
+  ]
+
+  all_after : (x : Literal) → Contains c x → Contains (exchanged c p j from to) x
+  all_after x h =
+      let q = slice_get-Contains c x h in
+      elim (same_or_not q.0 p) [
+        | inl e ↦ let a : slice_get c p ≡ Some x = subst (λ y. slice_get c y ≡ Some x) e q.1 in let b = at_p in let s : from ≡ x = cc in
+            subst (Contains (exchanged c p j from to)) s (Contains-slice_get (exchanged c p j from to) j from now_j)
+        | inr np ↦ elim (same_or_not q.0 j) [
+          | inl e ↦ let a : slice_get c j ≡ Some x = subst (λ y. slice_get c y ≡ Some x) e q.1 in let b = at_j in let s : to ≡ x = cc in
+              subst (Contains (exchanged c p j from to)) s (Contains-slice_get (exchanged c p j from to) p to now_p)
+          | inr nj ↦ Contains-slice_get (exchanged c p j from to) q.0 x (now_other q.0 np nj ∙ q.1)
+        ]
+      ]
+
+  only_after : (x : Literal) → Contains (exchanged c p j from to) x → Contains c x
+  only_after x h =
+      let q = slice_get-Contains (exchanged c p j from to) x h in
+      elim (origin q.0 x q.1) [
+        | inl a ↦ subst (Contains c) (sym a.1) (Contains-slice_get c j to at_j)
+        | inr r ↦ elim r [ inl b ↦ subst (Contains c) (sym b.1) (Contains-slice_get c p from at_p) | inr o ↦ Contains-slice_get c q.0 x o.2 ]
+      ]
+
+  once_after : ((i k : ℕ) (x : Literal) → slice_get c i ≡ Some x → slice_get c k ≡ Some x → i ≡ k) → (i k : ℕ) (x : Literal)
+      → slice_get (exchanged c p j from to) i ≡ Some x → slice_get (exchanged c p j from to) k ≡ Some x → i ≡ k
+  once_after once i k x a b = elim (origin i x a) [
+    | inl f ↦ elim (origin k x b) [
+      | inl g ↦ f.0 ∙ sym g.0
+      | inr r ↦ elim r [
+        | inl g ↦ absurd (n (once p j from at_p (subst (λ y. slice_get c j ≡ Some y) (sym f.1 ∙ g.1) at_j)))
+        | inr o ↦ absurd (o.1 (once k j x o.2 (subst (λ y. slice_get c j ≡ Some y) (sym f.1) at_j)))
+      ]
+    ]
+    | inr s ↦ elim s [
+      | inl f ↦ elim (origin k x b) [
+        | inl g ↦ absurd (n (once p j from at_p (subst (λ y. slice_get c j ≡ Some y) (sym g.1 ∙ f.1) at_j)))
+        | inr r ↦ elim r [
+          | inl g ↦ f.0 ∙ sym g.0
+          | inr o ↦ absurd (o.0 (once k p x o.2 (subst (λ y. slice_get c p ≡ Some y) (sym f.1) at_p)))
+        ]
+      ]
+      | inr o ↦ elim (origin k x b) [
+        | inl g ↦ absurd (o.1 (once i j x o.2 (subst (λ y. slice_get c j ≡ Some y) (sym g.1) at_j)))
+        | inr r ↦ elim r [
+          | inl g ↦ absurd (o.0 (once i p x o.2 (subst (λ y. slice_get c p ≡ Some y) (sym g.1) at_p)))
+          | inr q ↦ once i k x o.2 q.2
+        ]
+      ]
+    ]
+  ]
+
+  watch_after : (clause : List Literal) → IsWatchOf clause c → IsWatchOf clause (exchanged c p j from to)
+  watch_after clause is = record {
+    some = let e : length (exchanged c p j from to) ≡ length c = size_after in let l : 0 < length c = is.some in omega arith;
+    all = λ x h. all_after x (is.all x h);
+    only = λ x h. is.only x (only_after x h);
+    once = once_after is.once;
+  }
 
 -- clause k watches to in place of from, which is false, besides other
-module _ (clauses : List (List Literal)) (s : Propagator) (w : WatchList) (from to other : Literal) (i k : ℕ) (clause : List Literal)
-    (trail : IsTrail s.marks.vars s.marks.marks) (v : IsVisiting clauses s from i) (r : Rewatches s.watches w from i k to)
-    (at : slice_get (row_at s.watches.rows (code_of from)) i ≡ Some k) (is : IsOther r.before from other)
-    (named : slice_get clauses k ≡ Some clause) (member : Contains clause to) (different : to ≢ other) (alive : Contains (literals_of s.marks.marks) (negated to) → ⊥) where
+module _ (clauses : List (List Literal)) (s : Propagator) (w : WatchList) (from to other : Literal) (i k p j : ℕ) (c : List Literal)
+    (v : IsVisiting clauses s from i) (r : Rewatches s.watches w i k p j from to)
+    (at : slice_get (row_at s.watches.rows (code_of from)) i ≡ Some k) (there : slice_get s.watches.watched k ≡ Some c) (side : IsSide c from p other)
+    (high : 2 ≤ j) (at_j : slice_get c j ≡ Some to) (alive : Contains (literals_of s.marks.marks) (negated to) → ⊥) where
+  abbrev after : List Literal
+  after = exchanged c p j from to
+
+  low_p : p < 2
+  low_p = elim side.1 [ inl h ↦ (let e : p ≡ 0 = h.0 in omega arith) | inr h ↦ (let e : p ≡ 1 = h.0 in omega arith) ]
+
+  apart : p ≢ j
+  apart e = absurd (let l = low_p in omega arith)
+
+  at_p : slice_get c p ≡ Some from
+  at_p = elim side.1 [ inl h ↦ ap (slice_get c) h.0 ∙ h.1 | inr h ↦ ap (slice_get c) h.0 ∙ h.1 ]
+
   to_from : to ≢ from
   to_from e = alive (subst (λ l. Contains (literals_of s.marks.marks) (negated l)) (sym e) v.falsified)
 
+  old_is : (clause : List Literal) × (slice_get clauses k ≡ Some clause) × IsWatchOf clause c
+  old_is = v.watching k c there
+
   other_from : other ≢ from
-  other_from e = elim is.1 [ inl h ↦ is.0 (h.0 ∙ sym e ∙ sym h.1) | inr h ↦ is.0 (h.1 ∙ e ∙ sym h.0) ]
+  other_from e = elim side.1 [
+    | inl h ↦ absurd (let z : 0 ≡ 1 = old_is.2.once 0 1 from h.1 (h.2 ∙ ap Some e) in omega arith)
+    | inr h ↦ absurd (let z : 0 ≡ 1 = old_is.2.once 0 1 from (h.2 ∙ ap Some e) h.1 in omega arith)
+  ]
 
   codes : code_of from ≢ code_of to
   codes e = to_from (sym (code_same from to e))
 
-  sides : ((moved r.before from to).first ≡ to × (moved r.before from to).second ≡ other) ⊎ ((moved r.before from to).first ≡ other × (moved r.before from to).second ≡ to)
-  sides = elim is.1 [
-    | inl h ↦ let e = moved_first r.before from to h.0 in inl (ap (λ (p : Watch). p.first) e, ap (λ (p : Watch). p.second) e ∙ h.1)
-    | inr h ↦ let e = moved_second r.before from to (λ q. is.0 (q ∙ sym h.0)) in inr (ap (λ (p : Watch). p.first) e ∙ h.1, ap (λ (p : Watch). p.second) e)
+  other_watched : IsWatched c other
+  other_watched = (side.0, elim side.1 [ inl h ↦ inr h.2 | inr h ↦ inl h.2 ])
+
+  -- the literals that are watched now
+  watched_now : (x : Literal) → IsWatched after x → (x ≡ to) ⊎ (x ≡ other)
+  watched_now x h = elim side.1 [
+    | inl o ↦ elim h.1 [
+      | inl a ↦ inl (let b : slice_get after 0 ≡ Some to = subst (λ y. slice_get after y ≡ Some to) o.0 (now_p c p j from to at_p at_j apart) in cc)
+      | inr a ↦ inr (let b : slice_get after 1 ≡ Some other = now_other c p j from to at_p at_j apart 1 (λ e. absurd (let z : p ≡ 0 = o.0 in omega arith)) (λ e. absurd (omega arith)) ∙ o.2 in cc)
+    ]
+    | inr o ↦ elim h.1 [
+      | inl a ↦ inr (let b : slice_get after 0 ≡ Some other = now_other c p j from to at_p at_j apart 0 (λ e. absurd (let z : p ≡ 1 = o.0 in omega arith)) (λ e. absurd (omega arith)) ∙ o.2 in cc)
+      | inr a ↦ inl (let b : slice_get after 1 ≡ Some to = subst (λ y. slice_get after y ≡ Some to) o.0 (now_p c p j from to at_p at_j apart) in cc)
+    ]
   ]
 
-  apart : (moved r.before from to).first ≢ (moved r.before from to).second
-  apart e = elim sides [ inl h ↦ different (sym h.0 ∙ e ∙ h.1) | inr h ↦ different (sym h.1 ∙ sym e ∙ h.0) ]
+  more_after : 1 < length after
+  more_after = let e : length after ≡ length c = size_after c p j from to at_p at_j apart in let l : 1 < length c = side.0 in omega arith
 
-  low : k < length s.watches.pairs
-  low = slice_get_within s.watches.pairs k r.before r.there
+  not_alone : (x : Literal) → after ≡ x ∷ [] → ⊥
+  not_alone x e = let l : length after ≡ 1 = ap length e in let m : 1 < length after = more_after in omega arith
 
-  new_at : slice_get w.pairs k ≡ Some (moved r.before from to)
-  new_at = ap (λ ps. slice_get ps k) r.pairs ∙ slice_get-set_same s.watches.pairs k (moved r.before from to) low
+  low : k < length s.watches.watched
+  low = slice_get_within s.watches.watched k c there
 
-  same_at : (j : ℕ) (p : Watch) → slice_get w.pairs j ≡ Some p → ((j ≡ k) × (p ≡ moved r.before from to)) ⊎ ((j ≢ k) × (slice_get s.watches.pairs j ≡ Some p))
-  same_at j p h = elim (same_or_not j k) [
-    | inl e ↦ inl (e, let a : slice_get w.pairs k ≡ Some p = subst (λ x. slice_get w.pairs x ≡ Some p) e h in let b = new_at in cc)
-    | inr n ↦ inr (n, sym (slice_get-set_other s.watches.pairs k j (moved r.before from to) n) ∙ sym (ap (λ ps. slice_get ps j) r.pairs) ∙ h)
+  is_set : w.watched ≡ set s.watches.watched k after
+  is_set = r.watched c there
+
+  same_at : (q : ℕ) (d : List Literal) → slice_get w.watched q ≡ Some d → ((q ≡ k) × (d ≡ after)) ⊎ ((q ≢ k) × (slice_get s.watches.watched q ≡ Some d))
+  same_at q d h = elim (same_or_not q k) [
+    | inl e ↦ inl (
+      e,
+      let a : slice_get w.watched k ≡ Some d = subst (λ x. slice_get w.watched x ≡ Some d) e h in
+          let b : slice_get w.watched k ≡ Some after = ap (λ ps. slice_get ps k) is_set ∙ slice_get-set_same s.watches.watched k after low in cc,
+    )
+    | inr n ↦ inr (n, sym (slice_get-set_other s.watches.watched k q after n) ∙ sym (ap (λ ps. slice_get ps q) is_set) ∙ h)
   ]
 
   -- the lists
@@ -74,22 +210,22 @@ module _ (clauses : List (List Literal)) (s : Propagator) (w : WatchList) (from 
   middle : row_at r.between (code_of from) ≡ row_at s.watches.rows (code_of from)
   middle = r.adds.others (code_of from) codes
 
-  stays_pending : (j : ℕ) → j ≢ k → IsPending s.watches.rows from i j → IsPending w.rows from i j
-  stays_pending j n h =
-      let there : slice_get (row_at r.between (code_of from)) h.0 ≡ Some j = ap (λ xs. slice_get xs h.0) middle ∙ h.2 in
-      let ne : h.0 ≢ i = λ e. n (let a : slice_get (row_at s.watches.rows (code_of from)) i ≡ Some j = subst (λ x. slice_get (row_at s.watches.rows (code_of from)) x ≡ Some j) e h.2 in let b = at in cc) in
-      let d = r.drops.stays h.0 j there ne in
+  stays_pending : (q : ℕ) → q ≢ k → IsPending s.watches.rows from i q → IsPending w.rows from i q
+  stays_pending q n h =
+      let here : slice_get (row_at r.between (code_of from)) h.0 ≡ Some q = ap (λ xs. slice_get xs h.0) middle ∙ h.2 in
+      let ne : h.0 ≢ i = λ e. n (let a : slice_get (row_at s.watches.rows (code_of from)) i ≡ Some q = subst (λ x. slice_get (row_at s.watches.rows (code_of from)) x ≡ Some q) e h.2 in let b = at in cc) in
+      let d = r.drops.stays h.0 q here ne in
       (d.0, d.2 h.1, d.1)
 
-  kept_in_list : (l : Literal) (j : ℕ) → j ≢ k → Contains (row_at s.watches.rows (code_of l)) j → Contains (row_at w.rows (code_of l)) j
-  kept_in_list l j n h = elim (same_or_not (code_of l) (code_of from)) [
+  kept_in_list : (l : Literal) (q : ℕ) → q ≢ k → Contains (row_at s.watches.rows (code_of l)) q → Contains (row_at w.rows (code_of l)) q
+  kept_in_list l q n h = elim (same_or_not (code_of l) (code_of from)) [
     | inl e ↦
-        let g = slice_get-Contains (row_at s.watches.rows (code_of from)) j (subst (λ x. Contains (row_at s.watches.rows x) j) e h) in
-        let there : slice_get (row_at r.between (code_of from)) g.0 ≡ Some j = ap (λ xs. slice_get xs g.0) middle ∙ g.1 in
-        let ne : g.0 ≢ i = λ q. n (let a : slice_get (row_at s.watches.rows (code_of from)) i ≡ Some j = subst (λ x. slice_get (row_at s.watches.rows (code_of from)) x ≡ Some j) q g.1 in let b = at in cc) in
-        let d = r.drops.stays g.0 j there ne in
-        subst (λ x. Contains (row_at w.rows x) j) (sym e) (Contains-slice_get (row_at w.rows (code_of from)) d.0 j d.1)
-    | inr m ↦ subst (λ xs. Contains xs j) (sym (r.drops.others (code_of l) m)) (grown.stays (code_of l) j h)
+        let g = slice_get-Contains (row_at s.watches.rows (code_of from)) q (subst (λ x. Contains (row_at s.watches.rows x) q) e h) in
+        let here : slice_get (row_at r.between (code_of from)) g.0 ≡ Some q = ap (λ xs. slice_get xs g.0) middle ∙ g.1 in
+        let ne : g.0 ≢ i = λ f. n (let a : slice_get (row_at s.watches.rows (code_of from)) i ≡ Some q = subst (λ x. slice_get (row_at s.watches.rows (code_of from)) x ≡ Some q) f g.1 in let b = at in cc) in
+        let d = r.drops.stays g.0 q here ne in
+        subst (λ x. Contains (row_at w.rows x) q) (sym e) (Contains-slice_get (row_at w.rows (code_of from)) d.0 q d.1)
+    | inr m ↦ subst (λ xs. Contains xs q) (sym (r.drops.others (code_of l) m)) (grown.stays (code_of l) q h)
   ]
 
   to_listed : Contains (row_at w.rows (code_of to)) k
@@ -97,111 +233,62 @@ module _ (clauses : List (List Literal)) (s : Propagator) (w : WatchList) (from 
 
   other_listed : Contains (row_at w.rows (code_of other)) k
   other_listed =
-      let old : Contains (row_at s.watches.rows (code_of other)) k = elim is.1 [
-        | inl h ↦ subst (λ x. Contains (row_at s.watches.rows (code_of x)) k) h.1 (v.kept.listed.second k r.before r.there is.0)
-        | inr h ↦ subst (λ x. Contains (row_at s.watches.rows (code_of x)) k) h.1 (v.kept.listed.first k r.before r.there is.0)
-      ] in
-      subst (λ xs. Contains xs k) (sym (r.drops.others (code_of other) (λ e. other_from (code_same other from e)))) (grown.stays (code_of other) k old)
+      subst (λ xs. Contains xs k) (sym (r.drops.others (code_of other) (λ e. other_from (code_same other from e)))) (grown.stays (code_of other) k (v.kept.listed.listed k c other there other_watched))
 
   in_list : (l : Literal) → (l ≡ to) ⊎ (l ≡ other) → Contains (row_at w.rows (code_of l)) k
   in_list l (inl e) = subst (λ x. Contains (row_at w.rows (code_of x)) k) (sym e) to_listed
   in_list l (inr e) = subst (λ x. Contains (row_at w.rows (code_of x)) k) (sym e) other_listed
 
-  -- neither watched literal is false by a literal before the place
-  guard_to : (b : Literal) → Guard s.marks.marks s.place s.kept to b
-  guard_to b j m lt there e = absurd (alive (subst (Contains (literals_of s.marks.marks)) e (literal-of s.marks.marks m (Contains-slice_get s.marks.marks j m there))))
+  -- to isn't false, and other is so only where some literal of the clause is true
+  guard_any : (a : Literal) → (a ≡ to) ⊎ (a ≡ other) → Guard s.marks.marks s.place s.kept a after
+  guard_any a (inl e) q m lt here f =
+      absurd (alive (subst (λ x. Contains (literals_of s.marks.marks) (negated x)) e (subst (Contains (literals_of s.marks.marks)) f (literal-of s.marks.marks m (Contains-slice_get s.marks.marks q m here)))))
+  guard_any a (inr e) q m lt here f =
+      let g = v.kept.guarded k c other there other_watched q m lt here (f ∙ ap negated e) in
+      (g.0, g.1, all_after c p j from to at_p at_j apart g.0.lit g.2, g.3)
 
-  guard_other : (b : Literal) → Guard s.marks.marks s.place s.kept other b
-  guard_other b j m lt there e =
-      absurd (elim is.1 [
-        | inl h ↦ let n = v.kept.guarded.second k r.before r.there is.0 j m lt there (e ∙ ap negated (sym h.1)) in clash n.0 n.1 (n.2 ∙ h.0)
-        | inr h ↦ let n = v.kept.guarded.first k r.before r.there is.0 j m lt there (e ∙ ap negated (sym h.1)) in clash n.0 n.1 (n.2 ∙ h.0)
-      ])
-    where
-      clash : (n : Mark) → Contains s.marks.marks n → n.lit ≡ from → ⊥
-      clash n c q = one_sign s.marks.vars s.marks.marks from trail (subst (Contains (literals_of s.marks.marks)) q (literal-of s.marks.marks n c)) v.falsified
-
-  guard_any : (a b : Literal) → (a ≡ to) ⊎ (a ≡ other) → Guard s.marks.marks s.place s.kept a b
-  guard_any a b (inl e) = subst (λ x. Guard s.marks.marks s.place s.kept x b) (sym e) (guard_to b)
-  guard_any a b (inr e) = subst (λ x. Guard s.marks.marks s.place s.kept x b) (sym e) (guard_other b)
-
-  first_side : ((moved r.before from to).first ≡ to) ⊎ ((moved r.before from to).first ≡ other)
-  first_side = elim sides [ inl h ↦ inl h.0 | inr h ↦ inr h.0 ]
-
-  second_side : ((moved r.before from to).second ≡ to) ⊎ ((moved r.before from to).second ≡ other)
-  second_side = elim sides [ inl h ↦ inr h.1 | inr h ↦ inl h.1 ]
+  unit_before : (q : ℕ) (l : Literal) → slice_get w.watched q ≡ Some (l ∷ []) → slice_get s.watches.watched q ≡ Some (l ∷ [])
+  unit_before q l h = elim (same_at q (l ∷ []) h) [ inl a ↦ absurd (not_alone l (sym a.1)) | inr b ↦ b.1 ]
 
   listed : IsListed (room_of s.marks.vars) w
   listed = record {
     size = r.drops.size ∙ r.adds.size ∙ v.kept.listed.size;
-    first = λ j p h n. elim (same_at j p h) [
-      | inl q ↦ subst (λ x. Contains (row_at w.rows (code_of p.first)) x) (sym q.0) (subst (λ (x : Watch). Contains (row_at w.rows (code_of x.first)) k) (sym q.1) (in_list (moved r.before from to).first first_side))
-      | inr q ↦ kept_in_list p.first j q.0 (v.kept.listed.first j p q.1 n)
+    listed = λ q d l h is. elim (same_at q d h) [
+      | inl e ↦ subst (Contains (row_at w.rows (code_of l))) (sym e.0) (in_list l (watched_now l (subst (λ x. IsWatched x l) e.1 is)))
+      | inr e ↦ kept_in_list l q e.0 (v.kept.listed.listed q d l e.1 is)
     ];
-    second = λ j p h n. elim (same_at j p h) [
-      | inl q ↦ subst (λ x. Contains (row_at w.rows (code_of p.second)) x) (sym q.0) (subst (λ (x : Watch). Contains (row_at w.rows (code_of x.second)) k) (sym q.1) (in_list (moved r.before from to).second second_side))
-      | inr q ↦ kept_in_list p.second j q.0 (v.kept.listed.second j p q.1 n)
-    ];
-    alone = λ j p h e. elim (same_at j p h) [
-      | inl q ↦ absurd (apart (ap (λ (x : Watch). x.first) (sym q.1) ∙ e ∙ ap (λ (x : Watch). x.second) q.1))
-      | inr q ↦ subst (λ us. Contains us j) (sym r.units) (v.kept.listed.alone j p q.1 e)
-    ];
-    units = λ j u h.
-        let o = v.kept.listed.units j u (ap (λ us. slice_get us j) (sym r.units) ∙ h) in
-        (o.0, ap (λ ps. slice_get ps u) r.pairs ∙ slice_get-set_other s.watches.pairs k u (moved r.before from to) (λ e. unit_not u o.0 o.1 o.2 e) ∙ o.1, o.2);
+    alone = λ q l h. subst (λ us. Contains us q) (sym r.units) (v.kept.listed.alone q l (unit_before q l h));
+    units = λ q u h.
+        let o = v.kept.listed.units q u (ap (λ us. slice_get us q) (sym r.units) ∙ h) in
+        (o.0, ap (λ ps. slice_get ps u) is_set ∙ slice_get-set_other s.watches.watched k u after (λ e. unit_not u o.0 o.1 e) ∙ o.1);
   }
     where
-      unit_not : (u : ℕ) (p : Watch) → slice_get s.watches.pairs u ≡ Some p → p.first ≡ p.second → u ≡ k → ⊥
-      unit_not u p h e q =
-          let a : slice_get s.watches.pairs k ≡ Some p = subst (λ x. slice_get s.watches.pairs x ≡ Some p) q h in
-          let b = r.there in
-          let c : p ≡ r.before = cc in
-          is.0 (ap (λ (x : Watch). x.first) (sym c) ∙ e ∙ ap (λ (x : Watch). x.second) c)
+      unit_not : (u : ℕ) (x : Literal) → slice_get s.watches.watched u ≡ Some (x ∷ []) → u ≡ k → ⊥
+      unit_not u x h q =
+          let a : slice_get s.watches.watched k ≡ Some (x ∷ []) = subst (λ y. slice_get s.watches.watched y ≡ Some (x ∷ [])) q h in
+          let b = there in
+          let e : c ≡ x ∷ [] = cc in
+          let l : length c ≡ 1 = ap length e in
+          let m : 1 < length c = side.0 in
+          omega arith
 
   kept_after : IsKept (record s { watches = w })
   kept_after = record {
     listed = listed;
-    guarded = record {
-      first = λ j p h n. elim (same_at j p h) [
-        | inl q ↦ subst (λ (x : Watch). Guard s.marks.marks s.place s.kept x.first x.second) (sym q.1) (guard_any (moved r.before from to).first (moved r.before from to).second first_side)
-        | inr q ↦ v.kept.guarded.first j p q.1 n
-      ];
-      second = λ j p h n. elim (same_at j p h) [
-        | inl q ↦ subst (λ (x : Watch). Guard s.marks.marks s.place s.kept x.second x.first) (sym q.1) (guard_any (moved r.before from to).second (moved r.before from to).first second_side)
-        | inr q ↦ v.kept.guarded.second j p q.1 n
-      ];
-    };
-    done = λ j u p lt h there.
-        let h' : slice_get s.watches.units j ≡ Some u = ap (λ us. slice_get us j) (sym r.units) ∙ h in
-        let o = v.kept.listed.units j u h' in
-        elim (same_at u p there) [
-          | inl q ↦ absurd (let a : slice_get s.watches.pairs k ≡ Some o.0 = subst (λ x. slice_get s.watches.pairs x ≡ Some o.0) q.0 o.1 in let b = r.there in let c : o.0 ≡ r.before = cc in
-              is.0 (ap (λ (x : Watch). x.first) (sym c) ∙ o.2 ∙ ap (λ (x : Watch). x.second) c))
-          | inr q ↦ v.kept.done j u p lt h' q.1
-        ];
+    guarded = λ q d l h is. elim (same_at q d h) [
+      | inl e ↦ subst (Guard s.marks.marks s.place s.kept l) (sym e.1) (guard_any l (watched_now l (subst (λ x. IsWatched x l) e.1 is)))
+      | inr e ↦ v.kept.guarded q d l e.1 is
+    ];
+    done = λ q u l lt h here. v.kept.done q u l lt (ap (λ us. slice_get us q) (sym r.units) ∙ h) (unit_before u l here);
     place = v.kept.place;
     kept = v.kept.kept;
     forced = subst (λ us. s.done ≤ length us) (sym r.units) v.kept.forced;
   }
 
-  watching_after : IsWatching clauses w.pairs
-  watching_after j p h = elim (same_at j p h) [
-    | inl q ↦
-        let c = v.watching k r.before r.there in
-        let a = c.1 in
-        let b = named in
-        let e : clause ≡ c.0 = cc in
-        let in_to : Contains c.0 to = subst (λ x. Contains x to) e member in
-        let in_other : Contains c.0 other = elim is.1 [ inl h ↦ subst (Contains c.0) h.1 c.2.second | inr h ↦ subst (Contains c.0) h.1 c.2.first ] in (
-          c.0,
-          ap (slice_get clauses) q.0 ∙ c.1,
-          subst (IsWatchOf c.0) (sym q.1) (record {
-            first = elim first_side [ inl x ↦ subst (Contains c.0) (sym x) in_to | inr x ↦ subst (Contains c.0) (sym x) in_other ];
-            second = elim second_side [ inl x ↦ subst (Contains c.0) (sym x) in_to | inr x ↦ subst (Contains c.0) (sym x) in_other ];
-            different = λ x. absurd (apart x);
-          }),
-        )
-    | inr q ↦ v.watching j p q.1
+  watching_after : IsWatching clauses w.watched
+  watching_after q d h = elim (same_at q d h) [
+    | inl e ↦ (old_is.0, ap (slice_get clauses) e.0 ∙ old_is.1, subst (IsWatchOf old_is.0) (sym e.1) (watch_after c p j from to at_p at_j apart old_is.0 old_is.2))
+    | inr e ↦ v.watching q d e.1
   ]
 
   not_from : (l : Literal) → (l ≡ to) ⊎ (l ≡ other) → l ≢ from
@@ -213,13 +300,9 @@ module _ (clauses : List (List Literal)) (s : Propagator) (w : WatchList) (from 
     kept = kept_after;
     watching = watching_after;
     falsified = v.falsified;
-    first = λ j p h n e. elim (same_at j p h) [
-      | inl q ↦ absurd (not_from (moved r.before from to).first first_side (ap (λ (x : Watch). x.first) (sym q.1) ∙ e))
-      | inr q ↦ elim (v.first j p q.1 n e) [ inl t ↦ inl t | inr t ↦ inr (stays_pending j q.0 t) ]
-    ];
-    second = λ j p h n e. elim (same_at j p h) [
-      | inl q ↦ absurd (not_from (moved r.before from to).second second_side (ap (λ (x : Watch). x.second) (sym q.1) ∙ e))
-      | inr q ↦ elim (v.second j p q.1 n e) [ inl t ↦ inl t | inr t ↦ inr (stays_pending j q.0 t) ]
+    seen = λ q d h is. elim (same_at q d h) [
+      | inl e ↦ absurd (not_from from (watched_now from (subst (λ x. IsWatched x from) e.1 is)) refl)
+      | inr e ↦ elim (v.seen q d e.1 is) [ inl t ↦ inl t | inr t ↦ inr (stays_pending q e.0 t) ]
     ];
   }
 
@@ -229,182 +312,273 @@ module _ (clauses : List (List Literal)) (s : Propagator) (w : WatchList) (from 
     watching = watching_after;
     vars = refl;
     extends = λ first x. x;
-    size = let e : length w.pairs ≡ length s.watches.pairs = ap length r.pairs ∙ length-set s.watches.pairs k (moved r.before from to) in omega arith;
+    size = let e : length w.watched ≡ length s.watches.watched = ap length is_set ∙ length-set s.watches.watched k after in omega arith;
   }
 
   pub rewatched_stays : Stays s (record s { watches = w })
-  rewatched_stays = record {
-    size = ap length r.pairs ∙ length-set s.watches.pairs k (moved r.before from to);
-    units = λ j p h e. elim (same_at j p h) [
-      | inl q ↦ absurd (apart (ap (λ (x : Watch). x.first) (sym q.1) ∙ e ∙ ap (λ (x : Watch). x.second) q.1))
-      | inr q ↦ q.1
-    ];
-    place = refl;
-  }
+  rewatched_stays = record { size = ap length is_set ∙ length-set s.watches.watched k after; units = unit_before; place = refl }
 
   pub rewatched_row : length (row_at w.rows (code_of from)) + 1 ≡ length (row_at s.watches.rows (code_of from))
   rewatched_row = r.drops.shorter ∙ ap length middle
 
+-- the clause may watch to in place of from
+pub rewatchable : (clauses : List (List Literal)) (s : Propagator) (from to other : Literal) (i k p j : ℕ) (c : List Literal) → IsVisiting clauses s from i → slice_get (row_at s.watches.rows (code_of from)) i ≡ Some k
+    → slice_get s.watches.watched k ≡ Some c → IsSide c from p other → slice_get c j ≡ Some to → (Contains (literals_of s.marks.marks) (negated to) → ⊥) → All (IsWithin s.marks.vars) clauses
+    → (code_of from ≤ 2 * 2 ^ 30 + 1 → code_of from < length s.watches.rows) → CanRewatch s.watches i k p j from to
+rewatchable clauses s from to other i k p j c v at there side at_j alive within fits = record {
+  clause = c;
+  there = there;
+  at_p = elim side.1 [ inl h ↦ ap (slice_get c) h.0 ∙ h.1 | inr h ↦ ap (slice_get c) h.0 ∙ h.1 ];
+  at_j = at_j;
+  from_fits = fits;
+  to_fits = λ h. list_fits s to v.kept (let w = v.watching k c there in
+      All-contains (λ (x : Literal). x.var ≤ s.marks.vars) w.0 to (All-slice_get (IsWithin s.marks.vars) clauses k w.0 within w.1) (w.2.only to (Contains-slice_get c j to at_j))) h;
+  different = λ e. alive (subst (λ l. Contains (literals_of s.marks.marks) (negated l)) (sym (code_same to from e)) v.falsified);
+  in_row = slice_get_within (row_at s.watches.rows (code_of from)) i k at;
+}
+
 -- ---- a clause is watched anew
 
-pub IsKept-adds : (s : Propagator) (w : WatchList) (watch : Watch) → IsKept s → Adds s.watches w watch
-    → (watch.first ≢ watch.second → Guard s.marks.marks s.place s.kept watch.first watch.second × Guard s.marks.marks s.place s.kept watch.second watch.first)
+old_or_last : (old new : List (List Literal)) (watch : List Literal) (q : ℕ) (d : List Literal) → new ≡ old ++ watch ∷ [] → slice_get new q ≡ Some d
+    → (slice_get old q ≡ Some d) ⊎ ((q ≡ length old) × (watch ≡ d))
+old_or_last old new watch q d e h = slice_get-push old watch q d (ap (λ ps. slice_get ps q) (sym e) ∙ h)
+
+pub IsKept-adds : (s : Propagator) (w : WatchList) (watch : List Literal) → IsKept s → Adds s.watches w watch → ((l : Literal) → IsWatched watch l → Guard s.marks.marks s.place s.kept l watch)
     → IsKept (record s { watches = w })
 IsKept-adds s w watch k a g = record {
   listed = record {
     size = a.grow.size ∙ k.listed.size;
-    first = λ j p h n. elim (slice_get-push s.watches.pairs watch j p (old_at j p h)) [
-      | inl o ↦ a.grow.stays (code_of p.first) j (k.listed.first j p o n)
-      | inr q ↦ subst (λ x. Contains (row_at w.rows (code_of p.first)) x) (sym q.0) (subst (λ (x : Watch). x.first ≢ x.second → Contains (row_at w.rows (code_of x.first)) (length s.watches.pairs)) q.1 a.first n)
+    listed = λ q d l h is. elim (old_or_last s.watches.watched w.watched watch q d a.watched h) [
+      | inl o ↦ a.grow.stays (code_of l) q (k.listed.listed q d l o is)
+      | inr e ↦ subst (Contains (row_at w.rows (code_of l))) (sym e.0) (a.listed l (subst (λ x. IsWatched x l) (sym e.1) is))
     ];
-    second = λ j p h n. elim (slice_get-push s.watches.pairs watch j p (old_at j p h)) [
-      | inl o ↦ a.grow.stays (code_of p.second) j (k.listed.second j p o n)
-      | inr q ↦ subst (λ x. Contains (row_at w.rows (code_of p.second)) x) (sym q.0) (subst (λ (x : Watch). x.first ≢ x.second → Contains (row_at w.rows (code_of x.second)) (length s.watches.pairs)) q.1 a.second n)
-    ];
-    alone = λ j p h e. elim (slice_get-push s.watches.pairs watch j p (old_at j p h)) [
-      | inl o ↦ elim units [ inl u ↦ subst (λ us. Contains us j) (sym u) (k.listed.alone j p o e) | inr u ↦ subst (λ us. Contains us j) (sym u.1) (Contains-append_left s.watches.units (length s.watches.pairs ∷ []) j (k.listed.alone j p o e)) ]
-      | inr q ↦ let is : watch.first ≡ watch.second = subst (λ (x : Watch). x.first ≡ x.second) (sym q.1) e in
-          subst (λ us. Contains us j) (sym (a.alone is)) (subst (Contains (s.watches.units ++ length s.watches.pairs ∷ [])) (sym q.0) (Contains-push s.watches.units (length s.watches.pairs)))
-    ];
-    units = λ j u h. elim (unit_at j u h) [
-      | inl o ↦ let p = k.listed.units j u o in (p.0, ap (λ ps. slice_get ps u) a.pairs ∙ slice_get-append s.watches.pairs (watch ∷ []) u p.0 p.1, p.2)
-      | inr q ↦ (watch, ap (λ ps. slice_get ps u) a.pairs ∙ ap (slice_get (s.watches.pairs ++ watch ∷ [])) q.1 ∙ slice_get-last s.watches.pairs watch, q.2)
-    ];
+    alone = λ q l h. subst (λ us. Contains us q) (sym a.units) (k.listed.alone q l (unit_old q l h));
+    units = λ q u h.
+        let o = k.listed.units q u (ap (λ us. slice_get us q) (sym a.units) ∙ h) in
+        (o.0, ap (λ ps. slice_get ps u) a.watched ∙ slice_get-append s.watches.watched (watch ∷ []) u (o.0 ∷ []) o.1);
   };
-  guarded = record {
-    first = λ j p h n. elim (slice_get-push s.watches.pairs watch j p (old_at j p h)) [
-      | inl o ↦ k.guarded.first j p o n
-      | inr q ↦ (subst (λ (x : Watch). x.first ≢ x.second → Guard s.marks.marks s.place s.kept x.first x.second × Guard s.marks.marks s.place s.kept x.second x.first) q.1 g n).0
-    ];
-    second = λ j p h n. elim (slice_get-push s.watches.pairs watch j p (old_at j p h)) [
-      | inl o ↦ k.guarded.second j p o n
-      | inr q ↦ (subst (λ (x : Watch). x.first ≢ x.second → Guard s.marks.marks s.place s.kept x.first x.second × Guard s.marks.marks s.place s.kept x.second x.first) q.1 g n).1
-    ];
-  };
-  done = λ j u p lt h there.
-      elim (unit_at j u h) [
-        | inl o ↦
-            let q = k.listed.units j u o in
-            let b : slice_get w.pairs u ≡ Some q.0 = ap (λ ps. slice_get ps u) a.pairs ∙ slice_get-append s.watches.pairs (watch ∷ []) u q.0 q.1 in
-            let e : q.0 ≡ p = cc in
-            k.done j u p lt o (subst (λ x. slice_get s.watches.pairs u ≡ Some x) e q.1)
-        | inr q ↦ absurd (let f : s.done ≤ length s.watches.units = k.forced in let z : j ≡ length s.watches.units = q.0 in omega arith)
-      ];
-  place = k.place;
-  kept = k.kept;
-  forced = let f : s.done ≤ length s.watches.units = k.forced in elim units [
-    | inl u ↦ let e : length w.units ≡ length s.watches.units = ap length u in omega arith
-    | inr u ↦ let e : length w.units ≡ length s.watches.units + 1 = ap length u.1 ∙ length_push s.watches.units (length s.watches.pairs) in omega arith
+  guarded = λ q d l h is. elim (old_or_last s.watches.watched w.watched watch q d a.watched h) [
+    | inl o ↦ k.guarded q d l o is
+    | inr e ↦ subst (Guard s.marks.marks s.place s.kept l) e.1 (g l (subst (λ x. IsWatched x l) (sym e.1) is))
   ];
-}
-  where
-    old_at : (j : ℕ) (p : Watch) → slice_get w.pairs j ≡ Some p → slice_get (s.watches.pairs ++ watch ∷ []) j ≡ Some p
-    old_at j p h = ap (λ ps. slice_get ps j) (sym a.pairs) ∙ h
-
-    units : (w.units ≡ s.watches.units) ⊎ ((watch.first ≡ watch.second) × (w.units ≡ s.watches.units ++ (length s.watches.pairs) ∷ []))
-    units = elim (same_literal watch.first watch.second) [ inl e ↦ inr (e, a.alone e) | inr n ↦ inl (a.units n) ]
-
-    unit_at : (j u : ℕ) → slice_get w.units j ≡ Some u → (slice_get s.watches.units j ≡ Some u) ⊎ ((j ≡ length s.watches.units) × (u ≡ length s.watches.pairs) × (watch.first ≡ watch.second))
-    unit_at j u h = elim units [
-      | inl e ↦ inl (ap (λ us. slice_get us j) (sym e) ∙ h)
-      | inr e ↦ elim (slice_get-push s.watches.units (length s.watches.pairs) j u (ap (λ us. slice_get us j) (sym e.1) ∙ h)) [ inl o ↦ inl o | inr q ↦ inr (q.0, sym q.1, e.0) ]
-    ]
-
-pub IsKept-keeps : (s : Propagator) (w : WatchList) → IsKept s → KeepsWatches s.watches w → IsKept (record s { watches = w })
-IsKept-keeps s w k a = record {
-  listed = record {
-    size = a.grow.size ∙ k.listed.size;
-    first = λ j p h n. a.grow.stays (code_of p.first) j (k.listed.first j p (at j p h) n);
-    second = λ j p h n. a.grow.stays (code_of p.second) j (k.listed.second j p (at j p h) n);
-    alone = λ j p h e. subst (λ us. Contains us j) (sym a.units) (k.listed.alone j p (at j p h) e);
-    units = λ j u h. let p = k.listed.units j u (ap (λ us. slice_get us j) (sym a.units) ∙ h) in (p.0, ap (λ ps. slice_get ps u) a.pairs ∙ p.1, p.2);
-  };
-  guarded = record {
-    first = λ j p h n. k.guarded.first j p (at j p h) n;
-    second = λ j p h n. k.guarded.second j p (at j p h) n;
-  };
-  done = λ j u p lt h there. k.done j u p lt (ap (λ us. slice_get us j) (sym a.units) ∙ h) (at u p there);
+  done = λ q u l lt h there. k.done q u l lt (ap (λ us. slice_get us q) (sym a.units) ∙ h) (unit_old u l there);
   place = k.place;
   kept = k.kept;
   forced = subst (λ us. s.done ≤ length us) (sym a.units) k.forced;
 }
   where
-    at : (j : ℕ) (p : Watch) → slice_get w.pairs j ≡ Some p → slice_get s.watches.pairs j ≡ Some p
-    at j p h = ap (λ ps. slice_get ps j) (sym a.pairs) ∙ h
-
-pub IsWatching-adds : (clauses : List (List Literal)) (old new : WatchList) (watch : Watch) (clause : List Literal) → IsWatching clauses old.pairs → Adds old new watch
-    → slice_get clauses (length old.pairs) ≡ Some clause → IsWatchOf clause watch → IsWatching clauses new.pairs
-IsWatching-adds clauses old new watch clause w a named is j p h =
-    elim (slice_get-push old.pairs watch j p (ap (λ ps. slice_get ps j) (sym a.pairs) ∙ h)) [
-      | inl o ↦ w j p o
-      | inr q ↦ (clause, ap (slice_get clauses) q.0 ∙ named, subst (IsWatchOf clause) q.1 is)
+    unit_old : (q : ℕ) (l : Literal) → slice_get w.watched q ≡ Some (l ∷ []) → slice_get s.watches.watched q ≡ Some (l ∷ [])
+    unit_old q l h = elim (old_or_last s.watches.watched w.watched watch q (l ∷ []) a.watched h) [
+      | inl o ↦ o
+      | inr e ↦ absurd (let n : length watch ≡ 1 = ap length e.1 in let m : 1 < length watch = a.more in omega arith)
     ]
 
-pub Goes-adds : (clauses : List (List Literal)) (s : Propagator) (w : WatchList) (watch : Watch) (clause : List Literal) → IsKept s → IsWatching clauses s.watches.pairs → Adds s.watches w watch
-    → slice_get clauses (length s.watches.pairs) ≡ Some clause → IsWatchOf clause watch
-    → (watch.first ≢ watch.second → Guard s.marks.marks s.place s.kept watch.first watch.second × Guard s.marks.marks s.place s.kept watch.second watch.first)
+pub IsKept-alone : (s : Propagator) (w : WatchList) (l : Literal) → IsKept s → AddsAlone s.watches w l → IsKept (record s { watches = w })
+IsKept-alone s w l k a = record {
+  listed = record {
+    size = ap length a.rows ∙ k.listed.size;
+    listed = λ q d x h is. elim (old_or_last s.watches.watched w.watched (l ∷ []) q d a.watched h) [
+      | inl o ↦ subst (λ rows. Contains (row_at rows (code_of x)) q) (sym a.rows) (k.listed.listed q d x o is)
+      | inr e ↦ absurd (not_one x (subst (λ y. IsWatched y x) (sym e.1) is))
+    ];
+    alone = λ q x h. subst (λ us. Contains us q) (sym a.units) (elim (old_or_last s.watches.watched w.watched (l ∷ []) q (x ∷ []) a.watched h) [
+      | inl o ↦ Contains-append_left s.watches.units (length s.watches.watched ∷ []) q (k.listed.alone q x o)
+      | inr e ↦ subst (Contains (s.watches.units ++ length s.watches.watched ∷ [])) (sym e.0) (Contains-push s.watches.units (length s.watches.watched))
+    ]);
+    units = λ q u h. elim (unit_at q u h) [
+      | inl o ↦ let p = k.listed.units q u o in (p.0, ap (λ ps. slice_get ps u) a.watched ∙ slice_get-append s.watches.watched ((l ∷ []) ∷ []) u (p.0 ∷ []) p.1)
+      | inr e ↦ (l, ap (λ ps. slice_get ps u) a.watched ∙ ap (slice_get (s.watches.watched ++ (l ∷ []) ∷ [])) (sym e.1) ∙ slice_get-last s.watches.watched (l ∷ []))
+    ];
+  };
+  guarded = λ q d x h is. elim (old_or_last s.watches.watched w.watched (l ∷ []) q d a.watched h) [
+    | inl o ↦ k.guarded q d x o is
+    | inr e ↦ absurd (not_one x (subst (λ y. IsWatched y x) (sym e.1) is))
+  ];
+  done = λ q u x lt h there. elim (unit_at q u h) [
+    | inl o ↦
+        let p = k.listed.units q u o in
+        let b : slice_get w.watched u ≡ Some (p.0 ∷ []) = ap (λ ps. slice_get ps u) a.watched ∙ slice_get-append s.watches.watched ((l ∷ []) ∷ []) u (p.0 ∷ []) p.1 in
+        let e : p.0 ≡ x = cc in
+        k.done q u x lt o (subst (λ y. slice_get s.watches.watched u ≡ Some (y ∷ [])) e p.1)
+    | inr e ↦ absurd (let f : s.done ≤ length s.watches.units = k.forced in let z : q ≡ length s.watches.units = e.0 in omega arith)
+  ];
+  place = k.place;
+  kept = k.kept;
+  forced = let f : s.done ≤ length s.watches.units = k.forced in let e : length w.units ≡ length s.watches.units + 1 = ap length a.units ∙ length_push s.watches.units (length s.watches.watched) in omega arith;
+}
+  where
+    not_one : (x : Literal) → IsWatched (l ∷ []) x → ⊥
+    not_one x is = let h : 1 < 1 = is.0 in omega arith
+
+    unit_at : (q u : ℕ) → slice_get w.units q ≡ Some u → (slice_get s.watches.units q ≡ Some u) ⊎ ((q ≡ length s.watches.units) × (length s.watches.watched ≡ u))
+    unit_at q u h = slice_get-push s.watches.units (length s.watches.watched) q u (ap (λ us. slice_get us q) (sym a.units) ∙ h)
+
+pub IsKept-keeps : (s : Propagator) (w : WatchList) → IsKept s → KeepsWatches s.watches w → IsKept (record s { watches = w })
+IsKept-keeps s w k a = record {
+  listed = record {
+    size = a.grow.size ∙ k.listed.size;
+    listed = λ q d l h is. a.grow.stays (code_of l) q (k.listed.listed q d l (at q d h) is);
+    alone = λ q l h. subst (λ us. Contains us q) (sym a.units) (k.listed.alone q l (at q (l ∷ []) h));
+    units = λ q u h. let p = k.listed.units q u (ap (λ us. slice_get us q) (sym a.units) ∙ h) in (p.0, ap (λ ps. slice_get ps u) a.watched ∙ p.1);
+  };
+  guarded = λ q d l h is. k.guarded q d l (at q d h) is;
+  done = λ q u l lt h there. k.done q u l lt (ap (λ us. slice_get us q) (sym a.units) ∙ h) (at u (l ∷ []) there);
+  place = k.place;
+  kept = k.kept;
+  forced = subst (λ us. s.done ≤ length us) (sym a.units) k.forced;
+}
+  where
+    at : (q : ℕ) (d : List Literal) → slice_get w.watched q ≡ Some d → slice_get s.watches.watched q ≡ Some d
+    at q d h = ap (λ ps. slice_get ps q) (sym a.watched) ∙ h
+
+IsWatching-more : (clauses old new : List (List Literal)) (watch clause : List Literal) → IsWatching clauses old → new ≡ old ++ watch ∷ [] → slice_get clauses (length old) ≡ Some clause → IsWatchOf clause watch
+    → IsWatching clauses new
+IsWatching-more clauses old new watch clause w e named is q d h = elim (old_or_last old new watch q d e h) [
+  | inl o ↦ w q d o
+  | inr f ↦ (clause, ap (slice_get clauses) f.0 ∙ named, subst (IsWatchOf clause) f.1 is)
+]
+
+pub Goes-adds : (clauses : List (List Literal)) (s : Propagator) (w : WatchList) (watch clause : List Literal) → IsKept s → IsWatching clauses s.watches.watched → Adds s.watches w watch
+    → slice_get clauses (length s.watches.watched) ≡ Some clause → IsWatchOf clause watch → ((l : Literal) → IsWatched watch l → Guard s.marks.marks s.place s.kept l watch)
     → Goes clauses s (record s { watches = w })
 Goes-adds clauses s w watch clause k o a named is g = record {
   kept = IsKept-adds s w watch k a g;
-  watching = IsWatching-adds clauses s.watches w watch clause o a named is;
+  watching = IsWatching-more clauses s.watches.watched w.watched watch clause o a.watched named is;
   vars = refl;
   extends = λ first x. x;
-  size = let e : length w.pairs ≡ length s.watches.pairs + 1 = ap length a.pairs ∙ length_push s.watches.pairs watch in omega arith;
+  size = let e : length w.watched ≡ length s.watches.watched + 1 = ap length a.watched ∙ length_push s.watches.watched watch in omega arith;
 }
 
-pub Goes-keeps : (clauses : List (List Literal)) (s : Propagator) (w : WatchList) → IsKept s → IsWatching clauses s.watches.pairs → KeepsWatches s.watches w → Goes clauses s (record s { watches = w })
+pub Goes-alone : (clauses : List (List Literal)) (s : Propagator) (w : WatchList) (l : Literal) (clause : List Literal) → IsKept s → IsWatching clauses s.watches.watched → AddsAlone s.watches w l
+    → slice_get clauses (length s.watches.watched) ≡ Some clause → IsWatchOf clause (l ∷ []) → Goes clauses s (record s { watches = w })
+Goes-alone clauses s w l clause k o a named is = record {
+  kept = IsKept-alone s w l k a;
+  watching = IsWatching-more clauses s.watches.watched w.watched (l ∷ []) clause o a.watched named is;
+  vars = refl;
+  extends = λ first x. x;
+  size = let e : length w.watched ≡ length s.watches.watched + 1 = ap length a.watched ∙ length_push s.watches.watched (l ∷ []) in omega arith;
+}
+
+pub Goes-keeps : (clauses : List (List Literal)) (s : Propagator) (w : WatchList) → IsKept s → IsWatching clauses s.watches.watched → KeepsWatches s.watches w → Goes clauses s (record s { watches = w })
 Goes-keeps clauses s w k o a = record {
   kept = IsKept-keeps s w k a;
-  watching = λ j p h. o j p (ap (λ ps. slice_get ps j) (sym a.pairs) ∙ h);
+  watching = λ q d h. o q d (ap (λ ps. slice_get ps q) (sym a.watched) ∙ h);
   vars = refl;
   extends = λ first x. x;
-  size = let e : length w.pairs ≡ length s.watches.pairs = ap length a.pairs in omega arith;
+  size = let e : length w.watched ≡ length s.watches.watched = ap length a.watched in omega arith;
 }
 
-pub other_at : (s : Propagator) (w : WatchList) (from to other : Literal) (i k : ℕ) (p : Watch) (r : Rewatches s.watches w from i k to) → slice_get s.watches.pairs k ≡ Some p → IsOther p from other → IsOther r.before from other
-other_at s w from to other i k p r at is = let b = r.there in let e : p ≡ r.before = cc in subst (λ (x : Watch). IsOther x from other) e is
+-- a clause's own literals, two of them first
+module _ (c : List Literal) (first second : Literal) where
+  pub ordered_sides : (l : Literal) → IsWatched (ordered c first second) l → (l ≡ first) ⊎ (l ≡ second)
+  ordered_sides l h = elim h.1 [ inl a ↦ inl (cc) | inr b ↦ inr (cc) ]
+
+  pub ordered_more : 1 < length (ordered c first second)
+  ordered_more = omega arith
+
+  abbrev rest : List Literal
+  rest = filter (differs first second) c
+
+  differs_then : (x : Literal) → differs first second x ≡ true → (x ≢ first) × (x ≢ second)
+  differs_then x h = by (literal_eq x first) refl h
+    where
+      by_second : (t : Bool) → literal_eq x second ≡ t → not t ≡ true → x ≢ second
+      by_second true e q s = true≢false (sym q)
+      by_second false e q s = true≢false (sym ((Decides-literal_eq x second).1 s) ∙ e)
+
+      by : (t : Bool) → literal_eq x first ≡ t → cond t false (not (literal_eq x second)) ≡ true → (x ≢ first) × (x ≢ second)
+      by true e q = absurd (true≢false (sym q))
+      by false e q = ((λ s. true≢false (sym ((Decides-literal_eq x first).1 s) ∙ e)), by_second (literal_eq x second) refl q)
+
+  then_differs : (x : Literal) → x ≢ first → x ≢ second → differs first second x ≡ true
+  then_differs x n m = by (literal_eq x first) refl
+    where
+      by_second : (t : Bool) → literal_eq x second ≡ t → not t ≡ true
+      by_second true e = absurd (m ((Decides-literal_eq x second).0 e))
+      by_second false e = refl
+
+      by : (t : Bool) → literal_eq x first ≡ t → cond t false (not (literal_eq x second)) ≡ true
+      by true e = absurd (n ((Decides-literal_eq x first).0 e))
+      by false e = by_second (literal_eq x second) refl
+
+  rest_in : (x : Literal) → Contains rest x → Contains c x × (x ≢ first) × (x ≢ second)
+  rest_in x h = let a = Contains-filter (differs first second) c x h in let d = differs_then x a.1 in (a.0, d.0, d.1)
+
+  module _ (sorted : IsClause c) (first_in : Contains c first) (second_in : Contains c second) (n : first ≢ second) where
+    pub ordered_all : (x : Literal) → Contains c x → Contains (ordered c first second) x
+    ordered_all x h = elim (same_literal x first) [
+      | inl e ↦ subst (Contains (ordered c first second)) (sym e) (Contains-head first (second ∷ rest))
+      | inr nf ↦ Contains-later first (second ∷ rest) x (elim (same_literal x second) [
+        | inl e ↦ subst (Contains (second ∷ rest)) (sym e) (Contains-head second rest)
+        | inr ns ↦ Contains-later second rest x (filter-Contains (differs first second) c x h (then_differs x nf ns))
+      ])
+    ]
+
+    ordered_only : (x : Literal) → Contains (ordered c first second) x → Contains c x
+    ordered_only x h = elim (Contains-cases first (second ∷ rest) x h) [
+      | inl e ↦ subst (Contains c) e first_in
+      | inr r ↦ elim (Contains-cases second rest x r) [ inl e ↦ subst (Contains c) e second_in | inr q ↦ (rest_in x q).0 ]
+    ]
+
+    ordered_once : (i j : ℕ) (x : Literal) → slice_get (ordered c first second) i ≡ Some x → slice_get (ordered c first second) j ≡ Some x → i ≡ j
+    ordered_once zero zero x a b = refl
+    ordered_once zero (suc zero) x a b = absurd (n (cc))
+    ordered_once zero (suc (suc j)) x a b = absurd ((rest_in x (Contains-slice_get rest j x b)).1 (cc))
+    ordered_once (suc zero) zero x a b = absurd (n (cc))
+    ordered_once (suc zero) (suc zero) x a b = refl
+    ordered_once (suc zero) (suc (suc j)) x a b = absurd ((rest_in x (Contains-slice_get rest j x b)).2 (cc))
+    ordered_once (suc (suc i)) zero x a b = absurd ((rest_in x (Contains-slice_get rest i x a)).1 (cc))
+    ordered_once (suc (suc i)) (suc zero) x a b = absurd ((rest_in x (Contains-slice_get rest i x a)).2 (cc))
+    ordered_once (suc (suc i)) (suc (suc j)) x a b = ap (λ k. suc (suc k)) (once_in rest apart i j x a b)
+      where
+        apart : AllPairs (λ (p q : Literal). p ≢ q) rest
+        apart = AllPairs-filter (λ (p q : Literal). p ≢ q) (differs first second) c (clause_apart c sorted)
+
+    pub IsWatchOf-ordered : IsWatchOf c (ordered c first second)
+    IsWatchOf-ordered = record { some = omega arith; all = ordered_all; only = ordered_only; once = ordered_once }
 
 -- a literal that isn't false needs no partner
-pub guard_alive : (marks : List Mark) (place kept : ℕ) (a b : Literal) → (Contains (literals_of marks) (negated a) → ⊥) → Guard marks place kept a b
-guard_alive marks place kept a b alive i m lt at e = absurd (alive (subst (Contains (literals_of marks)) e (literal-of marks m (Contains-slice_get marks i m at))))
+pub guard_alive : (marks : List Mark) (place kept : ℕ) (a : Literal) (c : List Literal) → (Contains (literals_of marks) (negated a) → ⊥) → Guard marks place kept a c
+guard_alive marks place kept a c alive i m lt at e = absurd (alive (subst (Contains (literals_of marks)) e (literal-of marks m (Contains-slice_get marks i m at))))
+
+-- a clause is watched whose first two literals aren't false
+pub Goes-watched : (clauses : List (List Literal)) (s : Propagator) (w : WatchList) (clause : List Literal) (first second : Literal) → IsKept s → IsWatching clauses s.watches.watched
+    → Adds s.watches w (ordered clause first second) → slice_get clauses (length s.watches.watched) ≡ Some clause → IsClause clause → Contains clause first → Contains clause second → first ≢ second
+    → (Contains (literals_of s.marks.marks) (negated first) → ⊥) → (Contains (literals_of s.marks.marks) (negated second) → ⊥) → Goes clauses s (record s { watches = w })
+Goes-watched clauses s w clause first second k o a named sorted in_first in_second n open_first open_second =
+    Goes-adds clauses s w (ordered clause first second) clause k o a named (IsWatchOf-ordered clause first second sorted in_first in_second n) (λ l h. elim (ordered_sides clause first second l h) [
+      | inl e ↦ subst (λ x. Guard s.marks.marks s.place s.kept x (ordered clause first second)) (sym e) (guard_alive s.marks.marks s.place s.kept first (ordered clause first second) open_first)
+      | inr e ↦ subst (λ x. Guard s.marks.marks s.place s.kept x (ordered clause first second)) (sym e) (guard_alive s.marks.marks s.place s.kept second (ordered clause first second) open_second)
+    ])
 
 pub IsKept-lower : (s : Propagator) (kept : ℕ) → kept ≤ s.kept → IsKept s → IsKept (record s { kept = kept })
 IsKept-lower s kept le k = record {
   listed = k.listed;
-  guarded = record {
-    first = λ j p at n i m lt there e. let g = k.guarded.first j p at n i m lt there e in (g.0, g.1, g.2, λ l. g.3 (omega arith));
-    second = λ j p at n i m lt there e. let g = k.guarded.second j p at n i m lt there e in (g.0, g.1, g.2, λ l. g.3 (omega arith));
-  };
+  guarded = λ j c l at is i m lt there e. let g = k.guarded j c l at is i m lt there e in (g.0, g.1, g.2, λ low. g.3 (omega arith));
   done = k.done;
   place = k.place;
   kept = let h : s.kept ≤ s.place = k.kept in omega arith;
   forced = k.forced;
 }
 
-pub Goes-lower : (clauses : List (List Literal)) (s : Propagator) (kept : ℕ) → kept ≤ s.kept → IsKept s → IsWatching clauses s.watches.pairs → Goes clauses s (record s { kept = kept })
+pub Goes-lower : (clauses : List (List Literal)) (s : Propagator) (kept : ℕ) → kept ≤ s.kept → IsKept s → IsWatching clauses s.watches.watched → Goes clauses s (record s { kept = kept })
 Goes-lower clauses s kept le k w = record { kept = IsKept-lower s kept le k; watching = w; vars = refl; extends = λ first x. x; size = omega arith }
 
-three : (i j : ℕ) → (i < j) ⊎ ((i ≡ j) ⊎ (j < i))
-three zero zero = inr (inl refl)
-three zero (suc j) = inl (omega arith)
-three (suc i) zero = inr (inr (omega arith))
-three (suc i) (suc j) = elim (three i j) [ inl a ↦ inl (omega arith) | inr b ↦ elim b [ inl c ↦ inr (inl (ap suc c)) | inr d ↦ inr (inr (omega arith)) ] ]
-
 -- a clause of which all literals but one are false is watched, that one being true now
-module _ (s : Propagator) (after : MarkList) (kept place : ℕ) (m : Mark) (first : Literal) (more : List Mark)
+module _ (s : Propagator) (after : MarkList) (kept place : ℕ) (m : Mark) (first : Literal) (c : List Literal) (more : List Mark)
     (k : IsKept s) (grown : after.marks ≡ s.marks.marks ++ more) (trail : IsTrail after.vars after.marks) (alive : Contains (literals_of s.marks.marks) (negated first) → ⊥)
-    (holds : Contains (literals_of after.marks) first) (at : slice_get after.marks place ≡ Some m)
+    (holds : Contains (literals_of after.marks) first) (first_in : Contains c first) (at : slice_get after.marks place ≡ Some m)
     (low : place < kept → (m : Mark) → slice_get after.marks place ≡ Some m → highest_level after.marks ≤ m.level) where
-  guard_first : (b : Literal) → Guard after.marks s.place kept first b
-  guard_first b i x lt there e =
+  guard_first : Guard after.marks s.place kept first c
+  guard_first i x lt there e =
       absurd (alive (subst (Contains (literals_of s.marks.marks)) e (literal-of s.marks.marks x (Contains-slice_get s.marks.marks i x
       (let p : s.place ≤ length s.marks.marks = k.place in
       sym (slice_get-front s.marks.marks more i (omega arith)) ∙ ap (λ ms. slice_get ms i) (sym grown) ∙ there)))))
 
-  guard_second : (second : Literal) → second ≡ negated m.lit → Guard after.marks s.place kept second first
+  guard_second : (second : Literal) → second ≡ negated m.lit → Guard after.marks s.place kept second c
   guard_second second is i x lt there e =
       let n = mark-of after.marks first holds in
-      (n.0, n.1, n.2, λ l. by i x there e l n.0 n.1 (three i place))
+      (n.0, n.1, subst (Contains c) (sym n.2) first_in, λ l. by i x there e l n.0 n.1 (three i place))
     where
       by : (i : ℕ) (x : Mark) → slice_get after.marks i ≡ Some x → x.lit ≡ negated second → i < kept → (n : Mark) → Contains after.marks n → (i < place) ⊎ ((i ≡ place) ⊎ (place < i)) → n.level ≤ x.level
       by i x there e l n c o =
@@ -426,18 +600,25 @@ pub forced_goes : (clauses : List (List Literal)) (s s' : Propagator) (kept plac
     → s' ≡ record s { marks = s'.marks } → Goes clauses s s' → s'.marks.marks ≡ s.marks.marks ++ more → IsTrail s'.marks.vars s'.marks.marks → (Contains (literals_of s.marks.marks) (negated first) → ⊥)
     → Contains (literals_of s'.marks.marks) first → slice_get s'.marks.marks place ≡ Some m → kept ≤ s'.kept
     → (place < kept → (m : Mark) → slice_get s'.marks.marks place ≡ Some m → highest_level s'.marks.marks ≤ m.level)
-    → IsKept s → second ≡ negated m.lit → first ≢ second → Adds s'.watches w (record { first = first; second = second }) → slice_get clauses (length s'.watches.pairs) ≡ Some clause
-    → Contains clause first → Contains clause second → Goes clauses s (record s' { kept = kept; watches = w })
-forced_goes clauses s s' kept place m first second more w clause same g grew trail alive holds at le highest k is n adds named in_first in_second =
-    let place' : s'.place ≡ s.place = ap (λ (x : Propagator). x.place) same in
+    → IsKept s → second ≡ negated m.lit → first ≢ second → Adds s'.watches w (ordered clause first second) → slice_get clauses (length s'.watches.watched) ≡ Some clause
+    → IsClause clause → Contains clause first → Contains clause second → Goes clauses s (record s' { kept = kept; watches = w })
+forced_goes clauses s s' kept place m first second more w clause same g grew trail alive holds at le highest k is n adds named sorted in_first in_second =
     Goes-trans clauses s s' (record s' { kept = kept; watches = w }) g
     (Goes-trans clauses s' (record s' { kept = kept }) (record s' { kept = kept; watches = w }) (Goes-lower clauses s' kept le g.kept g.watching)
-    (Goes-adds clauses (record s' { kept = kept }) w (record { first = first; second = second }) clause (IsKept-lower s' kept le g.kept) g.watching adds named
-    (record { first = in_first; second = in_second; different = λ e. absurd (n e) })
-    (λ _. (
-      subst (λ x. Guard s'.marks.marks x kept first second) (sym place') (guard_first s s'.marks kept place m first more k grew trail alive holds at highest second),
-      subst (λ x. Guard s'.marks.marks x kept second first) (sym place') (guard_second s s'.marks kept place m first more k grew trail alive holds at highest second is),
-    ))))
+    (Goes-adds clauses (record s' { kept = kept }) w (ordered clause first second) clause (IsKept-lower s' kept le g.kept) g.watching adds named
+    (IsWatchOf-ordered clause first second sorted in_first in_second n) guards))
+  where
+    place' : s'.place ≡ s.place
+    place' = ap (λ (x : Propagator). x.place) same
+
+    first_there : Contains (ordered clause first second) first
+    first_there = ordered_all clause first second sorted in_first in_second n first in_first
+
+    guards : (l : Literal) → IsWatched (ordered clause first second) l → Guard s'.marks.marks s'.place kept l (ordered clause first second)
+    guards l h = elim (ordered_sides clause first second l h) [
+      | inl e ↦ subst (λ y. Guard s'.marks.marks s'.place kept y (ordered clause first second)) (sym e) (subst (λ x. Guard s'.marks.marks x kept first (ordered clause first second)) (sym place') (guard_first s s'.marks kept place m first (ordered clause first second) more k grew trail alive holds first_there at highest))
+      | inr e ↦ subst (λ y. Guard s'.marks.marks s'.place kept y (ordered clause first second)) (sym e) (subst (λ x. Guard s'.marks.marks x kept second (ordered clause first second)) (sym place') (guard_second s s'.marks kept place m first (ordered clause first second) more k grew trail alive holds first_there at highest second is))
+    ]
 
 pub forced_keeps : (clauses : List (List Literal)) (s s' : Propagator) (kept : ℕ) (w : WatchList) → Goes clauses s s' → kept ≤ s'.kept → KeepsWatches s'.watches w → Goes clauses s (record s' { kept = kept; watches = w })
 forced_keeps clauses s s' kept w g le keeps =
@@ -450,28 +631,35 @@ pub clause_within : (vars : ℕ) (clauses : List (List Literal)) (k : ℕ) (clau
 clause_within vars clauses k clause l h named there = All-contains (λ (x : Literal). x.var ≤ vars) clause l (All-slice_get (IsWithin vars) clauses k clause h named) there
 
 -- whether or not there was memory
-pub Goes-added : {T E : Type 0} (clauses : List (List Literal)) (s : Propagator) (w : WatchList) (watch : Watch) (clause : List Literal) (r : Result T E) → OnOk r (Adds s.watches w watch) → OnErr r (KeepsWatches s.watches w)
-    → IsKept s → IsWatching clauses s.watches.pairs → slice_get clauses (length s.watches.pairs) ≡ Some clause → IsWatchOf clause watch
-    → (watch.first ≢ watch.second → Guard s.marks.marks s.place s.kept watch.first watch.second × Guard s.marks.marks s.place s.kept watch.second watch.first)
-    → Goes clauses s (record s { watches = w })
-Goes-added clauses s w watch clause (Ok x) ok err k o named is g = Goes-adds clauses s w watch clause k o ok named is g
-Goes-added clauses s w watch clause (Err e) ok err k o named is g = Goes-keeps clauses s w k o err
+pub Goes-added : {T E : Type 0} (clauses : List (List Literal)) (s : Propagator) (w : WatchList) (l : Literal) (clause : List Literal) (r : Result T E) → OnOk r (AddsAlone s.watches w l) → OnErr r (KeepsWatches s.watches w)
+    → IsKept s → IsWatching clauses s.watches.watched → slice_get clauses (length s.watches.watched) ≡ Some clause → IsWatchOf clause (l ∷ []) → Goes clauses s (record s { watches = w })
+Goes-added clauses s w l clause (Ok x) ok err k o named is = Goes-alone clauses s w l clause k o ok named is
+Goes-added clauses s w l clause (Err e) ok err k o named is = Goes-keeps clauses s w k o err
+
+-- a clause of one literal
+pub one_watch : (c : List Literal) (l : Literal) → c ≡ l ∷ [] → IsWatchOf c (l ∷ [])
+one_watch c l e = record {
+  some = omega arith;
+  all = λ x h. subst (λ d. Contains d x) e h;
+  only = λ x h. subst (λ d. Contains d x) (sym e) h;
+  once = once_in (l ∷ []) (λ i j d lt h. absurd (let z : j < 1 = h in omega arith));
+}
 
 -- the same after the literal was made true, and the place kept lowered
 pub forced_added : {T E : Type 0} (clauses : List (List Literal)) (s s' s'' : Propagator) (place : ℕ) (m : Mark) (first second : Literal) (more : List Mark) (w : WatchList) (clause : List Literal) (r : Result T E)
     → s' ≡ record s { marks = s'.marks } → s'' ≡ record s' { kept = s''.kept } → Goes clauses s s' → s'.marks.marks ≡ s.marks.marks ++ more → IsTrail s'.marks.vars s'.marks.marks
     → (Contains (literals_of s.marks.marks) (negated first) → ⊥) → Contains (literals_of s'.marks.marks) first → slice_get s''.marks.marks place ≡ Some m → s''.kept ≤ s'.kept
     → (place < s''.kept → (m : Mark) → slice_get s'.marks.marks place ≡ Some m → highest_level s'.marks.marks ≤ m.level)
-    → IsKept s → second ≡ negated m.lit → first ≢ second → OnOk r (Adds s''.watches w (record { first = first; second = second })) → OnErr r (KeepsWatches s''.watches w)
-    → slice_get clauses (length s.watches.pairs) ≡ Some clause → Contains clause first → Contains clause second → Goes clauses s (record s'' { watches = w })
-forced_added {T} {E} clauses s s' s'' place m first second more w clause r same lowered g grew trail alive holds at le highest k is n ok err named in_first in_second =
+    → IsKept s → second ≡ negated m.lit → first ≢ second → OnOk r (Adds s''.watches w (ordered clause first second)) → OnErr r (KeepsWatches s''.watches w)
+    → slice_get clauses (length s.watches.watched) ≡ Some clause → IsClause clause → Contains clause first → Contains clause second → Goes clauses s (record s'' { watches = w })
+forced_added {T} {E} clauses s s' s'' place m first second more w clause r same lowered g grew trail alive holds at le highest k is n ok err named sorted in_first in_second =
     subst (λ (x : Propagator). Goes clauses s (record x { watches = w })) (sym lowered) (by r ok' err')
   where
     watches : s''.watches ≡ s'.watches
     watches = ap (λ (x : Propagator). x.watches) lowered
 
-    ok' : OnOk r (Adds s'.watches w (record { first = first; second = second }))
-    ok' = subst (λ (x : WatchList). OnOk r (Adds x w (record { first = first; second = second }))) watches ok
+    ok' : OnOk r (Adds s'.watches w (ordered clause first second))
+    ok' = subst (λ (x : WatchList). OnOk r (Adds x w (ordered clause first second))) watches ok
 
     err' : OnErr r (KeepsWatches s'.watches w)
     err' = subst (λ (x : WatchList). OnErr r (KeepsWatches x w)) watches err
@@ -479,9 +667,9 @@ forced_added {T} {E} clauses s s' s'' place m first second more w clause r same 
     at' : slice_get s'.marks.marks place ≡ Some m
     at' = subst (λ (x : MarkList). slice_get x.marks place ≡ Some m) (ap (λ (x : Propagator). x.marks) lowered) at
 
-    named' : slice_get clauses (length s'.watches.pairs) ≡ Some clause
-    named' = subst (λ (x : WatchList). slice_get clauses (length x.pairs) ≡ Some clause) (sym (ap (λ (x : Propagator). x.watches) same)) named
+    named' : slice_get clauses (length s'.watches.watched) ≡ Some clause
+    named' = subst (λ (x : WatchList). slice_get clauses (length x.watched) ≡ Some clause) (sym (ap (λ (x : Propagator). x.watches) same)) named
 
-    by : (r : Result T E) → OnOk r (Adds s'.watches w (record { first = first; second = second })) → OnErr r (KeepsWatches s'.watches w) → Goes clauses s (record s' { kept = s''.kept; watches = w })
-    by (Ok x) o e = forced_goes clauses s s' s''.kept place m first second more w clause same g grew trail alive holds at' le highest k is n o named' in_first in_second
+    by : (r : Result T E) → OnOk r (Adds s'.watches w (ordered clause first second)) → OnErr r (KeepsWatches s'.watches w) → Goes clauses s (record s' { kept = s''.kept; watches = w })
+    by (Ok x) o e = forced_goes clauses s s' s''.kept place m first second more w clause same g grew trail alive holds at' le highest k is n o named' sorted in_first in_second
     by (Err x) o e = forced_keeps clauses s s' s''.kept w g le e

@@ -13,7 +13,6 @@ use Rattle.refutation_log.proofs.Lists.{take-append, slice_get-append}
 use Rattle.unit_propagate.specs.declared.marks.Mark.{Mark}
 use Rattle.unit_propagate.specs.Trail.{highest_level, literals_of}
 use Rattle.unit_propagate.specs.Sound.{IsReason, IsSound, Extends}
-use Rattle.unit_propagate.specs.declared.watches.Watch.{Watch}
 use Rattle.unit_propagate.specs.declared.propagator.Propagator.{Propagator}
 use Rattle.unit_propagate.specs.Propagator.{Goes, Stays, AreUnitsTrue}
 use Rattle.unit_propagate.proofs.PropagatorLemmas.{longer}
@@ -82,7 +81,7 @@ Goes-literals clauses a b l g h =
     subst (λ ms. Contains (literals_of ms) l) (sym x.grown) (longer a.marks.marks x.added l h)
 
 pub units_stay : (clauses : List (List Literal)) (a b : Propagator) → Goes clauses a b → Stays a b → AreUnitsTrue a → AreUnitsTrue b
-units_stay clauses a b g s u k p at e = Goes-literals clauses a b p.first g (u k p (s.units k p at e) e)
+units_stay clauses a b g s u k l at = Goes-literals clauses a b l g (u k l (s.units k l at))
 
 -- literals keep their places
 pub Goes-at : (clauses : List (List Literal)) (a b : Propagator) (i : ℕ) (m : Mark) → Goes clauses a b → slice_get a.marks.marks i ≡ Some m → slice_get b.marks.marks i ≡ Some m

@@ -1,78 +1,110 @@
 -- Looking at one clause that watches a false literal.
-use Rattle.std.proofs.Common.{◌≡◌, ◌≢◌, ℕ, ◌+◌, ◌*◌, ◌^◌, ◌<◌, ◌≤◌, Bool, true, false, List, [], ◌∷◌, ◌++◌, ◌⊎◌, inl, inr, Option, Some, None, slice_get, length, Contains, All, refl, sym, subst, ap, ◌∙◌, arith}
+use Rattle.std.proofs.Common.{◌≡◌, ◌≢◌, ℕ, suc, zero, ◌+◌, ◌*◌, ◌^◌, ◌<◌, ◌≤◌, Bool, true, false, List, [], ◌∷◌, ◌++◌, ◌⊎◌, inl, inr, Option, Some, None, slice_get, length, Contains, All, refl, sym, subst, ap, ◌∙◌, arith}
 use Rattle.std.proofs.lemmas.List.Elements.{All-contains, All-weaker}
 use Rattle.std.proofs.lemmas.Option.{slice_get_within}
 use Rattle.clause_base.specs.Literal.{Literal, negated}
 use Rattle.clause_base.specs.Clause.{IsWithin}
 use Rattle.refutation_log.specs.Follows.{is_falsified_named}
 use Rattle.unit_propagate.specs.declared.marks.Mark.{Mark}
-use Rattle.unit_propagate.specs.declared.watches.Watch.{Watch}
 use Rattle.unit_propagate.specs.declared.propagator.Propagator.{Propagator}
 use Rattle.unit_propagate.specs.Trail.{literals_of}
 use Rattle.unit_propagate.specs.Sound.{IsReason}
 use Rattle.unit_propagate.specs.Marks.{MarkList, room_of}
-use Rattle.unit_propagate.specs.Watched.{IsWatching, IsWatchOf}
+use Rattle.unit_propagate.specs.Watched.{IsWatching, IsWatchOf, IsWatched, HasTrue}
 use Rattle.unit_propagate.specs.Rows.{row_at, code_of}
-use Rattle.unit_propagate.specs.Watches.{IsOther}
+use Rattle.unit_propagate.specs.Watches.{IsSide}
 use Rattle.unit_propagate.specs.Propagator.{IsKept, IsVisiting, Goes, Stays}
-use Rattle.unit_propagate.proofs.Places.{All-slice_get}
+use Rattle.unit_propagate.proofs.Places.{All-slice_get, All-from_contains, slice_get-Contains, Contains-slice_get}
 use Rattle.unit_propagate.proofs.PropagatorLemmas.{same_literal, code_fits, passed, falsified_at, reason_at, last_there, IsVisiting-push, Goes-push}
+
+-- the literals from the third on are false, up to a place
+pub false_more : (marks : List Mark) (lits : List Literal) (i : ℕ) (x : Literal) → slice_get lits i ≡ Some x → Contains (literals_of marks) (negated x)
+    → ((j : ℕ) (y : Literal) → 2 ≤ j → j < i → slice_get lits j ≡ Some y → Contains (literals_of marks) (negated y)) → (j : ℕ) (y : Literal) → 2 ≤ j → j < i + 1 → slice_get lits j ≡ Some y → Contains (literals_of marks) (negated y)
+false_more marks lits i x at h before j y low high there = elim (split j i high) [
+  | inl lt ↦ before j y low lt there
+  | inr e ↦ let a : slice_get lits i ≡ Some y = subst (λ q. slice_get lits q ≡ Some y) e there in let s : x ≡ y = cc in subst (λ z. Contains (literals_of marks) (negated z)) s h
+]
+  where
+    split : (j i : ℕ) → j < i + 1 → (j < i) ⊎ (j ≡ i)
+    split zero zero l = inr refl
+    split zero (suc i) l = inl (omega arith)
+    split (suc j) zero l = absurd (omega arith)
+    split (suc j) (suc i) l = elim (split j i (omega arith)) [ inl x ↦ inl (omega arith) | inr e ↦ inr (ap suc e) ]
+
+pub false_all : (marks : List Mark) (lits : List Literal) (i : ℕ) → length lits ≤ i → ((j : ℕ) (y : Literal) → 2 ≤ j → j < i → slice_get lits j ≡ Some y → Contains (literals_of marks) (negated y))
+    → (j : ℕ) (y : Literal) → 2 ≤ j → slice_get lits j ≡ Some y → Contains (literals_of marks) (negated y)
+false_all marks lits i h before j y low there = before j y low (let l : j < length lits = slice_get_within lits j y there in omega arith) there
 
 module _ (clauses : List (List Literal)) (s : Propagator) (l : Literal) (i k : ℕ) (v : IsVisiting clauses s l i) (there : slice_get (row_at s.watches.rows (code_of l)) i ≡ Some k) where
   -- there is no such clause
-  pub next_past : length s.watches.pairs ≤ k → IsVisiting clauses s l (i + 1)
-  next_past h = passed clauses s l i k v there (λ p at n. absurd (let lt : k < length s.watches.pairs = slice_get_within s.watches.pairs k p at in omega arith))
+  pub next_past : length s.watches.watched ≤ k → IsVisiting clauses s l (i + 1)
+  next_past h = passed clauses s l i k v there (λ c at is. absurd (let lt : k < length s.watches.watched = slice_get_within s.watches.watched k c at in omega arith))
 
-  module _ (p : Watch) (at : slice_get s.watches.pairs k ≡ Some p) where
+  module _ (c : List Literal) (at : slice_get s.watches.watched k ≡ Some c) where
     -- it doesn't watch the literal
-    pub next_apart : (p.first ≢ p.second → (p.first ≢ l) × (p.second ≢ l)) → IsVisiting clauses s l (i + 1)
-    next_apart h = passed clauses s l i k v there (λ q there' n.
-        let e : p ≡ q = cc in
-        let g = subst (λ (x : Watch). x.first ≢ x.second → (x.first ≢ l) × (x.second ≢ l)) e h n in
-        (λ f. absurd (g.0 f), λ f. absurd (g.1 f)))
+    pub next_apart : (IsWatched c l → ⊥) → IsVisiting clauses s l (i + 1)
+    next_apart h = passed clauses s l i k v there (λ d there' is. let e : d ≡ c = cc in absurd (h (subst (λ x. IsWatched x l) e is)))
 
-    module _ (other : Literal) (is : IsOther p l other) where
-      true_says : Contains (literals_of s.marks.marks) other → (p.first ≡ l → Contains (literals_of s.marks.marks) p.second) × (p.second ≡ l → Contains (literals_of s.marks.marks) p.first)
-      true_says h = elim is.1 [
-        | inl o ↦ (λ _. subst (Contains (literals_of s.marks.marks)) (sym o.1) h, λ f. absurd (is.0 (o.0 ∙ sym f)))
-        | inr o ↦ (λ f. absurd (is.0 (f ∙ sym o.0)), λ _. subst (Contains (literals_of s.marks.marks)) (sym o.1) h)
-      ]
+    -- some literal is true
+    pub next_true : HasTrue s.marks.marks c → IsVisiting clauses s l (i + 1)
+    next_true h = passed clauses s l i k v there (λ d there' is. let e : c ≡ d = cc in subst (HasTrue s.marks.marks) e h)
 
-      -- the other watched literal is true
-      pub next_true : Contains (literals_of s.marks.marks) other → IsVisiting clauses s l (i + 1)
-      next_true h = passed clauses s l i k v there (λ q there' n.
-          let e : p ≡ q = cc in
-          subst (λ (x : Watch). (x.first ≡ l → Contains (literals_of s.marks.marks) x.second) × (x.second ≡ l → Contains (literals_of s.marks.marks) x.first)) e (true_says h))
+    module _ (p : ℕ) (other : Literal) (side : IsSide c l p other) where
+      pub other_there : Contains c other
+      other_there = elim side.1 [ inl h ↦ Contains-slice_get c 1 other h.2 | inr h ↦ Contains-slice_get c 0 other h.2 ]
 
-      module _ (clause : List Literal) (named : slice_get clauses k ≡ Some clause) where
-        pub other_in : Contains clause other
-        other_in =
-            let c = v.watching k p at in
-            let a = c.1 in
-            let e : c.0 ≡ clause = cc in
-            subst (λ x. Contains x other) e (elim is.1 [ inl o ↦ subst (Contains c.0) o.1 c.2.second | inr o ↦ subst (Contains c.0) o.1 c.2.first ])
+      pub other_in : (clause : List Literal) → IsWatchOf clause c → Contains clause other
+      other_in clause is = is.only other other_there
 
-        module _ (others : All (λ x. x ≢ other → Contains (literals_of s.marks.marks) (negated x)) clause) where
-          pub conflict : Contains (literals_of s.marks.marks) (negated other) → is_falsified_named clauses (literals_of s.marks.marks) (k + 1) ≡ true
-          conflict h = falsified_at clauses (literals_of s.marks.marks) k clause named
-              (All-weaker (λ x. x ≢ other → Contains (literals_of s.marks.marks) (negated x)) (λ x. Contains (literals_of s.marks.marks) (negated x)) (λ x f. elim (same_literal x other) [
-                | inl e ↦ subst (λ y. Contains (literals_of s.marks.marks) (negated y)) (sym e) h
-                | inr n ↦ f n
-              ]) clause others)
+      module _ (none : (j : ℕ) (x : Literal) → 2 ≤ j → slice_get c j ≡ Some x → Contains (literals_of s.marks.marks) (negated x)) where
+        at_place : (q : ℕ) (x : Literal) → slice_get c q ≡ Some x → x ≢ other → Contains (literals_of s.marks.marks) (negated x)
+        at_place zero x e n = elim side.1 [
+          | inl h ↦ let a = h.1 in let same : l ≡ x = cc in subst (λ y. Contains (literals_of s.marks.marks) (negated y)) same v.falsified
+          | inr h ↦ absurd (n (let a = h.2 in cc))
+        ]
+        at_place (suc zero) x e n = elim side.1 [
+          | inl h ↦ absurd (n (let a = h.2 in cc))
+          | inr h ↦ let a = h.1 in let same : l ≡ x = cc in subst (λ y. Contains (literals_of s.marks.marks) (negated y)) same v.falsified
+        ]
+        at_place (suc (suc q)) x e n = none (suc (suc q)) x (omega arith) e
 
-          pub reason : IsReason clauses (k + 1) (literals_of s.marks.marks) other
-          reason = reason_at clauses (literals_of s.marks.marks) k clause other named other_in others
+        others : (clause : List Literal) → IsWatchOf clause c → All (λ x. x ≢ other → Contains (literals_of s.marks.marks) (negated x)) clause
+        others clause is = All-from_contains (λ x. x ≢ other → Contains (literals_of s.marks.marks) (negated x)) clause
+            (λ x h n. let q = slice_get-Contains c x (is.all x h) in at_place q.0 x q.1 n)
 
-        pub other_within : (vars : ℕ) → All (IsWithin vars) clauses → other.var ≤ vars
-        other_within vars h = All-contains (λ (x : Literal). x.var ≤ vars) clause other (All-slice_get (IsWithin vars) clauses k clause h named) other_in
+        pub conflict : Contains (literals_of s.marks.marks) (negated other) → is_falsified_named clauses (literals_of s.marks.marks) (k + 1) ≡ true
+        conflict h =
+            let w = v.watching k c at in
+            falsified_at clauses (literals_of s.marks.marks) k w.0 w.1
+            (All-weaker (λ x. x ≢ other → Contains (literals_of s.marks.marks) (negated x)) (λ x. Contains (literals_of s.marks.marks) (negated x)) (λ x f. elim (same_literal x other) [
+              | inl e ↦ subst (λ y. Contains (literals_of s.marks.marks) (negated y)) (sym e) h
+              | inr n ↦ f n
+            ]) w.0 (others w.0 w.2))
+
+        pub reason : IsReason clauses (k + 1) (literals_of s.marks.marks) other
+        reason = let w = v.watching k c at in reason_at clauses (literals_of s.marks.marks) k w.0 other w.1 (other_in w.0 w.2) (others w.0 w.2)
+
+      pub other_within : (vars : ℕ) → All (IsWithin vars) clauses → other.var ≤ vars
+      other_within vars h =
+          let w = v.watching k c at in
+          All-contains (λ (x : Literal). x.var ≤ vars) w.0 other (All-slice_get (IsWithin vars) clauses k w.0 h w.1) (other_in w.0 w.2)
+
+    -- a literal of the clause is of one of the variables
+    pub literal_within : (vars : ℕ) (x : Literal) → All (IsWithin vars) clauses → Contains c x → x.var ≤ vars
+    literal_within vars x h m =
+        let w = v.watching k c at in
+        All-contains (λ (y : Literal). y.var ≤ vars) w.0 x (All-slice_get (IsWithin vars) clauses k w.0 h w.1) (w.2.only x m)
 
 -- the other watched literal was forced
-pub next_forced : (clauses : List (List Literal)) (s : Propagator) (l : Literal) (i k : ℕ) (p : Watch) (other : Literal) (m : Mark) (after : MarkList) → after ≡ record { vars = s.marks.vars; marks = s.marks.marks ++ m ∷ [] }
-    → m.lit ≡ other → IsVisiting clauses s l i → slice_get (row_at s.watches.rows (code_of l)) i ≡ Some k → slice_get s.watches.pairs k ≡ Some p → IsOther p l other
+pub next_forced : (clauses : List (List Literal)) (s : Propagator) (l : Literal) (i k : ℕ) (c : List Literal) (other : Literal) (m : Mark) (after : MarkList) → after ≡ record { vars = s.marks.vars; marks = s.marks.marks ++ m ∷ [] }
+    → m.lit ≡ other → IsVisiting clauses s l i → slice_get (row_at s.watches.rows (code_of l)) i ≡ Some k → slice_get s.watches.watched k ≡ Some c → Contains c other
     → IsVisiting clauses (record s { marks = after }) l (i + 1)
-next_forced clauses s l i k p other m after e lit v there at is =
-    next_true clauses (record s { marks = after }) l i k (IsVisiting-push clauses s m after l i e v) there p at other is
-    (subst (Contains (literals_of after.marks)) lit (subst (λ (x : MarkList). Contains (literals_of x.marks) m.lit) (sym e) (last_there s.marks.marks m)))
+next_forced clauses s l i k c other m after e lit v there at is =
+    next_true clauses (record s { marks = after }) l i k (IsVisiting-push clauses s m after l i e v) there c at (
+      other,
+      is,
+      subst (Contains (literals_of after.marks)) lit (subst (λ (x : MarkList). Contains (literals_of x.marks) m.lit) (sym e) (last_there s.marks.marks m)),
+    )
 
 -- a literal's list is in the table
 pub list_fits : (s : Propagator) (l : Literal) → IsKept s → l.var ≤ s.marks.vars → code_of l ≤ 2 * 2 ^ 30 + 1 → code_of l < length s.watches.rows

@@ -1,42 +1,85 @@
 -- Watching clauses.
-use Rattle.std.proofs.Common.{◌≡◌, ◌≢◌, ℕ, suc, zero, ◌+◌, ◌*◌, ◌<◌, ◌≤◌, Bool, true, false, cond, List, [], ◌∷◌, ◌++◌, ◌⊎◌, inl, inr, length, Contains, refl, sym, subst, ap, ◌∙◌, arith}
+use Rattle.std.proofs.Common.{◌≡◌, ◌≢◌, ℕ, suc, zero, ◌+◌, ◌*◌, ◌^◌, ◌<◌, ◌≤◌, Bool, true, false, cond, List, [], ◌∷◌, ◌++◌, ◌⊎◌, inl, inr, Some, slice_get, length, Contains, refl, sym, subst, ap, ◌∙◌, arith}
+use Rattle.std.specs.Prelude.{Result, Ok, Err, OnOk, OnErr, slice_set}
+use Rattle.std.proofs.lemmas.Option.{slice_get_within}
 use Rattle.clause_base.specs.Literal.{Literal}
-use Rattle.unit_propagate.specs.declared.watches.Watch.{Watch}
 use Rattle.unit_propagate.specs.Rows.{row_at, code_of, AddsTo, DropsAt}
-use Rattle.unit_propagate.specs.Watches.{WatchList, RowsGrow, Adds, KeepsWatches}
+use Rattle.unit_propagate.specs.Watched.{IsWatched}
+use Rattle.unit_propagate.specs.Watches.{WatchList, RowsGrow, Adds, AddsAlone, KeepsWatches, Rewatches, CanRewatch, ordered, exchanged}
 use Rattle.unit_propagate.proofs.RowsLemmas.{RowsGrow-same, RowsGrow-trans, RowsGrow-adds, added_there}
+use Rattle.unit_propagate.proofs.RewatchLemmas.{ordered_sides, ordered_more}
 
-pub KeepsWatches-one : (w : WatchList) (rows : List (List ℕ)) (row k : ℕ) → AddsTo w.rows rows row k → KeepsWatches w (record { pairs = w.pairs; rows = rows; units = w.units })
-KeepsWatches-one w rows row k h = record { pairs = refl; grow = RowsGrow-adds w.rows rows row k h; units = refl }
+pub KeepsWatches-one : (w : WatchList) (rows : List (List ℕ)) (row k : ℕ) → AddsTo w.rows rows row k → KeepsWatches w (record { watched = w.watched; rows = rows; units = w.units })
+KeepsWatches-one w rows row k h = record { watched = refl; grow = RowsGrow-adds w.rows rows row k h; units = refl }
 
-pub KeepsWatches-two : (w : WatchList) (between rows : List (List ℕ)) (row row' k : ℕ) (pairs : List Watch) → pairs ≡ w.pairs → AddsTo w.rows between row k → AddsTo between rows row' k
-    → KeepsWatches w (record { pairs = pairs; rows = rows; units = w.units })
-KeepsWatches-two w between rows row row' k pairs e p q = record {
-  pairs = e;
+pub KeepsWatches-two : (w : WatchList) (between rows : List (List ℕ)) (row row' k : ℕ) (watched : List (List Literal)) → watched ≡ w.watched → AddsTo w.rows between row k → AddsTo between rows row' k
+    → KeepsWatches w (record { watched = watched; rows = rows; units = w.units })
+KeepsWatches-two w between rows row row' k watched e p q = record {
+  watched = e;
   grow = RowsGrow-trans w.rows between rows (RowsGrow-adds w.rows between row k p) (RowsGrow-adds between rows row' k q);
   units = refl;
 }
 
-pub Adds-two : (w : WatchList) (first second : Literal) (between rows : List (List ℕ)) (row row' k : ℕ) (pairs : List Watch) → first ≢ second
-    → pairs ≡ w.pairs ++ (record { first = first; second = second }) ∷ []
-    → row ≡ code_of first → row' ≡ code_of second → k ≡ length w.pairs → AddsTo w.rows between row k → AddsTo between rows row' k
-    → Adds w (record { pairs = pairs; rows = rows; units = w.units }) (record { first = first; second = second })
-Adds-two w first second between rows row row' k pairs n e r r' s p q = record {
-  pairs = e;
+pub Adds-two : (w : WatchList) (c : List Literal) (first second : Literal) (between rows : List (List ℕ)) (row row' k : ℕ) (watched : List (List Literal))
+    → watched ≡ w.watched ++ (ordered c first second) ∷ []
+    → row ≡ code_of first → row' ≡ code_of second → k ≡ length w.watched → AddsTo w.rows between row k → AddsTo between rows row' k
+    → Adds w (record { watched = watched; rows = rows; units = w.units }) (ordered c first second)
+Adds-two w c first second between rows row row' k watched e r r' s p q = record {
+  more = ordered_more c first second;
+  watched = e;
   grow = RowsGrow-trans w.rows between rows (RowsGrow-adds w.rows between row k p) (RowsGrow-adds between rows row' k q);
-  first = λ _. subst (λ x. Contains (row_at rows (code_of first)) x) s (subst (λ x. Contains (row_at rows x) k) r ((RowsGrow-adds between rows row' k q).stays row k (added_there w.rows between row k p)));
-  second = λ _. subst (λ x. Contains (row_at rows (code_of second)) x) s (subst (λ x. Contains (row_at rows x) k) r' (added_there between rows row' k q));
-  units = λ _. refl;
-  alone = λ h. absurd (n h);
+  listed = λ l h. subst (Contains (row_at rows (code_of l))) s (elim (ordered_sides c first second l h) [
+    | inl a ↦ subst (λ (x : Literal). Contains (row_at rows (code_of x)) k) (sym a) (subst (λ x. Contains (row_at rows x) k) r ((RowsGrow-adds between rows row' k q).stays row k (added_there w.rows between row k p)))
+    | inr b ↦ subst (λ (x : Literal). Contains (row_at rows (code_of x)) k) (sym b) (subst (λ x. Contains (row_at rows x) k) r' (added_there between rows row' k q))
+  ]);
+  units = refl;
 }
 
-pub Adds-alone : (w : WatchList) (lit : Literal) (pairs : List Watch) (units : List ℕ) (k : ℕ) → pairs ≡ w.pairs ++ (record { first = lit; second = lit }) ∷ [] → k ≡ length w.pairs → units ≡ w.units ++ k ∷ []
-    → Adds w (record { pairs = pairs; rows = w.rows; units = units }) (record { first = lit; second = lit })
-Adds-alone w lit pairs units k e s u = record {
-  pairs = e;
-  grow = RowsGrow-same w.rows;
-  first = λ n. absurd (n refl);
-  second = λ n. absurd (n refl);
-  units = λ n. absurd (n refl);
-  alone = λ _. u ∙ ap (λ x. w.units ++ x ∷ []) s;
+-- the last part of an addition had memory, or not
+pub Adds-result : {T E : Type 0} (r : Result T E) (w : WatchList) (c : List Literal) (first second : Literal) (between rows : List (List ℕ)) (row row' k : ℕ) (watched : List (List Literal))
+    → OnOk r (watched ≡ w.watched ++ (ordered c first second) ∷ [])
+    → row ≡ code_of first → row' ≡ code_of second → k ≡ length w.watched → AddsTo w.rows between row k → AddsTo between rows row' k
+    → OnOk r (Adds w (record { watched = watched; rows = rows; units = w.units }) (ordered c first second))
+Adds-result (Ok x) w c first second between rows row row' k watched e r r' s p q = Adds-two w c first second between rows row row' k watched e r r' s p q
+Adds-result (Err x) w c first second between rows row row' k watched e r r' s p q = tt
+
+pub Keeps-result : {T E : Type 0} (r : Result T E) (w : WatchList) (between rows : List (List ℕ)) (row row' k : ℕ) (watched : List (List Literal)) → OnErr r (watched ≡ w.watched)
+    → AddsTo w.rows between row k → AddsTo between rows row' k → OnErr r (KeepsWatches w (record { watched = watched; rows = rows; units = w.units }))
+Keeps-result (Ok x) w between rows row row' k watched e p q = tt
+Keeps-result (Err x) w between rows row row' k watched e p q = KeepsWatches-two w between rows row row' k watched e p q
+
+pub AddsAlone-of : (w : WatchList) (l : Literal) (watched : List (List Literal)) (units : List ℕ) (k : ℕ) → watched ≡ w.watched ++ (l ∷ []) ∷ [] → k ≡ length w.watched → units ≡ w.units ++ k ∷ []
+    → AddsAlone w (record { watched = watched; rows = w.rows; units = units }) l
+AddsAlone-of w l watched units k e s u = record { watched = e; rows = refl; units = u ∙ ap (λ x. w.units ++ x ∷ []) s }
+
+pub KeepsWatches-same : (w : WatchList) (watched : List (List Literal)) (units : List ℕ) → watched ≡ w.watched → units ≡ w.units → KeepsWatches w (record { watched = watched; rows = w.rows; units = units })
+KeepsWatches-same w watched units e u = record { watched = e; grow = RowsGrow-same w.rows; units = u }
+
+pub Rewatches-of : (w : WatchList) (i k p j : ℕ) (from to : Literal) (between rows : List (List ℕ)) (row row' : ℕ) (watched : List (List Literal)) → CanRewatch w i k p j from to → row ≡ code_of to → row' ≡ code_of from
+    → AddsTo w.rows between row k → DropsAt between rows row' i
+    → ((c : List Literal) (a b : Literal) → slice_get w.watched k ≡ Some c → slice_get c p ≡ Some a → slice_get c j ≡ Some b → watched ≡ slice_set w.watched k (exchanged c p j a b))
+    → Rewatches w (record { watched = watched; rows = rows; units = w.units }) i k p j from to
+Rewatches-of w i k p j from to between rows row row' watched can e f adds drops is = record {
+  watched = λ c at. let a = can.there in let s : can.clause ≡ c = cc in is c from to at (subst (λ x. slice_get x p ≡ Some from) s can.at_p) (subst (λ x. slice_get x j ≡ Some to) s can.at_j);
+  between = between;
+  adds = subst (λ x. AddsTo w.rows between x k) e adds;
+  drops = subst (λ x. DropsAt between rows x i) f drops;
+  units = refl;
 }
+
+-- the lists are there
+pub to_in_table : (w : WatchList) (i k p j : ℕ) (from to : Literal) (row : ℕ) → CanRewatch w i k p j from to → row ≡ code_of to → row ≤ 2 * 2 ^ 30 + 1 → row < length w.rows
+to_in_table w i k p j from to row can e le = let h : code_of to < length w.rows = can.to_fits (omega arith) in omega arith
+
+pub from_in_table : (w : WatchList) (i k p j : ℕ) (from to : Literal) (between : List (List ℕ)) (row row' : ℕ) → CanRewatch w i k p j from to → row ≡ code_of to → AddsTo w.rows between row k
+    → row' ≡ code_of from → row' ≤ 2 * 2 ^ 30 + 1 → row' < length between
+from_in_table w i k p j from to between row row' can e adds f le =
+    let h : code_of from < length w.rows = can.from_fits (omega arith) in let s : length between ≡ length w.rows = adds.size in omega arith
+
+pub from_in_row : (w : WatchList) (i k p j : ℕ) (from to : Literal) (between : List (List ℕ)) (row row' : ℕ) → CanRewatch w i k p j from to → row ≡ code_of to → AddsTo w.rows between row k
+    → row' ≡ code_of from → i < length (row_at between row')
+from_in_row w i k p j from to between row row' can e adds f =
+    subst (λ x. i < length (row_at between x)) (sym f) (subst (λ xs. i < length xs) (sym (adds.others (code_of from) (λ q. can.different (sym (q ∙ e))))) can.in_row)
+
+pub clause_there : (w : WatchList) (i k p j : ℕ) (from to : Literal) → CanRewatch w i k p j from to → (c : List Literal) × (slice_get w.watched k ≡ Some c) × (p < length c) × (j < length c)
+clause_there w i k p j from to can = (can.clause, can.there, slice_get_within can.clause p from can.at_p, slice_get_within can.clause j to can.at_j)

@@ -1,7 +1,6 @@
 use Rattle.std.specs.Prelude.{ℕ, List, [], ◌++◌, filter, nat_le}
 use Rattle.clause_base.specs.Literal.{Literal}
 use Rattle.unit_propagate.specs.declared.marks.Mark.{Mark}
-use Rattle.unit_propagate.specs.declared.watches.Watch.{Watch}
 use Rattle.unit_propagate.specs.Sound.{IsSound}
 use Rattle.unit_propagate.specs.Watched.{IsWatching}
 
@@ -13,7 +12,7 @@ pub record EmptyTrailsBegin : Type 0 where
 -- What holds over a list of clauses holds over every longer list that begins alike.
 pub record LongerListsKeep : Type 0 where
   pub sound : (clauses more : List (List Literal)) (marks : List Mark) → IsSound clauses marks → IsSound (clauses ++ more) marks
-  pub watching : (clauses more : List (List Literal)) (watched : List Watch) → IsWatching clauses watched → IsWatching (clauses ++ more) watched
+  pub watching : (clauses more : List (List Literal)) (watched : List (List Literal)) → IsWatching clauses watched → IsWatching (clauses ++ more) watched
 
 -- Going back to a level leaves a sound trail sound.
 abbrev pub GoingBackKeepsSound : Type 0

@@ -4,6 +4,7 @@ pub mod Sound
 pub mod Quiet
 pub mod Watched
 pub mod Rows
+pub mod Arena
 pub mod Watches
 pub mod Propagator
 pub mod Laws

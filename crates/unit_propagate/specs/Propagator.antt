@@ -1,15 +1,14 @@
-use Rattle.std.specs.Prelude.{◌≡◌, ◌≢◌, ℕ, ◌+◌, ◌<◌, ◌≤◌, ◌⊎◌, List, ◌++◌, Some, All, Contains, length, slice_get}
+use Rattle.std.specs.Prelude.{◌≡◌, ◌≢◌, ℕ, ◌+◌, ◌<◌, ◌≤◌, ◌⊎◌, List, [], ◌∷◌, ◌++◌, Some, All, Contains, length, slice_get}
 use Rattle.clause_base.specs.Literal.{Literal, negated}
 use Rattle.clause_base.specs.declared.formula.Cnf.{Cnf}
 use Rattle.refutation_log.specs.declared.entries.Entry.{Entry}
 use Rattle.refutation_log.specs.Entry.{clauses_of}
 use Rattle.unit_propagate.specs.declared.marks.Mark.{Mark}
-use Rattle.unit_propagate.specs.declared.watches.Watch.{Watch}
 use Rattle.unit_propagate.specs.declared.propagator.Propagator.{Propagator}
 use Rattle.unit_propagate.specs.Trail.{literals_of}
 use Rattle.unit_propagate.specs.Sound.{Extends}
 use Rattle.unit_propagate.specs.Marks.{room_of}
-use Rattle.unit_propagate.specs.Watched.{IsWatching}
+use Rattle.unit_propagate.specs.Watched.{IsWatching, IsWatched, HasTrue}
 use Rattle.unit_propagate.specs.Rows.{row_at, code_of}
 use Rattle.unit_propagate.specs.Watches.{IsListed, IsGuarded, IsDone}
 
@@ -17,11 +16,11 @@ use Rattle.unit_propagate.specs.Watches.{IsListed, IsGuarded, IsDone}
 abbrev pub clauses_in : Cnf → List Entry → List (List Literal)
 clauses_in base seen = base.clauses.items ++ clauses_of seen
 
--- What a trail keeps: each clause is watched, a watched literal is made false by a literal before the place only if the other watched
--- literal is true, and the first clauses of one literal are true on level 0.
+-- What a trail keeps: each clause is watched, a watched literal is made false by a literal before the place only if some literal of its
+-- clause is true, and the first clauses of one literal are true on level 0.
 pub record IsKept (s : Propagator) : Type 0 where
   pub listed : IsListed (room_of s.marks.vars) s.watches
-  pub guarded : IsGuarded s.marks.marks s.watches.pairs s.place s.kept
+  pub guarded : IsGuarded s.marks.marks s.watches.watched s.place s.kept
   pub done : IsDone s.marks.marks s.watches s.done
   pub place : s.place ≤ length s.marks.marks
   pub kept : s.kept ≤ s.place
@@ -31,40 +30,38 @@ pub record IsKept (s : Propagator) : Type 0 where
 abbrev pub IsPending : List (List ℕ) → Literal → ℕ → ℕ → Type 0
 IsPending rows l i k = (j : ℕ) × (i ≤ j) × (slice_get (row_at rows (code_of l)) j ≡ Some k)
 
--- The clauses that watch a false literal are looked at, up to a place of its list: in each of them that isn't to come, the other watched
--- literal is true.
+-- The clauses that watch a false literal are looked at, up to a place of its list: in each of them that isn't to come, some literal is
+-- true.
 pub record IsVisiting (clauses : List (List Literal)) (s : Propagator) (l : Literal) (i : ℕ) : Type 0 where
   pub kept : IsKept s
-  pub watching : IsWatching clauses s.watches.pairs
+  pub watching : IsWatching clauses s.watches.watched
   pub falsified : Contains (literals_of s.marks.marks) (negated l)
-  pub first : (k : ℕ) (p : Watch) → slice_get s.watches.pairs k ≡ Some p → p.first ≢ p.second → p.first ≡ l
-      → Contains (literals_of s.marks.marks) p.second ⊎ IsPending s.watches.rows l i k
-  pub second : (k : ℕ) (p : Watch) → slice_get s.watches.pairs k ≡ Some p → p.first ≢ p.second → p.second ≡ l
-      → Contains (literals_of s.marks.marks) p.first ⊎ IsPending s.watches.rows l i k
+  pub seen : (k : ℕ) (c : List Literal) → slice_get s.watches.watched k ≡ Some c → IsWatched c l
+      → HasTrue s.marks.marks c ⊎ IsPending s.watches.rows l i k
 
 -- What propagation leaves at each step.
 pub record Goes (clauses : List (List Literal)) (old new : Propagator) : Type 0 where
   pub kept : IsKept new
-  pub watching : IsWatching clauses new.watches.pairs
+  pub watching : IsWatching clauses new.watches.watched
   pub vars : new.marks.vars ≡ old.marks.vars
   pub extends : (first : List Mark) → Extends clauses first old.marks.marks → Extends clauses first new.marks.marks
-  pub size : length old.watches.pairs ≤ length new.watches.pairs
+  pub size : length old.watches.watched ≤ length new.watches.watched
 
 -- While clauses are looked at, none is watched anew, and those of one literal stay.
 pub record Stays (old new : Propagator) : Type 0 where
-  pub size : length new.watches.pairs ≡ length old.watches.pairs
-  pub units : (k : ℕ) (p : Watch) → slice_get new.watches.pairs k ≡ Some p → p.first ≡ p.second → slice_get old.watches.pairs k ≡ Some p
+  pub size : length new.watches.watched ≡ length old.watches.watched
+  pub units : (k : ℕ) (l : Literal) → slice_get new.watches.watched k ≡ Some (l ∷ []) → slice_get old.watches.watched k ≡ Some (l ∷ [])
   pub place : new.place ≡ old.place
 
 -- The clauses of one literal are true.
 abbrev pub AreUnitsTrue : Propagator → Type 0
-AreUnitsTrue s = (k : ℕ) (p : Watch) → slice_get s.watches.pairs k ≡ Some p → p.first ≡ p.second → Contains (literals_of s.marks.marks) p.first
+AreUnitsTrue s = (k : ℕ) (l : Literal) → slice_get s.watches.watched k ≡ Some (l ∷ []) → Contains (literals_of s.marks.marks) l
 
--- All clauses that watch a false literal are looked at: in each of them the other watched literal is true.
+-- All clauses that watch a false literal are looked at: in each of them some literal is true.
 pub record IsVisited (s : Propagator) (l : Literal) : Type 0 where
-  pub first : (k : ℕ) (p : Watch) → slice_get s.watches.pairs k ≡ Some p → p.first ≢ p.second → p.first ≡ l → Contains (literals_of s.marks.marks) p.second
-  pub second : (k : ℕ) (p : Watch) → slice_get s.watches.pairs k ≡ Some p → p.first ≢ p.second → p.second ≡ l → Contains (literals_of s.marks.marks) p.first
+  pub seen : (k : ℕ) (c : List Literal) → slice_get s.watches.watched k ≡ Some c → IsWatched c l → HasTrue s.marks.marks c
 
 -- The first clauses of one literal are true.
 abbrev pub AreForced : Propagator → ℕ → Type 0
-AreForced s i = (j k : ℕ) (p : Watch) → j < i → slice_get s.watches.units j ≡ Some k → slice_get s.watches.pairs k ≡ Some p → Contains (literals_of s.marks.marks) p.first
+AreForced s i = (j k : ℕ) (l : Literal) → j < i → slice_get s.watches.units j ≡ Some k → slice_get s.watches.watched k ≡ Some (l ∷ [])
+    → Contains (literals_of s.marks.marks) l

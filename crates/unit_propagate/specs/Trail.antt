@@ -1,17 +1,17 @@
 use Rattle.std.specs.Prelude.{◌≢◌, ℕ, ◌<◌, ◌≤◌, max, List, [], ◌∷◌, All, AllPairs, map}
 use Rattle.clause_base.specs.Literal.{Literal}
 use Rattle.unit_propagate.specs.declared.marks.Mark.{Mark}
-use Rattle.unit_propagate.specs.declared.watches.Watch.{Watch}
 
 -- A `Mark` is a literal on the trail, with its level. Its reason is the number of the clause by which propagation added it; a literal
 -- that was assumed has none (conflict-driven clause learning).
 
--- What a `Trail` is seen as: the number of variables, the literals in the order in which they became true, what it watches, which is
--- two literals of each clause that propagation was shown, and how many of its literals were looked at (two watched literals).
+-- What a `Trail` is seen as: the number of variables, the literals in the order in which they became true, what it watches, which are
+-- the clauses that propagation was shown, each in an order of which the first two literals are watched, and how many of its literals
+-- were looked at (two watched literals).
 pub record TrailModel : Type 0 where
   pub vars : ℕ
   pub marks : List Mark
-  pub watched : List Watch
+  pub watched : List (List Literal)
   pub looked : ℕ
 
 -- The literals of a trail: the partial assignment that makes them true.

@@ -1,76 +1,97 @@
-use Rattle.std.specs.Prelude.{◌≡◌, ◌≢◌, ℕ, ◌+◌, ◌*◌, ◌<◌, ◌≤◌, ◌⊎◌, Bool, if◌then◌else◌, List, [], ◌∷◌, ◌++◌, Some, Contains, length, slice_get, slice_set}
+use Rattle.std.specs.Prelude.{◌≡◌, ◌≢◌, ℕ, ◌+◌, ◌*◌, ◌^◌, ◌<◌, ◌≤◌, ◌⊎◌, Bool, false, not, if◌then◌else◌, List, [], ◌∷◌, ◌++◌, Some, Contains, length, filter, slice_get, slice_set}
 use Rattle.clause_base.specs.Literal.{Literal, negated, literal_eq}
 use Rattle.unit_propagate.specs.declared.marks.Mark.{Mark}
-use Rattle.unit_propagate.specs.declared.watches.Watch.{Watch}
 use Rattle.unit_propagate.specs.Rows.{row_at, code_of, AddsTo, DropsAt}
+use Rattle.unit_propagate.specs.Watched.{IsWatched}
 
--- What a `Watches` is seen as: the watched literals of each clause, for each literal the clauses that watch it, by their places, and
--- the places of the clauses with one literal.
+-- What a `Watches` is seen as: the literals of each clause, the watched ones first, for each literal the clauses that watch it, by their
+-- places, and the places of the clauses with one literal.
 pub record WatchList : Type 0 where
-  pub pairs : List Watch
+  pub watched : List (List Literal)
   pub rows : List (List ℕ)
   pub units : List ℕ
+
+-- A literal is neither of two.
+abbrev pub differs : Literal → Literal → Literal → Bool
+differs first second l = if literal_eq l first then false else not (literal_eq l second)
+
+-- A clause's literals, two given ones first.
+abbrev pub ordered : List Literal → Literal → Literal → List Literal
+ordered lits first second = first ∷ second ∷ filter (differs first second) lits
 
 -- Each clause stands in the lists of its two watched literals, or among those with one literal.
 pub record IsListed (room : ℕ) (w : WatchList) : Type 0 where
   pub size : length w.rows ≡ 2 * room
-  pub first : (k : ℕ) (p : Watch) → slice_get w.pairs k ≡ Some p → p.first ≢ p.second → Contains (row_at w.rows (code_of p.first)) k
-  pub second : (k : ℕ) (p : Watch) → slice_get w.pairs k ≡ Some p → p.first ≢ p.second → Contains (row_at w.rows (code_of p.second)) k
-  pub alone : (k : ℕ) (p : Watch) → slice_get w.pairs k ≡ Some p → p.first ≡ p.second → Contains w.units k
-  pub units : (i k : ℕ) → slice_get w.units i ≡ Some k → (p : Watch) × (slice_get w.pairs k ≡ Some p) × (p.first ≡ p.second)
+  pub listed : (k : ℕ) (c : List Literal) (l : Literal) → slice_get w.watched k ≡ Some c → IsWatched c l → Contains (row_at w.rows (code_of l)) k
+  pub alone : (k : ℕ) (l : Literal) → slice_get w.watched k ≡ Some (l ∷ []) → Contains w.units k
+  pub units : (i k : ℕ) → slice_get w.units i ≡ Some k → (l : Literal) × (slice_get w.watched k ≡ Some (l ∷ []))
 
 -- Lists that only grow.
 pub record RowsGrow (old new : List (List ℕ)) : Type 0 where
   pub size : length new ≡ length old
   pub stays : (row k : ℕ) → Contains (row_at old row) k → Contains (row_at new row) k
 
--- The watched literals after one of them is replaced.
-abbrev pub moved : Watch → Literal → Literal → Watch
-moved p from to = if literal_eq p.first from then record { first = to; second = p.second } else record { first = p.first; second = to }
+-- A literal and the other of the first two of a clause, with the literal's place.
+abbrev pub IsSide : List Literal → Literal → ℕ → Literal → Type 0
+IsSide c l p other = (1 < length c) × (((p ≡ 0) × (slice_get c 0 ≡ Some l) × (slice_get c 1 ≡ Some other)) ⊎ ((p ≡ 1) × (slice_get c 1 ≡ Some l) × (slice_get c 0 ≡ Some other)))
 
--- The other of two different watched literals.
-abbrev pub IsOther : Watch → Literal → Literal → Type 0
-IsOther p l other = (p.first ≢ p.second) × (((p.first ≡ l) × (p.second ≡ other)) ⊎ ((p.second ≡ l) × (p.first ≡ other)))
+-- Two literals of a clause change places.
+abbrev pub exchanged : List Literal → ℕ → ℕ → Literal → Literal → List Literal
+exchanged c p j from to = slice_set (slice_set c p to) j from
 
--- A clause watches another literal in place of one.
-pub record Rewatches (old new : WatchList) (from : Literal) (i k : ℕ) (to : Literal) : Type 0 where
-  pub before : Watch
-  pub there : slice_get old.pairs k ≡ Some before
-  pub pairs : new.pairs ≡ slice_set old.pairs k (moved before from to)
+-- Clause k stands at place i of the list of its literal at place p, and has another literal at place j.
+pub record CanRewatch (old : WatchList) (i k p j : ℕ) (from to : Literal) : Type 0 where
+  pub clause : List Literal
+  pub there : slice_get old.watched k ≡ Some clause
+  pub at_p : slice_get clause p ≡ Some from
+  pub at_j : slice_get clause j ≡ Some to
+  pub from_fits : code_of from ≤ 2 * 2 ^ 30 + 1 → code_of from < length old.rows
+  pub to_fits : code_of to ≤ 2 * 2 ^ 30 + 1 → code_of to < length old.rows
+  pub different : code_of to ≢ code_of from
+  pub in_row : i < length (row_at old.rows (code_of from))
+
+-- Clause k watches the literal at place j in place of that at place p.
+pub record Rewatches (old new : WatchList) (i k p j : ℕ) (from to : Literal) : Type 0 where
+  pub watched : (c : List Literal) → slice_get old.watched k ≡ Some c → new.watched ≡ slice_set old.watched k (exchanged c p j from to)
   pub between : List (List ℕ)
   pub adds : AddsTo old.rows between (code_of to) k
   pub drops : DropsAt between new.rows (code_of from) i
   pub units : new.units ≡ old.units
 
--- A clause is watched from now on.
-pub record Adds (old new : WatchList) (watch : Watch) : Type 0 where
-  pub pairs : new.pairs ≡ old.pairs ++ watch ∷ []
+-- A clause of two literals or more is watched from now on.
+pub record Adds (old new : WatchList) (watch : List Literal) : Type 0 where
+  pub more : 1 < length watch
+  pub watched : new.watched ≡ old.watched ++ watch ∷ []
   pub grow : RowsGrow old.rows new.rows
-  pub first : watch.first ≢ watch.second → Contains (row_at new.rows (code_of watch.first)) (length old.pairs)
-  pub second : watch.first ≢ watch.second → Contains (row_at new.rows (code_of watch.second)) (length old.pairs)
-  pub units : watch.first ≢ watch.second → new.units ≡ old.units
-  pub alone : watch.first ≡ watch.second → new.units ≡ old.units ++ (length old.pairs) ∷ []
+  pub listed : (l : Literal) → IsWatched watch l → Contains (row_at new.rows (code_of l)) (length old.watched)
+  pub units : new.units ≡ old.units
+
+-- A clause of one literal stands behind the others from now on.
+pub record AddsAlone (old new : WatchList) (l : Literal) : Type 0 where
+  pub watched : new.watched ≡ old.watched ++ (l ∷ []) ∷ []
+  pub rows : new.rows ≡ old.rows
+  pub units : new.units ≡ old.units ++ (length old.watched) ∷ []
 
 -- Nothing is watched anew; lists may hold more.
 pub record KeepsWatches (old new : WatchList) : Type 0 where
-  pub pairs : new.pairs ≡ old.pairs
+  pub watched : new.watched ≡ old.watched
   pub grow : RowsGrow old.rows new.rows
   pub units : new.units ≡ old.units
 
--- Where a is false by a literal before the place, b is true; where that literal stands before kept, b is so on no higher level.
-abbrev pub Guard : List Mark → ℕ → ℕ → Literal → Literal → Type 0
-Guard marks place kept a b = (i : ℕ) (m : Mark) → i < place → slice_get marks i ≡ Some m → m.lit ≡ negated a
-    → (n : Mark) × Contains marks n × (n.lit ≡ b) × (i < kept → n.level ≤ m.level)
+-- Where a is false by a literal before the place, some literal of the clause is true; where that literal stands before kept, this one is
+-- so on no higher level.
+abbrev pub Guard : List Mark → ℕ → ℕ → Literal → List Literal → Type 0
+Guard marks place kept a c = (i : ℕ) (m : Mark) → i < place → slice_get marks i ≡ Some m → m.lit ≡ negated a
+    → (n : Mark) × Contains marks n × Contains c n.lit × (i < kept → n.level ≤ m.level)
 
--- A watched literal is made false by a literal before the place only if the other watched literal is true (two watched literals).
-pub record IsGuarded (marks : List Mark) (pairs : List Watch) (place kept : ℕ) : Type 0 where
-  pub first : (k : ℕ) (p : Watch) → slice_get pairs k ≡ Some p → p.first ≢ p.second → Guard marks place kept p.first p.second
-  pub second : (k : ℕ) (p : Watch) → slice_get pairs k ≡ Some p → p.first ≢ p.second → Guard marks place kept p.second p.first
+-- A watched literal is made false by a literal before the place only if some literal of its clause is true (two watched literals).
+abbrev pub IsGuarded : List Mark → List (List Literal) → ℕ → ℕ → Type 0
+IsGuarded marks watched place kept = (k : ℕ) (c : List Literal) (l : Literal) → slice_get watched k ≡ Some c → IsWatched c l → Guard marks place kept l c
 
 -- The first clauses of one literal are true on level 0.
 abbrev pub IsDone : List Mark → WatchList → ℕ → Type 0
-IsDone marks w done = (i k : ℕ) (p : Watch) → i < done → slice_get w.units i ≡ Some k → slice_get w.pairs k ≡ Some p
-    → (m : Mark) × Contains marks m × (m.lit ≡ p.first) × (m.level ≡ 0)
+IsDone marks w done = (i k : ℕ) (l : Literal) → i < done → slice_get w.units i ≡ Some k → slice_get w.watched k ≡ Some (l ∷ [])
+    → (m : Mark) × Contains marks m × (m.lit ≡ l) × (m.level ≡ 0)
 
 -- The literal at a place makes a literal of a clause false, which isn't a given one.
 abbrev pub IsFalsifier : List Mark → List Literal → Literal → ℕ → Type 0

@@ -6,6 +6,7 @@
 //! of clauses.
 #![tactic(auto)]
 
+mod arena;
 mod clauses;
 pub mod laws;
 mod marks;

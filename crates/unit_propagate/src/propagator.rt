@@ -1,4 +1,4 @@
-ghost use Rattle.std.specs.Prelude.{◌≡◌, ◌≢◌, ℕ, ◌+◌, ◌*◌, ◌<◌, ◌≤◌, ◌^◌, ◌⊎◌, true, false, List, [], ◌++◌, None, Some, Ok, All, Contains, length, filter, nat_le, slice_get, IfOk, IfSome, IfNone, OnOk};
+ghost use Rattle.std.specs.Prelude.{◌≡◌, ◌≢◌, ℕ, ◌+◌, ◌*◌, ◌<◌, ◌≤◌, ◌^◌, ◌⊎◌, true, false, List, [], ◌∷◌, ◌++◌, None, Some, Ok, All, Contains, length, filter, nat_le, slice_get, IfOk, IfSome, IfNone, OnOk};
 ghost use Rattle.std.specs.Bool.{OnTrue, OnFalse};
 ghost use Rattle.clause_base.specs.Literal.{Literal, negated};
 ghost use Rattle.clause_base.specs.Clause.{IsClause, IsWithin};
@@ -7,7 +7,8 @@ ghost use Rattle.unit_propagate.specs.declared.marks.Mark.{Mark};
 ghost use Rattle.unit_propagate.specs.declared.propagator.Step.TheVariants.{Next, Again, Conflict};
 ghost use Rattle.unit_propagate.specs.Trail.{IsTrail, highest_level, literals_of};
 ghost use Rattle.unit_propagate.specs.Quiet.{IsQuiet};
-ghost use Rattle.unit_propagate.specs.Watches.{IsFalsifier};
+ghost use Rattle.unit_propagate.specs.Watched.{IsWatched};
+ghost use Rattle.unit_propagate.specs.Watches.{IsFalsifier, IsSide};
 
 use crate::clauses::{clause_at, clause_count};
 use crate::marks::Marks;
@@ -90,10 +91,63 @@ fn last_falsified(marks: &Marks, lits: &[Lit], except: Lit) -> Option<usize>
     last
 }
 
+/// The place of a literal among the first two of a clause, and the other one of them.
+#[derive(Clone, Copy, Debug)]
+struct Side {
+    place: usize,
+    other: Lit,
+}
+
+/// Where a literal stands among the first two of a clause.
+fn side_of(lits: &[Lit], lit: Lit) -> Option<Side>
+    ensures some { IfSome result (λ side. IsSide lits.now lit side.place side.other) }
+    ensures none { IfNone result (IsWatched lits.now lit → ⊥) }
+{
+    match lits {
+        [first, second, ..] => {
+            if *first == lit {
+                return Some(Side {
+                    place: 0,
+                    other: *second,
+                });
+            }
+            if *second == lit {
+                return Some(Side {
+                    place: 1,
+                    other: *first,
+                });
+            }
+            None
+        }
+        _ => None,
+    }
+}
+
+/// A literal of a clause, with its place.
+#[derive(Clone, Copy, Debug)]
+struct Placed {
+    place: usize,
+    lit: Lit,
+}
+
+/// A literal of a clause that isn't false, from the third on.
+fn open_literal(marks: &Marks, lits: &[Lit]) -> Option<Placed>
+    ensures some { IfSome result (λ found. (2 ≤ found.place) × (slice_get lits.now found.place ≡ Some found.lit) × (Contains (literals_of marks.now.marks) (negated found.lit) → ⊥)) }
+    ensures none { IfNone result ((j : ℕ) (l : Literal) → 2 ≤ j → slice_get lits.now j ≡ Some l → Contains (literals_of marks.now.marks) (negated l)) }
+{
+    for place in 2..lits.len() {
+        let lit = lits[place];
+        if !marks.is_false(lit) {
+            return Some(Placed { place, lit });
+        }
+    }
+    None
+}
+
 /// How the look at a clause that watches a false literal ended.
 #[derive(Clone, Copy, Debug)]
 enum Step {
-    /// The other watched literal is true: on to the next clause of the list.
+    /// Some literal of the clause is true: on to the next clause of the list.
     Next,
     /// The clause left the list, and another stands at its place.
     Again,
@@ -116,7 +170,6 @@ pub struct Propagator {
 
 impl Propagator {
     ghost use Rattle.unit_propagate.specs.declared.propagator.Propagator.{Propagator};
-    ghost use Rattle.unit_propagate.specs.declared.watches.Watch.{Watch};
     ghost use Rattle.unit_propagate.specs.Sound.{IsReason};
     ghost use Rattle.unit_propagate.specs.Watched.{IsWatching};
     ghost use Rattle.unit_propagate.specs.Rows.{row_at, code_of};
@@ -126,7 +179,7 @@ impl Propagator {
     pub fn new(alloc: Global, vars: u32) -> Result<Propagator, AllocError>
         ensures kept { IfOk result IsKept }
         ensures marks { IfOk result (λ s. s.marks ≡ record { vars = vars; marks = [] }) }
-        ensures watches { IfOk result (λ s. s.watches.pairs ≡ []) }
+        ensures watches { IfOk result (λ s. s.watches.watched ≡ []) }
         ensures place { IfOk result (λ s. s.place ≡ 0) }
     {
         Ok(Propagator {
@@ -142,8 +195,8 @@ impl Propagator {
     fn watch_new(&mut self, base: &Cnf, seen: &[Entry]) -> Result<Option<u64>, AllocError>
         requires within { All (IsWithin self.old.marks.vars) (clauses_in base.now seen.now) }
         requires kept { IsKept self.old }
-        requires watching { IsWatching (clauses_in base.now seen.now) self.old.watches.pairs }
-        ensures all { result ≡ Ok None → length (clauses_in base.now seen.now) ≤ length self.new.watches.pairs }
+        requires watching { IsWatching (clauses_in base.now seen.now) self.old.watches.watched }
+        ensures all { result ≡ Ok None → length (clauses_in base.now seen.now) ≤ length self.new.watches.watched }
         ensures falsified { (n : ℕ) → result ≡ Ok (Some n) → is_falsified_named (clauses_in base.now seen.now) (literals_of self.new.marks.marks) n ≡ true }
         ensures goes { Goes (clauses_in base.now seen.now) self.old self.new }
     {
@@ -157,12 +210,12 @@ impl Propagator {
 
     /// Watches the next clause, unless it is falsified.
     fn watch_next(&mut self, base: &Cnf, seen: &[Entry]) -> Result<bool, AllocError>
-        requires more { length self.old.watches.pairs < length (clauses_in base.now seen.now) }
+        requires more { length self.old.watches.watched < length (clauses_in base.now seen.now) }
         requires within { All (IsWithin self.old.marks.vars) (clauses_in base.now seen.now) }
         requires kept { IsKept self.old }
-        requires watching { IsWatching (clauses_in base.now seen.now) self.old.watches.pairs }
-        ensures watched { result ≡ Ok true → length self.new.watches.pairs ≡ length self.old.watches.pairs + 1 }
-        ensures falsified { result ≡ Ok false → is_falsified_named (clauses_in base.now seen.now) (literals_of self.new.marks.marks) (length self.new.watches.pairs + 1) ≡ true }
+        requires watching { IsWatching (clauses_in base.now seen.now) self.old.watches.watched }
+        ensures watched { result ≡ Ok true → length self.new.watches.watched ≡ length self.old.watches.watched + 1 }
+        ensures falsified { result ≡ Ok false → is_falsified_named (clauses_in base.now seen.now) (literals_of self.new.marks.marks) (length self.new.watches.watched + 1) ≡ true }
         ensures goes { Goes (clauses_in base.now seen.now) self.old self.new }
     {
         let clause = clause_at(base, seen, self.watches.len());
@@ -170,7 +223,7 @@ impl Propagator {
             return Ok(false);
         };
         match other_unfalsified(&self.marks, clause.lits(), first) {
-            Some(second) => self.watches.add(first, second)?,
+            Some(second) => self.watches.add(clause.lits(), first, second)?,
             None => self.watch_forced(clause, first)?,
         }
         Ok(true)
@@ -184,8 +237,8 @@ impl Propagator {
         requires others { All (λ l. l ≢ first → Contains (literals_of self.old.marks.marks) (negated l)) clause.now }
         requires alive { Contains (literals_of self.old.marks.marks) (negated first) → ⊥ }
         requires kept { IsKept self.old }
-        ensures ok { OnOk result (length self.new.watches.pairs ≡ length self.old.watches.pairs + 1) }
-        ensures goes { (clauses : List (List Literal)) → IsWatching clauses self.old.watches.pairs → slice_get clauses (length self.old.watches.pairs) ≡ Some clause.now → Goes clauses self.old self.new }
+        ensures ok { OnOk result (length self.new.watches.watched ≡ length self.old.watches.watched + 1) }
+        ensures goes { (clauses : List (List Literal)) → IsWatching clauses self.old.watches.watched → slice_get clauses (length self.old.watches.watched) ≡ Some clause.now → Goes clauses self.old self.new }
     {
         let Some(place) = last_falsified(&self.marks, clause.lits(), first) else {
             return self.watches.add_alone(first);
@@ -194,7 +247,7 @@ impl Propagator {
         self.make_true(first, number);
         self.lower(place);
         let second = self.marks.at(place).lit.negated();
-        self.watches.add(first, second)
+        self.watches.add(clause.lits(), first, second)
     }
 
     /// Makes a literal true that isn't false, by the clause of that number.
@@ -204,7 +257,7 @@ impl Propagator {
         ensures now_true { Contains (literals_of self.new.marks.marks) lit }
         ensures others { self.new ≡ record self.old { marks = self.new.marks } }
         ensures grown { (more : List Mark) × (self.new.marks.marks ≡ self.old.marks.marks ++ more) }
-        ensures goes { (clauses : List (List Literal)) → IsKept self.old → IsWatching clauses self.old.watches.pairs → IsReason clauses number (literals_of self.old.marks.marks) lit → Goes clauses self.old self.new }
+        ensures goes { (clauses : List (List Literal)) → IsKept self.old → IsWatching clauses self.old.watches.watched → IsReason clauses number (literals_of self.old.marks.marks) lit → Goes clauses self.old self.new }
     {
         if self.marks.is_true(lit) {
             return;
@@ -232,7 +285,7 @@ impl Propagator {
     fn force_units(&mut self, base: &Cnf, seen: &[Entry]) -> Option<u64>
         requires within { All (IsWithin self.old.marks.vars) (clauses_in base.now seen.now) }
         requires kept { IsKept self.old }
-        requires watching { IsWatching (clauses_in base.now seen.now) self.old.watches.pairs }
+        requires watching { IsWatching (clauses_in base.now seen.now) self.old.watches.watched }
         ensures all { result ≡ None → AreUnitsTrue self.new }
         ensures falsified { IfSome result (λ n. is_falsified_named (clauses_in base.now seen.now) (literals_of self.new.marks.marks) n ≡ true) }
         ensures goes { Goes (clauses_in base.now seen.now) self.old self.new }
@@ -254,16 +307,16 @@ impl Propagator {
     fn force_unit(&mut self, base: &Cnf, seen: &[Entry], k: usize) -> bool
         requires within { All (IsWithin self.old.marks.vars) (clauses_in base.now seen.now) }
         requires kept { IsKept self.old }
-        requires watching { IsWatching (clauses_in base.now seen.now) self.old.watches.pairs }
-        requires alone { (p : Watch) × (slice_get self.old.watches.pairs k ≡ Some p) × (p.first ≡ p.second) }
-        ensures forced { OnTrue result ((p : Watch) → slice_get self.old.watches.pairs k ≡ Some p → Contains (literals_of self.new.marks.marks) p.first) }
+        requires watching { IsWatching (clauses_in base.now seen.now) self.old.watches.watched }
+        requires alone { (l : Literal) × (slice_get self.old.watches.watched k ≡ Some (l ∷ [])) }
+        ensures forced { OnTrue result ((l : Literal) → slice_get self.old.watches.watched k ≡ Some (l ∷ []) → Contains (literals_of self.new.marks.marks) l) }
         ensures falsified { OnFalse result (is_falsified_named (clauses_in base.now seen.now) (literals_of self.new.marks.marks) (k + 1) ≡ true) }
         ensures goes { Goes (clauses_in base.now seen.now) self.old self.new }
         ensures watches { self.new.watches ≡ self.old.watches }
         ensures done { self.new.done ≡ self.old.done }
         ensures small { k + 1 < 2 ^ 64 }
     {
-        let lit = self.watches.pair(k).first;
+        let lit = self.watches.single(k);
         if self.marks.is_false(lit) {
             return false;
         }
@@ -299,15 +352,17 @@ impl Propagator {
         if k >= self.watches.len() {
             return Ok(Step::Next);
         }
-        let Some(other) = self.watches.pair(k).other(falsified) else {
+        let lits = self.watches.clause(k);
+        let Some(side) = side_of(lits, falsified) else {
             return Ok(Step::Next);
         };
+        let other = side.other;
         if self.marks.is_true(other) {
             return Ok(Step::Next);
         }
-        let clause = clause_at(base, seen, k);
-        if let Some(next) = other_unfalsified(&self.marks, clause.lits(), other) {
-            self.watches.rewatch(falsified, i, k, next)?;
+        if let Some(next) = open_literal(&self.marks, lits) {
+            self.watches
+                .rewatch(i, k, side.place, next.place, falsified, next.lit)?;
             return Ok(Step::Again);
         }
         if self.marks.is_false(other) {
@@ -349,7 +404,7 @@ impl Propagator {
         requires next { self.old.place < length self.old.marks.marks }
         requires within { All (IsWithin self.old.marks.vars) (clauses_in base.now seen.now) }
         requires kept { IsKept self.old }
-        requires watching { IsWatching (clauses_in base.now seen.now) self.old.watches.pairs }
+        requires watching { IsWatching (clauses_in base.now seen.now) self.old.watches.watched }
         ensures place { result ≡ Ok None → self.new.place ≡ self.old.place + 1 }
         ensures falsified { (n : ℕ) → result ≡ Ok (Some n) → is_falsified_named (clauses_in base.now seen.now) (literals_of self.new.marks.marks) n ≡ true }
         ensures goes { Goes (clauses_in base.now seen.now) self.old self.new }
@@ -384,7 +439,7 @@ impl Propagator {
     pub fn propagate(&mut self, base: &Cnf, seen: &[Entry]) -> Result<Option<u64>, AllocError>
         requires within { All (IsWithin self.old.marks.vars) (clauses_in base.now seen.now) }
         requires kept { IsKept self.old }
-        requires watching { IsWatching (clauses_in base.now seen.now) self.old.watches.pairs }
+        requires watching { IsWatching (clauses_in base.now seen.now) self.old.watches.watched }
         ensures place { result ≡ Ok None → self.new.place ≡ length self.new.marks.marks }
         ensures quiet { result ≡ Ok None → IsQuiet (clauses_in base.now seen.now) (literals_of self.new.marks.marks) }
         ensures falsified { (n : ℕ) → result ≡ Ok (Some n) → is_falsified_named (clauses_in base.now seen.now) (literals_of self.new.marks.marks) n ≡ true }

@@ -37,7 +37,7 @@ pub struct Trail {
 impl Model for Trail {
     ghost Value = { TrailModel };
 
-    ghost view = { λ t. record { vars = t.state.marks.vars; marks = t.state.marks.marks; watched = t.state.watches.pairs; looked = t.state.place } };
+    ghost view = { λ t. record { vars = t.state.marks.vars; marks = t.state.marks.marks; watched = t.state.watches.watched; looked = t.state.place } };
 
     ghost invariant = { λ t. IsKept t.state };
 }

@@ -13,15 +13,15 @@ use Rattle.unit_propagate.specs.Watches.{WatchList}
 use Rattle.unit_propagate.proofs.PropagatorLemmas.{reason_at}
 use Rattle.unit_propagate.proofs.StepLemmas.{list_fits}
 use Rattle.unit_propagate.proofs.ForceLemmas.{one_literal}
-use Rattle.unit_propagate.proofs.RewatchLemmas.{Goes-added, forced_added}
+use Rattle.unit_propagate.proofs.RewatchLemmas.{Goes-added, forced_added, one_watch}
 use Rattle.unit_propagate.proofs.propagator.Propagator.watch_forced.Goals as goal
 use Rattle.unit_propagate.proofs.propagator.Propagator.watch_forced.Goals.{After-negated-second}
 
 pub returns-in_default-clause-goes : goal.returns-in_default-clause-goes
 returns-in_default-clause-goes c = λ clauses w named.
     let lone = one_literal c.args.clause.now c.args.first c.requires.sorted c.requires.member (rw c.lits.ensures.value at c.in_default.ensures.none) in
-    Goes-added clauses c.args.self.now c.add_alone.new.self (record { first = c.args.first; second = c.args.first }) c.args.clause.now c.add_alone.result c.add_alone.ensures.ok c.add_alone.ensures.err
-    c.requires.kept w named (record { first = c.requires.member; second = c.requires.member; different = λ _. lone }) (λ n. absurd (n refl))
+    Goes-added clauses c.args.self.now c.add_alone.new.self c.args.first c.args.clause.now c.add_alone.result c.add_alone.ensures.ok c.add_alone.ensures.err
+    c.requires.kept w named (one_watch c.args.clause.now c.args.first lone)
 
 pub lower-requires : goal.lower-requires
 lower-requires c =
@@ -65,16 +65,13 @@ add-requires-clause-second_fits c = λ h.
     subst (λ (x : WatchList). code_of c.negated-second.result < length x.rows) (sym e)
     (list_fits c.args.self.now c.negated-second.result c.requires.kept (All-contains (λ (x : Literal). x.var ≤ c.args.self.now.marks.vars) c.args.clause.now c.negated-second.result c.requires.within (second_in p)) h)
 
-pub add-requires-clause-different : goal.add-requires-clause-different
-add-requires-clause-different c = second_other (goal.at.add-requires-clause-different c).After-negated-second
-
 pub returns-clause-goes : goal.returns-clause-goes
 returns-clause-goes c = λ clauses w named.
     let p = (goal.at.returns-clause-goes c).After-negated-second in
     let g = c.make_true.ensures.grown in
     let reason : IsReason clauses (c.len.result + 1) (literals_of c.args.self.now.marks.marks) c.args.first =
     subst (λ n. IsReason clauses (n + 1) (literals_of c.args.self.now.marks.marks) c.args.first) (sym c.len.ensures.value)
-    (reason_at clauses (literals_of c.args.self.now.marks.marks) (length c.args.self.now.watches.pairs) c.args.clause.now c.args.first named c.requires.member c.requires.others) in
+    (reason_at clauses (literals_of c.args.self.now.marks.marks) (length c.args.self.now.watches.watched) c.args.clause.now c.args.first named c.requires.member c.requires.others) in
     forced_added clauses c.args.self.now c.make_true.new.self c.lower.new.self c.in-Some.place c.at.result c.args.first c.negated-second.result g.0 c.add.new.self c.args.clause.now c.add.result
     c.make_true.ensures.others c.lower.ensures.others (c.make_true.ensures.goes clauses c.requires.kept w reason) g.1 c.lower.ensures.trail c.requires.alive c.make_true.ensures.now_true c.at.ensures.value
-    c.lower.ensures.less c.lower.ensures.low c.requires.kept c.negated-second.ensures (second_other p) c.add.ensures.ok c.add.ensures.err named c.requires.member (second_in p)
+    c.lower.ensures.less c.lower.ensures.low c.requires.kept c.negated-second.ensures (second_other p) (rw c.lits-2.ensures.value at c.add.ensures.ok) c.add.ensures.err named c.requires.sorted c.requires.member (second_in p)

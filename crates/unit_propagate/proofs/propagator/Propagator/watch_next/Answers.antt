@@ -5,12 +5,12 @@ use Rattle.clause_base.specs.Clause.{IsWithin}
 use Rattle.unit_propagate.proofs.Places.{All-slice_get}
 use Rattle.unit_propagate.proofs.PropagatorLemmas.{falsified_at}
 use Rattle.unit_propagate.proofs.StepLemmas.{list_fits}
-use Rattle.unit_propagate.proofs.RewatchLemmas.{Goes-adds, guard_alive, clause_within}
+use Rattle.unit_propagate.proofs.RewatchLemmas.{Goes-watched, Goes-keeps, clause_within}
 use Rattle.unit_propagate.proofs.propagator.Propagator.watch_next.Goals as goal
 
 pub returns-in_default-clause-falsified : goal.returns-in_default-clause-falsified
 returns-in_default-clause-falsified c = λ _.
-    falsified_at (clauses_in c.args.base.now c.args.seen.now) (literals_of c.args.self.now.marks.marks) (length c.args.self.now.watches.pairs) c.clause_at-clause.result.now
+    falsified_at (clauses_in c.args.base.now c.args.seen.now) (literals_of c.args.self.now.marks.marks) (length c.args.self.now.watches.watched) c.clause_at-clause.result.now
     (rw c.len.ensures.value at c.clause_at-clause.ensures) (rw c.lits.ensures.value at c.in_default.ensures.none)
 
 pub add-requires-clause-first_fits : goal.add-requires-clause-first_fits
@@ -33,10 +33,10 @@ pub returns-in_ok-add-in-Some-other_unfalsified-clause-goes : goal.returns-in_ok
 returns-in_ok-add-in-Some-other_unfalsified-clause-goes c =
     let first = c.in-Some.ensures.some in
     let second = c.in-Some-other_unfalsified.ensures.some in
-    Goes-adds (clauses_in c.args.base.now c.args.seen.now) c.args.self.now c.add.new.self (record { first = c.in-Some.first; second = c.in-Some-other_unfalsified.second }) c.clause_at-clause.result.now
-    c.requires.kept c.requires.watching c.in_ok-add-in-Some-other_unfalsified.ensures.ok (rw c.len.ensures.value at c.clause_at-clause.ensures)
-    (record { first = rw c.lits.ensures.value at first.0; second = rw c.lits-2.ensures.value at second.0; different = λ e. absurd (second.1 (sym e)) })
-    (λ _. (
-      guard_alive c.args.self.now.marks.marks c.args.self.now.place c.args.self.now.kept c.in-Some.first c.in-Some-other_unfalsified.second first.1,
-      guard_alive c.args.self.now.marks.marks c.args.self.now.place c.args.self.now.kept c.in-Some-other_unfalsified.second c.in-Some.first second.2,
-    ))
+    Goes-watched (clauses_in c.args.base.now c.args.seen.now) c.args.self.now c.add.new.self c.clause_at-clause.result.now c.in-Some.first c.in-Some-other_unfalsified.second
+    c.requires.kept c.requires.watching (rw c.lits-in-Some-other_unfalsified.ensures.value at c.in_ok-add-in-Some-other_unfalsified.ensures.ok) (rw c.len.ensures.value at c.clause_at-clause.ensures) c.lits.ensures.sorted
+    (rw c.lits.ensures.value at first.0) (rw c.lits-2.ensures.value at second.0) (λ e. second.1 (sym e)) first.1 second.2
+
+pub returns-in_err-add-in-Some-other_unfalsified-clause-goes : goal.returns-in_err-add-in-Some-other_unfalsified-clause-goes
+returns-in_err-add-in-Some-other_unfalsified-clause-goes c =
+    Goes-keeps (clauses_in c.args.base.now c.args.seen.now) c.args.self.now c.add.new.self c.requires.kept c.requires.watching c.in_err-add-in-Some-other_unfalsified.ensures.err

@@ -1,0 +1,8 @@
+use Rattle.std.proofs.Common.{◌≡◌, ℕ, ◌<◌, ◌≤◌, ◌+◌, Some, Contains, length, slice_get, sym, subst, ap, ◌∙◌, arith}
+use Rattle.clause_base.specs.Literal.{Literal, negated}
+use Rattle.unit_propagate.specs.Trail.{literals_of}
+use Rattle.unit_propagate.proofs.StepLemmas.{false_more, false_all}
+use Rattle.unit_propagate.proofs.propagator.open_literal.Goals as goal
+
+pub returns-clause-none : goal.returns-clause-none
+returns-clause-none c = false_all c.args.marks.now.marks c.args.lits.now c.loop-place.place (omega arith) c.loop-place.invariant
