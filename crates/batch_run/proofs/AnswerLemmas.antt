@@ -1,11 +1,11 @@
 -- Answers and slots as they are added and filled.
-use Rattle.std.proofs.Common.{◌≡◌, ℕ, zero, suc, ◌+◌, ◌<◌, ◌≤◌, ◌⊎◌, inl, inr, List, [], ◌∷◌, ◌++◌, All, length, drop, replicate, set, refl, sym, ◌∙◌, ap, subst, arith}
+use Rattle.std.proofs.Common.{◌≡◌, ℕ, zero, suc, ◌+◌, ◌<◌, ◌⊎◌, inl, inr, List, [], ◌∷◌, ◌++◌, All, length, drop, replicate, set, refl, sym, ◌∙◌, ap, subst, arith}
 use Rattle.std.specs.Prelude.{Vec, Option, Some, None, Result, Ok, slice_get}
 use Rattle.std.specs.Vec.{with_items}
 use Rattle.std.proofs.lemmas.List.{length-replicate, with_items_is}
 use Rattle.std.proofs.lemmas.Option.{slice_get_cases}
 use Rattle.batch_run.specs.declared.placed.Placed.{Placed}
-use Rattle.batch_run.specs.Answers.{AreAnswers, AreKept, EachAnswers, IsPlacedAnswer}
+use Rattle.batch_run.specs.Answers.{AreKept, EachAnswers, IsPlacedAnswer}
 
 some_is : {X : Type 0} (x y : X) → Some x ≡ Some y → x ≡ y
 some_is x y h = cc

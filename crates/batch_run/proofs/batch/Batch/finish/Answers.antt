@@ -1,5 +1,4 @@
-use Rattle.std.proofs.Common.{◌≡◌, ℕ, ◌+◌, ◌∷◌, [], drop, length, length-append, sym, ◌∙◌, ap, subst, arith}
-use Rattle.batch_run.specs.Answers.{EachAnswers}
+use Rattle.std.proofs.Common.{◌≡◌, ℕ, ◌+◌, ◌∷◌, [], drop, length, length-append, ◌∙◌, ap, arith}
 use Rattle.batch_run.proofs.AnswerLemmas.{drop-more, finish-step}
 use Rattle.batch_run.proofs.batch.Batch.finish.Goals as goal
 
