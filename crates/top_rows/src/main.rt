@@ -4,7 +4,9 @@
 //! `file NAME` keeps the lines below it under that name. The other ways run the program. `run WORDS`: on these words. `shelf K WORDS` and
 //! `sink K WORDS`: with the K-th call of the shelf or the sink failing. `sinks N WORDS`: with each of the first N calls of the sink
 //! failing in turn; of each run stand its status and the number of lines that were written. `keep NAME WORDS`: what is
-//! written is kept under that name, and its verdict alone is printed. `fronts NAME WORDS`: with each front of whole lines of that file in its place, the
+//! written is kept under that name, and its verdict alone is printed. `undecided NAME WORDS`: what is written is kept, and whether a log is full
+//! that left it undecided if a machine is the smallest, or if there is one. `status WORDS`: of the run stands its status alone. `held WORDS`: with a gate
+//! that holds one worker back until another has added to the same log; behind the run stands whether they met there. `fronts NAME WORDS`: with each front of whole lines of that file in its place, the
 //! whole file apart. `unended NAME WORDS`, `zeroed NAME WORDS` and `long NAME WORDS`: with the file without its last byte, with a zero
 //! byte in place of its first one, and with as many bytes as no text may have. What the stored run must print follows from the definitions alone.
 #![tactic(auto)]
@@ -12,7 +14,8 @@
 mod runs;
 
 use anyhow::{Context, bail};
-use runs::{Ended, Faults, File, NO_FAULTS, run_on};
+use outside_edge::HoldGate;
+use runs::{Ended, Faults, File, NO_FAULTS, run_on, run_through};
 use std::alloc::{AllocError, Global};
 use std::io::{self, Write};
 use std::sync::Wait;
@@ -184,6 +187,60 @@ fn push_failing<R: Threads + Wait + Sync>(
     Ok(())
 }
 
+/// Keeps what was written, where a log is full, so that a machine needn't be the smallest or none was found. Which of both comes
+/// depends on the schedule.
+fn push_undecided<R: Threads + Wait + Sync>(
+    rt: &R,
+    alloc: Global,
+    files: &mut Vec<File>,
+    rest: &str,
+    out: &mut Vec<u8>,
+) -> anyhow::Result<()> {
+    let (name, words) = rest.split_once(' ').context("no name")?;
+    let ended = run_on(rt, alloc, words, files, NO_FAULTS)?;
+    let verdict = verdict_line(&ended.written);
+    let status = ended.status;
+    let is_undecided = match status {
+        11 => verdict.starts_with(b"verdict bounded "),
+        30 => verdict.starts_with(b"verdict unknown entries "),
+        _ => false,
+    };
+    let line = format!(in alloc; "undecided {is_undecided}\n")?;
+    out.extend_from_slice(line.as_bytes())?;
+    files.push(File::new(alloc, name, &ended.written)?)?;
+    Ok(())
+}
+
+/// What comes of a run whose workers pass a gate that holds one of them back.
+fn push_held<R: Threads + Wait + Sync>(
+    rt: &R,
+    alloc: Global,
+    files: &[File],
+    words: &str,
+    out: &mut Vec<u8>,
+) -> anyhow::Result<()> {
+    let gate = HoldGate::new();
+    let ended = run_through(rt, alloc, words, files, NO_FAULTS, &gate)?;
+    push_ended(alloc, &ended, out)?;
+    let line = format!(in alloc; "met {}\n", gate.met())?;
+    out.extend_from_slice(line.as_bytes())?;
+    Ok(())
+}
+
+/// The status of a run.
+fn push_status<R: Threads + Wait + Sync>(
+    rt: &R,
+    alloc: Global,
+    files: &[File],
+    words: &str,
+    out: &mut Vec<u8>,
+) -> anyhow::Result<()> {
+    let ended = run_on(rt, alloc, words, files, NO_FAULTS)?;
+    let line = format!(in alloc; "status {}\n", ended.status)?;
+    out.extend_from_slice(line.as_bytes())?;
+    Ok(())
+}
+
 /// Keeps a file, or adds what comes of a run.
 fn push_row<R: Threads + Wait + Sync>(
     rt: &R,
@@ -209,6 +266,9 @@ fn push_row<R: Threads + Wait + Sync>(
         "shelf" | "sink" => push_failing(rt, alloc, files, way, rest, out),
         "sinks" => push_sink_faults(rt, alloc, files, rest, out),
         "keep" => push_kept(rt, alloc, files, rest, out),
+        "undecided" => push_undecided(rt, alloc, files, rest, out),
+        "held" => push_held(rt, alloc, files, rest, out),
+        "status" => push_status(rt, alloc, files, rest, out),
         "fronts" => push_fronts(rt, alloc, files, rest, out),
         "unended" | "zeroed" | "long" => push_cut(rt, alloc, files, way, rest, out),
         _ => bail!("no such way"),

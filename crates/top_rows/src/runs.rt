@@ -1,7 +1,7 @@
 //! Runs of the program over files and a sink in memory.
 
 use boundsyn_top::run;
-use outside_edge::{FileBytes, MemoryShelf, MemorySink, OpenGate};
+use outside_edge::{FileBytes, Gate, MemoryShelf, MemorySink, OpenGate};
 use std::alloc::{AllocError, Global};
 use std::sync::Wait;
 use std::thread::Threads;
@@ -59,10 +59,22 @@ pub fn run_on<R: Threads + Wait + Sync>(
     files: &[File],
     faults: Faults,
 ) -> Result<Ended, AllocError> {
+    run_through(rt, alloc, words, files, faults, &OpenGate)
+}
+
+/// The same, with a gate that workers pass.
+pub fn run_through<R: Threads + Wait + Sync, G: Gate + Sync>(
+    rt: &R,
+    alloc: Global,
+    words: &str,
+    files: &[File],
+    faults: Faults,
+    gate: &G,
+) -> Result<Ended, AllocError> {
     let mut shelf = MemoryShelf::new(alloc, held(alloc, files)?, numbers(alloc, faults.shelf)?);
     let mut sink = MemorySink::new(alloc, numbers(alloc, faults.sink)?);
     let words = words_in(alloc, words)?;
-    let status = run(rt, alloc, &words, &mut shelf, &mut sink, &OpenGate);
+    let status = run(rt, alloc, &words, &mut shelf, &mut sink, gate);
     Ok(Ended {
         status,
         written: Vec::from_slice(alloc, sink.bytes())?,
