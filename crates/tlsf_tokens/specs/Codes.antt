@@ -23,6 +23,7 @@ number_of code.TargetDiffers = 16
 number_of code.Unsupported = 17
 number_of code.AutomatonTooLarge = 18
 number_of code.ExpandTooLong = 19
+number_of code.TooManyGuarantees = 20
 
 abbrev pub name_of : SpecCode → List ℕ
 name_of code.TooLong = codes "TooLong"
@@ -44,3 +45,4 @@ name_of code.TargetDiffers = codes "TargetDiffers"
 name_of code.Unsupported = codes "Unsupported"
 name_of code.AutomatonTooLarge = codes "AutomatonTooLarge"
 name_of code.ExpandTooLong = codes "ExpandTooLong"
+name_of code.TooManyGuarantees = codes "TooManyGuarantees"

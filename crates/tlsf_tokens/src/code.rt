@@ -28,10 +28,11 @@ pub enum SpecCode {
     Unsupported = 17,
     AutomatonTooLarge = 18,
     ExpandTooLong = 19,
+    TooManyGuarantees = 20,
 }
 
 impl SpecCode {
-    /// The number that a refusal is printed with, 1 to 19.
+    /// The number that a refusal is printed with, 1 to 20.
     pub fn number(self) -> u8
         ensures { result ≡ number_of self }
     {
@@ -62,6 +63,7 @@ impl SpecCode {
             SpecCode::Unsupported => "Unsupported",
             SpecCode::AutomatonTooLarge => "AutomatonTooLarge",
             SpecCode::ExpandTooLong => "ExpandTooLong",
+            SpecCode::TooManyGuarantees => "TooManyGuarantees",
         }
     }
 }
