@@ -9,9 +9,12 @@ use crate::nodes::{FormulaId, MAX_NODES, Node};
 use std::alloc::AllocError;
 use text_base::Name;
 
+/// The most bytes of a text that is written.
+const LONGEST: usize = 1 << 27;
+
 /// Appends the text of the formula, with `names[s]` for signal s. Every operator but `!` has its brackets.
-/// The text can be exponentially longer than the list of nodes, so its length is found first; where there is no
-/// room for it, `out` stays as it was.
+/// The text can be exponentially longer than the list of nodes, so its length is found first. A text of over 2^27 bytes is never
+/// written; there and where there is no room for it, memory is wanted, and `out` stays as it was.
 pub fn write_formula(
     formulas: &Formulas,
     f: FormulaId,
@@ -23,7 +26,11 @@ pub fn write_formula(
     ensures ok { OnOk result (out.new.items ≡ out.old.items ++ formula_text names.now (tree_at formulas.now f)) }
     ensures err { OnErr result (out.new.items ≡ out.old.items) }
 {
-    out.reserve(text_len(formulas, f, names))?;
+    let length = text_len(formulas, f, names);
+    if length > LONGEST {
+        return Err(AllocError);
+    }
+    out.reserve(length)?;
     let start = out.len();
     let written = write_node(formulas, f, names, out);
     if written.is_err() {
