@@ -11,3 +11,4 @@ pub mod TrueAccepted
 pub mod Accepting
 pub mod Ordered
 pub mod LimitsKept
+pub mod TableLemmas

@@ -1,6 +1,7 @@
 pub mod Occurring
 pub mod Explored
 pub mod Sizes
+pub mod CoverTable
 pub mod Built
 pub mod Limits
 pub mod Laws

@@ -6,11 +6,12 @@ ghost use Rattle.cobuchi_build.specs.Limits.{NamesSignalsOf};
 ghost use Rattle.cobuchi_build.specs.Occurring.{untils_of};
 ghost use Rattle.machine_model.specs.Automaton.{states_of};
 
+use crate::cover_table::CoverTable;
 use crate::exploring::Found;
 use crate::untils::untils_of;
 use ltl_formula::{FormulaId, Formulas};
 use machine_model::Automaton;
-use obligation_sets::{CoverFault, covers};
+use obligation_sets::CoverFault;
 use std::alloc::{AllocError, AllocFailed, Global};
 
 /// The largest number of states that an automaton may have.
@@ -64,8 +65,8 @@ impl From<CoverFault> for BuildFault {
 }
 
 /// The automaton of a formula in normal form, which accepts exactly the lassos on which the formula is true. States and
-/// edges are found by hashing. It takes time for each leaf of each state's set, as much as there are formulas, and for
-/// each cover, as much as there are untils.
+/// edges are found by hashing. It takes time for each leaf of each set, as much as there are formulas, and for each cover
+/// of each state, as much as there are untils.
 pub fn build(alloc: Global, formulas: &Formulas, f: FormulaId) -> Result<Automaton, BuildFault>
     requires stands { Stands formulas.now f }
     requires normal { IsNormal (tree_at formulas.now f) }
@@ -107,11 +108,13 @@ fn explore(
     ensures nodes { result ≡ Err BuildFault.TooManyNodes → ⊥ }
 {
     let mut found = Found::start(alloc, f)?;
+    let mut table = CoverTable::new(alloc);
     let mut number = 0;
     while let Some(state) = found.state(number) {
         let counter = state.counter;
-        let covers = covers(alloc, formulas, &state.set)?;
-        found.expand(alloc, untils, number as u32, counter, &covers)?;
+        let place = table.place(alloc, formulas, &state.set)?;
+        let covers = table.at(place);
+        found.expand(alloc, untils, number as u32, counter, covers)?;
         number += 1;
     }
     Ok(found)

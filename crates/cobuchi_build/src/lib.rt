@@ -5,6 +5,7 @@
 #![tactic(auto)]
 
 mod building;
+mod cover_table;
 mod exploring;
 pub mod laws;
 mod untils;

@@ -1,31 +1,41 @@
-use Rattle.std.proofs.Common.{◌≡◌, ◌<◌, Err, Some, ap, arith, slice_get, sym, ◌∙◌}
+use Rattle.std.proofs.Common.{◌≡◌, ◌<◌, Err, Some, ap, arith, slice_get, sym}
 use Rattle.std.proofs.lemmas.Result.{err_from_is_err_and}
+use Rattle.std.proofs.lemmas.Option.{slice_get_within}
+use Rattle.obligation_sets.specs.Covers.{covers_of}
 use Rattle.cobuchi_build.proofs.Along.{along_end, along_next, along_start, leaves_fault, number_few, same_fault, state_counter, state_stands, too_many_leaves, too_many_met, untils_below, within_limits}
+use Rattle.cobuchi_build.proofs.TableLemmas.{same_covers}
 use Rattle.cobuchi_build.proofs.building.explore.Goals as goal
-use Rattle.cobuchi_build.proofs.building.explore.Goals.{In-Some}
+use Rattle.cobuchi_build.proofs.building.explore.Goals.{In-Some, After-at-covers}
 
 -- the state of this round
 at : (c : In-Some) → slice_get c.loop-state.found.states c.loop-state.number ≡ Some c.in-Some.state.now
 at c = sym c.in-Some.ensures
 
 few : (c : In-Some) → c.loop-state.number < 2000
-few c = number_few c.args.formulas.now c.requires.list c.args.f c.requires.stands c.requires.normal c.args.untils.now c.loop-state.number c.loop-state.found c.loop-state.invariant c.in-Some.state.now (at c)
+few c = number_few c.args.formulas.now c.requires.list c.args.f c.requires.stands c.requires.normal c.args.untils.now c.loop-state.number c.loop-state.found c.loop-state.invariant.0 c.in-Some.state.now (at c)
 
 pub loop-state-init : goal.loop-state-init
-loop-state-init c = along_start c.args.formulas.now c.args.untils.now c.args.f _ c.in_ok-found.ensures
+loop-state-init c = (along_start c.args.formulas.now c.args.untils.now c.args.f _ c.in_ok-found.ensures, c.new-table.ensures c.args.formulas.now)
 
-pub covers-requires : goal.covers-requires
-covers-requires c =
-    state_stands c.args.formulas.now c.requires.list c.args.f c.requires.stands c.requires.normal c.args.untils.now c.loop-state.number c.loop-state.found c.loop-state.invariant c.in-Some.state.now
-    (at (goal.at.covers-requires c).In-Some)
+pub place-requires-clause-stands : goal.place-requires-clause-stands
+place-requires-clause-stands c =
+    state_stands c.args.formulas.now c.requires.list c.args.f c.requires.stands c.requires.normal c.args.untils.now c.loop-state.number c.loop-state.found c.loop-state.invariant.0 c.in-Some.state.now
+    (at (goal.at.place-requires-clause-stands c).In-Some)
 
-pub returns-in_err-covers-clause-too_large : goal.returns-in_err-covers-clause-too_large
-returns-in_err-covers-clause-too_large c =
-    let p = err_from_is_err_and c.from_residual-in_err-covers.result c.from_residual-in_err-covers.ensures.1 in
+pub returns-in_err-place-clause-too_large : goal.returns-in_err-place-clause-too_large
+returns-in_err-place-clause-too_large c =
+    let p = err_from_is_err_and c.from_residual-in_err-place.result c.from_residual-in_err-place.ensures.1 in
     λ e.
-    too_many_leaves c.args.formulas.now c.requires.list c.args.f c.requires.stands c.requires.normal c.args.untils.now c.loop-state.number c.loop-state.found c.loop-state.invariant c.in-Some.state.now
-    (at (goal.at.returns-in_err-covers-clause-too_large c).In-Some) c.requires.untils
-    (c.in_err-covers.ensures.too_many (ap Err (leaves_fault _ _ _ p.1 p.2 e)))
+    too_many_leaves c.args.formulas.now c.requires.list c.args.f c.requires.stands c.requires.normal c.args.untils.now c.loop-state.number c.loop-state.found c.loop-state.invariant.0 c.in-Some.state.now
+    (at (goal.at.returns-in_err-place-clause-too_large c).In-Some) c.requires.untils
+    (c.in_err-place.ensures.too_many (ap Err (leaves_fault _ _ _ p.1 p.2 e)))
+
+-- the covers that stand at the place are those of the set
+covers_are : (c : After-at-covers) → c.at-covers.result.now ≡ covers_of c.args.formulas.now c.in-Some.state.now.set
+covers_are c = same_covers c.place.new.self.covers c.in_ok-place.place _ _ c.at-covers.ensures c.in_ok-place.ensures.covers
+
+pub at-covers-requires : goal.at-covers-requires
+at-covers-requires c = slice_get_within _ _ _ c.in_ok-place.ensures.covers
 
 pub overflow_cast-number : goal.overflow_cast-number
 overflow_cast-number c = let h = few (goal.at.overflow_cast-number c).In-Some in omega (arith, h)
@@ -35,15 +45,15 @@ expand-requires-clause-few c = untils_below c.args.formulas.now c.args.f c.args.
 
 pub expand-requires-clause-counter : goal.expand-requires-clause-counter
 expand-requires-clause-counter c =
-    state_counter c.args.formulas.now c.requires.list c.args.f c.requires.stands c.requires.normal c.args.untils.now c.loop-state.number c.loop-state.found c.loop-state.invariant c.in-Some.state.now
+    state_counter c.args.formulas.now c.requires.list c.args.f c.requires.stands c.requires.normal c.args.untils.now c.loop-state.number c.loop-state.found c.loop-state.invariant.0 c.in-Some.state.now
     (at (goal.at.expand-requires-clause-counter c).In-Some)
 
 pub returns-in_err-expand-clause-too_large : goal.returns-in_err-expand-clause-too_large
 returns-in_err-expand-clause-too_large c =
     let p = err_from_is_err_and c.from_residual-in_err-expand.result c.from_residual-in_err-expand.ensures.1 in
     λ e.
-    too_many_met c.args.formulas.now c.requires.list c.args.f c.requires.stands c.requires.normal c.args.untils.now c.loop-state.number c.loop-state.found c.loop-state.invariant c.in-Some.state.now
-    (at (goal.at.returns-in_err-expand-clause-too_large c).In-Some) c.requires.untils _ (c.deref.ensures.value ∙ c.in_ok-covers.ensures.covers)
+    too_many_met c.args.formulas.now c.requires.list c.args.f c.requires.stands c.requires.normal c.args.untils.now c.loop-state.number c.loop-state.found c.loop-state.invariant.0 c.in-Some.state.now
+    (at (goal.at.returns-in_err-expand-clause-too_large c).In-Some) c.requires.untils _ (covers_are (goal.at.returns-in_err-expand-clause-too_large c).After-at-covers)
     (c.in_err-expand.ensures.too_large (ap Err (same_fault _ _ _ p.1 p.2 e)))
 
 pub overflow_add-number : goal.overflow_add-number
@@ -53,14 +63,16 @@ pub loop-state-smaller : goal.loop-state-smaller
 loop-state-smaller c = let h = few (goal.at.loop-state-smaller c).In-Some in omega (arith, h)
 
 pub loop-state-preserved : goal.loop-state-preserved
-loop-state-preserved c =
-    along_next c.args.formulas.now c.requires.list c.args.f c.requires.stands c.requires.normal c.args.untils.now c.loop-state.number c.loop-state.found c.loop-state.invariant c.in-Some.state.now
-    (at (goal.at.loop-state-preserved c).In-Some) _ c.expand.new.self (c.deref.ensures.value ∙ c.in_ok-covers.ensures.covers) c.in_ok-covers.ensures.few_leaves c.in_ok-expand.ensures.ok c.in_ok-expand.ensures.room
+loop-state-preserved c = (
+  along_next c.args.formulas.now c.requires.list c.args.f c.requires.stands c.requires.normal c.args.untils.now c.loop-state.number c.loop-state.found c.loop-state.invariant.0 c.in-Some.state.now
+      (at (goal.at.loop-state-preserved c).In-Some) _ c.expand.new.self (covers_are (goal.at.loop-state-preserved c).After-at-covers) c.in_ok-place.ensures.few_leaves c.in_ok-expand.ensures.ok c.in_ok-expand.ensures.room,
+  c.in_ok-place.ensures.known,
+)
 
 pub returns-clause-all : goal.returns-clause-all
 returns-clause-all c =
-    along_end c.args.formulas.now c.requires.list c.args.f c.requires.stands c.requires.normal c.args.untils.now c.loop-state.number c.loop-state.found c.loop-state.invariant c.requires.untils (sym c.in_default.ensures)
+    along_end c.args.formulas.now c.requires.list c.args.f c.requires.stands c.requires.normal c.args.untils.now c.loop-state.number c.loop-state.found c.loop-state.invariant.0 c.requires.untils (sym c.in_default.ensures)
 
 pub returns-clause-within : goal.returns-clause-within
 returns-clause-within c =
-    within_limits c.args.formulas.now c.requires.list c.args.f c.requires.stands c.requires.normal c.args.untils.now c.loop-state.number c.loop-state.found c.loop-state.invariant c.requires.untils (sym c.in_default.ensures)
+    within_limits c.args.formulas.now c.requires.list c.args.f c.requires.stands c.requires.normal c.args.untils.now c.loop-state.number c.loop-state.found c.loop-state.invariant.0 c.requires.untils (sym c.in_default.ensures)

@@ -1,4 +1,4 @@
-use Rattle.std.proofs.Common.{◌≡◌, ltb, rules, ap, sym, ◌∙◌, subst}
+use Rattle.std.proofs.Common.{ltb, rules, ap, sym, ◌∙◌, subst}
 use Rattle.std.proofs.lemmas.Bool.{le-ltb}
 use Rattle.std.proofs.lemmas.List.Sorted.{IsPartitionPoint-from_clause, IsPartitionedBy-ltb}
 use Rattle.ltl_formula.specs.declared.nodes.FormulaId.{FormulaId}
