@@ -1,20 +1,20 @@
 -- The steps of the analysis of a conflict.
-use Rattle.std.proofs.Common.{◌≡◌, ◌≢◌, ℕ, suc, zero, ◌+◌, ◌-◌, ◌<◌, ◌≤◌, nat_eq, Bool, true, false, not, cond, List, [], ◌∷◌, ◌++◌, ◌⊎◌, inl, inr, Option, Some, None, map, reverse, take, slice_get, length, Contains, All, refl, sym, subst, ap, ◌∙◌, true≢false, arith}
+use Rattle.std.proofs.Common.{◌≡◌, ◌≢◌, ℕ, suc, zero, ◌<◌, ◌≤◌, Bool, true, false, not, List, [], ◌∷◌, ◌++◌, ◌⊎◌, inl, inr, Option, Some, None, reverse, take, slice_get, length, Contains, All, refl, sym, subst, ap, ◌∙◌, true≢false, arith}
 use Rattle.std.specs.Option.{option_map_or, option_and_then}
 use Rattle.std.proofs.lemmas.List.{reverse-append, length-take}
-use Rattle.std.proofs.lemmas.List.Elements.{All-contains, Contains-push, Contains-append_left, Contains-append_cases, Contains-push_cases}
+use Rattle.std.proofs.lemmas.List.Elements.{All-contains, Contains-push, Contains-append_left, Contains-push_cases}
 use Rattle.std.proofs.lemmas.Option.{slice_get_within}
 use Rattle.clause_base.specs.Literal.{Literal, negated}
 use Rattle.clause_base.specs.Clause.{IsClause}
-use Rattle.clause_base.specs.Partial.{is_falsified, unit_of, IsUnitIn}
+use Rattle.clause_base.specs.Partial.{is_falsified, unit_of}
 use Rattle.clause_base.proofs.Members.{Contains-head, Contains-later, Contains-none, Contains-cases}
 use Rattle.clause_base.proofs.Tests.{Decides-is_falsified, unit_found}
-use Rattle.refutation_log.specs.Follows.{clause_named, unit_named, is_falsified_named, leads_to_conflict}
+use Rattle.refutation_log.specs.Follows.{clause_named, is_falsified_named, leads_to_conflict}
 use Rattle.unit_propagate.specs.declared.marks.Mark.{Mark}
 use Rattle.unit_propagate.specs.Trail.{IsTrail, literals_of}
-use Rattle.unit_propagate.specs.Sound.{IsReason, IsSound}
-use Rattle.unit_propagate.proofs.Places.{Contains-slice_get, slice_get-Contains, All-from_contains, slice_get-front}
-use Rattle.unit_propagate.proofs.TrailLemmas.{literal-of, mark-of, one_sign}
+use Rattle.unit_propagate.specs.Sound.{IsReason}
+use Rattle.unit_propagate.proofs.Places.{Contains-slice_get, slice_get-Contains, All-from_contains}
+use Rattle.unit_propagate.proofs.TrailLemmas.{literal-of, mark-of}
 use Rattle.unit_propagate.proofs.PropagatorLemmas.{same_literal, negated-negated}
 use Rattle.conflict_learn.specs.Learnt.{level_in, clause_level}
 use Rattle.conflict_learn.specs.Analysis.{HasFalsifier, FalsifiesOne, AreUpTo, IsResolved, IsLeft, IsBefore, IsAfter, IsAnalysis}

@@ -1,18 +1,17 @@
 -- The clause that is learnt at the end of the analysis.
-use Rattle.std.proofs.Common.{◌≡◌, ◌≢◌, ℕ, suc, zero, ◌<◌, ◌≤◌, nat_eq, Bool, true, false, List, [], ◌∷◌, ◌⊎◌, inl, inr, Some, map, reverse, filter, slice_get, length, Contains, All, refl, sym, subst, ap, ◌∙◌, arith}
+use Rattle.std.proofs.Common.{◌≡◌, ℕ, ◌<◌, ◌≤◌, nat_eq, List, [], ◌∷◌, ◌⊎◌, inl, inr, Some, map, reverse, filter, slice_get, length, Contains, refl, sym, subst, ap, ◌∙◌, arith}
 use Rattle.std.proofs.lemmas.Bool.Decides.{Decides-eqb}
 use Rattle.std.proofs.lemmas.List.Elements.{All-contains}
 use Rattle.clause_base.specs.Literal.{Literal, negated}
 use Rattle.clause_base.specs.Clause.{IsClauseOf, IsWithin, HasBadVariable, IsTautology}
-use Rattle.clause_base.specs.Partial.{is_falsified}
 use Rattle.clause_base.proofs.Members.{Contains-head, Contains-later, Contains-none, Contains-cases}
 use Rattle.clause_base.proofs.Tests.{Decides-is_falsified, fails}
-use Rattle.refutation_log.specs.Follows.{Follows, leads_to_conflict}
+use Rattle.refutation_log.specs.Follows.{Follows}
 use Rattle.unit_propagate.specs.declared.marks.Mark.{Mark}
 use Rattle.unit_propagate.specs.Trail.{IsTrail, literals_of}
 use Rattle.unit_propagate.proofs.Places.{Contains-slice_get, All-from_contains}
 use Rattle.unit_propagate.proofs.TrailLemmas.{literal-of, one_sign}
-use Rattle.unit_propagate.proofs.PropagatorLemmas.{same_literal, negated-negated}
+use Rattle.unit_propagate.proofs.PropagatorLemmas.{negated-negated}
 use Rattle.conflict_learn.specs.Learnt.{level_in, clause_level, IsLearnt}
 use Rattle.conflict_learn.specs.Analysis.{IsBefore, IsAfter, IsAnalysis}
 use Rattle.conflict_learn.proofs.LevelLemmas.{level_at, one_passes}

@@ -1,16 +1,15 @@
 -- The level of a variable, and the highest one of a clause.
-use Rattle.std.proofs.Common.{◌≡◌, ◌≢◌, ℕ, suc, zero, ◌+◌, ◌<◌, ◌≤◌, max, nat_eq, Bool, true, false, not, cond, List, [], ◌∷◌, ◌⊎◌, inl, inr, Some, filter, slice_get, length, Contains, All, refl, sym, subst, ap, ◌∙◌, true≢false, arith}
-use Rattle.std.specs.Prelude.{AllPairs}
+use Rattle.std.proofs.Common.{◌≡◌, ◌≢◌, ℕ, suc, zero, ◌<◌, ◌≤◌, nat_eq, Bool, true, false, cond, List, [], ◌∷◌, ◌⊎◌, inl, inr, Some, filter, slice_get, length, Contains, All, refl, sym, subst, ap, ◌∙◌, true≢false, arith}
 use Rattle.std.proofs.lemmas.Bool.Decides.{Decides-eqb}
 use Rattle.std.proofs.lemmas.Bool.{cases_lt}
 use Rattle.std.proofs.lemmas.List.Elements.{All-contains, All-tail}
-use Rattle.clause_base.specs.Literal.{Literal, negated}
+use Rattle.clause_base.specs.Literal.{Literal}
 use Rattle.clause_base.specs.Clause.{IsRisingFrom}
 use Rattle.clause_base.proofs.Members.{Contains-head, Contains-later, Contains-none, Contains-cases, filter-none}
 use Rattle.clause_base.proofs.Rising.{rising_above}
 use Rattle.unit_propagate.specs.declared.marks.Mark.{Mark}
 use Rattle.unit_propagate.specs.Trail.{IsTrail}
-use Rattle.unit_propagate.proofs.Places.{Contains-slice_get, slice_get-Contains, AllPairs-slice_get}
+use Rattle.unit_propagate.proofs.Places.{Contains-slice_get, AllPairs-slice_get}
 use Rattle.unit_propagate.proofs.TrailLemmas.{one_each}
 use Rattle.unit_propagate.proofs.PropagatorLemmas.{same_literal}
 use Rattle.conflict_learn.specs.Learnt.{level_in, clause_level}

@@ -2,7 +2,7 @@
 use Rattle.std.proofs.Common.{◌≡◌, ◌≢◌, ℕ, suc, zero, ◌+◌, ◌-◌, ◌<◌, ◌≤◌, max, not, nat_eq, Bool, true, false, cond, List, [], ◌∷◌, ◌++◌, ◌⊎◌, inl, inr, Option, Some, None, take, drop, get_or, slice_get, length, Contains, All, refl, sym, subst, ap, ◌∙◌, true≢false, arith}
 use Rattle.std.specs.Prelude.{IfNone}
 use Rattle.std.proofs.lemmas.Bool.Decides.{Decides-eqb}
-use Rattle.std.proofs.lemmas.List.{take_more, drop_more, take_all, drop_all}
+use Rattle.std.proofs.lemmas.List.{take_more, drop_more, drop_all}
 use Rattle.std.proofs.lemmas.List.Elements.{All-contains, Contains-push_cases}
 use Rattle.std.proofs.lemmas.Option.{slice_get_within}
 use Rattle.clause_base.specs.Literal.{Literal, negated}
@@ -11,11 +11,11 @@ use Rattle.refutation_log.specs.Follows.{clause_named}
 use Rattle.unit_propagate.specs.declared.marks.Mark.{Mark}
 use Rattle.unit_propagate.specs.Trail.{IsTrail, literals_of}
 use Rattle.unit_propagate.specs.Sound.{IsSound}
-use Rattle.unit_propagate.proofs.Places.{Contains-slice_get, slice_get-Contains}
+use Rattle.unit_propagate.proofs.Places.{Contains-slice_get}
 use Rattle.conflict_learn.specs.Learnt.{clause_level, level_in}
 use Rattle.conflict_learn.specs.Places.{Gains}
 use Rattle.conflict_learn.specs.Analysis.{HasFalsifier, FalsifiesOne, AreUpTo, IsResolved, IsLeft, AddsFalsifier}
-use Rattle.conflict_learn.proofs.LevelLemmas.{level_up, same_mark}
+use Rattle.conflict_learn.proofs.LevelLemmas.{level_up}
 
 -- a literal of the same variable that isn't this one is its opposite
 pub other_sign : (a b : Literal) → a.var ≡ b.var → a ≢ b → a ≡ negated b

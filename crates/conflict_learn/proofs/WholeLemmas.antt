@@ -1,5 +1,5 @@
 -- The steps of the analysis, as the functions make them.
-use Rattle.std.proofs.Common.{◌≡◌, ℕ, ◌-◌, ◌<◌, true, List, [], ◌∷◌, ◌++◌, ◌⊎◌, inl, inr, Some, take, slice_get, length, reverse, Contains, All, refl, sym, subst, ap, ◌∙◌}
+use Rattle.std.proofs.Common.{◌≡◌, ℕ, ◌-◌, ◌<◌, true, List, [], ◌∷◌, ◌++◌, ◌⊎◌, inl, inr, Some, slice_get, length, Contains, All, refl, sym, subst, ap, ◌∙◌}
 use Rattle.std.specs.Prelude.{Result, Ok, Err, OnOk, IfOk}
 use Rattle.clause_base.specs.Literal.{Literal, negated}
 use Rattle.clause_base.specs.Partial.{is_falsified}
@@ -12,7 +12,7 @@ use Rattle.conflict_learn.specs.Learnt.{clause_level}
 use Rattle.conflict_learn.specs.Analysis.{HasFalsifier, FalsifiesOne, IsResolved, IsLeft, IsAnalysis, Resolves}
 use Rattle.conflict_learn.proofs.LevelLemmas.{same_mark}
 use Rattle.conflict_learn.proofs.AnalysisLemmas.{falsified_clause, started, left_kept, resolved}
-use Rattle.conflict_learn.proofs.StepLemmas.{place_of_named, named_again}
+use Rattle.conflict_learn.proofs.StepLemmas.{named_again}
 
 pub on_ok_both : {T E P Q R : Type 0} (r : Result T E) → OnOk r P → OnOk r Q → (P → Q → R) → OnOk r R
 on_ok_both (Ok x) p q f = f p q

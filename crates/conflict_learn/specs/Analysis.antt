@@ -1,4 +1,4 @@
-use Rattle.std.specs.Prelude.{◌≡◌, ◌≢◌, ℕ, ◌<◌, ◌≤◌, ◌⊎◌, true, List, [], ◌∷◌, Option, Some, All, Contains, length, reverse, slice_get}
+use Rattle.std.specs.Prelude.{◌≡◌, ◌≢◌, ℕ, ◌<◌, ◌≤◌, ◌⊎◌, true, List, [], ◌∷◌, Some, All, Contains, length, reverse, slice_get}
 use Rattle.clause_base.specs.Literal.{Literal, negated}
 use Rattle.clause_base.specs.Clause.{IsClause}
 use Rattle.refutation_log.specs.Follows.{clause_named, leads_to_conflict}

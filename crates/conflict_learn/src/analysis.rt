@@ -205,7 +205,7 @@ impl Analysis {
         requires known { IsAnalysis (base.now.clauses.items ++ clauses_of seen.now) trail.now.marks top (length trail.now.marks) self.old.places self.old.lits.items self.old.hints.items }
         ensures { OnOk result ((bound : ℕ) × IsAnalysis (base.now.clauses.items ++ clauses_of seen.now) trail.now.marks top bound [] self.new.lits.items self.new.hints.items) }
     {
-        let mut implications = Implications::new(alloc, base, seen, trail, top);
+        let mut implications = Implications::new(alloc, base, seen, trail, top)?;
         let mut bound = end;
         while let Some(place) = self.places.take_last() {
             prove!(place < bound);

@@ -23,8 +23,7 @@ pub struct Learned {
 /// The clause of the first unique implication point of the falsified clause of that number, without the literals that the others imply.
 ///
 /// The hints stand in the order in which their clauses become unit, those of level 0 among them. Takes time in proportion to the
-/// literals of the clauses that are resolved, and of the reasons that are gone through for what is implied, but for sorted sets of their
-/// places on the trail.
+/// trail, the literals of the clauses that are resolved, and those of the reasons that are gone through for what is implied.
 pub fn learn(
     alloc: Global,
     base: &Cnf,

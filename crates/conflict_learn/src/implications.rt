@@ -1,5 +1,3 @@
-ghost use Rattle.std.specs.Prelude.{◌<◌, All, IfSome, OnOk};
-
 use crate::clauses::clause_of;
 use crate::places::Places;
 use clause_base::{Clause, Cnf};
@@ -21,14 +19,31 @@ impl Levels {
     }
 }
 
+/// What is known of a literal of the trail.
+#[derive(Clone, Copy, Debug, PartialEq, Eq)]
+enum Fate {
+    Unknown,
+    /// It is implied if those are that its reason wants.
+    Wanted,
+    /// The literals to come imply it.
+    Implied,
+    /// When it was looked at, they didn't.
+    Left,
+}
+
 /// Which literals of a conflict's analysis the others imply. What is learnt is right whatever is answered here.
 #[derive(Drop)]
 pub struct Implications<'a> {
-    alloc: Global,
     base: &'a Cnf,
     seen: &'a [Entry],
     trail: &'a Trail,
     top: u32,
+
+    // What is known of the literal at each place; it stays so for the whole conflict.
+    fates: Vec<Fate>,
+
+    // The places of the literals that are wanted, each once.
+    wanted: Vec<usize>,
 
     // Those of the literals that were to come when the first one below the top was looked at.
     levels: Option<Levels>,
@@ -42,37 +57,33 @@ impl<'a> Implications<'a> {
         seen: &'a [Entry],
         trail: &'a Trail,
         top: u32,
-    ) -> Implications<'a> {
-        Implications {
-            alloc,
+    ) -> Result<Implications<'a>, AllocError> {
+        Ok(Implications {
             base,
             seen,
             trail,
             top,
+            fates: vec![in alloc; Fate::Unknown; trail.len()]?,
+            wanted: Vec::new(alloc),
             levels: None,
-        }
+        })
     }
 
     /// Whether the literals at the places to come imply the one at a place below the top: the other literals of its reason stand at these
-    /// places or on level 0, or are implied in turn. Goes through each reason once, and stops at a level that no literal to come has.
+    /// places or on level 0, or are implied in turn. Goes through each reason once for each conflict, but for those of literals that are
+    /// left, and stops at a level that no literal to come has.
     pub fn imply(&mut self, to_come: &Places, place: usize) -> Result<bool, AllocError> {
         let level = self.level(place);
         if level == 0 || level >= self.top {
             return Ok(false);
         }
         let levels = self.levels(to_come, level);
-        let mut wanted = Places::new(self.alloc);
-        let mut next = place;
-        while let Some(clause) = self.reason(next) {
-            if !self.want_others(to_come, levels, clause, next, &mut wanted)? {
-                return Ok(false);
-            }
-            match wanted.take_last() {
-                Some(last) => next = last,
-                None => return Ok(true),
-            }
+        if !self.want(levels, place)? {
+            return Ok(false);
         }
-        Ok(false)
+        let implied = self.are_implied(to_come, levels)?;
+        self.settle(place, implied);
+        Ok(implied)
     }
 
     /// The level of the literal at a place; 0 where none stands there.
@@ -90,11 +101,80 @@ impl<'a> Implications<'a> {
             return levels;
         }
         let mut levels = Levels(0).with(level);
-        for place in to_come.iter() {
-            levels = levels.with(self.level(*place));
+        for place in 0..to_come.end() {
+            if to_come.contains(place) {
+                levels = levels.with(self.level(place));
+            }
         }
         self.levels = Some(levels);
         levels
+    }
+
+    /// What is known of the literal at a place.
+    fn fate(&self, place: usize) -> Fate {
+        self.fates.get(place).copied().unwrap_or(Fate::Left)
+    }
+
+    fn set_fate(&mut self, place: usize, fate: Fate) {
+        if let Some(slot) = self.fates.get_mut(place) {
+            *slot = fate;
+        }
+    }
+
+    /// Wants the literal at a place to be implied. Answers false where it is known not to be.
+    fn want(&mut self, levels: Levels, place: usize) -> Result<bool, AllocError> {
+        match self.fate(place) {
+            Fate::Wanted | Fate::Implied => Ok(true),
+            Fate::Left => Ok(false),
+            Fate::Unknown => {
+                if !levels.may_have(self.level(place)) {
+                    return Ok(false);
+                }
+                self.wanted.push(place)?;
+                self.set_fate(place, Fate::Wanted);
+                Ok(true)
+            }
+        }
+    }
+
+    /// Whether the literals that are wanted are implied, with those that their reasons want.
+    fn are_implied(&mut self, to_come: &Places, levels: Levels) -> Result<bool, AllocError> {
+        // None is wanted twice, so these are no more than the places.
+        for step in 0..self.trail.len() {
+            let Some(place) = self.wanted.get(step).copied() else {
+                return Ok(true);
+            };
+            if !self.want_others(to_come, levels, place)? {
+                self.set_fate(place, Fate::Left);
+                return Ok(false);
+            }
+        }
+        Ok(true)
+    }
+
+    /// Wants the other literals of the reason of the one at a place, but for those that are to come anyway or stand on level 0. Answers
+    /// false where it has no reason, or one of them isn't implied.
+    fn want_others(
+        &mut self,
+        to_come: &Places,
+        levels: Levels,
+        place: usize,
+    ) -> Result<bool, AllocError> {
+        let Some(clause) = self.reason(place) else {
+            return Ok(false);
+        };
+        for lit in clause.lits() {
+            let Some(other) = self.trail.place(lit.var()) else {
+                continue;
+            };
+            if to_come.contains(other) || self.level(other) == 0 {
+                continue;
+            }
+            if !self.want(levels, other)? {
+                return Ok(false);
+            }
+        }
+        Ok(true)
     }
 
     /// The reason of the literal at a place.
@@ -106,40 +186,28 @@ impl<'a> Implications<'a> {
         clause_of(self.base, self.seen, reason?)
     }
 
-    /// Adds the places before this one of a clause's literals, but for those that are to come anyway or stand on level 0; stops at a level
-    /// that isn't among these.
-    fn want_others(
-        &self,
-        to_come: &Places,
-        levels: Levels,
-        clause: &Clause,
-        place: usize,
-        wanted: &mut Places,
-    ) -> Result<bool, AllocError>
-        requires { All (λ q. q < place) wanted.old }
-        ensures { OnOk result (All (λ q. q < place) wanted.new) }
-    {
-        for lit in clause.lits() {
-            let Some(other) = self.before(lit.var(), place) else {
-                continue;
-            };
-            let level = self.level(other);
-            if level == 0 || to_come.contains(other) {
-                continue;
-            }
-            if !levels.may_have(level) {
-                return Ok(false);
-            }
-            wanted.add(other)?;
+    /// Ends the look at the literal at a place, which is implied or not.
+    fn settle(&mut self, place: usize, implied: bool) {
+        let fate = if implied {
+            Fate::Implied
+        } else {
+            Fate::Unknown
+        };
+        for wanted in &self.wanted {
+            settle_one(&mut self.fates, *wanted, fate);
         }
-        Ok(true)
+        self.wanted.clear();
+        if !implied {
+            self.set_fate(place, Fate::Left);
+        }
     }
+}
 
-    /// The place of a variable's literal, where it is before a given one.
-    fn before(&self, var: u32, place: usize) -> Option<usize>
-        ensures { IfSome result (λ q. q < place) }
-    {
-        let other = self.trail.place(var)?;
-        if other < place { Some(other) } else { None }
+/// Takes a literal that was wanted as one of that fate, unless it is left.
+fn settle_one(fates: &mut [Fate], place: usize, fate: Fate) {
+    if let Some(slot) = fates.get_mut(place) {
+        if *slot == Fate::Wanted {
+            *slot = fate;
+        }
     }
 }

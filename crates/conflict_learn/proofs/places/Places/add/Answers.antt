@@ -1,5 +1,5 @@
-use Rattle.conflict_learn.proofs.PlacesLemmas.{Gains-insert}
+use Rattle.conflict_learn.proofs.PlacesLemmas.{Gains-set}
 use Rattle.conflict_learn.proofs.places.Places.add.Goals as goal
 
 pub returns-clause-ok : goal.returns-clause-ok
-returns-clause-ok c = rw (← c.self.view_is) (rw c.in_ok-_new.ensures.keys (Gains-insert c.self.inside.places.keys c.args.place))
+returns-clause-ok c = rw (← c.self.view_is) (Gains-set c.self.inside.flags.items c.reach.new.flags.items c.args.place c.in_ok-reach.ensures.same c.in_ok-reach.ensures.within)
