@@ -1,8 +1,7 @@
 -- Clauses that stand one behind the other in one array.
-use Rattle.std.proofs.Common.{◌≡◌, ◌≢◌, ℕ, suc, zero, ◌+◌, ◌-◌, ◌<◌, ◌≤◌, min, Bool, true, false, cond, filter, List, [], ◌∷◌, ◌++◌, ◌⊎◌, inl, inr, Some, map, set, take, drop, get_or, slice_get, length, length-append, All, refl, sym, subst, ap, ◌∙◌, arith}
-use Rattle.std.specs.Prelude.{AllPairs}
+use Rattle.std.proofs.Common.{◌≡◌, ◌≢◌, ℕ, suc, zero, ◌+◌, ◌-◌, ◌<◌, ◌≤◌, min, true, false, cond, filter, List, [], ◌∷◌, ◌++◌, ◌⊎◌, inl, inr, Some, set, take, drop, get_or, slice_get, length, length-append, All, refl, sym, subst, ap, ◌∙◌, arith}
 use Rattle.std.proofs.lemmas.List.{length-set, length-map, length-drop, get_or-map, get_or-set_same, get_or-set_other, drop-append-le, take-append-le, drop_at, take_all, drop-set-add, drop-set-lt, take-set-le, same_lists, set-set, map_push, append-nil, append_assoc, length-take, get_or-take, get_or-drop}
-use Rattle.std.proofs.lemmas.List.Elements.{All-nil, All-push, All-weaker, All-head, All-tail, filter_more}
+use Rattle.std.proofs.lemmas.List.Elements.{All-push, All-weaker, All-head, All-tail, filter_more}
 use Rattle.std.proofs.lemmas.List.Quantifiers.{all_pairs_push}
 use Rattle.std.proofs.lemmas.Option.{slice_get_within, slice_get-get_or, get_or_from_slice_get, slice_get-map}
 use Rattle.std.specs.Option.{option_map}
@@ -10,7 +9,6 @@ use Rattle.clause_base.specs.Literal.{Literal}
 use Rattle.unit_propagate.specs.declared.arena.Span.{Span}
 use Rattle.unit_propagate.specs.Arena.{part_at, parts_at, AreSpans}
 use Rattle.unit_propagate.specs.Watches.{exchanged, differs, ordered}
-use Rattle.unit_propagate.proofs.Places.{All-slice_get}
 
 -- ---- an array that grows
 part_grown : (lits more : List Literal) (s : Span) → (s.start ≤ s.end) × (s.end ≤ length lits) → part_at (lits ++ more) s ≡ part_at lits s

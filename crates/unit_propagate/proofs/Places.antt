@@ -1,9 +1,9 @@
 -- Elements of lists by their places.
-use Rattle.std.proofs.Common.{◌≡◌, ◌≢◌, ℕ, suc, zero, ◌+◌, ◌-◌, ◌<◌, ◌≤◌, List, [], ◌∷◌, ◌++◌, ◌⊎◌, inl, inr, Option, Some, None, map, take, set, get_or, slice_get, replicate, length, length-append, Contains, All, refl, sym, subst, ap, ◌∙◌, arith}
+use Rattle.std.proofs.Common.{◌≡◌, ◌≢◌, ℕ, suc, zero, ◌+◌, ◌<◌, ◌≤◌, List, [], ◌∷◌, ◌++◌, Some, take, set, get_or, slice_get, replicate, length, length-append, Contains, All, refl, subst, ap, ◌∙◌, arith}
 use Rattle.std.specs.Prelude.{AllPairs, Result, Ok, Err, OnOk, OnErr}
-use Rattle.std.proofs.lemmas.List.{get_or_append_left, get_or-set_same, get_or-set_other, length-set, length_push, get_or_push, get_or_default, take_all}
-use Rattle.std.proofs.lemmas.List.Elements.{All-take, Contains-get_or}
-use Rattle.std.proofs.lemmas.Option.{slice_get_within, slice_get-get_or, get_or_from_slice_get, slice_get_past, slice_get_cases}
+use Rattle.std.proofs.lemmas.List.{get_or_append_left, get_or-set_same, length-set, length_push, get_or_push, take_all}
+use Rattle.std.proofs.lemmas.List.Elements.{Contains-get_or}
+use Rattle.std.proofs.lemmas.Option.{slice_get_within, slice_get-get_or, get_or_from_slice_get}
 
 -- an element at a place is contained, and the other way round
 pub Contains-slice_get : {X : Type 0} (xs : List X) (i : ℕ) (x : X) → slice_get xs i ≡ Some x → Contains xs x

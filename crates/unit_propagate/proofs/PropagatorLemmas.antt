@@ -1,5 +1,5 @@
 -- What a propagator keeps when a literal is added to its trail, and when a clause is looked at.
-use Rattle.std.proofs.Common.{◌≡◌, ◌≢◌, ℕ, suc, zero, ◌+◌, ◌-◌, ◌*◌, ◌^◌, ◌<◌, ◌≤◌, max, min, Bool, true, false, not, cond, List, [], ◌∷◌, ◌++◌, ◌⊎◌, inl, inr, Option, Some, None, map, take, get_or, slice_get, length, length-append, Contains, All, refl, sym, subst, ap, ◌∙◌, true≢false, append_assoc, arith}
+use Rattle.std.proofs.Common.{◌≡◌, ◌≢◌, ℕ, suc, zero, ◌+◌, ◌-◌, ◌*◌, ◌^◌, ◌<◌, ◌≤◌, max, Bool, true, false, not, cond, List, [], ◌∷◌, ◌++◌, ◌⊎◌, inl, inr, Some, None, take, slice_get, length, Contains, All, refl, sym, subst, ap, ◌∙◌, true≢false, append_assoc, arith}
 use Rattle.std.specs.Prelude.{nat_eq}
 use Rattle.std.specs.Option.{option_map_or}
 use Rattle.std.proofs.lemmas.List.{length_push, map-append}
@@ -11,15 +11,16 @@ use Rattle.clause_base.specs.Equality.{Decides-literal_eq}
 use Rattle.clause_base.specs.Partial.{is_falsified}
 use Rattle.clause_base.proofs.Tests.{Decides-is_falsified, fails}
 use Rattle.refutation_log.specs.Follows.{clause_named, is_falsified_named}
-use Rattle.refutation_log.proofs.Lists.{slice_get-push, slice_get-append, take-append, take-append_all}
+use Rattle.refutation_log.proofs.Lists.{slice_get-push, take-append, take-append_all}
 use Rattle.unit_propagate.specs.declared.marks.Mark.{Mark}
 use Rattle.unit_propagate.specs.declared.propagator.Propagator.{Propagator}
-use Rattle.unit_propagate.specs.Trail.{IsFree, IsTrail, highest_level, literals_of}
+use Rattle.unit_propagate.specs.declared.rows.Watcher.{Watcher}
+use Rattle.unit_propagate.specs.Trail.{IsFree, highest_level, literals_of}
 use Rattle.unit_propagate.specs.Sound.{IsReason, Extends}
 use Rattle.unit_propagate.specs.Marks.{MarkList, room_of}
 use Rattle.unit_propagate.specs.Watched.{IsWatching, IsWatched, HasTrue}
 use Rattle.unit_propagate.specs.Rows.{row_at, code_of}
-use Rattle.unit_propagate.specs.Watches.{IsListed, IsGuarded, IsDone, Guard}
+use Rattle.unit_propagate.specs.Watches.{Guard}
 use Rattle.unit_propagate.specs.Propagator.{IsKept, IsPending, IsVisiting, IsVisited, Goes, Stays}
 use Rattle.unit_propagate.proofs.Places.{slice_get-front, slice_get-Contains, All-from_contains}
 use Rattle.unit_propagate.proofs.TrailLemmas.{highest_above, highest_bound, highest-append, mark-of, literal-of}
@@ -155,8 +156,8 @@ IsVisiting-push clauses s m after l i e v = record {
     grown : (x : Literal) → Contains (literals_of s.marks.marks) x → Contains (literals_of after.marks) x
     grown x h = subst (λ (y : MarkList). Contains (literals_of y.marks) x) (sym e) (longer s.marks.marks (m ∷ []) x h)
 
-later : (rows : List (List ℕ)) (l : Literal) (i k k' : ℕ) → slice_get (row_at rows (code_of l)) i ≡ Some k → IsPending rows l i k' → (k' ≡ k) ⊎ IsPending rows l (i + 1) k'
-later rows l i k k' at h = by (less i h.0 h.1)
+later : (rows : List (List Watcher)) (l : Literal) (i : ℕ) (u : Watcher) (k' : ℕ) (c : List Literal) → slice_get (row_at rows (code_of l)) i ≡ Some u → IsPending rows l i k' c → ((u.clause ≡ k') × Contains c u.blocker) ⊎ IsPending rows l (i + 1) k' c
+later rows l i u k' c at h = by (less i h.0 h.2)
   where
     less : (i j : ℕ) → i ≤ j → (j ≡ i) ⊎ (i + 1 ≤ j)
     less zero zero _ = inl refl
@@ -164,35 +165,38 @@ later rows l i k k' at h = by (less i h.0 h.1)
     less (suc i) zero h = absurd (omega arith)
     less (suc i) (suc j) h = elim (less i j (omega arith)) [ inl e ↦ inl (ap suc e) | inr b ↦ inr (omega arith) ]
 
-    by : (h.0 ≡ i) ⊎ (i + 1 ≤ h.0) → (k' ≡ k) ⊎ IsPending rows l (i + 1) k'
-    by (inl e) = inl (let a : slice_get (row_at rows (code_of l)) i ≡ Some k' = subst (λ x. slice_get (row_at rows (code_of l)) x ≡ Some k') e h.2 in cc)
-    by (inr b) = inr (h.0, b, h.2)
+    by : (h.0 ≡ i) ⊎ (i + 1 ≤ h.0) → ((u.clause ≡ k') × Contains c u.blocker) ⊎ IsPending rows l (i + 1) k' c
+    by (inl e) =
+        let a : slice_get (row_at rows (code_of l)) i ≡ Some h.1 = subst (λ x. slice_get (row_at rows (code_of l)) x ≡ Some h.1) e h.3 in
+        let s : h.1 ≡ u = cc in
+        inl (ap (λ (x : Watcher). x.clause) (sym s) ∙ h.4, subst (λ (x : Watcher). Contains c x.blocker) s h.5)
+    by (inr b) = inr (h.0, h.1, b, h.3, h.4, h.5)
 
 -- the clause at the place needs nothing more
-pub passed : (clauses : List (List Literal)) (s : Propagator) (l : Literal) (i k : ℕ) → IsVisiting clauses s l i → slice_get (row_at s.watches.rows (code_of l)) i ≡ Some k
-    → ((c : List Literal) → slice_get s.watches.watched k ≡ Some c → IsWatched c l → HasTrue s.marks.marks c) → IsVisiting clauses s l (i + 1)
-passed clauses s l i k v at says = record {
+pub passed : (clauses : List (List Literal)) (s : Propagator) (l : Literal) (i : ℕ) (u : Watcher) → IsVisiting clauses s l i → slice_get (row_at s.watches.rows (code_of l)) i ≡ Some u
+    → ((c : List Literal) → slice_get s.watches.watched u.clause ≡ Some c → IsWatched c l → Contains c u.blocker → HasTrue s.marks.marks c) → IsVisiting clauses s l (i + 1)
+passed clauses s l i u v at says = record {
   kept = v.kept;
   watching = v.watching;
   falsified = v.falsified;
   seen = λ k' c there is. elim (v.seen k' c there is) [
     | inl h ↦ inl h
-    | inr h ↦ elim (later s.watches.rows l i k k' at h) [ inl e ↦ inl (says c (subst (λ x. slice_get s.watches.watched x ≡ Some c) e there) is) | inr b ↦ inr b ]
+    | inr h ↦ elim (later s.watches.rows l i u k' c at h) [ inl e ↦ inl (says c (subst (λ x. slice_get s.watches.watched x ≡ Some c) (sym e.0) there) is e.1) | inr b ↦ inr b ]
   ];
 }
 
 -- at the list's end all are looked at
 pub visited : (clauses : List (List Literal)) (s : Propagator) (l : Literal) (i : ℕ) → IsVisiting clauses s l i → slice_get (row_at s.watches.rows (code_of l)) i ≡ None → IsVisited s l
-visited clauses s l i v none = record { seen = λ k c at is. elim (v.seen k c at is) [ inl h ↦ h | inr h ↦ absurd (gone k h) ] }
+visited clauses s l i v none = record { seen = λ k c at is. elim (v.seen k c at is) [ inl h ↦ h | inr h ↦ absurd (gone k c h) ] }
   where
-    past : (xs : List ℕ) (i j : ℕ) (k : ℕ) → slice_get xs i ≡ None → i ≤ j → slice_get xs j ≡ Some k → ⊥
+    past : (xs : List Watcher) (i j : ℕ) (k : Watcher) → slice_get xs i ≡ None → i ≤ j → slice_get xs j ≡ Some k → ⊥
     past [] i j k a b c = cc
     past (x ∷ xs) zero j k a b c = cc
     past (x ∷ xs) (suc i) zero k a b c = omega arith
     past (x ∷ xs) (suc i) (suc j) k a b c = past xs i j k a (omega arith) c
 
-    gone : (k : ℕ) → IsPending s.watches.rows l i k → ⊥
-    gone k h = past (row_at s.watches.rows (code_of l)) i h.0 k none h.1 h.2
+    gone : (k : ℕ) (c : List Literal) → IsPending s.watches.rows l i k c → ⊥
+    gone k c h = past (row_at s.watches.rows (code_of l)) i h.0 h.1 none h.2 h.3
 
 -- nothing of a list is looked at
 pub unvisited : (clauses : List (List Literal)) (s : Propagator) (l : Literal) → IsKept s → IsWatching clauses s.watches.watched → Contains (literals_of s.marks.marks) (negated l) → IsVisiting clauses s l 0
@@ -200,7 +204,7 @@ unvisited clauses s l k w f = record {
   kept = k;
   watching = w;
   falsified = f;
-  seen = λ j c at is. inr (let g = slice_get-Contains (row_at s.watches.rows (code_of l)) j (k.listed.listed j c l at is) in (g.0, omega arith, g.1));
+  seen = λ j c at is. inr (let h = k.listed.listed j c l at is in let g = slice_get-Contains (row_at s.watches.rows (code_of l)) h.0 h.1 in (g.0, h.0, omega arith, g.1, h.2, h.3));
 }
 
 -- the place moves past a literal that was looked at

@@ -1,5 +1,5 @@
 -- A clause watches another literal, and clauses are watched anew.
-use Rattle.std.proofs.Common.{◌≡◌, ◌≢◌, ℕ, suc, zero, ◌+◌, ◌-◌, ◌*◌, ◌^◌, ◌<◌, ◌≤◌, min, Bool, true, false, cond, not, filter, get_or, List, [], ◌∷◌, ◌++◌, ◌⊎◌, inl, inr, Option, Some, None, set, take, slice_get, length, length-append, Contains, All, refl, sym, subst, ap, ◌∙◌, true≢false, arith}
+use Rattle.std.proofs.Common.{◌≡◌, ◌≢◌, ℕ, suc, zero, ◌+◌, ◌*◌, ◌^◌, ◌<◌, ◌≤◌, Bool, true, false, cond, not, filter, get_or, List, [], ◌∷◌, ◌++◌, ◌⊎◌, inl, inr, Some, set, slice_get, length, Contains, All, refl, sym, subst, ap, ◌∙◌, true≢false, arith}
 use Rattle.std.specs.Prelude.{Result, Ok, Err, OnOk, OnErr, AllPairs}
 use Rattle.std.proofs.lemmas.List.{length_push, length-set}
 use Rattle.std.proofs.lemmas.List.Elements.{All-contains, All-nil, All-cons, All-weaker, Contains-append_left, Contains-push}
@@ -12,14 +12,15 @@ use Rattle.clause_base.specs.Equality.{Decides-literal_eq}
 use Rattle.refutation_log.proofs.Lists.{slice_get-push, slice_get-append}
 use Rattle.unit_propagate.specs.declared.marks.Mark.{Mark}
 use Rattle.unit_propagate.specs.declared.propagator.Propagator.{Propagator}
+use Rattle.unit_propagate.specs.declared.rows.Watcher.{Watcher}
 use Rattle.unit_propagate.specs.Trail.{IsTrail, highest_level, literals_of}
 use Rattle.unit_propagate.specs.Marks.{MarkList, room_of}
-use Rattle.unit_propagate.specs.Watched.{IsWatching, IsWatchOf, IsWatched, HasTrue}
-use Rattle.unit_propagate.specs.Rows.{row_at, code_of, AddsTo, DropsAt}
-use Rattle.unit_propagate.specs.Watches.{WatchList, IsListed, IsGuarded, IsDone, Guard, Rewatches, CanRewatch, Adds, AddsAlone, KeepsWatches, RowsGrow, IsSide, exchanged, ordered, differs}
+use Rattle.unit_propagate.specs.Watched.{IsWatching, IsWatchOf, IsWatched}
+use Rattle.unit_propagate.specs.Rows.{row_at, code_of}
+use Rattle.unit_propagate.specs.Watches.{WatchList, IsListed, Guard, Rewatches, CanRewatch, Adds, AddsAlone, KeepsWatches, RowsGrow, IsSide, Stands, exchanged, ordered, differs}
 use Rattle.unit_propagate.specs.Propagator.{IsKept, IsPending, IsVisiting, Goes, Stays}
 use Rattle.unit_propagate.proofs.Places.{slice_get-Contains, Contains-slice_get, slice_get-set_same, slice_get-set_other, slice_get-last, slice_get-front, AllPairs-slice_get, All-slice_get}
-use Rattle.unit_propagate.proofs.TrailLemmas.{one_sign, literal-of, mark-of, highest_above}
+use Rattle.unit_propagate.proofs.TrailLemmas.{literal-of, mark-of, highest_above}
 use Rattle.unit_propagate.proofs.RowsLemmas.{RowsGrow-adds, added_there, same_or_not}
 use Rattle.unit_propagate.proofs.PropagatorLemmas.{same_literal, code_same, Goes-trans}
 use Rattle.unit_propagate.proofs.StepLemmas.{list_fits}
@@ -134,10 +135,13 @@ module _ (c : List Literal) (p j : ℕ) (from to : Literal) (at_p : slice_get c 
   }
 
 -- clause k watches to in place of from, which is false, besides other
-module _ (clauses : List (List Literal)) (s : Propagator) (w : WatchList) (from to other : Literal) (i k p j : ℕ) (c : List Literal)
-    (v : IsVisiting clauses s from i) (r : Rewatches s.watches w i k p j from to)
-    (at : slice_get (row_at s.watches.rows (code_of from)) i ≡ Some k) (there : slice_get s.watches.watched k ≡ Some c) (side : IsSide c from p other)
+module _ (clauses : List (List Literal)) (s : Propagator) (w : WatchList) (from to other : Literal) (i : ℕ) (u n : Watcher) (p j : ℕ) (c : List Literal)
+    (v : IsVisiting clauses s from i) (r : Rewatches s.watches w i n p j from to) (same : u.clause ≡ n.clause) (blocks : Contains c n.blocker)
+    (at : slice_get (row_at s.watches.rows (code_of from)) i ≡ Some u) (there : slice_get s.watches.watched n.clause ≡ Some c) (side : IsSide c from p other)
     (high : 2 ≤ j) (at_j : slice_get c j ≡ Some to) (alive : Contains (literals_of s.marks.marks) (negated to) → ⊥) where
+  abbrev k : ℕ
+  k = n.clause
+
   abbrev after : List Literal
   after = exchanged c p j from to
 
@@ -205,39 +209,54 @@ module _ (clauses : List (List Literal)) (s : Propagator) (w : WatchList) (from 
 
   -- the lists
   grown : RowsGrow s.watches.rows r.between
-  grown = RowsGrow-adds s.watches.rows r.between (code_of to) k r.adds
+  grown = RowsGrow-adds s.watches.rows r.between (code_of to) n r.adds
 
   middle : row_at r.between (code_of from) ≡ row_at s.watches.rows (code_of from)
   middle = r.adds.others (code_of from) codes
 
-  stays_pending : (q : ℕ) → q ≢ k → IsPending s.watches.rows from i q → IsPending w.rows from i q
-  stays_pending q n h =
-      let here : slice_get (row_at r.between (code_of from)) h.0 ≡ Some q = ap (λ xs. slice_get xs h.0) middle ∙ h.2 in
-      let ne : h.0 ≢ i = λ e. n (let a : slice_get (row_at s.watches.rows (code_of from)) i ≡ Some q = subst (λ x. slice_get (row_at s.watches.rows (code_of from)) x ≡ Some q) e h.2 in let b = at in cc) in
-      let d = r.drops.stays h.0 q here ne in
-      (d.0, d.2 h.1, d.1)
+  -- what stands elsewhere in the list isn't this clause's
+  elsewhere : (g q : ℕ) (x : Watcher) → q ≢ k → x.clause ≡ q → slice_get (row_at s.watches.rows (code_of from)) g ≡ Some x → g ≢ i
+  elsewhere g q x m is h e =
+      let a : slice_get (row_at s.watches.rows (code_of from)) i ≡ Some x = subst (λ y. slice_get (row_at s.watches.rows (code_of from)) y ≡ Some x) e h in
+      let b = at in
+      let eq : x ≡ u = cc in
+      m (sym is ∙ ap (λ (y : Watcher). y.clause) eq ∙ same)
 
-  kept_in_list : (l : Literal) (q : ℕ) → q ≢ k → Contains (row_at s.watches.rows (code_of l)) q → Contains (row_at w.rows (code_of l)) q
-  kept_in_list l q n h = elim (same_or_not (code_of l) (code_of from)) [
+  stays_pending : (q : ℕ) (d : List Literal) → q ≢ k → IsPending s.watches.rows from i q d → IsPending w.rows from i q d
+  stays_pending q d m h =
+      let here : slice_get (row_at r.between (code_of from)) h.0 ≡ Some h.1 = ap (λ xs. slice_get xs h.0) middle ∙ h.3 in
+      let g = r.drops.stays h.0 h.1 here (elsewhere h.0 q h.1 m h.4 h.3) in
+      (g.0, h.1, g.2 h.2, g.1, h.4, h.5)
+
+  kept_watcher : (l : Literal) (q : ℕ) (x : Watcher) → q ≢ k → x.clause ≡ q → Contains (row_at s.watches.rows (code_of l)) x → Contains (row_at w.rows (code_of l)) x
+  kept_watcher l q x o is h = elim (same_or_not (code_of l) (code_of from)) [
     | inl e ↦
-        let g = slice_get-Contains (row_at s.watches.rows (code_of from)) q (subst (λ x. Contains (row_at s.watches.rows x) q) e h) in
-        let here : slice_get (row_at r.between (code_of from)) g.0 ≡ Some q = ap (λ xs. slice_get xs g.0) middle ∙ g.1 in
-        let ne : g.0 ≢ i = λ f. n (let a : slice_get (row_at s.watches.rows (code_of from)) i ≡ Some q = subst (λ x. slice_get (row_at s.watches.rows (code_of from)) x ≡ Some q) f g.1 in let b = at in cc) in
-        let d = r.drops.stays g.0 q here ne in
-        subst (λ x. Contains (row_at w.rows x) q) (sym e) (Contains-slice_get (row_at w.rows (code_of from)) d.0 q d.1)
-    | inr m ↦ subst (λ xs. Contains xs q) (sym (r.drops.others (code_of l) m)) (grown.stays (code_of l) q h)
+        let g = slice_get-Contains (row_at s.watches.rows (code_of from)) x (subst (λ y. Contains (row_at s.watches.rows y) x) e h) in
+        let here : slice_get (row_at r.between (code_of from)) g.0 ≡ Some x = ap (λ xs. slice_get xs g.0) middle ∙ g.1 in
+        let d = r.drops.stays g.0 x here (elsewhere g.0 q x o is g.1) in
+        subst (λ y. Contains (row_at w.rows y) x) (sym e) (Contains-slice_get (row_at w.rows (code_of from)) d.0 x d.1)
+    | inr m ↦ subst (λ xs. Contains xs x) (sym (r.drops.others (code_of l) m)) (grown.stays (code_of l) x h)
   ]
 
-  to_listed : Contains (row_at w.rows (code_of to)) k
-  to_listed = subst (λ xs. Contains xs k) (sym (r.drops.others (code_of to) (λ e. codes (sym e)))) (added_there s.watches.rows r.between (code_of to) k r.adds)
+  kept_in_list : (l : Literal) (q : ℕ) (d : List Literal) → q ≢ k → Stands s.watches.rows l q d → Stands w.rows l q d
+  kept_in_list l q d o h = (h.0, kept_watcher l q h.0 o h.2 h.1, h.2, h.3)
 
-  other_listed : Contains (row_at w.rows (code_of other)) k
+  to_listed : Stands w.rows to k after
+  to_listed = (
+    n,
+    subst (λ xs. Contains xs n) (sym (r.drops.others (code_of to) (λ e. codes (sym e)))) (added_there s.watches.rows r.between (code_of to) n r.adds),
+    refl,
+    all_after c p j from to at_p at_j apart n.blocker blocks,
+  )
+
+  other_listed : Stands w.rows other k after
   other_listed =
-      subst (λ xs. Contains xs k) (sym (r.drops.others (code_of other) (λ e. other_from (code_same other from e)))) (grown.stays (code_of other) k (v.kept.listed.listed k c other there other_watched))
+      let h : Stands s.watches.rows other k c = v.kept.listed.listed k c other there other_watched in
+      (h.0, subst (λ xs. Contains xs h.0) (sym (r.drops.others (code_of other) (λ e. other_from (code_same other from e)))) (grown.stays (code_of other) h.0 h.1), h.2, all_after c p j from to at_p at_j apart h.0.blocker h.3)
 
-  in_list : (l : Literal) → (l ≡ to) ⊎ (l ≡ other) → Contains (row_at w.rows (code_of l)) k
-  in_list l (inl e) = subst (λ x. Contains (row_at w.rows (code_of x)) k) (sym e) to_listed
-  in_list l (inr e) = subst (λ x. Contains (row_at w.rows (code_of x)) k) (sym e) other_listed
+  in_list : (l : Literal) → (l ≡ to) ⊎ (l ≡ other) → Stands w.rows l k after
+  in_list l (inl e) = subst (λ x. Stands w.rows x k after) (sym e) to_listed
+  in_list l (inr e) = subst (λ x. Stands w.rows x k after) (sym e) other_listed
 
   -- to isn't false, and other is so only where some literal of the clause is true
   guard_any : (a : Literal) → (a ≡ to) ⊎ (a ≡ other) → Guard s.marks.marks s.place s.kept a after
@@ -254,8 +273,8 @@ module _ (clauses : List (List Literal)) (s : Propagator) (w : WatchList) (from 
   listed = record {
     size = r.drops.size ∙ r.adds.size ∙ v.kept.listed.size;
     listed = λ q d l h is. elim (same_at q d h) [
-      | inl e ↦ subst (Contains (row_at w.rows (code_of l))) (sym e.0) (in_list l (watched_now l (subst (λ x. IsWatched x l) e.1 is)))
-      | inr e ↦ kept_in_list l q e.0 (v.kept.listed.listed q d l e.1 is)
+      | inl e ↦ subst (λ y. Stands w.rows l y d) (sym e.0) (subst (Stands w.rows l k) (sym e.1) (in_list l (watched_now l (subst (λ x. IsWatched x l) e.1 is))))
+      | inr e ↦ kept_in_list l q d e.0 (v.kept.listed.listed q d l e.1 is)
     ];
     alone = λ q l h. subst (λ us. Contains us q) (sym r.units) (v.kept.listed.alone q l (unit_before q l h));
     units = λ q u h.
@@ -302,7 +321,7 @@ module _ (clauses : List (List Literal)) (s : Propagator) (w : WatchList) (from 
     falsified = v.falsified;
     seen = λ q d h is. elim (same_at q d h) [
       | inl e ↦ absurd (not_from from (watched_now from (subst (λ x. IsWatched x from) e.1 is)) refl)
-      | inr e ↦ elim (v.seen q d e.1 is) [ inl t ↦ inl t | inr t ↦ inr (stays_pending q e.0 t) ]
+      | inr e ↦ elim (v.seen q d e.1 is) [ inl t ↦ inl t | inr t ↦ inr (stays_pending q d e.0 t) ]
     ];
   }
 
@@ -322,10 +341,10 @@ module _ (clauses : List (List Literal)) (s : Propagator) (w : WatchList) (from 
   rewatched_row = r.drops.shorter ∙ ap length middle
 
 -- the clause may watch to in place of from
-pub rewatchable : (clauses : List (List Literal)) (s : Propagator) (from to other : Literal) (i k p j : ℕ) (c : List Literal) → IsVisiting clauses s from i → slice_get (row_at s.watches.rows (code_of from)) i ≡ Some k
+pub rewatchable : (clauses : List (List Literal)) (s : Propagator) (from to other : Literal) (i : ℕ) (u : Watcher) (k p j : ℕ) (c : List Literal) → IsVisiting clauses s from i → slice_get (row_at s.watches.rows (code_of from)) i ≡ Some u
     → slice_get s.watches.watched k ≡ Some c → IsSide c from p other → slice_get c j ≡ Some to → (Contains (literals_of s.marks.marks) (negated to) → ⊥) → All (IsWithin s.marks.vars) clauses
     → (code_of from ≤ 2 * 2 ^ 30 + 1 → code_of from < length s.watches.rows) → CanRewatch s.watches i k p j from to
-rewatchable clauses s from to other i k p j c v at there side at_j alive within fits = record {
+rewatchable clauses s from to other i u k p j c v at there side at_j alive within fits = record {
   clause = c;
   there = there;
   at_p = elim side.1 [ inl h ↦ ap (slice_get c) h.0 ∙ h.1 | inr h ↦ ap (slice_get c) h.0 ∙ h.1 ];
@@ -334,7 +353,7 @@ rewatchable clauses s from to other i k p j c v at there side at_j alive within 
   to_fits = λ h. list_fits s to v.kept (let w = v.watching k c there in
       All-contains (λ (x : Literal). x.var ≤ s.marks.vars) w.0 to (All-slice_get (IsWithin s.marks.vars) clauses k w.0 within w.1) (w.2.only to (Contains-slice_get c j to at_j))) h;
   different = λ e. alive (subst (λ l. Contains (literals_of s.marks.marks) (negated l)) (sym (code_same to from e)) v.falsified);
-  in_row = slice_get_within (row_at s.watches.rows (code_of from)) i k at;
+  in_row = slice_get_within (row_at s.watches.rows (code_of from)) i u at;
 }
 
 -- ---- a clause is watched anew
@@ -349,8 +368,8 @@ IsKept-adds s w watch k a g = record {
   listed = record {
     size = a.grow.size ∙ k.listed.size;
     listed = λ q d l h is. elim (old_or_last s.watches.watched w.watched watch q d a.watched h) [
-      | inl o ↦ a.grow.stays (code_of l) q (k.listed.listed q d l o is)
-      | inr e ↦ subst (Contains (row_at w.rows (code_of l))) (sym e.0) (a.listed l (subst (λ x. IsWatched x l) (sym e.1) is))
+      | inl o ↦ let h = k.listed.listed q d l o is in (h.0, a.grow.stays (code_of l) h.0 h.1, h.2, h.3)
+      | inr e ↦ subst (λ y. Stands w.rows l y d) (sym e.0) (subst (Stands w.rows l (length s.watches.watched)) e.1 (a.listed l (subst (λ x. IsWatched x l) (sym e.1) is)))
     ];
     alone = λ q l h. subst (λ us. Contains us q) (sym a.units) (k.listed.alone q l (unit_old q l h));
     units = λ q u h.
@@ -378,7 +397,7 @@ IsKept-alone s w l k a = record {
   listed = record {
     size = ap length a.rows ∙ k.listed.size;
     listed = λ q d x h is. elim (old_or_last s.watches.watched w.watched (l ∷ []) q d a.watched h) [
-      | inl o ↦ subst (λ rows. Contains (row_at rows (code_of x)) q) (sym a.rows) (k.listed.listed q d x o is)
+      | inl o ↦ subst (λ rows. Stands rows x q d) (sym a.rows) (k.listed.listed q d x o is)
       | inr e ↦ absurd (not_one x (subst (λ y. IsWatched y x) (sym e.1) is))
     ];
     alone = λ q x h. subst (λ us. Contains us q) (sym a.units) (elim (old_or_last s.watches.watched w.watched (l ∷ []) q (x ∷ []) a.watched h) [
@@ -417,7 +436,7 @@ pub IsKept-keeps : (s : Propagator) (w : WatchList) → IsKept s → KeepsWatche
 IsKept-keeps s w k a = record {
   listed = record {
     size = a.grow.size ∙ k.listed.size;
-    listed = λ q d l h is. a.grow.stays (code_of l) q (k.listed.listed q d l (at q d h) is);
+    listed = λ q d l h is. let o = k.listed.listed q d l (at q d h) is in (o.0, a.grow.stays (code_of l) o.0 o.1, o.2, o.3);
     alone = λ q l h. subst (λ us. Contains us q) (sym a.units) (k.listed.alone q l (at q (l ∷ []) h));
     units = λ q u h. let p = k.listed.units q u (ap (λ us. slice_get us q) (sym a.units) ∙ h) in (p.0, ap (λ ps. slice_get ps u) a.watched ∙ p.1);
   };

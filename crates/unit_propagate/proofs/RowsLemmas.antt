@@ -1,23 +1,23 @@
 -- Tables of lists, after a write to one list.
-use Rattle.std.proofs.Common.{◌≡◌, ◌≢◌, ℕ, suc, zero, ◌+◌, ◌-◌, ◌*◌, ◌<◌, ◌≤◌, nat_eq, Bool, true, false, cond, List, [], ◌∷◌, ◌++◌, ◌⊎◌, inl, inr, Some, map, set, take, get_or, slice_get, replicate, length, Contains, refl, sym, subst, ap, ◌∙◌, true≢false, arith}
+use Rattle.std.proofs.Common.{◌≡◌, ◌≢◌, ℕ, suc, zero, ◌+◌, ◌-◌, ◌<◌, ◌≤◌, nat_eq, Bool, true, false, List, [], ◌∷◌, ◌++◌, ◌⊎◌, inl, inr, Some, map, set, take, get_or, slice_get, length, Contains, refl, sym, subst, ap, ◌∙◌, true≢false, arith}
 use Rattle.std.specs.List.{swap_remove}
-use Rattle.std.proofs.lemmas.List.{map-set, set-get_or, length-set, length-map, length-take, get_or-set_same, get_or-set_other, get_or-take, get_or-map, length_push, replicate_more}
+use Rattle.std.proofs.lemmas.List.{map-set, set-get_or, length-set, length-map, length-take, get_or-set_same, get_or-set_other, get_or-take, get_or-map}
 use Rattle.std.proofs.lemmas.List.Elements.{Contains-push, Contains-append_left}
 use Rattle.std.proofs.lemmas.Option.{slice_get_within, slice_get-get_or, get_or_from_slice_get}
 use Rattle.std.proofs.lemmas.Bool.Decides.{Decides-eqb}
-use Rattle.clause_base.specs.Literal.{Literal}
-use Rattle.unit_propagate.specs.Rows.{row_at, code_of, AddsTo, DropsAt}
+use Rattle.unit_propagate.specs.declared.rows.Watcher.{Watcher}
+use Rattle.unit_propagate.specs.Rows.{row_at, AddsTo, DropsAt}
 use Rattle.unit_propagate.specs.Watches.{RowsGrow}
-use Rattle.unit_propagate.proofs.Places.{slice_get-Contains, Contains-slice_get, slice_get-set_same, slice_get-set_other}
+use Rattle.unit_propagate.proofs.Places.{slice_get-set_same, slice_get-set_other}
 
-row_same : (rows : List (List ℕ)) (row : ℕ) (ys : List ℕ) → row < length rows → row_at (set rows row ys) row ≡ ys
+row_same : (rows : List (List Watcher)) (row : ℕ) (ys : List Watcher) → row < length rows → row_at (set rows row ys) row ≡ ys
 row_same rows row ys h = get_or-set_same rows row ys [] h
 
-row_other : (rows : List (List ℕ)) (row other : ℕ) (ys : List ℕ) → other ≢ row → row_at (set rows row ys) other ≡ row_at rows other
+row_other : (rows : List (List Watcher)) (row other : ℕ) (ys : List Watcher) → other ≢ row → row_at (set rows row ys) other ≡ row_at rows other
 row_other rows row other ys n = get_or-set_other rows row other ys [] n
 
 -- an element of a list of vectors
-module _ {V : Type 0} (f : V → List ℕ) (vs : List V) (row : ℕ) (v v' : V) (fits : row < length (map f vs)) (there : v ≡ get_or vs row v) where
+module _ {V : Type 0} (f : V → List Watcher) (vs : List V) (row : ℕ) (v v' : V) (fits : row < length (map f vs)) (there : v ≡ get_or vs row v) where
   within : row < length vs
   within = let e : length (map f vs) ≡ length vs = length-map vs f in omega arith
 
@@ -27,7 +27,7 @@ module _ {V : Type 0} (f : V → List ℕ) (vs : List V) (row : ℕ) (v v' : V) 
   pub same_write : f v' ≡ f v → map f (set vs row v') ≡ map f vs
   same_write e = map-set f vs row v' ∙ ap (set (map f vs) row) (e ∙ ap f there ∙ sym (get_or-map f vs row v [] within)) ∙ set-get_or (map f vs) row []
 
-  pub AddsTo-write : (number : ℕ) → f v' ≡ f v ++ number ∷ [] → AddsTo (map f vs) (map f (set vs row v')) row number
+  pub AddsTo-write : (number : Watcher) → f v' ≡ f v ++ number ∷ [] → AddsTo (map f vs) (map f (set vs row v')) row number
   AddsTo-write number e = subst (λ rows. AddsTo (map f vs) rows row number) (sym (map-set f vs row v')) (record {
     size = length-set (map f vs) row (f v');
     here = row_same (map f vs) row (f v') fits ∙ e ∙ ap (λ xs. xs ++ number ∷ []) (sym row_of);
@@ -35,20 +35,20 @@ module _ {V : Type 0} (f : V → List ℕ) (vs : List V) (row : ℕ) (v v' : V) 
   })
 
 -- an element that isn't the removed one stays
-dropped_length : (xs : List ℕ) (i d : ℕ) → i < length xs → length (swap_remove xs i d) + 1 ≡ length xs
+dropped_length : (xs : List Watcher) (i : ℕ) (d : Watcher) → i < length xs → length (swap_remove xs i d) + 1 ≡ length xs
 dropped_length xs i d h =
     let a : length (set xs i (get_or xs (length xs - 1) d)) ≡ length xs = length-set xs i (get_or xs (length xs - 1) d) in
     let b = length-take (length xs - 1) (set xs i (get_or xs (length xs - 1) d)) in
     omega (arith, b)
 
-dropped_at : (xs : List ℕ) (i d k : ℕ) → k < length xs - 1 → slice_get (swap_remove xs i d) k ≡ slice_get (set xs i (get_or xs (length xs - 1) d)) k
+dropped_at : (xs : List Watcher) (i : ℕ) (d : Watcher) (k : ℕ) → k < length xs - 1 → slice_get (swap_remove xs i d) k ≡ slice_get (set xs i (get_or xs (length xs - 1) d)) k
 dropped_at xs i d k h =
-    let ys : List ℕ = set xs i (get_or xs (length xs - 1) d) in
+    let ys : List Watcher = set xs i (get_or xs (length xs - 1) d) in
     let a : length ys ≡ length xs = length-set xs i (get_or xs (length xs - 1) d) in
     let b = length-take (length xs - 1) ys in
     slice_get-get_or (take (length xs - 1) ys) k d (omega (arith, b)) ∙ ap Some (get_or-take (length xs - 1) ys k d h) ∙ sym (slice_get-get_or ys k d (omega arith))
 
-dropped_stays : (xs : List ℕ) (i d j number : ℕ) → i < length xs → slice_get xs j ≡ Some number → j ≢ i → (j + 1 < length xs) ⊎ (j + 1 ≡ length xs)
+dropped_stays : (xs : List Watcher) (i : ℕ) (d : Watcher) (j : ℕ) (number : Watcher) → i < length xs → slice_get xs j ≡ Some number → j ≢ i → (j + 1 < length xs) ⊎ (j + 1 ≡ length xs)
     → (j' : ℕ) × (slice_get (swap_remove xs i d) j' ≡ Some number) × (i ≤ j → i ≤ j')
 dropped_stays xs i d j number lt at n (inl h) =
     (j, dropped_at xs i d j (omega arith) ∙ slice_get-set_other xs i j (get_or xs (length xs - 1) d) n ∙ at, λ l. l)
@@ -63,7 +63,7 @@ last_or_not zero (suc zero) h = inr (omega arith)
 last_or_not zero (suc (suc n)) h = inl (omega arith)
 last_or_not (suc j) (suc n) h = elim (last_or_not j n (omega arith)) [ inl a ↦ inl (omega arith) | inr b ↦ inr (omega arith) ]
 
-module _ {V : Type 0} (f : V → List ℕ) (vs : List V) (row : ℕ) (v v' : V) (fits : row < length (map f vs)) (there : v ≡ get_or vs row v) (i d : ℕ) (low : i < length (row_at (map f vs) row))
+module _ {V : Type 0} (f : V → List Watcher) (vs : List V) (row : ℕ) (v v' : V) (fits : row < length (map f vs)) (there : v ≡ get_or vs row v) (i : ℕ) (d : Watcher) (low : i < length (row_at (map f vs) row))
     (is : f v' ≡ swap_remove (f v) i d) where
   now : row_at (map f (set vs row v')) row ≡ swap_remove (row_at (map f vs) row) i d
   now = ap (λ rows. row_at rows row) (map-set f vs row v') ∙ row_same (map f vs) row (f v') fits ∙ is ∙ ap (λ xs. swap_remove xs i d) (sym (row_of f vs row v v' fits there))
@@ -78,10 +78,10 @@ module _ {V : Type 0} (f : V → List ℕ) (vs : List V) (row : ℕ) (v v' : V) 
   }
 
 -- ---- lists that only grow
-pub RowsGrow-same : (rows : List (List ℕ)) → RowsGrow rows rows
+pub RowsGrow-same : (rows : List (List Watcher)) → RowsGrow rows rows
 RowsGrow-same rows = record { size = refl; stays = λ row k h. h }
 
-pub RowsGrow-trans : (a b c : List (List ℕ)) → RowsGrow a b → RowsGrow b c → RowsGrow a c
+pub RowsGrow-trans : (a b c : List (List Watcher)) → RowsGrow a b → RowsGrow b c → RowsGrow a c
 RowsGrow-trans a b c p q = record { size = q.size ∙ p.size; stays = λ row k h. q.stays row k (p.stays row k h) }
 
 pub same_or_not : (a b : ℕ) → (a ≡ b) ⊎ (a ≢ b)
@@ -91,7 +91,7 @@ same_or_not a b = by (nat_eq a b) refl
     by true e = inl ((Decides-eqb a b).0 e)
     by false e = inr (λ s. true≢false (sym ((Decides-eqb a b).1 s) ∙ e))
 
-pub RowsGrow-adds : (a b : List (List ℕ)) (row number : ℕ) → AddsTo a b row number → RowsGrow a b
+pub RowsGrow-adds : (a b : List (List Watcher)) (row : ℕ) (number : Watcher) → AddsTo a b row number → RowsGrow a b
 RowsGrow-adds a b row number h = record {
   size = h.size;
   stays = λ r k c. elim (same_or_not r row) [
@@ -100,5 +100,5 @@ RowsGrow-adds a b row number h = record {
   ];
 }
 
-pub added_there : (a b : List (List ℕ)) (row number : ℕ) → AddsTo a b row number → Contains (row_at b row) number
+pub added_there : (a b : List (List Watcher)) (row : ℕ) (number : Watcher) → AddsTo a b row number → Contains (row_at b row) number
 added_there a b row number h = subst (λ xs. Contains xs number) (sym h.here) (Contains-push (row_at a row) number)

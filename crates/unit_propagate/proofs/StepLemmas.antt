@@ -1,5 +1,5 @@
 -- Looking at one clause that watches a false literal.
-use Rattle.std.proofs.Common.{◌≡◌, ◌≢◌, ℕ, suc, zero, ◌+◌, ◌*◌, ◌^◌, ◌<◌, ◌≤◌, Bool, true, false, List, [], ◌∷◌, ◌++◌, ◌⊎◌, inl, inr, Option, Some, None, slice_get, length, Contains, All, refl, sym, subst, ap, ◌∙◌, arith}
+use Rattle.std.proofs.Common.{◌≡◌, ◌≢◌, ℕ, suc, zero, ◌+◌, ◌*◌, ◌^◌, ◌<◌, ◌≤◌, true, List, [], ◌∷◌, ◌++◌, ◌⊎◌, inl, inr, Some, slice_get, length, Contains, All, refl, sym, subst, ap, arith}
 use Rattle.std.proofs.lemmas.List.Elements.{All-contains, All-weaker}
 use Rattle.std.proofs.lemmas.Option.{slice_get_within}
 use Rattle.clause_base.specs.Literal.{Literal, negated}
@@ -7,15 +7,16 @@ use Rattle.clause_base.specs.Clause.{IsWithin}
 use Rattle.refutation_log.specs.Follows.{is_falsified_named}
 use Rattle.unit_propagate.specs.declared.marks.Mark.{Mark}
 use Rattle.unit_propagate.specs.declared.propagator.Propagator.{Propagator}
+use Rattle.unit_propagate.specs.declared.rows.Watcher.{Watcher}
 use Rattle.unit_propagate.specs.Trail.{literals_of}
 use Rattle.unit_propagate.specs.Sound.{IsReason}
-use Rattle.unit_propagate.specs.Marks.{MarkList, room_of}
-use Rattle.unit_propagate.specs.Watched.{IsWatching, IsWatchOf, IsWatched, HasTrue}
+use Rattle.unit_propagate.specs.Marks.{MarkList}
+use Rattle.unit_propagate.specs.Watched.{IsWatchOf, IsWatched, HasTrue}
 use Rattle.unit_propagate.specs.Rows.{row_at, code_of}
 use Rattle.unit_propagate.specs.Watches.{IsSide}
-use Rattle.unit_propagate.specs.Propagator.{IsKept, IsVisiting, Goes, Stays}
+use Rattle.unit_propagate.specs.Propagator.{IsKept, IsVisiting}
 use Rattle.unit_propagate.proofs.Places.{All-slice_get, All-from_contains, slice_get-Contains, Contains-slice_get}
-use Rattle.unit_propagate.proofs.PropagatorLemmas.{same_literal, code_fits, passed, falsified_at, reason_at, last_there, IsVisiting-push, Goes-push}
+use Rattle.unit_propagate.proofs.PropagatorLemmas.{same_literal, code_fits, passed, falsified_at, reason_at, last_there, IsVisiting-push}
 
 -- the literals from the third on are false, up to a place
 pub false_more : (marks : List Mark) (lits : List Literal) (i : ℕ) (x : Literal) → slice_get lits i ≡ Some x → Contains (literals_of marks) (negated x)
@@ -35,19 +36,23 @@ pub false_all : (marks : List Mark) (lits : List Literal) (i : ℕ) → length l
     → (j : ℕ) (y : Literal) → 2 ≤ j → slice_get lits j ≡ Some y → Contains (literals_of marks) (negated y)
 false_all marks lits i h before j y low there = before j y low (let l : j < length lits = slice_get_within lits j y there in omega arith) there
 
-module _ (clauses : List (List Literal)) (s : Propagator) (l : Literal) (i k : ℕ) (v : IsVisiting clauses s l i) (there : slice_get (row_at s.watches.rows (code_of l)) i ≡ Some k) where
-  -- there is no such clause
-  pub next_past : length s.watches.watched ≤ k → IsVisiting clauses s l (i + 1)
-  next_past h = passed clauses s l i k v there (λ c at is. absurd (let lt : k < length s.watches.watched = slice_get_within s.watches.watched k c at in omega arith))
+module _ (clauses : List (List Literal)) (s : Propagator) (l : Literal) (i : ℕ) (u : Watcher) (v : IsVisiting clauses s l i) (there : slice_get (row_at s.watches.rows (code_of l)) i ≡ Some u) where
+  -- the blocker is true
+  pub next_blocked : Contains (literals_of s.marks.marks) u.blocker → IsVisiting clauses s l (i + 1)
+  next_blocked h = passed clauses s l i u v there (λ c at is member. (u.blocker, member, h))
 
-  module _ (c : List Literal) (at : slice_get s.watches.watched k ≡ Some c) where
+  -- there is no such clause
+  pub next_past : length s.watches.watched ≤ u.clause → IsVisiting clauses s l (i + 1)
+  next_past h = passed clauses s l i u v there (λ c at is member. absurd (let lt : u.clause < length s.watches.watched = slice_get_within s.watches.watched u.clause c at in omega arith))
+
+  module _ (c : List Literal) (at : slice_get s.watches.watched u.clause ≡ Some c) where
     -- it doesn't watch the literal
     pub next_apart : (IsWatched c l → ⊥) → IsVisiting clauses s l (i + 1)
-    next_apart h = passed clauses s l i k v there (λ d there' is. let e : d ≡ c = cc in absurd (h (subst (λ x. IsWatched x l) e is)))
+    next_apart h = passed clauses s l i u v there (λ d there' is member. let e : d ≡ c = cc in absurd (h (subst (λ x. IsWatched x l) e is)))
 
     -- some literal is true
     pub next_true : HasTrue s.marks.marks c → IsVisiting clauses s l (i + 1)
-    next_true h = passed clauses s l i k v there (λ d there' is. let e : c ≡ d = cc in subst (HasTrue s.marks.marks) e h)
+    next_true h = passed clauses s l i u v there (λ d there' is member. let e : c ≡ d = cc in subst (HasTrue s.marks.marks) e h)
 
     module _ (p : ℕ) (other : Literal) (side : IsSide c l p other) where
       pub other_there : Contains c other
@@ -72,35 +77,35 @@ module _ (clauses : List (List Literal)) (s : Propagator) (l : Literal) (i k : �
         others clause is = All-from_contains (λ x. x ≢ other → Contains (literals_of s.marks.marks) (negated x)) clause
             (λ x h n. let q = slice_get-Contains c x (is.all x h) in at_place q.0 x q.1 n)
 
-        pub conflict : Contains (literals_of s.marks.marks) (negated other) → is_falsified_named clauses (literals_of s.marks.marks) (k + 1) ≡ true
+        pub conflict : Contains (literals_of s.marks.marks) (negated other) → is_falsified_named clauses (literals_of s.marks.marks) (u.clause + 1) ≡ true
         conflict h =
-            let w = v.watching k c at in
-            falsified_at clauses (literals_of s.marks.marks) k w.0 w.1
+            let w = v.watching u.clause c at in
+            falsified_at clauses (literals_of s.marks.marks) u.clause w.0 w.1
             (All-weaker (λ x. x ≢ other → Contains (literals_of s.marks.marks) (negated x)) (λ x. Contains (literals_of s.marks.marks) (negated x)) (λ x f. elim (same_literal x other) [
               | inl e ↦ subst (λ y. Contains (literals_of s.marks.marks) (negated y)) (sym e) h
               | inr n ↦ f n
             ]) w.0 (others w.0 w.2))
 
-        pub reason : IsReason clauses (k + 1) (literals_of s.marks.marks) other
-        reason = let w = v.watching k c at in reason_at clauses (literals_of s.marks.marks) k w.0 other w.1 (other_in w.0 w.2) (others w.0 w.2)
+        pub reason : IsReason clauses (u.clause + 1) (literals_of s.marks.marks) other
+        reason = let w = v.watching u.clause c at in reason_at clauses (literals_of s.marks.marks) u.clause w.0 other w.1 (other_in w.0 w.2) (others w.0 w.2)
 
       pub other_within : (vars : ℕ) → All (IsWithin vars) clauses → other.var ≤ vars
       other_within vars h =
-          let w = v.watching k c at in
-          All-contains (λ (x : Literal). x.var ≤ vars) w.0 other (All-slice_get (IsWithin vars) clauses k w.0 h w.1) (other_in w.0 w.2)
+          let w = v.watching u.clause c at in
+          All-contains (λ (x : Literal). x.var ≤ vars) w.0 other (All-slice_get (IsWithin vars) clauses u.clause w.0 h w.1) (other_in w.0 w.2)
 
     -- a literal of the clause is of one of the variables
     pub literal_within : (vars : ℕ) (x : Literal) → All (IsWithin vars) clauses → Contains c x → x.var ≤ vars
     literal_within vars x h m =
-        let w = v.watching k c at in
-        All-contains (λ (y : Literal). y.var ≤ vars) w.0 x (All-slice_get (IsWithin vars) clauses k w.0 h w.1) (w.2.only x m)
+        let w = v.watching u.clause c at in
+        All-contains (λ (y : Literal). y.var ≤ vars) w.0 x (All-slice_get (IsWithin vars) clauses u.clause w.0 h w.1) (w.2.only x m)
 
 -- the other watched literal was forced
-pub next_forced : (clauses : List (List Literal)) (s : Propagator) (l : Literal) (i k : ℕ) (c : List Literal) (other : Literal) (m : Mark) (after : MarkList) → after ≡ record { vars = s.marks.vars; marks = s.marks.marks ++ m ∷ [] }
-    → m.lit ≡ other → IsVisiting clauses s l i → slice_get (row_at s.watches.rows (code_of l)) i ≡ Some k → slice_get s.watches.watched k ≡ Some c → Contains c other
+pub next_forced : (clauses : List (List Literal)) (s : Propagator) (l : Literal) (i : ℕ) (u : Watcher) (c : List Literal) (other : Literal) (m : Mark) (after : MarkList) → after ≡ record { vars = s.marks.vars; marks = s.marks.marks ++ m ∷ [] }
+    → m.lit ≡ other → IsVisiting clauses s l i → slice_get (row_at s.watches.rows (code_of l)) i ≡ Some u → slice_get s.watches.watched u.clause ≡ Some c → Contains c other
     → IsVisiting clauses (record s { marks = after }) l (i + 1)
-next_forced clauses s l i k c other m after e lit v there at is =
-    next_true clauses (record s { marks = after }) l i k (IsVisiting-push clauses s m after l i e v) there c at (
+next_forced clauses s l i u c other m after e lit v there at is =
+    next_true clauses (record s { marks = after }) l i u (IsVisiting-push clauses s m after l i e v) there c at (
       other,
       is,
       subst (Contains (literals_of after.marks)) lit (subst (λ (x : MarkList). Contains (literals_of x.marks) m.lit) (sym e) (last_there s.marks.marks m)),

@@ -1,10 +1,10 @@
 -- Trails: their highest level, their variables, their literals.
-use Rattle.std.proofs.Common.{◌≡◌, ◌≢◌, ℕ, suc, zero, ◌+◌, ◌-◌, ◌<◌, ◌≤◌, max, Bool, true, false, not, List, [], ◌∷◌, ◌++◌, ◌⊎◌, inl, inr, Option, Some, None, map, take, get_or, slice_get, filter, nat_le, cond, length, length-append, Contains, All, refl, sym, subst, ap, ◌∙◌, arith}
+use Rattle.std.proofs.Common.{◌≡◌, ◌≢◌, ℕ, suc, zero, ◌<◌, ◌≤◌, max, Bool, true, false, not, List, [], ◌∷◌, ◌++◌, ◌⊎◌, inl, inr, Option, Some, None, get_or, slice_get, filter, nat_le, cond, Contains, All, refl, sym, subst, ap, ◌∙◌, arith}
 use Rattle.std.specs.Prelude.{AllPairs, IfSome, IfNone}
 use Rattle.std.specs.Bool.{OnTrue, OnFalse}
 use mathlib.Core.Bool.{beq}
-use Rattle.std.proofs.lemmas.List.{length_push, map-append, append-nil, append_assoc}
-use Rattle.std.proofs.lemmas.List.Elements.{All-nil, All-head, All-tail, All-cons, All-push, All-contains, All-weaker, filter-append, Contains-push, Contains-append_left, Contains-append_cases}
+use Rattle.std.proofs.lemmas.List.{append-nil, append_assoc}
+use Rattle.std.proofs.lemmas.List.Elements.{All-nil, All-head, All-tail, All-cons, All-push, All-contains, All-weaker, filter-append}
 use Rattle.std.proofs.lemmas.List.Quantifiers.{all_pairs_push}
 use borrow.Author.Tests.{leb-true, leb-false}
 use Rattle.clause_base.specs.Literal.{Literal, negated}

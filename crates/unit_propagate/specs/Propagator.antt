@@ -1,9 +1,10 @@
-use Rattle.std.specs.Prelude.{◌≡◌, ◌≢◌, ℕ, ◌+◌, ◌<◌, ◌≤◌, ◌⊎◌, List, [], ◌∷◌, ◌++◌, Some, All, Contains, length, slice_get}
+use Rattle.std.specs.Prelude.{◌≡◌, ℕ, ◌<◌, ◌≤◌, ◌⊎◌, List, [], ◌∷◌, ◌++◌, Some, Contains, length, slice_get}
 use Rattle.clause_base.specs.Literal.{Literal, negated}
 use Rattle.clause_base.specs.declared.formula.Cnf.{Cnf}
 use Rattle.refutation_log.specs.declared.entries.Entry.{Entry}
 use Rattle.refutation_log.specs.Entry.{clauses_of}
 use Rattle.unit_propagate.specs.declared.marks.Mark.{Mark}
+use Rattle.unit_propagate.specs.declared.rows.Watcher.{Watcher}
 use Rattle.unit_propagate.specs.declared.propagator.Propagator.{Propagator}
 use Rattle.unit_propagate.specs.Trail.{literals_of}
 use Rattle.unit_propagate.specs.Sound.{Extends}
@@ -26,9 +27,9 @@ pub record IsKept (s : Propagator) : Type 0 where
   pub kept : s.kept ≤ s.place
   pub forced : s.done ≤ length s.watches.units
 
--- A clause stands in the list of a literal, at a place or behind it.
-abbrev pub IsPending : List (List ℕ) → Literal → ℕ → ℕ → Type 0
-IsPending rows l i k = (j : ℕ) × (i ≤ j) × (slice_get (row_at rows (code_of l)) j ≡ Some k)
+-- A clause stands in the list of a literal, at a place or behind it, with one of its own literals as its blocker.
+abbrev pub IsPending : List (List Watcher) → Literal → ℕ → ℕ → List Literal → Type 0
+IsPending rows l i k clause = (j : ℕ) × (x : Watcher) × (i ≤ j) × (slice_get (row_at rows (code_of l)) j ≡ Some x) × (x.clause ≡ k) × Contains clause x.blocker
 
 -- The clauses that watch a false literal are looked at, up to a place of its list: in each of them that isn't to come, some literal is
 -- true.
@@ -37,7 +38,7 @@ pub record IsVisiting (clauses : List (List Literal)) (s : Propagator) (l : Lite
   pub watching : IsWatching clauses s.watches.watched
   pub falsified : Contains (literals_of s.marks.marks) (negated l)
   pub seen : (k : ℕ) (c : List Literal) → slice_get s.watches.watched k ≡ Some c → IsWatched c l
-      → HasTrue s.marks.marks c ⊎ IsPending s.watches.rows l i k
+      → HasTrue s.marks.marks c ⊎ IsPending s.watches.rows l i k c
 
 -- What propagation leaves at each step.
 pub record Goes (clauses : List (List Literal)) (old new : Propagator) : Type 0 where

@@ -1,14 +1,14 @@
 use Rattle.std.specs.Prelude.{◌≡◌, ◌≢◌, ℕ, ◌+◌, ◌*◌, ◌^◌, ◌<◌, ◌≤◌, ◌⊎◌, Bool, false, not, if◌then◌else◌, List, [], ◌∷◌, ◌++◌, Some, Contains, length, filter, slice_get, slice_set}
 use Rattle.clause_base.specs.Literal.{Literal, negated, literal_eq}
 use Rattle.unit_propagate.specs.declared.marks.Mark.{Mark}
+use Rattle.unit_propagate.specs.declared.rows.Watcher.{Watcher}
 use Rattle.unit_propagate.specs.Rows.{row_at, code_of, AddsTo, DropsAt}
 use Rattle.unit_propagate.specs.Watched.{IsWatched}
 
--- What a `Watches` is seen as: the literals of each clause, the watched ones first, for each literal the clauses that watch it, by their
--- places, and the places of the clauses with one literal.
+-- What a `Watches` is seen as: the literals of each clause, the watched ones first, for each literal the clauses that watch it, and the places of the clauses with one literal.
 pub record WatchList : Type 0 where
   pub watched : List (List Literal)
-  pub rows : List (List ℕ)
+  pub rows : List (List Watcher)
   pub units : List ℕ
 
 -- A literal is neither of two.
@@ -19,17 +19,21 @@ differs first second l = if literal_eq l first then false else not (literal_eq l
 abbrev pub ordered : List Literal → Literal → Literal → List Literal
 ordered lits first second = first ∷ second ∷ filter (differs first second) lits
 
+-- A clause stands in the list of a literal, with one of its own literals as its blocker (two watched literals).
+abbrev pub Stands : List (List Watcher) → Literal → ℕ → List Literal → Type 0
+Stands rows l k clause = (x : Watcher) × Contains (row_at rows (code_of l)) x × (x.clause ≡ k) × Contains clause x.blocker
+
 -- Each clause stands in the lists of its two watched literals, or among those with one literal.
 pub record IsListed (room : ℕ) (w : WatchList) : Type 0 where
   pub size : length w.rows ≡ 2 * room
-  pub listed : (k : ℕ) (c : List Literal) (l : Literal) → slice_get w.watched k ≡ Some c → IsWatched c l → Contains (row_at w.rows (code_of l)) k
+  pub listed : (k : ℕ) (c : List Literal) (l : Literal) → slice_get w.watched k ≡ Some c → IsWatched c l → Stands w.rows l k c
   pub alone : (k : ℕ) (l : Literal) → slice_get w.watched k ≡ Some (l ∷ []) → Contains w.units k
   pub units : (i k : ℕ) → slice_get w.units i ≡ Some k → (l : Literal) × (slice_get w.watched k ≡ Some (l ∷ []))
 
 -- Lists that only grow.
-pub record RowsGrow (old new : List (List ℕ)) : Type 0 where
+pub record RowsGrow (old new : List (List Watcher)) : Type 0 where
   pub size : length new ≡ length old
-  pub stays : (row k : ℕ) → Contains (row_at old row) k → Contains (row_at new row) k
+  pub stays : (row : ℕ) (x : Watcher) → Contains (row_at old row) x → Contains (row_at new row) x
 
 -- A literal and the other of the first two of a clause, with the literal's place.
 abbrev pub IsSide : List Literal → Literal → ℕ → Literal → Type 0
@@ -50,11 +54,11 @@ pub record CanRewatch (old : WatchList) (i k p j : ℕ) (from to : Literal) : Ty
   pub different : code_of to ≢ code_of from
   pub in_row : i < length (row_at old.rows (code_of from))
 
--- Clause k watches the literal at place j in place of that at place p.
-pub record Rewatches (old new : WatchList) (i k p j : ℕ) (from to : Literal) : Type 0 where
-  pub watched : (c : List Literal) → slice_get old.watched k ≡ Some c → new.watched ≡ slice_set old.watched k (exchanged c p j from to)
-  pub between : List (List ℕ)
-  pub adds : AddsTo old.rows between (code_of to) k
+-- A clause watches the literal at place j in place of that at place p, as this watcher.
+pub record Rewatches (old new : WatchList) (i : ℕ) (x : Watcher) (p j : ℕ) (from to : Literal) : Type 0 where
+  pub watched : (c : List Literal) → slice_get old.watched x.clause ≡ Some c → new.watched ≡ slice_set old.watched x.clause (exchanged c p j from to)
+  pub between : List (List Watcher)
+  pub adds : AddsTo old.rows between (code_of to) x
   pub drops : DropsAt between new.rows (code_of from) i
   pub units : new.units ≡ old.units
 
@@ -63,7 +67,7 @@ pub record Adds (old new : WatchList) (watch : List Literal) : Type 0 where
   pub more : 1 < length watch
   pub watched : new.watched ≡ old.watched ++ watch ∷ []
   pub grow : RowsGrow old.rows new.rows
-  pub listed : (l : Literal) → IsWatched watch l → Contains (row_at new.rows (code_of l)) (length old.watched)
+  pub listed : (l : Literal) → IsWatched watch l → Stands new.rows l (length old.watched) watch
   pub units : new.units ≡ old.units
 
 -- A clause of one literal stands behind the others from now on.

@@ -23,11 +23,14 @@ pub struct Slot {
     pub place: usize,
 }
 
-/// The literals of a trail in their order, and a table of the variables' values. Takes no memory once it is made.
+/// The literals of a trail in their order, and tables of the variables' values. Takes no memory once it is made.
 #[derive(Debug, Drop)]
 pub struct Marks {
     vars: u32,
     slots: Vec<Option<Slot>>,
+
+    // The signs of the slots: a small table, which propagation looks into.
+    signs: Vec<Option<bool>>,
     marks: Vec<Mark>,
 }
 
@@ -36,7 +39,7 @@ impl Model for Marks {
 
     ghost view = { λ t. record { vars = t.vars; marks = t.marks.items } };
 
-    ghost invariant = { λ t. IsMarks t.vars t.slots.items t.marks.items (vec_capacity t.marks) };
+    ghost invariant = { λ t. IsMarks t.vars t.slots.items t.signs.items t.marks.items (vec_capacity t.marks) };
 }
 
 impl Marks {
@@ -46,8 +49,14 @@ impl Marks {
     {
         let room = vars.min(1 << 30) as usize + 1;
         let slots = vec![in alloc; None; room]?;
+        let signs = vec![in alloc; None; room]?;
         let marks = Vec::with_capacity(alloc, room)?;
-        Ok(Marks { vars, slots, marks })
+        Ok(Marks {
+            vars,
+            slots,
+            signs,
+            marks,
+        })
     }
 
     pub fn len(&self) -> usize
@@ -76,6 +85,15 @@ impl Marks {
         self.slots.get(var as usize).copied().flatten()
     }
 
+    /// The sign of the literal that gives a variable its value.
+    fn sign(&self, var: u32) -> Option<bool>
+        ensures some { IfSome result (λ sign. (i : ℕ) × (m : Mark) × (slice_get self.now.marks i ≡ Some m) × (m.lit ≡ record { var = var; positive = sign })) }
+        ensures none { IfNone result (IsFree self.now.marks var) }
+        ensures trail { IsTrail self.now.vars self.now.marks }
+    {
+        self.signs.get(var as usize).copied().flatten()
+    }
+
     /// The highest level, which is that of the last literal.
     pub fn level(&self) -> u32
         ensures value { result ≡ highest_level self.now.marks }
@@ -99,10 +117,10 @@ impl Marks {
         ensures { self.new ≡ record self.old { marks = self.old.marks ++ (record { lit = lit; level = level; reason = reason }) ∷ [] } }
     {
         let place = self.marks.len();
-        self.slots[lit.var() as usize] = Some(Slot {
-            positive: lit.is_positive(),
-            place,
-        });
+        let positive = lit.is_positive();
+        let var = lit.var() as usize;
+        self.slots[var] = Some(Slot { positive, place });
+        self.signs[var] = Some(positive);
         self.marks.push(Mark { lit, level, reason }).unwrap();
     }
 
@@ -114,7 +132,9 @@ impl Marks {
         ensures vars { self.new.vars ≡ self.old.vars }
     {
         let last = self.marks.pop()?;
-        self.slots[last.lit.var() as usize] = None;
+        let var = last.lit.var() as usize;
+        self.slots[var] = None;
+        self.signs[var] = None;
         Some(last)
     }
 
@@ -141,8 +161,8 @@ impl Marks {
         ensures no { OnFalse result (Contains (literals_of self.now.marks) lit → ⊥) }
         ensures trail { IsTrail self.now.vars self.now.marks }
     {
-        match self.slot(lit.var()) {
-            Some(slot) => slot.positive == lit.is_positive(),
+        match self.sign(lit.var()) {
+            Some(positive) => positive == lit.is_positive(),
             None => false,
         }
     }

@@ -12,6 +12,7 @@ ghost use Rattle.unit_propagate.specs.Watches.{IsFalsifier, IsSide};
 
 use crate::clauses::{clause_at, clause_count};
 use crate::marks::Marks;
+use crate::rows::Watcher;
 use crate::watches::Watches;
 use clause_base::{Clause, Cnf, Lit};
 use refutation_log::Entry;
@@ -327,28 +328,32 @@ impl Propagator {
         true
     }
 
-    /// Looks at clause `k`, which stands at place `i` of the list of a literal that became false.
+    /// Looks at a clause, which stands at place `i` of the list of a literal that became false.
     fn step(
         &mut self,
         base: &Cnf,
         seen: &[Entry],
         falsified: Lit,
         i: usize,
-        k: usize,
+        watcher: Watcher,
     ) -> Result<Step, AllocError>
         requires within { All (IsWithin self.old.marks.vars) (clauses_in base.now seen.now) }
         requires visiting { IsVisiting (clauses_in base.now seen.now) self.old falsified i }
         requires fits { code_of falsified ≤ 2 * 2 ^ 30 + 1 → code_of falsified < length self.old.watches.rows }
-        requires there { slice_get (row_at self.old.watches.rows (code_of falsified)) i ≡ Some k }
+        requires there { slice_get (row_at self.old.watches.rows (code_of falsified)) i ≡ Some watcher }
         ensures next { result ≡ Ok Next → IsVisiting (clauses_in base.now seen.now) self.new falsified (i + 1) }
         ensures next_row { result ≡ Ok Next → length (row_at self.new.watches.rows (code_of falsified)) ≡ length (row_at self.old.watches.rows (code_of falsified)) }
         ensures again { result ≡ Ok Again → IsVisiting (clauses_in base.now seen.now) self.new falsified i }
         ensures again_row { result ≡ Ok Again → length (row_at self.new.watches.rows (code_of falsified)) + 1 ≡ length (row_at self.old.watches.rows (code_of falsified)) }
-        ensures conflict { result ≡ Ok Conflict → is_falsified_named (clauses_in base.now seen.now) (literals_of self.new.marks.marks) (k + 1) ≡ true }
-        ensures small { result ≡ Ok Conflict → k + 1 < 2 ^ 64 }
+        ensures conflict { result ≡ Ok Conflict → is_falsified_named (clauses_in base.now seen.now) (literals_of self.new.marks.marks) (watcher.clause + 1) ≡ true }
+        ensures small { result ≡ Ok Conflict → watcher.clause + 1 < 2 ^ 64 }
         ensures goes { Goes (clauses_in base.now seen.now) self.old self.new }
         ensures stays { Stays self.old self.new }
     {
+        if self.marks.is_true(watcher.blocker) {
+            return Ok(Step::Next);
+        }
+        let k = watcher.clause;
         if k >= self.watches.len() {
             return Ok(Step::Next);
         }
@@ -361,8 +366,12 @@ impl Propagator {
             return Ok(Step::Next);
         }
         if let Some(next) = open_literal(&self.marks, lits) {
+            let watcher = Watcher {
+                clause: k,
+                blocker: other,
+            };
             self.watches
-                .rewatch(i, k, side.place, next.place, falsified, next.lit)?;
+                .rewatch(i, watcher, side.place, next.place, falsified, next.lit)?;
             return Ok(Step::Again);
         }
         if self.marks.is_false(other) {
@@ -389,8 +398,9 @@ impl Propagator {
         ensures stays { Stays self.old self.new }
     {
         let mut i = 0;
-        while let Some(k) = self.watches.watcher(falsified, i) {
-            match self.step(base, seen, falsified, i, k)? {
+        while let Some(watcher) = self.watches.watcher(falsified, i) {
+            let k = watcher.clause;
+            match self.step(base, seen, falsified, i, watcher)? {
                 Step::Next => i += 1,
                 Step::Again => {}
                 Step::Conflict => return Ok(Some(k as u64 + 1)),

@@ -1,17 +1,29 @@
-ghost use Rattle.std.specs.Prelude.{◌≡◌, ℕ, ◌+◌, ◌<◌, List, [], length, map, replicate, slice_get, IsSome, ◌^◌, IfOk, OnOk, OnErr};
+ghost use Rattle.std.specs.Prelude.{◌≡◌, ◌+◌, ◌<◌, List, [], length, map, replicate, slice_get, IsSome, ◌^◌, IfOk, OnOk, OnErr};
 ghost use Rattle.unit_propagate.specs.Rows.{row_at, AddsTo, DropsAt};
 
+use clause_base::Lit;
 use std::alloc::{AllocError, Global};
 use std::marker::Model;
 
-/// A table of lists of numbers. Seen by contracts as the list of these lists.
+/// A clause that watches a literal, by its place, and a literal of the clause that is looked at first: where that one is true, the clause
+/// needs nothing.
+#[derive(Clone, Copy, Debug)]
+pub struct Watcher {
+    pub clause: usize,
+    pub blocker: Lit,
+}
+
+/// A table of lists of watchers. Seen by contracts as the list of these lists.
 #[derive(Debug, Drop)]
 pub struct Rows {
-    rows: Vec<Vec<usize>>,
+    rows: Vec<Vec<Watcher>>,
 }
 
 impl Model for Rows {
-    ghost Value = { List (List ℕ) };
+    ghost use Rattle.std.specs.Prelude.{List, map};
+    ghost use Rattle.unit_propagate.specs.declared.rows.Watcher.{Watcher};
+
+    ghost Value = { List (List Watcher) };
 
     ghost view = { λ t. map (λ row. row.items) t.rows.items };
 }
@@ -28,8 +40,8 @@ impl Rows {
         Ok(Rows { rows })
     }
 
-    /// The number at place `i` of a list.
-    pub fn get(&self, row: usize, i: usize) -> Option<usize>
+    /// The watcher at place `i` of a list.
+    pub fn get(&self, row: usize, i: usize) -> Option<Watcher>
         requires { row < length self.now }
         ensures value { result ≡ slice_get (row_at self.now row) i }
         ensures small { IsSome result → i < 2 ^ 63 }
@@ -37,22 +49,22 @@ impl Rows {
         self.rows[row].get(i).copied()
     }
 
-    /// Puts a number last in a list.
-    pub fn push(&mut self, row: usize, number: usize) -> Result<(), AllocError>
+    /// Puts a watcher last in a list.
+    pub fn push(&mut self, row: usize, watcher: Watcher) -> Result<(), AllocError>
         requires { row < length self.old }
-        ensures ok { OnOk result (AddsTo self.old self.new row number) }
+        ensures ok { OnOk result (AddsTo self.old self.new row watcher) }
         ensures err { OnErr result (self.new ≡ self.old) }
     {
-        self.rows[row].push(number)?;
+        self.rows[row].push(watcher)?;
         Ok(())
     }
 
-    /// Takes the number at place `i` out of a list, and puts the last one in its place.
+    /// Takes the watcher at place `i` out of a list, and puts the last one in its place.
     pub fn swap_remove(&mut self, row: usize, i: usize)
         requires in_table { row < length self.old }
         requires in_row { i < length (row_at self.old row) }
         ensures { DropsAt self.old self.new row i }
     {
-        let _number = self.rows[row].swap_remove(i);
+        let _watcher = self.rows[row].swap_remove(i);
     }
 }

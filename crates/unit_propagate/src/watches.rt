@@ -4,7 +4,7 @@ ghost use Rattle.unit_propagate.specs.Rows.{row_at, code_of};
 ghost use Rattle.unit_propagate.specs.Watches.{WatchList, Adds, AddsAlone, KeepsWatches, Rewatches, CanRewatch, ordered};
 
 use crate::arena::Arena;
-use crate::rows::Rows;
+use crate::rows::{Rows, Watcher};
 use clause_base::Lit;
 use std::alloc::{AllocError, Global};
 use std::marker::Model;
@@ -88,7 +88,7 @@ impl Watches {
     }
 
     /// One of the clauses that watch a literal.
-    pub fn watcher(&self, lit: Lit, i: usize) -> Option<usize>
+    pub fn watcher(&self, lit: Lit, i: usize) -> Option<Watcher>
         requires { code_of lit ≤ 2 * 2 ^ 30 + 1 → code_of lit < length self.now.rows }
         ensures value { result ≡ slice_get (row_at self.now.rows (code_of lit)) i }
         ensures small { IsSome result → i < 2 ^ 63 }
@@ -96,21 +96,23 @@ impl Watches {
         self.rows.get(code(lit), i)
     }
 
-    /// Clause `k`, at place `i` of the list of its literal `from` at place `p`, watches its literal `to` at place `j` in that one's place.
+    /// A clause at place `i` of the list of its literal `from` at place `p` watches its literal `to` at place `j` in that one's place, as
+    /// this watcher.
     pub fn rewatch(
         &mut self,
         i: usize,
-        k: usize,
+        watcher: Watcher,
         p: usize,
         j: usize,
         from: Lit,
         to: Lit,
     ) -> Result<(), AllocError>
-        requires { CanRewatch self.old i k p j from to }
-        ensures ok { OnOk result (Rewatches self.old self.new i k p j from to) }
+        requires { CanRewatch self.old i watcher.clause p j from to }
+        ensures ok { OnOk result (Rewatches self.old self.new i watcher p j from to) }
         ensures err { OnErr result (self.new ≡ self.old) }
     {
-        self.rows.push(code(to), k)?;
+        let k = watcher.clause;
+        self.rows.push(code(to), watcher)?;
         self.arena.exchange(k, p, j);
         self.rows.swap_remove(code(from), i);
         Ok(())
@@ -124,8 +126,20 @@ impl Watches {
         ensures err { OnErr result (KeepsWatches self.old self.new) }
     {
         let k = self.arena.len();
-        self.rows.push(code(first), k)?;
-        self.rows.push(code(second), k)?;
+        self.rows.push(
+            code(first),
+            Watcher {
+                clause: k,
+                blocker: second,
+            },
+        )?;
+        self.rows.push(
+            code(second),
+            Watcher {
+                clause: k,
+                blocker: first,
+            },
+        )?;
         self.arena.push(lits, first, second)
     }
 

@@ -1,4 +1,3 @@
-use Rattle.unit_propagate.proofs.Places.{on_ok}
 use Rattle.unit_propagate.proofs.ArenaLemmas.{kept_literal, left_literal}
 use Rattle.std.proofs.Common.{◌∙◌, sym}
 use Rattle.unit_propagate.proofs.arena.push_other.Goals as goal

@@ -1,4 +1,4 @@
-use Rattle.std.proofs.Common.{◌≡◌, ◌≢◌, true, false, sym, ap, ◌∙◌, refl, true≢false}
+use Rattle.std.proofs.Common.{◌≡◌, ◌≢◌, false, sym, ap, ◌∙◌, true≢false}
 use Rattle.clause_base.specs.Literal.{Literal, negated, literal_eq}
 use Rattle.clause_base.specs.Equality.{Decides-literal_eq}
 use Rattle.unit_propagate.proofs.TrailLemmas.{free-no_literal}

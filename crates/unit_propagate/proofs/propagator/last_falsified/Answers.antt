@@ -1,4 +1,4 @@
-use Rattle.std.proofs.Common.{◌≡◌, ◌<◌, ◌≤◌, length, arith}
+use Rattle.std.proofs.Common.{arith}
 use Rattle.unit_propagate.proofs.FalsifierLemmas.{later_step, last_none}
 use Rattle.unit_propagate.proofs.propagator.last_falsified.Goals as goal
 

@@ -1,7 +1,5 @@
-use Rattle.std.proofs.Common.{◌≡◌, ℕ, ◌<◌, ◌≤◌, ◌+◌, Some, Contains, length, slice_get, sym, subst, ap, ◌∙◌, arith}
-use Rattle.clause_base.specs.Literal.{Literal, negated}
-use Rattle.unit_propagate.specs.Trail.{literals_of}
-use Rattle.unit_propagate.proofs.StepLemmas.{false_more, false_all}
+use Rattle.std.proofs.Common.{arith}
+use Rattle.unit_propagate.proofs.StepLemmas.{false_all}
 use Rattle.unit_propagate.proofs.propagator.open_literal.Goals as goal
 
 pub returns-clause-none : goal.returns-clause-none

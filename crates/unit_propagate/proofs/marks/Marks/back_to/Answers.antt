@@ -1,4 +1,4 @@
-use Rattle.std.proofs.Common.{◌≡◌, ◌<◌, ◌≤◌, ◌∙◌, sym, refl, arith}
+use Rattle.std.proofs.Common.{◌≡◌, ◌∙◌, sym, arith}
 use Rattle.unit_propagate.specs.Trail.{highest_level}
 use Rattle.unit_propagate.proofs.TrailLemmas.{popped, filter-highest}
 use Rattle.unit_propagate.proofs.marks.Marks.back_to.Goals as goal

@@ -1,7 +1,7 @@
-use Rattle.std.proofs.Common.{◌≡◌, ◌<◌, ◌≤◌, ◌∙◌, length, refl, sym, ap, subst, arith}
+use Rattle.std.proofs.Common.{◌≡◌, ◌∙◌, length, sym, ap, arith}
 use Rattle.unit_propagate.specs.Watches.{WatchList}
 use Rattle.unit_propagate.specs.Trail.{highest_level}
-use Rattle.unit_propagate.specs.Propagator.{clauses_in, AreForced}
+use Rattle.unit_propagate.specs.Propagator.{clauses_in}
 use Rattle.unit_propagate.proofs.PropagatorLemmas.{Goes-trans}
 use Rattle.unit_propagate.proofs.ForceLemmas.{forced_more, forced_all, done_all, Goes-done}
 use Rattle.unit_propagate.proofs.SoundLemmas.{Goes-literals}

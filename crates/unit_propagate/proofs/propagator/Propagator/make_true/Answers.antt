@@ -1,4 +1,4 @@
-use Rattle.std.proofs.Common.{Some, Contains, ◌+◌, refl, sym, subst}
+use Rattle.std.proofs.Common.{Some, Contains, refl, sym, subst}
 use Rattle.unit_propagate.specs.Trail.{literals_of}
 use Rattle.unit_propagate.specs.Marks.{MarkList}
 use Rattle.unit_propagate.proofs.PropagatorLemmas.{valueless, last_there, Goes-push}

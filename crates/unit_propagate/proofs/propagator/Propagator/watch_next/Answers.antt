@@ -1,4 +1,4 @@
-use Rattle.std.proofs.Common.{◌≡◌, ◌<◌, ◌≤◌, ◌+◌, Some, slice_get, length, refl, sym, subst, arith}
+use Rattle.std.proofs.Common.{length, sym}
 use Rattle.unit_propagate.specs.Trail.{literals_of}
 use Rattle.unit_propagate.specs.Propagator.{clauses_in}
 use Rattle.clause_base.specs.Clause.{IsWithin}

@@ -10,4 +10,4 @@ returns-in_err-push-clause-err c =
 pub returns-clause-ok : goal.returns-clause-ok
 returns-clause-ok c =
     rw (← c.self.view_is)
-    (AddsTo-write (λ row. row.items) c.self.inside.rows.items c.args.row c.index_mut.result.now c.push.new.self (rw (← c.self.view_is) at c.requires) c.index_mut.ensures.value c.args.number c.in_ok-push.ensures.items)
+    (AddsTo-write (λ row. row.items) c.self.inside.rows.items c.args.row c.index_mut.result.now c.push.new.self (rw (← c.self.view_is) at c.requires) c.index_mut.ensures.value c.args.watcher c.in_ok-push.ensures.items)

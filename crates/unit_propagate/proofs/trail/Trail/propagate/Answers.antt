@@ -1,4 +1,4 @@
-use Rattle.std.proofs.Common.{◌≡◌, sym, ap, ◌∙◌}
+use Rattle.std.proofs.Common.{sym, ap, ◌∙◌}
 use Rattle.unit_propagate.specs.Trail.{TrailModel}
 use Rattle.unit_propagate.specs.Propagator.{clauses_in}
 use Rattle.unit_propagate.proofs.SoundLemmas.{within_all, Extends-same, IsSound-extends}
