@@ -1,5 +1,6 @@
 //! What is done with each task.
 ghost use Rattle.std.specs.Prelude.{IfOk};
+ghost use Rattle.std.specs.Thread.{IsSync};
 
 use std::alloc::AllocError;
 use std::sync::Wait;
@@ -20,5 +21,6 @@ pub trait Job {
         rt: &R,
         task: &Self::Task,
     ) -> Result<Self::Answer, AllocError>
+        requires { IsSync R.row }
         ensures { IfOk result (is_answer self.now task.now) };
 }
