@@ -1,0 +1,4 @@
+mod ListLemmas
+mod ReplyLemmas
+mod WholeLines
+mod ReadBack

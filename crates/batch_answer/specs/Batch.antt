@@ -1,0 +1,60 @@
+-- The answer of `batch` (this project's own).
+use Rattle.std.specs.Prelude.{◌≡◌, ◌==◌, ◌≤◌, ℕ, ◌++◌, IfSome, ⊤, List, [], ◌∷◌, None, codes, decimal, length}
+use Rattle.std.specs.List.{count_by}
+use Rattle.program_replies.specs.declared.replies.Reply.{Reply}
+use Rattle.program_replies.specs.Statuses.{status_number}
+use Rattle.batch_run.specs.Answers.{AreAnswers}
+use Rattle.synth_engine.specs.declared.settings.Settings.{Settings}
+use Rattle.synth_answer.specs.Answer.{Answers}
+
+-- how each search is bounded: by the same limits, and without workers beside the one that makes it
+abbrev pub bounds_of : Settings → Settings
+bounds_of settings = record { max = settings.max; entries = settings.entries; workers = 0 }
+
+-- a search can be bounded so
+pub record IsBounded (settings : Settings) : Type 0 where
+  pub some_size : 1 ≤ settings.max
+  pub most_size : settings.max ≤ 8
+  pub entries : IfSome settings.entries (λ most. most ≤ 250000)
+  pub workers : settings.workers ≤ 8
+
+-- what a part tells of its text
+pub record Part : Type 0 where
+  pub status : ℕ
+  pub lines : List ℕ
+
+-- the text alone has this answer
+abbrev pub IsPartFor : Settings → List ℕ → Part → Type 0
+IsPartFor settings text part = Answers text None (bounds_of settings) part.lines part.status
+
+-- the part that a reply gives
+abbrev pub part_of : Reply → Part
+part_of reply = record { status = status_number reply.status; lines = reply.bytes.items }
+
+-- each line has its line end: the last byte, where there is one, is a line end
+abbrev pub AreLines : List ℕ → Type 0
+AreLines [] = ⊤
+AreLines (byte ∷ []) = byte ≡ 10
+AreLines (byte ∷ next ∷ more) = AreLines (next ∷ more)
+
+-- how many lines bytes are, each of which has its line end
+abbrev pub line_count : List ℕ → ℕ
+line_count bytes = count_by (λ byte. byte == 10) bytes
+
+-- `text NAME`, `status S`, `lines L`, and the L lines
+abbrev pub part_text : List ℕ → Part → List ℕ
+part_text name part =
+    codes "text " ++ name ++ codes "\nstatus " ++ decimal part.status ++ codes "\nlines " ++ decimal (line_count part.lines) ++ codes "\n" ++ part.lines
+
+-- the parts of these names, in their order, and the last line
+abbrev pub batch_text : List (List ℕ) → List Part → List ℕ
+batch_text [] parts = codes "end batch\n"
+batch_text (name ∷ names) [] = codes "end batch\n"
+batch_text (name ∷ names) (part ∷ parts) = part_text name part ++ batch_text names parts
+
+-- The bytes are a part for each text, under its name and in its place, which answers that text alone; last the line `end batch`.
+pub record BatchAnswers (names texts : List (List ℕ)) (settings : Settings) (bytes : List ℕ) : Type 0 where
+  pub one_each : length names ≡ length texts
+  pub parts : List Part
+  pub each : AreAnswers (IsPartFor settings) texts parts
+  pub text : bytes ≡ batch_text names parts

@@ -1,0 +1,4 @@
+pub mod ListText
+pub mod Taken
+pub mod Batch
+pub mod Laws

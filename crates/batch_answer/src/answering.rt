@@ -1,0 +1,45 @@
+//! The answer to many texts.
+ghost use Rattle.std.specs.Prelude.{◌≡◌, ◌^◌, ◌<◌, ◌≤◌, ℕ, List, IfOk, IfSome, length};
+ghost use Rattle.batch_answer.specs.Batch.{BatchAnswers};
+ghost use Rattle.batch_answer.specs.Taken.{AreTexts};
+
+use crate::file_name::FileName;
+use crate::parts::batch_text;
+use crate::texts::{Answering, TakenText};
+use batch_run::run_all;
+use outside_edge::Gate;
+use program_replies::{Reply, Status};
+use std::alloc::{AllocError, Global};
+use std::sync::Wait;
+use std::thread::Threads;
+use synth_engine::Settings;
+
+/// The answers to texts of these names, in their order: for each the lines `text NAME`, `status S` and `lines L`, and the L lines that
+/// answer it alone; last the line `end batch`. So many workers answer them as the settings say. Each search is made by one of them, with
+/// the settings' limits.
+///
+/// It waits for the workers, each of which passes the gate as `run_all` of batch_run says.
+pub fn batch_answer<R: Threads + Wait + Sync, G: Gate + Sync>(
+    rt: &R,
+    alloc: Global,
+    names: &[FileName],
+    texts: &[TakenText],
+    settings: Settings,
+    gate: &G,
+) -> Result<Reply, AllocError>
+    requires one_each { length names.now ≡ length texts.now }
+    requires few { length texts.now < 2 ^ 32 }
+    requires some_size { 1 ≤ settings.max }
+    requires most_size { settings.max ≤ 8 }
+    requires entries { IfSome settings.entries (λ most. most ≤ 250000) }
+    requires workers { 1 ≤ settings.workers }
+    ensures done { IfOk result (λ r. r.status ≡ Status.Done) }
+    ensures answers { (files : List (List ℕ)) → AreTexts texts.now files → IfOk result (λ r. BatchAnswers names.now files settings r.bytes.items) }
+{
+    let job = Answering::new(alloc, settings);
+    let replies = run_all(rt, alloc, &job, texts, settings.workers, gate)?;
+    Ok(Reply {
+        bytes: batch_text(alloc, names, &replies)?,
+        status: Status::Done,
+    })
+}

@@ -1,0 +1,84 @@
+//! One text of a batch, and the job of answering it.
+ghost use Rattle.std.specs.Prelude.{◌≡◌, ◌≤◌, IfSome};
+
+use batch_run::Job;
+use outside_edge::OpenGate;
+use program_replies::{Reply, refused};
+use std::alloc::{AllocError, Global};
+use std::marker::Model;
+use std::sync::Wait;
+use std::thread::Threads;
+use synth_answer::answer;
+use synth_engine::Settings;
+use tlsf_tokens::SpecCode;
+
+/// The most bytes that a text may have.
+const LONGEST_TEXT: u64 = 1_048_576;
+
+/// What was taken of the file of a text.
+#[derive(Drop)]
+pub enum TakenText {
+    /// All of its bytes.
+    Whole(Vec<u8>),
+    /// It has more bytes than a text may have, 1,048,576.
+    TooLong,
+}
+
+/// The job of answering texts, each by one search without workers beside the caller. A contract sees how searches are bounded.
+#[derive(Drop)]
+pub struct Answering {
+    alloc: Global,
+    bounds: Settings,
+}
+
+impl Model for Answering {
+    ghost use Rattle.synth_engine.specs.declared.settings.Settings.{Settings};
+    ghost use Rattle.batch_answer.specs.Batch.{IsBounded};
+
+    ghost Value = { Settings };
+
+    ghost view = { λ job. job.bounds };
+
+    ghost invariant = { λ job. IsBounded job.bounds };
+}
+
+impl Answering {
+    ghost use Rattle.batch_answer.specs.Batch.{bounds_of};
+
+    /// With the limits of the settings.
+    pub fn new(alloc: Global, settings: Settings) -> Answering
+        requires some_size { 1 ≤ settings.max }
+        requires most_size { settings.max ≤ 8 }
+        requires entries { IfSome settings.entries (λ most. most ≤ 250000) }
+        ensures bounds { result ≡ bounds_of settings }
+    {
+        Answering {
+            alloc,
+            bounds: Settings {
+                workers: 0,
+                ..settings
+            },
+        }
+    }
+}
+
+impl Job for Answering {
+    ghost use Rattle.batch_answer.specs.Taken.{IsReplyTo};
+
+    type Task = TakenText;
+
+    type Answer = Reply;
+
+    ghost is_answer = { IsReplyTo };
+
+    fn answer<R: Threads + Wait + Sync>(
+        &self,
+        rt: &R,
+        text: &TakenText,
+    ) -> Result<Reply, AllocError> {
+        match text {
+            TakenText::Whole(bytes) => answer(rt, self.alloc, bytes, None, self.bounds, &OpenGate),
+            TakenText::TooLong => refused(self.alloc, SpecCode::TooLong, LONGEST_TEXT),
+        }
+    }
+}
