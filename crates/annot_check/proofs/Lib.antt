@@ -4,3 +4,9 @@ pub mod MooreKind
 pub mod Apart
 pub mod Satisfying
 pub mod Readings
+pub mod NumberLemmas
+pub mod StepLemmas
+pub mod EdgeLemmas
+pub mod MarkLemmas
+pub mod ReadLemmas
+pub mod BrokenLemmas

@@ -2,7 +2,11 @@ pub mod Place
 pub mod PlaceLaws
 pub mod Pairs
 pub mod Valid
-pub mod Causes
 pub mod AnnotationText
 pub mod Stated
+pub mod Causes
 pub mod Laws
+pub mod Numbers
+pub mod Steps
+pub mod Marks
+pub mod Readings

@@ -1,12 +1,22 @@
 //! Circuits of other makers, checked by an annotation: a list of pairs of latch values and states of an automaton, each with a
-//! number. What a valid list is, and what its text states, stand in `specs/`. The contract above this layer is its laws: a valid
-//! list shows that no run lasso of the circuit, with any number of latches, is a word that the automaton accepts, and that the
-//! circuit is of the kind. It stands on machine_model for automata and on aiger_text for circuits.
+//! number. `read_annotation` gives exactly the list that a text states, or its first line that is refused; `check_annotation` says
+//! whether the list is valid for a circuit, a kind and an automaton, or why not. A valid list shows that the circuit is of the kind
+//! and that no run lasso of it, with any number of latches, is a word that the automaton accepts. It stands on machine_model for
+//! automata and on aiger_text for circuits.
 #![tactic(auto)]
 
+mod checking;
 mod faults;
 pub mod laws;
+mod numbers;
 mod pairs;
+mod product;
+mod reading;
+mod reads;
+mod steps;
+mod words;
 
+pub use checking::check_annotation;
 pub use faults::AnnotFault;
 pub use pairs::{Code, Pair, PairList};
+pub use reading::read_annotation;

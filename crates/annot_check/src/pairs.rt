@@ -1,8 +1,10 @@
 ghost use Rattle.std.specs.Prelude.{◌≡◌, IfOk};
+ghost use Rattle.std.specs.Hash as fed;
 ghost use Rattle.annot_check.specs.Place.{same_code};
-ghost use Rattle.annot_check.specs.PlaceLaws.{same_code_equiv, same_code_per};
+ghost use Rattle.annot_check.specs.PlaceLaws.{code_Alike, same_code_equiv, same_code_per};
 
 use std::alloc::{AllocError, Global};
+use std::hash::{Hash, Hasher};
 use std::marker::Model;
 
 /// The values of a circuit's latches, latch 0 first. A contract sees it as the list of them.
@@ -56,6 +58,16 @@ impl PartialEq for Code {
 
 impl Eq for Code {
     ghost laws = { same_code_equiv };
+}
+
+impl Hash for Code {
+    ghost hash_input = { fed.slice fed.bool };
+
+    ghost respects_eq = { code_Alike.fed };
+
+    fn hash<H: Hasher>(&self, state: &mut H) {
+        self.bits().hash(state);
+    }
 }
 
 /// The values of the latches and a state of the automaton, with their number.

@@ -1,0 +1,275 @@
+-- One step of a circuit, from given values.
+use Rattle.std.proofs.Common.{add-one, below_more, set, ◌≡◌, ℕ, zero, suc, ◌+◌, ◌-◌, ◌*◌, ◌/◌, ◌%◌, ◌^◌, ◌<◌, ◌≤◌, Bool, true, false, cond, eqb, List, [], ◌∷◌, ◌++◌, length, get_or, drop, refl, sym, ap, subst, ◌∙◌, arith, inl, inr}
+use Rattle.std.specs.Int.{bit_at}
+use Rattle.std.proofs.Math.Nat.{mul-le-mul_right, pow-suc}
+use Rattle.std.proofs.lemmas.Nat.{pow-add, div-mul-add, mod-mul-add}
+use Rattle.std.proofs.lemmas.Nat.Bits.{bit_at_lowest, bit_at-lt, bit_at-suc, same_from_bits_below}
+use Rattle.std.proofs.lemmas.Bool.{cases_eq, cases_lt, cond_both, eq-eqb, eqb-true}
+use Rattle.std.proofs.lemmas.List.{drop_all, get_or_append_left, length-append, length-drop, get_or-map, get_or-set_other, get_or-set_same, get_or_default, length-map, length-set, same_lists}
+use Rattle.std.proofs.Math.Pow.{pow_mono}
+use Rattle.std.proofs.Math.Seq.{drop-cons, get_or-append_seam}
+use Rattle.letter_word.specs.declared.letters.Letter.{Letter}
+use Rattle.letter_word.specs.Signals.{has}
+use Rattle.aiger_text.specs.declared.circuits.Latch.{Latch}
+use Rattle.aiger_text.specs.Circuit.{Circuit, literal_value, literal_values}
+use Rattle.aiger_text.specs.CircuitType.{IsCircuit, IsDefined}
+use Rattle.aiger_text.specs.Step.{HasValues, IsStep, StateModel}
+use Rattle.aiger_text.specs.Laws.{ValuationsAgree}
+use Rattle.aiger_text.proofs.Bits.{has-div, has-mod}
+use Rattle.aiger_text.proofs.Putting.{no_latch}
+use Rattle.aiger_text.proofs.Stepping.{next_defined, output_defined}
+use Rattle.std.specs.Cmp.{booleans_Decides}
+use Rattle.std.specs.Cmp.Lexicographic.{pointwise_decides}
+use Rattle.annot_check.specs.declared.steps.Reaction.{Reaction}
+use Rattle.annot_check.specs.declared.steps.Reactions.{Reactions}
+use Rattle.annot_check.specs.Place.{same_code}
+use Rattle.annot_check.specs.Steps.{AreReactions, GivesInputs, IsReaction, number_of}
+use Rattle.annot_check.specs.Valid.{Goes}
+use Rattle.annot_check.proofs.Lists.{map-All}
+
+digit-lt : (b : Bool) → cond b 1 0 < 2
+digit-lt true = omega arith
+digit-lt false = omega arith
+
+digit-is : (b : Bool) → eqb (cond b 1 0) 1 ≡ b
+digit-is true = refl
+digit-is false = refl
+
+pub number_of-lt : (bs : List Bool) → number_of bs < 2 ^ length bs
+number_of-lt [] = omega arith
+number_of-lt (b ∷ bs) =
+    let one : cond b 1 0 < 2 = digit-lt b in
+    let more : number_of bs < 2 ^ length bs = number_of-lt bs in
+    let e : 2 ^ suc (length bs) ≡ 2 ^ length bs * 2 = pow-suc 2 (length bs) in
+    rw e (omega arith)
+
+has-number_of : (bs : List Bool) (k : ℕ) → k < length bs → has (number_of bs) k ≡ get_or bs k false
+has-number_of [] k h = absurd (omega arith)
+has-number_of (b ∷ bs) zero h =
+    let one : cond b 1 0 < 2 = digit-lt b in
+    let e : (cond b 1 0 + number_of bs * 2) % 2 ≡ cond b 1 0 = omega arith in
+    ap (λ n. eqb n 1) (bit_at_lowest (cond b 1 0 + number_of bs * 2) ∙ e) ∙ digit-is b
+has-number_of (b ∷ bs) (suc k) h =
+    let one : cond b 1 0 < 2 = digit-lt b in
+    let e : (cond b 1 0 + number_of bs * 2) / 2 ≡ number_of bs = omega arith in
+    ap (λ n. eqb n 1) (bit_at-suc (cond b 1 0 + number_of bs * 2) k ∙ ap (λ n. bit_at n k) e) ∙ has-number_of bs k (omega arith)
+
+-- what was read and what was written, in one letter
+module _ (n read : ℕ) (small : read < 2 ^ n) (written : List Bool) where
+  abbrev whole : ℕ
+  whole = number_of written * 2 ^ n + read
+
+  upper : whole / 2 ^ n ≡ number_of written
+  upper = div-mul-add (number_of written) (2 ^ n) read small
+
+  lower : whole % 2 ^ n ≡ read
+  lower = mod-mul-add (number_of written) (2 ^ n) read small
+
+  has-read : (k : ℕ) → k < n → has whole k ≡ has read k
+  has-read k h = sym (has-mod whole n k h) ∙ ap (λ m. has m k) lower
+
+  has-written : (k : ℕ) → k < length written → has whole (n + k) ≡ get_or written k false
+  has-written k h = sym (has-div whole n k) ∙ ap (λ m. has m k) upper ∙ has-number_of written k h
+
+  whole-lt : whole < 2 ^ (n + length written)
+  whole-lt =
+      let few : number_of written < 2 ^ length written = number_of-lt written in
+      let more : (number_of written + 1) * 2 ^ n ≤ 2 ^ length written * 2 ^ n = mul-le-mul_right (2 ^ n) (let le : number_of written + 1 ≤ 2 ^ length written = omega arith in le) in
+      let e : 2 ^ (n + length written) ≡ 2 ^ n * 2 ^ length written = pow-add 2 n (length written) in
+      rw e (omega (arith, more))
+
+digit : Bool → ℕ
+digit b = cond b 1 0
+
+digit_of : (n : ℕ) → n < 2 → n ≡ digit (eqb n 1)
+unfolding digit
+digit_of n small = elim (cases_eq n 1) [
+  | inl one ↦ one ∙ ap (λ b. cond b 1 0) (sym (eq-eqb n 1 one))
+  | inr other ↦ cond_both (eqb n 1) 1 0 (λ m. n ≡ m) (λ e. eqb-true n 1 e) (λ _. let apart : n ≡ 1 → ⊥ = other in omega arith)
+]
+
+-- numbers of so many bits are equal where their bits are
+pub same_number : (w a b : ℕ) → a < 2 ^ w → b < 2 ^ w → ((k : ℕ) → k < w → has a k ≡ has b k) → a ≡ b
+same_number w a b small_a small_b same =
+    same_from_bits_below w a b small_a small_b
+    (λ k h. digit_of (bit_at a k) (bit_at-lt a k) ∙ ap digit (same k h) ∙ sym (digit_of (bit_at b k) (bit_at-lt b k)))
+
+-- the letter of a step, and no other that reads the same
+module _ (c : Circuit) (circuit : IsCircuit c) (agree : ValuationsAgree c) (code : List Bool) (read : ℕ) (before after : StateModel)
+    (small : read < 2 ^ length c.inputs) (count : length before.inputs ≡ length c.inputs)
+    (inputs : (k : ℕ) → k < length c.inputs → get_or before.inputs k false ≡ has read k)
+    (latches : before.latches ≡ code) (step : IsStep c before after) where
+  abbrev letter : ℕ
+  letter = number_of after.outputs * 2 ^ length c.inputs + read
+
+  outputs-length : length after.outputs ≡ length c.outputs
+  outputs-length = ap (λ (xs : List Bool). length xs) step.writes ∙ length-map c.outputs (literal_value step.values)
+
+  input-value : (k : ℕ) → k < length c.inputs → literal_value step.values (get_or c.inputs k 0) ≡ has read k
+  input-value k h =
+      sym (get_or-map (λ literal. literal_value step.values literal) c.inputs k 0 false h)
+      ∙ ap (λ (bits : List Bool). get_or bits k false) step.before.reads ∙ inputs k h
+
+  output-value : (k : ℕ) → k < length c.outputs → literal_value step.values (get_or c.outputs k 0) ≡ get_or after.outputs k false
+  output-value k h =
+      sym (get_or-map (λ literal. literal_value step.values literal) c.outputs k 0 false h)
+      ∙ ap (λ (bits : List Bool). get_or bits k false) (sym step.writes)
+
+  goes : Goes c code (record { 0 = letter }) after.latches
+  goes = record {
+    values = step.values;
+    holds = step.before.holds ∙ latches;
+    gates = step.before.gates;
+    reads = λ k h. input-value k h ∙ sym (has-read (length c.inputs) read small after.outputs k h) ∙ ap (has letter) (let e : k ≡ 0 + k = omega arith in e);
+    writes = λ k h. output-value k h ∙ sym (has-written (length c.inputs) read small after.outputs k (rw outputs-length h));
+    within = subst (λ m. letter < 2 ^ (length c.inputs + m)) outputs-length (whole-lt (length c.inputs) read small after.outputs);
+    moves = step.moves;
+  }
+
+  module _ (other : Letter) (to : List Bool) (g : Goes c code other to) (same_read : other.0 % 2 ^ length c.inputs ≡ read) where
+    other-read : (k : ℕ) → k < length c.inputs → literal_value g.values (get_or c.inputs k 0) ≡ has read k
+    other-read k h =
+        g.reads k h ∙ ap (has other.0) (let e : 0 + k ≡ k = omega arith in e) ∙ sym (has-mod other.0 (length c.inputs) k h) ∙ ap (λ m. has m k) same_read
+
+    reads : literal_values g.values c.inputs ≡ before.inputs
+    reads = same_lists (literal_values g.values c.inputs) before.inputs (length-map c.inputs (literal_value g.values) ∙ sym count)
+        (λ k d h.
+        let within : k < length c.inputs = rw length-map at h in
+        get_or-map (λ literal. literal_value g.values literal) c.inputs k 0 d within ∙ other-read k within ∙ sym (inputs k within)
+        ∙ get_or_default before.inputs k false d (rw count within))
+
+    values : HasValues c before.inputs before.latches g.values
+    values = record { reads = reads; holds = g.holds ∙ sym latches; gates = g.gates }
+
+    same_value : (l : ℕ) → IsDefined c l → literal_value g.values l ≡ literal_value step.values l
+    same_value l defined = agree before.inputs before.latches g.values step.values values step.before l defined
+
+    same_next : to ≡ after.latches
+    same_next =
+        g.moves ∙ map-All (λ (latch : Latch). literal_value g.values latch.next) (λ (latch : Latch). literal_value step.values latch.next) c.latches
+        (λ k d h. same_value (get_or c.latches k d).next (subst (λ (latch : Latch). IsDefined c latch.next) (get_or_default c.latches k no_latch d h) (next_defined c circuit k h)))
+        ∙ sym step.moves
+
+    bits-agree : (k : ℕ) → k < length c.inputs + length c.outputs → has other.0 k ≡ has letter k
+    bits-agree k h = elim (cases_lt k (length c.inputs)) [
+      | inl less ↦
+          sym (has-mod other.0 (length c.inputs) k less) ∙ ap (λ m. has m k) same_read ∙ sym (has-read (length c.inputs) read small after.outputs k less)
+      | inr more ↦
+          let j : ℕ = k - length c.inputs in
+          let within : j < length c.outputs = omega arith in
+          let at : length c.inputs + j ≡ k = omega arith in
+          subst (λ i. has other.0 i ≡ has letter i) at
+          (sym (g.writes j within) ∙ same_value (get_or c.outputs j 0) (output_defined c circuit j 0 within) ∙ output-value j within
+          ∙ sym (has-written (length c.inputs) read small after.outputs j (rw outputs-length within)))
+    ]
+
+    same_letter : other ≡ record { 0 = letter }
+    same_letter =
+        let e : other.0 ≡ letter = same_number (length c.inputs + length c.outputs) other.0 letter g.within goes.within bits-agree in
+        λ i. record { 0 = e i }
+
+  pub reacts : IsReaction c code read (record { 0 = letter }) after.latches
+  reacts = record { goes = goes; only = λ other to g same. (same_letter other to g same, same_next other to g same) }
+
+-- ---- giving values one by one
+
+-- the first n inputs are given
+pub record Given (old now : StateModel) (read n : ℕ) : Type 0 where
+  pub inputs : (k : ℕ) → k < n → get_or now.inputs k false ≡ has read k
+  pub same : now ≡ record old { inputs = now.inputs }
+  pub count : length now.inputs ≡ length old.inputs
+
+pub given_none : (old : StateModel) (read : ℕ) → Given old old read 0
+given_none old read = record { inputs = λ k h. absurd (omega arith); same = refl; count = refl }
+
+pub given_more : (old now new : StateModel) (read n : ℕ) (bit : Bool) → Given old now read n → n < length old.inputs → bit ≡ has read n
+    → new ≡ record now { inputs = set now.inputs n bit } → Given old new read (n + 1)
+given_more old now new read n bit g h is e =
+    let inputs_are : new.inputs ≡ set now.inputs n bit = ap (λ (s : StateModel). s.inputs) e in
+    let room : n < length now.inputs = rw g.count h in
+    record {
+      inputs = below_more (λ k. get_or new.inputs k false ≡ has read k) n
+          (λ k less. ap (λ (xs : List Bool). get_or xs k false) inputs_are ∙ get_or-set_other now.inputs n k bit false (λ same. omega arith) ∙ g.inputs k less)
+          (ap (λ (xs : List Bool). get_or xs n false) inputs_are ∙ get_or-set_same now.inputs n bit false room ∙ is);
+      same = e ∙ ap (λ (s : StateModel). (let t : StateModel = record s { inputs = set now.inputs n bit } in t)) g.same ∙ ap (λ (xs : List Bool). (let t : StateModel = record old { inputs = xs } in t)) (sym inputs_are);
+      count = ap (λ (xs : List Bool). length xs) inputs_are ∙ length-set now.inputs n bit ∙ g.count;
+    }
+
+pub given_all : (old now : StateModel) (read n inputs : ℕ) → length old.inputs ≡ inputs → inputs ≤ n → Given old now read n → GivesInputs old now read
+given_all old now read n inputs count all g = record { inputs = λ k h. g.inputs k (omega arith); same = g.same; count = g.count }
+
+-- the first n latches are given
+pub record SetUpTo (old now : StateModel) (code : List Bool) (n : ℕ) : Type 0 where
+  pub latches : (k : ℕ) → k < n → get_or now.latches k false ≡ get_or code k false
+  pub same : now ≡ record old { latches = now.latches }
+  pub count : length now.latches ≡ length old.latches
+
+pub set_none : (old : StateModel) (code : List Bool) → SetUpTo old old code 0
+set_none old code = record { latches = λ k h. absurd (omega arith); same = refl; count = refl }
+
+pub set_more : (old now new : StateModel) (code : List Bool) (n : ℕ) (bit : Bool) → SetUpTo old now code n → n < length old.latches → bit ≡ get_or code n false
+    → new ≡ record now { latches = set now.latches n bit } → SetUpTo old new code (n + 1)
+set_more old now new code n bit g h is e =
+    let latches_are : new.latches ≡ set now.latches n bit = ap (λ (s : StateModel). s.latches) e in
+    let room : n < length now.latches = rw g.count h in
+    record {
+      latches = below_more (λ k. get_or new.latches k false ≡ get_or code k false) n
+          (λ k less. ap (λ (xs : List Bool). get_or xs k false) latches_are ∙ get_or-set_other now.latches n k bit false (λ same. omega arith) ∙ g.latches k less)
+          (ap (λ (xs : List Bool). get_or xs n false) latches_are ∙ get_or-set_same now.latches n bit false room ∙ is);
+      same = e ∙ ap (λ (s : StateModel). (let t : StateModel = record s { latches = set now.latches n bit } in t)) g.same ∙ ap (λ (xs : List Bool). (let t : StateModel = record old { latches = xs } in t)) (sym latches_are);
+      count = ap (λ (xs : List Bool). length xs) latches_are ∙ length-set now.latches n bit ∙ g.count;
+    }
+
+pub set_all : (old now : StateModel) (code : List Bool) (n : ℕ) → length code ≡ length old.latches → length code ≤ n → SetUpTo old now code n → now ≡ record old { latches = code }
+set_all old now code n count all g =
+    let one : now.latches ≡ code = same_lists now.latches code (g.count ∙ sym count)
+    (λ k d h.
+    let within : k < length old.latches = rw (← g.count) h in
+    get_or_default now.latches k d false h ∙ g.latches k (omega arith) ∙ get_or_default code k false d (omega arith)) in
+    g.same ∙ ap (λ (xs : List Bool). (let t : StateModel = record old { latches = xs } in t)) one
+
+-- the bits from place k on, and one more in front of them
+pub number_more : (bits : List Bool) (k n new : ℕ) (bit : Bool) → k < length bits → bit ≡ get_or bits k false → n ≡ number_of (drop (k + 1) bits)
+    → new ≡ cond bit 1 0 + n * 2 → new ≡ number_of (drop k bits)
+number_more bits k n new bit h is before e =
+    e ∙ ap (λ m. cond bit 1 0 + m * 2) before ∙ ap (λ b. cond b 1 0 + number_of (drop (k + 1) bits) * 2) is
+    ∙ ap number_of (let cut : get_or bits k false ∷ drop (k + 1) bits ≡ drop k bits = sym (rw add-one (drop-cons bits k false h)) in cut)
+
+pub number_none : (bits : List Bool) (n : ℕ) → length bits ≤ n → 0 ≡ number_of (drop n bits)
+number_none bits n all = ap number_of (sym (drop_all n bits all))
+
+-- a number of few bits is small
+pub small_number : (bits : List Bool) (k n : ℕ) → length bits < 9 → n ≡ number_of (drop k bits) → n < 256
+small_number bits k n few is =
+    let less : number_of (drop k bits) < 2 ^ length (drop k bits) = number_of-lt (drop k bits) in
+    let short : length (drop k bits) ≤ 8 = (let d : length (drop k bits) ≡ length bits - k = length-drop k bits in omega (arith, d, few)) in
+    let most : 2 ^ length (drop k bits) ≤ 2 ^ 8 = pow_mono short in
+    omega (arith, is, less, most)
+
+pub whole_number : (bits : List Bool) (k n count : ℕ) → length bits ≡ count → k ≤ 0 → n ≡ number_of (drop k bits) → n < 2 ^ count
+whole_number bits zero n count is low same = subst (λ m. n < 2 ^ m) is (rw same (number_of-lt bits))
+whole_number bits (suc k) n count is low same = absurd (omega arith)
+
+-- one reaction more
+pub each_pushed : (c : Circuit) (code : List Bool) (steps : List Reaction) (step : Reaction) → ((k : ℕ) (d : Reaction) → k < length steps → IsReaction c code k (get_or steps k d).letter (get_or steps k d).next)
+    → IsReaction c code (length steps) step.letter step.next → (k : ℕ) (d : Reaction) → k < length (steps ++ step ∷ [])
+    → IsReaction c code k (get_or (steps ++ step ∷ []) k d).letter (get_or (steps ++ step ∷ []) k d).next
+each_pushed c code steps step each one k d h = elim (cases_lt k (length steps)) [
+  | inl less ↦ subst (λ (r : Reaction). IsReaction c code k r.letter r.next) (sym (get_or_append_left steps (step ∷ []) d k less)) (each k d less)
+  | inr more ↦
+      let size : length (steps ++ step ∷ []) ≡ length steps + 1 = length-append steps (step ∷ []) in
+      let last : length steps ≡ k = omega (arith, h, size, more) in
+      subst (λ j. IsReaction c code j (get_or (steps ++ step ∷ []) j d).letter (get_or (steps ++ step ∷ []) j d).next) last
+      (subst (λ (r : Reaction). IsReaction c code (length steps) r.letter r.next) (sym (get_or-append_seam steps step [] d)) one)
+]
+
+-- one of the reactions from a code
+pub reaction_at : (c : Circuit) (r : Reactions) → AreReactions c r → (code : List Bool) → r.code ≡ code → (k : ℕ) (step : Reaction) → k < length r.steps.items
+    → step ≡ get_or r.steps.items k step → IsReaction c code k step.letter step.next
+reaction_at c r are code same k step h is =
+    subst (λ (x : List Bool). IsReaction c x k step.letter step.next) same
+    (subst (λ (s : Reaction). IsReaction c r.code k s.letter s.next) (sym is) (are.each k step h))
+
+-- the same code, as it is compared
+pub code_same : (a b : List Bool) → same_code a b ≡ true → a ≡ b
+code_same a b e = (pointwise_decides booleans_Decides a b).0 e

@@ -1,0 +1,83 @@
+-- What the checker finds out of one step and of the edges of one state (this project's own).
+use Rattle.std.specs.Prelude.{◌≡◌, ℕ, ◌%◌, ◌^◌, ◌<◌, Bool, true, false, List, [], ◌∷◌, ◌+◌, ◌*◌, Contains, Option, Some, None, min, length, slice_index_or, if◌then◌else◌}
+use Rattle.letter_word.specs.declared.letters.Letter.{Letter}
+use Rattle.letter_word.specs.Cube.{Fits}
+use Rattle.letter_word.specs.Signals.{has}
+use Rattle.machine_model.specs.declared.automata.Edge.{Edge}
+use Rattle.aiger_text.specs.Circuit.{Circuit}
+use Rattle.aiger_text.specs.Step.{StateModel}
+use Rattle.machine_model.specs.Automaton.{AutomatonModel}
+use Rattle.annot_check.specs.declared.pairs.Pair.{Pair}
+use Rattle.annot_check.specs.declared.numbers.Numbers.{Numbers}
+use Rattle.annot_check.specs.declared.steps.Reaction.{Reaction}
+use Rattle.annot_check.specs.declared.steps.Reactions.{Reactions}
+use Rattle.annot_check.specs.Causes.{BreaksRule}
+use Rattle.annot_check.specs.Numbers.{AtLeast, Knows, greatest_at}
+use Rattle.annot_check.specs.Pairs.{weight}
+use Rattle.annot_check.specs.Valid.{Goes, KeepsRule, StartStands}
+
+-- the circuit goes with this letter to these values, and with no other letter that reads the same
+pub record IsReaction (c : Circuit) (code : List Bool) (read : ℕ) (letter : Letter) (next : List Bool) : Type 0 where
+  pub goes : Goes c code letter next
+  pub only : (other : Letter) (to : List Bool) → Goes c code other to → other.0 % 2 ^ length c.inputs ≡ read → (other ≡ letter) × (to ≡ next)
+
+-- what the circuit does from these values, on each letter of inputs in its order
+pub record AreReactions (c : Circuit) (r : Reactions) : Type 0 where
+  pub count : length r.steps.items ≡ 2 ^ length c.inputs
+  pub each : (k : ℕ) (d : Reaction) → k < length r.steps.items → IsReaction c r.code k (slice_index_or r.steps.items k d).letter (slice_index_or r.steps.items k d).next
+
+-- the inputs are the signals of a letter, and all else is as before
+pub record GivesInputs (old new : StateModel) (read : ℕ) : Type 0 where
+  pub inputs : (k : ℕ) → k < length old.inputs → slice_index_or new.inputs k false ≡ has read k
+  pub same : new ≡ record old { inputs = new.inputs }
+  pub count : length new.inputs ≡ length old.inputs
+
+-- the number that has these bits
+abbrev pub number_of : List Bool → ℕ
+number_of [] = 0
+number_of (b ∷ bs) = (if b then 1 else 0) + number_of bs * 2
+
+-- the edges of this source are these
+pub record AreEdgesFrom (edges from : List Edge) (source : ℕ) : Type 0 where
+  pub all : (edge : Edge) → Contains edges edge → edge.from ≡ source → Contains from edge
+  pub among : (edge : Edge) → Contains from edge → Contains edges edge × (edge.from ≡ source)
+
+-- both lists have the same edges
+pub record HasTheEdges (edges others : List Edge) : Type 0 where
+  pub there : (edge : Edge) → Contains edges edge → Contains others edge
+  pub back : (edge : Edge) → Contains others edge → Contains edges edge
+
+-- where the edge fits the letter, this holds of the state that it leads to
+pub record LeadsOn (letter : Letter) (Lead : ℕ → Type 0) (edge : Edge) : Type 0 where
+  pub leads : Fits edge.cube letter → Lead edge.to
+
+-- an edge fits the letter, and it doesn't hold of the state that it leads to
+pub record OneFails (letter : Letter) (Lead : ℕ → Type 0) (edges : List Edge) : Type 0 where
+  pub edge : Edge
+  pub among : Contains edges edge
+  pub fits : Fits edge.cube letter
+  pub fails : Lead edge.to → ⊥
+
+-- the pair of these values and a state stands, as far as the numbers tell, with a number that is large enough behind this one
+abbrev pub IsEnough : Numbers → AutomatonModel → ℕ → List Bool → ℕ → Type 0
+IsEnough numbers a number code state = AtLeast (greatest_at numbers (record { code = code; state = state })) (number + weight a state)
+
+-- the answer tells whether a pair keeps the rule, for all pairs that the numbers are of
+pub record TellsRule (c : Circuit) (a : AutomatonModel) (numbers : Numbers) (pair : Pair) (keeps : Bool) : Type 0 where
+  pub holds : (pairs : List Pair) → Knows (greatest_at numbers) pairs → keeps ≡ true → KeepsRule c a pairs pair
+  pub fails : (pairs : List Pair) → Knows (greatest_at numbers) pairs → keeps ≡ false → BreaksRule c a pairs pair
+
+-- and so for the start
+pub record TellsStart (c : Circuit) (a : AutomatonModel) (numbers : Numbers) (starts : Bool) : Type 0 where
+  pub holds : (pairs : List Pair) → Knows (greatest_at numbers) pairs → starts ≡ true → StartStands c a pairs
+  pub fails : (pairs : List Pair) → Knows (greatest_at numbers) pairs → starts ≡ false → StartStands c a pairs → ⊥
+
+-- the places of n elements, each there, in some order
+pub record ArePlaces (n : ℕ) (places : List ℕ) : Type 0 where
+  pub all : (k : ℕ) → k < n → Contains places k
+  pub within : (k : ℕ) → Contains places k → k < n
+
+-- the earlier one of a place that was found, if one was, and of this place
+abbrev pub earlier_of : Option ℕ → ℕ → Option ℕ
+earlier_of None place = Some place
+earlier_of (Some found) place = Some (min found place)
