@@ -10,6 +10,7 @@ use Rattle.spec_problems.specs.Laws.{ProblemsOfTextsAreDetermined}
 use Rattle.synth_engine.specs.declared.settings.Settings.{Settings}
 use Rattle.synth_answer.specs.Answer.{Answers, refused, realizable, unrealizable, bounded, no_size, no_entries}
 use Rattle.synth_answer.specs.Printed.{Printed}
+use Rattle.synth_answer.proofs.Grounds.{printed_problems, printed_spec}
 use Rattle.check_answer.specs.Answer.{CheckAnswers}
 use Rattle.check_answer.specs.Laws.{ChecksAreDetermined}
 use Rattle.flat_answer.specs.Expand.{ExpandAnswers}
@@ -26,7 +27,8 @@ same_line code code' place place' a b = rw (a, b) refl
 module _ (problems : ProblemsOfTextsAreDetermined) where
   no_fault : (text : List ℕ) (kind : Option Kind) (settings : Settings) (bytes : List ℕ) (code : SpecCode) (place : ℕ) →
       Printed text kind settings bytes → IsFirstFault text kind code place → ⊥
-  no_fault text kind settings bytes code place p fault = problems.no_fault text kind 2 p.spec p.problems code place p.are_problems fault
+  no_fault text kind settings bytes code place p fault =
+      problems.no_fault text kind 2 (printed_spec p) p.problems code place (printed_problems text kind settings bytes p) fault
 
   synth_fault : (text : List ℕ) (kind : Option Kind) (settings : Settings) (bytes : List ℕ) (status : ℕ) (code : SpecCode) (place : ℕ) →
       Answers text kind settings bytes status → IsFirstFault text kind code place → (status ≡ 1) × (bytes ≡ refusal_line code place)

@@ -35,7 +35,8 @@ use Rattle.document_check.specs.Holds.{AllHold, HoldsAt, HoldsFor, IsLogOfSome, 
 use Rattle.document_check.specs.Laws.{AllRefute, ClosedLogsRefuteSizes}
 use Rattle.document_check.specs.Shown.{AreFacts, IsProblemAt, IsSize}
 use Rattle.document_check.proofs.ProblemLemmas.{is_problem}
-use Rattle.synth_answer.specs.Printed.{IsWantedBy, given_by}
+use Rattle.synth_answer.specs.Ground.{IsWantedBy}
+use Rattle.synth_answer.specs.Printed.{given_by}
 use Rattle.synth_answer.specs.Reply.{AreProblemsFor, HaveAutomata, LawsHold}
 use Rattle.synth_answer.proofs.Meaning.{IsSideOf, are_problems_for, each_can_lose, none_satisfies, wanted_of}
 use Rattle.synth_answer.proofs.Sides.{all_three, some_of}

@@ -6,3 +6,4 @@ pub mod Sizes
 pub mod Whole
 pub mod Fitting
 pub mod Held
+pub mod Grounds

@@ -4,7 +4,11 @@ use Rattle.letter_word.specs.declared.kinds.Kind.{Kind}
 use Rattle.letter_word.specs.declared.kinds.Side.{Side}
 use Rattle.letter_word.specs.declared.kinds.Side.TheVariants.{System, Environment}
 use Rattle.letter_word.specs.Kinds.{other_kind}
+use Rattle.ltl_formula.specs.declared.nodes.FormulaId.{FormulaId}
+use Rattle.ltl_formula.specs.declared.nodes.Node.{Node}
+use Rattle.ltl_formula.specs.Nodes.{tree_at}
 use Rattle.ltl_formula.specs.Tree.{Tree}
+use Rattle.letter_word.specs.Word.{Word}
 use Rattle.machine_model.specs.Accepts.{SideAccepts}
 use Rattle.machine_model.specs.Automaton.{AutomatonModel, IsAutomaton}
 use Rattle.machine_model.specs.Machine.{IsMachine, MachineModel, size_of}
@@ -13,6 +17,7 @@ use Rattle.machine_model.specs.Run.{IsRunLasso}
 use Rattle.machine_model.specs.declared.problems.Problem.{Problem}
 use Rattle.annotation_encode.specs.Laws.{HasNoAccepted}
 use Rattle.aiger_text.specs.Circuit.{Circuit}
+use Rattle.dual_search.specs.declared.automata.Automata.{Automata}
 use Rattle.dual_search.specs.Sides.{AcceptsWhere}
 use Rattle.tlsf_expand.specs.Expansion.{Expanded, expanded_as, kind_of}
 use Rattle.tlsf_expand.specs.Meaning.{means}
@@ -27,14 +32,14 @@ use Rattle.std.specs.Option.{option_map_or}
 use Rattle.tlsf_reader.specs.Spec.{Spec}
 use Rattle.flat_text.specs.Plain.{text_of}
 use Rattle.spec_problems.specs.declared.sides.SideProblems.{SideProblems}
-use Rattle.spec_problems.specs.OfFormula.{AreProblems, IsEnvironmentOver, IsProblemOver}
+use Rattle.spec_problems.specs.OfFormula.{AcceptBySide, AreProblems, AreProblemsIn, AreProblemsOver, IsEnvironmentOver, IsProblemOver}
 use Rattle.spec_problems.specs.OfText.{AreProblemsOf, SaysWhat, interface_of}
 use Rattle.satisfaction.specs.Wanted.{Says, Wanted}
 use Rattle.satisfaction.specs.Satisfaction.{EachCanLose, IsEnvironmentFor, IsSystemFor, NoneSatisfies}
 use Rattle.size_search.specs.Decided.{IsAcceptedOf}
 use Rattle.synth_answer.specs.Answer.{DoesItsPart}
 use Rattle.synth_answer.specs.Holds.{read_by, written_by}
-use Rattle.synth_answer.specs.Printed.{IsWantedBy}
+use Rattle.synth_answer.specs.Ground.{AreGivenOn, Ground, IsGroundOf, ground_with}
 use Rattle.synth_answer.specs.Reply.{AreProblemsFor, IsCircuitWith, IsProblemFor, LawsHold}
 use Rattle.synth_answer.proofs.Sides.{some_of}
 
@@ -42,19 +47,6 @@ use Rattle.synth_answer.proofs.Sides.{some_of}
 
 abbrev pub wanted_of : Expanded → Spec → Wanted
 wanted_of x tree = record { inputs = x.inputs; outputs = x.outputs; kind = x.kind; means = λ w. means w (text_of tree) }
-
-pub is_wanted : (text : List ℕ) (kind : Option Kind) (version : ℕ) (spec : FlatText) (s : SideProblems) (says : SaysWhat text spec.formulas spec.expanded.whole)
-    → AreProblemsOf text kind version spec s → IsWantedBy text kind (wanted_of spec.expanded says.tree)
-is_wanted text kind version spec s says are = record {
-  flat = are.flat;
-  is_flat = are.is_flat;
-  inputs = ap (λ x. x.inputs) are.same;
-  outputs = ap (λ x. x.outputs) are.same;
-  kind_is = ap (λ x. x.kind) are.same;
-  tree = says.tree;
-  read = says.read;
-  meaning = λ w. refl;
-}
 
 -- == its problems ==
 
@@ -77,14 +69,16 @@ environment_for x (Some a) None over within p is = absurd over
 environment_for x (Some a) (Some q) over within p is =
     some_of (IsProblemFor x Environment (other_kind x.kind)) (Some q) p (one_for x Environment (other_kind x.kind) a q within over) is
 
+-- the problems of a formula, with the numbers of names and the kind of a flat text
+pub problems_for : (x : Expanded) (a : Automata) (s : SideProblems) → AreProblems s → AreProblemsOver (interface_of 2 x) a s → AreProblemsFor x s
+problems_for x a s meet over = record {
+  of_system = one_for x System x.kind a.system s.system meet.is_system over.of_system;
+  of_environment = environment_for x a.environment s.environment over.of_environment meet.is_environment;
+}
+
 pub are_problems_for : (text : List ℕ) (kind : Option Kind) (spec : FlatText) (s : SideProblems) → AreProblems s → AreProblemsOf text kind 2 spec s → AreProblemsFor spec.expanded s
 are_problems_for text kind spec s meet are =
-    let over = are.problems.problems in
-    let flat : AreProblemsFor are.flat.expanded s = record {
-      of_system = one_for are.flat.expanded System are.flat.expanded.kind are.problems.automata.system s.system meet.is_system over.of_system;
-      of_environment = environment_for are.flat.expanded are.problems.automata.environment s.environment over.of_environment meet.is_environment;
-    } in
-    subst (λ x. AreProblemsFor x s) (sym are.same) flat
+    subst (λ x. AreProblemsFor x s) (sym are.same) (problems_for are.flat.expanded are.problems.automata s meet are.problems.problems)
 
 -- == the kind that a text is taken with ==
 
@@ -105,7 +99,7 @@ kind_of_flat (Some kind) t flat e =
     (λ whole w flat e. sym (ap (λ o. option_map_or (λ (x : FlatText). x.expanded.kind) o kind) e)))) flat e in
     ap (λ y. Some y) (sym is)
 
-flat_by_its_kind : (text : List ℕ) (kind : Option Kind) (flat : FlatText) → IsFlatOf text kind flat → IsFlatOf text (Some flat.expanded.kind) flat
+pub flat_by_its_kind : (text : List ℕ) (kind : Option Kind) (flat : FlatText) → IsFlatOf text kind flat → IsFlatOf text (Some flat.expanded.kind) flat
 flat_by_its_kind text kind flat is = record {
   tree = is.tree;
   read = is.read;
@@ -113,12 +107,52 @@ flat_by_its_kind text kind flat is = record {
   meaning = is.meaning;
 }
 
-pub problems_by_its_kind : (text : List ℕ) (kind : Option Kind) (spec : FlatText) (s : SideProblems) → AreProblemsOf text kind 2 spec s → AreProblemsOf text (Some spec.expanded.kind) 2 spec s
-problems_by_its_kind text kind spec s are = record {
-  flat = are.flat;
-  is_flat = subst (λ (x : Expanded). IsFlatOf text (Some x.kind) are.flat) (sym are.same) (flat_by_its_kind text kind are.flat are.is_flat);
-  same = are.same;
-  problems = are.problems;
+-- == its ground ==
+
+abbrev pub truth_of_text : {text : List ℕ} {nodes : List Node} {whole : FormulaId} → SaysWhat text nodes whole → Word → Bool
+truth_of_text says w = means w (text_of says.tree)
+
+-- the ground of a text, with the names of a text that says the same
+abbrev pub text_ground : {text : List ℕ} (spec flat : FlatText) → SaysWhat text spec.formulas spec.expanded.whole → Ground
+text_ground spec flat says = ground_with spec.expanded (truth_of_text says) flat.formulas flat.expanded.whole
+
+ground_at : (text : List ℕ) (kind : Option Kind) (spec flat : FlatText) (says : SaysWhat text spec.formulas spec.expanded.whole) → IsFlatOf text kind flat
+    → spec.expanded ≡ flat.expanded → IsGroundOf text kind (text_ground spec flat says)
+ground_at text kind spec flat says is same = record {
+  is_wanted = record {
+    flat = flat;
+    is_flat = is;
+    inputs = ap (λ x. x.inputs) same;
+    outputs = ap (λ x. x.outputs) same;
+    kind_is = ap (λ x. x.kind) same;
+    tree = says.tree;
+    read = says.read;
+    meaning = λ w. refl;
+  };
+  formulas = refl;
+  whole = refl;
+}
+
+pub is_ground : (text : List ℕ) (kind : Option Kind) (spec : FlatText) (s : SideProblems) (says : SaysWhat text spec.formulas spec.expanded.whole)
+    (are : AreProblemsOf text kind 2 spec s) → IsGroundOf text kind (text_ground spec are.flat says)
+is_ground text kind spec s says are = ground_at text kind spec are.flat says are.is_flat are.same
+
+-- it is the same where the text is taken with the kind that it has
+pub ground_by_its_kind : (text : List ℕ) (kind : Option Kind) (spec : FlatText) (s : SideProblems) (says : SaysWhat text spec.formulas spec.expanded.whole)
+    (are : AreProblemsOf text kind 2 spec s) → IsGroundOf text (Some spec.expanded.kind) (text_ground spec are.flat says)
+ground_by_its_kind text kind spec s says are =
+    ground_at text (Some spec.expanded.kind) spec are.flat says
+    (subst (λ (x : Expanded). IsFlatOf text (Some x.kind) are.flat) (sym are.same) (flat_by_its_kind text kind are.flat are.is_flat)) are.same
+
+-- the problems of the text stand on it
+pub given_on : (text : List ℕ) (kind : Option Kind) (spec : FlatText) (s : SideProblems) (says : SaysWhat text spec.formulas spec.expanded.whole)
+    (are : AreProblemsOf text kind 2 spec s) → AcceptBySide (tree_at spec.formulas spec.expanded.whole) s → AreGivenOn (text_ground spec are.flat says) s
+given_on text kind spec s says are accept = record {
+  later = spec.formulas;
+  are_problems = subst (λ (x : Expanded). AreProblemsIn (interface_of 2 x) (tree_at are.flat.formulas are.flat.expanded.whole) are.flat.formulas spec.formulas s) (sym are.same) are.problems;
+  formula = tree_at spec.formulas spec.expanded.whole;
+  accept = accept;
+  says = record { same = says.meaning.same };
 }
 
 -- == machines ==

@@ -1,13 +1,14 @@
 -- From the outcome of a search to the answer.
-use Rattle.std.proofs.Common.{◌≡◌, ◌==◌, ℕ, ◌+◌, ◌-◌, ◌<◌, ◌≤◌, ◌^◌, ◌⊎◌, inl, inr, true, false, List, [], ◌∷◌, ◌++◌, Option, Some, None, All, Any, Contains, IsTrue, IfSome, map, refl, sym, ap, ◌∙◌, subst, arith, is_some, if◌then◌else◌}
+use Rattle.std.proofs.Common.{◌≡◌, ◌==◌, ℕ, ◌+◌, ◌-◌, ◌<◌, ◌≤◌, ◌^◌, ◌⊎◌, inl, inr, Bool, true, false, List, [], ◌∷◌, ◌++◌, Option, Some, None, All, Any, Contains, IsTrue, IfSome, map, refl, sym, ap, ◌∙◌, subst, arith, is_some, if◌then◌else◌}
 use Rattle.std.proofs.lemmas.Bool.{le-leb}
 use Rattle.std.proofs.lemmas.List.Elements.{All-cons, All-contains, All-head, All-map, All-nil, All-same, All-tail, All-append, Contains-append_left, Contains-append_right}
 use Rattle.std.specs.List.{list_all}
-use Rattle.letter_word.specs.declared.kinds.Kind.{Kind}
+use Rattle.letter_word.specs.Word.{Word}
 use Rattle.letter_word.specs.declared.kinds.Side.{Side}
 use Rattle.letter_word.specs.declared.kinds.Side.TheVariants.{System, Environment}
 use Rattle.ltl_formula.specs.Tree.{Tree}
-use Rattle.ltl_formula.specs.Nodes.{tree_at}
+use Rattle.ltl_formula.specs.declared.nodes.FormulaId.{FormulaId}
+use Rattle.ltl_formula.specs.declared.nodes.Node.{Node}
 use Rattle.machine_model.specs.Machine.{MachineModel, size_of}
 use Rattle.machine_model.specs.Problem.{IsProblem, automaton_of, sized}
 use Rattle.machine_model.specs.declared.problems.Problem.{Problem}
@@ -21,11 +22,9 @@ use Rattle.aiger_text.specs.Circuit.{Circuit, HasStates}
 use Rattle.aiger_text.specs.RoundTrip.{IsLineName, IsWritable}
 use Rattle.gate_build.specs.Laws.{IsSmallestOf}
 use Rattle.dual_search.specs.Sides.{AcceptsWhere}
-use Rattle.tlsf_expand.specs.TextSeen.{FlatText}
+use Rattle.tlsf_expand.specs.Expansion.{Expanded}
 use Rattle.flat_text.specs.FlatNames.{HasPlainNames, IsOneWord}
 use Rattle.spec_problems.specs.declared.sides.SideProblems.{SideProblems}
-use Rattle.spec_problems.specs.OfFormula.{AcceptBySide, AreProblems}
-use Rattle.spec_problems.specs.OfText.{AreProblemsOf, SaysWhat}
 use Rattle.satisfaction.specs.Wanted.{Says, Wanted}
 use Rattle.size_board.specs.declared.events.Claim.{Claim}
 use Rattle.size_search.specs.declared.size_log.SizeLog.{SizeLog}
@@ -49,32 +48,31 @@ use Rattle.cert_text.specs.Parts.{Document, LogPart}
 use Rattle.cert_text.specs.Reading.{all_named}
 use Rattle.cert_text.specs.WellFormed.{IsFoundNumber, IsLogPart, IsWellFormed}
 use Rattle.cert_text.specs.States.{logs_at, numbered, written_comment_line}
-use Rattle.synth_answer.specs.Answer.{Answers, CanBeBeaten, DoesItsPart, HasLog, IsBounded, IsRealizable, IsRefuted, IsUnrealizable, OfPrinted}
+use Rattle.synth_answer.specs.Answer.{CanBeBeaten, DoesItsPart, HasLog, IsAnswerOn, IsBounded, IsRealizable, IsRefuted, IsUnrealizable, OfPrinted, is_environment}
 use Rattle.synth_answer.specs.Answer as answer
 use Rattle.document_check.specs.Facts.{Facts}
 use Rattle.document_check.specs.Holds as check
 use Rattle.synth_answer.specs.Holds.{ForLog, IsClosedFor, IsClosedLog, IsEndedLog, IsFirstOpen, IsFullFor, IsFullLog, place_of, read_by, sizes_of, written_by}
 use Rattle.synth_answer.proofs.Held.{AreAsWanted, AreOfKind, HasHeadOf, HasNames, IsAllowedLog, held, machine_of, named_of, places_to, wanted_places}
-use Rattle.synth_answer.specs.Printed.{IsPrinted, Printed, given_by}
-use Rattle.synth_answer.specs.Reply.{AreProblemsFor, HaveAutomata, IsCircuitWith, IsMachineText, IsShort, IsReplyTo, IsSearchedReply, IsTextOf, LawsHold, document_of, part_of}
+use Rattle.synth_answer.specs.Ground.{AreGivenOn, Ground, facts_on, ground_with}
+use Rattle.synth_answer.specs.Printed.{IsPrinted, PrintedFor}
+use Rattle.synth_answer.specs.Reply.{AreProblemsFor, HaveAutomata, IsCircuitWith, IsMachineText, IsShort, IsReplyTo, IsSearchedReply, IsTextOf, LawsHold, document_of, outcome_defeats, part_of}
 use Rattle.synth_answer.proofs.LogLemmas.{IsOfNoLine, all_parts_at, any_at, places_at, split_at}
-use Rattle.synth_answer.proofs.Meaning.{IsSideOf, are_problems_for, does_its_part, each_can_lose, is_wanted, none_satisfies, problems_by_its_kind, sized_within, wanted_of}
+use Rattle.synth_answer.proofs.Meaning.{IsSideOf, does_its_part, each_can_lose, none_satisfies, sized_within}
 use Rattle.synth_answer.proofs.Places.{IsClaimTo, claims_to, has_place, in_order_all, in_order_side, log_at, parts_at, parts_at_both, unmap}
 use Rattle.synth_answer.proofs.Sides.{IsOf, all_both, all_map, all_three, at_side, find, of_side, on_both, on_side, out_of, some_of}
 use Rattle.synth_answer.proofs.Sizes.{few_clauses, few_variables}
 
--- what is known of a text and of its problems
-pub record Context (text : List ℕ) (kind : Option Kind) (settings : Settings) (spec : FlatText) (s : SideProblems) : Type 0 where
+-- what is known of a ground, with the names and the kind of a flat text, and of its problems
+pub record Context (x : Expanded) (truth : Word → Bool) (nodes : List Node) (whole : FormulaId) (settings : Settings) (s : SideProblems) : Type 0 where
   pub laws : LawsHold
   pub some : 1 ≤ settings.max
   pub most : settings.max ≤ 8
   pub entries : IfSome settings.entries (λ most. most ≤ 250000)
   pub workers : settings.workers ≤ 8
-  pub are : AreProblemsOf text kind 2 spec s
-  pub meet : AreProblems s
-  pub accept : AcceptBySide (tree_at spec.formulas spec.expanded.whole) s
-  pub says : SaysWhat text spec.formulas spec.expanded.whole
-  pub names : HasPlainNames spec.expanded
+  pub given : AreGivenOn (ground_with x truth nodes whole) s
+  pub for_text : AreProblemsFor x s
+  pub names : HasPlainNames x
   pub automata : HaveAutomata s
 
 in_range : (least most n : ℕ) → least ≤ n → n ≤ most → IsTrue (is_in_range least most n)
@@ -102,21 +100,25 @@ pub record FitsSize (given : Facts) (max : ℕ) (side : Side) (n : ℕ) : Type 0
   pub some : 0 < n
   pub most : n ≤ sizes_of given max side
 
-module _ (text : List ℕ) (kind : Option Kind) (settings : Settings) (spec : FlatText) (s : SideProblems) (k : Context text kind settings spec s) where
+module _ (x : Expanded) (truth : Word → Bool) (nodes : List Node) (whole : FormulaId) (settings : Settings) (s : SideProblems)
+    (k : Context x truth nodes whole settings s) where
+  abbrev pub ground : Ground
+  ground = ground_with x truth nodes whole
+
   abbrev pub the_text : Wanted
-  the_text = wanted_of spec.expanded k.says.tree
+  the_text = ground.wanted
 
   abbrev pub given : Facts
-  given = given_by spec s
+  given = facts_on ground s
 
   abbrev pub formula : Tree
-  formula = tree_at spec.formulas spec.expanded.whole
+  formula = k.given.formula
 
   pub says : Says formula the_text
-  says = record { same = k.says.meaning.same }
+  says = k.given.says
 
-  pub for_text : AreProblemsFor spec.expanded s
-  for_text = are_problems_for text kind spec s k.meet k.are
+  for_text : AreProblemsFor x s
+  for_text = k.for_text
 
   pub side_known : (side : Side) (p : Problem) → IsOf s.system s.environment side p → IsSideOf the_text formula side p
   side_known System p of =
@@ -128,7 +130,7 @@ module _ (text : List ℕ) (kind : Option Kind) (settings : Settings) (spec : Fl
         inputs = known.inputs;
         outputs = known.outputs;
         automaton = k.automata.of_system;
-        accepts = k.accept.system_where;
+        accepts = k.given.accept.system_where;
       } in
       subst (IsSideOf the_text formula System) of at
   side_known Environment p of =
@@ -140,7 +142,7 @@ module _ (text : List ℕ) (kind : Option Kind) (settings : Settings) (spec : Fl
         inputs = known.inputs;
         outputs = known.outputs;
         automaton = k.automata.of_environment p of;
-        accepts = some_of (λ q. AcceptsWhere true formula (automaton_of q)) s.environment p k.accept.environment_where of;
+        accepts = some_of (λ q. AcceptsWhere true formula (automaton_of q)) s.environment p k.given.accept.environment_where of;
       }
 
   allowed_at : (side : Side) (p : Problem) → IsOf s.system s.environment side p → sizes_of given settings.max side ≡ allowed_sizes p settings.max
@@ -219,7 +221,7 @@ module _ (text : List ℕ) (kind : Option Kind) (settings : Settings) (spec : Fl
   -- == the document ==
 
   abbrev pub before_lines : Verdict → Option Circuit → List SizeLog → Document
-  before_lines v c logs = document_of spec.expanded.kind settings v c logs
+  before_lines v c logs = document_of x.kind settings v c logs
 
   abbrev pub doc : Verdict → Option Circuit → List SizeLog → Document
   doc v c logs = numbered (before_lines v c logs)
@@ -261,7 +263,7 @@ module _ (text : List ℕ) (kind : Option Kind) (settings : Settings) (spec : Fl
     logs = All-map IsLogPart part_of logs (all_three IsHere (λ l. FitsSize given settings.max l.side l.size) IsShort (λ l. IsLogPart (part_of l)) log_part logs suits.here suits.fits short);
   }
 
-  of_kind : AreOfKind given spec.expanded.kind
+  of_kind : AreOfKind given x.kind
   of_kind = record {
     kind_is = for_text.of_system.kind_is;
     size = for_text.of_system.size;
@@ -273,7 +275,7 @@ module _ (text : List ℕ) (kind : Option Kind) (settings : Settings) (spec : Fl
 
   holds_for : (v : Verdict) (c : Option Circuit) (logs : List SizeLog) → Suits v c logs → check.HoldsFor given (doc v c logs)
   holds_for v c logs suits =
-      held k.laws.sizes given spec.expanded.kind settings.max settings.entries of_kind v c (lined c logs) (doc v c logs) suits.has_place suits.names suits.number
+      held k.laws.sizes given x.kind settings.max settings.entries of_kind v c (lined c logs) (doc v c logs) suits.has_place suits.names suits.number
       (places_at (first_line c) (map part_of logs) ∙ suits.places)
       (all_parts_at (ForLog given HasHeadOf) same_head (first_line c) logs (all_map IsHere (λ l. ForLog given HasHeadOf (part_of l)) head_part logs suits.here))
       (all_parts_at (IsAllowedLog given settings.max) (λ l n h. h) (first_line c) logs
@@ -281,7 +283,7 @@ module _ (text : List ℕ) (kind : Option Kind) (settings : Settings) (spec : Fl
       suits.wanted
 
   printed : (v : Verdict) (c : Option Circuit) (logs : List SizeLog) (bytes : List ℕ) → Suits v c logs → IfSome c IsWritable
-      → IsTextOf spec.expanded.kind settings v c logs bytes → IsPrinted given settings bytes (doc v c logs)
+      → IsTextOf x.kind settings v c logs bytes → IsPrinted given settings bytes (doc v c logs)
   printed v c logs bytes suits writable made = record {
     states = made.stated (well_formed v c logs suits made.short) writable;
     holds = holds_for v c logs suits;
@@ -296,15 +298,16 @@ module _ (text : List ℕ) (kind : Option Kind) (settings : Settings) (spec : Fl
         (all_map IsHere (λ l. All (λ e. e.by ≤ settings.workers) l.log.entries) by_part logs suits.here);
   }
 
-  abbrev pub printed_text : (v : Verdict) (c : Option Circuit) (logs : List SizeLog) (bytes : List ℕ) → IsPrinted given settings bytes (doc v c logs) → Printed text kind settings bytes
+  abbrev pub printed_text : (v : Verdict) (c : Option Circuit) (logs : List SizeLog) (bytes : List ℕ) → IsPrinted given settings bytes (doc v c logs)
+      → PrintedFor (λ kind other. other ≡ ground) (Some x.kind) settings bytes
   printed_text v c logs bytes is_printed = record {
-    wanted = the_text;
-    is_wanted = is_wanted text kind 2 spec s k.says k.are;
-    spec = spec;
+    ground = ground;
+    is_ground = refl;
+    later = k.given.later;
     problems = s;
-    are_problems = k.are;
+    are_problems = k.given.are_problems;
     document = doc v c logs;
-    by_its_kind = problems_by_its_kind text kind spec s k.are;
+    by_its_kind = refl;
     is_printed = is_printed;
   }
 
@@ -345,30 +348,30 @@ module _ (text : List ℕ) (kind : Option Kind) (settings : Settings) (spec : Fl
 
   -- == documents of machines ==
 
-  plain_reads : (side : Side) → All IsOneWord (read_by side spec.expanded.inputs spec.expanded.outputs)
+  plain_reads : (side : Side) → All IsOneWord (read_by side x.inputs x.outputs)
   plain_reads System = k.names.inputs_plain
   plain_reads Environment = k.names.outputs_plain
 
-  plain_writes : (side : Side) → All IsOneWord (written_by side spec.expanded.inputs spec.expanded.outputs)
+  plain_writes : (side : Side) → All IsOneWord (written_by side x.inputs x.outputs)
   plain_writes System = k.names.outputs_plain
   plain_writes Environment = k.names.inputs_plain
 
   abbrev pub IsCircuitFor : Side → MachineModel → Circuit → Type 0
-  IsCircuitFor side m c = IsCircuitWith m (read_by side spec.expanded.inputs spec.expanded.outputs) (written_by side spec.expanded.inputs spec.expanded.outputs) c
+  IsCircuitFor side m c = IsCircuitWith m (read_by side x.inputs x.outputs) (written_by side x.inputs x.outputs) c
 
   can_be_written : (side : Side) (m : MachineModel) (c : Circuit) → IsCircuitFor side m c → IsWritable c
   can_be_written side m c made =
       let size = made.variables in
       record {
         size = omega (arith, size);
-        input_names = All-same (λ name. IfSome name IsLineName) c.input_names (map Some (read_by side spec.expanded.inputs spec.expanded.outputs)) made.inputs (line_names _ (plain_reads side));
-        output_names = All-same (λ name. IfSome name IsLineName) c.output_names (map Some (written_by side spec.expanded.inputs spec.expanded.outputs)) made.outputs (line_names _ (plain_writes side));
+        input_names = All-same (λ name. IfSome name IsLineName) c.input_names (map Some (read_by side x.inputs x.outputs)) made.inputs (line_names _ (plain_reads side));
+        output_names = All-same (λ name. IfSome name IsLineName) c.output_names (map Some (written_by side x.inputs x.outputs)) made.outputs (line_names _ (plain_writes side));
       }
 
   all_are_named : (side : Side) (m : MachineModel) (c : Circuit) → IsCircuitFor side m c → IsTrue (all_named c)
   all_are_named side m c made =
-      let reads : list_all is_some c.input_names ≡ true = ap (list_all is_some) made.inputs ∙ all_some (read_by side spec.expanded.inputs spec.expanded.outputs) in
-      let writes : list_all is_some c.output_names ≡ true = ap (list_all is_some) made.outputs ∙ all_some (written_by side spec.expanded.inputs spec.expanded.outputs) in
+      let reads : list_all is_some c.input_names ≡ true = ap (list_all is_some) made.inputs ∙ all_some (read_by side x.inputs x.outputs) in
+      let writes : list_all is_some c.output_names ≡ true = ap (list_all is_some) made.outputs ∙ all_some (written_by side x.inputs x.outputs) in
       rw (reads, writes) refl
 
   -- a verdict that tells a machine of this side and size
@@ -435,7 +438,7 @@ module _ (text : List ℕ) (kind : Option Kind) (settings : Settings) (spec : Fl
       wanted = wanted;
     }
 
-    machine_printed : (v : Verdict) (bytes : List ℕ) → TellsMachine v side (size_of m) → (made : IsMachineText spec.expanded settings side v m logs bytes)
+    machine_printed : (v : Verdict) (bytes : List ℕ) → TellsMachine v side (size_of m) → (made : IsMachineText x settings side v m logs bytes)
         → AreAsWanted given settings.entries (lined (Some made.circuit) logs) v → IsPrinted given settings bytes (doc v (Some made.circuit) logs)
     machine_printed v bytes tells made wanted =
         printed v (Some made.circuit) logs bytes (machine_suits v made.circuit tells made.of_machine wanted) (can_be_written side m made.circuit made.of_machine) made.text
@@ -500,7 +503,7 @@ module _ (text : List ℕ) (kind : Option Kind) (settings : Settings) (spec : Fl
   -- == the answers with a machine ==
 
   pub real : (m : MachineModel) (logs : List SizeLog) (bytes : List ℕ) → outcomes.IsSmallest s.system settings m logs
-      → IsMachineText spec.expanded settings System (Realizable (size_of m)) m logs bytes → Answers text kind settings bytes 10
+      → IsMachineText x settings System (Realizable (size_of m)) m logs bytes → IsAnswerOn ground settings bytes 10 false
   real m logs bytes least made =
       let found = least.found in
       let small = least.smaller in
@@ -518,19 +521,22 @@ module _ (text : List ℕ) (kind : Option Kind) (settings : Settings) (spec : Fl
         places = refl;
       } in
       let is_printed = machine_printed System s.system refl m logs found small v bytes tells made closed in
-      answer.realizable (printed_text v (Some c) logs bytes is_printed) (size_of m) c refl
-      (record {
-        verdict = refl;
-        circuit = refl;
-        satisfies = part_does System s.system refl m logs found small c made.of_machine;
-        runs = made.of_machine.every System;
-        states = has_its_states System s.system refl m logs found small v c least.closed made.of_machine;
-        smaller = λ n some less. is_refuted v (Some c) logs n (log_below System s.system refl m logs found small v (Some c) (IsClosedLog given settings.entries) closed n some less)
-            (fits_below System s.system refl m logs found small n some less);
-      })
+      record {
+        answers = answer.realizable (printed_text v (Some c) logs bytes is_printed) (size_of m) c refl
+            (record {
+              verdict = refl;
+              circuit = refl;
+              satisfies = part_does System s.system refl m logs found small c made.of_machine;
+              runs = made.of_machine.every System;
+              states = has_its_states System s.system refl m logs found small v c least.closed made.of_machine;
+              smaller = λ n some less. is_refuted v (Some c) logs n (log_below System s.system refl m logs found small v (Some c) (IsClosedLog given settings.entries) closed n some less)
+                  (fits_below System s.system refl m logs found small n some less);
+            });
+        told = refl;
+      }
 
   pub unreal : (m : MachineModel) (logs : List SizeLog) (bytes : List ℕ) → OfSide s.system s.environment (λ p. outcomes.IsSmallest p settings m logs) Environment
-      → IsMachineText spec.expanded settings Environment (Unrealizable (size_of m)) m logs bytes → Answers text kind settings bytes 20
+      → IsMachineText x settings Environment (Unrealizable (size_of m)) m logs bytes → IsAnswerOn ground settings bytes 20 true
   unreal m logs bytes least made =
       let there = find s.system s.environment Environment (λ p. outcomes.IsSmallest p settings m logs) least in
       let p = there.problem in
@@ -550,20 +556,23 @@ module _ (text : List ℕ) (kind : Option Kind) (settings : Settings) (spec : Fl
         places = refl;
       } in
       let is_printed = machine_printed Environment p there.of m logs found small v bytes tells made closed in
-      answer.unrealizable (printed_text v (Some c) logs bytes is_printed) (size_of m) c refl
-      (record {
-        verdict = refl;
-        circuit = refl;
-        defeats = part_does Environment p there.of m logs found small c made.of_machine;
-        runs = made.of_machine.every Environment;
-        states = has_its_states Environment p there.of m logs found small v c there.holds.closed made.of_machine;
-        smaller = λ n some less. can_be_beaten v (Some c) logs n (log_below Environment p there.of m logs found small v (Some c) (IsClosedLog given settings.entries) closed n some less)
-            (fits_below Environment p there.of m logs found small n some less);
-      })
+      record {
+        answers = answer.unrealizable (printed_text v (Some c) logs bytes is_printed) (size_of m) c refl
+            (record {
+              verdict = refl;
+              circuit = refl;
+              defeats = part_does Environment p there.of m logs found small c made.of_machine;
+              runs = made.of_machine.every Environment;
+              states = has_its_states Environment p there.of m logs found small v c there.holds.closed made.of_machine;
+              smaller = λ n some less. can_be_beaten v (Some c) logs n (log_below Environment p there.of m logs found small v (Some c) (IsClosedLog given settings.entries) closed n some less)
+                  (fits_below Environment p there.of m logs found small n some less);
+            });
+        told = refl;
+      }
 
   pub bounded : (side : Side) (m : MachineModel) (logs : List SizeLog) (bytes : List ℕ) → OfSide s.system s.environment (λ p. outcomes.IsBounded p settings m logs) side
       → (outcomes.CannotFill s.system s.environment settings → ⊥)
-      → IsMachineText spec.expanded settings side (Bounded side (size_of m)) m logs bytes → Answers text kind settings bytes 11
+      → IsMachineText x settings side (Bounded side (size_of m)) m logs bytes → IsAnswerOn ground settings bytes 11 (is_environment side)
   bounded side m logs bytes least can_fill made =
       let there = find s.system s.environment side (λ p. outcomes.IsBounded p settings m logs) least in
       let p = there.problem in
@@ -584,19 +593,22 @@ module _ (text : List ℕ) (kind : Option Kind) (settings : Settings) (spec : Fl
         places = refl;
       } in
       let is_printed = machine_printed side p there.of m logs found small v bytes tells made (ended, full) in
-      answer.bounded (printed_text v (Some c) logs bytes is_printed) side (size_of m) c refl
-      (record {
-        verdict = refl;
-        circuit = refl;
-        does = part_does side p there.of m logs found small c made.of_machine;
-        runs = made.of_machine.every side;
-        count = made.of_machine.states.some.0;
-        few = made.of_machine.states.some.1;
-        states = made.of_machine.states.some.2;
-        smaller = log_below side p there.of m logs found small v (Some c) (IsEndedLog given settings.entries) ended;
-        full = full;
-        can_fill = can_fill;
-      })
+      record {
+        answers = answer.bounded (printed_text v (Some c) logs bytes is_printed) side (size_of m) c refl
+            (record {
+              verdict = refl;
+              circuit = refl;
+              does = part_does side p there.of m logs found small c made.of_machine;
+              runs = made.of_machine.every side;
+              count = made.of_machine.states.some.0;
+              few = made.of_machine.states.some.1;
+              states = made.of_machine.states.some.2;
+              smaller = log_below side p there.of m logs found small v (Some c) (IsEndedLog given settings.entries) ended;
+              full = full;
+              can_fill = can_fill;
+            });
+        told = refl;
+      }
 
   -- == documents without a machine ==
 
@@ -653,7 +665,7 @@ module _ (text : List ℕ) (kind : Option Kind) (settings : Settings) (spec : Fl
       wanted = wanted;
     }
 
-    none_printed : (v : Verdict) (bytes : List ℕ) → TellsNone v → IsTextOf spec.expanded.kind settings v None logs bytes → AreAsWanted given settings.entries (lined None logs) v
+    none_printed : (v : Verdict) (bytes : List ℕ) → TellsNone v → IsTextOf x.kind settings v None logs bytes → AreAsWanted given settings.entries (lined None logs) v
         → IsPrinted given settings bytes (doc v None logs)
     none_printed v bytes tells made wanted = printed v None logs bytes (none_suits v tells wanted) tt made
 
@@ -683,7 +695,7 @@ module _ (text : List ℕ) (kind : Option Kind) (settings : Settings) (spec : Fl
         (λ l. IsEndedLog given settings.entries (part_of l)) ended_part logs all.each ended)
 
   pub no_size : (logs : List SizeLog) (bytes : List ℕ) → outcomes.HasNoSize s.system s.environment settings logs
-      → IsTextOf spec.expanded.kind settings UnknownSizes None logs bytes → Answers text kind settings bytes 30
+      → IsTextOf x.kind settings UnknownSizes None logs bytes → IsAnswerOn ground settings bytes 30 false
   no_size logs bytes none made =
       let closed = closed_lines logs none.all none.closed in
       let tells : TellsNone logs none.all UnknownSizes = record {
@@ -697,14 +709,17 @@ module _ (text : List ℕ) (kind : Option Kind) (settings : Settings) (spec : Fl
         places = refl;
       } in
       let is_printed = none_printed logs none.all UnknownSizes bytes tells made closed in
-      answer.no_size (printed_text UnknownSizes None logs bytes is_printed) refl
-      (record {
-        verdict = refl;
-        system = λ n some most. is_refuted UnknownSizes None logs n (log_of logs none.all UnknownSizes System (IsClosedLog given settings.entries) closed n some most)
-            (record { some = some; most = most });
-        environment = λ n some most. can_be_beaten UnknownSizes None logs n (log_of logs none.all UnknownSizes Environment (IsClosedLog given settings.entries) closed n some most)
-            (record { some = some; most = most });
-      })
+      record {
+        answers = answer.no_size (printed_text UnknownSizes None logs bytes is_printed) refl
+            (record {
+              verdict = refl;
+              system = λ n some most. is_refuted UnknownSizes None logs n (log_of logs none.all UnknownSizes System (IsClosedLog given settings.entries) closed n some most)
+                  (record { some = some; most = most });
+              environment = λ n some most. can_be_beaten UnknownSizes None logs n (log_of logs none.all UnknownSizes Environment (IsClosedLog given settings.entries) closed n some most)
+                  (record { some = some; most = most });
+            });
+        told = refl;
+      }
 
   -- the log that the search names is the first of the document that isn't closed
   first_open : (side : Side) (size : ℕ) (logs : List SizeLog) → outcomes.HasNoEntries s.system s.environment settings side size logs
@@ -741,7 +756,7 @@ module _ (text : List ℕ) (kind : Option Kind) (settings : Settings) (spec : Fl
 
   pub no_entries : (side : Side) (size : ℕ) (logs : List SizeLog) (bytes : List ℕ) → outcomes.HasNoEntries s.system s.environment settings side size logs
       → (outcomes.CannotFill s.system s.environment settings → ⊥)
-      → IsTextOf spec.expanded.kind settings (UnknownEntries side size) None logs bytes → Answers text kind settings bytes 30
+      → IsTextOf x.kind settings (UnknownEntries side size) None logs bytes → IsAnswerOn ground settings bytes 30 false
   no_entries side size logs bytes none can_fill made =
       let v = UnknownEntries side size in
       let ended = ended_lines logs none.all none.decided in
@@ -757,22 +772,26 @@ module _ (text : List ℕ) (kind : Option Kind) (settings : Settings) (spec : Fl
         places = refl;
       } in
       let is_printed = none_printed logs none.all v bytes tells made (ended, named) in
-      answer.no_entries (printed_text v None logs bytes is_printed) side size refl
-      (record {
-        verdict = refl;
-        named = named;
-        system = log_of logs none.all v System (IsEndedLog given settings.entries) ended;
-        environment = log_of logs none.all v Environment (IsEndedLog given settings.entries) ended;
-        can_fill = can_fill;
-      })
+      record {
+        answers = answer.no_entries (printed_text v None logs bytes is_printed) side size refl
+            (record {
+              verdict = refl;
+              named = named;
+              system = log_of logs none.all v System (IsEndedLog given settings.entries) ended;
+              environment = log_of logs none.all v Environment (IsEndedLog given settings.entries) ended;
+              can_fill = can_fill;
+            });
+        told = refl;
+      }
 
   -- == the whole ==
 
-  pub answered : (bytes : List ℕ) (ended : Status) → IsSearchedReply spec.expanded s settings bytes ended → Answers text kind settings bytes (status_number ended)
-  answered bytes ended r = by_outcome r.outcome r.real r.unreal r.bounded r.no_size r.no_entries r.decisive r.reply
+  pub answered : (bytes : List ℕ) (ended : Status) (defeat : Bool) → IsSearchedReply x s settings bytes ended defeat → IsAnswerOn ground settings bytes (status_number ended) defeat
+  answered bytes ended defeat r =
+      subst (λ d. IsAnswerOn ground settings bytes (status_number ended) d) r.told (by_outcome r.outcome r.real r.unreal r.bounded r.no_size r.no_entries r.decisive r.reply)
     where
-      at_status : (n : ℕ) (told : Status) → ended ≡ told → status_number told ≡ n → Answers text kind settings bytes n → Answers text kind settings bytes (status_number ended)
-      at_status n told is number a = subst (Answers text kind settings bytes) (sym (ap status_number is ∙ number)) a
+      at_status : (n : ℕ) (told : Status) (d : Bool) → ended ≡ told → status_number told ≡ n → IsAnswerOn ground settings bytes n d → IsAnswerOn ground settings bytes (status_number ended) d
+      at_status n told d is number a = subst (λ m. IsAnswerOn ground settings bytes m d) (sym (ap status_number is ∙ number)) a
 
       by_outcome : (o : Outcome) → outcomes.OnReal (outcomes.IsSmallest s.system settings) o
           → outcomes.OnUnreal (λ m logs. OfSide s.system s.environment (λ p. outcomes.IsSmallest p settings m logs) Environment) o
@@ -780,9 +799,9 @@ module _ (text : List ℕ) (kind : Option Kind) (settings : Settings) (spec : Fl
           → outcomes.OnNoSize (outcomes.HasNoSize s.system s.environment settings) o
           → outcomes.OnNoEntries (outcomes.HasNoEntries s.system s.environment settings) o
           → (outcomes.CannotFill s.system s.environment settings → outcomes.IsDecisive o)
-          → IsReplyTo spec.expanded settings o bytes ended → Answers text kind settings bytes (status_number ended)
-      by_outcome (outcome.Real m logs) a b c d e decisive reply = at_status 10 status.Realizable reply.0 refl (real m logs.items bytes a reply.1)
-      by_outcome (outcome.Unreal m logs) a b c d e decisive reply = at_status 20 status.Unrealizable reply.0 refl (unreal m logs.items bytes b reply.1)
-      by_outcome (outcome.Bounded side m logs) a b c d e decisive reply = at_status 11 status.Bounded reply.0 refl (bounded side m logs.items bytes c decisive reply.1)
-      by_outcome (outcome.NoSize logs) a b c d e decisive reply = at_status 30 status.Unknown reply.0 refl (no_size logs.items bytes d reply.1)
-      by_outcome (outcome.NoEntries side size logs) a b c d e decisive reply = at_status 30 status.Unknown reply.0 refl (no_entries side size logs.items bytes e decisive reply.1)
+          → IsReplyTo x settings o bytes ended → IsAnswerOn ground settings bytes (status_number ended) (outcome_defeats o)
+      by_outcome (outcome.Real m logs) a b c d e decisive reply = at_status 10 status.Realizable false reply.0 refl (real m logs.items bytes a reply.1)
+      by_outcome (outcome.Unreal m logs) a b c d e decisive reply = at_status 20 status.Unrealizable true reply.0 refl (unreal m logs.items bytes b reply.1)
+      by_outcome (outcome.Bounded side m logs) a b c d e decisive reply = at_status 11 status.Bounded (is_environment side) reply.0 refl (bounded side m logs.items bytes c decisive reply.1)
+      by_outcome (outcome.NoSize logs) a b c d e decisive reply = at_status 30 status.Unknown false reply.0 refl (no_size logs.items bytes d reply.1)
+      by_outcome (outcome.NoEntries side size logs) a b c d e decisive reply = at_status 30 status.Unknown false reply.0 refl (no_entries side size logs.items bytes e decisive reply.1)

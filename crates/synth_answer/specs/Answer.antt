@@ -1,5 +1,5 @@
--- The answers of `synth` to a text, each with its status (this project's own).
-use Rattle.std.specs.Prelude.{◌≡◌, ℕ, ◌<◌, ◌≤◌, List, Option, Some, Any, Contains}
+-- The answers of `synth`, each with its status (this project's own).
+use Rattle.std.specs.Prelude.{◌≡◌, ℕ, ◌<◌, ◌≤◌, Bool, true, false, List, Option, Some, Any, Contains}
 use Rattle.letter_word.specs.declared.kinds.Kind.{Kind}
 use Rattle.letter_word.specs.declared.kinds.Side.{Side}
 use Rattle.letter_word.specs.declared.kinds.Side.TheVariants.{System, Environment}
@@ -16,7 +16,8 @@ use Rattle.document_check.specs.Facts.{Facts}
 use Rattle.cert_text.specs.Parts.{Document, LogPart}
 use Rattle.program_replies.specs.Lines.{refusal_line}
 use Rattle.synth_answer.specs.Holds.{IsClosedLog, IsEndedLog, IsFirstOpen, IsFullLog, place_of, sizes_of}
-use Rattle.synth_answer.specs.Printed.{Printed, given_by}
+use Rattle.synth_answer.specs.Ground.{Ground, IsGroundOf, facts_on}
+use Rattle.synth_answer.specs.Printed.{PrintedFor}
 
 -- == sizes without a machine ==
 
@@ -93,22 +94,52 @@ pub record HasNoEntries (given : Facts) (settings : Settings) (d : Document) (si
 
 -- == the answer ==
 
--- what of a printed document holds for the text, with what it wants and gives
-abbrev pub OfPrinted : {text : List ℕ} {kind : Option Kind} {settings : Settings} {bytes : List ℕ}
-    → (Wanted → Facts → Document → Type 0) → Printed text kind settings bytes → Type 0
-OfPrinted P p = P p.wanted (given_by p.spec p.problems) p.document
+-- what of a printed document holds, with what is wanted and given
+abbrev pub OfPrinted : {IsGround : Option Kind → Ground → Type 0} {kind : Option Kind} {settings : Settings} {bytes : List ℕ}
+    → (Wanted → Facts → Document → Type 0) → PrintedFor IsGround kind settings bytes → Type 0
+OfPrinted P p = P p.ground.wanted (facts_on p.ground p.problems) p.document
 
--- The bytes and the status that answer a text: the line of its first fault, or a document for it.
-pub data Answers (text : List ℕ) (kind : Option Kind) (settings : Settings) (bytes : List ℕ) (status : ℕ) : Type 0 where
-  refused : (code : SpecCode) (position : ℕ) → status ≡ 1 → IsFirstFault text kind code position → bytes ≡ refusal_line code position
-      → Answers text kind settings bytes status
-  realizable : (p : Printed text kind settings bytes) (n : ℕ) (c : Circuit) → status ≡ 10
-      → OfPrinted (λ x given d. IsRealizable x given d n c) p → Answers text kind settings bytes status
-  unrealizable : (p : Printed text kind settings bytes) (n : ℕ) (c : Circuit) → status ≡ 20
-      → OfPrinted (λ x given d. IsUnrealizable x given d n c) p → Answers text kind settings bytes status
-  bounded : (p : Printed text kind settings bytes) (side : Side) (n : ℕ) (c : Circuit) → status ≡ 11
-      → OfPrinted (λ x given d. IsBounded x given settings d side n c) p → Answers text kind settings bytes status
-  no_size : (p : Printed text kind settings bytes) → status ≡ 30
-      → OfPrinted (λ x given d. HasNoSize x given d) p → Answers text kind settings bytes status
-  no_entries : (p : Printed text kind settings bytes) (side : Side) (n : ℕ) → status ≡ 30
-      → OfPrinted (λ x given d. HasNoEntries given settings d side n) p → Answers text kind settings bytes status
+-- The bytes and the status that answer what has this first fault, or this ground: the line of the fault, or a document.
+pub data AnswersFor (IsFault : SpecCode → ℕ → Type 0) (IsGround : Option Kind → Ground → Type 0) (kind : Option Kind) (settings : Settings)
+    (bytes : List ℕ) (status : ℕ) : Type 0 where
+  refused : (code : SpecCode) (position : ℕ) → status ≡ 1 → IsFault code position → bytes ≡ refusal_line code position
+      → AnswersFor IsFault IsGround kind settings bytes status
+  realizable : (p : PrintedFor IsGround kind settings bytes) (n : ℕ) (c : Circuit) → status ≡ 10
+      → OfPrinted (λ x given d. IsRealizable x given d n c) p → AnswersFor IsFault IsGround kind settings bytes status
+  unrealizable : (p : PrintedFor IsGround kind settings bytes) (n : ℕ) (c : Circuit) → status ≡ 20
+      → OfPrinted (λ x given d. IsUnrealizable x given d n c) p → AnswersFor IsFault IsGround kind settings bytes status
+  bounded : (p : PrintedFor IsGround kind settings bytes) (side : Side) (n : ℕ) (c : Circuit) → status ≡ 11
+      → OfPrinted (λ x given d. IsBounded x given settings d side n c) p → AnswersFor IsFault IsGround kind settings bytes status
+  no_size : (p : PrintedFor IsGround kind settings bytes) → status ≡ 30
+      → OfPrinted (λ x given d. HasNoSize x given d) p → AnswersFor IsFault IsGround kind settings bytes status
+  no_entries : (p : PrintedFor IsGround kind settings bytes) (side : Side) (n : ℕ) → status ≡ 30
+      → OfPrinted (λ x given d. HasNoEntries given settings d side n) p → AnswersFor IsFault IsGround kind settings bytes status
+
+-- what answers a text
+abbrev pub Answers : List ℕ → Option Kind → Settings → List ℕ → ℕ → Type 0
+Answers text kind settings bytes status = AnswersFor (IsFirstFault text kind) (IsGroundOf text) kind settings bytes status
+
+-- whether a side is the environment's
+abbrev pub is_environment : Side → Bool
+is_environment System = false
+is_environment Environment = true
+
+-- an answer defeats where its document has a counter-machine
+abbrev pub defeats : {IsFault : SpecCode → ℕ → Type 0} {IsGround : Option Kind → Ground → Type 0} {kind : Option Kind} {settings : Settings}
+    {bytes : List ℕ} {status : ℕ} → AnswersFor IsFault IsGround kind settings bytes status → Bool
+defeats (refused code position is fault line) = false
+defeats (realizable p n c is holds) = false
+defeats (unrealizable p n c is holds) = true
+defeats (bounded p side n c is holds) = is_environment side
+defeats (no_size p is holds) = false
+defeats (no_entries p side n is holds) = false
+
+-- an answer, and whether it defeats
+pub record IsAnswerFor (IsFault : SpecCode → ℕ → Type 0) (IsGround : Option Kind → Ground → Type 0) (kind : Option Kind) (settings : Settings)
+    (bytes : List ℕ) (status : ℕ) (defeat : Bool) : Type 0 where
+  pub answers : AnswersFor IsFault IsGround kind settings bytes status
+  pub told : defeats answers ≡ defeat
+
+-- a document that answers over this ground, whatever has it, and whether it defeats
+abbrev pub IsAnswerOn : Ground → Settings → List ℕ → ℕ → Bool → Type 0
+IsAnswerOn g settings bytes status defeat = IsAnswerFor (λ code position. ⊥) (λ kind other. other ≡ g) (Some g.wanted.kind) settings bytes status defeat

@@ -1,3 +1,4 @@
+pub mod Ground
 pub mod Holds
 pub mod Printed
 pub mod Answer

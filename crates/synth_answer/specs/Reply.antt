@@ -1,5 +1,5 @@
 -- How the outcome of a search is written (this project's own).
-use Rattle.std.specs.Prelude.{◌≡◌, ℕ, ◌≤◌, ◌<◌, ◌^◌, ⊤, List, [], Option, Some, None, All, IfSome, length, map}
+use Rattle.std.specs.Prelude.{◌≡◌, ℕ, ◌≤◌, ◌<◌, ◌^◌, ⊤, Bool, true, false, List, [], Option, Some, None, All, IfSome, length, map}
 use Rattle.letter_word.specs.declared.kinds.Kind.{Kind}
 use Rattle.letter_word.specs.declared.kinds.Side.{Side}
 use Rattle.letter_word.specs.declared.kinds.Side.TheVariants.{System, Environment}
@@ -34,6 +34,7 @@ use Rattle.tlsf_tokens.specs.declared.code.SpecFault.TheVariants.{At, NoMemory}
 use Rattle.program_replies.specs.Lines.{refusal_line}
 use Rattle.program_replies.specs.declared.replies.Status.{Status}
 use Rattle.program_replies.specs.declared.replies.Status.TheVariants as status
+use Rattle.synth_answer.specs.Answer.{is_environment}
 use Rattle.synth_answer.specs.Holds.{read_by, written_by}
 
 -- a log as a document has it
@@ -138,8 +139,16 @@ pub record HaveAutomata (s : SideProblems) : Type 0 where
   pub of_system : IsAutomaton (automaton_of s.system)
   pub of_environment : ForSome s.environment (λ p. IsAutomaton (automaton_of p))
 
--- the bytes and the status for some outcome of a search of these problems
-pub record IsSearchedReply (x : Expanded) (s : SideProblems) (settings : Settings) (bytes : List ℕ) (ended : Status) : Type 0 where
+-- whether an outcome has a machine of the environment
+abbrev pub outcome_defeats : Outcome → Bool
+outcome_defeats (Real machine logs) = false
+outcome_defeats (Unreal machine logs) = true
+outcome_defeats (Bounded side machine logs) = is_environment side
+outcome_defeats (NoSize logs) = false
+outcome_defeats (NoEntries side size logs) = false
+
+-- the bytes and the status for some outcome of a search of these problems, and whether it defeats
+pub record IsSearchedReply (x : Expanded) (s : SideProblems) (settings : Settings) (bytes : List ℕ) (ended : Status) (defeat : Bool) : Type 0 where
   pub automata : HaveAutomata s
   pub outcome : Outcome
   pub real : OnReal (IsSmallest s.system settings) outcome
@@ -149,6 +158,7 @@ pub record IsSearchedReply (x : Expanded) (s : SideProblems) (settings : Setting
   pub no_entries : OnNoEntries (HasNoEntries s.system s.environment settings) outcome
   pub decisive : CannotFill s.system s.environment settings → IsDecisive outcome
   pub reply : IsReplyTo x settings outcome bytes ended
+  pub told : outcome_defeats outcome ≡ defeat
 
 -- == the laws of the layers below ==
 

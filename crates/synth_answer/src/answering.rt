@@ -1,16 +1,21 @@
-//! The answer to a text.
-ghost use Rattle.std.specs.Prelude.{◌≤◌, IfOk, IfSome};
+//! The answer to a text, and to problems that stand on some ground.
+ghost use Rattle.std.specs.Prelude.{◌≡◌, ◌≤◌, Bool, IfOk, IfSome, List};
+ghost use Rattle.letter_word.specs.Word.{Word};
+ghost use Rattle.ltl_formula.specs.declared.nodes.FormulaId.{FormulaId as Id};
+ghost use Rattle.ltl_formula.specs.declared.nodes.Node.{Node};
 ghost use Rattle.machine_model.specs.Automaton.{IsAutomaton};
 ghost use Rattle.machine_model.specs.Problem.{automaton_of};
+ghost use Rattle.flat_text.specs.FlatNames.{HasPlainNames};
 ghost use Rattle.program_replies.specs.Statuses.{status_number};
 ghost use Rattle.tlsf_expand.specs.TextSeen.{spec_seen};
-ghost use Rattle.synth_answer.specs.Answer.{Answers};
-ghost use Rattle.synth_answer.specs.Reply.{AreProblemsFor, HaveAutomata, IsRefusal, IsSearchedReply};
+ghost use Rattle.synth_answer.specs.Answer.{Answers, IsAnswerOn, is_environment};
+ghost use Rattle.synth_answer.specs.Ground.{AreGivenOn, ground_with};
+ghost use Rattle.synth_answer.specs.Reply.{AreProblemsFor, HaveAutomata, IsRefusal, IsSearchedReply, outcome_defeats};
 
 use crate::facts::laws_hold;
 use crate::outcomes::reply_to;
 use annotation_encode::laws::sizes_rise;
-use letter_word::Kind;
+use letter_word::{Kind, Side};
 use machine_model::Problem;
 use outside_edge::Gate;
 use program_replies::{Reply, refused};
@@ -18,8 +23,17 @@ use spec_problems::{SideProblems, TextProblems, text_problems};
 use std::alloc::{AllocError, Global};
 use std::sync::Wait;
 use std::thread::Threads;
-use synth_engine::{Settings, search};
+use synth_engine::{Outcome, Settings, search};
+use tlsf_expand::Spec;
 use tlsf_tokens::SpecFault;
+
+/// A document with its status.
+#[derive(Drop)]
+pub struct Answered {
+    pub reply: Reply,
+    /// Whether the document has a machine of the environment.
+    pub defeats: bool,
+}
 
 /// The answer to a text: the line of its first fault with status 1, or a document of version 3 with status 10, 11, 20 or 30. A kind that
 /// is given stands for the text's own.
@@ -39,11 +53,33 @@ pub fn answer<R: Threads + Wait + Sync, G: Gate + Sync>(
     requires workers { settings.workers ≤ 8 }
     ensures { IfOk result (λ r. Answers text.now kind settings r.bytes.items (status_number r.status)) }
 {
-    laws_hold();
     match text_problems(alloc, text, kind, 2) {
-        Ok(found) => searched(rt, alloc, found, settings, gate),
+        Ok(found) => document(rt, alloc, found, settings, gate),
         Err(fault) => refusal(alloc, fault),
     }
+}
+
+/// A document for problems over base clauses of version 2 that stand on some ground, whose names and kind are those of a flat text, with
+/// status 10, 11, 20 or 30. It waits as `answer` does.
+pub fn answer_on<R: Threads + Wait + Sync, G: Gate + Sync>(
+    rt: &R,
+    alloc: Global,
+    spec: &Spec,
+    problems: SideProblems,
+    settings: Settings,
+    gate: &G,
+) -> Result<Answered, AllocError>
+    requires some_size { 1 ≤ settings.max }
+    requires most_size { settings.max ≤ 8 }
+    requires entries { IfSome settings.entries (λ most. most ≤ 250000) }
+    requires workers { settings.workers ≤ 8 }
+    requires problems { AreProblemsFor (spec_seen spec.now).expanded problems }
+    requires names { HasPlainNames (spec_seen spec.now).expanded }
+    ensures { (truth : Word → Bool) (nodes : List Node) (whole : Id) → AreGivenOn (ground_with (spec_seen spec.now).expanded truth nodes whole) problems
+        → IfOk result (λ a. IsAnswerOn (ground_with (spec_seen spec.now).expanded truth nodes whole) settings a.reply.bytes.items (status_number a.reply.status) a.defeats) }
+{
+    laws_hold();
+    searched(rt, alloc, spec, problems, settings, gate)
 }
 
 // The reply to a text with this fault.
@@ -56,8 +92,8 @@ fn refusal(alloc: Global, fault: SpecFault) -> Result<Reply, AllocError>
     }
 }
 
-// The reply to a text that has problems.
-fn searched<R: Threads + Wait + Sync, G: Gate + Sync>(
+// The document for a text.
+fn document<R: Threads + Wait + Sync, G: Gate + Sync>(
     rt: &R,
     alloc: Global,
     found: TextProblems,
@@ -66,11 +102,33 @@ fn searched<R: Threads + Wait + Sync, G: Gate + Sync>(
 ) -> Result<Reply, AllocError>
     requires some_size { 1 ≤ settings.max }
     requires most_size { settings.max ≤ 8 }
+    requires entries { IfSome settings.entries (λ most. most ≤ 250000) }
     requires workers { settings.workers ≤ 8 }
     requires problems { AreProblemsFor (spec_seen found.spec).expanded found.problems }
-    ensures { IfOk result (λ r. IsSearchedReply (spec_seen found.spec).expanded found.problems settings r.bytes.items r.status) }
+    requires names { HasPlainNames (spec_seen found.spec).expanded }
+    ensures { (truth : Word → Bool) (nodes : List Node) (whole : Id) → AreGivenOn (ground_with (spec_seen found.spec).expanded truth nodes whole) found.problems
+        → IfOk result (λ r. (d : Bool) × IsAnswerOn (ground_with (spec_seen found.spec).expanded truth nodes whole) settings r.bytes.items (status_number r.status) d) }
 {
     let TextProblems { spec, problems } = found;
+    let answered = answer_on(rt, alloc, &spec, problems, settings, gate)?;
+    Ok(answered.reply)
+}
+
+// The document for these problems, by the outcome of their search.
+fn searched<R: Threads + Wait + Sync, G: Gate + Sync>(
+    rt: &R,
+    alloc: Global,
+    spec: &Spec,
+    problems: SideProblems,
+    settings: Settings,
+    gate: &G,
+) -> Result<Answered, AllocError>
+    requires some_size { 1 ≤ settings.max }
+    requires most_size { settings.max ≤ 8 }
+    requires workers { settings.workers ≤ 8 }
+    requires problems { AreProblemsFor (spec_seen spec.now).expanded problems }
+    ensures { IfOk result (λ a. IsSearchedReply (spec_seen spec.now).expanded problems settings a.reply.bytes.items a.reply.status a.defeats) }
+{
     automata_are_kept(&problems);
     sizes_rise();
     let SideProblems {
@@ -78,7 +136,29 @@ fn searched<R: Threads + Wait + Sync, G: Gate + Sync>(
         environment,
     } = problems;
     let outcome = search(rt, alloc, system, environment, settings, gate)?;
-    reply_to(alloc, &spec, settings, outcome)
+    let defeats = outcome_defeats(&outcome);
+    let reply = reply_to(alloc, spec, settings, outcome)?;
+    Ok(Answered { reply, defeats })
+}
+
+// Whether an outcome has a machine of the environment.
+fn outcome_defeats(outcome: &Outcome) -> bool
+    ensures { result ≡ outcome_defeats outcome.now }
+{
+    match outcome {
+        Outcome::Unreal { .. } => true,
+        Outcome::Bounded { side, .. } => is_environment(*side),
+        Outcome::Real { .. } | Outcome::NoSize { .. } | Outcome::NoEntries { .. } => false,
+    }
+}
+
+fn is_environment(side: Side) -> bool
+    ensures { result ≡ is_environment side }
+{
+    match side {
+        Side::System => false,
+        Side::Environment => true,
+    }
 }
 
 // What the types of the automata keep.

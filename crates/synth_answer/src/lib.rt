@@ -11,5 +11,5 @@ mod documents;
 mod facts;
 mod outcomes;
 
-pub use answering::answer;
+pub use answering::{Answered, answer, answer_on};
 pub use facts::laws_hold;

@@ -1,4 +1,4 @@
-use Rattle.std.proofs.Common.{◌≡◌, ℕ, List, Option, Err, ap, refl}
+use Rattle.std.proofs.Common.{◌≡◌, ℕ, Bool, List, Option, Err, ap, refl}
 use Rattle.letter_word.specs.declared.kinds.Kind.{Kind}
 use Rattle.tlsf_tokens.specs.declared.code.SpecCode.{SpecCode}
 use Rattle.tlsf_tokens.specs.declared.code.SpecFault.{SpecFault}
@@ -9,39 +9,35 @@ use Rattle.std.proofs.lemmas.Result.{IfOk-weaker}
 use Rattle.tlsf_expand.specs.TextSeen.{spec_seen}
 use Rattle.program_replies.specs.declared.replies.Status.{Status}
 use Rattle.program_replies.specs.Statuses.{status_number}
-use Rattle.synth_answer.specs.Answer.{Answers}
+use Rattle.synth_answer.specs.Answer.{Answers, IsAnswerOn}
 use Rattle.synth_answer.specs.Answer as answer
-use Rattle.synth_answer.specs.Reply.{IsRefusal, IsSearchedReply}
-use Rattle.synth_answer.proofs.Meaning.{are_problems_for}
-use Rattle.synth_answer.proofs.Whole.{answered}
+use Rattle.synth_answer.specs.Ground.{IsGroundOf}
+use Rattle.synth_answer.specs.Reply.{IsRefusal}
+use Rattle.synth_answer.proofs.Grounds.{answer_for}
+use Rattle.synth_answer.proofs.Meaning.{are_problems_for, given_on, ground_by_its_kind, is_ground, text_ground, truth_of_text}
 use Rattle.synth_answer.proofs.answering.answer.Goals as goal
 
-pub searched-requires-clause-problems : goal.searched-requires-clause-problems
-searched-requires-clause-problems g c κs within =
+pub document-requires-clause-problems : goal.document-requires-clause-problems
+document-requires-clause-problems g c κs within =
     let e = c.in-Ok.ensures in
     are_problems_for c.args.text.now c.args.kind (spec_seen c.in-Ok.found.spec) c.in-Ok.found.problems e.meet e.problems
 
 pub returns-in-Ok : goal.returns-in-Ok
 returns-in-Ok g c =
     let e = c.in-Ok.ensures in
-    IfOk-weaker c.searched.result
-    (λ r. IsSearchedReply (spec_seen c.in-Ok.found.spec).expanded c.in-Ok.found.problems c.args.settings r.bytes.items r.status)
-    (λ r. Answers c.args.text.now c.args.kind c.args.settings r.bytes.items (status_number r.status))
-    (λ r reply. answered c.args.text.now c.args.kind c.args.settings (spec_seen c.in-Ok.found.spec) c.in-Ok.found.problems
-    (record {
-      laws = c.laws_hold.ensures;
-      some = c.requires.some_size;
-      most = c.requires.most_size;
-      entries = c.requires.entries;
-      workers = c.requires.workers;
-      are = e.problems;
-      meet = e.meet;
-      accept = e.accept;
-      says = e.means;
-      names = e.names;
-      automata = reply.automata;
-    }) r.bytes.items r.status reply)
-    c.searched.ensures
+    let text = c.args.text.now in
+    let kind = c.args.kind in
+    let spec = spec_seen c.in-Ok.found.spec in
+    let problems = c.in-Ok.found.problems in
+    let ground = text_ground spec e.problems.flat e.means in
+    IfOk-weaker c.document.result
+    (λ r. (d : Bool) × IsAnswerOn ground c.args.settings r.bytes.items (status_number r.status) d)
+    (λ r. Answers text kind c.args.settings r.bytes.items (status_number r.status))
+    (λ r document. (answer_for (IsFirstFault text kind) (IsGroundOf text) kind c.args.settings ground
+    (is_ground text kind spec problems e.means e.problems) (ground_by_its_kind text kind spec problems e.means e.problems)
+    r.bytes.items (status_number r.status) document.0 document.1).answers)
+    (c.document.ensures (truth_of_text e.means) e.problems.flat.formulas e.problems.flat.expanded.whole
+    (given_on text kind spec problems e.means e.problems e.accept))
 
 refusal_answers : (text : List ℕ) (kind : Option Kind) (settings : Settings) (fault : SpecFault) (bytes : List ℕ) (ended : Status)
     → ((code : SpecCode) (position : ℕ) → fault ≡ At code position → IsFirstFault text kind code position)

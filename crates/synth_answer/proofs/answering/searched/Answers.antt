@@ -1,6 +1,5 @@
-use Rattle.std.proofs.lemmas.Result.{IfOk-weaker}
+use Rattle.std.proofs.Common.{sym}
 use Rattle.tlsf_expand.specs.TextSeen.{spec_seen}
-use Rattle.synth_answer.specs.Reply.{IsReplyTo, IsSearchedReply}
 use Rattle.synth_answer.proofs.Fitting.{outcome_fits}
 use Rattle.synth_answer.proofs.answering.searched.Goals as goal
 
@@ -12,15 +11,12 @@ search-requires-clause-environment g c κs within = λ p is.
 pub reply_to-requires : goal.reply_to-requires
 reply_to-requires g c =
     let e = c.in_ok-outcome.ensures in
-    outcome_fits (spec_seen c.args.found.spec).expanded c.args.found.problems c.requires.problems c.args.settings c.requires.most_size c.sizes_rise.ensures c.in_ok-outcome.outcome e.real e.unreal e.bounded
+    outcome_fits (spec_seen c.args.spec.now).expanded c.args.problems c.requires.problems c.args.settings c.requires.most_size c.sizes_rise.ensures c.in_ok-outcome.outcome e.real e.unreal e.bounded
 
 pub returns : goal.returns
 returns g c =
     let e = c.in_ok-outcome.ensures in
-    IfOk-weaker c.reply_to.result
-    (λ r. IsReplyTo (spec_seen c.args.found.spec).expanded c.args.settings c.in_ok-outcome.outcome r.bytes.items r.status)
-    (λ r. IsSearchedReply (spec_seen c.args.found.spec).expanded c.args.found.problems c.args.settings r.bytes.items r.status)
-    (λ r reply. record {
+    record {
       automata = c.automata_are_kept.ensures;
       outcome = c.in_ok-outcome.outcome;
       real = e.real;
@@ -29,5 +25,6 @@ returns g c =
       no_size = e.no_size;
       no_entries = e.no_entries;
       decisive = λ cannot. e.decisive cannot;
-      reply = reply;
-    }) c.reply_to.ensures
+      reply = c.in_ok-reply.ensures;
+      told = sym c.outcome_defeats-defeats.ensures;
+    }
