@@ -1,3 +1,10 @@
+pub mod Filling
+pub mod Putting
+pub mod Joined
+pub mod Copied
+pub mod Reducing
+pub mod Texts
 pub mod Standings
 pub mod Questions
 pub mod Needed
+pub mod CutMeaning

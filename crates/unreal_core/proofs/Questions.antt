@@ -6,24 +6,24 @@ use Rattle.std.proofs.lemmas.List.Quantifiers.{position-Some}
 use Rattle.std.proofs.lemmas.List.Sums.{sum_by-cons, sum_by-set}
 use Rattle.unreal_core.specs.declared.shrink.Standing.{Standing}
 use Rattle.unreal_core.specs.declared.shrink.Standing.TheVariants.{Open, Needed, Dropped}
-use Rattle.unreal_core.specs.Shrink.{all_kept, is_open, reopened, told, told_about}
+use Rattle.unreal_core.specs.Shrink.{all_kept, asked, is_open, reopened, told, told_about}
 use Rattle.unreal_core.specs.Laws.{Answer, QuestionsAreFew, answer_before, answers_from}
 use Rattle.unreal_core.proofs.Standings.{opened}
 
-abbrev open_weight : Standing → ℕ
+abbrev pub open_weight : Standing → ℕ
 open_weight Open = 1
 open_weight Needed = 0
 open_weight Dropped = 0
 
-abbrev kept_weight : Standing → ℕ
+abbrev pub kept_weight : Standing → ℕ
 kept_weight Open = 1
 kept_weight Needed = 1
 kept_weight Dropped = 0
 
-abbrev open_count : List Standing → ℕ
+abbrev pub open_count : List Standing → ℕ
 open_count s = sum_by open_weight s
 
-abbrev kept_count : List Standing → ℕ
+abbrev pub kept_count : List Standing → ℕ
 kept_count s = sum_by kept_weight s
 
 -- lists weigh the same where their first ones and the rest do
@@ -92,6 +92,36 @@ module _ (s : List Standing) (place : ℕ) (found : position is_open s ≡ Some 
       let lower : 2 * l + kept_count t ≤ 2 * kept_count t + kept_count t * kept_count t =
       subst (λ x. 2 * l + x ≤ 2 * kept_count t + x * x) (reopened-kept t) (subst (λ x. 2 * l + kept_count (map reopened t) ≤ 2 * x + kept_count (map reopened t) * kept_count (map reopened t)) (reopened-open t) h) in
       dropped_bound l (kept_count s) (open_count s) (kept_count t) dropped-kept some lower
+
+-- an answer lowers this
+abbrev pub weight : List Standing → ℕ
+weight s = kept_count s * kept_count s + open_count s
+
+needed_lower : (k o k' o' : ℕ) → k' ≡ k → o' + 1 ≡ o → k' * k' + o' < k * k + o
+needed_lower k o k' o' same fewer = subst (λ x. x * x + o' < k * k + o) (sym same) (omega arith)
+
+dropped_lower : (k o k' : ℕ) → k' + 1 ≡ k → 1 ≤ o → k' * k' + k' < k * k + o
+dropped_lower k o k' fewer some = subst (λ x. k' * k' + k' < x * x + o) fewer (let e : (k' + 1) * (k' + 1) ≡ k' * k' + 2 * k' + 1 = omega arith in omega arith)
+
+lower_by : (s : List Standing) (defeat : Bool) (place : ℕ) → position is_open s ≡ Some place → weight (told_about (Some (place + 1)) defeat s) < weight s
+lower_by s true place found =
+    let same : place + 1 - 1 ≡ place = omega arith in
+    let t = set s place Dropped in
+    let some : 1 ≤ open_count s = let e = needed-open s place found in omega arith in
+    let lower : kept_count t * kept_count t + kept_count t < weight s = dropped_lower (kept_count s) (open_count s) (kept_count t) (dropped-kept s place found) some in
+    let after : weight (map reopened t) < weight s = subst (λ n. n * n + open_count (map reopened t) < weight s) (sym (reopened-kept t)) (subst (λ n. kept_count t * kept_count t + n < weight s) (sym (reopened-open t)) lower) in
+    subst (λ i. weight (map reopened (set s i Dropped)) < weight s) (sym same) after
+lower_by s false place found =
+    let same : place + 1 - 1 ≡ place = omega arith in
+    let after : weight (set s place Needed) < weight s = needed_lower (kept_count s) (open_count s) (kept_count (set s place Needed)) (open_count (set s place Needed)) (needed-kept s place found) (needed-open s place found) in
+    subst (λ i. weight (set s i Needed) < weight s) (sym same) after
+
+pub answers_lower : (s : List Standing) (defeat : Bool) (n : ℕ) → asked s ≡ Some n → weight (told defeat s) < weight s
+answers_lower s defeat n is = by (position is_open s) refl is
+  where
+    by : (o : Option ℕ) → position is_open s ≡ o → option_map (λ place. place + 1) o ≡ Some n → weight (told_about (option_map (λ place. place + 1) o) defeat s) < weight s
+    by None found e = absurd (let never : ⊥ = cc in never)
+    by (Some place) found e = lower_by s defeat place found
 
 -- a question with what comes later
 question_bound : (s : List Standing) (defeat : Bool) (later : List Answer) (o : Option ℕ) → position is_open s ≡ o

@@ -1,0 +1,21 @@
+-- A written text whose section of guarantees is cut to some of them (this project's own).
+use Rattle.std.specs.Prelude.{◌≡◌, Bool, List, Option, Some}
+use Rattle.letter_word.specs.declared.kinds.Kind.{Kind}
+use Rattle.letter_word.specs.Word.{Word}
+use Rattle.tlsf_expand.specs.Expansion.{expanded}
+use Rattle.tlsf_expand.specs.Meaning.{by_semantics, means}
+use Rattle.tlsf_expand.specs.Texts.{Text}
+use Rattle.tlsf_expand.specs.TextSeen.{FlatText, flat_in}
+use Rattle.unreal_core.specs.Reduced.{kept, kept_sections}
+use Rattle.unreal_core.specs.Truths.{truths_of}
+
+-- all but its guarantees is as it was
+abbrev pub cut : List Bool → Text → Text
+cut keep text = record text { sections = record text.sections { guarantee = kept keep text.sections.guarantee } }
+
+-- where a text is expanded, its flat sections with the guarantees that are kept are true on the lassos on which the text that is cut means
+-- so: the formulas of the flat section are those of the written one, in order
+abbrev pub CutTextsMean : Type 0
+CutTextsMean =
+    (text : Text) (kind : Option Kind) (flat : FlatText) (keep : List Bool) (w : Word) → flat_in (expanded text kind) ≡ Some flat
+    → by_semantics flat.expanded.strict w (truths_of w (kept_sections flat.formulas keep flat.expanded.sections)) ≡ means w (cut keep text)
