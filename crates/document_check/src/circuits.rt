@@ -64,7 +64,9 @@ fn circuit_side(verdict: Verdict) -> Side
 
 // == a circuit without fault ==
 
-fn stated_line(facts: TextFacts<'_>, side: Side, file: &CircuitFile) -> Option<u64>
+/// The line at which a circuit without fault, of this side, fails for a text: line 1 where it has another number of inputs or outputs,
+/// else the first name that is another than the text's. Names may be missing.
+pub fn stated_line(facts: TextFacts<'_>, side: Side, file: &CircuitFile) -> Option<u64>
     ensures { result ≡ line_of_stated (facts_of facts.entry) side file.now }
 {
     let circuit = &file.circuit;
@@ -115,7 +117,9 @@ fn foreign_name(name: &Option<Name>, wanted: &Name, line: u64) -> Option<u64>
 
 // == a circuit with a fault ==
 
-fn faulty_line(facts: TextFacts<'_>, bytes: &[u8]) -> Option<u64>
+/// The line at which the bytes of a system's circuit that has a fault fail for a text, apart from the fault: line 1 where the header
+/// doesn't count the text's inputs and outputs, else the first name that is another than the text's.
+pub fn faulty_line(facts: TextFacts<'_>, bytes: &[u8]) -> Option<u64>
     ensures { result ≡ line_of_faulty (facts_of facts.entry) bytes.now }
 {
     let (line, rest) = cut_at(bytes, b'\n')?;

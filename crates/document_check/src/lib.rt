@@ -11,4 +11,5 @@ pub mod laws;
 mod logs;
 
 pub use check::check_document;
+pub use circuits::{earliest, faulty_line, stated_line};
 pub use facts::TextFacts;

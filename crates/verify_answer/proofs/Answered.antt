@@ -1,0 +1,117 @@
+-- From what was found to the answer.
+use Rattle.std.proofs.Common.{◌≡◌, ℕ, None, List, refl, sym, ap, ◌∙◌}
+use Rattle.letter_word.specs.declared.kinds.Kind.{Kind}
+use Rattle.letter_word.specs.declared.kinds.Kind.TheVariants.{Mealy, Moore}
+use Rattle.letter_word.specs.declared.kinds.Side.TheVariants.{System}
+use Rattle.letter_word.specs.Word.{Word}
+use Rattle.aiger_text.specs.Circuit.{Circuit, IsCircuitOfKind, IsCircuitRun, RunsOnEveryInput, Valuation}
+use Rattle.tlsf_tokens.specs.declared.code.SpecCode.{SpecCode}
+use Rattle.tlsf_tokens.specs.declared.code.SpecFault.{SpecFault}
+use Rattle.tlsf_tokens.specs.declared.code.SpecFault.TheVariants.{At, NoMemory}
+use Rattle.tlsf_expand.specs.Meaning.{means}
+use Rattle.tlsf_expand.specs.TextSeen.{FlatText, spec_seen}
+use Rattle.flat_text.specs.Plain.{text_of}
+use Rattle.spec_problems.specs.declared.texts.TextProblems.{TextProblems}
+use Rattle.spec_problems.specs.OfText.{IsFirstFault}
+use Rattle.satisfaction.specs.Wanted.{Wanted}
+use Rattle.document_check.specs.Facts.{Facts}
+use Rattle.annot_check.specs.Laws.{AcceptsFalse, SatisfiesAs}
+use Rattle.program_replies.specs.Lines.{line_refusal}
+use Rattle.program_replies.specs.declared.replies.Status.{Status}
+use Rattle.program_replies.specs.declared.replies.Status.TheVariants as ended
+use Rattle.program_replies.specs.Statuses.{status_number}
+use Rattle.synth_answer.specs.Ground.{IsWantedBy}
+use Rattle.synth_answer.specs.Printed.{given_by}
+use Rattle.synth_answer.specs.Reply.{IsRefusal}
+use Rattle.verify_answer.specs.Answer.{Given, VerifyAnswers, bad_line, refused, verified, verified_line}
+use Rattle.verify_answer.specs.FirstBad.{IsFirstBadFor, over}
+use Rattle.verify_answer.specs.Reply.{IsShown, IsTaken}
+use Rattle.verify_answer.specs.Verified.{HasSignals, IsSatisfying, named_as}
+use Rattle.verify_answer.proofs.Signals.{has_signals}
+
+pub fault_answers : (text : List ℕ) (fault : SpecFault) (bytes : List ℕ) (status : Status)
+    → ((code : SpecCode) (position : ℕ) → fault ≡ At code position → IsFirstFault text None code position)
+    → IsRefusal fault bytes status → (circuit : List ℕ) → VerifyAnswers text circuit bytes (status_number status)
+fault_answers text (At code position) bytes status first is = λ circuit. refused code position (ap status_number is.1) (first code position refl) is.0
+fault_answers text NoMemory bytes status first is = absurd is
+
+-- a circuit's names make no difference to its runs and its kind
+run_unnamed : (x : Wanted) (c : Circuit) (w : Word) (values : ℕ → Valuation) → IsCircuitRun System (named_as x c) w values → IsCircuitRun System c w values
+run_unnamed x c w values run = record { lasso = run.lasso; resets = run.resets; steps = run.steps; gates = run.gates; reads = run.reads; writes = run.writes }
+
+kind_named : (x : Wanted) (c : Circuit) (kind : Kind) → IsCircuitOfKind kind c → IsCircuitOfKind kind (named_as x c)
+kind_named x c Mealy of_kind = tt
+kind_named x c Moore of_kind = record {
+  same_outputs = λ v w in_v in_w i k run_v run_w less_i less_k same.
+      of_kind.same_outputs v w in_v in_w i k (run_unnamed x c v in_v run_v) (run_unnamed x c w in_w run_w) less_i less_k same;
+}
+
+module _ (text : List ℕ) (t : TextProblems) (taken : IsTaken text t) where
+  abbrev spec : FlatText
+  spec = spec_seen t.spec
+
+  abbrev given : Facts
+  given = given_by spec t.problems
+
+  -- what the text wants, by its written tree
+  abbrev wanted : Wanted
+  wanted = record {
+    inputs = spec.expanded.inputs;
+    outputs = spec.expanded.outputs;
+    kind = t.problems.system.kind;
+    means = λ w. means w (text_of taken.means.tree);
+  }
+
+  kind_is : t.problems.system.kind ≡ spec.expanded.kind
+  kind_is = taken.problems.problems.problems.of_system.kind ∙ sym (ap (λ x. x.kind) taken.problems.same)
+
+  is_wanted : IsWantedBy text None wanted
+  is_wanted = record {
+    flat = taken.problems.flat;
+    is_flat = taken.problems.is_flat;
+    inputs = ap (λ x. x.inputs) taken.problems.same;
+    outputs = ap (λ x. x.outputs) taken.problems.same;
+    kind_is = taken.problems.problems.problems.of_system.kind;
+    tree = taken.means.tree;
+    read = taken.means.read;
+    meaning = λ w. refl;
+  }
+
+  -- the automaton accepts each lasso on which the text is false
+  accepts : AcceptsFalse wanted.means (over given)
+  accepts = record {
+    lassos = λ w ring no. (taken.accept.system_where.lassos w ring).1 (taken.means.meaning.same w ∙ no);
+  }
+
+  satisfying : (c : Circuit) → HasSignals given.inputs given.outputs c → SatisfiesAs t.problems.system.kind wanted.means c → RunsOnEveryInput System c → IsSatisfying wanted c
+  satisfying c signals owed runs = record {
+    signals = signals;
+    satisfies = record {
+      kind = kind_named wanted c t.problems.system.kind owed.kind;
+      inputs = refl;
+      outputs = refl;
+      means = λ w run. owed.means w run.0 (run_unnamed wanted c w run.0 run.1);
+    };
+    runs = runs;
+  }
+
+  pub shown_answers : (circuit bytes : List ℕ) (status : Status) → IsShown given circuit → bytes ≡ verified_line t.problems.system.kind → status ≡ ended.Done
+      → VerifyAnswers text circuit bytes (status_number status)
+  shown_answers circuit bytes status shown line done =
+      let by = shown.shown in
+      let g : Given text = record { spec = spec; problems = t.problems; are_problems = taken.problems } in
+      verified g (ap status_number done) (record {
+        file = shown.file;
+        list = shown.list;
+        annotates = shown.annotates;
+        valid = by.valid;
+        wanted = wanted;
+        is_wanted = is_wanted;
+        satisfying = satisfying shown.file.circuit (has_signals given shown.file by.circuit shown.annotates.commented.of_text.fits) (by.satisfies wanted.means accepts) by.runs;
+      }) line
+
+  pub bad_answers : (circuit bytes : List ℕ) (status : Status) (n : ℕ) → IsFirstBadFor given circuit n → bytes ≡ line_refusal n → status ≡ ended.LineRefused
+      → VerifyAnswers text circuit bytes (status_number status)
+  bad_answers circuit bytes status n first line done =
+      let g : Given text = record { spec = spec; problems = t.problems; are_problems = taken.problems } in
+      bad_line g n (ap status_number done) first line

@@ -1,0 +1,6 @@
+mod Signals
+mod Found
+mod Answered
+mod SameNames
+mod FirstBadLemmas
+mod Determined

@@ -1,0 +1,5 @@
+pub mod FirstBad
+pub mod Verified
+pub mod Answer
+pub mod Laws
+pub mod Reply

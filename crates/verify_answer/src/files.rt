@@ -1,0 +1,194 @@
+//! A circuit's file against a text.
+ghost use Rattle.std.specs.Prelude.{◌≡◌, ◌≢◌, ◌+◌, ◌<◌, ◌≤◌, ◌^◌, ◌⊎◌, IfErr, IfOk, IfSome, None, length};
+ghost use Rattle.std.specs.Option.{option_copied};
+ghost use Rattle.aiger_text.specs.declared.faults.CircuitFault.TheVariants.{NoMemory};
+ghost use Rattle.aiger_text.specs.CircuitFile.{IsFirstFault, States};
+ghost use Rattle.aiger_text.specs.CircuitType.{IsCircuit};
+ghost use Rattle.annot_check.specs.Causes.{CanBeChecked};
+ghost use Rattle.annot_check.specs.declared.faults.AnnotFault.TheVariants.{BadLine};
+ghost use Rattle.cert_text.specs.Reading.{fault_line as line_of_fault};
+ghost use Rattle.document_check.specs.Shown.{facts_of};
+ghost use Rattle.verify_answer.specs.FirstBad.{HasComment, cause_line as line_of_cause, comment_of as comment_in, output_line as line_of_output};
+ghost use Rattle.verify_answer.specs.Reply.{AreReady, IsFoundOf, IsToldOf, IsWithin};
+
+use aiger_text::{Circuit, CircuitFault, CircuitFile, read_circuit, runs_on_every_input};
+use annot_check::laws::valid_lists_satisfy;
+use annot_check::{AnnotFault, PairList, check_annotation, read_annotation};
+use document_check::{TextFacts, earliest, faulty_line, stated_line};
+use letter_word::Side;
+use std::alloc::{AllocError, Global};
+
+/// The first line at which a circuit's file fails for a text, or none, where its annotation is valid for its circuit.
+pub fn first_bad_line(
+    alloc: Global,
+    facts: TextFacts<'_>,
+    bytes: &[u8],
+) -> Result<Option<u64>, AllocError>
+    requires { AreReady (facts_of facts) }
+    ensures { IfOk result (IsFoundOf (facts_of facts.entry) bytes.now) }
+{
+    match read_circuit(alloc, bytes) {
+        Ok(file) => file_line(alloc, facts, bytes, &file),
+        Err(fault) => fault_line(facts, bytes, fault),
+    }
+}
+
+// The line of a circuit with this fault: its own, or an earlier one at which its counts or its names fail.
+fn fault_line(
+    facts: TextFacts<'_>,
+    bytes: &[u8],
+    fault: CircuitFault,
+) -> Result<Option<u64>, AllocError>
+    requires { (fault ≡ NoMemory) ⊎ IsFirstFault bytes.now fault }
+    ensures { IfOk result (IsFoundOf (facts_of facts.entry) bytes.now) }
+{
+    let line = own_line(fault)?;
+    Ok(earliest(Some(line), faulty_line(facts, bytes)))
+}
+
+// The line of a fault, but for want of memory.
+fn own_line(fault: CircuitFault) -> Result<u64, AllocError>
+    ensures line { IfOk result (λ line. line ≡ line_of_fault fault) }
+    ensures some { IfOk result (λ _. fault ≢ NoMemory) }
+{
+    match fault {
+        CircuitFault::NoMemory => Err(AllocError),
+        CircuitFault::BadHeader(line) => Ok(line),
+        CircuitFault::BadLine(line) => Ok(line),
+        CircuitFault::Undefined(line) => Ok(line),
+        CircuitFault::DefinedTwice(line) => Ok(line),
+        CircuitFault::Cycle(line) => Ok(line),
+        CircuitFault::Unsupported(line) => Ok(line),
+        CircuitFault::TooLarge(line) => Ok(line),
+    }
+}
+
+// The first line at which a file whose circuit has no fault fails.
+fn file_line(
+    alloc: Global,
+    facts: TextFacts<'_>,
+    bytes: &[u8],
+    file: &CircuitFile,
+) -> Result<Option<u64>, AllocError>
+    requires ready { AreReady (facts_of facts) }
+    requires states { States bytes.now file.now }
+    ensures { IfOk result (IsFoundOf (facts_of facts.entry) bytes.now) }
+{
+    if let Some(line) = stated_line(facts, Side::System, file) {
+        return Ok(Some(line));
+    }
+    let Some(comment) = comment_of(file, bytes) else {
+        return Ok(Some(file.comment_line));
+    };
+    comment_line(alloc, facts, bytes, file, comment)
+}
+
+// What stands behind the line `c`.
+fn comment_of<'a>(file: &CircuitFile, bytes: &'a [u8]) -> Option<&'a [u8]>
+    requires { States bytes.now file.now }
+    ensures { option_copied result ≡ comment_in file.now bytes.now }
+{
+    let at = file.comment_at?;
+    Some(&bytes[at..])
+}
+
+// The first line at which the annotation in a file's comment fails.
+fn comment_line(
+    alloc: Global,
+    facts: TextFacts<'_>,
+    bytes: &[u8],
+    file: &CircuitFile,
+    comment: &[u8],
+) -> Result<Option<u64>, AllocError>
+    requires ready { AreReady (facts_of facts) }
+    requires commented { HasComment (facts_of facts) bytes.now file.now comment.now }
+    ensures { IfOk result (IsFoundOf (facts_of facts.entry) bytes.now) }
+{
+    let _size = bytes.len();
+    circuit_is_kept(&file.circuit);
+    let latches = latch_count(&file.circuit);
+    match read_annotation(alloc, comment, latches, facts.system.automaton.states()) {
+        Ok(list) => pairs_line(alloc, facts, file, &list),
+        Err(fault) => {
+            let line = line_in_comment(fault)?;
+            Ok(Some(file.comment_line + line))
+        }
+    }
+}
+
+// The number of a circuit's latches.
+fn latch_count(circuit: &Circuit) -> u32
+    ensures { result ≡ length circuit.now.latches }
+{
+    let _variables = circuit.variables;
+    circuit.latches.len() as u32
+}
+
+// What the type of a circuit keeps.
+fn circuit_is_kept(circuit: &Circuit)
+    ensures { IsCircuit circuit.now }
+{
+    let _latches = &circuit.latches;
+}
+
+// The line of a comment at which its text is refused, from 1.
+fn line_in_comment(fault: AnnotFault) -> Result<u64, AllocError>
+    ensures { IfOk result (λ line. fault ≡ BadLine line) }
+{
+    match fault {
+        AnnotFault::BadLine(line) => Ok(line),
+        _ => Err(AllocError),
+    }
+}
+
+// The line at which a list of pairs fails for the circuit of its file, or none where it is valid.
+fn pairs_line(
+    alloc: Global,
+    facts: TextFacts<'_>,
+    file: &CircuitFile,
+    list: &PairList,
+) -> Result<Option<u64>, AllocError>
+    requires checked { CanBeChecked file.now.circuit (length (facts_of facts).inputs) list.now.pairs }
+    requires lines { file.now.comment_line + list.now.head_line + length list.now.pairs < 2 ^ 64 }
+    ensures { IfOk result (IsToldOf (facts_of facts.entry) file.now list.now) }
+{
+    let circuit = &file.circuit;
+    circuit_is_kept(circuit);
+    valid_lists_satisfy(circuit);
+    runs_on_every_input(circuit);
+    let kind = facts.system.kind;
+    let inputs = facts.inputs.len() as u32;
+    match check_annotation(alloc, circuit, kind, &facts.system.automaton, inputs, list) {
+        Ok(()) => Ok(None),
+        Err(fault) => {
+            let line = cause_line(file, list, fault)?;
+            Ok(Some(line))
+        }
+    }
+}
+
+// The line at which a list of pairs fails by this cause.
+fn cause_line(file: &CircuitFile, list: &PairList, fault: AnnotFault) -> Result<u64, AllocError>
+    requires within { IsWithin file.now list.now fault }
+    requires few { (length file.now.circuit.inputs < 9) × (length file.now.circuit.outputs < 9) }
+    requires lines { file.now.comment_line + list.now.head_line + length list.now.pairs < 2 ^ 64 }
+    ensures line { IfOk result (λ line. line ≡ line_of_cause file.now list.now fault) }
+    ensures some { IfOk result (λ _. fault ≢ AnnotFault.NoMemory) }
+{
+    let head = file.comment_line + list.head_line;
+    match fault {
+        AnnotFault::NoMemory => Err(AllocError),
+        AnnotFault::BadLine(_) => Err(AllocError),
+        AnnotFault::NoStart => Ok(head),
+        AnnotFault::NotMoore(output) => Ok(output_line(&file.circuit, output)),
+        AnnotFault::Broken(pair) => Ok(head + 1 + pair as u64),
+    }
+}
+
+// The line of an output of a circuit.
+fn output_line(circuit: &Circuit, output: usize) -> u64
+    requires { (length circuit.now.inputs < 9) × (output < 9) }
+    ensures { result ≡ line_of_output circuit.now output }
+{
+    2 + circuit.inputs.len() as u64 + circuit.latches.len() as u64 + output as u64
+}
