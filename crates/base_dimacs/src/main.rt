@@ -1,0 +1,35 @@
+//! The base clauses of one side and size of a text in DIMACS form, to be given to other solvers: standard input holds the text, and the words
+//! are `system N` or `environment N`.
+#![tactic(auto)]
+
+mod dimacs;
+mod problems;
+
+use crate::dimacs::push_formula;
+use crate::problems::base_of;
+use anyhow::{bail, ensure};
+use spec_problems::text_problems;
+use std::env;
+use std::io::{Read, Write};
+
+fn main(rt: HostRuntime) -> anyhow::Result<()> {
+    let alloc = rt.alloc();
+    let words: Vec<String> = env::args(&rt)?.collect(alloc)?;
+    let [_program, side, size] = words.as_slice() else {
+        bail!("wanted: system N or environment N");
+    };
+    let size: u32 = size.parse()?;
+    ensure!(size > 0 && size <= 8, "wanted: a size of 1 to 8");
+    let mut text = Vec::new(alloc);
+    rt.stdin().read_to_end(&mut text)?;
+    let Ok(text) = text_problems(alloc, &text, None, 2) else {
+        bail!("the text is refused");
+    };
+    let Some(base) = base_of(alloc, &text.problems, side.as_str(), size)? else {
+        bail!("there is no such side");
+    };
+    let mut out = Vec::new(alloc);
+    push_formula(&base, &mut out)?;
+    rt.stdout().write_all(&out)?;
+    Ok(())
+}
