@@ -13,9 +13,9 @@ use Rattle.tlsf_tree.specs.declared.expr.Link.{fold-roll-Link, the_lemmas as lin
 use Rattle.tlsf_tree.specs.declared.expr.Range as range
 use Rattle.tlsf_tree.specs.declared.expr.Range.{Range-F, roll-Range, map-Range}
 use Rattle.tlsf_grammar.specs.Tree as plain
-use Rattle.written_names.specs.Seen.{form_seen, expr_seen, range_seen, trees_seen, link_list_seen, range_list_seen, word_seen}
-use Rattle.written_names.proofs.SeenLemmas.{call_seen, set_seen}
-use Rattle.written_names.proofs.FormLemmas.{chain_form, big_form}
+use Rattle.tlsf_values.specs.Seen.{form_seen, expr_seen, range_seen, trees_seen, link_list_seen, range_list_seen, word_seen}
+use Rattle.tlsf_values.proofs.SeenLemmas.{call_seen, set_seen}
+use Rattle.tlsf_values.proofs.FormLemmas.{chain_form, big_form}
 use Rattle.tlsf_tree.specs.declared.expr.Word.{Word}
 use Rattle.tlsf_reader.specs.View.{tree_of, link_of, range_of, form_step, range_step, expr_step, link_step, trees_of, links_of, ranges_of}
 

@@ -14,7 +14,7 @@ use Rattle.tlsf_tree.specs.declared.expr.Expr.{Expr}
 use Rattle.tlsf_grammar.specs.Tree as plain
 use Rattle.tlsf_reader.specs.View.{tree_of}
 use Rattle.tlsf_reader.specs.TextView.{guard_view, alternative_view, body_view, definition_view, shape_view, declaration_view, formulas_view, spec_view, words_view}
-use Rattle.written_names.specs.Seen.{expr_seen, alternative_seen, body_seen, definition_seen, word_seen}
+use Rattle.tlsf_values.specs.Seen.{expr_seen, alternative_seen, body_seen, definition_seen, word_seen}
 use Rattle.tlsf_expand.specs.Texts.{sections_from}
 use Rattle.tlsf_expand.specs.TextSeen.{shape_seen, declaration_seen, text_seen}
 use Rattle.flat_text.specs.Plain.{text_of}

@@ -11,11 +11,7 @@ use tlsf_expand::Spec;
 const INFO: &[u8] = b"INFO { TITLE: \"t\" DESCRIPTION: \"d\" SEMANTICS: Mealy TARGET: Mealy }\n";
 
 /// A text of these definitions and these parts of MAIN, each on a line.
-pub(crate) fn text_of(
-    alloc: Global,
-    definitions: &[u8],
-    parts: &[u8],
-) -> Result<Vec<u8>, AllocError> {
+fn text_of(alloc: Global, definitions: &[u8], parts: &[u8]) -> Result<Vec<u8>, AllocError> {
     let mut text = Vec::new(alloc);
     text.extend_from_slice(INFO)?;
     if !definitions.is_empty() {

@@ -14,7 +14,7 @@ use Rattle.tlsf_values.specs.declared.work.Work.{Work}
 use Rattle.tlsf_values.specs.Outcomes.{Outcome, gives, fails, go_on, choose}
 use Rattle.tlsf_values.specs.Patterns.{all_values}
 use Rattle.tlsf_values.specs.Results.{IsFault, IsOutcomeAs}
-use Rattle.written_names.specs.Seen.{pattern_seen, member_seen}
+use Rattle.tlsf_values.specs.Seen.{pattern_seen, member_seen}
 use Rattle.tlsf_expand.specs.Signals.{first_of, other_width, width_of, bit_name, bit_names, bits_in, most_signals, Extent, alone, wide, of_type, extent_value, Declared, declared, declaration_value, declarations_value}
 use Rattle.tlsf_expand.specs.Texts.{Text}
 use Rattle.tlsf_expand.specs.TextSeen.{declaration_seen}

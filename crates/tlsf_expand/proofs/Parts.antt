@@ -20,7 +20,7 @@ use Rattle.tlsf_values.specs.declared.formula.Connective.{Connective}
 use Rattle.tlsf_values.specs.declared.formula.Connective.TheVariants as connective
 use Rattle.tlsf_values.specs.Outcomes.{Outcome, gives, Checked, fine, faulty, checked}
 use Rattle.tlsf_values.specs.Names.{Names, BusRange, bus_at}
-use Rattle.placed_sets.specs.Sets.{set_of}
+use Rattle.tlsf_values.specs.Sets.{set_of}
 use Rattle.tlsf_values.specs.Steps.{step_count}
 use Rattle.tlsf_values.specs.Sorts.{number_in, truth_in, set_in, bus_in, formula_in}
 use Rattle.tlsf_values.specs.Counts.{count_in, count_value, joined_over}

@@ -35,7 +35,7 @@ use Rattle.tlsf_values.specs.declared.numbers.Comparison.{Comparison}
 use Rattle.tlsf_values.specs.declared.numbers.Places.{Places}
 use Rattle.tlsf_values.specs.declared.set_operation.SetOperation.{SetOperation}
 use Rattle.tlsf_values.specs.declared.set_operation.SetOperation.TheVariants as set_is
-use Rattle.placed_sets.specs.Sets.{is_in, set_of}
+use Rattle.tlsf_values.specs.Sets.{is_in, set_of}
 use Rattle.tlsf_values.specs.Numbers.{computed, holds_of}
 use Rattle.tlsf_values.specs.SetOperations.{combined}
 use Rattle.tlsf_values.specs.Outcomes.{Outcome, gives, fails, go_on, Checked, fine, faulty, checked, choose, counted, may_stand, made_from, made}

@@ -11,7 +11,7 @@ use Rattle.ltl_formula.specs.Truth.{some_below, all_below, until_at, release_at}
 use Rattle.tlsf_tree.specs.declared.expr.Op.{Op}
 use Rattle.tlsf_tree.specs.declared.expr.Op.TheVariants as op
 use Rattle.tlsf_grammar.specs.Tree.{Pattern}
-use Rattle.placed_sets.specs.Sets.{is_in, union, intersection, difference, set_of}
+use Rattle.tlsf_values.specs.Sets.{is_in, union, intersection, difference, set_of}
 use Rattle.tlsf_values.specs.Steps.{stepped}
 use Rattle.tlsf_values.specs.Names.{Names, bus_at, patterns_at}
 

@@ -7,7 +7,7 @@ use Rattle.tlsf_tree.specs.declared.spec.Declaration.{Declaration}
 use Rattle.tlsf_tree.specs.declared.spec.SpecTree.{SpecTree}
 use Rattle.tlsf_grammar.specs.Tree as plain
 use Rattle.tlsf_values.specs.Outcomes.{Outcome, gives, fails}
-use Rattle.written_names.specs.Seen.{word_seen, expr_seen, definition_seen}
+use Rattle.tlsf_values.specs.Seen.{word_seen, expr_seen, definition_seen}
 use Rattle.tlsf_expand.specs.declared.spec.Spec.{Spec}
 use Rattle.tlsf_expand.specs.Texts.{Text, sections_from}
 use Rattle.tlsf_expand.specs.Expansion.{Expanded}

@@ -8,7 +8,7 @@ use Rattle.tlsf_tree.specs.declared.expr.Op.{Op}
 use Rattle.tlsf_grammar.specs.Tree.{Tree, Trees, Links, Ranges, Named, number, truth, named, call, index, size_of, paren, set, steps, chain, pair, prefix, count, window, big, no_trees, tree, no_links, link, no_ranges, members, between, Body, plain, guarded, Alternative}
 use Rattle.tlsf_values.specs.declared.work.TheConstants.{MOST_DEPTH}
 use Rattle.tlsf_values.specs.declared.value.Value.TheVariants.{Bus, EnumValue}
-use Rattle.placed_sets.specs.Sets.{set_of}
+use Rattle.tlsf_values.specs.Sets.{set_of}
 use Rattle.tlsf_values.specs.Names.{Names, Meaning, known, a_signal, a_definition, same_name}
 use Rattle.tlsf_values.specs.Values.{low_of, high_of, run_of}
 use Rattle.tlsf_expand.specs.Senses.{Sense, a_number, a_set, a_bus, a_member, a_truth, a_formula, nothing, true_in, numbers_in, steps_set, bit, width, operated, prefixed, steps_on, windowed, for_members}

@@ -8,7 +8,7 @@ ghost use Rattle.tlsf_expand.specs.TextSeen.{text_seen};
 ghost use Rattle.tlsf_values.specs.NamesSeen.{names_seen};
 ghost use Rattle.tlsf_values.specs.Outcomes.{gives, go_on};
 ghost use Rattle.tlsf_values.specs.Results.{IsOutcomeAs};
-ghost use Rattle.written_names.specs.Seen.{expr_seen};
+ghost use Rattle.tlsf_values.specs.Seen.{expr_seen};
 
 use crate::signals::{Signals, TypedSignal};
 use ltl_formula::FormulaId;

@@ -6,7 +6,7 @@ ghost use Rattle.tlsf_expand.specs.SignalsSeen.{declared_seen, extent_seen, sign
 ghost use Rattle.tlsf_expand.specs.TextSeen.{declaration_seen, shape_seen, text_seen};
 ghost use Rattle.tlsf_values.specs.NamesSeen.{names_seen};
 ghost use Rattle.tlsf_values.specs.Results.{IsCheckedAs, IsOutcomeAs};
-ghost use Rattle.written_names.specs.Seen.{word_seen};
+ghost use Rattle.tlsf_values.specs.Seen.{word_seen};
 
 use crate::enumerations::{members_named, uneven_value, width};
 use std::alloc::{AllocError, Global};

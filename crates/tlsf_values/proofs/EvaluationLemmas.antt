@@ -16,7 +16,7 @@ use Rattle.tlsf_values.specs.declared.value.Value.{Value}
 use Rattle.tlsf_values.specs.Names.{Names, Binding, Meaning, a_definition, bus_at, look_up}
 use Rattle.tlsf_values.specs.Operators.{operated}
 use Rattle.tlsf_values.specs.Outcomes.{fails, fine, gives, go_on, checked}
-use Rattle.written_names.specs.Seen.{alternative_seen, expr_seen, word_seen, trees_seen, link_list_seen, range_list_seen}
+use Rattle.tlsf_values.specs.Seen.{alternative_seen, expr_seen, word_seen, trees_seen, link_list_seen, range_list_seen}
 use Rattle.tlsf_values.specs.Values.{Evaluator, arguments_at, chosen_value, guard_value, big_value, bind, bit_value, index_value, word_value, call_value, chain_value, high_of, low_of, run_of, tree_count}
 use Rattle.tlsf_values.specs.Counts.{joined_over}
 use Rattle.tlsf_values.specs.declared.value.Value.TheVariants.{Number}

@@ -6,7 +6,7 @@ use Rattle.tlsf_grammar.specs.Tree.{Body}
 use Rattle.tlsf_values.specs.declared.work.Work.{Work}
 use Rattle.tlsf_values.specs.Names.{Names, Binding}
 use Rattle.tlsf_values.specs.Outcomes.{fails, go_on, counted}
-use Rattle.written_names.specs.Seen.{expr_seen}
+use Rattle.tlsf_values.specs.Seen.{expr_seen}
 use Rattle.tlsf_values.specs.Values.{evaluator, form_value, body_value}
 use Rattle.tlsf_values.proofs.SeenLemmas.{start_seen}
 

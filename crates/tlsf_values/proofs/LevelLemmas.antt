@@ -5,22 +5,17 @@ use Rattle.std.proofs.lemmas.Int.{ints}
 use Rattle.std.specs.Prelude.{unsigned_abs}
 use Rattle.tlsf_grammar.specs.Tree.{Named}
 use Rattle.tlsf_tree.specs.declared.expr.Range.{Range}
-use Rattle.written_names.specs.Seen.{expr_seen, range_list_seen, word_seen}
-use Rattle.placed_sets.specs.Placed.{IsPrefix}
-use Rattle.tlsf_values.proofs.OverLemmas.{all_prefix}
+use Rattle.tlsf_values.specs.Seen.{expr_seen, range_list_seen, word_seen}
 use Rattle.tlsf_values.specs.declared.formula.Formula.{Formula}
 use Rattle.tlsf_values.specs.declared.levels.Big.{Big}
 use Rattle.tlsf_values.specs.declared.value.Value.TheVariants.{Number}
 use Rattle.tlsf_values.specs.declared.work.Work.{Work}
 use Rattle.tlsf_values.specs.Counts.{joined_with}
-use Rattle.tlsf_values.specs.HeldSeen.{AllNumbered, AllOver, HeldBinding, bound_seen}
-use Rattle.tlsf_values.specs.LevelsSeen.{AreFit, IsLess, IsOnward, after, level_value, pending, turns}
+use Rattle.tlsf_values.specs.LevelsSeen.{IsLess, IsOnward, after, level_value, pending, turns}
 use Rattle.tlsf_values.specs.MembersSeen.{members_seen}
 use Rattle.tlsf_values.specs.declared.levels.Level.{Level}
 use Rattle.tlsf_tree.specs.declared.expr.Word.{Word}
 use Rattle.tlsf_values.specs.Steps.{numbers_from}
-use Rattle.written_names.specs.Known.{KnowsRanges}
-use Rattle.written_names.specs.Written.{NamesWritten, number_of}
 use Rattle.tlsf_values.specs.Names.{Binding}
 use Rattle.tlsf_values.specs.Outcomes.{Outcome, fails, gives, go_on}
 use Rattle.tlsf_values.specs.Values.{Evaluator, big_value, bind, natural, run_of}
@@ -58,13 +53,9 @@ level_more n p = omega arith
 
 -- ---- a level whose member has a formula
 
-drop_seen : (bs : List HeldBinding) → drop 1 (bound_seen bs) ≡ bound_seen (drop 1 bs)
-drop_seen [] = refl
-drop_seen (b ∷ bs) = refl
-
 -- the level with what was joined to it
 abbrev pub with_joined : Level → Option Formula → Level
-with_joined l joined = record { word = l.word; number = l.number; members = l.members; inner = l.inner; so_far = joined }
+with_joined l joined = record { word = l.word; members = l.members; inner = l.inner; so_far = joined }
 
 some_given : (o : Outcome Formula) (y : Option Formula) (w : Work) → go_on o (λ x w. gives (Some x) w) ≡ gives y w → (x : Formula) × (y ≡ Some x) × (o ≡ gives x w)
 some_given (gives a v) y w is =
@@ -73,43 +64,28 @@ some_given (gives a v) y w is =
     (a, sym same, ap (λ u. gives a u) at)
 some_given (fails code place) y w is = absurd cc
 
-pub after_step : (r : Evaluator) (b : Big) (bs more : List HeldBinding) (all ls : List Level) (l next : Level) (x : Formula) (w w1 : Work) → all ≡ l ∷ ls → more ≡ drop 1 bs →
+pub after_step : (r : Evaluator) (b : Big) (bs more : List Binding) (all ls : List Level) (l next : Level) (x : Formula) (w w1 : Work) → all ≡ l ∷ ls → more ≡ drop 1 bs →
     go_on (joined_with b.place b.connective l.so_far x w) (λ x w. gives (Some x) w) ≡ gives next.so_far w1 → next ≡ with_joined l next.so_far →
-    after r b (bound_seen bs) all x w ≡
-    go_on (level_value r b (bound_seen more) (word_seen next.word.now) next.inner.now (members_seen next.members) next.so_far w1) (λ x w. after r b (bound_seen more) ls x w)
+    after r b bs all x w ≡
+    go_on (level_value r b more (word_seen next.word.now) next.inner.now (members_seen next.members) next.so_far w1) (λ x w. after r b more ls x w)
 after_step r b bs more all ls l next x w w1 is popped joined same =
     let given = some_given (joined_with b.place b.connective l.so_far x w) next.so_far w1 joined in
     let go : List Binding → Formula → Work → Outcome Formula = λ bound y w. go_on (level_value r b bound (word_seen l.word.now) l.inner.now (members_seen l.members) (Some y) w) (λ x w. after r b bound ls x w) in
-    let to : Level → Outcome Formula = λ k. go_on (level_value r b (bound_seen more) (word_seen k.word.now) k.inner.now (members_seen k.members) next.so_far w1) (λ x w. after r b (bound_seen more) ls x w) in
-    let here : after r b (bound_seen bs) all x w ≡ go_on (joined_with b.place b.connective l.so_far x w) (go (drop 1 (bound_seen bs))) = ap (λ ks. after r b (bound_seen bs) ks x w) is in
+    let to : Level → Outcome Formula = λ k. go_on (level_value r b more (word_seen k.word.now) k.inner.now (members_seen k.members) next.so_far w1) (λ x w. after r b more ls x w) in
+    let here : after r b bs all x w ≡ go_on (joined_with b.place b.connective l.so_far x w) (go (drop 1 bs)) = ap (λ ks. after r b bs ks x w) is in
     here
-    ∙ ap (λ o. go_on o (go (drop 1 (bound_seen bs)))) given.2
-    ∙ ap (λ bound. go bound given.0 w1) (drop_seen bs ∙ ap bound_seen (sym popped))
-    ∙ ap (λ y. go_on (level_value r b (bound_seen more) (word_seen l.word.now) l.inner.now (members_seen l.members) y w1) (λ x w. after r b (bound_seen more) ls x w)) (sym given.1)
+    ∙ ap (λ o. go_on o (go (drop 1 bs))) given.2
+    ∙ ap (λ bound. go bound given.0 w1) (sym popped)
+    ∙ ap (λ y. go_on (level_value r b more (word_seen l.word.now) l.inner.now (members_seen l.members) y w1) (λ x w. after r b more ls x w)) (sym given.1)
     ∙ ap to (sym same)
 
-drop_none : (n : ℕ) → drop {A = HeldBinding} n [] ≡ []
+drop_none : (n : ℕ) → drop {A = Binding} n [] ≡ []
 drop_none zero = refl
 drop_none (suc n) = refl
 
-pub outer_step : (bs more : List HeldBinding) (all ls : List Level) (l : Level) → all ≡ l ∷ ls → more ≡ drop 1 bs → drop (length ls) more ≡ drop (length all) bs
+pub outer_step : (bs more : List Binding) (all ls : List Level) (l : Level) → all ≡ l ∷ ls → more ≡ drop 1 bs → drop (length ls) more ≡ drop (length all) bs
 outer_step [] more all ls l is popped = rw (is, popped) (drop_none (length ls) ∙ sym (drop_none (suc (length ls))))
 outer_step (b ∷ bs) more all ls l is popped = rw (is, popped) refl
-
-numbered_rest : (table : NamesWritten) (bs : List HeldBinding) → AllNumbered table bs → AllNumbered table (drop 1 bs)
-numbered_rest table [] all = all
-numbered_rest table (b ∷ bs) all = all.1
-
-over_rest : (us : List ℤ) (bs : List HeldBinding) → AllOver us bs → AllOver us (drop 1 bs)
-over_rest us [] all = all
-over_rest us (b ∷ bs) all = all.1
-
-pub fit_step : (table : NamesWritten) (us : List ℤ) (bs more : List HeldBinding) (all ls : List Level) (l next : Level) → all ≡ l ∷ ls → more ≡ drop 1 bs → next ≡ with_joined l next.so_far →
-    AreFit table us bs all → AreFit table us more (next ∷ ls)
-fit_step table us bs more all ls l next is popped same fit =
-    let here = subst (AreFit table us bs) is fit in
-    subst (λ bs. AreFit table us bs (next ∷ ls)) (sym popped) (subst (λ k. AreFit table us (drop 1 bs) (k ∷ ls)) (sym same)
-    (record { numbered = numbered_rest table bs here.numbered; over = over_rest us bs here.over; known = here.known }))
 
 pub pending_step : (all ls : List Level) (l next : Level) → all ≡ l ∷ ls → next ≡ with_joined l next.so_far → pending (next ∷ ls) ≡ pending all
 pending_step all ls l next is same = ap (λ k. pending (k ∷ ls)) same ∙ ap pending (sym is)
@@ -134,25 +110,19 @@ run_few low high l h =
     let few = near low high l h in
     omega (arith, long, least, few)
 
--- the names of the range's word and of the ranges inside it are known
-pub open_fit : (table : NamesWritten) (us : List ℤ) (bs more : List HeldBinding) (ls : List Level) (l : Level) → more ≡ bs → number_of table l.word.now.name ≡ Some l.number → KnowsRanges table (range_list_seen l.inner.now) →
-    AreFit table us bs ls → AreFit table us more (l ∷ ls)
-open_fit table us bs more ls l same number inner fit =
-    subst (λ bs. AreFit table us bs (l ∷ ls)) (sym same) (record { numbered = fit.numbered; over = fit.over; known = (number, inner, fit.known) })
-
 -- what comes of a range that is opened is what comes of its level
-pub opened : (r : Evaluator) (b : Big) (bs more new : List HeldBinding) (ls after_it : List Level) (l : Level) (word : Word) (inner all : List Range) (zs : List ℤ) (o : Outcome Formula) (next : Option Formula) (w : Work) →
-    o ≡ level_value r b (bound_seen bs) (word_seen word) inner zs None w → more ≡ bs → l.word.now ≡ word → l.inner.now ≡ inner → members_seen l.members ≡ zs → l.so_far ≡ None →
-    IsOnward r b (go_on (level_value r b (bound_seen more) (word_seen l.word.now) l.inner.now (members_seen l.members) l.so_far w) (λ x w. after r b (bound_seen more) ls x w)) all next new after_it w →
-    IsOnward r b (go_on o (λ x w. after r b (bound_seen bs) ls x w)) all next new after_it w
+pub opened : (r : Evaluator) (b : Big) (bs more new : List Binding) (ls after_it : List Level) (l : Level) (word : Word) (inner all : List Range) (zs : List ℤ) (o : Outcome Formula) (next : Option Formula) (w : Work) →
+    o ≡ level_value r b bs (word_seen word) inner zs None w → more ≡ bs → l.word.now ≡ word → l.inner.now ≡ inner → members_seen l.members ≡ zs → l.so_far ≡ None →
+    IsOnward r b (go_on (level_value r b more (word_seen l.word.now) l.inner.now (members_seen l.members) l.so_far w) (λ x w. after r b more ls x w)) all next new after_it w →
+    IsOnward r b (go_on o (λ x w. after r b bs ls x w)) all next new after_it w
 opened r b bs more new ls after_it l word inner all zs o next w is same of_word of_inner of_members nothing going =
-    let whole : go_on (level_value r b (bound_seen more) (word_seen l.word.now) l.inner.now (members_seen l.members) l.so_far w) (λ x w. after r b (bound_seen more) ls x w) ≡ go_on o (λ x w. after r b (bound_seen bs) ls x w) =
-    ap (λ bound. go_on (level_value r b (bound_seen bound) (word_seen l.word.now) l.inner.now (members_seen l.members) l.so_far w) (λ x w. after r b (bound_seen bound) ls x w)) same
-    ∙ ap (λ o. go_on o (λ x w. after r b (bound_seen bs) ls x w))
-    (ap (λ x. level_value r b (bound_seen bs) (word_seen x) l.inner.now (members_seen l.members) l.so_far w) of_word
-    ∙ ap (λ xs. level_value r b (bound_seen bs) (word_seen word) xs (members_seen l.members) l.so_far w) of_inner
-    ∙ ap (λ xs. level_value r b (bound_seen bs) (word_seen word) inner xs l.so_far w) of_members
-    ∙ ap (λ x. level_value r b (bound_seen bs) (word_seen word) inner zs x w) nothing
+    let whole : go_on (level_value r b more (word_seen l.word.now) l.inner.now (members_seen l.members) l.so_far w) (λ x w. after r b more ls x w) ≡ go_on o (λ x w. after r b bs ls x w) =
+    ap (λ bound. go_on (level_value r b bound (word_seen l.word.now) l.inner.now (members_seen l.members) l.so_far w) (λ x w. after r b bound ls x w)) same
+    ∙ ap (λ o. go_on o (λ x w. after r b bs ls x w))
+    (ap (λ x. level_value r b bs (word_seen x) l.inner.now (members_seen l.members) l.so_far w) of_word
+    ∙ ap (λ xs. level_value r b bs (word_seen word) xs (members_seen l.members) l.so_far w) of_inner
+    ∙ ap (λ xs. level_value r b bs (word_seen word) inner xs l.so_far w) of_members
+    ∙ ap (λ x. level_value r b bs (word_seen word) inner zs x w) nothing
     ∙ sym is) in
     subst (λ o. IsOnward r b o all next new after_it w) whole going
 
@@ -171,7 +141,3 @@ level_within l ls (x ∷ rs) few inner some =
     let is : pending (l ∷ ls) ≡ length (members_seen l.members) * suc (turns (length rs)) + pending ls = ap (λ xs. length (members_seen l.members) * suc (turns (length xs)) + pending ls) inner in
     let most = few_pending (length (members_seen l.members)) (turns (length rs)) (pending ls) few in
     omega (arith, is, most)
-
--- more numbers have a place
-pub fit_grown : {table : NamesWritten} {us vs : List ℤ} (bs : List HeldBinding) (ls : List Level) → IsPrefix us vs → AreFit table us bs ls → AreFit table vs bs ls
-fit_grown bs ls grown fit = record { numbered = fit.numbered; over = all_prefix bs grown fit.over; known = fit.known }

@@ -7,11 +7,12 @@ pub mod SeenLemmas
 pub mod StepLemmas
 pub mod EvaluatorLemmas
 pub mod EvaluationLemmas
-pub mod EnumeratedLemmas
-pub mod KnownLemmas
 pub mod PartLemmas
 pub mod CopyLemmas
 pub mod CheckedLemmas
-pub mod OverLemmas
-pub mod RepeatLemmas
+pub mod GrowLemmas
+pub mod FormLemmas
+pub mod MeaningLemmas
+pub mod RisingLemmas
+pub mod SetLemmas
 pub mod LevelLemmas

@@ -7,7 +7,7 @@ use Rattle.tlsf_values.specs.declared.patterns.BusRange.{BusRange as CodeRange}
 use Rattle.tlsf_values.specs.declared.value.Value.TheVariants.{Bus, EnumValue}
 use Rattle.tlsf_values.specs.EnumeratedSeen.{EnumeratedView, names_over, range_seen}
 use Rattle.tlsf_values.specs.Names.{Meaning, known, also, with_meaning, with_bus, with_member}
-use Rattle.written_names.specs.Seen.{member_seen}
+use Rattle.tlsf_values.specs.Seen.{member_seen}
 
 pub bus_added : (m : List ℕ → Meaning) (old new : EnumeratedView) (bus : CodeRange) (name : List ℕ) (place : ℕ) → place ≡ length old.buses → new.buses ≡ old.buses ++ bus ∷ [] → new.members ≡ old.members
     → with_meaning (names_over m new) name (known (Bus place)) ≡ with_bus (names_over m old) name bus.first bus.width

@@ -15,7 +15,7 @@ use Rattle.tlsf_values.specs.PartsSeen.{as_numbers, number_if, numbers_among}
 use Rattle.tlsf_values.specs.Results.{IsFault}
 use Rattle.tlsf_values.specs.Values.{Evaluator, numbers_in, values_at}
 use Rattle.tlsf_values.proofs.SeenLemmas.{start_seen}
-use Rattle.written_names.specs.Seen.{expr_seen, trees_seen}
+use Rattle.tlsf_values.specs.Seen.{expr_seen, trees_seen}
 
 -- the numbers alone tell what the values do
 pub among : (so_far : List ℤ) (ts : Trees) (vs : List Value) → numbers_in so_far ts vs ≡ numbers_among so_far ts (map number_if vs)

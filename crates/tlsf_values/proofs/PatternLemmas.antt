@@ -11,7 +11,7 @@ use Rattle.tlsf_values.specs.declared.work.Work.{Work}
 use Rattle.tlsf_values.specs.Outcomes.{Outcome, gives, fails, go_on}
 use Rattle.tlsf_values.specs.Patterns.{joined_to, or_truth, bits_made, values_joined, all_values, values_made}
 use Rattle.tlsf_values.specs.Results.{IsFault}
-use Rattle.written_names.specs.Seen.{pattern_seen, member_seen}
+use Rattle.tlsf_values.specs.Seen.{pattern_seen, member_seen}
 
 pub go_on_twice : {A B C : Type 0} (o : Outcome A) (f : A → Work → Outcome B) (g : B → Work → Outcome C) → go_on (go_on o f) g ≡ go_on o (λ a w. go_on (f a w) g)
 go_on_twice (gives a w) f g = refl

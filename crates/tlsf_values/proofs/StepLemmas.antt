@@ -9,7 +9,7 @@ use Rattle.std.proofs.lemmas.Int.{ints}
 use Rattle.tlsf_values.specs.Outcomes.{counted, gives}
 use Rattle.tlsf_values.specs.Values.{steps_value}
 use Rattle.tlsf_values.specs.Steps.{numbers_from, passes, steps_to, left_from, rest_from, those_from, step_count, stepped}
-use Rattle.placed_sets.specs.Sets.{set_of}
+use Rattle.tlsf_values.specs.Sets.{set_of}
 use Rattle.tlsf_values.specs.declared.work.Work.{Work}
 use Rattle.tlsf_values.specs.declared.value.Value.{Value}
 use Rattle.tlsf_values.specs.declared.value.Value.TheVariants.{Set}

@@ -6,7 +6,7 @@ use Rattle.tlsf_values.specs.declared.value.Value.{Value}
 use Rattle.tlsf_values.specs.declared.text_value.Env.{Env}
 use Rattle.tlsf_values.specs.declared.work.Work.{Work}
 use Rattle.tlsf_values.specs.Names.{Names, Binding, with_signal, with_bus, with_definitions, without_names}
-use Rattle.written_names.specs.Seen.{definition_seen}
+use Rattle.tlsf_values.specs.Seen.{definition_seen}
 
 abbrev pub signals_named : Names → List (List ℕ × ℕ) → Names
 signals_named names [] = names

@@ -2,16 +2,13 @@
 use Rattle.std.specs.Prelude.{ℕ, zero, suc, ◌+◌, ◌*◌, ◌^◌, ◌≡◌, ◌<◌, ◌≤◌, List, [], ◌∷◌, length, drop, Option, None, Some, ℤ}
 use Rattle.tlsf_tree.specs.declared.expr.Range.{Range}
 use Rattle.tlsf_grammar.specs.Tree.{Named}
-use Rattle.written_names.specs.Known.{KnowsRanges}
-use Rattle.written_names.specs.Seen.{expr_seen, range_list_seen, word_seen}
-use Rattle.written_names.specs.Written.{NamesWritten, number_of}
+use Rattle.tlsf_values.specs.Seen.{expr_seen, range_list_seen, word_seen}
 use Rattle.tlsf_values.specs.declared.formula.Formula.{Formula}
 use Rattle.tlsf_values.specs.declared.levels.Big.{Big}
 use Rattle.tlsf_values.specs.declared.levels.Level.{Level}
 use Rattle.tlsf_values.specs.declared.value.Value.TheVariants.{Number}
 use Rattle.tlsf_values.specs.declared.work.Work.{Work}
 use Rattle.tlsf_values.specs.Counts.{joined_over, joined_with}
-use Rattle.tlsf_values.specs.HeldSeen.{AllNumbered, AllOver, HeldBinding, bound_seen}
 use Rattle.tlsf_values.specs.MembersSeen.{members_seen}
 use Rattle.tlsf_values.specs.Names.{Binding}
 use Rattle.tlsf_values.specs.Outcomes.{Outcome, gives, go_on}
@@ -38,9 +35,9 @@ abbrev pub onward : Evaluator → Big → List Binding → List Range → List L
 onward r b bound ranges ls w = go_on (big_value r b.place b.connective bound (range_list_seen ranges) (expr_seen b.part.now) w) (λ x w. after r b bound ls x w)
 
 -- this is what comes of it: a member is bound, and the inner ranges are next; or the innermost one's member has this formula
-abbrev pub IsOnward : Evaluator → Big → Outcome Formula → List Range → Option Formula → List HeldBinding → List Level → Work → Type 0
-IsOnward r b whole ranges None bound ls w = whole ≡ onward r b (bound_seen bound) (inner_of ranges ls) ls w
-IsOnward r b whole ranges (Some x) bound ls w = whole ≡ after r b (bound_seen bound) ls x w
+abbrev pub IsOnward : Evaluator → Big → Outcome Formula → List Range → Option Formula → List Binding → List Level → Work → Type 0
+IsOnward r b whole ranges None bound ls w = whole ≡ onward r b bound (inner_of ranges ls) ls w
+IsOnward r b whole ranges (Some x) bound ls w = whole ≡ after r b bound ls x w
 
 -- ---- how much there is left to do
 
@@ -60,16 +57,3 @@ turns_left ranges ls = turns (length (inner_of ranges ls)) + pending ls
 abbrev pub IsLess : Option Formula → List Range → List Level → ℕ → Type 0
 IsLess None ranges ls most = turns_left ranges ls < most
 IsLess (Some x) ranges ls most = pending ls ≤ most
-
--- ---- what stays true of the levels
-
--- a name is known by its number, and so are those of the inner ranges
-abbrev pub AreLevelsKnown : NamesWritten → List Level → Type 0
-AreLevelsKnown table [] = Unit {0}
-AreLevelsKnown table (l ∷ ls) = (number_of table l.word.now.name ≡ Some l.number) × KnowsRanges table (range_list_seen l.inner.now) × AreLevelsKnown table ls
-
--- the bound names and the levels are known, and sets stand over the numbers that have a place
-pub record AreFit (table : NamesWritten) (us : List ℤ) (bound : List HeldBinding) (ls : List Level) : Type 0 where
-  pub numbered : AllNumbered table bound
-  pub over : AllOver us bound
-  pub known : AreLevelsKnown table ls

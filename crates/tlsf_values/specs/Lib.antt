@@ -18,7 +18,7 @@ pub mod EnumeratedSeen
 pub mod NamesSeen
 pub mod MeaningsSeen
 pub mod ScopeSeen
-pub mod HeldSeen
-pub mod Matches
+pub mod Seen
+pub mod Sets
 pub mod PartsSeen
 pub mod LevelsSeen

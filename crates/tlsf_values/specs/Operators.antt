@@ -26,7 +26,7 @@ use Rattle.tlsf_values.specs.declared.set_operation.SetOperation.TheVariants as 
 use Rattle.tlsf_values.specs.Outcomes.{Outcome, gives, fails, go_on, checked}
 use Rattle.tlsf_values.specs.Sorts.{number_in, set_in, formula_in, formula_value}
 use Rattle.tlsf_values.specs.Numbers.{computed, holds_of}
-use Rattle.placed_sets.specs.Sets.{is_in}
+use Rattle.tlsf_values.specs.Sets.{is_in}
 use Rattle.tlsf_values.specs.SetOperations.{combined}
 use Rattle.tlsf_values.specs.Formulas.{over_both, over_one, connected, opposed}
 use Rattle.tlsf_values.specs.Patterns.{matched}

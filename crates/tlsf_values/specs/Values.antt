@@ -11,7 +11,7 @@ use Rattle.tlsf_values.specs.declared.value.Value.{Value}
 use Rattle.tlsf_values.specs.declared.value.Value.TheVariants.{Number, Truth, Set, Flat}
 use Rattle.tlsf_values.specs.declared.formula.Formula.{Formula}
 use Rattle.tlsf_values.specs.declared.formula.Connective.{Connective}
-use Rattle.placed_sets.specs.Sets.{set_of}
+use Rattle.tlsf_values.specs.Sets.{set_of}
 use Rattle.tlsf_values.specs.Steps.{step_count, stepped, numbers_from}
 use Rattle.tlsf_values.specs.Outcomes.{Outcome, gives, fails, go_on, choose, checked, counted, made, Checked, fine, faulty, and_then}
 use Rattle.tlsf_values.specs.Names.{Names, Binding, BusRange, Meaning, known, a_signal, a_definition, an_enumeration, undeclared, look_up, bus_at}

@@ -1,13 +1,12 @@
 // Counted forms: an X that is repeated, and windows.
 
-ghost use Rattle.std.specs.Prelude.{◌≡◌, ◌≤◌, ◌-◌, List, ℤ, IfOk, IsTrue};
+ghost use Rattle.std.specs.Prelude.{◌≡◌, ◌≤◌, ◌-◌, IsTrue};
 ghost use Rattle.ltl_formula.specs.Nodes.{Grows};
 ghost use Rattle.tlsf_values.specs.Counts.{count_in, count_value, empty_truth, joined_or_nothing, joined_with, joining_of, nexts, window_between, window_of, window_value};
-ghost use Rattle.tlsf_values.specs.HeldSeen.{held_seen, IsOver};
-ghost use Rattle.tlsf_values.specs.Results.{IsChecked, IsOutcome, IsOutcomeAs};
+ghost use Rattle.tlsf_values.specs.Results.{IsChecked, IsOutcome};
 
 use crate::formula::{Connective, Formula, Pairing, truth_as_node};
-use crate::held::Held;
+use crate::value::Value;
 use crate::work::{Work, fault};
 use ltl_formula::{FormulaId, Node};
 use tlsf_tokens::{SpecCode, SpecFault};
@@ -107,13 +106,12 @@ impl Work {
         place: u64,
         count: u64,
         part: Formula,
-    ) -> Result<Held, SpecFault>
-        ensures value { IsOutcomeAs held_seen result self.new (count_value place count part self.old) }
+    ) -> Result<Value, SpecFault>
+        ensures value { IsOutcome result self.new (count_value place count part self.old) }
         ensures grows { Grows self.old.formulas self.new.formulas }
-        ensures over { IfOk result (λ v. (us : List ℤ) → IsOver us v) }
     {
         let part = self.node_of(place, part)?;
-        Ok(Held::Flat(self.nexts(place, count, part)?))
+        Ok(Value::Flat(self.nexts(place, count, part)?))
     }
 
     /// The formulas so many steps on, joined from the first count to the last.
@@ -148,16 +146,15 @@ impl Work {
         first: u64,
         last: u64,
         part: Formula,
-    ) -> Result<Held, SpecFault>
-        ensures value { IsOutcomeAs held_seen result self.new (window_value place connective first last part self.old) }
+    ) -> Result<Value, SpecFault>
+        ensures value { IsOutcome result self.new (window_value place connective first last part self.old) }
         ensures grows { Grows self.old.formulas self.new.formulas }
-        ensures over { IfOk result (λ v. (us : List ℤ) → IsOver us v) }
     {
         if first > last {
             let nothing = truth_as_node(connective.of_nothing());
-            return Ok(Held::Flat(self.made(place, nothing)?));
+            return Ok(Value::Flat(self.made(place, nothing)?));
         }
         let pairing = connective.pairing();
-        Ok(Held::Flat(self.window_between(place, pairing, first, last, part)?))
+        Ok(Value::Flat(self.window_between(place, pairing, first, last, part)?))
     }
 }

@@ -1,31 +1,28 @@
 // The value of an expression with several operands, which are evaluated from left to right before any is tested.
 
-ghost use Rattle.std.specs.Prelude.{◌≡◌, ◌+◌, List, ℤ, IfErr, IfOk, OnOk, drop, length, map, reverse, []};
-ghost use Rattle.tlsf_values.specs.HeldSeen.{AllNumbered, bound_seen, held_seen, IsOver};
+ghost use Rattle.std.specs.Prelude.{◌≡◌, ◌+◌, List, IfErr, IfOk, OnOk, drop, length, map, reverse, []};
 ghost use Rattle.tlsf_tree.specs.declared.expr.Range.{Range as TreeRange};
 ghost use Rattle.tlsf_values.specs.Counts.{count_in, count_value, joining_of, window_of};
-ghost use Rattle.tlsf_values.specs.LevelsSeen.{AreFit, IsLess, IsOnward, onward, pending, turns};
-ghost use Rattle.tlsf_values.specs.Matches.{Extends, Ready};
+ghost use Rattle.tlsf_values.specs.LevelsSeen.{IsLess, IsOnward, onward, pending, turns};
+ghost use Rattle.ltl_formula.specs.Nodes.{Grows};
 ghost use Rattle.tlsf_values.specs.NamesSeen.{names_seen};
 ghost use Rattle.tlsf_values.specs.Operators.{operated};
 ghost use Rattle.tlsf_values.specs.PartsSeen.{as_numbers};
 ghost use Rattle.tlsf_values.specs.Outcomes.{checked, gives, go_on};
 ghost use Rattle.tlsf_values.specs.Results.{IsFault, IsOutcome, IsOutcomeAs};
-ghost use Rattle.written_names.specs.Known.{KnowsLinks, KnowsRanges, KnowsTree, KnowsTrees};
-ghost use Rattle.written_names.specs.Seen.{expr_seen, link_list_seen, range_list_seen, trees_seen};
+ghost use Rattle.tlsf_values.specs.Seen.{expr_seen, link_list_seen, range_list_seen, trees_seen};
 ghost use Rattle.tlsf_values.specs.Sorts.{formula_in, number_in};
 ghost use Rattle.tlsf_values.specs.Values.{big_at, big_value, chain_value, evaluator, start_of, steps_value, values_at, window_at};
 
 use crate::counts::count;
 use crate::formula::{Connective, Formula};
-use crate::held::Held;
 use crate::levels::{Big, Level, inner_ranges};
 use crate::members::Members;
 use crate::names::Names;
 use crate::numbers::Places;
-use crate::progress::Progress;
 use crate::scope::Scope;
-use crate::work::fault;
+use crate::value::Value;
+use crate::work::{Work, fault};
 use tlsf_tokens::{SpecCode, SpecFault};
 use tlsf_tree::{Expr, Link, Op, Range};
 
@@ -39,18 +36,15 @@ impl<'t> Names<'t> {
         bound: &mut Scope<'t>,
         parts: &'t [Expr],
         left: u32,
-        progress: &mut Progress,
+        work: &mut Work,
     ) -> Result<Vec<Option<i64>>, SpecFault>
-        requires ready { Ready (names_seen self.now) progress.old bound.old }
-        requires numbered { AllNumbered self.now.meanings.table bound.old }
-        requires known { KnowsTrees self.now.meanings.table (trees_seen parts.now) }
-        ensures value { IsOutcomeAs (λ values. values.items) result progress.new.work (as_numbers (values_at (evaluator (names_seen self.now) left) (bound_seen bound.old) [] (trees_seen parts.now) progress.old.work)) }
+        ensures value { IsOutcomeAs (λ values. values.items) result work.new (as_numbers (values_at (evaluator (names_seen self.now) left) bound.old [] (trees_seen parts.now) work.old)) }
         ensures bound { OnOk result (bound.new ≡ bound.old) }
-        ensures grows { Extends (names_seen self.now) progress.old progress.new }
+        ensures grows { Grows work.old.formulas work.new.formulas }
     {
         let mut values = Vec::new(self.alloc);
         for part in parts {
-            let value = self.value(bound, part, left, progress)?;
+            let value = self.value(bound, part, left, work)?;
             values.push(value.into_number_if())?;
         }
         Ok(values)
@@ -67,26 +61,22 @@ impl<'t> Names<'t> {
         second: &'t Expr,
         last: &'t Expr,
         left: u32,
-        progress: &mut Progress,
-    ) -> Result<Held, SpecFault>
-        requires ready { Ready (names_seen self.now) progress.old bound.old }
-        requires numbered { AllNumbered self.now.meanings.table bound.old }
-        requires known { KnowsTree self.now.meanings.table (expr_seen first.now) × KnowsTree self.now.meanings.table (expr_seen second.now) × KnowsTree self.now.meanings.table (expr_seen last.now) }
-        ensures value { IsOutcomeAs held_seen result progress.new.work (let r = evaluator (names_seen self.now) left in let b = bound_seen bound.old in
+        work: &mut Work,
+    ) -> Result<Value, SpecFault>
+        ensures value { IsOutcome result work.new (let r = evaluator (names_seen self.now) left in let b = bound.old in
             let t = expr_seen first.now in let u = expr_seen second.now in let v = expr_seen last.now in
-            go_on (r.value b t progress.old.work) (λ x w. go_on (r.value b u w) (λ y w. go_on (r.value b v w) (λ z w.
+            go_on (r.value b t work.old) (λ x w. go_on (r.value b u w) (λ y w. go_on (r.value b v w) (λ z w.
             checked (number_in (start_of t) x) (λ x w. checked (number_in (start_of u) y) (λ y w. checked (number_in (start_of v) z) (λ z w. steps_value place x y z w) w) w) w)))) }
         ensures bound { OnOk result (bound.new ≡ bound.old) }
-        ensures over { IfOk result (λ v. IsOver progress.new.numbering v) }
-        ensures grows { Extends (names_seen self.now) progress.old progress.new }
+        ensures grows { Grows work.old.formulas work.new.formulas }
     {
-        let first_value = self.value(bound, first, left, progress)?;
-        let second_value = self.value(bound, second, left, progress)?;
-        let last_value = self.value(bound, last, left, progress)?;
+        let first_value = self.value(bound, first, left, work)?;
+        let second_value = self.value(bound, second, left, work)?;
+        let last_value = self.value(bound, last, left, work)?;
         let from = first_value.number(first.span.start)?;
         let next = second_value.number(second.span.start)?;
         let to = last_value.number(last.span.start)?;
-        progress.stepped(self.alloc, place, from, next, to)
+        work.stepped(self.alloc, place, from, next, to)
     }
 
     /// Operators that join to the left, in the node at this byte.
@@ -99,26 +89,22 @@ impl<'t> Names<'t> {
         first: &'t Expr,
         rest: &'t [Link],
         left: u32,
-        progress: &mut Progress,
-    ) -> Result<Held, SpecFault>
-        requires ready { Ready (names_seen self.now) progress.old bound.old }
-        requires numbered { AllNumbered self.now.meanings.table bound.old }
-        requires known { KnowsTree self.now.meanings.table (expr_seen first.now) × KnowsLinks self.now.meanings.table (link_list_seen rest.now) }
-        ensures value { IsOutcomeAs held_seen result progress.new.work (let r = evaluator (names_seen self.now) left in let b = bound_seen bound.old in let t = expr_seen first.now in
-            go_on (r.value b t progress.old.work) (λ v w. chain_value (names_seen self.now) r b place (start_of t) v (link_list_seen rest.now) w)) }
+        work: &mut Work,
+    ) -> Result<Value, SpecFault>
+        ensures value { IsOutcome result work.new (let r = evaluator (names_seen self.now) left in let b = bound.old in let t = expr_seen first.now in
+            go_on (r.value b t work.old) (λ v w. chain_value (names_seen self.now) r b place (start_of t) v (link_list_seen rest.now) w)) }
         ensures bound { OnOk result (bound.new ≡ bound.old) }
-        ensures over { IfOk result (λ v. IsOver progress.new.numbering v) }
-        ensures grows { Extends (names_seen self.now) progress.old progress.new }
+        ensures grows { Grows work.old.formulas work.new.formulas }
     {
-        let mut value = self.value(bound, first, left, progress)?;
+        let mut value = self.value(bound, first, left, work)?;
         for link in rest {
-            let right = self.value(bound, &link.right, left, progress)?;
+            let right = self.value(bound, &link.right, left, work)?;
             let places = Places {
                 own: place,
                 left: first.span.start,
                 right: link.right.span.start,
             };
-            value = self.operated(progress, link.op, places, value, right)?;
+            value = self.operated(work, link.op, places, &value, &right)?;
         }
         Ok(value)
     }
@@ -134,25 +120,21 @@ impl<'t> Names<'t> {
         first: &'t Expr,
         second: &'t Expr,
         left: u32,
-        progress: &mut Progress,
-    ) -> Result<Held, SpecFault>
-        requires ready { Ready (names_seen self.now) progress.old bound.old }
-        requires numbered { AllNumbered self.now.meanings.table bound.old }
-        requires known { KnowsTree self.now.meanings.table (expr_seen first.now) × KnowsTree self.now.meanings.table (expr_seen second.now) }
-        ensures value { IsOutcomeAs held_seen result progress.new.work (let r = evaluator (names_seen self.now) left in let b = bound_seen bound.old in let t = expr_seen first.now in let u = expr_seen second.now in
-            go_on (r.value b t progress.old.work) (λ x w. go_on (r.value b u w) (λ y w. operated (names_seen self.now) op (record { own = place; left = start_of t; right = start_of u }) x y w))) }
+        work: &mut Work,
+    ) -> Result<Value, SpecFault>
+        ensures value { IsOutcome result work.new (let r = evaluator (names_seen self.now) left in let b = bound.old in let t = expr_seen first.now in let u = expr_seen second.now in
+            go_on (r.value b t work.old) (λ x w. go_on (r.value b u w) (λ y w. operated (names_seen self.now) op (record { own = place; left = start_of t; right = start_of u }) x y w))) }
         ensures bound { OnOk result (bound.new ≡ bound.old) }
-        ensures over { IfOk result (λ v. IsOver progress.new.numbering v) }
-        ensures grows { Extends (names_seen self.now) progress.old progress.new }
+        ensures grows { Grows work.old.formulas work.new.formulas }
     {
-        let first_value = self.value(bound, first, left, progress)?;
-        let second_value = self.value(bound, second, left, progress)?;
+        let first_value = self.value(bound, first, left, work)?;
+        let second_value = self.value(bound, second, left, work)?;
         let places = Places {
             own: place,
             left: first.span.start,
             right: second.span.start,
         };
-        self.operated(progress, op, places, first_value, second_value)
+        self.operated(work, op, places, &first_value, &second_value)
     }
 
     /// `X[number] part`, in the node at this byte.
@@ -165,24 +147,20 @@ impl<'t> Names<'t> {
         number: &'t Expr,
         part: &'t Expr,
         left: u32,
-        progress: &mut Progress,
-    ) -> Result<Held, SpecFault>
-        requires ready { Ready (names_seen self.now) progress.old bound.old }
-        requires numbered { AllNumbered self.now.meanings.table bound.old }
-        requires known { KnowsTree self.now.meanings.table (expr_seen number.now) × KnowsTree self.now.meanings.table (expr_seen part.now) }
-        ensures value { IsOutcomeAs held_seen result progress.new.work (let r = evaluator (names_seen self.now) left in let b = bound_seen bound.old in let n = expr_seen number.now in let t = expr_seen part.now in
-            go_on (r.value b n progress.old.work) (λ m w. go_on (r.value b t w) (λ v w.
+        work: &mut Work,
+    ) -> Result<Value, SpecFault>
+        ensures value { IsOutcome result work.new (let r = evaluator (names_seen self.now) left in let b = bound.old in let n = expr_seen number.now in let t = expr_seen part.now in
+            go_on (r.value b n work.old) (λ m w. go_on (r.value b t w) (λ v w.
             checked (number_in (start_of n) m) (λ z w. checked (formula_in (start_of t) v) (λ x w. checked (count_in (start_of n) z) (λ k w. count_value place k x w) w) w) w))) }
         ensures bound { OnOk result (bound.new ≡ bound.old) }
-        ensures over { IfOk result (λ v. IsOver progress.new.numbering v) }
-        ensures grows { Extends (names_seen self.now) progress.old progress.new }
+        ensures grows { Grows work.old.formulas work.new.formulas }
     {
-        let number_value = self.value(bound, number, left, progress)?;
-        let value = self.value(bound, part, left, progress)?;
+        let number_value = self.value(bound, number, left, work)?;
+        let value = self.value(bound, part, left, work)?;
         let times = number_value.number(number.span.start)?;
         let formula = value.formula(part.span.start)?;
         let times = count(number.span.start, times)?;
-        progress.work.counted_next(place, times, formula)
+        work.counted_next(place, times, formula)
     }
 
     /// `F[from:to] part` or `G[from:to] part`, in the node at this byte.
@@ -197,30 +175,24 @@ impl<'t> Names<'t> {
         to: &'t Expr,
         part: &'t Expr,
         left: u32,
-        progress: &mut Progress,
-    ) -> Result<Held, SpecFault>
-        requires ready { Ready (names_seen self.now) progress.old bound.old }
-        requires numbered { AllNumbered self.now.meanings.table bound.old }
-        requires known { KnowsTree self.now.meanings.table (expr_seen from.now) × KnowsTree self.now.meanings.table (expr_seen to.now) × KnowsTree self.now.meanings.table (expr_seen part.now) }
-        ensures value { IsOutcomeAs held_seen result progress.new.work (window_at (evaluator (names_seen self.now) left) (bound_seen bound.old) place (window_of op) (expr_seen from.now) (expr_seen to.now) (expr_seen part.now) progress.old.work) }
+        work: &mut Work,
+    ) -> Result<Value, SpecFault>
+        ensures value { IsOutcome result work.new (window_at (evaluator (names_seen self.now) left) bound.old place (window_of op) (expr_seen from.now) (expr_seen to.now) (expr_seen part.now) work.old) }
         ensures bound { OnOk result (bound.new ≡ bound.old) }
-        ensures over { IfOk result (λ v. IsOver progress.new.numbering v) }
-        ensures grows { Extends (names_seen self.now) progress.old progress.new }
+        ensures grows { Grows work.old.formulas work.new.formulas }
     {
         let Some(connective) = Connective::of_window(op) else {
             return Err(fault(SpecCode::WrongSort, place));
         };
-        let first = self.value(bound, from, left, progress)?;
-        let last = self.value(bound, to, left, progress)?;
-        let value = self.value(bound, part, left, progress)?;
+        let first = self.value(bound, from, left, work)?;
+        let last = self.value(bound, to, left, work)?;
+        let value = self.value(bound, part, left, work)?;
         let first = first.number(from.span.start)?;
         let last = last.number(to.span.start)?;
         let formula = value.formula(part.span.start)?;
         let first = count(from.span.start, first)?;
         let last = count(to.span.start, last)?;
-        progress
-            .work
-            .window(place, connective, first, last, formula)
+        work.window(place, connective, first, last, formula)
     }
 
     /// `&&[ranges] part` or `||[ranges] part`, in the node at this byte.
@@ -234,15 +206,11 @@ impl<'t> Names<'t> {
         ranges: &'t [Range],
         part: &'t Expr,
         left: u32,
-        progress: &mut Progress,
-    ) -> Result<Held, SpecFault>
-        requires ready { Ready (names_seen self.now) progress.old bound.old }
-        requires numbered { AllNumbered self.now.meanings.table bound.old }
-        requires known { KnowsRanges self.now.meanings.table (range_list_seen ranges.now) × KnowsTree self.now.meanings.table (expr_seen part.now) }
-        ensures value { IsOutcomeAs held_seen result progress.new.work (big_at (evaluator (names_seen self.now) left) (bound_seen bound.old) place (joining_of op) (range_list_seen ranges.now) (expr_seen part.now) progress.old.work) }
+        work: &mut Work,
+    ) -> Result<Value, SpecFault>
+        ensures value { IsOutcome result work.new (big_at (evaluator (names_seen self.now) left) bound.old place (joining_of op) (range_list_seen ranges.now) (expr_seen part.now) work.old) }
         ensures bound { OnOk result (bound.new ≡ bound.old) }
-        ensures over { IfOk result (λ v. IsOver progress.new.numbering v) }
-        ensures grows { Extends (names_seen self.now) progress.old progress.new }
+        ensures grows { Grows work.old.formulas work.new.formulas }
     {
         let Some(connective) = Connective::of_big(op) else {
             return Err(fault(SpecCode::WrongSort, place));
@@ -252,7 +220,7 @@ impl<'t> Names<'t> {
             connective,
             part,
         };
-        Ok(Held::from(self.over_ranges(bound, &big, ranges, left, progress)?))
+        Ok(Value::from(self.over_ranges(bound, &big, ranges, left, work)?))
     }
 
     /// The formulas of all members of the ranges, joined. However many ranges there are, the depth of calls is the same.
@@ -264,22 +232,19 @@ impl<'t> Names<'t> {
         big: &Big<'t>,
         ranges: &'t [Range],
         left: u32,
-        progress: &mut Progress,
+        work: &mut Work,
     ) -> Result<Formula, SpecFault>
-        requires ready { Ready (names_seen self.now) progress.old bound.old }
-        requires numbered { AllNumbered self.now.meanings.table bound.old }
-        requires known { KnowsRanges self.now.meanings.table (range_list_seen ranges.now) × KnowsTree self.now.meanings.table (expr_seen big.now.part.now) }
-        ensures value { IsOutcome result progress.new.work (big_value (evaluator (names_seen self.now) left) big.now.place big.now.connective (bound_seen bound.old) (range_list_seen ranges.now) (expr_seen big.now.part.now) progress.old.work) }
+        ensures value { IsOutcome result work.new (big_value (evaluator (names_seen self.now) left) big.now.place big.now.connective bound.old (range_list_seen ranges.now) (expr_seen big.now.part.now) work.old) }
         ensures bound { OnOk result (bound.new ≡ bound.old) }
-        ensures grows { Extends (names_seen self.now) progress.old progress.new }
+        ensures grows { Grows work.old.formulas work.new.formulas }
     {
         let mut levels = Vec::new(self.alloc);
         loop {
             let inner = inner_ranges(ranges, &levels);
-            let Some(formula) = self.inward(bound, big, &mut levels, inner, left, progress)? else {
+            let Some(formula) = self.inward(bound, big, &mut levels, inner, left, work)? else {
                 continue;
             };
-            if let Some(whole) = big.go_on(bound, &mut levels, formula, &mut progress.work)? {
+            if let Some(whole) = big.go_on(bound, &mut levels, formula, work)? {
                 return Ok(whole);
             }
         }
@@ -296,28 +261,24 @@ impl<'t> Names<'t> {
         levels: &mut Vec<Level<'t>>,
         ranges: &'t [Range],
         left: u32,
-        progress: &mut Progress,
+        work: &mut Work,
     ) -> Result<Option<Formula>, SpecFault>
-        requires ready { Ready (names_seen self.now) progress.old bound.old }
-        requires numbered { AllNumbered self.now.meanings.table bound.old }
-        requires known { KnowsRanges self.now.meanings.table (range_list_seen ranges.now) × KnowsTree self.now.meanings.table (expr_seen big.now.part.now) }
         ensures value { (all : List TreeRange) → IfOk result (λ next. IsOnward (evaluator (names_seen self.now) left) big.now
-            (onward (evaluator (names_seen self.now) left) big.now (bound_seen bound.old) ranges.now (reverse levels.old.items) progress.old.work) all next bound.new (reverse levels.new.items) progress.new.work) }
-        ensures fault { IfErr result (λ e. IsFault (big_value (evaluator (names_seen self.now) left) big.now.place big.now.connective (bound_seen bound.old) (range_list_seen ranges.now) (expr_seen big.now.part.now) progress.old.work) e) }
+            (onward (evaluator (names_seen self.now) left) big.now bound.old ranges.now (reverse levels.old.items) work.old) all next bound.new (reverse levels.new.items) work.new) }
+        ensures fault { IfErr result (λ e. IsFault (big_value (evaluator (names_seen self.now) left) big.now.place big.now.connective bound.old (range_list_seen ranges.now) (expr_seen big.now.part.now) work.old) e) }
         ensures less { (all : List TreeRange) → IfOk result (λ next. IsLess next all (reverse levels.new.items) (turns (length ranges.now) + pending (reverse levels.old.items))) }
         ensures outer { OnOk result (drop (length (reverse levels.new.items)) bound.new ≡ drop (length (reverse levels.old.items)) bound.old) }
-        ensures fit { (us : List ℤ) → AreFit self.now.meanings.table us bound.old (reverse levels.old.items) → OnOk result (AreFit self.now.meanings.table us bound.new (reverse levels.new.items)) }
-        ensures grows { Extends (names_seen self.now) progress.old progress.new }
+        ensures grows { Grows work.old.formulas work.new.formulas }
     {
         match ranges {
             [] => {
-                let value = self.value(bound, big.part, left, progress)?;
+                let value = self.value(bound, big.part, left, work)?;
                 Ok(Some(value.formula(big.part.span.start)?))
             }
             [Range::Members { word, set }, inner @ ..] => {
-                let value = self.value(bound, set, left, progress)?;
+                let value = self.value(bound, set, left, work)?;
                 let members = Members::of(self.alloc, value, set.span.start)?;
-                let level = self.level(word, members, inner);
+                let level = Level::new(word, members, inner);
                 Ok(big.begin(bound, levels, level)?)
             }
             [
@@ -331,14 +292,14 @@ impl<'t> Names<'t> {
                 inner @ ..,
             ] => {
                 let first = self
-                    .value(bound, low, left, progress)?
+                    .value(bound, low, left, work)?
                     .into_number(low.span.start);
                 let last = self
-                    .value(bound, high, left, progress)?
+                    .value(bound, high, left, work)?
                     .into_number(high.span.start);
                 // Both bounds are evaluated before either is refused for its sort.
                 let members = Members::between(first?, *low_strict, *high_strict, last?);
-                let level = self.level(word, members, inner);
+                let level = Level::new(word, members, inner);
                 Ok(big.begin(bound, levels, level)?)
             }
         }

@@ -1,24 +1,20 @@
 // The ranges of a big operator that are gone over, one inside the other. What is left of each stands in a list, so that the depth of
 // calls doesn't grow with the number of ranges.
 
-ghost use Rattle.std.specs.Prelude.{◌≡◌, ◌+◌, ◌≤◌, ◌^◌, ◌∷◌, [], List, ℤ, Some, None, IfErr, IfOk, IfSome, OnOk, drop, length, reverse};
+ghost use Rattle.std.specs.Prelude.{◌≡◌, ◌+◌, ◌≤◌, ◌^◌, ◌∷◌, [], List, Some, None, IfErr, IfOk, IfSome, OnOk, drop, length, reverse};
 ghost use Rattle.ltl_formula.specs.Nodes.{Grows};
 ghost use Rattle.tlsf_tree.specs.declared.expr.Range.{Range as TreeRange};
 ghost use Rattle.tlsf_values.specs.Counts.{joined_with};
-ghost use Rattle.tlsf_values.specs.HeldSeen.{bound_seen};
-ghost use Rattle.tlsf_values.specs.LevelsSeen.{AreFit, IsLess, IsOnward, after, inner_of, level_value, pending, turns};
+ghost use Rattle.tlsf_values.specs.LevelsSeen.{IsLess, IsOnward, after, inner_of, level_value, pending, turns};
 ghost use Rattle.tlsf_values.specs.MembersSeen.{members_seen};
 ghost use Rattle.tlsf_values.specs.Outcomes.{gives, go_on};
 ghost use Rattle.tlsf_values.specs.Results.{IsFault, IsOutcomeAs};
 ghost use Rattle.tlsf_values.specs.Values.{Evaluator};
 ghost use Rattle.tlsf_values.specs.declared.work.Work.{Work as PlainWork};
-ghost use Rattle.written_names.specs.Seen.{word_seen};
-ghost use Rattle.written_names.specs.Known.{KnowsWord};
-ghost use Rattle.written_names.specs.Written.{NamesWritten, number_of};
+ghost use Rattle.tlsf_values.specs.Seen.{word_seen};
 
 use crate::formula::{Connective, Formula};
 use crate::members::Members;
-use crate::names::Names;
 use crate::scope::Scope;
 use crate::work::Work;
 use std::alloc::AllocError;
@@ -37,8 +33,6 @@ pub(crate) struct Big<'t> {
 #[derive(Drop)]
 pub(crate) struct Level<'t> {
     pub(crate) word: &'t Word,
-    /// The number of the word's name.
-    pub(crate) number: usize,
     /// The members that are left.
     pub(crate) members: Members,
     /// The ranges inside this one.
@@ -57,16 +51,13 @@ pub(crate) fn inner_ranges<'t>(ranges: &'t [Range], levels: &[Level<'t>]) -> &'t
     }
 }
 
-impl<'t> Names<'t> {
+impl<'t> Level<'t> {
     /// A range of which nothing is joined yet, over these members.
-    pub(crate) fn level(&self, word: &'t Word, members: Members, inner: &'t [Range]) -> Level<'t>
-        requires { KnowsWord self.now.meanings.table (word_seen word.now) }
-        ensures level { result ≡ record { word = word.entry; number = result.number; members = members; inner = inner.entry; so_far = None } }
-        ensures number { number_of self.now.meanings.table word.now.name ≡ Some result.number }
+    pub(crate) fn new(word: &'t Word, members: Members, inner: &'t [Range]) -> Level<'t>
+        ensures { result ≡ record { word = word.entry; members = members; inner = inner.entry; so_far = None } }
     {
         Level {
             word,
-            number: self.meanings.number(word.span.start, &word.name),
             members,
             inner,
             so_far: None,
@@ -83,18 +74,17 @@ impl<'t> Big<'t> {
         level: Level<'t>,
     ) -> Result<Option<Formula>, AllocError>
         ensures value { (r : Evaluator) (ranges : List TreeRange) (w : PlainWork) → IfOk result (λ next. IsOnward r self.now
-            (go_on (level_value r self.now (bound_seen bound.old) (word_seen level.entry.word.now) level.entry.inner.now (members_seen level.entry.members) level.entry.so_far w) (λ x w. after r self.now (bound_seen bound.old) (reverse levels.old.items) x w))
+            (go_on (level_value r self.now bound.old (word_seen level.entry.word.now) level.entry.inner.now (members_seen level.entry.members) level.entry.so_far w) (λ x w. after r self.now bound.old (reverse levels.old.items) x w))
             ranges next bound.new (reverse levels.new.items) w) }
         ensures less { (ranges : List TreeRange) → IfOk result (λ next. IsLess next ranges (reverse levels.new.items) (pending (level.entry ∷ reverse levels.old.items))) }
         ensures all { IfOk result (λ next. IfSome next (λ _. levels.new.items ≡ levels.old.items)) }
         ensures outer { OnOk result (drop (length (reverse levels.new.items)) bound.new ≡ drop (length (reverse levels.old.items)) bound.old) }
-        ensures fit { (table : NamesWritten) (us : List ℤ) → AreFit table us bound.old (level.entry ∷ reverse levels.old.items) → OnOk result (AreFit table us bound.new (reverse levels.new.items)) }
     {
         let mut level = level;
         let Some(number) = level.members.next() else {
             return Ok(Some(self.connective.of_all(level.so_far)));
         };
-        bound.push_number(level.number, &level.word.name, number)?;
+        bound.push_number(&level.word.name, number)?;
         levels.push(level)?;
         Ok(None)
     }
@@ -107,7 +97,7 @@ impl<'t> Big<'t> {
         work: &mut Work,
     ) -> Result<Level<'t>, SpecFault>
         ensures value { IsOutcomeAs (λ l. l.so_far) result work.new (go_on (joined_with self.now.place self.now.connective level.entry.so_far formula work.old) (λ x w. gives (Some x) w)) }
-        ensures same { IfOk result (λ l. l ≡ record { word = level.entry.word; number = level.entry.number; members = level.entry.members; inner = level.entry.inner; so_far = l.so_far }) }
+        ensures same { IfOk result (λ l. l ≡ record { word = level.entry.word; members = level.entry.members; inner = level.entry.inner; so_far = l.so_far }) }
         ensures grows { Grows work.old.formulas work.new.formulas }
     {
         let mut level = level;
@@ -125,12 +115,11 @@ impl<'t> Big<'t> {
         formula: Formula,
         work: &mut Work,
     ) -> Result<Option<Formula>, SpecFault>
-        ensures value { (r : Evaluator) (ranges : List TreeRange) → IfOk result (λ next. IsOnward r self.now (after r self.now (bound_seen bound.old) (reverse levels.old.items) formula work.old) ranges next bound.new (reverse levels.new.items) work.new) }
-        ensures fault { (r : Evaluator) → IfErr result (λ e. IsFault (after r self.now (bound_seen bound.old) (reverse levels.old.items) formula work.old) e) }
+        ensures value { (r : Evaluator) (ranges : List TreeRange) → IfOk result (λ next. IsOnward r self.now (after r self.now bound.old (reverse levels.old.items) formula work.old) ranges next bound.new (reverse levels.new.items) work.new) }
+        ensures fault { (r : Evaluator) → IfErr result (λ e. IsFault (after r self.now bound.old (reverse levels.old.items) formula work.old) e) }
         ensures less { (ranges : List TreeRange) → IfOk result (λ next. IsLess next ranges (reverse levels.new.items) (pending (reverse levels.old.items))) }
         ensures all { IfOk result (λ next. IfSome next (λ _. levels.new.items ≡ [])) }
         ensures outer { OnOk result (drop (length (reverse levels.new.items)) bound.new ≡ drop (length (reverse levels.old.items)) bound.old) }
-        ensures fit { (table : NamesWritten) (us : List ℤ) → AreFit table us bound.old (reverse levels.old.items) → OnOk result (AreFit table us bound.new (reverse levels.new.items)) }
         ensures grows { Grows work.old.formulas work.new.formulas }
     {
         let mut formula = formula;

@@ -1,7 +1,7 @@
 // The values of written expressions. What an expression's value is, and which fault comes first where it has none,
 // is a definition in `specs/`: one recursion on the depth that is left, over plain trees.
 // It stands on tlsf_tree for the written tree, tlsf_grammar for trees as plain values, tlsf_tokens for the numbered
-// faults, written_names for the numbers of names, placed_sets for sets, and ltl_formula for the list of flat formulas.
+// faults, text_base for names, and ltl_formula for the list of flat formulas.
 #![tactic(auto)]
 
 mod apply;
@@ -10,7 +10,6 @@ mod enumerated;
 mod evaluate;
 mod evaluate_operands;
 mod formula;
-mod held;
 pub mod laws;
 mod levels;
 mod meanings;
@@ -20,7 +19,6 @@ mod number_set;
 mod numbers;
 mod operate;
 mod patterns;
-mod progress;
 mod scope;
 mod section;
 mod set_operation;

@@ -1,13 +1,12 @@
 // What a big operator goes over.
 
 ghost use Rattle.std.specs.Prelude.{◌≡◌, ◌≤◌, ◌^◌, IfOk, length};
-ghost use Rattle.tlsf_values.specs.HeldSeen.{held_seen};
 ghost use Rattle.tlsf_values.specs.MembersSeen.{IsNext, listed_seen, members_seen, run_seen};
 ghost use Rattle.tlsf_values.specs.Results.{IsCheckedAs};
 ghost use Rattle.tlsf_values.specs.Sorts.{set_in};
 ghost use Rattle.tlsf_values.specs.Values.{high_of, low_of, run_of};
 
-use crate::held::Held;
+use crate::value::Value;
 use std::alloc::Global;
 use tlsf_tokens::SpecFault;
 
@@ -81,11 +80,11 @@ impl Run {
 
 impl Members {
     /// The numbers of a value that must be a set, as an operand at this byte.
-    pub(crate) fn of(alloc: Global, value: Held, place: u64) -> Result<Members, SpecFault>
-        ensures value { IsCheckedAs members_seen result (set_in place (held_seen value)) }
+    pub(crate) fn of(alloc: Global, value: Value, place: u64) -> Result<Members, SpecFault>
+        ensures value { IsCheckedAs members_seen result (set_in place value) }
         ensures few { IfOk result (λ members. length (members_seen members) ≤ 2 ^ 65) }
     {
-        let set = value.into_set(place)?;
+        let set = value.set(place)?;
         Ok(Members::Listed(Listed {
             numbers: set.numbers(alloc)?,
             place: 0,

@@ -2,8 +2,8 @@
 
 ghost use Rattle.std.specs.Prelude.{◌≡◌, OnOk, Some, map};
 ghost use Rattle.tlsf_values.specs.Names.{is_declared, is_enumeration, with_bus, with_definition, with_definitions, with_meaning, with_member, with_members, with_signal, without_names};
-ghost use Rattle.written_names.specs.Seen.{definition_seen, member_seen};
-ghost use Rattle.tlsf_values.specs.MeaningsSeen.{entry_meaning, KnowsEntry};
+ghost use Rattle.tlsf_values.specs.Seen.{definition_seen, member_seen};
+ghost use Rattle.tlsf_values.specs.MeaningsSeen.{entry_meaning};
 ghost use Rattle.tlsf_values.specs.NamesSeen.{names_seen};
 
 use crate::enumerated::Enumerated;
@@ -35,7 +35,6 @@ impl<'t> Names<'t> {
 
     /// Of two equal names the last one counts.
     fn insert(&mut self, name: &Name, meaning: Entry<'t>) -> Result<(), AllocError>
-        requires { KnowsEntry self.old.meanings.table meaning }
         ensures { OnOk result (names_seen self.new ≡ with_meaning (names_seen self.old) name.now (entry_meaning (Some meaning.entry))) }
     {
         self.meanings.insert(name, meaning)
@@ -70,17 +69,13 @@ impl<'t> Names<'t> {
     {
         match definition {
             Definition::Parameter { word, value } => {
-                self.meanings.read_expr(value)?;
                 self.insert(&word.name, Entry::Parameter(value))
             }
             Definition::Function {
                 word,
                 arguments,
                 body,
-            } => {
-                self.meanings.read_function(arguments, body)?;
-                self.insert(&word.name, Entry::Function(arguments, body))
-            }
+            } => self.insert(&word.name, Entry::Function(arguments, body)),
             Definition::Enumeration { word, members } => {
                 self.insert(&word.name, Entry::Enumeration)?;
                 self.add_members(members)

@@ -1,40 +1,60 @@
 // Sets of numbers.
 
 ghost use Rattle.std.specs.Prelude.{◌≡◌, IfOk};
-ghost use Rattle.placed_sets.specs.Sets.{set_of};
+ghost use Rattle.tlsf_values.specs.Sets.{difference, intersection, is_in, set_of, union};
 
-use placed_sets::{Numbering, PlacedSet};
 use std::alloc::{AllocError, Global};
 use std::marker::Model;
+use std::rc::Rc;
 
-/// A set of numbers; its copies share the numbers. A contract sees it as the list of them, which rises strictly.
+/// A set of numbers, 8 bytes each; its copies share them. A contract sees it as the list of the numbers, which rises strictly.
 #[derive(Debug, Drop)]
 pub struct NumberSet {
-    set: PlacedSet,
+    numbers: Rc<Vec<i64>>,
 }
 
 impl Model for NumberSet {
-    ghost use Rattle.std.specs.Prelude.{ℤ, List};
+    ghost use Rattle.std.specs.Prelude.{◌≡◌, ℤ, List};
+    ghost use Rattle.tlsf_values.specs.Sets.{set_of};
 
     ghost Value = { List ℤ };
 
-    ghost view = { λ s. s.set.members };
+    ghost view = { λ s. s.numbers.value.items };
+
+    ghost invariant = { λ s. set_of s.numbers.value.items ≡ s.numbers.value.items };
 }
 
 impl NumberSet {
-    /// The set of these numbers, in any order.
+    /// The set of these numbers, in any order. It takes the time for sorting them.
     pub fn of(alloc: Global, numbers: &[i64]) -> Result<NumberSet, AllocError>
         ensures { IfOk result (λ s. s ≡ set_of numbers.now) }
     {
-        let set = Numbering::new(alloc).set_of(numbers)?;
-        Ok(NumberSet { set })
+        NumberSet::made(alloc, Vec::from_slice(alloc, numbers)?)
     }
 
-    /// The set by itself. It takes constant time.
-    pub(crate) fn of_placed(set: &PlacedSet) -> Result<NumberSet, AllocError>
-        ensures { IfOk result (λ s. s ≡ set.now.members) }
+    /// The set of these numbers, in any order, which are sorted.
+    pub(crate) fn made(alloc: Global, mut numbers: Vec<i64>) -> Result<NumberSet, AllocError>
+        ensures { IfOk result (λ s. s ≡ set_of numbers.items) }
     {
-        Ok(NumberSet { set: set.clone()? })
+        numbers.sort_unstable();
+        numbers.dedup();
+        NumberSet::of_rising(alloc, numbers)
+    }
+
+    fn of_rising(alloc: Global, mut numbers: Vec<i64>) -> Result<NumberSet, AllocError>
+        requires { set_of numbers.items ≡ numbers.items }
+        ensures { IfOk result (λ s. s ≡ numbers.items) }
+    {
+        numbers.shrink_to_fit();
+        let numbers = Rc::new(alloc, numbers)?;
+        Ok(NumberSet { numbers })
+    }
+
+    fn as_slice(&self) -> &[i64]
+        ensures same { result.now ≡ self.now }
+        ensures rising { set_of self.now ≡ self.now }
+    {
+        self.numbers.as_slice()
     }
 
     /// The numbers of the set, which rise.
@@ -42,7 +62,49 @@ impl NumberSet {
         ensures numbers { IfOk result (λ v. v.items ≡ self.now) }
         ensures rising { IfOk result (λ v. set_of v.items ≡ v.items) }
     {
-        self.set.numbers(alloc)
+        Vec::from_slice(alloc, self.as_slice())
+    }
+
+    /// Whether the set has the number. It takes a step for each halving of the numbers.
+    pub(crate) fn contains(&self, number: i64) -> bool
+        ensures { result ≡ is_in self.now number }
+    {
+        self.numbers.binary_search(&number).is_ok()
+    }
+
+    /// The numbers of both, and those that only one of the two has. It takes the time for sorting them.
+    pub(crate) fn joined(&self, alloc: Global, other: &NumberSet) -> Result<NumberSet, AllocError>
+        ensures { IfOk result (λ s. s ≡ union self.now other.now) }
+    {
+        let mut numbers = self.numbers(alloc)?;
+        numbers.extend_from_slice(other.as_slice())?;
+        NumberSet::made(alloc, numbers)
+    }
+
+    /// The numbers that both have. It looks each number of the one up in the other.
+    pub(crate) fn met(&self, alloc: Global, other: &NumberSet) -> Result<NumberSet, AllocError>
+        ensures { IfOk result (λ s. s ≡ intersection self.now other.now) }
+    {
+        let common = self
+            .as_slice()
+            .iter()
+            .copied()
+            .filter(|number| other.contains(*number))
+            .collect(alloc)?;
+        NumberSet::of_rising(alloc, common)
+    }
+
+    /// The numbers of the one that the other doesn't have. It looks each number of the one up in the other.
+    pub(crate) fn without(&self, alloc: Global, other: &NumberSet) -> Result<NumberSet, AllocError>
+        ensures { IfOk result (λ s. s ≡ difference self.now other.now) }
+    {
+        let alone = self
+            .as_slice()
+            .iter()
+            .copied()
+            .filter(|number| !other.contains(*number))
+            .collect(alloc)?;
+        NumberSet::of_rising(alloc, alone)
     }
 }
 
@@ -52,7 +114,7 @@ impl Clone for NumberSet {
 
     fn clone(&self) -> Result<NumberSet, AllocError> {
         Ok(NumberSet {
-            set: self.set.clone()?,
+            numbers: self.numbers.clone()?,
         })
     }
 }

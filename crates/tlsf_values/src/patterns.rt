@@ -3,7 +3,7 @@
 ghost use Rattle.std.specs.Prelude.{◌≡◌, map};
 ghost use Rattle.ltl_formula.specs.Nodes.{Grows};
 ghost use Rattle.tlsf_values.specs.Patterns.{all_values, are_wide, bit_made, bits_made, joined_to, matched, or_truth, pattern_seen, values_joined, values_made};
-ghost use Rattle.written_names.specs.Seen.{member_seen};
+ghost use Rattle.tlsf_values.specs.Seen.{member_seen};
 ghost use Rattle.tlsf_values.specs.Results.{IsOutcome, IsOutcomeAs};
 ghost use Rattle.tlsf_values.specs.declared.formula.Formula.TheVariants.{Flat};
 

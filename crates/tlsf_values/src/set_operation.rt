@@ -1,12 +1,10 @@
 // The operators of sets.
 
 ghost use Rattle.std.specs.Prelude.{◌≡◌, IfOk};
-ghost use Rattle.placed_sets.specs.Placed.{IsPrefix};
-ghost use Rattle.tlsf_values.specs.SetOperations.{combined, set_operation};
+ghost use Rattle.tlsf_values.specs.SetOperations.{combined};
 
-use placed_sets::{Numbering, PlacedSet};
-use std::alloc::AllocError;
-use tlsf_tree::Op;
+use crate::number_set::NumberSet;
+use std::alloc::{AllocError, Global};
 
 /// An operator on two sets of numbers.
 #[derive(Clone, Copy, Debug, PartialEq, Eq)]
@@ -17,36 +15,18 @@ pub enum SetOperation {
 }
 
 impl SetOperation {
-    /// The operation of an operator on sets, and none of any other.
-    pub(crate) fn of(op: Op) -> Option<SetOperation>
-        ensures { result ≡ set_operation op }
-    {
-        match op {
-            Op::Join => Some(SetOperation::Join),
-            Op::Meet => Some(SetOperation::Meet),
-            Op::Difference => Some(SetOperation::Difference),
-            _ => None,
-        }
-    }
-
-    /// It takes time in proportion to a 64th of the numbers that have a place, or to the numbers of two sets that are lists. Where the left set is bits that no
-    /// copy shares, bits are made in its memory.
     pub(crate) fn combined(
         self,
-        numbering: &mut Numbering,
-        left: PlacedSet,
-        right: &PlacedSet,
-    ) -> Result<PlacedSet, AllocError>
-        requires left { IsPrefix left.over numbering.old }
-        requires right { IsPrefix right.now.over numbering.old }
-        ensures members { IfOk result (λ s. s.members ≡ combined self left.members right.now.members) }
-        ensures over { IfOk result (λ s. IsPrefix s.over numbering.new) }
-        ensures kept { IsPrefix numbering.old numbering.new }
+        alloc: Global,
+        left: &NumberSet,
+        right: &NumberSet,
+    ) -> Result<NumberSet, AllocError>
+        ensures { IfOk result (λ s. s ≡ combined self left.now right.now) }
     {
         match self {
-            SetOperation::Join => numbering.joined(left, right),
-            SetOperation::Meet => numbering.met(left, right),
-            SetOperation::Difference => numbering.without(left, right),
+            SetOperation::Join => left.joined(alloc, right),
+            SetOperation::Meet => left.met(alloc, right),
+            SetOperation::Difference => left.without(alloc, right),
         }
     }
 }

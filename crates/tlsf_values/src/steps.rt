@@ -3,12 +3,16 @@
 ghost use Rattle.std.specs.Prelude.{◌≡◌, ◌+ℤ◌, ◌-ℤ◌, ◌<◌, ◌^◌, [], false, pos, unsigned_abs, FitsSigned, IfOk};
 ghost use Rattle.std.proofs.Common.{w64};
 ghost use Rattle.std.specs.Ordering.{int_eq};
-ghost use Rattle.tlsf_values.specs.Results.{IsCheckedAs};
-ghost use Rattle.written_names.specs.Seen.{trees_seen};
+ghost use Rattle.tlsf_values.specs.Results.{IsCheckedAs, IsOutcome};
+ghost use Rattle.ltl_formula.specs.Nodes.{Grows};
+ghost use Rattle.tlsf_values.specs.Seen.{trees_seen};
+ghost use Rattle.tlsf_values.specs.Values.{steps_value};
 ghost use Rattle.tlsf_values.specs.Steps.{passes, rest_from, step_count, stepped, those_from};
 ghost use Rattle.tlsf_values.specs.PartsSeen.{numbers_among};
 
-use crate::work::fault;
+use crate::number_set::NumberSet;
+use crate::value::Value;
+use crate::work::{Work, fault};
 use std::alloc::{AllocError, Global};
 use tlsf_tokens::{SpecCode, SpecFault};
 use tlsf_tree::Expr;
@@ -34,6 +38,28 @@ pub(crate) fn numbers_among(
     Ok(numbers)
 }
 
+impl Work {
+    /// `{first, second .. last}`, whose members are counted before they are laid out.
+    pub(crate) fn stepped(
+        &mut self,
+        alloc: Global,
+        place: u64,
+        first: i64,
+        second: i64,
+        last: i64,
+    ) -> Result<Value, SpecFault>
+        ensures value { IsOutcome result self.new (steps_value place first second last self.old) }
+        ensures grows { Grows self.old.formulas self.new.formulas }
+    {
+        if first == second {
+            return Err(fault(SpecCode::NumberRange, place));
+        }
+        self.count(place, step_count(first, second, last))?;
+        let numbers = laid_out(alloc, first, second, last)?;
+        Ok(Value::Set(NumberSet::made(alloc, numbers)?))
+    }
+}
+
 /// Whether a number lies beyond the last one, as one goes by this step.
 fn has_passed(number: i128, step: i128, last: i128) -> bool
     ensures { result ≡ passes number step last }
@@ -54,7 +80,7 @@ fn step(from: i64, to: i64) -> i128
 }
 
 /// How many numbers there are from the first one to the last, by the step from the first to the second.
-pub(crate) fn step_count(first: i64, second: i64, last: i64) -> u128
+fn step_count(first: i64, second: i64, last: i64) -> u128
     requires { int_eq first second ≡ false }
     ensures { result ≡ step_count first second last }
 {
@@ -87,12 +113,7 @@ fn following(number: i64, by: i128, last: i64) -> Option<i64>
 }
 
 /// The numbers from the first one to the last, by the step from the first to the second.
-pub(crate) fn laid_out(
-    alloc: Global,
-    first: i64,
-    second: i64,
-    last: i64,
-) -> Result<Vec<i64>, AllocError>
+fn laid_out(alloc: Global, first: i64, second: i64, last: i64) -> Result<Vec<i64>, AllocError>
     requires { int_eq first second ≡ false }
     ensures { IfOk result (λ v. v.items ≡ stepped first second last) }
 {

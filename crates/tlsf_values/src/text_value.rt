@@ -3,18 +3,12 @@
 ghost use Rattle.std.specs.Prelude.{◌≡◌, ◌+◌, IfOk, OnErr, OnOk, [], map, reverse, take};
 ghost use Rattle.ltl_formula.specs.Nodes.{Grows, Stands};
 ghost use Rattle.tlsf_values.specs.EnvSeen.{binding_of, buses_named, env_bound, env_names, signals_named, work_of};
-ghost use Rattle.tlsf_values.specs.HeldSeen.{AllNumbered, AllOver, bound_seen};
-ghost use Rattle.tlsf_values.specs.Matches.{Extends};
-ghost use Rattle.tlsf_values.specs.Names.{Names as TextNames};
-ghost use Rattle.tlsf_values.specs.MeaningsSeen.{means_of};
 ghost use Rattle.tlsf_values.specs.NamesSeen.{names_seen};
 ghost use Rattle.tlsf_values.specs.Results.{IsOutcome};
-ghost use Rattle.written_names.specs.Seen.{expr_seen};
+ghost use Rattle.tlsf_values.specs.Seen.{expr_seen};
 ghost use Rattle.tlsf_values.specs.Values.{value_at};
 
-use crate::meanings::Meanings;
 use crate::names::Names;
-use crate::progress::Progress;
 use crate::scope::Scope;
 use crate::value::Value;
 use crate::work::{MOST_DEPTH, Work};
@@ -44,24 +38,13 @@ pub struct Meter {
 
 impl<'t> Names<'t> {
     /// The value of an expression of the text that has these names, where no name is bound and no node entered. After a
-    /// refusal too the formulas that stood keep their ids; how many evaluations were done isn't said then. The names of the expression
-    /// are read first, in proportion to its nodes and the bytes of its names; what names mean stays as it is.
-    pub fn value_of(&mut self, expr: &'t Expr, work: &mut Work) -> Result<Value, SpecFault>
-        ensures value { IsOutcome result work.new (value_at (names_seen self.old) [] (expr_seen expr.now) 0 work.old) }
+    /// refusal too the formulas that stood keep their ids; how many evaluations were done isn't said then.
+    pub fn value_of(&self, expr: &'t Expr, work: &mut Work) -> Result<Value, SpecFault>
+        ensures value { IsOutcome result work.new (value_at (names_seen self.now) [] (expr_seen expr.now) 0 work.old) }
         ensures grows { Grows work.old.formulas work.new.formulas }
-        ensures names { names_seen self.new ≡ names_seen self.old }
     {
-        self.meanings.read_expr(expr)?;
         let mut bound = Scope::new(self.alloc);
-        let mut progress = Progress::of(self.alloc, work.taken(self.alloc));
-        let value = self.value(&mut bound, expr, MOST_DEPTH, &mut progress);
-        let remembered = self
-            .enumerated
-            .remember(&progress.work.formulas, &progress.matches);
-        *work = progress.work;
-        let value = value?;
-        remembered?;
-        Ok(value.shown()?)
+        self.value(&mut bound, expr, MOST_DEPTH, work)
     }
 
     fn add_signals(&mut self, signals: &[(Name, u32)]) -> Result<(), AllocError>
@@ -94,25 +77,13 @@ impl<'t> Names<'t> {
     }
 }
 
-/// The bound names, which get numbers, and of which the sets stand over numbers that have a place.
-fn scope<'e>(
-    alloc: Global,
-    meanings: &mut Meanings<'_>,
-    bound: &'e [(Name, Value)],
-    progress: &mut Progress,
-) -> Result<Scope<'e>, AllocError>
-    ensures value { IfOk result (λ scope. bound_seen scope ≡ reverse (map binding_of bound.now)) }
-    ensures over { IfOk result (λ scope. AllOver progress.new.numbering scope) }
-    ensures grows { (names : TextNames) → Extends names progress.old progress.new }
-    ensures numbered { IfOk result (λ scope. AllNumbered meanings.new.table scope) }
-    ensures means { means_of meanings.new ≡ means_of meanings.old }
-    ensures work { progress.new.work ≡ progress.old.work }
+/// The bound names with their values.
+fn scope<'e>(alloc: Global, bound: &'e [(Name, Value)]) -> Result<Scope<'e>, AllocError>
+    ensures { IfOk result (λ scope. scope ≡ reverse (map binding_of bound.now)) }
 {
     let mut scope = Scope::new(alloc);
     for entry in bound {
-        let number = meanings.read_name(&entry.0)?;
-        let value = progress.held(alloc, &entry.1)?;
-        scope.push(number, &entry.0, value)?;
+        scope.push(&entry.0, entry.1.clone()?)?;
     }
     Ok(scope)
 }
@@ -157,17 +128,15 @@ pub fn value_of(
     ensures uncounted { OnErr result (meter.new.done ≡ meter.old.done) }
 {
     let alloc = *env.bound.allocator();
-    let mut names = Names::of_env(alloc, tree, env)?;
-    let work = Work {
+    let names = Names::of_env(alloc, tree, env)?;
+    let mut work = Work {
         done: meter.done,
         formulas: copied(alloc, formulas)?,
     };
-    let mut progress = Progress::of(alloc, work);
-    let mut bound = scope(alloc, &mut names.meanings, &env.bound, &mut progress)?;
-    names.meanings.read_expr(expr)?;
+    let mut bound = scope(alloc, &env.bound)?;
     let left = MOST_DEPTH.saturating_sub(meter.depth);
-    let value = names.value(&mut bound, expr, left, &mut progress)?.shown()?;
-    meter.done = progress.work.done;
-    *formulas = progress.work.formulas;
+    let value = names.value(&mut bound, expr, left, &mut work)?;
+    meter.done = work.done;
+    *formulas = work.formulas;
     Ok(value)
 }

@@ -6,7 +6,6 @@ ghost use Rattle.tlsf_values.specs.Outcomes.{counted, made};
 ghost use Rattle.tlsf_values.specs.Results.{IsOutcome};
 
 use ltl_formula::{AddFault, FormulaId, Formulas, Node};
-use std::alloc::Global;
 use tlsf_tokens::{SpecCode, SpecFault};
 
 /// How many evaluations there are at most.
@@ -23,19 +22,6 @@ pub struct Work {
 }
 
 impl Work {
-    /// This work, in whose place nothing is left. It takes no memory.
-    pub(crate) fn taken(&mut self, alloc: Global) -> Work
-        ensures { result ≡ self.old }
-    {
-        std::mem::replace(
-            self,
-            Work {
-                done: 0,
-                formulas: Formulas::new(alloc),
-            },
-        )
-    }
-
     /// Counts so many evaluations for the node of the written tree at this byte.
     pub(crate) fn count(&mut self, place: u64, evaluations: u128) -> Result<(), SpecFault>
         ensures value { IsOutcome result self.new (counted place evaluations self.old) }

@@ -1,5 +1,5 @@
 use Rattle.std.proofs.Common.{◌≡◌, [], drop}
-use Rattle.written_names.specs.Seen.{trees_seen}
+use Rattle.tlsf_values.specs.Seen.{trees_seen}
 use Rattle.tlsf_values.specs.PartsSeen.{numbers_among}
 use Rattle.tlsf_values.proofs.steps.numbers_among.Given as goal
 

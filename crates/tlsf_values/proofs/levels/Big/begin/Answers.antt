@@ -2,10 +2,9 @@ use Rattle.std.proofs.Common.{rules, ◌≡◌, length, reverse, ◌∷◌, ap, 
 use Rattle.std.proofs.lemmas.List.{reverse-append}
 use Rattle.tlsf_values.proofs.LevelLemmas.{level_less, level_more, level_step}
 use Rattle.tlsf_values.specs.LevelsSeen.{after, pending, turns}
-use Rattle.tlsf_values.specs.HeldSeen.{bound_seen}
 use Rattle.tlsf_values.specs.MembersSeen.{members_seen}
 use Rattle.tlsf_values.specs.declared.value.Value.TheVariants.{Number}
-use Rattle.written_names.specs.Seen.{word_seen}
+use Rattle.tlsf_values.specs.Seen.{word_seen}
 use Rattle.tlsf_values.proofs.levels.Big.begin.Goals as goal
 
 pub returns-in_default-clause-less : goal.returns-in_default-clause-less
@@ -15,9 +14,9 @@ pub returns-clause-value : goal.returns-clause-value
 returns-clause-value c = λ r ranges w.
     let items = ap reverse c.in_ok-push.ensures.items ∙ reverse-append c.args.levels.now.items _ in
     let same : to_z w64 (of_z w64 c.in-Some.number) ≡ c.in-Some.number = search rules in
-    let seen = c.in_ok-push_number.ensures.seen ∙ ap (λ z. record { name = c.args.level.word.now.name; value = Number z } ∷ bound_seen c.args.bound.now) same in
-    rw (items, seen) (level_step r c.args.self.now (bound_seen c.args.bound.now) (word_seen c.args.level.word.now) c.args.level.inner.now (members_seen c.args.level.members) (members_seen c.next.new.self) c.in-Some.number c.args.level.so_far w
-    (λ x w. after r c.args.self.now (bound_seen c.args.bound.now) (reverse c.args.levels.now.items) x w) c.in-Some.ensures)
+    let seen = c.in_ok-push_number.ensures ∙ ap (λ z. record { name = c.args.level.word.now.name; value = Number z } ∷ c.args.bound.now) same in
+    rw (items, seen) (level_step r c.args.self.now c.args.bound.now (word_seen c.args.level.word.now) c.args.level.inner.now (members_seen c.args.level.members) (members_seen c.next.new.self) c.in-Some.number c.args.level.so_far w
+    (λ x w. after r c.args.self.now c.args.bound.now (reverse c.args.levels.now.items) x w) c.in-Some.ensures)
 
 pub returns-clause-less : goal.returns-clause-less
 returns-clause-less c = λ ranges.

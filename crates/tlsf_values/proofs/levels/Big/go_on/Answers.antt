@@ -1,7 +1,7 @@
 use Rattle.std.proofs.Common.{rules, ◌≡◌, length, reverse, ◌++◌, ◌∷◌, [], ap, ◌∙◌, drop, arith}
 use Rattle.std.proofs.lemmas.List.{length-append, reverse-append}
 use Rattle.ltl_formula.proofs.Lists.{Grows-trans}
-use Rattle.tlsf_values.proofs.LevelLemmas.{after_step, fit_step, outer_step, pending_step}
+use Rattle.tlsf_values.proofs.LevelLemmas.{after_step, outer_step, pending_step}
 use Rattle.tlsf_values.proofs.levels.Big.go_on.Goals as goal
 
 pub loop-level-smaller : goal.loop-level-smaller
@@ -24,8 +24,7 @@ loop-level-preserved c =
           ∙ rw c.in-Some-2.is at c.in_ok-joined.ensures.value r [] c.joined.new.work,
       c.in_ok-joined.ensures.outer ∙ outer_step c.loop-level.bound c.pop-in-Some.new.self (reverse c.loop-level.levels.items) (reverse c.pop.new.self.items) c.in-Some.level is popped ∙ c.loop-level.invariant.1,
       omega (arith, less, pending_same, c.loop-level.invariant.2),
-      λ table us fit. c.in_ok-joined.ensures.fit table us (fit_step table us c.loop-level.bound c.pop-in-Some.new.self (reverse c.loop-level.levels.items) (reverse c.pop.new.self.items) c.in-Some.level c.in_ok-level.level is popped c.in_ok-level.ensures.same (c.loop-level.invariant.3 table us fit)),
-      Grows-trans _ _ _ c.loop-level.invariant.4 c.in_ok-level.ensures.grows,
+      Grows-trans _ _ _ c.loop-level.invariant.3 c.in_ok-level.ensures.grows,
     )
 
 pub returns-in-None-clause-value : goal.returns-in-None-clause-value
@@ -43,14 +42,3 @@ returns-in-None-clause-less c = λ ranges.
     let less = rw c.in-None.is at c.in_ok-joined.ensures.less ranges in
     let pending_same = pending_step (reverse c.loop-level.levels.items) (reverse c.pop.new.self.items) c.in-Some.level c.in_ok-level.level is c.in_ok-level.ensures.same in
     omega (arith, less, pending_same, c.loop-level.invariant.2)
-
-pub returns-in-None-clause-fit : goal.returns-in-None-clause-fit
-returns-in-None-clause-fit c = λ table us fit.
-    let items : c.loop-level.levels.items ≡ c.pop.new.self.items ++ c.in-Some.level ∷ [] = search rules in
-    let is = ap reverse items ∙ reverse-append c.pop.new.self.items (c.in-Some.level ∷ []) in
-    c.in_ok-joined.ensures.fit table us (fit_step table us c.loop-level.bound c.pop-in-Some.new.self (reverse c.loop-level.levels.items) (reverse c.pop.new.self.items) c.in-Some.level c.in_ok-level.level is c.pop-in-Some.ensures c.in_ok-level.ensures.same (c.loop-level.invariant.3 table us fit))
-
-pub returns-clause-fit : goal.returns-clause-fit
-returns-clause-fit c = λ table us fit.
-    let same : c.pop.new.self.items ≡ c.loop-level.levels.items = search rules in
-    rw same (c.loop-level.invariant.3 table us fit)

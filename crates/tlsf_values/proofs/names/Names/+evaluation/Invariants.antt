@@ -1,11 +1,10 @@
 use Rattle.std.proofs.Common.{◌≡◌, ◌+◌, ◌*◌, ◌^◌, length, [], ◌++◌, map, drop, reverse}
-use Rattle.tlsf_values.specs.HeldSeen.{AllNumbered, AllOver, bound_seen, held_seen, IsOver}
-use Rattle.tlsf_values.specs.LevelsSeen.{AreFit, inner_of, onward, turns_left}
-use Rattle.tlsf_values.specs.Matches.{Extends, Ready}
+use Rattle.tlsf_values.specs.LevelsSeen.{inner_of, onward, turns_left}
+use Rattle.ltl_formula.specs.Nodes.{Grows}
 use Rattle.tlsf_values.specs.NamesSeen.{names_seen}
 use Rattle.tlsf_values.specs.Outcomes.{gives, go_on}
 use Rattle.tlsf_values.specs.PartsSeen.{as_numbers}
-use Rattle.written_names.specs.Seen.{alternative_seen, expr_seen, link_list_seen, range_list_seen, trees_seen, word_seen}
+use Rattle.tlsf_values.specs.Seen.{alternative_seen, expr_seen, link_list_seen, range_list_seen, trees_seen, word_seen}
 use Rattle.tlsf_values.specs.Values.{arguments_at, big_value, chain_value, chosen_value, evaluator, start_of, values_at}
 use Rattle.tlsf_values.proofs.names.Names.+evaluation.Given as goal
 
@@ -66,38 +65,38 @@ decreases-inward l = 2 ^ 70 * l.left + 1
 abbrev pub invariant-chosen-loop-alternative : goal.invariant-chosen-loop-alternative
 invariant-chosen-loop-alternative l =
     let r = evaluator (names_seen l.self) l.left in
-    let b = bound_seen l.fn.bound in
-    (l.bound ≡ l.fn.bound) × Extends (names_seen l.self) l.fn.progress l.progress × Ready (names_seen l.self) l.progress l.bound ×
-    (chosen_value r b l.place (map alternative_seen l.alternatives) l.fn.progress.work ≡ chosen_value r b l.place (map alternative_seen (drop l.alternative-index l.alternatives)) l.progress.work)
+    let b = l.fn.bound in
+    (l.bound ≡ l.fn.bound) × Grows l.fn.work.formulas l.work.formulas ×
+    (chosen_value r b l.place (map alternative_seen l.alternatives) l.fn.work ≡ chosen_value r b l.place (map alternative_seen (drop l.alternative-index l.alternatives)) l.work)
 
 abbrev pub invariant-arguments-loop-i : goal.invariant-arguments-loop-i
 invariant-arguments-loop-i l =
     let r = evaluator (names_seen l.self) l.left in
-    let b = bound_seen l.fn.bound in
-    (l.bound ≡ l.fn.bound) × Extends (names_seen l.self) l.fn.progress l.progress × Ready (names_seen l.self) l.progress l.bound × AllOver l.progress.numbering l.inner × AllNumbered l.self.meanings.table l.inner ×
-    (arguments_at r b [] (map word_seen l.words) (trees_seen l.arguments) l.fn.progress.work ≡ arguments_at r b (bound_seen l.inner) (map word_seen (drop l.i l.words)) (trees_seen (drop l.i l.arguments)) l.progress.work)
+    let b = l.fn.bound in
+    (l.bound ≡ l.fn.bound) × Grows l.fn.work.formulas l.work.formulas ×
+    (arguments_at r b [] (map word_seen l.words) (trees_seen l.arguments) l.fn.work ≡ arguments_at r b l.inner (map word_seen (drop l.i l.words)) (trees_seen (drop l.i l.arguments)) l.work)
 
 abbrev pub invariant-part_values-loop-part : goal.invariant-part_values-loop-part
 invariant-part_values-loop-part l =
     let r = evaluator (names_seen l.self) l.left in
-    let b = bound_seen l.fn.bound in
-    (l.bound ≡ l.fn.bound) × Extends (names_seen l.self) l.fn.progress l.progress × Ready (names_seen l.self) l.progress l.bound ×
-    (as_numbers (values_at r b [] (trees_seen l.parts) l.fn.progress.work) ≡ go_on (as_numbers (values_at r b [] (trees_seen (drop l.part-index l.parts)) l.progress.work)) (λ zs w. gives (l.values.items ++ zs) w))
+    let b = l.fn.bound in
+    (l.bound ≡ l.fn.bound) × Grows l.fn.work.formulas l.work.formulas ×
+    (as_numbers (values_at r b [] (trees_seen l.parts) l.fn.work) ≡ go_on (as_numbers (values_at r b [] (trees_seen (drop l.part-index l.parts)) l.work)) (λ zs w. gives (l.values.items ++ zs) w))
 
 abbrev pub invariant-chain-loop-link : goal.invariant-chain-loop-link
 invariant-chain-loop-link l =
     let names = names_seen l.self in
     let r = evaluator names l.left in
-    let b = bound_seen l.fn.bound in
+    let b = l.fn.bound in
     let t = expr_seen l.first in
-    (l.bound ≡ l.fn.bound) × Extends (names_seen l.self) l.fn.progress l.progress × Ready (names_seen l.self) l.progress l.bound × IsOver l.progress.numbering l.value ×
-    (chain_value names r b l.place (start_of t) (held_seen l.initial.value) (link_list_seen l.rest) l.initial.progress.work ≡ chain_value names r b l.place (start_of t) (held_seen l.value) (link_list_seen (drop l.link-index l.rest)) l.progress.work)
+    (l.bound ≡ l.fn.bound) × Grows l.fn.work.formulas l.work.formulas ×
+    (chain_value names r b l.place (start_of t) l.initial.value (link_list_seen l.rest) l.initial.work ≡ chain_value names r b l.place (start_of t) l.value (link_list_seen (drop l.link-index l.rest)) l.work)
 
 abbrev pub invariant-over_ranges-loop-levels : goal.invariant-over_ranges-loop-levels
 invariant-over_ranges-loop-levels l =
     let r = evaluator (names_seen l.self) l.left in
-    (drop (length (reverse l.levels.items)) l.bound ≡ l.fn.bound) × Extends (names_seen l.self) l.fn.progress l.progress × AreFit l.self.meanings.table l.progress.numbering l.bound (reverse l.levels.items) × Ready (names_seen l.self) l.progress l.bound ×
-    (big_value r l.big.place l.big.connective (bound_seen l.fn.bound) (range_list_seen l.ranges) (expr_seen l.big.part.now) l.fn.progress.work ≡ onward r l.big (bound_seen l.bound) (inner_of l.ranges (reverse l.levels.items)) (reverse l.levels.items) l.progress.work)
+    (drop (length (reverse l.levels.items)) l.bound ≡ l.fn.bound) × Grows l.fn.work.formulas l.work.formulas ×
+    (big_value r l.big.place l.big.connective l.fn.bound (range_list_seen l.ranges) (expr_seen l.big.part.now) l.fn.work ≡ onward r l.big l.bound (inner_of l.ranges (reverse l.levels.items)) (reverse l.levels.items) l.work)
 
 abbrev pub decreases-over_ranges-loop-levels : goal.decreases-over_ranges-loop-levels
 decreases-over_ranges-loop-levels l = turns_left l.ranges (reverse l.levels.items)

@@ -1,6 +1,6 @@
 use Rattle.std.proofs.Common.{arith, rules}
 use Rattle.std.proofs.lemmas.Grind.{common_steps}
-use Rattle.tlsf_values.proofs.OverLemmas.{nodes_grow}
+use Rattle.tlsf_values.proofs.GrowLemmas.{nodes_grow}
 use Rattle.tlsf_values.proofs.work.Work.bits_made.Goals as goal
 use Rattle.tlsf_values.proofs.work.Work.bits_made.Goals.{in-Some+in_ok-id+in_ok-joined_to, in_default}
 

@@ -1,7 +1,7 @@
 use Rattle.std.proofs.Common.{rules, sym, subst, ◌∙◌}
 use Rattle.std.proofs.lemmas.Result.{err_from_is_err_and}
 use Rattle.tlsf_values.specs.Results.{IsFault}
-use Rattle.tlsf_values.proofs.OverLemmas.{nodes_grow}
+use Rattle.tlsf_values.proofs.GrowLemmas.{nodes_grow}
 use Rattle.tlsf_values.proofs.PatternLemmas.{member_given, member_fault}
 use Rattle.tlsf_values.proofs.work.Work.members_made.Goals as goal
 

@@ -1,5 +1,5 @@
 use Rattle.std.proofs.Common.{◌∙◌, arith, rules}
-use Rattle.tlsf_values.proofs.OverLemmas.{nodes_grow}
+use Rattle.tlsf_values.proofs.GrowLemmas.{nodes_grow}
 use Rattle.tlsf_values.proofs.CountLemmas.{window_step}
 use Rattle.tlsf_values.proofs.work.Work.window_between.Goals as goal
 

@@ -1,4 +1,0 @@
-pub mod SeenLemmas
-pub mod FormLemmas
-pub mod KeepLemmas
-pub mod Walks
