@@ -1,0 +1,9 @@
+pub mod Standings
+pub mod Steps
+pub mod Growing
+pub mod Overs
+pub mod Wholes
+pub mod CoreLaws
+pub mod OtherParts
+pub mod Lists
+pub mod Replies

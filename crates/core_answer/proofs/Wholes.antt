@@ -1,0 +1,127 @@
+-- What is told of a whole text.
+use Rattle.std.proofs.Common.{◌≡◌, ℕ, ◌<◌, ◌≤◌, Bool, true, false, List, Option, Some, Result, Ok, Err, IfOk, length, replicate, refl, sym, ap, subst, ◌∙◌}
+use Rattle.std.specs.Prelude.{not}
+use Rattle.letter_word.specs.declared.kinds.Kind.{Kind}
+use Rattle.ltl_formula.proofs.Lists.{signals_are_below}
+use Rattle.std.proofs.lemmas.Result.{IfOk-weaker}
+use Rattle.tlsf_tokens.specs.declared.code.SpecCode.{SpecCode}
+use Rattle.tlsf_tokens.specs.declared.code.SpecCode.TheVariants.{TooManyGuarantees}
+use Rattle.tlsf_tokens.specs.declared.code.SpecFault.{SpecFault}
+use Rattle.tlsf_tokens.specs.declared.code.SpecFault.TheVariants.{At, NoMemory}
+use Rattle.program_replies.specs.declared.replies.Reply.{Reply}
+use Rattle.program_replies.specs.declared.replies.Status.{Status}
+use Rattle.program_replies.specs.declared.replies.Status.TheVariants.{Unrealizable}
+use Rattle.program_replies.specs.Statuses.{status_number}
+use Rattle.synth_answer.specs.Reply.{IsRefusal}
+use Rattle.tlsf_expand.specs.Expansion.{Expanded}
+use Rattle.tlsf_expand.specs.TextSeen.{FlatText}
+use Rattle.flat_text.specs.FlatOf.{IsFlatOf}
+use Rattle.flat_text.specs.Plain.{text_of}
+use Rattle.spec_problems.specs.declared.sides.SideProblems.{SideProblems}
+use Rattle.spec_problems.specs.Laws.{ProblemsOfTextsAreDetermined}
+use Rattle.spec_problems.specs.OfText.{IsFirstFault}
+use Rattle.ltl_formula.specs.Nodes.{tree_at}
+use Rattle.synth_engine.specs.declared.settings.Settings.{Settings}
+use Rattle.synth_answer.specs.Answer.{Answers, IsAnswerFor, IsAnswerOn, defeats}
+use Rattle.synth_answer.specs.Ground.{AreGivenOn, Ground, IsGroundOf}
+use Rattle.synth_answer.proofs.Grounds.{answer_for}
+use Rattle.synth_answer.proofs.Meaning.{flat_by_its_kind, given_on, ground_by_its_kind, is_ground, text_ground}
+use Rattle.unreal_core.specs.WholeLaws.{SectionsOfTextsStand}
+use Rattle.unreal_core.specs.Reduced.{SectionsStand}
+use Rattle.unreal_core.proofs.Texts.{list_of_text, sections_stand_later}
+use Rattle.core_answer.specs.Core.{CoreAnswers, IsCore, IsCoreFault, IsToldCore, IsToldOver, Tells, core, guarantees_in, of_text, refused, spared, too_many}
+use Rattle.core_answer.specs.Known.{IsTextIn, IsTextWith}
+use Rattle.core_answer.specs.Over.{IsFaultOver, IsGroundOver, over_all}
+use Rattle.core_answer.proofs.Growing.{forms_grow}
+use Rattle.core_answer.proofs.Standings.{fresh_all}
+
+module _ (text : List ℕ) (kind : Option Kind) (spec : FlatText) (s : SideProblems) (t : IsTextWith text kind spec s) where
+  abbrev pub the_flat : FlatText
+  the_flat = t.are.flat
+
+  pub text_in : SectionsOfTextsStand → IsTextIn text kind spec
+  text_in stand =
+      let is = t.are.is_flat in
+      let forms = t.are.problems.are_automata.forms in
+      let list = list_of_text (text_of is.tree) kind the_flat is.expanded in
+      record {
+        flat = the_flat;
+        is_flat = is;
+        by_its_kind = subst (λ (x : Expanded). IsFlatOf text (Some x.kind) the_flat) (sym t.are.same) (flat_by_its_kind text kind the_flat is);
+        same = t.are.same;
+        grows = forms_grow (tree_at the_flat.formulas the_flat.expanded.whole) the_flat.formulas spec.formulas
+            t.are.problems.are_automata.negated t.are.problems.are_automata.normal list
+            (signals_are_below the_flat.formulas the_flat.expanded.whole list is.meaning.stands) forms;
+        stand = stand (text_of is.tree) kind the_flat is.expanded;
+      }
+
+  abbrev pub own_ground : Ground
+  own_ground = text_ground spec the_flat t.says
+
+  pub given_here : AreGivenOn own_ground s
+  given_here = given_on text kind spec s t.says t.are t.accept
+
+  pub same_count : length spec.expanded.sections.guarantee ≡ guarantees_in the_flat
+  same_count = ap (λ (x : Expanded). length x.sections.guarantee) t.are.same
+
+  module _ (settings : Settings) (bytes : List ℕ) (status : ℕ) (defeat : Bool) (on : IsAnswerOn own_ground settings bytes status defeat) where
+    abbrev pub answers_text : IsAnswerFor (IsFirstFault text kind) (IsGroundOf text) kind settings bytes status defeat
+    answers_text =
+        answer_for (IsFirstFault text kind) (IsGroundOf text) kind settings own_ground (is_ground text kind spec s t.says t.are) (ground_by_its_kind text kind spec s t.says t.are)
+        bytes status defeat on
+
+    -- it is told over all guarantees
+    pub told_over_all : (count : ℕ) → IsToldOver text (replicate count true) kind settings bytes status defeat
+    told_over_all count =
+        answer_for (IsFaultOver text (replicate count true) kind) (IsGroundOver text (replicate count true)) kind settings own_ground
+        (over_all (fresh_all count) (is_ground text kind spec s t.says t.are)) (over_all (fresh_all count) (ground_by_its_kind text kind spec s t.says t.are))
+        bytes status defeat on
+
+    pub tells_all : defeat ≡ true → (count : ℕ) → Tells text (replicate count true) kind settings true bytes
+    tells_all defeated count = record { status = status; is_told = subst (λ d. IsToldOver text (replicate count true) kind settings bytes status d) defeated (told_over_all count) }
+
+    pub spared_text : length spec.expanded.sections.guarantee ≤ 64 → defeat ≡ false → CoreAnswers text kind settings bytes status
+    spared_text few not_defeated =
+        spared the_flat t.are.is_flat (subst (λ n. n ≤ 64) same_count few) answers_text.answers (answers_text.told ∙ not_defeated)
+
+    pub core_text : length spec.expanded.sections.guarantee ≤ 64 → defeat ≡ true → (count : ℕ) → count ≡ length spec.expanded.sections.guarantee → (lines : List ℕ)
+        → IsToldCore text kind settings count lines → IsCore text kind settings lines
+    core_text few defeated count is lines told = record {
+      flat = the_flat;
+      is_flat = t.are.is_flat;
+      few = subst (λ n. n ≤ 64) same_count few;
+      whole_bytes = bytes;
+      whole_status = status;
+      whole = answers_text.answers;
+      whole_defeats = answers_text.told ∙ defeated;
+      told = subst (λ n. IsToldCore text kind settings n lines) (is ∙ same_count) told;
+    }
+
+  pub too_many_here : ProblemsOfTextsAreDetermined → 64 < length spec.expanded.sections.guarantee → IsCoreFault text kind TooManyGuarantees 0
+  too_many_here laws more = too_many the_flat t.are.is_flat (λ code place fault. laws.no_fault text kind 2 spec s code place t.are fault) (subst (λ n. 64 < n) same_count more)
+
+-- the sections stand in the longer list too
+pub stand_here : (text : List ℕ) (kind : Option Kind) (spec : FlatText) → IsTextIn text kind spec → SectionsStand spec.formulas spec.expanded.sections
+stand_here text kind spec t =
+    subst (λ (x : Expanded). SectionsStand spec.formulas x.sections) (sym t.same) (sections_stand_later t.flat.formulas spec.formulas t.flat.expanded.sections t.grows t.stand)
+
+both_ok : {A E : Type 0} (P Q : A → Type 0) (r : Result A E) → IfOk r P → IfOk r Q → IfOk r (λ a. P a × Q a)
+both_ok P Q (Ok a) p q = (p, q)
+both_ok P Q (Err e) p q = tt
+
+-- what is told of a core of the text
+pub core_replied : (text : List ℕ) (kind : Option Kind) (settings : Settings) (count : ℕ) {E : Type 0} (r : Result Reply E) → IfOk r (λ r. r.status ≡ Unrealizable) → IfOk r (λ r. IsToldCore text kind settings count r.bytes.items)
+    → ((lines : List ℕ) → IsToldCore text kind settings count lines → IsCore text kind settings lines) → IfOk r (λ r. CoreAnswers text kind settings r.bytes.items (status_number r.status))
+core_replied text kind settings count r ended told made =
+    IfOk-weaker r (λ r. (r.status ≡ Unrealizable) × IsToldCore text kind settings count r.bytes.items) (λ r. CoreAnswers text kind settings r.bytes.items (status_number r.status))
+    (λ r h. core (ap status_number h.0) (made r.bytes.items h.1)) (both_ok (λ r. r.status ≡ Unrealizable) (λ r. IsToldCore text kind settings count r.bytes.items) r ended told)
+
+-- the line of a fault of the text
+pub fault_answers : (text : List ℕ) (kind : Option Kind) (settings : Settings) (fault : SpecFault) (bytes : List ℕ) (ended : Status)
+    → ((code : SpecCode) (position : ℕ) → fault ≡ At code position → IsFirstFault text kind code position) → IsRefusal fault bytes ended → CoreAnswers text kind settings bytes (status_number ended)
+fault_answers text kind settings (At code position) bytes ended first h = refused code position (ap status_number h.1) (of_text code position (first code position refl)) h.0
+fault_answers text kind settings NoMemory bytes ended first h = absurd h
+
+pub not_false : (b : Bool) → not b ≡ false → b ≡ true
+not_false true e = refl
+not_false false e = absurd (let never : ⊥ = cc in never)

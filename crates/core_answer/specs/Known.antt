@@ -1,0 +1,43 @@
+-- What is known of a text while its guarantees are left out one at a time (this project's own).
+use Rattle.std.specs.Prelude.{◌≡◌, ℕ, ◌+◌, Bool, true, false, List, [], ◌∷◌, Option, None, Some, length, map}
+use Rattle.letter_word.specs.declared.kinds.Kind.{Kind}
+use Rattle.ltl_formula.specs.Nodes.{Grows}
+use Rattle.spec_problems.specs.declared.sides.SideProblems.{SideProblems}
+use Rattle.spec_problems.specs.OfFormula.{AcceptBySide, AreProblems}
+use Rattle.spec_problems.specs.OfText.{AreProblemsOf, SaysWhat}
+use Rattle.ltl_formula.specs.Nodes.{tree_at}
+use Rattle.tlsf_expand.specs.TextSeen.{FlatText}
+use Rattle.flat_text.specs.FlatOf.{IsFlatOf}
+use Rattle.synth_engine.specs.declared.settings.Settings.{Settings}
+use Rattle.unreal_core.specs.declared.shrink.Standing.{Standing}
+use Rattle.unreal_core.specs.declared.shrink.Standing.TheVariants.{Open, Needed, Dropped}
+use Rattle.unreal_core.specs.Laws.{kept_in}
+use Rattle.unreal_core.specs.Reduced.{SectionsStand}
+use Rattle.core_answer.specs.Core.{AreSpared, Tells}
+
+-- a text with its problems
+pub record IsTextWith (text : List ℕ) (kind : Option Kind) (spec : FlatText) (s : SideProblems) : Type 0 where
+  pub are : AreProblemsOf text kind 2 spec s
+  pub accept : AcceptBySide (tree_at spec.formulas spec.expanded.whole) s
+  pub says : SaysWhat text spec.formulas spec.expanded.whole
+
+-- a text, in whose list the normal forms stand too; it is the same where it is taken with the kind that it has
+pub record IsTextIn (text : List ℕ) (kind : Option Kind) (spec : FlatText) : Type 0 where
+  pub flat : FlatText
+  pub is_flat : IsFlatOf text kind flat
+  pub by_its_kind : IsFlatOf text (Some spec.expanded.kind) flat
+  pub same : spec.expanded ≡ flat.expanded
+  pub grows : Grows flat.formulas spec.formulas
+  pub stand : SectionsStand flat.formulas flat.expanded.sections
+
+-- the numbers that were found needed since the last drop; the first of the list has this one
+abbrev pub needed_from : ℕ → List Standing → List ℕ
+needed_from n [] = []
+needed_from n (Open ∷ s) = needed_from (n + 1) s
+needed_from n (Needed ∷ s) = n ∷ needed_from (n + 1) s
+needed_from n (Dropped ∷ s) = needed_from (n + 1) s
+
+-- over the guarantees that are kept the document defeats, and of each that was found needed there is what comes without it
+pub record IsShrunk (text : List ℕ) (kind : Option Kind) (settings : Settings) (s : List Standing) (document : List ℕ) (others : List (List ℕ)) : Type 0 where
+  pub defeated : Tells text (kept_in s) kind settings true document
+  pub spared : AreSpared text (kept_in s) kind settings (needed_from 1 s) others

@@ -1,0 +1,164 @@
+//! The answer to a text.
+ghost use Rattle.std.specs.Prelude.{◌≡◌, ◌≤◌, ℕ, List, Option, true, false, IfOk, IfSome, length, map, replicate, vec_len};
+ghost use Rattle.letter_word.specs.declared.kinds.Kind.{Kind as AKind};
+ghost use Rattle.tlsf_expand.specs.FewSignals.{HasFewSignals};
+ghost use Rattle.tlsf_expand.specs.TextSeen.{spec_seen};
+ghost use Rattle.flat_text.specs.FlatNames.{HasPlainNames};
+ghost use Rattle.program_replies.specs.declared.replies.Status.TheVariants as ended;
+ghost use Rattle.program_replies.specs.Statuses.{status_number};
+ghost use Rattle.synth_answer.specs.Reply.{AreProblemsFor, IsRefusal};
+ghost use Rattle.unreal_core.specs.Reduced.{SectionsStand};
+ghost use Rattle.core_answer.specs.Core.{CoreAnswers, IsToldCore, Tells};
+ghost use Rattle.core_answer.specs.Known.{IsTextIn, IsTextWith};
+
+use crate::lines::core_text;
+use crate::shrinking::{kept, shrunk};
+use letter_word::Kind;
+use ltl_formula::FormulaId;
+use outside_edge::Gate;
+use program_replies::{Reply, Status, refused};
+use spec_problems::laws::problems_of_texts_are_determined;
+use spec_problems::{TextProblems, text_problems};
+use std::alloc::{AllocError, Global};
+use std::sync::Wait;
+use std::thread::Threads;
+use synth_answer::answer_on;
+use synth_engine::Settings;
+use tlsf_expand::{Section, Spec};
+use tlsf_tokens::{SpecCode, SpecFault};
+use unreal_core::laws::sections_of_texts_stand;
+
+/// The most guarantees that are searched.
+const MOST_GUARANTEES: usize = 64;
+
+/// The answer of `core` to a text: the line of its first fault with status 1; the answer of `synth`, where its document has no
+/// counter-machine; or, with status 20, guarantees that can't be met together, with what comes without each. A kind that is given stands
+/// for the text's own.
+///
+/// It waits for the workers of the searches, each of which passes the gate at three moments of its turns. For a text with `count`
+/// guarantees there are at most `count * (count + 1) / 2 + 1` searches.
+pub fn core_answer<R: Threads + Wait + Sync, G: Gate + Sync>(
+    rt: &R,
+    alloc: Global,
+    text: &[u8],
+    kind: Option<Kind>,
+    settings: Settings,
+    gate: &G,
+) -> Result<Reply, AllocError>
+    requires some_size { 1 ≤ settings.max }
+    requires most_size { settings.max ≤ 8 }
+    requires entries { IfSome settings.entries (λ most. most ≤ 250000) }
+    requires workers { settings.workers ≤ 8 }
+    ensures { IfOk result (λ r. CoreAnswers text.now kind settings r.bytes.items (status_number r.status)) }
+{
+    sections_of_texts_stand();
+    match text_problems(alloc, text, kind, 2) {
+        Ok(found) => text_answer(rt, alloc, found, settings, gate),
+        Err(fault) => refusal(alloc, fault),
+    }
+}
+
+// The reply to a text with this fault.
+fn refusal(alloc: Global, fault: SpecFault) -> Result<Reply, AllocError>
+    ensures { IfOk result (λ r. IsRefusal fault r.bytes.items r.status) }
+{
+    match fault {
+        SpecFault::At { code, place } => refused(alloc, code, place),
+        SpecFault::NoMemory => Err(AllocError),
+    }
+}
+
+// The reply to a text that has problems.
+fn text_answer<R: Threads + Wait + Sync, G: Gate + Sync>(
+    rt: &R,
+    alloc: Global,
+    found: TextProblems,
+    settings: Settings,
+    gate: &G,
+) -> Result<Reply, AllocError>
+    requires some_size { 1 ≤ settings.max }
+    requires most_size { settings.max ≤ 8 }
+    requires entries { IfSome settings.entries (λ most. most ≤ 250000) }
+    requires workers { settings.workers ≤ 8 }
+    requires problems { AreProblemsFor (spec_seen found.spec).expanded found.problems }
+    requires six { vec_len found.spec.sections ≡ 6 }
+    requires stand { SectionsStand (spec_seen found.spec).formulas (spec_seen found.spec).expanded.sections }
+    requires few { HasFewSignals (length found.spec.inputs.items) (length found.spec.outputs.items) found.spec.formulas }
+    requires names { HasPlainNames (spec_seen found.spec).expanded }
+    ensures { (text : List ℕ) (kind : Option AKind) → IsTextWith text kind (spec_seen found.spec) found.problems
+        → IfOk result (λ r. CoreAnswers text kind settings r.bytes.items (status_number r.status)) }
+{
+    sections_of_texts_stand();
+    problems_of_texts_are_determined();
+    let TextProblems { spec, problems } = found;
+    let count = guarantee_count(&spec);
+    if count > MOST_GUARANTEES {
+        return refused(alloc, SpecCode::TooManyGuarantees, 0);
+    }
+    let whole = answer_on(rt, alloc, &spec, problems, settings, gate)?;
+    if !whole.defeats {
+        return Ok(whole.reply);
+    }
+    core_of(
+        rt,
+        alloc,
+        &spec,
+        count as u32,
+        whole.reply.bytes,
+        settings,
+        gate,
+    )
+}
+
+// The guarantees that can't be met together of a text whose document has a counter-machine.
+fn core_of<R: Threads + Wait + Sync, G: Gate + Sync>(
+    rt: &R,
+    alloc: Global,
+    spec: &Spec,
+    count: u32,
+    whole: Vec<u8>,
+    settings: Settings,
+    gate: &G,
+) -> Result<Reply, AllocError>
+    requires some_size { 1 ≤ settings.max }
+    requires most_size { settings.max ≤ 8 }
+    requires entries { IfSome settings.entries (λ most. most ≤ 250000) }
+    requires workers { settings.workers ≤ 8 }
+    requires count { count ≡ length (spec_seen spec.now).expanded.sections.guarantee }
+    requires most { count ≤ 64 }
+    requires six { vec_len spec.now.sections ≡ 6 }
+    requires stand { SectionsStand (spec_seen spec.now).formulas (spec_seen spec.now).expanded.sections }
+    requires few { HasFewSignals (length spec.now.inputs.items) (length spec.now.outputs.items) spec.now.formulas }
+    requires names { HasPlainNames (spec_seen spec.now).expanded }
+    ensures status { IfOk result (λ r. r.status ≡ ended.Unrealizable) }
+    ensures told { (text : List ℕ) (kind : Option AKind) → IsTextIn text kind (spec_seen spec.now) → Tells text (replicate count true) kind settings true whole.items
+        → IfOk result (λ r. IsToldCore text kind settings count r.bytes.items) }
+{
+    let sections = section_ids(alloc, &spec.sections)?;
+    let core = shrunk(rt, alloc, spec, &sections, count, whole, settings, gate)?;
+    let keep = kept(alloc, &core.shrink, count)?;
+    Ok(Reply {
+        bytes: core_text(alloc, &keep, &core.document, &core.others)?,
+        status: Status::Unrealizable,
+    })
+}
+
+fn guarantee_count(spec: &Spec) -> usize
+    ensures { result ≡ length (spec_seen spec.now).expanded.sections.guarantee }
+{
+    match spec.sections.get(5) {
+        Some(section) => section.formulas().len(),
+        None => 0,
+    }
+}
+
+// The formulas of the sections, as lists that the caller may make.
+fn section_ids(alloc: Global, sections: &[Section]) -> Result<Vec<Vec<FormulaId>>, AllocError>
+    ensures { IfOk result (λ lists. map (λ s. s.items) lists.items ≡ sections.now) }
+{
+    let mut lists = Vec::new(alloc);
+    for section in sections {
+        lists.push(Vec::from_slice(alloc, section.formulas())?)?;
+    }
+    Ok(lists)
+}

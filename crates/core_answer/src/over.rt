@@ -1,0 +1,125 @@
+//! A text with some of its guarantees, answered.
+ghost use Rattle.std.specs.Prelude.{◌≡◌, ◌≤◌, ℕ, List, Option, false, IfOk, IfSome, length, map};
+ghost use Rattle.letter_word.specs.declared.kinds.Kind.{Kind as AKind};
+ghost use Rattle.ltl_formula.specs.Nodes.{Stands};
+ghost use Rattle.tlsf_expand.specs.FewSignals.{HasFewSignals};
+ghost use Rattle.tlsf_expand.specs.Texts.{sections_from};
+ghost use Rattle.tlsf_expand.specs.TextSeen.{spec_seen};
+ghost use Rattle.flat_text.specs.FlatNames.{HasPlainNames};
+ghost use Rattle.program_replies.specs.Statuses.{status_number};
+ghost use Rattle.spec_problems.specs.OfText.{interface_of};
+ghost use Rattle.unreal_core.specs.Reduced.{SectionsStand};
+ghost use Rattle.core_answer.specs.Core.{IsToldOver};
+ghost use Rattle.core_answer.specs.Known.{IsTextIn};
+ghost use Rattle.core_answer.specs.Over.{are_all};
+ghost use Rattle.core_answer.specs.Reply.{IsReducedReply, IsRefusedReply, list_fault};
+
+use ltl_formula::{AddFault, FormulaId};
+use outside_edge::Gate;
+use program_replies::refused;
+use spec_problems::{Interface, problems_of};
+use std::alloc::{AllocError, Global};
+use std::sync::Wait;
+use std::thread::Threads;
+use synth_answer::{Answered, answer_on};
+use synth_engine::Settings;
+use tlsf_expand::Spec;
+use tlsf_tokens::{SpecCode, SpecFault};
+use unreal_core::{Reduced, whole_of};
+
+/// What answers a text with these of its guarantees, which aren't all. The sections are those of the text.
+pub(crate) fn answer_over<R: Threads + Wait + Sync, G: Gate + Sync>(
+    rt: &R,
+    alloc: Global,
+    spec: &Spec,
+    sections: &[Vec<FormulaId>],
+    keep: &[bool],
+    settings: Settings,
+    gate: &G,
+) -> Result<Answered, AllocError>
+    requires some_size { 1 ≤ settings.max }
+    requires most_size { settings.max ≤ 8 }
+    requires entries { IfSome settings.entries (λ most. most ≤ 250000) }
+    requires workers { settings.workers ≤ 8 }
+    requires six { length sections.now ≡ 6 }
+    requires sections { sections_from (map (λ s. s.items) sections.now) ≡ (spec_seen spec.now).expanded.sections }
+    requires stand { SectionsStand (spec_seen spec.now).formulas (spec_seen spec.now).expanded.sections }
+    requires each { length keep.now ≡ length (spec_seen spec.now).expanded.sections.guarantee }
+    requires few { HasFewSignals (length spec.now.inputs.items) (length spec.now.outputs.items) spec.now.formulas }
+    requires names { HasPlainNames (spec_seen spec.now).expanded }
+    ensures { (text : List ℕ) (kind : Option AKind) → IsTextIn text kind (spec_seen spec.now) → are_all keep.now ≡ false
+        → IfOk result (λ a. IsToldOver text keep.now kind settings a.reply.bytes.items (status_number a.reply.status) a.defeats) }
+{
+    match whole_of(alloc, &spec.formulas, sections, spec.strict, keep) {
+        Ok(reduced) => reduced_answer(rt, alloc, spec, reduced, settings, gate),
+        Err(fault) => refusal(alloc, list_fault(fault)),
+    }
+}
+
+/// What answers over the formula of the whole in its own list.
+fn reduced_answer<R: Threads + Wait + Sync, G: Gate + Sync>(
+    rt: &R,
+    alloc: Global,
+    spec: &Spec,
+    reduced: Reduced,
+    settings: Settings,
+    gate: &G,
+) -> Result<Answered, AllocError>
+    requires some_size { 1 ≤ settings.max }
+    requires most_size { settings.max ≤ 8 }
+    requires entries { IfSome settings.entries (λ most. most ≤ 250000) }
+    requires workers { settings.workers ≤ 8 }
+    requires stands { Stands reduced.formulas reduced.whole }
+    requires few { HasFewSignals (length spec.now.inputs.items) (length spec.now.outputs.items) reduced.formulas }
+    requires names { HasPlainNames (spec_seen spec.now).expanded }
+    ensures { IfOk result (λ a. IsReducedReply (spec_seen spec.now).expanded reduced settings a.reply.bytes.items a.reply.status a.defeats) }
+{
+    let Reduced {
+        mut formulas,
+        whole,
+    } = reduced;
+    match problems_of(alloc, &mut formulas, whole, interface(spec)) {
+        Ok(problems) => answer_on(rt, alloc, spec, problems, settings, gate),
+        Err(fault) => refusal(alloc, fault),
+    }
+}
+
+/// What the problems share with those of the text.
+fn interface(spec: &Spec) -> Interface
+    requires inputs { length spec.now.inputs.items ≤ 8 }
+    requires outputs { length spec.now.outputs.items ≤ 8 }
+    ensures { result ≡ interface_of 2 (spec_seen spec.now).expanded }
+{
+    Interface {
+        inputs: spec.inputs.len() as u32,
+        outputs: spec.outputs.len() as u32,
+        kind: spec.kind,
+        version: 2,
+    }
+}
+
+/// The line of a refusal, which has no counter-machine.
+fn refusal(alloc: Global, fault: SpecFault) -> Result<Answered, AllocError>
+    ensures { IfOk result (λ a. IsRefusedReply fault a.reply.bytes.items a.reply.status a.defeats) }
+{
+    match fault {
+        SpecFault::At { code, place } => Ok(Answered {
+            reply: refused(alloc, code, place)?,
+            defeats: false,
+        }),
+        SpecFault::NoMemory => Err(AllocError),
+    }
+}
+
+/// The refusal of a text whose guarantees that are kept find no room in a list.
+fn list_fault(fault: AddFault) -> SpecFault
+    ensures { result ≡ list_fault fault }
+{
+    match fault {
+        AddFault::TooManyNodes => SpecFault::At {
+            code: SpecCode::TooManyNodes,
+            place: 0,
+        },
+        AddFault::NoMemory => SpecFault::NoMemory,
+    }
+}
