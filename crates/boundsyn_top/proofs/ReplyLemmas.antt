@@ -2,6 +2,7 @@
 use Rattle.std.specs.Prelude.{Contains, IfOk, Result, Ok, Err, codes}
 use Rattle.std.proofs.Common.{◌≡◌, ◌≢◌, ℕ, List, [], ◌∷◌, ◌<◌, ◌≤◌, length, refl, sym, subst, arith, Option, Some, None}
 use Rattle.letter_word.specs.declared.kinds.Kind.{Kind}
+use Rattle.letter_word.specs.declared.kinds.Kind.TheVariants.{Mealy}
 use Rattle.outside_edge.specs.Faults.{Rose}
 use Rattle.outside_edge.specs.Files.{Files}
 use Rattle.program_replies.specs.declared.replies.Reply.{Reply}
@@ -17,13 +18,18 @@ use Rattle.arbiter_text.specs.Arbiter.{generated_text}
 use Rattle.bench_answer.specs.Bench.{BenchAnswer, HasStatus}
 use Rattle.tlsf_tokens.specs.declared.code.SpecCode.TheVariants.{TooLong}
 use Rattle.tlsf_reader.specs.Faults.{most_bytes, too_long}
-use Rattle.flat_text.specs.FlatOf.{of_reading}
-use Rattle.spec_problems.specs.OfText.{of_text}
+use Rattle.tlsf_expand.specs.TextSeen.{FlatText, spec_seen}
+use Rattle.flat_text.specs.FlatOf.{IsFlatFault, IsFlatOf, of_reading}
+use Rattle.flat_text.specs.Laws.{FlatTextsHaveNoFault}
+use Rattle.spec_problems.specs.declared.texts.TextProblems.{TextProblems}
+use Rattle.spec_problems.specs.Laws.{ProblemsOfTextsAreDetermined}
+use Rattle.spec_problems.specs.OfText.{IsFirstFault, of_text}
 use Rattle.synth_engine.specs.declared.settings.Settings.{Settings}
 use Rattle.synth_answer.specs.Answer.{Answers, realizable, unrealizable, bounded, no_size, no_entries}
 use Rattle.synth_answer.specs.Answer as synthesis
 use Rattle.check_answer.specs.Answer.{CheckAnswers, accepted}
 use Rattle.check_answer.specs.Answer as certificate
+use Rattle.check_answer.specs.Reply.{IsTaken}
 use Rattle.flat_answer.specs.Expand.{ExpandAnswers, written}
 use Rattle.flat_answer.specs.Expand as expansion
 use Rattle.flat_answer.specs.Lasso.{LassoAnswers}
@@ -33,7 +39,9 @@ use Rattle.boundsyn_top.specs.declared.output.Output.TheVariants.{Whole}
 use Rattle.boundsyn_top.specs.Output.{IsExpansion, IsWholeOf, bytes_of, status_of}
 use Rattle.boundsyn_top.specs.Files as file
 use Rattle.boundsyn_top.specs.Files.{AreOfFile, HoldsOfFile, IsUntaken, RepliesByFile}
-use Rattle.boundsyn_top.specs.Commands.{MayAnswer, bounds_of, names_of, statuses_of}
+use Rattle.boundsyn_top.specs.Commands.{MayAnswer, bounds_of, statuses_of}
+use Rattle.boundsyn_top.specs.Faults.{HasNone}
+use Rattle.boundsyn_top.specs.Takes.{IsWell, TakesFile, behind, first, first_file}
 use Rattle.boundsyn_top.specs.Run.{Asks, IsForeign, IsOutputFor, IsOutputOf, IsReply, RepliesTo, answers, answered, cannot_read, unread, words_refused}
 use Rattle.boundsyn_top.proofs.FileLemmas.{rose_later, some_bytes, too_long_text}
 
@@ -46,8 +54,8 @@ words_unasked words told before after bytes status none is ended = rw ended (wor
 -- what a command replies is what a run may write
 reply_by : (words : List (List ℕ)) (told : Option Files) (before after : List ℕ → ℕ) (asked : Asked) (bytes : List ℕ) (status : ℕ) →
     Asks words asked → RepliesTo told before after asked bytes status → IsReply words told before after bytes status
-reply_by words told before after asked bytes status asks (unread name named rose status_is is) =
-    cannot_read status_is (record { asked = asked; asks = asks; name = name; named = named; rose = rose }) is
+reply_by words told before after asked bytes status asks (unread name taken rose status_is is) =
+    cannot_read status_is (record { asked = asked; asks = asks; name = name; taken = taken; rose = rose }) is
 reply_by words told before after asked bytes status asks (answers status_is answer) =
     answered (record { asked = asked; asks = asks; status_is = status_is; answer = answer })
 
@@ -58,14 +66,31 @@ output_by words told before after asked output is o = record {
   writable = o.writable;
 }
 
--- a file that the words don't name isn't one of the command
-pub unnamed : (words : List (List ℕ)) (asked : Asked) (name : List ℕ) → settings_of words ≡ Some asked → IsForeign words name →
-    Contains (names_of asked) name → ⊥
-unnamed words asked name is foreign = foreign asked (record { settings = is })
+-- a file that is foreign isn't one of the command
+pub untaken_by : (words : List (List ℕ)) (told : Option Files) (asked : Asked) (name : List ℕ) → settings_of words ≡ Some asked → IsForeign words told name →
+    TakesFile told asked name → ⊥
+untaken_by words told asked name is foreign = foreign asked (record { settings = is })
 
--- a file that is neither of two
-pub neither : (a b name : List ℕ) → (Contains (a ∷ b ∷ []) name → ⊥) → (name ≢ a) × (name ≢ b)
-neither a b name other = (λ same. other (0, omega arith, sym same), λ same. other (1, omega arith, sym same))
+-- a file that isn't taken isn't the first one
+pub not_first : (told : Option Files) (asked : Asked) (spec name : List ℕ) → first_file asked ≡ spec ∷ [] → (TakesFile told asked name → ⊥) → name ≢ spec
+not_first told asked spec name is other = λ same. other (first (subst (λ xs. Contains xs name) (sym is) (0, omega arith, sym same)))
+
+-- a text that has problems, or a flat form, has no fault
+pub without_fault : (text : List ℕ) (t : TextProblems) → ProblemsOfTextsAreDetermined → IsTaken text t → HasNone (IsFirstFault text (Some Mealy))
+without_fault text t law taken = record { none = λ code place fault. law.no_fault text (Some Mealy) 2 (spec_seen t.spec) t.problems code place taken.problems fault }
+
+pub flat_without_fault : (text : List ℕ) (flat : FlatText) → FlatTextsHaveNoFault → IsFlatOf text None flat → HasNone (IsFlatFault text None)
+flat_without_fault text flat law is_flat = record { none = λ code place fault. law text None flat code place is_flat fault }
+
+-- the text that is taken has none of the command's faults
+pub check_well : (told : Option Files) (spec certificate text : List ℕ) → AreOfFile told spec text → HasNone (IsFirstFault text (Some Mealy)) →
+    IsWell told (check spec certificate)
+check_well None spec certificate text are none = tt
+check_well (Some files) spec certificate text are none = subst (λ t. HasNone (IsFirstFault t (Some Mealy))) are none
+
+pub lasso_well : (told : Option Files) (spec word text : List ℕ) → AreOfFile told spec text → HasNone (IsFlatFault text None) → IsWell told (lasso spec word)
+lasso_well None spec word text are none = tt
+lasso_well (Some files) spec word text are none = subst (λ t. HasNone (IsFlatFault t None)) are none
 
 -- == outputs ==
 
@@ -128,13 +153,13 @@ module _ (shelf : Option Files) (before after : List ℕ → ℕ) where
   replies asked bytes status status_is may = answers status_is (record { answer = may })
 
   -- a text that isn't taken, where the first fault of a text that is too long answers the command
-  untaken : (asked : Asked) (spec : List ℕ) (bytes : List ℕ) (status : ℕ) → Contains (names_of asked) spec →
+  untaken : (asked : Asked) (spec : List ℕ) (bytes : List ℕ) (status : ℕ) → Contains (first_file asked) spec →
       ((text : List ℕ) → AreOfFile shelf spec text → most_bytes < length text → bytes ≡ refusal_line TooLong most_bytes → status ≡ 1 →
       RepliesTo shelf before after asked bytes status) →
       IsUntaken shelf before after spec bytes status → RepliesTo shelf before after asked bytes status
   untaken asked spec bytes status named longer (file.too_long long ended is) =
       let t = too_long_text shelf spec most_bytes long in longer t.0 t.1 t.2 is ended
-  untaken asked spec bytes status named longer (file.unread rose ended is) = unread spec named rose ended is
+  untaken asked spec bytes status named longer (file.unread rose ended is) = unread spec (first named) rose ended is
 
   -- == synth ==
 
@@ -153,17 +178,17 @@ module _ (shelf : Option Files) (before after : List ℕ → ℕ) where
       (synthesis.refused TooLong most_bytes ended (of_text TooLong most_bytes (of_reading TooLong most_bytes (too_long long))) is))
 
   -- whatever the other file is
-  pub whatever : (name : List ℕ) (P : List ℕ → Type 0) (bytes : List ℕ) (status : ℕ) → ((lines : List ℕ) → P lines) →
-      RepliesByFile shelf before after name P bytes status
-  whatever name P bytes status all = let some = some_bytes shelf name in file.of_file (record { bytes = some.0; are_told = some.1; holds = all some.0 })
+  pub whatever : (name : List ℕ) (Due : Type 0) (P : List ℕ → Type 0) (bytes : List ℕ) (status : ℕ) → ((lines : List ℕ) → P lines) →
+      RepliesByFile shelf before after name Due P bytes status
+  whatever name Due P bytes status all = let some = some_bytes shelf name in file.of_file (record { bytes = some.0; are_told = some.1; holds = all some.0 })
 
-  pub of_bytes : (name lines : List ℕ) (P : List ℕ → Type 0) (bytes : List ℕ) (status : ℕ) → AreOfFile shelf name lines → P lines →
-      RepliesByFile shelf before after name P bytes status
-  of_bytes name lines P bytes status are holds = file.of_file (record { bytes = lines; are_told = are; holds = holds })
+  pub of_bytes : (name lines : List ℕ) (Due : Type 0) (P : List ℕ → Type 0) (bytes : List ℕ) (status : ℕ) → AreOfFile shelf name lines → P lines →
+      RepliesByFile shelf before after name Due P bytes status
+  of_bytes name lines Due P bytes status are holds = file.of_file (record { bytes = lines; are_told = are; holds = holds })
 
-  pub unread_file : (name : List ℕ) (P : List ℕ → Type 0) (bytes : List ℕ) (status : Status) → Rose (before name) (after name) →
-      bytes ≡ codes "cannot read\n" → status ≡ CannotRead → RepliesByFile shelf before after name P bytes (status_number status)
-  unread_file name P bytes status rose is ended = rw ended (file.count_rose rose refl is)
+  pub unread_file : (name : List ℕ) (Due : Type 0) (P : List ℕ → Type 0) (bytes : List ℕ) (status : Status) → Due → Rose (before name) (after name) →
+      bytes ≡ codes "cannot read\n" → status ≡ CannotRead → RepliesByFile shelf before after name Due P bytes (status_number status)
+  unread_file name Due P bytes status due rose is ended = rw ended (file.count_rose due rose refl is)
 
   -- == check ==
 
@@ -187,10 +212,10 @@ module _ (shelf : Option Files) (before after : List ℕ → ℕ) where
       (λ lines. certificate.refused TooLong most_bytes ended (of_text TooLong most_bytes (of_reading TooLong most_bytes (too_long long))) is))
 
   pub check_by_file : (middle : List ℕ → ℕ) (spec document text : List ℕ) (bytes : List ℕ) (status : ℕ) → AreOfFile shelf spec text →
-      ((any : List ℕ) → before any ≤ middle any) → RepliesByFile shelf middle after document (λ lines. CheckAnswers text lines bytes status) bytes status →
+      ((any : List ℕ) → before any ≤ middle any) → RepliesByFile shelf middle after document (HasNone (IsFirstFault text (Some Mealy))) (λ lines. CheckAnswers text lines bytes status) bytes status →
       RepliesTo shelf before after (check spec document) bytes status
-  check_by_file middle spec document text bytes status are more (file.count_rose rose ended is) =
-      unread document (1, omega arith, refl) (rose_later (before document) (middle document) (after document) (more document) rose) ended is
+  check_by_file middle spec document text bytes status are more (file.count_rose due rose ended is) =
+      unread document (behind (refl, check_well shelf spec document text are due)) (rose_later (before document) (middle document) (after document) (more document) rose) ended is
   check_by_file middle spec document text bytes status are more (file.of_file h) =
       check_answered spec document text h.bytes bytes status are h.are_told h.holds
 
@@ -232,10 +257,10 @@ module _ (shelf : Option Files) (before after : List ℕ → ℕ) where
       (λ lines. lassos.refused TooLong most_bytes ended (of_reading TooLong most_bytes (too_long long)) is))
 
   pub lasso_by_file : (middle : List ℕ → ℕ) (spec word text : List ℕ) (bytes : List ℕ) (status : ℕ) → AreOfFile shelf spec text →
-      ((any : List ℕ) → before any ≤ middle any) → RepliesByFile shelf middle after word (λ lines. LassoAnswers text lines bytes status) bytes status →
+      ((any : List ℕ) → before any ≤ middle any) → RepliesByFile shelf middle after word (HasNone (IsFlatFault text None)) (λ lines. LassoAnswers text lines bytes status) bytes status →
       RepliesTo shelf before after (lasso spec word) bytes status
-  lasso_by_file middle spec word text bytes status are more (file.count_rose rose ended is) =
-      unread word (1, omega arith, refl) (rose_later (before word) (middle word) (after word) (more word) rose) ended is
+  lasso_by_file middle spec word text bytes status are more (file.count_rose due rose ended is) =
+      unread word (behind (refl, lasso_well shelf spec word text are due)) (rose_later (before word) (middle word) (after word) (more word) rose) ended is
   lasso_by_file middle spec word text bytes status are more (file.of_file h) =
       lasso_answered spec word text h.bytes bytes status are h.are_told h.holds
 

@@ -12,8 +12,9 @@ use Rattle.tlsf_tokens.specs.declared.code.SpecCode.{SpecCode}
 use Rattle.program_replies.specs.Lines.{line_refusal, refusal_line}
 use Rattle.program_words.specs.Settings.{Asked, synth, check, expand, lasso, gen, bench}
 use Rattle.boundsyn_top.specs.Commands.{AnswersAsked, statuses_of}
-use Rattle.boundsyn_top.specs.Faults.{RefusalsAreDetermined}
-use Rattle.boundsyn_top.specs.Run.{AnswersWords, AskForNothing, Asks, EndsWith, Gained, GainedPart, IsEnding, IsReply, LineFails, ReadFailed, ReadsWell, TextFails, answered, answering, cannot_read, prevented, says, words_refused}
+use Rattle.boundsyn_top.specs.Faults.{HasFault, RefusalsAreDetermined}
+use Rattle.boundsyn_top.specs.Run.{AnswersWords, AskForNothing, Asks, EndsWith, Gained, GainedPart, IsEnding, IsForeign, IsReply, LineFails, ReadFailed, ReadsWell, TextFails, answered, answering, cannot_read, prevented, says, words_refused}
+use Rattle.boundsyn_top.specs.Takes.{TakesBehind, TakesFile, behind, first, first_file}
 use Rattle.boundsyn_top.proofs.SinkLemmas.{gains_nothing}
 
 -- the clauses of `run` that speak of its result, at plain values
@@ -22,13 +23,13 @@ pub record Promise (words : List (List ℕ)) (shelf : Option Files) (before afte
   pub statuses : Contains (2 ∷ 3 ∷ 4 ∷ 5 ∷ answering) result
   pub answered : Contains answering result → Gained written later (λ bytes. AnswersWords words shelf bytes result)
   pub words_refused : result ≡ 2 → Gained written later (λ bytes. AskForNothing words × (bytes ≡ codes "words refused\n"))
-  pub cannot_read : result ≡ 3 → Gained written later (λ bytes. ReadFailed words before after × (bytes ≡ codes "cannot read\n"))
+  pub cannot_read : result ≡ 3 → Gained written later (λ bytes. ReadFailed words shelf before after × (bytes ≡ codes "cannot read\n"))
   pub cannot_write : result ≡ 4 → Rose faults faults_after
   pub cut_short : (result ≡ 4) ⊎ (result ≡ 5) → GainedPart written later (λ bytes status. IsReply words shelf before after bytes status)
   pub bad_words_are_refused : AskForNothing words → Contains (2 ∷ 4 ∷ 5 ∷ []) result
   pub fault_is_refused : (code : SpecCode) (place : ℕ) → TextFails words shelf code place → EndsWith written later (refusal_line code place) 1 result
   pub bad_line_is_refused : (n : ℕ) → LineFails words shelf n → EndsWith written later (line_refusal n) 40 result
-  pub complete : (asked : Asked) → Asks words asked → ReadsWell asked before after → (Rose faults faults_after → ⊥) → Contains (5 ∷ statuses_of asked) result
+  pub complete : (asked : Asked) → Asks words asked → ReadsWell shelf asked before after → (Rose faults faults_after → ⊥) → Contains (5 ∷ statuses_of asked) result
 
 -- words ask for one thing, or for nothing
 one_asked : (words : List (List ℕ)) (a b : Asked) → Asks words a → Asks words b → a ≡ b
@@ -141,7 +142,7 @@ module _ (words : List (List ℕ)) (shelf : Option Files) (before after : List �
     complete = λ asked asks well written_all. absurd (clash words asked asks none);
   }
 
-  whole_unread : (bytes : List ℕ) (n : ℕ) → Gains written later bytes → n ≡ 3 → ReadFailed words before after → bytes ≡ codes "cannot read\n" →
+  whole_unread : (bytes : List ℕ) (n : ℕ) → Gains written later bytes → n ≡ 3 → ReadFailed words shelf before after → bytes ≡ codes "cannot read\n" →
       Promise words shelf before after written later faults faults_after n
   whole_unread bytes n gained n_is rose is = record {
     statuses = (1, omega arith, sym n_is);
@@ -153,7 +154,7 @@ module _ (words : List (List ℕ)) (shelf : Option Files) (before after : List �
     bad_words_are_refused = λ e. absurd (clash words rose.asked rose.asks e);
     fault_is_refused = λ code place f. prevented (0, omega arith, sym n_is);
     bad_line_is_refused = λ line f. prevented (0, omega arith, sym n_is);
-    complete = λ asked asks well written_all. absurd (subst (λ a. ReadsWell a before after) (one_asked words asked rose.asked asks rose.asks) well rose.name rose.named rose.rose);
+    complete = λ asked asks well written_all. absurd (subst (λ a. ReadsWell shelf a before after) (one_asked words asked rose.asked asks rose.asks) well rose.name rose.taken rose.rose);
   }
 
   -- the answer, where the text has a fault or the other file a bad line
@@ -251,6 +252,29 @@ module _ (words : List (List ℕ)) (shelf : Option Files) (before after : List �
       run_whole law bytes result (subst (λ k. IsReply words shelf before after bytes k) (sym is) reply) gained
   run_ended law bytes status reply (Err Failed) gained front rose result is = run_failed result is (rose refl) (part_of bytes status reply front)
   run_ended law bytes status reply (Err NoMemory) gained front rose result is = run_wants result is (part_of bytes status reply front)
+
+-- == files ==
+
+-- behind a text with a fault no file is taken
+none_behind : (files : Files) (asked : Asked) (code : SpecCode) (place : ℕ) (name : List ℕ) → HasFault files asked code place → TakesBehind (Some files) asked name → ⊥
+none_behind files (synth spec wanted kind) code place name fault taken = taken
+none_behind files (check spec certificate) code place name fault taken = taken.1.none code place fault
+none_behind files (expand spec) code place name fault taken = taken
+none_behind files (lasso spec word) code place name fault taken = taken.1.none code place fault
+none_behind files (gen clients) code place name fault taken = taken
+none_behind files (bench clients workers) code place name fault taken = taken
+
+text_alone : (files : Files) (asked : Asked) (code : SpecCode) (place : ℕ) (name : List ℕ) → HasFault files asked code place → (Contains (first_file asked) name → ⊥) →
+    TakesFile (Some files) asked name → ⊥
+text_alone files asked code place name fault other (first taken) = other taken
+text_alone files asked code place name fault other (behind taken) = none_behind files asked code place name fault taken
+
+-- where the text is refused, each file but its own is foreign
+pub refused_alone : (words : List (List ℕ)) (told : Option Files) (code : SpecCode) (place : ℕ) (fails : TextFails words told code place) (name : List ℕ) →
+    (Contains (first_file fails.asked) name → ⊥) → IsForeign words told name
+refused_alone words told code place fails name other = λ asked asks taken.
+    text_alone fails.files fails.asked code place name fails.fault other
+    (subst (λ o. TakesFile o fails.asked name) fails.are_told (subst (λ a. TakesFile told a name) (one_asked words asked fails.asked asks fails.asks) taken))
 
 -- no count of 0 rose to 0
 pub none_rose : Rose 0 0 → ⊥

@@ -12,15 +12,6 @@ use Rattle.flat_answer.specs.Lasso.{LassoAnswers}
 use Rattle.bench_answer.specs.Bench.{BenchAnswer}
 use Rattle.boundsyn_top.specs.Files.{HoldsOfFile}
 
--- the files that a command reads
-abbrev pub names_of : Asked → List (List ℕ)
-names_of (synth spec wanted kind) = spec ∷ []
-names_of (check spec certificate) = spec ∷ certificate ∷ []
-names_of (expand spec) = spec ∷ []
-names_of (lasso spec word) = spec ∷ word ∷ []
-names_of (gen clients) = []
-names_of (bench clients workers) = []
-
 -- the statuses with which it answers
 abbrev pub statuses_of : Asked → List ℕ
 statuses_of (synth spec wanted kind) = 1 ∷ 10 ∷ 11 ∷ 20 ∷ 30 ∷ []

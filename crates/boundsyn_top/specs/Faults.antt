@@ -24,6 +24,10 @@ HasFault files (lasso spec word) code place = IsFlatFault (bytes_under files spe
 HasFault files (gen clients) code place = ⊥
 HasFault files (bench clients workers) code place = ⊥
 
+-- there is none of these faults
+pub record HasNone (Fault : SpecCode → ℕ → Type 0) : Type 0 where
+  pub none : (code : SpecCode) (place : ℕ) → Fault code place → ⊥
+
 -- the text has no fault, and this is the certificate's first bad line for it
 pub record IsBadCertificate (text certificate : List ℕ) (line : ℕ) : Type 0 where
   pub given : Given text

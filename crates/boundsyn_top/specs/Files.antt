@@ -31,8 +31,9 @@ abbrev pub IsTaken : Option Files → (List ℕ → ℕ) → (List ℕ → ℕ) 
 IsTaken told before after name (Whole bytes) = AreOfFile told name bytes.items
 IsTaken told before after name (Refused reply) = IsUntaken told before after name reply.bytes.items (status_number reply.status)
 
--- the reply that a file of any length gives: the line where its count of faults rose, or what something holds of with its bytes
-pub data RepliesByFile (told : Option Files) (before after : List ℕ → ℕ) (name : List ℕ) (P : List ℕ → Type 0) (bytes : List ℕ) (status : ℕ) : Type 0 where
-  count_rose : Rose (before name) (after name) → status ≡ 3 → bytes ≡ codes "cannot read\n"
-      → RepliesByFile told before after name P bytes status
-  of_file : HoldsOfFile told name P → RepliesByFile told before after name P bytes status
+-- The reply that a file of any length gives: the line where it was due to be taken and its count of faults rose, or what something
+-- holds of with its bytes.
+pub data RepliesByFile (told : Option Files) (before after : List ℕ → ℕ) (name : List ℕ) (Due : Type 0) (P : List ℕ → Type 0) (bytes : List ℕ) (status : ℕ) : Type 0 where
+  count_rose : Due → Rose (before name) (after name) → status ≡ 3 → bytes ≡ codes "cannot read\n"
+      → RepliesByFile told before after name Due P bytes status
+  of_file : HoldsOfFile told name P → RepliesByFile told before after name Due P bytes status

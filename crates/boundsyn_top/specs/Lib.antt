@@ -2,4 +2,5 @@ pub mod Output
 pub mod Files
 pub mod Commands
 pub mod Faults
+pub mod Takes
 pub mod Run

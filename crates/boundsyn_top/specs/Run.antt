@@ -9,8 +9,9 @@ use Rattle.tlsf_tokens.specs.declared.code.SpecCode.{SpecCode}
 use Rattle.program_words.specs.Settings.{Asked, settings_of}
 use Rattle.boundsyn_top.specs.declared.output.Output.{Output}
 use Rattle.boundsyn_top.specs.Output.{IsWritable, bytes_of, status_of}
-use Rattle.boundsyn_top.specs.Commands.{AnswersAsked, names_of, statuses_of}
+use Rattle.boundsyn_top.specs.Commands.{AnswersAsked, statuses_of}
 use Rattle.boundsyn_top.specs.Faults.{HasBadLine, HasFault}
+use Rattle.boundsyn_top.specs.Takes.{TakesFile}
 
 -- == the words ==
 
@@ -24,17 +25,17 @@ pub record AskForNothing (words : List (List ℕ)) : Type 0 where
 
 -- == what is replied ==
 
--- the shelf's count of a file that the words name rose
-pub record ReadFailed (words : List (List ℕ)) (before after : List ℕ → ℕ) : Type 0 where
+-- the shelf's count rose of a file that the command takes
+pub record ReadFailed (words : List (List ℕ)) (told : Option Files) (before after : List ℕ → ℕ) : Type 0 where
   pub asked : Asked
   pub asks : Asks words asked
   pub name : List ℕ
-  pub named : Contains (names_of asked) name
+  pub taken : TakesFile told asked name
   pub rose : Rose (before name) (after name)
 
 -- What a command replies: the line of a file of it that couldn't be read, or its answer.
 pub data RepliesTo (told : Option Files) (before after : List ℕ → ℕ) (asked : Asked) (bytes : List ℕ) (status : ℕ) : Type 0 where
-  unread : (name : List ℕ) → Contains (names_of asked) name → Rose (before name) (after name) → status ≡ 3 → bytes ≡ codes "cannot read\n" →
+  unread : (name : List ℕ) → TakesFile told asked name → Rose (before name) (after name) → status ≡ 3 → bytes ≡ codes "cannot read\n" →
       RepliesTo told before after asked bytes status
   answers : Contains (statuses_of asked) status → AnswersAsked told asked bytes status → RepliesTo told before after asked bytes status
 
@@ -49,7 +50,7 @@ pub record AnswersWords (words : List (List ℕ)) (told : Option Files) (bytes :
 pub data IsReply (words : List (List ℕ)) (told : Option Files) (before after : List ℕ → ℕ) (bytes : List ℕ) (status : ℕ) : Type 0 where
   words_refused : status ≡ 2 → AskForNothing words → bytes ≡ codes "words refused\n" →
       IsReply words told before after bytes status
-  cannot_read : status ≡ 3 → ReadFailed words before after → bytes ≡ codes "cannot read\n" →
+  cannot_read : status ≡ 3 → ReadFailed words told before after → bytes ≡ codes "cannot read\n" →
       IsReply words told before after bytes status
   answered : AnswersWords words told bytes status → IsReply words told before after bytes status
 
@@ -110,10 +111,10 @@ pub record LineFails (words : List (List ℕ)) (told : Option Files) (n : ℕ) :
   pub are_told : told ≡ Some files
   pub bad : HasBadLine files asked n
 
--- no count rose of a file that is read
-abbrev pub ReadsWell : Asked → (List ℕ → ℕ) → (List ℕ → ℕ) → Type 0
-ReadsWell asked before after = (name : List ℕ) → Contains (names_of asked) name → Rose (before name) (after name) → ⊥
+-- no count rose of a file that the command takes
+abbrev pub ReadsWell : Option Files → Asked → (List ℕ → ℕ) → (List ℕ → ℕ) → Type 0
+ReadsWell told asked before after = (name : List ℕ) → TakesFile told asked name → Rose (before name) (after name) → ⊥
 
--- no command reads the file
-abbrev pub IsForeign : List (List ℕ) → List ℕ → Type 0
-IsForeign words name = (asked : Asked) → Asks words asked → Contains (names_of asked) name → ⊥
+-- the words ask for no command that takes the file
+abbrev pub IsForeign : List (List ℕ) → Option Files → List ℕ → Type 0
+IsForeign words told name = (asked : Asked) → Asks words asked → TakesFile told asked name → ⊥

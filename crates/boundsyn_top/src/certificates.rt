@@ -1,12 +1,16 @@
 //! The reply to `check`.
-ghost use Rattle.std.specs.Prelude.{◌≡◌, ◌≢◌, ℕ, List, IfOk};
+ghost use Rattle.std.specs.Prelude.{◌≡◌, ◌≢◌, ℕ, List, Some, IfOk};
+ghost use Rattle.letter_word.specs.declared.kinds.Kind.TheVariants.{Mealy};
 ghost use Rattle.check_answer.specs.Answer.{CheckAnswers};
 ghost use Rattle.check_answer.specs.Reply.{IsTaken};
 ghost use Rattle.spec_problems.specs.OfFormula.{AreProblems};
+ghost use Rattle.spec_problems.specs.OfText.{IsFirstFault};
 ghost use Rattle.program_replies.specs.Statuses.{status_number};
 ghost use Rattle.program_words.specs.Settings.{check};
+ghost use Rattle.boundsyn_top.specs.Faults.{HasNone};
 ghost use Rattle.boundsyn_top.specs.Files.{RepliesByFile};
 ghost use Rattle.boundsyn_top.specs.Run.{IsOutputOf};
+ghost use Rattle.boundsyn_top.specs.Takes.{TakesFile};
 
 use crate::files::{Taken, cannot_read, take_parts, take_text};
 use crate::output::{Output, whole_output};
@@ -14,11 +18,12 @@ use check_answer::{Problems, check_answer, problems_or_refusal};
 use outside_edge::Shelf;
 use program_replies::Reply;
 use spec_problems::TextProblems;
+use spec_problems::laws::problems_of_texts_are_determined;
 use std::alloc::{AllocError, Global};
 use std::sync::Wait;
 use std::thread::Threads;
 
-/// Checks a document against a text. The document is taken only once the text has its problems.
+/// Checks a document against a text. The document is taken only where the text has no fault.
 pub fn check_certificate<R, H>(
     rt: &R,
     alloc: Global,
@@ -31,7 +36,7 @@ where
     H: Shelf,
     ensures output { IfOk result (IsOutputOf (H.files shelf.old) (H.faults shelf.old) (H.faults shelf.new) (check spec.now certificate.now)) }
     ensures files { H.files shelf.new ≡ H.files shelf.old }
-    ensures other_files { (name : List ℕ) → name ≢ spec.now → name ≢ certificate.now → H.faults shelf.new name ≡ H.faults shelf.old name }
+    ensures other_files { (name : List ℕ) → ¬ TakesFile (H.files shelf.old) (check spec.now certificate.now) name → H.faults shelf.new name ≡ H.faults shelf.old name }
 {
     match take_text(alloc, shelf, spec)? {
         Taken::Whole(text) => whole_output(check_by(rt, alloc, shelf, &text, certificate)),
@@ -50,11 +55,12 @@ fn check_by<R, H>(
 where
     R: Threads + Wait + Sync,
     H: Shelf,
-    ensures reply { IfOk result (λ r. RepliesByFile (H.files shelf.old) (H.faults shelf.old) (H.faults shelf.new)
-        certificate.now (λ document. CheckAnswers text.now document r.bytes.items (status_number r.status)) r.bytes.items (status_number r.status)) }
+    ensures reply { IfOk result (λ r. RepliesByFile (H.files shelf.old) (H.faults shelf.old) (H.faults shelf.new) certificate.now
+        (HasNone (IsFirstFault text.now (Some Mealy))) (λ document. CheckAnswers text.now document r.bytes.items (status_number r.status)) r.bytes.items (status_number r.status)) }
     ensures files { H.files shelf.new ≡ H.files shelf.old }
-    ensures other_files { (name : List ℕ) → name ≢ certificate.now → H.faults shelf.new name ≡ H.faults shelf.old name }
+    ensures other_files { (name : List ℕ) → (HasNone (IsFirstFault text.now (Some Mealy)) → name ≢ certificate.now) → H.faults shelf.new name ≡ H.faults shelf.old name }
 {
+    problems_of_texts_are_determined();
     match problems_or_refusal(alloc, text)? {
         Problems::Of(found) => checked(rt, alloc, shelf, &found, certificate),
         Problems::Refused(reply) => Ok(reply),
@@ -73,8 +79,9 @@ where
     R: Threads + Wait + Sync,
     H: Shelf,
     requires { AreProblems found.now.problems }
-    ensures reply { (text : List ℕ) → IsTaken text found.now → IfOk result (λ r. RepliesByFile (H.files shelf.old) (H.faults shelf.old) (H.faults shelf.new)
-        certificate.now (λ document. CheckAnswers text document r.bytes.items (status_number r.status)) r.bytes.items (status_number r.status)) }
+    ensures reply { (text : List ℕ) → IsTaken text found.now → HasNone (IsFirstFault text (Some Mealy))
+        → IfOk result (λ r. RepliesByFile (H.files shelf.old) (H.faults shelf.old) (H.faults shelf.new) certificate.now
+        (HasNone (IsFirstFault text (Some Mealy))) (λ document. CheckAnswers text document r.bytes.items (status_number r.status)) r.bytes.items (status_number r.status)) }
     ensures files { H.files shelf.new ≡ H.files shelf.old }
     ensures other_files { (name : List ℕ) → name ≢ certificate.now → H.faults shelf.new name ≡ H.faults shelf.old name }
 {

@@ -3,17 +3,20 @@ ghost use Rattle.std.specs.Prelude.{◌≡◌, ◌≢◌, ℕ, List, None, IfOk,
 ghost use Rattle.flat_answer.specs.Lasso.{LassoAnswers};
 ghost use Rattle.ltl_formula.specs.Nodes.{Stands};
 ghost use Rattle.tlsf_expand.specs.FewSignals.{HasFewSignals};
-ghost use Rattle.flat_text.specs.FlatOf.{IsFlatOf};
+ghost use Rattle.flat_text.specs.FlatOf.{IsFlatFault, IsFlatOf};
 ghost use Rattle.program_replies.specs.Statuses.{status_number};
 ghost use Rattle.program_words.specs.Settings.{expand, lasso};
 ghost use Rattle.tlsf_expand.specs.TextSeen.{spec_seen};
+ghost use Rattle.boundsyn_top.specs.Faults.{HasNone};
 ghost use Rattle.boundsyn_top.specs.Files.{RepliesByFile};
 ghost use Rattle.boundsyn_top.specs.Output.{IsExpansion};
 ghost use Rattle.boundsyn_top.specs.Run.{IsOutputOf};
+ghost use Rattle.boundsyn_top.specs.Takes.{TakesFile};
 
 use crate::files::{Taken, cannot_read, take_text, take_whole};
 use crate::output::{Output, whole_output};
 use flat_answer::{Expansion, expanded, lasso_answer};
+use flat_text::laws::flat_texts_have_no_fault;
 use outside_edge::Shelf;
 use program_replies::Reply;
 use std::alloc::{AllocError, Global};
@@ -40,7 +43,7 @@ fn flat_output(alloc: Global, text: &[u8]) -> Result<Output, AllocError>
     }
 }
 
-/// Whether a text holds on a lasso. The lasso's file is taken only once the text is expanded.
+/// Whether a text holds on a lasso. The lasso's file is taken only where the text has no fault.
 pub fn tell_truth<H: Shelf>(
     alloc: Global,
     shelf: &mut H,
@@ -49,7 +52,7 @@ pub fn tell_truth<H: Shelf>(
 ) -> Result<Output, AllocError>
     ensures output { IfOk result (IsOutputOf (H.files shelf.old) (H.faults shelf.old) (H.faults shelf.new) (lasso spec.now word.now)) }
     ensures files { H.files shelf.new ≡ H.files shelf.old }
-    ensures other_files { (name : List ℕ) → name ≢ spec.now → name ≢ word.now → H.faults shelf.new name ≡ H.faults shelf.old name }
+    ensures other_files { (name : List ℕ) → ¬ TakesFile (H.files shelf.old) (lasso spec.now word.now) name → H.faults shelf.new name ≡ H.faults shelf.old name }
 {
     match take_text(alloc, shelf, spec)? {
         Taken::Whole(text) => whole_output(tell_by(alloc, shelf, &text, word)),
@@ -64,11 +67,12 @@ fn tell_by<H: Shelf>(
     text: &[u8],
     word: &str,
 ) -> Result<Reply, AllocError>
-    ensures reply { IfOk result (λ r. RepliesByFile (H.files shelf.old) (H.faults shelf.old) (H.faults shelf.new)
-        word.now (λ lines. LassoAnswers text.now lines r.bytes.items (status_number r.status)) r.bytes.items (status_number r.status)) }
+    ensures reply { IfOk result (λ r. RepliesByFile (H.files shelf.old) (H.faults shelf.old) (H.faults shelf.new) word.now
+        (HasNone (IsFlatFault text.now None)) (λ lines. LassoAnswers text.now lines r.bytes.items (status_number r.status)) r.bytes.items (status_number r.status)) }
     ensures files { H.files shelf.new ≡ H.files shelf.old }
-    ensures other_files { (name : List ℕ) → name ≢ word.now → H.faults shelf.new name ≡ H.faults shelf.old name }
+    ensures other_files { (name : List ℕ) → (HasNone (IsFlatFault text.now None) → name ≢ word.now) → H.faults shelf.new name ≡ H.faults shelf.old name }
 {
+    flat_texts_have_no_fault();
     match expanded(alloc, text)? {
         Expansion::Flat(flat) => told(alloc, shelf, &flat, word),
         Expansion::Refused(reply) => Ok(reply),
@@ -84,8 +88,9 @@ fn told<H: Shelf>(
 ) -> Result<Reply, AllocError>
     requires few { HasFewSignals (length flat.now.inputs.items) (length flat.now.outputs.items) flat.now.formulas }
     requires stands { Stands flat.now.formulas flat.now.whole }
-    ensures reply { (text : List ℕ) → IsFlatOf text None (spec_seen flat.now) → IfOk result (λ r. RepliesByFile (H.files shelf.old) (H.faults shelf.old) (H.faults shelf.new)
-        word.now (λ lines. LassoAnswers text lines r.bytes.items (status_number r.status)) r.bytes.items (status_number r.status)) }
+    ensures reply { (text : List ℕ) → IsFlatOf text None (spec_seen flat.now) → HasNone (IsFlatFault text None)
+        → IfOk result (λ r. RepliesByFile (H.files shelf.old) (H.faults shelf.old) (H.faults shelf.new) word.now
+        (HasNone (IsFlatFault text None)) (λ lines. LassoAnswers text lines r.bytes.items (status_number r.status)) r.bytes.items (status_number r.status)) }
     ensures files { H.files shelf.new ≡ H.files shelf.old }
     ensures other_files { (name : List ℕ) → name ≢ word.now → H.faults shelf.new name ≡ H.faults shelf.old name }
 {

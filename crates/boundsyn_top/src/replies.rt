@@ -1,8 +1,8 @@
 //! What a run writes, before it is written.
-ghost use Rattle.std.specs.Prelude.{◌≡◌, ℕ, List, codes, map, string_bytes, Contains, IfOk};
+ghost use Rattle.std.specs.Prelude.{◌≡◌, ℕ, List, codes, map, string_bytes, IfOk};
 ghost use Rattle.program_words.specs.Settings.{IsInRange, asked_by};
-ghost use Rattle.boundsyn_top.specs.Commands.{names_of};
 ghost use Rattle.boundsyn_top.specs.Run.{IsForeign, IsOutputFor, IsOutputOf};
+ghost use Rattle.boundsyn_top.specs.Takes.{TakesFile};
 
 use crate::arbiters::{generate, search_arbiter};
 use crate::certificates::check_certificate;
@@ -30,7 +30,7 @@ where
     G: Gate + Sync,
     ensures output { IfOk result (IsOutputFor (map string_bytes words.now) (H.files shelf.old) (H.faults shelf.old) (H.faults shelf.new)) }
     ensures files { H.files shelf.new ≡ H.files shelf.old }
-    ensures other_files { (name : List ℕ) → IsForeign (map string_bytes words.now) name → H.faults shelf.new name ≡ H.faults shelf.old name }
+    ensures other_files { (name : List ℕ) → IsForeign (map string_bytes words.now) (H.files shelf.old) name → H.faults shelf.new name ≡ H.faults shelf.old name }
 {
     match read_words(alloc, words) {
         Ok(settings) => obey(rt, alloc, settings, shelf, gate),
@@ -54,7 +54,7 @@ where
     requires { IsInRange (asked_by settings) }
     ensures output { IfOk result (IsOutputOf (H.files shelf.old) (H.faults shelf.old) (H.faults shelf.new) (asked_by settings.entry)) }
     ensures files { H.files shelf.new ≡ H.files shelf.old }
-    ensures other_files { (name : List ℕ) → ¬ Contains (names_of (asked_by settings.entry)) name → H.faults shelf.new name ≡ H.faults shelf.old name }
+    ensures other_files { (name : List ℕ) → ¬ TakesFile (H.files shelf.old) (asked_by settings.entry) name → H.faults shelf.new name ≡ H.faults shelf.old name }
 {
     match settings {
         Settings::Synth {

@@ -7,6 +7,7 @@ ghost use Rattle.program_words.specs.Settings.{Asked};
 ghost use Rattle.tlsf_tokens.specs.declared.code.SpecCode.{SpecCode};
 ghost use Rattle.boundsyn_top.specs.Commands.{statuses_of};
 ghost use Rattle.boundsyn_top.specs.Run.{AnswersWords, AskForNothing, Asks, EndsWith, Gained, GainedPart, IsEnding, IsForeign, IsReply, LineFails, ReadFailed, ReadsWell, TextFails, answering};
+ghost use Rattle.boundsyn_top.specs.Takes.{first_file};
 
 use crate::laws::refusals_are_determined;
 use crate::output::put_output;
@@ -43,7 +44,7 @@ where
     ensures words_refused { result ≡ 2 → Gained (K.written out.old) (K.written out.new)
         (λ bytes. AskForNothing (map string_bytes words.now) × (bytes ≡ codes "words refused\n")) }
     ensures cannot_read { result ≡ 3 → Gained (K.written out.old) (K.written out.new)
-        (λ bytes. ReadFailed (map string_bytes words.now) (H.faults shelf.old) (H.faults shelf.new) × (bytes ≡ codes "cannot read\n")) }
+        (λ bytes. ReadFailed (map string_bytes words.now) (H.files shelf.old) (H.faults shelf.old) (H.faults shelf.new) × (bytes ≡ codes "cannot read\n")) }
 
     // What is cut short: a front of bytes that would have been allowed.
     ensures cannot_write { result ≡ 4 → Rose (K.faults out.old) (K.faults out.new) }
@@ -56,12 +57,14 @@ where
         → EndsWith (K.written out.old) (K.written out.new) (refusal_line code place) 1 result }
     ensures bad_line_is_refused { (n : ℕ) → LineFails (map string_bytes words.now) (H.files shelf.old) n
         → EndsWith (K.written out.old) (K.written out.new) (line_refusal n) 40 result }
-    ensures complete { (asked : Asked) → Asks (map string_bytes words.now) asked → ReadsWell asked (H.faults shelf.old) (H.faults shelf.new)
+    ensures complete { (asked : Asked) → Asks (map string_bytes words.now) asked → ReadsWell (H.files shelf.old) asked (H.faults shelf.old) (H.faults shelf.new)
         → ¬ Rose (K.faults out.old) (K.faults out.new) → Contains (5 ∷ statuses_of asked) result }
 
-    // No other file is taken.
+    // No other file is taken, and where the text is refused none but its own.
     ensures files { H.files shelf.new ≡ H.files shelf.old }
-    ensures other_files { (name : List ℕ) → IsForeign (map string_bytes words.now) name → H.faults shelf.new name ≡ H.faults shelf.old name }
+    ensures other_files { (name : List ℕ) → IsForeign (map string_bytes words.now) (H.files shelf.old) name → H.faults shelf.new name ≡ H.faults shelf.old name }
+    ensures refused_alone { (code : SpecCode) (place : ℕ) → (fails : TextFails (map string_bytes words.now) (H.files shelf.old) code place)
+        → (name : List ℕ) → ¬ Contains (first_file fails.asked) name → H.faults shelf.new name ≡ H.faults shelf.old name }
 {
     refusals_are_determined();
     let Ok(output) = reply_to(rt, alloc, words, shelf, gate) else {

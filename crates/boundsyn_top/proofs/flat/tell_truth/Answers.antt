@@ -1,7 +1,9 @@
+use Rattle.std.proofs.Common.{refl, ◌∙◌}
 use Rattle.std.proofs.lemmas.Result.{IfOk-weaker}
 use Rattle.program_replies.specs.Statuses.{status_number}
 use Rattle.program_words.specs.Settings.{lasso}
-use Rattle.boundsyn_top.proofs.ReplyLemmas.{lasso_by_file, lasso_untaken, whole_is, whole_of}
+use Rattle.boundsyn_top.specs.Takes.{behind}
+use Rattle.boundsyn_top.proofs.ReplyLemmas.{lasso_by_file, lasso_untaken, lasso_well, not_first, whole_is, whole_of}
 use Rattle.boundsyn_top.proofs.flat.tell_truth.Goals as goal
 
 pub returns-in-Whole-clause-output : goal.returns-in-Whole-clause-output
@@ -18,3 +20,14 @@ pub returns-in-Refused-clause-output : goal.returns-in-Refused-clause-output
 returns-in-Refused-clause-output g c =
     let untaken = rw c.in-Refused.is at c.in_ok-text.ensures.taken in
     whole_of _ _ _ (lasso c.args.spec.now c.args.word.now) c.in-Refused.reply (lasso_untaken _ _ _ c.args.spec.now c.args.word.now _ _ untaken)
+
+pub returns-in-Whole-clause-other_files : goal.returns-in-Whole-clause-other_files
+returns-in-Whole-clause-other_files g c = λ name foreign.
+    let are = rw c.in-Whole.is at c.in_ok-text.ensures.taken in
+    c.tell_by.ensures.other_files name
+    (λ none same. foreign (behind (same, lasso_well _ c.args.spec.now c.args.word.now c.in-Whole.text.items are (rw c.deref.ensures.value at none))))
+    ∙ c.take_text.ensures.others name (not_first _ (lasso c.args.spec.now c.args.word.now) c.args.spec.now name refl foreign)
+
+pub returns-in-Refused-clause-other_files : goal.returns-in-Refused-clause-other_files
+returns-in-Refused-clause-other_files g c = λ name foreign.
+    c.take_text.ensures.others name (not_first _ (lasso c.args.spec.now c.args.word.now) c.args.spec.now name refl foreign)

@@ -1,16 +1,23 @@
 use Rattle.std.proofs.lemmas.Result.{IfOk-weaker}
-use Rattle.boundsyn_top.proofs.ReplyLemmas.{neither}
+use Rattle.std.proofs.Common.{refl}
+use Rattle.program_words.specs.Settings.{expand, synth}
+use Rattle.boundsyn_top.proofs.ReplyLemmas.{not_first}
 use Rattle.boundsyn_top.proofs.replies.obey.Goals as goal
 
+pub returns-in-Synth-clause-other_files : goal.returns-in-Synth-clause-other_files
+returns-in-Synth-clause-other_files g c = λ name foreign.
+    c.synthesize.ensures.other_files name
+    (not_first _ (synth c.in-Synth.spec.now c.in-Synth.wanted c.in-Synth.kind) c.in-Synth.spec.now name refl (rw c.in-Synth.is at foreign))
+
 pub returns-in-Check-clause-other_files : goal.returns-in-Check-clause-other_files
-returns-in-Check-clause-other_files g c = λ name foreign.
-    let others = neither c.in-Check.spec.now c.in-Check.certificate.now name (rw c.in-Check.is at foreign) in
-    c.check_certificate.ensures.other_files name others.0 others.1
+returns-in-Check-clause-other_files g c = λ name foreign. c.check_certificate.ensures.other_files name (rw c.in-Check.is at foreign)
+
+pub returns-in-Expand-clause-other_files : goal.returns-in-Expand-clause-other_files
+returns-in-Expand-clause-other_files g c = λ name foreign.
+    c.expand_spec.ensures.other_files name (not_first _ (expand c.in-Expand.spec.now) c.in-Expand.spec.now name refl (rw c.in-Expand.is at foreign))
 
 pub returns-in-Lasso-clause-other_files : goal.returns-in-Lasso-clause-other_files
-returns-in-Lasso-clause-other_files g c = λ name foreign.
-    let others = neither c.in-Lasso.spec.now c.in-Lasso.word.now name (rw c.in-Lasso.is at foreign) in
-    c.tell_truth.ensures.other_files name others.0 others.1
+returns-in-Lasso-clause-other_files g c = λ name foreign. c.tell_truth.ensures.other_files name (rw c.in-Lasso.is at foreign)
 
 pub returns-in-Gen-clause-output : goal.returns-in-Gen-clause-output
 returns-in-Gen-clause-output g c = rw c.in-Gen.is (IfOk-weaker c.generate.result _ _ (λ o output. output _ _ _) c.generate.ensures)

@@ -2,7 +2,7 @@ use Rattle.std.specs.Prelude.{string_bytes}
 use Rattle.std.proofs.Common.{map}
 use Rattle.std.proofs.lemmas.Result.{IfOk-weaker}
 use Rattle.program_words.specs.Settings.{asked_by}
-use Rattle.boundsyn_top.proofs.ReplyLemmas.{output_by, unasked_output, unnamed, whole_is}
+use Rattle.boundsyn_top.proofs.ReplyLemmas.{output_by, unasked_output, untaken_by, whole_is}
 use Rattle.boundsyn_top.proofs.replies.reply_to.Goals as goal
 
 pub returns-in-Ok-clause-output : goal.returns-in-Ok-clause-output
@@ -13,7 +13,7 @@ returns-in-Ok-clause-output g c =
 
 pub returns-in-Ok-clause-other_files : goal.returns-in-Ok-clause-other_files
 returns-in-Ok-clause-other_files g c = λ name foreign.
-    c.obey.ensures.other_files name (unnamed (map string_bytes c.args.words.now) (asked_by c.in-Ok.settings) name c.in-Ok.ensures.settings foreign)
+    c.obey.ensures.other_files name (untaken_by (map string_bytes c.args.words.now) _ (asked_by c.in-Ok.settings) name c.in-Ok.ensures.settings foreign)
 
 pub returns-in-Err-Refused-clause-output : goal.returns-in-Err-Refused-clause-output
 returns-in-Err-Refused-clause-output g c =

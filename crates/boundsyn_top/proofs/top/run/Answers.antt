@@ -1,7 +1,7 @@
 use Rattle.std.specs.Prelude.{string_bytes}
 use Rattle.std.proofs.Common.{map, refl}
 use Rattle.boundsyn_top.specs.Output.{bytes_of, status_of}
-use Rattle.boundsyn_top.proofs.RunLemmas.{run_ended, run_silent}
+use Rattle.boundsyn_top.proofs.RunLemmas.{refused_alone, run_ended, run_silent}
 use Rattle.boundsyn_top.proofs.top.run.Goals as goal
 
 pub returns-in_default : goal.returns-in_default
@@ -22,6 +22,8 @@ returns-in_default g c =
       complete = p.complete;
       files = c.reply_to.ensures.files;
       other_files = c.reply_to.ensures.other_files;
+      refused_alone = λ code place fails name other.
+          c.reply_to.ensures.other_files name (refused_alone (map string_bytes c.args.words.now) _ code place fails name other);
     }
 
 pub returns : goal.returns
@@ -44,4 +46,6 @@ returns g c =
       complete = p.complete;
       files = c.reply_to.ensures.files;
       other_files = c.reply_to.ensures.other_files;
+      refused_alone = λ code place fails name other.
+          c.reply_to.ensures.other_files name (refused_alone (map string_bytes c.args.words.now) _ code place fails name other);
     }
