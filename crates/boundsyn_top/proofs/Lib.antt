@@ -1,5 +1,6 @@
 mod SinkLemmas
 mod FileLemmas
+mod BatchLemmas
 mod ReplyLemmas
 mod RefusalLemmas
 mod RunLemmas

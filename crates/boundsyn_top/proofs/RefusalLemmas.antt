@@ -1,10 +1,10 @@
 -- Nothing but its line answers a fault, or a bad line.
-use Rattle.std.proofs.Common.{◌≡◌, ℕ, List, ◌∙◌, refl, Option, Some}
+use Rattle.std.proofs.Common.{◌≡◌, ℕ, List, ◌∙◌, ap, refl, Option, Some}
 use Rattle.letter_word.specs.declared.kinds.Kind.{Kind}
 use Rattle.tlsf_tokens.specs.declared.code.SpecCode.{SpecCode}
 use Rattle.outside_edge.specs.Files.{Files, bytes_under}
 use Rattle.program_replies.specs.Lines.{line_refusal, refusal_line}
-use Rattle.program_words.specs.Settings.{Asked, bench, check, expand, gen, lasso, synth}
+use Rattle.program_words.specs.Settings.{Asked, batch, bench, check, expand, gen, lasso, synth, verify}
 use Rattle.spec_problems.specs.OfText.{IsFirstFault}
 use Rattle.spec_problems.specs.Laws.{ProblemsOfTextsAreDetermined}
 use Rattle.synth_engine.specs.declared.settings.Settings.{Settings}
@@ -16,6 +16,12 @@ use Rattle.check_answer.specs.Laws.{ChecksAreDetermined}
 use Rattle.flat_answer.specs.Expand.{ExpandAnswers}
 use Rattle.flat_answer.specs.Lasso.{LassoAnswers}
 use Rattle.flat_answer.specs.Laws.{ExpandAnswersAreDue, LassoAnswersAreDue}
+use Rattle.verify_answer.specs.Answer.{VerifyAnswers}
+use Rattle.verify_answer.specs.Laws.{VerificationsAreDetermined}
+use Rattle.batch_answer.specs.Laws.{ListsAreDetermined}
+use Rattle.batch_answer.specs.ListText.{IsFirstBadLine}
+use Rattle.boundsyn_top.specs.Batch.{ListAnswers}
+use Rattle.boundsyn_top.specs.Batch as batches
 use Rattle.boundsyn_top.specs.Files.{HoldsOfFile}
 use Rattle.boundsyn_top.specs.Commands.{AnswersAsked, bounds_of}
 use Rattle.boundsyn_top.specs.Faults.{HasBadLine, HasFault, RefusalsAreDetermined}
@@ -40,7 +46,14 @@ module _ (problems : ProblemsOfTextsAreDetermined) where
   synth_fault text kind settings bytes status code place (no_size p is holds) fault = absurd (no_fault text kind settings bytes code place p fault)
   synth_fault text kind settings bytes status code place (no_entries p side n is holds) fault = absurd (no_fault text kind settings bytes code place p fault)
 
-module _ (problems : ProblemsOfTextsAreDetermined) (checks : ChecksAreDetermined) (expansions : ExpandAnswersAreDue) (truths : LassoAnswersAreDue) where
+-- nothing but its line answers a list with a bad line
+bad_list : ListsAreDetermined → (told : Option Files) (lines : List ℕ) (settings : Settings) (bytes : List ℕ) (status n : ℕ) →
+    ListAnswers told lines settings bytes status → IsFirstBadLine lines n → (status ≡ 40) × (bytes ≡ line_refusal n)
+bad_list law told lines settings bytes status n (batches.bad_line m ended first is) bad = (ended, is ∙ ap line_refusal (law.one_line lines m n first bad))
+bad_list law told lines settings bytes status n (batches.answered names texts ended is_list are answer) bad = absurd (law.apart lines names n is_list bad)
+
+module _ (problems : ProblemsOfTextsAreDetermined) (checks : ChecksAreDetermined) (expansions : ExpandAnswersAreDue) (truths : LassoAnswersAreDue)
+    (verifications : VerificationsAreDetermined) (lists : ListsAreDetermined) where
   of_text : (files : Files) (asked : Asked) (bytes : List ℕ) (status : ℕ) (code : SpecCode) (place : ℕ) → HasFault files asked code place →
       AnswersAsked (Some files) asked bytes status → (status ≡ 1) × (bytes ≡ refusal_line code place)
   of_text files (synth spec wanted kind) bytes status code place fault a =
@@ -56,6 +69,10 @@ module _ (problems : ProblemsOfTextsAreDetermined) (checks : ChecksAreDetermined
       truths.of_fault (bytes_under files spec) h.bytes bytes status code place h.holds fault
   of_text files (gen clients) bytes status code place fault a = absurd fault
   of_text files (bench clients workers) bytes status code place fault a = absurd fault
+  of_text files (verify spec circuit) bytes status code place fault a =
+      let h = of_told files spec (λ text. HoldsOfFile (Some files) circuit (λ lines. VerifyAnswers text lines bytes status)) a.answer in
+      verifications.of_fault (bytes_under files spec) h.bytes bytes status code place h.holds fault
+  of_text files (batch list wanted) bytes status code place fault a = absurd fault
 
   of_line : (files : Files) (asked : Asked) (bytes : List ℕ) (status n : ℕ) → HasBadLine files asked n →
       AnswersAsked (Some files) asked bytes status → (status ≡ 40) × (bytes ≡ line_refusal n)
@@ -71,6 +88,13 @@ module _ (problems : ProblemsOfTextsAreDetermined) (checks : ChecksAreDetermined
       (of_told files word (λ lines. LassoAnswers (bytes_under files spec) lines bytes status) h) bad.is_flat bad.bad
   of_line files (gen clients) bytes status n bad a = absurd bad
   of_line files (bench clients workers) bytes status n bad a = absurd bad
+  of_line files (verify spec circuit) bytes status n bad a =
+      let h = of_told files spec (λ text. HoldsOfFile (Some files) circuit (λ lines. VerifyAnswers text lines bytes status)) a.answer in
+      verifications.of_bad_line (bytes_under files spec) (bytes_under files circuit) bytes status bad.given n
+      (of_told files circuit (λ lines. VerifyAnswers (bytes_under files spec) lines bytes status) h) bad.bad
+  of_line files (batch list wanted) bytes status n bad a =
+      bad_list lists (Some files) (bytes_under files list) (bounds_of wanted) bytes status n
+      (of_told files list (λ lines. ListAnswers (Some files) lines (bounds_of wanted) bytes status) a.answer) bad
 
   pub determined : RefusalsAreDetermined
   determined = record { of_text = of_text; of_line = of_line }

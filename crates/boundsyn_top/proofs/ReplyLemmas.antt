@@ -11,13 +11,13 @@ use Rattle.program_replies.specs.declared.replies.Status.TheVariants.{CannotRead
 use Rattle.program_replies.specs.Statuses.{status_number}
 use Rattle.program_replies.specs.Lines.{refusal_line}
 use Rattle.program_words.specs.declared.settings.Search.{Search}
-use Rattle.program_words.specs.Settings.{Asked, settings_of, bench, check, expand, gen, lasso, synth}
+use Rattle.program_words.specs.Settings.{Asked, settings_of, batch, bench, check, expand, gen, lasso, synth, verify}
 use Rattle.cert_text.specs.declared.documents.Verdict.{Verdict}
 use Rattle.cert_text.specs.declared.documents.Verdict.TheVariants as verdict
 use Rattle.arbiter_text.specs.Arbiter.{generated_text}
 use Rattle.bench_answer.specs.Bench.{BenchAnswer, HasStatus}
 use Rattle.tlsf_tokens.specs.declared.code.SpecCode.TheVariants.{TooLong}
-use Rattle.tlsf_reader.specs.Faults.{most_bytes, too_long}
+use Rattle.tlsf_reader.specs.Faults.{IsReadingFault, most_bytes, too_long}
 use Rattle.tlsf_expand.specs.TextSeen.{FlatText, spec_seen}
 use Rattle.flat_text.specs.FlatOf.{IsFlatFault, IsFlatOf, of_reading}
 use Rattle.flat_text.specs.Laws.{FlatTextsHaveNoFault}
@@ -30,6 +30,14 @@ use Rattle.synth_answer.specs.Answer as synthesis
 use Rattle.check_answer.specs.Answer.{CheckAnswers, accepted}
 use Rattle.check_answer.specs.Answer as certificate
 use Rattle.check_answer.specs.Reply.{IsTaken}
+use Rattle.verify_answer.specs.Reply as verification
+use Rattle.verify_answer.specs.Answer.{VerifyAnswers, verified}
+use Rattle.verify_answer.specs.Answer as circuits
+use Rattle.batch_answer.specs.Batch.{BatchAnswers}
+use Rattle.batch_answer.specs.Laws.{ListsAreDetermined}
+use Rattle.batch_answer.specs.ListText.{IsFirstBadLine, IsList}
+use Rattle.batch_answer.specs.declared.list.ListFault.{ListFault}
+use Rattle.batch_answer.specs.declared.list.ListFault.TheVariants as faults
 use Rattle.flat_answer.specs.Expand.{ExpandAnswers, written}
 use Rattle.flat_answer.specs.Expand as expansion
 use Rattle.flat_answer.specs.Lasso.{LassoAnswers}
@@ -40,8 +48,10 @@ use Rattle.boundsyn_top.specs.Output.{IsExpansion, IsWholeOf, bytes_of, status_o
 use Rattle.boundsyn_top.specs.Files as file
 use Rattle.boundsyn_top.specs.Files.{AreOfFile, HoldsOfFile, IsUntaken, RepliesByFile}
 use Rattle.boundsyn_top.specs.Commands.{MayAnswer, bounds_of, statuses_of}
+use Rattle.boundsyn_top.specs.Batch.{AreFilesOf, IsBadList, IsListRefusal, IsListed, ListAnswers, OneRose, RepliesByLines, RepliesByNames}
+use Rattle.boundsyn_top.specs.Batch as batches
 use Rattle.boundsyn_top.specs.Faults.{HasNone}
-use Rattle.boundsyn_top.specs.Takes.{IsWell, TakesFile, behind, first, first_file}
+use Rattle.boundsyn_top.specs.Takes.{GoesOn, TakesBehind, TakesFile, behind, first, first_file}
 use Rattle.boundsyn_top.specs.Run.{Asks, IsForeign, IsOutputFor, IsOutputOf, IsReply, RepliesTo, answers, answered, cannot_read, unread, words_refused}
 use Rattle.boundsyn_top.proofs.FileLemmas.{rose_later, some_bytes, too_long_text}
 
@@ -79,18 +89,39 @@ not_first told asked spec name is other = λ same. other (first (subst (λ xs. C
 pub without_fault : (text : List ℕ) (t : TextProblems) → ProblemsOfTextsAreDetermined → IsTaken text t → HasNone (IsFirstFault text (Some Mealy))
 without_fault text t law taken = record { none = λ code place fault. law.no_fault text (Some Mealy) 2 (spec_seen t.spec) t.problems code place taken.problems fault }
 
+pub own_without_fault : (text : List ℕ) (t : TextProblems) → ProblemsOfTextsAreDetermined → verification.IsTaken text t → HasNone (IsFirstFault text None)
+own_without_fault text t law taken = record { none = λ code place fault. law.no_fault text None 2 (spec_seen t.spec) t.problems code place taken.problems fault }
+
 pub flat_without_fault : (text : List ℕ) (flat : FlatText) → FlatTextsHaveNoFault → IsFlatOf text None flat → HasNone (IsFlatFault text None)
 flat_without_fault text flat law is_flat = record { none = λ code place fault. law text None flat code place is_flat fault }
 
 -- the text that is taken has none of the command's faults
-pub check_well : (told : Option Files) (spec certificate text : List ℕ) → AreOfFile told spec text → HasNone (IsFirstFault text (Some Mealy)) →
-    IsWell told (check spec certificate)
-check_well None spec certificate text are none = tt
-check_well (Some files) spec certificate text are none = subst (λ t. HasNone (IsFirstFault t (Some Mealy))) are none
+pub check_goes_on : (told : Option Files) (spec certificate text : List ℕ) → AreOfFile told spec text → HasNone (IsFirstFault text (Some Mealy)) →
+    GoesOn told (check spec certificate)
+check_goes_on None spec certificate text are none = record { unless = tt }
+check_goes_on (Some files) spec certificate text are none = record {
+  unless = λ stops. (subst (λ t. HasNone (IsFirstFault t (Some Mealy))) are none).none stops.code stops.place stops.fault;
+}
 
-pub lasso_well : (told : Option Files) (spec word text : List ℕ) → AreOfFile told spec text → HasNone (IsFlatFault text None) → IsWell told (lasso spec word)
-lasso_well None spec word text are none = tt
-lasso_well (Some files) spec word text are none = subst (λ t. HasNone (IsFlatFault t None)) are none
+pub lasso_goes_on : (told : Option Files) (spec word text : List ℕ) → AreOfFile told spec text → HasNone (IsFlatFault text None) → GoesOn told (lasso spec word)
+lasso_goes_on None spec word text are none = record { unless = tt }
+lasso_goes_on (Some files) spec word text are none = record {
+  unless = λ stops. (subst (λ t. HasNone (IsFlatFault t None)) are none).none stops.code stops.place stops.fault;
+}
+
+pub verify_goes_on : (told : Option Files) (spec circuit text : List ℕ) → AreOfFile told spec text → HasNone (IsFirstFault text None) →
+    GoesOn told (verify spec circuit)
+verify_goes_on None spec circuit text are none = record { unless = tt }
+verify_goes_on (Some files) spec circuit text are none = record {
+  unless = λ stops. (subst (λ t. HasNone (IsFirstFault t None)) are none).none stops.code stops.place stops.fault;
+}
+
+-- a name of a list is taken, where the list has no bad line
+pub listed_taken : (told : Option Files) (list : List ℕ) (wanted : Search) (lines name : List ℕ) → AreOfFile told list lines → IsListed lines name →
+    (IsBadList lines → ⊥) → TakesBehind told (batch list wanted) name
+listed_taken None list wanted lines name are listed good = (tt, record { unless = tt })
+listed_taken (Some files) list wanted lines name are listed good =
+    (subst (λ t. IsListed t name) are listed, record { unless = subst (λ t. IsBadList t → ⊥) are good })
 
 -- == outputs ==
 
@@ -147,6 +178,16 @@ bench_status (verdict.Bounded side n) status is = absurd is
 bench_status verdict.UnknownSizes status is = (2, omega arith, sym is)
 bench_status (verdict.UnknownEntries side n) status is = absurd is
 
+verify_status : (text circuit bytes : List ℕ) (status : ℕ) → VerifyAnswers text circuit bytes status → Contains (0 ∷ 1 ∷ 40 ∷ []) status
+verify_status text circuit bytes status (circuits.refused code place is fault line) = (1, omega arith, sym is)
+verify_status text circuit bytes status (circuits.bad_line given n is bad line) = (2, omega arith, sym is)
+verify_status text circuit bytes status (verified given is holds line) = (0, omega arith, sym is)
+
+list_status : (told : Option Files) (lines : List ℕ) (settings : Settings) (bytes : List ℕ) (status : ℕ) →
+    ListAnswers told lines settings bytes status → Contains (0 ∷ 40 ∷ []) status
+list_status told lines settings bytes status (batches.bad_line n is bad line) = (1, omega arith, sym is)
+list_status told lines settings bytes status (batches.answered names texts is list are answer) = (0, omega arith, sym is)
+
 module _ (shelf : Option Files) (before after : List ℕ → ℕ) where
   replies : (asked : Asked) (bytes : List ℕ) (status : ℕ) → Contains (statuses_of asked) status → MayAnswer shelf asked bytes status →
       RepliesTo shelf before after asked bytes status
@@ -190,34 +231,52 @@ module _ (shelf : Option Files) (before after : List ℕ → ℕ) where
       bytes ≡ codes "cannot read\n" → status ≡ CannotRead → RepliesByFile shelf before after name Due P bytes (status_number status)
   unread_file name Due P bytes status due rose is ended = rw ended (file.count_rose due rose refl is)
 
+  -- == a text and another file ==
+
+  module _ (asked : Asked) (spec other : List ℕ) (A : List ℕ → List ℕ → List ℕ → ℕ → Type 0)
+      (may : (bytes : List ℕ) (status : ℕ) → HoldsOfFile shelf spec (λ text. HoldsOfFile shelf other (λ lines. A text lines bytes status)) → MayAnswer shelf asked bytes status)
+      (statuses : (text lines bytes : List ℕ) (status : ℕ) → A text lines bytes status → Contains (statuses_of asked) status) where
+    both_answered : (text lines bytes : List ℕ) (status : ℕ) → AreOfFile shelf spec text → AreOfFile shelf other lines → A text lines bytes status →
+        RepliesTo shelf before after asked bytes status
+    both_answered text lines bytes status are are_lines answer =
+        replies asked bytes status (statuses text lines bytes status answer)
+        (may bytes status (record { bytes = text; are_told = are; holds = record { bytes = lines; are_told = are_lines; holds = answer } }))
+
+    -- the text alone is refused
+    text_refused : (text bytes : List ℕ) (status : ℕ) → AreOfFile shelf spec text → ((lines : List ℕ) → A text lines bytes status) →
+        RepliesTo shelf before after asked bytes status
+    text_refused text bytes status are answer = let some = some_bytes shelf other in both_answered text some.0 bytes status are some.1 (answer some.0)
+
+    text_untaken : Contains (first_file asked) spec →
+        ((text lines bytes : List ℕ) (status : ℕ) → IsReadingFault text TooLong most_bytes → bytes ≡ refusal_line TooLong most_bytes → status ≡ 1 →
+        A text lines bytes status) →
+        (bytes : List ℕ) (status : ℕ) → IsUntaken shelf before after spec bytes status → RepliesTo shelf before after asked bytes status
+    text_untaken named refuses bytes status =
+        untaken asked spec bytes status named
+        (λ text are long is ended. text_refused text bytes status are (λ lines. refuses text lines bytes status (too_long long) is ended))
+
+    by_file : (Due : Type 0) (middle : List ℕ → ℕ) (text bytes : List ℕ) (status : ℕ) → AreOfFile shelf spec text → (Due → TakesFile shelf asked other) →
+        ((any : List ℕ) → before any ≤ middle any) → RepliesByFile shelf middle after other Due (λ lines. A text lines bytes status) bytes status →
+        RepliesTo shelf before after asked bytes status
+    by_file Due middle text bytes status are taken more (file.count_rose due rose ended is) =
+        unread other (taken due) (rose_later (before other) (middle other) (after other) (more other) rose) ended is
+    by_file Due middle text bytes status are taken more (file.of_file h) = both_answered text h.bytes bytes status are h.are_told h.holds
+
   -- == check ==
-
-  check_answered : (spec document text lines : List ℕ) (bytes : List ℕ) (status : ℕ) → AreOfFile shelf spec text → AreOfFile shelf document lines →
-      CheckAnswers text lines bytes status → RepliesTo shelf before after (check spec document) bytes status
-  check_answered spec document text lines bytes status are are_lines answer =
-      replies (check spec document) bytes status (check_status text lines bytes status answer)
-      (record { bytes = text; are_told = are; holds = record { bytes = lines; are_told = are_lines; holds = answer } })
-
-  -- the text alone is refused
-  check_refused : (spec document text : List ℕ) (bytes : List ℕ) (status : ℕ) → AreOfFile shelf spec text →
-      ((lines : List ℕ) → CheckAnswers text lines bytes status) → RepliesTo shelf before after (check spec document) bytes status
-  check_refused spec document text bytes status are answer =
-      let some = some_bytes shelf document in check_answered spec document text some.0 bytes status are some.1 (answer some.0)
 
   pub check_untaken : (spec document : List ℕ) (bytes : List ℕ) (status : ℕ) →
       IsUntaken shelf before after spec bytes status → RepliesTo shelf before after (check spec document) bytes status
-  check_untaken spec document bytes status =
-      untaken (check spec document) spec bytes status (0, omega arith, refl)
-      (λ text are long is ended. check_refused spec document text bytes status are
-      (λ lines. certificate.refused TooLong most_bytes ended (of_text TooLong most_bytes (of_reading TooLong most_bytes (too_long long))) is))
+  check_untaken spec document =
+      text_untaken (check spec document) spec document CheckAnswers (λ bytes status h. h) check_status (0, omega arith, refl)
+      (λ text lines bytes status fault is ended.
+      certificate.refused TooLong most_bytes ended (of_text TooLong most_bytes (of_reading TooLong most_bytes fault)) is)
 
   pub check_by_file : (middle : List ℕ → ℕ) (spec document text : List ℕ) (bytes : List ℕ) (status : ℕ) → AreOfFile shelf spec text →
       ((any : List ℕ) → before any ≤ middle any) → RepliesByFile shelf middle after document (HasNone (IsFirstFault text (Some Mealy))) (λ lines. CheckAnswers text lines bytes status) bytes status →
       RepliesTo shelf before after (check spec document) bytes status
-  check_by_file middle spec document text bytes status are more (file.count_rose due rose ended is) =
-      unread document (behind (refl, check_well shelf spec document text are due)) (rose_later (before document) (middle document) (after document) (more document) rose) ended is
-  check_by_file middle spec document text bytes status are more (file.of_file h) =
-      check_answered spec document text h.bytes bytes status are h.are_told h.holds
+  check_by_file middle spec document text bytes status are =
+      by_file (check spec document) spec document CheckAnswers (λ bytes status h. h) check_status (HasNone (IsFirstFault text (Some Mealy))) middle text bytes status are
+      (λ due. behind (refl, check_goes_on shelf spec document text are due))
 
   -- == expand ==
 
@@ -238,31 +297,18 @@ module _ (shelf : Option Files) (before after : List ℕ → ℕ) where
 
   -- == lasso ==
 
-  lasso_answered : (spec word text lines : List ℕ) (bytes : List ℕ) (status : ℕ) → AreOfFile shelf spec text → AreOfFile shelf word lines →
-      LassoAnswers text lines bytes status → RepliesTo shelf before after (lasso spec word) bytes status
-  lasso_answered spec word text lines bytes status are are_lines answer =
-      replies (lasso spec word) bytes status (lasso_status text lines bytes status answer)
-      (record { bytes = text; are_told = are; holds = record { bytes = lines; are_told = are_lines; holds = answer } })
-
-  lasso_refused : (spec word text : List ℕ) (bytes : List ℕ) (status : ℕ) → AreOfFile shelf spec text →
-      ((lines : List ℕ) → LassoAnswers text lines bytes status) → RepliesTo shelf before after (lasso spec word) bytes status
-  lasso_refused spec word text bytes status are answer =
-      let some = some_bytes shelf word in lasso_answered spec word text some.0 bytes status are some.1 (answer some.0)
-
   pub lasso_untaken : (spec word : List ℕ) (bytes : List ℕ) (status : ℕ) →
       IsUntaken shelf before after spec bytes status → RepliesTo shelf before after (lasso spec word) bytes status
-  lasso_untaken spec word bytes status =
-      untaken (lasso spec word) spec bytes status (0, omega arith, refl)
-      (λ text are long is ended. lasso_refused spec word text bytes status are
-      (λ lines. lassos.refused TooLong most_bytes ended (of_reading TooLong most_bytes (too_long long)) is))
+  lasso_untaken spec word =
+      text_untaken (lasso spec word) spec word LassoAnswers (λ bytes status h. h) lasso_status (0, omega arith, refl)
+      (λ text lines bytes status fault is ended. lassos.refused TooLong most_bytes ended (of_reading TooLong most_bytes fault) is)
 
   pub lasso_by_file : (middle : List ℕ → ℕ) (spec word text : List ℕ) (bytes : List ℕ) (status : ℕ) → AreOfFile shelf spec text →
       ((any : List ℕ) → before any ≤ middle any) → RepliesByFile shelf middle after word (HasNone (IsFlatFault text None)) (λ lines. LassoAnswers text lines bytes status) bytes status →
       RepliesTo shelf before after (lasso spec word) bytes status
-  lasso_by_file middle spec word text bytes status are more (file.count_rose due rose ended is) =
-      unread word (behind (refl, lasso_well shelf spec word text are due)) (rose_later (before word) (middle word) (after word) (more word) rose) ended is
-  lasso_by_file middle spec word text bytes status are more (file.of_file h) =
-      lasso_answered spec word text h.bytes bytes status are h.are_told h.holds
+  lasso_by_file middle spec word text bytes status are =
+      by_file (lasso spec word) spec word LassoAnswers (λ bytes status h. h) lasso_status (HasNone (IsFlatFault text None)) middle text bytes status are
+      (λ due. behind (refl, lasso_goes_on shelf spec word text are due))
 
   -- == gen and bench ==
 
@@ -274,3 +320,59 @@ module _ (shelf : Option Files) (before after : List ℕ → ℕ) where
       RepliesTo shelf before after (bench clients workers) bytes status
   bench_answered clients workers bytes status answer =
       replies (bench clients workers) bytes status (bench_status answer.verdict status answer.has_status) answer
+
+  -- == verify ==
+
+  pub verify_untaken : (spec circuit : List ℕ) (bytes : List ℕ) (status : ℕ) →
+      IsUntaken shelf before after spec bytes status → RepliesTo shelf before after (verify spec circuit) bytes status
+  verify_untaken spec circuit =
+      text_untaken (verify spec circuit) spec circuit VerifyAnswers (λ bytes status h. h) verify_status (0, omega arith, refl)
+      (λ text lines bytes status fault is ended.
+      circuits.refused TooLong most_bytes ended (of_text TooLong most_bytes (of_reading TooLong most_bytes fault)) is)
+
+  pub verify_by_file : (middle : List ℕ → ℕ) (spec circuit text : List ℕ) (bytes : List ℕ) (status : ℕ) → AreOfFile shelf spec text →
+      ((any : List ℕ) → before any ≤ middle any) → RepliesByFile shelf middle after circuit (HasNone (IsFirstFault text None)) (λ lines. VerifyAnswers text lines bytes status) bytes status →
+      RepliesTo shelf before after (verify spec circuit) bytes status
+  verify_by_file middle spec circuit text bytes status are =
+      by_file (verify spec circuit) spec circuit VerifyAnswers (λ bytes status h. h) verify_status (HasNone (IsFirstFault text None)) middle text bytes status are
+      (λ due. behind (refl, verify_goes_on shelf spec circuit text are due))
+
+  -- == batch ==
+
+  -- the list couldn't be read
+  pub list_unread : (list : List ℕ) (wanted : Search) (bytes : List ℕ) (status : Status) → Rose (before list) (after list) →
+      bytes ≡ codes "cannot read\n" → status ≡ CannotRead → RepliesTo shelf before after (batch list wanted) bytes (status_number status)
+  list_unread list wanted bytes status rose is ended = rw ended (unread list (first (0, omega arith, refl)) rose refl is)
+
+  pub by_lines : (middle : List ℕ → ℕ) (list : List ℕ) (wanted : Search) (lines bytes : List ℕ) (status : ℕ) → AreOfFile shelf list lines →
+      ((any : List ℕ) → before any ≤ middle any) → RepliesByLines shelf middle after lines (bounds_of wanted) bytes status →
+      RepliesTo shelf before after (batch list wanted) bytes status
+  by_lines middle list wanted lines bytes status are more (batches.text_rose name listed good rose ended is) =
+      unread name (behind (listed_taken shelf list wanted lines name are listed good))
+      (rose_later (before name) (middle name) (after name) (more name) rose) ended is
+  by_lines middle list wanted lines bytes status are more (batches.of_lines answer) =
+      replies (batch list wanted) bytes status (list_status shelf lines (bounds_of wanted) bytes status answer)
+      (record { bytes = lines; are_told = are; holds = answer })
+
+  -- the reply to texts is one to the list that names them
+  pub by_names : ListsAreDetermined → (lines : List ℕ) (names : List (List ℕ)) (settings : Settings) (bytes : List ℕ) (status : ℕ) → IsList lines names →
+      RepliesByNames shelf before after names settings bytes status → RepliesByLines shelf before after lines settings bytes status
+  by_names law lines names settings bytes status is_list (batches.one_rose one ended is) =
+      batches.text_rose one.name (record { names = names; is_list = is_list; among = one.among })
+      (λ bad. law.apart lines names bad.line is_list bad.bad) one.rose ended is
+  by_names law lines names settings bytes status is_list (batches.of_texts texts ended are answer) =
+      batches.of_lines (batches.answered names texts ended is_list are answer)
+
+  pub list_refused : (lines : List ℕ) (settings : Settings) (fault : ListFault) (bytes : List ℕ) (status : Status) →
+      ((n : ℕ) → fault ≡ faults.BadLine n → IsFirstBadLine lines n) → IsListRefusal fault bytes status →
+      RepliesByLines shelf before after lines settings bytes (status_number status)
+  list_refused lines settings (faults.BadLine n) bytes status bad is = rw is.1 (batches.of_lines (batches.bad_line n refl (bad n refl) is.0))
+  list_refused lines settings faults.NoMemory bytes status bad is = absurd is
+
+  pub names_unread : (names : List (List ℕ)) (settings : Settings) (bytes : List ℕ) (status : Status) → OneRose before after names →
+      bytes ≡ codes "cannot read\n" → status ≡ CannotRead → RepliesByNames shelf before after names settings bytes (status_number status)
+  names_unread names settings bytes status one is ended = rw ended (batches.one_rose one refl is)
+
+  pub texts_answered : (names texts : List (List ℕ)) (settings : Settings) (bytes : List ℕ) (status : Status) → AreFilesOf shelf names texts →
+      BatchAnswers names texts settings bytes → status ≡ Done → RepliesByNames shelf before after names settings bytes (status_number status)
+  texts_answered names texts settings bytes status are answer done = rw done (batches.of_texts texts refl are answer)

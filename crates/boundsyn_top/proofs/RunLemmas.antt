@@ -10,11 +10,11 @@ use Rattle.outside_edge.specs.declared.sink.SinkFault.{SinkFault}
 use Rattle.outside_edge.specs.declared.sink.SinkFault.TheVariants.{Failed, NoMemory}
 use Rattle.tlsf_tokens.specs.declared.code.SpecCode.{SpecCode}
 use Rattle.program_replies.specs.Lines.{line_refusal, refusal_line}
-use Rattle.program_words.specs.Settings.{Asked, synth, check, expand, lasso, gen, bench}
+use Rattle.program_words.specs.Settings.{Asked, synth, check, expand, lasso, gen, bench, verify, batch}
 use Rattle.boundsyn_top.specs.Commands.{AnswersAsked, statuses_of}
-use Rattle.boundsyn_top.specs.Faults.{HasFault, RefusalsAreDetermined}
-use Rattle.boundsyn_top.specs.Run.{AnswersWords, AskForNothing, Asks, EndsWith, Gained, GainedPart, IsEnding, IsForeign, IsReply, LineFails, ReadFailed, ReadsWell, TextFails, answered, answering, cannot_read, prevented, says, words_refused}
-use Rattle.boundsyn_top.specs.Takes.{TakesBehind, TakesFile, behind, first, first_file}
+use Rattle.boundsyn_top.specs.Faults.{RefusalsAreDetermined}
+use Rattle.boundsyn_top.specs.Run.{AnswersWords, AskForNothing, Asks, EndsWith, Gained, GainedPart, IsEnding, IsForeign, IsReply, IsStopped, LineFails, ReadFailed, ReadsWell, TextFails, answered, answering, cannot_read, prevented, says, words_refused}
+use Rattle.boundsyn_top.specs.Takes.{Stops, TakesBehind, TakesFile, behind, first, first_file}
 use Rattle.boundsyn_top.proofs.SinkLemmas.{gains_nothing}
 
 -- the clauses of `run` that speak of its result, at plain values
@@ -92,6 +92,13 @@ all_answering (bench clients workers) =
     All-cons IsAnswering 10 (20 ∷ 30 ∷ []) answering_10
     (All-cons IsAnswering 20 (30 ∷ []) answering_20
     (All-cons IsAnswering 30 [] answering_30 (All-nil IsAnswering)))
+all_answering (verify spec circuit) =
+    All-cons IsAnswering 0 (1 ∷ 40 ∷ []) answering_0
+    (All-cons IsAnswering 1 (40 ∷ []) answering_1
+    (All-cons IsAnswering 40 [] answering_40 (All-nil IsAnswering)))
+all_answering (batch list wanted) =
+    All-cons IsAnswering 0 (40 ∷ []) answering_0
+    (All-cons IsAnswering 40 [] answering_40 (All-nil IsAnswering))
 
 is_answering : (asked : Asked) (n : ℕ) → Contains (statuses_of asked) n → IsAnswering n
 is_answering asked n h = All-contains IsAnswering (statuses_of asked) n (all_answering asked) h
@@ -255,26 +262,28 @@ module _ (words : List (List ℕ)) (shelf : Option Files) (before after : List �
 
 -- == files ==
 
--- behind a text with a fault no file is taken
-none_behind : (files : Files) (asked : Asked) (code : SpecCode) (place : ℕ) (name : List ℕ) → HasFault files asked code place → TakesBehind (Some files) asked name → ⊥
-none_behind files (synth spec wanted kind) code place name fault taken = taken
-none_behind files (check spec certificate) code place name fault taken = taken.1.none code place fault
-none_behind files (expand spec) code place name fault taken = taken
-none_behind files (lasso spec word) code place name fault taken = taken.1.none code place fault
-none_behind files (gen clients) code place name fault taken = taken
-none_behind files (bench clients workers) code place name fault taken = taken
+-- behind a file that is refused none is taken
+none_behind : (files : Files) (asked : Asked) (name : List ℕ) → Stops files asked → TakesBehind (Some files) asked name → ⊥
+none_behind files (synth spec wanted kind) name stops taken = taken
+none_behind files (check spec certificate) name stops taken = taken.1.unless stops
+none_behind files (expand spec) name stops taken = taken
+none_behind files (lasso spec word) name stops taken = taken.1.unless stops
+none_behind files (gen clients) name stops taken = taken
+none_behind files (bench clients workers) name stops taken = taken
+none_behind files (verify spec circuit) name stops taken = taken.1.unless stops
+none_behind files (batch list wanted) name stops taken = taken.1.unless stops
 
-text_alone : (files : Files) (asked : Asked) (code : SpecCode) (place : ℕ) (name : List ℕ) → HasFault files asked code place → (Contains (first_file asked) name → ⊥) →
+first_alone : (files : Files) (asked : Asked) (name : List ℕ) → Stops files asked → (Contains (first_file asked) name → ⊥) →
     TakesFile (Some files) asked name → ⊥
-text_alone files asked code place name fault other (first taken) = other taken
-text_alone files asked code place name fault other (behind taken) = none_behind files asked code place name fault taken
+first_alone files asked name stops other (first taken) = other taken
+first_alone files asked name stops other (behind taken) = none_behind files asked name stops taken
 
--- where the text is refused, each file but its own is foreign
-pub refused_alone : (words : List (List ℕ)) (told : Option Files) (code : SpecCode) (place : ℕ) (fails : TextFails words told code place) (name : List ℕ) →
-    (Contains (first_file fails.asked) name → ⊥) → IsForeign words told name
-refused_alone words told code place fails name other = λ asked asks taken.
-    text_alone fails.files fails.asked code place name fails.fault other
-    (subst (λ o. TakesFile o fails.asked name) fails.are_told (subst (λ a. TakesFile told a name) (one_asked words asked fails.asked asks fails.asks) taken))
+-- where the first file is refused, each other one is foreign
+pub refused_alone : (words : List (List ℕ)) (told : Option Files) (stopped : IsStopped words told) (name : List ℕ) →
+    (Contains (first_file stopped.asked) name → ⊥) → IsForeign words told name
+refused_alone words told stopped name other = λ asked asks taken.
+    first_alone stopped.files stopped.asked name stopped.stops other
+    (subst (λ o. TakesFile o stopped.asked name) stopped.are_told (subst (λ a. TakesFile told a name) (one_asked words asked stopped.asked asks stopped.asks) taken))
 
 -- no count of 0 rose to 0
 pub none_rose : Rose 0 0 → ⊥

@@ -1,7 +1,7 @@
 -- What each command may write whole, and with which status (this project's own).
 use Rattle.std.specs.Prelude.{◌≡◌, ℕ, Option, List, [], ◌∷◌}
 use Rattle.outside_edge.specs.Files.{Files}
-use Rattle.program_words.specs.Settings.{Asked, synth, check, expand, lasso, gen, bench}
+use Rattle.program_words.specs.Settings.{Asked, synth, check, expand, lasso, gen, bench, verify, batch}
 use Rattle.program_words.specs.declared.settings.Search.{Search}
 use Rattle.arbiter_text.specs.Arbiter.{generated_text}
 use Rattle.synth_engine.specs.declared.settings.Settings.{Settings}
@@ -10,7 +10,9 @@ use Rattle.check_answer.specs.Answer.{CheckAnswers}
 use Rattle.flat_answer.specs.Expand.{ExpandAnswers}
 use Rattle.flat_answer.specs.Lasso.{LassoAnswers}
 use Rattle.bench_answer.specs.Bench.{BenchAnswer}
+use Rattle.verify_answer.specs.Answer.{VerifyAnswers}
 use Rattle.boundsyn_top.specs.Files.{HoldsOfFile}
+use Rattle.boundsyn_top.specs.Batch.{ListAnswers}
 
 -- the statuses with which it answers
 abbrev pub statuses_of : Asked → List ℕ
@@ -20,6 +22,8 @@ statuses_of (expand spec) = 0 ∷ 1 ∷ []
 statuses_of (lasso spec word) = 0 ∷ 1 ∷ 40 ∷ []
 statuses_of (gen clients) = 0 ∷ []
 statuses_of (bench clients workers) = 10 ∷ 20 ∷ 30 ∷ []
+statuses_of (verify spec circuit) = 0 ∷ 1 ∷ 40 ∷ []
+statuses_of (batch list wanted) = 0 ∷ 40 ∷ []
 
 -- how the words bound a search
 abbrev pub bounds_of : Search → Settings
@@ -35,6 +39,9 @@ MayAnswer told (lasso spec word) bytes status =
     HoldsOfFile told spec (λ text. HoldsOfFile told word (λ lines. LassoAnswers text lines bytes status))
 MayAnswer told (gen clients) bytes status = (bytes ≡ generated_text clients) × (status ≡ 0)
 MayAnswer told (bench clients workers) bytes status = BenchAnswer clients workers bytes status
+MayAnswer told (verify spec circuit) bytes status =
+    HoldsOfFile told spec (λ text. HoldsOfFile told circuit (λ lines. VerifyAnswers text lines bytes status))
+MayAnswer told (batch list wanted) bytes status = HoldsOfFile told list (λ lines. ListAnswers told lines (bounds_of wanted) bytes status)
 
 -- the bytes and the status that answer what was asked
 pub record AnswersAsked (told : Option Files) (asked : Asked) (bytes : List ℕ) (status : ℕ) : Type 0 where

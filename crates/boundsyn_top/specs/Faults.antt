@@ -1,4 +1,4 @@
--- What keeps a command from its work: the first fault of its text, or the first bad line of its other file (this project's own).
+-- What keeps a command from its work: the first fault of its text, or the first bad line of its list or its other file (this project's own).
 use Rattle.std.specs.Prelude.{◌≡◌, ℕ, Some, None, List}
 use Rattle.letter_word.specs.declared.kinds.Kind.TheVariants.{Mealy}
 use Rattle.tlsf_tokens.specs.declared.code.SpecCode.{SpecCode}
@@ -7,15 +7,18 @@ use Rattle.spec_problems.specs.OfText.{IsFirstFault}
 use Rattle.document_check.specs.FirstBad.{IsFirstBadFor}
 use Rattle.check_answer.specs.Answer.{Given, facts_in}
 use Rattle.lasso_word.specs.WordText.{IsFirstBadLine}
+use Rattle.verify_answer.specs.Answer as verification
+use Rattle.verify_answer.specs.FirstBad as circuits
+use Rattle.batch_answer.specs.ListText as lists
 use Rattle.flat_lines.specs.FlatLines.{all_names}
 use Rattle.tlsf_expand.specs.TextSeen.{FlatText}
 use Rattle.outside_edge.specs.Files.{Files, bytes_under}
 use Rattle.program_replies.specs.Lines.{line_refusal, refusal_line}
-use Rattle.program_words.specs.Settings.{Asked, synth, check, expand, lasso, gen, bench}
+use Rattle.program_words.specs.Settings.{Asked, synth, check, expand, lasso, gen, bench, verify, batch}
 use Rattle.boundsyn_top.specs.Commands.{AnswersAsked}
 
 -- The first fault of the text that a command takes. `check` takes it as with a kind that is given, and `expand` and `lasso` have no
--- normal forms and no automata.
+-- normal forms and no automata. The texts of a list are refused each for itself.
 abbrev pub HasFault : Files → Asked → SpecCode → ℕ → Type 0
 HasFault files (synth spec wanted kind) code place = IsFirstFault (bytes_under files spec) kind code place
 HasFault files (check spec certificate) code place = IsFirstFault (bytes_under files spec) (Some Mealy) code place
@@ -23,6 +26,8 @@ HasFault files (expand spec) code place = IsFlatFault (bytes_under files spec) N
 HasFault files (lasso spec word) code place = IsFlatFault (bytes_under files spec) None code place
 HasFault files (gen clients) code place = ⊥
 HasFault files (bench clients workers) code place = ⊥
+HasFault files (verify spec circuit) code place = IsFirstFault (bytes_under files spec) None code place
+HasFault files (batch list wanted) code place = ⊥
 
 -- there is none of these faults
 pub record HasNone (Fault : SpecCode → ℕ → Type 0) : Type 0 where
@@ -39,7 +44,12 @@ pub record IsBadWord (text word : List ℕ) (line : ℕ) : Type 0 where
   pub is_flat : IsFlatOf text None flat
   pub bad : IsFirstBadLine word (all_names flat.expanded) line
 
--- The text has no fault, and this is the first bad line of the other file.
+-- the text has no fault, and this is the first bad line of the circuit's file for it
+pub record IsBadCircuit (text circuit : List ℕ) (line : ℕ) : Type 0 where
+  pub given : verification.Given text
+  pub bad : circuits.IsFirstBadFor (verification.facts_in given) circuit line
+
+-- The text has no fault, and this is the first bad line of the other file; or it is that of the list.
 abbrev pub HasBadLine : Files → Asked → ℕ → Type 0
 HasBadLine files (synth spec wanted kind) n = ⊥
 HasBadLine files (check spec certificate) n = IsBadCertificate (bytes_under files spec) (bytes_under files certificate) n
@@ -47,6 +57,8 @@ HasBadLine files (expand spec) n = ⊥
 HasBadLine files (lasso spec word) n = IsBadWord (bytes_under files spec) (bytes_under files word) n
 HasBadLine files (gen clients) n = ⊥
 HasBadLine files (bench clients workers) n = ⊥
+HasBadLine files (verify spec circuit) n = IsBadCircuit (bytes_under files spec) (bytes_under files circuit) n
+HasBadLine files (batch list wanted) n = lists.IsFirstBadLine (bytes_under files list) n
 
 -- nothing but its line answers a fault, or a bad line
 pub record RefusalsAreDetermined : Type 0 where

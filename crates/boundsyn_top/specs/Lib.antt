@@ -1,5 +1,6 @@
 pub mod Output
 pub mod Files
+pub mod Batch
 pub mod Commands
 pub mod Faults
 pub mod Takes

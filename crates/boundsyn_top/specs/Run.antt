@@ -11,7 +11,7 @@ use Rattle.boundsyn_top.specs.declared.output.Output.{Output}
 use Rattle.boundsyn_top.specs.Output.{IsWritable, bytes_of, status_of}
 use Rattle.boundsyn_top.specs.Commands.{AnswersAsked, statuses_of}
 use Rattle.boundsyn_top.specs.Faults.{HasBadLine, HasFault}
-use Rattle.boundsyn_top.specs.Takes.{TakesFile}
+use Rattle.boundsyn_top.specs.Takes.{Stops, TakesFile}
 
 -- == the words ==
 
@@ -103,7 +103,7 @@ pub record TextFails (words : List (List ℕ)) (told : Option Files) (code : Spe
   pub are_told : told ≡ Some files
   pub fault : HasFault files asked code place
 
--- the other file that the words name has this first bad line, and the text has no fault
+-- the list, or the other file, that the words name has this first bad line, and the text has no fault
 pub record LineFails (words : List (List ℕ)) (told : Option Files) (n : ℕ) : Type 0 where
   pub asked : Asked
   pub asks : Asks words asked
@@ -118,3 +118,11 @@ ReadsWell told asked before after = (name : List ℕ) → TakesFile told asked n
 -- the words ask for no command that takes the file
 abbrev pub IsForeign : List (List ℕ) → Option Files → List ℕ → Type 0
 IsForeign words told name = (asked : Asked) → Asks words asked → TakesFile told asked name → ⊥
+
+-- what the first file holds that the words name is refused
+pub record IsStopped (words : List (List ℕ)) (told : Option Files) : Type 0 where
+  pub asked : Asked
+  pub asks : Asks words asked
+  pub files : Files
+  pub are_told : told ≡ Some files
+  pub stops : Stops files asked

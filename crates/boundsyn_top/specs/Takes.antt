@@ -1,8 +1,10 @@
--- Which files a command takes (this project's own): first that of its text, and then the other file, where the text has no fault.
+-- Which files a command takes (this project's own): first that of its text or its list, and then others, unless the first one is refused.
 use Rattle.std.specs.Prelude.{◌≡◌, ℕ, Option, List, [], ◌∷◌, IfSome, Contains}
-use Rattle.outside_edge.specs.Files.{Files}
-use Rattle.program_words.specs.Settings.{Asked, synth, check, expand, lasso, gen, bench}
-use Rattle.boundsyn_top.specs.Faults.{HasFault, HasNone}
+use Rattle.tlsf_tokens.specs.declared.code.SpecCode.{SpecCode}
+use Rattle.outside_edge.specs.Files.{Files, bytes_under}
+use Rattle.program_words.specs.Settings.{Asked, synth, check, expand, lasso, gen, bench, verify, batch}
+use Rattle.boundsyn_top.specs.Batch.{IsBadList, IsListed}
+use Rattle.boundsyn_top.specs.Faults.{HasFault}
 
 -- the file that is taken first, where there is one
 abbrev pub first_file : Asked → List (List ℕ)
@@ -12,19 +14,40 @@ first_file (expand spec) = spec ∷ []
 first_file (lasso spec word) = spec ∷ []
 first_file (gen clients) = []
 first_file (bench clients workers) = []
+first_file (verify spec circuit) = spec ∷ []
+first_file (batch list wanted) = list ∷ []
 
--- the text that the command takes has no fault, where that is told
-abbrev pub IsWell : Option Files → Asked → Type 0
-IsWell told asked = IfSome told (λ files. HasNone (HasFault files asked))
+-- the text that the command takes has a fault
+pub record IsFaulty (files : Files) (asked : Asked) : Type 0 where
+  pub code : SpecCode
+  pub place : ℕ
+  pub fault : HasFault files asked code place
 
--- a file that is taken behind the first one
+-- what the first file holds is refused: the text has a fault, or the list a bad line
+abbrev pub Stops : Files → Asked → Type 0
+Stops files (synth spec wanted kind) = IsFaulty files (synth spec wanted kind)
+Stops files (check spec certificate) = IsFaulty files (check spec certificate)
+Stops files (expand spec) = IsFaulty files (expand spec)
+Stops files (lasso spec word) = IsFaulty files (lasso spec word)
+Stops files (gen clients) = ⊥
+Stops files (bench clients workers) = ⊥
+Stops files (verify spec circuit) = IsFaulty files (verify spec circuit)
+Stops files (batch list wanted) = IsBadList (bytes_under files list)
+
+-- it isn't, where that is told
+pub record GoesOn (told : Option Files) (asked : Asked) : Type 0 where
+  pub unless : IfSome told (λ files. Stops files asked → ⊥)
+
+-- A file that is taken behind the first one. Where the shelf doesn't tell its files, a list may name any.
 abbrev pub TakesBehind : Option Files → Asked → List ℕ → Type 0
 TakesBehind told (synth spec wanted kind) name = ⊥
-TakesBehind told (check spec certificate) name = (name ≡ certificate) × IsWell told (check spec certificate)
+TakesBehind told (check spec certificate) name = (name ≡ certificate) × GoesOn told (check spec certificate)
 TakesBehind told (expand spec) name = ⊥
-TakesBehind told (lasso spec word) name = (name ≡ word) × IsWell told (lasso spec word)
+TakesBehind told (lasso spec word) name = (name ≡ word) × GoesOn told (lasso spec word)
 TakesBehind told (gen clients) name = ⊥
 TakesBehind told (bench clients workers) name = ⊥
+TakesBehind told (verify spec circuit) name = (name ≡ circuit) × GoesOn told (verify spec circuit)
+TakesBehind told (batch list wanted) name = IfSome told (λ files. IsListed (bytes_under files list) name) × GoesOn told (batch list wanted)
 
 -- the command takes the file of this name
 pub data TakesFile (told : Option Files) (asked : Asked) (name : List ℕ) : Type 0 where

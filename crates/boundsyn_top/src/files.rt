@@ -50,6 +50,7 @@ pub fn take_whole<H: Shelf>(
         (λ bytes. AreOfFile (H.files shelf.old) name.now bytes.items)) }
     ensures files { H.files shelf.new ≡ H.files shelf.old }
     ensures others { (other : List ℕ) → other ≢ name.now → H.faults shelf.new other ≡ H.faults shelf.old other }
+    ensures never_falls { (any : List ℕ) → H.faults shelf.old any ≤ H.faults shelf.new any }
 {
     let mut bytes = Vec::new(alloc);
     match shelf.take(name, u64::MAX, &mut bytes) {

@@ -6,6 +6,7 @@ ghost use Rattle.boundsyn_top.specs.Faults.{RefusalsAreDetermined};
 ghost use Rattle.boundsyn_top.specs.Run.{Asks};
 
 use crate::run;
+use batch_answer::laws::lists_are_determined;
 use check_answer::laws::checks_are_determined;
 use flat_answer::laws::{expand_answers_are_due, lasso_answers_are_due};
 use outside_edge::{Gate, PlainShelf, PlainSink};
@@ -13,8 +14,9 @@ use spec_problems::laws::problems_of_texts_are_determined;
 use std::alloc::Global;
 use std::sync::Wait;
 use std::thread::Threads;
+use verify_answer::laws::verifications_are_determined;
 
-/// Nothing but its line answers the first fault of a text, or the first bad line of another file.
+/// Nothing but its line answers the first fault of a text, or the first bad line of a list or of another file.
 pub fn refusals_are_determined()
     ensures { RefusalsAreDetermined }
 {
@@ -22,6 +24,8 @@ pub fn refusals_are_determined()
     expand_answers_are_due();
     lasso_answers_are_due();
     checks_are_determined();
+    verifications_are_determined();
+    lists_are_determined();
 }
 
 /// Over a shelf and a sink that never fail, words that ask for something get an answer, or memory was wanted.

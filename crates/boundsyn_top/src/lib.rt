@@ -6,7 +6,9 @@
 #![tactic(auto)]
 
 mod arbiters;
+mod batches;
 mod certificates;
+mod circuits;
 mod files;
 mod flat;
 pub mod laws;

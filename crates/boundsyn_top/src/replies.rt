@@ -5,7 +5,9 @@ ghost use Rattle.boundsyn_top.specs.Run.{IsForeign, IsOutputFor, IsOutputOf};
 ghost use Rattle.boundsyn_top.specs.Takes.{TakesFile};
 
 use crate::arbiters::{generate, search_arbiter};
+use crate::batches::answer_list;
 use crate::certificates::check_certificate;
+use crate::circuits::verify_circuit;
 use crate::flat::{expand_spec, tell_truth};
 use crate::output::{Output, whole_output};
 use crate::synthesis::synthesize;
@@ -73,6 +75,11 @@ where
         Settings::Lasso { spec, word } => tell_truth(alloc, shelf, spec, word),
         Settings::Gen { clients } => generate(alloc, clients),
         Settings::Bench { clients, workers } => search_arbiter(rt, alloc, clients, workers, gate),
+        Settings::Verify { spec, circuit } => verify_circuit(alloc, shelf, spec, circuit),
+        Settings::Batch {
+            list,
+            search: wanted,
+        } => answer_list(rt, alloc, shelf, list, wanted, gate),
     }
 }
 

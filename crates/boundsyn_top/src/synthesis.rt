@@ -42,8 +42,8 @@ where
     }
 }
 
-// How a search is bounded.
-fn bounds(wanted: Search) -> synth_engine::Settings
+/// How a search is bounded.
+pub fn bounds(wanted: Search) -> synth_engine::Settings
     ensures { result ≡ bounds_of wanted }
 {
     synth_engine::Settings {

@@ -6,7 +6,7 @@ ghost use Rattle.program_replies.specs.Statuses.{status_number};
 ghost use Rattle.program_words.specs.Settings.{Asked};
 ghost use Rattle.tlsf_tokens.specs.declared.code.SpecCode.{SpecCode};
 ghost use Rattle.boundsyn_top.specs.Commands.{statuses_of};
-ghost use Rattle.boundsyn_top.specs.Run.{AnswersWords, AskForNothing, Asks, EndsWith, Gained, GainedPart, IsEnding, IsForeign, IsReply, LineFails, ReadFailed, ReadsWell, TextFails, answering};
+ghost use Rattle.boundsyn_top.specs.Run.{AnswersWords, AskForNothing, Asks, EndsWith, Gained, GainedPart, IsEnding, IsForeign, IsReply, IsStopped, LineFails, ReadFailed, ReadsWell, TextFails, answering};
 ghost use Rattle.boundsyn_top.specs.Takes.{first_file};
 
 use crate::laws::refusals_are_determined;
@@ -21,8 +21,9 @@ use std::thread::Threads;
 /// Does what the words ask for, and gives the status to end with. The first word is the program's name.
 /// Each line is one call of `put`, its end included.
 ///
-/// 0: done, or accepted. 10, 11, 20, 30: what `synth` found. 1: the text is refused. 40: the other file is refused at a line. 2: the
-/// words are refused. 3: a file couldn't be read. 4: not all could be written. 5: memory was wanted.
+/// 0: done, accepted or verified. 10, 11, 20, 30: what `synth` found. 1: the text is refused. 40: the list or the other file is
+/// refused at a line. 2: the words are refused. 3: a file that was due couldn't be read. 4: not all could be written. 5: memory was
+/// wanted.
 pub fn run<R, H, K, G>(
     rt: &R,
     alloc: Global,
@@ -60,11 +61,11 @@ where
     ensures complete { (asked : Asked) → Asks (map string_bytes words.now) asked → ReadsWell (H.files shelf.old) asked (H.faults shelf.old) (H.faults shelf.new)
         → ¬ Rose (K.faults out.old) (K.faults out.new) → Contains (5 ∷ statuses_of asked) result }
 
-    // No other file is taken, and where the text is refused none but its own.
+    // No other file is taken, and where the text or the list is refused none but its own.
     ensures files { H.files shelf.new ≡ H.files shelf.old }
     ensures other_files { (name : List ℕ) → IsForeign (map string_bytes words.now) (H.files shelf.old) name → H.faults shelf.new name ≡ H.faults shelf.old name }
-    ensures refused_alone { (code : SpecCode) (place : ℕ) → (fails : TextFails (map string_bytes words.now) (H.files shelf.old) code place)
-        → (name : List ℕ) → ¬ Contains (first_file fails.asked) name → H.faults shelf.new name ≡ H.faults shelf.old name }
+    ensures refused_alone { (stopped : IsStopped (map string_bytes words.now) (H.files shelf.old))
+        → (name : List ℕ) → ¬ Contains (first_file stopped.asked) name → H.faults shelf.new name ≡ H.faults shelf.old name }
 {
     refusals_are_determined();
     let Ok(output) = reply_to(rt, alloc, words, shelf, gate) else {

@@ -1,5 +1,6 @@
 pub mod Building
 pub mod Reading
+pub mod Matching
 pub mod PlainSteps
 pub mod PlainWalks
 pub mod PlainLaws

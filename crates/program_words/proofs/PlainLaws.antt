@@ -8,7 +8,7 @@ use Rattle.clap.specs.Kinds.{Kinds, or_else}
 use Rattle.clap.specs.Simple.{App, Shape, built, built_leaf, entered, inherited, names_of, subcommand_of}
 use Rattle.clap.specs.Walk.{Held, Row, Text, Walk, finished, idle, nothing_held, option, rows_after, settled, settled_rows, walk, walk_from, walked}
 use Rattle.program_words.specs.CommandLine as line
-use Rattle.program_words.specs.Plain.{Item, AreOptions, IsAmong, PlainWordsAreRead, bench_options, given_by, has_item, is_plain, item, option_words, synth_options}
+use Rattle.program_words.specs.Plain.{Item, AreOptions, IsAmong, PlainWordsAreRead, batch_options, bench_options, given_by, has_item, is_plain, item, option_words, synth_options}
 use Rattle.program_words.specs.Settings.{Asked, asked_of, command_asked, given_in, settings_of}
 use Rattle.program_words.proofs.PlainSteps.{HaveNoDefaults, defaults_fault_none, finished_none, open_idle, open_option, plain_turn_fault, plain_walked, row_of_item, rows_of_items}
 use Rattle.program_words.proofs.PlainWalks.{EndsAt, OptionSteps, Settles, after, options_end, settled_fault, settled_one}
@@ -132,44 +132,44 @@ program_reads program command rest is_met =
 abbrev asked : Kinds → Option (Text × List Row) → Option Asked
 asked k m = if length k == 0 then asked_of m else None
 
-synth_max : OptionSteps (leaf line.synth) (codes "max")
+synth_max : (name : Text) → OptionSteps (leaf (line.searching name)) (codes "max")
 unfolding clap_on_literals
-synth_max = record {
+synth_max name = record {
   settles = record { rows = λ text rows. refl; fault = λ text rows waiting position. refl };
   word = λ rows pending position. refl;
   word_fault_is = λ rows pending position. refl;
-  value_is = λ rows position text plain. plain_walked (leaf line.synth).rules rows (Some (codes "max", [])) (option (codes "max")) (open_option (codes "max")) position text plain;
-  value_fault = λ rows position text plain. plain_turn_fault (leaf line.synth) rows (Some (codes "max", [])) (option (codes "max")) (open_option (codes "max")) position text plain;
+  value_is = λ rows position text plain. plain_walked (leaf (line.searching name)).rules rows (Some (codes "max", [])) (option (codes "max")) (open_option (codes "max")) position text plain;
+  value_fault = λ rows position text plain. plain_turn_fault (leaf (line.searching name)) rows (Some (codes "max", [])) (option (codes "max")) (open_option (codes "max")) position text plain;
 }
 
-synth_entries : OptionSteps (leaf line.synth) (codes "entries")
+synth_entries : (name : Text) → OptionSteps (leaf (line.searching name)) (codes "entries")
 unfolding clap_on_literals
-synth_entries = record {
+synth_entries name = record {
   settles = record { rows = λ text rows. refl; fault = λ text rows waiting position. refl };
   word = λ rows pending position. refl;
   word_fault_is = λ rows pending position. refl;
-  value_is = λ rows position text plain. plain_walked (leaf line.synth).rules rows (Some (codes "entries", [])) (option (codes "entries")) (open_option (codes "entries")) position text plain;
-  value_fault = λ rows position text plain. plain_turn_fault (leaf line.synth) rows (Some (codes "entries", [])) (option (codes "entries")) (open_option (codes "entries")) position text plain;
+  value_is = λ rows position text plain. plain_walked (leaf (line.searching name)).rules rows (Some (codes "entries", [])) (option (codes "entries")) (open_option (codes "entries")) position text plain;
+  value_fault = λ rows position text plain. plain_turn_fault (leaf (line.searching name)) rows (Some (codes "entries", [])) (option (codes "entries")) (open_option (codes "entries")) position text plain;
 }
 
-synth_workers : OptionSteps (leaf line.synth) (codes "workers")
+synth_workers : (name : Text) → OptionSteps (leaf (line.searching name)) (codes "workers")
 unfolding clap_on_literals
-synth_workers = record {
+synth_workers name = record {
   settles = record { rows = λ text rows. refl; fault = λ text rows waiting position. refl };
   word = λ rows pending position. refl;
   word_fault_is = λ rows pending position. refl;
-  value_is = λ rows position text plain. plain_walked (leaf line.synth).rules rows (Some (codes "workers", [])) (option (codes "workers")) (open_option (codes "workers")) position text plain;
-  value_fault = λ rows position text plain. plain_turn_fault (leaf line.synth) rows (Some (codes "workers", [])) (option (codes "workers")) (open_option (codes "workers")) position text plain;
+  value_is = λ rows position text plain. plain_walked (leaf (line.searching name)).rules rows (Some (codes "workers", [])) (option (codes "workers")) (open_option (codes "workers")) position text plain;
+  value_fault = λ rows position text plain. plain_turn_fault (leaf (line.searching name)) rows (Some (codes "workers", [])) (option (codes "workers")) (open_option (codes "workers")) position text plain;
 }
 
-synth_kind : OptionSteps (leaf line.synth) (codes "kind")
+synth_kind : (name : Text) → OptionSteps (leaf (line.searching name)) (codes "kind")
 unfolding clap_on_literals
-synth_kind = record {
+synth_kind name = record {
   settles = record { rows = λ text rows. refl; fault = λ text rows waiting position. refl };
   word = λ rows pending position. refl;
   word_fault_is = λ rows pending position. refl;
-  value_is = λ rows position text plain. plain_walked (leaf line.synth).rules rows (Some (codes "kind", [])) (option (codes "kind")) (open_option (codes "kind")) position text plain;
-  value_fault = λ rows position text plain. plain_turn_fault (leaf line.synth) rows (Some (codes "kind", [])) (option (codes "kind")) (open_option (codes "kind")) position text plain;
+  value_is = λ rows position text plain. plain_walked (leaf (line.searching name)).rules rows (Some (codes "kind", [])) (option (codes "kind")) (open_option (codes "kind")) position text plain;
+  value_fault = λ rows position text plain. plain_turn_fault (leaf (line.searching name)) rows (Some (codes "kind", [])) (option (codes "kind")) (open_option (codes "kind")) position text plain;
 }
 
 bench_workers : OptionSteps (leaf line.bench) (codes "workers")
@@ -182,9 +182,39 @@ bench_workers = record {
   value_fault = λ rows position text plain. plain_turn_fault (leaf line.bench) rows (Some (codes "workers", [])) (option (codes "workers")) (open_option (codes "workers")) position text plain;
 }
 
-synth_spec_settles : Settles (leaf line.synth) (codes "spec")
+batch_max : OptionSteps (leaf line.batch) (codes "max")
 unfolding clap_on_literals
-synth_spec_settles = record { rows = λ text rows. refl; fault = λ text rows waiting position. refl }
+batch_max = record {
+  settles = record { rows = λ text rows. refl; fault = λ text rows waiting position. refl };
+  word = λ rows pending position. refl;
+  word_fault_is = λ rows pending position. refl;
+  value_is = λ rows position text plain. plain_walked (leaf line.batch).rules rows (Some (codes "max", [])) (option (codes "max")) (open_option (codes "max")) position text plain;
+  value_fault = λ rows position text plain. plain_turn_fault (leaf line.batch) rows (Some (codes "max", [])) (option (codes "max")) (open_option (codes "max")) position text plain;
+}
+
+batch_entries : OptionSteps (leaf line.batch) (codes "entries")
+unfolding clap_on_literals
+batch_entries = record {
+  settles = record { rows = λ text rows. refl; fault = λ text rows waiting position. refl };
+  word = λ rows pending position. refl;
+  word_fault_is = λ rows pending position. refl;
+  value_is = λ rows position text plain. plain_walked (leaf line.batch).rules rows (Some (codes "entries", [])) (option (codes "entries")) (open_option (codes "entries")) position text plain;
+  value_fault = λ rows position text plain. plain_turn_fault (leaf line.batch) rows (Some (codes "entries", [])) (option (codes "entries")) (open_option (codes "entries")) position text plain;
+}
+
+batch_workers : OptionSteps (leaf line.batch) (codes "workers")
+unfolding clap_on_literals
+batch_workers = record {
+  settles = record { rows = λ text rows. refl; fault = λ text rows waiting position. refl };
+  word = λ rows pending position. refl;
+  word_fault_is = λ rows pending position. refl;
+  value_is = λ rows position text plain. plain_walked (leaf line.batch).rules rows (Some (codes "workers", [])) (option (codes "workers")) (open_option (codes "workers")) position text plain;
+  value_fault = λ rows position text plain. plain_turn_fault (leaf line.batch) rows (Some (codes "workers", [])) (option (codes "workers")) (open_option (codes "workers")) position text plain;
+}
+
+synth_spec_settles : (name : Text) → Settles (leaf (line.searching name)) (codes "spec")
+unfolding clap_on_literals
+synth_spec_settles name = record { rows = λ text rows. refl; fault = λ text rows waiting position. refl }
 
 check_spec_settles : Settles (leaf line.check) (codes "spec")
 unfolding clap_on_literals
@@ -214,6 +244,18 @@ bench_clients_settles : Settles (leaf line.bench) (codes "clients")
 unfolding clap_on_literals
 bench_clients_settles = record { rows = λ text rows. refl; fault = λ text rows waiting position. refl }
 
+verify_spec_settles : Settles (leaf line.verify) (codes "spec")
+unfolding clap_on_literals
+verify_spec_settles = record { rows = λ text rows. refl; fault = λ text rows waiting position. refl }
+
+verify_circuit_settles : Settles (leaf line.verify) (codes "circuit")
+unfolding clap_on_literals
+verify_circuit_settles = record { rows = λ text rows. refl; fault = λ text rows waiting position. refl }
+
+batch_list_settles : Settles (leaf line.batch) (codes "list")
+unfolding clap_on_literals
+batch_list_settles = record { rows = λ text rows. refl; fault = λ text rows waiting position. refl }
+
 synth_met : IsMet (codes "synth")
 unfolding clap_on_literals
 synth_met = record { walk_is = refl; no_fault = refl }
@@ -238,6 +280,14 @@ bench_met : IsMet (codes "bench")
 unfolding clap_on_literals
 bench_met = record { walk_is = refl; no_fault = refl }
 
+verify_met : IsMet (codes "verify")
+unfolding clap_on_literals
+verify_met = record { walk_is = refl; no_fault = refl }
+
+batch_met : IsMet (codes "batch")
+unfolding clap_on_literals
+batch_met = record { walk_is = refl; no_fault = refl }
+
 read_command : (program command : Text) (s : Shape) (rest : List Text) (items : List Item) → IsMet command →
     whole_level [] (met command rest) ≡ or_else (level_fault s [] nothing_held rest false []) [] →
     entered whole (Some (command, rest)) ≡ Some (command, rows_after s.rules [] rest) →
@@ -247,16 +297,22 @@ read_command program command s rest items is_met fault matches reads =
     ap₂ asked (outer.fault ∙ fault ∙ ap (λ k. or_else k []) reads.no_fault) (outer.matches ∙ matches ∙ ap (λ rows. Some (command, rows)) reads.rows)
     ∙ ap (command_asked command) (given_same items)
 
-synth_steps : (id : Text) → IsAmong id synth_options → OptionSteps (leaf line.synth) id
-synth_steps id (inl e) = subst (OptionSteps (leaf line.synth)) (sym e) synth_max
-synth_steps id (inr (inl e)) = subst (OptionSteps (leaf line.synth)) (sym e) synth_entries
-synth_steps id (inr (inr (inl e))) = subst (OptionSteps (leaf line.synth)) (sym e) synth_workers
-synth_steps id (inr (inr (inr (inl e)))) = subst (OptionSteps (leaf line.synth)) (sym e) synth_kind
-synth_steps id (inr (inr (inr (inr bad)))) = absurd bad
+synth_steps : (name id : Text) → IsAmong id synth_options → OptionSteps (leaf (line.searching name)) id
+synth_steps name id (inl e) = subst (OptionSteps (leaf (line.searching name))) (sym e) (synth_max name)
+synth_steps name id (inr (inl e)) = subst (OptionSteps (leaf (line.searching name))) (sym e) (synth_entries name)
+synth_steps name id (inr (inr (inl e))) = subst (OptionSteps (leaf (line.searching name))) (sym e) (synth_workers name)
+synth_steps name id (inr (inr (inr (inl e)))) = subst (OptionSteps (leaf (line.searching name))) (sym e) (synth_kind name)
+synth_steps name id (inr (inr (inr (inr bad)))) = absurd bad
 
 bench_steps : (id : Text) → IsAmong id bench_options → OptionSteps (leaf line.bench) id
 bench_steps id (inl e) = subst (OptionSteps (leaf line.bench)) (sym e) bench_workers
 bench_steps id (inr bad) = absurd bad
+
+batch_steps : (id : Text) → IsAmong id batch_options → OptionSteps (leaf line.batch) id
+batch_steps id (inl e) = subst (OptionSteps (leaf line.batch)) (sym e) batch_max
+batch_steps id (inr (inl e)) = subst (OptionSteps (leaf line.batch)) (sym e) batch_entries
+batch_steps id (inr (inr (inl e))) = subst (OptionSteps (leaf line.batch)) (sym e) batch_workers
+batch_steps id (inr (inr (inr bad))) = absurd bad
 
 synth_different : (id : Text) → IsAmong id synth_options → bytes_eq (codes "spec") id ≡ false
 synth_different id (inl e) = ap (bytes_eq (codes "spec")) e
@@ -269,12 +325,18 @@ bench_different : (id : Text) → IsAmong id bench_options → bytes_eq (codes "
 bench_different id (inl e) = ap (bytes_eq (codes "clients")) e
 bench_different id (inr bad) = absurd bad
 
+batch_different : (id : Text) → IsAmong id batch_options → bytes_eq (codes "list") id ≡ false
+batch_different id (inl e) = ap (bytes_eq (codes "list")) e
+batch_different id (inr (inl e)) = ap (bytes_eq (codes "list")) e
+batch_different id (inr (inr (inl e))) = ap (bytes_eq (codes "list")) e
+batch_different id (inr (inr (inr bad))) = absurd bad
+
 synth_read : (program spec : Text) (options : List Item) → IsTrue (is_plain spec) → AreOptions synth_options [] options →
     settings_of (program ∷ codes "synth" ∷ spec ∷ option_words options) ≡ command_asked (codes "synth") (given_by (item (codes "spec") spec ∷ options))
 unfolding clap_on_literals
 synth_read program spec options plain are =
     let s = leaf line.synth in
-    let end = options_end s synth_options synth_steps [] (item (codes "spec") spec) 2 (options) refl synth_spec_settles (behind_name (item (codes "spec") spec) synth_options synth_different [] options are) in
+    let end = options_end s synth_options (synth_steps (codes "synth")) [] (item (codes "spec") spec) 2 (options) refl (synth_spec_settles (codes "synth")) (behind_name (item (codes "spec") spec) synth_options synth_different [] options are) in
     let all = after_name s (walk_from nothing_held) (after [] (item (codes "spec") spec) 2) spec (option_words options) (item (codes "spec") spec ∷ options) 2
     (plain_walked s.rules [] None idle open_idle 1 spec plain) (plain_turn_fault s [] None idle open_idle 1 spec plain) end in
     read_command program (codes "synth") s (spec ∷ option_words options) (item (codes "spec") spec ∷ options) synth_met refl refl (leaf_reads s (spec ∷ option_words options) (item (codes "spec") spec ∷ options) 2 all (refl, (refl, (refl, (refl, (refl, tt))))) refl)
@@ -333,6 +395,28 @@ bench_read program clients options plain are =
     (plain_walked s.rules [] None idle open_idle 1 clients plain) (plain_turn_fault s [] None idle open_idle 1 clients plain) end in
     read_command program (codes "bench") s (clients ∷ option_words options) (item (codes "clients") clients ∷ options) bench_met refl refl (leaf_reads s (clients ∷ option_words options) (item (codes "clients") clients ∷ options) 2 all (refl, (refl, tt)) refl)
 
+verify_read : (program spec circuit : Text) → IsTrue (is_plain spec) → IsTrue (is_plain circuit) →
+    settings_of (program ∷ codes "verify" ∷ spec ∷ circuit ∷ []) ≡ command_asked (codes "verify") (given_by (item (codes "spec") spec ∷ item (codes "circuit") circuit ∷ []))
+unfolding clap_on_literals
+verify_read program spec circuit first_plain second_plain =
+    let s = leaf line.verify in
+    let end = options_end s [] (λ id bad. absurd bad) (item (codes "spec") spec ∷ []) (item (codes "circuit") circuit) 3 [] refl verify_circuit_settles tt in
+    let second = after_name s (after [] (item (codes "spec") spec) 2) (after (item (codes "spec") spec ∷ []) (item (codes "circuit") circuit) 3) circuit [] (item (codes "spec") spec ∷ item (codes "circuit") circuit ∷ []) 3
+    (plain_walked s.rules [] (Some (codes "spec", spec ∷ [])) idle open_idle 2 circuit second_plain) (plain_turn_fault s [] (Some (codes "spec", spec ∷ [])) idle open_idle 2 circuit second_plain) end in
+    let all = after_name s (walk_from nothing_held) (after [] (item (codes "spec") spec) 2) spec (circuit ∷ []) (item (codes "spec") spec ∷ item (codes "circuit") circuit ∷ []) 3
+    (plain_walked s.rules [] None idle open_idle 1 spec first_plain) (plain_turn_fault s [] None idle open_idle 1 spec first_plain) second in
+    read_command program (codes "verify") s (spec ∷ circuit ∷ []) (item (codes "spec") spec ∷ item (codes "circuit") circuit ∷ []) verify_met refl refl (leaf_reads s (spec ∷ circuit ∷ []) (item (codes "spec") spec ∷ item (codes "circuit") circuit ∷ []) 3 all (refl, (refl, tt)) refl)
+
+batch_read : (program list : Text) (options : List Item) → IsTrue (is_plain list) → AreOptions batch_options [] options →
+    settings_of (program ∷ codes "batch" ∷ list ∷ option_words options) ≡ command_asked (codes "batch") (given_by (item (codes "list") list ∷ options))
+unfolding clap_on_literals
+batch_read program list options plain are =
+    let s = leaf line.batch in
+    let end = options_end s batch_options batch_steps [] (item (codes "list") list) 2 (options) refl batch_list_settles (behind_name (item (codes "list") list) batch_options batch_different [] options are) in
+    let all = after_name s (walk_from nothing_held) (after [] (item (codes "list") list) 2) list (option_words options) (item (codes "list") list ∷ options) 2
+    (plain_walked s.rules [] None idle open_idle 1 list plain) (plain_turn_fault s [] None idle open_idle 1 list plain) end in
+    read_command program (codes "batch") s (list ∷ option_words options) (item (codes "list") list ∷ options) batch_met refl refl (leaf_reads s (list ∷ option_words options) (item (codes "list") list ∷ options) 2 all (refl, (refl, (refl, (refl, tt)))) refl)
+
 pub plain_words_are_read : PlainWordsAreRead
 plain_words_are_read = record {
   synth_words = synth_read;
@@ -341,4 +425,6 @@ plain_words_are_read = record {
   lasso_words = lasso_read;
   gen_words = gen_read;
   bench_words = bench_read;
+  verify_words = verify_read;
+  batch_words = batch_read;
 }

@@ -26,9 +26,18 @@ clients = required (codes "clients")
 abbrev pub workers : Rule
 workers = option (codes "workers")
 
+abbrev pub most : Rule
+most = option (codes "max")
+
+abbrev pub entries : Rule
+entries = option (codes "entries")
+
+-- a command that searches for a machine of one text
+abbrev pub searching : Text → Shape
+searching name = command name (spec ∷ most ∷ entries ∷ workers ∷ option (codes "kind") ∷ [])
+
 abbrev pub synth : Shape
-synth = command (codes "synth")
-    (spec ∷ option (codes "max") ∷ option (codes "entries") ∷ workers ∷ option (codes "kind") ∷ [])
+synth = searching (codes "synth")
 
 abbrev pub check : Shape
 check = command (codes "check") (spec ∷ required (codes "certificate") ∷ [])
@@ -45,6 +54,12 @@ gen = command (codes "gen") (clients ∷ [])
 abbrev pub bench : Shape
 bench = command (codes "bench") (clients ∷ workers ∷ [])
 
+abbrev pub verify : Shape
+verify = command (codes "verify") (spec ∷ required (codes "circuit") ∷ [])
+
+abbrev pub batch : Shape
+batch = command (codes "batch") (required (codes "list") ∷ most ∷ entries ∷ workers ∷ [])
+
 abbrev pub program : App
 program = record {
   top = record (new_shape (codes "boundsyn")) {
@@ -53,7 +68,7 @@ program = record {
     disable_help_subcommand = true;
     subcommand_required = true;
   };
-  subs = synth ∷ check ∷ expand ∷ lasso ∷ gen ∷ bench ∷ [];
+  subs = synth ∷ check ∷ expand ∷ lasso ∷ gen ∷ bench ∷ verify ∷ batch ∷ [];
 }
 
 -- a command without subcommands and global arguments is set up so

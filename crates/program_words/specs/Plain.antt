@@ -5,7 +5,7 @@ use Rattle.std.specs.List.{list_any}
 use Rattle.std.specs.Str.{bytes_eq}
 use Rattle.clap.specs.Walk.{Text}
 use Rattle.program_words.specs.Numbers.{number_in}
-use Rattle.program_words.specs.Settings.{Given, synth_asked, bench_asked, check, expand, gen, lasso, settings_of}
+use Rattle.program_words.specs.Settings.{Given, synth_asked, bench_asked, batch_asked, check, expand, gen, lasso, verify, settings_of}
 
 -- a text that is given for an argument
 pub record Item : Type 0 where
@@ -43,6 +43,9 @@ synth_options = codes "max" ∷ codes "entries" ∷ codes "workers" ∷ codes "k
 abbrev pub bench_options : List Text
 bench_options = codes "workers" ∷ []
 
+abbrev pub batch_options : List Text
+batch_options = codes "max" ∷ codes "entries" ∷ codes "workers" ∷ []
+
 abbrev pub item : Text → Text → Item
 item id text = record { id = id; text = text }
 
@@ -60,3 +63,7 @@ pub record PlainWordsAreRead : Type 0 where
       settings_of (program ∷ codes "gen" ∷ clients ∷ []) ≡ option_map gen (number_in 1 8 clients)
   pub bench_words : (program clients : Text) (options : List Item) → IsTrue (is_plain clients) → AreOptions bench_options [] options →
       settings_of (program ∷ codes "bench" ∷ clients ∷ option_words options) ≡ bench_asked (given_by (item (codes "clients") clients ∷ options))
+  pub verify_words : (program spec circuit : Text) → IsTrue (is_plain spec) → IsTrue (is_plain circuit) →
+      settings_of (program ∷ codes "verify" ∷ spec ∷ circuit ∷ []) ≡ Some (verify spec circuit)
+  pub batch_words : (program list : Text) (options : List Item) → IsTrue (is_plain list) → AreOptions batch_options [] options →
+      settings_of (program ∷ codes "batch" ∷ list ∷ option_words options) ≡ batch_asked (given_by (item (codes "list") list ∷ options))

@@ -21,6 +21,8 @@ pub data Asked : Type 0 where
   lasso : Text → Text → Asked
   gen : ℕ → Asked
   bench : ℕ → ℕ → Asked
+  verify : Text → Text → Asked
+  batch : Text → Search → Asked
 
 -- what settings of the code ask for
 abbrev pub asked_by : Settings → Asked
@@ -30,22 +32,34 @@ asked_by (settings.Expand spec) = expand spec.now
 asked_by (settings.Lasso spec word) = lasso spec.now word.now
 asked_by (settings.Gen clients) = gen clients
 asked_by (settings.Bench clients workers) = bench clients workers
+asked_by (settings.Verify spec circuit) = verify spec.now circuit.now
+asked_by (settings.Batch list wanted) = batch list.now wanted
 
--- numbers lie in their ranges
-pub record IsSearchInRange (s : Search) : Type 0 where
+-- the most states and workers of a search for a machine of one text
+abbrev pub most_alone : ℕ
+most_alone = 8
+
+-- the same where many texts are searched at once, so that all of them fit the memory of one
+abbrev pub most_in_batch : ℕ
+most_in_batch = 4
+
+-- numbers lie in their ranges; states and workers are at most `most`
+pub record IsSearchInRange (most : ℕ) (s : Search) : Type 0 where
   pub some_size : 1 ≤ s.max
-  pub most_size : s.max ≤ 8
-  pub entries : IfSome s.entries (λ most. most ≤ 250000)
+  pub most_size : s.max ≤ most
+  pub entries : IfSome s.entries (λ limit. limit ≤ 250000)
   pub some_worker : 1 ≤ s.workers
-  pub most_workers : s.workers ≤ 8
+  pub most_workers : s.workers ≤ most
 
 abbrev pub IsInRange : Asked → Type 0
-IsInRange (synth spec wanted kind) = IsSearchInRange wanted
+IsInRange (synth spec wanted kind) = IsSearchInRange most_alone wanted
 IsInRange (check spec certificate) = Unit {0}
 IsInRange (expand spec) = Unit {0}
 IsInRange (lasso spec word) = Unit {0}
 IsInRange (gen clients) = (1 ≤ clients) × (clients ≤ 8)
-IsInRange (bench clients workers) = ((1 ≤ clients) × (clients ≤ 4)) × ((1 ≤ workers) × (workers ≤ 8))
+IsInRange (bench clients workers) = ((1 ≤ clients) × (clients ≤ 4)) × ((1 ≤ workers) × (workers ≤ most_alone))
+IsInRange (verify spec circuit) = Unit {0}
+IsInRange (batch list wanted) = IsSearchInRange most_in_batch wanted
 
 -- ---- the values of options, each with its default
 
@@ -56,11 +70,11 @@ Given = Text → Option Text
 abbrev pub number_or : Text → ℕ → ℕ → ℕ → Given → Option ℕ
 number_or id default least most given = option_map_or (number_in least most) (given id) (Some default)
 
-abbrev pub most_size : Given → Option ℕ
-most_size = number_or (codes "max") 4 1 8
+abbrev pub most_size : ℕ → Given → Option ℕ
+most_size most = number_or (codes "max") 4 1 most
 
-abbrev pub worker_count : Given → Option ℕ
-worker_count = number_or (codes "workers") 4 1 8
+abbrev pub worker_count : ℕ → Given → Option ℕ
+worker_count most = number_or (codes "workers") 4 1 most
 
 -- a number of entries, or `none` for no limit
 abbrev pub limit_in : Text → Option (Option ℕ)
@@ -77,18 +91,18 @@ kind_in text = if bytes_eq text (codes "mealy") then Some (Some Mealy)
 abbrev pub kind_asked : Given → Option (Option Kind)
 kind_asked given = option_map_or kind_in (given (codes "kind")) (Some None)
 
-abbrev pub search_asked : Given → Option Search
-search_asked given =
+abbrev pub search_asked : ℕ → Given → Option Search
+search_asked most given =
     option_and_then (λ max. option_and_then (λ entries. option_map (λ workers.
     record { max = max; entries = entries; workers = workers })
-    (worker_count given)) (entry_limit given)) (most_size given)
+    (worker_count most given)) (entry_limit given)) (most_size most given)
 
 -- ---- each command
 
 abbrev pub synth_asked : Given → Option Asked
 synth_asked given =
     option_and_then (λ spec. option_and_then (λ wanted. option_map (synth spec wanted) (kind_asked given))
-    (search_asked given)) (given (codes "spec"))
+    (search_asked most_alone given)) (given (codes "spec"))
 
 abbrev pub check_asked : Given → Option Asked
 check_asked given =
@@ -106,8 +120,16 @@ gen_asked given = option_map gen (option_and_then (number_in 1 8) (given (codes 
 
 abbrev pub bench_asked : Given → Option Asked
 bench_asked given =
-    option_and_then (λ clients. option_map (bench clients) (worker_count given))
+    option_and_then (λ clients. option_map (bench clients) (worker_count most_alone given))
     (option_and_then (number_in 1 4) (given (codes "clients")))
+
+abbrev pub verify_asked : Given → Option Asked
+verify_asked given =
+    option_and_then (λ spec. option_map (verify spec) (given (codes "circuit"))) (given (codes "spec"))
+
+abbrev pub batch_asked : Given → Option Asked
+batch_asked given =
+    option_and_then (λ list. option_map (batch list) (search_asked most_in_batch given)) (given (codes "list"))
 
 abbrev pub command_asked : Text → Given → Option Asked
 command_asked name given =
@@ -117,6 +139,8 @@ command_asked name given =
     else if bytes_eq name (codes "lasso") then lasso_asked given
     else if bytes_eq name (codes "gen") then gen_asked given
     else if bytes_eq name (codes "bench") then bench_asked given
+    else if bytes_eq name (codes "verify") then verify_asked given
+    else if bytes_eq name (codes "batch") then batch_asked given
     else None
 
 abbrev pub given_in : List Row → Given

@@ -1,7 +1,7 @@
 // The command line, as `clap` is set up.
 ghost use Rattle.std.specs.Prelude.{◌≡◌, [], ◌∷◌, false, IfOk};
 ghost use Rattle.clap.specs.Words.{app_of, rule_of};
-ghost use Rattle.program_words.specs.CommandLine.{IsSetUpAs, bench, check, clients, command, expand, gen, lasso, option, program, required, spec, synth, workers};
+ghost use Rattle.program_words.specs.CommandLine.{IsSetUpAs, batch, bench, check, expand, gen, lasso, option, program, required, searching, verify};
 
 use clap::{Arg, Command};
 use std::alloc::{AllocError, Global};
@@ -15,18 +15,21 @@ pub(crate) fn program<'a>(alloc: Global) -> Result<Command<'a>, AllocError>
         .disable_help_subcommand(true)
         .subcommand_required(true);
     program
-        .subcommand(synth(alloc)?)?
+        .subcommand(searching(alloc, "synth")?)?
         .subcommand(check(alloc)?)?
         .subcommand(expand(alloc)?)?
         .subcommand(lasso(alloc)?)?
         .subcommand(generate(alloc)?)?
-        .subcommand(bench(alloc)?)
+        .subcommand(bench(alloc)?)?
+        .subcommand(verify(alloc)?)?
+        .subcommand(batch(alloc)?)
 }
 
-fn synth<'a>(alloc: Global) -> Result<Command<'a>, AllocError>
-    ensures { IfOk result (IsSetUpAs synth) }
+// A command that searches for a machine of one text.
+fn searching<'a>(alloc: Global, name: &'a str) -> Result<Command<'a>, AllocError>
+    ensures { IfOk result (IsSetUpAs (searching name.entry.now)) }
 {
-    Command::new(alloc, "synth")
+    Command::new(alloc, name)
         .arg(required(alloc, "spec"))?
         .arg(option(alloc, "max"))?
         .arg(option(alloc, "entries"))?
@@ -67,6 +70,24 @@ fn bench<'a>(alloc: Global) -> Result<Command<'a>, AllocError>
 {
     Command::new(alloc, "bench")
         .arg(required(alloc, "clients"))?
+        .arg(option(alloc, "workers"))
+}
+
+fn verify<'a>(alloc: Global) -> Result<Command<'a>, AllocError>
+    ensures { IfOk result (IsSetUpAs verify) }
+{
+    Command::new(alloc, "verify")
+        .arg(required(alloc, "spec"))?
+        .arg(required(alloc, "circuit"))
+}
+
+fn batch<'a>(alloc: Global) -> Result<Command<'a>, AllocError>
+    ensures { IfOk result (IsSetUpAs batch) }
+{
+    Command::new(alloc, "batch")
+        .arg(required(alloc, "list"))?
+        .arg(option(alloc, "max"))?
+        .arg(option(alloc, "entries"))?
         .arg(option(alloc, "workers"))
 }
 

@@ -3,11 +3,11 @@ use letter_word::Kind;
 /// How a search is bounded, and on how many threads it runs.
 #[derive(Clone, Copy)]
 pub struct Search {
-    /// The most states that are tried, 1 to 8.
+    /// The most states that are tried, 1 to 8, or to 4 where many texts are searched.
     pub max: u32,
     /// The most entries of a log, up to 250,000, if there is a limit.
     pub entries: Option<u64>,
-    /// The number of workers, 1 to 8.
+    /// The number of workers, 1 to 8, or to 4 where many texts are searched.
     pub workers: u32,
 }
 
@@ -39,5 +39,15 @@ pub enum Settings<'a> {
     Bench {
         clients: u32,
         workers: u32,
+    },
+    Verify {
+        spec: &'a str,
+        circuit: &'a str,
+    },
+    /// Each text is searched for on its own; the workers are those that share the texts.
+    Batch {
+        /// Of a file with the names of the texts.
+        list: &'a str,
+        search: Search,
     },
 }

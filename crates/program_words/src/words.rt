@@ -1,6 +1,6 @@
 ghost use Rattle.std.specs.Prelude.{◌≡◌, ◌≢◌, Some, None, map, option_map, option_and_then, string_bytes, IfOk, IfSome, IsErrOf, ◌≤◌};
 ghost use Rattle.clap.specs.Words.{first_of, found_of, rows_of, subcommand_rows_of};
-ghost use Rattle.program_words.specs.Settings.{asked_by, asked_of, bench_asked, check_asked, entry_limit, expand_asked, gen_asked, given_in, IsInRange, IsSearchInRange, kind_asked, kind_in, lasso_asked, limit_in, number_or, search_asked, settings_of, synth_asked};
+ghost use Rattle.program_words.specs.Settings.{asked_by, asked_of, batch_asked, bench_asked, check_asked, entry_limit, expand_asked, gen_asked, given_in, IsInRange, IsSearchInRange, kind_asked, kind_in, lasso_asked, limit_in, number_or, search_asked, settings_of, synth_asked, verify_asked};
 
 use crate::command_line::program;
 use crate::numbers::number_in;
@@ -9,6 +9,12 @@ use clap::ArgMatches;
 use clap::error::ErrorKind;
 use letter_word::Kind;
 use std::alloc::{AllocError, Global};
+
+// The most states and workers of a search for one text.
+const MOST_ALONE: u32 = 8;
+
+// The same where many texts are searched at once.
+const MOST_IN_BATCH: u32 = 4;
 
 /// Why words ask for nothing.
 #[derive(Clone, Copy)]
@@ -63,6 +69,8 @@ fn settings_in<'a>(matches: &ArgMatches<'a>) -> Option<Settings<'a>>
         "lasso" => lasso_in(own),
         "gen" => gen_in(own),
         "bench" => bench_in(own),
+        "verify" => verify_in(own),
+        "batch" => batch_in(own),
         _ => None,
     }
 }
@@ -73,7 +81,7 @@ fn synth_in<'a>(own: &ArgMatches<'a>) -> Option<Settings<'a>>
 {
     Some(Settings::Synth {
         spec: text_of(own, "spec")?,
-        search: search_in(own)?,
+        search: search_in(own, MOST_ALONE)?,
         kind: kind_or(own)?,
     })
 }
@@ -119,18 +127,40 @@ fn bench_in<'a>(own: &ArgMatches<'a>) -> Option<Settings<'a>>
     ensures ranges { IfSome result (λ s. IsInRange (asked_by s)) }
 {
     let clients = number_in(text_of(own, "clients")?, 1, 4)?;
-    let workers = number_or(own, "workers", 4, 1, 8)?;
+    let workers = number_or(own, "workers", 4, 1, MOST_ALONE)?;
     Some(Settings::Bench { clients, workers })
 }
 
-fn search_in(own: &ArgMatches<'_>) -> Option<Search>
-    ensures asked { result ≡ search_asked (given_in (rows_of (found_of own.now))) }
-    ensures ranges { IfSome result IsSearchInRange }
+fn verify_in<'a>(own: &ArgMatches<'a>) -> Option<Settings<'a>>
+    ensures asked { option_map asked_by result ≡ verify_asked (given_in (rows_of (found_of own.now))) }
+    ensures ranges { IfSome result (λ s. IsInRange (asked_by s)) }
+{
+    Some(Settings::Verify {
+        spec: text_of(own, "spec")?,
+        circuit: text_of(own, "circuit")?,
+    })
+}
+
+fn batch_in<'a>(own: &ArgMatches<'a>) -> Option<Settings<'a>>
+    ensures asked { option_map asked_by result ≡ batch_asked (given_in (rows_of (found_of own.now))) }
+    ensures ranges { IfSome result (λ s. IsInRange (asked_by s)) }
+{
+    Some(Settings::Batch {
+        list: text_of(own, "list")?,
+        search: search_in(own, MOST_IN_BATCH)?,
+    })
+}
+
+// How a search is bounded, by at most so many states and workers.
+fn search_in(own: &ArgMatches<'_>, most: u32) -> Option<Search>
+    requires default { 4 ≤ most }
+    ensures asked { result ≡ search_asked most (given_in (rows_of (found_of own.now))) }
+    ensures ranges { IfSome result (IsSearchInRange most) }
 {
     Some(Search {
-        max: number_or(own, "max", 4, 1, 8)?,
+        max: number_or(own, "max", 4, 1, most)?,
         entries: limit_or(own)?,
-        workers: number_or(own, "workers", 4, 1, 8)?,
+        workers: number_or(own, "workers", 4, 1, most)?,
     })
 }
 

@@ -3,7 +3,7 @@ use Rattle.std.proofs.lemmas.Result.{IfOk-weaker}
 use Rattle.program_replies.specs.Statuses.{status_number}
 use Rattle.program_words.specs.Settings.{check}
 use Rattle.boundsyn_top.specs.Takes.{behind}
-use Rattle.boundsyn_top.proofs.ReplyLemmas.{check_by_file, check_untaken, check_well, not_first, whole_is, whole_of}
+use Rattle.boundsyn_top.proofs.ReplyLemmas.{check_by_file, check_untaken, check_goes_on, not_first, whole_is, whole_of}
 use Rattle.boundsyn_top.proofs.certificates.check_certificate.Goals as goal
 
 pub returns-in-Whole-clause-output : goal.returns-in-Whole-clause-output
@@ -25,7 +25,7 @@ pub returns-in-Whole-clause-other_files : goal.returns-in-Whole-clause-other_fil
 returns-in-Whole-clause-other_files g c = λ name foreign.
     let are = rw c.in-Whole.is at c.in_ok-text.ensures.taken in
     c.check_by.ensures.other_files name
-    (λ none same. foreign (behind (same, check_well _ c.args.spec.now c.args.certificate.now c.in-Whole.text.items are (rw c.deref.ensures.value at none))))
+    (λ none same. foreign (behind (same, check_goes_on _ c.args.spec.now c.args.certificate.now c.in-Whole.text.items are (rw c.deref.ensures.value at none))))
     ∙ c.take_text.ensures.others name (not_first _ (check c.args.spec.now c.args.certificate.now) c.args.spec.now name refl foreign)
 
 pub returns-in-Refused-clause-other_files : goal.returns-in-Refused-clause-other_files

@@ -19,6 +19,12 @@ returns-in-Expand-clause-other_files g c = λ name foreign.
 pub returns-in-Lasso-clause-other_files : goal.returns-in-Lasso-clause-other_files
 returns-in-Lasso-clause-other_files g c = λ name foreign. c.tell_truth.ensures.other_files name (rw c.in-Lasso.is at foreign)
 
+pub returns-in-Verify-clause-other_files : goal.returns-in-Verify-clause-other_files
+returns-in-Verify-clause-other_files g c = λ name foreign. c.verify_circuit.ensures.other_files name (rw c.in-Verify.is at foreign)
+
+pub returns-in-Batch-clause-other_files : goal.returns-in-Batch-clause-other_files
+returns-in-Batch-clause-other_files g c = λ name foreign. c.answer_list.ensures.other_files name (rw c.in-Batch.is at foreign)
+
 pub returns-in-Gen-clause-output : goal.returns-in-Gen-clause-output
 returns-in-Gen-clause-output g c = rw c.in-Gen.is (IfOk-weaker c.generate.result _ _ (λ o output. output _ _ _) c.generate.ensures)
 

@@ -22,8 +22,7 @@ returns-in_default g c =
       complete = p.complete;
       files = c.reply_to.ensures.files;
       other_files = c.reply_to.ensures.other_files;
-      refused_alone = λ code place fails name other.
-          c.reply_to.ensures.other_files name (refused_alone (map string_bytes c.args.words.now) _ code place fails name other);
+      refused_alone = λ stopped name other. c.reply_to.ensures.other_files name (refused_alone (map string_bytes c.args.words.now) _ stopped name other);
     }
 
 pub returns : goal.returns
@@ -46,6 +45,5 @@ returns g c =
       complete = p.complete;
       files = c.reply_to.ensures.files;
       other_files = c.reply_to.ensures.other_files;
-      refused_alone = λ code place fails name other.
-          c.reply_to.ensures.other_files name (refused_alone (map string_bytes c.args.words.now) _ code place fails name other);
+      refused_alone = λ stopped name other. c.reply_to.ensures.other_files name (refused_alone (map string_bytes c.args.words.now) _ stopped name other);
     }

@@ -1,0 +1,160 @@
+//! The reply to `batch`.
+ghost use Rattle.std.specs.Prelude.{◌≡◌, ◌≢◌, ◌≤◌, ℕ, List, Contains, IfOk, IfSome, MatchOption, length};
+ghost use Rattle.std.specs.List.{AllZip};
+ghost use Rattle.outside_edge.specs.Faults.{Rose};
+ghost use Rattle.program_replies.specs.Statuses.{status_number};
+ghost use Rattle.program_words.specs.Settings.{batch};
+ghost use Rattle.batch_answer.specs.ListText.{IsList};
+ghost use Rattle.boundsyn_top.specs.Batch.{IsBadList, IsListRefusal, IsListed, IsTakenAs, OneRose, RepliesByLines, RepliesByNames};
+ghost use Rattle.boundsyn_top.specs.Commands.{bounds_of};
+ghost use Rattle.boundsyn_top.specs.Run.{IsOutputOf};
+ghost use Rattle.boundsyn_top.specs.Takes.{TakesFile};
+
+use crate::files::{LONGEST_TEXT, cannot_read, take_whole};
+use crate::output::{Output, whole_output};
+use crate::synthesis::bounds;
+use batch_answer::laws::lists_are_determined;
+use batch_answer::{FileName, ListFault, TakenText, batch_answer, read_list};
+use outside_edge::{Gate, Shelf, ShelfFault};
+use program_replies::{Reply, refused_at_line};
+use program_words::Search;
+use std::alloc::{AllocError, Global};
+use std::sync::Wait;
+use std::thread::Threads;
+
+/// Answers the texts that a list names. They are taken only where the list has no bad line, and all before the first is answered.
+pub fn answer_list<R, H, G>(
+    rt: &R,
+    alloc: Global,
+    shelf: &mut H,
+    list: &str,
+    wanted: Search,
+    gate: &G,
+) -> Result<Output, AllocError>
+where
+    R: Threads + Wait + Sync,
+    H: Shelf,
+    G: Gate + Sync,
+    requires some_size { 1 ≤ wanted.max }
+    requires most_size { wanted.max ≤ 8 }
+    requires entries { IfSome wanted.entries (λ most. most ≤ 250000) }
+    requires workers { 1 ≤ wanted.workers }
+    ensures output { IfOk result (IsOutputOf (H.files shelf.old) (H.faults shelf.old) (H.faults shelf.new) (batch list.now wanted)) }
+    ensures files { H.files shelf.new ≡ H.files shelf.old }
+    ensures other_files { (name : List ℕ) → ¬ TakesFile (H.files shelf.old) (batch list.now wanted) name → H.faults shelf.new name ≡ H.faults shelf.old name }
+{
+    match take_whole(alloc, shelf, list)? {
+        Some(lines) => whole_output(answer_lines(rt, alloc, shelf, &lines, wanted, gate)),
+        None => whole_output(cannot_read(alloc)),
+    }
+}
+
+// Answers the texts that these lines name, unless a line is bad.
+fn answer_lines<R, H, G>(
+    rt: &R,
+    alloc: Global,
+    shelf: &mut H,
+    lines: &[u8],
+    wanted: Search,
+    gate: &G,
+) -> Result<Reply, AllocError>
+where
+    R: Threads + Wait + Sync,
+    H: Shelf,
+    G: Gate + Sync,
+    requires some_size { 1 ≤ wanted.max }
+    requires most_size { wanted.max ≤ 8 }
+    requires entries { IfSome wanted.entries (λ most. most ≤ 250000) }
+    requires workers { 1 ≤ wanted.workers }
+    ensures reply { IfOk result (λ r. RepliesByLines (H.files shelf.old) (H.faults shelf.old) (H.faults shelf.new)
+        lines.now (bounds_of wanted) r.bytes.items (status_number r.status)) }
+    ensures files { H.files shelf.new ≡ H.files shelf.old }
+    ensures other_files { (name : List ℕ) → ¬ (IsListed lines.now name × ¬ IsBadList lines.now) → H.faults shelf.new name ≡ H.faults shelf.old name }
+{
+    lists_are_determined();
+    match read_list(alloc, lines) {
+        Ok(names) => answer_texts(rt, alloc, shelf, &names, wanted, gate),
+        Err(fault) => list_refusal(alloc, fault),
+    }
+}
+
+// The reply to a list with this fault.
+fn list_refusal(alloc: Global, fault: ListFault) -> Result<Reply, AllocError>
+    ensures { IfOk result (λ r. IsListRefusal fault r.bytes.items r.status) }
+{
+    match fault {
+        ListFault::BadLine(line) => refused_at_line(alloc, line),
+        ListFault::NoMemory => Err(AllocError),
+    }
+}
+
+// Takes the texts of these names, and answers them.
+fn answer_texts<R, H, G>(
+    rt: &R,
+    alloc: Global,
+    shelf: &mut H,
+    names: &[FileName],
+    wanted: Search,
+    gate: &G,
+) -> Result<Reply, AllocError>
+where
+    R: Threads + Wait + Sync,
+    H: Shelf,
+    G: Gate + Sync,
+    requires few { length names.now ≤ 64 }
+    requires some_size { 1 ≤ wanted.max }
+    requires most_size { wanted.max ≤ 8 }
+    requires entries { IfSome wanted.entries (λ most. most ≤ 250000) }
+    requires workers { 1 ≤ wanted.workers }
+    ensures reply { IfOk result (λ r. RepliesByNames (H.files shelf.old) (H.faults shelf.old) (H.faults shelf.new)
+        names.now (bounds_of wanted) r.bytes.items (status_number r.status)) }
+    ensures files { H.files shelf.new ≡ H.files shelf.old }
+    ensures other_files { (name : List ℕ) → ¬ Contains names.now name → H.faults shelf.new name ≡ H.faults shelf.old name }
+{
+    match take_texts(alloc, shelf, names)? {
+        Some(texts) => batch_answer(rt, alloc, names, &texts, bounds(wanted), gate),
+        None => cannot_read(alloc),
+    }
+}
+
+// Takes the texts of these names in turn. None where one can't be read.
+fn take_texts<H: Shelf>(
+    alloc: Global,
+    shelf: &mut H,
+    names: &[FileName],
+) -> Result<Option<Vec<TakenText>>, AllocError>
+    ensures taken { IfOk result (λ taken. MatchOption taken (OneRose (H.faults shelf.old) (H.faults shelf.new) names.now)
+        (λ texts. AllZip (IsTakenAs (H.files shelf.old)) names.now texts.items)) }
+    ensures files { H.files shelf.new ≡ H.files shelf.old }
+    ensures other_files { (name : List ℕ) → ¬ Contains names.now name → H.faults shelf.new name ≡ H.faults shelf.old name }
+{
+    let mut texts = Vec::new(alloc);
+    for name in names {
+        match take_one(alloc, shelf, name.as_str())? {
+            Some(text) => texts.push(text)?,
+            None => return Ok(None),
+        }
+    }
+    Ok(Some(texts))
+}
+
+// Takes a text. None where it can't be read.
+fn take_one<H: Shelf>(
+    alloc: Global,
+    shelf: &mut H,
+    name: &str,
+) -> Result<Option<TakenText>, AllocError>
+    ensures taken { IfOk result (λ taken. MatchOption taken (Rose (H.faults shelf.old name.now) (H.faults shelf.new name.now))
+        (IsTakenAs (H.files shelf.old) name.now)) }
+    ensures files { H.files shelf.new ≡ H.files shelf.old }
+    ensures others { (other : List ℕ) → other ≢ name.now → H.faults shelf.new other ≡ H.faults shelf.old other }
+    ensures never_falls { (any : List ℕ) → H.faults shelf.old any ≤ H.faults shelf.new any }
+{
+    let mut bytes = Vec::new(alloc);
+    match shelf.take(name, LONGEST_TEXT, &mut bytes) {
+        Ok(()) => Ok(Some(TakenText::Whole(bytes))),
+        Err(ShelfFault::TooLong) => Ok(Some(TakenText::TooLong)),
+        Err(ShelfFault::Failed) => Ok(None),
+        Err(ShelfFault::NoMemory) => Err(AllocError),
+    }
+}
