@@ -1,14 +1,16 @@
 -- Nothing but its line answers a fault, or a bad line.
-use Rattle.std.proofs.Common.{◌≡◌, ℕ, List, ◌∙◌, ap, refl, Option, Some}
+use Rattle.std.proofs.Common.{◌≡◌, ◌<◌, ◌≤◌, ℕ, List, ◌∙◌, ap, arith, refl, true, Option, Some}
 use Rattle.letter_word.specs.declared.kinds.Kind.{Kind}
 use Rattle.tlsf_tokens.specs.declared.code.SpecCode.{SpecCode}
 use Rattle.outside_edge.specs.Files.{Files, bytes_under}
 use Rattle.program_replies.specs.Lines.{line_refusal, refusal_line}
-use Rattle.program_words.specs.Settings.{Asked, batch, bench, check, expand, gen, lasso, synth, verify}
+use Rattle.program_words.specs.Settings.{Asked, batch, bench, check, core, expand, gen, lasso, synth, verify}
+use Rattle.tlsf_expand.specs.TextSeen.{FlatText}
+use Rattle.flat_text.specs.FlatOf.{IsFlatOf}
 use Rattle.spec_problems.specs.OfText.{IsFirstFault}
 use Rattle.spec_problems.specs.Laws.{ProblemsOfTextsAreDetermined}
 use Rattle.synth_engine.specs.declared.settings.Settings.{Settings}
-use Rattle.synth_answer.specs.Answer.{Answers, refused, realizable, unrealizable, bounded, no_size, no_entries}
+use Rattle.synth_answer.specs.Answer.{Answers, defeats, refused, realizable, unrealizable, bounded, no_size, no_entries}
 use Rattle.synth_answer.specs.Printed.{Printed}
 use Rattle.synth_answer.proofs.Grounds.{printed_problems, printed_spec}
 use Rattle.check_answer.specs.Answer.{CheckAnswers}
@@ -16,8 +18,12 @@ use Rattle.check_answer.specs.Laws.{ChecksAreDetermined}
 use Rattle.flat_answer.specs.Expand.{ExpandAnswers}
 use Rattle.flat_answer.specs.Lasso.{LassoAnswers}
 use Rattle.flat_answer.specs.Laws.{ExpandAnswersAreDue, LassoAnswersAreDue}
+use Rattle.flat_text.specs.Laws.{FlatTextsAreDetermined}
 use Rattle.verify_answer.specs.Answer.{VerifyAnswers}
 use Rattle.verify_answer.specs.Laws.{VerificationsAreDetermined}
+use Rattle.core_answer.specs.Core.{CoreAnswers, IsCoreFault, guarantees_in}
+use Rattle.core_answer.specs.Core as cores
+use Rattle.core_answer.specs.Laws.{CoreFaultsAreDetermined}
 use Rattle.batch_answer.specs.Laws.{ListsAreDetermined}
 use Rattle.batch_answer.specs.ListText.{IsFirstBadLine}
 use Rattle.boundsyn_top.specs.Batch.{ListAnswers}
@@ -46,6 +52,36 @@ module _ (problems : ProblemsOfTextsAreDetermined) where
   synth_fault text kind settings bytes status code place (no_size p is holds) fault = absurd (no_fault text kind settings bytes code place p fault)
   synth_fault text kind settings bytes status code place (no_entries p side n is holds) fault = absurd (no_fault text kind settings bytes code place p fault)
 
+  -- a text with a counter-machine has no fault
+  defeat_fault : (text : List ℕ) (kind : Option Kind) (settings : Settings) (bytes : List ℕ) (status : ℕ) (code : SpecCode) (place : ℕ) →
+      (a : Answers text kind settings bytes status) → defeats a ≡ true → IsFirstFault text kind code place → ⊥
+  defeat_fault text kind settings bytes status code place (refused other at ended first line) told fault = cc
+  defeat_fault text kind settings bytes status code place (realizable p n c is holds) told fault = cc
+  defeat_fault text kind settings bytes status code place (unrealizable p n c is holds) told fault = no_fault text kind settings bytes code place p fault
+  defeat_fault text kind settings bytes status code place (bounded p side n c is holds) told fault = no_fault text kind settings bytes code place p fault
+  defeat_fault text kind settings bytes status code place (no_size p is holds) told fault = cc
+  defeat_fault text kind settings bytes status code place (no_entries p side n is holds) told fault = cc
+
+  module _ (flats : FlatTextsAreDetermined) (faults : CoreFaultsAreDetermined) where
+    -- few guarantees aren't many
+    not_many : (text : List ℕ) (kind : Option Kind) (flat other : FlatText) → IsFlatOf text kind flat → IsFlatOf text kind other → guarantees_in flat ≤ 64 →
+        64 < guarantees_in other → ⊥
+    not_many text kind flat other is_flat is_other few many =
+        let same : guarantees_in flat ≡ guarantees_in other = ap guarantees_in (flats text kind flat other is_flat is_other) in omega (arith, same, few, many)
+
+    core_fault : (text : List ℕ) (kind : Option Kind) (settings : Settings) (bytes : List ℕ) (status : ℕ) (code : SpecCode) (place : ℕ) →
+        CoreAnswers text kind settings bytes status → IsCoreFault text kind code place → (status ≡ 1) × (bytes ≡ refusal_line code place)
+    core_fault text kind settings bytes status code place (cores.refused other at ended first line) fault =
+        let e = faults text kind other code at place first fault in (ended, line ∙ same_line other code at place e.0 e.1)
+    core_fault text kind settings bytes status code place (cores.spared flat is_flat few a told) (cores.of_text same at fault) =
+        synth_fault text kind settings bytes status same at a fault
+    core_fault text kind settings bytes status code place (cores.spared flat is_flat few a told) (cores.too_many other is_other none many) =
+        absurd (not_many text kind flat other is_flat is_other few many)
+    core_fault text kind settings bytes status code place (cores.core is told) (cores.of_text same at fault) =
+        absurd (defeat_fault text kind settings told.whole_bytes told.whole_status same at told.whole told.whole_defeats fault)
+    core_fault text kind settings bytes status code place (cores.core is told) (cores.too_many other is_other none many) =
+        absurd (not_many text kind told.flat other told.is_flat is_other told.few many)
+
 -- nothing but its line answers a list with a bad line
 bad_list : ListsAreDetermined → (told : Option Files) (lines : List ℕ) (settings : Settings) (bytes : List ℕ) (status n : ℕ) →
     ListAnswers told lines settings bytes status → IsFirstBadLine lines n → (status ≡ 40) × (bytes ≡ line_refusal n)
@@ -53,7 +89,7 @@ bad_list law told lines settings bytes status n (batches.bad_line m ended first 
 bad_list law told lines settings bytes status n (batches.answered names texts ended is_list are answer) bad = absurd (law.apart lines names n is_list bad)
 
 module _ (problems : ProblemsOfTextsAreDetermined) (checks : ChecksAreDetermined) (expansions : ExpandAnswersAreDue) (truths : LassoAnswersAreDue)
-    (verifications : VerificationsAreDetermined) (lists : ListsAreDetermined) where
+    (verifications : VerificationsAreDetermined) (flats : FlatTextsAreDetermined) (faults : CoreFaultsAreDetermined) (lists : ListsAreDetermined) where
   of_text : (files : Files) (asked : Asked) (bytes : List ℕ) (status : ℕ) (code : SpecCode) (place : ℕ) → HasFault files asked code place →
       AnswersAsked (Some files) asked bytes status → (status ≡ 1) × (bytes ≡ refusal_line code place)
   of_text files (synth spec wanted kind) bytes status code place fault a =
@@ -72,6 +108,9 @@ module _ (problems : ProblemsOfTextsAreDetermined) (checks : ChecksAreDetermined
   of_text files (verify spec circuit) bytes status code place fault a =
       let h = of_told files spec (λ text. HoldsOfFile (Some files) circuit (λ lines. VerifyAnswers text lines bytes status)) a.answer in
       verifications.of_fault (bytes_under files spec) h.bytes bytes status code place h.holds fault
+  of_text files (core spec wanted kind) bytes status code place fault a =
+      core_fault problems flats faults (bytes_under files spec) kind (bounds_of wanted) bytes status code place
+      (of_told files spec (λ text. CoreAnswers text kind (bounds_of wanted) bytes status) a.answer) fault
   of_text files (batch list wanted) bytes status code place fault a = absurd fault
 
   of_line : (files : Files) (asked : Asked) (bytes : List ℕ) (status n : ℕ) → HasBadLine files asked n →
@@ -92,6 +131,7 @@ module _ (problems : ProblemsOfTextsAreDetermined) (checks : ChecksAreDetermined
       let h = of_told files spec (λ text. HoldsOfFile (Some files) circuit (λ lines. VerifyAnswers text lines bytes status)) a.answer in
       verifications.of_bad_line (bytes_under files spec) (bytes_under files circuit) bytes status bad.given n
       (of_told files circuit (λ lines. VerifyAnswers (bytes_under files spec) lines bytes status) h) bad.bad
+  of_line files (core spec wanted kind) bytes status n bad a = absurd bad
   of_line files (batch list wanted) bytes status n bad a =
       bad_list lists (Some files) (bytes_under files list) (bounds_of wanted) bytes status n
       (of_told files list (λ lines. ListAnswers (Some files) lines (bounds_of wanted) bytes status) a.answer) bad

@@ -11,7 +11,7 @@ use Rattle.program_replies.specs.declared.replies.Status.TheVariants.{CannotRead
 use Rattle.program_replies.specs.Statuses.{status_number}
 use Rattle.program_replies.specs.Lines.{refusal_line}
 use Rattle.program_words.specs.declared.settings.Search.{Search}
-use Rattle.program_words.specs.Settings.{Asked, settings_of, batch, bench, check, expand, gen, lasso, synth, verify}
+use Rattle.program_words.specs.Settings.{Asked, settings_of, batch, bench, check, core, expand, gen, lasso, synth, verify}
 use Rattle.cert_text.specs.declared.documents.Verdict.{Verdict}
 use Rattle.cert_text.specs.declared.documents.Verdict.TheVariants as verdict
 use Rattle.arbiter_text.specs.Arbiter.{generated_text}
@@ -33,6 +33,8 @@ use Rattle.check_answer.specs.Reply.{IsTaken}
 use Rattle.verify_answer.specs.Reply as verification
 use Rattle.verify_answer.specs.Answer.{VerifyAnswers, verified}
 use Rattle.verify_answer.specs.Answer as circuits
+use Rattle.core_answer.specs.Core.{CoreAnswers, IsCoreFault}
+use Rattle.core_answer.specs.Core as cores
 use Rattle.batch_answer.specs.Batch.{BatchAnswers}
 use Rattle.batch_answer.specs.Laws.{ListsAreDetermined}
 use Rattle.batch_answer.specs.ListText.{IsFirstBadLine, IsList}
@@ -182,6 +184,12 @@ verify_status : (text circuit bytes : List ℕ) (status : ℕ) → VerifyAnswers
 verify_status text circuit bytes status (circuits.refused code place is fault line) = (1, omega arith, sym is)
 verify_status text circuit bytes status (circuits.bad_line given n is bad line) = (2, omega arith, sym is)
 verify_status text circuit bytes status (verified given is holds line) = (0, omega arith, sym is)
+
+core_status : (text : List ℕ) (kind : Option Kind) (settings : Settings) (bytes : List ℕ) (status : ℕ) →
+    CoreAnswers text kind settings bytes status → Contains (1 ∷ 10 ∷ 11 ∷ 20 ∷ 30 ∷ []) status
+core_status text kind settings bytes status (cores.refused code place is fault line) = (0, omega arith, sym is)
+core_status text kind settings bytes status (cores.spared flat is_flat few answer is) = synth_status text kind settings bytes status answer
+core_status text kind settings bytes status (cores.core is told) = (3, omega arith, sym is)
 
 list_status : (told : Option Files) (lines : List ℕ) (settings : Settings) (bytes : List ℕ) (status : ℕ) →
     ListAnswers told lines settings bytes status → Contains (0 ∷ 40 ∷ []) status
@@ -336,6 +344,22 @@ module _ (shelf : Option Files) (before after : List ℕ → ℕ) where
   verify_by_file middle spec circuit text bytes status are =
       by_file (verify spec circuit) spec circuit VerifyAnswers (λ bytes status h. h) verify_status (HasNone (IsFirstFault text None)) middle text bytes status are
       (λ due. behind (refl, verify_goes_on shelf spec circuit text are due))
+
+  -- == core ==
+
+  pub core_answered : (spec text : List ℕ) (wanted : Search) (kind : Option Kind) (bytes : List ℕ) (status : ℕ) →
+      AreOfFile shelf spec text → CoreAnswers text kind (bounds_of wanted) bytes status → RepliesTo shelf before after (core spec wanted kind) bytes status
+  core_answered spec text wanted kind bytes status are answer =
+      replies (core spec wanted kind) bytes status (core_status text kind (bounds_of wanted) bytes status answer)
+      (record { bytes = text; are_told = are; holds = answer })
+
+  pub core_untaken : (spec : List ℕ) (wanted : Search) (kind : Option Kind) (bytes : List ℕ) (status : ℕ) →
+      IsUntaken shelf before after spec bytes status → RepliesTo shelf before after (core spec wanted kind) bytes status
+  core_untaken spec wanted kind bytes status =
+      untaken (core spec wanted kind) spec bytes status (0, omega arith, refl)
+      (λ text are long is ended. core_answered spec text wanted kind bytes status are
+      (cores.refused TooLong most_bytes ended
+      (cores.of_text TooLong most_bytes (of_text TooLong most_bytes (of_reading TooLong most_bytes (too_long long)))) is))
 
   -- == batch ==
 

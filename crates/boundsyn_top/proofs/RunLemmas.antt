@@ -10,7 +10,7 @@ use Rattle.outside_edge.specs.declared.sink.SinkFault.{SinkFault}
 use Rattle.outside_edge.specs.declared.sink.SinkFault.TheVariants.{Failed, NoMemory}
 use Rattle.tlsf_tokens.specs.declared.code.SpecCode.{SpecCode}
 use Rattle.program_replies.specs.Lines.{line_refusal, refusal_line}
-use Rattle.program_words.specs.Settings.{Asked, synth, check, expand, lasso, gen, bench, verify, batch}
+use Rattle.program_words.specs.Settings.{Asked, synth, check, expand, lasso, gen, bench, verify, core, batch}
 use Rattle.boundsyn_top.specs.Commands.{AnswersAsked, statuses_of}
 use Rattle.boundsyn_top.specs.Faults.{RefusalsAreDetermined}
 use Rattle.boundsyn_top.specs.Run.{AnswersWords, AskForNothing, Asks, EndsWith, Gained, GainedPart, IsEnding, IsForeign, IsReply, IsStopped, LineFails, ReadFailed, ReadsWell, TextFails, answered, answering, cannot_read, prevented, says, words_refused}
@@ -96,6 +96,12 @@ all_answering (verify spec circuit) =
     All-cons IsAnswering 0 (1 ∷ 40 ∷ []) answering_0
     (All-cons IsAnswering 1 (40 ∷ []) answering_1
     (All-cons IsAnswering 40 [] answering_40 (All-nil IsAnswering)))
+all_answering (core spec wanted kind) =
+    All-cons IsAnswering 1 (10 ∷ 11 ∷ 20 ∷ 30 ∷ []) answering_1
+    (All-cons IsAnswering 10 (11 ∷ 20 ∷ 30 ∷ []) answering_10
+    (All-cons IsAnswering 11 (20 ∷ 30 ∷ []) answering_11
+    (All-cons IsAnswering 20 (30 ∷ []) answering_20
+    (All-cons IsAnswering 30 [] answering_30 (All-nil IsAnswering)))))
 all_answering (batch list wanted) =
     All-cons IsAnswering 0 (40 ∷ []) answering_0
     (All-cons IsAnswering 40 [] answering_40 (All-nil IsAnswering))
@@ -271,6 +277,7 @@ none_behind files (lasso spec word) name stops taken = taken.1.unless stops
 none_behind files (gen clients) name stops taken = taken
 none_behind files (bench clients workers) name stops taken = taken
 none_behind files (verify spec circuit) name stops taken = taken.1.unless stops
+none_behind files (core spec wanted kind) name stops taken = taken
 none_behind files (batch list wanted) name stops taken = taken.1.unless stops
 
 first_alone : (files : Files) (asked : Asked) (name : List ℕ) → Stops files asked → (Contains (first_file asked) name → ⊥) →

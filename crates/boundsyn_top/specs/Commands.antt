@@ -1,7 +1,7 @@
 -- What each command may write whole, and with which status (this project's own).
 use Rattle.std.specs.Prelude.{◌≡◌, ℕ, Option, List, [], ◌∷◌}
 use Rattle.outside_edge.specs.Files.{Files}
-use Rattle.program_words.specs.Settings.{Asked, synth, check, expand, lasso, gen, bench, verify, batch}
+use Rattle.program_words.specs.Settings.{Asked, synth, check, expand, lasso, gen, bench, verify, core, batch}
 use Rattle.program_words.specs.declared.settings.Search.{Search}
 use Rattle.arbiter_text.specs.Arbiter.{generated_text}
 use Rattle.synth_engine.specs.declared.settings.Settings.{Settings}
@@ -11,6 +11,7 @@ use Rattle.flat_answer.specs.Expand.{ExpandAnswers}
 use Rattle.flat_answer.specs.Lasso.{LassoAnswers}
 use Rattle.bench_answer.specs.Bench.{BenchAnswer}
 use Rattle.verify_answer.specs.Answer.{VerifyAnswers}
+use Rattle.core_answer.specs.Core.{CoreAnswers}
 use Rattle.boundsyn_top.specs.Files.{HoldsOfFile}
 use Rattle.boundsyn_top.specs.Batch.{ListAnswers}
 
@@ -23,6 +24,7 @@ statuses_of (lasso spec word) = 0 ∷ 1 ∷ 40 ∷ []
 statuses_of (gen clients) = 0 ∷ []
 statuses_of (bench clients workers) = 10 ∷ 20 ∷ 30 ∷ []
 statuses_of (verify spec circuit) = 0 ∷ 1 ∷ 40 ∷ []
+statuses_of (core spec wanted kind) = 1 ∷ 10 ∷ 11 ∷ 20 ∷ 30 ∷ []
 statuses_of (batch list wanted) = 0 ∷ 40 ∷ []
 
 -- how the words bound a search
@@ -41,6 +43,7 @@ MayAnswer told (gen clients) bytes status = (bytes ≡ generated_text clients) �
 MayAnswer told (bench clients workers) bytes status = BenchAnswer clients workers bytes status
 MayAnswer told (verify spec circuit) bytes status =
     HoldsOfFile told spec (λ text. HoldsOfFile told circuit (λ lines. VerifyAnswers text lines bytes status))
+MayAnswer told (core spec wanted kind) bytes status = HoldsOfFile told spec (λ text. CoreAnswers text kind (bounds_of wanted) bytes status)
 MayAnswer told (batch list wanted) bytes status = HoldsOfFile told list (λ lines. ListAnswers told lines (bounds_of wanted) bytes status)
 
 -- the bytes and the status that answer what was asked

@@ -9,16 +9,17 @@ use Rattle.check_answer.specs.Answer.{Given, facts_in}
 use Rattle.lasso_word.specs.WordText.{IsFirstBadLine}
 use Rattle.verify_answer.specs.Answer as verification
 use Rattle.verify_answer.specs.FirstBad as circuits
+use Rattle.core_answer.specs.Core.{IsCoreFault}
 use Rattle.batch_answer.specs.ListText as lists
 use Rattle.flat_lines.specs.FlatLines.{all_names}
 use Rattle.tlsf_expand.specs.TextSeen.{FlatText}
 use Rattle.outside_edge.specs.Files.{Files, bytes_under}
 use Rattle.program_replies.specs.Lines.{line_refusal, refusal_line}
-use Rattle.program_words.specs.Settings.{Asked, synth, check, expand, lasso, gen, bench, verify, batch}
+use Rattle.program_words.specs.Settings.{Asked, synth, check, expand, lasso, gen, bench, verify, core, batch}
 use Rattle.boundsyn_top.specs.Commands.{AnswersAsked}
 
--- The first fault of the text that a command takes. `check` takes it as with a kind that is given, and `expand` and `lasso` have no
--- normal forms and no automata. The texts of a list are refused each for itself.
+-- The first fault of the text that a command takes. `check` takes it as with a kind that is given, `expand` and `lasso` have no normal
+-- forms and no automata, and `core` takes few guarantees. The texts of a list are refused each for itself.
 abbrev pub HasFault : Files → Asked → SpecCode → ℕ → Type 0
 HasFault files (synth spec wanted kind) code place = IsFirstFault (bytes_under files spec) kind code place
 HasFault files (check spec certificate) code place = IsFirstFault (bytes_under files spec) (Some Mealy) code place
@@ -27,6 +28,7 @@ HasFault files (lasso spec word) code place = IsFlatFault (bytes_under files spe
 HasFault files (gen clients) code place = ⊥
 HasFault files (bench clients workers) code place = ⊥
 HasFault files (verify spec circuit) code place = IsFirstFault (bytes_under files spec) None code place
+HasFault files (core spec wanted kind) code place = IsCoreFault (bytes_under files spec) kind code place
 HasFault files (batch list wanted) code place = ⊥
 
 -- there is none of these faults
@@ -58,6 +60,7 @@ HasBadLine files (lasso spec word) n = IsBadWord (bytes_under files spec) (bytes
 HasBadLine files (gen clients) n = ⊥
 HasBadLine files (bench clients workers) n = ⊥
 HasBadLine files (verify spec circuit) n = IsBadCircuit (bytes_under files spec) (bytes_under files circuit) n
+HasBadLine files (core spec wanted kind) n = ⊥
 HasBadLine files (batch list wanted) n = lists.IsFirstBadLine (bytes_under files list) n
 
 -- nothing but its line answers a fault, or a bad line

@@ -2,7 +2,7 @@
 use Rattle.std.specs.Prelude.{◌≡◌, ℕ, Option, List, [], ◌∷◌, IfSome, Contains}
 use Rattle.tlsf_tokens.specs.declared.code.SpecCode.{SpecCode}
 use Rattle.outside_edge.specs.Files.{Files, bytes_under}
-use Rattle.program_words.specs.Settings.{Asked, synth, check, expand, lasso, gen, bench, verify, batch}
+use Rattle.program_words.specs.Settings.{Asked, synth, check, expand, lasso, gen, bench, verify, core, batch}
 use Rattle.boundsyn_top.specs.Batch.{IsBadList, IsListed}
 use Rattle.boundsyn_top.specs.Faults.{HasFault}
 
@@ -15,6 +15,7 @@ first_file (lasso spec word) = spec ∷ []
 first_file (gen clients) = []
 first_file (bench clients workers) = []
 first_file (verify spec circuit) = spec ∷ []
+first_file (core spec wanted kind) = spec ∷ []
 first_file (batch list wanted) = list ∷ []
 
 -- the text that the command takes has a fault
@@ -32,6 +33,7 @@ Stops files (lasso spec word) = IsFaulty files (lasso spec word)
 Stops files (gen clients) = ⊥
 Stops files (bench clients workers) = ⊥
 Stops files (verify spec circuit) = IsFaulty files (verify spec circuit)
+Stops files (core spec wanted kind) = IsFaulty files (core spec wanted kind)
 Stops files (batch list wanted) = IsBadList (bytes_under files list)
 
 -- it isn't, where that is told
@@ -47,6 +49,7 @@ TakesBehind told (lasso spec word) name = (name ≡ word) × GoesOn told (lasso 
 TakesBehind told (gen clients) name = ⊥
 TakesBehind told (bench clients workers) name = ⊥
 TakesBehind told (verify spec circuit) name = (name ≡ circuit) × GoesOn told (verify spec circuit)
+TakesBehind told (core spec wanted kind) name = ⊥
 TakesBehind told (batch list wanted) name = IfSome told (λ files. IsListed (bytes_under files list) name) × GoesOn told (batch list wanted)
 
 -- the command takes the file of this name

@@ -8,7 +8,9 @@ ghost use Rattle.boundsyn_top.specs.Run.{Asks};
 use crate::run;
 use batch_answer::laws::lists_are_determined;
 use check_answer::laws::checks_are_determined;
+use core_answer::laws::core_faults_are_determined;
 use flat_answer::laws::{expand_answers_are_due, lasso_answers_are_due};
+use flat_text::laws::flat_texts_are_determined;
 use outside_edge::{Gate, PlainShelf, PlainSink};
 use spec_problems::laws::problems_of_texts_are_determined;
 use std::alloc::Global;
@@ -25,6 +27,8 @@ pub fn refusals_are_determined()
     lasso_answers_are_due();
     checks_are_determined();
     verifications_are_determined();
+    flat_texts_are_determined();
+    core_faults_are_determined();
     lists_are_determined();
 }
 

@@ -9,6 +9,7 @@ mod arbiters;
 mod batches;
 mod certificates;
 mod circuits;
+mod cores;
 mod files;
 mod flat;
 pub mod laws;

@@ -8,6 +8,7 @@ use crate::arbiters::{generate, search_arbiter};
 use crate::batches::answer_list;
 use crate::certificates::check_certificate;
 use crate::circuits::verify_circuit;
+use crate::cores::find_core;
 use crate::flat::{expand_spec, tell_truth};
 use crate::output::{Output, whole_output};
 use crate::synthesis::synthesize;
@@ -76,6 +77,11 @@ where
         Settings::Gen { clients } => generate(alloc, clients),
         Settings::Bench { clients, workers } => search_arbiter(rt, alloc, clients, workers, gate),
         Settings::Verify { spec, circuit } => verify_circuit(alloc, shelf, spec, circuit),
+        Settings::Core {
+            spec,
+            search: wanted,
+            kind,
+        } => find_core(rt, alloc, shelf, spec, wanted, kind, gate),
         Settings::Batch {
             list,
             search: wanted,

@@ -21,7 +21,7 @@ use std::thread::Threads;
 /// Does what the words ask for, and gives the status to end with. The first word is the program's name.
 /// Each line is one call of `put`, its end included.
 ///
-/// 0: done, accepted or verified. 10, 11, 20, 30: what `synth` found. 1: the text is refused. 40: the list or the other file is
+/// 0: done, accepted or verified. 10, 11, 20, 30: what `synth` or `core` found. 1: the text is refused. 40: the list or the other file is
 /// refused at a line. 2: the words are refused. 3: a file that was due couldn't be read. 4: not all could be written. 5: memory was
 /// wanted.
 pub fn run<R, H, K, G>(

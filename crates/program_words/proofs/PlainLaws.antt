@@ -284,6 +284,10 @@ verify_met : IsMet (codes "verify")
 unfolding clap_on_literals
 verify_met = record { walk_is = refl; no_fault = refl }
 
+core_met : IsMet (codes "core")
+unfolding clap_on_literals
+core_met = record { walk_is = refl; no_fault = refl }
+
 batch_met : IsMet (codes "batch")
 unfolding clap_on_literals
 batch_met = record { walk_is = refl; no_fault = refl }
@@ -407,6 +411,16 @@ verify_read program spec circuit first_plain second_plain =
     (plain_walked s.rules [] None idle open_idle 1 spec first_plain) (plain_turn_fault s [] None idle open_idle 1 spec first_plain) second in
     read_command program (codes "verify") s (spec ∷ circuit ∷ []) (item (codes "spec") spec ∷ item (codes "circuit") circuit ∷ []) verify_met refl refl (leaf_reads s (spec ∷ circuit ∷ []) (item (codes "spec") spec ∷ item (codes "circuit") circuit ∷ []) 3 all (refl, (refl, tt)) refl)
 
+core_read : (program spec : Text) (options : List Item) → IsTrue (is_plain spec) → AreOptions synth_options [] options →
+    settings_of (program ∷ codes "core" ∷ spec ∷ option_words options) ≡ command_asked (codes "core") (given_by (item (codes "spec") spec ∷ options))
+unfolding clap_on_literals
+core_read program spec options plain are =
+    let s = leaf line.core in
+    let end = options_end s synth_options (synth_steps (codes "core")) [] (item (codes "spec") spec) 2 (options) refl (synth_spec_settles (codes "core")) (behind_name (item (codes "spec") spec) synth_options synth_different [] options are) in
+    let all = after_name s (walk_from nothing_held) (after [] (item (codes "spec") spec) 2) spec (option_words options) (item (codes "spec") spec ∷ options) 2
+    (plain_walked s.rules [] None idle open_idle 1 spec plain) (plain_turn_fault s [] None idle open_idle 1 spec plain) end in
+    read_command program (codes "core") s (spec ∷ option_words options) (item (codes "spec") spec ∷ options) core_met refl refl (leaf_reads s (spec ∷ option_words options) (item (codes "spec") spec ∷ options) 2 all (refl, (refl, (refl, (refl, (refl, tt))))) refl)
+
 batch_read : (program list : Text) (options : List Item) → IsTrue (is_plain list) → AreOptions batch_options [] options →
     settings_of (program ∷ codes "batch" ∷ list ∷ option_words options) ≡ command_asked (codes "batch") (given_by (item (codes "list") list ∷ options))
 unfolding clap_on_literals
@@ -426,5 +440,6 @@ plain_words_are_read = record {
   gen_words = gen_read;
   bench_words = bench_read;
   verify_words = verify_read;
+  core_words = core_read;
   batch_words = batch_read;
 }

@@ -57,6 +57,9 @@ bench = command (codes "bench") (clients ∷ workers ∷ [])
 abbrev pub verify : Shape
 verify = command (codes "verify") (spec ∷ required (codes "circuit") ∷ [])
 
+abbrev pub core : Shape
+core = searching (codes "core")
+
 abbrev pub batch : Shape
 batch = command (codes "batch") (required (codes "list") ∷ most ∷ entries ∷ workers ∷ [])
 
@@ -68,7 +71,7 @@ program = record {
     disable_help_subcommand = true;
     subcommand_required = true;
   };
-  subs = synth ∷ check ∷ expand ∷ lasso ∷ gen ∷ bench ∷ verify ∷ batch ∷ [];
+  subs = synth ∷ check ∷ expand ∷ lasso ∷ gen ∷ bench ∷ verify ∷ core ∷ batch ∷ [];
 }
 
 -- a command without subcommands and global arguments is set up so

@@ -5,7 +5,7 @@ use Rattle.std.specs.List.{list_any}
 use Rattle.std.specs.Str.{bytes_eq}
 use Rattle.clap.specs.Walk.{Text}
 use Rattle.program_words.specs.Numbers.{number_in}
-use Rattle.program_words.specs.Settings.{Given, synth_asked, bench_asked, batch_asked, check, expand, gen, lasso, verify, settings_of}
+use Rattle.program_words.specs.Settings.{Given, synth_asked, bench_asked, core_asked, batch_asked, check, expand, gen, lasso, verify, settings_of}
 
 -- a text that is given for an argument
 pub record Item : Type 0 where
@@ -65,5 +65,7 @@ pub record PlainWordsAreRead : Type 0 where
       settings_of (program ∷ codes "bench" ∷ clients ∷ option_words options) ≡ bench_asked (given_by (item (codes "clients") clients ∷ options))
   pub verify_words : (program spec circuit : Text) → IsTrue (is_plain spec) → IsTrue (is_plain circuit) →
       settings_of (program ∷ codes "verify" ∷ spec ∷ circuit ∷ []) ≡ Some (verify spec circuit)
+  pub core_words : (program spec : Text) (options : List Item) → IsTrue (is_plain spec) → AreOptions synth_options [] options →
+      settings_of (program ∷ codes "core" ∷ spec ∷ option_words options) ≡ core_asked (given_by (item (codes "spec") spec ∷ options))
   pub batch_words : (program list : Text) (options : List Item) → IsTrue (is_plain list) → AreOptions batch_options [] options →
       settings_of (program ∷ codes "batch" ∷ list ∷ option_words options) ≡ batch_asked (given_by (item (codes "list") list ∷ options))

@@ -22,6 +22,7 @@ pub data Asked : Type 0 where
   gen : ℕ → Asked
   bench : ℕ → ℕ → Asked
   verify : Text → Text → Asked
+  core : Text → Search → Option Kind → Asked
   batch : Text → Search → Asked
 
 -- what settings of the code ask for
@@ -33,6 +34,7 @@ asked_by (settings.Lasso spec word) = lasso spec.now word.now
 asked_by (settings.Gen clients) = gen clients
 asked_by (settings.Bench clients workers) = bench clients workers
 asked_by (settings.Verify spec circuit) = verify spec.now circuit.now
+asked_by (settings.Core spec wanted kind) = core spec.now wanted kind
 asked_by (settings.Batch list wanted) = batch list.now wanted
 
 -- the most states and workers of a search for a machine of one text
@@ -59,6 +61,7 @@ IsInRange (lasso spec word) = Unit {0}
 IsInRange (gen clients) = (1 ≤ clients) × (clients ≤ 8)
 IsInRange (bench clients workers) = ((1 ≤ clients) × (clients ≤ 4)) × ((1 ≤ workers) × (workers ≤ most_alone))
 IsInRange (verify spec circuit) = Unit {0}
+IsInRange (core spec wanted kind) = IsSearchInRange most_alone wanted
 IsInRange (batch list wanted) = IsSearchInRange most_in_batch wanted
 
 -- ---- the values of options, each with its default
@@ -127,6 +130,11 @@ abbrev pub verify_asked : Given → Option Asked
 verify_asked given =
     option_and_then (λ spec. option_map (verify spec) (given (codes "circuit"))) (given (codes "spec"))
 
+abbrev pub core_asked : Given → Option Asked
+core_asked given =
+    option_and_then (λ spec. option_and_then (λ wanted. option_map (core spec wanted) (kind_asked given))
+    (search_asked most_alone given)) (given (codes "spec"))
+
 abbrev pub batch_asked : Given → Option Asked
 batch_asked given =
     option_and_then (λ list. option_map (batch list) (search_asked most_in_batch given)) (given (codes "list"))
@@ -140,6 +148,7 @@ command_asked name given =
     else if bytes_eq name (codes "gen") then gen_asked given
     else if bytes_eq name (codes "bench") then bench_asked given
     else if bytes_eq name (codes "verify") then verify_asked given
+    else if bytes_eq name (codes "core") then core_asked given
     else if bytes_eq name (codes "batch") then batch_asked given
     else None
 

@@ -22,6 +22,7 @@ pub(crate) fn program<'a>(alloc: Global) -> Result<Command<'a>, AllocError>
         .subcommand(generate(alloc)?)?
         .subcommand(bench(alloc)?)?
         .subcommand(verify(alloc)?)?
+        .subcommand(searching(alloc, "core")?)?
         .subcommand(batch(alloc)?)
 }
 

@@ -44,6 +44,12 @@ pub enum Settings<'a> {
         spec: &'a str,
         circuit: &'a str,
     },
+    Core {
+        spec: &'a str,
+        search: Search,
+        /// In place of the text's own kind.
+        kind: Option<Kind>,
+    },
     /// Each text is searched for on its own; the workers are those that share the texts.
     Batch {
         /// Of a file with the names of the texts.

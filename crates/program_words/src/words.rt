@@ -1,6 +1,6 @@
 ghost use Rattle.std.specs.Prelude.{◌≡◌, ◌≢◌, Some, None, map, option_map, option_and_then, string_bytes, IfOk, IfSome, IsErrOf, ◌≤◌};
 ghost use Rattle.clap.specs.Words.{first_of, found_of, rows_of, subcommand_rows_of};
-ghost use Rattle.program_words.specs.Settings.{asked_by, asked_of, batch_asked, bench_asked, check_asked, entry_limit, expand_asked, gen_asked, given_in, IsInRange, IsSearchInRange, kind_asked, kind_in, lasso_asked, limit_in, number_or, search_asked, settings_of, synth_asked, verify_asked};
+ghost use Rattle.program_words.specs.Settings.{asked_by, asked_of, batch_asked, bench_asked, check_asked, core_asked, entry_limit, expand_asked, gen_asked, given_in, IsInRange, IsSearchInRange, kind_asked, kind_in, lasso_asked, limit_in, number_or, search_asked, settings_of, synth_asked, verify_asked};
 
 use crate::command_line::program;
 use crate::numbers::number_in;
@@ -70,6 +70,7 @@ fn settings_in<'a>(matches: &ArgMatches<'a>) -> Option<Settings<'a>>
         "gen" => gen_in(own),
         "bench" => bench_in(own),
         "verify" => verify_in(own),
+        "core" => core_in(own),
         "batch" => batch_in(own),
         _ => None,
     }
@@ -138,6 +139,17 @@ fn verify_in<'a>(own: &ArgMatches<'a>) -> Option<Settings<'a>>
     Some(Settings::Verify {
         spec: text_of(own, "spec")?,
         circuit: text_of(own, "circuit")?,
+    })
+}
+
+fn core_in<'a>(own: &ArgMatches<'a>) -> Option<Settings<'a>>
+    ensures asked { option_map asked_by result ≡ core_asked (given_in (rows_of (found_of own.now))) }
+    ensures ranges { IfSome result (λ s. IsInRange (asked_by s)) }
+{
+    Some(Settings::Core {
+        spec: text_of(own, "spec")?,
+        search: search_in(own, MOST_ALONE)?,
+        kind: kind_or(own)?,
     })
 }
 

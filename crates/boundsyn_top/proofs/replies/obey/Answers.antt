@@ -1,6 +1,6 @@
 use Rattle.std.proofs.lemmas.Result.{IfOk-weaker}
 use Rattle.std.proofs.Common.{refl}
-use Rattle.program_words.specs.Settings.{expand, synth}
+use Rattle.program_words.specs.Settings.{core, expand, synth}
 use Rattle.boundsyn_top.proofs.ReplyLemmas.{not_first}
 use Rattle.boundsyn_top.proofs.replies.obey.Goals as goal
 
@@ -21,6 +21,11 @@ returns-in-Lasso-clause-other_files g c = λ name foreign. c.tell_truth.ensures.
 
 pub returns-in-Verify-clause-other_files : goal.returns-in-Verify-clause-other_files
 returns-in-Verify-clause-other_files g c = λ name foreign. c.verify_circuit.ensures.other_files name (rw c.in-Verify.is at foreign)
+
+pub returns-in-Core-clause-other_files : goal.returns-in-Core-clause-other_files
+returns-in-Core-clause-other_files g c = λ name foreign.
+    c.find_core.ensures.other_files name
+    (not_first _ (core c.in-Core.spec.now c.in-Core.wanted c.in-Core.kind) c.in-Core.spec.now name refl (rw c.in-Core.is at foreign))
 
 pub returns-in-Batch-clause-other_files : goal.returns-in-Batch-clause-other_files
 returns-in-Batch-clause-other_files g c = λ name foreign. c.answer_list.ensures.other_files name (rw c.in-Batch.is at foreign)

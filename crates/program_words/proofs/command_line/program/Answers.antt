@@ -14,4 +14,5 @@ returns c =
     let five = with_command _ _ _ _ _ four c.in_ok-subcommand-5.ensures c.in_ok-generate.ensures in
     let six = with_command _ _ _ _ _ five c.in_ok-subcommand-6.ensures c.in_ok-bench.ensures in
     let seven = with_command _ _ _ _ _ six c.in_ok-subcommand-7.ensures c.in_ok-verify.ensures in
-    IfOk-weaker c.subcommand-8.result _ _ (λ new adds. with_command _ _ _ _ _ seven adds c.in_ok-batch.ensures) c.subcommand-8.ensures
+    let eight = with_command _ _ _ _ _ seven c.in_ok-subcommand-8.ensures c.in_ok-searching-2.ensures in
+    IfOk-weaker c.subcommand-9.result _ _ (λ new adds. with_command _ _ _ _ _ eight adds c.in_ok-batch.ensures) c.subcommand-9.ensures
