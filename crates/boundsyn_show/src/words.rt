@@ -25,6 +25,8 @@ pub struct Settings<'a> {
 
 const DEFAULT_ROUNDS: u32 = 2;
 
+const MOST_ROUNDS: u32 = 100;
+
 /// What the words ask for, or None where they are no words of the program; the first of them is the program's name.
 pub fn read_words(alloc: Global, words: &[String]) -> Result<Option<Settings<'_>>, AllocError> {
     let program = command_line(alloc)?;
@@ -57,10 +59,17 @@ fn option<'a>(alloc: Global, name: &'a str) -> Arg<'a> {
 }
 
 fn settings_in<'a>(matches: &ArgMatches<'a>) -> Option<Settings<'a>> {
+    let document = matches.get_str("document")?;
+    let asked = asked_in(matches)?;
+    let rounds = match (matches.get_str("rounds"), asked) {
+        (None, _) => DEFAULT_ROUNDS,
+        (Some(text), Asked::Vcd(_) | Asked::Wave(_)) => rounds_of(text)?,
+        _ => return None,
+    };
     Some(Settings {
-        document: matches.get_str("document")?,
-        asked: asked_in(matches)?,
-        rounds: rounds_in(matches)?,
+        document,
+        asked,
+        rounds,
     })
 }
 
@@ -78,12 +87,9 @@ fn asked_in<'a>(matches: &ArgMatches<'a>) -> Option<Asked<'a>> {
     }
 }
 
-fn rounds_in(matches: &ArgMatches<'_>) -> Option<u32> {
-    let Some(text) = matches.get_str("rounds") else {
-        return Some(DEFAULT_ROUNDS);
-    };
+fn rounds_of(text: &str) -> Option<u32> {
     let rounds = text.parse::<u32>().ok()?;
-    if 1 <= rounds && rounds <= 100 {
+    if 1 <= rounds && rounds <= MOST_ROUNDS {
         Some(rounds)
     } else {
         None
