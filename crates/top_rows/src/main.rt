@@ -1,43 +1,47 @@
 //! Rows of whole runs of the program, over files and a sink in memory. On standard input stands a heading `==== WAY ..` and then lines, up
-//! to the next heading; on standard output the heading of each run, its status and what was written.
+//! to the next heading; on standard output the heading of each run, its status and what was written. What the stored run must print
+//! follows from the definitions alone.
 //!
-//! `file NAME` keeps the lines below it under that name. The other ways run the program. `run WORDS`: on these words. `shelf K WORDS` and
-//! `sink K WORDS`: with the K-th call of the shelf or the sink failing. `sinks N WORDS`: with each of the first N calls of the sink
-//! failing in turn; of each run stand its status and the number of lines that were written. `keep NAME WORDS`: what is
-//! written is kept under that name, and its verdict alone is printed. `undecided NAME WORDS`: what is written is kept, and whether a log is full
-//! that left it undecided if a machine is the smallest, or if there is one. `status WORDS`: of the run stands its status alone. `held WORDS`: with a gate
-//! that holds one worker back until another has added to the same log; behind the run stands whether they met there. `fronts NAME WORDS`: with each front of whole lines of that file in its place, the
-//! whole file apart. `unended NAME WORDS`, `zeroed NAME WORDS` and `long NAME WORDS`: with the file without its last byte, with a zero
-//! byte in place of its first one, and with as many bytes as no text may have. What the stored run must print follows from the definitions alone.
+//! `file NAME` keeps the lines below it under that name, and `bytes NAME` the bytes whose numbers stand there. `grown COUNT DAMAGED NAME`
+//! keeps a document with a log of so many entries (module grown). The other ways run the program.
+//!
+//! `run WORDS`: on these words. `shelf K WORDS` and `sink K WORDS`: with the K-th call of the shelf or the sink failing. `sinks N WORDS`:
+//! with each of the first N calls of the sink failing in turn; of each run stand its status and the number of lines that were written.
+//! `status WORDS`: of the run stands its status alone. `unended NAME WORDS`, `zeroed NAME WORDS` and `padded N NAME WORDS`: with the
+//! file without its last byte, with a zero byte in place of its first one, and with blanks at its end up to N bytes. `fronts NAME
+//! WORDS`: with each front of whole lines of that file in its place, the whole file apart.
+//!
+//! `keep NAME WORDS`: what is written is kept under that name, and its verdict alone is printed. `undecided NAME WORDS`: what is written
+//! is kept, and whether a log is full that left it undecided if a machine is the smallest, or if there is one. `outline NAME WORDS`: the
+//! documents within what is written are kept under that name with their numbers, and what stands around them is printed. `show NAME` and
+//! `frame NAME`: a file, or those of its lines that have a letter.
+//!
+//! `held WORDS`: with a gate that holds one worker back until another has added to the same log; behind the run stands whether they met
+//! there. `shared LOG WORDS`: with a gate at which one worker on that log waits until another has added to it; behind the verdict stands
+//! whether the first log that is written has entries of two workers, the caller apart, and whether they met.
 #![tactic(auto)]
 
+mod changed;
+mod documents;
+mod gates;
+mod grown;
 mod runs;
+mod told;
 
 use anyhow::{Context, bail};
-use outside_edge::HoldGate;
-use runs::{Ended, Faults, File, NO_FAULTS, run_on, run_through};
-use std::alloc::{AllocError, Global};
+use changed::{push_cut, push_fronts, push_padded};
+use documents::{push_frame, push_outline};
+use gates::{push_held, push_shared};
+use grown::grown;
+use runs::{Faults, File, NO_FAULTS, run_on};
+use std::alloc::Global;
 use std::io::{self, Write};
 use std::sync::Wait;
 use std::thread::Threads;
+use told::{bytes_of, numbered, push_ended, push_status, verdict_line};
 
 /// What stands before each heading.
 const HEADING: &str = "==== ";
-
-/// One byte more than a text may have.
-const TOO_MANY: usize = 1_048_577;
-
-/// A number, and what stands behind it.
-fn numbered(text: &str) -> anyhow::Result<(u64, &str)> {
-    let (number, rest) = text.split_once(' ').context("no number")?;
-    Ok((number.parse::<u64>()?, rest))
-}
-
-fn push_ended(alloc: Global, ended: &Ended, out: &mut Vec<u8>) -> Result<(), AllocError> {
-    let status = format!(in alloc; "status {}\n", ended.status)?;
-    out.extend_from_slice(status.as_bytes())?;
-    out.extend_from_slice(&ended.written)
-}
 
 /// The status of each run, and how many lines were written.
 fn push_sink_faults<R: Threads + Wait + Sync>(
@@ -61,17 +65,6 @@ fn push_sink_faults<R: Threads + Wait + Sync>(
     Ok(())
 }
 
-/// The line of a verdict, if one was written.
-fn verdict_line(written: &[u8]) -> &[u8] {
-    let mut found: &[u8] = b"no verdict\n";
-    for line in written.split_inclusive(|byte| *byte == b'\n') {
-        if line.starts_with(b"verdict ") {
-            found = line;
-        }
-    }
-    found
-}
-
 /// Keeps what was written as a file of this name.
 fn push_kept<R: Threads + Wait + Sync>(
     rt: &R,
@@ -82,83 +75,10 @@ fn push_kept<R: Threads + Wait + Sync>(
 ) -> anyhow::Result<()> {
     let (name, words) = rest.split_once(' ').context("no name")?;
     let ended = run_on(rt, alloc, words, files, NO_FAULTS)?;
-    let status = format!(in alloc; "status {}\n", ended.status)?;
-    out.extend_from_slice(status.as_bytes())?;
+    push_status(alloc, ended.status, out)?;
     out.extend_from_slice(verdict_line(&ended.written))?;
     files.push(File::new(alloc, name, &ended.written)?)?;
     Ok(())
-}
-
-/// The bytes of the last file of this name.
-fn bytes_of(alloc: Global, files: &[File], name: &str) -> Result<Vec<u8>, AllocError> {
-    let mut found = Vec::new(alloc);
-    for file in files {
-        if file.has_name(name) {
-            found.clear();
-            found.extend_from_slice(file.bytes())?;
-        }
-    }
-    Ok(found)
-}
-
-/// What comes of a run with other bytes in place of a file.
-fn push_changed<R: Threads + Wait + Sync>(
-    rt: &R,
-    alloc: Global,
-    files: &mut Vec<File>,
-    name: &str,
-    bytes: &[u8],
-    words: &str,
-    out: &mut Vec<u8>,
-) -> anyhow::Result<()> {
-    files.push(File::new(alloc, name, bytes)?)?;
-    let ended = run_on(rt, alloc, words, files, NO_FAULTS)?;
-    let _changed = files.pop();
-    push_ended(alloc, &ended, out)?;
-    Ok(())
-}
-
-/// What comes of a run with each front of whole lines of a file.
-fn push_fronts<R: Threads + Wait + Sync>(
-    rt: &R,
-    alloc: Global,
-    files: &mut Vec<File>,
-    rest: &str,
-    out: &mut Vec<u8>,
-) -> anyhow::Result<()> {
-    let (name, words) = rest.split_once(' ').context("no name")?;
-    let whole = bytes_of(alloc, files, name)?;
-    let mut front = Vec::new(alloc);
-    for line in whole.split_inclusive(|byte| *byte == b'\n') {
-        push_changed(rt, alloc, files, name, &front, words, out)?;
-        front.extend_from_slice(line)?;
-    }
-    Ok(())
-}
-
-/// What comes of a run with a file that is changed at its end or at its start.
-fn push_cut<R: Threads + Wait + Sync>(
-    rt: &R,
-    alloc: Global,
-    files: &mut Vec<File>,
-    way: &str,
-    rest: &str,
-    out: &mut Vec<u8>,
-) -> anyhow::Result<()> {
-    let (name, words) = rest.split_once(' ').context("no name")?;
-    let mut bytes = bytes_of(alloc, files, name)?;
-    match way {
-        "unended" => {
-            let _last = bytes.pop();
-        },
-        "long" => bytes.resize(TOO_MANY, b' ')?,
-        _ => {
-            if let Some(first) = bytes.first_mut() {
-                *first = 0;
-            }
-        },
-    }
-    push_changed(rt, alloc, files, name, &bytes, words, out)
 }
 
 /// What comes of a run with a failing call.
@@ -211,37 +131,59 @@ fn push_undecided<R: Threads + Wait + Sync>(
     Ok(())
 }
 
-/// What comes of a run whose workers pass a gate that holds one of them back.
-fn push_held<R: Threads + Wait + Sync>(
+/// The file that a heading asks to keep, if it asks for one.
+fn file_of(alloc: Global, way: &str, rest: &str, body: &str) -> anyhow::Result<Option<File>> {
+    match way {
+        "file" => Ok(Some(File::new(alloc, rest, body.as_bytes())?)),
+        "bytes" => {
+            let mut bytes = Vec::new(alloc);
+            for number in body.split_whitespace() {
+                bytes.push(number.parse::<u8>()?)?;
+            }
+            Ok(Some(File::new(alloc, rest, &bytes)?))
+        },
+        "grown" => {
+            let (count, rest) = numbered(rest)?;
+            let (damaged, name) = numbered(rest)?;
+            Ok(Some(File::new(alloc, name, &grown(alloc, count, damaged)?)?))
+        },
+        _ => Ok(None),
+    }
+}
+
+/// Adds what comes of a heading's runs.
+fn push_runs<R: Threads + Wait + Sync>(
     rt: &R,
     alloc: Global,
-    files: &[File],
-    words: &str,
+    files: &mut Vec<File>,
+    way: &str,
+    rest: &str,
     out: &mut Vec<u8>,
 ) -> anyhow::Result<()> {
-    let gate = HoldGate::new();
-    let ended = run_through(rt, alloc, words, files, NO_FAULTS, &gate)?;
-    push_ended(alloc, &ended, out)?;
-    let line = format!(in alloc; "met {}\n", gate.met())?;
-    out.extend_from_slice(line.as_bytes())?;
+    match way {
+        "run" => push_ended(alloc, &run_on(rt, alloc, rest, files, NO_FAULTS)?, out)?,
+        "status" => {
+            let ended = run_on(rt, alloc, rest, files, NO_FAULTS)?;
+            push_status(alloc, ended.status, out)?;
+        },
+        "show" => out.extend_from_slice(&bytes_of(alloc, files, rest)?)?,
+        "frame" => push_frame(alloc, files, rest, out)?,
+        "shelf" | "sink" => push_failing(rt, alloc, files, way, rest, out)?,
+        "sinks" => push_sink_faults(rt, alloc, files, rest, out)?,
+        "unended" | "zeroed" => push_cut(rt, alloc, files, way, rest, out)?,
+        "padded" => push_padded(rt, alloc, files, rest, out)?,
+        "fronts" => push_fronts(rt, alloc, files, rest, out)?,
+        "keep" => push_kept(rt, alloc, files, rest, out)?,
+        "undecided" => push_undecided(rt, alloc, files, rest, out)?,
+        "outline" => push_outline(rt, alloc, files, rest, out)?,
+        "held" => push_held(rt, alloc, files, rest, out)?,
+        "shared" => push_shared(rt, alloc, files, rest, out)?,
+        _ => bail!("no such way"),
+    }
     Ok(())
 }
 
-/// The status of a run.
-fn push_status<R: Threads + Wait + Sync>(
-    rt: &R,
-    alloc: Global,
-    files: &[File],
-    words: &str,
-    out: &mut Vec<u8>,
-) -> anyhow::Result<()> {
-    let ended = run_on(rt, alloc, words, files, NO_FAULTS)?;
-    let line = format!(in alloc; "status {}\n", ended.status)?;
-    out.extend_from_slice(line.as_bytes())?;
-    Ok(())
-}
-
-/// Keeps a file, or adds what comes of a run.
+/// Keeps a file, or adds a heading and what comes of its runs.
 fn push_row<R: Threads + Wait + Sync>(
     rt: &R,
     alloc: Global,
@@ -251,28 +193,13 @@ fn push_row<R: Threads + Wait + Sync>(
     out: &mut Vec<u8>,
 ) -> anyhow::Result<()> {
     let (way, rest) = heading.split_once(' ').context("no way")?;
-    if way == "file" {
-        files.push(File::new(alloc, rest, body.as_bytes())?)?;
+    if let Some(file) = file_of(alloc, way, rest, body)? {
+        files.push(file)?;
         return Ok(());
     }
     let line = format!(in alloc; "{HEADING}{heading}\n")?;
     out.extend_from_slice(line.as_bytes())?;
-    match way {
-        "run" => {
-            let ended = run_on(rt, alloc, rest, files, NO_FAULTS)?;
-            push_ended(alloc, &ended, out)?;
-            Ok(())
-        },
-        "shelf" | "sink" => push_failing(rt, alloc, files, way, rest, out),
-        "sinks" => push_sink_faults(rt, alloc, files, rest, out),
-        "keep" => push_kept(rt, alloc, files, rest, out),
-        "undecided" => push_undecided(rt, alloc, files, rest, out),
-        "held" => push_held(rt, alloc, files, rest, out),
-        "status" => push_status(rt, alloc, files, rest, out),
-        "fronts" => push_fronts(rt, alloc, files, rest, out),
-        "unended" | "zeroed" | "long" => push_cut(rt, alloc, files, way, rest, out),
-        _ => bail!("no such way"),
-    }
+    push_runs(rt, alloc, files, way, rest, out)
 }
 
 fn main(rt: HostRuntime) -> anyhow::Result<()> {
