@@ -53,11 +53,12 @@ impl Documents {
             }
             return Ok(());
         }
-        match length_of_document(line) {
-            Some(wanted) => {
+        match document_behind(line) {
+            Some((word, wanted)) => {
                 self.wanted = wanted;
                 self.whole.push(Vec::new(self.alloc))?;
-                out.extend_from_slice(b"document\n")?;
+                out.extend_from_slice(word.as_bytes())?;
+                out.extend_from_slice(b"\n")?;
             },
             None => out.extend_from_slice(line)?,
         }
@@ -73,11 +74,15 @@ impl Documents {
     }
 }
 
-/// The number of lines of the document that follows this line, if one does.
-fn length_of_document(line: &[u8]) -> Option<u64> {
+/// The word before the number of lines of a document that follows this line, and that number, if one does.
+fn document_behind(line: &[u8]) -> Option<(&str, u64)> {
     let text = str::from_utf8(line).ok()?;
-    let number = text.strip_prefix("document ")?.strip_suffix('\n')?;
-    number.parse::<u64>().ok()
+    let (word, number) = text.strip_suffix('\n')?.split_once(' ')?;
+    if word == "document" || word == "lines" {
+        Some((word, number.parse::<u64>().ok()?))
+    } else {
+        None
+    }
 }
 
 /// The lines of a file that have a letter, so not those of latches, outputs, gates and entries.
