@@ -17,7 +17,7 @@ use std::io::Write;
 use std::process::ExitCode;
 use std::rt::Files;
 
-/// The statuses of the program: all circuits are annotated; some isn't; the words or a file aren't there.
+/// The statuses of the program: all circuits are annotated; some isn't; the words don't fit.
 const ANNOTATED: u8 = 0;
 
 const NOT_ANNOTATED: u8 = 1;
