@@ -13,7 +13,8 @@ use Rattle.batch_run.specs.Answers.{AreAnswers}
 use Rattle.synth_engine.specs.declared.settings.Settings.{Settings}
 use Rattle.synth_answer.specs.Answer.{Answers, refused, realizable, unrealizable, bounded, no_size, no_entries}
 use Rattle.batch_answer.specs.ListText.{IsOneLine}
-use Rattle.batch_answer.specs.Batch.{AreLines, IsPartFor, Part, batch_text, bounds_of, line_count, part_text}
+use Rattle.batch_answer.specs.Batch.{AreLines, IsPartFor, Part, batch_text, bounds_of, part_text}
+use Rattle.program_replies.specs.Lines.{line_count}
 use Rattle.batch_answer.specs.Laws.{BatchesAreReadBack}
 use Rattle.batch_answer.proofs.ListLemmas.{cut_same, heads, tails}
 use Rattle.batch_answer.proofs.WholeLines.{answers_are_lines}

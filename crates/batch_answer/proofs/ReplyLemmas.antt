@@ -5,7 +5,7 @@ use Rattle.program_replies.specs.Lines.{refusal_line}
 use Rattle.program_replies.specs.Statuses.{status_number}
 use Rattle.program_replies.specs.declared.replies.Reply.{Reply}
 use Rattle.program_replies.specs.declared.replies.Status.TheVariants.{Refused}
-use Rattle.tlsf_tokens.specs.declared.code.SpecCode.TheVariants as code
+use Rattle.spec_faults.specs.declared.code.SpecCode.TheVariants as code
 use Rattle.tlsf_reader.specs.Faults.{most_bytes, too_long}
 use Rattle.flat_text.specs.FlatOf.{of_reading}
 use Rattle.spec_problems.specs.OfText.{of_text}

@@ -1,7 +1,7 @@
 -- The answer of `batch` (this project's own).
-use Rattle.std.specs.Prelude.{◌≡◌, ◌==◌, ◌≤◌, ℕ, ◌++◌, IfSome, ⊤, List, [], ◌∷◌, None, codes, decimal, length}
-use Rattle.std.specs.List.{count_by}
+use Rattle.std.specs.Prelude.{◌≡◌, ◌≤◌, ℕ, ◌++◌, IfSome, ⊤, List, [], ◌∷◌, None, codes, decimal, length}
 use Rattle.program_replies.specs.declared.replies.Reply.{Reply}
+use Rattle.program_replies.specs.Lines.{line_count}
 use Rattle.program_replies.specs.Statuses.{status_number}
 use Rattle.batch_run.specs.Answers.{AreAnswers}
 use Rattle.synth_engine.specs.declared.settings.Settings.{Settings}
@@ -36,10 +36,6 @@ abbrev pub AreLines : List ℕ → Type 0
 AreLines [] = ⊤
 AreLines (byte ∷ []) = byte ≡ 10
 AreLines (byte ∷ next ∷ more) = AreLines (next ∷ more)
-
--- how many lines bytes are, each of which has its line end
-abbrev pub line_count : List ℕ → ℕ
-line_count bytes = count_by (λ byte. byte == 10) bytes
 
 -- `text NAME`, `status S`, `lines L`, and the L lines
 abbrev pub part_text : List ℕ → Part → List ℕ

@@ -1,10 +1,9 @@
 //! What is written for texts that were answered.
-ghost use Rattle.std.specs.Prelude.{◌≡◌, ◌==◌, ◌++◌, IfOk, OnOk, length, map};
-ghost use Rattle.std.specs.List.{count_by};
-ghost use Rattle.batch_answer.specs.Batch.{batch_text as whole_text, line_count, part_of, part_text};
+ghost use Rattle.std.specs.Prelude.{◌≡◌, ◌++◌, IfOk, OnOk, length, map};
+ghost use Rattle.batch_answer.specs.Batch.{batch_text as whole_text, part_of, part_text};
 
 use crate::file_name::FileName;
-use program_replies::Reply;
+use program_replies::{Reply, line_count};
 use std::alloc::{AllocError, Global};
 use text_base::push_number;
 
@@ -37,11 +36,4 @@ fn push_part(bytes: &mut Vec<u8>, name: &FileName, reply: &Reply) -> Result<(), 
     push_number(bytes, line_count(&reply.bytes) as u64)?;
     bytes.extend_from_slice(b"\n")?;
     bytes.extend_from_slice(&reply.bytes)
-}
-
-// How many lines the bytes are.
-fn line_count(bytes: &[u8]) -> usize
-    ensures { result ≡ line_count bytes.now }
-{
-    bytes.iter().filter(|byte| **byte == b'\n').count()
 }

@@ -4,13 +4,13 @@ ghost use Rattle.std.specs.Prelude.{◌≡◌, ◌≤◌, IfSome};
 use batch_run::Job;
 use outside_edge::OpenGate;
 use program_replies::{Reply, refused};
+use spec_faults::SpecCode;
 use std::alloc::{AllocError, Global};
 use std::marker::Model;
 use std::sync::Wait;
 use std::thread::Threads;
 use synth_answer::answer;
 use synth_engine::Settings;
-use tlsf_tokens::SpecCode;
 
 /// The most bytes that a text may have.
 const LONGEST_TEXT: u64 = 1_048_576;

@@ -16,9 +16,9 @@ use Rattle.cert_text.specs.declared.documents.Verdict.{Verdict}
 use Rattle.cert_text.specs.declared.documents.Verdict.TheVariants as verdict
 use Rattle.arbiter_text.specs.Arbiter.{generated_text}
 use Rattle.bench_answer.specs.Bench.{BenchAnswer, HasStatus}
-use Rattle.tlsf_tokens.specs.declared.code.SpecCode.TheVariants.{TooLong}
+use Rattle.spec_faults.specs.declared.code.SpecCode.TheVariants.{TooLong}
 use Rattle.tlsf_reader.specs.Faults.{IsReadingFault, most_bytes, too_long}
-use Rattle.tlsf_expand.specs.TextSeen.{FlatText, spec_seen}
+use Rattle.tlsf_expand.specs.FlatText.{FlatText, spec_seen}
 use Rattle.flat_text.specs.FlatOf.{IsFlatFault, IsFlatOf, of_reading}
 use Rattle.flat_text.specs.Laws.{FlatTextsHaveNoFault}
 use Rattle.spec_problems.specs.declared.texts.TextProblems.{TextProblems}

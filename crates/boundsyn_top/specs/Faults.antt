@@ -1,7 +1,7 @@
 -- What keeps a command from its work: the first fault of its text, or the first bad line of its list or its other file (this project's own).
 use Rattle.std.specs.Prelude.{◌≡◌, ℕ, Some, None, List}
 use Rattle.letter_word.specs.declared.kinds.Kind.TheVariants.{Mealy}
-use Rattle.tlsf_tokens.specs.declared.code.SpecCode.{SpecCode}
+use Rattle.spec_faults.specs.declared.code.SpecCode.{SpecCode}
 use Rattle.flat_text.specs.FlatOf.{IsFlatFault, IsFlatOf}
 use Rattle.spec_problems.specs.OfText.{IsFirstFault}
 use Rattle.document_check.specs.FirstBad.{IsFirstBadFor}
@@ -12,7 +12,7 @@ use Rattle.verify_answer.specs.FirstBad as circuits
 use Rattle.core_answer.specs.Core.{IsCoreFault}
 use Rattle.batch_answer.specs.ListText as lists
 use Rattle.flat_lines.specs.FlatLines.{all_names}
-use Rattle.tlsf_expand.specs.TextSeen.{FlatText}
+use Rattle.tlsf_expand.specs.FlatText.{FlatText}
 use Rattle.outside_edge.specs.Files.{Files, bytes_under}
 use Rattle.program_replies.specs.Lines.{line_refusal, refusal_line}
 use Rattle.program_words.specs.Settings.{Asked, synth, check, expand, lasso, gen, bench, verify, core, batch}

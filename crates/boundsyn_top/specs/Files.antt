@@ -2,7 +2,7 @@
 use Rattle.std.specs.Prelude.{◌≡◌, ℕ, ◌<◌, Option, List, IfSome, codes, length}
 use Rattle.outside_edge.specs.Faults.{Rose}
 use Rattle.outside_edge.specs.Files.{Files, bytes_under}
-use Rattle.tlsf_tokens.specs.declared.code.SpecCode.TheVariants.{TooLong}
+use Rattle.spec_faults.specs.declared.code.SpecCode.TheVariants.{TooLong}
 use Rattle.tlsf_reader.specs.Faults.{most_bytes}
 use Rattle.program_replies.specs.Lines.{refusal_line}
 use Rattle.program_replies.specs.Statuses.{status_number}

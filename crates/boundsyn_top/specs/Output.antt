@@ -1,6 +1,6 @@
 -- What a run writes, with its status (this project's own).
 use Rattle.std.specs.Prelude.{◌≡◌, ℕ, List, Result, Ok, Err}
-use Rattle.tlsf_expand.specs.TextSeen.{spec_seen}
+use Rattle.tlsf_expand.specs.FlatText.{spec_seen}
 use Rattle.flat_lines.specs.FlatLines.{CanBeWritten, flat_bytes}
 use Rattle.flat_answer.specs.Expand.{ExpandAnswers}
 use Rattle.program_replies.specs.declared.replies.Reply.{Reply}

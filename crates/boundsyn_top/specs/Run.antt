@@ -5,7 +5,7 @@ use Rattle.outside_edge.specs.Files.{Files}
 use Rattle.outside_edge.specs.Bytes.{Gains, GainsFront}
 use Rattle.outside_edge.specs.declared.sink.SinkFault.{SinkFault}
 use Rattle.outside_edge.specs.declared.sink.SinkFault.TheVariants.{Failed, NoMemory}
-use Rattle.tlsf_tokens.specs.declared.code.SpecCode.{SpecCode}
+use Rattle.spec_faults.specs.declared.code.SpecCode.{SpecCode}
 use Rattle.program_words.specs.Settings.{Asked, settings_of}
 use Rattle.boundsyn_top.specs.declared.output.Output.{Output}
 use Rattle.boundsyn_top.specs.Output.{IsWritable, bytes_of, status_of}

@@ -1,6 +1,6 @@
 //! The reply to `verify`.
 ghost use Rattle.std.specs.Prelude.{◌≡◌, ◌≢◌, ℕ, List, None, IfOk};
-ghost use Rattle.tlsf_expand.specs.TextSeen.{spec_seen};
+ghost use Rattle.tlsf_expand.specs.FlatText.{spec_seen};
 ghost use Rattle.spec_problems.specs.OfText.{IsFirstFault};
 ghost use Rattle.synth_answer.specs.Printed.{given_by};
 ghost use Rattle.verify_answer.specs.Answer.{VerifyAnswers};

@@ -6,8 +6,8 @@ ghost use Rattle.boundsyn_top.specs.Files.{AreOfFile, IsTaken};
 
 use outside_edge::{Shelf, ShelfFault};
 use program_replies::{Reply, Status, refused, whole};
+use spec_faults::SpecCode;
 use std::alloc::{AllocError, Global};
-use tlsf_tokens::SpecCode;
 
 /// The most bytes that a text may have.
 pub const LONGEST_TEXT: u64 = 1_048_576;

@@ -4,7 +4,7 @@ ghost use Rattle.outside_edge.specs.Faults.{Rose};
 ghost use Rattle.program_replies.specs.Lines.{line_refusal, refusal_line};
 ghost use Rattle.program_replies.specs.Statuses.{status_number};
 ghost use Rattle.program_words.specs.Settings.{Asked};
-ghost use Rattle.tlsf_tokens.specs.declared.code.SpecCode.{SpecCode};
+ghost use Rattle.spec_faults.specs.declared.code.SpecCode.{SpecCode};
 ghost use Rattle.boundsyn_top.specs.Commands.{statuses_of};
 ghost use Rattle.boundsyn_top.specs.Run.{AnswersWords, AskForNothing, Asks, EndsWith, Gained, GainedPart, IsEnding, IsForeign, IsReply, IsStopped, LineFails, ReadFailed, ReadsWell, TextFails, answering};
 ghost use Rattle.boundsyn_top.specs.Takes.{first_file};

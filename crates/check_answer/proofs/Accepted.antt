@@ -20,7 +20,7 @@ use Rattle.annotation_encode.specs.Laws.{HasNoAccepted}
 use Rattle.aiger_text.proofs.Numbers.{both}
 use Rattle.refutation_log.specs.Log.{is_ended}
 use Rattle.dual_search.specs.Sides.{AcceptsWhere}
-use Rattle.tlsf_expand.specs.TextSeen.{FlatText, spec_seen}
+use Rattle.tlsf_expand.specs.FlatText.{FlatText, spec_seen}
 use Rattle.spec_problems.specs.declared.sides.SideProblems.{SideProblems}
 use Rattle.spec_problems.specs.declared.texts.TextProblems.{TextProblems}
 use Rattle.satisfaction.specs.Satisfaction.{EachCanLose}

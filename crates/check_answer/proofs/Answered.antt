@@ -1,10 +1,10 @@
 -- From a reply to the answer.
 use Rattle.std.proofs.Common.{◌≡◌, ℕ, List, Some, refl, ap, subst}
 use Rattle.letter_word.specs.declared.kinds.Kind.TheVariants.{Mealy}
-use Rattle.tlsf_tokens.specs.declared.code.SpecCode.{SpecCode}
-use Rattle.tlsf_tokens.specs.declared.code.SpecFault.{SpecFault}
-use Rattle.tlsf_tokens.specs.declared.code.SpecFault.TheVariants.{At, NoMemory}
-use Rattle.tlsf_expand.specs.TextSeen.{spec_seen}
+use Rattle.spec_faults.specs.declared.code.SpecCode.{SpecCode}
+use Rattle.spec_faults.specs.declared.code.SpecFault.{SpecFault}
+use Rattle.spec_faults.specs.declared.code.SpecFault.TheVariants.{At, NoMemory}
+use Rattle.tlsf_expand.specs.FlatText.{spec_seen}
 use Rattle.spec_problems.specs.declared.texts.TextProblems.{TextProblems}
 use Rattle.spec_problems.specs.OfText.{IsFirstFault}
 use Rattle.cert_text.specs.declared.documents.DocumentFault.{DocumentFault}

@@ -1,7 +1,7 @@
 -- A text and a certificate have one answer.
 use Rattle.std.proofs.Common.{◌≡◌, ℕ, ◌⊎◌, inl, inr, List, Some, sym, ap, ◌∙◌}
 use Rattle.letter_word.specs.declared.kinds.Kind.TheVariants.{Mealy}
-use Rattle.tlsf_tokens.specs.declared.code.SpecCode.{SpecCode}
+use Rattle.spec_faults.specs.declared.code.SpecCode.{SpecCode}
 use Rattle.spec_problems.specs.Laws.{ProblemsOfTextsAreDetermined}
 use Rattle.spec_problems.specs.OfText.{IsFirstFault}
 use Rattle.cert_text.specs.Laws.{DocumentsAreDetermined}

@@ -27,7 +27,7 @@ use Rattle.document_check.proofs.LogsLineLemmas.{fails_at, goes_on, without_prob
 use Rattle.document_check.proofs.ProblemLemmas.{allowed_is}
 use Rattle.spec_problems.specs.declared.sides.SideProblems.{SideProblems}
 use Rattle.spec_problems.specs.Laws.{AreSameProblems, IsSameIfAny, IsSameProblem}
-use Rattle.tlsf_expand.specs.TextSeen.{FlatText}
+use Rattle.tlsf_expand.specs.FlatText.{FlatText}
 use Rattle.synth_answer.specs.Printed.{given_by}
 
 environment_at : (kind : Kind) (version size : ℕ) (e f : Option Problem) → IsProblemAt f e

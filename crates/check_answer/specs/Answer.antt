@@ -5,8 +5,8 @@ use Rattle.letter_word.specs.declared.kinds.Kind.TheVariants.{Mealy, Moore}
 use Rattle.letter_word.specs.declared.kinds.Side.{Side}
 use Rattle.letter_word.specs.declared.kinds.Side.TheVariants.{System, Environment}
 use Rattle.refutation_log.specs.Log.{is_ended}
-use Rattle.tlsf_tokens.specs.declared.code.SpecCode.{SpecCode}
-use Rattle.tlsf_expand.specs.TextSeen.{FlatText}
+use Rattle.spec_faults.specs.declared.code.SpecCode.{SpecCode}
+use Rattle.tlsf_expand.specs.FlatText.{FlatText}
 use Rattle.spec_problems.specs.declared.sides.SideProblems.{SideProblems}
 use Rattle.spec_problems.specs.OfText.{AreProblemsOf, IsFirstFault}
 use Rattle.satisfaction.specs.Wanted.{Wanted}

@@ -1,7 +1,7 @@
 -- Laws of the answers of `check` (this project's own).
 use Rattle.std.specs.Prelude.{◌≡◌, ℕ, ◌⊎◌, List, Some}
 use Rattle.letter_word.specs.declared.kinds.Kind.TheVariants.{Mealy}
-use Rattle.tlsf_tokens.specs.declared.code.SpecCode.{SpecCode}
+use Rattle.spec_faults.specs.declared.code.SpecCode.{SpecCode}
 use Rattle.spec_problems.specs.OfText.{IsFirstFault}
 use Rattle.cert_text.specs.Parts.{Document}
 use Rattle.cert_text.specs.States.{States}

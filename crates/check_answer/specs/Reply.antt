@@ -3,7 +3,7 @@ use Rattle.std.specs.Prelude.{◌≡◌, ℕ, List, Some}
 use Rattle.letter_word.specs.declared.kinds.Kind.{Kind}
 use Rattle.letter_word.specs.declared.kinds.Kind.TheVariants.{Mealy}
 use Rattle.ltl_formula.specs.Nodes.{tree_at}
-use Rattle.tlsf_expand.specs.TextSeen.{spec_seen}
+use Rattle.tlsf_expand.specs.FlatText.{spec_seen}
 use Rattle.spec_problems.specs.declared.texts.TextProblems.{TextProblems}
 use Rattle.spec_problems.specs.OfFormula.{AcceptBySide, AreProblems}
 use Rattle.spec_problems.specs.OfText.{AreProblemsOf, SaysWhat}

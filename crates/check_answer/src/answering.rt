@@ -2,7 +2,7 @@
 ghost use Rattle.std.specs.Prelude.{◌≡◌, ℕ, List, IfOk};
 ghost use Rattle.machine_model.specs.Automaton.{IsAutomaton};
 ghost use Rattle.machine_model.specs.Problem.{automaton_of};
-ghost use Rattle.tlsf_expand.specs.TextSeen.{spec_seen};
+ghost use Rattle.tlsf_expand.specs.FlatText.{spec_seen};
 ghost use Rattle.spec_problems.specs.OfFormula.{AreProblems};
 ghost use Rattle.document_check.specs.Shown.{facts_of as facts_seen};
 ghost use Rattle.program_replies.specs.Statuses.{status_number};
@@ -18,11 +18,11 @@ use document_check::{TextFacts, check_document};
 use letter_word::Kind;
 use machine_model::Problem;
 use program_replies::{Reply, refused, refused_at_line};
+use spec_faults::SpecFault;
 use spec_problems::{SideProblems, TextProblems, text_problems};
 use std::alloc::{AllocError, Global};
 use std::thread::Threads;
 use synth_answer::laws_hold;
-use tlsf_tokens::SpecFault;
 
 /// What is known of a text before a certificate is taken.
 #[derive(Drop)]

@@ -22,7 +22,7 @@ use Rattle.cobuchi_build.specs.Built.{IsAutomatonOf, IsFinished, IsTooLarge, Pas
 use Rattle.cobuchi_build.specs.Explored.{Explored, expanding, explored, meeting, next_round, start_of, state_after}
 use Rattle.cobuchi_build.specs.Occurring.{is_until, marked_down, occurring, parts_of, untils_of, with_parts}
 use Rattle.cobuchi_build.specs.Sizes.{HasRoom, HasTooMany}
-use Rattle.cobuchi_build.proofs.Growth.{IsMore-at, IsMore-before, IsMore-length}
+use Rattle.cobuchi_build.proofs.Growth.{IsPrefix-at, IsPrefix-before, IsPrefix-length}
 use Rattle.cobuchi_build.proofs.Rounds.{GrowsTo, GrowsTo-refl, closed_upto, explored_upto, fold_grows}
 use Rattle.cobuchi_build.proofs.Sound.{FromCover, IsGood, IsSound, contains_at, explored_sound}
 
@@ -73,7 +73,7 @@ module _ (ns : List Node) (list : IsNodeList ns) (f : FormulaId) (stands : Stand
       leaves = λ q s less there.
           let grown : GrowsTo found new = subst (λ (x : Explored). GrowsTo found x) (sym goes) (fold_grows untils number state.counter found covers) in
           let within : number < length found.states = slice_get_within found.states number state at in
-          let before : slice_get found.states q ≡ Some s = IsMore-before found.states new.states q s grown.states (omega arith) there in
+          let before : slice_get found.states q ≡ Some s = IsPrefix-before found.states new.states q s grown.states (omega arith) there in
           elim (cases_eq q number) [
             | inl same ↦
                 let here : Some s ≡ Some state = sym before ∙ ap (slice_get found.states) same ∙ at in
@@ -125,10 +125,10 @@ module _ (ns : List Node) (list : IsNodeList ns) (f : FormulaId) (stands : Stand
     within_limits passes = refuse (explored ns (untils_of ns f) f passes.rounds) (all_met passes.rounds) passes.passes
       where
         refuse : (x : Explored) → GrowsTo x found → IsTooLarge ns x → ⊥
-        refuse x g (inl (inl many)) = let r : length found.states ≤ 2000 = along.room.states in omega (arith, IsMore-length x.states found.states g.states)
-        refuse x g (inl (inr many)) = let r : length found.edges ≤ 200000 = along.room.edges in omega (arith, IsMore-length x.edges found.edges g.edges)
+        refuse x g (inl (inl many)) = let r : length found.states ≤ 2000 = along.room.states in omega (arith, IsPrefix-length x.states found.states g.states)
+        refuse x g (inl (inr many)) = let r : length found.edges ≤ 200000 = along.room.edges in omega (arith, IsPrefix-length x.edges found.edges g.edges)
         refuse x g (inr (k, s, within, at, many)) =
-            let there : slice_get found.states k ≡ Some s = IsMore-at x.states found.states k s g.states (slice_get_read x.states (length x.states) k s refl within (sym at)) in
+            let there : slice_get found.states k ≡ Some s = IsPrefix-at x.states found.states k s g.states (slice_get_read x.states (length x.states) k s refl within (sym at)) in
             let inside : k < length found.states = slice_get_within found.states k s there in
             let few : length (set_leaves ns s.set) ≤ 100000 = along.leaves k s (omega (arith, left_none)) there in
             omega arith

@@ -5,46 +5,42 @@ use Rattle.std.proofs.lemmas.Bool.{cases_Bool, cond-true, cond-false, false≢tr
 use Rattle.std.proofs.lemmas.List.{append-nil, append_assoc, length-append}
 use Rattle.std.proofs.lemmas.List.Elements.{Contains-append_left}
 use Rattle.std.proofs.lemmas.Option.{slice_get-get_or}
+use Rattle.text_base.specs.Prefix.{IsPrefix}
 use Rattle.indexmap.specs.IndexSet.{insert_key}
 
--- the list has grown at its end
-pub record IsMore {X : Type 0} (old new : List X) : Type 0 where
-  pub more : List X
-  pub appended : new ≡ old ++ more
+pub IsPrefix-refl : {X : Type 0} (xs : List X) → IsPrefix xs xs
+IsPrefix-refl xs = ([], sym (append-nil xs))
 
-pub IsMore-refl : {X : Type 0} (xs : List X) → IsMore xs xs
-IsMore-refl xs = record { more = []; appended = sym (append-nil xs) }
+pub IsPrefix-trans : {X : Type 0} (xs ys zs : List X) → IsPrefix xs ys → IsPrefix ys zs → IsPrefix xs zs
+IsPrefix-trans xs ys zs a b = (a.0 ++ b.0, b.1 ∙ ap (λ l. l ++ b.0) a.1 ∙ append_assoc xs a.0 b.0)
 
-pub IsMore-trans : {X : Type 0} (xs ys zs : List X) → IsMore xs ys → IsMore ys zs → IsMore xs zs
-IsMore-trans xs ys zs a b = record { more = a.more ++ b.more; appended = b.appended ∙ ap (λ l. l ++ b.more) a.appended ∙ append_assoc xs a.more b.more }
+pub IsPrefix-length : {X : Type 0} (xs ys : List X) → IsPrefix xs ys → length xs ≤ length ys
+IsPrefix-length xs ys a = let e : length ys ≡ length (xs ++ a.0) = ap length a.1 in omega (arith, length-append xs a.0)
 
-pub IsMore-length : {X : Type 0} (xs ys : List X) → IsMore xs ys → length xs ≤ length ys
-IsMore-length xs ys a = let e : length ys ≡ length (xs ++ a.more) = ap length a.appended in omega (arith, length-append xs a.more)
-
-pub IsMore-contains : {X : Type 0} (xs ys : List X) (x : X) → IsMore xs ys → Contains xs x → Contains ys x
-IsMore-contains xs ys x a c = subst (λ l. Contains l x) (sym a.appended) (Contains-append_left xs a.more x c)
+pub IsPrefix-contains : {X : Type 0} (xs ys : List X) (x : X) → IsPrefix xs ys → Contains xs x → Contains ys x
+IsPrefix-contains xs ys x a c = subst (λ l. Contains l x) (sym a.1) (Contains-append_left xs a.0 x c)
 
 kept_at : {X : Type 0} (xs more : List X) (k : ℕ) (x : X) → slice_get xs k ≡ Some x → slice_get (xs ++ more) k ≡ Some x
 kept_at [] more k x h = absurd (let contra : ⊥ = cc in contra)
 kept_at (y ∷ xs) more zero x h = h
 kept_at (y ∷ xs) more (suc k) x h = kept_at xs more k x h
 
-pub IsMore-at : {X : Type 0} (xs ys : List X) (k : ℕ) (x : X) → IsMore xs ys → slice_get xs k ≡ Some x → slice_get ys k ≡ Some x
-IsMore-at xs ys k x a h = subst (λ l. slice_get l k ≡ Some x) (sym a.appended) (kept_at xs a.more k x h)
+pub IsPrefix-at : {X : Type 0} (xs ys : List X) (k : ℕ) (x : X) → IsPrefix xs ys → slice_get xs k ≡ Some x → slice_get ys k ≡ Some x
+IsPrefix-at xs ys k x a h = subst (λ l. slice_get l k ≡ Some x) (sym a.1) (kept_at xs a.0 k x h)
 
 -- what stands at a place that was there stood there before
-pub IsMore-before : {X : Type 0} (xs ys : List X) (k : ℕ) (x : X) → IsMore xs ys → k < length xs → slice_get ys k ≡ Some x → slice_get xs k ≡ Some x
-IsMore-before xs ys k x a h at =
+pub IsPrefix-before : {X : Type 0} (xs ys : List X) (k : ℕ) (x : X) → IsPrefix xs ys → k < length xs → slice_get ys k ≡ Some x → slice_get xs k ≡ Some x
+IsPrefix-before xs ys k x a h at =
     let old : slice_get xs k ≡ Some (get_or xs k x) = slice_get-get_or xs k x h in
-    let same : Some x ≡ Some (get_or xs k x) = sym at ∙ IsMore-at xs ys k (get_or xs k x) a old in
+    let same : Some x ≡ Some (get_or xs k x) = sym at ∙ IsPrefix-at xs ys k (get_or xs k x) a old in
     old ∙ sym same
 
 module _ {X : Type 0} (eq : X → X → Bool) where
-  pub insert_key-more : (ks : List X) (k : X) → IsMore ks (insert_key eq ks k)
+  pub insert_key-more : (ks : List X) (k : X) → IsPrefix ks (insert_key eq ks k)
   insert_key-more ks k =
       elim (cases_Bool (list_any (eq k) ks)) [
-        | inl old ↦ record { more = []; appended = cond-true (list_any (eq k) ks) ks (ks ++ k ∷ []) old ∙ sym (append-nil ks) }
-        | inr fresh ↦ record { more = k ∷ []; appended = cond-false (list_any (eq k) ks) ks (ks ++ k ∷ []) fresh }
+        | inl old ↦ ([], cond-true (list_any (eq k) ks) ks (ks ++ k ∷ []) old ∙ sym (append-nil ks))
+        | inr fresh ↦ (k ∷ [], cond-false (list_any (eq k) ks) ks (ks ++ k ∷ []) fresh)
       ]
 
 -- the first that passes

@@ -19,7 +19,7 @@ use Rattle.cobuchi_build.specs.declared.exploring.State.{State}
 use Rattle.cobuchi_build.specs.Explored.{Explored, meeting, same_edge, same_state, state_after}
 use Rattle.cobuchi_build.specs.Occurring.{marked_down, with_parts}
 use Rattle.cobuchi_build.specs.Sizes.{HasTooMany}
-use Rattle.cobuchi_build.proofs.Growth.{IsMore-length}
+use Rattle.cobuchi_build.proofs.Growth.{IsPrefix-length}
 use Rattle.cobuchi_build.proofs.Rounds.{GrowsTo, fold_grows}
 
 pub same_explored : (a b : Explored) → a.states ≡ b.states → a.edges ≡ b.edges → a ≡ b
@@ -40,8 +40,8 @@ module _ (untils : List FormulaId) (number counter : ℕ) where
       after ∙ (λ j. meeting untils number counter (before j) (is j)) ∙ sym (fold_more (meeting untils number counter) found cs i c h)
 
   too_many-grown : (a b : Explored) → GrowsTo a b → HasTooMany a → HasTooMany b
-  too_many-grown a b g (inl h) = inl (omega (arith, IsMore-length a.states b.states g.states))
-  too_many-grown a b g (inr h) = inr (omega (arith, IsMore-length a.edges b.edges g.edges))
+  too_many-grown a b g (inl h) = inl (omega (arith, IsPrefix-length a.states b.states g.states))
+  too_many-grown a b g (inr h) = inr (omega (arith, IsPrefix-length a.edges b.edges g.edges))
 
   -- what is too large after some covers is too large after all
   pub too_many-all : (found now : Explored) (cs : List Cover) (i : ℕ) (c : Cover) → i < length cs → c ≡ get_or cs i c → now ≡ fold (meeting untils number counter) found (take i cs) → HasTooMany (meeting untils number counter now c) → HasTooMany (fold (meeting untils number counter) found cs)

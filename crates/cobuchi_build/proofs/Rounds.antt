@@ -11,18 +11,19 @@ use Rattle.cobuchi_build.specs.Built.{IsFinished, automaton_from}
 use Rattle.cobuchi_build.specs.Explored.{Explored, expanding, explored, meeting, next_round, same_edge, same_state}
 use Rattle.cobuchi_build.specs.Laws.{OneAutomatonPerFormula}
 use Rattle.cobuchi_build.specs.Occurring.{untils_of}
-use Rattle.cobuchi_build.proofs.Growth.{IsMore, IsMore-refl, IsMore-trans, insert_key-more}
+use Rattle.text_base.specs.Prefix.{IsPrefix}
+use Rattle.cobuchi_build.proofs.Growth.{IsPrefix-refl, IsPrefix-trans, insert_key-more}
 
 -- what was found has grown
 pub record GrowsTo (old new : Explored) : Type 0 where
-  pub states : IsMore old.states new.states
-  pub edges : IsMore old.edges new.edges
+  pub states : IsPrefix old.states new.states
+  pub edges : IsPrefix old.edges new.edges
 
 pub GrowsTo-refl : (a : Explored) → GrowsTo a a
-GrowsTo-refl a = record { states = IsMore-refl a.states; edges = IsMore-refl a.edges }
+GrowsTo-refl a = record { states = IsPrefix-refl a.states; edges = IsPrefix-refl a.edges }
 
 pub GrowsTo-trans : (a b c : Explored) → GrowsTo a b → GrowsTo b c → GrowsTo a c
-GrowsTo-trans a b c g h = record { states = IsMore-trans a.states b.states c.states g.states h.states; edges = IsMore-trans a.edges b.edges c.edges g.edges h.edges }
+GrowsTo-trans a b c g h = record { states = IsPrefix-trans a.states b.states c.states g.states h.states; edges = IsPrefix-trans a.edges b.edges c.edges g.edges h.edges }
 
 module _ (untils : List FormulaId) (number counter : ℕ) where
   pub meeting_grows : (found : Explored) (c : Cover) → GrowsTo found (meeting untils number counter found c)

@@ -20,7 +20,7 @@ use Rattle.obligation_sets.proofs.NextStep.{All-from_contains}
 use Rattle.machine_model.specs.declared.automata.Edge.{Edge}
 use Rattle.cobuchi_build.specs.declared.exploring.State.{State}
 use Rattle.cobuchi_build.specs.Explored.{Explored, counter_after, expanding, explored, is_postponed, meeting, same_edge, same_state, start_of, state_after}
-use Rattle.cobuchi_build.proofs.Growth.{IsMore-at, IsMore-before, IsMore-contains, insert_key-at}
+use Rattle.cobuchi_build.proofs.Growth.{IsPrefix-at, IsPrefix-before, IsPrefix-contains, insert_key-at}
 use Rattle.obligation_sets.proofs.Kept.{next_normal}
 use Rattle.cobuchi_build.proofs.Rounds.{GrowsTo, fold_grows}
 
@@ -94,18 +94,18 @@ module _ (ns : List Node) (untils : List FormulaId) where
   FromCover-grown : (a b : Explored) (e : Edge) → GrowsTo a b → FromCover a e → FromCover b e
   FromCover-grown a b e g h = record {
     state = h.state;
-    at = IsMore-at a.states b.states e.from h.state g.states h.at;
+    at = IsPrefix-at a.states b.states e.from h.state g.states h.at;
     cover = h.cover;
     is_cover = h.is_cover;
     cube = h.cube;
-    target = IsMore-at a.states b.states e.to (state_after untils h.state.counter h.cover) g.states h.target;
+    target = IsPrefix-at a.states b.states e.to (state_after untils h.state.counter h.cover) g.states h.target;
   }
 
   HasCover-grown : (a b : Explored) (number counter : ℕ) (c : Cover) → GrowsTo a b → HasCover a number counter c → HasCover b number counter c
   HasCover-grown a b number counter c g h = record {
     to = h.to;
-    target = IsMore-at a.states b.states h.to (state_after untils counter c) g.states h.target;
-    edge = IsMore-contains a.edges b.edges (record { from = number; cube = c.cube; to = h.to }) g.edges h.edge;
+    target = IsPrefix-at a.states b.states h.to (state_after untils counter c) g.states h.target;
+    edge = IsPrefix-contains a.edges b.edges (record { from = number; cube = c.cube; to = h.to }) g.edges h.edge;
   }
 
   module _ (number counter : ℕ) where
@@ -153,7 +153,7 @@ module _ (ns : List Node) (untils : List FormulaId) where
                   among = Contains-here c cs;
                   from = refl;
                   cube = refl;
-                  target = IsMore-at (met found c).states (fold met (met found c) cs).states (position_or_len (same_state (target_of c)) found.states) (target_of c) grown.states (target_at found c);
+                  target = IsPrefix-at (met found c).states (fold met (met found c) cs).states (position_or_len (same_state (target_of c)) found.states) (target_of c) grown.states (target_at found c);
                 }))
           ]
         ]
@@ -209,13 +209,13 @@ module _ (ns : List Node) (untils : List FormulaId) where
         let grown : GrowsTo found new = fold_grows untils n state.counter found (covers_of ns state.set) in
         let good : IsGood state = All-at n state is sound.good in
         record {
-          start = IsMore-at found.states new.states 0 (start_of f) grown.states sound.start;
+          start = IsPrefix-at found.states new.states 0 (start_of f) grown.states sound.start;
           edges = λ e h.
               elim (fold_edges n state.counter found (covers_of ns state.set) e h) [
                 | inl old ↦ FromCover-grown found new e grown (sound.edges e old)
                 | inr made ↦ record {
                   state = state;
-                  at = ap (slice_get new.states) made.from ∙ IsMore-at found.states new.states n state grown.states is;
+                  at = ap (slice_get new.states) made.from ∙ IsPrefix-at found.states new.states n state grown.states is;
                   cover = made.cover;
                   is_cover = made.among;
                   cube = made.cube;
@@ -225,7 +225,7 @@ module _ (ns : List Node) (untils : List FormulaId) where
           covers = λ q s h at c there.
               elim (cases_eq q n) [
                 | inl same ↦
-                    let here : Some s ≡ Some state = sym at ∙ ap (slice_get new.states) same ∙ IsMore-at found.states new.states n state grown.states is in
+                    let here : Some s ≡ Some state = sym at ∙ ap (slice_get new.states) same ∙ IsPrefix-at found.states new.states n state grown.states is in
                     let is_state : s ≡ state = cc in
                     subst (λ (k : ℕ). HasCover new k s.counter c) (sym same)
                     (subst (λ (t : State). HasCover new n t.counter c) (sym is_state)
@@ -243,7 +243,7 @@ module _ (ns : List Node) (untils : List FormulaId) where
             let grown : GrowsTo found (fold (meeting untils n state.counter) found (covers_of ns state.set)) = fold_grows untils n state.counter found (covers_of ns state.set) in
             let within : n < length found.states = slice_get_within found.states n state is in
             HasCover-grown found (fold (meeting untils n state.counter) found (covers_of ns state.set)) q s.counter c grown
-            (sound.covers q s less (IsMore-before found.states _ q s grown.states (omega arith) at) c there)
+            (sound.covers q s less (IsPrefix-before found.states _ q s grown.states (omega arith) at) c there)
 
     -- all that is ever met is sound
     pub explored_sound : AreNormal ns (f ∷ []) → (n : ℕ) → IsSound f n (explored ns untils f n)

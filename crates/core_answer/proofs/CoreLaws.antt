@@ -1,19 +1,19 @@
 -- Faults are determined, and what is told can't be met.
-use Rattle.std.proofs.Common.{◌≡◌, ℕ, Bool, true, false, List, Option, Some, refl, sym, ap, subst, ◌∙◌}
+use Rattle.std.proofs.Common.{◌≡◌, ℕ, Bool, true, false, List, Option, refl, sym, ◌∙◌}
 use Rattle.letter_word.specs.declared.kinds.Kind.{Kind}
 use Rattle.letter_word.specs.declared.kinds.Side.{Side}
 use Rattle.letter_word.specs.declared.kinds.Side.TheVariants.{System, Environment}
 use Rattle.machine_model.specs.Machine.{MachineModel}
 use Rattle.aiger_text.specs.Circuit.{Circuit}
-use Rattle.tlsf_tokens.specs.declared.code.SpecCode.{SpecCode}
+use Rattle.spec_faults.specs.declared.code.SpecCode.{SpecCode}
 use Rattle.satisfaction.specs.Satisfaction.{CircuitDefeats, Satisfies}
 use Rattle.satisfaction.specs.Wanted.{Wanted}
 use Rattle.spec_problems.proofs.OneAnswer.{texts_are_determined}
 use Rattle.synth_engine.specs.declared.settings.Settings.{Settings}
-use Rattle.synth_answer.specs.Answer.{AnswersFor, DoesItsPart, IsAnswerFor, bounded, defeats, is_environment, no_entries, no_size, realizable, refused, unrealizable}
+use Rattle.synth_answer.specs.Answer.{AnswersFor, DoesItsPart, bounded, defeats, is_environment, no_entries, no_size, realizable, refused, unrealizable}
 use Rattle.synth_answer.specs.Ground.{Ground}
-use Rattle.core_answer.specs.Core.{IsCore, IsCoreFault, of_text, too_many}
-use Rattle.core_answer.specs.Laws.{CannotBeMet, CoreFaultsAreDetermined, CoresCannotBeMet}
+use Rattle.core_answer.specs.Core.{IsCoreFault, of_text, too_many}
+use Rattle.core_answer.specs.Laws.{CoreFaultsAreDetermined, CoresCannotBeMet}
 use Rattle.core_answer.specs.Over.{IsFaultOver, IsGroundOver}
 
 one_core_fault : (text : List ℕ) (kind : Option Kind) (code code' : SpecCode) (place place' : ℕ) → IsCoreFault text kind code place → IsCoreFault text kind code' place' → (code ≡ code') × (place ≡ place')

@@ -1,14 +1,14 @@
 -- The normal forms are added to a list of formulas.
-use Rattle.std.proofs.Common.{◌≡◌, Bool, true, false, List, Option, Some, refl, sym, ap, subst, ◌∙◌}
+use Rattle.std.proofs.Common.{◌≡◌, true, false, List, sym, ap, subst, ◌∙◌}
 use Rattle.ltl_formula.specs.declared.nodes.FormulaId.{FormulaId}
 use Rattle.ltl_formula.specs.declared.nodes.Node.{Node}
 use Rattle.ltl_formula.specs.declared.nodes.TheConstants.{MAX_SIGNALS}
 use Rattle.ltl_formula.specs.Added.{Built}
-use Rattle.ltl_formula.specs.Nodes.{Grows, IsNodeList, Stands, tree_at}
+use Rattle.ltl_formula.specs.Nodes.{Grows, IsNodeList}
 use Rattle.ltl_formula.specs.Tree.{SignalsBelow, Tree}
-use Rattle.ltl_formula.proofs.Lists.{Grows-trans, signals_are_below}
+use Rattle.ltl_formula.proofs.Lists.{Grows-trans}
 use Rattle.dual_search.specs.BothForms.{AreForms, both_forms}
-use Rattle.ltl_normal.specs.NormalNodes.{form_in, go_on}
+use Rattle.ltl_normal.specs.NormalNodes.{form_in}
 use Rattle.ltl_normal.proofs.Building.{Builds-form_in, go_on-Some}
 
 pub forms_grow : (f : Tree) (old new : List Node) (negated normal : FormulaId) → IsNodeList old → SignalsBelow MAX_SIGNALS f → AreForms f old new negated normal → Grows old new

@@ -5,5 +5,4 @@ pub mod Overs
 pub mod Wholes
 pub mod CoreLaws
 pub mod OtherParts
-pub mod Lists
 pub mod Replies

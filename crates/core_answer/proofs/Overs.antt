@@ -1,28 +1,26 @@
 -- What is told over some of a text's guarantees.
-use Rattle.std.proofs.Common.{◌≡◌, ℕ, Bool, true, false, List, Option, Some, Result, Err, refl, sym, ap, subst, ◌∙◌}
+use Rattle.std.proofs.Common.{◌≡◌, ℕ, Bool, false, List, Option, Some, refl, sym, ap, subst, ◌∙◌}
 use Rattle.letter_word.specs.declared.kinds.Kind.{Kind}
 use Rattle.letter_word.specs.Word.{Word}
 use Rattle.ltl_formula.specs.declared.faults.AddFault.{AddFault}
-use Rattle.ltl_formula.specs.Nodes.{tree_at}
-use Rattle.tlsf_tokens.specs.declared.code.SpecCode.{SpecCode}
-use Rattle.tlsf_tokens.specs.declared.code.SpecCode.TheVariants.{TooManyNodes}
-use Rattle.tlsf_tokens.specs.declared.code.SpecFault.{SpecFault}
+use Rattle.spec_faults.specs.declared.code.SpecCode.{SpecCode}
+use Rattle.spec_faults.specs.declared.code.SpecCode.TheVariants.{TooManyNodes}
+use Rattle.spec_faults.specs.declared.code.SpecFault.{SpecFault}
 use Rattle.tlsf_values.specs.Outcomes.{fails}
 use Rattle.tlsf_expand.specs.Expansion.{Expanded}
 use Rattle.tlsf_expand.specs.Meaning.{by_semantics}
-use Rattle.tlsf_expand.specs.TextSeen.{FlatText}
+use Rattle.tlsf_expand.specs.FlatText.{FlatText}
 use Rattle.flat_text.specs.FlatOf.{IsFlatOf}
-use Rattle.flat_text.specs.Plain.{text_of}
 use Rattle.program_replies.specs.declared.replies.Status.{Status}
 use Rattle.program_replies.specs.Statuses.{status_number}
-use Rattle.spec_problems.specs.OfFormula.{IsFormFault}
 use Rattle.synth_engine.specs.declared.settings.Settings.{Settings}
-use Rattle.synth_answer.specs.Answer.{IsAnswerOn, refused}
+use Rattle.synth_answer.specs.Answer.{refused}
 use Rattle.synth_answer.specs.Ground.{Ground, ground_with}
 use Rattle.synth_answer.proofs.Grounds.{answer_for}
 use Rattle.unreal_core.specs.declared.whole.Reduced.{Reduced}
 use Rattle.unreal_core.specs.Reduced.{kept_sections, reduced, reduced_in}
-use Rattle.unreal_core.specs.Truths.{SaysWhole, truths_of}
+use Rattle.tlsf_expand.specs.Standing.{truths_of}
+use Rattle.unreal_core.specs.Truths.{SaysWhole}
 use Rattle.unreal_core.proofs.CutMeaning.{cut_texts_mean, kept_later}
 use Rattle.core_answer.specs.Core.{IsToldOver}
 use Rattle.core_answer.specs.Known.{IsTextIn}
@@ -55,7 +53,7 @@ module _ (text : List ℕ) (kind : Option Kind) (spec : FlatText) (t : IsTextIn 
       kind_is = ap (λ (x : Expanded). x.kind) t.same;
       tree = t.is_flat.tree;
       read = t.is_flat.read;
-      meaning = λ w. (λ i. by_semantics (t.same i).strict w (truths_of w (same_kept i))) ∙ cut_texts_mean (text_of t.is_flat.tree) kind t.flat keep w t.is_flat.expanded;
+      meaning = λ w. (λ i. by_semantics (t.same i).strict w (truths_of w (same_kept i))) ∙ cut_texts_mean t.is_flat.tree kind t.flat keep w t.is_flat.expanded;
     };
     list = ap reduced_in (sym same_whole) ∙ made;
   }

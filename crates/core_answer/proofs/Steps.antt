@@ -1,8 +1,8 @@
 -- One more guarantee is asked about.
-use Rattle.std.proofs.Common.{◌≡◌, ℕ, suc, ◌+◌, ◌-◌, ◌<◌, ◌≤◌, Bool, true, false, List, [], ◌∷◌, ◌++◌, Option, None, Some, Vec, Global, length, get_or, map, set, replicate, refl, sym, ap, subst, ◌∙◌, arith}
+use Rattle.std.proofs.Common.{◌≡◌, ℕ, ◌+◌, ◌-◌, ◌<◌, ◌≤◌, Bool, true, false, List, [], ◌∷◌, ◌++◌, Option, Some, Vec, Global, length, get_or, map, set, replicate, sym, ap, subst, ◌∙◌, arith}
 use Rattle.std.proofs.lemmas.List.{length-map, length-replicate}
 use Rattle.letter_word.specs.declared.kinds.Kind.{Kind}
-use Rattle.tlsf_expand.specs.TextSeen.{FlatText}
+use Rattle.tlsf_expand.specs.FlatText.{FlatText}
 use Rattle.synth_engine.specs.declared.settings.Settings.{Settings}
 use Rattle.unreal_core.specs.declared.shrink.Standing.{Standing}
 use Rattle.unreal_core.specs.declared.shrink.Standing.TheVariants.{Open, Needed, Dropped}

@@ -4,31 +4,31 @@ use Rattle.std.specs.Prelude.{not}
 use Rattle.letter_word.specs.declared.kinds.Kind.{Kind}
 use Rattle.ltl_formula.proofs.Lists.{signals_are_below}
 use Rattle.std.proofs.lemmas.Result.{IfOk-weaker}
-use Rattle.tlsf_tokens.specs.declared.code.SpecCode.{SpecCode}
-use Rattle.tlsf_tokens.specs.declared.code.SpecCode.TheVariants.{TooManyGuarantees}
-use Rattle.tlsf_tokens.specs.declared.code.SpecFault.{SpecFault}
-use Rattle.tlsf_tokens.specs.declared.code.SpecFault.TheVariants.{At, NoMemory}
+use Rattle.spec_faults.specs.declared.code.SpecCode.{SpecCode}
+use Rattle.spec_faults.specs.declared.code.SpecCode.TheVariants.{TooManyGuarantees}
+use Rattle.spec_faults.specs.declared.code.SpecFault.{SpecFault}
+use Rattle.spec_faults.specs.declared.code.SpecFault.TheVariants.{At, NoMemory}
 use Rattle.program_replies.specs.declared.replies.Reply.{Reply}
 use Rattle.program_replies.specs.declared.replies.Status.{Status}
 use Rattle.program_replies.specs.declared.replies.Status.TheVariants.{Unrealizable}
 use Rattle.program_replies.specs.Statuses.{status_number}
 use Rattle.synth_answer.specs.Reply.{IsRefusal}
 use Rattle.tlsf_expand.specs.Expansion.{Expanded}
-use Rattle.tlsf_expand.specs.TextSeen.{FlatText}
+use Rattle.tlsf_expand.specs.FlatText.{FlatText}
 use Rattle.flat_text.specs.FlatOf.{IsFlatOf}
-use Rattle.flat_text.specs.Plain.{text_of}
 use Rattle.spec_problems.specs.declared.sides.SideProblems.{SideProblems}
 use Rattle.spec_problems.specs.Laws.{ProblemsOfTextsAreDetermined}
 use Rattle.spec_problems.specs.OfText.{IsFirstFault}
 use Rattle.ltl_formula.specs.Nodes.{tree_at}
 use Rattle.synth_engine.specs.declared.settings.Settings.{Settings}
-use Rattle.synth_answer.specs.Answer.{Answers, IsAnswerFor, IsAnswerOn, defeats}
+use Rattle.synth_answer.specs.Answer.{IsAnswerFor, IsAnswerOn}
 use Rattle.synth_answer.specs.Ground.{AreGivenOn, Ground, IsGroundOf}
 use Rattle.synth_answer.proofs.Grounds.{answer_for}
 use Rattle.synth_answer.proofs.Meaning.{flat_by_its_kind, given_on, ground_by_its_kind, is_ground, text_ground}
 use Rattle.unreal_core.specs.WholeLaws.{SectionsOfTextsStand}
-use Rattle.unreal_core.specs.Reduced.{SectionsStand}
-use Rattle.unreal_core.proofs.Texts.{list_of_text, sections_stand_later}
+use Rattle.tlsf_expand.specs.Standing.{SectionsStand}
+use Rattle.tlsf_expand.proofs.Expanded.{sections_stand_later}
+use Rattle.unreal_core.proofs.Texts.{list_of_text}
 use Rattle.core_answer.specs.Core.{CoreAnswers, IsCore, IsCoreFault, IsToldCore, IsToldOver, Tells, core, guarantees_in, of_text, refused, spared, too_many}
 use Rattle.core_answer.specs.Known.{IsTextIn, IsTextWith}
 use Rattle.core_answer.specs.Over.{IsFaultOver, IsGroundOver, over_all}
@@ -43,7 +43,7 @@ module _ (text : List ℕ) (kind : Option Kind) (spec : FlatText) (s : SideProbl
   text_in stand =
       let is = t.are.is_flat in
       let forms = t.are.problems.are_automata.forms in
-      let list = list_of_text (text_of is.tree) kind the_flat is.expanded in
+      let list = list_of_text is.tree kind the_flat is.expanded in
       record {
         flat = the_flat;
         is_flat = is;
@@ -52,7 +52,7 @@ module _ (text : List ℕ) (kind : Option Kind) (spec : FlatText) (s : SideProbl
         grows = forms_grow (tree_at the_flat.formulas the_flat.expanded.whole) the_flat.formulas spec.formulas
             t.are.problems.are_automata.negated t.are.problems.are_automata.normal list
             (signals_are_below the_flat.formulas the_flat.expanded.whole list is.meaning.stands) forms;
-        stand = stand (text_of is.tree) kind the_flat is.expanded;
+        stand = stand is.tree kind the_flat is.expanded;
       }
 
   abbrev pub own_ground : Ground
@@ -121,6 +121,10 @@ pub fault_answers : (text : List ℕ) (kind : Option Kind) (settings : Settings)
     → ((code : SpecCode) (position : ℕ) → fault ≡ At code position → IsFirstFault text kind code position) → IsRefusal fault bytes ended → CoreAnswers text kind settings bytes (status_number ended)
 fault_answers text kind settings (At code position) bytes ended first h = refused code position (ap status_number h.1) (of_text code position (first code position refl)) h.0
 fault_answers text kind settings NoMemory bytes ended first h = absurd h
+
+pub is_not : (b : Bool) → not b ≡ true → b ≡ false
+is_not true h = sym h
+is_not false h = refl
 
 pub not_false : (b : Bool) → not b ≡ false → b ≡ true
 not_false true e = refl

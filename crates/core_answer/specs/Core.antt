@@ -1,15 +1,14 @@
 -- The answers of `core`: guarantees of a text that can't be met together, none of which may be left out (this project's own).
-use Rattle.std.specs.Prelude.{◌≡◌, ◌==◌, ℕ, ◌+◌, ◌-◌, ◌<◌, ◌≤◌, Bool, true, false, List, [], ◌∷◌, ◌++◌, Option, codes, decimal, length, slice_set}
-use Rattle.std.specs.List.{filter}
+use Rattle.std.specs.Prelude.{◌≡◌, ℕ, ◌+◌, ◌-◌, ◌<◌, ◌≤◌, Bool, true, false, List, [], ◌∷◌, ◌++◌, Option, codes, decimal, length, slice_set}
 use Rattle.letter_word.specs.declared.kinds.Kind.{Kind}
-use Rattle.tlsf_tokens.specs.declared.code.SpecCode.{SpecCode}
-use Rattle.tlsf_tokens.specs.declared.code.SpecCode.TheVariants.{TooManyGuarantees}
-use Rattle.tlsf_expand.specs.TextSeen.{FlatText}
+use Rattle.spec_faults.specs.declared.code.SpecCode.{SpecCode}
+use Rattle.spec_faults.specs.declared.code.SpecCode.TheVariants.{TooManyGuarantees}
+use Rattle.tlsf_expand.specs.FlatText.{FlatText}
 use Rattle.flat_text.specs.FlatOf.{IsFlatOf}
 use Rattle.spec_problems.specs.OfText.{IsFirstFault}
 use Rattle.synth_engine.specs.declared.settings.Settings.{Settings}
 use Rattle.synth_answer.specs.Answer.{Answers, IsAnswerFor, defeats}
-use Rattle.program_replies.specs.Lines.{refusal_line}
+use Rattle.program_replies.specs.Lines.{line_count, refusal_line}
 use Rattle.core_answer.specs.Over.{IsFaultOver, IsGroundOver}
 
 -- == which guarantees ==
@@ -32,10 +31,6 @@ abbrev pub without : ℕ → List Bool → List Bool
 without n keep = slice_set keep (n - 1) false
 
 -- == the lines ==
-
--- how many lines bytes are, each of which has its line end
-abbrev pub line_count : List ℕ → ℕ
-line_count bytes = length (filter (λ byte. byte == 10) bytes)
 
 -- a line with a word and a number
 abbrev pub numbered_line : List ℕ → ℕ → List ℕ

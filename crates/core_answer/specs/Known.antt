@@ -1,18 +1,18 @@
 -- What is known of a text while its guarantees are left out one at a time (this project's own).
-use Rattle.std.specs.Prelude.{◌≡◌, ℕ, ◌+◌, Bool, true, false, List, [], ◌∷◌, Option, None, Some, length, map}
+use Rattle.std.specs.Prelude.{◌≡◌, ℕ, ◌+◌, true, List, [], ◌∷◌, Option, Some}
 use Rattle.letter_word.specs.declared.kinds.Kind.{Kind}
 use Rattle.ltl_formula.specs.Nodes.{Grows}
 use Rattle.spec_problems.specs.declared.sides.SideProblems.{SideProblems}
-use Rattle.spec_problems.specs.OfFormula.{AcceptBySide, AreProblems}
+use Rattle.spec_problems.specs.OfFormula.{AcceptBySide}
 use Rattle.spec_problems.specs.OfText.{AreProblemsOf, SaysWhat}
 use Rattle.ltl_formula.specs.Nodes.{tree_at}
-use Rattle.tlsf_expand.specs.TextSeen.{FlatText}
+use Rattle.tlsf_expand.specs.FlatText.{FlatText}
 use Rattle.flat_text.specs.FlatOf.{IsFlatOf}
 use Rattle.synth_engine.specs.declared.settings.Settings.{Settings}
 use Rattle.unreal_core.specs.declared.shrink.Standing.{Standing}
 use Rattle.unreal_core.specs.declared.shrink.Standing.TheVariants.{Open, Needed, Dropped}
 use Rattle.unreal_core.specs.Laws.{kept_in}
-use Rattle.unreal_core.specs.Reduced.{SectionsStand}
+use Rattle.tlsf_expand.specs.Standing.{SectionsStand}
 use Rattle.core_answer.specs.Core.{AreSpared, Tells}
 
 -- a text with its problems

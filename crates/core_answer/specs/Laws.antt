@@ -2,9 +2,8 @@
 use Rattle.std.specs.Prelude.{◌≡◌, ℕ, List, Option}
 use Rattle.letter_word.specs.declared.kinds.Kind.{Kind}
 use Rattle.machine_model.specs.Machine.{MachineModel}
-use Rattle.tlsf_tokens.specs.declared.code.SpecCode.{SpecCode}
+use Rattle.spec_faults.specs.declared.code.SpecCode.{SpecCode}
 use Rattle.satisfaction.specs.Satisfaction.{Satisfies}
-use Rattle.satisfaction.specs.Wanted.{Wanted}
 use Rattle.synth_engine.specs.declared.settings.Settings.{Settings}
 use Rattle.core_answer.specs.Core.{IsCore, IsCoreFault}
 use Rattle.core_answer.specs.Over.{IsGroundOver}

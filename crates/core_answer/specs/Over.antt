@@ -5,15 +5,14 @@ use Rattle.std.specs.List.{list_all}
 use Rattle.letter_word.specs.declared.kinds.Kind.{Kind}
 use Rattle.letter_word.specs.Word.{Word}
 use Rattle.ltl_formula.specs.declared.nodes.FormulaId.{FormulaId}
-use Rattle.tlsf_tokens.specs.declared.code.SpecCode.{SpecCode}
-use Rattle.tlsf_tokens.specs.declared.code.SpecCode.TheVariants.{TooManyNodes}
-use Rattle.tlsf_reader.specs.Spec.{Spec}
+use Rattle.spec_faults.specs.declared.code.SpecCode.{SpecCode}
+use Rattle.spec_faults.specs.declared.code.SpecCode.TheVariants.{TooManyNodes}
+use Rattle.tlsf_syntax.specs.Text.{Text}
 use Rattle.tlsf_reader.specs.Reads.{Reads}
 use Rattle.tlsf_values.specs.Outcomes.{Outcome, fails}
 use Rattle.tlsf_expand.specs.Meaning.{means}
-use Rattle.tlsf_expand.specs.TextSeen.{FlatText}
+use Rattle.tlsf_expand.specs.FlatText.{FlatText}
 use Rattle.flat_text.specs.FlatOf.{IsFlatOf}
-use Rattle.flat_text.specs.Plain.{text_of}
 use Rattle.spec_problems.specs.OfFormula.{IsFormFault}
 use Rattle.spec_problems.specs.OfText.{IsFirstFault}
 use Rattle.satisfaction.specs.Wanted.{Wanted}
@@ -32,9 +31,9 @@ pub record IsWantedWith (text : List ℕ) (keep : List Bool) (kind : Option Kind
   pub inputs : x.inputs ≡ flat.expanded.inputs
   pub outputs : x.outputs ≡ flat.expanded.outputs
   pub kind_is : x.kind ≡ flat.expanded.kind
-  pub tree : Spec
+  pub tree : Text
   pub read : Reads text tree
-  pub meaning : (w : Word) → x.means w ≡ means w (cut keep (text_of tree))
+  pub meaning : (w : Word) → x.means w ≡ means w (cut keep tree)
 
 -- the formula of the whole in the list of its own
 abbrev pub whole_with : List Bool → FlatText → Outcome FormulaId

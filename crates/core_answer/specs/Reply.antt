@@ -4,9 +4,9 @@ use Rattle.letter_word.specs.Word.{Word}
 use Rattle.ltl_formula.specs.declared.faults.AddFault.{AddFault}
 use Rattle.ltl_formula.specs.Nodes.{tree_at}
 use Rattle.tlsf_expand.specs.Expansion.{Expanded}
-use Rattle.tlsf_tokens.specs.declared.code.SpecCode.{SpecCode}
-use Rattle.tlsf_tokens.specs.declared.code.SpecCode.TheVariants.{TooManyNodes}
-use Rattle.tlsf_tokens.specs.declared.code.SpecFault.{SpecFault}
+use Rattle.spec_faults.specs.declared.code.SpecCode.{SpecCode}
+use Rattle.spec_faults.specs.declared.code.SpecCode.TheVariants.{TooManyNodes}
+use Rattle.spec_faults.specs.declared.code.SpecFault.{SpecFault}
 use Rattle.program_replies.specs.declared.replies.Status.{Status}
 use Rattle.program_replies.specs.Statuses.{status_number}
 use Rattle.spec_problems.specs.OfFormula.{IsFormFault}

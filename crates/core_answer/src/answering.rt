@@ -1,22 +1,22 @@
 //! The answer to a text.
-ghost use Rattle.std.specs.Prelude.{◌≡◌, ◌≤◌, ℕ, List, Option, true, false, IfOk, IfSome, length, map, replicate, vec_len};
+ghost use Rattle.std.specs.Prelude.{◌≡◌, ◌≤◌, ℕ, List, Option, true, false, IfOk, IfSome, length, replicate};
 ghost use Rattle.letter_word.specs.declared.kinds.Kind.{Kind as AKind};
 ghost use Rattle.tlsf_expand.specs.FewSignals.{HasFewSignals};
-ghost use Rattle.tlsf_expand.specs.TextSeen.{spec_seen};
+ghost use Rattle.tlsf_expand.specs.FlatText.{spec_seen};
 ghost use Rattle.flat_text.specs.FlatNames.{HasPlainNames};
 ghost use Rattle.program_replies.specs.declared.replies.Status.TheVariants as ended;
 ghost use Rattle.program_replies.specs.Statuses.{status_number};
 ghost use Rattle.synth_answer.specs.Reply.{AreProblemsFor, IsRefusal};
-ghost use Rattle.unreal_core.specs.Reduced.{SectionsStand};
+ghost use Rattle.tlsf_expand.specs.Standing.{SectionsStand};
 ghost use Rattle.core_answer.specs.Core.{CoreAnswers, IsToldCore, Tells};
 ghost use Rattle.core_answer.specs.Known.{IsTextIn, IsTextWith};
 
 use crate::lines::core_text;
 use crate::shrinking::{kept, shrunk};
 use letter_word::Kind;
-use ltl_formula::FormulaId;
 use outside_edge::Gate;
 use program_replies::{Reply, Status, refused};
+use spec_faults::{SpecCode, SpecFault};
 use spec_problems::laws::problems_of_texts_are_determined;
 use spec_problems::{TextProblems, text_problems};
 use std::alloc::{AllocError, Global};
@@ -24,8 +24,7 @@ use std::sync::Wait;
 use std::thread::Threads;
 use synth_answer::answer_on;
 use synth_engine::Settings;
-use tlsf_expand::{Section, Spec};
-use tlsf_tokens::{SpecCode, SpecFault};
+use tlsf_expand::Spec;
 use unreal_core::laws::sections_of_texts_stand;
 
 /// The most guarantees that are searched.
@@ -81,7 +80,6 @@ fn text_answer<R: Threads + Wait + Sync, G: Gate + Sync>(
     requires entries { IfSome settings.entries (λ most. most ≤ 250000) }
     requires workers { settings.workers ≤ 8 }
     requires problems { AreProblemsFor (spec_seen found.spec).expanded found.problems }
-    requires six { vec_len found.spec.sections ≡ 6 }
     requires stand { SectionsStand (spec_seen found.spec).formulas (spec_seen found.spec).expanded.sections }
     requires few { HasFewSignals (length found.spec.inputs.items) (length found.spec.outputs.items) found.spec.formulas }
     requires names { HasPlainNames (spec_seen found.spec).expanded }
@@ -126,7 +124,6 @@ fn core_of<R: Threads + Wait + Sync, G: Gate + Sync>(
     requires workers { settings.workers ≤ 8 }
     requires count { count ≡ length (spec_seen spec.now).expanded.sections.guarantee }
     requires most { count ≤ 64 }
-    requires six { vec_len spec.now.sections ≡ 6 }
     requires stand { SectionsStand (spec_seen spec.now).formulas (spec_seen spec.now).expanded.sections }
     requires few { HasFewSignals (length spec.now.inputs.items) (length spec.now.outputs.items) spec.now.formulas }
     requires names { HasPlainNames (spec_seen spec.now).expanded }
@@ -134,8 +131,7 @@ fn core_of<R: Threads + Wait + Sync, G: Gate + Sync>(
     ensures told { (text : List ℕ) (kind : Option AKind) → IsTextIn text kind (spec_seen spec.now) → Tells text (replicate count true) kind settings true whole.items
         → IfOk result (λ r. IsToldCore text kind settings count r.bytes.items) }
 {
-    let sections = section_ids(alloc, &spec.sections)?;
-    let core = shrunk(rt, alloc, spec, &sections, count, whole, settings, gate)?;
+    let core = shrunk(rt, alloc, spec, count, whole, settings, gate)?;
     let keep = kept(alloc, &core.shrink, count)?;
     Ok(Reply {
         bytes: core_text(alloc, &keep, &core.document, &core.others)?,
@@ -146,19 +142,5 @@ fn core_of<R: Threads + Wait + Sync, G: Gate + Sync>(
 fn guarantee_count(spec: &Spec) -> usize
     ensures { result ≡ length (spec_seen spec.now).expanded.sections.guarantee }
 {
-    match spec.sections.get(5) {
-        Some(section) => section.formulas().len(),
-        None => 0,
-    }
-}
-
-// The formulas of the sections, as lists that the caller may make.
-fn section_ids(alloc: Global, sections: &[Section]) -> Result<Vec<Vec<FormulaId>>, AllocError>
-    ensures { IfOk result (λ lists. map (λ s. s.items) lists.items ≡ sections.now) }
-{
-    let mut lists = Vec::new(alloc);
-    for section in sections {
-        lists.push(Vec::from_slice(alloc, section.formulas())?)?;
-    }
-    Ok(lists)
+    spec.sections.guarantee.len()
 }

@@ -1,7 +1,8 @@
 //! The lines of guarantees that can't be met together.
 ghost use Rattle.std.specs.Prelude.{◌≡◌, ◌++◌, ◌∷◌, [], if◌then◌else◌, IfOk, OnOk, codes, map, slice_index_or};
-ghost use Rattle.core_answer.specs.Core.{core_lines, document_part, guarantee_lines, line_count as lines_in, numbered_line, numbers, without_parts};
+ghost use Rattle.core_answer.specs.Core.{core_lines, document_part, guarantee_lines, numbered_line, numbers, without_parts};
 
+use program_replies::line_count;
 use std::alloc::{AllocError, Global};
 use text_base::push_number;
 
@@ -90,7 +91,7 @@ fn push_other(bytes: &mut Vec<u8>, number: u64, other: &[u8]) -> Result<(), Allo
 fn push_document(bytes: &mut Vec<u8>, document: &[u8]) -> Result<(), AllocError>
     ensures { OnOk result (bytes.new.items ≡ bytes.old.items ++ document_part document.now) }
 {
-    push_line(bytes, b"document", line_count(document))?;
+    push_line(bytes, b"document", line_count(document) as u64)?;
     bytes.extend_from_slice(document)?;
     Ok(())
 }
@@ -104,10 +105,4 @@ fn push_line(bytes: &mut Vec<u8>, word: &[u8], number: u64) -> Result<(), AllocE
     push_number(bytes, number)?;
     bytes.extend_from_slice(b"\n")?;
     Ok(())
-}
-
-fn line_count(bytes: &[u8]) -> u64
-    ensures { result ≡ lines_in bytes.now }
-{
-    bytes.iter().filter(|byte| **byte == b'\n').count() as u64
 }

@@ -1,22 +1,22 @@
 //! A text with some of its guarantees, answered.
-ghost use Rattle.std.specs.Prelude.{◌≡◌, ◌≤◌, ℕ, List, Option, false, IfOk, IfSome, length, map};
+ghost use Rattle.std.specs.Prelude.{◌≡◌, ◌≤◌, ℕ, List, Option, false, IfOk, IfSome, length};
 ghost use Rattle.letter_word.specs.declared.kinds.Kind.{Kind as AKind};
 ghost use Rattle.ltl_formula.specs.Nodes.{Stands};
 ghost use Rattle.tlsf_expand.specs.FewSignals.{HasFewSignals};
-ghost use Rattle.tlsf_expand.specs.Texts.{sections_from};
-ghost use Rattle.tlsf_expand.specs.TextSeen.{spec_seen};
+ghost use Rattle.tlsf_expand.specs.FlatText.{spec_seen};
 ghost use Rattle.flat_text.specs.FlatNames.{HasPlainNames};
 ghost use Rattle.program_replies.specs.Statuses.{status_number};
 ghost use Rattle.spec_problems.specs.OfText.{interface_of};
-ghost use Rattle.unreal_core.specs.Reduced.{SectionsStand};
+ghost use Rattle.tlsf_expand.specs.Standing.{SectionsStand};
 ghost use Rattle.core_answer.specs.Core.{IsToldOver};
 ghost use Rattle.core_answer.specs.Known.{IsTextIn};
 ghost use Rattle.core_answer.specs.Over.{are_all};
 ghost use Rattle.core_answer.specs.Reply.{IsReducedReply, IsRefusedReply, list_fault};
 
-use ltl_formula::{AddFault, FormulaId};
+use ltl_formula::AddFault;
 use outside_edge::Gate;
 use program_replies::refused;
+use spec_faults::{SpecCode, SpecFault};
 use spec_problems::{Interface, problems_of};
 use std::alloc::{AllocError, Global};
 use std::sync::Wait;
@@ -24,15 +24,13 @@ use std::thread::Threads;
 use synth_answer::{Answered, answer_on};
 use synth_engine::Settings;
 use tlsf_expand::Spec;
-use tlsf_tokens::{SpecCode, SpecFault};
 use unreal_core::{Reduced, whole_of};
 
-/// What answers a text with these of its guarantees, which aren't all. The sections are those of the text.
+/// What answers a text with these of its guarantees, which aren't all.
 pub(crate) fn answer_over<R: Threads + Wait + Sync, G: Gate + Sync>(
     rt: &R,
     alloc: Global,
     spec: &Spec,
-    sections: &[Vec<FormulaId>],
     keep: &[bool],
     settings: Settings,
     gate: &G,
@@ -41,8 +39,6 @@ pub(crate) fn answer_over<R: Threads + Wait + Sync, G: Gate + Sync>(
     requires most_size { settings.max ≤ 8 }
     requires entries { IfSome settings.entries (λ most. most ≤ 250000) }
     requires workers { settings.workers ≤ 8 }
-    requires six { length sections.now ≡ 6 }
-    requires sections { sections_from (map (λ s. s.items) sections.now) ≡ (spec_seen spec.now).expanded.sections }
     requires stand { SectionsStand (spec_seen spec.now).formulas (spec_seen spec.now).expanded.sections }
     requires each { length keep.now ≡ length (spec_seen spec.now).expanded.sections.guarantee }
     requires few { HasFewSignals (length spec.now.inputs.items) (length spec.now.outputs.items) spec.now.formulas }
@@ -50,7 +46,7 @@ pub(crate) fn answer_over<R: Threads + Wait + Sync, G: Gate + Sync>(
     ensures { (text : List ℕ) (kind : Option AKind) → IsTextIn text kind (spec_seen spec.now) → are_all keep.now ≡ false
         → IfOk result (λ a. IsToldOver text keep.now kind settings a.reply.bytes.items (status_number a.reply.status) a.defeats) }
 {
-    match whole_of(alloc, &spec.formulas, sections, spec.strict, keep) {
+    match whole_of(alloc, &spec.formulas, &spec.sections, spec.strict, keep) {
         Ok(reduced) => reduced_answer(rt, alloc, spec, reduced, settings, gate),
         Err(fault) => refusal(alloc, list_fault(fault)),
     }

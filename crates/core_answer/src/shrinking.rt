@@ -2,11 +2,10 @@
 ghost use Rattle.std.specs.Prelude.{◌≡◌, ◌<◌, ◌≤◌, ℕ, List, [], None, Option, false, true, IfOk, IfSome, IsSome, OnOk, length, map, replicate, slice_index_or};
 ghost use Rattle.letter_word.specs.declared.kinds.Kind.{Kind as AKind};
 ghost use Rattle.tlsf_expand.specs.FewSignals.{HasFewSignals};
-ghost use Rattle.tlsf_expand.specs.Texts.{sections_from};
-ghost use Rattle.tlsf_expand.specs.TextSeen.{spec_seen};
+ghost use Rattle.tlsf_expand.specs.FlatText.{spec_seen};
 ghost use Rattle.flat_text.specs.FlatNames.{HasPlainNames};
 ghost use Rattle.unreal_core.specs.Laws.{kept_in};
-ghost use Rattle.unreal_core.specs.Reduced.{SectionsStand};
+ghost use Rattle.tlsf_expand.specs.Standing.{SectionsStand};
 ghost use Rattle.unreal_core.specs.Shrink.{asked, told};
 ghost use Rattle.core_answer.specs.Core.{Tells};
 ghost use Rattle.core_answer.specs.Known.{IsShrunk, IsTextIn};
@@ -72,12 +71,11 @@ fn note(
     Ok(())
 }
 
-/// Leaves out guarantees of a text whose whole document defeats, one at a time. The sections are those of the text.
+/// Leaves out guarantees of a text whose whole document defeats, one at a time.
 pub(crate) fn shrunk<R: Threads + Wait + Sync, G: Gate + Sync>(
     rt: &R,
     alloc: Global,
     spec: &Spec,
-    sections: &[Vec<FormulaId>],
     count: u32,
     whole: Vec<u8>,
     settings: Settings,
@@ -87,8 +85,6 @@ pub(crate) fn shrunk<R: Threads + Wait + Sync, G: Gate + Sync>(
     requires most_size { settings.max ≤ 8 }
     requires entries { IfSome settings.entries (λ most. most ≤ 250000) }
     requires workers { settings.workers ≤ 8 }
-    requires six { length sections.now ≡ 6 }
-    requires sections { sections_from (map (λ s. s.items) sections.now) ≡ (spec_seen spec.now).expanded.sections }
     requires stand { SectionsStand (spec_seen spec.now).formulas (spec_seen spec.now).expanded.sections }
     requires count { count ≡ length (spec_seen spec.now).expanded.sections.guarantee }
     requires most { count ≤ 64 }
@@ -107,7 +103,7 @@ pub(crate) fn shrunk<R: Threads + Wait + Sync, G: Gate + Sync>(
     while let Some(number) = core.shrink.ask() {
         let mut keep = kept(alloc, &core.shrink, count)?;
         keep[number as usize - 1] = false;
-        let answered = answer_over(rt, alloc, spec, sections, &keep, settings, gate)?;
+        let answered = answer_over(rt, alloc, spec, &keep, settings, gate)?;
         core.take(answered)?;
     }
     Ok(core)

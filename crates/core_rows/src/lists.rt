@@ -1,39 +1,57 @@
 // Lists of formulas, and the whole over some of their guarantees.
 
-ghost use Rattle.std.specs.Prelude.{◌≡◌, [], All, IsTrue, length, map, slice_index_or};
+ghost use Rattle.std.specs.Prelude.{All, IsTrue};
 ghost use Rattle.ltl_formula.specs.Nodes.{Stands};
-ghost use Rattle.tlsf_expand.specs.Texts.{sections_from};
-ghost use Rattle.unreal_core.specs.Reduced.{SectionsStand};
+ghost use Rattle.tlsf_syntax.specs.Text.{section_lists};
+ghost use Rattle.tlsf_expand.specs.Standing.{SectionsStand};
 
 use ltl_formula::{FormulaId, Formulas, Node};
 use std::alloc::{AllocError, Global};
 use std::io;
+use tlsf_syntax::Sections;
 use unreal_core::{Reduced, whole_of};
+
+const NO_FORMULAS: Sections<&[u32]> = Sections {
+    initially: &[],
+    preset: &[],
+    require: &[],
+    assert: &[],
+    assume: &[],
+    guarantee: &[],
+};
 
 /// A list of formulas with those of its sections.
 #[derive(Drop)]
 struct Listed {
     formulas: Formulas,
-    sections: Vec<Vec<FormulaId>>,
+    sections: Sections<Vec<FormulaId>>,
 }
 
-/// The nodes in this order, and the formulas of six sections by their ids; a node that may not stand is left out.
-fn list_of(alloc: Global, nodes: &[Node], sections: [&[u32]; 6]) -> Result<Listed, AllocError> {
+/// The nodes in this order, and the formulas of the sections by their ids; a node that may not stand is left out.
+fn list_of(
+    alloc: Global,
+    nodes: &[Node],
+    sections: Sections<&[u32]>,
+) -> Result<Listed, AllocError> {
     let mut formulas = Formulas::new(alloc);
     for node in nodes {
         if formulas.can_add(*node) && formulas.add(*node).is_err() {
             return Err(AllocError);
         }
     }
-    let mut lists = Vec::new(alloc);
-    for ids in sections {
-        let list: Vec<FormulaId> = ids.iter().map(|id| FormulaId(*id)).collect(alloc)?;
-        lists.push(list)?;
-    }
-    Ok(Listed {
-        formulas,
-        sections: lists,
-    })
+    let sections = Sections {
+        initially: ids(alloc, sections.initially)?,
+        preset: ids(alloc, sections.preset)?,
+        require: ids(alloc, sections.require)?,
+        assert: ids(alloc, sections.assert)?,
+        assume: ids(alloc, sections.assume)?,
+        guarantee: ids(alloc, sections.guarantee)?,
+    };
+    Ok(Listed { formulas, sections })
+}
+
+fn ids(alloc: Global, numbers: &[u32]) -> Result<Vec<FormulaId>, AllocError> {
+    numbers.iter().map(|id| FormulaId(*id)).collect(alloc)
 }
 
 fn all_stand(formulas: &Formulas, ids: &[FormulaId]) -> bool
@@ -43,24 +61,15 @@ fn all_stand(formulas: &Formulas, ids: &[FormulaId]) -> bool
     ids.iter().all(|id| (id.0 as usize) < count)
 }
 
-fn section(sections: &[Vec<FormulaId>], place: usize) -> &[FormulaId]
-    ensures { result.now ≡ slice_index_or (map (λ s. s.items) sections.now) place [] }
+fn sections_stand(formulas: &Formulas, sections: &Sections<Vec<FormulaId>>) -> bool
+    ensures { IsTrue result → SectionsStand formulas.now (section_lists sections.now) }
 {
-    match sections.get(place) {
-        Some(ids) => ids,
-        None => &[],
-    }
-}
-
-fn sections_stand(formulas: &Formulas, sections: &[Vec<FormulaId>]) -> bool
-    ensures { IsTrue result → SectionsStand formulas.now (sections_from (map (λ s. s.items) sections.now)) }
-{
-    all_stand(formulas, section(sections, 0))
-        && all_stand(formulas, section(sections, 1))
-        && all_stand(formulas, section(sections, 2))
-        && all_stand(formulas, section(sections, 3))
-        && all_stand(formulas, section(sections, 4))
-        && all_stand(formulas, section(sections, 5))
+    all_stand(formulas, &sections.initially)
+        && all_stand(formulas, &sections.preset)
+        && all_stand(formulas, &sections.require)
+        && all_stand(formulas, &sections.assert)
+        && all_stand(formulas, &sections.assume)
+        && all_stand(formulas, &sections.guarantee)
 }
 
 /// What comes of the whole over the guarantees that are kept: the nodes, or only how many there are.
@@ -75,10 +84,7 @@ fn tell<R: Print>(
 ) -> io::Result<()> {
     print!(rt; "{name}:")?;
     let sections = &listed.sections;
-    if sections.len() != 6
-        || keep.len() != section(sections, 5).len()
-        || !sections_stand(&listed.formulas, sections)
-    {
+    if keep.len() != sections.guarantee.len() || !sections_stand(&listed.formulas, sections) {
         return println!(rt; " no sections");
     }
     match whole_of(alloc, &listed.formulas, sections, strict, keep) {
@@ -116,7 +122,11 @@ fn kept_rows_list(alloc: Global) -> Result<Listed, AllocError> {
             Node::Finally(id(0)),
             Node::Globally(id(7)),
         ],
-        [&[], &[], &[], &[], &[8], &[4, 6]],
+        Sections {
+            assume: &[8],
+            guarantee: &[4, 6],
+            ..NO_FORMULAS
+        },
     )
 }
 
@@ -174,7 +184,10 @@ fn chain(alloc: Global, nexts: u32) -> Result<Listed, AllocError> {
             Node::Implies(id(3), id(3)),
             Node::And(id(0), id(4)),
         ],
-        [&[], &[0], &[], &[], &[], &[]],
+        Sections {
+            preset: &[0],
+            ..NO_FORMULAS
+        },
     )?;
     let mut last = id(5);
     for _ in 0..nexts {
@@ -186,9 +199,7 @@ fn chain(alloc: Global, nexts: u32) -> Result<Listed, AllocError> {
             }
         }
     }
-    if let Some(first) = list.sections.get_mut(0) {
-        first.push(last)?;
-    }
+    list.sections.initially.push(last)?;
     Ok(list)
 }
 

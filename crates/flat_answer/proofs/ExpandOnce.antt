@@ -1,7 +1,7 @@
 -- A text has one answer to `expand`.
 use Rattle.std.proofs.Common.{◌≡◌, ℕ, List, [], ◌∷◌, None, Contains, sym, ap, ◌∙◌, arith}
-use Rattle.tlsf_tokens.specs.declared.code.SpecCode.{SpecCode}
-use Rattle.tlsf_expand.specs.TextSeen.{FlatText}
+use Rattle.spec_faults.specs.declared.code.SpecCode.{SpecCode}
+use Rattle.tlsf_expand.specs.FlatText.{FlatText}
 use Rattle.flat_text.specs.FlatOf.{IsFlatFault, IsFlatOf}
 use Rattle.flat_text.specs.Laws.{FlatFaultsAreDetermined, FlatTextsAreDetermined, FlatTextsHaveNoFault}
 use Rattle.flat_lines.specs.FlatLines.{flat_bytes}

@@ -1,12 +1,11 @@
 -- A text and a word have one answer to `lasso`.
 use Rattle.std.proofs.Common.{◌≡◌, ℕ, List, [], ◌∷◌, None, Contains, sym, ap, ◌∙◌, subst, arith}
 use Rattle.letter_word.specs.Word.{Word}
-use Rattle.tlsf_tokens.specs.declared.code.SpecCode.{SpecCode}
-use Rattle.tlsf_reader.specs.Spec.{Spec}
+use Rattle.spec_faults.specs.declared.code.SpecCode.{SpecCode}
+use Rattle.tlsf_syntax.specs.Text.{Text}
 use Rattle.tlsf_reader.specs.Reads.{Reads, TreesAreDetermined}
 use Rattle.tlsf_expand.specs.Meaning.{means}
-use Rattle.tlsf_expand.specs.TextSeen.{FlatText}
-use Rattle.flat_text.specs.Plain.{text_of}
+use Rattle.tlsf_expand.specs.FlatText.{FlatText}
 use Rattle.flat_text.specs.FlatOf.{IsFlatFault, IsFlatOf}
 use Rattle.flat_text.specs.Laws.{FlatFaultsAreDetermined, FlatTextsAreDetermined, FlatTextsHaveNoFault}
 use Rattle.flat_lines.specs.FlatLines.{all_names}
@@ -50,8 +49,8 @@ module _ (one_fault : FlatFaultsAreDetermined) (one_flat : FlatTextsAreDetermine
   of_bad_line text word bytes status flat line (told truth is on at) is_due due =
       absurd (readings.apart word (all_names flat.expanded) on.lasso line (at_names text on.flat flat (λ names. StatesWord word names on.lasso) on.is_flat is_due on.states) due)
 
-  of_lasso : (text word bytes : List ℕ) (status : ℕ) (tree : Spec) (flat : FlatText) (lasso : Word) → LassoAnswers text word bytes status
-      → Reads text tree → IsFlatOf text None flat → StatesWord word (all_names flat.expanded) lasso → (status ≡ 0) × (bytes ≡ truth_line (means lasso (text_of tree)))
+  of_lasso : (text word bytes : List ℕ) (status : ℕ) (tree : Text) (flat : FlatText) (lasso : Word) → LassoAnswers text word bytes status
+      → Reads text tree → IsFlatOf text None flat → StatesWord word (all_names flat.expanded) lasso → (status ≡ 0) × (bytes ≡ truth_line (means lasso tree))
   of_lasso text word bytes status tree flat lasso (refused code place is fault at) reads is_due due = absurd (apart text None flat code place is_due fault)
   of_lasso text word bytes status tree flat lasso (bad_line other n is is_flat first at) reads is_due due =
       absurd (readings.apart word (all_names flat.expanded) lasso n due (at_names text other flat (λ names. IsFirstBadLine word names n) is_flat is_due first))
@@ -59,7 +58,7 @@ module _ (one_fault : FlatFaultsAreDetermined) (one_flat : FlatTextsAreDetermine
       let states : StatesWord word (all_names flat.expanded) on.lasso = at_names text on.flat flat (λ names. StatesWord word names on.lasso) on.is_flat is_due on.states in
       let same_lasso : on.lasso ≡ lasso = readings.one_word word (all_names flat.expanded) on.lasso lasso states due in
       let same_tree : on.tree ≡ tree = one_tree text on.tree tree on.reads reads in
-      (is, at ∙ ap truth_line (on.exactly ∙ ap (λ w. means w (text_of on.tree)) same_lasso ∙ ap (λ t. means lasso (text_of t)) same_tree))
+      (is, at ∙ ap truth_line (on.exactly ∙ ap (λ w. means w on.tree) same_lasso ∙ ap (λ t. means lasso t) same_tree))
 
   pub are_due : LassoAnswersAreDue
   are_due = record { statuses = statuses; refused = has_fault; line_refused = has_bad_line; of_fault = of_fault; of_bad_line = of_bad_line; of_lasso = of_lasso }

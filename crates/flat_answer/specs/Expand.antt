@@ -1,7 +1,7 @@
 -- The answer of `expand` to a text (this project's own). No kind is given, so those that the text names count.
 use Rattle.std.specs.Prelude.{◌≡◌, ℕ, List, None}
-use Rattle.tlsf_tokens.specs.declared.code.SpecCode.{SpecCode}
-use Rattle.tlsf_expand.specs.TextSeen.{FlatText}
+use Rattle.spec_faults.specs.declared.code.SpecCode.{SpecCode}
+use Rattle.tlsf_expand.specs.FlatText.{FlatText}
 use Rattle.flat_text.specs.FlatOf.{IsFlatFault, IsFlatOf}
 use Rattle.flat_lines.specs.FlatLines.{flat_bytes}
 use Rattle.program_replies.specs.Lines.{refusal_line}

@@ -1,7 +1,7 @@
 -- What holds of what came of expanding a text.
 use Rattle.std.specs.Prelude.{◌≡◌, ℕ, List}
-use Rattle.tlsf_tokens.specs.declared.code.SpecFault.{SpecFault}
-use Rattle.tlsf_tokens.specs.declared.code.SpecFault.TheVariants.{At, NoMemory}
+use Rattle.spec_faults.specs.declared.code.SpecFault.{SpecFault}
+use Rattle.spec_faults.specs.declared.code.SpecFault.TheVariants.{At, NoMemory}
 use Rattle.tlsf_expand.specs.declared.spec.Spec.{Spec}
 use Rattle.program_replies.specs.declared.replies.Reply.{Reply}
 use Rattle.program_replies.specs.declared.replies.Status.{Status}

@@ -1,12 +1,11 @@
 -- The answer of `lasso` to a text and a word (this project's own). No kind is given, so those that the text names count.
 use Rattle.std.specs.Prelude.{◌≡◌, ℕ, Bool, true, false, List, None, codes}
 use Rattle.letter_word.specs.Word.{Word}
-use Rattle.tlsf_tokens.specs.declared.code.SpecCode.{SpecCode}
-use Rattle.tlsf_reader.specs.Spec.{Spec}
+use Rattle.spec_faults.specs.declared.code.SpecCode.{SpecCode}
+use Rattle.tlsf_syntax.specs.Text.{Text}
 use Rattle.tlsf_reader.specs.Reads.{Reads}
 use Rattle.tlsf_expand.specs.Meaning.{means}
-use Rattle.tlsf_expand.specs.TextSeen.{FlatText}
-use Rattle.flat_text.specs.Plain.{text_of}
+use Rattle.tlsf_expand.specs.FlatText.{FlatText}
 use Rattle.flat_text.specs.FlatOf.{IsFlatFault, IsFlatOf}
 use Rattle.flat_lines.specs.FlatLines.{all_names}
 use Rattle.lasso_word.specs.WordText.{IsFirstBadLine, StatesWord}
@@ -18,13 +17,13 @@ truth_line false = codes "false\n"
 
 -- The word states a lasso over the signals of the text, the inputs first, and this is whether the written text means so on it.
 pub record IsTruthOn (text word : List ℕ) (truth : Bool) : Type 0 where
-  pub tree : Spec
+  pub tree : Text
   pub reads : Reads text tree
   pub flat : FlatText
   pub is_flat : IsFlatOf text None flat
   pub lasso : Word
   pub states : StatesWord word (all_names flat.expanded) lasso
-  pub exactly : truth ≡ means lasso (text_of tree)
+  pub exactly : truth ≡ means lasso tree
 
 -- The bytes and the status: the line of the text's first fault of those before normal forms, that of the word's first bad line over
 -- the signals of the text, or whether the text means so on the lasso.

@@ -1,12 +1,11 @@
 -- Laws of the answers, by which each comes exactly where it is due.
 use Rattle.std.specs.Prelude.{◌≡◌, ℕ, List, [], ◌∷◌, None, Contains}
 use Rattle.letter_word.specs.Word.{Word}
-use Rattle.tlsf_tokens.specs.declared.code.SpecCode.{SpecCode}
-use Rattle.tlsf_reader.specs.Spec.{Spec}
+use Rattle.spec_faults.specs.declared.code.SpecCode.{SpecCode}
+use Rattle.tlsf_syntax.specs.Text.{Text}
 use Rattle.tlsf_reader.specs.Reads.{Reads}
 use Rattle.tlsf_expand.specs.Meaning.{means}
-use Rattle.tlsf_expand.specs.TextSeen.{FlatText}
-use Rattle.flat_text.specs.Plain.{text_of}
+use Rattle.tlsf_expand.specs.FlatText.{FlatText}
 use Rattle.flat_text.specs.FlatOf.{IsFlatFault, IsFlatOf}
 use Rattle.flat_lines.specs.FlatLines.{all_names, flat_bytes}
 use Rattle.lasso_word.specs.WordText.{IsFirstBadLine, StatesWord}
@@ -48,6 +47,6 @@ pub record LassoAnswersAreDue : Type 0 where
       → IsFlatFault text None code place → (status ≡ 1) × (bytes ≡ refusal_line code place)
   pub of_bad_line : (text word bytes : List ℕ) (status : ℕ) (flat : FlatText) (line : ℕ) → LassoAnswers text word bytes status
       → IsFlatOf text None flat → IsFirstBadLine word (all_names flat.expanded) line → (status ≡ 40) × (bytes ≡ line_refusal line)
-  pub of_lasso : (text word bytes : List ℕ) (status : ℕ) (tree : Spec) (flat : FlatText) (lasso : Word) → LassoAnswers text word bytes status
+  pub of_lasso : (text word bytes : List ℕ) (status : ℕ) (tree : Text) (flat : FlatText) (lasso : Word) → LassoAnswers text word bytes status
       → Reads text tree → IsFlatOf text None flat → StatesWord word (all_names flat.expanded) lasso
-      → (status ≡ 0) × (bytes ≡ truth_line (means lasso (text_of tree)))
+      → (status ≡ 0) × (bytes ≡ truth_line (means lasso tree))

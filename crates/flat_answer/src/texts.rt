@@ -2,7 +2,7 @@
 ghost use Rattle.std.specs.Prelude.{ℕ, List, None, IfOk, length};
 ghost use Rattle.ltl_formula.specs.Nodes.{Stands};
 ghost use Rattle.tlsf_expand.specs.FewSignals.{HasFewSignals};
-ghost use Rattle.tlsf_expand.specs.TextSeen.{spec_seen};
+ghost use Rattle.tlsf_expand.specs.FlatText.{spec_seen};
 ghost use Rattle.flat_text.specs.FlatNames.{HasPlainNames};
 ghost use Rattle.flat_text.specs.FlatOf.{IsFlatOf};
 ghost use Rattle.flat_lines.specs.FlatLines.{CanBeWritten};
@@ -14,9 +14,9 @@ ghost use Rattle.flat_answer.specs.Expansions.{IfFlat, IfRefused, IsRefusal};
 use flat_lines::laws::expanded_can_be_written;
 use flat_text::expand_text;
 use program_replies::{Reply, refused};
+use spec_faults::SpecFault;
 use std::alloc::{AllocError, Global};
 use tlsf_expand::Spec;
-use tlsf_tokens::SpecFault;
 
 /// What came of expanding a text.
 #[derive(Drop)]

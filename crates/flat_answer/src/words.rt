@@ -2,7 +2,7 @@
 ghost use Rattle.std.specs.Prelude.{◌≡◌, ℕ, List, None, IfOk, length};
 ghost use Rattle.ltl_formula.specs.Nodes.{Stands};
 ghost use Rattle.tlsf_expand.specs.FewSignals.{HasFewSignals};
-ghost use Rattle.tlsf_expand.specs.TextSeen.{spec_seen};
+ghost use Rattle.tlsf_expand.specs.FlatText.{spec_seen};
 ghost use Rattle.flat_text.specs.FlatOf.{IsFlatOf};
 ghost use Rattle.program_replies.specs.Statuses.{status_number};
 ghost use Rattle.flat_answer.specs.Lasso.{LassoAnswers, truth_line};

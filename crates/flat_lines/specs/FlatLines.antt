@@ -8,9 +8,9 @@ use Rattle.ltl_formula.specs.Nodes.{IsNodeList, Stands, tree_at}
 use Rattle.ltl_formula.specs.ListSignals.{HasSignalsBelow}
 use Rattle.ltl_formula.specs.Text.{formula_text}
 use Rattle.tlsf_expand.specs.Expansion.{Expanded}
-use Rattle.tlsf_expand.specs.TextSeen.{FlatText}
-use Rattle.flat_lines.specs.declared.lines.Part.{Part}
-use Rattle.flat_lines.specs.declared.lines.Part.TheVariants.{Initially, Preset, Require, Assert, Assume, Guarantee}
+use Rattle.tlsf_expand.specs.FlatText.{FlatText}
+use Rattle.tlsf_tokens.specs.declared.symbol.Section.{Section}
+use Rattle.tlsf_tokens.specs.declared.symbol.Section.TheVariants.{Initially, Preset, Require, Assert, Assume, Guarantee}
 use Rattle.flat_lines.specs.declared.lines.Line.{Line}
 use Rattle.flat_lines.specs.declared.lines.Line.TheVariants.{Kinds, Inputs, Outputs, Formula}
 
@@ -18,13 +18,13 @@ abbrev pub kind_word : Kind → List ℕ
 kind_word Mealy = codes "Mealy"
 kind_word Moore = codes "Moore"
 
-abbrev pub part_word : Part → List ℕ
-part_word Initially = codes "initially"
-part_word Preset = codes "preset"
-part_word Require = codes "require"
-part_word Assert = codes "assert"
-part_word Assume = codes "assume"
-part_word Guarantee = codes "guarantee"
+abbrev pub section_word : Section → List ℕ
+section_word Initially = codes "initially"
+section_word Preset = codes "preset"
+section_word Require = codes "require"
+section_word Assert = codes "assert"
+section_word Assume = codes "assume"
+section_word Guarantee = codes "guarantee"
 
 abbrev pub kind_line : Kind → Bool → List ℕ
 kind_line kind strict = codes "kind " ++ kind_word kind ++ (if strict then codes " strict" else [])
@@ -47,7 +47,7 @@ abbrev pub line_of : FlatText → Line → List ℕ
 line_of flat Kinds = kind_line flat.expanded.kind flat.expanded.strict
 line_of flat Inputs = names_line (codes "inputs") flat.expanded.inputs
 line_of flat Outputs = names_line (codes "outputs") flat.expanded.outputs
-line_of flat (Formula part id) = part_word part ++ 32 ∷ formula_text (all_names flat.expanded) (tree_at flat.formulas id)
+line_of flat (Formula section id) = section_word section ++ 32 ∷ formula_text (all_names flat.expanded) (tree_at flat.formulas id)
 
 -- a line with its end
 abbrev pub ended_line : FlatText → Line → List ℕ
@@ -59,7 +59,7 @@ flat_bytes flat = flat_map (ended_line flat) (lines_in flat.expanded)
 
 -- the formula of a line stands in the list
 abbrev pub LineStands : List Node → Line → Type 0
-LineStands nodes (Formula part id) = Stands nodes id
+LineStands nodes (Formula section id) = Stands nodes id
 LineStands nodes _ = Unit {0}
 
 -- each formula stands in the list, which is one of formulas, and each signal has a name

@@ -1,9 +1,9 @@
 -- Laws of written flat texts.
 use Rattle.std.specs.Prelude.{◌≡◌, Option, Some}
 use Rattle.letter_word.specs.declared.kinds.Kind.{Kind}
-use Rattle.tlsf_expand.specs.Texts.{Text}
+use Rattle.tlsf_syntax.specs.Text.{Text}
 use Rattle.tlsf_expand.specs.Expansion.{expanded}
-use Rattle.tlsf_expand.specs.TextSeen.{FlatText, flat_in}
+use Rattle.tlsf_expand.specs.FlatText.{FlatText, flat_in}
 use Rattle.flat_lines.specs.FlatLines.{CanBeWritten}
 
 -- what comes of a text can be written

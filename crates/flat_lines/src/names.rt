@@ -1,7 +1,7 @@
 // The names of the signals of a flat text.
 ghost use Rattle.std.specs.Prelude.{◌≡◌, ◌++◌, ◌∷◌, flat_map, IfOk};
 ghost use Rattle.flat_lines.specs.FlatLines.{all_names, names_line};
-ghost use Rattle.tlsf_expand.specs.TextSeen.{spec_seen};
+ghost use Rattle.tlsf_expand.specs.FlatText.{spec_seen};
 
 use std::alloc::{AllocError, Global};
 use text_base::Name;

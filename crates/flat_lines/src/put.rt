@@ -3,9 +3,9 @@ ghost use Rattle.flat_lines.specs.FlatLines.{CanBeWritten, LineStands, all_names
 ghost use Rattle.ltl_formula.specs.Nodes.{IsNodeList};
 ghost use Rattle.outside_edge.specs.Bytes.{Gains, GainsFront};
 ghost use Rattle.outside_edge.specs.Faults.{Rose};
-ghost use Rattle.tlsf_expand.specs.TextSeen.{spec_seen};
+ghost use Rattle.tlsf_expand.specs.FlatText.{spec_seen};
 
-use crate::lines::{Line, lines_in};
+use crate::lines::{Line, lines_in, section_word};
 use crate::names::{all_names, write_names};
 use letter_word::Kind;
 use ltl_formula::write_formula;
@@ -91,8 +91,8 @@ fn write_line(spec: &Spec, names: &[Name], line: Line, text: &mut Vec<u8>) -> Re
         Line::Kinds => text.extend_from_slice(kind_line(spec.kind, spec.strict)),
         Line::Inputs => write_names(b"inputs", &spec.inputs, text),
         Line::Outputs => write_names(b"outputs", &spec.outputs, text),
-        Line::Formula(part, id) => {
-            text.extend_from_slice(part.word())?;
+        Line::Formula(section, id) => {
+            text.extend_from_slice(section_word(section))?;
             text.push(b' ')?;
             write_formula(&spec.formulas, id, names, text)
         },

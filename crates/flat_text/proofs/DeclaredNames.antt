@@ -1,13 +1,13 @@
 -- Each word that a text declares is a name among its lexemes, and its last lexeme closes MAIN.
 use Rattle.std.proofs.Common.{◌≡◌, ℕ, zero, suc, ◌+◌, List, [], ◌∷◌, ◌++◌, length, map, slice_get, Some, refl, sym, ◌∙◌, ap, subst, arith}
 use Rattle.std.proofs.lemmas.List.{append_assoc}
-use Rattle.tlsf_tree.specs.declared.symbol.Symbol.{Symbol}
-use Rattle.tlsf_tree.specs.declared.symbol.Symbol.TheVariants as symbol
-use Rattle.tlsf_grammar.specs.Tree.{Named, Member, Definition, Declaration, Block, Part, Written}
-use Rattle.tlsf_grammar.specs.Lexemes.{Lexeme, Is}
-use Rattle.tlsf_grammar.specs.Texts.{DerivesMembers, of_one_member, of_members, DerivesDefinition, of_constant, of_function, of_enumeration, of_ended_enumeration, DerivesDefinitions, of_no_definition, of_definition, DerivesParameters, of_no_parameter, of_parameter, DerivesBlocks, of_no_block, of_parameters, of_definitions, DerivesDeclarations, of_no_declaration, of_single, of_bus, of_typed, DerivesParts, of_no_part, of_inputs, of_outputs, of_section, DerivesGlobal, of_no_global, of_global, DerivesMain, of_main, DerivesText, of_text}
+use Rattle.tlsf_tokens.specs.declared.symbol.Symbol.{Symbol}
+use Rattle.tlsf_tokens.specs.declared.symbol.Symbol.TheVariants as symbol
+use Rattle.tlsf_syntax.specs.Tree.{Named, Member, Definition, Declaration, Block, Part, Written}
+use Rattle.tlsf_syntax.specs.Lexemes.{Lexeme, Is}
+use Rattle.tlsf_syntax.specs.Texts.{DerivesMembers, of_one_member, of_members, DerivesDefinition, of_constant, of_function, of_enumeration, of_ended_enumeration, DerivesDefinitions, of_no_definition, of_definition, DerivesParameters, of_no_parameter, of_parameter, DerivesBlocks, of_no_block, of_parameters, of_definitions, DerivesDeclarations, of_no_declaration, of_single, of_bus, of_typed, DerivesParts, of_no_part, of_inputs, of_outputs, of_section, DerivesGlobal, of_no_global, of_global, DerivesMain, of_main, DerivesText, of_text}
 use Rattle.tlsf_reader.specs.Faults.{symbols_of}
-use Rattle.tlsf_reader.specs.Spec.{definition_words, words_of_definitions, words_of_parts, definitions_of, declared_words}
+use Rattle.tlsf_reader.specs.Parts.{definition_words, words_of_definitions, words_of_parts, definitions_of, declared_words}
 use Rattle.flat_text.proofs.Starts.{StandsAt, stands_first, stands_later, stands_behind, stands_before}
 
 abbrev NameAt : List Lexeme → ℕ → Type 0

@@ -1,5 +1,3 @@
-pub mod SeenAlike
-pub mod TextAlike
 pub mod Determined
 pub mod Whole
 pub mod OneFault

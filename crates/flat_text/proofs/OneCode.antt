@@ -2,16 +2,16 @@
 use Rattle.std.proofs.Common.{◌≡◌, ◌<◌, ◌+◌, ◌-◌, ℕ, true, false, List, [], ◌∷◌, length, slice_get, Some, refl, sym, ◌∙◌, ap, subst, arith}
 use Rattle.std.proofs.lemmas.List.{length-map}
 use Rattle.std.proofs.lemmas.Option.{slice_get_within}
-use Rattle.tlsf_tokens.specs.declared.code.SpecCode.{SpecCode}
-use Rattle.tlsf_tokens.specs.declared.code.SpecCode.TheVariants.{Unexpected, Missing, Twice}
-use Rattle.tlsf_tree.specs.declared.symbol.Symbol.{Symbol}
-use Rattle.tlsf_tree.specs.declared.symbol.Symbol.TheVariants as symbol
-use Rattle.tlsf_tree.specs.Nesting.{first_deep}
-use Rattle.tlsf_grammar.specs.Tree.{Written}
-use Rattle.tlsf_grammar.specs.Lexemes.{Lexeme}
-use Rattle.tlsf_grammar.specs.Texts.{DerivesText}
+use Rattle.spec_faults.specs.declared.code.SpecCode.{SpecCode}
+use Rattle.spec_faults.specs.declared.code.SpecCode.TheVariants.{Unexpected, Missing, Twice}
+use Rattle.tlsf_tokens.specs.declared.symbol.Symbol.{Symbol}
+use Rattle.tlsf_tokens.specs.declared.symbol.Symbol.TheVariants as symbol
+use Rattle.tlsf_syntax.specs.Nesting.{first_deep}
+use Rattle.tlsf_syntax.specs.Tree.{Written}
+use Rattle.tlsf_syntax.specs.Lexemes.{Lexeme}
+use Rattle.tlsf_syntax.specs.Texts.{DerivesText}
 use Rattle.tlsf_reader.specs.Lexed.{Lexed}
-use Rattle.tlsf_reader.specs.Spec.{declared_words}
+use Rattle.tlsf_reader.specs.Parts.{declared_words}
 use Rattle.tlsf_reader.specs.Faults.{most_nesting, symbols_of, start_at, heads_part, IsFinite, first_word, second_word, HasEarlyFault, of_tokens, of_nesting, of_finite, of_lexeme, of_end, HasLateFault, part_twice, name_twice, field_missing, part_missing}
 use Rattle.tlsf_reader.proofs.StopCodes.{deep_within}
 use Rattle.flat_text.proofs.Starts.{AreApart, lexed_apart, start_before, same_lexeme, StandsAt, one_symbol, stands_first, stands_later, stands_behind, never_deep}

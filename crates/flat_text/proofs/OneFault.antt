@@ -1,20 +1,19 @@
 -- A text has at most one first fault.
 use Rattle.std.proofs.Common.{◌≡◌, ◌<◌, ◌≤◌, ℕ, List, [], ◌∷◌, ◌++◌, length, Option, None, Some, refl, sym, ◌∙◌, ap, subst, arith}
 use Rattle.letter_word.specs.declared.kinds.Kind.{Kind}
-use Rattle.tlsf_tokens.specs.declared.code.SpecCode.{SpecCode}
-use Rattle.tlsf_tree.specs.Nesting.{first_deep}
-use Rattle.tlsf_grammar.specs.Tree.{Written}
-use Rattle.tlsf_grammar.specs.Lexemes.{Lexeme}
-use Rattle.tlsf_grammar.specs.Texts.{DerivesText, IsFirstUnexpected}
-use Rattle.tlsf_grammar.proofs.Texts.{one_text}
-use Rattle.tlsf_grammar.proofs.Unexpected.{determined}
-use Rattle.tlsf_grammar.proofs.SemanticsWords.{never_finite}
+use Rattle.spec_faults.specs.declared.code.SpecCode.{SpecCode}
+use Rattle.tlsf_syntax.specs.Nesting.{first_deep}
+use Rattle.tlsf_syntax.specs.Tree.{Written}
+use Rattle.tlsf_syntax.specs.Lexemes.{Lexeme}
+use Rattle.tlsf_syntax.specs.Texts.{DerivesText, IsFirstUnexpected}
+use Rattle.tlsf_syntax.proofs.Texts.{one_text}
+use Rattle.tlsf_syntax.proofs.Unexpected.{determined}
+use Rattle.tlsf_syntax.proofs.SemanticsWords.{never_finite}
 use Rattle.tlsf_reader.specs.Lexed.{Lexed}
 use Rattle.tlsf_reader.specs.Faults.{most_nesting, symbols_of, start_at, IsFinite, first_word, second_word, HasEarlyFault, of_tokens, of_nesting, of_finite, of_lexeme, of_end, HasLateFault, IsFirstOf, IsReadingFault, too_long, early, late}
 use Rattle.tlsf_reader.proofs.OneTree.{one_list, determined as one_tree}
 use Rattle.tlsf_reader.proofs.NoFault.{no_fault}
 use Rattle.tlsf_expand.specs.Expansion.{Fault, flat_fault}
-use Rattle.flat_text.specs.Plain.{text_of}
 use Rattle.flat_text.proofs.OneCode.{early_code, late_code}
 use Rattle.flat_text.specs.FlatOf.{IsFlatFault, of_reading, of_expansion}
 
@@ -105,4 +104,4 @@ one_fault text kind _ _ _ _ (of_reading c p f) (of_reading c' p' f') = reading_f
 one_fault text kind _ _ _ _ (of_reading c p f) (of_expansion tree c' p' reads f') = absurd (no_fault text tree c p reads f)
 one_fault text kind _ _ _ _ (of_expansion tree c p reads f) (of_reading c' p' f') = absurd (no_fault text tree c' p' reads f')
 one_fault text kind _ _ _ _ (of_expansion tree c p reads f) (of_expansion tree' c' p' reads' f') =
-    expansion_fault (flat_fault (text_of tree) kind) (flat_fault (text_of tree') kind) c c' p p' (ap (λ t. flat_fault (text_of t) kind) (one_tree text tree tree' reads reads')) f f'
+    expansion_fault (flat_fault tree kind) (flat_fault tree' kind) c c' p p' (ap (λ t. flat_fault t kind) (one_tree text tree tree' reads reads')) f f'

@@ -1,17 +1,16 @@
 -- Lexemes begin strictly one after another, and the place of a lexeme tells its symbol.
-use Rattle.std.proofs.Common.{◌≡◌, ◌<◌, ◌≤◌, ◌-◌, ℕ, zero, suc, Bool, true, false, cond, List, [], ◌∷◌, ◌++◌, length, slice_get, Option, None, Some, refl, sym, ◌∙◌, ap, subst, arith}
-use Rattle.std.specs.Prelude.{nat_lt, slice_range}
+use Rattle.std.proofs.Common.{◌≡◌, ◌<◌, ◌≤◌, ◌-◌, ℕ, zero, suc, Bool, true, false, cond, List, [], ◌∷◌, ◌++◌, length, map, slice_get, Option, Some, refl, sym, ◌∙◌, ap, subst, arith}
+use Rattle.std.specs.Prelude.{nat_lt}
 use Rattle.tlsf_tokens.specs.Cuts.{IsInOrder}
-use Rattle.tlsf_tokens.specs.declared.code.SpecCode.{SpecCode}
+use Rattle.spec_faults.specs.declared.code.SpecCode.{SpecCode}
 use Rattle.tlsf_tokens.specs.declared.token.Token.{Token}
 use Rattle.tlsf_tokens.proofs.Cutting.{in_order}
-use Rattle.tlsf_tree.specs.declared.symbol.Symbol.{Symbol}
-use Rattle.tlsf_tree.specs.declared.symbol.Symbol.TheVariants as symbol
-use Rattle.tlsf_tree.specs.declared.symbol.Role.{Role}
-use Rattle.tlsf_tree.specs.Nesting.{role_of, first_of, number_of, first_deep}
-use Rattle.tlsf_grammar.specs.Lexemes.{Lexeme, Is}
-use Rattle.tlsf_reader.specs.Symbols.{symbol_of, lexeme_from, then_lexemes, lexemes_of}
-use Rattle.tlsf_reader.specs.Lexed.{IsLexed}
+use Rattle.tlsf_tokens.specs.declared.symbol.Symbol.{Symbol}
+use Rattle.tlsf_tokens.specs.declared.symbol.Symbol.TheVariants as symbol
+use Rattle.tlsf_syntax.specs.declared.nesting.Role.{Role}
+use Rattle.tlsf_syntax.specs.Nesting.{role_of, first_of, number_of, first_deep}
+use Rattle.tlsf_syntax.specs.Lexemes.{Lexeme, Is}
+use Rattle.tlsf_reader.specs.Lexed.{IsLexed, lexeme_from}
 use Rattle.tlsf_reader.specs.Faults.{symbols_of, start_at}
 
 -- each lexeme begins after the one before it, and before this place
@@ -23,20 +22,13 @@ apart_from : (from nearer to : ℕ) (ls : List Lexeme) → from ≤ nearer → A
 apart_from from nearer to [] h r = omega (arith, h, r)
 apart_from from nearer to (l ∷ ls) h r = (let low : nearer ≤ l.start = r.0 in omega (arith, h, low), r.1)
 
-lexemes_apart : (text : List ℕ) (from to : ℕ) (tokens : List Token) (ls : List Lexeme) → lexemes_of text tokens ≡ Some ls → IsInOrder from tokens to → AreApart from ls to
-lexemes_apart text from to [] ls e o = let none : [] ≡ ls = cc in subst (λ ms. AreApart from ms to) none o
-lexemes_apart text from to (t ∷ ts) ls e o = by (symbol_of t.kind (slice_range text t.start t.end)) (lexemes_of text ts) e (λ ms f. lexemes_apart text t.end to ts ms f o.2)
-  where
-    by : (s : Option Symbol) (ms : Option (List Lexeme)) → then_lexemes text t s ms ≡ Some ls → ((ns : List Lexeme) → ms ≡ Some ns → AreApart t.end ns to) → AreApart from ls to
-    by None ms f h = absurd cc
-    by (Some s) None f h = absurd cc
-    by (Some s) (Some ms) f h =
-        let whole : lexeme_from text t s ∷ ms ≡ ls = cc in
-        let first : from ≤ t.start = o.0 in let some : t.start < t.end = o.1 in
-        subst (λ ns. AreApart from ns to) whole (first, apart_from (suc t.start) t.end to ms (omega (arith, some)) (h ms refl))
+lexemes_apart : (text : List ℕ) (from to : ℕ) (tokens : List Token) → IsInOrder from tokens to → AreApart from (map (lexeme_from text) tokens) to
+lexemes_apart text from to [] o = o
+lexemes_apart text from to (t ∷ ts) o =
+    let some : t.start < t.end = o.1 in (o.0, apart_from (suc t.start) t.end to (map (lexeme_from text) ts) (omega (arith, some)) (lexemes_apart text t.end to ts o.2))
 
 pub lexed_apart : (text : List ℕ) (stop : Option SpecCode) (stop_at : ℕ) (ls : List Lexeme) → IsLexed text stop stop_at ls → AreApart 0 ls stop_at
-lexed_apart text stop stop_at ls l = lexemes_apart text 0 stop_at l.tokens ls l.symbols (in_order text stop stop_at 0 l.tokens l.cut)
+lexed_apart text stop stop_at ls l = subst (λ ms. AreApart 0 ms stop_at) (sym l.are) (lexemes_apart text 0 stop_at l.tokens (in_order text stop stop_at 0 l.tokens l.cut))
 
 above : (ls : List Lexeme) (from to : ℕ) → AreApart from ls to → from ≤ to
 above [] from to r = r

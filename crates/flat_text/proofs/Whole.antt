@@ -1,35 +1,27 @@
 -- The answer of the call, from those of reading and of expansion.
-use Rattle.std.proofs.Common.{◌≡◌, ℕ, List, Option, Some, sym, ap, subst, ◌∙◌, Result, Ok, Err, IfOk}
+use Rattle.std.proofs.Common.{◌≡◌, ℕ, List, Option, sym, ap, subst, ◌∙◌, Result, Ok, Err, IfOk}
 use Rattle.letter_word.specs.declared.kinds.Kind.{Kind}
-use Rattle.tlsf_tokens.specs.declared.code.SpecCode.{SpecCode}
-use Rattle.tlsf_tokens.specs.declared.code.SpecFault.{SpecFault}
-use Rattle.tlsf_tokens.specs.declared.code.SpecFault.TheVariants.{At}
-use Rattle.tlsf_tree.specs.declared.spec.SpecTree.{SpecTree}
+use Rattle.spec_faults.specs.declared.code.SpecCode.{SpecCode}
+use Rattle.spec_faults.specs.declared.code.SpecFault.{SpecFault}
+use Rattle.spec_faults.specs.declared.code.SpecFault.TheVariants.{At}
+use Rattle.tlsf_syntax.specs.Text.{Text}
 use Rattle.tlsf_reader.specs.Reads.{Reads}
-use Rattle.tlsf_reader.specs.TextView.{spec_view}
 use Rattle.tlsf_values.specs.Outcomes.{fails}
 use Rattle.tlsf_expand.specs.declared.spec.Spec.{Spec}
 use Rattle.tlsf_expand.specs.Expansion.{expanded, fault_in}
 use Rattle.tlsf_expand.specs.Results.{IsExpansion, KeepsMeaning}
-use Rattle.tlsf_expand.specs.TextSeen.{text_seen, spec_seen, flat_in}
+use Rattle.tlsf_expand.specs.FlatText.{spec_seen}
 use Rattle.flat_text.specs.FlatOf.{IsFlatOf, IsFlatFault, of_expansion}
-use Rattle.flat_text.proofs.TextAlike.{text_alike}
 
-pub flat_of : (text : List ℕ) (kind : Option Kind) (tree : SpecTree) (result : Result Spec SpecFault) → Reads text (spec_view tree) → IsExpansion result (expanded (text_seen tree) kind)
-    → IfOk result (λ spec. KeepsMeaning (text_seen tree) spec.formulas spec.whole) → IfOk result (λ spec. IsFlatOf text kind (spec_seen spec))
-flat_of text kind tree (Ok spec) read is meaning = record {
-  tree = spec_view tree;
-  read = read;
-  expanded = subst (λ t. flat_in (expanded t kind) ≡ Some (spec_seen spec)) (text_alike tree) is;
-  meaning = subst (λ t. KeepsMeaning t spec.formulas spec.whole) (text_alike tree) meaning;
-}
+pub flat_of : (text : List ℕ) (kind : Option Kind) (tree : Text) (result : Result Spec SpecFault) → Reads text tree → IsExpansion result (expanded tree kind)
+    → IfOk result (λ spec. KeepsMeaning tree spec.formulas spec.whole) → IfOk result (λ spec. IsFlatOf text kind (spec_seen spec))
+flat_of text kind tree (Ok spec) read is meaning = record { tree = tree; read = read; expanded = is; meaning = meaning }
 flat_of text kind tree (Err e) read is meaning = tt
 
-pub fault_of : (text : List ℕ) (kind : Option Kind) (tree : SpecTree) (result : Result Spec SpecFault) → Reads text (spec_view tree) → IsExpansion result (expanded (text_seen tree) kind)
+pub fault_of : (text : List ℕ) (kind : Option Kind) (tree : Text) (result : Result Spec SpecFault) → Reads text tree → IsExpansion result (expanded tree kind)
     → (code : SpecCode) (place : ℕ) → result ≡ Err (At code place) → IsFlatFault text kind code place
 fault_of text kind tree result read is code place refused =
-    let fails_so : expanded (text_seen tree) kind ≡ fails code place = subst (λ r. IsExpansion r (expanded (text_seen tree) kind)) refused is in
-    of_expansion (spec_view tree) code place read (ap (λ t. fault_in (expanded t kind)) (sym (text_alike tree)) ∙ ap fault_in fails_so)
+    let fails_so : expanded tree kind ≡ fails code place = subst (λ r. IsExpansion r (expanded tree kind)) refused is in of_expansion tree code place read (ap fault_in fails_so)
 
 -- an error tells nothing of the answer that isn't there
 pub same_error : {A B E : Type 0} (a b : E) (r : Result A E) → r ≡ Err a → r ≡ Err b → (let e : Result B E = Err a in e) ≡ Err b

@@ -3,11 +3,10 @@ use Rattle.std.specs.Prelude.{◌≡◌, ◌≢◌, ◌==◌, not, ℕ, List, []
 use Rattle.std.specs.List.{list_all}
 use Rattle.letter_word.specs.declared.kinds.Kind.{Kind}
 use Rattle.tlsf_tokens.specs.Words.{is_blank}
-use Rattle.tlsf_reader.specs.Spec.{Spec}
+use Rattle.tlsf_syntax.specs.Text.{Text}
 use Rattle.tlsf_reader.specs.Reads.{Reads}
 use Rattle.tlsf_expand.specs.Expansion.{Expanded, expanded}
-use Rattle.tlsf_expand.specs.TextSeen.{FlatText, flat_in}
-use Rattle.flat_text.specs.Plain.{text_of}
+use Rattle.tlsf_expand.specs.FlatText.{FlatText, flat_in}
 
 -- a name that stands in one word of one line: it isn't empty, and no byte of it is a blank or ends a line
 pub record IsOneWord (name : List ℕ) : Type 0 where
@@ -22,4 +21,4 @@ pub record HasPlainNames (x : Expanded) : Type 0 where
 
 -- a text that is read and expanded has such names
 abbrev pub FlatNamesAreWords : Type 0
-FlatNamesAreWords = (text : List ℕ) (kind : Option Kind) (tree : Spec) (flat : FlatText) → Reads text tree → flat_in (expanded (text_of tree) kind) ≡ Some flat → HasPlainNames flat.expanded
+FlatNamesAreWords = (text : List ℕ) (kind : Option Kind) (tree : Text) (flat : FlatText) → Reads text tree → flat_in (expanded tree kind) ≡ Some flat → HasPlainNames flat.expanded

@@ -2,24 +2,23 @@
 -- and its order of refusals, in which each fault of reading comes before those of expansion.
 use Rattle.std.specs.Prelude.{◌≡◌, ℕ, List, Option, Some}
 use Rattle.letter_word.specs.declared.kinds.Kind.{Kind}
-use Rattle.tlsf_tokens.specs.declared.code.SpecCode.{SpecCode}
-use Rattle.tlsf_reader.specs.Spec.{Spec}
+use Rattle.spec_faults.specs.declared.code.SpecCode.{SpecCode}
+use Rattle.tlsf_syntax.specs.Text.{Text}
 use Rattle.tlsf_reader.specs.Reads.{Reads}
 use Rattle.tlsf_reader.specs.Faults.{IsReadingFault}
-use Rattle.tlsf_expand.specs.TextSeen.{FlatText, flat_in}
+use Rattle.tlsf_expand.specs.FlatText.{FlatText, flat_in}
 use Rattle.tlsf_expand.specs.Expansion.{expanded, flat_fault}
 use Rattle.tlsf_expand.specs.Results.{KeepsMeaning}
-use Rattle.flat_text.specs.Plain.{text_of}
 
 -- The text has a tree, this is the tree expanded, and on every lasso the formula of the whole is true exactly where the written
 -- tree means so. A kind that is given stands for those that the text names.
 pub record IsFlatOf (text : List ℕ) (kind : Option Kind) (flat : FlatText) : Type 0 where
-  pub tree : Spec
+  pub tree : Text
   pub read : Reads text tree
-  pub expanded : flat_in (expanded (text_of tree) kind) ≡ Some flat
-  pub meaning : KeepsMeaning (text_of tree) flat.formulas flat.expanded.whole
+  pub expanded : flat_in (expanded tree kind) ≡ Some flat
+  pub meaning : KeepsMeaning tree flat.formulas flat.expanded.whole
 
 -- the first fault of reading, and where the text has a tree, the first one of its expansion
 pub data IsFlatFault (text : List ℕ) (kind : Option Kind) : SpecCode → ℕ → Type 0 where
   of_reading : (code : SpecCode) (place : ℕ) → IsReadingFault text code place → IsFlatFault text kind code place
-  of_expansion : (tree : Spec) (code : SpecCode) (place : ℕ) → Reads text tree → flat_fault (text_of tree) kind ≡ Some (record { code = code; place = place }) → IsFlatFault text kind code place
+  of_expansion : (tree : Text) (code : SpecCode) (place : ℕ) → Reads text tree → flat_fault tree kind ≡ Some (record { code = code; place = place }) → IsFlatFault text kind code place

@@ -1,16 +1,9 @@
 -- Laws of flat texts.
 use Rattle.std.specs.Prelude.{◌≡◌, ℕ, List, Option}
 use Rattle.letter_word.specs.declared.kinds.Kind.{Kind}
-use Rattle.tlsf_tree.specs.declared.spec.SpecTree.{SpecTree}
-use Rattle.tlsf_tokens.specs.declared.code.SpecCode.{SpecCode}
-use Rattle.tlsf_reader.specs.TextView.{spec_view}
-use Rattle.tlsf_expand.specs.TextSeen.{FlatText, text_seen}
-use Rattle.flat_text.specs.Plain.{text_of}
+use Rattle.spec_faults.specs.declared.code.SpecCode.{SpecCode}
+use Rattle.tlsf_expand.specs.FlatText.{FlatText}
 use Rattle.flat_text.specs.FlatOf.{IsFlatOf, IsFlatFault}
-
--- reading and expansion see one text in a tree of the code
-abbrev pub TreesAreSeenAlike : Type 0
-TreesAreSeenAlike = (tree : SpecTree) → text_seen tree ≡ text_of (spec_view tree)
 
 -- a text is one thing, flat
 abbrev pub FlatTextsAreDetermined : Type 0

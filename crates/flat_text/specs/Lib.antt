@@ -1,4 +1,3 @@
-pub mod Plain
 pub mod FlatOf
 pub mod Laws
 pub mod FlatNames

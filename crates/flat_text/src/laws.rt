@@ -1,12 +1,7 @@
 // Laws of the definitions, which no code needs.
 
 ghost use Rattle.flat_text.specs.FlatNames.{FlatNamesAreWords};
-ghost use Rattle.flat_text.specs.Laws.{FlatFaultsAreDetermined, FlatTextsAreDetermined, FlatTextsHaveNoFault, TreesAreSeenAlike};
-
-/// Reading and expansion see one text in a tree.
-pub fn trees_are_seen_alike()
-    ensures { TreesAreSeenAlike }
-{}
+ghost use Rattle.flat_text.specs.Laws.{FlatFaultsAreDetermined, FlatTextsAreDetermined, FlatTextsHaveNoFault};
 
 /// No text is two things, flat.
 pub fn flat_texts_are_determined()

@@ -1,18 +1,18 @@
 // From the bytes of a text to its flat sections.
 
-ghost use Rattle.std.specs.Prelude.{◌≡◌, ℕ, Err, IfOk, length, vec_len};
+ghost use Rattle.std.specs.Prelude.{◌≡◌, ℕ, Err, IfOk, length};
 ghost use Rattle.flat_text.specs.FlatNames.{HasPlainNames};
 ghost use Rattle.flat_text.specs.FlatOf.{IsFlatFault, IsFlatOf};
 ghost use Rattle.tlsf_expand.specs.FewSignals.{HasFewSignals};
-ghost use Rattle.tlsf_expand.specs.TextSeen.{spec_seen};
-ghost use Rattle.tlsf_tokens.specs.declared.code.SpecCode.{SpecCode as Code};
-ghost use Rattle.tlsf_tokens.specs.declared.code.SpecFault.TheVariants.{At};
+ghost use Rattle.tlsf_expand.specs.FlatText.{spec_seen};
+ghost use Rattle.spec_faults.specs.declared.code.SpecCode.{SpecCode as Code};
+ghost use Rattle.spec_faults.specs.declared.code.SpecFault.TheVariants.{At};
 
 use letter_word::Kind;
+use spec_faults::SpecFault;
 use std::alloc::Global;
 use tlsf_expand::{Spec, expand};
 use tlsf_reader::read;
-use tlsf_tokens::SpecFault;
 
 /// The flat sections of a text with the formula of the whole, or its first fault. A kind that is given stands for those
 /// that the text names.
@@ -20,7 +20,6 @@ pub fn expand_text(alloc: Global, text: &[u8], kind: Option<Kind>) -> Result<Spe
     ensures flat { IfOk result (λ spec. IsFlatOf text.now kind (spec_seen spec)) }
     ensures few { IfOk result (λ spec. HasFewSignals (length spec.inputs.items) (length spec.outputs.items) spec.formulas) }
     ensures names { IfOk result (λ spec. HasPlainNames (spec_seen spec).expanded) }
-    ensures sections { IfOk result (λ spec. vec_len spec.sections ≡ 6) }
     ensures fault { (code : Code) (place : ℕ) → result ≡ Err (At code place) → IsFlatFault text.now kind code place }
 {
     let tree = read(alloc, text)?;

@@ -1,9 +1,6 @@
 use Rattle.std.specs.Prelude.{◌≡◌, ℕ, List, ◌++◌, Result, MatchResult}
-
--- new is old with something behind it
-abbrev pub Extends : List ℕ → List ℕ → Type 0
-Extends old new = (more : List ℕ) × (new ≡ old ++ more)
+use Rattle.text_base.specs.Prefix.{IsPrefix}
 
 -- the text went behind old, or only a part of it where the call failed
 abbrev pub Writes : {T E : Type 0} → Result T E → List ℕ → List ℕ → List ℕ → Type 0
-Writes result old text new = MatchResult result (λ _. new ≡ old ++ text) (λ _. Extends old new)
+Writes result old text new = MatchResult result (λ _. new ≡ old ++ text) (λ _. IsPrefix old new)

@@ -1,11 +1,11 @@
 //! Replies and statuses.
-ghost use Rattle.std.specs.Prelude.{◌≡◌, ◌++◌, codes, decimal, IfOk, OnOk};
-ghost use Rattle.tlsf_tokens.specs.Codes.{name_of, number_of};
-ghost use Rattle.program_replies.specs.Lines.{line_refusal, refusal_line};
+ghost use Rattle.std.specs.Prelude.{◌≡◌, ◌==◌, ◌++◌, codes, decimal, IfOk, OnOk};
+ghost use Rattle.spec_faults.specs.Codes.{name_of, number_of};
+ghost use Rattle.program_replies.specs.Lines.{line_count, line_refusal, refusal_line};
 
+use spec_faults::SpecCode;
 use std::alloc::{AllocError, Global};
 use text_base::push_number;
-use tlsf_tokens::SpecCode;
 
 /// With which status the program ends.
 #[derive(Clone, Copy)]
@@ -87,4 +87,11 @@ pub fn refused_at_line(alloc: Global, line: u64) -> Result<Reply, AllocError>
         bytes,
         status: Status::LineRefused,
     })
+}
+
+/// How many lines the bytes are, each of which has its line end.
+pub fn line_count(bytes: &[u8]) -> usize
+    ensures { result ≡ line_count bytes.now }
+{
+    bytes.iter().filter(|byte| **byte == b'\n').count()
 }

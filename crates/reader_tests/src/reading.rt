@@ -1,11 +1,11 @@
 // Spans, and the longest text.
 
+use spec_faults::{SpecCode, SpecFault};
 use std::alloc::Global;
 use std::process::Abort;
 use std::test::Fail;
 use tlsf_reader::{MOST_BYTES, read};
-use tlsf_tokens::{SpecCode, SpecFault};
-use tlsf_tree::{Expr, Form, SpecTree};
+use tlsf_syntax::{Expr, Form, SpecTree};
 
 /// INFO, and MAIN up to its opening brace: 75 bytes.
 const HEAD: &[u8] =
@@ -42,9 +42,9 @@ fn asserting(alloc: Global, formula: &[u8]) -> Result<SpecTree, Fail> {
     Ok(read(alloc, &text)?)
 }
 
-/// The first formula that stands in the sections.
+/// The first formula that is asserted.
 fn first_formula(tree: &SpecTree) -> Result<&Expr, Fail> {
-    match tree.sections.iter().flatten().next() {
+    match tree.sections.assert.first() {
         Some(formula) => Ok(formula),
         None => Err(Fail::from("no formula")),
     }

@@ -12,8 +12,8 @@ use Rattle.machine_model.specs.declared.problems.Problem.{Problem}
 use Rattle.machine_model.specs.Automaton.{AutomatonModel}
 use Rattle.dual_search.specs.declared.automata.Automata.{Automata}
 use Rattle.dual_search.proofs.Sides.{answers_are_apart}
-use Rattle.tlsf_tokens.specs.declared.code.SpecCode.{SpecCode}
-use Rattle.tlsf_expand.specs.TextSeen.{FlatText}
+use Rattle.spec_faults.specs.declared.code.SpecCode.{SpecCode}
+use Rattle.tlsf_expand.specs.FlatText.{FlatText}
 use Rattle.tlsf_reader.proofs.OneTree.{determined}
 use Rattle.tlsf_reader.proofs.NoFault.{no_fault as no_reading_fault}
 use Rattle.flat_text.specs.FlatOf.{IsFlatOf}

@@ -6,10 +6,10 @@ use Rattle.ltl_formula.specs.Tree.{Tree}
 use Rattle.cobuchi_build.specs.declared.building.BuildFault.{BuildFault}
 use Rattle.dual_search.specs.BothForms.{both_forms}
 use Rattle.dual_search.specs.Sides.{SystemPassesLimit}
-use Rattle.tlsf_tokens.specs.declared.code.SpecCode.{SpecCode}
-use Rattle.tlsf_tokens.specs.declared.code.SpecCode.TheVariants.{TooManyNodes, AutomatonTooLarge}
-use Rattle.tlsf_tokens.specs.declared.code.SpecFault.{SpecFault}
-use Rattle.tlsf_tokens.specs.declared.code.SpecFault.TheVariants.{At}
+use Rattle.spec_faults.specs.declared.code.SpecCode.{SpecCode}
+use Rattle.spec_faults.specs.declared.code.SpecCode.TheVariants.{TooManyNodes, AutomatonTooLarge}
+use Rattle.spec_faults.specs.declared.code.SpecFault.{SpecFault}
+use Rattle.spec_faults.specs.declared.code.SpecFault.TheVariants.{At}
 use Rattle.spec_problems.specs.OfFormula.{IsFormFault, no_room, too_large, refusal_of}
 
 same_code : (a b : SpecCode) (j k : ℕ) → At a j ≡ At b k → a ≡ b

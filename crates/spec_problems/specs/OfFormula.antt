@@ -13,9 +13,9 @@ use Rattle.machine_model.specs.Problem.{automaton_of, IsProblem}
 use Rattle.dual_search.specs.declared.automata.Automata.{Automata}
 use Rattle.dual_search.specs.BothForms.{both_forms}
 use Rattle.dual_search.specs.Sides.{AcceptsWhere, AreAutomataOf, SystemPassesLimit}
-use Rattle.tlsf_tokens.specs.declared.code.SpecCode.{SpecCode}
-use Rattle.tlsf_tokens.specs.declared.code.SpecCode.TheVariants.{TooManyNodes, AutomatonTooLarge}
-use Rattle.tlsf_tokens.specs.declared.code.SpecFault.{SpecFault}
+use Rattle.spec_faults.specs.declared.code.SpecCode.{SpecCode}
+use Rattle.spec_faults.specs.declared.code.SpecCode.TheVariants.{TooManyNodes, AutomatonTooLarge}
+use Rattle.spec_faults.specs.declared.code.SpecFault.{SpecFault}
 use Rattle.cobuchi_build.specs.declared.building.BuildFault.{BuildFault}
 use Rattle.spec_problems.specs.declared.sides.Interface.{Interface}
 use Rattle.spec_problems.specs.declared.sides.SideProblems.{SideProblems}

@@ -5,14 +5,13 @@ use Rattle.letter_word.specs.declared.kinds.Kind.{Kind}
 use Rattle.ltl_formula.specs.declared.nodes.FormulaId.{FormulaId}
 use Rattle.ltl_formula.specs.declared.nodes.Node.{Node}
 use Rattle.ltl_formula.specs.Nodes.{tree_at}
-use Rattle.tlsf_tokens.specs.declared.code.SpecCode.{SpecCode}
-use Rattle.tlsf_reader.specs.Spec.{Spec}
+use Rattle.spec_faults.specs.declared.code.SpecCode.{SpecCode}
+use Rattle.tlsf_syntax.specs.Text.{Text}
 use Rattle.tlsf_reader.specs.Reads.{Reads}
 use Rattle.tlsf_expand.specs.Expansion.{Expanded}
 use Rattle.tlsf_expand.specs.Results.{KeepsMeaning}
-use Rattle.tlsf_expand.specs.TextSeen.{FlatText}
+use Rattle.tlsf_expand.specs.FlatText.{FlatText}
 use Rattle.flat_text.specs.FlatOf.{IsFlatFault, IsFlatOf}
-use Rattle.flat_text.specs.Plain.{text_of}
 use Rattle.spec_problems.specs.declared.sides.Interface.{Interface}
 use Rattle.spec_problems.specs.declared.sides.SideProblems.{SideProblems}
 use Rattle.spec_problems.specs.OfFormula.{AreProblemsIn, IsFormFault}
@@ -37,6 +36,6 @@ pub data IsFirstFault (text : List ℕ) (kind : Option Kind) : SpecCode → ℕ 
 
 -- the text has a tree, and a formula of a list holds on a lasso exactly where the tree means so
 pub record SaysWhat (text : List ℕ) (nodes : List Node) (whole : FormulaId) : Type 0 where
-  pub tree : Spec
+  pub tree : Text
   pub read : Reads text tree
-  pub meaning : KeepsMeaning (text_of tree) nodes whole
+  pub meaning : KeepsMeaning tree nodes whole

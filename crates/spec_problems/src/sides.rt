@@ -3,8 +3,8 @@
 ghost use Rattle.std.specs.Prelude.{◌≡◌, ℕ, Err, IfOk, OnOk};
 ghost use Rattle.ltl_formula.specs.ListSignals.{KeepsSignals};
 ghost use Rattle.ltl_formula.specs.Nodes.{Grows, IsNodeList, Stands, tree_at};
-ghost use Rattle.tlsf_tokens.specs.declared.code.SpecCode.{SpecCode as Code};
-ghost use Rattle.tlsf_tokens.specs.declared.code.SpecFault.TheVariants.{At};
+ghost use Rattle.spec_faults.specs.declared.code.SpecCode.{SpecCode as Code};
+ghost use Rattle.spec_faults.specs.declared.code.SpecFault.TheVariants.{At};
 ghost use Rattle.tlsf_expand.specs.FewSignals.{HasFewSignals};
 ghost use Rattle.spec_problems.specs.OfFormula.{AcceptBySide, AreProblems, AreProblemsIn, AreProblemsOver, IsEnvironmentOver, IsFormFault, IsProblemOver, IsVersion, refusal_of};
 
@@ -13,9 +13,9 @@ use dual_search::{Automata, problems};
 use letter_word::{Kind, Side};
 use ltl_formula::{FormulaId, Formulas};
 use machine_model::{Automaton, Problem};
+use spec_faults::{SpecCode, SpecFault};
 use std::alloc::{AllocError, Global};
 use std::sync::Arc;
-use tlsf_tokens::{SpecCode, SpecFault};
 
 /// What the problems of both sides share.
 #[derive(Clone, Copy)]

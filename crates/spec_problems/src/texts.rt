@@ -1,11 +1,11 @@
 // The problems of both sides of a text.
 
-ghost use Rattle.std.specs.Prelude.{◌≡◌, ℕ, Err, IfOk, length, vec_len};
+ghost use Rattle.std.specs.Prelude.{◌≡◌, ℕ, Err, IfOk, length};
 ghost use Rattle.ltl_formula.specs.Nodes.{IsNodeList, tree_at};
-ghost use Rattle.tlsf_tokens.specs.declared.code.SpecCode.{SpecCode as Code};
-ghost use Rattle.tlsf_tokens.specs.declared.code.SpecFault.TheVariants.{At};
+ghost use Rattle.spec_faults.specs.declared.code.SpecCode.{SpecCode as Code};
+ghost use Rattle.spec_faults.specs.declared.code.SpecFault.TheVariants.{At};
 ghost use Rattle.tlsf_expand.specs.FewSignals.{HasFewSignals};
-ghost use Rattle.tlsf_expand.specs.TextSeen.{spec_seen};
+ghost use Rattle.tlsf_expand.specs.FlatText.{spec_seen};
 ghost use Rattle.flat_text.specs.FlatNames.{HasPlainNames};
 ghost use Rattle.spec_problems.specs.OfFormula.{AcceptBySide, AreProblems, IsVersion};
 ghost use Rattle.spec_problems.specs.OfText.{AreProblemsOf, IsFirstFault, SaysWhat};
@@ -13,9 +13,9 @@ ghost use Rattle.spec_problems.specs.OfText.{AreProblemsOf, IsFirstFault, SaysWh
 use crate::sides::{Interface, SideProblems, problems_of};
 use flat_text::expand_text;
 use letter_word::Kind;
+use spec_faults::SpecFault;
 use std::alloc::Global;
 use tlsf_expand::Spec;
-use tlsf_tokens::SpecFault;
 
 /// A text with the problems of both sides.
 #[derive(Debug, Drop)]
@@ -40,7 +40,6 @@ pub fn text_problems(
     ensures means { IfOk result (λ t. SaysWhat text.now t.spec.formulas t.spec.whole) }
     ensures few { IfOk result (λ t. HasFewSignals (length t.spec.inputs.items) (length t.spec.outputs.items) t.spec.formulas) }
     ensures names { IfOk result (λ t. HasPlainNames (spec_seen t.spec).expanded) }
-    ensures sections { IfOk result (λ t. vec_len t.spec.sections ≡ 6) }
     ensures list { IfOk result (λ t. IsNodeList t.spec.formulas) }
     ensures fault { (code : Code) (place : ℕ) → result ≡ Err (At code place) → IsFirstFault text.now kind code place }
 {

@@ -1,10 +1,10 @@
 -- From a document over a ground to an answer to what has that ground.
 use Rattle.std.proofs.Common.{◌≡◌, ℕ, Bool, List, Option, Some, refl, sym, ap, ◌∙◌, subst}
 use Rattle.letter_word.specs.declared.kinds.Kind.{Kind}
-use Rattle.tlsf_tokens.specs.declared.code.SpecCode.{SpecCode}
+use Rattle.spec_faults.specs.declared.code.SpecCode.{SpecCode}
 use Rattle.synth_engine.specs.declared.settings.Settings.{Settings}
 use Rattle.synth_answer.specs.Answer.{AnswersFor, IsAnswerFor, IsAnswerOn, refused, realizable, unrealizable, bounded, no_size, no_entries, defeats}
-use Rattle.tlsf_expand.specs.TextSeen.{FlatText}
+use Rattle.tlsf_expand.specs.FlatText.{FlatText}
 use Rattle.spec_problems.specs.OfText.{AreProblemsOf}
 use Rattle.synth_answer.specs.Ground.{AreProblemsOn, Ground, ground_with}
 use Rattle.synth_answer.specs.Printed.{Printed, PrintedFor}

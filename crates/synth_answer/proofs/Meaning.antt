@@ -21,16 +21,14 @@ use Rattle.dual_search.specs.declared.automata.Automata.{Automata}
 use Rattle.dual_search.specs.Sides.{AcceptsWhere}
 use Rattle.tlsf_expand.specs.Expansion.{Expanded, expanded_as, kind_of}
 use Rattle.tlsf_expand.specs.Meaning.{means}
-use Rattle.tlsf_expand.specs.TextSeen.{FlatText, flat_in}
-use Rattle.tlsf_expand.specs.Texts.{Text}
+use Rattle.tlsf_expand.specs.FlatText.{FlatText, flat_in}
+use Rattle.tlsf_syntax.specs.Text.{Text}
 use Rattle.tlsf_expand.specs.Signals.{signals_of}
 use Rattle.tlsf_expand.specs.Sections.{sections_value, whole_value}
 use Rattle.tlsf_values.specs.declared.work.Work.{Work}
 use Rattle.tlsf_values.specs.Outcomes.{Outcome, fails, gives, go_on}
 use Rattle.flat_text.specs.FlatOf.{IsFlatOf}
 use Rattle.std.specs.Option.{option_map_or}
-use Rattle.tlsf_reader.specs.Spec.{Spec}
-use Rattle.flat_text.specs.Plain.{text_of}
 use Rattle.spec_problems.specs.declared.sides.SideProblems.{SideProblems}
 use Rattle.spec_problems.specs.OfFormula.{AcceptBySide, AreProblems, AreProblemsIn, AreProblemsOver, IsEnvironmentOver, IsProblemOver}
 use Rattle.spec_problems.specs.OfText.{AreProblemsOf, SaysWhat, interface_of}
@@ -45,8 +43,8 @@ use Rattle.synth_answer.proofs.Sides.{some_of}
 
 -- == what a text wants ==
 
-abbrev pub wanted_of : Expanded → Spec → Wanted
-wanted_of x tree = record { inputs = x.inputs; outputs = x.outputs; kind = x.kind; means = λ w. means w (text_of tree) }
+abbrev pub wanted_of : Expanded → Text → Wanted
+wanted_of x tree = record { inputs = x.inputs; outputs = x.outputs; kind = x.kind; means = λ w. means w tree }
 
 -- == its problems ==
 
@@ -90,12 +88,12 @@ through (fails code position) f kind h flat e = absurd (cc)
 kind_of_flat : (o : Option Kind) (t : Text) (flat : FlatText) → flat_in (expanded_as o t) ≡ Some flat → o ≡ Some flat.expanded.kind
 kind_of_flat None t flat e = absurd (cc)
 kind_of_flat (Some kind) t flat e =
-    let is = through (signals_of t) (λ signals w. go_on (sections_value signals t.sections w) (λ sections w. go_on (whole_value t.strict sections w) (λ whole w.
-    gives (record { inputs = signals.inputs; outputs = signals.outputs; kind = kind; strict = t.strict; sections = sections; whole = whole }) w))) kind
-    (λ signals w. through (sections_value signals t.sections w) (λ sections w. go_on (whole_value t.strict sections w) (λ whole w.
-    gives (record { inputs = signals.inputs; outputs = signals.outputs; kind = kind; strict = t.strict; sections = sections; whole = whole }) w)) kind
-    (λ sections w. through (whole_value t.strict sections w) (λ whole w.
-    gives (record { inputs = signals.inputs; outputs = signals.outputs; kind = kind; strict = t.strict; sections = sections; whole = whole }) w) kind
+    let is = through (signals_of t) (λ signals w. go_on (sections_value signals t.sections w) (λ sections w. go_on (whole_value t.info.strict sections w) (λ whole w.
+    gives (record { inputs = signals.inputs; outputs = signals.outputs; kind = kind; strict = t.info.strict; sections = sections; whole = whole }) w))) kind
+    (λ signals w. through (sections_value signals t.sections w) (λ sections w. go_on (whole_value t.info.strict sections w) (λ whole w.
+    gives (record { inputs = signals.inputs; outputs = signals.outputs; kind = kind; strict = t.info.strict; sections = sections; whole = whole }) w)) kind
+    (λ sections w. through (whole_value t.info.strict sections w) (λ whole w.
+    gives (record { inputs = signals.inputs; outputs = signals.outputs; kind = kind; strict = t.info.strict; sections = sections; whole = whole }) w) kind
     (λ whole w flat e. sym (ap (λ o. option_map_or (λ (x : FlatText). x.expanded.kind) o kind) e)))) flat e in
     ap (λ y. Some y) (sym is)
 
@@ -103,14 +101,14 @@ pub flat_by_its_kind : (text : List ℕ) (kind : Option Kind) (flat : FlatText) 
 flat_by_its_kind text kind flat is = record {
   tree = is.tree;
   read = is.read;
-  expanded = subst (λ o. flat_in (expanded_as o (text_of is.tree)) ≡ Some flat) (kind_of_flat (kind_of kind (text_of is.tree)) (text_of is.tree) flat is.expanded) is.expanded;
+  expanded = subst (λ o. flat_in (expanded_as o is.tree) ≡ Some flat) (kind_of_flat (kind_of kind is.tree) is.tree flat is.expanded) is.expanded;
   meaning = is.meaning;
 }
 
 -- == its ground ==
 
 abbrev pub truth_of_text : {text : List ℕ} {nodes : List Node} {whole : FormulaId} → SaysWhat text nodes whole → Word → Bool
-truth_of_text says w = means w (text_of says.tree)
+truth_of_text says w = means w says.tree
 
 -- the ground of a text, with the names of a text that says the same
 abbrev pub text_ground : {text : List ℕ} (spec flat : FlatText) → SaysWhat text spec.formulas spec.expanded.whole → Ground

@@ -7,13 +7,12 @@ use Rattle.ltl_formula.specs.declared.nodes.FormulaId.{FormulaId}
 use Rattle.ltl_formula.specs.declared.nodes.Node.{Node}
 use Rattle.ltl_formula.specs.Nodes.{tree_at}
 use Rattle.ltl_formula.specs.Tree.{Tree}
-use Rattle.tlsf_reader.specs.Spec.{Spec}
+use Rattle.tlsf_syntax.specs.Text.{Text}
 use Rattle.tlsf_reader.specs.Reads.{Reads}
 use Rattle.tlsf_expand.specs.Expansion.{Expanded}
 use Rattle.tlsf_expand.specs.Meaning.{means}
-use Rattle.tlsf_expand.specs.TextSeen.{FlatText}
+use Rattle.tlsf_expand.specs.FlatText.{FlatText}
 use Rattle.flat_text.specs.FlatOf.{IsFlatOf}
-use Rattle.flat_text.specs.Plain.{text_of}
 use Rattle.spec_problems.specs.declared.sides.Interface.{Interface}
 use Rattle.spec_problems.specs.declared.sides.SideProblems.{SideProblems}
 use Rattle.spec_problems.specs.OfFormula.{AcceptBySide, AreProblemsIn}
@@ -72,9 +71,9 @@ pub record IsWantedBy (text : List ℕ) (kind : Option Kind) (x : Wanted) : Type
   pub inputs : x.inputs ≡ flat.expanded.inputs
   pub outputs : x.outputs ≡ flat.expanded.outputs
   pub kind_is : x.kind ≡ flat.expanded.kind
-  pub tree : Spec
+  pub tree : Text
   pub read : Reads text tree
-  pub meaning : (w : Word) → x.means w ≡ means w (text_of tree)
+  pub meaning : (w : Word) → x.means w ≡ means w tree
 
 -- its flat whole says it, in the list that evaluation leaves
 pub record IsGroundOf (text : List ℕ) (kind : Option Kind) (g : Ground) : Type 0 where

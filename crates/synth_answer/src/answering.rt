@@ -7,7 +7,7 @@ ghost use Rattle.machine_model.specs.Automaton.{IsAutomaton};
 ghost use Rattle.machine_model.specs.Problem.{automaton_of};
 ghost use Rattle.flat_text.specs.FlatNames.{HasPlainNames};
 ghost use Rattle.program_replies.specs.Statuses.{status_number};
-ghost use Rattle.tlsf_expand.specs.TextSeen.{spec_seen};
+ghost use Rattle.tlsf_expand.specs.FlatText.{spec_seen};
 ghost use Rattle.synth_answer.specs.Answer.{Answers, IsAnswerOn, is_environment};
 ghost use Rattle.synth_answer.specs.Ground.{AreGivenOn, ground_with};
 ghost use Rattle.synth_answer.specs.Reply.{AreProblemsFor, HaveAutomata, IsRefusal, IsSearchedReply, outcome_defeats};
@@ -19,13 +19,13 @@ use letter_word::{Kind, Side};
 use machine_model::Problem;
 use outside_edge::Gate;
 use program_replies::{Reply, refused};
+use spec_faults::SpecFault;
 use spec_problems::{SideProblems, TextProblems, text_problems};
 use std::alloc::{AllocError, Global};
 use std::sync::Wait;
 use std::thread::Threads;
 use synth_engine::{Outcome, Settings, search};
 use tlsf_expand::Spec;
-use tlsf_tokens::SpecFault;
 
 /// A document with its status.
 #[derive(Drop)]

@@ -1,7 +1,7 @@
 //! What is written for the outcome of a search.
 ghost use Rattle.std.specs.Prelude.{◌≡◌, ◌≤◌, IfOk, Some, length, map};
 ghost use Rattle.machine_model.specs.Machine.{size_of};
-ghost use Rattle.tlsf_expand.specs.TextSeen.{spec_seen};
+ghost use Rattle.tlsf_expand.specs.FlatText.{spec_seen};
 ghost use Rattle.synth_answer.specs.Holds.{read_by, written_by};
 ghost use Rattle.synth_answer.specs.Reply.{FitsNames, HasFittingMachine, IsCircuitWith, IsMachineText, IsReplyTo};
 

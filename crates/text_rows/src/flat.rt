@@ -8,17 +8,7 @@ use letter_word::{Lasso, Letter};
 use ltl_formula::{FormulaId, Formulas, write_formula};
 use std::alloc::{AllocError, Global};
 use text_base::Name;
-use tlsf_expand::{Section, Spec};
-
-/// What each section's formulas are printed behind.
-const WORDS: [&[u8]; 6] = [
-    b"initially ",
-    b"preset ",
-    b"require ",
-    b"assert ",
-    b"assume ",
-    b"guarantee ",
-];
+use tlsf_expand::Spec;
 
 /// The name of a signal, or none where there is no such signal.
 fn name_of(alloc: Global, spec: &Spec, signal: usize) -> Result<Name, AllocError> {
@@ -72,12 +62,12 @@ fn push_section(
     lines: &mut Lines,
     word: &[u8],
     spec: &Spec,
-    section: &Section,
+    formulas: &[FormulaId],
     names: &[Name],
 ) -> Result<(), AllocError>
     requires { length names.now ≡ 16 }
 {
-    for &formula in section.formulas() {
+    for &formula in formulas {
         push_line(lines, word, spec, formula, names)?;
     }
     Ok(())
@@ -91,10 +81,13 @@ pub(crate) fn push_spec(lines: &mut Lines, spec: &Spec) -> Result<(), AllocError
     push_names(lines, b"inputs", &spec.inputs)?;
     push_names(lines, b"outputs", &spec.outputs)?;
     let names = sixteen_names(lines.alloc, spec)?;
-    for (word, section) in WORDS.iter().zip(&spec.sections) {
-        push_section(lines, word, spec, section, &names)?;
-    }
-    Ok(())
+    let sections = &spec.sections;
+    push_section(lines, b"initially ", spec, &sections.initially, &names)?;
+    push_section(lines, b"preset ", spec, &sections.preset, &names)?;
+    push_section(lines, b"require ", spec, &sections.require, &names)?;
+    push_section(lines, b"assert ", spec, &sections.assert, &names)?;
+    push_section(lines, b"assume ", spec, &sections.assume, &names)?;
+    push_section(lines, b"guarantee ", spec, &sections.guarantee, &names)
 }
 
 /// A line for each node of the list, behind its id.

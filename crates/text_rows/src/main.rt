@@ -14,11 +14,11 @@ use crate::lines::Lines;
 use crate::trees::push_tree;
 use flat_text::expand_text;
 use letter_word::Kind;
+use spec_faults::SpecFault;
 use std::alloc::{AllocError, Global};
 use std::io::{BufRead, Write};
 use tlsf_expand::Spec;
 use tlsf_reader::read;
-use tlsf_tokens::SpecFault;
 
 /// What a line begins with that is a heading.
 const HEADING: &[u8] = b"==== ";

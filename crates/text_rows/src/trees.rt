@@ -2,17 +2,7 @@
 
 use crate::lines::Lines;
 use std::alloc::AllocError;
-use tlsf_tree::{Body, Declaration, Definition, Expr, Form, Info, Link, Op, Range, SpecTree};
-
-/// What each section's formulas are printed behind.
-const WORDS: [&[u8]; 6] = [
-    b"initially ",
-    b"preset ",
-    b"require ",
-    b"assert ",
-    b"assume ",
-    b"guarantee ",
-];
+use tlsf_syntax::{Body, Declaration, Definition, Expr, Form, Info, Link, Op, Range, SpecTree};
 
 /// The fields of INFO, what is defined, the names that are declared, and each section's formulas.
 pub(crate) fn push_tree(lines: &mut Lines, tree: &SpecTree) -> Result<(), AllocError> {
@@ -22,10 +12,18 @@ pub(crate) fn push_tree(lines: &mut Lines, tree: &SpecTree) -> Result<(), AllocE
     }
     push_declared(lines, b"inputs", &tree.inputs)?;
     push_declared(lines, b"outputs", &tree.outputs)?;
-    for (word, formulas) in WORDS.iter().zip(&tree.sections) {
-        for formula in formulas {
-            show_in(lines, formula, (word, b"\n"))?;
-        }
+    push_section(lines, b"initially ", &tree.sections.initially)?;
+    push_section(lines, b"preset ", &tree.sections.preset)?;
+    push_section(lines, b"require ", &tree.sections.require)?;
+    push_section(lines, b"assert ", &tree.sections.assert)?;
+    push_section(lines, b"assume ", &tree.sections.assume)?;
+    push_section(lines, b"guarantee ", &tree.sections.guarantee)
+}
+
+/// A line for each formula of a section.
+fn push_section(lines: &mut Lines, word: &[u8], formulas: &[Expr]) -> Result<(), AllocError> {
+    for formula in formulas {
+        show_in(lines, formula, (word, b"\n"))?;
     }
     Ok(())
 }

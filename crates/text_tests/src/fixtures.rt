@@ -27,10 +27,8 @@ fn text_of(alloc: Global, definitions: &[u8], parts: &[u8]) -> Result<Vec<u8>, A
 
 /// Whether GUARANTEE has formulas, and each of them is `true`.
 fn guarantees_true(spec: &Spec) -> bool {
-    let Some(section) = spec.sections.last() else {
-        return false;
-    };
-    for &formula in section.formulas() {
+    let guarantees = &spec.sections.guarantee;
+    for &formula in guarantees {
         if (formula.0 as usize) >= spec.formulas.len() {
             return false;
         }
@@ -38,7 +36,7 @@ fn guarantees_true(spec: &Spec) -> bool {
             return false;
         }
     }
-    !section.formulas().is_empty()
+    !guarantees.is_empty()
 }
 
 /// The text of these definitions and parts is expanded, and what it guarantees is true.

@@ -8,7 +8,7 @@ use ltl_formula::{FormulaId, Formulas};
 use std::alloc::{AllocError, Global};
 use std::io::{BufRead, Write};
 use text_base::Name;
-use tlsf_expand::{Section, Spec};
+use tlsf_expand::Spec;
 
 /// The line that ends a text and what is printed of it. It isn't a part of the text.
 const END: &[u8] = b"====\n";
@@ -36,9 +36,9 @@ impl Lines {
     }
 
     /// `word`, then a blank and an id for each formula.
-    fn push_section(&mut self, word: &str, section: &Section) -> Result<(), AllocError> {
+    fn push_section(&mut self, word: &str, formulas: &[FormulaId]) -> Result<(), AllocError> {
         self.push(word)?;
-        for formula in section.formulas() {
+        for formula in formulas {
             self.push(&format!(in self.alloc; " {}", formula.0)?)?;
         }
         self.push("\n")
@@ -54,21 +54,17 @@ impl Lines {
     }
 
     fn push_spec(&mut self, spec: &Spec) -> Result<(), AllocError> {
-        let words = [
-            "initially",
-            "preset",
-            "require",
-            "assert",
-            "assume",
-            "guarantee",
-        ];
         self.push(&format!(in self.alloc; "{:?}\n", spec.kind)?)?;
         self.push_names("inputs", &spec.inputs)?;
         self.push_names("outputs", &spec.outputs)?;
         self.push_nodes(&spec.formulas)?;
-        for (word, section) in words.iter().zip(&spec.sections) {
-            self.push_section(word, section)?;
-        }
+        let sections = &spec.sections;
+        self.push_section("initially", &sections.initially)?;
+        self.push_section("preset", &sections.preset)?;
+        self.push_section("require", &sections.require)?;
+        self.push_section("assert", &sections.assert)?;
+        self.push_section("assume", &sections.assume)?;
+        self.push_section("guarantee", &sections.guarantee)?;
         self.push(&format!(in self.alloc; "whole {}\n", spec.whole.0)?)
     }
 

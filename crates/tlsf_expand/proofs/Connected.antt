@@ -7,7 +7,7 @@ use Rattle.ltl_formula.specs.declared.nodes.FormulaId.{FormulaId}
 use Rattle.ltl_formula.specs.declared.nodes.Node.{Node}
 use Rattle.ltl_formula.specs.Tree.{Tree}
 use Rattle.ltl_formula.specs.Truth.{holds, until_at, release_at}
-use Rattle.ltl_formula.specs.Nodes.{pick, tree_of, IsNodeList}
+use Rattle.ltl_formula.specs.Nodes.{SignalBelow, pick, tree_of}
 use Rattle.tlsf_values.specs.declared.work.Work.{Work}
 use Rattle.tlsf_values.specs.declared.value.Value.{Value}
 use Rattle.tlsf_values.specs.declared.formula.Formula.{Formula}
@@ -24,7 +24,7 @@ use Rattle.tlsf_values.specs.Formulas.{pairing_of, connective_of, sign_of, truth
 use Rattle.tlsf_values.specs.Operators.{as_value}
 use Rattle.tlsf_expand.specs.Senses as senses
 use Rattle.tlsf_expand.specs.Senses.{Sense, a_truth, a_formula, true_in, implies, always, weakly, eventually}
-use Rattle.tlsf_expand.proofs.Kept.{Keeps, refuses, keeps_go_on, keeps_given, keeps_map}
+use Rattle.tlsf_expand.proofs.Kept.{IsGood, Keeps, refuses, keeps_go_on, keeps_given, keeps_map}
 use Rattle.tlsf_expand.proofs.Alike.{HasTruths, Alike, alike_number, alike_set, alike_bus, alike_member, alike_truth, alike_formula, AlikeFormula, alike_sure, alike_flat, grown_truths, grown_formula}
 use Rattle.tlsf_expand.proofs.Made.{keeps_truth_node, keeps_unary, keeps_binary, keeps_not}
 
@@ -80,63 +80,78 @@ module _ (w : Word) where
   connective_pairing connective.Implies a b = refl
   connective_pairing connective.Equiv a b = refl
 
-  pub keeps_node_of : (place : ℕ) (x : Formula) (s : Sense) (work : Work) → IsNodeList work.formulas → AlikeFormula w work.formulas x s
-      → Keeps work.formulas (HasTruths w (true_in s)) (node_of place x work)
+pairing_below : (top : ℕ) (p : Pairing) (i j : FormulaId) → SignalBelow top (pairing_of p i j)
+pairing_below top pairing.And i j = tt
+pairing_below top pairing.Or i j = tt
+pairing_below top pairing.Implies i j = tt
+pairing_below top pairing.Equiv i j = tt
+pairing_below top pairing.WeakUntil i j = tt
+pairing_below top pairing.Until i j = tt
+pairing_below top pairing.Release i j = tt
+
+sign_below : (top : ℕ) (o : Sign) (i : FormulaId) → SignalBelow top (sign_of o i)
+sign_below top sign.Next i = tt
+sign_below top sign.Finally i = tt
+sign_below top sign.Globally i = tt
+
+value_of_formula : {w : Word} {nodes : List Node} {x : Formula} {s : Sense} → AlikeFormula w nodes x s → Alike w nodes (formula_value x) s
+value_of_formula (alike_sure b) = alike_truth b
+value_of_formula (alike_flat id f h) = alike_formula id f h
+
+module _ {top : ℕ} (w : Word) where
+  pub keeps_node_of : (place : ℕ) (x : Formula) (s : Sense) (work : Work) → IsGood top work.formulas → AlikeFormula w work.formulas x s
+      → Keeps top work.formulas (HasTruths w (true_in s)) (node_of place x work)
   keeps_node_of place _ _ work list (alike_sure b) = keeps_truth_node w place b work list
   keeps_node_of place _ _ work list (alike_flat id truths h) = keeps_given (HasTruths w truths) id work list h
 
   -- a flat formula that was made
-  pub keeps_flat : {old : List Node} {o : Outcome FormulaId} (f : ℕ → Bool) → Keeps old (HasTruths w f) o
-      → Keeps old (λ z nodes. AlikeFormula w nodes z (a_formula f)) (go_on o (λ id w. gives (formula.Flat id) w))
+  pub keeps_flat : {old : List Node} {o : Outcome FormulaId} (f : ℕ → Bool) → Keeps top old (HasTruths w f) o
+      → Keeps top old (λ z nodes. AlikeFormula w nodes z (a_formula f)) (go_on o (λ id w. gives (formula.Flat id) w))
   keeps_flat f h = keeps_go_on _ _ h (λ id work list grows t. keeps_given _ (formula.Flat id) work list (alike_flat id f t))
 
-  pub keeps_over_both : (place : ℕ) (p : Pairing) (x y : Formula) (s t : Sense) (work : Work) → IsNodeList work.formulas
+  pub keeps_over_both : (place : ℕ) (p : Pairing) (x y : Formula) (s t : Sense) (work : Work) → IsGood top work.formulas
       → AlikeFormula w work.formulas x s → AlikeFormula w work.formulas y t
-      → Keeps work.formulas (λ z nodes. AlikeFormula w nodes z (a_formula (pairing_truths w p (true_in s) (true_in t)))) (over_both place p x y work)
+      → Keeps top work.formulas (λ z nodes. AlikeFormula w nodes z (a_formula (pairing_truths w p (true_in s) (true_in t)))) (over_both place p x y work)
   keeps_over_both place p x y s t work list left right =
       keeps_go_on _ _ (keeps_node_of place x s work list left) (λ i work1 list1 grows1 at_i.
       keeps_go_on _ _ (keeps_node_of place y t work1 list1 (grown_formula grows1 right)) (λ j work2 list2 grows2 at_j.
       keeps_flat (pairing_truths w p (true_in s) (true_in t))
-      (keeps_binary w place (pairing_of p) (pairing_truths w p) (pairing_means p) work2 i j (true_in s) (true_in t) list2 (grown_truths grows2 at_i) at_j)))
+      (keeps_binary w place (pairing_of p) (pairing_truths w p) (pairing_means w p) (pairing_below top p) work2 i j (true_in s) (true_in t) list2 (grown_truths grows2 at_i) at_j)))
 
-  pub keeps_over_one : (place : ℕ) (o : Sign) (x : Formula) (s : Sense) (work : Work) → IsNodeList work.formulas → AlikeFormula w work.formulas x s
-      → Keeps work.formulas (λ z nodes. AlikeFormula w nodes z (a_formula (sign_truths w o (true_in s)))) (over_one place o x work)
+  pub keeps_over_one : (place : ℕ) (o : Sign) (x : Formula) (s : Sense) (work : Work) → IsGood top work.formulas → AlikeFormula w work.formulas x s
+      → Keeps top work.formulas (λ z nodes. AlikeFormula w nodes z (a_formula (sign_truths w o (true_in s)))) (over_one place o x work)
   keeps_over_one place o x s work list part =
       keeps_go_on _ _ (keeps_node_of place x s work list part) (λ i work1 list1 grows1 at_i.
-      keeps_flat (sign_truths w o (true_in s)) (keeps_unary w place (sign_of o) (sign_truths w o) (sign_means o) work1 i (true_in s) list1 at_i))
+      keeps_flat (sign_truths w o (true_in s)) (keeps_unary w place (sign_of o) (sign_truths w o) (sign_means w o) (sign_below top o) work1 i (true_in s) list1 at_i))
 
   -- at an equal sense
-  same_sense : {old : List Node} {o : Outcome Formula} (s t : Sense) → s ≡ t → Keeps old (λ z nodes. AlikeFormula w nodes z s) o → Keeps old (λ z nodes. AlikeFormula w nodes z t) o
+  same_sense : {old : List Node} {o : Outcome Formula} (s t : Sense) → s ≡ t → Keeps top old (λ z nodes. AlikeFormula w nodes z s) o → Keeps top old (λ z nodes. AlikeFormula w nodes z t) o
   same_sense s t e h = keeps_map _ (λ z nodes grows a. subst (AlikeFormula w nodes z) e a) h
 
-  pub keeps_connected : (place : ℕ) (c : Connective) (x y : Formula) (s t : Sense) (work : Work) → IsNodeList work.formulas
+  pub keeps_connected : (place : ℕ) (c : Connective) (x y : Formula) (s t : Sense) (work : Work) → IsGood top work.formulas
       → AlikeFormula w work.formulas x s → AlikeFormula w work.formulas y t
-      → Keeps work.formulas (λ z nodes. AlikeFormula w nodes z (senses.connected (connective_truth c) s t)) (connected place c x y work)
+      → Keeps top work.formulas (λ z nodes. AlikeFormula w nodes z (senses.connected (connective_truth c) s t)) (connected place c x y work)
   keeps_connected place c _ _ _ _ work list (alike_sure a) (alike_sure b) =
       keeps_given _ (formula.Sure (truth_of c a b)) work list (subst (λ e. AlikeFormula w work.formulas (formula.Sure (truth_of c a b)) (a_truth e)) (same_connective c a b) (alike_sure (truth_of c a b)))
   keeps_connected place c _ _ _ _ work list (alike_sure a) (alike_flat j g h) =
-      same_sense _ _ (ap a_formula (connective_pairing c (λ k. a) g)) (keeps_over_both place (connective_of c) _ _ _ _ work list (alike_sure a) (alike_flat j g h))
+      same_sense _ _ (ap a_formula (connective_pairing w c (λ k. a) g)) (keeps_over_both place (connective_of c) _ _ _ _ work list (alike_sure a) (alike_flat j g h))
   keeps_connected place c _ _ _ _ work list (alike_flat i f h) (alike_sure b) =
-      same_sense _ _ (ap a_formula (connective_pairing c f (λ k. b))) (keeps_over_both place (connective_of c) _ _ _ _ work list (alike_flat i f h) (alike_sure b))
+      same_sense _ _ (ap a_formula (connective_pairing w c f (λ k. b))) (keeps_over_both place (connective_of c) _ _ _ _ work list (alike_flat i f h) (alike_sure b))
   keeps_connected place c _ _ _ _ work list (alike_flat i f h) (alike_flat j g h') =
-      same_sense _ _ (ap a_formula (connective_pairing c f g)) (keeps_over_both place (connective_of c) _ _ _ _ work list (alike_flat i f h) (alike_flat j g h'))
+      same_sense _ _ (ap a_formula (connective_pairing w c f g)) (keeps_over_both place (connective_of c) _ _ _ _ work list (alike_flat i f h) (alike_flat j g h'))
 
-  pub keeps_opposed : (place : ℕ) (x : Formula) (s : Sense) (work : Work) → IsNodeList work.formulas → AlikeFormula w work.formulas x s
-      → Keeps work.formulas (λ z nodes. AlikeFormula w nodes z (senses.opposite s)) (opposed place x work)
+  pub keeps_opposed : (place : ℕ) (x : Formula) (s : Sense) (work : Work) → IsGood top work.formulas → AlikeFormula w work.formulas x s
+      → Keeps top work.formulas (λ z nodes. AlikeFormula w nodes z (senses.opposite s)) (opposed place x work)
   keeps_opposed place _ _ work list (alike_sure b) = keeps_given _ (formula.Sure (not b)) work list (alike_sure (not b))
   keeps_opposed place _ _ work list (alike_flat id f h) = keeps_flat (λ k. not (f k)) (keeps_not w place work id f list h)
 
   -- ---- formulas as values
 
-  pub value_of_formula : {nodes : List Node} {x : Formula} {s : Sense} → AlikeFormula w nodes x s → Alike w nodes (formula_value x) s
-  value_of_formula (alike_sure b) = alike_truth b
-  value_of_formula (alike_flat id f h) = alike_formula id f h
-
-  pub keeps_as_value : {old : List Node} {o : Outcome Formula} (s : Sense) → Keeps old (λ z nodes. AlikeFormula w nodes z s) o → Keeps old (λ v nodes. Alike w nodes v s) (as_value o)
+  pub keeps_as_value : {old : List Node} {o : Outcome Formula} (s : Sense) → Keeps top old (λ z nodes. AlikeFormula w nodes z s) o → Keeps top old (λ v nodes. Alike w nodes v s) (as_value o)
   keeps_as_value s h = keeps_go_on _ _ h (λ z work list grows a. keeps_given _ (formula_value z) work list (value_of_formula a))
 
   pub keeps_formula_in : {B : Type 0} {old nodes : List Node} (place : ℕ) (v : Value) (s : Sense) (f : Formula → Work → Outcome B) (work : Work) (Q : B → List Node → Type 0)
-      → Alike w nodes v s → ((x : Formula) → AlikeFormula w nodes x s → Keeps old Q (f x work)) → Keeps old Q (checked (formula_in place v) f work)
+      → Alike w nodes v s → ((x : Formula) → AlikeFormula w nodes x s → Keeps top old Q (f x work)) → Keeps top old Q (checked (formula_in place v) f work)
   keeps_formula_in place _ _ f work Q (alike_truth b) next = next (formula.Sure b) (alike_sure b)
   keeps_formula_in place _ _ f work Q (alike_formula id g h) next = next (formula.Flat id) (alike_flat id g h)
   keeps_formula_in place _ _ f work Q (alike_number z) next = refuses _ _

@@ -1,76 +1,114 @@
--- Where a text is expanded, the whole flat formula holds on a lasso exactly where the text means so.
-use Rattle.std.proofs.Common.{◌≡◌, ℕ, Bool, true, false, List, [], ◌++◌, Option, None, Some, refl, sym, ap, ◌∙◌}
-use Rattle.std.specs.Prelude.{◌&&◌}
+-- What comes of a text that is expanded: its sections with their truths, and the formula of the whole that they make.
+use Rattle.std.proofs.Common.{◌≡◌, ◌+◌, ◌≤◌, List, [], ◌∷◌, All, length, get_or, Option, None, Some, refl, sym, ap, subst, ◌∙◌}
+use Rattle.std.proofs.lemmas.List.Elements.{All-head, All-tail}
 use Rattle.letter_word.specs.Word.{Word}
 use Rattle.letter_word.specs.declared.kinds.Kind.{Kind}
+use Rattle.ltl_formula.specs.declared.nodes.FormulaId.{FormulaId}
 use Rattle.ltl_formula.specs.declared.nodes.Node.{Node}
+use Rattle.ltl_formula.specs.Nodes.{Grows, Stands, tree_at}
 use Rattle.ltl_formula.specs.Truth.{holds}
-use Rattle.ltl_formula.specs.Nodes.{Stands, tree_at}
-use Rattle.tlsf_grammar.specs.Tree.{Tree}
+use Rattle.ltl_formula.proofs.Lists.{Grows-stands}
+use Rattle.ltl_formula.proofs.Trees.{tree_at-grown}
+use Rattle.tlsf_syntax.specs.declared.sections.Sections.{Sections}
+use Rattle.tlsf_syntax.specs.Text.{Text}
 use Rattle.tlsf_values.specs.declared.work.Work.{Work}
-use Rattle.tlsf_values.specs.Outcomes.{gives}
-use Rattle.tlsf_values.specs.Names.{Names}
-use Rattle.tlsf_expand.specs.Texts.{Sections, Text}
-use Rattle.tlsf_expand.specs.Signals.{TypedSignal, Signals, signals_of}
+use Rattle.tlsf_values.specs.Outcomes.{Outcome, gives, fails}
 use Rattle.tlsf_expand.specs.Expansion.{Expanded, kind_of, expanded_as, expanded}
-use Rattle.tlsf_expand.specs.Meaning.{all_true, all_typed, by_semantics, section_truths, means_with, means}
+use Rattle.tlsf_expand.specs.FewSignals.{ExpansionHasFewSignals}
+use Rattle.tlsf_expand.specs.FlatText.{FlatText, flat_in}
 use Rattle.tlsf_expand.specs.Laws.{ExpansionKeepsMeaning}
-use Rattle.tlsf_expand.proofs.Kept.{Keeps, refuses, keeps_go_on, keeps_go_on_is, keeps_given, Given, given}
-use Rattle.tlsf_expand.proofs.Bools.{same_function}
-use Rattle.tlsf_expand.proofs.Laid.{keeps_signals}
-use Rattle.tlsf_expand.proofs.Sectioned.{all_at, all_at-append, written_truths, typed_truths, all_written, all_are_typed, all_lists, all_sections, whole_at, keeps_sections, keeps_whole}
+use Rattle.tlsf_expand.specs.Meaning.{by_semantics, means_with}
+use Rattle.tlsf_expand.specs.Signals.{Signals, signals_of}
+use Rattle.tlsf_expand.specs.Standing.{SectionsStand, StandsAs, formulas_at, section_trees}
+use Rattle.tlsf_expand.proofs.EachSection.{each_of, each_weaker, same_where}
+use Rattle.tlsf_expand.proofs.Filling.{keeps_filled}
+use Rattle.tlsf_expand.proofs.Kept.{IsGood, Gives, Anyhow, gives_go_on, gives_go_on_is, gives_such, given, refuses}
+use Rattle.tlsf_expand.proofs.Laid.{gives_signals}
+use Rattle.tlsf_expand.proofs.Sectioned.{HaveTruths, all_lists, keeps_sections, sections_stand, truths_are, truths_later}
+use Rattle.tlsf_expand.proofs.WholeTree.{AllStandAs, SectionsStandAs, fills_whole, none_stand, one_stands, whole_holds, whole_tree}
 
-module _ (w : Word) where
-  same_section : (names : Names) (ts : List Tree) → all_at (written_truths w names ts) ≡ all_true w names ts
-  same_section names ts = same_function _ _ (λ i. all_written w names ts i)
+-- ---- formulas that stand, as trees
 
-  same_with_typed : (names : Names) (ts : List Tree) (signals : List TypedSignal) → all_at (written_truths w names ts ++ typed_truths w signals) ≡ (λ (i : ℕ). all_true w names ts i && all_typed w signals i)
-  same_with_typed names ts signals = same_function _ _ (λ i.
-      all_at-append (written_truths w names ts) (typed_truths w signals) i
-      ∙ ap (λ b. b && all_at (typed_truths w signals) i) (all_written w names ts i)
-      ∙ ap (λ b. all_true w names ts i && b) (all_are_typed w signals i))
+all_stand_as : (nodes : List Node) (ids : List FormulaId) → All (Stands nodes) ids → AllStandAs nodes (formulas_at nodes ids) ids
+all_stand_as nodes [] h = none_stand
+all_stand_as nodes (id ∷ ids) h =
+    one_stands (tree_at nodes id) id (formulas_at nodes ids) ids (record { stands = All-head (Stands nodes) id ids h; tree = refl }) (all_stand_as nodes ids (All-tail (Stands nodes) id ids h))
 
-  same_sections : (signals : Signals) (s : Sections (List Tree)) → all_sections w (all_lists w signals s) ≡ section_truths w signals s
-  same_sections signals s = λ k. record {
-    initially = same_section signals.names s.initially k;
-    preset = same_section signals.names s.preset k;
-    require = same_with_typed signals.names s.require signals.typed_inputs k;
-    assert = same_with_typed signals.names s.assert signals.typed_outputs k;
-    assume = same_section signals.names s.assume k;
-    guarantee = same_section signals.names s.guarantee k;
-  }
+pub as_trees : (nodes : List Node) (ids : Sections (List FormulaId)) → SectionsStand nodes ids → SectionsStandAs nodes (section_trees nodes ids) ids
+as_trees nodes ids h = each_of _ (λ p. AllStandAs nodes p.0 p.1) (λ ids. (formulas_at nodes ids, ids)) (all_stand_as nodes) h
 
-  at_start : (b : Bool) (x : Sections (ℕ → Bool)) → whole_at w b x 0 ≡ by_semantics b w x
-  at_start false x = refl
-  at_start true x = refl
+pub same_later : (old new : List Node) (ids : List FormulaId) → Grows old new → All (Stands old) ids → formulas_at new ids ≡ formulas_at old ids
+same_later old new [] grows h = refl
+same_later old new (id ∷ ids) grows h =
+    ap (λ t. t ∷ formulas_at new ids) (tree_at-grown old new id grows (All-head (Stands old) id ids h))
+    ∙ ap (λ ts. tree_at old id ∷ ts) (same_later old new ids grows (All-tail (Stands old) id ids h))
 
-  -- the whole stands in the list, and holds at the first position where the text means so
-  record WholeMeans (text : Text) (x : Expanded) (nodes : List Node) : Type 0 where
-    stands : Stands nodes x.whole
-    same : holds w (tree_at nodes x.whole) 0 ≡ means w text
+pub same_trees : (old new : List Node) (ids : Sections (List FormulaId)) → Grows old new → SectionsStand old ids → section_trees new ids ≡ section_trees old ids
+same_trees old new ids grows h = same_where (formulas_at new) (formulas_at old) (each_weaker _ _ (λ ids. same_later old new ids grows) h)
 
-  keeps_expanded_as : (kind : Option Kind) (text : Text) → Keeps [] (WholeMeans text) (expanded_as kind text)
-  keeps_expanded_as None text = refuses _ _
-  keeps_expanded_as (Some kind) text =
-      keeps_go_on_is (signals_of text) _ _ (keeps_signals text) (λ signals work1 is list1 grows1 plain.
-      keeps_go_on _ _ (keeps_sections w signals plain text.sections work1 list1) (λ ids work2 list2 grows2 have.
-      keeps_go_on _ _ (keeps_whole w text.strict (all_lists w signals text.sections) ids work2 list2 have) (λ whole work3 list3 grows3 h.
-      keeps_given _ _ work3 list3 (record {
-        stands = h.stands;
-        same = ap (λ f. f 0) h.same ∙ ap (λ x. whole_at w text.strict x 0) (same_sections signals text.sections)
-            ∙ at_start text.strict (section_truths w signals text.sections) ∙ sym (ap (means_with w text) is);
-      }))))
+pub sections_stand_later : (old new : List Node) (ids : Sections (List FormulaId)) → Grows old new → SectionsStand old ids → SectionsStand new ids
+sections_stand_later old new ids grows h = each_weaker _ (All (Stands new)) (λ ids h k d l. Grows-stands old new (get_or ids k d) grows (h k d l)) h
 
-  whole_means : (text : Text) (kind : Option Kind) (x : Expanded) (work : Work) → expanded text kind ≡ gives x work → Given (WholeMeans text) x work.formulas
-  whole_means text kind x work e = given (WholeMeans text) (expanded text kind) x work (keeps_expanded_as (kind_of kind text) text) e
+-- ---- the text
+
+-- the sections have the truths of the written ones, and the whole is what they make
+pub record IsMade (w : Word) (text : Text) (x : Expanded) (nodes : List Node) : Type 0 where
+  pub signals : Signals
+  pub work : Work
+  pub is : signals_of text ≡ gives signals work
+  pub strict : x.strict ≡ text.info.strict
+  pub few_inputs : length x.inputs ≤ 8
+  pub few_outputs : length x.outputs ≤ 8
+  pub good : IsGood (length x.inputs + length x.outputs) nodes
+  pub have : HaveTruths w (all_lists w signals text.sections) x.sections nodes
+  pub whole : StandsAs nodes (whole_tree x.strict (section_trees nodes x.sections)) x.whole
+
+gives_made_text : (w : Word) (kind : Option Kind) (text : Text) → Gives Anyhow (IsMade w text) (expanded_as kind text)
+gives_made_text w None text = refuses _ _
+gives_made_text w (Some kind) text =
+    gives_go_on_is (signals_of text) _ (IsMade w text) (gives_signals text) (λ signals w1 is s.
+    gives_go_on _ (IsMade w text) (keeps_sections w signals s.plain s.inputs_fit s.outputs_fit text.sections w1 s.good) (λ ids w2 k.
+    let stand : SectionsStand w2.formulas ids = sections_stand k.is in
+    gives_go_on _ (IsMade w text) (keeps_filled (fills_whole (section_trees w2.formulas ids) ids text.info.strict w2 k.good (as_trees w2.formulas ids stand))) (λ whole w3 l.
+    gives_such _ w3 (record {
+      signals = signals;
+      work = w1;
+      is = is;
+      strict = refl;
+      few_inputs = s.few_inputs;
+      few_outputs = s.few_outputs;
+      good = l.good;
+      have = truths_later l.grows k.is;
+      whole = subst (λ ts. StandsAs w3.formulas (whole_tree text.info.strict ts) whole) (sym (same_trees w2.formulas w3.formulas ids l.grows stand)) l.is;
+    }))))
+
+module _ (w : Word) (text : Text) (kind : Option Kind) where
+  made_of : (x : Expanded) (work : Work) → expanded text kind ≡ gives x work → IsMade w text x work.formulas
+  made_of x work e = given (IsMade w text) (expanded text kind) x work (gives_made_text w (kind_of kind text) text) e
+
+  pub is_made : (flat : FlatText) → flat_in (expanded text kind) ≡ Some flat → IsMade w text flat.expanded flat.formulas
+  is_made flat is = by (expanded text kind) refl is
+    where
+      by : (o : Outcome Expanded) → expanded text kind ≡ o → flat_in o ≡ Some flat → IsMade w text flat.expanded flat.formulas
+      by (fails code place) e none = cc
+      by (gives x work) e some =
+          let same : (let f : FlatText = record { expanded = x; formulas = work.formulas } in f) ≡ flat = cc in
+          subst (λ (f : FlatText). IsMade w text f.expanded f.formulas) same (made_of x work e)
 
 -- what doesn't speak of the word holds by any
-any_word : Word
+pub any_word : Word
 any_word = record { stem = []; ring = [] }
 
 pub expansion_keeps_meaning : ExpansionKeepsMeaning
 expansion_keeps_meaning = record {
-  stands = λ text kind x work e. (whole_means any_word text kind x work e).is.stands;
-  list = λ text kind x work e. (whole_means any_word text kind x work e).list;
-  meaning = λ text kind x work e w. (whole_means w text kind x work e).is.same;
+  stands = λ text kind x work e. (made_of any_word text kind x work e).whole.stands;
+  list = λ text kind x work e. (made_of any_word text kind x work e).good.list;
+  meaning = λ text kind x work e w.
+      let m = made_of w text kind x work e in
+      ap (λ t. holds w t 0) m.whole.tree ∙ whole_holds x.strict w (section_trees work.formulas x.sections)
+      ∙ (λ k. by_semantics (m.strict k) w (truths_are w work.formulas m.signals text.sections x.sections m.have k)) ∙ sym (ap (means_with w text) m.is);
 }
+
+pub expansion_has_few_signals : ExpansionHasFewSignals
+expansion_has_few_signals text kind x work e =
+    let m = made_of any_word text kind x work e in record { few_inputs = m.few_inputs; few_outputs = m.few_outputs; below = m.good.below }

@@ -4,9 +4,9 @@ use Rattle.std.specs.Prelude.{◌&&◌, ◌||◌, if◌then◌else◌}
 use Rattle.std.specs.List.{list_all, list_any}
 use Rattle.letter_word.specs.Word.{Word}
 use Rattle.ltl_formula.specs.declared.nodes.Node.{Node}
-use Rattle.ltl_formula.specs.Nodes.{IsNodeList, Grows}
+use Rattle.ltl_formula.specs.Nodes.{Grows}
 use Rattle.ltl_formula.proofs.Lists.{Grows-refl, Grows-trans}
-use Rattle.tlsf_tree.specs.declared.expr.Op.TheVariants as op
+use Rattle.tlsf_syntax.specs.declared.expr.Op.TheVariants as op
 use Rattle.tlsf_values.specs.declared.work.Work.{Work}
 use Rattle.tlsf_values.specs.declared.formula.Formula.{Formula}
 use Rattle.tlsf_values.specs.declared.formula.Formula.TheVariants as formula
@@ -15,7 +15,7 @@ use Rattle.tlsf_values.specs.declared.formula.Connective.TheVariants as connecti
 use Rattle.tlsf_values.specs.Outcomes.{Outcome}
 use Rattle.tlsf_values.specs.Counts.{joined_over}
 use Rattle.tlsf_expand.specs.Senses.{Sense, a_truth, a_formula, true_in, is_truth, connected, for_members}
-use Rattle.tlsf_expand.proofs.Kept.{Keeps, keeps_go_on, keeps_given, keeps_map}
+use Rattle.tlsf_expand.proofs.Kept.{IsGood, Keeps, keeps_go_on, keeps_given, keeps_map}
 use Rattle.tlsf_expand.proofs.Alike.{AlikeFormula, alike_sure, alike_flat, grown_formula}
 use Rattle.tlsf_expand.proofs.Connected.{connective_truth, keeps_connected}
 use Rattle.tlsf_expand.proofs.Bools.{and_once, or_once, and_regroup, or_regroup, same_function}
@@ -68,18 +68,18 @@ fold_or _ [] (of_truth b) = ap a_truth (sym (or_once b))
 fold_or _ [] (of_formula f) = ap a_formula (same_function _ _ (λ i. sym (or_once (f i))))
 fold_or s (t ∷ ts) h = fold_or (connected (λ x y. x || y) s t) ts (connected-formula (λ x y. x || y) s t) ∙ each_or s t ts
 
-module _ (w : Word) where
-  formula_sense : {nodes : List Node} {x : Formula} {s : Sense} → AlikeFormula w nodes x s → IsFormulaSense s
-  formula_sense (alike_sure b) = of_truth b
-  formula_sense (alike_flat id f h) = of_formula f
+-- what is made for each member has its sense, in every longer list
+pub record MakesEach (top : ℕ) (w : Word) (old : List Node) (f : ℤ → Work → Outcome Formula) (g : ℤ → Sense) : Type 0 where
+  pub each : (z : ℤ) (work : Work) → IsGood top work.formulas → Grows old work.formulas → Keeps top work.formulas (λ x nodes. AlikeFormula w nodes x (g z)) (f z work)
 
-  -- what is made for each member has its sense, in every longer list
-  pub record MakesEach (old : List Node) (f : ℤ → Work → Outcome Formula) (g : ℤ → Sense) : Type 0 where
-    pub each : (z : ℤ) (work : Work) → IsNodeList work.formulas → Grows old work.formulas → Keeps work.formulas (λ x nodes. AlikeFormula w nodes x (g z)) (f z work)
+formula_sense : {w : Word} {nodes : List Node} {x : Formula} {s : Sense} → AlikeFormula w nodes x s → IsFormulaSense s
+formula_sense (alike_sure b) = of_truth b
+formula_sense (alike_flat id f h) = of_formula f
 
-  keeps_joined_over : (place : ℕ) (c : Connective) (old : List Node) (f : ℤ → Work → Outcome Formula) (g : ℤ → Sense) → MakesEach old f g
-      → (zs : List ℤ) (x : Formula) (s : Sense) (work : Work) → IsNodeList work.formulas → Grows old work.formulas → AlikeFormula w work.formulas x s
-      → Keeps work.formulas (λ y nodes. AlikeFormula w nodes y (fold (connective_truth c) s (map g zs))) (joined_over place c f zs (Some x) work)
+module _ {top : ℕ} (w : Word) where
+  keeps_joined_over : (place : ℕ) (c : Connective) (old : List Node) (f : ℤ → Work → Outcome Formula) (g : ℤ → Sense) → MakesEach top w old f g
+      → (zs : List ℤ) (x : Formula) (s : Sense) (work : Work) → IsGood top work.formulas → Grows old work.formulas → AlikeFormula w work.formulas x s
+      → Keeps top work.formulas (λ y nodes. AlikeFormula w nodes y (fold (connective_truth c) s (map g zs))) (joined_over place c f zs (Some x) work)
   keeps_joined_over place c old f g makes [] x s work list grows h = keeps_given _ x work list h
   keeps_joined_over place c old f g makes (z ∷ zs) x s work list grows h =
       keeps_go_on _ _ (makes.each z work list grows) (λ y work1 list1 grows1 hy.
@@ -87,16 +87,16 @@ module _ (w : Word) where
       keeps_joined_over place c old f g makes zs joined (connected (connective_truth c) s (g z)) work2 list2
       (Grows-trans old work1.formulas work2.formulas (Grows-trans old work.formulas work1.formulas grows grows1) grows2) hj))
 
-  pub keeps_for_each : (place : ℕ) (f : ℤ → Work → Outcome Formula) (g : ℤ → Sense) (zs : List ℤ) (work : Work) → IsNodeList work.formulas → MakesEach work.formulas f g
-      → Keeps work.formulas (λ y nodes. AlikeFormula w nodes y (for_members op.And (map g zs))) (joined_over place connective.And f zs None work)
+  pub keeps_for_each : (place : ℕ) (f : ℤ → Work → Outcome Formula) (g : ℤ → Sense) (zs : List ℤ) (work : Work) → IsGood top work.formulas → MakesEach top w work.formulas f g
+      → Keeps top work.formulas (λ y nodes. AlikeFormula w nodes y (for_members op.And (map g zs))) (joined_over place connective.And f zs None work)
   keeps_for_each place f g [] work list makes = keeps_given _ (formula.Sure true) work list (alike_sure true)
   keeps_for_each place f g (z ∷ zs) work list makes =
       keeps_go_on _ _ (makes.each z work list (Grows-refl work.formulas)) (λ first work1 list1 grows1 h.
       keeps_map _ (λ y nodes grows a. subst (AlikeFormula w nodes y) (fold_and (g z) (map g zs) (formula_sense h)) a)
       (keeps_joined_over place connective.And work.formulas f g makes zs first (g z) work1 list1 grows1 h))
 
-  pub keeps_for_some : (place : ℕ) (f : ℤ → Work → Outcome Formula) (g : ℤ → Sense) (zs : List ℤ) (work : Work) → IsNodeList work.formulas → MakesEach work.formulas f g
-      → Keeps work.formulas (λ y nodes. AlikeFormula w nodes y (for_members op.Or (map g zs))) (joined_over place connective.Or f zs None work)
+  pub keeps_for_some : (place : ℕ) (f : ℤ → Work → Outcome Formula) (g : ℤ → Sense) (zs : List ℤ) (work : Work) → IsGood top work.formulas → MakesEach top w work.formulas f g
+      → Keeps top work.formulas (λ y nodes. AlikeFormula w nodes y (for_members op.Or (map g zs))) (joined_over place connective.Or f zs None work)
   keeps_for_some place f g [] work list makes = keeps_given _ (formula.Sure false) work list (alike_sure false)
   keeps_for_some place f g (z ∷ zs) work list makes =
       keeps_go_on _ _ (makes.each z work list (Grows-refl work.formulas)) (λ first work1 list1 grows1 h.

@@ -1,4 +1,4 @@
--- Outcomes that keep the list of formulas: it only grows, and stays a list of formulas.
+-- Outcomes that keep the list of formulas: it only grows, and stays a list of formulas over signals below a number.
 use Rattle.std.proofs.Common.{◌≡◌, ℕ, ◌<◌, Bool, true, false, ltb, cond, List, [], ◌∷◌, ◌++◌, length, Option, None, Some, refl, subst, arith}
 use Rattle.std.specs.Prelude.{position, slice_get, ◌&&◌}
 use Rattle.std.proofs.lemmas.Bool.{and_parts, ltb-true}
@@ -9,38 +9,90 @@ use Rattle.ltl_formula.specs.declared.nodes.Node.{Node}
 use Rattle.ltl_formula.specs.declared.nodes.Node.TheVariants as node
 use Rattle.ltl_formula.specs.declared.nodes.TheConstants.{MAX_NODES, MAX_SIGNALS}
 use Rattle.ltl_formula.specs.Nodes.{tree_of, trees_of, tree_at, PartsBelow, SignalBelow, IsNodeList, Stands, Grows}
+use Rattle.ltl_formula.specs.ListSignals.{HasSignalsBelow}
 use Rattle.ltl_formula.specs.Added.{node_eq, Built, built_at, added}
+use Rattle.ltl_formula.proofs.ListSignals.{HasSignalsBelow-added, HasSignalsBelow-none}
 use Rattle.ltl_formula.proofs.Lists.{Grows-refl, Grows-trans, Grows-added, added-stands, IsNodeList-append, tree_at-slice_get}
-use Rattle.tlsf_tokens.specs.declared.code.SpecCode.{SpecCode}
+use Rattle.spec_faults.specs.declared.code.SpecCode.{SpecCode}
+use Rattle.spec_faults.specs.declared.code.SpecCode.TheVariants.{TooManyNodes, WrongSort}
 use Rattle.tlsf_values.specs.declared.work.Work.{Work}
 use Rattle.tlsf_values.specs.Outcomes.{Outcome, gives, fails, go_on, Checked, fine, faulty, checked, choose, stands, may_stand, made_from, made}
 
--- the outcome is refused, or its list has grown from this one, and its value is as stated of the list
-pub data Keeps {A : Type 0} (old : List Node) (Q : A → List Node → Type 0) : Outcome A → Type 0 where
-  keeps : (a : A) (work : Work) → IsNodeList work.formulas → Grows old work.formulas → Q a work.formulas → Keeps old Q (gives a work)
-  refuses : (code : SpecCode) (place : ℕ) → Keeps old Q (fails code place)
+-- a list of formulas over signals below n
+pub record IsGood (n : ℕ) (nodes : List Node) : Type 0 where
+  pub list : IsNodeList nodes
+  pub below : HasSignalsBelow n nodes
 
-pub keeps_from : {A : Type 0} {old mid : List Node} {Q : A → List Node → Type 0} {o : Outcome A} → Grows old mid → Keeps mid Q o → Keeps old Q o
-keeps_from {old = old} {mid = mid} grows (keeps a work list more q) = keeps a work list (Grows-trans old mid work.formulas grows more) q
-keeps_from grows (refuses code place) = refuses code place
+-- ---- outcomes
 
-pub keeps_go_on : {A B : Type 0} {old : List Node} {P : A → List Node → Type 0} {o : Outcome A} (f : A → Work → Outcome B) (Q : B → List Node → Type 0)
-    → Keeps old P o → ((a : A) (work : Work) → IsNodeList work.formulas → Grows old work.formulas → P a work.formulas → Keeps work.formulas Q (f a work))
-    → Keeps old Q (go_on o f)
-keeps_go_on f Q (keeps a work list more p) next = keeps_from more (next a work list more p)
-keeps_go_on f Q (refuses code place) next = refuses code place
+-- the outcome gives such a value with such a list, or is refused so
+pub data Gives {A : Type 0} (R : SpecCode → ℕ → Type 0) (Q : A → List Node → Type 0) : Outcome A → Type 0 where
+  gives_such : (a : A) (work : Work) → Q a work.formulas → Gives R Q (gives a work)
+  refused_so : (code : SpecCode) (place : ℕ) → R code place → Gives R Q (fails code place)
 
--- the value is given as it is
-pub keeps_given : {A : Type 0} (Q : A → List Node → Type 0) (a : A) (work : Work) → IsNodeList work.formulas → Q a work.formulas → Keeps work.formulas Q (gives a work)
-keeps_given Q a work list q = keeps a work list (Grows-refl work.formulas) q
+-- refused for whatever reason
+abbrev pub Anyhow : SpecCode → ℕ → Type 0
+Anyhow code place = Unit {0}
 
-pub keeps_checked : {A B : Type 0} {old : List Node} (c : Checked A) (f : A → Work → Outcome B) (work : Work) (Q : B → List Node → Type 0)
-    → ((a : A) → c ≡ fine a → Keeps old Q (f a work)) → Keeps old Q (checked c f work)
+pub refuses : {A : Type 0} {Q : A → List Node → Type 0} (code : SpecCode) (place : ℕ) → Gives Anyhow Q (fails code place)
+refuses code place = refused_so code place tt
+
+-- where what is given is known too
+pub gives_go_on_is : {A B : Type 0} {R : SpecCode → ℕ → Type 0} {P : A → List Node → Type 0} (o : Outcome A) (f : A → Work → Outcome B) (Q : B → List Node → Type 0)
+    → Gives R P o → ((a : A) (work : Work) → o ≡ gives a work → P a work.formulas → Gives R Q (f a work)) → Gives R Q (go_on o f)
+gives_go_on_is _ f Q (gives_such a work p) next = next a work refl p
+gives_go_on_is _ f Q (refused_so code place r) next = refused_so code place r
+
+pub gives_go_on : {A B : Type 0} {R : SpecCode → ℕ → Type 0} {P : A → List Node → Type 0} {o : Outcome A} (f : A → Work → Outcome B) (Q : B → List Node → Type 0)
+    → Gives R P o → ((a : A) (work : Work) → P a work.formulas → Gives R Q (f a work)) → Gives R Q (go_on o f)
+gives_go_on {o = o} f Q h next = gives_go_on_is o f Q h (λ a work e p. next a work p)
+
+gives_is : {A : Type 0} {R : SpecCode → ℕ → Type 0} {Q : A → List Node → Type 0} (a : A) (work : Work) → Gives R Q (gives a work) → Q a work.formulas
+gives_is _ _ (gives_such a work q) = q
+
+pub given : {A : Type 0} {R : SpecCode → ℕ → Type 0} (Q : A → List Node → Type 0) (o : Outcome A) (a : A) (work : Work) → Gives R Q o → o ≡ gives a work → Q a work.formulas
+given {R = R} Q o a work h e = gives_is a work (subst (Gives R Q) e h)
+
+-- ---- lists that grow
+
+-- the list has grown from this one, and the value is as stated of it
+pub record IsKept {A : Type 0} (top : ℕ) (old : List Node) (Q : A → List Node → Type 0) (a : A) (nodes : List Node) : Type 0 where
+  pub good : IsGood top nodes
+  pub grows : Grows old nodes
+  pub is : Q a nodes
+
+abbrev pub Keeps : {A : Type 0} → ℕ → List Node → (A → List Node → Type 0) → Outcome A → Type 0
+Keeps top old Q o = Gives Anyhow (IsKept top old Q) o
+
+module _ {A : Type 0} {R : SpecCode → ℕ → Type 0} {top : ℕ} where
+  pub keeps : {old : List Node} {Q : A → List Node → Type 0} (a : A) (work : Work) → IsGood top work.formulas → Grows old work.formulas → Q a work.formulas → Gives R (IsKept top old Q) (gives a work)
+  keeps a work good more q = gives_such a work (record { good = good; grows = more; is = q })
+
+  -- the value is given as it is
+  pub keeps_given : (Q : A → List Node → Type 0) (a : A) (work : Work) → IsGood top work.formulas → Q a work.formulas → Gives R (IsKept top work.formulas Q) (gives a work)
+  keeps_given Q a work good q = keeps a work good (Grows-refl work.formulas) q
+
+  pub keeps_map : {old : List Node} {P : A → List Node → Type 0} {o : Outcome A} (Q : A → List Node → Type 0)
+      → ((a : A) (nodes : List Node) → Grows old nodes → P a nodes → Q a nodes) → Gives R (IsKept top old P) o → Gives R (IsKept top old Q) o
+  keeps_map Q f (gives_such a work k) = keeps a work k.good k.grows (f a work.formulas k.grows k.is)
+  keeps_map Q f (refused_so code place r) = refused_so code place r
+
+  keeps_from : {old mid : List Node} {Q : A → List Node → Type 0} {o : Outcome A} → Grows old mid → Gives R (IsKept top mid Q) o → Gives R (IsKept top old Q) o
+  keeps_from {old = old} {mid = mid} grows (gives_such a work k) = keeps a work k.good (Grows-trans old mid work.formulas grows k.grows) k.is
+  keeps_from grows (refused_so code place r) = refused_so code place r
+
+pub keeps_go_on : {A B : Type 0} {R : SpecCode → ℕ → Type 0} {top : ℕ} {old : List Node} {P : A → List Node → Type 0} {o : Outcome A} (f : A → Work → Outcome B) (Q : B → List Node → Type 0)
+    → Gives R (IsKept top old P) o → ((a : A) (work : Work) → IsGood top work.formulas → Grows old work.formulas → P a work.formulas → Gives R (IsKept top work.formulas Q) (f a work))
+    → Gives R (IsKept top old Q) (go_on o f)
+keeps_go_on f Q h next = gives_go_on f _ h (λ a work k. keeps_from k.grows (next a work k.good k.grows k.is))
+
+pub keeps_checked : {A B : Type 0} {top : ℕ} {old : List Node} (c : Checked A) (f : A → Work → Outcome B) (work : Work) (Q : B → List Node → Type 0)
+    → ((a : A) → c ≡ fine a → Keeps top old Q (f a work)) → Keeps top old Q (checked c f work)
 keeps_checked (fine a) f work Q next = next a refl
 keeps_checked (faulty code place) f work Q next = refuses code place
 
-pub keeps_choose : {B : Type 0} {old : List Node} (b : Bool) (f g : Work → Outcome B) (work : Work) (Q : B → List Node → Type 0)
-    → (b ≡ true → Keeps old Q (f work)) → (b ≡ false → Keeps old Q (g work)) → Keeps old Q (choose b f g work)
+pub keeps_choose : {B : Type 0} {R : SpecCode → ℕ → Type 0} {top : ℕ} {old : List Node} (b : Bool) (f g : Work → Outcome B) (work : Work) (Q : B → List Node → Type 0)
+    → (b ≡ true → Gives R (IsKept top old Q) (f work)) → (b ≡ false → Gives R (IsKept top old Q) (g work)) → Gives R (IsKept top old Q) (choose b f g work)
 keeps_choose true f g work Q yes_ no_ = yes_ refl
 keeps_choose false f g work Q yes_ no_ = no_ refl
 
@@ -107,38 +159,24 @@ makes-added nodes n id list made =
     let at : slice_get (added nodes n).nodes id.0 ≡ Some n = subst (λ xs. slice_get xs id.0 ≡ Some n) (append-nil (added nodes n).nodes) (added-stands nodes n [] id made) in
     record { stands = slice_get_within (added nodes n).nodes id.0 n at; tree = tree_at-slice_get (added nodes n).nodes n id.0 list at }
 
-pub keeps_made : (place : ℕ) (n : Node) (work : Work) → IsNodeList work.formulas → Keeps work.formulas (Makes n) (made place n work)
-keeps_made place n work list =
-    keeps_choose (may_stand work.formulas n) _ _ work (Makes n) (λ may. by may (added work.formulas n).made refl) (λ _. refuses _ _)
+-- a node over parts that don't all stand has a wrong sort, and else only room may be wanting
+pub gives_made : {R : SpecCode → ℕ → Type 0} {top : ℕ} (place : ℕ) (n : Node) (work : Work) → IsGood top work.formulas → SignalBelow top n
+    → (may_stand work.formulas n ≡ false → R WrongSort place) → R TooManyNodes place → Gives R (IsKept top work.formulas (Makes n)) (made place n work)
+gives_made {R = R} {top = top} place n work good small wrong full =
+    keeps_choose (may_stand work.formulas n) _ _ work (Makes n) (λ may. by may (added work.formulas n).made refl) (λ not_so. refused_so _ _ (wrong not_so))
   where
-    by : may_stand work.formulas n ≡ true → (o : Option FormulaId) → (added work.formulas n).made ≡ o → Keeps work.formulas (Makes n) (made_from place work.done (added work.formulas n).nodes o)
+    by : may_stand work.formulas n ≡ true → (o : Option FormulaId) → (added work.formulas n).made ≡ o → Gives R (IsKept top work.formulas (Makes n)) (made_from place work.done (added work.formulas n).nodes o)
     by may (Some id) e =
-        let grown = list-added work.formulas n list may in
-        keeps id (record { done = work.done; formulas = (added work.formulas n).nodes }) grown (Grows-added work.formulas n) (makes-added work.formulas n id grown e)
-    by may None e = refuses _ _
+        let list = list-added work.formulas n good.list may in
+        keeps id (record { done = work.done; formulas = (added work.formulas n).nodes }) (record { list = list; below = HasSignalsBelow-added top work.formulas n good.below small })
+        (Grows-added work.formulas n) (makes-added work.formulas n id list e)
+    by may None e = refused_so _ _ full
 
-pub keeps_map : {A : Type 0} {old : List Node} {P : A → List Node → Type 0} {o : Outcome A} (Q : A → List Node → Type 0)
-    → ((a : A) (nodes : List Node) → Grows old nodes → P a nodes → Q a nodes) → Keeps old P o → Keeps old Q o
-keeps_map Q f (keeps a work list more p) = keeps a work list more (f a work.formulas more p)
-keeps_map Q f (refuses code place) = refuses code place
+pub keeps_made : {top : ℕ} (place : ℕ) (n : Node) (work : Work) → IsGood top work.formulas → SignalBelow top n → Keeps top work.formulas (Makes n) (made place n work)
+keeps_made place n work good small = gives_made place n work good small (λ _. tt) tt
 
--- the same, with what was given
-pub keeps_go_on_is : {A B : Type 0} {old : List Node} {P : A → List Node → Type 0} (o : Outcome A) (f : A → Work → Outcome B) (Q : B → List Node → Type 0)
-    → Keeps old P o → ((a : A) (work : Work) → o ≡ gives a work → IsNodeList work.formulas → Grows old work.formulas → P a work.formulas → Keeps work.formulas Q (f a work))
-    → Keeps old Q (go_on o f)
-keeps_go_on_is _ f Q (keeps a work list more p) next = keeps_from more (next a work refl list more p)
-keeps_go_on_is _ f Q (refuses code place) next = refuses code place
-
--- what was given is as stated
-pub record Given {A : Type 0} (Q : A → List Node → Type 0) (a : A) (nodes : List Node) : Type 0 where
-  pub list : IsNodeList nodes
-  pub is : Q a nodes
-
-given_is : {A : Type 0} {old : List Node} {Q : A → List Node → Type 0} (a : A) (work : Work) → Keeps old Q (gives a work) → Given Q a work.formulas
-given_is _ _ (keeps a work list more q) = record { list = list; is = q }
-
-pub given : {A : Type 0} {old : List Node} (Q : A → List Node → Type 0) (o : Outcome A) (a : A) (work : Work) → Keeps old Q o → o ≡ gives a work → Given Q a work.formulas
-given {old = old} Q o a work h e = given_is a work (subst (Keeps old Q) e h)
-
-pub no_nodes : IsNodeList []
-no_nodes = record { parts_first = λ i. tt; signals = λ i. tt; different = λ i j hi hj e. absurd (omega arith); most = omega arith }
+pub no_nodes : (top : ℕ) → IsGood top []
+no_nodes top = record {
+  list = record { parts_first = λ i. tt; signals = λ i. tt; different = λ i j hi hj e. absurd (omega arith); most = omega arith };
+  below = HasSignalsBelow-none top;
+}

@@ -3,21 +3,21 @@ use Rattle.std.proofs.Common.{◌≡◌, ℕ, suc, ◌+◌, ◌-◌, ◌<◌, �
 use Rattle.std.proofs.lemmas.List.{at_drop_more}
 use Rattle.std.proofs.lemmas.Bool.{leb-true}
 use Rattle.std.specs.Prelude.{◌==◌, nat_le, if◌then◌else◌}
-use Rattle.tlsf_tokens.specs.declared.code.SpecFault.{SpecFault}
-use Rattle.tlsf_tokens.specs.declared.code.SpecFault.TheVariants.{NoMemory, At}
-use Rattle.tlsf_tokens.specs.declared.code.SpecCode.{SpecCode}
-use Rattle.tlsf_tokens.specs.declared.code.SpecCode.TheVariants.{TooManySignals}
-use Rattle.tlsf_tree.specs.declared.spec.Member.{Member}
-use Rattle.tlsf_tree.specs.declared.spec.Declaration.{Declaration as CodeDeclaration}
-use Rattle.tlsf_grammar.specs.Tree.{Named, Pattern, Declaration}
+use Rattle.spec_faults.specs.declared.code.SpecFault.{SpecFault}
+use Rattle.spec_faults.specs.declared.code.SpecFault.TheVariants.{NoMemory, At}
+use Rattle.spec_faults.specs.declared.code.SpecCode.{SpecCode}
+use Rattle.spec_faults.specs.declared.code.SpecCode.TheVariants.{TooManySignals}
+use Rattle.tlsf_syntax.specs.declared.spec.Member.{Member}
+use Rattle.tlsf_syntax.specs.declared.spec.Declaration.{Declaration as CodeDeclaration}
+use Rattle.tlsf_syntax.specs.Tree.{Named, Pattern, Declaration}
 use Rattle.tlsf_values.specs.declared.work.Work.{Work}
 use Rattle.tlsf_values.specs.Outcomes.{Outcome, gives, fails, go_on, choose}
 use Rattle.tlsf_values.specs.Patterns.{all_values}
 use Rattle.tlsf_values.specs.Results.{IsFault, IsOutcomeAs}
-use Rattle.tlsf_values.specs.Seen.{pattern_seen, member_seen}
+use Rattle.tlsf_syntax.specs.Seen.{pattern_seen, member_seen}
 use Rattle.tlsf_expand.specs.Signals.{first_of, other_width, width_of, bit_name, bit_names, bits_in, most_signals, Extent, alone, wide, of_type, extent_value, Declared, declared, declaration_value, declarations_value}
-use Rattle.tlsf_expand.specs.Texts.{Text}
-use Rattle.tlsf_expand.specs.TextSeen.{declaration_seen}
+use Rattle.tlsf_syntax.specs.Text.{Text}
+use Rattle.tlsf_syntax.specs.Seen.{declaration_seen}
 
 -- ---- enumerations
 

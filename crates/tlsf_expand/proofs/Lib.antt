@@ -11,10 +11,11 @@ pub mod Named
 pub mod Parts
 pub mod Evaluated
 pub mod Laid
+pub mod EachSection
+pub mod Filling
+pub mod WholeTree
 pub mod Sectioned
 pub mod Expanded
 pub mod RowProofs
 pub mod Laying
 pub mod Finished
-pub mod SignalsOfValues
-pub mod SignalsOfTexts

@@ -1,32 +1,34 @@
--- The flat sections have the truths of the written ones, and the whole those of the standard or the strict formula.
-use Rattle.std.proofs.Common.{◌≡◌, ℕ, Bool, true, false, List, [], ◌∷◌, ◌++◌, map, refl, sym, ap, ◌∙◌}
-use Rattle.std.specs.Prelude.{not, ◌&&◌}
+-- The flat sections have the truths of the written ones.
+use Rattle.std.proofs.Common.{◌≡◌, ℕ, Bool, List, [], ◌∷◌, ◌++◌, All, map, refl, sym, ap, ◌∙◌}
+use Rattle.std.specs.Prelude.{◌&&◌}
 use Rattle.std.specs.List.{list_all}
+use Rattle.std.proofs.lemmas.List.Elements.{All-cons, All-nil}
 use Rattle.letter_word.specs.Word.{Word}
 use Rattle.ltl_formula.specs.declared.nodes.FormulaId.{FormulaId}
 use Rattle.ltl_formula.specs.declared.nodes.Node.{Node}
-use Rattle.ltl_formula.specs.declared.nodes.Node.TheVariants as node
-use Rattle.ltl_formula.specs.Nodes.{IsNodeList, Grows}
-use Rattle.tlsf_grammar.specs.Tree.{Tree}
+use Rattle.ltl_formula.specs.Nodes.{Grows, Stands}
+use Rattle.tlsf_syntax.specs.declared.sections.Sections.{Sections}
+use Rattle.tlsf_syntax.specs.Tree.{Tree}
 use Rattle.tlsf_values.specs.declared.work.Work.{Work}
 use Rattle.tlsf_values.specs.declared.value.Value.{Value}
-use Rattle.tlsf_values.specs.Outcomes.{made}
 use Rattle.tlsf_values.specs.Names.{Names}
 use Rattle.tlsf_values.specs.SectionValues.{section_formula, section_value}
 use Rattle.tlsf_values.specs.Values.{start_of}
-use Rattle.tlsf_expand.specs.Senses.{Sense, true_in, implies, always, weakly, has_value}
-use Rattle.tlsf_expand.specs.WrittenTruth.{sense_at, true_at}
-use Rattle.tlsf_expand.specs.Texts.{Sections}
+use Rattle.tlsf_expand.specs.Meaning.{all_true, all_typed, section_truths}
+use Rattle.tlsf_expand.specs.Sections.{added_value, sections_value}
+use Rattle.tlsf_expand.specs.Senses.{Sense, true_in, has_value}
 use Rattle.tlsf_expand.specs.Signals.{TypedSignal, Signals}
-use Rattle.tlsf_expand.specs.Sections.{written_sections, added_value, sections_value, joined_more, joined, standard_value, strict_value, whole_value}
-use Rattle.tlsf_expand.specs.Meaning.{all_true, all_typed}
-use Rattle.tlsf_expand.proofs.Kept.{Keeps, refuses, keeps_go_on, keeps_given}
+use Rattle.tlsf_expand.specs.Standing.{OfEach, SectionsStand, all_hold, formulas_at, section_trees, truths_of}
+use Rattle.tlsf_expand.specs.WrittenTruth.{sense_at, true_at}
 use Rattle.tlsf_expand.proofs.Alike.{HasTruths, grown_truths, Alike, alike_number, alike_set, alike_bus, alike_member, alike_truth, alike_formula}
-use Rattle.tlsf_expand.proofs.Made.{keeps_truth_node, keeps_unary, keeps_binary, keeps_not, keeps_and}
-use Rattle.tlsf_expand.proofs.Valued.{keeps_truths, with_truths, keeps_one_value}
-use Rattle.tlsf_expand.proofs.Bools.{and_once, and_regroup, same_function}
-use Rattle.tlsf_expand.proofs.Named.{HasPlainNames}
+use Rattle.tlsf_expand.proofs.Bools.{and_regroup, same_function}
+use Rattle.tlsf_expand.proofs.EachSection.{both, each_is, each_of, each_weaker, keeps_in_order, same_where}
 use Rattle.tlsf_expand.proofs.Evaluated.{keeps_value_at}
+use Rattle.tlsf_expand.proofs.Kept.{IsGood, Keeps, refuses, keeps_go_on, keeps_given}
+use Rattle.tlsf_expand.proofs.Laid.{TypedFit}
+use Rattle.tlsf_expand.proofs.Made.{keeps_truth_node}
+use Rattle.tlsf_expand.proofs.Named.{HasPlainNames}
+use Rattle.tlsf_expand.proofs.Valued.{keeps_one_value}
 
 -- each truth of a list at a position
 abbrev pub all_at : List (ℕ → Bool) → ℕ → Bool
@@ -65,29 +67,26 @@ all_append w nodes _ _ js gs all_none h = h
 all_append w nodes _ _ js gs (all_more id f ids fs t more) h = all_more id f (ids ++ js) (fs ++ gs) t (all_append w nodes ids fs js gs more h)
 
 -- the formulas of each section have its truths
-pub record HaveTruths (w : Word) (fs : Sections (List (ℕ → Bool))) (ids : Sections (List FormulaId)) (nodes : List Node) : Type 0 where
-  pub initially : AllTruths w nodes ids.initially fs.initially
-  pub preset : AllTruths w nodes ids.preset fs.preset
-  pub require : AllTruths w nodes ids.require fs.require
-  pub assert : AllTruths w nodes ids.assert fs.assert
-  pub assume : AllTruths w nodes ids.assume fs.assume
-  pub guarantee : AllTruths w nodes ids.guarantee fs.guarantee
+abbrev pub HaveTruths : Word → Sections (List (ℕ → Bool)) → Sections (List FormulaId) → List Node → Type 0
+HaveTruths w fs ids nodes = OfEach (λ p. AllTruths w nodes p.1 p.0) (both fs ids)
 
-module _ (w : Word) where
-  more_have : {fs : Sections (List (ℕ → Bool))} {ids : Sections (List FormulaId)} {old new : List Node} → Grows old new → HaveTruths w fs ids old → HaveTruths w fs ids new
-  more_have {old = old} {new = new} grows h = record {
-    initially = grown_all w old new _ _ grows h.initially;
-    preset = grown_all w old new _ _ grows h.preset;
-    require = grown_all w old new _ _ grows h.require;
-    assert = grown_all w old new _ _ grows h.assert;
-    assume = grown_all w old new _ _ grows h.assume;
-    guarantee = grown_all w old new _ _ grows h.guarantee;
-  }
+pub truths_later : {w : Word} {fs : Sections (List (ℕ → Bool))} {ids : Sections (List FormulaId)} {old new : List Node} → Grows old new → HaveTruths w fs ids old → HaveTruths w fs ids new
+truths_later {w = w} {old = old} {new = new} grows h = each_weaker _ _ (λ p. grown_all w old new p.1 p.0 grows) h
 
-  -- ---- sections
+-- the truths of the sections, with those of signals of a type
+abbrev pub all_lists : Word → Signals → Sections (List Tree) → Sections (List (ℕ → Bool))
+all_lists w signals s = record {
+  initially = written_truths w signals.names s.initially;
+  preset = written_truths w signals.names s.preset;
+  require = written_truths w signals.names s.require ++ typed_truths w signals.typed_inputs;
+  assert = written_truths w signals.names s.assert ++ typed_truths w signals.typed_outputs;
+  assume = written_truths w signals.names s.assume;
+  guarantee = written_truths w signals.names s.guarantee;
+}
 
-  keeps_section_formula : (place : ℕ) (v : Value) (s : Sense) (work : Work) → IsNodeList work.formulas → Alike w work.formulas v s
-      → Keeps work.formulas (HasTruths w (true_in s)) (section_formula place v work)
+module _ {top : ℕ} (w : Word) where
+  keeps_section_formula : (place : ℕ) (v : Value) (s : Sense) (work : Work) → IsGood top work.formulas → Alike w work.formulas v s
+      → Keeps top work.formulas (HasTruths w (true_in s)) (section_formula place v work)
   keeps_section_formula place _ _ work list (alike_truth b) = keeps_truth_node w place b work list
   keeps_section_formula place _ _ work list (alike_formula id f h) = keeps_given _ id work list h
   keeps_section_formula place _ _ work list (alike_number z) = refuses _ _
@@ -95,8 +94,8 @@ module _ (w : Word) where
   keeps_section_formula place _ _ work list (alike_bus k) = refuses _ _
   keeps_section_formula place _ _ work list (alike_member k) = refuses _ _
 
-  keeps_section : (names : Names) → HasPlainNames names → (ts : List Tree) (work : Work) → IsNodeList work.formulas
-      → Keeps work.formulas (λ ids nodes. AllTruths w nodes ids (written_truths w names ts)) (section_value names ts work)
+  keeps_section : (names : Names) → HasPlainNames top names → (ts : List Tree) (work : Work) → IsGood top work.formulas
+      → Keeps top work.formulas (λ ids nodes. AllTruths w nodes ids (written_truths w names ts)) (section_value names ts work)
   keeps_section names has [] work list = keeps_given _ [] work list all_none
   keeps_section names has (t ∷ ts) work list =
       keeps_go_on _ _ (keeps_value_at w names has t 0 work list) (λ v work1 list1 grows1 hv.
@@ -104,58 +103,23 @@ module _ (w : Word) where
       keeps_go_on _ _ (keeps_section names has ts work2 list2) (λ ids work3 list3 grows3 hs.
       keeps_given _ (id ∷ ids) work3 list3 (all_more id (true_in (sense_at w names [] t 0)) ids (written_truths w names ts) (grown_truths grows3 h) hs))))
 
-  keeps_added : (signals : List TypedSignal) (work : Work) → IsNodeList work.formulas → Keeps work.formulas (λ ids nodes. AllTruths w nodes ids (typed_truths w signals)) (added_value signals work)
-  keeps_added [] work list = keeps_given _ [] work list all_none
-  keeps_added (s ∷ signals) work list =
-      keeps_go_on _ _ (keeps_one_value w s.place s.first s.values work list) (λ id work1 list1 grows1 h.
-      keeps_go_on _ _ (keeps_added signals work1 list1) (λ ids work2 list2 grows2 hs.
+  keeps_added : (signals : List TypedSignal) → TypedFit top signals → (work : Work) → IsGood top work.formulas → Keeps top work.formulas (λ ids nodes. AllTruths w nodes ids (typed_truths w signals)) (added_value signals work)
+  keeps_added [] fit work list = keeps_given _ [] work list all_none
+  keeps_added (s ∷ signals) fit work list =
+      keeps_go_on _ _ (keeps_one_value w s.place s.first s.values work list fit.0) (λ id work1 list1 grows1 h.
+      keeps_go_on _ _ (keeps_added signals fit.1 work1 list1) (λ ids work2 list2 grows2 hs.
       keeps_given _ (id ∷ ids) work2 list2 (all_more id (has_value w s.first s.values) ids (typed_truths w signals) (grown_truths grows2 h) hs)))
 
-  abbrev pub written_lists : Names → Sections (List Tree) → Sections (List (ℕ → Bool))
-  written_lists names s = record {
-    initially = written_truths w names s.initially;
-    preset = written_truths w names s.preset;
-    require = written_truths w names s.require;
-    assert = written_truths w names s.assert;
-    assume = written_truths w names s.assume;
-    guarantee = written_truths w names s.guarantee;
-  }
-
-  abbrev pub all_lists : Signals → Sections (List Tree) → Sections (List (ℕ → Bool))
-  all_lists signals s = record {
-    initially = written_truths w signals.names s.initially;
-    preset = written_truths w signals.names s.preset;
-    require = written_truths w signals.names s.require ++ typed_truths w signals.typed_inputs;
-    assert = written_truths w signals.names s.assert ++ typed_truths w signals.typed_outputs;
-    assume = written_truths w signals.names s.assume;
-    guarantee = written_truths w signals.names s.guarantee;
-  }
-
-  keeps_written : (names : Names) → HasPlainNames names → (s : Sections (List Tree)) (work : Work) → IsNodeList work.formulas
-      → Keeps work.formulas (HaveTruths w (written_lists names s)) (written_sections names s work)
-  keeps_written names has s work list =
-      keeps_go_on _ _ (keeps_section names has s.initially work list) (λ i1 work1 list1 g1 h1.
-      keeps_go_on _ _ (keeps_section names has s.preset work1 list1) (λ i2 work2 list2 g2 h2.
-      keeps_go_on _ _ (keeps_section names has s.require work2 list2) (λ i3 work3 list3 g3 h3.
-      keeps_go_on _ _ (keeps_section names has s.assert work3 list3) (λ i4 work4 list4 g4 h4.
-      keeps_go_on _ _ (keeps_section names has s.assume work4 list4) (λ i5 work5 list5 g5 h5.
-      keeps_go_on _ _ (keeps_section names has s.guarantee work5 list5) (λ i6 work6 list6 g6 h6.
-      keeps_given _ _ work6 list6 (record {
-        initially = grown_all w _ _ _ _ g6 (grown_all w _ _ _ _ g5 (grown_all w _ _ _ _ g4 (grown_all w _ _ _ _ g3 (grown_all w _ _ _ _ g2 h1))));
-        preset = grown_all w _ _ _ _ g6 (grown_all w _ _ _ _ g5 (grown_all w _ _ _ _ g4 (grown_all w _ _ _ _ g3 h2)));
-        require = grown_all w _ _ _ _ g6 (grown_all w _ _ _ _ g5 (grown_all w _ _ _ _ g4 h3));
-        assert = grown_all w _ _ _ _ g6 (grown_all w _ _ _ _ g5 h4);
-        assume = grown_all w _ _ _ _ g6 h5;
-        guarantee = h6;
-      })))))))
-
-  pub keeps_sections : (signals : Signals) → HasPlainNames signals.names → (s : Sections (List Tree)) (work : Work) → IsNodeList work.formulas
-      → Keeps work.formulas (HaveTruths w (all_lists signals s)) (sections_value signals s work)
-  keeps_sections signals has s work list =
-      keeps_go_on _ _ (keeps_written signals.names has s work list) (λ x work1 list1 g1 h1.
-      keeps_go_on _ _ (keeps_added signals.typed_inputs work1 list1) (λ i2 work2 list2 g2 h2.
-      keeps_go_on _ _ (keeps_added signals.typed_outputs work2 list2) (λ i3 work3 list3 g3 h3.
-      let h = more_have g3 (more_have g2 h1) in
+  pub keeps_sections : (signals : Signals) → HasPlainNames top signals.names → TypedFit top signals.typed_inputs → TypedFit top signals.typed_outputs → (s : Sections (List Tree)) (work : Work) → IsGood top work.formulas
+      → Keeps top work.formulas (HaveTruths w (all_lists w signals s)) (sections_value signals s work)
+  keeps_sections signals has inputs outputs s work list =
+      keeps_go_on _ _
+      (keeps_in_order (λ ts. Unit {0}) (λ ts ids nodes. AllTruths w nodes ids (written_truths w signals.names ts)) (section_value signals.names) (λ ts ids old new grows h. grown_all w old new ids _ grows h)
+      (λ ts _. keeps_section signals.names has ts) s (each_is _ (λ ts. tt) s) work list) (λ x work1 list1 g1 h1.
+      keeps_go_on _ _ (keeps_added signals.typed_inputs inputs work1 list1) (λ i2 work2 list2 g2 h2.
+      keeps_go_on _ _ (keeps_added signals.typed_outputs outputs work2 list2) (λ i3 work3 list3 g3 h3.
+      let h = each_weaker _ (λ p. AllTruths w work3.formulas p.1 (written_truths w signals.names p.0))
+      (λ p h. grown_all w work2.formulas work3.formulas p.1 _ g3 (grown_all w work1.formulas work2.formulas p.1 _ g2 h)) h1 in
       keeps_given _ _ work3 list3 (record {
         initially = h.initially;
         preset = h.preset;
@@ -165,90 +129,40 @@ module _ (w : Word) where
         guarantee = h.guarantee;
       }))))
 
-  -- ---- the whole
+-- ---- the formulas of the sections
 
-  keeps_joined_more : (so_far : FormulaId) (f : ℕ → Bool) (ids : List FormulaId) (fs : List (ℕ → Bool)) (work : Work) → IsNodeList work.formulas → HasTruths w f so_far work.formulas → AllTruths w work.formulas ids fs
-      → Keeps work.formulas (HasTruths w (λ i. f i && all_at fs i)) (joined_more so_far ids work)
-  keeps_joined_more so_far f [] _ work list h all_none = keeps_given _ so_far work list (with_truths w (same_function _ _ (λ i. sym (and_once (f i)))) h)
-  keeps_joined_more so_far f (id ∷ ids) _ work list h (all_more _ g _ fs t more) =
-      keeps_go_on _ _ (keeps_and w 0 work so_far id f g list h t) (λ both work1 list1 g1 h1.
-      keeps_truths w (λ i. (f i && g i) && all_at fs i) _ (same_function _ _ (λ i. and_regroup (f i) (g i) (all_at fs i)))
-      (keeps_joined_more both (λ i. f i && g i) ids fs work1 list1 h1 (grown_all w _ _ _ _ g1 more)))
+ids_stand : {w : Word} {nodes : List Node} {ids : List FormulaId} {fs : List (ℕ → Bool)} → AllTruths w nodes ids fs → All (Stands nodes) ids
+ids_stand all_none = All-nil _
+ids_stand {nodes = nodes} (all_more id f ids fs h more) = All-cons (Stands nodes) id ids h.stands (ids_stand more)
 
-  keeps_joined : (ids : List FormulaId) (fs : List (ℕ → Bool)) (work : Work) → IsNodeList work.formulas → AllTruths w work.formulas ids fs → Keeps work.formulas (HasTruths w (all_at fs)) (joined ids work)
-  keeps_joined _ _ work list all_none = keeps_truth_node w 0 true work list
-  keeps_joined _ _ work list (all_more id f ids fs t more) = keeps_joined_more id f ids fs work list t more
+pub sections_stand : {w : Word} {fs : Sections (List (ℕ → Bool))} {ids : Sections (List FormulaId)} {nodes : List Node} → HaveTruths w fs ids nodes → SectionsStand nodes ids
+sections_stand {nodes = nodes} h = each_of _ (All (Stands nodes)) (λ p. p.1) (λ p. ids_stand) h
 
-  keeps_globally : (work : Work) (i : FormulaId) (f : ℕ → Bool) → IsNodeList work.formulas → HasTruths w f i work.formulas
-      → Keeps work.formulas (HasTruths w (always w f)) (made 0 (node.Globally i) work)
-  keeps_globally = keeps_unary w 0 node.Globally (always w) (λ T i. refl)
+module _ (w : Word) (nodes : List Node) where
+  all_hold_at : (ids : List FormulaId) (fs : List (ℕ → Bool)) → AllTruths w nodes ids fs → (i : ℕ) → all_hold w (formulas_at nodes ids) i ≡ all_at fs i
+  all_hold_at _ _ all_none i = refl
+  all_hold_at _ _ (all_more id f ids fs h more) i =
+      ap (λ g. g i && all_hold w (formulas_at nodes ids) i) h.same ∙ ap (λ b. f i && b) (all_hold_at ids fs more i)
 
-  keeps_implies : (work : Work) (i j : FormulaId) (f g : ℕ → Bool) → IsNodeList work.formulas → HasTruths w f i work.formulas → HasTruths w g j work.formulas
-      → Keeps work.formulas (HasTruths w (λ k. implies (f k) (g k))) (made 0 (node.Implies i j) work)
-  keeps_implies = keeps_binary w 0 node.Implies (λ f g k. implies (f k) (g k)) (λ T i j. refl)
+  plain_section : (names : Names) (ts : List Tree) → all_at (written_truths w names ts) ≡ all_true w names ts
+  plain_section names ts = same_function _ _ (λ i. all_written w names ts i)
 
-  keeps_weakly : (work : Work) (i j : FormulaId) (f g : ℕ → Bool) → IsNodeList work.formulas → HasTruths w f i work.formulas → HasTruths w g j work.formulas
-      → Keeps work.formulas (HasTruths w (weakly w f g)) (made 0 (node.WeakUntil i j) work)
-  keeps_weakly = keeps_binary w 0 node.WeakUntil (weakly w) (λ T i j. refl)
+  typed_section : (names : Names) (ts : List Tree) (signals : List TypedSignal) → all_at (written_truths w names ts ++ typed_truths w signals) ≡ (λ (i : ℕ). all_true w names ts i && all_typed w signals i)
+  typed_section names ts signals = same_function _ _ (λ i.
+      all_at-append (written_truths w names ts) (typed_truths w signals) i
+      ∙ ap (λ b. b && all_at (typed_truths w signals) i) (all_written w names ts i)
+      ∙ ap (λ b. all_true w names ts i && b) (all_are_typed w signals i))
 
-  -- the truths of each section at a position
-  abbrev pub all_sections : Sections (List (ℕ → Bool)) → Sections (ℕ → Bool)
-  all_sections fs = record {
-    initially = all_at fs.initially;
-    preset = all_at fs.preset;
-    require = all_at fs.require;
-    assert = all_at fs.assert;
-    assume = all_at fs.assume;
-    guarantee = all_at fs.guarantee;
-  }
-
-  -- the standard and the strict formula at each position
-  abbrev pub standard_at : Sections (ℕ → Bool) → ℕ → Bool
-  standard_at x i = implies (x.initially i) (x.preset i && implies (always w x.require i && x.assume i) (always w x.assert i && x.guarantee i))
-
-  abbrev pub strict_at : Sections (ℕ → Bool) → ℕ → Bool
-  strict_at x i = implies (x.initially i) ((x.preset i && weakly w x.assert (λ k. not (x.require k)) i) && implies (always w x.require i && x.assume i) (x.guarantee i))
-
-  keeps_standard : (fs : Sections (List (ℕ → Bool))) (ids : Sections (List FormulaId)) (work : Work) → IsNodeList work.formulas → HaveTruths w fs ids work.formulas
-      → Keeps work.formulas (HasTruths w (standard_at (all_sections fs))) (standard_value ids work)
-  keeps_standard fs ids work list have =
-      keeps_go_on _ _ (let now : HaveTruths w fs ids work.formulas = have in keeps_joined ids.initially fs.initially work list now.initially) (λ e work1 list1 g1 he.
-      keeps_go_on _ _ (let now : HaveTruths w fs ids work1.formulas = (more_have g1 have) in keeps_joined ids.preset fs.preset work1 list1 now.preset) (λ s work2 list2 g2 hs.
-      keeps_go_on _ _ (let now : HaveTruths w fs ids work2.formulas = (more_have g2 (more_have g1 have)) in keeps_joined ids.require fs.require work2 list2 now.require) (λ E work3 list3 g3 hE.
-      keeps_go_on _ _ (keeps_globally work3 E (all_at fs.require) list3 hE) (λ GE work4 list4 g4 hGE.
-      keeps_go_on _ _ (let now : HaveTruths w fs ids work4.formulas = (more_have g4 (more_have g3 (more_have g2 (more_have g1 have)))) in keeps_joined ids.assume fs.assume work4 list4 now.assume) (λ A work5 list5 g5 hA.
-      keeps_go_on _ _ (keeps_and w 0 work5 GE A (always w (all_at fs.require)) (all_at fs.assume) list5 (grown_truths g5 hGE) hA) (λ asked work6 list6 g6 hasked.
-      keeps_go_on _ _ (let now : HaveTruths w fs ids work6.formulas = (more_have g6 (more_have g5 (more_have g4 (more_have g3 (more_have g2 (more_have g1 have)))))) in keeps_joined ids.assert fs.assert work6 list6 now.assert) (λ S work7 list7 g7 hS.
-      keeps_go_on _ _ (keeps_globally work7 S (all_at fs.assert) list7 hS) (λ GS work8 list8 g8 hGS.
-      keeps_go_on _ _ (let now : HaveTruths w fs ids work8.formulas = (more_have g8 (more_have g7 (more_have g6 (more_have g5 (more_have g4 (more_have g3 (more_have g2 (more_have g1 have)))))))) in keeps_joined ids.guarantee fs.guarantee work8 list8 now.guarantee) (λ H work9 list9 g9 hH.
-      keeps_go_on _ _ (keeps_and w 0 work9 GS H (always w (all_at fs.assert)) (all_at fs.guarantee) list9 (grown_truths g9 hGS) hH) (λ owed work10 list10 g10 howed.
-      keeps_go_on _ _ (keeps_implies work10 asked owed (λ i. (always w (all_at fs.require) i) && (all_at fs.assume i)) (λ i. (always w (all_at fs.assert) i) && (all_at fs.guarantee i)) list10 (grown_truths g10 (grown_truths g9 (grown_truths g8 (grown_truths g7 hasked)))) howed) (λ kept work11 list11 g11 hkept.
-      keeps_go_on _ _ (keeps_and w 0 work11 s kept (all_at fs.preset) (λ i. implies ((always w (all_at fs.require) i) && (all_at fs.assume i)) ((always w (all_at fs.assert) i) && (all_at fs.guarantee i))) list11 (grown_truths g11 (grown_truths g10 (grown_truths g9 (grown_truths g8 (grown_truths g7 (grown_truths g6 (grown_truths g5 (grown_truths g4 (grown_truths g3 hs))))))))) hkept) (λ both work12 list12 g12 hboth.
-      keeps_implies work12 e both (all_at fs.initially) (λ i. (all_at fs.preset i) && (implies ((always w (all_at fs.require) i) && (all_at fs.assume i)) ((always w (all_at fs.assert) i) && (all_at fs.guarantee i)))) list12 (grown_truths g12 (grown_truths g11 (grown_truths g10 (grown_truths g9 (grown_truths g8 (grown_truths g7 (grown_truths g6 (grown_truths g5 (grown_truths g4 (grown_truths g3 (grown_truths g2 he))))))))))) hboth))))))))))))
-
-  keeps_strict : (fs : Sections (List (ℕ → Bool))) (ids : Sections (List FormulaId)) (work : Work) → IsNodeList work.formulas → HaveTruths w fs ids work.formulas
-      → Keeps work.formulas (HasTruths w (strict_at (all_sections fs))) (strict_value ids work)
-  keeps_strict fs ids work list have =
-      keeps_go_on _ _ (let now : HaveTruths w fs ids work.formulas = have in keeps_joined ids.initially fs.initially work list now.initially) (λ e work1 list1 g1 he.
-      keeps_go_on _ _ (let now : HaveTruths w fs ids work1.formulas = (more_have g1 have) in keeps_joined ids.preset fs.preset work1 list1 now.preset) (λ s work2 list2 g2 hs.
-      keeps_go_on _ _ (let now : HaveTruths w fs ids work2.formulas = (more_have g2 (more_have g1 have)) in keeps_joined ids.assert fs.assert work2 list2 now.assert) (λ S work3 list3 g3 hS.
-      keeps_go_on _ _ (let now : HaveTruths w fs ids work3.formulas = (more_have g3 (more_have g2 (more_have g1 have))) in keeps_joined ids.require fs.require work3 list3 now.require) (λ E work4 list4 g4 hE.
-      keeps_go_on _ _ (keeps_not w 0 work4 E (all_at fs.require) list4 hE) (λ broken work5 list5 g5 hbroken.
-      keeps_go_on _ _ (keeps_weakly work5 S broken (all_at fs.assert) (λ i. not (all_at fs.require i)) list5 (grown_truths g5 (grown_truths g4 hS)) hbroken) (λ until_broken work6 list6 g6 huntil_broken.
-      keeps_go_on _ _ (keeps_and w 0 work6 s until_broken (all_at fs.preset) (weakly w (all_at fs.assert) (λ i. not (all_at fs.require i))) list6 (grown_truths g6 (grown_truths g5 (grown_truths g4 (grown_truths g3 hs)))) huntil_broken) (λ first work7 list7 g7 hfirst.
-      keeps_go_on _ _ (keeps_globally work7 E (all_at fs.require) list7 (grown_truths g7 (grown_truths g6 (grown_truths g5 hE)))) (λ GE work8 list8 g8 hGE.
-      keeps_go_on _ _ (let now : HaveTruths w fs ids work8.formulas = (more_have g8 (more_have g7 (more_have g6 (more_have g5 (more_have g4 (more_have g3 (more_have g2 (more_have g1 have)))))))) in keeps_joined ids.assume fs.assume work8 list8 now.assume) (λ A work9 list9 g9 hA.
-      keeps_go_on _ _ (keeps_and w 0 work9 GE A (always w (all_at fs.require)) (all_at fs.assume) list9 (grown_truths g9 hGE) hA) (λ asked work10 list10 g10 hasked.
-      keeps_go_on _ _ (let now : HaveTruths w fs ids work10.formulas = (more_have g10 (more_have g9 (more_have g8 (more_have g7 (more_have g6 (more_have g5 (more_have g4 (more_have g3 (more_have g2 (more_have g1 have)))))))))) in keeps_joined ids.guarantee fs.guarantee work10 list10 now.guarantee) (λ H work11 list11 g11 hH.
-      keeps_go_on _ _ (keeps_implies work11 asked H (λ i. (always w (all_at fs.require) i) && (all_at fs.assume i)) (all_at fs.guarantee) list11 (grown_truths g11 hasked) hH) (λ kept work12 list12 g12 hkept.
-      keeps_go_on _ _ (keeps_and w 0 work12 first kept (λ i. (all_at fs.preset i) && (weakly w (all_at fs.assert) (λ i. not (all_at fs.require i)) i)) (λ i. implies ((always w (all_at fs.require) i) && (all_at fs.assume i)) (all_at fs.guarantee i)) list12 (grown_truths g12 (grown_truths g11 (grown_truths g10 (grown_truths g9 (grown_truths g8 hfirst))))) hkept) (λ both work13 list13 g13 hboth.
-      keeps_implies work13 e both (all_at fs.initially) (λ i. ((all_at fs.preset i) && (weakly w (all_at fs.assert) (λ i. not (all_at fs.require i)) i)) && (implies ((always w (all_at fs.require) i) && (all_at fs.assume i)) (all_at fs.guarantee i))) list13 (grown_truths g13 (grown_truths g12 (grown_truths g11 (grown_truths g10 (grown_truths g9 (grown_truths g8 (grown_truths g7 (grown_truths g6 (grown_truths g5 (grown_truths g4 (grown_truths g3 (grown_truths g2 he)))))))))))) hboth)))))))))))))
-
-  abbrev pub whole_at : Bool → Sections (ℕ → Bool) → ℕ → Bool
-  whole_at false x i = standard_at x i
-  whole_at true x i = strict_at x i
-
-  pub keeps_whole : (b : Bool) (fs : Sections (List (ℕ → Bool))) (ids : Sections (List FormulaId)) (work : Work) → IsNodeList work.formulas → HaveTruths w fs ids work.formulas
-      → Keeps work.formulas (HasTruths w (whole_at b (all_sections fs))) (whole_value b ids work)
-  keeps_whole false fs ids work list have = keeps_standard fs ids work list have
-  keeps_whole true fs ids work list have = keeps_strict fs ids work list have
+  -- they are true where the written ones are
+  pub truths_are : (signals : Signals) (s : Sections (List Tree)) (ids : Sections (List FormulaId)) → HaveTruths w (all_lists w signals s) ids nodes → truths_of w (section_trees nodes ids) ≡ section_truths w signals s
+  truths_are signals s ids h =
+      same_where (λ p. all_hold w (formulas_at nodes p.1)) (λ p. all_at p.0)
+      (each_weaker _ (λ p. all_hold w (formulas_at nodes p.1) ≡ all_at p.0) (λ p g. same_function _ _ (all_hold_at p.1 p.0 g)) h)
+      ∙ (λ k. record {
+        initially = plain_section signals.names s.initially k;
+        preset = plain_section signals.names s.preset k;
+        require = typed_section signals.names s.require signals.typed_inputs k;
+        assert = typed_section signals.names s.assert signals.typed_outputs k;
+        assume = plain_section signals.names s.assume k;
+        guarantee = plain_section signals.names s.guarantee k;
+      })

@@ -4,10 +4,11 @@ use Rattle.std.specs.Prelude.{ℕ, Bool, List, Option, None, Some}
 use Rattle.letter_word.specs.declared.kinds.Kind.{Kind}
 use Rattle.letter_word.specs.declared.kinds.Kind.TheVariants.{Mealy, Moore}
 use Rattle.ltl_formula.specs.declared.nodes.FormulaId.{FormulaId}
-use Rattle.tlsf_tokens.specs.declared.code.SpecCode.{SpecCode}
-use Rattle.tlsf_tokens.specs.declared.code.SpecCode.TheVariants.{TargetDiffers}
+use Rattle.spec_faults.specs.declared.code.SpecCode.{SpecCode}
+use Rattle.spec_faults.specs.declared.code.SpecCode.TheVariants.{TargetDiffers}
 use Rattle.tlsf_values.specs.Outcomes.{Outcome, gives, fails, go_on}
-use Rattle.tlsf_expand.specs.Texts.{Sections, Text}
+use Rattle.tlsf_syntax.specs.declared.sections.Sections.{Sections}
+use Rattle.tlsf_syntax.specs.Text.{Text}
 use Rattle.tlsf_expand.specs.Signals.{signals_of}
 use Rattle.tlsf_expand.specs.Sections.{sections_value, whole_value}
 
@@ -27,13 +28,13 @@ common_kind _ _ = None
 -- a kind that is given stands for SEMANTICS' and TARGET's; without it these must be one
 abbrev pub kind_of : Option Kind → Text → Option Kind
 kind_of (Some kind) text = Some kind
-kind_of None text = common_kind text.semantics text.target
+kind_of None text = common_kind text.info.semantics text.info.target
 
 abbrev pub expanded_as : Option Kind → Text → Outcome Expanded
-expanded_as None text = fails TargetDiffers text.target_at
+expanded_as None text = fails TargetDiffers text.info.target_at
 expanded_as (Some kind) text =
-    go_on (signals_of text) (λ signals w. go_on (sections_value signals text.sections w) (λ sections w. go_on (whole_value text.strict sections w) (λ whole w.
-    gives (record { inputs = signals.inputs; outputs = signals.outputs; kind = kind; strict = text.strict; sections = sections; whole = whole }) w)))
+    go_on (signals_of text) (λ signals w. go_on (sections_value signals text.sections w) (λ sections w. go_on (whole_value text.info.strict sections w) (λ whole w.
+    gives (record { inputs = signals.inputs; outputs = signals.outputs; kind = kind; strict = text.info.strict; sections = sections; whole = whole }) w)))
 
 -- the work after it has the list of all nodes, and the evaluations done
 abbrev pub expanded : Text → Option Kind → Outcome Expanded

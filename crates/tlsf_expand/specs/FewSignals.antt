@@ -5,7 +5,7 @@ use Rattle.ltl_formula.specs.declared.nodes.Node.{Node}
 use Rattle.ltl_formula.specs.ListSignals.{HasSignalsBelow}
 use Rattle.tlsf_values.specs.declared.work.Work.{Work}
 use Rattle.tlsf_values.specs.Outcomes.{gives}
-use Rattle.tlsf_expand.specs.Texts.{Text}
+use Rattle.tlsf_syntax.specs.Text.{Text}
 use Rattle.tlsf_expand.specs.Expansion.{Expanded, expanded}
 
 -- there are at most 8 inputs and at most 8 outputs, and a list of formulas speaks of no other signals

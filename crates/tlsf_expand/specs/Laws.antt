@@ -6,7 +6,7 @@ use Rattle.ltl_formula.specs.Nodes.{IsNodeList, Stands, tree_at}
 use Rattle.ltl_formula.specs.Truth.{holds}
 use Rattle.tlsf_values.specs.declared.work.Work.{Work}
 use Rattle.tlsf_values.specs.Outcomes.{gives}
-use Rattle.tlsf_expand.specs.Texts.{Text}
+use Rattle.tlsf_syntax.specs.Text.{Text}
 use Rattle.tlsf_expand.specs.Expansion.{Expanded, expanded}
 use Rattle.tlsf_expand.specs.Meaning.{means}
 

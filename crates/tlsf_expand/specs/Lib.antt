@@ -1,14 +1,13 @@
 pub mod Senses
 pub mod WrittenTruth
-pub mod Texts
 pub mod Signals
 pub mod Sections
+pub mod Standing
 pub mod Expansion
 pub mod Meaning
 pub mod FewSignals
 pub mod Laws
 pub mod Rows
-pub mod TextSeen
+pub mod FlatText
 pub mod SignalsSeen
-pub mod SectionsSeen
 pub mod Results

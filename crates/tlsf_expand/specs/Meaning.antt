@@ -3,12 +3,13 @@
 use Rattle.std.specs.Prelude.{ℕ, Bool, true, false, not, ◌&&◌, List, [], IsTrue}
 use Rattle.std.specs.List.{list_all}
 use Rattle.letter_word.specs.Word.{Word}
-use Rattle.tlsf_grammar.specs.Tree.{Tree}
+use Rattle.tlsf_syntax.specs.Tree.{Tree}
 use Rattle.tlsf_values.specs.Outcomes.{Outcome, gives, fails}
 use Rattle.tlsf_values.specs.Names.{Names}
 use Rattle.tlsf_expand.specs.Senses.{implies, always, weakly, has_value}
 use Rattle.tlsf_expand.specs.WrittenTruth.{true_at}
-use Rattle.tlsf_expand.specs.Texts.{Sections, Text}
+use Rattle.tlsf_syntax.specs.declared.sections.Sections.{Sections}
+use Rattle.tlsf_syntax.specs.Text.{Text}
 use Rattle.tlsf_expand.specs.Signals.{TypedSignal, Signals, signals_of}
 
 -- each formula of a section is true at a position
@@ -43,7 +44,7 @@ section_truths w signals s = record {
 }
 
 abbrev pub means_with : Word → Text → Outcome Signals → Bool
-means_with w text (gives signals work) = by_semantics text.strict w (section_truths w signals text.sections)
+means_with w text (gives signals work) = by_semantics text.info.strict w (section_truths w signals text.sections)
 means_with w text (fails code place) = false
 
 -- what the text says of a lasso; a text whose signals have a fault says nothing

@@ -5,14 +5,14 @@ use Rattle.ltl_formula.specs.declared.nodes.FormulaId.{FormulaId}
 use Rattle.ltl_formula.specs.declared.nodes.Node.{Node}
 use Rattle.ltl_formula.specs.Nodes.{Stands, tree_at}
 use Rattle.ltl_formula.specs.Truth.{holds}
-use Rattle.tlsf_tokens.specs.declared.code.SpecFault.{SpecFault}
+use Rattle.spec_faults.specs.declared.code.SpecFault.{SpecFault}
 use Rattle.tlsf_values.specs.Outcomes.{Outcome}
 use Rattle.tlsf_values.specs.Results.{IsFault}
 use Rattle.tlsf_expand.specs.declared.spec.Spec.{Spec}
-use Rattle.tlsf_expand.specs.Texts.{Text}
+use Rattle.tlsf_syntax.specs.Text.{Text}
 use Rattle.tlsf_expand.specs.Expansion.{Expanded}
 use Rattle.tlsf_expand.specs.Meaning.{means}
-use Rattle.tlsf_expand.specs.TextSeen.{spec_seen, flat_in}
+use Rattle.tlsf_expand.specs.FlatText.{spec_seen, flat_in}
 
 -- the text was expanded to these flat sections, or has this first fault, unless memory was wanted
 abbrev pub IsExpansion : Result Spec SpecFault → Outcome Expanded → Type 0

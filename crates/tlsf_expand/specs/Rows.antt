@@ -5,13 +5,14 @@ use Rattle.letter_word.specs.declared.kinds.Kind.TheVariants.{Mealy, Moore}
 use Rattle.ltl_formula.specs.declared.nodes.Node.{Node}
 use Rattle.ltl_formula.specs.declared.nodes.Node.TheVariants as node
 use Rattle.ltl_formula.specs.declared.nodes.FormulaId.{FormulaId}
-use Rattle.tlsf_tokens.specs.declared.code.SpecCode.{SpecCode}
-use Rattle.tlsf_tokens.specs.declared.code.SpecCode.TheVariants as code
-use Rattle.tlsf_tree.specs.declared.expr.Op.TheVariants as op
-use Rattle.tlsf_tree.specs.declared.expr.Span.{Span}
-use Rattle.tlsf_grammar.specs.Tree.{Tree, Named, number, named, pair, prefix, truth, Definition, enumeration, Pattern, Declaration, single, bus, typed}
+use Rattle.spec_faults.specs.declared.code.SpecCode.{SpecCode}
+use Rattle.spec_faults.specs.declared.code.SpecCode.TheVariants as code
+use Rattle.tlsf_syntax.specs.declared.expr.Op.TheVariants as op
+use Rattle.tlsf_syntax.specs.declared.expr.Span.{Span}
+use Rattle.tlsf_syntax.specs.Tree.{Tree, Named, number, named, pair, prefix, truth, Definition, enumeration, Pattern, Declaration, single, bus, typed}
 use Rattle.tlsf_values.specs.Outcomes.{gives}
-use Rattle.tlsf_expand.specs.Texts.{Sections, Text}
+use Rattle.tlsf_syntax.specs.declared.sections.Sections.{Sections}
+use Rattle.tlsf_syntax.specs.Text.{Info, Text}
 use Rattle.tlsf_expand.specs.Signals.{bit_name}
 use Rattle.tlsf_expand.specs.Expansion.{expanded, Fault, flat_fault}
 use Rattle.tlsf_expand.specs.Meaning.{means}
@@ -33,13 +34,14 @@ fault c k = Some (record { code = c; place = k })
 abbrev pub no_formulas : Sections (List Tree)
 no_formulas = record { initially = []; preset = []; require = []; assert = []; assume = []; guarantee = [] }
 
--- what the text guarantees, of kind Mealy
+-- of kind Mealy
+abbrev pub info_of : Bool → Info
+info_of strict = record { title = []; description = []; tags = []; semantics = Mealy; strict = strict; target = Mealy; target_at = 60 }
+
+-- what the text guarantees
 abbrev pub guarantees : List Definition → List Declaration → List Declaration → List Tree → Text
 guarantees definitions inputs outputs formulas = record {
-  semantics = Mealy;
-  strict = false;
-  target = Mealy;
-  target_at = 60;
+  info = info_of false;
   definitions = definitions;
   inputs = inputs;
   outputs = outputs;
@@ -76,10 +78,7 @@ is_b definitions = guarantees definitions (record { word = word (codes "t") 86; 
 -- `INPUTS { r; } OUTPUTS { h; } ASSERT { r; } ASSUME { F h; }`
 abbrev pub lazy : Bool → Text
 lazy strict = record {
-  semantics = Mealy;
-  strict = strict;
-  target = Mealy;
-  target_at = 60;
+  info = info_of strict;
   definitions = [];
   inputs = one_signal (codes "r") 84 ∷ [];
   outputs = one_signal (codes "h") 99 ∷ [];
@@ -123,7 +122,7 @@ pub record RowsExpand : Type 0 where
   pub truth_as_width : flat_fault (of_width (truth (from 86) true)) None ≡ fault code.WrongSort 86
   pub own_name_in_width : flat_fault (of_width (named (from 86) (codes "r"))) None ≡ fault code.UnknownName 86
   pub no_formula : flat_fault (guarantees [] [] [] (number (from 110) (Some (pos 1)) ∷ [])) None ≡ fault code.WrongSort 110
-  pub other_target : flat_fault (record (lazy false) { semantics = Moore }) None ≡ fault code.TargetDiffers 60
-  pub given_kind : flat_fault (record (lazy false) { semantics = Moore }) (Some Mealy) ≡ None
+  pub other_target : flat_fault (record (lazy false) { info = record (info_of false) { semantics = Moore } }) None ≡ fault code.TargetDiffers 60
+  pub given_kind : flat_fault (record (lazy false) { info = record (info_of false) { semantics = Moore } }) (Some Mealy) ≡ None
   pub standard_meaning : means silence (lazy false) ≡ true
   pub strict_meaning : means silence (lazy true) ≡ false

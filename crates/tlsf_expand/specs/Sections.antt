@@ -3,23 +3,26 @@
 use Rattle.std.specs.Prelude.{Bool, true, false, List, [], ◌∷◌, ◌++◌, None}
 use Rattle.ltl_formula.specs.declared.nodes.FormulaId.{FormulaId}
 use Rattle.ltl_formula.specs.declared.nodes.Node.TheVariants as node
-use Rattle.tlsf_grammar.specs.Tree.{Tree}
+use Rattle.tlsf_syntax.specs.Tree.{Tree}
 use Rattle.tlsf_values.specs.declared.work.Work.{Work}
 use Rattle.tlsf_values.specs.Outcomes.{Outcome, gives, go_on, made}
 use Rattle.tlsf_values.specs.Names.{Names}
 use Rattle.tlsf_values.specs.Patterns.{values_made}
 use Rattle.tlsf_values.specs.SectionValues.{section_value}
-use Rattle.tlsf_expand.specs.Texts.{Sections}
+use Rattle.tlsf_syntax.specs.declared.sections.Sections.{Sections}
 use Rattle.tlsf_expand.specs.Signals.{TypedSignal, Signals}
 
 -- ---- the sections
 
-abbrev pub written_sections : Names → Sections (List Tree) → Work → Outcome (Sections (List FormulaId))
-written_sections names s w =
-    go_on (section_value names s.initially w) (λ initially w. go_on (section_value names s.preset w) (λ preset w.
-    go_on (section_value names s.require w) (λ require w. go_on (section_value names s.assert w) (λ assert w.
-    go_on (section_value names s.assume w) (λ assume w. go_on (section_value names s.guarantee w) (λ guarantee w.
+-- one section after the other
+abbrev pub in_order : {A B : Type 0} → (A → Work → Outcome B) → Sections A → Work → Outcome (Sections B)
+in_order f s w =
+    go_on (f s.initially w) (λ initially w. go_on (f s.preset w) (λ preset w. go_on (f s.require w) (λ require w.
+    go_on (f s.assert w) (λ assert w. go_on (f s.assume w) (λ assume w. go_on (f s.guarantee w) (λ guarantee w.
     gives (record { initially = initially; preset = preset; require = require; assert = assert; assume = assume; guarantee = guarantee }) w))))))
+
+abbrev pub written_sections : Names → Sections (List Tree) → Work → Outcome (Sections (List FormulaId))
+written_sections names s w = in_order (section_value names) s w
 
 -- one of the type's values stands at the signal: a formula for each, which counts no evaluation
 abbrev pub added_value : List TypedSignal → Work → Outcome (List FormulaId)

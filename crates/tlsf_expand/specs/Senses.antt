@@ -8,9 +8,9 @@ use Rattle.std.specs.Ordering.{int_eq}
 use Rattle.letter_word.specs.Signals.{has}
 use Rattle.letter_word.specs.Word.{Word, next, after, letter_at}
 use Rattle.ltl_formula.specs.Truth.{some_below, all_below, until_at, release_at}
-use Rattle.tlsf_tree.specs.declared.expr.Op.{Op}
-use Rattle.tlsf_tree.specs.declared.expr.Op.TheVariants as op
-use Rattle.tlsf_grammar.specs.Tree.{Pattern}
+use Rattle.tlsf_syntax.specs.declared.expr.Op.{Op}
+use Rattle.tlsf_syntax.specs.declared.expr.Op.TheVariants as op
+use Rattle.tlsf_syntax.specs.Tree.{Pattern}
 use Rattle.tlsf_values.specs.Sets.{is_in, union, intersection, difference, set_of}
 use Rattle.tlsf_values.specs.Steps.{stepped}
 use Rattle.tlsf_values.specs.Names.{Names, bus_at, patterns_at}

@@ -2,8 +2,8 @@
 -- profile of TLSF 1.1.
 use Rattle.std.specs.Prelude.{ℕ, zero, suc, ◌+◌, ◌==◌, nat_le, if◌then◌else◌, Bool, List, [], ◌∷◌, ◌++◌, length, Option, None, Some, pos, negsuc, codes, decimal}
 use Rattle.std.specs.List.{list_any}
-use Rattle.tlsf_tokens.specs.declared.code.SpecCode.TheVariants.{UnknownName, WrongSort, NumberRange, TooManySignals}
-use Rattle.tlsf_grammar.specs.Tree.{Named, Pattern, Definition, parameter, function, enumeration, Shape, single, bus, typed, Declaration}
+use Rattle.spec_faults.specs.declared.code.SpecCode.TheVariants.{UnknownName, WrongSort, NumberRange, TooManySignals}
+use Rattle.tlsf_syntax.specs.Tree.{Named, Pattern, Definition, parameter, function, enumeration, Shape, single, bus, typed, Declaration}
 use Rattle.tlsf_values.specs.declared.value.Value.{Value}
 use Rattle.tlsf_values.specs.declared.value.Value.TheVariants.{Number}
 use Rattle.tlsf_values.specs.declared.work.Work.{Work}
@@ -11,7 +11,7 @@ use Rattle.tlsf_values.specs.Outcomes.{Outcome, gives, fails, go_on, choose, Che
 use Rattle.tlsf_values.specs.Names.{Names, Meaning, an_enumeration, undeclared, same_name, with_signal, with_bus, with_definitions, without_names}
 use Rattle.tlsf_values.specs.Patterns.{all_values}
 use Rattle.tlsf_values.specs.Values.{start_of, value_at}
-use Rattle.tlsf_expand.specs.Texts.{Text}
+use Rattle.tlsf_syntax.specs.Text.{Text}
 
 -- ---- enumerations
 

@@ -2,7 +2,7 @@
 use Rattle.std.specs.Prelude.{map}
 use Rattle.tlsf_values.specs.NamesSeen.{names_seen}
 use Rattle.tlsf_values.specs.Patterns.{all_values}
-use Rattle.tlsf_values.specs.Seen.{member_seen}
+use Rattle.tlsf_syntax.specs.Seen.{member_seen}
 use Rattle.tlsf_expand.specs.declared.signals.Extent.{Extent as CodeExtent}
 use Rattle.tlsf_expand.specs.declared.signals.Extent.TheVariants.{Alone, Wide, OfType}
 use Rattle.tlsf_expand.specs.declared.signals.TypedSignal.{TypedSignal as CodeTyped}

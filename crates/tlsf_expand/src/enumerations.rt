@@ -4,10 +4,10 @@ ghost use Rattle.std.specs.Prelude.{◌≡◌, map};
 ghost use Rattle.std.specs.Option.{option_map};
 ghost use Rattle.tlsf_expand.specs.Signals.{other_width, uneven_in, uneven_value, values_in, values_named, width_of};
 ghost use Rattle.tlsf_values.specs.Patterns.{all_values};
-ghost use Rattle.tlsf_values.specs.Seen.{definition_seen, member_seen, pattern_seen};
+ghost use Rattle.tlsf_syntax.specs.Seen.{definition_seen, member_seen, pattern_seen};
 
 use text_base::Name;
-use tlsf_tree::{Definition, Member, Pattern};
+use tlsf_syntax::{Definition, Member, Pattern};
 
 /// The width of an enumeration with these members is that of its first value.
 pub(crate) fn width(members: &[Member]) -> usize

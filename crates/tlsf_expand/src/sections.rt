@@ -1,58 +1,36 @@
 // The flat formulas of the sections, with those that are added for signals of a type.
 
-ghost use Rattle.std.specs.Prelude.{◌≡◌, ◌++◌, [], map, slice_index_or};
-ghost use Rattle.tlsf_expand.specs.Sections.{added_value, sections_value, with_added, written_sections};
-ghost use Rattle.tlsf_expand.specs.SectionsSeen.{flat_seen};
+ghost use Rattle.std.specs.Prelude.{◌≡◌, ◌++◌, map};
+ghost use Rattle.tlsf_expand.specs.Sections.{added_value, sections_value, written_sections};
 ghost use Rattle.tlsf_expand.specs.SignalsSeen.{signals_seen, typed_seen};
-ghost use Rattle.tlsf_expand.specs.TextSeen.{text_seen};
+ghost use Rattle.tlsf_syntax.specs.Seen.{text_seen};
+ghost use Rattle.tlsf_syntax.specs.Text.{section_lists};
 ghost use Rattle.tlsf_values.specs.NamesSeen.{names_seen};
 ghost use Rattle.tlsf_values.specs.Outcomes.{gives, go_on};
 ghost use Rattle.tlsf_values.specs.Results.{IsOutcomeAs};
-ghost use Rattle.tlsf_values.specs.Seen.{expr_seen};
 
 use crate::signals::{Signals, TypedSignal};
 use ltl_formula::FormulaId;
-use tlsf_tokens::SpecFault;
-use tlsf_tree::{Expr, SpecTree};
+use spec_faults::SpecFault;
+use tlsf_syntax::{Sections, SpecTree};
 use tlsf_values::{Names, Work};
-
-/// The flat formulas of the six sections.
-#[derive(Drop)]
-pub(crate) struct FlatSections {
-    pub(crate) initially: Vec<FormulaId>,
-    pub(crate) preset: Vec<FormulaId>,
-    pub(crate) require: Vec<FormulaId>,
-    pub(crate) assert: Vec<FormulaId>,
-    pub(crate) assume: Vec<FormulaId>,
-    pub(crate) guarantee: Vec<FormulaId>,
-}
-
-/// A section of the written text, by its place.
-fn written_section(tree: &SpecTree, place: usize) -> &[Expr]
-    ensures { map expr_seen result.now ≡ slice_index_or (map (λ s. map expr_seen s.items) tree.now.sections.items) place [] }
-{
-    match tree.sections.get(place) {
-        Some(exprs) => exprs,
-        None => &[],
-    }
-}
 
 /// The formulas of each section, which is evaluated by one call.
 fn written_sections<'t>(
     names: &mut Names<'t>,
     tree: &'t SpecTree,
     work: &mut Work,
-) -> Result<FlatSections, SpecFault>
-    ensures value { IsOutcomeAs flat_seen result work.new (written_sections (names_seen names.old) (text_seen tree.now).sections work.old) }
+) -> Result<Sections<Vec<FormulaId>>, SpecFault>
+    ensures value { IsOutcomeAs section_lists result work.new (written_sections (names_seen names.old) (text_seen tree.now).sections work.old) }
     ensures names { names_seen names.new ≡ names_seen names.old }
 {
-    let initially = names.formulas_of(written_section(tree, 0), work)?;
-    let preset = names.formulas_of(written_section(tree, 1), work)?;
-    let require = names.formulas_of(written_section(tree, 2), work)?;
-    let assert = names.formulas_of(written_section(tree, 3), work)?;
-    let assume = names.formulas_of(written_section(tree, 4), work)?;
-    let guarantee = names.formulas_of(written_section(tree, 5), work)?;
-    Ok(FlatSections {
+    let initially = names.formulas_of(&tree.sections.initially, work)?;
+    let preset = names.formulas_of(&tree.sections.preset, work)?;
+    let require = names.formulas_of(&tree.sections.require, work)?;
+    let assert = names.formulas_of(&tree.sections.assert, work)?;
+    let assume = names.formulas_of(&tree.sections.assume, work)?;
+    let guarantee = names.formulas_of(&tree.sections.guarantee, work)?;
+    Ok(Sections {
         initially,
         preset,
         require,
@@ -82,8 +60,8 @@ pub(crate) fn flat_sections<'t>(
     signals: &mut Signals<'t>,
     tree: &'t SpecTree,
     work: &mut Work,
-) -> Result<FlatSections, SpecFault>
-    ensures value { IsOutcomeAs flat_seen result work.new (sections_value (signals_seen signals.old) (text_seen tree.now).sections work.old) }
+) -> Result<Sections<Vec<FormulaId>>, SpecFault>
+    ensures value { IsOutcomeAs section_lists result work.new (sections_value (signals_seen signals.old) (text_seen tree.now).sections work.old) }
     ensures signals { signals_seen signals.new ≡ signals_seen signals.old }
 {
     let mut sections = written_sections(&mut signals.names, tree, work)?;

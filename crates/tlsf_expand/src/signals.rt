@@ -3,16 +3,16 @@
 ghost use Rattle.std.specs.Prelude.{◌≡◌, ◌+◌, ◌≤◌, ◌++◌, IfOk, OnOk, map};
 ghost use Rattle.tlsf_expand.specs.Signals.{bit_name, bit_names, bits_in, declaration_value, declarations_value, declared, declares, even_first, extent_value, none_yet, signals_value, type_in, uneven_value, width_in};
 ghost use Rattle.tlsf_expand.specs.SignalsSeen.{declared_seen, extent_seen, signals_seen};
-ghost use Rattle.tlsf_expand.specs.TextSeen.{declaration_seen, shape_seen, text_seen};
+ghost use Rattle.tlsf_syntax.specs.Seen.{declaration_seen, shape_seen, text_seen};
 ghost use Rattle.tlsf_values.specs.NamesSeen.{names_seen};
 ghost use Rattle.tlsf_values.specs.Results.{IsCheckedAs, IsOutcomeAs};
-ghost use Rattle.tlsf_values.specs.Seen.{word_seen};
+ghost use Rattle.tlsf_syntax.specs.Seen.{word_seen};
 
 use crate::enumerations::{members_named, uneven_value, width};
+use spec_faults::{SpecCode, SpecFault};
 use std::alloc::{AllocError, Global};
 use text_base::{Name, push_number};
-use tlsf_tokens::{SpecCode, SpecFault};
-use tlsf_tree::{Declaration, Member, Shape, SpecTree, Word};
+use tlsf_syntax::{Declaration, Member, Shape, SpecTree, Word};
 use tlsf_values::{Names, Value, Work};
 
 /// How many inputs there are at most, and how many outputs.

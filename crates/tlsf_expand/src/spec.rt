@@ -1,11 +1,9 @@
 // The flat form of a text.
 
-ghost use Rattle.std.specs.Prelude.{◌≡◌};
-
 use letter_word::Kind;
 use ltl_formula::{FormulaId, Formulas};
-use std::marker::Model;
 use text_base::Name;
+use tlsf_syntax::Sections;
 
 /// A text expanded.
 #[derive(Debug, Drop)]
@@ -18,37 +16,8 @@ pub struct Spec {
     pub strict: bool,
     /// The list that all flat formulas stand in.
     pub formulas: Formulas,
-    /// INITIALLY, PRESET, REQUIRE, ASSERT, ASSUME and GUARANTEE.
-    pub sections: Vec<Section>,
+    /// The flat formulas of each section in their order.
+    pub sections: Sections<Vec<FormulaId>>,
     /// The formula of the whole text.
     pub whole: FormulaId,
-}
-
-/// The flat formulas of one section in their order. A contract sees it as the list of them.
-#[derive(Debug, Drop)]
-pub struct Section {
-    formulas: Vec<FormulaId>,
-}
-
-impl Model for Section {
-    ghost use Rattle.std.specs.Prelude.{List};
-    ghost use Rattle.ltl_formula.specs.declared.nodes.FormulaId.{FormulaId};
-
-    ghost Value = { List FormulaId };
-
-    ghost view = { λ s. s.formulas.items };
-}
-
-impl Section {
-    pub(crate) fn new(formulas: Vec<FormulaId>) -> Section
-        ensures { result ≡ formulas.items }
-    {
-        Section { formulas }
-    }
-
-    pub fn formulas(&self) -> &[FormulaId]
-        ensures { result.now ≡ self.now }
-    {
-        &self.formulas
-    }
 }

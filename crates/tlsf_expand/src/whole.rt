@@ -2,12 +2,12 @@
 
 ghost use Rattle.std.specs.Prelude.{◌≡◌};
 ghost use Rattle.tlsf_expand.specs.Sections.{joined, standard_value, strict_value, whole_value};
-ghost use Rattle.tlsf_expand.specs.SectionsSeen.{flat_seen};
+ghost use Rattle.tlsf_syntax.specs.Text.{section_lists};
 ghost use Rattle.tlsf_values.specs.Results.{IsOutcome};
 
-use crate::sections::FlatSections;
 use ltl_formula::{FormulaId, Node};
-use tlsf_tokens::SpecFault;
+use spec_faults::SpecFault;
+use tlsf_syntax::Sections;
 use tlsf_values::Work;
 
 /// The formulas of a section, joined to the left; without any it is true.
@@ -25,8 +25,8 @@ fn joined(ids: &[FormulaId], work: &mut Work) -> Result<FormulaId, SpecFault>
 }
 
 /// `e -> (s && ((G E && A) -> (G S && H)))`, the parts from left to right before the whole.
-fn standard(sections: &FlatSections, work: &mut Work) -> Result<FormulaId, SpecFault>
-    ensures { IsOutcome result work.new (standard_value (flat_seen sections.now) work.old) }
+fn standard(sections: &Sections<Vec<FormulaId>>, work: &mut Work) -> Result<FormulaId, SpecFault>
+    ensures { IsOutcome result work.new (standard_value (section_lists sections.now) work.old) }
 {
     let initially = joined(&sections.initially, work)?;
     let preset = joined(&sections.preset, work)?;
@@ -44,8 +44,8 @@ fn standard(sections: &FlatSections, work: &mut Work) -> Result<FormulaId, SpecF
 }
 
 /// `e -> (s && (S W !E) && ((G E && A) -> H))`, the parts from left to right before the whole.
-fn strict(sections: &FlatSections, work: &mut Work) -> Result<FormulaId, SpecFault>
-    ensures { IsOutcome result work.new (strict_value (flat_seen sections.now) work.old) }
+fn strict(sections: &Sections<Vec<FormulaId>>, work: &mut Work) -> Result<FormulaId, SpecFault>
+    ensures { IsOutcome result work.new (strict_value (section_lists sections.now) work.old) }
 {
     let initially = joined(&sections.initially, work)?;
     let preset = joined(&sections.preset, work)?;
@@ -63,12 +63,13 @@ fn strict(sections: &FlatSections, work: &mut Work) -> Result<FormulaId, SpecFau
     work.made(0, Node::Implies(initially, all))
 }
 
-pub(crate) fn whole_formula(
+/// The formula of the whole for strict or standard semantics, over the formulas of the sections.
+pub fn whole_formula(
     is_strict: bool,
-    sections: &FlatSections,
+    sections: &Sections<Vec<FormulaId>>,
     work: &mut Work,
 ) -> Result<FormulaId, SpecFault>
-    ensures { IsOutcome result work.new (whole_value is_strict (flat_seen sections.now) work.old) }
+    ensures { IsOutcome result work.new (whole_value is_strict (section_lists sections.now) work.old) }
 {
     if is_strict {
         strict(sections, work)

@@ -1,11 +1,11 @@
 -- The tree of a text, part by part.
 use Rattle.std.proofs.Common.{◌≡◌, List, [], ◌∷◌, ◌++◌, refl, sym, ◌∙◌, ap, append_assoc, map}
 use Rattle.std.proofs.lemmas.List.{append-nil, map-append}
-use Rattle.tlsf_tree.specs.declared.symbol.Section.{Section}
-use Rattle.tlsf_tree.specs.declared.symbol.Section.TheVariants.{Initially, Preset, Require, Assert, Assume, Guarantee}
-use Rattle.tlsf_grammar.specs.Tree.{Tree, Definition, Field, title, description, semantics, target, tags, Block, parameters, definitions, Part, inputs, outputs, section}
-use Rattle.tlsf_reader.specs.Spec.{Info, info_of, definitions_of, inputs_of, outputs_of, section_of}
-use Rattle.tlsf_reader.specs.Assembly.{put_field, put_fields, block_definitions, Parts, parts_of, put_section, put_part, put_parts}
+use Rattle.tlsf_tokens.specs.declared.symbol.Section.TheVariants.{Initially, Preset, Require, Assert, Assume, Guarantee}
+use Rattle.tlsf_syntax.specs.Tree.{Definition, Field, title, description, semantics, target, tags, Block, parameters, definitions, Part, inputs, outputs, section, Written}
+use Rattle.tlsf_syntax.specs.Text.{Info, Text}
+use Rattle.tlsf_reader.specs.Parts.{info_of, definitions_of, text_of}
+use Rattle.tlsf_reader.specs.Assembly.{put_field, put_fields, block_definitions, put_part, put_parts, no_sections}
 
 -- fields
 
@@ -39,23 +39,25 @@ more_definitions see view all xs ys y e f =
 
 -- parts
 
-first_section : (s : Section) (ts : List Tree) (ps : List Part) → parts_of (section s ts ∷ ps) ≡ put_section s ts (parts_of ps)
-first_section Initially ts ps = refl
-first_section Preset ts ps = refl
-first_section Require ts ps = refl
-first_section Assert ts ps = refl
-first_section Assume ts ps = refl
-first_section Guarantee ts ps = refl
+first_part : (w : Written) (p : Part) (ps : List Part) → put_part p (text_of (record w { parts = ps })) ≡ text_of (record w { parts = p ∷ ps })
+first_part w (inputs ds) ps = refl
+first_part w (outputs ds) ps = refl
+first_part w (section Initially ts) ps = refl
+first_part w (section Preset ts) ps = refl
+first_part w (section Require ts) ps = refl
+first_part w (section Assert ts) ps = refl
+first_part w (section Assume ts) ps = refl
+first_part w (section Guarantee ts) ps = refl
 
-first_part : (p : Part) (ps : List Part) → parts_of (p ∷ ps) ≡ put_part p (parts_of ps)
-first_part (inputs ds) ps = refl
-first_part (outputs ds) ps = refl
-first_part (section s ts) ps = first_section s ts ps
+all_parts : (w : Written) (ps : List Part) → put_parts (text_of (record w { parts = [] })) ps ≡ text_of (record w { parts = ps })
+all_parts w [] = refl
+all_parts w (p ∷ ps) = ap (put_part p) (all_parts w ps) ∙ first_part w p ps
 
-pub all_parts : (ps : List Part) → put_parts (parts_of []) ps ≡ parts_of ps
-all_parts [] = refl
-all_parts (p ∷ ps) = ap (put_part p) (all_parts ps) ∙ sym (first_part p ps)
+pub assembled : (w : Written) (t : Text) → t.info ≡ info_of w.fields → t.definitions ≡ definitions_of w.blocks → t.inputs ≡ [] → t.outputs ≡ [] → t.sections ≡ no_sections → put_parts t w.parts ≡ text_of w
+assembled w t i d a b s =
+    let start : t ≡ text_of (record w { parts = [] }) = λ k. record { info = i k; definitions = d k; inputs = a k; outputs = b k; sections = s k } in
+    ap (λ u. put_parts u w.parts) start ∙ all_parts w w.parts
 
-pub last_part : {X : Type 0} (view : X → Part) (m : Parts) (xs : List X) (x : X) → put_parts m (map view (xs ++ x ∷ [])) ≡ put_parts (put_part (view x) m) (map view xs)
-last_part view m [] x = refl
-last_part view m (y ∷ xs) x = ap (put_part (view y)) (last_part view m xs x)
+pub last_part : {X : Type 0} (view : X → Part) (t : Text) (xs : List X) (x : X) → put_parts t (map view (xs ++ x ∷ [])) ≡ put_parts (put_part (view x) t) (map view xs)
+last_part view t [] x = refl
+last_part view t (y ∷ xs) x = ap (put_part (view y)) (last_part view t xs x)

@@ -1,19 +1,19 @@
 -- How the descent for expressions goes from one level to the next, and out of a `?`.
-use Rattle.std.proofs.Common.{◌≡◌, ℕ, ◌+◌, ◌<◌, ◌≤◌, ◌⊎◌, Bool, true, List, map, drop, Option, Some, None, Result, Ok, Err, IsErrAnd, sym, ap, ◌∙◌, subst, arith}
+use Rattle.std.proofs.Common.{◌≡◌, ℕ, ◌+◌, ◌<◌, ◌≤◌, ◌⊎◌, Bool, true, List, drop, Option, Some, None, Result, Ok, Err, IsErrAnd, sym, ap, ◌∙◌, subst, arith}
 use Rattle.std.proofs.lemmas.Result.{err_from_is_err_and}
-use Rattle.tlsf_tree.specs.declared.expr.Link.{Link}
-use Rattle.tlsf_tree.specs.declared.expr.Op.{Op}
-use Rattle.tlsf_grammar.specs.Tree.{Tree, tree_span, pair}
-use Rattle.tlsf_grammar.specs.Lexemes.{Lexeme}
-use Rattle.tlsf_grammar.specs.Expressions.{Level, Joins, memberships, prefixes, tighter_of, joins_of}
-use Rattle.tlsf_grammar.specs.Reading.{Answer, taken, go_on, level_number, operator_here, joined, chain_of, from_to, readers}
+use Rattle.tlsf_syntax.specs.declared.expr.Link.{Link}
+use Rattle.tlsf_syntax.specs.declared.expr.Op.{Op}
+use Rattle.tlsf_syntax.specs.Tree.{Tree, tree_span, pair}
+use Rattle.tlsf_syntax.specs.Lexemes.{Lexeme}
+use Rattle.tlsf_syntax.specs.Expressions.{Level, Joins, memberships, prefixes, tighter_of, joins_of}
+use Rattle.tlsf_syntax.specs.Reading.{Answer, taken, go_on, level_number, operator_here, joined, chain_of, from_to, readers}
 use Rattle.tlsf_reader.specs.declared.rest.Refusal.{Refusal}
 use Rattle.tlsf_reader.specs.declared.ahead.Sign.{Sign}
 use Rattle.tlsf_reader.specs.declared.ahead.SignKind.{SignKind}
 use Rattle.tlsf_reader.specs.Seen.{seen}
-use Rattle.tlsf_reader.specs.View.{link_of, links_of}
 use Rattle.tlsf_reader.specs.Descent.{Eventually, IsRead, IsBuilt, SignedFront, Unsigned, signed_by, extended_by, Builds, put_link}
 use Rattle.tlsf_reader.proofs.Descending.{stops, climb_up, joins_some, joins_somehow, no_sign_at, one_number, read_error, read_same, read_stop, read_go, read_built, read_made, read_here, read_level, read_joined, read_alone, chain_ends, link_refused}
+use Rattle.tlsf_syntax.specs.Seen.{link_list_seen}
 
 -- the exit of a `?`
 pub read_exit : {X A : Type 0} {view : X → A} {f : ℕ → Answer A} {after : List Lexeme} {e : Refusal} (r : Result X Refusal) → IsErrAnd r (λ x. x ≡ e) → IsRead view f after (Err e) → IsRead view f after r
@@ -59,7 +59,7 @@ chain_refused ends m n first ls before o t done e f g b h = record {
 }
 
 pub read_chain : {X : Type 0} {view : X → Tree} {r : Result X Refusal} (ends : Bool) (m n : Level) (first ls after : List Lexeme) (t : Tree) (done : List Link) → tighter_of m ≡ Some n → None ≡ operator_here ends m ls
-    → after ≡ ls → Builds put_link (λ d. (readers d).links ends m first) done (λ d. (readers d).links ends m ls) → IsBuilt view (chain_of t (links_of (map link_of done))) r
+    → after ≡ ls → Builds put_link (λ d. (readers d).links ends m first) done (λ d. (readers d).links ends m ls) → IsBuilt view (chain_of t (link_list_seen done)) r
     → IsRead view (λ d. go_on ((readers d).links ends m first) (λ more end. taken (chain_of t more) end)) after r
 read_chain {view = view} {r = r} ends m n first ls after t done e f g b built =
     subst (λ (end : List Lexeme). IsRead view (λ d. go_on ((readers d).links ends m first) (λ more last. taken (chain_of t more) last)) end r) (sym g) (read_made (chain_ends ends m n first ls t done e (sym f) b) built)

@@ -1,12 +1,12 @@
 -- What the descent for GLOBAL reads, step by step.
 use Rattle.std.specs.Prelude.{if◌then◌else◌}
-use Rattle.std.proofs.Common.{◌≡◌, ℕ, suc, true, false, cond, List, [], ◌∷◌, Option, Some, None, Result, Ok, Err, IsErrAnd, refl, sym, ap, ◌∙◌, subst}
+use Rattle.std.proofs.Common.{◌≡◌, ℕ, true, false, cond, List, [], ◌∷◌, Option, Some, None, Result, Ok, Err, IsErrAnd, refl, sym, ap, ◌∙◌, subst}
 use Rattle.std.proofs.lemmas.Result.{err_from_is_err_and}
-use Rattle.tlsf_tree.specs.declared.symbol.Symbol.TheVariants as symbol
-use Rattle.tlsf_grammar.specs.Tree as plain
-use Rattle.tlsf_grammar.specs.Lexemes.{Lexeme, word_of}
-use Rattle.tlsf_grammar.specs.Reading.{Answer, taken, go_on, begins, expect, if_next}
-use Rattle.tlsf_grammar.specs.TextReading.{expression_read, guard_read, alternative_of, alternatives_read, names_read, function_read, definition_read, definitions_read, parameters_read, braced, blocks_read}
+use Rattle.tlsf_tokens.specs.declared.symbol.Symbol.TheVariants as symbol
+use Rattle.tlsf_syntax.specs.Tree as plain
+use Rattle.tlsf_syntax.specs.Lexemes.{Lexeme, word_of}
+use Rattle.tlsf_syntax.specs.Reading.{Answer, taken, go_on, begins, expect, if_next}
+use Rattle.tlsf_syntax.specs.TextReading.{expression_read, guard_read, alternative_of, alternatives_read, names_read, function_read, definition_read, definitions_read, parameters_read, braced, blocks_read}
 use Rattle.tlsf_reader.specs.declared.rest.Refusal.{Refusal}
 use Rattle.tlsf_reader.specs.declared.written.Block.{Block}
 use Rattle.tlsf_reader.specs.TextView.{block_view}

@@ -1,18 +1,18 @@
 -- How answers of readers that go deep enough are put together.
-use Rattle.std.proofs.Common.{◌≡◌, ℕ, zero, suc, ◌+◌, ◌<◌, ◌≤◌, Bool, true, false, cond, List, [], ◌∷◌, ◌++◌, length, map, drop, Option, Some, None, Result, Ok, Err, refl, sym, ap, ◌∙◌, subst, arith, ◌-◌, ◌⊎◌, inl, inr}
-use Rattle.tlsf_tree.specs.declared.expr.Expr.{Expr}
-use Rattle.tlsf_tree.specs.declared.expr.Link.{Link}
-use Rattle.tlsf_tree.specs.declared.expr.Op.{Op}
-use Rattle.tlsf_tree.specs.declared.expr.Range.{Range}
-use Rattle.tlsf_tree.specs.declared.symbol.Symbol.{Symbol}
-use Rattle.tlsf_tree.specs.declared.symbol.Symbol.TheVariants as symbol
-use Rattle.tlsf_grammar.specs.Tree.{Tree, Trees, Links, Ranges, tree_span, pair, tree, no_trees, link, no_links, no_ranges, members, between}
-use Rattle.tlsf_grammar.specs.Lexemes.{Lexeme, word_of}
-use Rattle.tlsf_grammar.specs.Expressions.{Level, Joins, primary, products, quotients, sums, differences, meets, unions, comparisons, memberships, prefixes, conjunctions, disjunctions, implications, weak_untils, untils, releases, left, once, right, none, tighter_of, joins_of}
-use Rattle.tlsf_grammar.specs.Reading.{Answer, taken, refused, go_on, begins, expect, if_next, level_number, operator_here, joined, chain_of, links_end, Readers, readers, level_with, level_by, list_with, links_with, linked, ranges_with, more_ranges, bounded, bound, between_with, from_to, primary_with, primary_by}
+use Rattle.std.proofs.Common.{◌≡◌, ℕ, zero, suc, ◌+◌, ◌<◌, ◌≤◌, Bool, true, false, cond, List, [], ◌∷◌, ◌++◌, length, drop, Option, Some, None, Result, Ok, Err, refl, sym, ap, ◌∙◌, subst, arith, ◌-◌, ◌⊎◌, inl, inr}
+use Rattle.tlsf_syntax.specs.declared.expr.Expr.{Expr}
+use Rattle.tlsf_syntax.specs.declared.expr.Link.{Link}
+use Rattle.tlsf_syntax.specs.declared.expr.Op.{Op}
+use Rattle.tlsf_syntax.specs.declared.expr.Range.{Range}
+use Rattle.tlsf_tokens.specs.declared.symbol.Symbol.{Symbol}
+use Rattle.tlsf_tokens.specs.declared.symbol.Symbol.TheVariants as symbol
+use Rattle.tlsf_syntax.specs.Tree.{Tree, Trees, Links, Ranges, tree_span, pair, tree, no_trees, link, no_links, no_ranges, members, between}
+use Rattle.tlsf_syntax.specs.Lexemes.{Lexeme, word_of}
+use Rattle.tlsf_syntax.specs.Expressions.{Level, Joins, primary, products, quotients, sums, differences, meets, unions, comparisons, memberships, prefixes, conjunctions, disjunctions, implications, weak_untils, untils, releases, left, once, right, none, tighter_of, joins_of}
+use Rattle.tlsf_syntax.specs.Reading.{Answer, taken, refused, go_on, begins, expect, if_next, level_number, operator_here, joined, chain_of, links_end, Readers, readers, level_with, level_by, list_with, links_with, linked, ranges_with, more_ranges, bounded, bound, between_with, from_to, primary_with, primary_by}
 use Rattle.tlsf_reader.specs.declared.rest.Refusal.{Refusal}
 use Rattle.tlsf_reader.specs.declared.rest.Refusal.TheVariants.{NoMemory, At}
-use Rattle.tlsf_reader.specs.View.{tree_of, trees_of, link_of, links_of, range_of, ranges_of}
+use Rattle.tlsf_syntax.specs.Seen.{expr_seen, trees_seen, link_list_seen, range_list_seen, range_seen}
 use Rattle.tlsf_reader.specs.Descent.{Eventually, IsRead, IsBuilt, Passes, Lacks, Unexpected, Bounds, Unbounded, bound_here, extended_by, onto, Builds, put_tree, put_link, IsRangeRead, NamesMembers, NamesNone, begins_members}
 
 -- answers of the readers themselves
@@ -200,24 +200,24 @@ pub built_last : {E X : Type 0} {put : E → X → X} {f g : ℕ → Answer X} {
 built_last {put = put} {f = f} {done = done} {e = e} {x = x} {rest = rest} all is b c =
     subst (λ y. Eventually f (taken y rest)) (sym (ap (λ es. onto put es x) is ∙ onto-append put done (e ∷ []) x)) (b.ok (put e x) rest c)
 
-pub trees_onto : (es : List Expr) → onto put_tree es no_trees ≡ trees_of (map tree_of es)
+pub trees_onto : (es : List Expr) → onto put_tree es no_trees ≡ trees_seen es
 trees_onto [] = refl
-trees_onto (e ∷ es) = ap (tree (tree_of e)) (trees_onto es)
+trees_onto (e ∷ es) = ap (tree (expr_seen e)) (trees_onto es)
 
-pub links_onto : (ls : List Link) → onto put_link ls no_links ≡ links_of (map link_of ls)
+pub links_onto : (ls : List Link) → onto put_link ls no_links ≡ link_list_seen ls
 links_onto [] = refl
-links_onto (l ∷ ls) = ap (link (link_of l).0 (link_of l).1) (links_onto ls)
+links_onto (l ∷ ls) = ap (link l.op (expr_seen l.right)) (links_onto ls)
 
-pub ranges_onto : (rs : List Range) → onto range_of rs no_ranges ≡ ranges_of (map range_of rs)
+pub ranges_onto : (rs : List Range) → onto range_seen rs no_ranges ≡ range_list_seen rs
 ranges_onto [] = refl
-ranges_onto (r ∷ rs) = ap (range_of r) (ranges_onto rs)
+ranges_onto (r ∷ rs) = ap (range_seen r) (ranges_onto rs)
 
-pub ends_last : (end : ℕ) (ls : List Link) (l : Link) (all : List Link) → all ≡ ls ++ l ∷ [] → (tree_span (link_of l).1).end ≡ links_end end (links_of (map link_of all))
-ends_last end ls l all is = sym (ap (λ xs. links_end end (links_of (map link_of xs))) is ∙ by end ls)
+pub ends_last : (end : ℕ) (ls : List Link) (l : Link) (all : List Link) → all ≡ ls ++ l ∷ [] → (tree_span (expr_seen l.right)).end ≡ links_end end (link_list_seen all)
+ends_last end ls l all is = sym (ap (λ xs. links_end end (link_list_seen xs)) is ∙ by end ls)
   where
-    by : (n : ℕ) (xs : List Link) → links_end n (links_of (map link_of (xs ++ l ∷ []))) ≡ (tree_span (link_of l).1).end
+    by : (n : ℕ) (xs : List Link) → links_end n (link_list_seen (xs ++ l ∷ [])) ≡ (tree_span (expr_seen l.right)).end
     by n [] = refl
-    by n (x ∷ xs) = by (tree_span (link_of x).1).end xs
+    by n (x ∷ xs) = by (tree_span (expr_seen x.right)).end xs
 
 -- the exit of a `?`
 pub read_error : {X A : Type 0} {view : X → A} {f : ℕ → Answer A} {after : List Lexeme} {e : Refusal} (r : Result X Refusal) → r ≡ Err e → IsRead view f after (Err e) → IsRead view f after r
@@ -333,11 +333,11 @@ pub read_alone : {X : Type 0} {seen_as : X → Tree} {after : List Lexeme} {r : 
 read_alone m t rest f e h = read_same _ (λ d. ap (λ p. joined p t rest (f d)) e) h
 
 -- one more operator of a chain, and the end of the chain
-pub link_more : (ends : Bool) (m n : Level) (ls before after : List Lexeme) (o : Op) (l : Link) (t : Tree) → tighter_of m ≡ Some n → operator_here ends m ls ≡ Some o → before ≡ drop 1 ls → link_of l ≡ (o, t)
+pub link_more : (ends : Bool) (m n : Level) (ls before after : List Lexeme) (o : Op) (l : Link) (t : Tree) → tighter_of m ≡ Some n → operator_here ends m ls ≡ Some o → before ≡ drop 1 ls → l.op ≡ o → expr_seen l.right ≡ t
     → Eventually (λ d. (readers d).level ends n before) (taken t after) → Builds put_link (λ d. (readers d).links ends m ls) (l ∷ []) (λ d. (readers d).links ends m after)
-link_more ends m n ls before after o l t e f g is h = record {
+link_more ends m n ls before after o l t e f g op_is right_is h = record {
   ok = λ more rest on. links_step ends m ls _ (same_answers _ same (goes (λ d u last. go_on ((readers d).links ends m last) (λ others end. taken (link o u others) end)) h
-      (subst (λ (p : Op × Tree). Eventually (λ d. go_on ((readers d).links ends m after) (λ others end. taken (link o t others) end)) (taken (link p.0 p.1 more) rest)) (sym is)
+      (subst (λ (x : Links). Eventually (λ d. go_on ((readers d).links ends m after) (λ others end. taken (link o t others) end)) (taken x rest)) (sym (λ k. link (op_is k) (right_is k) more))
       (goes (λ d others end. taken (link o t others) end) on (at_once _ _ (λ d. refl))))));
   err = λ k on. links_step ends m ls _ (same_answers _ same (goes (λ d u last. go_on ((readers d).links ends m last) (λ others end. taken (link o u others) end)) h
       (stops (λ d others end. taken (link o t others) end) on)));
@@ -361,9 +361,9 @@ link_end ends m n ls e f = links_step ends m ls _ (at_once _ _ (λ d. ap (λ p. 
 -- the whole chain
 pub chain_ends : (ends : Bool) (m n : Level) (ls rest : List Lexeme) (t : Tree) (done : List Link) → tighter_of m ≡ Some n → operator_here ends m rest ≡ None
     → Builds put_link (λ d. (readers d).links ends m ls) done (λ d. (readers d).links ends m rest)
-    → Eventually (λ d. go_on ((readers d).links ends m ls) (λ more after. taken (chain_of t more) after)) (taken (chain_of t (links_of (map link_of done))) rest)
+    → Eventually (λ d. go_on ((readers d).links ends m ls) (λ more after. taken (chain_of t more) after)) (taken (chain_of t (link_list_seen done)) rest)
 chain_ends ends m n ls rest t done e f b =
-    let all : Eventually (λ d. (readers d).links ends m ls) (taken (links_of (map link_of done)) rest) =
+    let all : Eventually (λ d. (readers d).links ends m ls) (taken (link_list_seen done) rest) =
     subst (λ (x : Links). Eventually (λ d. (readers d).links ends m ls) (taken x rest)) (links_onto done) (b.ok no_links rest (link_end ends m n rest e f)) in
     goes (λ d more after. taken (chain_of t more) after) all (at_once _ _ (λ d. refl))
 
@@ -408,22 +408,22 @@ read_unbounded {before = before} {e = e} k u = record {
 
 -- lists with commas
 
-pub list_more : (ls rest inner : List Lexeme) (e : Expr) (comma : Lexeme) → Eventually (λ d. (readers d).level false releases ls) (taken (tree_of e) rest) → Passes symbol.Comma rest comma inner
+pub list_more : (ls rest inner : List Lexeme) (e : Expr) (comma : Lexeme) → Eventually (λ d. (readers d).level false releases ls) (taken (expr_seen e) rest) → Passes symbol.Comma rest comma inner
     → Builds put_tree (λ d. (readers d).list ls) (e ∷ []) (λ d. (readers d).list inner)
 list_more ls rest inner e comma h p = record {
-  ok = λ more after on. list_step ls _ (goes (λ d t r. after_one d t r) h (same_answers _ (λ d. passes d) (goes (λ d others end. taken (tree (tree_of e) others) end) on (at_once _ _ (λ d. refl)))));
-  err = λ k on. list_step ls _ (goes (λ d t r. after_one d t r) h (same_answers _ (λ d. passes d) (stops (λ d others end. taken (tree (tree_of e) others) end) on)));
+  ok = λ more after on. list_step ls _ (goes (λ d t r. after_one d t r) h (same_answers _ (λ d. passes d) (goes (λ d others end. taken (tree (expr_seen e) others) end) on (at_once _ _ (λ d. refl)))));
+  err = λ k on. list_step ls _ (goes (λ d t r. after_one d t r) h (same_answers _ (λ d. passes d) (stops (λ d others end. taken (tree (expr_seen e) others) end) on)));
 }
   where
     after_one : ℕ → Tree → List Lexeme → Answer Trees
     after_one d t r = if_next symbol.Comma r (λ _ i. go_on ((readers d).list i) (λ more after. taken (tree t more) after)) (taken (tree t no_trees) r)
 
-    passes : (d : ℕ) → after_one d (tree_of e) rest ≡ go_on ((readers d).list inner) (λ more after. taken (tree (tree_of e) more) after)
-    passes d = next_passes (λ _ i. go_on ((readers d).list i) (λ more after. taken (tree (tree_of e) more) after)) (taken (tree (tree_of e) no_trees) rest) p
+    passes : (d : ℕ) → after_one d (expr_seen e) rest ≡ go_on ((readers d).list inner) (λ more after. taken (tree (expr_seen e) more) after)
+    passes d = next_passes (λ _ i. go_on ((readers d).list i) (λ more after. taken (tree (expr_seen e) more) after)) (taken (tree (expr_seen e) no_trees) rest) p
 
-pub list_last : (ls rest after : List Lexeme) (e : Expr) → Eventually (λ d. (readers d).level false releases ls) (taken (tree_of e) rest) → Lacks symbol.Comma rest after
+pub list_last : (ls rest after : List Lexeme) (e : Expr) → Eventually (λ d. (readers d).level false releases ls) (taken (expr_seen e) rest) → Lacks symbol.Comma rest after
     → Eventually (λ d. (readers d).list ls) (taken (put_tree e no_trees) after)
-list_last ls rest after e h p = list_step ls _ (goes (λ d t r. after_one d t r) h (at_once _ _ (λ d. next_other (λ _ i. go_on ((readers d).list i) (λ more end. taken (tree (tree_of e) more) end)) (λ r. taken (tree (tree_of e) no_trees) r) p)))
+list_last ls rest after e h p = list_step ls _ (goes (λ d t r. after_one d t r) h (at_once _ _ (λ d. next_other (λ _ i. go_on ((readers d).list i) (λ more end. taken (tree (expr_seen e) more) end)) (λ r. taken (tree (expr_seen e) no_trees) r) p)))
   where
     after_one : ℕ → Tree → List Lexeme → Answer Trees
     after_one d t r = if_next symbol.Comma r (λ _ i. go_on ((readers d).list i) (λ more end. taken (tree t more) end)) (taken (tree t no_trees) r)
@@ -434,17 +434,17 @@ list_refused ls k h = list_step ls _ (stops (λ d t r. if_next symbol.Comma r (�
 -- ranges
 
 pub range_more : (before rest inner : List Lexeme) (x : Range) (comma : Lexeme) → IsRangeRead before rest (Ok x) → Passes symbol.Comma rest comma inner
-    → Builds range_of (λ d. (readers d).ranges before) (x ∷ []) (λ d. (readers d).ranges inner)
+    → Builds range_seen (λ d. (readers d).ranges before) (x ∷ []) (λ d. (readers d).ranges inner)
 range_more before rest inner x comma h p = record {
-  ok = λ more after on. ranges_step before _ (h.ok x refl _ (same_answers _ (λ d. passes d) (goes (λ d others end. taken (range_of x others) end) on (at_once _ _ (λ d. refl)))));
-  err = λ k on. ranges_step before _ (h.ok x refl _ (same_answers _ (λ d. passes d) (stops (λ d others end. taken (range_of x others) end) on)));
+  ok = λ more after on. ranges_step before _ (h.ok x refl _ (same_answers _ (λ d. passes d) (goes (λ d others end. taken (range_seen x others) end) on (at_once _ _ (λ d. refl)))));
+  err = λ k on. ranges_step before _ (h.ok x refl _ (same_answers _ (λ d. passes d) (stops (λ d others end. taken (range_seen x others) end) on)));
 }
   where
-    passes : (d : ℕ) → more_ranges (readers d) rest (range_of x) ≡ go_on ((readers d).ranges inner) (λ more after. taken (range_of x more) after)
-    passes d = next_passes (λ _ i. go_on ((readers d).ranges i) (λ more after. taken (range_of x more) after)) (taken (range_of x no_ranges) rest) p
+    passes : (d : ℕ) → more_ranges (readers d) rest (range_seen x) ≡ go_on ((readers d).ranges inner) (λ more after. taken (range_seen x more) after)
+    passes d = next_passes (λ _ i. go_on ((readers d).ranges i) (λ more after. taken (range_seen x more) after)) (taken (range_seen x no_ranges) rest) p
 
-pub range_last : (before rest after : List Lexeme) (x : Range) → IsRangeRead before rest (Ok x) → Lacks symbol.Comma rest after → Eventually (λ d. (readers d).ranges before) (taken (range_of x no_ranges) after)
-range_last before rest after x h p = ranges_step before _ (h.ok x refl _ (at_once _ _ (λ d. next_other (λ _ i. go_on ((readers d).ranges i) (λ more end. taken (range_of x more) end)) (λ r. taken (range_of x no_ranges) r) p)))
+pub range_last : (before rest after : List Lexeme) (x : Range) → IsRangeRead before rest (Ok x) → Lacks symbol.Comma rest after → Eventually (λ d. (readers d).ranges before) (taken (range_seen x no_ranges) after)
+range_last before rest after x h p = ranges_step before _ (h.ok x refl _ (at_once _ _ (λ d. next_other (λ _ i. go_on ((readers d).ranges i) (λ more end. taken (range_seen x more) end)) (λ r. taken (range_seen x no_ranges) r) p)))
 
 pub range_refused : {X : Type 0} {seen_as : X → Ranges} (before rest after : List Lexeme) (e : Refusal) → IsRead seen_as (λ d. ranges_with (readers d) before) rest (Err e) → IsRangeRead before after (Err e)
 range_refused before rest after e h = record { ok = λ x is. absurd (cc); err = λ k is. h.err k (cc) }
@@ -463,14 +463,14 @@ built_never view t (Ok y) b k is = cc
 built_never view t (Err e) b k is = cc (b)
 
 pub members_read : (before inner rest : List Lexeme) (l : Lexeme) (t : Tree) (r : Result Range Refusal) → NamesMembers before l inner → Eventually (λ d. (readers d).level false releases inner) (taken t rest)
-    → IsBuilt range_of (members (word_of l) t) r → IsRangeRead before rest r
+    → IsBuilt range_seen (members (word_of l) t) r → IsRangeRead before rest r
 members_read before inner rest l t r n h b = record {
   ok = λ x is a on. same_answers _ (λ d. members_front (readers d) before inner l n) (goes (λ d u last. more_ranges (readers d) last (λ more. members (word_of l) u more)) h
-      (subst (λ (f : Ranges → Ranges). Eventually (λ d. more_ranges (readers d) rest f) a) (built_is range_of (members (word_of l) t) r b x is) on));
-  err = λ k is. absurd (built_never range_of (members (word_of l) t) r b k is);
+      (subst (λ (f : Ranges → Ranges). Eventually (λ d. more_ranges (readers d) rest f) a) (built_is range_seen (members (word_of l) t) r b x is) on));
+  err = λ k is. absurd (built_never range_seen (members (word_of l) t) r b k is);
 }
 
-pub members_refused : (before inner rest : List Lexeme) (l : Lexeme) (e : Refusal) → NamesMembers before l inner → IsRead tree_of (λ d. (readers d).level false releases inner) rest (Err e) → IsRangeRead before rest (Err e)
+pub members_refused : (before inner rest : List Lexeme) (l : Lexeme) (e : Refusal) → NamesMembers before l inner → IsRead expr_seen (λ d. (readers d).level false releases inner) rest (Err e) → IsRangeRead before rest (Err e)
 members_refused before inner rest l e n h = record {
   ok = λ x is. absurd (cc);
   err = λ k is. same_answers _ (λ d. members_front (readers d) before inner l n) (stops (λ d u last. more_ranges (readers d) last (λ more. members (word_of l) u more)) (h.err k (cc)));
@@ -487,7 +487,7 @@ read_between before rest n h = read_same _ (λ d. between_front (readers d) befo
 
 pub between_read : (before start low_at named_at sign_at high_at rest : List Lexeme) (low high : Tree) (low_strict high_strict : Bool) (word : Lexeme) (r : Result Range Refusal) → NamesNone before start
     → Eventually (λ d. (readers d).level false sums start) (taken low low_at) → Bounds low_at low_strict named_at → Passes symbol.Ident named_at word sign_at → Bounds sign_at high_strict high_at
-    → Eventually (λ d. (readers d).level false sums high_at) (taken high rest) → IsBuilt range_of (between low low_strict (word_of word) high_strict high) r → IsRangeRead before rest r
+    → Eventually (λ d. (readers d).level false sums high_at) (taken high rest) → IsBuilt range_seen (between low low_strict (word_of word) high_strict high) r → IsRangeRead before rest r
 between_read before start low_at named_at sign_at high_at rest low high low_strict high_strict word r n h b p c j built = record {
   ok = λ x is a on. same_answers _ (λ d. between_front (readers d) before n.other ∙ ap (between_with (readers d)) (sym n.same)) (goes (λ d t1 r1. bound r1 (λ s1 r2. expect symbol.Ident r2 (λ w r3. bound r3 (λ s2 r4.
       go_on ((readers d).level false sums r4) (λ t2 r5. more_ranges (readers d) r5 (λ more. between t1 s1 (word_of w) s2 t2 more)))))) h
@@ -495,8 +495,8 @@ between_read before start low_at named_at sign_at high_at rest low high low_stri
       ∙ expect_passes (λ w r3. bound r3 (λ s2 r4. go_on ((readers d).level false sums r4) (λ t2 r5. more_ranges (readers d) r5 (λ more. between low low_strict (word_of w) s2 t2 more)))) p
       ∙ bound_passes (λ s2 r4. go_on ((readers d).level false sums r4) (λ t2 r5. more_ranges (readers d) r5 (λ more. between low low_strict (word_of word) s2 t2 more))) c)
       (goes (λ d t2 r5. more_ranges (readers d) r5 (λ more. between low low_strict (word_of word) high_strict t2 more)) j
-      (subst (λ (f : Ranges → Ranges). Eventually (λ d. more_ranges (readers d) rest f) a) (built_is range_of (between low low_strict (word_of word) high_strict high) r built x is) on))));
-  err = λ k is. absurd (built_never range_of (between low low_strict (word_of word) high_strict high) r built k is);
+      (subst (λ (f : Ranges → Ranges). Eventually (λ d. more_ranges (readers d) rest f) a) (built_is range_seen (between low low_strict (word_of word) high_strict high) r built x is) on))));
+  err = λ k is. absurd (built_never range_seen (between low low_strict (word_of word) high_strict high) r built k is);
 }
 
 -- primaries

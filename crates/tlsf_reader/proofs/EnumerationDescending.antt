@@ -4,15 +4,14 @@ use Rattle.std.specs.Prelude.{if◌then◌else◌}
 use Rattle.std.specs.Option.{is_some}
 use Rattle.std.proofs.lemmas.Bool.{eqb-true}
 use Rattle.std.proofs.lemmas.List.{append-nil, drop_all}
-use Rattle.tlsf_tree.specs.declared.symbol.Symbol.{Symbol}
-use Rattle.tlsf_tree.specs.declared.symbol.Symbol.TheVariants as symbol
-use Rattle.tlsf_grammar.specs.Tree as plain
-use Rattle.tlsf_grammar.specs.Lexemes.{Lexeme, word_of}
-use Rattle.tlsf_grammar.specs.Texts.{bits_of, digits_bits}
-use Rattle.tlsf_grammar.specs.Reading.{Answer, taken, refused, lost, go_on, expect, if_next, from_to}
-use Rattle.tlsf_grammar.specs.TextReading.{Value, value_read, valued, goes_on_value, pattern_read, patterns_read, begins_member, members_read}
+use Rattle.tlsf_tokens.specs.declared.symbol.Symbol.{Symbol}
+use Rattle.tlsf_tokens.specs.declared.symbol.Symbol.TheVariants as symbol
+use Rattle.tlsf_syntax.specs.Tree as plain
+use Rattle.tlsf_syntax.specs.Lexemes.{Lexeme, word_of}
+use Rattle.tlsf_syntax.specs.Texts.{bits_of, digits_bits}
+use Rattle.tlsf_syntax.specs.Reading.{Answer, taken, refused, lost, go_on, expect, if_next, from_to}
+use Rattle.tlsf_syntax.specs.TextReading.{Value, value_read, valued, goes_on_value, pattern_read, patterns_read, begins_member, members_read}
 use Rattle.tlsf_reader.specs.declared.rest.Refusal.{Refusal}
-use Rattle.tlsf_reader.specs.declared.rest.Refusal.TheVariants.{At}
 use Rattle.tlsf_reader.specs.Descent.{Eventually, IsRead, Passes, Lacks, Builds}
 use Rattle.tlsf_reader.specs.TextDescent.{bits_at, bits_here, AreAppended, LacksBits, GoesOn, value_from, in_front}
 use Rattle.tlsf_reader.proofs.Descending.{at_once, same_answers, goes, stops, next_passes, next_other}

@@ -2,22 +2,23 @@
 use Rattle.std.proofs.Common.{◌≡◌, ◌<◌, ◌≤◌, ◌+◌, ◌⊎◌, ℕ, zero, suc, Bool, true, false, cond, List, [], ◌∷◌, ◌++◌, length, take, drop, Option, None, Some, Result, Ok, Err, nat_le, refl, sym, ◌∙◌, ap, subst, arith, inl, inr, append_assoc}
 use Rattle.std.proofs.lemmas.Bool.{leb-true, leb-false}
 use Rattle.std.proofs.lemmas.List.{append-nil, take-append-drop, take-take, take_all}
-use Rattle.tlsf_tokens.specs.declared.code.SpecCode.{SpecCode}
-use Rattle.tlsf_tokens.specs.declared.code.SpecCode.TheVariants.{Unexpected, TooDeep, Unsupported}
-use Rattle.tlsf_tokens.specs.declared.code.SpecFault.{SpecFault}
-use Rattle.tlsf_tokens.specs.declared.code.SpecFault.TheVariants.{At}
-use Rattle.tlsf_tree.specs.declared.spec.SpecTree.{SpecTree}
-use Rattle.tlsf_tree.specs.Nesting.{first_deep}
-use Rattle.tlsf_grammar.specs.Tree.{Written}
-use Rattle.tlsf_grammar.specs.Lexemes.{Lexeme}
-use Rattle.tlsf_grammar.specs.Texts.{DerivesText, Begins, IsFirstUnexpected, at_lexeme, at_end, UnexpectedIsDetermined}
-use Rattle.tlsf_grammar.proofs.Unexpected.{determined}
+use Rattle.spec_faults.specs.declared.code.SpecCode.{SpecCode}
+use Rattle.spec_faults.specs.declared.code.SpecCode.TheVariants.{Unexpected, TooDeep, Unsupported}
+use Rattle.spec_faults.specs.declared.code.SpecFault.{SpecFault}
+use Rattle.spec_faults.specs.declared.code.SpecFault.TheVariants.{At}
+use Rattle.tlsf_syntax.specs.declared.spec.SpecTree.{SpecTree}
+use Rattle.tlsf_syntax.specs.Nesting.{first_deep}
+use Rattle.tlsf_syntax.specs.Tree.{Written}
+use Rattle.tlsf_syntax.specs.Lexemes.{Lexeme}
+use Rattle.tlsf_syntax.specs.Texts.{DerivesText, Begins, IsFirstUnexpected, at_lexeme, at_end}
+use Rattle.tlsf_syntax.proofs.Unexpected.{determined}
 use Rattle.tlsf_reader.specs.Lexed.{Lexed, IsLexed}
-use Rattle.tlsf_reader.specs.Faults.{most_bytes, most_nesting, symbols_of, start_at, HasEarlyFault, of_tokens, of_nesting, of_finite, of_lexeme, of_end, IsFirstOf, IsReadingFault, early, late}
-use Rattle.tlsf_reader.specs.Known.{place_in, IsKnown, stopped, deepened, finite, FaultReaches, IsEarliest, refused_fault}
-use Rattle.tlsf_reader.specs.Places.{FiniteAt, IsAccepted}
+use Rattle.tlsf_reader.specs.Faults.{most_bytes, most_nesting, symbols_of, start_at, HasEarlyFault, of_tokens, of_nesting, of_finite, of_lexeme, of_end, IsReadingFault, early, late}
+use Rattle.tlsf_reader.specs.Known.{place_in, IsKnown, stopped, deepened, finite, IsEarliest, refused_fault}
+use Rattle.tlsf_reader.specs.Least.{Reaches}
+use Rattle.tlsf_reader.specs.Places.{IsAccepted}
 use Rattle.tlsf_reader.specs.Reads.{Reads}
-use Rattle.tlsf_reader.specs.TextView.{spec_view}
+use Rattle.tlsf_syntax.specs.Seen.{text_seen}
 use Rattle.tlsf_reader.specs.declared.fault.Fault.{Fault}
 use Rattle.tlsf_reader.proofs.StopCodes.{is_stop, stop_is_right, reaches_end, deep_within, IsRising, lexed_rise, starts_within, starts_rise, place_within, place_beyond}
 
@@ -127,10 +128,10 @@ known_at : (text : List ℕ) (s : Scene text) (f : Fault) → s.known ≡ Some f
 known_at text s f e = let k : IsEarliest (IsKnown s.lexemes s.stop s.stop_at s.deep) s.known = s.known_is in k.at f e
 
 known_below : (text : List ℕ) (s : Scene text) (f : Fault) → s.known ≡ Some f → (code : SpecCode) (place : ℕ) → IsKnown s.lexemes s.stop s.stop_at s.deep code place → f.place ≤ place
-known_below text s f e code place h = let k : IsEarliest (IsKnown s.lexemes s.stop s.stop_at s.deep) s.known = s.known_is in subst (λ x. FaultReaches x place) e (k.below code place h)
+known_below text s f e code place h = let k : IsEarliest (IsKnown s.lexemes s.stop s.stop_at s.deep) s.known = s.known_is in subst (λ x. Reaches (λ (f : Fault). f.place) x place) e (k.below (record { code = code; place = place }) h)
 
 known_none : (text : List ℕ) (s : Scene text) → s.known ≡ None → (code : SpecCode) (place : ℕ) → IsKnown s.lexemes s.stop s.stop_at s.deep code place → ⊥
-known_none text s e code place h = let k : IsEarliest (IsKnown s.lexemes s.stop s.stop_at s.deep) s.known = s.known_is in subst (λ x. FaultReaches x place) e (k.below code place h)
+known_none text s e code place h = let k : IsEarliest (IsKnown s.lexemes s.stop s.stop_at s.deep) s.known = s.known_is in subst (λ x. Reaches (λ (f : Fault). f.place) x place) e (k.below (record { code = code; place = place }) h)
 
 -- a known fault is the first one, where no unexpected lexeme stands before it
 known_first : (text : List ℕ) (s : Scene text) (f : Fault) → s.known ≡ Some f → ((code : SpecCode) (place : ℕ) → IsUnexpectedAt text s code place → f.place ≤ place) → IsReadingFault text f.code f.place
@@ -301,7 +302,7 @@ whole_text : (text : List ℕ) (s : Scene text) (w : Written) → s.known ≡ No
 whole_text text s w e d = subst (λ ls. DerivesText ls w) (ap (λ x. take (cut_of x (length s.lexemes)) s.lexemes) (nothing_deep text s e) ∙ take_all (length s.lexemes) s.lexemes (omega arith)) d
 
 pub text_read : (text : List ℕ) (s : Scene text) (w : Written) (result : Result SpecTree SpecFault) → s.known ≡ None → DerivesText (take (cut_of s.deep (length s.lexemes)) s.lexemes) w → IsAccepted s.lexemes w result
-    → (tree : SpecTree) → result ≡ Ok tree → Reads text (spec_view tree)
+    → (tree : SpecTree) → result ≡ Ok tree → Reads text (text_seen tree)
 unfolding lexed_of
 text_read text s w result e d a tree f = record {
   lexed = lexed_of text s;

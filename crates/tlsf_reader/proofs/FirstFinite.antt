@@ -1,19 +1,18 @@
 -- The first word `Finite` in the value of SEMANTICS.
-use Rattle.std.proofs.Common.{◌≡◌, ◌<◌, ◌≤◌, ◌⊎◌, ℕ, Bool, true, false, ◌&&◌, cond, List, [], ◌∷◌, ◌++◌, Option, None, Some, nat_le, refl, sym, ◌∙◌, ap, subst, arith, inl, inr, length, map, take, drop, ◌-◌}
+use Rattle.std.proofs.Common.{◌≡◌, ◌<◌, ◌≤◌, ◌⊎◌, ℕ, Bool, true, false, ◌&&◌, cond, List, [], ◌∷◌, ◌++◌, Option, None, Some, refl, sym, ◌∙◌, ap, subst, arith, inl, inr, length, map, take, drop, ◌-◌}
 use Rattle.std.specs.Prelude.{codes}
 use Rattle.std.specs.Str.{bytes_eq}
 use Rattle.std.proofs.lemmas.List.{take_all}
-use Rattle.std.proofs.lemmas.Bool.{leb-true, leb-false}
 use Rattle.std.proofs.lemmas.Slice.Eq.{bytes_eq-Decides}
-use Rattle.tlsf_tree.specs.declared.symbol.Symbol.TheVariants as symbol
-use Rattle.tlsf_grammar.specs.Lexemes.{Lexeme, Is}
-use Rattle.tlsf_grammar.specs.Symbols.{symbol_eq}
-use Rattle.tlsf_grammar.specs.Reading.{begins}
-use Rattle.tlsf_grammar.proofs.Symbols.{same_symbol, is_symbol}
+use Rattle.tlsf_tokens.specs.declared.symbol.Symbol.TheVariants as symbol
+use Rattle.tlsf_syntax.specs.Lexemes.{Lexeme, Is}
+use Rattle.tlsf_syntax.specs.Symbols.{symbol_eq}
+use Rattle.tlsf_syntax.specs.Reading.{begins}
+use Rattle.tlsf_syntax.proofs.Symbols.{same_symbol, is_symbol}
 use Rattle.tlsf_reader.specs.declared.lexeme.Lexeme.{Lexeme as CodeLexeme}
 use Rattle.tlsf_reader.specs.Seen.{seen}
 use Rattle.tlsf_reader.specs.Faults.{IsFinite, first_word, second_word}
-use Rattle.tlsf_reader.specs.Least.{IsLeast, Reaches, least}
+use Rattle.tlsf_reader.specs.Least.{IsLeast, least}
 use Rattle.tlsf_reader.specs.Places.{FiniteAt}
 use Rattle.tlsf_reader.proofs.LeastPlaces.{least_of_both, least_assoc, least_none, none_is_least}
 use Rattle.tlsf_reader.specs.Assembly.{is_finite, first_finite_word, second_finite_word, finite_in_front}

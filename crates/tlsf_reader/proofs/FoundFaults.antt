@@ -1,73 +1,44 @@
 -- The earliest of several sorts of faults.
-use Rattle.std.proofs.Common.{◌≡◌, ◌<◌, ◌≤◌, ◌⊎◌, ℕ, Bool, true, false, cond, Option, None, Some, Result, Ok, Err, nat_le, refl, sym, ◌∙◌, ap, subst, arith, inl, inr}
-use Rattle.std.proofs.lemmas.Bool.{leb-true, leb-false}
-use Rattle.tlsf_tokens.specs.declared.code.SpecCode.{SpecCode}
-use Rattle.tlsf_tokens.specs.declared.code.SpecCode.TheVariants.{Unexpected, Missing, Twice, TooDeep, Unsupported}
-use Rattle.tlsf_tokens.specs.declared.code.SpecFault.{SpecFault}
-use Rattle.tlsf_tokens.specs.declared.code.SpecFault.TheVariants.{At}
-use Rattle.tlsf_tree.specs.declared.symbol.Symbol.{Symbol}
-use Rattle.tlsf_grammar.specs.Tree.{Named, Written}
-use Rattle.tlsf_grammar.specs.Lexemes.{Lexeme}
+use Rattle.std.proofs.Common.{◌≡◌, ◌≤◌, ◌⊎◌, ℕ, Option, None, Some, Ok, Err, refl, sym, ◌∙◌, subst, arith, inl, inr}
+use Rattle.spec_faults.specs.declared.code.SpecCode.{SpecCode}
+use Rattle.spec_faults.specs.declared.code.SpecCode.TheVariants.{Unexpected, Missing, Twice, TooDeep, Unsupported}
+use Rattle.spec_faults.specs.declared.code.SpecFault.{SpecFault}
+use Rattle.spec_faults.specs.declared.code.SpecFault.TheVariants.{At}
+use Rattle.tlsf_syntax.specs.declared.spec.SpecTree.{SpecTree}
+use Rattle.tlsf_syntax.specs.Seen.{text_seen}
+use Rattle.tlsf_syntax.specs.Tree.{Written}
+use Rattle.tlsf_syntax.specs.Lexemes.{Lexeme}
 use Rattle.std.specs.Prelude.{List}
-use Rattle.tlsf_reader.specs.Spec.{declared_words}
+use Rattle.tlsf_reader.specs.Parts.{declared_words, text_of}
 use Rattle.tlsf_reader.specs.Faults.{HasLateFault, part_twice, name_twice, field_missing, part_missing, start_at, IsFirstOf}
-use Rattle.tlsf_reader.specs.Known.{place_in, IsKnown, stopped, deepened, finite, FaultReaches, IsEarliest, fault_at, stop_fault, deep_fault}
+use Rattle.tlsf_reader.specs.Known.{place_in, IsKnown, stopped, deepened, finite, IsEarliest, fault_at, stop_fault, deep_fault}
 use Rattle.tlsf_reader.specs.Least.{IsLeast, Reaches, least}
 use Rattle.tlsf_reader.specs.Places.{FiniteAt, RepeatedAt, PartTwiceAt, NameTwiceAt, FieldMissingAt, PartMissingAt, earlier, IsAccepted}
 use Rattle.tlsf_reader.specs.declared.fault.Fault.{Fault}
-use Rattle.tlsf_reader.proofs.LeastPlaces.{least_of_both}
-
-reaches_left : (a b : Option Fault) (q : ℕ) → FaultReaches a q → FaultReaches (earlier a b) q
-reaches_left None b q r = absurd r
-reaches_left (Some f) None q r = r
-reaches_left (Some f) (Some g) q r = by (nat_le f.place g.place) refl
-  where
-    by : (c : Bool) → nat_le f.place g.place ≡ c → FaultReaches (cond c (Some f) (Some g)) q
-    by true e = r
-    by false e = let low : g.place < f.place = leb-false f.place g.place e in omega (arith, low, r)
-
-reaches_right : (a b : Option Fault) (q : ℕ) → FaultReaches b q → FaultReaches (earlier a b) q
-reaches_right None b q r = r
-reaches_right (Some f) None q r = absurd r
-reaches_right (Some f) (Some g) q r = by (nat_le f.place g.place) refl
-  where
-    by : (c : Bool) → nat_le f.place g.place ≡ c → FaultReaches (cond c (Some f) (Some g)) q
-    by true e = let low : f.place ≤ g.place = leb-true f.place g.place e in omega (arith, low, r)
-    by false e = r
-
-is_one : (a b : Option Fault) (f : Fault) → earlier a b ≡ Some f → (a ≡ Some f) ⊎ (b ≡ Some f)
-is_one None b f e = inr e
-is_one (Some g) None f e = inl e
-is_one (Some g) (Some h) f e = by (nat_le g.place h.place) e
-  where
-    by : (c : Bool) → cond c (Some g) (Some h) ≡ Some f → (◌≡◌ {A = Option Fault} (Some g) (Some f)) ⊎ (◌≡◌ {A = Option Fault} (Some h) (Some f))
-    by true i = inl i
-    by false i = inr i
+use Rattle.tlsf_reader.proofs.LeastPlaces.{earliest_of_both, least_of_both}
 
 -- faults of two sorts
 earliest_of : (P Q R : SpecCode → ℕ → Type 0) (a b : Option Fault) → IsEarliest P a → IsEarliest Q b → ((code : SpecCode) (place : ℕ) → P code place → R code place) → ((code : SpecCode) (place : ℕ) → Q code place → R code place)
     → ((code : SpecCode) (place : ℕ) → R code place → P code place ⊎ Q code place) → IsEarliest R (earlier a b)
-earliest_of P Q R a b h k f g split = record {
-  at = λ x e. elim (is_one a b x e) [ inl i ↦ f x.code x.place (h.at x i) | inr i ↦ g x.code x.place (k.at x i) ];
-  below = λ code place r. elim (split code place r) [ inl i ↦ reaches_left a b place (h.below code place i) | inr i ↦ reaches_right a b place (k.below code place i) ];
-}
+earliest_of P Q R a b h k f g split =
+    earliest_of_both (λ (x : Fault). x.place) (λ x. P x.code x.place) (λ x. Q x.code x.place) (λ x. R x.code x.place) a b h k (λ x. f x.code x.place) (λ x. g x.code x.place) (λ x. split x.code x.place)
 
 -- faults of one code
 data Coded (code : SpecCode) (P : ℕ → Type 0) : SpecCode → ℕ → Type 0 where
   coded : (place : ℕ) → P place → Coded code P code place
 
 coded_is : (code : SpecCode) (P : ℕ → Type 0) (found : Option ℕ) → IsLeast P found → IsEarliest (Coded code P) (fault_at code found)
-coded_is code P found h = record { at = λ f e. at found h f e; below = λ other place r. below other place r }
+coded_is code P found h = record { at = λ f e. at found h f e; below = λ x r. below x.code x.place r }
   where
     at : (found : Option ℕ) → IsLeast P found → (f : Fault) → fault_at code found ≡ Some f → Coded code P f.code f.place
     at None i f e = absurd cc
     at (Some p) i f e = let same : ◌≡◌ {A = Fault} (record { code = code; place = p }) f = cc in subst (λ (g : Fault). Coded code P g.code g.place) same (coded p (i.at p refl))
 
-    reach : (found : Option ℕ) (place : ℕ) → Reaches found place → FaultReaches (fault_at code found) place
+    reach : (found : Option ℕ) (place : ℕ) → Reaches (λ p. p) found place → Reaches (λ (f : Fault). f.place) (fault_at code found) place
     reach None place r = r
     reach (Some p) place r = r
 
-    below : (other : SpecCode) (place : ℕ) → Coded code P other place → FaultReaches (fault_at code found) place
+    below : (other : SpecCode) (place : ℕ) → Coded code P other place → Reaches (λ (f : Fault). f.place) (fault_at code found) place
     below other place (coded q r) = reach found q (h.below q r)
 
 -- the faults that are known without the grammar
@@ -79,24 +50,24 @@ data IsDeep (ls : List Lexeme) (stop_at : ℕ) (deep : Option ℕ) : SpecCode �
   there : (k : ℕ) → deep ≡ Some k → IsDeep ls stop_at deep TooDeep (place_in ls stop_at k)
 
 stop_is : (stop : Option SpecCode) (stop_at : ℕ) → IsEarliest (IsStopped stop stop_at) (stop_fault stop stop_at)
-stop_is stop stop_at = record { at = λ f e. at stop refl f e; below = λ code place r. below stop refl code place r }
+stop_is stop stop_at = record { at = λ f e. at stop refl f e; below = λ x r. below stop refl x.code x.place r }
   where
     at : (s : Option SpecCode) → stop ≡ s → (f : Fault) → stop_fault s stop_at ≡ Some f → IsStopped stop stop_at f.code f.place
     at None g f e = absurd cc
     at (Some c) g f e = let same : ◌≡◌ {A = Fault} (record { code = c; place = stop_at }) f = cc in subst (λ (x : Fault). IsStopped stop stop_at x.code x.place) same (here c g)
 
-    below : (s : Option SpecCode) → stop ≡ s → (code : SpecCode) (place : ℕ) → IsStopped stop stop_at code place → FaultReaches (stop_fault s stop_at) place
+    below : (s : Option SpecCode) → stop ≡ s → (code : SpecCode) (place : ℕ) → IsStopped stop stop_at code place → Reaches (λ (f : Fault). f.place) (stop_fault s stop_at) place
     below None g code place (here c e) = absurd cc
     below (Some c) g code place (here d e) = omega arith
 
 deep_is : (ls : List Lexeme) (stop_at : ℕ) (deep : Option ℕ) → IsEarliest (IsDeep ls stop_at deep) (deep_fault ls stop_at deep)
-deep_is ls stop_at deep = record { at = λ f e. at deep refl f e; below = λ code place r. below deep refl code place r }
+deep_is ls stop_at deep = record { at = λ f e. at deep refl f e; below = λ x r. below deep refl x.code x.place r }
   where
     at : (d : Option ℕ) → deep ≡ d → (f : Fault) → deep_fault ls stop_at d ≡ Some f → IsDeep ls stop_at deep f.code f.place
     at None g f e = absurd cc
     at (Some k) g f e = let same : ◌≡◌ {A = Fault} (record { code = TooDeep; place = place_in ls stop_at k }) f = cc in subst (λ (x : Fault). IsDeep ls stop_at deep x.code x.place) same (there k g)
 
-    below : (d : Option ℕ) → deep ≡ d → (code : SpecCode) (place : ℕ) → IsDeep ls stop_at deep code place → FaultReaches (deep_fault ls stop_at d) place
+    below : (d : Option ℕ) → deep ≡ d → (code : SpecCode) (place : ℕ) → IsDeep ls stop_at deep code place → Reaches (λ (f : Fault). f.place) (deep_fault ls stop_at d) place
     below None g code place (there k e) = absurd cc
     below (Some j) g code place (there k e) = let same : j ≡ k = cc in subst (λ x. place_in ls stop_at x ≤ place_in ls stop_at k) (sym same) (omega arith)
 
@@ -166,7 +137,7 @@ late_code ls w code place (part_missing s k needed lacks last) f = absurd cc
 pub late_first : (ls : List Lexeme) (w : Written) (f : Fault) → IsEarliest (HasLateFault ls w) (Some f) → IsFirstOf (HasLateFault ls w) f.code f.place
 late_first ls w f h = record {
   has = h.at f refl;
-  least = λ code place r. h.below code place r;
+  least = λ code place r. h.below (record { code = code; place = place }) r;
   gives_way = λ e. absurd (late_code ls w f.code f.place (h.at f refl) e);
 }
 
@@ -181,4 +152,12 @@ accepted_fault ls w found f g h e i = record {
       let places : f.place ≡ place = cc in
       let first : IsFirstOf (HasLateFault ls w) f.code f.place = late_first ls w f (subst (IsEarliest (HasLateFault ls w)) e h) in
       subst (λ c. IsFirstOf (HasLateFault ls w) c place) codes (subst (IsFirstOf (HasLateFault ls w) f.code) places first);
+}
+
+-- a text of the grammar without a late fault is the tree of its parts
+pub accepted_tree : (ls : List Lexeme) (w : Written) (found : Option Fault) (tree : SpecTree) → IsEarliest (HasLateFault ls w) found → found ≡ None → text_seen tree ≡ text_of w → IsAccepted ls w (Ok tree)
+accepted_tree ls w found tree h e i = record {
+  sound = λ t n code place r. subst (λ x. Reaches (λ (f : Fault). f.place) x place) e (h.below (record { code = code; place = place }) r);
+  tree = λ t n. let same : tree ≡ t = cc in subst (λ (u : SpecTree). text_seen u ≡ text_of w) same i;
+  fault = λ code place n. absurd cc;
 }

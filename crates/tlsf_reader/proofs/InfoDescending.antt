@@ -1,12 +1,12 @@
 -- What the descent for INFO reads, step by step.
 use Rattle.std.proofs.Common.{◌≡◌, ℕ, suc, true, false, cond, List, [], ◌∷◌, length, Some, None, Result, Ok, Err, refl, sym, ap, ◌∙◌, subst, arith}
 use Rattle.letter_word.specs.declared.kinds.Kind.{Kind}
-use Rattle.tlsf_tree.specs.declared.symbol.Symbol.{Symbol}
-use Rattle.tlsf_tree.specs.declared.symbol.Symbol.TheVariants as symbol
-use Rattle.tlsf_grammar.specs.Tree as plain
-use Rattle.tlsf_grammar.specs.Lexemes.{Lexeme, word_of}
-use Rattle.tlsf_grammar.specs.Reading.{Answer, taken, refused, go_on, begins, expect, if_next}
-use Rattle.tlsf_grammar.specs.TextReading.{names_read, kind_of, kinded, expect_kind, expect_strict, semantics_read, target_read, tags_read, field_by, fields_read}
+use Rattle.tlsf_tokens.specs.declared.symbol.Symbol.{Symbol}
+use Rattle.tlsf_tokens.specs.declared.symbol.Symbol.TheVariants as symbol
+use Rattle.tlsf_syntax.specs.Tree as plain
+use Rattle.tlsf_syntax.specs.Lexemes.{Lexeme, word_of}
+use Rattle.tlsf_syntax.specs.Reading.{Answer, taken, refused, go_on, begins, expect, if_next}
+use Rattle.tlsf_syntax.specs.TextReading.{names_read, kind_of, kinded, expect_kind, expect_strict, semantics_read, target_read, tags_read, field_by, fields_read}
 use Rattle.tlsf_reader.specs.declared.info.KindWord.{KindWord}
 use Rattle.tlsf_reader.specs.declared.rest.Refusal.{Refusal}
 use Rattle.tlsf_reader.specs.declared.rest.Refusal.TheVariants.{At}

@@ -1,43 +1,46 @@
--- The least of some places.
-use Rattle.std.proofs.Common.{◌≡◌, ◌<◌, ◌≤◌, ◌⊎◌, ℕ, Bool, true, false, cond, Option, None, Some, nat_le, refl, sym, ◌∙◌, ap, subst, arith, inl, inr}
+-- The earliest of some things with places.
+use Rattle.std.proofs.Common.{◌≡◌, ◌<◌, ◌≤◌, ◌⊎◌, ℕ, Bool, true, false, cond, Option, None, Some, nat_le, refl, subst, arith, inl, inr}
 use Rattle.std.proofs.lemmas.Bool.{leb-true, leb-false}
-use Rattle.tlsf_reader.specs.Least.{IsLeast, Reaches, least}
+use Rattle.tlsf_reader.specs.Least.{IsEarliestBy, earlier_by, IsLeast, Reaches, least}
 
--- the least of two least places is the least of both kinds
+module _ {X : Type 0} (place : X → ℕ) where
+  reaches_left : (a b : Option X) (q : ℕ) → Reaches place a q → Reaches place (earlier_by place a b) q
+  reaches_left None b q r = absurd r
+  reaches_left (Some x) None q r = r
+  reaches_left (Some x) (Some y) q r = by (nat_le (place x) (place y)) refl
+    where
+      by : (c : Bool) → nat_le (place x) (place y) ≡ c → Reaches place (cond c (Some x) (Some y)) q
+      by true e = r
+      by false e = let low : place y < place x = leb-false (place x) (place y) e in omega (arith, low, r)
 
-least_reaches_left : (a b : Option ℕ) (q : ℕ) → Reaches a q → Reaches (least a b) q
-least_reaches_left None b q r = absurd r
-least_reaches_left (Some p) None q r = r
-least_reaches_left (Some p) (Some s) q r = by (nat_le p s) refl
-  where
-    by : (c : Bool) → nat_le p s ≡ c → Reaches (cond c (Some p) (Some s)) q
-    by true e = r
-    by false e = let low : s < p = leb-false p s e in omega (arith, low)
+  reaches_right : (a b : Option X) (q : ℕ) → Reaches place b q → Reaches place (earlier_by place a b) q
+  reaches_right None b q r = r
+  reaches_right (Some x) None q r = absurd r
+  reaches_right (Some x) (Some y) q r = by (nat_le (place x) (place y)) refl
+    where
+      by : (c : Bool) → nat_le (place x) (place y) ≡ c → Reaches place (cond c (Some x) (Some y)) q
+      by true e = let low : place x ≤ place y = leb-true (place x) (place y) e in omega (arith, low, r)
+      by false e = r
 
-least_reaches_right : (a b : Option ℕ) (q : ℕ) → Reaches b q → Reaches (least a b) q
-least_reaches_right None b q r = r
-least_reaches_right (Some p) None q r = absurd r
-least_reaches_right (Some p) (Some s) q r = by (nat_le p s) refl
-  where
-    by : (c : Bool) → nat_le p s ≡ c → Reaches (cond c (Some p) (Some s)) q
-    by true e = let low : p ≤ s = leb-true p s e in omega (arith, low)
-    by false e = r
+  is_one : (a b : Option X) (x : X) → earlier_by place a b ≡ Some x → (a ≡ Some x) ⊎ (b ≡ Some x)
+  is_one None b x e = inr e
+  is_one (Some y) None x e = inl e
+  is_one (Some y) (Some z) x e = by (nat_le (place y) (place z)) e
+    where
+      by : (c : Bool) → cond c (Some y) (Some z) ≡ Some x → (◌≡◌ {A = Option X} (Some y) (Some x)) ⊎ (◌≡◌ {A = Option X} (Some z) (Some x))
+      by true f = inl f
+      by false f = inr f
 
-least_is_one : (a b : Option ℕ) (p : ℕ) → least a b ≡ Some p → (a ≡ Some p) ⊎ (b ≡ Some p)
-least_is_one None b p e = inr e
-least_is_one (Some q) None p e = inl e
-least_is_one (Some q) (Some s) p e = by (nat_le q s) e
-  where
-    by : (c : Bool) → cond c (Some q) (Some s) ≡ Some p → (◌≡◌ {A = Option ℕ} (Some q) (Some p)) ⊎ (◌≡◌ {A = Option ℕ} (Some s) (Some p))
-    by true f = inl f
-    by false f = inr f
+  -- the earlier of the earliest of two sorts is the earliest of both
+  pub earliest_of_both : (P Q R : X → Type 0) (a b : Option X) → IsEarliestBy place P a → IsEarliestBy place Q b → ((x : X) → P x → R x) → ((x : X) → Q x → R x) → ((x : X) → R x → P x ⊎ Q x) → IsEarliestBy place R (earlier_by place a b)
+  earliest_of_both P Q R a b h k f g split = record {
+    at = λ x e. elim (is_one a b x e) [ inl i ↦ f x (h.at x i) | inr i ↦ g x (k.at x i) ];
+    below = λ x r. elim (split x r) [ inl i ↦ reaches_left a b (place x) (h.below x i) | inr i ↦ reaches_right a b (place x) (k.below x i) ];
+  }
 
 -- places of two kinds
 pub least_of_both : (P Q R : ℕ → Type 0) (a b : Option ℕ) → IsLeast P a → IsLeast Q b → ((p : ℕ) → P p → R p) → ((p : ℕ) → Q p → R p) → ((p : ℕ) → R p → P p ⊎ Q p) → IsLeast R (least a b)
-least_of_both P Q R a b h k f g split = record {
-  at = λ p e. elim (least_is_one a b p e) [ inl i ↦ f p (h.at p i) | inr i ↦ g p (k.at p i) ];
-  below = λ q r. elim (split q r) [ inl i ↦ least_reaches_left a b q (h.below q i) | inr i ↦ least_reaches_right a b q (k.below q i) ];
-}
+least_of_both = earliest_of_both (λ p. p)
 
 pub least_assoc : (a b c : Option ℕ) → least a (least b c) ≡ least (least a b) c
 least_assoc None b c = refl

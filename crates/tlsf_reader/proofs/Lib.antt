@@ -1,4 +1,3 @@
-pub mod Spelling
 pub mod Nodes
 pub mod Lexing
 pub mod OneTree

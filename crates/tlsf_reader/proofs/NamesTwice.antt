@@ -5,7 +5,7 @@ use Rattle.std.specs.Str.{bytes_eq}
 use Rattle.std.proofs.lemmas.List.{take_all, map-append}
 use Rattle.std.proofs.lemmas.List.Folds.{list_any-append}
 use Rattle.std.proofs.lemmas.Slice.Eq.{bytes_eq-Decides}
-use Rattle.tlsf_grammar.specs.Tree.{Named}
+use Rattle.tlsf_syntax.specs.Tree.{Named}
 use Rattle.tlsf_reader.specs.Least.{IsLeast, least}
 use Rattle.tlsf_reader.specs.Places.{NameTwiceAt}
 use Rattle.tlsf_reader.proofs.LeastPlaces.{least_of_both, least_assoc, least_none, none_is_least, least_of_same, one_place}

@@ -1,16 +1,16 @@
 -- A text that has a tree has no fault of reading.
-use Rattle.std.proofs.Common.{◌≡◌, ◌<◌, ◌≤◌, ℕ, List, [], ◌∷◌, ◌++◌, length, Option, None, Some, refl, sym, ◌∙◌, ap, subst, arith}
-use Rattle.tlsf_tokens.specs.declared.code.SpecCode.{SpecCode}
-use Rattle.tlsf_tree.specs.Nesting.{first_deep}
-use Rattle.tlsf_grammar.specs.Tree.{Written}
-use Rattle.tlsf_grammar.specs.Lexemes.{Lexeme}
-use Rattle.tlsf_grammar.specs.Texts.{DerivesText, IsFirstUnexpected, UnexpectedIsDetermined, NoTextIsFinite}
-use Rattle.tlsf_grammar.proofs.Texts.{one_text}
-use Rattle.tlsf_grammar.proofs.Unexpected.{determined}
-use Rattle.tlsf_grammar.proofs.SemanticsWords.{never_finite}
+use Rattle.std.proofs.Common.{◌≡◌, ◌≤◌, ℕ, List, [], ◌∷◌, ◌++◌, length, Option, None, Some, refl, sym, ◌∙◌, ap, subst, arith}
+use Rattle.spec_faults.specs.declared.code.SpecCode.{SpecCode}
+use Rattle.tlsf_syntax.specs.Nesting.{first_deep}
+use Rattle.tlsf_syntax.specs.Tree.{Written}
+use Rattle.tlsf_syntax.specs.Lexemes.{Lexeme}
+use Rattle.tlsf_syntax.specs.Texts.{DerivesText}
+use Rattle.tlsf_syntax.proofs.Texts.{one_text}
+use Rattle.tlsf_syntax.proofs.Unexpected.{determined}
+use Rattle.tlsf_syntax.proofs.SemanticsWords.{never_finite}
 use Rattle.tlsf_reader.specs.Lexed.{Lexed}
-use Rattle.tlsf_reader.specs.Spec.{Spec}
-use Rattle.tlsf_reader.specs.Faults.{most_bytes, most_nesting, symbols_of, IsFinite, first_word, second_word, HasEarlyFault, of_tokens, of_nesting, of_finite, of_lexeme, of_end, HasLateFault, IsFirstOf, IsReadingFault, too_long, early, late}
+use Rattle.tlsf_syntax.specs.Text.{Text}
+use Rattle.tlsf_reader.specs.Faults.{most_bytes, most_nesting, symbols_of, IsFinite, first_word, second_word, HasEarlyFault, of_tokens, of_nesting, of_finite, of_lexeme, of_end, HasLateFault, too_long, early, late}
 use Rattle.tlsf_reader.specs.Reads.{Reads, TreesHaveNoFault}
 use Rattle.tlsf_reader.proofs.OneTree.{one_list}
 
@@ -27,7 +27,7 @@ same : (text : List ℕ) (a b : Lexed text) → Same text a b
 same text a b =
     let all : (a.lexemes ≡ b.lexemes) × (a.stop ≡ b.stop) × (a.stop_at ≡ b.stop_at) = one_list text a.stop b.stop a.stop_at b.stop_at a.lexemes b.lexemes a.is b.is in record { lexemes = all.0; stop = all.1 }
 
-no_early : (text : List ℕ) (tree : Spec) (lexed : Lexed text) (code : SpecCode) (place : ℕ) → Reads text tree → HasEarlyFault text lexed code place → ⊥
+no_early : (text : List ℕ) (tree : Text) (lexed : Lexed text) (code : SpecCode) (place : ℕ) → Reads text tree → HasEarlyFault text lexed code place → ⊥
 no_early text tree lexed code place r f = by code place f
   where
     s : Same text lexed r.lexed
@@ -43,7 +43,7 @@ no_early text tree lexed code place r f = by code place f
     by code place (of_lexeme k u h) = determined.never_a_text lexed.lexemes k r.written u derived
     by code place (of_end e u) = determined.never_a_text lexed.lexemes (length lexed.lexemes) r.written u derived
 
-no_late : (text : List ℕ) (tree : Spec) (lexed : Lexed text) (w : Written) (code : SpecCode) (place : ℕ) → Reads text tree → DerivesText lexed.lexemes w → HasLateFault lexed.lexemes w code place → ⊥
+no_late : (text : List ℕ) (tree : Text) (lexed : Lexed text) (w : Written) (code : SpecCode) (place : ℕ) → Reads text tree → DerivesText lexed.lexemes w → HasLateFault lexed.lexemes w code place → ⊥
 no_late text tree lexed w code place r d f =
     let s : Same text lexed r.lexed = same text lexed r.lexed in
     let written : w ≡ r.written = one_text r.lexed.lexemes w r.written (subst (λ ls. DerivesText ls w) s.lexemes d) r.derived in

@@ -1,11 +1,13 @@
--- Literals that don't fit, and chains.
-use Rattle.std.proofs.Common.{◌≡◌, ℕ, ◌+◌, ◌*◌, ◌-◌, ◌<◌, ◌≤◌, List, [], ◌∷◌, length, map, None, arith, refl, ap, sym, ◌∙◌, false, nat_lt, Some, pos, get_or, drop, drop-cons, add-one}
+-- Literals that don't fit, chains, and where an expression stands.
+use Rattle.std.proofs.Common.{◌≡◌, ℕ, ◌+◌, ◌*◌, ◌-◌, ◌<◌, ◌≤◌, List, [], ◌∷◌, length, None, arith, refl, ap, sym, ◌∙◌, false, nat_lt, Some, pos, get_or, drop, drop-cons, add-one}
 use Rattle.std.proofs.lemmas.Bool.{le-ltb, cond-false}
-use Rattle.tlsf_tree.specs.declared.expr.Link.{Link}
-use Rattle.tlsf_grammar.specs.Tree.{Tree, tree_span, chain}
-use Rattle.tlsf_grammar.specs.Lexemes.{decimal_from, literal_of}
-use Rattle.tlsf_grammar.specs.Reading.{chain_of, links_end, from_to}
-use Rattle.tlsf_reader.specs.View.{link_of, links_of}
+use Rattle.tlsf_syntax.specs.declared.expr.Form as form
+use Rattle.tlsf_syntax.specs.declared.expr.Link.{Link}
+use Rattle.tlsf_syntax.specs.declared.expr.Span.{Span}
+use Rattle.tlsf_syntax.specs.Tree.{Tree, tree_span, chain}
+use Rattle.tlsf_syntax.specs.Lexemes.{decimal_from, literal_of}
+use Rattle.tlsf_syntax.specs.Reading.{chain_of, links_end, from_to}
+use Rattle.tlsf_syntax.specs.Seen.{form_seen, link_list_seen}
 
 decimal_grows : (n : ℕ) (digits : List ℕ) → n ≤ decimal_from n digits
 decimal_grows n [] = omega arith
@@ -19,7 +21,25 @@ no_literal text n digits e large =
 pub next_digit : (text : List ℕ) (i n m : ℕ) → i < length text → m ≡ n * 10 + (get_or text i 0 - 48) → decimal_from n (drop i text) ≡ decimal_from m (drop (i + 1) text)
 next_digit text i n m h e = ap (decimal_from n) (drop-cons text i 0 h) ∙ (rw (add-one, e) refl)
 
-pub chain_of_some : (t : Tree) (rest : List Link) (end : ℕ) → 0 < length rest → end ≡ links_end (tree_span t).end (links_of (map link_of rest))
-    → chain (from_to (tree_span t).start end) t (links_of (map link_of rest)) ≡ chain_of t (links_of (map link_of rest))
+pub chain_of_some : (t : Tree) (rest : List Link) (end : ℕ) → 0 < length rest → end ≡ links_end (tree_span t).end (link_list_seen rest)
+    → chain (from_to (tree_span t).start end) t (link_list_seen rest) ≡ chain_of t (link_list_seen rest)
 chain_of_some t [] end some e = absurd (omega arith)
-chain_of_some t (l ∷ rest) end some e = ap (λ (n : ℕ). chain (from_to (tree_span t).start n) t (links_of (map link_of (l ∷ rest)))) e
+chain_of_some t (l ∷ rest) end some e = ap (λ (n : ℕ). chain (from_to (tree_span t).start n) t (link_list_seen (l ∷ rest))) e
+
+-- where an expression stands
+pub span_seen : (s : Span) (f : form.Form) → tree_span (form_seen s f) ≡ s
+span_seen s (form.Number n) = refl
+span_seen s (form.Truth b) = refl
+span_seen s (form.Named name) = refl
+span_seen s (form.Call' w shape row) = refl
+span_seen s (form.Index' w p t f) = refl
+span_seen s (form.SizeOf' p t f) = refl
+span_seen s (form.Paren' p t f) = refl
+span_seen s (form.Set' shape row) = refl
+span_seen s (form.Steps' p t f q u g r v h) = refl
+span_seen s (form.Chain' p t f shape row) = refl
+span_seen s (form.Pair' o p t f q u g) = refl
+span_seen s (form.Prefix' o p t f) = refl
+span_seen s (form.Count' p t f q u g) = refl
+span_seen s (form.Window' o p t f q u g r v h) = refl
+span_seen s (form.Big' o shape row p t f) = refl

@@ -1,23 +1,23 @@
 -- Reading a whole text.
 use Rattle.std.proofs.Common.{◌≡◌, ◌<◌, ◌≤◌, ◌+◌, ◌-◌, ℕ, zero, suc, List, [], ◌∷◌, ◌++◌, length, map, take, slice_index_or, Option, None, Some, unwrap_or, Result, Ok, Err, IfOk, refl, sym, ◌∙◌, ap, subst, arith}
 use Rattle.std.proofs.lemmas.List.{map-append, take-map, length-map, length-take-le}
-use Rattle.tlsf_tokens.specs.declared.code.SpecCode.{SpecCode}
-use Rattle.tlsf_tokens.specs.declared.code.SpecCode.TheVariants.{TooLong}
-use Rattle.tlsf_tokens.specs.declared.code.SpecFault.{SpecFault}
-use Rattle.tlsf_tokens.specs.declared.code.SpecFault.TheVariants.{At}
-use Rattle.tlsf_tree.specs.declared.spec.SpecTree.{SpecTree}
-use Rattle.tlsf_tree.specs.declared.symbol.Symbol.{Symbol}
-use Rattle.tlsf_tree.specs.Nesting.{first_deep}
-use Rattle.tlsf_grammar.specs.Tree.{Written}
-use Rattle.tlsf_grammar.specs.Lexemes.{Lexeme}
-use Rattle.tlsf_grammar.specs.Texts.{DerivesText, IsFirstUnexpected}
+use Rattle.spec_faults.specs.declared.code.SpecCode.{SpecCode}
+use Rattle.spec_faults.specs.declared.code.SpecCode.TheVariants.{TooLong}
+use Rattle.spec_faults.specs.declared.code.SpecFault.{SpecFault}
+use Rattle.spec_faults.specs.declared.code.SpecFault.TheVariants.{At}
+use Rattle.tlsf_syntax.specs.declared.spec.SpecTree.{SpecTree}
+use Rattle.tlsf_tokens.specs.declared.symbol.Symbol.{Symbol}
+use Rattle.tlsf_syntax.specs.Nesting.{first_deep}
+use Rattle.tlsf_syntax.specs.Tree.{Written}
+use Rattle.tlsf_syntax.specs.Lexemes.{Lexeme}
+use Rattle.tlsf_syntax.specs.Texts.{DerivesText, IsFirstUnexpected}
 use Rattle.tlsf_reader.specs.Seen.{seen}
 use Rattle.tlsf_reader.specs.Lexed.{IsLexed}
 use Rattle.tlsf_reader.specs.Known.{place_in, IsKnown, IsEarliest, refused_fault}
 use Rattle.tlsf_reader.specs.Faults.{most_bytes, most_nesting, symbols_of, IsReadingFault, too_long}
 use Rattle.tlsf_reader.specs.Places.{IsAccepted}
 use Rattle.tlsf_reader.specs.Reads.{Reads}
-use Rattle.tlsf_reader.specs.TextView.{spec_view}
+use Rattle.tlsf_syntax.specs.Seen.{text_seen}
 use Rattle.tlsf_reader.specs.declared.fault.Fault.{Fault}
 use Rattle.tlsf_reader.specs.declared.lexeme.Lexeme.{Lexeme as CodeLexeme}
 use Rattle.tlsf_reader.proofs.Repeats.{next_taken}
@@ -46,18 +46,9 @@ pub record Found (text : List ℕ) (stop : Option SpecCode) (stop_at : ℕ) (ite
   pub known_is : IsEarliest (IsKnown (map seen items) stop stop_at deep) known
   pub cut_is : cut ≡ unwrap_or deep (length items)
 
-abbrev scene : (text : List ℕ) (stop : Option SpecCode) (stop_at : ℕ) (items : List CodeLexeme) (deep : Option ℕ) (known : Option Fault) (cut : ℕ) → Found text stop stop_at items deep known cut → Scene text
-scene text stop stop_at items deep known cut f =
-    record { stop = stop; stop_at = stop_at; lexemes = map seen items; is = f.is; short = f.short; deep = deep; deep_is = f.deep_is; known = known; known_is = f.known_is }
-
 cut_same : (deep : Option ℕ) (n : ℕ) → unwrap_or deep n ≡ cut_of deep n
 cut_same None n = refl
 cut_same (Some k) n = refl
-
-front_is : (text : List ℕ) (stop : Option SpecCode) (stop_at : ℕ) (items : List CodeLexeme) (deep : Option ℕ) (known : Option Fault) (cut : ℕ) → Found text stop stop_at items deep known cut
-    → map seen (take cut items) ≡ take (cut_of deep (length (map seen items))) (map seen items)
-front_is text stop stop_at items deep known cut f =
-    sym (take-map seen cut items) ∙ ap (λ n. take n (map seen items)) (f.cut_is ∙ cut_same deep (length items) ∙ ap (cut_of deep) (sym (length-map items seen)))
 
 -- the cut is within the lexemes
 pub cut_within : (items : List CodeLexeme) (deep : Option ℕ) (cut : ℕ) → deep ≡ first_deep most_nesting [] (symbols_of (map seen items)) → cut ≡ unwrap_or deep (length items) → cut ≤ length items
@@ -66,35 +57,40 @@ cut_within items (Some k) cut e c =
     let low : k < 0 + length (symbols_of (map seen items)) = deep_within most_nesting [] (symbols_of (map seen items)) k (sym e) in
     let same : length (symbols_of (map seen items)) ≡ length items = length-map (map seen items) (λ (l : Lexeme). l.symbol) ∙ length-map items seen in omega (arith, low, same, c)
 
-pub known_refuses : (text : List ℕ) (stop : Option SpecCode) (stop_at : ℕ) (items : List CodeLexeme) (deep : Option ℕ) (known : Option Fault) (cut : ℕ) → Found text stop stop_at items deep known cut → (w : Written) (f : Fault)
-    → DerivesText (map seen (take cut items)) w → known ≡ Some f → IsReadingFault text f.code f.place
-known_refuses text stop stop_at items deep known cut h w f d e =
-    text_refused text (scene text stop stop_at items deep known cut h) w f (subst (λ ls. DerivesText ls w) (front_is text stop stop_at items deep known cut h) d) e
+module _ {text : List ℕ} {stop : Option SpecCode} {stop_at : ℕ} {items : List CodeLexeme} {deep : Option ℕ} {known : Option Fault} {cut : ℕ} (found : Found text stop stop_at items deep known cut) where
+  abbrev scene : Scene text
+  scene = record { stop = stop; stop_at = stop_at; lexemes = map seen items; is = found.is; short = found.short; deep = deep; deep_is = found.deep_is; known = known; known_is = found.known_is }
 
-pub front_refuses : (text : List ℕ) (stop : Option SpecCode) (stop_at : ℕ) (items : List CodeLexeme) (deep : Option ℕ) (known : Option Fault) (cut : ℕ) → Found text stop stop_at items deep known cut → (n left number : ℕ) (f : Fault)
-    → n + left ≡ length (map seen (take cut items)) → IsFirstUnexpected (map seen (take cut items)) n → number ≡ cut - left → f ≡ refused_fault known (place_in (map seen items) stop_at number) → IsReadingFault text f.code f.place
-front_refuses text stop stop_at items deep known cut h n left number f s u g e =
-    front_refused text (scene text stop stop_at items deep known cut h) n f (subst (λ ls. IsFirstUnexpected ls n) (front_is text stop stop_at items deep known cut h) u)
-    (e ∙ ap (λ k. refused_fault known (place_in (map seen items) stop_at k)) same)
-  where
-    whole : length (map seen (take cut items)) ≡ cut
-    whole = length-map (take cut items) seen ∙ length-take-le cut items (cut_within items deep cut h.deep_is h.cut_is)
+  front_is : map seen (take cut items) ≡ take (cut_of deep (length (map seen items))) (map seen items)
+  front_is = sym (take-map seen cut items) ∙ ap (λ n. take n (map seen items)) (found.cut_is ∙ cut_same deep (length items) ∙ ap (cut_of deep) (sym (length-map items seen)))
 
-    same : number ≡ n
-    same = omega (arith, s, whole, g)
+  front_derived : (w : Written) → DerivesText (map seen (take cut items)) w → DerivesText (take (cut_of deep (length (map seen items))) (map seen items)) w
+  front_derived w d = subst (λ ls. DerivesText ls w) front_is d
 
-pub tree_read : (text : List ℕ) (stop : Option SpecCode) (stop_at : ℕ) (items : List CodeLexeme) (deep : Option ℕ) (known : Option Fault) (cut : ℕ) → Found text stop stop_at items deep known cut → (w : Written) (r : Result SpecTree SpecFault)
-    → DerivesText (map seen (take cut items)) w → known ≡ None → IsAccepted (map seen items) w r → IfOk r (λ tree. Reads text (spec_view tree))
-tree_read text stop stop_at items deep known cut h w r d e a = by r (λ tree i. text_read text (scene text stop stop_at items deep known cut h) w r e (subst (λ ls. DerivesText ls w) (front_is text stop stop_at items deep known cut h) d) a tree i)
-  where
-    by : (r : Result SpecTree SpecFault) → ((tree : SpecTree) → r ≡ Ok tree → Reads text (spec_view tree)) → IfOk r (λ tree. Reads text (spec_view tree))
-    by (Ok tree) i = i tree refl
-    by (Err g) i = tt
+  pub known_refuses : (w : Written) (f : Fault) → DerivesText (map seen (take cut items)) w → known ≡ Some f → IsReadingFault text f.code f.place
+  known_refuses w f d e = text_refused text scene w f (front_derived w d) e
 
-pub fault_read : (text : List ℕ) (stop : Option SpecCode) (stop_at : ℕ) (items : List CodeLexeme) (deep : Option ℕ) (known : Option Fault) (cut : ℕ) → Found text stop stop_at items deep known cut → (w : Written) (r : Result SpecTree SpecFault)
-    → DerivesText (map seen (take cut items)) w → known ≡ None → IsAccepted (map seen items) w r → (code : SpecCode) (place : ℕ) → r ≡ Err (At code place) → IsReadingFault text code place
-fault_read text stop stop_at items deep known cut h w r d e a code place i =
-    text_faulty text (scene text stop stop_at items deep known cut h) w r e (subst (λ ls. DerivesText ls w) (front_is text stop stop_at items deep known cut h) d) a code place i
+  pub front_refuses : (n left number : ℕ) (f : Fault) → n + left ≡ length (map seen (take cut items)) → IsFirstUnexpected (map seen (take cut items)) n → number ≡ cut - left → f ≡ refused_fault known (place_in (map seen items) stop_at number)
+      → IsReadingFault text f.code f.place
+  front_refuses n left number f s u g e =
+      front_refused text scene n f (subst (λ ls. IsFirstUnexpected ls n) front_is u) (e ∙ ap (λ k. refused_fault known (place_in (map seen items) stop_at k)) same)
+    where
+      whole : length (map seen (take cut items)) ≡ cut
+      whole = length-map (take cut items) seen ∙ length-take-le cut items (cut_within items deep cut found.deep_is found.cut_is)
+
+      same : number ≡ n
+      same = omega (arith, s, whole, g)
+
+  pub tree_read : (w : Written) (r : Result SpecTree SpecFault) → DerivesText (map seen (take cut items)) w → known ≡ None → IsAccepted (map seen items) w r → IfOk r (λ tree. Reads text (text_seen tree))
+  tree_read w r d e a = by r (text_read text scene w r e (front_derived w d) a)
+    where
+      by : (r : Result SpecTree SpecFault) → ((tree : SpecTree) → r ≡ Ok tree → Reads text (text_seen tree)) → IfOk r (λ tree. Reads text (text_seen tree))
+      by (Ok tree) i = i tree refl
+      by (Err g) i = tt
+
+  pub fault_read : (w : Written) (r : Result SpecTree SpecFault) → DerivesText (map seen (take cut items)) w → known ≡ None → IsAccepted (map seen items) w r → (code : SpecCode) (place : ℕ) → r ≡ Err (At code place)
+      → IsReadingFault text code place
+  fault_read w r d e a code place i = text_faulty text scene w r e (front_derived w d) a code place i
 
 -- a fault as it is told
 pub told : (text : List ℕ) (f : Fault) (g : SpecFault) → IsReadingFault text f.code f.place → g ≡ At f.code f.place → (code : SpecCode) (place : ℕ) → ◌≡◌ {A = Result SpecTree SpecFault} (Err g) (Err (At code place)) → IsReadingFault text code place

@@ -1,24 +1,23 @@
 -- What is given twice, and what is missing.
-use Rattle.std.proofs.Common.{◌≡◌, ◌≢◌, ◌<◌, ◌≤◌, ◌⊎◌, ◌+◌, ◌-◌, ℕ, zero, suc, Bool, true, false, cond, List, [], ◌∷◌, ◌++◌, length, map, take, drop, slice_get, Option, None, Some, refl, sym, ◌∙◌, ap, subst, arith, inl, inr, slice_index_or, get_or, append_assoc, Result, Ok, Err, OnOk}
+use Rattle.std.proofs.Common.{◌≡◌, ◌<◌, ◌≤◌, ◌⊎◌, ◌+◌, ◌-◌, ℕ, zero, suc, Bool, true, false, cond, List, [], ◌∷◌, ◌++◌, length, map, take, drop, slice_get, Option, None, Some, refl, sym, ◌∙◌, ap, subst, arith, inl, inr, slice_index_or, get_or, append_assoc, Result, Ok, Err, OnOk}
 use Rattle.std.proofs.lemmas.List.{take_all, append-nil, map-append, take_more}
-use Rattle.tlsf_tree.specs.declared.symbol.Section.TheVariants.{Initially, Preset, Require, Assert, Assume, Guarantee}
-use Rattle.tlsf_tree.specs.declared.symbol.Symbol.{Symbol}
-use Rattle.tlsf_tree.specs.declared.symbol.Symbol.TheVariants as symbol
-use Rattle.tlsf_grammar.specs.Lexemes.{Lexeme}
-use Rattle.tlsf_grammar.specs.Symbols.{symbol_eq}
-use Rattle.tlsf_grammar.proofs.Symbols.{same_symbol, is_symbol}
+use Rattle.tlsf_tokens.specs.declared.symbol.Section.TheVariants.{Initially, Preset, Require, Assert, Assume, Guarantee}
+use Rattle.tlsf_tokens.specs.declared.symbol.Symbol.{Symbol}
+use Rattle.tlsf_tokens.specs.declared.symbol.Symbol.TheVariants as symbol
+use Rattle.tlsf_syntax.specs.Lexemes.{Lexeme}
+use Rattle.tlsf_syntax.specs.Symbols.{symbol_eq}
+use Rattle.tlsf_syntax.proofs.Symbols.{same_symbol, is_symbol}
 use Rattle.tlsf_reader.specs.declared.lexeme.Lexeme.{Lexeme as CodeLexeme}
 use Rattle.tlsf_reader.specs.Seen.{seen}
-use Rattle.tlsf_tree.specs.declared.spec.Member.{Member as CodeMember}
-use Rattle.tlsf_tree.specs.declared.spec.Declaration.{Declaration as CodeDeclaration}
-use Rattle.tlsf_grammar.specs.Tree.{Named, Member, Definition, Declaration, Block, Part, inputs, outputs, section}
-use Rattle.tlsf_reader.specs.Spec.{definition_words, words_of_definitions, words_of_parts, definitions_of}
-use Rattle.tlsf_reader.specs.View.{word_view}
-use Rattle.tlsf_reader.specs.TextView.{member_view, declaration_view}
+use Rattle.tlsf_syntax.specs.declared.spec.Member.{Member as CodeMember}
+use Rattle.tlsf_syntax.specs.declared.spec.Declaration.{Declaration as CodeDeclaration}
+use Rattle.tlsf_syntax.specs.Tree.{Named, Member, Definition, Declaration, Block, Part, inputs, outputs, section}
+use Rattle.tlsf_reader.specs.Parts.{definition_words, words_of_definitions, words_of_parts, definitions_of}
+use Rattle.tlsf_syntax.specs.Seen.{word_seen, member_seen, declaration_seen}
 use Rattle.tlsf_reader.specs.Assembly.{block_definitions}
 use Rattle.tlsf_reader.proofs.Assembling.{last_block}
 use Rattle.tlsf_reader.specs.Faults.{symbols_of, start_at, heads_part, Lacks, IsNeededField, title_is, description_is, semantics_is, target_is, IsNeededPart, inputs_are, outputs_are}
-use Rattle.tlsf_reader.specs.Least.{IsLeast, Reaches, least}
+use Rattle.tlsf_reader.specs.Least.{IsLeast, least}
 use Rattle.tlsf_reader.specs.Places.{OccursAt, RepeatedAt, Either, one, other, RepeatedAmong, PartTwiceAt, FieldMissingAt, PartMissingAt, occurs, first_brace}
 use Rattle.tlsf_reader.proofs.LeastPlaces.{least_of_both, least_assoc, least_none, none_is_least, least_of_same, one_place}
 
@@ -370,13 +369,13 @@ pub enumerated : {W M : Type 0} (see : W → Named) (f : M → Named) (old middl
 enumerated see f old middle new w ms e g =
     g ∙ ap (λ ys. ys ++ map f ms) (ap (map see) e ∙ map-append see old (w ∷ [])) ∙ append_assoc (map see old) (see w ∷ []) (map f ms)
 
-pub member_words : (ms : List CodeMember) → map (λ (m : CodeMember). word_view m.word) ms ≡ map (λ (m : Member). m.word) (map member_view ms)
+pub member_words : (ms : List CodeMember) → map (λ (m : CodeMember). word_seen m.word) ms ≡ map (λ (m : Member). m.word) (map member_seen ms)
 member_words [] = refl
-member_words (m ∷ ms) = ap (λ ys. word_view m.word ∷ ys) (member_words ms)
+member_words (m ∷ ms) = ap (λ ys. word_seen m.word ∷ ys) (member_words ms)
 
-pub declaration_words : (ds : List CodeDeclaration) → map (λ (d : CodeDeclaration). word_view d.word) ds ≡ map (λ (d : Declaration). d.word) (map declaration_view ds)
+pub declaration_words : (ds : List CodeDeclaration) → map (λ (d : CodeDeclaration). word_seen d.word) ds ≡ map (λ (d : Declaration). d.word) (map declaration_seen ds)
 declaration_words [] = refl
-declaration_words (d ∷ ds) = ap (λ ys. word_view d.word ∷ ys) (declaration_words ds)
+declaration_words (d ∷ ds) = ap (λ ys. word_seen d.word ∷ ys) (declaration_words ds)
 
 last_definition : (ds : List Definition) (d : Definition) → words_of_definitions (ds ++ d ∷ []) ≡ words_of_definitions ds ++ definition_words d
 last_definition [] d = append-nil (definition_words d)
@@ -417,10 +416,10 @@ more_part_words view old words new xs k x d e i h j =
     ∙ ap (λ ys. old ++ ys) (sym (last_of_parts (map view (take k xs)) (view x)) ∙ ap words_of_parts (sym (next_taken view xs k x d i h)))
 
 -- the words of a part of declarations
-pub declared_part : {W E : Type 0} (see : W → Named) (old new : List W) (items ds : List CodeDeclaration) (p : Part) (r : Result (Unit {0}) E) → OnOk r (map see new ≡ map see old ++ map (λ (d : CodeDeclaration). word_view d.word) items) → items ≡ ds
-    → (p ≡ inputs (map declaration_view ds)) ⊎ (p ≡ outputs (map declaration_view ds)) → OnOk r (map see new ≡ map see old ++ words_of_parts (p ∷ []))
+pub declared_part : {W E : Type 0} (see : W → Named) (old new : List W) (items ds : List CodeDeclaration) (p : Part) (r : Result (Unit {0}) E) → OnOk r (map see new ≡ map see old ++ map (λ (d : CodeDeclaration). word_seen d.word) items) → items ≡ ds
+    → (p ≡ inputs (map declaration_seen ds)) ⊎ (p ≡ outputs (map declaration_seen ds)) → OnOk r (map see new ≡ map see old ++ words_of_parts (p ∷ []))
 declared_part see old new items ds p (Err e) h same is = tt
-declared_part see old new items ds p (Ok u) h same is = h ∙ ap (λ ys. map see old ++ ys) (ap (map (λ (d : CodeDeclaration). word_view d.word)) same ∙ declaration_words ds ∙ sym (append-nil (map (λ (d : Declaration). d.word) (map declaration_view ds))) ∙ sym whole)
+declared_part see old new items ds p (Ok u) h same is = h ∙ ap (λ ys. map see old ++ ys) (ap (map (λ (d : CodeDeclaration). word_seen d.word)) same ∙ declaration_words ds ∙ sym (append-nil (map (λ (d : Declaration). d.word) (map declaration_seen ds))) ∙ sym whole)
   where
-    whole : words_of_parts (p ∷ []) ≡ map (λ (d : Declaration). d.word) (map declaration_view ds) ++ []
+    whole : words_of_parts (p ∷ []) ≡ map (λ (d : Declaration). d.word) (map declaration_seen ds) ++ []
     whole = elim is [ inl e ↦ ap (λ q. words_of_parts (q ∷ [])) e | inr e ↦ ap (λ q. words_of_parts (q ∷ [])) e ]

@@ -1,17 +1,17 @@
 -- What the descent for MAIN reads, step by step.
 use Rattle.std.proofs.Common.{◌≡◌, ℕ, suc, true, false, cond, List, [], ◌∷◌, length, Result, Err, refl, sym, ap, ◌∙◌, arith}
-use Rattle.tlsf_tree.specs.declared.symbol.Section.{Section}
-use Rattle.tlsf_tree.specs.declared.symbol.Symbol.{Symbol}
-use Rattle.tlsf_tree.specs.declared.symbol.Symbol.TheVariants as symbol
-use Rattle.tlsf_grammar.specs.Tree as plain
-use Rattle.tlsf_grammar.specs.Lexemes.{Lexeme, word_of}
-use Rattle.tlsf_grammar.specs.Reading.{Answer, taken, refused, go_on, begins, expect, if_next}
-use Rattle.tlsf_grammar.specs.TextReading.{expression_read, declaration_read, declarations_read, formulas_read, part_by, parts_read}
+use Rattle.tlsf_tokens.specs.declared.symbol.Section.{Section}
+use Rattle.tlsf_tokens.specs.declared.symbol.Symbol.{Symbol}
+use Rattle.tlsf_tokens.specs.declared.symbol.Symbol.TheVariants as symbol
+use Rattle.tlsf_syntax.specs.Tree as plain
+use Rattle.tlsf_syntax.specs.Lexemes.{Lexeme, word_of}
+use Rattle.tlsf_syntax.specs.Reading.{Answer, taken, refused, go_on, begins, expect, if_next}
+use Rattle.tlsf_syntax.specs.TextReading.{expression_read, declaration_read, declarations_read, formulas_read, part_by, parts_read}
 use Rattle.tlsf_reader.specs.declared.rest.Refusal.{Refusal}
 use Rattle.tlsf_reader.specs.declared.rest.Refusal.TheVariants.{At}
 use Rattle.tlsf_reader.specs.Descent.{IsRead}
 use Rattle.tlsf_reader.specs.TextDescent.{part_at, formula_read}
-use Rattle.tlsf_reader.proofs.Descending.{at_once, goes, read_same}
+use Rattle.tlsf_reader.proofs.Descending.{at_once, read_same}
 use Rattle.tlsf_reader.proofs.TextDescending.{go_expect, go_go, go_same, Until}
 
 pub read_part : {Y : Type 0} {view : Y → plain.Part} {after : List Lexeme} {r : Result Y Refusal} (before rest : List Lexeme) (l : Lexeme) (s : Symbol) → before ≡ l ∷ rest → l.symbol ≡ s

@@ -1,25 +1,24 @@
 -- Why tokens stop, where they stop, and that lexemes stand one after another.
 use Rattle.std.proofs.Common.{◌≡◌, ◌<◌, ◌≤◌, ◌+◌, ℕ, zero, suc, Bool, true, false, cond, ◌&&◌, ◌==◌, List, [], ◌∷◌, length, drop, take, Option, None, Some, refl, sym, ◌∙◌, ap, subst, arith}
-use Rattle.std.specs.Prelude.{nat_eq, nat_lt, codes, slice_range}
+use Rattle.std.specs.Prelude.{nat_eq, nat_lt, codes, unwrap_or, map}
 use Rattle.std.specs.Char.{is_ascii_digit}
 use Rattle.std.specs.List.{list_all, starts_with}
-use Rattle.tlsf_tokens.specs.Words.{is_blank, is_name_start, is_name_part, is_among, signs, sign_words, keywords, unsupported_words, unsupported_signs}
-use Rattle.tlsf_tokens.specs.Pieces.{word_piece, text_before, quoted_piece, comment_piece, sign_piece, mark_piece, piece_of}
+use Rattle.tlsf_tokens.specs.Words.{is_blank, is_name_start, is_name_part, is_among, symbol_in, signs, words, unsupported_words, unsupported_signs}
+use Rattle.tlsf_tokens.specs.Pieces.{word_piece, text_before, quoted_piece, comment_piece, sign_or, sign_piece, mark_piece, piece_of}
 use Rattle.tlsf_tokens.specs.Cuts.{longest_or, longest_within, longest, fault_of, Stops, Cuts, ends, past_gap, past_token, IsInOrder}
-use Rattle.tlsf_tokens.specs.declared.code.SpecCode.{SpecCode}
-use Rattle.tlsf_tokens.specs.declared.code.SpecCode.TheVariants.{BadByte, Unclosed, Unsupported}
+use Rattle.spec_faults.specs.declared.code.SpecCode.{SpecCode}
+use Rattle.spec_faults.specs.declared.code.SpecCode.TheVariants.{BadByte, Unclosed, Unsupported}
 use Rattle.tlsf_tokens.specs.declared.token.Piece.{Piece}
 use Rattle.tlsf_tokens.specs.declared.token.Piece.TheVariants.{Gap, Token as token_piece, Fault}
-use Rattle.tlsf_tokens.specs.declared.token.TokenKind.TheVariants as kind
+use Rattle.tlsf_tokens.specs.declared.symbol.Symbol.TheVariants as symbol
 use Rattle.tlsf_tokens.specs.declared.token.Token.{Token}
 use Rattle.tlsf_tokens.specs.declared.token.Front.{Front}
-use Rattle.tlsf_tree.specs.declared.symbol.Symbol.{Symbol}
-use Rattle.tlsf_tree.specs.declared.symbol.Role.{Role}
-use Rattle.tlsf_tree.specs.Nesting.{role_of, first_of, number_of, first_deep}
-use Rattle.tlsf_grammar.specs.Lexemes.{Lexeme}
+use Rattle.tlsf_tokens.specs.declared.symbol.Symbol.{Symbol}
+use Rattle.tlsf_syntax.specs.declared.nesting.Role.{Role}
+use Rattle.tlsf_syntax.specs.Nesting.{role_of, first_of, number_of, first_deep}
+use Rattle.tlsf_syntax.specs.Lexemes.{Lexeme}
 use Rattle.tlsf_tokens.proofs.Cutting.{in_order}
-use Rattle.tlsf_reader.specs.Symbols.{symbol_of, lexeme_from, then_lexemes, lexemes_of}
-use Rattle.tlsf_reader.specs.Lexed.{IsLexed}
+use Rattle.tlsf_reader.specs.Lexed.{IsLexed, lexeme_from}
 use Rattle.tlsf_reader.specs.Known.{place_in}
 use Rattle.tlsf_reader.specs.Faults.{start_at}
 
@@ -37,13 +36,11 @@ Right (Some (token_piece k)) = Unit {0}
 Right (Some (Fault code)) = is_stop code ≡ true
 
 right_word : (w : List ℕ) → Right (Some (word_piece w))
-right_word w = by (is_among unsupported_words w) (is_among sign_words w) (is_among keywords w)
+right_word w = by (is_among unsupported_words w)
   where
-    by : (a b c : Bool) → Right (Some (cond a (Fault Unsupported) (cond b (token_piece kind.Sign) (cond c (token_piece kind.Keyword) (token_piece kind.Ident)))))
-    by true b c = refl
-    by false true c = tt
-    by false false true = tt
-    by false false false = tt
+    by : (b : Bool) → Right (Some (cond b (Fault Unsupported) (token_piece (unwrap_or (symbol_in words w) symbol.Ident))))
+    by true = refl
+    by false = tt
 
 right_text : (w : List ℕ) → Right (text_before w)
 right_text [] = tt
@@ -68,7 +65,11 @@ right_comment (suc size) (suc n) (b ∷ c ∷ w) h =
     (right_cond (b == 42 && c == 47) (comment_piece n w) (comment_piece (suc n) (c ∷ w)) (right_comment size n w (omega (arith, h))) (right_comment size (suc n) (c ∷ w) (omega (arith, h))))
 
 right_sign : (w : List ℕ) → Right (sign_piece w)
-right_sign w = right_cond (is_among signs w) (Some (token_piece kind.Sign)) (cond (is_among unsupported_signs w) (Some (Fault Unsupported)) None) tt (right_cond (is_among unsupported_signs w) (Some (Fault Unsupported)) None refl tt)
+right_sign w = by (symbol_in signs w)
+  where
+    by : (o : Option Symbol) → Right (sign_or o w)
+    by None = right_cond (is_among unsupported_signs w) (Some (Fault Unsupported)) None refl tt
+    by (Some s) = tt
 
 right_mark : (w : List ℕ) → Right (mark_piece w)
 right_mark w =
@@ -80,7 +81,7 @@ unfolding piece_of
 right_piece [] = tt
 right_piece (b ∷ w) =
     right_cond (is_name_start b) _ _ (right_cond (list_all is_name_part w) (Some (word_piece (b ∷ w))) None (right_word (b ∷ w)) tt)
-    (right_cond (is_ascii_digit b) _ _ (right_cond (list_all is_ascii_digit w) (Some (token_piece kind.Number)) None tt tt)
+    (right_cond (is_ascii_digit b) _ _ (right_cond (list_all is_ascii_digit w) (Some (token_piece symbol.Number)) None tt tt)
     (right_cond (b == 34) (quoted_piece w) _ (right_quoted w)
     (right_cond (is_blank b) _ _ (right_cond _ (Some Gap) None tt tt) (right_mark (b ∷ w)))))
 
@@ -139,20 +140,12 @@ rising_from : (from nearer to : ℕ) (ls : List Lexeme) → from ≤ nearer → 
 rising_from from nearer to [] h r = omega (arith, h, r)
 rising_from from nearer to (l ∷ ls) h r = (let low : nearer ≤ l.start = r.0 in omega (arith, h, low), r.1)
 
-lexemes_rise : (text : List ℕ) (from to : ℕ) (tokens : List Token) (ls : List Lexeme) → lexemes_of text tokens ≡ Some ls → IsInOrder from tokens to → IsRising from ls to
-lexemes_rise text from to [] ls e o = let none : [] ≡ ls = cc in subst (λ ms. IsRising from ms to) none o
-lexemes_rise text from to (t ∷ ts) ls e o = by (symbol_of t.kind (slice_range text t.start t.end)) (lexemes_of text ts) e (λ ms f. lexemes_rise text t.end to ts ms f o.2)
-  where
-    by : (s : Option Symbol) (ms : Option (List Lexeme)) → then_lexemes text t s ms ≡ Some ls → ((ns : List Lexeme) → ms ≡ Some ns → IsRising t.end ns to) → IsRising from ls to
-    by None ms f h = absurd cc
-    by (Some s) None f h = absurd cc
-    by (Some s) (Some ms) f h =
-        let whole : lexeme_from text t s ∷ ms ≡ ls = cc in
-        let first : from ≤ t.start = o.0 in let some : t.start < t.end = o.1 in
-        subst (λ ns. IsRising from ns to) whole (first, rising_from t.start t.end to ms (omega (arith, some)) (h ms refl))
+lexemes_rise : (text : List ℕ) (from to : ℕ) (tokens : List Token) → IsInOrder from tokens to → IsRising from (map (lexeme_from text) tokens) to
+lexemes_rise text from to [] o = o
+lexemes_rise text from to (t ∷ ts) o = (o.0, rising_from t.start t.end to (map (lexeme_from text) ts) (omega (arith, o.1)) (lexemes_rise text t.end to ts o.2))
 
 pub lexed_rise : (text : List ℕ) (stop : Option SpecCode) (stop_at : ℕ) (ls : List Lexeme) → IsLexed text stop stop_at ls → IsRising 0 ls stop_at
-lexed_rise text stop stop_at ls l = lexemes_rise text 0 stop_at l.tokens ls l.symbols (in_order text stop stop_at 0 l.tokens l.cut)
+lexed_rise text stop stop_at ls l = rw l.are (lexemes_rise text 0 stop_at l.tokens (in_order text stop stop_at 0 l.tokens l.cut))
 
 pub starts_within : (ls : List Lexeme) (from to k : ℕ) → IsRising from ls to → place_in ls to k ≤ to
 starts_within [] from to k r = omega arith

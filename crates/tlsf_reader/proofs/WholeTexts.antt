@@ -1,13 +1,13 @@
 -- What the descent answers for all lexemes of a text.
-use Rattle.std.proofs.Common.{◌≡◌, ◌<◌, ◌≤◌, ℕ, suc, ◌+◌, List, [], ◌∷◌, ◌++◌, length, length-append, Result, Ok, Err, IsErrAnd, refl, sym, ap, ◌∙◌, subst, arith}
+use Rattle.std.proofs.Common.{◌≡◌, ◌<◌, ◌≤◌, ℕ, ◌+◌, List, [], ◌∷◌, ◌++◌, length, length-append, Result, Ok, Err, IsErrAnd, refl, sym, ap, ◌∙◌, subst, arith}
 use Rattle.std.proofs.lemmas.Result.{err_from_is_err_and}
-use Rattle.tlsf_grammar.specs.Tree as plain
-use Rattle.tlsf_grammar.specs.Lexemes.{Lexeme}
-use Rattle.tlsf_grammar.specs.Texts.{DerivesText}
-use Rattle.tlsf_grammar.specs.Reading.{Answer, taken, refused, lost}
-use Rattle.tlsf_grammar.specs.TextReading.{main_read, text_read}
-use Rattle.tlsf_grammar.proofs.TextSound.{Reads, reads_taken, reads_refused, reads_lost, text_reads}
-use Rattle.tlsf_grammar.proofs.Exact.{exactly}
+use Rattle.tlsf_syntax.specs.Tree as plain
+use Rattle.tlsf_syntax.specs.Lexemes.{Lexeme}
+use Rattle.tlsf_syntax.specs.Texts.{DerivesText}
+use Rattle.tlsf_syntax.specs.Reading.{Answer, taken, refused}
+use Rattle.tlsf_syntax.specs.TextReading.{main_read, text_read}
+use Rattle.tlsf_syntax.proofs.TextSound.{Reads, reads_taken, reads_refused, reads_lost, text_reads}
+use Rattle.tlsf_syntax.proofs.Exact.{exactly}
 use Rattle.tlsf_reader.specs.declared.rest.Refusal.{Refusal}
 use Rattle.tlsf_reader.specs.declared.rest.Refusal.TheVariants.{At}
 use Rattle.tlsf_reader.specs.declared.written.Written.{Written}

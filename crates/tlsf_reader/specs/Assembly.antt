@@ -1,18 +1,21 @@
 -- What each part of a text adds to its tree.
-use Rattle.std.specs.Prelude.{ℕ, Bool, true, false, ◌&&◌, if◌then◌else◌, List, [], ◌∷◌, map, codes, Option, None, Some}
+use Rattle.std.specs.Prelude.{ℕ, Bool, ◌&&◌, if◌then◌else◌, List, [], ◌∷◌, codes, Option, None, Some}
 use Rattle.std.specs.Str.{bytes_eq}
-use Rattle.letter_word.specs.declared.kinds.Kind.TheVariants.{Mealy}
-use Rattle.tlsf_tree.specs.declared.symbol.Section.{Section}
-use Rattle.tlsf_tree.specs.declared.symbol.Section.TheVariants.{Initially, Preset, Require, Assert, Assume, Guarantee}
-use Rattle.tlsf_tree.specs.declared.symbol.Symbol.TheVariants as symbol
-use Rattle.tlsf_grammar.specs.Tree.{Tree, Declaration, Field, title, description, semantics, target, tags, Block, parameters, definitions, Definition, Part, inputs, outputs, section}
-use Rattle.tlsf_grammar.specs.Lexemes.{Lexeme}
-use Rattle.tlsf_grammar.specs.Symbols.{symbol_eq}
-use Rattle.tlsf_grammar.specs.Reading.{begins}
-use Rattle.tlsf_reader.specs.Spec.{Info, info_of, inputs_of, outputs_of, section_of}
+use Rattle.std.specs.declared.alloc.Global.{Global}
+use Rattle.std.specs.declared.vec.Vec.{Vec}
+use Rattle.tlsf_tokens.specs.declared.symbol.Section.{Section}
+use Rattle.tlsf_tokens.specs.declared.symbol.Section.TheVariants.{Initially, Preset, Require, Assert, Assume, Guarantee}
+use Rattle.tlsf_tokens.specs.declared.symbol.Symbol.TheVariants as symbol
+use Rattle.tlsf_syntax.specs.declared.expr.Expr.{Expr}
+use Rattle.tlsf_syntax.specs.declared.sections.Sections.{Sections}
+use Rattle.tlsf_syntax.specs.Tree.{Tree, Field, title, description, semantics, target, tags, Block, parameters, definitions, Definition, Part, inputs, outputs, section}
+use Rattle.tlsf_syntax.specs.Lexemes.{Lexeme}
+use Rattle.tlsf_syntax.specs.Symbols.{symbol_eq}
+use Rattle.tlsf_syntax.specs.Reading.{begins}
+use Rattle.tlsf_syntax.specs.Seen.{expr_seen}
+use Rattle.tlsf_syntax.specs.Text.{Info, Text, each_section}
 use Rattle.tlsf_reader.specs.Least.{least}
-use Rattle.tlsf_reader.specs.TextView.{declarations_view, formulas_view}
-use Rattle.tlsf_reader.specs.declared.assemble.Main.{Main}
+use Rattle.tlsf_reader.specs.TextView.{each}
 
 -- one more field in front of those that gave this
 abbrev pub put_field : Field → Info → Info
@@ -32,42 +35,32 @@ abbrev pub block_definitions : Block → List Definition
 block_definitions (parameters ds) = ds
 block_definitions (definitions ds) = ds
 
--- MAIN with each part in one place
-pub record Parts : Type 0 where
-  pub inputs : List Declaration
-  pub outputs : List Declaration
-  pub initially : List Tree
-  pub preset : List Tree
-  pub require : List Tree
-  pub assert : List Tree
-  pub assume : List Tree
-  pub guarantee : List Tree
+abbrev pub put_section : Section → List Tree → Sections (List Tree) → Sections (List Tree)
+put_section Initially ts s = record s { initially = ts }
+put_section Preset ts s = record s { preset = ts }
+put_section Require ts s = record s { require = ts }
+put_section Assert ts s = record s { assert = ts }
+put_section Assume ts s = record s { assume = ts }
+put_section Guarantee ts s = record s { guarantee = ts }
 
-abbrev pub parts_of : List Part → Parts
-parts_of ps =
-    record { inputs = inputs_of ps; outputs = outputs_of ps; initially = section_of ps Initially; preset = section_of ps Preset; require = section_of ps Require; assert = section_of ps Assert; assume = section_of ps Assume; guarantee = section_of ps Guarantee }
+-- one more part of MAIN in front of those that gave this
+abbrev pub put_part : Part → Text → Text
+put_part (inputs ds) t = record t { inputs = ds }
+put_part (outputs ds) t = record t { outputs = ds }
+put_part (section s ts) t = record t { sections = put_section s ts t.sections }
 
-abbrev pub put_section : Section → List Tree → Parts → Parts
-put_section Initially ts m = record m { initially = ts }
-put_section Preset ts m = record m { preset = ts }
-put_section Require ts m = record m { require = ts }
-put_section Assert ts m = record m { assert = ts }
-put_section Assume ts m = record m { assume = ts }
-put_section Guarantee ts m = record m { guarantee = ts }
+-- parts in front of those that gave this
+abbrev pub put_parts : Text → List Part → Text
+put_parts t [] = t
+put_parts t (p ∷ ps) = put_part p (put_parts t ps)
 
--- one more part in front of those that gave this
-abbrev pub put_part : Part → Parts → Parts
-put_part (inputs ds) m = record m { inputs = ds }
-put_part (outputs ds) m = record m { outputs = ds }
-put_part (section s ts) m = put_section s ts m
+-- no formula in any section
+abbrev pub no_sections : Sections (List Tree)
+no_sections = record { initially = []; preset = []; require = []; assert = []; assume = []; guarantee = [] }
 
-abbrev pub put_parts : Parts → List Part → Parts
-put_parts m [] = m
-put_parts m (p ∷ ps) = put_part p (put_parts m ps)
-
-abbrev pub main_view : Main → Parts
-main_view m =
-    record { inputs = declarations_view m.inputs; outputs = declarations_view m.outputs; initially = formulas_view m.initially; preset = formulas_view m.preset; require = formulas_view m.require; assert = formulas_view m.assert; assume = formulas_view m.assume; guarantee = formulas_view m.guarantee }
+-- the formulas of each section
+abbrev pub sections_seen : Sections (Vec Expr Global) → Sections (List Tree)
+sections_seen s = each_section (each expr_seen) s
 
 -- the name `Finite`
 abbrev pub is_finite : Lexeme → Bool

@@ -1,25 +1,25 @@
 -- What the descent answers, against the grammar's reader on lists.
-use Rattle.std.specs.Prelude.{◌≡◌, ◌≤◌, ℕ, Bool, true, false, ◌&&◌, List, [], ◌∷◌, length, map, drop, Option, None, Some, Result, Ok, Err, MatchResult}
+use Rattle.std.specs.Prelude.{◌≡◌, ◌≤◌, ℕ, Bool, true, false, ◌&&◌, List, [], ◌∷◌, length, drop, Option, None, Some, Result, Ok, Err, MatchResult}
 use Rattle.std.specs.declared.alloc.Global.{Global}
 use Rattle.std.specs.declared.vec.Vec.{Vec}
-use Rattle.tlsf_tree.specs.declared.expr.Expr.{Expr}
-use Rattle.tlsf_tree.specs.declared.expr.Link.{Link}
-use Rattle.tlsf_tree.specs.declared.expr.Range.{Range}
-use Rattle.tlsf_tree.specs.declared.symbol.Symbol.{Symbol}
-use Rattle.tlsf_grammar.specs.Tree.{Tree, Trees, Links, Ranges, paren, tree, link}
-use Rattle.tlsf_grammar.specs.Lexemes.{Lexeme}
-use Rattle.tlsf_grammar.specs.Symbols.{symbol_eq}
-use Rattle.tlsf_grammar.specs.Expressions.{Level, releases, bound_of, Joins, left, once, right, none}
-use Rattle.tlsf_grammar.specs.Reading.{Answer, taken, refused, go_on, begins, expect, from_to, operator_here, chain_of, joined, Readers, readers, prefix_with, prefixed, counted, windowed, big_with, ranges_with, more_ranges}
+use Rattle.tlsf_syntax.specs.declared.expr.Expr.{Expr}
+use Rattle.tlsf_syntax.specs.declared.expr.Link.{Link}
+use Rattle.tlsf_syntax.specs.declared.expr.Range.{Range}
+use Rattle.tlsf_tokens.specs.declared.symbol.Symbol.{Symbol}
+use Rattle.tlsf_syntax.specs.Tree.{Tree, Trees, Links, Ranges, paren, tree, link}
+use Rattle.tlsf_syntax.specs.Lexemes.{Lexeme}
+use Rattle.tlsf_syntax.specs.Symbols.{symbol_eq}
+use Rattle.tlsf_syntax.specs.Expressions.{Level, releases, bound_of, Joins, left, once, right, none}
+use Rattle.tlsf_syntax.specs.Reading.{Answer, taken, refused, go_on, begins, expect, from_to, operator_here, chain_of, joined, Readers, readers, prefix_with, prefixed, counted, windowed, big_with, ranges_with, more_ranges}
 use Rattle.tlsf_reader.specs.declared.lexeme.Lexeme.{Lexeme as CodeLexeme}
 use Rattle.tlsf_reader.specs.declared.rest.Refusal.{Refusal}
 use Rattle.tlsf_reader.specs.declared.rest.Refusal.TheVariants.{NoMemory, At}
-use Rattle.tlsf_tree.specs.declared.symbol.Symbol.TheVariants as symbol
+use Rattle.tlsf_tokens.specs.declared.symbol.Symbol.TheVariants as symbol
 use Rattle.tlsf_reader.specs.declared.ahead.Sign.{Sign}
 use Rattle.tlsf_reader.specs.declared.ahead.SignKind.{SignKind}
 use Rattle.tlsf_reader.specs.declared.ahead.SignKind.TheVariants.{Plain, Counted, Windowed, Big}
 use Rattle.tlsf_reader.specs.Seen.{seen}
-use Rattle.tlsf_reader.specs.View.{tree_of, trees_of, link_of, range_of, ranges_of}
+use Rattle.tlsf_syntax.specs.Seen.{expr_seen, trees_seen, range_list_seen, range_seen}
 
 -- readers that go deep enough answer this
 pub record Eventually {A : Type 0} (f : ℕ → Answer A) (a : Answer A) : Type 0 where
@@ -138,11 +138,11 @@ IsNameIn before after (Some l) = NamesMembers before (seen l) after
 abbrev pub grouped_with : Readers → Lexeme → List Lexeme → Answer Tree
 grouped_with r l ls = go_on (r.level false releases ls) (λ t rest. expect symbol.CloseParen rest (λ last after. taken (paren (from_to l.start last.end) t) after))
 
-abbrev pub view_list : Vec Expr Global → Trees
-view_list v = trees_of (map tree_of v.items)
+abbrev pub list_seen : Vec Expr Global → Trees
+list_seen v = trees_seen v.items
 
-abbrev pub view_ranges : Vec Range Global → Ranges
-view_ranges v = ranges_of (map range_of v.items)
+abbrev pub ranges_seen : Vec Range Global → Ranges
+ranges_seen v = range_list_seen v.items
 
 -- how an operand of a level goes on to the level m that is built of it
 abbrev pub extended_by : Readers → Bool → Level → Level → Joins → Tree → List Lexeme → Answer Tree
@@ -162,12 +162,12 @@ pub record Builds {E X : Type 0} (put : E → X → X) (f : ℕ → Answer X) (d
   pub err : (k : ℕ) → Eventually g (refused k) → Eventually f (refused k)
 
 abbrev pub put_tree : Expr → Trees → Trees
-put_tree e more = tree (tree_of e) more
+put_tree e more = tree (expr_seen e) more
 
 abbrev pub put_link : Link → Links → Links
-put_link l more = link (link_of l).0 (link_of l).1 more
+put_link l more = link l.op (expr_seen l.right) more
 
 -- The range stands in front. What comes after it is what the readers go on with.
 pub record IsRangeRead (before : List Lexeme) (after : List Lexeme) (result : Result Range Refusal) : Type 0 where
-  pub ok : (x : Range) → result ≡ Ok x → (a : Answer Ranges) → Eventually (λ d. more_ranges (readers d) after (range_of x)) a → Eventually (λ d. ranges_with (readers d) before) a
+  pub ok : (x : Range) → result ≡ Ok x → (a : Answer Ranges) → Eventually (λ d. more_ranges (readers d) after (range_seen x)) a → Eventually (λ d. ranges_with (readers d) before) a
   pub err : (k : ℕ) → result ≡ Err (At k) → Eventually (λ d. ranges_with (readers d) before) (refused k)

@@ -1,15 +1,15 @@
 -- The faults of reading, and the one that comes first: this project's table of faults and its order of refusals.
 use Rattle.std.specs.Prelude.{◌≡◌, ◌<◌, ◌≤◌, ℕ, zero, suc, ◌+◌, Bool, true, false, List, [], ◌∷◌, ◌++◌, length, map, slice_get, codes, None, Some}
-use Rattle.tlsf_tokens.specs.declared.code.SpecCode.{SpecCode}
-use Rattle.tlsf_tokens.specs.declared.code.SpecCode.TheVariants.{TooLong, Unexpected, Missing, Twice, TooDeep, Unsupported}
-use Rattle.tlsf_tree.specs.declared.symbol.Symbol.{Symbol}
-use Rattle.tlsf_tree.specs.declared.symbol.Symbol.TheVariants as symbol
-use Rattle.tlsf_tree.specs.Nesting.{first_deep}
-use Rattle.tlsf_grammar.specs.Tree.{Named, Written}
-use Rattle.tlsf_grammar.specs.Lexemes.{Lexeme, Is}
-use Rattle.tlsf_grammar.specs.Texts.{DerivesText, IsFirstUnexpected}
+use Rattle.spec_faults.specs.declared.code.SpecCode.{SpecCode}
+use Rattle.spec_faults.specs.declared.code.SpecCode.TheVariants.{TooLong, Unexpected, Missing, Twice, TooDeep, Unsupported}
+use Rattle.tlsf_tokens.specs.declared.symbol.Symbol.{Symbol}
+use Rattle.tlsf_tokens.specs.declared.symbol.Symbol.TheVariants as symbol
+use Rattle.tlsf_syntax.specs.Nesting.{first_deep}
+use Rattle.tlsf_syntax.specs.Tree.{Named, Written}
+use Rattle.tlsf_syntax.specs.Lexemes.{Lexeme, Is}
+use Rattle.tlsf_syntax.specs.Texts.{DerivesText, IsFirstUnexpected}
 use Rattle.tlsf_reader.specs.Lexed.{Lexed}
-use Rattle.tlsf_reader.specs.Spec.{declared_words}
+use Rattle.tlsf_reader.specs.Parts.{declared_words}
 
 -- the most bytes that a text may have
 abbrev pub most_bytes : ℕ

@@ -1,9 +1,10 @@
 -- The faults of a text that are found without its grammar, and the first of them.
-use Rattle.std.specs.Prelude.{◌≡◌, ◌≤◌, ℕ, zero, suc, List, [], ◌∷◌, Option, None, Some, if◌then◌else◌, nat_le}
-use Rattle.tlsf_tokens.specs.declared.code.SpecCode.{SpecCode}
-use Rattle.tlsf_tokens.specs.declared.code.SpecCode.TheVariants.{Unexpected, TooDeep, Unsupported}
-use Rattle.tlsf_grammar.specs.Lexemes.{Lexeme}
+use Rattle.std.specs.Prelude.{◌≡◌, ℕ, zero, suc, List, [], ◌∷◌, Option, None, Some, if◌then◌else◌, nat_le}
+use Rattle.spec_faults.specs.declared.code.SpecCode.{SpecCode}
+use Rattle.spec_faults.specs.declared.code.SpecCode.TheVariants.{Unexpected, TooDeep, Unsupported}
+use Rattle.tlsf_syntax.specs.Lexemes.{Lexeme}
 use Rattle.tlsf_reader.specs.declared.fault.Fault.{Fault}
+use Rattle.tlsf_reader.specs.Least.{IsEarliestBy}
 use Rattle.tlsf_reader.specs.Places.{FiniteAt}
 
 -- where the lexeme with this number begins, or where the lexemes stop
@@ -18,15 +19,9 @@ pub data IsKnown (ls : List Lexeme) (stop : Option SpecCode) (stop_at : ℕ) (de
   deepened : (k : ℕ) → deep ≡ Some k → IsKnown ls stop stop_at deep TooDeep (place_in ls stop_at k)
   finite : (p : ℕ) → FiniteAt ls p → IsKnown ls stop stop_at deep Unsupported p
 
--- a fault was found that isn't after this place
-abbrev pub FaultReaches : Option Fault → ℕ → Type 0
-FaultReaches None p = ⊥
-FaultReaches (Some f) p = f.place ≤ p
-
 -- none of these faults was found, as there is none, or the one at the earliest place
-pub record IsEarliest (Has : SpecCode → ℕ → Type 0) (found : Option Fault) : Type 0 where
-  pub at : (f : Fault) → found ≡ Some f → Has f.code f.place
-  pub below : (code : SpecCode) (place : ℕ) → Has code place → FaultReaches found place
+abbrev pub IsEarliest : (SpecCode → ℕ → Type 0) → Option Fault → Type 0
+IsEarliest Has found = IsEarliestBy (λ (f : Fault). f.place) (λ f. Has f.code f.place) found
 
 -- a known fault, or the unexpected lexeme where that stands before it
 abbrev pub refused_fault : Option Fault → ℕ → Fault

@@ -1,6 +1,6 @@
 -- The code's levels as those of the grammar.
-use Rattle.tlsf_tree.specs.declared.expr.Op.{Op}
-use Rattle.tlsf_grammar.specs.Expressions as grammar
+use Rattle.tlsf_syntax.specs.declared.expr.Op.{Op}
+use Rattle.tlsf_syntax.specs.Expressions as grammar
 use Rattle.tlsf_reader.specs.declared.level.Level.{Level}
 use Rattle.tlsf_reader.specs.declared.level.Level.TheVariants as level
 use Rattle.tlsf_reader.specs.declared.level.Joins.{Joins}

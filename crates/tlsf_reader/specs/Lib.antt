@@ -1,12 +1,9 @@
-pub mod Symbols
-pub mod Tables
 pub mod Seen
 pub mod Lexed
-pub mod Spec
+pub mod Parts
 pub mod Faults
 pub mod Reads
 pub mod Levels
-pub mod View
 pub mod Descent
 pub mod TextView
 pub mod TextDescent

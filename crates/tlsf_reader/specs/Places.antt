@@ -1,18 +1,18 @@
 -- The places of the faults that are looked for beside the descent.
-use Rattle.std.specs.Prelude.{◌≡◌, ◌<◌, ℕ, ◌+◌, Bool, true, false, List, [], ◌∷◌, length, slice_get, Option, None, Some, if◌then◌else◌, nat_le, Result, Ok, Err}
-use Rattle.tlsf_tokens.specs.declared.code.SpecCode.{SpecCode}
-use Rattle.tlsf_tokens.specs.declared.code.SpecCode.TheVariants.{Unexpected, Missing, Twice}
-use Rattle.tlsf_tokens.specs.declared.code.SpecFault.{SpecFault}
-use Rattle.tlsf_tokens.specs.declared.code.SpecFault.TheVariants.{At}
-use Rattle.tlsf_tree.specs.declared.spec.SpecTree.{SpecTree}
-use Rattle.tlsf_tree.specs.declared.symbol.Symbol.{Symbol}
-use Rattle.tlsf_tree.specs.declared.symbol.Symbol.TheVariants as symbol
-use Rattle.tlsf_grammar.specs.Tree.{Named, Definition, Block, parameters, definitions, Written}
-use Rattle.tlsf_grammar.specs.Symbols.{symbol_eq}
-use Rattle.tlsf_grammar.specs.Lexemes.{Lexeme}
+use Rattle.std.specs.Prelude.{◌≡◌, ◌<◌, ℕ, ◌+◌, Bool, true, false, List, [], ◌∷◌, length, slice_get, Option, None, Some, if◌then◌else◌, Result, Ok, Err}
+use Rattle.spec_faults.specs.declared.code.SpecCode.{SpecCode}
+use Rattle.spec_faults.specs.declared.code.SpecFault.{SpecFault}
+use Rattle.spec_faults.specs.declared.code.SpecFault.TheVariants.{At}
+use Rattle.tlsf_syntax.specs.declared.spec.SpecTree.{SpecTree}
+use Rattle.tlsf_tokens.specs.declared.symbol.Symbol.{Symbol}
+use Rattle.tlsf_tokens.specs.declared.symbol.Symbol.TheVariants as symbol
+use Rattle.tlsf_syntax.specs.Tree.{Named, Written}
+use Rattle.tlsf_syntax.specs.Symbols.{symbol_eq}
+use Rattle.tlsf_syntax.specs.Lexemes.{Lexeme}
 use Rattle.tlsf_reader.specs.Faults.{IsFinite, heads_part, Lacks, IsNeededField, IsNeededPart, HasLateFault, IsFirstOf, start_at, symbols_of}
-use Rattle.tlsf_reader.specs.Spec.{spec_of}
-use Rattle.tlsf_reader.specs.TextView.{spec_view}
+use Rattle.tlsf_reader.specs.Least.{earlier_by}
+use Rattle.tlsf_reader.specs.Parts.{text_of}
+use Rattle.tlsf_syntax.specs.Seen.{text_seen}
 use Rattle.tlsf_reader.specs.declared.fault.Fault.{Fault}
 
 -- whether a lexeme has this symbol
@@ -95,13 +95,11 @@ pub record PartMissingAt (ls : List Lexeme) (place : ℕ) : Type 0 where
 
 -- the fault at the earlier place, at one place the first one
 abbrev pub earlier : Option Fault → Option Fault → Option Fault
-earlier None b = b
-earlier (Some f) None = Some f
-earlier (Some f) (Some g) = if nat_le f.place g.place then Some f else Some g
+earlier a b = earlier_by (λ (f : Fault). f.place) a b
 
 -- A text of the grammar is the tree of these parts, or has this fault first of those that a text of the grammar has. Where
 -- memory is wanting, nothing is said.
 pub record IsAccepted (ls : List Lexeme) (w : Written) (result : Result SpecTree SpecFault) : Type 0 where
   pub sound : (tree : SpecTree) → result ≡ Ok tree → (code : SpecCode) (place : ℕ) → HasLateFault ls w code place → ⊥
-  pub tree : (tree : SpecTree) → result ≡ Ok tree → spec_view tree ≡ spec_of w
+  pub tree : (tree : SpecTree) → result ≡ Ok tree → text_seen tree ≡ text_of w
   pub fault : (code : SpecCode) (place : ℕ) → result ≡ Err (At code place) → IsFirstOf (HasLateFault ls w) code place

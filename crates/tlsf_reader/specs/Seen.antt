@@ -1,5 +1,5 @@
 -- The code's lexemes as the grammar sees them.
-use Rattle.tlsf_grammar.specs.Lexemes.{Lexeme as GrammarLexeme}
+use Rattle.tlsf_syntax.specs.Lexemes.{Lexeme as GrammarLexeme}
 use Rattle.tlsf_reader.specs.declared.lexeme.Lexeme.{Lexeme}
 
 abbrev pub seen : Lexeme → GrammarLexeme

@@ -2,12 +2,12 @@
 use Rattle.std.specs.Prelude.{◌≡◌, ℕ, ◌+◌, Bool, true, false, if◌then◌else◌, List, [], ◌∷◌, ◌++◌, length, Option, None, Some, Result, Ok, Err}
 use Rattle.std.specs.Option.{is_some}
 use Rattle.letter_word.specs.declared.kinds.Kind.{Kind}
-use Rattle.tlsf_tree.specs.declared.symbol.Symbol.TheVariants as symbol
-use Rattle.tlsf_grammar.specs.Tree as plain
-use Rattle.tlsf_grammar.specs.Lexemes.{Lexeme, word_of}
-use Rattle.tlsf_grammar.specs.Texts.{bits_of, DerivesText, IsFirstUnexpected}
-use Rattle.tlsf_grammar.specs.Reading.{Answer, taken, refused, go_on, expect, if_next}
-use Rattle.tlsf_grammar.specs.TextReading.{kind_of, is_strict, field_by, part_by, Value, value_read, goes_on_value, members_read, expression_read, blocks_read}
+use Rattle.tlsf_tokens.specs.declared.symbol.Symbol.TheVariants as symbol
+use Rattle.tlsf_syntax.specs.Tree as plain
+use Rattle.tlsf_syntax.specs.Lexemes.{Lexeme, word_of}
+use Rattle.tlsf_syntax.specs.Texts.{bits_of, DerivesText, IsFirstUnexpected}
+use Rattle.tlsf_syntax.specs.Reading.{Answer, taken, refused, go_on, expect, if_next}
+use Rattle.tlsf_syntax.specs.TextReading.{kind_of, is_strict, field_by, part_by, Value, value_read, goes_on_value, members_read, expression_read, blocks_read}
 use Rattle.tlsf_reader.specs.declared.lexeme.Lexeme.{Lexeme as CodeLexeme}
 use Rattle.tlsf_reader.specs.declared.rest.Refusal.{Refusal}
 use Rattle.tlsf_reader.specs.declared.rest.Refusal.TheVariants.{At}
@@ -16,7 +16,7 @@ use Rattle.tlsf_reader.specs.declared.written.Block.{Block}
 use Rattle.tlsf_reader.specs.declared.written.Written.{Written}
 use Rattle.tlsf_reader.specs.Seen.{seen}
 use Rattle.tlsf_reader.specs.TextView.{block_view, written_view}
-use Rattle.tlsf_reader.specs.Descent.{Eventually, Builds, IsRead}
+use Rattle.tlsf_reader.specs.Descent.{Eventually, Builds}
 
 -- words of SEMANTICS and TARGET
 

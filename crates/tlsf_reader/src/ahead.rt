@@ -1,7 +1,7 @@
 // The lexemes that are left to read.
 
 ghost use Rattle.std.specs.Prelude.{◌≡◌, ◌<◌, if◌then◌else◌, length, map, drop, IfSome, IfNone, OnOk};
-ghost use Rattle.tlsf_grammar.specs.Reading.{begins, operator_here};
+ghost use Rattle.tlsf_syntax.specs.Reading.{begins, operator_here};
 ghost use Rattle.tlsf_reader.specs.declared.rest.Refusal.TheVariants.{At};
 ghost use Rattle.tlsf_reader.specs.Levels.{level_of};
 ghost use Rattle.tlsf_reader.specs.Seen.{seen};
@@ -9,19 +9,20 @@ ghost use Rattle.tlsf_reader.specs.Descent.{IsNextIf, IsExpected, IsTaken, IsSig
 
 use crate::level::{Level, bound};
 use crate::lexeme::Lexeme;
-use crate::rest::{Refusal, begins, operator_here, same};
+use crate::rest::{Refusal, begins, operator_here};
 use std::marker::Model;
-use tlsf_tree::{Op, Symbol};
+use tlsf_syntax::Op;
+use tlsf_tokens::Symbol;
 
 /// The lexemes that are left. A contract sees their list.
-#[derive(Debug, Drop)]
+#[derive(Drop)]
 pub(crate) struct Ahead<'a> {
     left: &'a [Lexeme<'a>],
 }
 
 impl<'a> Model for Ahead<'a> {
     ghost use Rattle.std.specs.Prelude.{List, map};
-    ghost use Rattle.tlsf_grammar.specs.Lexemes.{Lexeme as GrammarLexeme};
+    ghost use Rattle.tlsf_syntax.specs.Lexemes.{Lexeme as GrammarLexeme};
 
     ghost Value = { List GrammarLexeme };
 
@@ -31,7 +32,7 @@ impl<'a> Model for Ahead<'a> {
 }
 
 /// What a sign before an operand begins.
-#[derive(Clone, Copy, Debug, PartialEq, Eq)]
+#[derive(Clone, Copy)]
 pub(crate) enum SignKind {
     /// One operand.
     Plain(Op),
@@ -99,7 +100,7 @@ impl<'a> Ahead<'a> {
     {
         match self.left {
             [first, rest @ ..] => {
-                if same(first.symbol, symbol) {
+                if first.symbol == symbol {
                     self.left = rest;
                     Some(*first)
                 } else {
@@ -182,7 +183,7 @@ impl<'a> Ahead<'a> {
     {
         match self.left {
             [first, second, rest @ ..] => {
-                if same(first.symbol, Symbol::Ident) && same(second.symbol, Symbol::In) {
+                if first.symbol == Symbol::Ident && second.symbol == Symbol::In {
                     self.left = rest;
                     Some(*first)
                 } else {
@@ -195,7 +196,7 @@ impl<'a> Ahead<'a> {
 }
 
 /// A sign before an operand, with what it begins.
-#[derive(Clone, Copy, Debug)]
+#[derive(Clone, Copy)]
 pub(crate) struct Sign<'a> {
     pub first: Lexeme<'a>,
     pub kind: SignKind,

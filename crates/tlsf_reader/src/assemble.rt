@@ -1,19 +1,21 @@
 // The tree of a text, each part of it in one place.
 
-ghost use Rattle.std.specs.Prelude.{◌≡◌, [], IfOk};
-ghost use Rattle.tlsf_reader.specs.Assembly.{put_field, put_section, put_part, parts_of, main_view};
-ghost use Rattle.tlsf_reader.specs.Spec.{info_of, definitions_of, spec_of};
-ghost use Rattle.tlsf_reader.specs.TextView.{info_view, field_view, fields_view, blocks_view, definitions_view, formulas_view, part_view, parts_view, written_view, spec_view};
+ghost use Rattle.std.specs.Prelude.{◌≡◌, [], map, IfOk};
+ghost use Rattle.tlsf_reader.specs.Assembly.{put_field, put_section, put_part, put_parts, sections_seen, no_sections};
+ghost use Rattle.tlsf_reader.specs.Parts.{info_of, definitions_of, text_of};
+ghost use Rattle.tlsf_reader.specs.TextView.{each, block_view, field_view, part_view, written_view};
+ghost use Rattle.tlsf_syntax.specs.Seen.{expr_seen, definition_seen, info_seen, text_seen};
 
 use crate::written::{Block, Field, Part, Written};
 use letter_word::Kind;
 use std::alloc::{AllocError, Global};
 use text_base::Name;
-use tlsf_tree::{Declaration, Definition, Expr, Info, Section, SpecTree};
+use tlsf_syntax::{Definition, Expr, Info, Sections, SpecTree};
+use tlsf_tokens::Section;
 
 /// INFO without fields.
 fn no_info(alloc: Global) -> Result<Info, AllocError>
-    ensures { IfOk result (λ info. info_view info ≡ info_of []) }
+    ensures { IfOk result (λ info. info_seen info ≡ info_of []) }
 {
     let title = Name::new(alloc, b"")?;
     let description = Name::new(alloc, b"")?;
@@ -30,7 +32,7 @@ fn no_info(alloc: Global) -> Result<Info, AllocError>
 
 /// Sets what a field says.
 fn set_field(info: &mut Info, field: Field)
-    ensures { info_view info.new ≡ put_field (field_view field) (info_view info.old) }
+    ensures { info_seen info.new ≡ put_field (field_view field) (info_seen info.old) }
 {
     match field {
         Field::Title(title) => info.title = title,
@@ -49,7 +51,7 @@ fn set_field(info: &mut Info, field: Field)
 
 /// What the fields say, of each the first.
 fn info(alloc: Global, fields: Vec<Field>) -> Result<Info, AllocError>
-    ensures { IfOk result (λ info. info_view info ≡ info_of (fields_view fields)) }
+    ensures { IfOk result (λ info. info_seen info ≡ info_of (each field_view fields)) }
 {
     let mut info = no_info(alloc)?;
     let mut left = fields;
@@ -61,7 +63,7 @@ fn info(alloc: Global, fields: Vec<Field>) -> Result<Info, AllocError>
 
 /// The definitions of all blocks, in the order written.
 fn definitions(alloc: Global, blocks: Vec<Block>) -> Result<Vec<Definition>, AllocError>
-    ensures { IfOk result (λ list. definitions_view list ≡ definitions_of (blocks_view blocks)) }
+    ensures { IfOk result (λ list. (each definition_seen) list ≡ definitions_of (each block_view blocks)) }
 {
     let mut all = Vec::new(alloc);
     for block in blocks {
@@ -73,26 +75,11 @@ fn definitions(alloc: Global, blocks: Vec<Block>) -> Result<Vec<Definition>, All
     Ok(all)
 }
 
-/// What MAIN says.
-#[derive(Debug, Drop)]
-struct Main {
-    inputs: Vec<Declaration>,
-    outputs: Vec<Declaration>,
-    initially: Vec<Expr>,
-    preset: Vec<Expr>,
-    require: Vec<Expr>,
-    assert: Vec<Expr>,
-    assume: Vec<Expr>,
-    guarantee: Vec<Expr>,
-}
-
-/// MAIN without parts.
-fn no_main(alloc: Global) -> Main
-    ensures { main_view result ≡ parts_of [] }
+/// No formula in any section.
+fn no_formulas(alloc: Global) -> Sections<Vec<Expr>>
+    ensures { sections_seen result ≡ no_sections }
 {
-    Main {
-        inputs: Vec::new(alloc),
-        outputs: Vec::new(alloc),
+    Sections {
         initially: Vec::new(alloc),
         preset: Vec::new(alloc),
         require: Vec::new(alloc),
@@ -103,61 +90,51 @@ fn no_main(alloc: Global) -> Main
 }
 
 /// Sets the formulas of a section.
-fn set_section(main: &mut Main, section: Section, formulas: Vec<Expr>)
-    ensures { main_view main.new ≡ put_section section (formulas_view formulas) (main_view main.old) }
+fn set_section(sections: &mut Sections<Vec<Expr>>, section: Section, formulas: Vec<Expr>)
+    ensures { sections_seen sections.new ≡ put_section section (each expr_seen formulas) (sections_seen sections.old) }
 {
     match section {
-        Section::Initially => main.initially = formulas,
-        Section::Preset => main.preset = formulas,
-        Section::Require => main.require = formulas,
-        Section::Assert => main.assert = formulas,
-        Section::Assume => main.assume = formulas,
-        Section::Guarantee => main.guarantee = formulas,
+        Section::Initially => sections.initially = formulas,
+        Section::Preset => sections.preset = formulas,
+        Section::Require => sections.require = formulas,
+        Section::Assert => sections.assert = formulas,
+        Section::Assume => sections.assume = formulas,
+        Section::Guarantee => sections.guarantee = formulas,
     }
 }
 
-/// Sets what a part says.
-fn set_part(main: &mut Main, part: Part)
-    ensures { main_view main.new ≡ put_part (part_view part) (main_view main.old) }
+/// Sets what a part of MAIN says.
+fn set_part(tree: &mut SpecTree, part: Part)
+    ensures { text_seen tree.new ≡ put_part (part_view part) (text_seen tree.old) }
 {
     match part {
-        Part::Inputs(inputs) => main.inputs = inputs,
-        Part::Outputs(outputs) => main.outputs = outputs,
-        Part::Section { section, formulas } => set_section(main, section, formulas),
+        Part::Inputs(inputs) => tree.inputs = inputs,
+        Part::Outputs(outputs) => tree.outputs = outputs,
+        Part::Section { section, formulas } => set_section(&mut tree.sections, section, formulas),
     }
 }
 
-/// What the parts say, of each the first.
-fn main_of(alloc: Global, parts: Vec<Part>) -> Main
-    ensures { main_view result ≡ parts_of (parts_view parts) }
+/// Sets what the parts say, of each the first.
+fn set_parts(tree: &mut SpecTree, parts: Vec<Part>)
+    ensures { text_seen tree.new ≡ put_parts (text_seen tree.old) (each part_view parts) }
 {
-    let mut main = no_main(alloc);
     let mut left = parts;
     while let Some(part) = left.pop() {
-        set_part(&mut main, part);
+        set_part(tree, part);
     }
-    main
 }
 
 /// The tree of a text in which no part is given twice.
 pub(crate) fn assemble(alloc: Global, written: Written) -> Result<SpecTree, AllocError>
-    ensures { IfOk result (λ tree. spec_view tree ≡ spec_of (written_view written)) }
+    ensures { IfOk result (λ tree. text_seen tree ≡ text_of (written_view written)) }
 {
-    let info = info(alloc, written.fields)?;
-    let definitions = definitions(alloc, written.blocks)?;
-    let main = main_of(alloc, written.parts);
-    let mut sections = Vec::new(alloc);
-    sections.push(main.initially)?;
-    sections.push(main.preset)?;
-    sections.push(main.require)?;
-    sections.push(main.assert)?;
-    sections.push(main.assume)?;
-    sections.push(main.guarantee)?;
-    Ok(SpecTree {
-        info,
-        definitions,
-        inputs: main.inputs,
-        outputs: main.outputs,
-        sections,
-    })
+    let mut tree = SpecTree {
+        info: info(alloc, written.fields)?,
+        definitions: definitions(alloc, written.blocks)?,
+        inputs: Vec::new(alloc),
+        outputs: Vec::new(alloc),
+        sections: no_formulas(alloc),
+    };
+    set_parts(&mut tree, written.parts);
+    Ok(tree)
 }

@@ -1,12 +1,13 @@
 // The descent for GLOBAL.
 
-ghost use Rattle.std.specs.Prelude.{◌≡◌, ◌<◌, ◌≤◌, length, OnOk, IfOk, IfSome};
-ghost use Rattle.tlsf_grammar.specs.Lexemes.{word_of};
-ghost use Rattle.tlsf_grammar.specs.TextReading.{guard_read, alternatives_read, body_read, function_read, definition_read, definitions_read, parameters_read, blocks_read};
+ghost use Rattle.std.specs.Prelude.{◌≡◌, ◌<◌, ◌≤◌, length, OnOk, IfOk, IfSome, option_map};
+ghost use Rattle.tlsf_syntax.specs.Lexemes.{word_of};
+ghost use Rattle.tlsf_syntax.specs.TextReading.{guard_read, alternatives_read, body_read, function_read, definition_read, definitions_read, parameters_read, blocks_read};
 ghost use Rattle.tlsf_reader.specs.Seen.{seen};
-ghost use Rattle.tlsf_reader.specs.TextView.{words_view, guard_view, alternatives_view, body_view, definition_view, definitions_view, blocks_view};
+ghost use Rattle.tlsf_syntax.specs.Seen.{body_seen, definition_seen, word_seen, expr_seen, alternative_seen};
 ghost use Rattle.tlsf_reader.specs.Descent.{IsRead};
 ghost use Rattle.tlsf_reader.specs.TextDescent.{enumeration_read, parameter_read, IsBlockRead};
+ghost use Rattle.tlsf_reader.specs.TextView.{each, block_view};
 
 use crate::ahead::Ahead;
 use crate::enumeration::members;
@@ -18,11 +19,12 @@ use crate::node;
 use crate::rest::Refusal;
 use crate::written::Block;
 use std::alloc::Global;
-use tlsf_tree::{Alternative, Body, Definition, Expr, Symbol, Word};
+use tlsf_syntax::{Alternative, Body, Definition, Expr, Word};
+use tlsf_tokens::Symbol;
 
 /// The guard of an alternative. `None` is `otherwise`.
 fn guard(alloc: Global, ahead: &mut Ahead<'_>) -> Result<Option<Expr>, Refusal>
-    ensures read { IsRead guard_view (λ d. guard_read d ahead.old) ahead.new result }
+    ensures read { IsRead (option_map expr_seen) (λ d. guard_read d ahead.old) ahead.new result }
     ensures shorter { OnOk result (length ahead.new < length ahead.old) }
 {
     if let Some(_) = ahead.next_if(Symbol::Otherwise) {
@@ -38,7 +40,7 @@ fn alternatives(
     ahead: &mut Ahead<'_>,
     first: Option<Expr>,
 ) -> Result<Vec<Alternative>, Refusal>
-    ensures read { IsRead alternatives_view (λ d. alternatives_read d (guard_view first) ahead.old) ahead.new result }
+    ensures read { IsRead (each alternative_seen) (λ d. alternatives_read d (option_map expr_seen first) ahead.old) ahead.new result }
     ensures shorter { OnOk result (length ahead.new < length ahead.old) }
 {
     let mut alternatives = Vec::new(alloc);
@@ -47,9 +49,7 @@ fn alternatives(
         let _ = ahead.expect(Symbol::Colon)?;
         let value = expression(alloc, ahead, true, Level::Releases)?;
         let alternative = Alternative { guard: next, value };
-        if alternatives.push(alternative).is_err() {
-            return Err(Refusal::NoMemory);
-        }
+        alternatives.push(alternative)?;
         if ahead.begins(Symbol::Semicolon) {
             return Ok(alternatives);
         }
@@ -59,7 +59,7 @@ fn alternatives(
 
 /// The body of a function: an expression, or alternatives with guards.
 fn body(alloc: Global, ahead: &mut Ahead<'_>) -> Result<Body, Refusal>
-    ensures read { IsRead body_view (λ d. body_read d ahead.old) ahead.new result }
+    ensures read { IsRead body_seen (λ d. body_read d ahead.old) ahead.new result }
     ensures shorter { OnOk result (length ahead.new < length ahead.old) }
 {
     if let Some(_) = ahead.next_if(Symbol::Otherwise) {
@@ -81,7 +81,7 @@ fn function(
     name: Lexeme<'_>,
     arguments: Vec<Word>,
 ) -> Result<Definition, Refusal>
-    ensures read { IsRead definition_view (λ d. function_read d (word_of (seen name.entry)) (words_view arguments) ahead.old) ahead.new result }
+    ensures read { IsRead definition_seen (λ d. function_read d (word_of (seen name.entry)) (each word_seen arguments) ahead.old) ahead.new result }
     ensures shorter { OnOk result (length ahead.new < length ahead.old) }
 {
     let _ = ahead.expect(Symbol::Assign)?;
@@ -97,7 +97,7 @@ fn function(
 
 /// What stands after the word `enum`.
 fn enumeration(alloc: Global, ahead: &mut Ahead<'_>) -> Result<Definition, Refusal>
-    ensures read { IsRead definition_view (λ d. enumeration_read d ahead.old) ahead.new result }
+    ensures read { IsRead definition_seen (λ d. enumeration_read d ahead.old) ahead.new result }
     ensures shorter { OnOk result (length ahead.new < length ahead.old) }
 {
     let name = ahead.expect(Symbol::Ident)?;
@@ -110,7 +110,7 @@ fn enumeration(alloc: Global, ahead: &mut Ahead<'_>) -> Result<Definition, Refus
 
 /// A function or an enumeration.
 fn definition(alloc: Global, ahead: &mut Ahead<'_>) -> Result<Definition, Refusal>
-    ensures read { IsRead definition_view (λ d. definition_read d ahead.old) ahead.new result }
+    ensures read { IsRead definition_seen (λ d. definition_read d ahead.old) ahead.new result }
     ensures shorter { OnOk result (length ahead.new < length ahead.old) }
 {
     if let Some(_) = ahead.next_if(Symbol::Enum) {
@@ -127,22 +127,20 @@ fn definition(alloc: Global, ahead: &mut Ahead<'_>) -> Result<Definition, Refusa
 
 /// The content of DEFINITIONS, up to its closing brace.
 fn definitions(alloc: Global, ahead: &mut Ahead<'_>) -> Result<Vec<Definition>, Refusal>
-    ensures read { IsRead definitions_view (λ d. definitions_read d ahead.old) ahead.new result }
+    ensures read { IsRead (each definition_seen) (λ d. definitions_read d ahead.old) ahead.new result }
     ensures shorter { OnOk result (length ahead.new ≤ length ahead.old) }
 {
     let mut definitions = Vec::new(alloc);
     while !ahead.begins(Symbol::CloseBrace) {
         let definition = definition(alloc, ahead)?;
-        if definitions.push(definition).is_err() {
-            return Err(Refusal::NoMemory);
-        }
+        definitions.push(definition)?;
     }
     Ok(definitions)
 }
 
 /// A parameter with its value.
 fn parameter(alloc: Global, ahead: &mut Ahead<'_>) -> Result<Definition, Refusal>
-    ensures read { IsRead definition_view (λ d. parameter_read d ahead.old) ahead.new result }
+    ensures read { IsRead definition_seen (λ d. parameter_read d ahead.old) ahead.new result }
     ensures shorter { OnOk result (length ahead.new < length ahead.old) }
 {
     let name = ahead.expect(Symbol::Ident)?;
@@ -155,15 +153,13 @@ fn parameter(alloc: Global, ahead: &mut Ahead<'_>) -> Result<Definition, Refusal
 
 /// The content of PARAMETERS, up to its closing brace.
 fn parameters(alloc: Global, ahead: &mut Ahead<'_>) -> Result<Vec<Definition>, Refusal>
-    ensures read { IsRead definitions_view (λ d. parameters_read d ahead.old) ahead.new result }
+    ensures read { IsRead (each definition_seen) (λ d. parameters_read d ahead.old) ahead.new result }
     ensures shorter { OnOk result (length ahead.new ≤ length ahead.old) }
 {
     let mut parameters = Vec::new(alloc);
     while !ahead.begins(Symbol::CloseBrace) {
         let parameter = parameter(alloc, ahead)?;
-        if parameters.push(parameter).is_err() {
-            return Err(Refusal::NoMemory);
-        }
+        parameters.push(parameter)?;
     }
     Ok(parameters)
 }
@@ -191,14 +187,12 @@ fn block(alloc: Global, ahead: &mut Ahead<'_>) -> Result<Option<Block>, Refusal>
 
 /// The parts of GLOBAL.
 pub(crate) fn blocks(alloc: Global, ahead: &mut Ahead<'_>) -> Result<Vec<Block>, Refusal>
-    ensures read { IsRead blocks_view (λ d. blocks_read d ahead.old) ahead.new result }
+    ensures read { IsRead (each block_view) (λ d. blocks_read d ahead.old) ahead.new result }
     ensures shorter { OnOk result (length ahead.new ≤ length ahead.old) }
 {
     let mut blocks = Vec::new(alloc);
     while let Some(block) = block(alloc, ahead)? {
-        if blocks.push(block).is_err() {
-            return Err(Refusal::NoMemory);
-        }
+        blocks.push(block)?;
     }
     Ok(blocks)
 }

@@ -1,21 +1,22 @@
 // The descent for enumerations.
 
-ghost use Rattle.std.specs.Prelude.{◌≡◌, ◌==◌, ◌&&◌, ◌||◌, ◌<◌, ◌≤◌, length, map, true, OnOk, IfErr, IfSome};
+ghost use Rattle.std.specs.Prelude.{◌≡◌, ◌==◌, ◌&&◌, ◌||◌, ◌<◌, ◌≤◌, length, map, true, OnOk, IfSome};
 ghost use Rattle.std.specs.Option.{is_some};
-ghost use Rattle.tlsf_grammar.specs.Texts.{bits_of, digits_bits};
-ghost use Rattle.tlsf_grammar.specs.TextReading.{pattern_read, patterns_read, begins_member, members_read};
-ghost use Rattle.tlsf_reader.specs.declared.rest.Refusal.TheVariants.{NoMemory};
+ghost use Rattle.tlsf_syntax.specs.Texts.{bits_of, digits_bits};
+ghost use Rattle.tlsf_syntax.specs.TextReading.{pattern_read, patterns_read, begins_member, members_read};
 ghost use Rattle.tlsf_reader.specs.Seen.{seen};
-ghost use Rattle.tlsf_reader.specs.TextView.{pattern_view, patterns_view, members_view};
+ghost use Rattle.tlsf_syntax.specs.Seen.{pattern_seen, member_seen};
 ghost use Rattle.tlsf_reader.specs.Descent.{IsRead};
 ghost use Rattle.tlsf_reader.specs.TextDescent.{IsBits, IsMoreOfValue, AreAppended};
+ghost use Rattle.tlsf_reader.specs.TextView.{each};
 
 use crate::ahead::Ahead;
 use crate::lexeme::Lexeme;
 use crate::node;
-use crate::rest::{Refusal, same};
-use std::alloc::Global;
-use tlsf_tree::{Member, Pattern, Span, Symbol};
+use crate::rest::Refusal;
+use std::alloc::{AllocError, Global};
+use tlsf_syntax::{Member, Pattern, Span};
+use tlsf_tokens::Symbol;
 
 /// Whether a byte is the digit 0 or 1.
 fn is_bit(digit: u8) -> bool
@@ -48,30 +49,23 @@ fn is_value(lexeme: Lexeme<'_>) -> bool
 }
 
 /// Appends the bits of digits 0 and 1.
-fn append_digits(bits: &mut Vec<Option<bool>>, digits: &[u8]) -> Result<(), Refusal>
+fn append_digits(bits: &mut Vec<Option<bool>>, digits: &[u8]) -> Result<(), AllocError>
     requires { is_some (digits_bits digits.now) ≡ true }
-    ensures bits { OnOk result (AreAppended (digits_bits digits.now) bits.old.items bits.new.items) }
-    ensures no_memory { IfErr result (λ e. e ≡ NoMemory) }
+    ensures { OnOk result (AreAppended (digits_bits digits.now) bits.old.items bits.new.items) }
 {
     for digit in digits {
-        if bits.push(Some(*digit == b'1')).is_err() {
-            return Err(Refusal::NoMemory);
-        }
+        bits.push(Some(*digit == b'1'))?;
     }
     Ok(())
 }
 
 /// Appends the bits of a lexeme of a value, its leftmost character first.
-fn append_bits(bits: &mut Vec<Option<bool>>, lexeme: Lexeme<'_>) -> Result<(), Refusal>
+fn append_bits(bits: &mut Vec<Option<bool>>, lexeme: Lexeme<'_>) -> Result<(), AllocError>
     requires { is_some (bits_of lexeme.symbol lexeme.text.now) ≡ true }
-    ensures bits { OnOk result (AreAppended (bits_of lexeme.entry.symbol lexeme.entry.text.now) bits.old.items bits.new.items) }
-    ensures no_memory { IfErr result (λ e. e ≡ NoMemory) }
+    ensures { OnOk result (AreAppended (bits_of lexeme.entry.symbol lexeme.entry.text.now) bits.old.items bits.new.items) }
 {
     match lexeme.symbol {
-        Symbol::Star => match bits.push(None) {
-            Ok(()) => Ok(()),
-            Err(_) => Err(Refusal::NoMemory),
-        },
+        Symbol::Star => Ok(bits.push(None)?),
         _ => append_digits(bits, lexeme.text),
     }
 }
@@ -118,7 +112,7 @@ fn more_of_value<'a>(ahead: &mut Ahead<'a>, end: u64) -> Option<Lexeme<'a>>
 
 /// A value: numbers of digits 0 and 1 and `*` that stand together without a gap.
 fn pattern(alloc: Global, ahead: &mut Ahead<'_>) -> Result<Pattern, Refusal>
-    ensures read { IsRead pattern_view (λ d. pattern_read d ahead.old) ahead.new result }
+    ensures read { IsRead pattern_seen (λ d. pattern_read d ahead.old) ahead.new result }
     ensures shorter { OnOk result (length ahead.new < length ahead.old) }
 {
     let first = expect_value(ahead)?;
@@ -140,15 +134,13 @@ fn pattern(alloc: Global, ahead: &mut Ahead<'_>) -> Result<Pattern, Refusal>
 
 /// One or more values with commas between.
 fn patterns(alloc: Global, ahead: &mut Ahead<'_>) -> Result<Vec<Pattern>, Refusal>
-    ensures read { IsRead patterns_view (λ d. patterns_read d ahead.old) ahead.new result }
+    ensures read { IsRead (each pattern_seen) (λ d. patterns_read d ahead.old) ahead.new result }
     ensures shorter { OnOk result (length ahead.new < length ahead.old) }
 {
     let mut patterns = Vec::new(alloc);
     loop {
         let pattern = pattern(alloc, ahead)?;
-        if patterns.push(pattern).is_err() {
-            return Err(Refusal::NoMemory);
-        }
+        patterns.push(pattern)?;
         let Some(_) = ahead.next_if(Symbol::Comma) else {
             return Ok(patterns);
         };
@@ -160,15 +152,14 @@ fn begins_member(front: &[Lexeme<'_>]) -> bool
     ensures { result ≡ begins_member (map seen front.now) }
 {
     match front {
-        [first, second, ..] => same(first.symbol, Symbol::Ident)
-            && same(second.symbol, Symbol::Colon),
+        [first, second, ..] => first.symbol == Symbol::Ident && second.symbol == Symbol::Colon,
         _ => false,
     }
 }
 
 /// One or more members of an enumeration.
 pub(crate) fn members(alloc: Global, ahead: &mut Ahead<'_>) -> Result<Vec<Member>, Refusal>
-    ensures read { IsRead members_view (λ d. members_read d ahead.old) ahead.new result }
+    ensures read { IsRead (each member_seen) (λ d. members_read d ahead.old) ahead.new result }
     ensures shorter { OnOk result (length ahead.new < length ahead.old) }
 {
     let mut members = Vec::new(alloc);
@@ -177,9 +168,7 @@ pub(crate) fn members(alloc: Global, ahead: &mut Ahead<'_>) -> Result<Vec<Member
         let _ = ahead.expect(Symbol::Colon)?;
         let values = patterns(alloc, ahead)?;
         let word = node::word(alloc, name)?;
-        if members.push(Member { word, values }).is_err() {
-            return Err(Refusal::NoMemory);
-        }
+        members.push(Member { word, values })?;
         if !begins_member(ahead.front()) {
             return Ok(members);
         }

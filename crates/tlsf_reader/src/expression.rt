@@ -1,13 +1,13 @@
 // The descent for expressions: one token of look-ahead, a call for each nested form, a loop over levels and chains.
 
 ghost use Rattle.std.specs.Prelude.{◌≡◌, ◌<◌, ◌≤◌, ◌⊎◌, List, [], ◌∷◌, length, map, Some, OnOk};
-ghost use Rattle.tlsf_grammar.specs.Lexemes.{Lexeme as GrammarLexeme};
-ghost use Rattle.tlsf_grammar.specs.Expressions.{releases, prefixes, memberships, primary as primary_level, tighter_of, joins_of};
-ghost use Rattle.tlsf_grammar.specs.Reading.{taken, go_on, joined, level_number, operator_here, readers, chain_of, word_with, set_with, set_third, close_set, prefixed, primary_with, prefix_with, counted, windowed, big_with};
+ghost use Rattle.tlsf_syntax.specs.Lexemes.{Lexeme as GrammarLexeme};
+ghost use Rattle.tlsf_syntax.specs.Expressions.{prefixes, tighter_of, joins_of};
+ghost use Rattle.tlsf_syntax.specs.Reading.{taken, go_on, joined, level_number, operator_here, readers, chain_of, word_with, set_with, set_third, close_set, prefixed, primary_with, counted, windowed, big_with};
 ghost use Rattle.tlsf_reader.specs.Levels.{level_of};
 ghost use Rattle.tlsf_reader.specs.Seen.{seen};
-ghost use Rattle.tlsf_reader.specs.View.{tree_of, trees_of, range_of, ranges_of};
-ghost use Rattle.tlsf_reader.specs.Descent.{Eventually, IsRead, IsRangeRead, extended_by, grouped_with, view_list, view_ranges};
+ghost use Rattle.tlsf_syntax.specs.Seen.{expr_seen, trees_seen};
+ghost use Rattle.tlsf_reader.specs.Descent.{Eventually, IsRead, IsRangeRead, extended_by, grouped_with, list_seen, ranges_seen};
 
 use crate::ahead::{Ahead, SignKind};
 use crate::level::{Joins, Level};
@@ -15,7 +15,8 @@ use crate::lexeme::Lexeme;
 use crate::node;
 use crate::rest::Refusal;
 use std::alloc::Global;
-use tlsf_tree::{Expr, Link, Op, Range, Symbol};
+use tlsf_syntax::{Expr, Link, Op, Range};
+use tlsf_tokens::Symbol;
 
 /// An expression of this level. Where `ends`, another expression may follow, which the sign of a big operator begins.
 /// It takes time and memory in proportion to what it reads; it goes as deep as that is nested.
@@ -26,7 +27,7 @@ pub(crate) fn expression(
     ends: bool,
     level: Level,
 ) -> Result<Expr, Refusal>
-    ensures read { IsRead tree_of (λ d. (readers d).level ends (level_of level) ahead.old) ahead.new result }
+    ensures read { IsRead expr_seen (λ d. (readers d).level ends (level_of level) ahead.old) ahead.new result }
     ensures shorter { OnOk result (length ahead.new < length ahead.old) }
 {
     if level.rank() < Level::Prefixes.rank() {
@@ -49,7 +50,7 @@ fn climb(
 ) -> Result<Expr, Refusal>
     requires up { level_number (level_of from) ≤ level_number (level_of to) }
     requires no_sign { (level_number (level_of to) < 9) ⊎ (9 ≤ level_number (level_of from)) }
-    ensures read { (ls : List GrammarLexeme) → Eventually (λ d. (readers d).level ends (level_of from) ls) (taken (tree_of operand) ahead.old) → IsRead tree_of (λ d. (readers d).level ends (level_of to) ls) ahead.new result }
+    ensures read { (ls : List GrammarLexeme) → Eventually (λ d. (readers d).level ends (level_of from) ls) (taken (expr_seen operand) ahead.old) → IsRead expr_seen (λ d. (readers d).level ends (level_of to) ls) ahead.new result }
     ensures shorter { OnOk result (length ahead.new ≤ length ahead.old) }
 {
     let mut tree = operand;
@@ -72,7 +73,7 @@ fn extended(
     tree: Expr,
 ) -> Result<Expr, Refusal>
     requires { tighter_of (level_of level) ≡ Some (level_of tighter) }
-    ensures read { IsRead tree_of (λ d. extended_by (readers d) ends (level_of level) (level_of tighter) (joins_of (level_of level)) (tree_of tree) ahead.old) ahead.new result }
+    ensures read { IsRead expr_seen (λ d. extended_by (readers d) ends (level_of level) (level_of tighter) (joins_of (level_of level)) (expr_seen tree) ahead.old) ahead.new result }
     ensures shorter { OnOk result (length ahead.new ≤ length ahead.old) }
 {
     match level.joins() {
@@ -94,7 +95,7 @@ fn chain(
     first: Expr,
 ) -> Result<Expr, Refusal>
     requires { tighter_of (level_of level) ≡ Some (level_of tighter) }
-    ensures read { IsRead tree_of (λ d. go_on ((readers d).links ends (level_of level) ahead.old) (λ more after. taken (chain_of (tree_of first) more) after)) ahead.new result }
+    ensures read { IsRead expr_seen (λ d. go_on ((readers d).links ends (level_of level) ahead.old) (λ more after. taken (chain_of (expr_seen first) more) after)) ahead.new result }
     ensures shorter { OnOk result (length ahead.new ≤ length ahead.old) }
 {
     let mut rest = Vec::new(alloc);
@@ -102,9 +103,7 @@ fn chain(
     while let Some(op) = ahead.operator(ends, level) {
         let right = expression(alloc, ahead, ends, tighter)?;
         end = node::span(&right).end;
-        if rest.push(Link { op, right }).is_err() {
-            return Err(Refusal::NoMemory);
-        }
+        rest.push(Link { op, right })?;
     }
     node::chain(alloc, first, rest, end)
 }
@@ -119,7 +118,7 @@ fn pair(
     operand: Level,
     left: Expr,
 ) -> Result<Expr, Refusal>
-    ensures read { IsRead tree_of (λ d. joined (operator_here ends (level_of level) ahead.old) (tree_of left) ahead.old ((readers d).level ends (level_of operand))) ahead.new result }
+    ensures read { IsRead expr_seen (λ d. joined (operator_here ends (level_of level) ahead.old) (expr_seen left) ahead.old ((readers d).level ends (level_of operand))) ahead.new result }
     ensures shorter { OnOk result (length ahead.new ≤ length ahead.old) }
 {
     let Some(op) = ahead.operator(ends, level) else {
@@ -132,7 +131,7 @@ fn pair(
 /// An operand with the signs before it.
 #[cycle(expression)]
 fn signed(alloc: Global, ahead: &mut Ahead<'_>, ends: bool) -> Result<Expr, Refusal>
-    ensures read { IsRead tree_of (λ d. (readers d).level ends prefixes ahead.old) ahead.new result }
+    ensures read { IsRead expr_seen (λ d. (readers d).level ends prefixes ahead.old) ahead.new result }
     ensures shorter { OnOk result (length ahead.new < length ahead.old) }
 {
     let Some(sign) = ahead.sign() else {
@@ -157,7 +156,7 @@ fn prefixed(
     op: Op,
     start: u64,
 ) -> Result<Expr, Refusal>
-    ensures read { (l : GrammarLexeme) → l.start ≡ start → IsRead tree_of (λ d. prefixed (readers d) ends op l ahead.old) ahead.new result }
+    ensures read { (l : GrammarLexeme) → l.start ≡ start → IsRead expr_seen (λ d. prefixed (readers d) ends op l ahead.old) ahead.new result }
     ensures shorter { OnOk result (length ahead.new < length ahead.old) }
 {
     let part = expression(alloc, ahead, ends, Level::Prefixes)?;
@@ -167,7 +166,7 @@ fn prefixed(
 /// A number of steps in its bracket, and the operand.
 #[cycle(expression)]
 fn counted(alloc: Global, ahead: &mut Ahead<'_>, ends: bool, start: u64) -> Result<Expr, Refusal>
-    ensures read { (l : GrammarLexeme) → l.start ≡ start → IsRead tree_of (λ d. counted (readers d) ends l ahead.old) ahead.new result }
+    ensures read { (l : GrammarLexeme) → l.start ≡ start → IsRead expr_seen (λ d. counted (readers d) ends l ahead.old) ahead.new result }
     ensures shorter { OnOk result (length ahead.new < length ahead.old) }
 {
     let count = expression(alloc, ahead, false, Level::Releases)?;
@@ -185,7 +184,7 @@ fn windowed(
     op: Op,
     start: u64,
 ) -> Result<Expr, Refusal>
-    ensures read { (l : GrammarLexeme) → l.start ≡ start → IsRead tree_of (λ d. windowed (readers d) ends op l ahead.old) ahead.new result }
+    ensures read { (l : GrammarLexeme) → l.start ≡ start → IsRead expr_seen (λ d. windowed (readers d) ends op l ahead.old) ahead.new result }
     ensures shorter { OnOk result (length ahead.new < length ahead.old) }
 {
     let from = expression(alloc, ahead, false, Level::Releases)?;
@@ -205,7 +204,7 @@ fn big(
     op: Op,
     start: u64,
 ) -> Result<Expr, Refusal>
-    ensures read { (l : GrammarLexeme) → l.start ≡ start → IsRead tree_of (λ d. big_with (readers d) ends op l ahead.old) ahead.new result }
+    ensures read { (l : GrammarLexeme) → l.start ≡ start → IsRead expr_seen (λ d. big_with (readers d) ends op l ahead.old) ahead.new result }
     ensures shorter { OnOk result (length ahead.new < length ahead.old) }
 {
     let _ = ahead.expect(Symbol::OpenBracket)?;
@@ -218,15 +217,13 @@ fn big(
 /// One or more ranges with commas between.
 #[cycle(expression)]
 fn ranges(alloc: Global, ahead: &mut Ahead<'_>) -> Result<Vec<Range>, Refusal>
-    ensures read { IsRead view_ranges (λ d. (readers d).ranges ahead.old) ahead.new result }
+    ensures read { IsRead ranges_seen (λ d. (readers d).ranges ahead.old) ahead.new result }
     ensures shorter { OnOk result (length ahead.new < length ahead.old) }
 {
     let mut ranges = Vec::new(alloc);
     loop {
         let range = range(alloc, ahead)?;
-        if ranges.push(range).is_err() {
-            return Err(Refusal::NoMemory);
-        }
+        ranges.push(range)?;
         let Some(_) = ahead.next_if(Symbol::Comma) else {
             return Ok(ranges);
         };
@@ -254,7 +251,7 @@ fn range(alloc: Global, ahead: &mut Ahead<'_>) -> Result<Range, Refusal>
 /// A primary expression.
 #[cycle(expression)]
 fn primary(alloc: Global, ahead: &mut Ahead<'_>) -> Result<Expr, Refusal>
-    ensures read { IsRead tree_of (λ d. primary_with (readers d) ahead.old) ahead.new result }
+    ensures read { IsRead expr_seen (λ d. primary_with (readers d) ahead.old) ahead.new result }
     ensures shorter { OnOk result (length ahead.new < length ahead.old) }
 {
     let refusal = ahead.refusal();
@@ -279,7 +276,7 @@ fn primary(alloc: Global, ahead: &mut Ahead<'_>) -> Result<Expr, Refusal>
 /// What stands after an opening parenthesis.
 #[cycle(expression)]
 fn grouped(alloc: Global, ahead: &mut Ahead<'_>, first: Lexeme<'_>) -> Result<Expr, Refusal>
-    ensures read { IsRead tree_of (λ d. grouped_with (readers d) (seen first.entry) ahead.old) ahead.new result }
+    ensures read { IsRead expr_seen (λ d. grouped_with (readers d) (seen first.entry) ahead.old) ahead.new result }
     ensures shorter { OnOk result (length ahead.new ≤ length ahead.old) }
 {
     let inner = expression(alloc, ahead, false, Level::Releases)?;
@@ -290,7 +287,7 @@ fn grouped(alloc: Global, ahead: &mut Ahead<'_>, first: Lexeme<'_>) -> Result<Ex
 /// A name, with its arguments or its index.
 #[cycle(expression)]
 fn word(alloc: Global, ahead: &mut Ahead<'_>, first: Lexeme<'_>) -> Result<Expr, Refusal>
-    ensures read { IsRead tree_of (λ d. word_with (readers d) (seen first.entry) ahead.old) ahead.new result }
+    ensures read { IsRead expr_seen (λ d. word_with (readers d) (seen first.entry) ahead.old) ahead.new result }
     ensures shorter { OnOk result (length ahead.new ≤ length ahead.old) }
 {
     if let Some(_) = ahead.next_if(Symbol::OpenParen) {
@@ -309,7 +306,7 @@ fn word(alloc: Global, ahead: &mut Ahead<'_>, first: Lexeme<'_>) -> Result<Expr,
 /// What stands after an opening brace.
 #[cycle(expression)]
 fn set(alloc: Global, ahead: &mut Ahead<'_>, first: Lexeme<'_>) -> Result<Expr, Refusal>
-    ensures read { IsRead tree_of (λ d. set_with (readers d) (seen first.entry) ahead.old) ahead.new result }
+    ensures read { IsRead expr_seen (λ d. set_with (readers d) (seen first.entry) ahead.old) ahead.new result }
     ensures shorter { OnOk result (length ahead.new ≤ length ahead.old) }
 {
     if let Some(last) = ahead.next_if(Symbol::CloseBrace) {
@@ -333,7 +330,7 @@ fn longer_set(
     one: Expr,
     two: Expr,
 ) -> Result<Expr, Refusal>
-    ensures read { IsRead tree_of (λ d. set_third (readers d) (seen first.entry) (tree_of one) (tree_of two) ahead.old) ahead.new result }
+    ensures read { IsRead expr_seen (λ d. set_third (readers d) (seen first.entry) (expr_seen one) (expr_seen two) ahead.old) ahead.new result }
     ensures shorter { OnOk result (length ahead.new ≤ length ahead.old) }
 {
     if let Some(_) = ahead.next_if(Symbol::Dots) {
@@ -352,7 +349,7 @@ fn longer_set(
 
 /// The closing brace of a set with these members.
 fn close_set(ahead: &mut Ahead<'_>, first: Lexeme<'_>, members: Vec<Expr>) -> Result<Expr, Refusal>
-    ensures read { IsRead tree_of (λ _. close_set (seen first.entry) (trees_of (map tree_of members.items)) ahead.old) ahead.new result }
+    ensures read { IsRead expr_seen (λ _. close_set (seen first.entry) (trees_seen members.items) ahead.old) ahead.new result }
     ensures shorter { OnOk result (length ahead.new < length ahead.old) }
 {
     let last = ahead.expect(Symbol::CloseBrace)?;
@@ -362,15 +359,13 @@ fn close_set(ahead: &mut Ahead<'_>, first: Lexeme<'_>, members: Vec<Expr>) -> Re
 /// One or more expressions with commas between.
 #[cycle(expression)]
 pub(crate) fn expressions(alloc: Global, ahead: &mut Ahead<'_>) -> Result<Vec<Expr>, Refusal>
-    ensures read { IsRead view_list (λ d. (readers d).list ahead.old) ahead.new result }
+    ensures read { IsRead list_seen (λ d. (readers d).list ahead.old) ahead.new result }
     ensures shorter { OnOk result (length ahead.new < length ahead.old) }
 {
     let mut list = Vec::new(alloc);
     loop {
         let tree = expression(alloc, ahead, false, Level::Releases)?;
-        if list.push(tree).is_err() {
-            return Err(Refusal::NoMemory);
-        }
+        list.push(tree)?;
         let Some(_) = ahead.next_if(Symbol::Comma) else {
             return Ok(list);
         };

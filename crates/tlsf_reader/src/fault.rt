@@ -4,10 +4,10 @@ ghost use Rattle.std.specs.Prelude.{◌≡◌};
 ghost use Rattle.tlsf_reader.specs.Places.{earlier};
 ghost use Rattle.tlsf_reader.specs.Known.{fault_at};
 
-use tlsf_tokens::{SpecCode, SpecFault};
+use spec_faults::{SpecCode, SpecFault};
 
 /// A fault of a text, at this byte.
-#[derive(Clone, Copy, Debug, PartialEq, Eq)]
+#[derive(Clone, Copy)]
 pub(crate) struct Fault {
     pub code: SpecCode,
     pub place: u64,
@@ -15,7 +15,7 @@ pub(crate) struct Fault {
 
 impl From<Fault> for SpecFault {
     ghost use Rattle.std.specs.Prelude.{◌≡◌};
-    ghost use Rattle.tlsf_tokens.specs.declared.code.SpecFault.TheVariants.{At};
+    ghost use Rattle.spec_faults.specs.declared.code.SpecFault.TheVariants.{At};
 
     ghost from_gives = { λ found fault. fault ≡ At found.code found.place };
 

@@ -8,14 +8,14 @@ ghost use Rattle.tlsf_reader.specs.Places.{FiniteAt};
 
 use crate::least::least;
 use crate::lexeme::Lexeme;
-use crate::rest::{begins, same};
-use tlsf_tree::Symbol;
+use crate::rest::begins;
+use tlsf_tokens::Symbol;
 
 /// Whether a lexeme is the name `Finite`.
 fn is_finite_word(lexeme: Lexeme<'_>) -> bool
     ensures { result ≡ is_finite (seen lexeme.entry) }
 {
-    same(lexeme.symbol, Symbol::Ident) && lexeme.text == b"Finite".as_slice()
+    lexeme.symbol == Symbol::Ident && lexeme.text == b"Finite".as_slice()
 }
 
 /// The first byte of the first word of a value that stands in front behind its field's word, where it is `Finite`.
@@ -24,7 +24,7 @@ fn first_word(front: &[Lexeme<'_>]) -> Option<u64>
 {
     match front {
         [_, colon, word, ..] => {
-            if same(colon.symbol, Symbol::Colon) && is_finite_word(*word) {
+            if colon.symbol == Symbol::Colon && is_finite_word(*word) {
                 Some(word.start)
             } else {
                 None
@@ -40,8 +40,8 @@ fn second_word(front: &[Lexeme<'_>]) -> Option<u64>
 {
     match front {
         [_, colon, _, comma, word, ..] => {
-            if same(colon.symbol, Symbol::Colon)
-                && same(comma.symbol, Symbol::Comma)
+            if colon.symbol == Symbol::Colon
+                && comma.symbol == Symbol::Comma
                 && is_finite_word(*word)
             {
                 Some(word.start)

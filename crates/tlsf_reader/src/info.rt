@@ -1,35 +1,35 @@
 // The descent for INFO.
 
 ghost use Rattle.std.specs.Prelude.{◌≡◌, ◌<◌, ◌≤◌, length, OnOk};
-ghost use Rattle.tlsf_grammar.specs.Texts.{unquoted};
-ghost use Rattle.tlsf_grammar.specs.TextReading.{names_read, is_strict, kind_of, semantics_read, target_read, tags_read, fields_read};
+ghost use Rattle.tlsf_syntax.specs.Texts.{unquoted};
+ghost use Rattle.tlsf_syntax.specs.TextReading.{names_read, is_strict, kind_of, semantics_read, target_read, tags_read, fields_read};
 ghost use Rattle.tlsf_reader.specs.Seen.{seen};
-ghost use Rattle.tlsf_reader.specs.TextView.{words_view, field_view, fields_view};
+ghost use Rattle.tlsf_reader.specs.TextView.{field_view, each};
 ghost use Rattle.tlsf_reader.specs.Descent.{IsRead, IsBuilt};
 ghost use Rattle.tlsf_reader.specs.TextDescent.{IsKindWord, IsStrictPassed, field_at};
+ghost use Rattle.tlsf_syntax.specs.Seen.{word_seen};
 
 use crate::ahead::Ahead;
 use crate::lexeme::Lexeme;
 use crate::node;
-use crate::rest::{Refusal, same};
+use crate::rest::Refusal;
 use crate::written::Field;
 use letter_word::Kind;
 use std::alloc::Global;
 use text_base::Name;
-use tlsf_tree::{Symbol, Word};
+use tlsf_syntax::Word;
+use tlsf_tokens::Symbol;
 
 /// One or more names with commas between.
 pub(crate) fn names(alloc: Global, ahead: &mut Ahead<'_>) -> Result<Vec<Word>, Refusal>
-    ensures read { IsRead words_view (λ d. names_read d ahead.old) ahead.new result }
+    ensures read { IsRead (each word_seen) (λ d. names_read d ahead.old) ahead.new result }
     ensures shorter { OnOk result (length ahead.new < length ahead.old) }
 {
     let mut names = Vec::new(alloc);
     loop {
         let name = ahead.expect(Symbol::Ident)?;
         let word = node::word(alloc, name)?;
-        if names.push(word).is_err() {
-            return Err(Refusal::NoMemory);
-        }
+        names.push(word)?;
         let Some(_) = ahead.next_if(Symbol::Comma) else {
             return Ok(names);
         };
@@ -40,7 +40,7 @@ pub(crate) fn names(alloc: Global, ahead: &mut Ahead<'_>) -> Result<Vec<Word>, R
 fn kind(lexeme: Lexeme<'_>) -> Option<Kind>
     ensures { result ≡ kind_of (seen lexeme.entry) }
 {
-    if !same(lexeme.symbol, Symbol::Ident) {
+    if lexeme.symbol != Symbol::Ident {
         return None;
     }
     if lexeme.text == b"Mealy".as_slice() {
@@ -56,11 +56,11 @@ fn kind(lexeme: Lexeme<'_>) -> Option<Kind>
 fn is_strict(lexeme: Lexeme<'_>) -> bool
     ensures { result ≡ is_strict (seen lexeme.entry) }
 {
-    same(lexeme.symbol, Symbol::Ident) && lexeme.text == b"Strict".as_slice()
+    lexeme.symbol == Symbol::Ident && lexeme.text == b"Strict".as_slice()
 }
 
 /// A word that names a kind, with its first byte.
-#[derive(Clone, Copy, Debug)]
+#[derive(Clone, Copy)]
 struct KindWord {
     kind: Kind,
     at: u64,
@@ -164,10 +164,7 @@ fn unquoted(alloc: Global, text: &[u8]) -> Result<Name, Refusal>
         [_, inside @ .., _] => inside,
         _ => b"".as_slice(),
     };
-    match Name::new(alloc, inside) {
-        Ok(name) => Ok(name),
-        Err(_) => Err(Refusal::NoMemory),
-    }
+    Ok(Name::new(alloc, inside)?)
 }
 
 /// A field of INFO.
@@ -210,15 +207,13 @@ fn field(alloc: Global, ahead: &mut Ahead<'_>) -> Result<Field, Refusal>
 
 /// The fields of INFO, up to its closing brace.
 pub(crate) fn fields(alloc: Global, ahead: &mut Ahead<'_>) -> Result<Vec<Field>, Refusal>
-    ensures read { IsRead fields_view (λ d. fields_read d ahead.old) ahead.new result }
+    ensures read { IsRead (each field_view) (λ d. fields_read d ahead.old) ahead.new result }
     ensures shorter { OnOk result (length ahead.new ≤ length ahead.old) }
 {
     let mut fields = Vec::new(alloc);
     while !ahead.begins(Symbol::CloseBrace) {
         let field = field(alloc, ahead)?;
-        if fields.push(field).is_err() {
-            return Err(Refusal::NoMemory);
-        }
+        fields.push(field)?;
     }
     Ok(fields)
 }

@@ -2,14 +2,15 @@
 
 ghost use Rattle.std.specs.Prelude.{◌≡◌, ◌≤◌, ◌+◌, option_map, Some, IfSome, IfNone};
 ghost use Rattle.tlsf_reader.specs.declared.level.Level.TheVariants.{Releases};
-ghost use Rattle.tlsf_grammar.specs.Expressions.{tighter_of, joins_of, operator_of, big_of, bound_of};
-ghost use Rattle.tlsf_grammar.specs.Reading.{level_number};
+ghost use Rattle.tlsf_syntax.specs.Expressions.{tighter_of, joins_of, operator_of, big_of, bound_of};
+ghost use Rattle.tlsf_syntax.specs.Reading.{level_number};
 ghost use Rattle.tlsf_reader.specs.Levels.{level_of, joins_as, level_and_operator};
 
-use tlsf_tree::{Op, Symbol};
+use tlsf_syntax::Op;
+use tlsf_tokens::Symbol;
 
 /// The levels of expressions, from the tightest to the loosest.
-#[derive(Clone, Copy, Debug, PartialEq, Eq, PartialOrd, Ord)]
+#[derive(Clone, Copy)]
 pub(crate) enum Level {
     Primary,
     Products,
@@ -30,7 +31,7 @@ pub(crate) enum Level {
 }
 
 /// How the operators of a level join their operands.
-#[derive(Clone, Copy, Debug, PartialEq, Eq)]
+#[derive(Clone, Copy)]
 pub(crate) enum Joins {
     /// Any number, to the left, in one node.
     Left,

@@ -1,20 +1,15 @@
 // A text as the grammar sees it.
 
-ghost use Rattle.std.specs.Prelude.{◌≡◌, ◌≤◌, map, length, slice_range, Some, IfOk};
-ghost use Rattle.tlsf_tokens.specs.Pieces.{piece_of};
-ghost use Rattle.tlsf_tokens.specs.declared.token.Piece.TheVariants.{Token as TokenPiece};
-ghost use Rattle.tlsf_tokens.specs.Cuts.{AreFormed, IsInOrder};
-ghost use Rattle.tlsf_reader.specs.Symbols.{symbol_of, lexeme_from, lexemes_of};
+ghost use Rattle.std.specs.Prelude.{◌≡◌, All, map, IfOk};
 ghost use Rattle.tlsf_reader.specs.Seen.{seen};
-ghost use Rattle.tlsf_reader.specs.Lexed.{IsLexed};
+ghost use Rattle.tlsf_reader.specs.Lexed.{IsLexed, IsTokenOf, lexeme_from};
 
-use crate::symbols::symbol;
+use spec_faults::SpecCode;
 use std::alloc::{AllocError, Global};
-use tlsf_tokens::{SpecCode, Token, tokens};
-use tlsf_tree::Symbol;
+use tlsf_tokens::{Symbol, Token, tokens};
 
-/// A token with its symbol and its text.
-#[derive(Clone, Copy, Debug)]
+/// A token with its text.
+#[derive(Clone, Copy)]
 pub(crate) struct Lexeme<'a> {
     pub symbol: Symbol,
     pub text: &'a [u8],
@@ -22,30 +17,13 @@ pub(crate) struct Lexeme<'a> {
     pub end: u64,
 }
 
-/// The symbol of a token, which each token has.
-fn symbol_at(text: &[u8], token: Token) -> Symbol
-    requires formed { piece_of (slice_range text.now token.start token.end) ≡ Some (TokenPiece token.kind) }
-    requires order { token.start ≤ token.end }
-    requires within { token.end ≤ length text.now }
-    ensures { symbol_of token.kind (slice_range text.now token.start token.end) ≡ Some result }
-{
-    match symbol(token.kind, &text[token.start as usize..token.end as usize]) {
-        Some(symbol) => symbol,
-        None => unreachable!(),
-    }
-}
-
 /// What the grammar sees of a token.
 fn lexeme_at(text: &[u8], token: Token) -> Lexeme<'_>
-    requires formed { piece_of (slice_range text.now token.start token.end) ≡ Some (TokenPiece token.kind) }
-    requires order { token.start ≤ token.end }
-    requires within { token.end ≤ length text.now }
-    ensures symbol { symbol_of token.kind (slice_range text.now token.start token.end) ≡ Some result.symbol }
-    ensures value { seen result ≡ lexeme_from text.now token result.symbol }
+    requires { IsTokenOf text.now token }
+    ensures { seen result ≡ lexeme_from text.now token }
 {
-    let symbol = symbol_at(text, token);
     Lexeme {
-        symbol,
+        symbol: token.symbol,
         text: &text[token.start as usize..token.end as usize],
         start: token.start,
         end: token.end,
@@ -58,9 +36,8 @@ fn lexemes<'a>(
     text: &'a [u8],
     tokens: &[Token],
 ) -> Result<Vec<Lexeme<'a>>, AllocError>
-    requires formed { AreFormed text.now tokens.now }
-    requires in_order { IsInOrder 0 tokens.now (length text.now) }
-    ensures { IfOk result (λ list. lexemes_of text.now tokens.now ≡ Some (map seen list.items)) }
+    requires { All (IsTokenOf text.now) tokens.now }
+    ensures { IfOk result (λ list. map seen list.items ≡ map (lexeme_from text.now) tokens.now) }
 {
     let mut list = Vec::new(alloc);
     for token in tokens {
@@ -70,7 +47,7 @@ fn lexemes<'a>(
 }
 
 /// The lexemes of a text, up to where its tokens stop.
-#[derive(Debug, Drop)]
+#[derive(Drop)]
 pub(crate) struct Lexed<'a> {
     pub lexemes: Vec<Lexeme<'a>>,
     /// Why the tokens stop, where they don't reach the text's end.

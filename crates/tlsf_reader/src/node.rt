@@ -1,50 +1,43 @@
 // Nodes of the written tree, made of their parts.
 
 ghost use Rattle.std.specs.Prelude.{◌≡◌, ◌∷◌, [], ◌++◌, map, IfOk};
-ghost use Rattle.tlsf_grammar.specs.Tree.{tree_span, truth as truth_tree, named as named_tree, number as number_tree, call as call_tree, index as index_tree, size_of as size_tree, paren as paren_tree, set as set_tree, steps as steps_tree, pair as pair_tree, prefix as prefix_tree, count as count_tree, window as window_tree, big as big_tree, members as members_range, between as between_range};
-ghost use Rattle.tlsf_grammar.specs.Lexemes.{word_of, lexeme_span, literal_of};
-ghost use Rattle.tlsf_grammar.specs.Reading.{chain_of, links_end, from_to};
-ghost use Rattle.tlsf_reader.specs.declared.rest.Refusal.TheVariants.{NoMemory};
+ghost use Rattle.tlsf_syntax.specs.Tree.{tree_span, truth as truth_tree, named as named_tree, number as number_tree, call as call_tree, index as index_tree, size_of as size_tree, paren as paren_tree, set as set_tree, steps as steps_tree, pair as pair_tree, prefix as prefix_tree, count as count_tree, window as window_tree, big as big_tree, members as members_range, between as between_range};
+ghost use Rattle.tlsf_syntax.specs.Lexemes.{word_of, lexeme_span, literal_of};
+ghost use Rattle.tlsf_syntax.specs.Reading.{chain_of, links_end, from_to};
 ghost use Rattle.tlsf_reader.specs.Seen.{seen};
-ghost use Rattle.tlsf_reader.specs.View.{tree_of, trees_of, link_of, links_of, range_of, ranges_of, word_view};
+ghost use Rattle.tlsf_syntax.specs.Seen.{expr_seen, word_seen, trees_seen, link_list_seen, range_list_seen, range_seen};
 ghost use Rattle.tlsf_reader.specs.Descent.{IsBuilt};
 
 use crate::lexeme::Lexeme;
 use crate::rest::Refusal;
 use std::alloc::Global;
 use text_base::Name;
-use tlsf_tree::{Expr, Form, Link, Op, Range, Span, Word};
+use tlsf_syntax::{Expr, Form, Link, Op, Range, Span, Word};
 
 /// Where an expression is written.
 pub(crate) fn span(tree: &Expr) -> Span
-    ensures { result ≡ tree_span (tree_of tree.now) }
+    ensures { result ≡ tree_span (expr_seen tree.now) }
 {
     tree.span
 }
 
 /// A name with its place.
 pub(crate) fn word(alloc: Global, lexeme: Lexeme<'_>) -> Result<Word, Refusal>
-    ensures { IsBuilt word_view (word_of (seen lexeme.entry)) result }
+    ensures { IsBuilt word_seen (word_of (seen lexeme.entry)) result }
 {
-    match Name::new(alloc, lexeme.text) {
-        Ok(name) => Ok(Word {
-            name,
-            span: Span {
-                start: lexeme.start,
-                end: lexeme.end,
-            },
-        }),
-        Err(_) => Err(Refusal::NoMemory),
-    }
+    Ok(Word {
+        name: Name::new(alloc, lexeme.text)?,
+        span: Span {
+            start: lexeme.start,
+            end: lexeme.end,
+        },
+    })
 }
 
 fn boxed(alloc: Global, tree: Expr) -> Result<Box<Expr>, Refusal>
     ensures { IsBuilt (λ b. b.value) tree result }
 {
-    match Box::new(alloc, tree) {
-        Ok(tree) => Ok(tree),
-        Err(_) => Err(Refusal::NoMemory),
-    }
+    Ok(Box::new(alloc, tree)?)
 }
 
 /// From the first byte of one lexeme to the byte after the last one of another.
@@ -63,7 +56,7 @@ pub(crate) fn paren(
     last: Lexeme<'_>,
     inner: Expr,
 ) -> Result<Expr, Refusal>
-    ensures { IsBuilt tree_of (paren_tree (from_to (seen first.entry).start (seen last.entry).end) (tree_of inner)) result }
+    ensures { IsBuilt expr_seen (paren_tree (from_to (seen first.entry).start (seen last.entry).end) (expr_seen inner)) result }
 {
     let inner = boxed(alloc, inner)?;
     Ok(Expr {
@@ -78,7 +71,7 @@ pub(crate) fn call(
     last: Lexeme<'_>,
     arguments: Vec<Expr>,
 ) -> Result<Expr, Refusal>
-    ensures { IsBuilt tree_of (call_tree (from_to (seen first.entry).start (seen last.entry).end) (word_of (seen first.entry)) (trees_of (map tree_of arguments.items))) result }
+    ensures { IsBuilt expr_seen (call_tree (from_to (seen first.entry).start (seen last.entry).end) (word_of (seen first.entry)) (trees_seen arguments.items)) result }
 {
     let word = word(alloc, first)?;
     Ok(Expr {
@@ -93,7 +86,7 @@ pub(crate) fn index(
     last: Lexeme<'_>,
     index: Expr,
 ) -> Result<Expr, Refusal>
-    ensures { IsBuilt tree_of (index_tree (from_to (seen first.entry).start (seen last.entry).end) (word_of (seen first.entry)) (tree_of index)) result }
+    ensures { IsBuilt expr_seen (index_tree (from_to (seen first.entry).start (seen last.entry).end) (word_of (seen first.entry)) (expr_seen index)) result }
 {
     let word = word(alloc, first)?;
     let index = boxed(alloc, index)?;
@@ -104,7 +97,7 @@ pub(crate) fn index(
 }
 
 pub(crate) fn size_of(alloc: Global, start: u64, part: Expr) -> Result<Expr, Refusal>
-    ensures { IsBuilt tree_of (size_tree (from_to start (tree_span (tree_of part)).end) (tree_of part)) result }
+    ensures { IsBuilt expr_seen (size_tree (from_to start (tree_span (expr_seen part)).end) (expr_seen part)) result }
 {
     let end = span(&part).end;
     let part = boxed(alloc, part)?;
@@ -115,7 +108,7 @@ pub(crate) fn size_of(alloc: Global, start: u64, part: Expr) -> Result<Expr, Ref
 }
 
 pub(crate) fn set(first: Lexeme<'_>, last: Lexeme<'_>, members: Vec<Expr>) -> Expr
-    ensures { tree_of result ≡ set_tree (from_to (seen first.entry).start (seen last.entry).end) (trees_of (map tree_of members.items)) }
+    ensures { expr_seen result ≡ set_tree (from_to (seen first.entry).start (seen last.entry).end) (trees_seen members.items) }
 {
     Expr {
         span: from_to(first, last),
@@ -130,7 +123,7 @@ pub(crate) fn steps(
     last: Lexeme<'_>,
     members: (Expr, Expr, Expr),
 ) -> Result<Expr, Refusal>
-    ensures { IsBuilt tree_of (steps_tree (from_to (seen first.entry).start (seen last.entry).end) (tree_of members.0) (tree_of members.1) (tree_of members.2)) result }
+    ensures { IsBuilt expr_seen (steps_tree (from_to (seen first.entry).start (seen last.entry).end) (expr_seen members.0) (expr_seen members.1) (expr_seen members.2)) result }
 {
     let span = from_to(first, last);
     let (first, second, last) = members;
@@ -148,7 +141,7 @@ pub(crate) fn steps(
 }
 
 pub(crate) fn pair(alloc: Global, op: Op, left: Expr, right: Expr) -> Result<Expr, Refusal>
-    ensures { IsBuilt tree_of (pair_tree (from_to (tree_span (tree_of left)).start (tree_span (tree_of right)).end) op (tree_of left) (tree_of right)) result }
+    ensures { IsBuilt expr_seen (pair_tree (from_to (tree_span (expr_seen left)).start (tree_span (expr_seen right)).end) op (expr_seen left) (expr_seen right)) result }
 {
     let span = Span {
         start: span(&left).start,
@@ -163,7 +156,7 @@ pub(crate) fn pair(alloc: Global, op: Op, left: Expr, right: Expr) -> Result<Exp
 }
 
 pub(crate) fn prefix(alloc: Global, start: u64, op: Op, part: Expr) -> Result<Expr, Refusal>
-    ensures { IsBuilt tree_of (prefix_tree (from_to start (tree_span (tree_of part)).end) op (tree_of part)) result }
+    ensures { IsBuilt expr_seen (prefix_tree (from_to start (tree_span (expr_seen part)).end) op (expr_seen part)) result }
 {
     let end = span(&part).end;
     let part = boxed(alloc, part)?;
@@ -174,7 +167,7 @@ pub(crate) fn prefix(alloc: Global, start: u64, op: Op, part: Expr) -> Result<Ex
 }
 
 pub(crate) fn count(alloc: Global, start: u64, count: Expr, part: Expr) -> Result<Expr, Refusal>
-    ensures { IsBuilt tree_of (count_tree (from_to start (tree_span (tree_of part)).end) (tree_of count) (tree_of part)) result }
+    ensures { IsBuilt expr_seen (count_tree (from_to start (tree_span (expr_seen part)).end) (expr_seen count) (expr_seen part)) result }
 {
     let end = span(&part).end;
     let count = boxed(alloc, count)?;
@@ -192,7 +185,7 @@ pub(crate) fn window(
     bounds: (Expr, Expr),
     part: Expr,
 ) -> Result<Expr, Refusal>
-    ensures { IsBuilt tree_of (window_tree (from_to start (tree_span (tree_of part)).end) op (tree_of bounds.0) (tree_of bounds.1) (tree_of part)) result }
+    ensures { IsBuilt expr_seen (window_tree (from_to start (tree_span (expr_seen part)).end) op (expr_seen bounds.0) (expr_seen bounds.1) (expr_seen part)) result }
 {
     let (from, to) = bounds;
     let end = span(&part).end;
@@ -212,7 +205,7 @@ pub(crate) fn big(
     ranges: Vec<Range>,
     part: Expr,
 ) -> Result<Expr, Refusal>
-    ensures { IsBuilt tree_of (big_tree (from_to start (tree_span (tree_of part)).end) op (ranges_of (map range_of ranges.items)) (tree_of part)) result }
+    ensures { IsBuilt expr_seen (big_tree (from_to start (tree_span (expr_seen part)).end) op (range_list_seen ranges.items) (expr_seen part)) result }
 {
     let end = span(&part).end;
     let part = boxed(alloc, part)?;
@@ -225,8 +218,8 @@ pub(crate) fn big(
 /// An operand with the operators after it, which is a node of its own only where there are some. `end` is where the
 /// last operand ends.
 pub(crate) fn chain(alloc: Global, first: Expr, rest: Vec<Link>, end: u64) -> Result<Expr, Refusal>
-    requires { end ≡ links_end (tree_span (tree_of first)).end (links_of (map link_of rest.items)) }
-    ensures { IsBuilt tree_of (chain_of (tree_of first) (links_of (map link_of rest.items))) result }
+    requires { end ≡ links_end (tree_span (expr_seen first)).end (link_list_seen rest.items) }
+    ensures { IsBuilt expr_seen (chain_of (expr_seen first) (link_list_seen rest.items)) result }
 {
     if rest.is_empty() {
         return Ok(first);
@@ -260,7 +253,7 @@ fn literal(text: &[u8]) -> Option<i64>
 const LITERALS: u128 = 1 << 63;
 
 pub(crate) fn number(lexeme: Lexeme<'_>) -> Expr
-    ensures { tree_of result ≡ number_tree (lexeme_span (seen lexeme.entry)) (literal_of lexeme.entry.text.now) }
+    ensures { expr_seen result ≡ number_tree (lexeme_span (seen lexeme.entry)) (literal_of lexeme.entry.text.now) }
 {
     Expr {
         span: Span {
@@ -272,7 +265,7 @@ pub(crate) fn number(lexeme: Lexeme<'_>) -> Expr
 }
 
 pub(crate) fn truth(lexeme: Lexeme<'_>, value: bool) -> Expr
-    ensures { tree_of result ≡ truth_tree (lexeme_span (seen lexeme.entry)) value }
+    ensures { expr_seen result ≡ truth_tree (lexeme_span (seen lexeme.entry)) value }
 {
     Expr {
         span: Span {
@@ -284,7 +277,7 @@ pub(crate) fn truth(lexeme: Lexeme<'_>, value: bool) -> Expr
 }
 
 pub(crate) fn named(alloc: Global, lexeme: Lexeme<'_>) -> Result<Expr, Refusal>
-    ensures { IsBuilt tree_of (named_tree (lexeme_span (seen lexeme.entry)) lexeme.entry.text.now) result }
+    ensures { IsBuilt expr_seen (named_tree (lexeme_span (seen lexeme.entry)) lexeme.entry.text.now) result }
 {
     let word = word(alloc, lexeme)?;
     Ok(Expr {
@@ -295,7 +288,7 @@ pub(crate) fn named(alloc: Global, lexeme: Lexeme<'_>) -> Result<Expr, Refusal>
 
 /// The range over the members of a set.
 pub(crate) fn members(alloc: Global, name: Lexeme<'_>, set: Expr) -> Result<Range, Refusal>
-    ensures { IsBuilt range_of (members_range (word_of (seen name.entry)) (tree_of set)) result }
+    ensures { IsBuilt range_seen (members_range (word_of (seen name.entry)) (expr_seen set)) result }
 {
     let word = word(alloc, name)?;
     Ok(Range::Members { word, set })
@@ -308,7 +301,7 @@ pub(crate) fn between(
     name: Lexeme<'_>,
     high: (bool, Expr),
 ) -> Result<Range, Refusal>
-    ensures { IsBuilt range_of (between_range (tree_of low.0) low.1 (word_of (seen name.entry)) high.0 (tree_of high.1)) result }
+    ensures { IsBuilt range_seen (between_range (expr_seen low.0) low.1 (word_of (seen name.entry)) high.0 (expr_seen high.1)) result }
 {
     let word = word(alloc, name)?;
     let (low, low_strict) = low;
@@ -327,9 +320,7 @@ pub(crate) fn single(alloc: Global, one: Expr) -> Result<Vec<Expr>, Refusal>
     ensures { IsBuilt (λ v. v.items) (one ∷ []) result }
 {
     let mut list = Vec::new(alloc);
-    if list.push(one).is_err() {
-        return Err(Refusal::NoMemory);
-    }
+    list.push(one)?;
     Ok(list)
 }
 
@@ -338,9 +329,7 @@ pub(crate) fn both(alloc: Global, one: Expr, two: Expr) -> Result<Vec<Expr>, Ref
     ensures { IsBuilt (λ v. v.items) (one ∷ two ∷ []) result }
 {
     let mut list = single(alloc, one)?;
-    if list.push(two).is_err() {
-        return Err(Refusal::NoMemory);
-    }
+    list.push(two)?;
     Ok(list)
 }
 
@@ -350,8 +339,6 @@ pub(crate) fn appended(list: Vec<Expr>, more: Vec<Expr>) -> Result<Vec<Expr>, Re
 {
     let mut all = list;
     let mut rest = more;
-    if all.append(&mut rest).is_err() {
-        return Err(Refusal::NoMemory);
-    }
+    all.append(&mut rest)?;
     Ok(all)
 }

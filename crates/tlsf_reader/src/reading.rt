@@ -1,11 +1,12 @@
 // Reading a whole text: its one tree, or its first fault.
 
 ghost use Rattle.std.specs.Prelude.{◌≡◌, ℕ, [], map, IfOk, Err};
-ghost use Rattle.tlsf_tokens.specs.declared.code.SpecCode.{SpecCode};
-ghost use Rattle.tlsf_tokens.specs.declared.code.SpecFault.TheVariants.{At};
-ghost use Rattle.tlsf_tree.specs.Nesting.{first_deep};
+ghost use Rattle.spec_faults.specs.declared.code.SpecCode.{SpecCode};
+ghost use Rattle.spec_faults.specs.declared.code.SpecFault.TheVariants.{At};
+ghost use Rattle.tlsf_syntax.specs.Nesting.{first_deep};
 ghost use Rattle.tlsf_reader.specs.Seen.{seen};
-ghost use Rattle.tlsf_reader.specs.TextView.{written_view, spec_view};
+ghost use Rattle.tlsf_reader.specs.TextView.{written_view};
+ghost use Rattle.tlsf_syntax.specs.Seen.{text_seen};
 ghost use Rattle.tlsf_reader.specs.Places.{IsAccepted};
 ghost use Rattle.tlsf_reader.specs.Known.{place_in, stop_fault, deep_fault, IsKnown, IsEarliest, refused_fault};
 ghost use Rattle.tlsf_reader.specs.Faults.{IsReadingFault, HasLateFault, most_nesting, symbols_of};
@@ -20,9 +21,9 @@ use crate::repeat::{field_missing, name_twice, part_missing, part_twice};
 use crate::rest::Refusal;
 use crate::text::whole_text;
 use crate::written::Written;
+use spec_faults::{SpecCode, SpecFault};
 use std::alloc::{AllocError, Global};
-use tlsf_tokens::{SpecCode, SpecFault};
-use tlsf_tree::{SpecTree, first_too_deep};
+use tlsf_syntax::{SpecTree, first_too_deep};
 
 /// The most bytes that a text may have.
 pub const MOST_BYTES: usize = 1_048_576;
@@ -125,7 +126,7 @@ fn accepted(alloc: Global, lexemes: &[Lexeme<'_>], written: Written) -> Result<S
 /// The one tree of a text, or its first fault. It takes time and memory in proportion to the text's length, and goes as
 /// deep as written nesting allows.
 pub fn read(alloc: Global, text: &[u8]) -> Result<SpecTree, SpecFault>
-    ensures tree { IfOk result (λ tree. Reads text.now (spec_view tree)) }
+    ensures tree { IfOk result (λ tree. Reads text.now (text_seen tree)) }
     ensures fault { (code : SpecCode) (place : ℕ) → result ≡ Err (At code place) → IsReadingFault text.now code place }
 {
     if text.len() > MOST_BYTES {

@@ -2,21 +2,21 @@
 
 ghost use Rattle.std.specs.Prelude.{◌≡◌, ◌∷◌, [], ◌++◌, map, IfOk, OnOk};
 ghost use Rattle.tlsf_reader.specs.Seen.{seen};
-ghost use Rattle.tlsf_reader.specs.Spec.{definition_words, words_of_definitions, words_of_parts, declared_words};
-ghost use Rattle.tlsf_reader.specs.View.{word_view};
-ghost use Rattle.tlsf_reader.specs.TextView.{definition_view, block_view, part_view, written_view};
+ghost use Rattle.tlsf_reader.specs.Parts.{definition_words, words_of_definitions, words_of_parts, declared_words};
+ghost use Rattle.tlsf_syntax.specs.Seen.{word_seen, definition_seen};
+ghost use Rattle.tlsf_reader.specs.TextView.{block_view, part_view, written_view};
 ghost use Rattle.tlsf_reader.specs.Least.{IsLeast};
 ghost use Rattle.tlsf_reader.specs.Places.{OccursAt, RepeatedAt, RepeatedAmong, PartTwiceAt, NameTwiceAt, FieldMissingAt, PartMissingAt, occurs, first_brace};
 ghost use Rattle.tlsf_reader.specs.Assembly.{block_definitions};
 
 use crate::least::least;
 use crate::lexeme::Lexeme;
-use crate::rest::same;
 use crate::written::{Block, Part, Written};
 use indexmap::IndexSet;
 use std::alloc::{AllocError, Global};
 use text_base::Name;
-use tlsf_tree::{Declaration, Definition, Member, Section, Symbol, Word};
+use tlsf_syntax::{Declaration, Definition, Member, Word};
+use tlsf_tokens::{Section, Symbol};
 
 /// The symbols that head a part which stands at most once.
 const HEADS: [Symbol; 15] = [
@@ -44,7 +44,7 @@ fn occurrence(symbol: Symbol, lexemes: &[Lexeme<'_>]) -> Option<u64>
     let mut found = None;
     let mut left = lexemes;
     while let [first, rest @ ..] = left {
-        if same(first.symbol, symbol) {
+        if first.symbol == symbol {
             found = least(found, Some(first.start));
         }
         left = rest;
@@ -58,7 +58,7 @@ fn repetition(symbol: Symbol, lexemes: &[Lexeme<'_>]) -> Option<u64>
 {
     let mut left = lexemes;
     while let [first, rest @ ..] = left {
-        if same(first.symbol, symbol) {
+        if first.symbol == symbol {
             return occurrence(symbol, rest);
         }
         left = rest;
@@ -87,7 +87,7 @@ pub(crate) fn part_twice(lexemes: &[Lexeme<'_>]) -> Option<u64>
 }
 
 fn push_members<'a>(words: &mut Vec<&'a Word>, members: &'a [Member]) -> Result<(), AllocError>
-    ensures { OnOk result (map (λ w. word_view w.now) words.new.items ≡ map (λ w. word_view w.now) words.old.items ++ map (λ m. word_view m.word) members.now) }
+    ensures { OnOk result (map (λ w. word_seen w.now) words.new.items ≡ map (λ w. word_seen w.now) words.old.items ++ map (λ m. word_seen m.word) members.now) }
 {
     for member in members {
         words.push(&member.word)?;
@@ -100,7 +100,7 @@ fn push_definition<'a>(
     words: &mut Vec<&'a Word>,
     definition: &'a Definition,
 ) -> Result<(), AllocError>
-    ensures { OnOk result (map (λ w. word_view w.now) words.new.items ≡ map (λ w. word_view w.now) words.old.items ++ definition_words (definition_view definition.now)) }
+    ensures { OnOk result (map (λ w. word_seen w.now) words.new.items ≡ map (λ w. word_seen w.now) words.old.items ++ definition_words (definition_seen definition.now)) }
 {
     match definition {
         Definition::Parameter { word, .. } | Definition::Function { word, .. } => {
@@ -118,7 +118,7 @@ fn push_definitions<'a>(
     words: &mut Vec<&'a Word>,
     definitions: &'a [Definition],
 ) -> Result<(), AllocError>
-    ensures { OnOk result (map (λ w. word_view w.now) words.new.items ≡ map (λ w. word_view w.now) words.old.items ++ words_of_definitions (map definition_view definitions.now)) }
+    ensures { OnOk result (map (λ w. word_seen w.now) words.new.items ≡ map (λ w. word_seen w.now) words.old.items ++ words_of_definitions (map definition_seen definitions.now)) }
 {
     for definition in definitions {
         push_definition(words, definition)?;
@@ -127,7 +127,7 @@ fn push_definitions<'a>(
 }
 
 fn push_block<'a>(words: &mut Vec<&'a Word>, block: &'a Block) -> Result<(), AllocError>
-    ensures { OnOk result (map (λ w. word_view w.now) words.new.items ≡ map (λ w. word_view w.now) words.old.items ++ words_of_definitions (block_definitions (block_view block.now))) }
+    ensures { OnOk result (map (λ w. word_seen w.now) words.new.items ≡ map (λ w. word_seen w.now) words.old.items ++ words_of_definitions (block_definitions (block_view block.now))) }
 {
     match block {
         Block::Parameters(definitions) | Block::Definitions(definitions) => {
@@ -140,7 +140,7 @@ fn push_declarations<'a>(
     words: &mut Vec<&'a Word>,
     declarations: &'a [Declaration],
 ) -> Result<(), AllocError>
-    ensures { OnOk result (map (λ w. word_view w.now) words.new.items ≡ map (λ w. word_view w.now) words.old.items ++ map (λ d. word_view d.word) declarations.now) }
+    ensures { OnOk result (map (λ w. word_seen w.now) words.new.items ≡ map (λ w. word_seen w.now) words.old.items ++ map (λ d. word_seen d.word) declarations.now) }
 {
     for declaration in declarations {
         words.push(&declaration.word)?;
@@ -149,7 +149,7 @@ fn push_declarations<'a>(
 }
 
 fn push_part<'a>(words: &mut Vec<&'a Word>, part: &'a Part) -> Result<(), AllocError>
-    ensures { OnOk result (map (λ w. word_view w.now) words.new.items ≡ map (λ w. word_view w.now) words.old.items ++ words_of_parts (part_view part.now ∷ [])) }
+    ensures { OnOk result (map (λ w. word_seen w.now) words.new.items ≡ map (λ w. word_seen w.now) words.old.items ++ words_of_parts (part_view part.now ∷ [])) }
 {
     match part {
         Part::Inputs(declarations) | Part::Outputs(declarations) => {
@@ -161,7 +161,7 @@ fn push_part<'a>(words: &mut Vec<&'a Word>, part: &'a Part) -> Result<(), AllocE
 
 /// The declared words of a text, in its order.
 fn words(alloc: Global, written: &Written) -> Result<Vec<&Word>, AllocError>
-    ensures { IfOk result (λ words. map (λ w. word_view w.now) words.items ≡ declared_words (written_view written.now)) }
+    ensures { IfOk result (λ words. map (λ w. word_seen w.now) words.items ≡ declared_words (written_view written.now)) }
 {
     let mut words = Vec::new(alloc);
     for block in &written.blocks {
@@ -175,7 +175,7 @@ fn words(alloc: Global, written: &Written) -> Result<Vec<&Word>, AllocError>
 
 /// The first byte of the first word that has the name of an earlier one. Costs the hashing of each name.
 fn repeated_name(alloc: Global, words: &[&Word]) -> Result<Option<u64>, AllocError>
-    ensures { IfOk result (λ found. IsLeast (NameTwiceAt (map (λ w. word_view w.now) words.now)) found) }
+    ensures { IfOk result (λ found. IsLeast (NameTwiceAt (map (λ w. word_seen w.now) words.now)) found) }
 {
     let mut seen: IndexSet<&Name> = IndexSet::new(alloc);
     let mut found = None;
@@ -203,7 +203,7 @@ fn has(symbol: Symbol, lexemes: &[Lexeme<'_>]) -> bool
 {
     let mut left = lexemes;
     while let [first, rest @ ..] = left {
-        if same(first.symbol, symbol) {
+        if first.symbol == symbol {
             return true;
         }
         left = rest;
@@ -217,7 +217,7 @@ fn first_brace(lexemes: &[Lexeme<'_>]) -> Option<u64>
 {
     let mut left = lexemes;
     while let [first, rest @ ..] = left {
-        if same(first.symbol, Symbol::CloseBrace) {
+        if first.symbol == Symbol::CloseBrace {
             return Some(first.start);
         }
         left = rest;

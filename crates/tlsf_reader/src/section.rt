@@ -1,11 +1,11 @@
 // The descent for MAIN.
 
 ghost use Rattle.std.specs.Prelude.{◌≡◌, ◌<◌, ◌≤◌, length, OnOk};
-ghost use Rattle.tlsf_grammar.specs.TextReading.{declaration_read, declarations_read, formulas_read, parts_read};
-ghost use Rattle.tlsf_reader.specs.TextView.{declaration_view, declarations_view, formulas_view, part_view, parts_view};
+ghost use Rattle.tlsf_syntax.specs.TextReading.{declaration_read, declarations_read, formulas_read, parts_read};
+ghost use Rattle.tlsf_syntax.specs.Seen.{declaration_seen, expr_seen};
+ghost use Rattle.tlsf_reader.specs.TextView.{part_view, each};
 ghost use Rattle.tlsf_reader.specs.Descent.{IsRead};
 ghost use Rattle.tlsf_reader.specs.TextDescent.{formula_read, part_at};
-ghost use Rattle.tlsf_reader.specs.View.{tree_of};
 
 use crate::ahead::Ahead;
 use crate::expression::expression;
@@ -14,11 +14,12 @@ use crate::node;
 use crate::rest::Refusal;
 use crate::written::Part;
 use std::alloc::Global;
-use tlsf_tree::{Declaration, Expr, Shape, Symbol};
+use tlsf_syntax::{Declaration, Expr, Shape};
+use tlsf_tokens::Symbol;
 
 /// The declaration of a signal, a bus, or a bus of an enumeration's width.
 fn declaration(alloc: Global, ahead: &mut Ahead<'_>) -> Result<Declaration, Refusal>
-    ensures read { IsRead declaration_view (λ d. declaration_read d ahead.old) ahead.new result }
+    ensures read { IsRead declaration_seen (λ d. declaration_read d ahead.old) ahead.new result }
     ensures shorter { OnOk result (length ahead.new < length ahead.old) }
 {
     let first = ahead.expect(Symbol::Ident)?;
@@ -49,22 +50,20 @@ fn declaration(alloc: Global, ahead: &mut Ahead<'_>) -> Result<Declaration, Refu
 
 /// The content of INPUTS or OUTPUTS, up to its closing brace.
 fn declarations(alloc: Global, ahead: &mut Ahead<'_>) -> Result<Vec<Declaration>, Refusal>
-    ensures read { IsRead declarations_view (λ d. declarations_read d ahead.old) ahead.new result }
+    ensures read { IsRead (each declaration_seen) (λ d. declarations_read d ahead.old) ahead.new result }
     ensures shorter { OnOk result (length ahead.new ≤ length ahead.old) }
 {
     let mut declarations = Vec::new(alloc);
     while !ahead.begins(Symbol::CloseBrace) {
         let declaration = declaration(alloc, ahead)?;
-        if declarations.push(declaration).is_err() {
-            return Err(Refusal::NoMemory);
-        }
+        declarations.push(declaration)?;
     }
     Ok(declarations)
 }
 
 /// A formula of a section, with its semicolon.
 fn formula(alloc: Global, ahead: &mut Ahead<'_>) -> Result<Expr, Refusal>
-    ensures read { IsRead tree_of (λ d. formula_read d ahead.old) ahead.new result }
+    ensures read { IsRead expr_seen (λ d. formula_read d ahead.old) ahead.new result }
     ensures shorter { OnOk result (length ahead.new < length ahead.old) }
 {
     let formula = expression(alloc, ahead, false, Level::Releases)?;
@@ -74,15 +73,13 @@ fn formula(alloc: Global, ahead: &mut Ahead<'_>) -> Result<Expr, Refusal>
 
 /// The content of a section, up to its closing brace.
 fn formulas(alloc: Global, ahead: &mut Ahead<'_>) -> Result<Vec<Expr>, Refusal>
-    ensures read { IsRead formulas_view (λ d. formulas_read d ahead.old) ahead.new result }
+    ensures read { IsRead (each expr_seen) (λ d. formulas_read d ahead.old) ahead.new result }
     ensures shorter { OnOk result (length ahead.new ≤ length ahead.old) }
 {
     let mut formulas = Vec::new(alloc);
     while !ahead.begins(Symbol::CloseBrace) {
         let formula = formula(alloc, ahead)?;
-        if formulas.push(formula).is_err() {
-            return Err(Refusal::NoMemory);
-        }
+        formulas.push(formula)?;
     }
     Ok(formulas)
 }
@@ -121,15 +118,13 @@ fn part(alloc: Global, ahead: &mut Ahead<'_>) -> Result<Part, Refusal>
 
 /// The parts of MAIN, up to its closing brace.
 pub(crate) fn parts(alloc: Global, ahead: &mut Ahead<'_>) -> Result<Vec<Part>, Refusal>
-    ensures read { IsRead parts_view (λ d. parts_read d ahead.old) ahead.new result }
+    ensures read { IsRead (each part_view) (λ d. parts_read d ahead.old) ahead.new result }
     ensures shorter { OnOk result (length ahead.new ≤ length ahead.old) }
 {
     let mut parts = Vec::new(alloc);
     while !ahead.begins(Symbol::CloseBrace) {
         let part = part(alloc, ahead)?;
-        if parts.push(part).is_err() {
-            return Err(Refusal::NoMemory);
-        }
+        parts.push(part)?;
     }
     Ok(parts)
 }

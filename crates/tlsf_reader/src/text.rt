@@ -1,9 +1,9 @@
 // The descent for a whole text.
 
 ghost use Rattle.std.specs.Prelude.{◌≡◌, ◌<◌, ◌≤◌, length, map, OnOk};
-ghost use Rattle.tlsf_grammar.specs.TextReading.{main_read, after_info, text_read};
+ghost use Rattle.tlsf_syntax.specs.TextReading.{main_read, after_info, text_read};
 ghost use Rattle.tlsf_reader.specs.Seen.{seen};
-ghost use Rattle.tlsf_reader.specs.TextView.{fields_view, blocks_view, written_view};
+ghost use Rattle.tlsf_reader.specs.TextView.{written_view, each, field_view, block_view};
 ghost use Rattle.tlsf_reader.specs.Descent.{IsRead};
 ghost use Rattle.tlsf_reader.specs.TextDescent.{IsTextRead};
 
@@ -15,7 +15,7 @@ use crate::rest::Refusal;
 use crate::section::parts;
 use crate::written::{Block, Field, Written};
 use std::alloc::Global;
-use tlsf_tree::Symbol;
+use tlsf_tokens::Symbol;
 
 /// MAIN, after these parts.
 fn main_part(
@@ -24,7 +24,7 @@ fn main_part(
     fields: Vec<Field>,
     blocks: Vec<Block>,
 ) -> Result<Written, Refusal>
-    ensures { IsRead written_view (λ d. main_read d (fields_view fields) (blocks_view blocks) ahead.old) ahead.new result }
+    ensures { IsRead written_view (λ d. main_read d (each field_view fields) (each block_view blocks) ahead.old) ahead.new result }
 {
     let _ = ahead.expect(Symbol::Main)?;
     let _ = ahead.expect(Symbol::OpenBrace)?;
@@ -39,7 +39,7 @@ fn main_part(
 
 /// What stands after INFO: GLOBAL where it is there, and MAIN.
 fn after_info(alloc: Global, ahead: &mut Ahead<'_>, fields: Vec<Field>) -> Result<Written, Refusal>
-    ensures { IsRead written_view (λ d. after_info d (fields_view fields) ahead.old) ahead.new result }
+    ensures { IsRead written_view (λ d. after_info d (each field_view fields) ahead.old) ahead.new result }
 {
     if let Some(_) = ahead.next_if(Symbol::Global) {
         let _ = ahead.expect(Symbol::OpenBrace)?;

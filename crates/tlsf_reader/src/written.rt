@@ -2,10 +2,11 @@
 
 use letter_word::Kind;
 use text_base::Name;
-use tlsf_tree::{Declaration, Definition, Expr, Section, Word};
+use tlsf_syntax::{Declaration, Definition, Expr, Word};
+use tlsf_tokens::Section;
 
 /// A field of INFO. Texts stand without their quotes.
-#[derive(Debug, Drop)]
+#[derive(Drop)]
 pub(crate) enum Field {
     Title(Name),
     Description(Name),
@@ -22,14 +23,14 @@ pub(crate) enum Field {
 }
 
 /// A part of GLOBAL.
-#[derive(Debug, Drop)]
+#[derive(Drop)]
 pub(crate) enum Block {
     Parameters(Vec<Definition>),
     Definitions(Vec<Definition>),
 }
 
 /// A part of MAIN.
-#[derive(Debug, Drop)]
+#[derive(Drop)]
 pub(crate) enum Part {
     Inputs(Vec<Declaration>),
     Outputs(Vec<Declaration>),
@@ -40,7 +41,7 @@ pub(crate) enum Part {
 }
 
 /// All parts of a text.
-#[derive(Debug, Drop)]
+#[derive(Drop)]
 pub(crate) struct Written {
     pub fields: Vec<Field>,
     pub blocks: Vec<Block>,

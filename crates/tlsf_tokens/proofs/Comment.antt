@@ -9,7 +9,7 @@ use Rattle.std.proofs.lemmas.Bool.Decides.{Decides-eqb}
 use Rattle.std.specs.List.{prefix_len, list_all, starts_with}
 use Rattle.tlsf_tokens.specs.Pieces.{piece_of, comment_piece}
 use Rattle.tlsf_tokens.specs.Cuts.{longest}
-use Rattle.tlsf_tokens.specs.declared.code.SpecCode.TheVariants.{Unclosed}
+use Rattle.spec_faults.specs.declared.code.SpecCode.TheVariants.{Unclosed}
 use Rattle.tlsf_tokens.specs.declared.token.Piece.TheVariants.{Gap, Fault}
 use Rattle.tlsf_tokens.proofs.Longest.{longest_is, all-prefix_len, not_all-longer}
 

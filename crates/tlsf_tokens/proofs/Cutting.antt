@@ -4,11 +4,11 @@ use Rattle.std.proofs.lemmas.List.{length-drop, append-nil, take_all, drop-drop}
 use Rattle.std.proofs.Math.Seq.{take-add}
 use Rattle.tlsf_tokens.specs.Pieces.{piece_of}
 use Rattle.tlsf_tokens.specs.Cuts.{longest, fault_of, Stops, Cuts, ends, past_gap, past_token, IsInOrder, AreFormed, IsGap, none, more, HasGapsAround}
-use Rattle.tlsf_tokens.specs.declared.code.SpecCode.{SpecCode}
-use Rattle.tlsf_tokens.specs.declared.code.SpecCode.TheVariants.{BadByte}
+use Rattle.spec_faults.specs.declared.code.SpecCode.{SpecCode}
+use Rattle.spec_faults.specs.declared.code.SpecCode.TheVariants.{BadByte}
 use Rattle.tlsf_tokens.specs.declared.token.Piece.{Piece}
 use Rattle.tlsf_tokens.specs.declared.token.Piece.TheVariants.{Gap, Token as token_piece, Fault}
-use Rattle.tlsf_tokens.specs.declared.token.TokenKind.{TokenKind}
+use Rattle.tlsf_tokens.specs.declared.symbol.Symbol.{Symbol}
 use Rattle.tlsf_tokens.specs.declared.token.Front.{Front}
 use Rattle.tlsf_tokens.specs.declared.token.Token.{Token}
 use Rattle.tlsf_tokens.proofs.Longest.{longest_bounds, longest_piece}
@@ -30,11 +30,11 @@ gap_cut text done at len h l e = record {
   within = bound text at (record { piece = Gap; len = len }) l e;
 }
 
-pub token_cut : (text : List ℕ) (done : List Token) (at len : ℕ) (kind : TokenKind) → HasCut text done at → at < length text → longest (drop at text) ≡ Some (record { piece = token_piece kind; len = len })
-    → HasCut text (done ++ record { kind = kind; start = at; end = at + len } ∷ []) (at + len)
-token_cut text done at len kind h l e = record {
-  on = λ stop stop_at rest cut. rw append_assoc (h.on stop stop_at (record { kind = kind; start = at; end = at + len } ∷ rest) (past_token at len kind rest e cut));
-  within = bound text at (record { piece = token_piece kind; len = len }) l e;
+pub token_cut : (text : List ℕ) (done : List Token) (at len : ℕ) (symbol : Symbol) → HasCut text done at → at < length text → longest (drop at text) ≡ Some (record { piece = token_piece symbol; len = len })
+    → HasCut text (done ++ record { symbol = symbol; start = at; end = at + len } ∷ []) (at + len)
+token_cut text done at len symbol h l e = record {
+  on = λ stop stop_at rest cut. rw append_assoc (h.on stop stop_at (record { symbol = symbol; start = at; end = at + len } ∷ rest) (past_token at len symbol rest e cut));
+  within = bound text at (record { piece = token_piece symbol; len = len }) l e;
 }
 
 pub all_cut : (text : List ℕ) (done : List Token) (at : ℕ) (stop : Option SpecCode) → HasCut text done at → Stops text at stop → Cuts text stop at 0 done
@@ -72,10 +72,10 @@ pub gap_found : (text : List ℕ) (done : List Token) (at : ℕ) (front : Front)
 gap_found text done at front h l e p =
     gap_cut text done at front.len h l (found text at (Some front) e ∙ ap (λ (x : Piece). Some (record { piece = x; len = front.len })) p)
 
-pub token_found : (text : List ℕ) (done : List Token) (at : ℕ) (front : Front) (kind : TokenKind) → HasCut text done at → at < length text → Finds text at (Some front) → front.piece ≡ token_piece kind
-    → HasCut text (done ++ record { kind = kind; start = at; end = at + front.len } ∷ []) (at + front.len)
-token_found text done at front kind h l e p =
-    token_cut text done at front.len kind h l (found text at (Some front) e ∙ ap (λ (x : Piece). Some (record { piece = x; len = front.len })) p)
+pub token_found : (text : List ℕ) (done : List Token) (at : ℕ) (front : Front) (symbol : Symbol) → HasCut text done at → at < length text → Finds text at (Some front) → front.piece ≡ token_piece symbol
+    → HasCut text (done ++ record { symbol = symbol; start = at; end = at + front.len } ∷ []) (at + front.len)
+token_found text done at front symbol h l e p =
+    token_cut text done at front.len symbol h l (found text at (Some front) e ∙ ap (λ (x : Piece). Some (record { piece = x; len = front.len })) p)
 
 -- ---- what follows from a cut
 
@@ -91,8 +91,8 @@ pub in_order : (text : List ℕ) (stop : Option SpecCode) (stop_at at : ℕ) (to
 in_order text stop stop_at at tokens (ends from e s) = omega arith
 in_order text stop stop_at at tokens (past_gap from len rest e cut) =
     earlier at (at + len) stop_at rest (omega arith) (in_order text stop stop_at (at + len) rest cut)
-in_order text stop stop_at at tokens (past_token from len kind rest e cut) =
-    let b : (0 < len) × (len ≤ length (drop at text)) = longest_bounds (drop at text) (record { piece = token_piece kind; len = len }) e in
+in_order text stop stop_at at tokens (past_token from len symbol rest e cut) =
+    let b : (0 < len) × (len ≤ length (drop at text)) = longest_bounds (drop at text) (record { piece = token_piece symbol; len = len }) e in
     (omega arith, omega arith, in_order text stop stop_at (at + len) rest cut)
 
 slice_at : (text : List ℕ) (at len : ℕ) (piece : Piece) → longest (drop at text) ≡ Some (record { piece = piece; len = len }) → piece_of (slice_range text at (at + len)) ≡ Some piece
@@ -104,7 +104,7 @@ slice_at text at len piece e =
 pub formed : (text : List ℕ) (stop : Option SpecCode) (stop_at at : ℕ) (tokens : List Token) → Cuts text stop stop_at at tokens → AreFormed text tokens
 formed text stop stop_at at tokens (ends from e s) = tt
 formed text stop stop_at at tokens (past_gap from len rest e cut) = formed text stop stop_at (at + len) rest cut
-formed text stop stop_at at tokens (past_token from len kind rest e cut) = (slice_at text at len (token_piece kind) e, formed text stop stop_at (at + len) rest cut)
+formed text stop stop_at at tokens (past_token from len symbol rest e cut) = (slice_at text at len (token_piece symbol) e, formed text stop stop_at (at + len) rest cut)
 
 range_split : (text : List ℕ) (a b c : ℕ) → a ≤ b → b ≤ c → slice_range text a c ≡ slice_range text a b ++ slice_range text b c
 range_split text a b c l m =
@@ -129,7 +129,7 @@ pub gaps : (text : List ℕ) (stop : Option SpecCode) (stop_at at : ℕ) (tokens
 gaps text stop stop_at at tokens (ends from e s) = rw (← e) (no_gap text at)
 gaps text stop stop_at at tokens (past_gap from len rest e cut) =
     gaps_more text at len stop_at rest e (in_order text stop stop_at (at + len) rest cut) (gaps text stop stop_at (at + len) rest cut)
-gaps text stop stop_at at tokens (past_token from len kind rest e cut) = (no_gap text at, gaps text stop stop_at (at + len) rest cut)
+gaps text stop stop_at at tokens (past_token from len symbol rest e cut) = (no_gap text at, gaps text stop stop_at (at + len) rest cut)
 
 -- ---- a text has one cut
 
@@ -152,34 +152,34 @@ same_front : (x : List ℕ) (f g : Front) → longest x ≡ Some f → longest x
 unfolding front_or
 same_front x f g a b = ap (front_or f) (sym a ∙ b)
 
-gap_or_token : (kind : TokenKind) → Gap ≡ token_piece kind → ⊥
-gap_or_token kind e = cc
+gap_or_token : (symbol : Symbol) → Gap ≡ token_piece symbol → ⊥
+gap_or_token symbol e = cc
 
-one_kind : (k l : TokenKind) → token_piece k ≡ token_piece l → k ≡ l
+one_kind : (k l : Symbol) → token_piece k ≡ token_piece l → k ≡ l
 one_kind k l e = cc
 
 pub one_cut : (text : List ℕ) (s t : Option SpecCode) (s_at t_at at : ℕ) (ts us : List Token) → Cuts text s s_at at ts → Cuts text t t_at at us → (ts ≡ us) × (s ≡ t) × (s_at ≡ t_at)
 one_cut text s t s_at t_at at ts us (ends from e x) (ends other f y) = (refl, one_stop text at s t x y, sym e ∙ f)
 one_cut text s t s_at t_at at ts us (ends from e x) (past_gap other len rest f cut) = absurd (stopped text at s (record { piece = Gap; len = len }) x f refl)
-one_cut text s t s_at t_at at ts us (ends from e x) (past_token other len kind rest f cut) = absurd (stopped text at s (record { piece = token_piece kind; len = len }) x f refl)
+one_cut text s t s_at t_at at ts us (ends from e x) (past_token other len symbol rest f cut) = absurd (stopped text at s (record { piece = token_piece symbol; len = len }) x f refl)
 one_cut text s t s_at t_at at ts us (past_gap from len rest e cut) (ends other f y) = absurd (stopped text at t (record { piece = Gap; len = len }) y e refl)
 one_cut text s t s_at t_at at ts us (past_gap from len rest e cut) (past_gap other len' rest' f cut') =
     let same : record { piece = Gap; len = len } ≡ record { piece = Gap; len = len' } = same_front (drop at text) (record { piece = Gap; len = len }) (record { piece = Gap; len = len' }) e f in
     one_cut text s t s_at t_at (at + len) ts us cut (subst (λ (n : ℕ). Cuts text t t_at (at + n) us) (sym (ap (λ (g : Front). g.len) same)) cut')
-one_cut text s t s_at t_at at ts us (past_gap from len rest e cut) (past_token other len' kind rest' f cut') =
-    absurd (gap_or_token kind (ap (λ (g : Front). g.piece) (same_front (drop at text) (record { piece = Gap; len = len }) (record { piece = token_piece kind; len = len' }) e f)))
-one_cut text s t s_at t_at at ts us (past_token from len kind rest e cut) (ends other f y) = absurd (stopped text at t (record { piece = token_piece kind; len = len }) y e refl)
-one_cut text s t s_at t_at at ts us (past_token from len kind rest e cut) (past_gap other len' rest' f cut') =
-    absurd (gap_or_token kind (ap (λ (g : Front). g.piece) (same_front (drop at text) (record { piece = Gap; len = len' }) (record { piece = token_piece kind; len = len }) f e)))
-one_cut text s t s_at t_at at ts us (past_token from len kind rest e cut) (past_token other len' kind' rest' f cut') =
-    let same : record { piece = token_piece kind; len = len } ≡ record { piece = token_piece kind'; len = len' } =
-    same_front (drop at text) (record { piece = token_piece kind; len = len }) (record { piece = token_piece kind'; len = len' }) e f in
+one_cut text s t s_at t_at at ts us (past_gap from len rest e cut) (past_token other len' symbol rest' f cut') =
+    absurd (gap_or_token symbol (ap (λ (g : Front). g.piece) (same_front (drop at text) (record { piece = Gap; len = len }) (record { piece = token_piece symbol; len = len' }) e f)))
+one_cut text s t s_at t_at at ts us (past_token from len symbol rest e cut) (ends other f y) = absurd (stopped text at t (record { piece = token_piece symbol; len = len }) y e refl)
+one_cut text s t s_at t_at at ts us (past_token from len symbol rest e cut) (past_gap other len' rest' f cut') =
+    absurd (gap_or_token symbol (ap (λ (g : Front). g.piece) (same_front (drop at text) (record { piece = Gap; len = len' }) (record { piece = token_piece symbol; len = len }) f e)))
+one_cut text s t s_at t_at at ts us (past_token from len symbol rest e cut) (past_token other len' symbol' rest' f cut') =
+    let same : record { piece = token_piece symbol; len = len } ≡ record { piece = token_piece symbol'; len = len' } =
+    same_front (drop at text) (record { piece = token_piece symbol; len = len }) (record { piece = token_piece symbol'; len = len' }) e f in
     let l : len ≡ len' = ap (λ (g : Front). g.len) same in
-    let k : kind ≡ kind' = one_kind kind kind' (ap (λ (g : Front). g.piece) same) in
+    let k : symbol ≡ symbol' = one_kind symbol symbol' (ap (λ (g : Front). g.piece) same) in
     let r : (rest ≡ rest') × (s ≡ t) × (s_at ≡ t_at) = one_cut text s t s_at t_at (at + len) rest rest' cut (subst (λ (n : ℕ). Cuts text t t_at (at + n) rest') (sym l) cut') in (
-      ap (λ (n : ℕ). record { kind = kind; start = at; end = at + n } ∷ rest) l
-          ∙ ap (λ (q : TokenKind). record { kind = q; start = at; end = at + len' } ∷ rest) k
-          ∙ ap (λ (x : List Token). record { kind = kind'; start = at; end = at + len' } ∷ x) r.0,
+      ap (λ (n : ℕ). record { symbol = symbol; start = at; end = at + n } ∷ rest) l
+          ∙ ap (λ (q : Symbol). record { symbol = q; start = at; end = at + len' } ∷ rest) k
+          ∙ ap (λ (x : List Token). record { symbol = symbol'; start = at; end = at + len' } ∷ x) r.0,
       r.1,
       r.2,
     )

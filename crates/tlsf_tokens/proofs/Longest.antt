@@ -7,7 +7,7 @@ use Rattle.std.specs.List.{prefix_len, list_all}
 use Rattle.tlsf_tokens.specs.Words.{is_blank, is_name_start, is_name_part}
 use Rattle.tlsf_tokens.specs.Pieces.{piece_of, word_piece}
 use Rattle.tlsf_tokens.specs.Cuts.{longest, longest_within, longest_or}
-use Rattle.tlsf_tokens.specs.declared.token.TokenKind.TheVariants as kind
+use Rattle.tlsf_tokens.specs.declared.symbol.Symbol.TheVariants as symbol
 use Rattle.tlsf_tokens.specs.declared.token.Piece.{Piece}
 use Rattle.tlsf_tokens.specs.declared.token.Piece.TheVariants.{Gap, Token}
 use Rattle.tlsf_tokens.specs.declared.token.Front.{Front}
@@ -124,10 +124,10 @@ longest_word [] e = absurd (cc)
 longest_word (b ∷ w) e = rw (first_passes is_name_part b w (name_part b e)) (run_longest is_name_part word_piece b w (λ m. rw e refl))
 
 pub longest_number : (text : List ℕ) → is_name_start (get_or text 0 0) ≡ false → is_ascii_digit (get_or text 0 0) ≡ true
-    → longest text ≡ Some (record { piece = Token kind.Number; len = prefix_len is_ascii_digit text })
+    → longest text ≡ Some (record { piece = Token symbol.Number; len = prefix_len is_ascii_digit text })
 unfolding piece_of
 longest_number [] a e = absurd (cc)
-longest_number (b ∷ w) a e = rw (first_passes is_ascii_digit b w e) (run_longest is_ascii_digit (λ _. Token kind.Number) b w (λ m. rw (a, e) refl))
+longest_number (b ∷ w) a e = rw (first_passes is_ascii_digit b w e) (run_longest is_ascii_digit (λ _. Token symbol.Number) b w (λ m. rw (a, e) refl))
 
 none_first : (w : List ℕ) → prefix_len (λ (_ : ℕ). false) w ≡ 0
 none_first [] = refl
@@ -147,5 +147,5 @@ pub word_found : (text : List ℕ) (n : ℕ) (p : Piece) → is_name_start (get_
 word_found text n p a e w = rw (w, e) (longest_word text a)
 
 pub number_found : (text : List ℕ) (n : ℕ) → is_name_start (get_or text 0 0) ≡ false → is_ascii_digit (get_or text 0 0) ≡ true → n ≡ prefix_len is_ascii_digit text
-    → longest text ≡ Some (record { piece = Token kind.Number; len = n })
+    → longest text ≡ Some (record { piece = Token symbol.Number; len = n })
 number_found text n a b e = rw e (longest_number text a b)

@@ -5,8 +5,8 @@ use Rattle.std.proofs.lemmas.List.Sums.{prefix_len-le-length}
 use Rattle.std.specs.List.{prefix_len}
 use Rattle.tlsf_tokens.specs.Pieces.{piece_of, quoted_piece, text_before}
 use Rattle.tlsf_tokens.specs.Cuts.{longest}
-use Rattle.tlsf_tokens.specs.declared.code.SpecCode.TheVariants.{Unclosed}
-use Rattle.tlsf_tokens.specs.declared.token.TokenKind.TheVariants as kind
+use Rattle.spec_faults.specs.declared.code.SpecCode.TheVariants.{Unclosed}
+use Rattle.tlsf_tokens.specs.declared.symbol.Symbol.TheVariants as symbol
 use Rattle.tlsf_tokens.specs.declared.token.Piece.TheVariants.{Token, Fault}
 use Rattle.tlsf_tokens.proofs.Longest.{longest_is}
 
@@ -23,12 +23,12 @@ is_open : (w : List ℕ) → inner w ≡ length w → quoted_piece w ≡ Some (F
 is_open [] e = refl
 is_open (b ∷ w) e = open_step b w (b == 34) (is_open w) e
 
-closed_step : (b : ℕ) (w : List ℕ) (v : Bool) → (inner w < length w → quoted_piece (take (inner w + 1) w) ≡ Some (Token kind.Text)) → cond (not v) (1 + inner w) 0 < suc (length w)
-    → cond v (text_before (take (cond (not v) (1 + inner w) 0) w)) (quoted_piece (take (cond (not v) (1 + inner w) 0) w)) ≡ Some (Token kind.Text)
+closed_step : (b : ℕ) (w : List ℕ) (v : Bool) → (inner w < length w → quoted_piece (take (inner w + 1) w) ≡ Some (Token symbol.Text)) → cond (not v) (1 + inner w) 0 < suc (length w)
+    → cond v (text_before (take (cond (not v) (1 + inner w) 0) w)) (quoted_piece (take (cond (not v) (1 + inner w) 0) w)) ≡ Some (Token symbol.Text)
 closed_step b w true h l = refl
 closed_step b w false h l = let f : inner w < length w = omega arith in let e : 1 + inner w ≡ inner w + 1 = omega arith in rw e (h f)
 
-is_closed : (w : List ℕ) → inner w < length w → quoted_piece (take (inner w + 1) w) ≡ Some (Token kind.Text)
+is_closed : (w : List ℕ) → inner w < length w → quoted_piece (take (inner w + 1) w) ≡ Some (Token symbol.Text)
 is_closed [] l = absurd (omega arith)
 is_closed (b ∷ w) l =
     let e : inner (b ∷ w) + 1 ≡ suc (inner (b ∷ w)) = omega arith in
@@ -52,13 +52,13 @@ unfolding piece_of
 quote_first b w e = rw e refl
 
 pub longest_text : (text : List ℕ) → get_or text 0 0 ≡ 34 → prefix_len (λ b. not (b == 34)) (drop 1 text) + 1 < length text
-    → longest text ≡ Some (record { piece = Token kind.Text; len = prefix_len (λ b. not (b == 34)) (drop 1 text) + 2 })
+    → longest text ≡ Some (record { piece = Token symbol.Text; len = prefix_len (λ b. not (b == 34)) (drop 1 text) + 2 })
 longest_text [] e l = absurd (omega arith)
 longest_text (b ∷ w) e l =
     let n : inner w + 2 ≡ suc (inner w + 1) = omega arith in
     let f : inner w < length w = omega arith in
     let fits : suc (inner w + 1) ≤ length (b ∷ w) = omega arith in
-    rw n (longest_is (b ∷ w) (suc (inner w + 1)) (Token kind.Text) (omega arith) fits (quote_first b (take (inner w + 1) w) e ∙ is_closed w f) longer)
+    rw n (longest_is (b ∷ w) (suc (inner w + 1)) (Token symbol.Text) (omega arith) fits (quote_first b (take (inner w + 1) w) e ∙ is_closed w f) longer)
   where
     longer : (m : ℕ) → suc (prefix_len (λ b. not (b == 34)) w + 1) < m → m ≤ length (b ∷ w) → piece_of (take m (b ∷ w)) ≡ None
     longer zero low high = absurd (omega arith)
@@ -91,7 +91,7 @@ inner_fits text n l e =
     let f : n ≡ prefix_len (λ b. not (b == 34)) (drop 1 text) = named text n e in
     omega (arith, prefix_len-le-length (λ b. not (b == 34)) (drop 1 text), length-drop 1 text)
 
-pub text_found : (text : List ℕ) (n : ℕ) → get_or text 0 0 ≡ 34 → IsInner text n → n + 1 < length text → longest text ≡ Some (record { piece = Token kind.Text; len = n + 2 })
+pub text_found : (text : List ℕ) (n : ℕ) → get_or text 0 0 ≡ 34 → IsInner text n → n + 1 < length text → longest text ≡ Some (record { piece = Token symbol.Text; len = n + 2 })
 text_found text n q e l = let f : n ≡ prefix_len (λ b. not (b == 34)) (drop 1 text) = named text n e in rw f (longest_text text q (rw f at l))
 
 pub text_open : (text : List ℕ) (n : ℕ) → get_or text 0 0 ≡ 34 → IsInner text n → length text ≤ n + 1 → longest text ≡ Some (record { piece = Fault Unclosed; len = length text })

@@ -1,15 +1,16 @@
 // Cutting a text: one pass, in which the longest piece at each place is taken.
 
-ghost use Rattle.std.specs.Prelude.{◌≡◌, ◌<◌, ◌+◌, ◌==◌, ◌&&◌, true, nat_le, not, take, length, slice_index, codes, IfOk, IsNone, ◌↔◌, nat_eq, Some};
+ghost use Rattle.std.specs.Prelude.{◌≡◌, ◌<◌, ◌+◌, ◌==◌, ◌&&◌, true, not, length, slice_index, codes, IfOk, IsNone, ◌↔◌, nat_eq, Some};
 ghost use Rattle.std.specs.Char.{is_ascii_digit};
 ghost use Rattle.std.specs.List.{prefix_len, starts_with};
-ghost use Rattle.tlsf_tokens.specs.Words.{is_name_start, is_name_part, is_among, signs};
+ghost use Rattle.tlsf_tokens.specs.Words.{is_name_part};
 ghost use Rattle.tlsf_tokens.specs.Pieces.{BeginsSign};
-ghost use Rattle.tlsf_tokens.specs.Cuts.{longest, Stops, Cuts, IsInOrder, AreFormed, HasGapsAround};
+ghost use Rattle.tlsf_tokens.specs.Cuts.{longest, sign_front, Stops, Cuts, IsInOrder, AreFormed, HasGapsAround};
 
-use crate::code::SpecCode;
-use crate::token::{Front, Piece, Token, TokenKind, TokenList};
+use crate::symbol::Symbol;
+use crate::token::{Front, Piece, Token, TokenList};
 use crate::words;
+use spec_faults::SpecCode;
 use std::alloc::{AllocError, Global};
 
 /// How many bytes at the front go on with a name.
@@ -41,7 +42,7 @@ fn quoted(rest: &[u8]) -> Front
     let inner = len_before(b'"', &rest[1..]);
     if inner + 1 < rest.len() {
         Front {
-            piece: Piece::Token(TokenKind::Text),
+            piece: Piece::Token(Symbol::Text),
             len: inner + 2,
         }
     } else {
@@ -91,36 +92,35 @@ fn comment(rest: &[u8]) -> Front
     }
 }
 
-/// Whether the first bytes, so many, are a sign.
-fn has_sign(rest: &[u8], len: usize) -> bool
-    ensures { result ≡ (nat_le len (length rest.now) && is_among signs (take len rest.now)) }
+/// The sign of so many bytes at the front.
+fn sign_front(rest: &[u8], len: usize) -> Option<Front>
+    ensures { result ≡ sign_front len rest.now }
 {
-    len <= rest.len() && words::is_sign(&rest[..len])
+    if len > rest.len() {
+        return None;
+    }
+    let symbol = words::sign(&rest[..len])?;
+    Some(Front {
+        piece: Piece::Token(symbol),
+        len,
+    })
 }
 
 /// A text that begins with none of a name, a number, a quote, a blank and a comment.
+#[tactic(auto, using(crate::proofs::Signs::longest_sign, crate::proofs::Signs::longest_tilde))]
 fn sign(rest: &[u8]) -> Option<Front>
     requires { BeginsSign rest.now }
     ensures { longest rest.now ≡ result }
 {
-    let len = if has_sign(rest, 3) {
-        3
-    } else if has_sign(rest, 2) {
-        2
-    } else if has_sign(rest, 1) {
-        1
-    } else if rest[0] == b'~' {
+    if rest[0] == b'~' {
         return Some(Front {
             piece: Piece::Fault(SpecCode::Unsupported),
             len: 1,
         });
-    } else {
-        return None;
-    };
-    Some(Front {
-        piece: Piece::Token(TokenKind::Sign),
-        len,
-    })
+    }
+    sign_front(rest, 3)
+        .or(sign_front(rest, 2))
+        .or(sign_front(rest, 1))
 }
 
 /// What stands at the front of a text that isn't empty, if anything of TLSF does.
@@ -137,7 +137,7 @@ fn front(rest: &[u8]) -> Option<Front>
         })
     } else if first.is_ascii_digit() {
         Some(Front {
-            piece: Piece::Token(TokenKind::Number),
+            piece: Piece::Token(Symbol::Number),
             len: digits_len(rest),
         })
     } else if first == b'"' {
@@ -185,10 +185,10 @@ fn cut(alloc: Global, text: &[u8]) -> Result<TokenList, AllocError>
                 });
             }
             Piece::Gap => {}
-            Piece::Token(kind) => {
+            Piece::Token(symbol) => {
                 let end = (at + found.len) as u64;
                 tokens.push(Token {
-                    kind,
+                    symbol,
                     start: stop_at,
                     end,
                 })?;

@@ -1,25 +1,12 @@
 // What a text is cut into.
 
-use crate::code::SpecCode;
-
-/// The sort of a token. Which sign or keyword it is, its text tells.
-#[derive(Clone, Copy, Debug, PartialEq, Eq)]
-pub enum TokenKind {
-    /// A name that isn't a keyword.
-    Ident,
-    /// A longest run of digits, whatever its length.
-    Number,
-    /// What stands between two quotes, the quotes with it.
-    Text,
-    /// A sign, or one of the words `NOT`, `AND`, `OR`, `IMPLIES` and `EQUIV`.
-    Sign,
-    Keyword,
-}
+use crate::symbol::Symbol;
+use spec_faults::SpecCode;
 
 /// A token by its place: from its first byte to the byte after its last. Its text is that slice of the source.
 #[derive(Clone, Copy, Debug, PartialEq, Eq)]
 pub struct Token {
-    pub kind: TokenKind,
+    pub symbol: Symbol,
     pub start: u64,
     pub end: u64,
 }
@@ -39,7 +26,7 @@ pub struct TokenList {
 pub enum Piece {
     /// A blank or a whole comment.
     Gap,
-    Token(TokenKind),
+    Token(Symbol),
     /// An opener that isn't closed, or what TLSF has and this profile refuses.
     Fault(SpecCode),
 }

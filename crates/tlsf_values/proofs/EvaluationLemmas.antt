@@ -2,21 +2,21 @@
 use Rattle.std.proofs.Common.{◌≡◌, ℕ, ℤ, Bool, false, None, ◌+◌, ◌<◌, List, [], ◌∷◌, length, map, take, drop, get_or, ◌-◌, refl, sym, ap, ◌∙◌, arith}
 use Rattle.std.proofs.lemmas.Bool.{eq-eqb, ne_eqb}
 use Rattle.std.proofs.lemmas.List.{length-map, length-drop, take_all, at_drop_more, get_or_default}
-use Rattle.tlsf_tree.specs.declared.expr.Expr.{Expr}
-use Rattle.tlsf_tree.specs.declared.expr.Word.{Word}
-use Rattle.tlsf_tree.specs.declared.expr.Link.{Link}
-use Rattle.tlsf_tree.specs.declared.expr.Range.{Range}
-use Rattle.tlsf_tree.specs.declared.spec.Alternative.{Alternative}
+use Rattle.tlsf_syntax.specs.declared.expr.Expr.{Expr}
+use Rattle.tlsf_syntax.specs.declared.expr.Word.{Word}
+use Rattle.tlsf_syntax.specs.declared.expr.Link.{Link}
+use Rattle.tlsf_syntax.specs.declared.expr.Range.{Range}
+use Rattle.tlsf_syntax.specs.declared.spec.Alternative.{Alternative}
 use Rattle.tlsf_values.specs.declared.formula.Connective.{Connective}
 use Rattle.tlsf_values.specs.Sorts.{bus_in, formula_in, number_in, set_in}
-use Rattle.tlsf_tokens.specs.declared.code.SpecCode.TheVariants.{WrongSort}
-use Rattle.tlsf_grammar.specs.Tree.{Body, members, between}
+use Rattle.spec_faults.specs.declared.code.SpecCode.TheVariants.{WrongSort}
+use Rattle.tlsf_syntax.specs.Tree.{Body, members, between}
 use Rattle.tlsf_values.specs.declared.work.Work.{Work}
 use Rattle.tlsf_values.specs.declared.value.Value.{Value}
 use Rattle.tlsf_values.specs.Names.{Names, Binding, Meaning, a_definition, bus_at, look_up}
 use Rattle.tlsf_values.specs.Operators.{operated}
 use Rattle.tlsf_values.specs.Outcomes.{fails, fine, gives, go_on, checked}
-use Rattle.tlsf_values.specs.Seen.{alternative_seen, expr_seen, word_seen, trees_seen, link_list_seen, range_list_seen}
+use Rattle.tlsf_syntax.specs.Seen.{alternative_seen, expr_seen, word_seen, trees_seen, link_list_seen, range_list_seen}
 use Rattle.tlsf_values.specs.Values.{Evaluator, arguments_at, chosen_value, guard_value, big_value, bind, bit_value, index_value, word_value, call_value, chain_value, high_of, low_of, run_of, tree_count}
 use Rattle.tlsf_values.specs.Counts.{joined_over}
 use Rattle.tlsf_values.specs.declared.value.Value.TheVariants.{Number}

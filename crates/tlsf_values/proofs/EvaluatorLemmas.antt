@@ -1,12 +1,12 @@
 -- The evaluator at one depth by that at the next one.
 use Rattle.std.proofs.Common.{◌≡◌, ℕ, zero, suc, ◌-◌, ◌≤◌, List, refl, ap, arith}
-use Rattle.tlsf_tree.specs.declared.expr.Expr.{Expr}
-use Rattle.tlsf_tokens.specs.declared.code.SpecCode.TheVariants.{TooDeep}
-use Rattle.tlsf_grammar.specs.Tree.{Body}
+use Rattle.tlsf_syntax.specs.declared.expr.Expr.{Expr}
+use Rattle.spec_faults.specs.declared.code.SpecCode.TheVariants.{TooDeep}
+use Rattle.tlsf_syntax.specs.Tree.{Body}
 use Rattle.tlsf_values.specs.declared.work.Work.{Work}
 use Rattle.tlsf_values.specs.Names.{Names, Binding}
 use Rattle.tlsf_values.specs.Outcomes.{fails, go_on, counted}
-use Rattle.tlsf_values.specs.Seen.{expr_seen}
+use Rattle.tlsf_syntax.specs.Seen.{expr_seen}
 use Rattle.tlsf_values.specs.Values.{evaluator, form_value, body_value}
 use Rattle.tlsf_values.proofs.SeenLemmas.{start_seen}
 

@@ -3,9 +3,9 @@ use Rattle.std.proofs.Common.{◌≡◌, ℕ, zero, ℤ, FitsSigned, w64, pos, n
 use Rattle.std.proofs.Math.Nat.{mul-le-mul_right, suc-mul}
 use Rattle.std.proofs.lemmas.Int.{ints}
 use Rattle.std.specs.Prelude.{unsigned_abs}
-use Rattle.tlsf_grammar.specs.Tree.{Named}
-use Rattle.tlsf_tree.specs.declared.expr.Range.{Range}
-use Rattle.tlsf_values.specs.Seen.{expr_seen, range_list_seen, word_seen}
+use Rattle.tlsf_syntax.specs.Tree.{Named}
+use Rattle.tlsf_syntax.specs.declared.expr.Range.{Range}
+use Rattle.tlsf_syntax.specs.Seen.{expr_seen, range_list_seen, word_seen}
 use Rattle.tlsf_values.specs.declared.formula.Formula.{Formula}
 use Rattle.tlsf_values.specs.declared.levels.Big.{Big}
 use Rattle.tlsf_values.specs.declared.value.Value.TheVariants.{Number}
@@ -14,15 +14,12 @@ use Rattle.tlsf_values.specs.Counts.{joined_with}
 use Rattle.tlsf_values.specs.LevelsSeen.{IsLess, IsOnward, after, level_value, pending, turns}
 use Rattle.tlsf_values.specs.MembersSeen.{members_seen}
 use Rattle.tlsf_values.specs.declared.levels.Level.{Level}
-use Rattle.tlsf_tree.specs.declared.expr.Word.{Word}
+use Rattle.tlsf_syntax.specs.declared.expr.Word.{Word}
 use Rattle.tlsf_values.specs.Steps.{numbers_from}
 use Rattle.tlsf_values.specs.Names.{Binding}
 use Rattle.tlsf_values.specs.Outcomes.{Outcome, fails, gives, go_on}
 use Rattle.tlsf_values.specs.Values.{Evaluator, big_value, bind, natural, run_of}
-
-pub go_on_assoc : {A B C : Type 0} (o : Outcome A) (f : A → Work → Outcome B) (g : B → Work → Outcome C) → go_on (go_on o f) g ≡ go_on o (λ a w. go_on (f a w) g)
-go_on_assoc (gives a w) f g = refl
-go_on_assoc (fails code place) f g = refl
+use Rattle.tlsf_values.proofs.OutcomeLemmas.{go_on_assoc}
 
 -- the first member of a level
 pub level_step : (r : Evaluator) (b : Big) (bound : List Binding) (word : Named) (inner : List Range) (all rest : List ℤ) (z : ℤ) (so_far : Option Formula) (w : Work) (k : Formula → Work → Outcome Formula) → all ≡ z ∷ rest →

@@ -9,10 +9,9 @@ pub mod EvaluatorLemmas
 pub mod EvaluationLemmas
 pub mod PartLemmas
 pub mod CopyLemmas
-pub mod CheckedLemmas
 pub mod GrowLemmas
-pub mod FormLemmas
-pub mod MeaningLemmas
 pub mod RisingLemmas
 pub mod SetLemmas
+pub mod MergeLemmas
 pub mod LevelLemmas
+pub mod OutcomeLemmas

@@ -2,20 +2,16 @@
 use Rattle.std.proofs.Common.{◌≡◌, ℕ, ◌+◌, ◌<◌, false, List, [], ◌∷◌, ◌++◌, length, get_or, drop, map, Option, None, Some, refl, sym, ap, subst, ◌∙◌}
 use Rattle.std.proofs.lemmas.List.{append-nil, at_drop_more}
 use Rattle.ltl_formula.specs.declared.nodes.FormulaId.{FormulaId}
-use Rattle.tlsf_tokens.specs.declared.code.SpecFault.{SpecFault}
-use Rattle.tlsf_tokens.specs.declared.code.SpecFault.TheVariants.{NoMemory, At}
-use Rattle.tlsf_tree.specs.declared.spec.Member.{Member}
-use Rattle.tlsf_grammar.specs.Tree.{Pattern}
+use Rattle.spec_faults.specs.declared.code.SpecFault.{SpecFault}
+use Rattle.tlsf_syntax.specs.declared.spec.Member.{Member}
+use Rattle.tlsf_syntax.specs.Tree.{Pattern}
 use Rattle.tlsf_values.specs.declared.formula.Pairing.TheVariants as pairing
 use Rattle.tlsf_values.specs.declared.work.Work.{Work}
-use Rattle.tlsf_values.specs.Outcomes.{Outcome, gives, fails, go_on}
+use Rattle.tlsf_values.specs.Outcomes.{Outcome, gives, go_on}
 use Rattle.tlsf_values.specs.Patterns.{joined_to, or_truth, bits_made, values_joined, all_values, values_made}
 use Rattle.tlsf_values.specs.Results.{IsFault}
-use Rattle.tlsf_values.specs.Seen.{pattern_seen, member_seen}
-
-pub go_on_twice : {A B C : Type 0} (o : Outcome A) (f : A → Work → Outcome B) (g : B → Work → Outcome C) → go_on (go_on o f) g ≡ go_on o (λ a w. go_on (f a w) g)
-go_on_twice (gives a w) f g = refl
-go_on_twice (fails code place) f g = refl
+use Rattle.tlsf_syntax.specs.Seen.{pattern_seen, member_seen}
+use Rattle.tlsf_values.proofs.OutcomeLemmas.{fault_goes_on, go_on_assoc}
 
 -- values are joined to those before, and then those after them
 pub values_then : (place first : ℕ) (ps qs : List Pattern) (so_far : Option FormulaId) (w : Work) →
@@ -25,8 +21,8 @@ values_then place first (p ∷ ps) qs so_far w =
     let rest : Option FormulaId → Work → Outcome FormulaId = λ joined w. values_made place first qs joined w in
     let more : FormulaId → Work → Outcome (Option FormulaId) = λ either w. values_joined place first ps (Some either) w in
     (λ i. go_on (bits_made place first p.bits None w) (λ id w. go_on (joined_to place pairing.Or so_far id w) (λ either w. values_then place first ps qs (Some either) w i)))
-    ∙ sym (go_on_twice (bits_made place first p.bits None w) (λ id w. go_on (joined_to place pairing.Or so_far id w) more) rest
-    ∙ (λ i. go_on (bits_made place first p.bits None w) (λ id w. go_on_twice (joined_to place pairing.Or so_far id w) more rest i)))
+    ∙ sym (go_on_assoc (bits_made place first p.bits None w) (λ id w. go_on (joined_to place pairing.Or so_far id w) more) rest
+    ∙ (λ i. go_on (bits_made place first p.bits None w) (λ id w. go_on_assoc (joined_to place pairing.Or so_far id w) more rest i)))
 
 -- all values joined, or false where there is none
 pub values_end : (place first : ℕ) (ps : List Pattern) (so_far : Option FormulaId) (w : Work) →
@@ -39,8 +35,7 @@ values_given place first ps qs so_far joined w v e = values_then place first ps 
 
 pub values_fault : (place first : ℕ) (ps qs : List Pattern) (so_far : Option FormulaId) (w : Work) (e : SpecFault) → IsFault (values_joined place first ps so_far w) e →
     IsFault (values_made place first (ps ++ qs) so_far w) e
-values_fault place first ps qs so_far w NoMemory h = tt
-values_fault place first ps qs so_far w (At code at) h = values_then place first ps qs so_far w ∙ ap (λ o. go_on o (λ joined w. values_made place first qs joined w)) h
+values_fault place first ps qs so_far w e h = subst (λ o. IsFault o e) (sym (values_then place first ps qs so_far w)) (fault_goes_on (values_joined place first ps so_far w) _ e h)
 
 -- ---- members in their order
 
@@ -63,5 +58,4 @@ member_fault place first members i m so_far w e below is h =
 
 pub end_fault : (place first : ℕ) (ps : List Pattern) (so_far : Option FormulaId) (w : Work) (e : SpecFault) → IsFault (values_joined place first ps so_far w) e →
     IsFault (values_made place first ps so_far w) e
-end_fault place first ps so_far w NoMemory h = tt
-end_fault place first ps so_far w (At code at) h = values_end place first ps so_far w ∙ ap (λ o. go_on o (λ joined w. or_truth place false joined w)) h
+end_fault place first ps so_far w e h = subst (λ o. IsFault o e) (sym (values_end place first ps so_far w)) (fault_goes_on (values_joined place first ps so_far w) _ e h)

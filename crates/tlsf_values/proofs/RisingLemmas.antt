@@ -1,5 +1,5 @@
 -- Lists of numbers that rise strictly are the same where the same numbers are in them.
-use Rattle.std.proofs.Common.{◌≡◌, Bool, true, false, ◌||◌, ◌&&◌, List, [], ◌∷◌, filter, ℤ, refl, sym, ap, subst, ◌∙◌}
+use Rattle.std.proofs.Common.{◌≡◌, Bool, true, false, ◌||◌, ◌&&◌, List, [], ◌∷◌, filter, ℤ, refl, sym, ap, subst, ◌∙◌, arith}
 use Rattle.std.specs.declared.cmp.Ordering.{Ordering}
 use Rattle.std.specs.declared.cmp.Ordering.TheVariants.{Less, Equal, Greater}
 use Rattle.std.specs.BTreeSet.{insert_key}
@@ -8,6 +8,8 @@ use Rattle.std.specs.List.{AllByRecursion}
 use Rattle.std.specs.List.Sorted.{IsStrictlySortedBy}
 use Rattle.std.specs.Ordering.{int_cmp, int_eq, is_eq, match_ordering, ordering_reverse}
 use Rattle.std.proofs.lemmas.Bool.Decides.{Decides-int_eq}
+use Rattle.std.proofs.lemmas.Grind.{common_steps}
+use Rattle.std.proofs.lemmas.Int.{ints}
 use Rattle.std.proofs.lemmas.Cmp.{int_cmp_total, int_eq_equiv}
 use Rattle.std.proofs.lemmas.List.Kept.{IsStrictlySortedBy-filter}
 use Rattle.std.proofs.lemmas.Map.Lookups.{exact_signed}
@@ -17,7 +19,7 @@ use Rattle.tlsf_values.specs.Sets.{is_in, union, set_of}
 abbrev pub Rises : List ℤ → Type 0
 Rises xs = IsStrictlySortedBy int_cmp xs
 
-abbrev Above : ℤ → List ℤ → Type 0
+abbrev pub Above : ℤ → List ℤ → Type 0
 Above x ys = AllByRecursion (λ y. int_cmp x y ≡ Less) ys
 
 cmp-self : (x : ℤ) → int_cmp x x ≡ Equal
@@ -29,11 +31,7 @@ eq-self x = ap is_eq (cmp-self x)
 pub same_number : (x y : ℤ) → int_eq x y ≡ true → x ≡ y
 same_number x y h = (Decides-int_eq x y).0 h
 
--- of two numbers neither is below the other both ways
-not_both : (x y : ℤ) → int_cmp x y ≡ Less → int_cmp y x ≡ Less → Less ≡ Greater
-not_both x y h g = sym h ∙ int_cmp_total.antisymm x y ∙ ap ordering_reverse g
-
-above-is_in : (x : ℤ) (ys : List ℤ) (z : ℤ) → Above x ys → is_in ys z ≡ true → int_cmp x z ≡ Less
+pub above-is_in : (x : ℤ) (ys : List ℤ) (z : ℤ) → Above x ys → is_in ys z ≡ true → int_cmp x z ≡ Less
 above-is_in x [] z a h = absurd cc
 above-is_in x (y ∷ ys) z a h = by (int_eq z y) refl (above-is_in x ys z a.1) h
   where
@@ -41,11 +39,11 @@ above-is_in x (y ∷ ys) z a h = by (int_eq z y) refl (above-is_in x ys z a.1) h
     by true e further k = subst (λ w. int_cmp x w ≡ Less) (sym (same_number z y e)) a.0
     by false e further k = further k
 
-above-not_in : (x : ℤ) (ys : List ℤ) → Above x ys → is_in ys x ≡ false
+pub above-not_in : (x : ℤ) (ys : List ℤ) → Above x ys → is_in ys x ≡ false
 above-not_in x ys a = by (is_in ys x) refl
   where
     by : (b : Bool) → is_in ys x ≡ b → b ≡ false
-    by true e = let less : int_cmp x x ≡ Less = above-is_in x ys x a e in let same : int_cmp x x ≡ Equal = cmp-self x in absurd cc
+    by true e = let less : int_cmp x x ≡ Less = above-is_in x ys x a e in absurd (grind (arith, ints, common_steps))
     by false e = refl
 
 -- the first of the one isn't below the first of the other
@@ -53,10 +51,8 @@ not_below : (x y : ℤ) (xs ys : List ℤ) → Above y ys → is_in (x ∷ xs) x
 not_below x y xs ys a same less = by (int_eq x y) refl (sym same ∙ ap (λ b. b || is_in xs x) (eq-self x))
   where
     by : (b : Bool) → int_eq x y ≡ b → (b || is_in ys x) ≡ true → ⊥
-    by true e k =
-        let equal : int_cmp x y ≡ Equal = ap (int_cmp x) (sym (same_number x y e)) ∙ cmp-self x in
-        absurd cc
-    by false e k = let apart : Less ≡ Greater = not_both x y less (above-is_in y ys x a k) in absurd cc
+    by true e k = absurd (grind (arith, ints, common_steps))
+    by false e k = let above : int_cmp y x ≡ Less = above-is_in y ys x a k in absurd (grind (arith, ints, common_steps))
 
 pub same_rising : (xs ys : List ℤ) → Rises xs → Rises ys → ((z : ℤ) → is_in xs z ≡ is_in ys z) → xs ≡ ys
 unfolding IsStrictlySortedBy
@@ -86,17 +82,10 @@ same_rising (x ∷ xs) (y ∷ ys) r s same =
     rest z first = rest_by z (int_eq z x) refl first
 
 or_again : (a b : Bool) → (a || b) ≡ (a || (a || b))
-or_again true b = refl
-or_again false b = refl
+or_again a b = grind (arith, common_steps)
 
 or_turn : (a b c : Bool) → (a || (b || c)) ≡ (b || (a || c))
-or_turn true true c = refl
-or_turn true false c = refl
-or_turn false b c = refl
-
-pub or_nested : (a b c : Bool) → ((a || b) || c) ≡ (a || (b || c))
-or_nested true b c = refl
-or_nested false b c = refl
+or_turn a b c = grind (arith, common_steps)
 
 is_in-insert_key : (xs : List ℤ) (k z : ℤ) → is_in (insert_key int_cmp xs k) z ≡ (int_eq z k || is_in xs z)
 is_in-insert_key [] k z = refl
@@ -117,7 +106,7 @@ above-insert_key x (y ∷ ys) k a h = by (int_cmp k y) (above-insert_key x ys k 
     by Equal g = a
     by Greater g = (a.0, g)
 
-above-below : (x y : ℤ) (ys : List ℤ) → int_cmp x y ≡ Less → Above y ys → Above x ys
+pub above-below : (x y : ℤ) (ys : List ℤ) → int_cmp x y ≡ Less → Above y ys → Above x ys
 above-below x y [] h a = tt
 above-below x y (z ∷ zs) h a = (int_cmp_total.trans x y z h a.0, above-below x y zs h a.1)
 
@@ -132,14 +121,11 @@ rises-insert_key (x ∷ xs) k r = by (int_cmp k x) refl (rises-insert_key xs k r
     by Greater e g = (above-insert_key x xs k r.0 (int_cmp_total.antisymm x k ∙ ap ordering_reverse e), g)
 
 pub is_in-union : (xs ys : List ℤ) (z : ℤ) → is_in (union xs ys) z ≡ (is_in xs z || is_in ys z)
-is_in-union xs [] z = or_nothing (is_in xs z)
-  where
-    or_nothing : (b : Bool) → b ≡ (b || false)
-    or_nothing true = refl
-    or_nothing false = refl
+is_in-union xs [] z = grind (arith, common_steps)
 is_in-union xs (y ∷ ys) z =
-    is_in-union (insert_key int_cmp xs y) ys z ∙ ap (λ b. b || is_in ys z) (is_in-insert_key xs y z) ∙ or_nested (int_eq z y) (is_in xs z) (is_in ys z)
-    ∙ or_turn (int_eq z y) (is_in xs z) (is_in ys z)
+    let more : is_in (union (insert_key int_cmp xs y) ys) z ≡ (is_in (insert_key int_cmp xs y) z || is_in ys z) = is_in-union (insert_key int_cmp xs y) ys z in
+    let first : is_in (insert_key int_cmp xs y) z ≡ (int_eq z y || is_in xs z) = is_in-insert_key xs y z in
+    rw (more, first) (grind (arith, common_steps))
 
 pub rises-union : (xs ys : List ℤ) → Rises xs → Rises (union xs ys)
 rises-union xs [] r = r

@@ -1,13 +1,10 @@
 -- What a name means where names are bound.
-use Rattle.std.proofs.Common.{◌≡◌, ℕ, ◌+◌, ◌<◌, ◌≤◌, List, [], ◌∷◌, ◌++◌, length, map, reverse, take, get_or, find, Option, None, Some, refl, sym, ap, ◌∙◌}
+use Rattle.std.proofs.Common.{◌≡◌, ℕ, ◌+◌, ◌<◌, List, [], ◌∷◌, ◌++◌, length, map, reverse, take, get_or, Option, None, Some, refl, sym, ap, ◌∙◌}
 use Rattle.std.specs.Option.{option_map}
-use Rattle.std.specs.Prelude.{if◌then◌else◌}
-use Rattle.std.proofs.lemmas.List.{map-append, reverse-append, take_all, take_more}
+use Rattle.std.proofs.lemmas.List.{map-append, reverse-append, take_more}
 use Rattle.tlsf_values.specs.declared.value.Value.{Value}
 use Rattle.tlsf_values.specs.EnvSeen.{binding_of}
-use Rattle.tlsf_values.specs.Names.{Binding, Meaning, known, known_or, same_name}
-use Rattle.tlsf_values.specs.ScopeSeen.{binding_seen, bindings_seen}
-use Rattle.tlsf_values.specs.declared.scope.Binding.{Binding as CodeBinding}
+use Rattle.tlsf_values.specs.Names.{Binding, Meaning, known, known_or}
 
 -- a bound name is known, as the value that is found
 pub known_found : (found : Option Binding) (v : Value) (m : Meaning) → Some v ≡ option_map (λ b. b.value) found → known v ≡ known_or found m
@@ -18,18 +15,6 @@ known_found (Some b) v m is = let same : v ≡ b.value = cc in ap known same
 pub unbound : (found : Option Binding) (m : Meaning) → None ≡ option_map (λ b. b.value) found → m ≡ known_or found m
 unbound None m is = refl
 unbound (Some b) m is = absurd cc
-
--- of the first bindings the last one is looked at first
-pub last_first : (name : List ℕ) (bs : List CodeBinding) (i : ℕ) (b : CodeBinding) → i < length bs → b ≡ get_or bs i b
-    → find (λ b. same_name b.name name) (bindings_seen (take (i + 1) bs)) ≡ (if same_name b.name.now name then Some (binding_seen b) else find (λ b. same_name b.name name) (bindings_seen (take i bs)))
-last_first name bs i b within at =
-    ap (λ xs. find (λ b. same_name b.name name) (bindings_seen xs)) (take_more bs i b within)
-    ∙ ap (λ x. find (λ b. same_name b.name name) (bindings_seen (take i bs ++ x ∷ []))) (sym at)
-    ∙ ap (λ xs. find (λ b. same_name b.name name) (map binding_seen xs)) (reverse-append (take i bs) (b ∷ []))
-
-pub all_first : (name : List ℕ) (bs : List CodeBinding) (i : ℕ) → length bs ≤ i
-    → find (λ b. same_name b.name name) (bindings_seen bs) ≡ find (λ b. same_name b.name name) (bindings_seen (take i bs))
-all_first name bs i long = ap (λ xs. find (λ b. same_name b.name name) (bindings_seen xs)) (sym (take_all i bs long))
 
 -- one more bound name stands first
 pub bound_more : (bs : List (List ℕ × Value)) (i : ℕ) (b : List ℕ × Value) (scope more : List Binding) → i < length bs → b ≡ get_or bs i b → scope ≡ reverse (map binding_of (take i bs))

@@ -1,31 +1,17 @@
--- The written tree's rows of expressions, links and ranges as plain ones, where an expression begins, and how many there are in a row.
-use Rattle.std.proofs.Common.{◌≡◌, suc, List, [], ◌∷◌, length, refl, ap, ◌∙◌, Vec, Global}
-use mathlib.Core.Former.{Count}
-use Rattle.tlsf_tree.specs.declared.expr.Span.{Span}
-use Rattle.tlsf_tree.specs.declared.expr.Word.{Word}
-use Rattle.tlsf_tree.specs.declared.expr.Expr.{Expr}
-use Rattle.tlsf_tree.specs.declared.expr.Form as form
-use Rattle.tlsf_grammar.specs.Tree as plain
-use Rattle.tlsf_grammar.specs.Tree.{tree_span}
+-- Where an expression begins, its forms that have a list of parts, and how many parts there are.
+use Rattle.std.proofs.Common.{◌≡◌, suc, List, [], ◌∷◌, length, refl, ap, ◌∙◌, Vec, Box, Global}
+use Rattle.tlsf_syntax.specs.declared.expr.Span.{Span}
+use Rattle.tlsf_syntax.specs.declared.expr.Word.{Word}
+use Rattle.tlsf_syntax.specs.declared.expr.Expr.{Expr}
+use Rattle.tlsf_syntax.specs.declared.expr.Link.{Link}
+use Rattle.tlsf_syntax.specs.declared.expr.Op.{Op}
+use Rattle.tlsf_syntax.specs.declared.expr.Range.{Range}
+use Rattle.tlsf_syntax.specs.declared.expr.Form as form
+use Rattle.tlsf_syntax.specs.Tree as plain
+use Rattle.tlsf_syntax.specs.Tree.{tree_span}
+use Rattle.tlsf_syntax.specs.Seen.{form_seen, expr_seen, word_seen, trees_seen, link_list_seen, range_list_seen}
+use Rattle.tlsf_syntax.proofs.Seen.{call_seen, set_seen, chain_seen, big_seen}
 use Rattle.tlsf_values.specs.Values.{tree_count}
-use Rattle.tlsf_values.specs.Seen.{form_seen, expr_seen, word_seen, row_seen, links_seen, range_seen, ranges_seen, trees_seen, link_list_seen, range_list_seen}
-
-pub rows : (n : _) (row : form.Row_of-Expr n) → row_seen row ≡ trees_seen (form.items-the_row-Expr n row)
-rows n form.end_of-Expr = refl
-rows n (form.more_of-Expr s f row) = ap (plain.tree (form_seen s f)) (rows _ row)
-
-pub link_rows : (n : _) (row : form.Row_of-Link n) → links_seen row ≡ link_list_seen (form.items-the_row-Link n row)
-link_rows n form.end_of-Link = refl
-link_rows n (form.more_of-Link o s f row) = ap (plain.link o (form_seen s f)) (link_rows _ row)
-
-pub range_rows : (n : _) (row : form.Row_of-Range n) → ranges_seen row ≡ range_list_seen (form.items-the_row-Range n row)
-range_rows n form.end_of-Range = refl
-range_rows n (form.more_of-Range r row) = ap (range_seen r) (range_rows _ row)
-
-abbrev row_of : form.Form → (n : Count) × form.Row_of-Expr n
-row_of (form.Call' w _ row) = (_, row)
-row_of (form.Set' _ row) = (_, row)
-row_of _ = (_, form.end_of-Expr)
 
 pub span_seen : (s : Span) (f : form.Form) → tree_span (form_seen s f) ≡ s
 span_seen s (form.Number n) = refl
@@ -48,22 +34,17 @@ span_seen s (form.Big' o shape row p t f) = refl
 pub start_seen : (e : Expr) → (tree_span (form_seen e.span e.form)).start ≡ e.span.start
 start_seen e = ap (λ s. s.start) (span_seen e.span e.form)
 
-pub call_seen : (s : Span) (w : Word) (v : Vec Expr Global) → form_seen s (form.Call w v) ≡ plain.call s (word_seen w) (trees_seen v.items)
-call_seen s w v =
-    let row = row_of (form.Call w v) in
-    ap (plain.call s (word_seen w)) (rows row.0 row.1 ∙ ap trees_seen (form.items_hidden-the_row-Expr-0 v))
-
-pub set_seen : (s : Span) (v : Vec Expr Global) → form_seen s (form.Set v) ≡ plain.set s (trees_seen v.items)
-set_seen s v =
-    let row = row_of (form.Set v) in
-    ap (plain.set s) (rows row.0 row.1 ∙ ap trees_seen (form.items_hidden-the_row-Expr-0 v))
-
--- an expression by its form
 pub set_form : (e : Expr) (v : Vec Expr Global) → e.form ≡ form.Set v → expr_seen e ≡ plain.set e.span (trees_seen v.items)
 set_form e v is = ap (form_seen e.span) is ∙ set_seen e.span v
 
 pub call_form : (e : Expr) (w : Word) (v : Vec Expr Global) → e.form ≡ form.Call w v → expr_seen e ≡ plain.call e.span (word_seen w) (trees_seen v.items)
 call_form e w v is = ap (form_seen e.span) is ∙ call_seen e.span w v
+
+pub chain_form : (e : Expr) (b : Box Expr Global) (v : Vec Link Global) → e.form ≡ form.Chain b v → expr_seen e ≡ plain.chain e.span (expr_seen b.value) (link_list_seen v.items)
+chain_form e b v is = ap (form_seen e.span) is ∙ chain_seen e.span b v
+
+pub big_form : (e : Expr) (o : Op) (v : Vec Range Global) (b : Box Expr Global) → e.form ≡ form.Big o v b → expr_seen e ≡ plain.big e.span o (range_list_seen v.items) (expr_seen b.value)
+big_form e o v b is = ap (form_seen e.span) is ∙ big_seen e.span o v b
 
 pub count_seen : (es : List Expr) → tree_count (trees_seen es) ≡ length es
 count_seen [] = refl

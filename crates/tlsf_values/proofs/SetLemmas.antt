@@ -1,20 +1,20 @@
 -- Sets of numbers as lists that rise.
-use Rattle.std.proofs.Common.{◌≡◌, ℕ, ◌<◌, ◌≤◌, inl, inr, Bool, true, false, List, ◌++◌, filter, length, get_or, Result, Ok, Err, ℤ, refl, sym, ap, subst, ◌∙◌, arith}
+use Rattle.std.proofs.Common.{◌≡◌, ℕ, ◌<◌, ◌≤◌, inl, inr, Bool, true, false, List, length, get_or, Result, Ok, Err, ℤ, refl, sym, ap, subst, ◌∙◌, arith}
 use Rattle.std.specs.Prelude.{is_ok}
-use Rattle.std.specs.declared.cmp.Ordering.{Ordering}
 use Rattle.std.specs.declared.cmp.Ordering.TheVariants.{Less, Equal, Greater}
 use Rattle.std.specs.List.{Contains, dedup}
 use Rattle.std.specs.List.Sorted.{IsBinarySearchResult, IsNonDecreasingBy, IsPermutation, IsSearchInRange, IsSorted}
-use Rattle.std.specs.Ordering.{int_cmp, int_eq, is_eq, ordering_index, ordering_reverse}
+use Rattle.std.specs.Ordering.{int_cmp, int_eq, is_eq, ordering_index}
 use Rattle.std.proofs.lemmas.Bool.{cases_eq, cases_lt}
+use Rattle.std.proofs.lemmas.Int.{ints}
+use Rattle.std.proofs.lemmas.Grind.{common_steps}
 use Rattle.std.proofs.lemmas.Cmp.{int_cmp_total, int_eq_equiv}
-use Rattle.std.proofs.lemmas.List.Folds.{list_any-append}
 use Rattle.std.proofs.lemmas.List.Kept.{Contains-dedup, Contains-from_dedup, IsStrictlySortedBy-dedup}
 use Rattle.std.proofs.lemmas.List.Sorted.{list_any-IsPermutation}
 use Rattle.std.proofs.lemmas.Map.Keys.{Less-from_sorted}
 use Rattle.std.proofs.lemmas.Map.Views.{Contains-from_any, list_any-from_Contains}
-use Rattle.tlsf_values.specs.Sets.{is_in, set_of, union}
-use Rattle.tlsf_values.proofs.RisingLemmas.{is_in-union, Rises, rises-filter, rises-set_of, rises-union, same_number, set_of_same}
+use Rattle.tlsf_values.specs.Sets.{is_in, set_of}
+use Rattle.tlsf_values.proofs.RisingLemmas.{Rises, rises-set_of, same_number, set_of_same}
 
 -- a list that is the set of its numbers rises
 pub rises_from : (xs : List ℤ) → set_of xs ≡ xs → Rises xs
@@ -42,40 +42,22 @@ sorted_once xs ys zs moved sorted is =
 pub set_again : (xs ys : List ℤ) → ys ≡ set_of xs → set_of ys ≡ ys
 set_again xs ys is = ap set_of is ∙ is_set_of (set_of xs) (rises-set_of xs) ∙ sym is
 
-equal_is : (o : Ordering) → is_eq o ≡ true → o ≡ Equal
-equal_is Equal h = refl
-equal_is Less h = absurd cc
-equal_is Greater h = absurd cc
-
-turned : (x y : ℤ) → int_cmp x y ≡ Equal → int_cmp y x ≡ Equal
-turned x y h = int_cmp_total.antisymm y x ∙ ap ordering_reverse h
+ranked : (a b x : ℤ) → int_cmp a b ≡ Less → ordering_index (int_cmp a x) ≤ ordering_index (int_cmp b x)
+ranked a b x less = grind (arith, ints, common_steps)
 
 -- a list that rises can be searched
 searchable : (xs : List ℤ) (x : ℤ) → Rises xs → IsNonDecreasingBy (λ y. ordering_index (int_cmp y x)) xs
 searchable xs x rises i j d le within =
     elim (cases_eq i j) [
       | inl same ↦ let at : ordering_index (int_cmp (get_or xs i d) x) ≡ ordering_index (int_cmp (get_or xs j d) x) = ap (λ k. ordering_index (int_cmp (get_or xs k d) x)) same in omega arith
-      | inr other ↦ ranked (get_or xs i d) (get_or xs j d) (int_cmp (get_or xs i d) x) (int_cmp (get_or xs j d) x) refl refl (Less-from_sorted int_cmp xs i j d rises (omega (arith, other)) within)
+      | inr other ↦ ranked (get_or xs i d) (get_or xs j d) x (Less-from_sorted int_cmp xs i j d rises (omega (arith, other)) within)
     ]
-  where
-    ranked : (a b : ℤ) (o p : Ordering) → int_cmp a x ≡ o → int_cmp b x ≡ p → int_cmp a b ≡ Less → ordering_index o ≤ ordering_index p
-    ranked a b Less p h g less = omega arith
-    ranked a b Equal Less h g less = let through : int_cmp a x ≡ Less = int_cmp_total.trans a b x less g in absurd cc
-    ranked a b Equal Equal h g less = omega arith
-    ranked a b Equal Greater h g less = omega arith
-    ranked a b Greater Less h g less = let through : int_cmp a x ≡ Less = int_cmp_total.trans a b x less g in absurd cc
-    ranked a b Greater Equal h g less =
-        let same : int_cmp x a ≡ int_cmp b a = int_cmp_total.congr x b a (turned b x g) in
-        let below : int_cmp x a ≡ Less = int_cmp_total.antisymm x a ∙ ap ordering_reverse h in
-        let above : int_cmp b a ≡ Greater = int_cmp_total.antisymm b a ∙ ap ordering_reverse less in
-        absurd cc
-    ranked a b Greater Greater h g less = omega arith
 
 -- a binary search in a list that rises tells whether the number is in it
 pub found_in : (xs : List ℤ) (x : ℤ) (r : Result ℕ ℕ) → Rises xs → IsSearchInRange r (length xs) → IsBinarySearchResult (λ y. int_cmp y x) xs r → is_ok r ≡ is_in xs x
 found_in xs x (Ok i) rises within at =
-    let same : int_eq x (get_or xs i x) ≡ true = ap is_eq (turned (get_or xs i x) x (at x)) in
-    let is : get_or xs i x ≡ x = sym (same_number x (get_or xs i x) same) in
+    let equal : int_cmp (get_or xs i x) x ≡ Equal = at x in
+    let is : get_or xs i x ≡ x = same_number (get_or xs i x) x (ap is_eq equal) in
     sym (list_any-from_Contains int_eq_equiv x xs (i, within, is))
 found_in xs x (Err i) rises within at = absent (is_in xs x) refl
   where
@@ -87,16 +69,7 @@ found_in xs x (Err i) rises within at = absent (is_in xs x) refl
       where
         nowhere : (k : ℕ) → k < length xs → get_or xs k x ≡ x → ⊥
         nowhere k inside is =
-            let equal : int_cmp (get_or xs k x) x ≡ Equal = ap (λ y. int_cmp y x) is ∙ equal_is (int_cmp x x) (int_eq_equiv.refl x) in
             elim (cases_lt k i) [
-              | inl before ↦ let less : int_cmp (get_or xs k x) x ≡ Less = (at (searchable xs x rises)).0 k x (omega arith) before in absurd cc
-              | inr after ↦ let greater : int_cmp (get_or xs k x) x ≡ Greater = (at (searchable xs x rises)).1 k x after inside in absurd cc
+              | inl before ↦ let less : int_cmp (get_or xs k x) x ≡ Less = (at (searchable xs x rises)).0 k x (omega arith) before in absurd (grind (arith, ints, common_steps))
+              | inr after ↦ let greater : int_cmp (get_or xs k x) x ≡ Greater = (at (searchable xs x rises)).1 k x after inside in absurd (grind (arith, ints, common_steps))
             ]
-
-pub filtered_set : (p : ℤ → Bool) (xs ys : List ℤ) → set_of xs ≡ xs → ys ≡ filter p xs → set_of ys ≡ ys
-filtered_set p xs ys is made = is_set_of ys (subst Rises (sym made) (rises-filter p xs (rises_from xs is)))
-
--- the set of two lists one after the other is the union of their sets
-pub set_of_both : (xs ys both : List ℤ) → Rises xs → both ≡ xs ++ ys → set_of both ≡ union xs ys
-set_of_both xs ys both rises is =
-    ap set_of is ∙ set_of_same (xs ++ ys) (union xs ys) (rises-union xs ys rises) (λ z. list_any-append (int_eq z) xs ys ∙ sym (is_in-union xs ys z))

@@ -1,14 +1,15 @@
 -- Numbers that are stepped through.
-use Rattle.std.proofs.Common.{◌≡◌, ℕ, suc, ◌-◌, ◌/◌, ◌<◌, Bool, true, false, cond, ltb, List, [], ◌∷◌, ◌++◌, ℤ, Option, Some, pos, ◌+ℤ◌, ◌-ℤ◌, FitsSigned, w64, refl, sym, ap, ◌∙◌, arith}
+use Rattle.std.proofs.Common.{◌≡◌, ℕ, suc, ◌-◌, ◌/◌, ◌<◌, Bool, true, false, cond, ltb, List, [], ◌∷◌, ◌++◌, ℤ, Option, Some, pos, ◌+ℤ◌, ◌-ℤ◌, refl, sym, ap, ◌∙◌, arith}
 use Rattle.std.proofs.lemmas.List.{append_assoc}
-use Rattle.std.specs.Prelude.{int_lt, unsigned_abs}
+use Rattle.std.specs.Prelude.{unsigned_abs}
 use Rattle.std.specs.Ordering.{int_eq}
 use Rattle.std.proofs.Math.Nat.{div-eq_of_lt, div-eq-sub-div}
 use Rattle.std.proofs.lemmas.Bool.{ltb-true, ltb-false}
 use Rattle.std.proofs.lemmas.Int.{ints}
+use Rattle.std.proofs.lemmas.Grind.{common_steps}
+use Rattle.tlsf_values.specs.Steps.{numbers_from, passes, left_from, rest_from, those_from, step_count, stepped}
 use Rattle.tlsf_values.specs.Outcomes.{counted, gives}
 use Rattle.tlsf_values.specs.Values.{steps_value}
-use Rattle.tlsf_values.specs.Steps.{numbers_from, passes, steps_to, left_from, rest_from, those_from, step_count, stepped}
 use Rattle.tlsf_values.specs.Sets.{set_of}
 use Rattle.tlsf_values.specs.declared.work.Work.{Work}
 use Rattle.tlsf_values.specs.declared.value.Value.{Value}
@@ -24,30 +25,13 @@ divided d s some = by (ltb d s) refl
 pub nonzero : (z : ℤ) → int_eq z (pos 0) ≡ false → 0 < unsigned_abs z
 nonzero z e = grind (arith, ints)
 
-pub passes_up : (z step last : ℤ) → int_lt (pos 0) step ≡ true → int_lt last z ≡ false → int_lt last (z +ℤ step) ≡ ltb (unsigned_abs (last -ℤ z)) (unsigned_abs step)
-passes_up z step last up here = grind (arith, ints)
-
-pub passes_down : (z step last : ℤ) → int_lt (pos 0) step ≡ false → int_lt z last ≡ false → int_lt (z +ℤ step) last ≡ ltb (unsigned_abs (last -ℤ z)) (unsigned_abs step)
-passes_down z step last down here = grind (arith, ints)
-
-pub left_up : (z step last : ℤ) → int_lt (pos 0) step ≡ true → int_lt last z ≡ false → ltb (unsigned_abs (last -ℤ z)) (unsigned_abs step) ≡ false →
-    unsigned_abs (last -ℤ (z +ℤ step)) ≡ unsigned_abs (last -ℤ z) - unsigned_abs step
-left_up z step last up here more = grind (arith, ints)
-
-pub left_down : (z step last : ℤ) → int_lt (pos 0) step ≡ false → int_lt z last ≡ false → ltb (unsigned_abs (last -ℤ z)) (unsigned_abs step) ≡ false →
-    unsigned_abs (last -ℤ (z +ℤ step)) ≡ unsigned_abs (last -ℤ z) - unsigned_abs step
-left_down z step last down here more = grind (arith, ints)
-
 -- one step further the last number is passed where it is nearer than a step
-pub crosses : (u : Bool) (z step last : ℤ) → int_lt (pos 0) step ≡ u → cond u (int_lt last z) (int_lt z last) ≡ false →
-    cond u (int_lt last (z +ℤ step)) (int_lt (z +ℤ step) last) ≡ ltb (unsigned_abs (last -ℤ z)) (unsigned_abs step)
-crosses true z step last up here = passes_up z step last up here
-crosses false z step last down here = passes_down z step last down here
+crosses : (z step last : ℤ) → passes z step last ≡ false → passes (z +ℤ step) step last ≡ ltb (unsigned_abs (last -ℤ z)) (unsigned_abs step)
+crosses z step last here = grind (arith, ints, common_steps)
 
-pub nearer : (u : Bool) (z step last : ℤ) → int_lt (pos 0) step ≡ u → cond u (int_lt last z) (int_lt z last) ≡ false → ltb (unsigned_abs (last -ℤ z)) (unsigned_abs step) ≡ false →
+nearer : (z step last : ℤ) → passes z step last ≡ false → ltb (unsigned_abs (last -ℤ z)) (unsigned_abs step) ≡ false →
     unsigned_abs (last -ℤ (z +ℤ step)) ≡ unsigned_abs (last -ℤ z) - unsigned_abs step
-nearer true z step last up here more = left_up z step last up here more
-nearer false z step last down here more = left_down z step last down here more
+nearer z step last here more = grind (arith, ints, common_steps)
 
 -- the first number that is left, and then those from the next one on
 pub left_step : (z step last : ℤ) → int_eq step (pos 0) ≡ false → passes z step last ≡ false → left_from z step last ≡ suc (left_from (z +ℤ step) step last)
@@ -64,30 +48,17 @@ left_step z step last some here =
     next = unsigned_abs (last -ℤ (z +ℤ step)) / s
 
     crossed : passes (z +ℤ step) step last ≡ ltb d s
-    crossed = crosses (int_lt (pos 0) step) z step last refl here
+    crossed = crosses z step last here
 
     by : (b : Bool) → ltb d s ≡ b → cond b 0 (suc ((d - s) / s)) ≡ left_from (z +ℤ step) step last
     by true e = sym (ap (λ b. cond b 0 (suc next)) (crossed ∙ e))
-    by false e = ap (λ n. suc (n / s)) (sym (nearer (int_lt (pos 0) step) z step last refl here e)) ∙ sym (ap (λ b. cond b 0 (suc next)) (crossed ∙ e))
+    by false e = ap (λ n. suc (n / s)) (sym (nearer z step last here e)) ∙ sym (ap (λ b. cond b 0 (suc next)) (crossed ∙ e))
 
 pub rest_step : (z step last : ℤ) → int_eq step (pos 0) ≡ false → passes z step last ≡ false → rest_from z step last ≡ z ∷ rest_from (z +ℤ step) step last
 rest_step z step last some here = ap (numbers_from z step) (left_step z step last some here)
 
 pub step_some : (first second : ℤ) → int_eq first second ≡ false → int_eq (second -ℤ first) (pos 0) ≡ false
 step_some first second e = grind (arith, ints)
-
--- a number that isn't passed fits, where the one before it does
-fits_by : (u : Bool) (before by last : ℤ) → FitsSigned w64 before → FitsSigned w64 last → int_lt (pos 0) by ≡ u →
-    cond u (int_lt last (before +ℤ by)) (int_lt (before +ℤ by) last) ≡ false → FitsSigned w64 (before +ℤ by)
-fits_by true before by last f l up here = grind (arith, ints)
-fits_by false before by last f l down here = grind (arith, ints)
-
-pub fits_next : (before by last : ℤ) → FitsSigned w64 before → FitsSigned w64 last → passes (before +ℤ by) by last ≡ false → FitsSigned w64 (before +ℤ by)
-fits_next before by last f l here = fits_by (int_lt (pos 0) by) before by last f l refl here
-
--- none are left behind the last one
-pub rest_none : (z by last : ℤ) → passes z by last ≡ true → rest_from z by last ≡ []
-rest_none z by last here = ap (λ b. numbers_from z by (cond b 0 (suc (steps_to z by last)))) here
 
 -- ---- the numbers of a written set
 

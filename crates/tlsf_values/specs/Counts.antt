@@ -2,9 +2,9 @@
 use Rattle.std.specs.Prelude.{ℕ, zero, suc, ◌+◌, ◌-◌, Bool, true, false, nat_le, List, [], ◌∷◌, Option, None, Some, ℤ, pos, negsuc}
 use Rattle.ltl_formula.specs.declared.nodes.FormulaId.{FormulaId}
 use Rattle.ltl_formula.specs.declared.nodes.Node.TheVariants as node
-use Rattle.tlsf_tokens.specs.declared.code.SpecCode.TheVariants.{NumberRange}
-use Rattle.tlsf_tree.specs.declared.expr.Op.{Op}
-use Rattle.tlsf_tree.specs.declared.expr.Op.TheVariants as op
+use Rattle.spec_faults.specs.declared.code.SpecCode.TheVariants.{NumberRange}
+use Rattle.tlsf_syntax.specs.declared.expr.Op.{Op}
+use Rattle.tlsf_syntax.specs.declared.expr.Op.TheVariants as op
 use Rattle.tlsf_values.specs.declared.work.Work.{Work}
 use Rattle.tlsf_values.specs.declared.value.Value.{Value}
 use Rattle.tlsf_values.specs.declared.value.Value.TheVariants.{Flat}

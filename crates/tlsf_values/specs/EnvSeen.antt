@@ -1,12 +1,12 @@
 -- What stands around an expression: bound names, and the numbers of signals.
 use Rattle.std.specs.Prelude.{ℕ, List, [], ◌∷◌, map, reverse}
 use Rattle.ltl_formula.specs.declared.nodes.Node.{Node}
-use Rattle.tlsf_tree.specs.declared.spec.SpecTree.{SpecTree}
+use Rattle.tlsf_syntax.specs.declared.spec.SpecTree.{SpecTree}
 use Rattle.tlsf_values.specs.declared.value.Value.{Value}
 use Rattle.tlsf_values.specs.declared.text_value.Env.{Env}
 use Rattle.tlsf_values.specs.declared.work.Work.{Work}
 use Rattle.tlsf_values.specs.Names.{Names, Binding, with_signal, with_bus, with_definitions, without_names}
-use Rattle.tlsf_values.specs.Seen.{definition_seen}
+use Rattle.tlsf_syntax.specs.Seen.{definition_seen}
 
 abbrev pub signals_named : Names → List (List ℕ × ℕ) → Names
 signals_named names [] = names

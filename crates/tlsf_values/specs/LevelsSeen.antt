@@ -1,8 +1,8 @@
 -- The ranges of a big operator that are gone over, one inside the other, the innermost first: what comes of what is left of them.
 use Rattle.std.specs.Prelude.{ℕ, zero, suc, ◌+◌, ◌*◌, ◌^◌, ◌≡◌, ◌<◌, ◌≤◌, List, [], ◌∷◌, length, drop, Option, None, Some, ℤ}
-use Rattle.tlsf_tree.specs.declared.expr.Range.{Range}
-use Rattle.tlsf_grammar.specs.Tree.{Named}
-use Rattle.tlsf_values.specs.Seen.{expr_seen, range_list_seen, word_seen}
+use Rattle.tlsf_syntax.specs.declared.expr.Range.{Range}
+use Rattle.tlsf_syntax.specs.Tree.{Named}
+use Rattle.tlsf_syntax.specs.Seen.{expr_seen, range_list_seen, word_seen}
 use Rattle.tlsf_values.specs.declared.formula.Formula.{Formula}
 use Rattle.tlsf_values.specs.declared.levels.Big.{Big}
 use Rattle.tlsf_values.specs.declared.levels.Level.{Level}

@@ -14,11 +14,8 @@ pub mod SectionValues
 pub mod Rows
 pub mod EnvSeen
 pub mod MembersSeen
-pub mod EnumeratedSeen
 pub mod NamesSeen
-pub mod MeaningsSeen
 pub mod ScopeSeen
-pub mod Seen
 pub mod Sets
 pub mod PartsSeen
 pub mod LevelsSeen

@@ -2,7 +2,7 @@
 -- names hide them. This project's profile of TLSF 1.1.
 use Rattle.std.specs.Prelude.{ℕ, Bool, true, false, nat_eq, if◌then◌else◌, List, [], ◌∷◌, ◌++◌, length, slice_index_or, slice_get, Option, None, Some, find}
 use Rattle.std.specs.Cmp.Lexicographic.{pointwise}
-use Rattle.tlsf_grammar.specs.Tree.{Named, Body, plain, Definition, parameter, function, enumeration, Member, Pattern}
+use Rattle.tlsf_syntax.specs.Tree.{Named, Body, plain, Definition, parameter, function, enumeration, Member, Pattern}
 use Rattle.tlsf_values.specs.declared.value.Value.{Value}
 use Rattle.tlsf_values.specs.declared.value.Value.TheVariants.{Bus, EnumValue}
 

@@ -1,7 +1,7 @@
 -- Operations and comparisons of numbers of 64 bits: this project's profile of TLSF 1.1.
 use Rattle.std.specs.Prelude.{ℕ, ◌-◌, ◌^◌, Bool, true, false, ◌&&◌, ℤ, pos, negsuc, ◌+ℤ◌, ◌-ℤ◌, ◌*ℤ◌, int_lt, int_le, int_div, int_rem}
 use Rattle.std.specs.Ordering.{int_eq}
-use Rattle.tlsf_tokens.specs.declared.code.SpecCode.TheVariants.{ZeroDivisor, NumberRange}
+use Rattle.spec_faults.specs.declared.code.SpecCode.TheVariants.{ZeroDivisor, NumberRange}
 use Rattle.tlsf_values.specs.declared.numbers.Arithmetic.{Arithmetic}
 use Rattle.tlsf_values.specs.declared.numbers.Arithmetic.TheVariants.{Mul, Div, Rem, Plus, Minus}
 use Rattle.tlsf_values.specs.declared.numbers.Comparison.{Comparison}

@@ -2,9 +2,9 @@
 -- TLSF 1.1.
 use Rattle.std.specs.Prelude.{ℕ, ℤ}
 use Rattle.std.specs.Ordering.{int_eq}
-use Rattle.tlsf_tokens.specs.declared.code.SpecCode.TheVariants.{WrongSort}
-use Rattle.tlsf_tree.specs.declared.expr.Op.{Op}
-use Rattle.tlsf_tree.specs.declared.expr.Op.TheVariants as op
+use Rattle.spec_faults.specs.declared.code.SpecCode.TheVariants.{WrongSort}
+use Rattle.tlsf_syntax.specs.declared.expr.Op.{Op}
+use Rattle.tlsf_syntax.specs.declared.expr.Op.TheVariants as op
 use Rattle.tlsf_values.specs.declared.work.Work.{Work}
 use Rattle.tlsf_values.specs.declared.value.Value.{Value}
 use Rattle.tlsf_values.specs.declared.value.Value.TheVariants.{Number, Truth, Set, Bus, EnumValue, Flat}

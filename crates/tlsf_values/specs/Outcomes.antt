@@ -5,8 +5,8 @@ use Rattle.ltl_formula.specs.declared.nodes.Node.{Node}
 use Rattle.ltl_formula.specs.declared.nodes.Node.TheVariants as node
 use Rattle.ltl_formula.specs.declared.nodes.TheConstants.{MAX_SIGNALS}
 use Rattle.ltl_formula.specs.Added.{added}
-use Rattle.tlsf_tokens.specs.declared.code.SpecCode.{SpecCode}
-use Rattle.tlsf_tokens.specs.declared.code.SpecCode.TheVariants.{WrongSort, TooManyNodes, ExpandTooLong}
+use Rattle.spec_faults.specs.declared.code.SpecCode.{SpecCode}
+use Rattle.spec_faults.specs.declared.code.SpecCode.TheVariants.{WrongSort, TooManyNodes, ExpandTooLong}
 use Rattle.tlsf_values.specs.declared.work.TheConstants.{MOST_EVALUATIONS}
 use Rattle.tlsf_values.specs.declared.work.Work.{Work}
 

@@ -1,23 +1,22 @@
--- What the code keeps of the values of a written set's parts: their numbers alone.
-use Rattle.std.specs.Prelude.{List, [], ◌∷◌, ◌++◌, Option, None, Some, ℤ, map}
-use Rattle.tlsf_grammar.specs.Tree.{Trees, no_trees, tree}
-use Rattle.tlsf_tokens.specs.declared.code.SpecCode.TheVariants.{WrongSort}
+-- What the code keeps of the values of a written set's parts: their numbers, or the first byte of the first that isn't one.
+use Rattle.std.specs.Prelude.{ℕ, List, [], ◌∷◌, ◌++◌, Option, None, Some, ℤ}
+use Rattle.tlsf_syntax.specs.Tree.{Trees}
+use Rattle.spec_faults.specs.declared.code.SpecCode.TheVariants.{WrongSort}
 use Rattle.tlsf_values.specs.declared.value.Value.{Value}
-use Rattle.tlsf_values.specs.declared.value.Value.TheVariants.{Number}
-use Rattle.tlsf_values.specs.Outcomes.{Outcome, gives, go_on, Checked, fine, faulty}
-use Rattle.tlsf_values.specs.Values.{start_of}
+use Rattle.tlsf_values.specs.declared.work.Work.{Work}
+use Rattle.tlsf_values.specs.Names.{Binding}
+use Rattle.tlsf_values.specs.Outcomes.{Outcome, gives, go_on, Checked, fine, faulty, and_then, checked}
+use Rattle.tlsf_values.specs.Sorts.{number_in}
+use Rattle.tlsf_values.specs.Values.{Evaluator, numbers_in, values_at}
 
-abbrev pub number_if : Value → Option ℤ
-number_if (Number z) = Some z
-number_if _ = None
+abbrev pub parts_seen : Option ℕ → List ℤ → Checked (List ℤ)
+parts_seen None zs = fine zs
+parts_seen (Some place) zs = faulty WrongSort place
 
--- the values as numbers, where they are some
-abbrev pub as_numbers : Outcome (List Value) → Outcome (List (Option ℤ))
-as_numbers o = go_on o (λ vs w. gives (map number_if vs) w)
+-- one more part, which must be a number
+abbrev pub with_part : Checked (List ℤ) → ℕ → Value → Checked (List ℤ)
+with_part so_far place v = and_then so_far (λ zs. and_then (number_in place v) (λ z. fine (zs ++ z ∷ [])))
 
--- each part has a number; the first that has none is of a wrong sort
-abbrev pub numbers_among : List ℤ → Trees → List (Option ℤ) → Checked (List ℤ)
-numbers_among so_far (tree t ts) (Some z ∷ zs) = numbers_among (so_far ++ z ∷ []) ts zs
-numbers_among so_far (tree t ts) (None ∷ zs) = faulty WrongSort (start_of t)
-numbers_among so_far no_trees zs = fine so_far
-numbers_among so_far (tree t ts) [] = fine so_far
+-- the numbers of the expressions, once all are evaluated
+abbrev pub numbers_at : Evaluator → List Binding → Trees → Work → Outcome (List ℤ)
+numbers_at r bound ts w = go_on (values_at r bound [] ts w) (λ vs w. checked (numbers_in [] ts vs) (λ zs w. gives zs w) w)

@@ -4,9 +4,8 @@ use Rattle.std.specs.Prelude.{ℕ, ◌+◌, Bool, true, false, ◌==◌, List, [
 use Rattle.std.specs.List.{list_all}
 use Rattle.ltl_formula.specs.declared.nodes.FormulaId.{FormulaId}
 use Rattle.ltl_formula.specs.declared.nodes.Node.TheVariants as node
-use Rattle.tlsf_tokens.specs.declared.code.SpecCode.TheVariants.{WrongSort}
-use Rattle.tlsf_tree.specs.declared.spec.Pattern.{Pattern as WrittenPattern}
-use Rattle.tlsf_grammar.specs.Tree.{Pattern, Member}
+use Rattle.spec_faults.specs.declared.code.SpecCode.TheVariants.{WrongSort}
+use Rattle.tlsf_syntax.specs.Tree.{Pattern, Member}
 use Rattle.tlsf_values.specs.declared.formula.Formula.{Formula}
 use Rattle.tlsf_values.specs.declared.formula.Formula.TheVariants.{Flat}
 use Rattle.tlsf_values.specs.declared.formula.Pairing.{Pairing}
@@ -15,10 +14,6 @@ use Rattle.tlsf_values.specs.declared.numbers.Places.{Places}
 use Rattle.tlsf_values.specs.declared.work.Work.{Work}
 use Rattle.tlsf_values.specs.Outcomes.{Outcome, gives, fails, go_on, choose, made}
 use Rattle.tlsf_values.specs.Formulas.{pairing_of, truth_node}
-
--- a value as the code has it
-abbrev pub pattern_seen : WrittenPattern → Pattern
-pattern_seen p = record { bits = p.bits.items; span = p.span }
 
 -- joined to those so far, the left one first
 abbrev pub joined_to : ℕ → Pairing → Option FormulaId → FormulaId → Work → Outcome FormulaId

@@ -3,10 +3,10 @@ use Rattle.std.specs.Prelude.{◌≡◌, ℕ, ◌+◌, Bool, true, false, List, 
 use Rattle.ltl_formula.specs.declared.nodes.Node.{Node}
 use Rattle.ltl_formula.specs.declared.nodes.Node.TheVariants as node
 use Rattle.ltl_formula.specs.declared.nodes.FormulaId.{FormulaId}
-use Rattle.tlsf_tokens.specs.declared.code.SpecCode.TheVariants as code
-use Rattle.tlsf_tree.specs.declared.expr.Op.TheVariants as op
-use Rattle.tlsf_tree.specs.declared.expr.Span.{Span}
-use Rattle.tlsf_grammar.specs.Tree.{Tree, Ranges, Named, number, truth, named, call, index, steps, chain, pair, prefix, count, window, big, no_trees, tree, no_links, link, no_ranges, between, Definition, function, enumeration, Pattern, plain, guarded}
+use Rattle.spec_faults.specs.declared.code.SpecCode.TheVariants as code
+use Rattle.tlsf_syntax.specs.declared.expr.Op.TheVariants as op
+use Rattle.tlsf_syntax.specs.declared.expr.Span.{Span}
+use Rattle.tlsf_syntax.specs.Tree.{Tree, Ranges, Named, number, truth, named, call, index, steps, chain, pair, prefix, count, window, big, no_trees, tree, no_links, link, no_ranges, between, Definition, function, enumeration, Pattern, plain, guarded}
 use Rattle.tlsf_values.specs.declared.work.Work.{Work}
 use Rattle.tlsf_values.specs.declared.value.Value.{Value}
 use Rattle.tlsf_values.specs.declared.value.Value.TheVariants.{Number, Truth, Set, Flat}

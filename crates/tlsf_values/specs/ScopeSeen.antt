@@ -1,13 +1,13 @@
 -- The code's bound names and meanings as the definition sees them.
 use Rattle.std.specs.Prelude.{List, map, reverse}
-use Rattle.tlsf_grammar.specs.Tree as plain
+use Rattle.tlsf_syntax.specs.Tree as plain
 use Rattle.tlsf_values.specs.declared.scope.Binding.{Binding as CodeBinding}
 use Rattle.tlsf_values.specs.declared.scope.BodyOf.{BodyOf}
 use Rattle.tlsf_values.specs.declared.scope.BodyOf.TheVariants.{Plain, Guarded}
 use Rattle.tlsf_values.specs.declared.scope.Meaning.{Meaning as CodeMeaning}
 use Rattle.tlsf_values.specs.declared.scope.Meaning.TheVariants.{Known, Signal, Definition, Enumeration, Undeclared}
 use Rattle.tlsf_values.specs.Names.{Binding, Meaning, known, a_signal, a_definition, an_enumeration, undeclared}
-use Rattle.tlsf_values.specs.Seen.{word_seen, expr_seen, alternative_seen}
+use Rattle.tlsf_syntax.specs.Seen.{word_seen, expr_seen, alternative_seen}
 
 abbrev pub binding_seen : CodeBinding → Binding
 binding_seen b = record { name = b.name.now; value = b.value }

@@ -1,8 +1,8 @@
 -- The flat formulas of a section: this project's profile of TLSF 1.1.
 use Rattle.std.specs.Prelude.{ℕ, List, [], ◌∷◌}
 use Rattle.ltl_formula.specs.declared.nodes.FormulaId.{FormulaId}
-use Rattle.tlsf_tokens.specs.declared.code.SpecCode.TheVariants.{WrongSort}
-use Rattle.tlsf_grammar.specs.Tree.{Tree}
+use Rattle.spec_faults.specs.declared.code.SpecCode.TheVariants.{WrongSort}
+use Rattle.tlsf_syntax.specs.Tree.{Tree}
 use Rattle.tlsf_values.specs.declared.value.Value.{Value}
 use Rattle.tlsf_values.specs.declared.value.Value.TheVariants.{Truth, Flat}
 use Rattle.tlsf_values.specs.declared.work.Work.{Work}

@@ -1,6 +1,6 @@
 -- Sorts: what a value must be where an operand at this byte is needed.
 use Rattle.std.specs.Prelude.{ℕ, Bool, List, ℤ}
-use Rattle.tlsf_tokens.specs.declared.code.SpecCode.TheVariants.{WrongSort}
+use Rattle.spec_faults.specs.declared.code.SpecCode.TheVariants.{WrongSort}
 use Rattle.tlsf_values.specs.declared.formula.Formula.{Formula}
 use Rattle.tlsf_values.specs.declared.formula.Formula.TheVariants as formula
 use Rattle.tlsf_values.specs.declared.value.Value.{Value}

@@ -3,8 +3,8 @@
 use Rattle.std.specs.Prelude.{ℕ, zero, suc, ◌+◌, ◌-◌, Bool, true, false, ◌&&◌, ◌==◌, List, [], ◌∷◌, ◌++◌, length, Option, None, Some, ℤ, pos, negsuc, ◌+ℤ◌, ◌-ℤ◌, int_lt, int_le, unsigned_abs}
 use Rattle.std.specs.Ordering.{int_eq}
 use Rattle.ltl_formula.specs.declared.nodes.Node.TheVariants as node
-use Rattle.tlsf_tokens.specs.declared.code.SpecCode.TheVariants.{UnknownName, WrongSort, IndexOut, NumberRange, NoGuard, TooDeep}
-use Rattle.tlsf_grammar.specs.Tree.{Tree, Trees, Links, Ranges, Named, tree_span, number, truth, named, call, index, size_of, paren, set, steps, chain, pair, prefix, count, window, big, no_trees, tree, no_links, link, no_ranges, members, between, Body, plain, guarded, Alternative}
+use Rattle.spec_faults.specs.declared.code.SpecCode.TheVariants.{UnknownName, WrongSort, IndexOut, NumberRange, NoGuard, TooDeep}
+use Rattle.tlsf_syntax.specs.Tree.{Tree, Trees, Links, Ranges, Named, tree_span, number, truth, named, call, index, size_of, paren, set, steps, chain, pair, prefix, count, window, big, no_trees, tree, no_links, link, no_ranges, members, between, Body, plain, guarded, Alternative}
 use Rattle.tlsf_values.specs.declared.work.TheConstants.{MOST_DEPTH}
 use Rattle.tlsf_values.specs.declared.work.Work.{Work}
 use Rattle.tlsf_values.specs.declared.value.Value.{Value}

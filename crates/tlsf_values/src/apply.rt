@@ -13,8 +13,8 @@ use crate::set_operation::SetOperation;
 use crate::value::Value;
 use crate::work::{Work, fault};
 use ltl_formula::FormulaId;
-use tlsf_tokens::{SpecCode, SpecFault};
-use tlsf_tree::Op;
+use spec_faults::{SpecCode, SpecFault};
+use tlsf_syntax::Op;
 
 impl<'t> Names<'t> {
     /// A bus has one of a member's values.
@@ -28,8 +28,8 @@ impl<'t> Names<'t> {
         ensures value { IsOutcomeAs Flat result work.new (matched_at (names_seen self.now) places bus member work.old) }
         ensures grows { Grows work.old.formulas work.new.formulas }
     {
-        let range = self.enumerated.bus(bus);
-        let values = self.enumerated.values(member);
+        let range = self.bus(bus);
+        let values = self.values(member);
         work.matched(places, range.first, range.width, values)
     }
 

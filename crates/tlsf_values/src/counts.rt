@@ -3,23 +3,22 @@
 ghost use Rattle.std.specs.Prelude.{◌≡◌, ◌≤◌, ◌-◌, IsTrue};
 ghost use Rattle.ltl_formula.specs.Nodes.{Grows};
 ghost use Rattle.tlsf_values.specs.Counts.{count_in, count_value, empty_truth, joined_or_nothing, joined_with, joining_of, nexts, window_between, window_of, window_value};
+ghost use Rattle.tlsf_values.specs.Outcomes.{checked};
 ghost use Rattle.tlsf_values.specs.Results.{IsChecked, IsOutcome};
+ghost use Rattle.tlsf_values.specs.Sorts.{formula_in, number_in};
 
 use crate::formula::{Connective, Formula, Pairing, truth_as_node};
-use crate::value::Value;
+use crate::value::{Operand, Value};
 use crate::work::{Work, fault};
 use ltl_formula::{FormulaId, Node};
-use tlsf_tokens::{SpecCode, SpecFault};
-use tlsf_tree::Op;
+use spec_faults::{SpecCode, SpecFault};
+use tlsf_syntax::Op;
 
 /// A count, which isn't negative, at this byte.
-pub(crate) fn count(place: u64, number: i64) -> Result<u64, SpecFault>
+fn count(place: u64, number: i64) -> Result<u64, SpecFault>
     ensures { IsChecked result (count_in place number) }
 {
-    match u64::try_from(number) {
-        Ok(count) => Ok(count),
-        Err(_) => Err(fault(SpecCode::NumberRange, place)),
-    }
+    u64::try_from(number).map_err(|_| fault(SpecCode::NumberRange, place))
 }
 
 impl Connective {
@@ -101,16 +100,21 @@ impl Work {
         Ok(id)
     }
 
+    /// So many X's, once their number and the formula are evaluated.
     pub(crate) fn counted_next(
         &mut self,
         place: u64,
-        count: u64,
-        part: Formula,
+        times: Operand<'_>,
+        part: Operand<'_>,
     ) -> Result<Value, SpecFault>
-        ensures value { IsOutcome result self.new (count_value place count part self.old) }
+        ensures value { IsOutcome result self.new (checked (number_in times.entry.place times.entry.value.now) (λ z w. checked (formula_in part.entry.place part.entry.value.now) (λ x w.
+            checked (count_in times.entry.place z) (λ k w. count_value place k x w) w) w) self.old) }
         ensures grows { Grows self.old.formulas self.new.formulas }
     {
-        let part = self.node_of(place, part)?;
+        let number = times.number()?;
+        let formula = part.formula()?;
+        let count = count(times.place, number)?;
+        let part = self.node_of(place, formula)?;
         Ok(Value::Flat(self.nexts(place, count, part)?))
     }
 
@@ -138,8 +142,30 @@ impl Work {
         Ok(joined)
     }
 
+    /// A window, once its counts and the formula are evaluated.
+    pub(crate) fn window_over(
+        &mut self,
+        place: u64,
+        connective: Connective,
+        first: Operand<'_>,
+        last: Operand<'_>,
+        part: Operand<'_>,
+    ) -> Result<Value, SpecFault>
+        ensures value { IsOutcome result self.new (checked (number_in first.entry.place first.entry.value.now) (λ from w. checked (number_in last.entry.place last.entry.value.now) (λ to w.
+            checked (formula_in part.entry.place part.entry.value.now) (λ x w. checked (count_in first.entry.place from) (λ m w. checked (count_in last.entry.place to) (λ n w.
+            window_value place connective m n x w) w) w) w) w) self.old) }
+        ensures grows { Grows self.old.formulas self.new.formulas }
+    {
+        let from = first.number()?;
+        let to = last.number()?;
+        let formula = part.formula()?;
+        let from = count(first.place, from)?;
+        let to = count(last.place, to)?;
+        self.window(place, connective, from, to, formula)
+    }
+
     /// A window over no count is a node of its own.
-    pub(crate) fn window(
+    fn window(
         &mut self,
         place: u64,
         connective: Connective,

@@ -3,22 +3,21 @@
 ghost use Rattle.std.specs.Prelude.{◌≡◌, OnOk, length, map, []};
 ghost use Rattle.ltl_formula.specs.Nodes.{Grows};
 ghost use Rattle.tlsf_values.specs.Names.{look_up};
-ghost use Rattle.tlsf_values.specs.EnumeratedSeen.{range_seen};
+ghost use Rattle.tlsf_values.specs.NamesSeen.{range_seen};
 ghost use Rattle.tlsf_values.specs.NamesSeen.{names_seen};
 ghost use Rattle.tlsf_values.specs.Results.{IsOutcome};
 ghost use Rattle.tlsf_values.specs.ScopeSeen.{code_body_seen, meaning_seen};
-ghost use Rattle.tlsf_values.specs.Seen.{alternative_seen, expr_seen, trees_seen, word_seen};
+ghost use Rattle.tlsf_syntax.specs.Seen.{alternative_seen, expr_seen, trees_seen, word_seen};
 ghost use Rattle.tlsf_values.specs.Values.{arguments_at, bit_value, call_value, chosen_value, evaluator, form_value, guard_value, index_value, meaning_value};
 
 use crate::names::Names;
 use crate::number_set::NumberSet;
 use crate::patterns::BusRange;
 use crate::scope::{BodyOf, Meaning, Scope};
-use crate::steps::numbers_among;
 use crate::value::Value;
 use crate::work::{Work, fault};
-use tlsf_tokens::{SpecCode, SpecFault};
-use tlsf_tree::{Alternative, Expr, Form, Word};
+use spec_faults::{SpecCode, SpecFault};
+use tlsf_syntax::{Alternative, Expr, Form, Word};
 
 impl<'t> Names<'t> {
     /// The value of an expression, where so many nodes and calls may still be entered.
@@ -69,12 +68,11 @@ impl<'t> Names<'t> {
             Form::SizeOf(part) => {
                 let value = self.value(bound, part, left, work)?;
                 let bus = value.bus(part.span.start)?;
-                Ok(Value::Number(i64::from(self.enumerated.bus(bus).width)))
+                Ok(Value::Number(i64::from(self.bus(bus).width)))
             }
             Form::Paren(part) => self.value(bound, part, left, work),
             Form::Set(parts) => {
-                let values = self.part_values(bound, parts, left, work)?;
-                let numbers = numbers_among(self.alloc, parts, &values)?;
+                let numbers = self.part_numbers(bound, parts, left, work)?;
                 Ok(Value::Set(NumberSet::made(self.alloc, numbers)?))
             }
             Form::Steps {
@@ -274,7 +272,7 @@ impl<'t> Names<'t> {
         let value = self.value(bound, index, left, work)?;
         let bus = bus.bus(word.span.start)?;
         let number = value.number(index.span.start)?;
-        work.bit(place, index.span.start, self.enumerated.bus(bus), number)
+        work.bit(place, index.span.start, self.bus(bus), number)
     }
 }
 

@@ -1,53 +1,57 @@
 // The value of an expression with several operands, which are evaluated from left to right before any is tested.
 
 ghost use Rattle.std.specs.Prelude.{◌≡◌, ◌+◌, List, IfErr, IfOk, OnOk, drop, length, map, reverse, []};
-ghost use Rattle.tlsf_tree.specs.declared.expr.Range.{Range as TreeRange};
+ghost use Rattle.tlsf_syntax.specs.declared.expr.Range.{Range as TreeRange};
 ghost use Rattle.tlsf_values.specs.Counts.{count_in, count_value, joining_of, window_of};
 ghost use Rattle.tlsf_values.specs.LevelsSeen.{IsLess, IsOnward, onward, pending, turns};
 ghost use Rattle.ltl_formula.specs.Nodes.{Grows};
 ghost use Rattle.tlsf_values.specs.NamesSeen.{names_seen};
 ghost use Rattle.tlsf_values.specs.Operators.{operated};
-ghost use Rattle.tlsf_values.specs.PartsSeen.{as_numbers};
+ghost use Rattle.tlsf_values.specs.PartsSeen.{numbers_at};
 ghost use Rattle.tlsf_values.specs.Outcomes.{checked, gives, go_on};
 ghost use Rattle.tlsf_values.specs.Results.{IsFault, IsOutcome, IsOutcomeAs};
-ghost use Rattle.tlsf_values.specs.Seen.{expr_seen, link_list_seen, range_list_seen, trees_seen};
+ghost use Rattle.tlsf_syntax.specs.Seen.{expr_seen, link_list_seen, range_list_seen, trees_seen};
 ghost use Rattle.tlsf_values.specs.Sorts.{formula_in, number_in};
-ghost use Rattle.tlsf_values.specs.Values.{big_at, big_value, chain_value, evaluator, start_of, steps_value, values_at, window_at};
+ghost use Rattle.tlsf_values.specs.Values.{big_at, big_value, chain_value, evaluator, start_of, steps_value, window_at};
 
-use crate::counts::count;
 use crate::formula::{Connective, Formula};
 use crate::levels::{Big, Level, inner_ranges};
 use crate::members::Members;
 use crate::names::Names;
 use crate::numbers::Places;
 use crate::scope::Scope;
-use crate::value::Value;
+use crate::steps::add_part;
+use crate::value::{Operand, Value};
 use crate::work::{Work, fault};
-use tlsf_tokens::{SpecCode, SpecFault};
-use tlsf_tree::{Expr, Link, Op, Range};
+use spec_faults::{SpecCode, SpecFault};
+use tlsf_syntax::{Expr, Link, Op, Range};
 
 impl<'t> Names<'t> {
-    /// The numbers that several expressions have as their values, from left to right. What is no number is let go at once: it will be
-    /// refused, and sets may be large.
+    /// The numbers that the parts of a written set have as their values. All parts are evaluated, from left to right, before the
+    /// first that isn't a number is refused.
     #[cycle(evaluation)]
     #[tactic(auto, using(crate::proofs::SeenLemmas::start_seen))]
-    pub(crate) fn part_values(
+    pub(crate) fn part_numbers(
         &self,
         bound: &mut Scope<'t>,
         parts: &'t [Expr],
         left: u32,
         work: &mut Work,
-    ) -> Result<Vec<Option<i64>>, SpecFault>
-        ensures value { IsOutcomeAs (λ values. values.items) result work.new (as_numbers (values_at (evaluator (names_seen self.now) left) bound.old [] (trees_seen parts.now) work.old)) }
+    ) -> Result<Vec<i64>, SpecFault>
+        ensures value { IsOutcomeAs (λ numbers. numbers.items) result work.new (numbers_at (evaluator (names_seen self.now) left) bound.old (trees_seen parts.now) work.old) }
         ensures bound { OnOk result (bound.new ≡ bound.old) }
         ensures grows { Grows work.old.formulas work.new.formulas }
     {
-        let mut values = Vec::new(self.alloc);
+        let mut numbers = Vec::new(self.alloc);
+        let mut wrong = None;
         for part in parts {
             let value = self.value(bound, part, left, work)?;
-            values.push(value.into_number_if())?;
+            wrong = add_part(&mut numbers, wrong, part.span.start, value)?;
         }
-        Ok(values)
+        match wrong {
+            None => Ok(numbers),
+            Some(place) => Err(fault(SpecCode::WrongSort, place)),
+        }
     }
 
     /// `{first, second .. last}`, in the node at this byte.
@@ -73,10 +77,19 @@ impl<'t> Names<'t> {
         let first_value = self.value(bound, first, left, work)?;
         let second_value = self.value(bound, second, left, work)?;
         let last_value = self.value(bound, last, left, work)?;
-        let from = first_value.number(first.span.start)?;
-        let next = second_value.number(second.span.start)?;
-        let to = last_value.number(last.span.start)?;
-        work.stepped(self.alloc, place, from, next, to)
+        let from = Operand {
+            value: &first_value,
+            place: first.span.start,
+        };
+        let next = Operand {
+            value: &second_value,
+            place: second.span.start,
+        };
+        let to = Operand {
+            value: &last_value,
+            place: last.span.start,
+        };
+        work.steps_over(self.alloc, place, from, next, to)
     }
 
     /// Operators that join to the left, in the node at this byte.
@@ -157,10 +170,15 @@ impl<'t> Names<'t> {
     {
         let number_value = self.value(bound, number, left, work)?;
         let value = self.value(bound, part, left, work)?;
-        let times = number_value.number(number.span.start)?;
-        let formula = value.formula(part.span.start)?;
-        let times = count(number.span.start, times)?;
-        work.counted_next(place, times, formula)
+        let times = Operand {
+            value: &number_value,
+            place: number.span.start,
+        };
+        let part = Operand {
+            value: &value,
+            place: part.span.start,
+        };
+        work.counted_next(place, times, part)
     }
 
     /// `F[from:to] part` or `G[from:to] part`, in the node at this byte.
@@ -187,12 +205,19 @@ impl<'t> Names<'t> {
         let first = self.value(bound, from, left, work)?;
         let last = self.value(bound, to, left, work)?;
         let value = self.value(bound, part, left, work)?;
-        let first = first.number(from.span.start)?;
-        let last = last.number(to.span.start)?;
-        let formula = value.formula(part.span.start)?;
-        let first = count(from.span.start, first)?;
-        let last = count(to.span.start, last)?;
-        work.window(place, connective, first, last, formula)
+        let from = Operand {
+            value: &first,
+            place: from.span.start,
+        };
+        let to = Operand {
+            value: &last,
+            place: to.span.start,
+        };
+        let part = Operand {
+            value: &value,
+            place: part.span.start,
+        };
+        work.window_over(place, connective, from, to, part)
     }
 
     /// `&&[ranges] part` or `||[ranges] part`, in the node at this byte.

@@ -7,7 +7,7 @@ ghost use Rattle.tlsf_values.specs.Results.{IsOutcome};
 
 use crate::work::Work;
 use ltl_formula::{FormulaId, Node};
-use tlsf_tokens::SpecFault;
+use spec_faults::SpecFault;
 
 /// A truth, which becomes a node only at an operator that needs a formula, or a flat formula of the list.
 #[derive(Clone, Copy, Debug, PartialEq, Eq)]

@@ -3,7 +3,7 @@
 
 ghost use Rattle.std.specs.Prelude.{◌≡◌, ◌+◌, ◌≤◌, ◌^◌, ◌∷◌, [], List, Some, None, IfErr, IfOk, IfSome, OnOk, drop, length, reverse};
 ghost use Rattle.ltl_formula.specs.Nodes.{Grows};
-ghost use Rattle.tlsf_tree.specs.declared.expr.Range.{Range as TreeRange};
+ghost use Rattle.tlsf_syntax.specs.declared.expr.Range.{Range as TreeRange};
 ghost use Rattle.tlsf_values.specs.Counts.{joined_with};
 ghost use Rattle.tlsf_values.specs.LevelsSeen.{IsLess, IsOnward, after, inner_of, level_value, pending, turns};
 ghost use Rattle.tlsf_values.specs.MembersSeen.{members_seen};
@@ -11,15 +11,15 @@ ghost use Rattle.tlsf_values.specs.Outcomes.{gives, go_on};
 ghost use Rattle.tlsf_values.specs.Results.{IsFault, IsOutcomeAs};
 ghost use Rattle.tlsf_values.specs.Values.{Evaluator};
 ghost use Rattle.tlsf_values.specs.declared.work.Work.{Work as PlainWork};
-ghost use Rattle.tlsf_values.specs.Seen.{word_seen};
+ghost use Rattle.tlsf_syntax.specs.Seen.{word_seen};
 
 use crate::formula::{Connective, Formula};
 use crate::members::Members;
 use crate::scope::Scope;
 use crate::work::Work;
+use spec_faults::SpecFault;
 use std::alloc::AllocError;
-use tlsf_tokens::SpecFault;
-use tlsf_tree::{Expr, Range, Word};
+use tlsf_syntax::{Expr, Range, Word};
 
 /// A big operator: the first byte of its node, what it joins by, and its body.
 #[derive(Drop)]

@@ -1,18 +1,16 @@
 // The values of written expressions. What an expression's value is, and which fault comes first where it has none,
 // is a definition in `specs/`: one recursion on the depth that is left, over plain trees.
-// It stands on tlsf_tree for the written tree, tlsf_grammar for trees as plain values, tlsf_tokens for the numbered
-// faults, text_base for names, and ltl_formula for the list of flat formulas.
+// It stands on tlsf_syntax for the written tree and its plain form, spec_faults for the numbered faults, text_base for
+// names, and ltl_formula for the list of flat formulas.
 #![tactic(auto)]
 
 mod apply;
 mod counts;
-mod enumerated;
 mod evaluate;
 mod evaluate_operands;
 mod formula;
 pub mod laws;
 mod levels;
-mod meanings;
 mod members;
 mod names;
 mod number_set;

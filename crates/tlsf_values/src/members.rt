@@ -7,8 +7,8 @@ ghost use Rattle.tlsf_values.specs.Sorts.{set_in};
 ghost use Rattle.tlsf_values.specs.Values.{high_of, low_of, run_of};
 
 use crate::value::Value;
+use spec_faults::SpecFault;
 use std::alloc::Global;
-use tlsf_tokens::SpecFault;
 
 /// The numbers of a list from a place on.
 #[derive(Drop)]

@@ -1,8 +1,10 @@
 // Sets of numbers.
 
 ghost use Rattle.std.specs.Prelude.{◌≡◌, IfOk};
-ghost use Rattle.tlsf_values.specs.Sets.{difference, intersection, is_in, set_of, union};
+ghost use Rattle.tlsf_values.specs.SetOperations.{combined};
+ghost use Rattle.tlsf_values.specs.Sets.{is_in, set_of};
 
+use crate::set_operation::SetOperation;
 use std::alloc::{AllocError, Global};
 use std::marker::Model;
 use std::rc::Rc;
@@ -72,39 +74,17 @@ impl NumberSet {
         self.numbers.binary_search(&number).is_ok()
     }
 
-    /// The numbers of both, and those that only one of the two has. It takes the time for sorting them.
-    pub(crate) fn joined(&self, alloc: Global, other: &NumberSet) -> Result<NumberSet, AllocError>
-        ensures { IfOk result (λ s. s ≡ union self.now other.now) }
+    /// What the operator keeps of this set and the other one, which are gone through once, side by side.
+    pub(crate) fn combined(
+        &self,
+        alloc: Global,
+        operation: SetOperation,
+        other: &NumberSet,
+    ) -> Result<NumberSet, AllocError>
+        ensures { IfOk result (λ s. s ≡ combined operation self.now other.now) }
     {
-        let mut numbers = self.numbers(alloc)?;
-        numbers.extend_from_slice(other.as_slice())?;
-        NumberSet::made(alloc, numbers)
-    }
-
-    /// The numbers that both have. It looks each number of the one up in the other.
-    pub(crate) fn met(&self, alloc: Global, other: &NumberSet) -> Result<NumberSet, AllocError>
-        ensures { IfOk result (λ s. s ≡ intersection self.now other.now) }
-    {
-        let common = self
-            .as_slice()
-            .iter()
-            .copied()
-            .filter(|number| other.contains(*number))
-            .collect(alloc)?;
-        NumberSet::of_rising(alloc, common)
-    }
-
-    /// The numbers of the one that the other doesn't have. It looks each number of the one up in the other.
-    pub(crate) fn without(&self, alloc: Global, other: &NumberSet) -> Result<NumberSet, AllocError>
-        ensures { IfOk result (λ s. s ≡ difference self.now other.now) }
-    {
-        let alone = self
-            .as_slice()
-            .iter()
-            .copied()
-            .filter(|number| !other.contains(*number))
-            .collect(alloc)?;
-        NumberSet::of_rising(alloc, alone)
+        let numbers = operation.merged(alloc, self.as_slice(), other.as_slice())?;
+        NumberSet::of_rising(alloc, numbers)
     }
 }
 

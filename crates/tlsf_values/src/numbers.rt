@@ -6,7 +6,7 @@ ghost use Rattle.tlsf_values.specs.Numbers.{computed, divided, holds_of, in_rang
 ghost use Rattle.tlsf_values.specs.Results.{IsChecked};
 
 use crate::work::fault;
-use tlsf_tokens::{SpecCode, SpecFault};
+use spec_faults::{SpecCode, SpecFault};
 
 /// An operation on two numbers.
 #[derive(Clone, Copy, Debug, PartialEq, Eq)]

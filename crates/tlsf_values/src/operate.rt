@@ -9,9 +9,9 @@ use crate::numbers::{Arithmetic, Comparison, Places};
 use crate::set_operation::SetOperation;
 use crate::value::Value;
 use crate::work::{Work, fault};
+use spec_faults::{SpecCode, SpecFault};
 use std::alloc::Global;
-use tlsf_tokens::{SpecCode, SpecFault};
-use tlsf_tree::Op;
+use tlsf_syntax::Op;
 
 impl Work {
     pub(crate) fn arithmetic(
@@ -68,7 +68,7 @@ impl Work {
     {
         let left = left.set(places.left)?;
         let right = right.set(places.right)?;
-        Ok(Value::Set(operation.combined(alloc, left, right)?))
+        Ok(Value::Set(left.combined(alloc, operation, right)?))
     }
 
     pub(crate) fn on_connective(

@@ -2,8 +2,8 @@
 
 ghost use Rattle.std.specs.Prelude.{◌≡◌, map};
 ghost use Rattle.ltl_formula.specs.Nodes.{Grows};
-ghost use Rattle.tlsf_values.specs.Patterns.{all_values, are_wide, bit_made, bits_made, joined_to, matched, or_truth, pattern_seen, values_joined, values_made};
-ghost use Rattle.tlsf_values.specs.Seen.{member_seen};
+ghost use Rattle.tlsf_values.specs.Patterns.{all_values, are_wide, bit_made, bits_made, joined_to, matched, or_truth, values_joined, values_made};
+ghost use Rattle.tlsf_syntax.specs.Seen.{member_seen, pattern_seen};
 ghost use Rattle.tlsf_values.specs.Results.{IsOutcome, IsOutcomeAs};
 ghost use Rattle.tlsf_values.specs.declared.formula.Formula.TheVariants.{Flat};
 
@@ -11,8 +11,8 @@ use crate::formula::{Pairing, truth_as_node};
 use crate::numbers::Places;
 use crate::work::{Work, fault};
 use ltl_formula::{FormulaId, Node};
-use tlsf_tokens::{SpecCode, SpecFault};
-use tlsf_tree::{Member, Pattern};
+use spec_faults::{SpecCode, SpecFault};
+use tlsf_syntax::{Member, Pattern};
 
 /// A bus, by its first signal and its width.
 #[derive(Clone, Copy, Debug, PartialEq, Eq)]

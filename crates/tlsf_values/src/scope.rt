@@ -8,13 +8,12 @@ ghost use Rattle.tlsf_values.specs.ScopeSeen.{bindings_seen, meaning_seen};
 ghost use Rattle.tlsf_values.specs.Values.{is_never_a_bus};
 ghost use Rattle.tlsf_values.specs.declared.value.Value.TheVariants.{Number};
 
-use crate::meanings::Entry;
-use crate::names::Names;
+use crate::names::{Entry, Names};
 use crate::value::Value;
 use std::alloc::{AllocError, Global};
 use std::marker::Model;
 use text_base::Name;
-use tlsf_tree::{Alternative, Body, Expr, Word};
+use tlsf_syntax::{Alternative, Body, Expr, Word};
 
 /// A bound name with its value.
 #[derive(Drop)]
@@ -137,7 +136,7 @@ impl<'t> Names<'t> {
     fn declared(&self, name: &Name) -> Meaning<'t>
         ensures { meaning_seen result ≡ (names_seen self.now).means name.now }
     {
-        match self.meanings.entry(name) {
+        match self.entry(name) {
             None => Meaning::Undeclared,
             Some(Entry::Signal(signal)) => Meaning::Signal(signal),
             Some(Entry::Bus(bus)) => Meaning::Known(Value::Bus(bus)),

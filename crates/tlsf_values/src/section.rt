@@ -7,14 +7,14 @@ ghost use Rattle.tlsf_values.specs.Outcomes.{go_on};
 ghost use Rattle.tlsf_values.specs.Results.{IsOutcome, IsOutcomeAs};
 ghost use Rattle.tlsf_values.specs.SectionValues.{section_formula, section_value};
 ghost use Rattle.tlsf_values.specs.Values.{start_of, value_at};
-ghost use Rattle.tlsf_values.specs.Seen.{expr_seen};
+ghost use Rattle.tlsf_syntax.specs.Seen.{expr_seen};
 
 use crate::names::Names;
 use crate::scope::Scope;
 use crate::work::{MOST_DEPTH, Work};
 use ltl_formula::FormulaId;
-use tlsf_tokens::SpecFault;
-use tlsf_tree::Expr;
+use spec_faults::SpecFault;
+use tlsf_syntax::Expr;
 
 impl<'t> Names<'t> {
     /// The flat formulas of a section's expressions, or their first fault, where the text has these names: no name is bound

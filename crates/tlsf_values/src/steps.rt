@@ -1,46 +1,63 @@
 // Sets as they are written, once their parts are evaluated.
 
-ghost use Rattle.std.specs.Prelude.{◌≡◌, ◌+ℤ◌, ◌-ℤ◌, ◌<◌, ◌^◌, [], false, pos, unsigned_abs, FitsSigned, IfOk};
+ghost use Rattle.std.specs.Prelude.{◌≡◌, ◌+ℤ◌, ◌-ℤ◌, ◌<◌, ◌^◌, false, pos, unsigned_abs, FitsSigned, IfOk};
 ghost use Rattle.std.proofs.Common.{w64};
 ghost use Rattle.std.specs.Ordering.{int_eq};
-ghost use Rattle.tlsf_values.specs.Results.{IsCheckedAs, IsOutcome};
+ghost use Rattle.tlsf_values.specs.Outcomes.{checked};
+ghost use Rattle.tlsf_values.specs.Results.{IsOutcome};
+ghost use Rattle.tlsf_values.specs.Sorts.{number_in};
 ghost use Rattle.ltl_formula.specs.Nodes.{Grows};
-ghost use Rattle.tlsf_values.specs.Seen.{trees_seen};
 ghost use Rattle.tlsf_values.specs.Values.{steps_value};
 ghost use Rattle.tlsf_values.specs.Steps.{passes, rest_from, step_count, stepped, those_from};
-ghost use Rattle.tlsf_values.specs.PartsSeen.{numbers_among};
+ghost use Rattle.tlsf_values.specs.PartsSeen.{parts_seen, with_part};
 
 use crate::number_set::NumberSet;
-use crate::value::Value;
+use crate::value::{Operand, Value};
 use crate::work::{Work, fault};
+use spec_faults::{SpecCode, SpecFault};
 use std::alloc::{AllocError, Global};
-use tlsf_tokens::{SpecCode, SpecFault};
-use tlsf_tree::Expr;
 
-/// The numbers of the parts of a written set, of which each must have one.
-pub(crate) fn numbers_among(
-    alloc: Global,
-    parts: &[Expr],
-    values: &[Option<i64>],
-) -> Result<Vec<i64>, SpecFault>
-    ensures { IsCheckedAs (λ numbers. numbers.items) result (numbers_among [] (trees_seen parts.now) values.now) }
+/// Adds the value of a written set's part to the numbers of those before it; or gives the first byte of the first part that isn't a
+/// number. What is no number is let go at once: sets may be large.
+pub(crate) fn add_part(
+    numbers: &mut Vec<i64>,
+    wrong: Option<u64>,
+    place: u64,
+    value: Value,
+) -> Result<Option<u64>, AllocError>
+    ensures { IfOk result (λ still. parts_seen still numbers.new.items ≡ with_part (parts_seen wrong numbers.old.items) place value) }
 {
-    let mut numbers = Vec::new(alloc);
-    for (i, part) in parts.iter().enumerate() {
-        let Some(value) = values.get(i) else {
-            return Ok(numbers);
-        };
-        let Some(number) = *value else {
-            return Err(fault(SpecCode::WrongSort, part.span.start));
-        };
-        numbers.push(number)?;
+    match value {
+        Value::Number(number) => {
+            numbers.push(number)?;
+            Ok(wrong)
+        }
+        _ => Ok(wrong.or(Some(place))),
     }
-    Ok(numbers)
 }
 
 impl Work {
-    /// `{first, second .. last}`, whose members are counted before they are laid out.
-    pub(crate) fn stepped(
+    /// `{first, second .. last}`, once these are evaluated.
+    pub(crate) fn steps_over(
+        &mut self,
+        alloc: Global,
+        place: u64,
+        first: Operand<'_>,
+        second: Operand<'_>,
+        last: Operand<'_>,
+    ) -> Result<Value, SpecFault>
+        ensures value { IsOutcome result self.new (checked (number_in first.entry.place first.entry.value.now) (λ x w. checked (number_in second.entry.place second.entry.value.now) (λ y w.
+            checked (number_in last.entry.place last.entry.value.now) (λ z w. steps_value place x y z w) w) w) self.old) }
+        ensures grows { Grows self.old.formulas self.new.formulas }
+    {
+        let first = first.number()?;
+        let second = second.number()?;
+        let last = last.number()?;
+        self.stepped(alloc, place, first, second, last)
+    }
+
+    /// The members are counted before they are laid out.
+    fn stepped(
         &mut self,
         alloc: Global,
         place: u64,

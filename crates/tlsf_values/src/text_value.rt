@@ -5,7 +5,7 @@ ghost use Rattle.ltl_formula.specs.Nodes.{Grows, Stands};
 ghost use Rattle.tlsf_values.specs.EnvSeen.{binding_of, buses_named, env_bound, env_names, signals_named, work_of};
 ghost use Rattle.tlsf_values.specs.NamesSeen.{names_seen};
 ghost use Rattle.tlsf_values.specs.Results.{IsOutcome};
-ghost use Rattle.tlsf_values.specs.Seen.{expr_seen};
+ghost use Rattle.tlsf_syntax.specs.Seen.{expr_seen};
 ghost use Rattle.tlsf_values.specs.Values.{value_at};
 
 use crate::names::Names;
@@ -13,10 +13,10 @@ use crate::scope::Scope;
 use crate::value::Value;
 use crate::work::{MOST_DEPTH, Work};
 use ltl_formula::{AddFault, FormulaId, Formulas};
+use spec_faults::SpecFault;
 use std::alloc::{AllocError, Global};
 use text_base::Name;
-use tlsf_tokens::SpecFault;
-use tlsf_tree::{Expr, SpecTree};
+use tlsf_syntax::{Expr, SpecTree};
 
 /// What stands around an expression beside its text's definitions.
 #[derive(Debug, Drop)]

@@ -1,7 +1,6 @@
 // What an expression evaluates to.
 
 ghost use Rattle.std.specs.Prelude.{◌≡◌};
-ghost use Rattle.tlsf_values.specs.PartsSeen.{number_if};
 ghost use Rattle.tlsf_values.specs.Results.{IsChecked, IsCheckedSeen};
 ghost use Rattle.tlsf_values.specs.Sorts.{bus_in, formula_in, formula_value, number_in, set_in, truth_in};
 
@@ -9,8 +8,8 @@ use crate::formula::Formula;
 use crate::number_set::NumberSet;
 use crate::work::fault;
 use ltl_formula::FormulaId;
+use spec_faults::{SpecCode, SpecFault};
 use std::alloc::AllocError;
-use tlsf_tokens::{SpecCode, SpecFault};
 
 /// The value of an expression, by its sort.
 #[derive(Debug, Drop)]
@@ -42,16 +41,6 @@ impl Value {
         ensures { IsChecked result (number_in place self) }
     {
         self.number(place)
-    }
-
-    /// The number, where it is one.
-    pub(crate) fn into_number_if(self) -> Option<i64>
-        ensures { result ≡ number_if self }
-    {
-        match self {
-            Value::Number(number) => Some(number),
-            _ => None,
-        }
     }
 
     pub(crate) fn truth(&self, place: u64) -> Result<bool, SpecFault>
@@ -90,6 +79,27 @@ impl Value {
             Value::Flat(id) => Ok(Formula::Flat(*id)),
             _ => Err(fault(SpecCode::WrongSort, place)),
         }
+    }
+}
+
+/// An operand that was evaluated, with its first byte.
+#[derive(Clone, Copy)]
+pub(crate) struct Operand<'v> {
+    pub(crate) value: &'v Value,
+    pub(crate) place: u64,
+}
+
+impl Operand<'_> {
+    pub(crate) fn number(self) -> Result<i64, SpecFault>
+        ensures { IsChecked result (number_in self.entry.place self.entry.value.now) }
+    {
+        self.value.number(self.place)
+    }
+
+    pub(crate) fn formula(self) -> Result<Formula, SpecFault>
+        ensures { IsChecked result (formula_in self.entry.place self.entry.value.now) }
+    {
+        self.value.formula(self.place)
     }
 }
 

@@ -6,7 +6,7 @@ ghost use Rattle.tlsf_values.specs.Outcomes.{counted, made};
 ghost use Rattle.tlsf_values.specs.Results.{IsOutcome};
 
 use ltl_formula::{AddFault, FormulaId, Formulas, Node};
-use tlsf_tokens::{SpecCode, SpecFault};
+use spec_faults::{SpecCode, SpecFault};
 
 /// How many evaluations there are at most.
 pub const MOST_EVALUATIONS: u64 = 1_000_000;

@@ -1,5 +1,5 @@
 -- Copies that are known, and the steps of the calls that put formulas.
-use Rattle.std.proofs.Common.{◌≡◌, ℕ, suc, ◌+◌, ◌<◌, inl, inr, List, [], ◌∷◌, ◌++◌, length, map, get_or, set, drop, replicate, Option, None, Some, refl, sym, ap, subst, ◌∙◌, append_assoc, arith, add-one}
+use Rattle.std.proofs.Common.{◌≡◌, ℕ, ◌+◌, ◌<◌, inl, inr, List, [], ◌∷◌, ◌++◌, length, get_or, set, replicate, Option, None, Some, refl, sym, ap, subst, ◌∙◌, append_assoc, arith}
 use Rattle.std.proofs.lemmas.Bool.{cases_eq, cases_lt}
 use Rattle.std.proofs.lemmas.List.{append-nil, get_or-replicate, get_or-set_other, get_or-set_same, get_or_past, length-replicate}
 use Rattle.std.proofs.lemmas.Option.{none-some, same_Some}
@@ -11,16 +11,18 @@ use Rattle.ltl_formula.specs.Nodes.{Grows, IsNodeList, Stands, tree_at}
 use Rattle.ltl_formula.specs.Tree.{Tree}
 use Rattle.ltl_formula.specs.Tree.Tree.{truth, falsity, signal, negation, next_time, finally, globally, conjunction, disjunction, implication, equivalence, until, release, weak_until}
 use Rattle.ltl_formula.proofs.Lists.{signals_are_below}
-use Rattle.tlsf_tokens.specs.declared.code.SpecFault.{SpecFault}
-use Rattle.tlsf_tokens.specs.declared.code.SpecFault.TheVariants.{NoMemory, At}
+use Rattle.spec_faults.specs.declared.code.SpecFault.{SpecFault}
+use Rattle.spec_faults.specs.declared.code.SpecFault.TheVariants.{NoMemory, At}
 use Rattle.tlsf_values.specs.declared.work.Work.{Work}
 use Rattle.tlsf_values.specs.Outcomes.{Outcome, gives, fails, go_on, made}
 use Rattle.tlsf_values.specs.Results.{IsFault}
 use Rattle.unreal_core.specs.declared.copies.Pair.{Pair}
-use Rattle.unreal_core.specs.Copies.{AreCopies, StandsAs, over, over_both, pair_put, parts_put}
+use Rattle.tlsf_expand.specs.Standing.{StandsAs}
+use Rattle.tlsf_expand.proofs.Kept.{IsGood, IsKept, given}
+use Rattle.tlsf_expand.proofs.Filling.{stands_later}
+use Rattle.unreal_core.specs.Copies.{AreCopies, over, over_both, parts_put}
 use Rattle.unreal_core.specs.Put.{put, put_over, put_over_both, put_all}
-use Rattle.unreal_core.proofs.Filling.{Filled, Fills, IsGood, filled}
-use Rattle.unreal_core.proofs.Putting.{fills_put, put_again, stands_later}
+use Rattle.unreal_core.proofs.Putting.{fills_put, put_again}
 
 -- ---- the copies that are known
 
@@ -59,10 +61,10 @@ by_sixteen nodes list = record { list = list; below = record { nodes_below = lis
 
 module _ (from : List Node) (id : FormulaId) (from_list : IsNodeList from) (there : Stands from id) where
   put_filled : (old new : Work) (copy : FormulaId) → IsNodeList old.formulas → put (tree_at from id) old ≡ gives copy new
-      → Filled MAX_SIGNALS old.formulas (λ id' nodes. StandsAs nodes (tree_at from id) id') copy new.formulas
+      → IsKept MAX_SIGNALS old.formulas (λ id' nodes. StandsAs nodes (tree_at from id) id') copy new.formulas
   put_filled old new copy list is =
       let below = signals_are_below from id from_list there in
-      filled (λ id' nodes. StandsAs nodes (tree_at from id) id') (put (tree_at from id) old) copy new (fills_put MAX_SIGNALS (tree_at from id) below below old (by_sixteen old.formulas list)) is
+      given (IsKept MAX_SIGNALS old.formulas (λ id' nodes. StandsAs nodes (tree_at from id) id')) (put (tree_at from id) old) copy new (fills_put (tree_at from id) below below old (by_sixteen old.formulas list)) is
 
 over_is : (whole : FormulaId → Node) (part : Outcome FormulaId) → put_over whole part ≡ go_on (over whole part) (λ x w. made 0 x w)
 over_is whole (gives a w) = refl

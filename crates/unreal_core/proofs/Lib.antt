@@ -1,6 +1,5 @@
-pub mod Filling
+pub mod MadeAgain
 pub mod Putting
-pub mod Joined
 pub mod Copied
 pub mod Reducing
 pub mod Texts

@@ -3,20 +3,14 @@ use Rattle.std.specs.Prelude.{◌≡◌, ℕ, List, Option, None, Some, slice_in
 use Rattle.ltl_formula.specs.declared.nodes.FormulaId.{FormulaId}
 use Rattle.ltl_formula.specs.declared.nodes.Node.{Node}
 use Rattle.ltl_formula.specs.declared.nodes.Node.TheVariants as node
-use Rattle.ltl_formula.specs.Nodes.{IsNodeList, Stands, tree_at}
+use Rattle.ltl_formula.specs.Nodes.{IsNodeList, tree_at}
 use Rattle.ltl_formula.specs.Tree.{Tree}
 use Rattle.ltl_formula.specs.Tree.Tree.{truth, falsity, signal, negation, next_time, finally, globally, conjunction, disjunction, implication, equivalence, until, release, weak_until}
 use Rattle.tlsf_values.specs.declared.work.Work.{Work}
 use Rattle.tlsf_values.specs.Outcomes.{Outcome, gives, go_on}
-use Rattle.tlsf_expand.specs.Texts.{Sections}
+use Rattle.tlsf_expand.specs.Standing.{StandsAs}
 use Rattle.unreal_core.specs.declared.copies.Pair.{Pair}
-use Rattle.unreal_core.specs.declared.joining.FlatSections.{FlatSections}
 use Rattle.unreal_core.specs.Put.{put}
-
--- the formula stands in the list by this id
-pub record StandsAs (nodes : List Node) (t : Tree) (id : FormulaId) : Type 0 where
-  pub stands : Stands nodes id
-  pub tree : tree_at nodes id ≡ t
 
 -- each copy that is known is one of its formula
 pub record AreCopies (from : List Node) (known : List (Option FormulaId)) (nodes : List Node) : Type 0 where
@@ -49,14 +43,3 @@ parts_put (equivalence a b) w = over_both node.Equiv (put a w) (put b)
 parts_put (until a b) w = over_both node.Until (put a w) (put b)
 parts_put (release a b) w = over_both node.Release (put a w) (put b)
 parts_put (weak_until a b) w = over_both node.WeakUntil (put a w) (put b)
-
--- the code's sections as the definitions see them
-abbrev pub flat_seen : FlatSections → Sections (List FormulaId)
-flat_seen s = record {
-  initially = s.initially.items;
-  preset = s.preset.items;
-  require = s.require.items;
-  assert = s.assert.items;
-  assume = s.assume.items;
-  guarantee = s.guarantee.items;
-}

@@ -4,10 +4,10 @@ use Rattle.letter_word.specs.declared.kinds.Kind.{Kind}
 use Rattle.letter_word.specs.Word.{Word}
 use Rattle.tlsf_expand.specs.Expansion.{expanded}
 use Rattle.tlsf_expand.specs.Meaning.{by_semantics, means}
-use Rattle.tlsf_expand.specs.Texts.{Text}
-use Rattle.tlsf_expand.specs.TextSeen.{FlatText, flat_in}
+use Rattle.tlsf_expand.specs.Standing.{truths_of}
+use Rattle.tlsf_syntax.specs.Text.{Text}
+use Rattle.tlsf_expand.specs.FlatText.{FlatText, flat_in}
 use Rattle.unreal_core.specs.Reduced.{kept, kept_sections}
-use Rattle.unreal_core.specs.Truths.{truths_of}
 
 -- all but its guarantees is as it was
 abbrev pub cut : List Bool → Text → Text

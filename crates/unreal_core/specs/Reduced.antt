@@ -1,26 +1,17 @@
 -- A text's formulas with some of its guarantees, in a list of their own (this project's own).
-use Rattle.std.specs.Prelude.{Bool, true, false, List, [], ◌∷◌, All, map, Option, None, Some}
+use Rattle.std.specs.Prelude.{Bool, true, false, List, [], ◌∷◌, Option, None, Some}
 use Rattle.ltl_formula.specs.declared.nodes.FormulaId.{FormulaId}
 use Rattle.ltl_formula.specs.declared.nodes.Node.{Node}
-use Rattle.ltl_formula.specs.Nodes.{Stands, tree_at}
 use Rattle.ltl_formula.specs.Tree.{Tree}
 use Rattle.ltl_formula.specs.declared.faults.AddFault.{AddFault}
-use Rattle.tlsf_tokens.specs.declared.code.SpecFault.{SpecFault}
+use Rattle.spec_faults.specs.declared.code.SpecFault.{SpecFault}
 use Rattle.tlsf_values.specs.declared.work.Work.{Work}
 use Rattle.tlsf_values.specs.Outcomes.{Outcome, gives, fails, go_on}
-use Rattle.tlsf_expand.specs.Sections.{whole_value}
-use Rattle.tlsf_expand.specs.Texts.{Sections}
+use Rattle.tlsf_expand.specs.Sections.{in_order, whole_value}
+use Rattle.tlsf_expand.specs.Standing.{formulas_at, section_trees}
+use Rattle.tlsf_syntax.specs.declared.sections.Sections.{Sections}
 use Rattle.unreal_core.specs.declared.whole.Reduced.{Reduced}
 use Rattle.unreal_core.specs.Put.{put_all}
-
--- each formula of each section stands in the list
-pub record SectionsStand (nodes : List Node) (ids : Sections (List FormulaId)) : Type 0 where
-  pub initially : All (Stands nodes) ids.initially
-  pub preset : All (Stands nodes) ids.preset
-  pub require : All (Stands nodes) ids.require
-  pub assert : All (Stands nodes) ids.assert
-  pub assume : All (Stands nodes) ids.assume
-  pub guarantee : All (Stands nodes) ids.guarantee
 
 -- those that are kept, by their places
 abbrev pub kept : {A : Type 0} → List Bool → List A → List A
@@ -29,28 +20,13 @@ kept (keep ∷ keeps) [] = []
 kept (true ∷ keeps) (x ∷ xs) = x ∷ kept keeps xs
 kept (false ∷ keeps) (x ∷ xs) = kept keeps xs
 
--- the formulas that ids stand for
-abbrev pub formulas_at : List Node → List FormulaId → List Tree
-formulas_at nodes ids = map (tree_at nodes) ids
-
 -- the formulas of the sections, of the guarantees those that are kept
 abbrev pub kept_sections : List Node → List Bool → Sections (List FormulaId) → Sections (List Tree)
-kept_sections nodes keep ids = record {
-  initially = formulas_at nodes ids.initially;
-  preset = formulas_at nodes ids.preset;
-  require = formulas_at nodes ids.require;
-  assert = formulas_at nodes ids.assert;
-  assume = formulas_at nodes ids.assume;
-  guarantee = kept keep (formulas_at nodes ids.guarantee);
-}
+kept_sections nodes keep ids = record (section_trees nodes ids) { guarantee = kept keep (formulas_at nodes ids.guarantee) }
 
 -- the formulas of the sections, put into a list in order
 abbrev pub put_sections : Sections (List Tree) → Work → Outcome (Sections (List FormulaId))
-put_sections s w =
-    go_on (put_all s.initially w) (λ initially w. go_on (put_all s.preset w) (λ preset w.
-    go_on (put_all s.require w) (λ require w. go_on (put_all s.assert w) (λ assert w.
-    go_on (put_all s.assume w) (λ assume w. go_on (put_all s.guarantee w) (λ guarantee w.
-    gives (record { initially = initially; preset = preset; require = require; assert = assert; assume = assume; guarantee = guarantee }) w))))))
+put_sections s w = in_order put_all s w
 
 abbrev pub nothing_done : Work
 nothing_done = record { done = 0; formulas = [] }

@@ -1,12 +1,13 @@
 -- Laws of the whole over some guarantees.
-use Rattle.std.specs.Prelude.{◌≡◌, true, List, length, replicate, Option, Some}
+use Rattle.std.specs.Prelude.{◌≡◌, true, length, replicate, Option, Some}
 use Rattle.letter_word.specs.declared.kinds.Kind.{Kind}
 use Rattle.ltl_formula.specs.Nodes.{tree_at}
 use Rattle.tlsf_expand.specs.Expansion.{expanded}
-use Rattle.tlsf_expand.specs.Texts.{Text}
-use Rattle.tlsf_expand.specs.TextSeen.{FlatText, flat_in}
+use Rattle.tlsf_syntax.specs.Text.{Text}
+use Rattle.tlsf_expand.specs.FlatText.{FlatText, flat_in}
 use Rattle.unreal_core.specs.declared.whole.Reduced.{Reduced}
-use Rattle.unreal_core.specs.Reduced.{SectionsStand, kept_sections, reduced, reduced_in}
+use Rattle.tlsf_expand.specs.Standing.{SectionsStand}
+use Rattle.unreal_core.specs.Reduced.{kept_sections, reduced, reduced_in}
 
 -- the formulas of the sections of a text that is expanded stand in its list
 abbrev pub SectionsOfTextsStand : Type 0

@@ -7,8 +7,8 @@ ghost use Rattle.unreal_core.specs.Copies.{AreCopies, pair_put, parts_put};
 ghost use Rattle.unreal_core.specs.Put.{put, put_all};
 
 use ltl_formula::{FormulaId, Formulas, Node};
+use spec_faults::SpecFault;
 use std::alloc::Global;
-use tlsf_tokens::SpecFault;
 use tlsf_values::Work;
 
 /// The parts of an operator that has two.

@@ -6,7 +6,6 @@
 #![tactic(auto)]
 
 mod copies;
-mod joining;
 pub mod laws;
 mod shrink;
 mod whole;

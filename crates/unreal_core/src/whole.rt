@@ -3,20 +3,22 @@
 ghost use Rattle.std.specs.Prelude.{◌≡◌, [], ◌∷◌, ◌++◌, All, Err, IfErr, IfOk, None, Some, false, if◌then◌else◌, length, map, replicate, slice_index_or};
 ghost use Rattle.ltl_formula.specs.ListSignals.{KeepsSignals};
 ghost use Rattle.ltl_formula.specs.Nodes.{IsNodeList, Stands, tree_at};
-ghost use Rattle.tlsf_expand.specs.Texts.{sections_from};
-ghost use Rattle.tlsf_tokens.specs.declared.code.SpecCode.TheVariants.{TooManyNodes};
+ghost use Rattle.tlsf_expand.specs.Standing.{SectionsStand};
+ghost use Rattle.tlsf_syntax.specs.Text.{section_lists};
+ghost use Rattle.spec_faults.specs.declared.code.SpecCode.TheVariants.{TooManyNodes};
 ghost use Rattle.tlsf_values.specs.Outcomes.{fails};
 ghost use Rattle.tlsf_values.specs.Results.{IsFault, IsOutcomeAs};
-ghost use Rattle.unreal_core.specs.Copies.{AreCopies, flat_seen};
+ghost use Rattle.unreal_core.specs.Copies.{AreCopies};
 ghost use Rattle.unreal_core.specs.Put.{put_all};
-ghost use Rattle.unreal_core.specs.Reduced.{SectionsStand, add_fault, kept, kept_sections, nothing_done, put_sections, reduced, reduced_in};
+ghost use Rattle.unreal_core.specs.Reduced.{add_fault, kept, kept_sections, nothing_done, put_sections, reduced, reduced_in};
 ghost use Rattle.unreal_core.specs.Truths.{SaysWhole};
 
 use crate::copies::put_all;
-use crate::joining::{FlatSections, whole_formula};
 use ltl_formula::{AddFault, FormulaId, Formulas};
+use spec_faults::SpecFault;
 use std::alloc::{AllocError, Global};
-use tlsf_tokens::SpecFault;
+use tlsf_expand::whole_formula;
+use tlsf_syntax::Sections;
 use tlsf_values::Work;
 
 /// The formula of the whole of a text with some of its guarantees, in a list that has no other nodes than it needs.
@@ -27,23 +29,22 @@ pub struct Reduced {
     pub whole: FormulaId,
 }
 
-/// The formula of the whole of a text whose sections are INITIALLY, PRESET, REQUIRE, ASSERT, ASSUME and GUARANTEE, with those guarantees
-/// alone for which `keep` is true, in a list of its own: the formulas of the sections in order, each with its parts from left to
-/// right before it, and then the nodes that join them, for strict or standard semantics. It is refused exactly where that list
-/// would have more than 1,024 nodes. It takes a step for each node and each formula of a section.
+/// The formula of the whole of a text with those guarantees alone for which `keep` is true, in a list of its own: the formulas of
+/// the sections in order, each with its parts from left to right before it, and then the nodes that join them, for strict or
+/// standard semantics. It is refused exactly where that list would have more than 1,024 nodes. It takes a step for each node and
+/// each formula of a section.
 pub fn whole_of(
     alloc: Global,
     formulas: &Formulas,
-    sections: &[Vec<FormulaId>],
+    sections: &Sections<Vec<FormulaId>>,
     strict: bool,
     keep: &[bool],
 ) -> Result<Reduced, AddFault>
-    requires six { length sections.now ≡ 6 }
-    requires stand { SectionsStand formulas.now (sections_from (map (λ s. s.items) sections.now)) }
-    requires each { length keep.now ≡ length (sections_from (map (λ s. s.items) sections.now)).guarantee }
-    ensures ok { IfOk result (λ r. reduced_in (reduced strict (kept_sections formulas.now keep.now (sections_from (map (λ s. s.items) sections.now)))) ≡ Some r) }
-    ensures too_many { result ≡ Err AddFault.TooManyNodes → reduced strict (kept_sections formulas.now keep.now (sections_from (map (λ s. s.items) sections.now))) ≡ fails TooManyNodes 0 }
-    ensures truth { IfOk result (λ r. SaysWhole strict (kept_sections formulas.now keep.now (sections_from (map (λ s. s.items) sections.now))) r.formulas r.whole) }
+    requires stand { SectionsStand formulas.now (section_lists sections.now) }
+    requires each { length keep.now ≡ length (section_lists sections.now).guarantee }
+    ensures ok { IfOk result (λ r. reduced_in (reduced strict (kept_sections formulas.now keep.now (section_lists sections.now))) ≡ Some r) }
+    ensures too_many { result ≡ Err AddFault.TooManyNodes → reduced strict (kept_sections formulas.now keep.now (section_lists sections.now)) ≡ fails TooManyNodes 0 }
+    ensures truth { IfOk result (λ r. SaysWhole strict (kept_sections formulas.now keep.now (section_lists sections.now)) r.formulas r.whole) }
     ensures list { IfOk result (λ r. IsNodeList r.formulas) }
     ensures signals { IfOk result (λ r. KeepsSignals formulas.now r.formulas) }
 {
@@ -67,14 +68,14 @@ fn add_fault(fault: SpecFault) -> AddFault
 fn reduce(
     alloc: Global,
     formulas: &Formulas,
-    sections: &[Vec<FormulaId>],
+    sections: &Sections<Vec<FormulaId>>,
     strict: bool,
     keep: &[bool],
 ) -> Result<Reduced, SpecFault>
-    requires stand { SectionsStand formulas.now (sections_from (map (λ s. s.items) sections.now)) }
+    requires stand { SectionsStand formulas.now (section_lists sections.now) }
     requires list { IsNodeList formulas.now }
-    ensures ok { IfOk result (λ r. reduced_in (reduced strict (kept_sections formulas.now keep.now (sections_from (map (λ s. s.items) sections.now)))) ≡ Some r) }
-    ensures fault { IfErr result (λ e. IsFault (reduced strict (kept_sections formulas.now keep.now (sections_from (map (λ s. s.items) sections.now)))) e) }
+    ensures ok { IfOk result (λ r. reduced_in (reduced strict (kept_sections formulas.now keep.now (section_lists sections.now))) ≡ Some r) }
+    ensures fault { IfErr result (λ e. IsFault (reduced strict (kept_sections formulas.now keep.now (section_lists sections.now))) e) }
 {
     let mut work = Work {
         done: 0,
@@ -92,30 +93,23 @@ fn reduce(
 fn sections_put(
     alloc: Global,
     formulas: &Formulas,
-    sections: &[Vec<FormulaId>],
+    sections: &Sections<Vec<FormulaId>>,
     keep: &[bool],
     work: &mut Work,
-) -> Result<FlatSections, SpecFault>
-    requires stand { SectionsStand formulas.now (sections_from (map (λ s. s.items) sections.now)) }
+) -> Result<Sections<Vec<FormulaId>>, SpecFault>
+    requires stand { SectionsStand formulas.now (section_lists sections.now) }
     requires list { IsNodeList formulas.now }
     requires empty { work.old.formulas ≡ [] }
-    ensures value { IsOutcomeAs flat_seen result work.new (put_sections (kept_sections formulas.now keep.now (sections_from (map (λ s. s.items) sections.now))) work.old) }
+    ensures value { IsOutcomeAs section_lists result work.new (put_sections (kept_sections formulas.now keep.now (section_lists sections.now)) work.old) }
 {
     let mut known = none_known(alloc, formulas)?;
-    let initially = put_all(alloc, formulas, section(sections, 0), &mut known, work)?;
-    let preset = put_all(alloc, formulas, section(sections, 1), &mut known, work)?;
-    let require = put_all(alloc, formulas, section(sections, 2), &mut known, work)?;
-    let assert = put_all(alloc, formulas, section(sections, 3), &mut known, work)?;
-    let assume = put_all(alloc, formulas, section(sections, 4), &mut known, work)?;
-    let guarantee = put_kept(
-        alloc,
-        formulas,
-        section(sections, 5),
-        keep,
-        &mut known,
-        work,
-    )?;
-    Ok(FlatSections {
+    let initially = put_all(alloc, formulas, &sections.initially, &mut known, work)?;
+    let preset = put_all(alloc, formulas, &sections.preset, &mut known, work)?;
+    let require = put_all(alloc, formulas, &sections.require, &mut known, work)?;
+    let assert = put_all(alloc, formulas, &sections.assert, &mut known, work)?;
+    let assume = put_all(alloc, formulas, &sections.assume, &mut known, work)?;
+    let guarantee = put_kept(alloc, formulas, &sections.guarantee, keep, &mut known, work)?;
+    Ok(Sections {
         initially,
         preset,
         require,
@@ -155,16 +149,6 @@ fn none_known(alloc: Global, formulas: &Formulas) -> Result<Vec<Option<FormulaId
     ensures { IfOk result (λ known. known.items ≡ replicate (length formulas.now) None) }
 {
     vec![in alloc; None; formulas.len()]
-}
-
-/// A section, by its place.
-fn section(sections: &[Vec<FormulaId>], place: usize) -> &[FormulaId]
-    ensures { result.now ≡ slice_index_or (map (λ s. s.items) sections.now) place [] }
-{
-    match sections.get(place) {
-        Some(ids) => ids,
-        None => &[],
-    }
 }
 
 /// The formulas that are kept, by their places.

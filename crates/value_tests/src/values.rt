@@ -2,12 +2,12 @@
 
 use letter_word::Kind;
 use ltl_formula::{FormulaId, Formulas};
+use spec_faults::SpecFault;
 use std::alloc::Global;
 use std::process::Abort;
 use std::test::Fail;
 use text_base::Name;
-use tlsf_tokens::SpecFault;
-use tlsf_tree::{Definition, Expr, Form, Info, Op, Range, Span, SpecTree, Word};
+use tlsf_syntax::{Definition, Expr, Form, Info, Op, Range, Sections, Span, SpecTree, Word};
 use tlsf_values::{Env, Meter, Value, value_of};
 
 // ---- expressions, each by its first byte
@@ -76,7 +76,14 @@ fn text(alloc: Global, definitions: Vec<Definition>) -> Result<SpecTree, SpecFau
         definitions,
         inputs: Vec::new(alloc),
         outputs: Vec::new(alloc),
-        sections: Vec::new(alloc),
+        sections: Sections {
+            initially: Vec::new(alloc),
+            preset: Vec::new(alloc),
+            require: Vec::new(alloc),
+            assert: Vec::new(alloc),
+            assume: Vec::new(alloc),
+            guarantee: Vec::new(alloc),
+        },
     })
 }
 

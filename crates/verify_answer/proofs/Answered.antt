@@ -5,12 +5,11 @@ use Rattle.letter_word.specs.declared.kinds.Kind.TheVariants.{Mealy, Moore}
 use Rattle.letter_word.specs.declared.kinds.Side.TheVariants.{System}
 use Rattle.letter_word.specs.Word.{Word}
 use Rattle.aiger_text.specs.Circuit.{Circuit, IsCircuitOfKind, IsCircuitRun, RunsOnEveryInput, Valuation}
-use Rattle.tlsf_tokens.specs.declared.code.SpecCode.{SpecCode}
-use Rattle.tlsf_tokens.specs.declared.code.SpecFault.{SpecFault}
-use Rattle.tlsf_tokens.specs.declared.code.SpecFault.TheVariants.{At, NoMemory}
+use Rattle.spec_faults.specs.declared.code.SpecCode.{SpecCode}
+use Rattle.spec_faults.specs.declared.code.SpecFault.{SpecFault}
+use Rattle.spec_faults.specs.declared.code.SpecFault.TheVariants.{At, NoMemory}
 use Rattle.tlsf_expand.specs.Meaning.{means}
-use Rattle.tlsf_expand.specs.TextSeen.{FlatText, spec_seen}
-use Rattle.flat_text.specs.Plain.{text_of}
+use Rattle.tlsf_expand.specs.FlatText.{FlatText, spec_seen}
 use Rattle.spec_problems.specs.declared.texts.TextProblems.{TextProblems}
 use Rattle.spec_problems.specs.OfText.{IsFirstFault}
 use Rattle.satisfaction.specs.Wanted.{Wanted}
@@ -59,7 +58,7 @@ module _ (text : List ℕ) (t : TextProblems) (taken : IsTaken text t) where
     inputs = spec.expanded.inputs;
     outputs = spec.expanded.outputs;
     kind = t.problems.system.kind;
-    means = λ w. means w (text_of taken.means.tree);
+    means = λ w. means w taken.means.tree;
   }
 
   kind_is : t.problems.system.kind ≡ spec.expanded.kind

@@ -1,7 +1,7 @@
 -- A text and a file have one answer.
 use Rattle.std.proofs.Common.{◌≡◌, ℕ, ◌⊎◌, inl, inr, None, List, ap, subst, ◌∙◌}
-use Rattle.tlsf_tokens.specs.declared.code.SpecCode.{SpecCode}
-use Rattle.tlsf_expand.specs.TextSeen.{FlatText}
+use Rattle.spec_faults.specs.declared.code.SpecCode.{SpecCode}
+use Rattle.tlsf_expand.specs.FlatText.{FlatText}
 use Rattle.spec_problems.specs.Laws.{AreSameProblems, ProblemsOfTextsAreDetermined}
 use Rattle.spec_problems.specs.OfText.{IsFirstFault}
 use Rattle.aiger_text.specs.CircuitFile.{File}

@@ -1,6 +1,6 @@
 -- Laws of the answers of `verify` (this project's own).
 use Rattle.std.specs.Prelude.{◌≡◌, ℕ, ◌⊎◌, List, None}
-use Rattle.tlsf_tokens.specs.declared.code.SpecCode.{SpecCode}
+use Rattle.spec_faults.specs.declared.code.SpecCode.{SpecCode}
 use Rattle.spec_problems.specs.OfText.{IsFirstFault}
 use Rattle.aiger_text.specs.CircuitFile.{File}
 use Rattle.annot_check.specs.Pairs.{Listed}

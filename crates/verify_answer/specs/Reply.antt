@@ -4,7 +4,7 @@ use Rattle.letter_word.specs.declared.kinds.Side.TheVariants.{System}
 use Rattle.letter_word.specs.Word.{Word}
 use Rattle.ltl_formula.specs.Nodes.{tree_at}
 use Rattle.machine_model.specs.Problem.{IsProblem}
-use Rattle.tlsf_expand.specs.TextSeen.{spec_seen}
+use Rattle.tlsf_expand.specs.FlatText.{spec_seen}
 use Rattle.spec_problems.specs.declared.texts.TextProblems.{TextProblems}
 use Rattle.spec_problems.specs.OfFormula.{AcceptBySide}
 use Rattle.spec_problems.specs.OfText.{AreProblemsOf, SaysWhat}

@@ -1,6 +1,6 @@
 //! The answer to a text and a circuit's file.
 ghost use Rattle.std.specs.Prelude.{◌≡◌, ℕ, List, IfOk};
-ghost use Rattle.tlsf_expand.specs.TextSeen.{spec_seen};
+ghost use Rattle.tlsf_expand.specs.FlatText.{spec_seen};
 ghost use Rattle.document_check.specs.Shown.{facts_of as facts_seen};
 ghost use Rattle.program_replies.specs.declared.replies.Status.TheVariants as ended;
 ghost use Rattle.program_replies.specs.Statuses.{status_number};
@@ -13,9 +13,9 @@ use crate::files::first_bad_line;
 use document_check::TextFacts;
 use letter_word::Kind;
 use program_replies::{Reply, Status, refused, refused_at_line, whole};
+use spec_faults::SpecFault;
 use spec_problems::{TextProblems, text_problems};
 use std::alloc::{AllocError, Global};
-use tlsf_tokens::SpecFault;
 
 /// What is known of a text before a circuit is taken.
 #[derive(Drop)]

@@ -1,10 +1,11 @@
 // Texts and their whole lists of tokens, read off the rules by hand.
 
 use super::*;
+use crate::symbol::Section;
 use std::process::Abort;
 use std::test::Fail;
 
-type Row = (TokenKind, u64, u64);
+type Row = (Symbol, u64, u64);
 
 fn assert_cut(
     rt: &impl Abort,
@@ -17,7 +18,7 @@ fn assert_cut(
     let list = tokens(alloc, text)?;
     let mut found: Vec<Row> = Vec::new(alloc);
     for token in &list.tokens {
-        found.push((token.kind, token.start, token.end))?;
+        found.push((token.symbol, token.start, token.end))?;
     }
     assert_eq!(rt; found.as_slice(), rows, "{text:?}");
     assert_eq!(rt; list.stop, stop, "{text:?}");
@@ -26,32 +27,68 @@ fn assert_cut(
 }
 
 /// A text that is one token from its first byte to its last.
-fn assert_one(rt: &impl Abort, alloc: Global, text: &[u8], kind: TokenKind) -> Result<(), Fail> {
+fn assert_one(rt: &impl Abort, alloc: Global, text: &[u8], symbol: Symbol) -> Result<(), Fail> {
     let end = text.len() as u64;
-    assert_cut(rt, alloc, text, &[(kind, 0, end)], None, end)
+    assert_cut(rt, alloc, text, &[(symbol, 0, end)], None, end)
 }
 
 #[test]
 fn signs_are_one_token(rt: HostRuntime) -> Result<(), Fail> {
-    let signs: [&[u8]; 36] = [
-        b"{", b"}", b"(", b")", b"[", b"]", b",", b";", b":", b"..", b"=", b"==", b"!=", b"<=",
-        b">=", b"<", b">", b"+", b"-", b"*", b"/", b"%", b"!", b"&&", b"||", b"->", b"<->", b"(*)",
-        b"(+)", b"(-)", b"(\\)", b"NOT", b"AND", b"OR", b"IMPLIES", b"EQUIV",
+    let signs: [(&[u8], Symbol); 36] = [
+        (b"{", Symbol::OpenBrace),
+        (b"}", Symbol::CloseBrace),
+        (b"(", Symbol::OpenParen),
+        (b")", Symbol::CloseParen),
+        (b"[", Symbol::OpenBracket),
+        (b"]", Symbol::CloseBracket),
+        (b",", Symbol::Comma),
+        (b";", Symbol::Semicolon),
+        (b":", Symbol::Colon),
+        (b"..", Symbol::Dots),
+        (b"=", Symbol::Assign),
+        (b"==", Symbol::Equal),
+        (b"!=", Symbol::Unequal),
+        (b"<=", Symbol::LessEqual),
+        (b">=", Symbol::GreaterEqual),
+        (b"<", Symbol::Less),
+        (b">", Symbol::Greater),
+        (b"+", Symbol::Plus),
+        (b"-", Symbol::Minus),
+        (b"*", Symbol::Star),
+        (b"/", Symbol::Slash),
+        (b"%", Symbol::Percent),
+        (b"!", Symbol::Not),
+        (b"&&", Symbol::And),
+        (b"||", Symbol::Or),
+        (b"->", Symbol::Implies),
+        (b"<->", Symbol::Equiv),
+        (b"(*)", Symbol::Meet),
+        (b"(+)", Symbol::Join),
+        (b"(-)", Symbol::Difference),
+        (b"(\\)", Symbol::Difference),
+        (b"NOT", Symbol::Not),
+        (b"AND", Symbol::And),
+        (b"OR", Symbol::Or),
+        (b"IMPLIES", Symbol::Implies),
+        (b"EQUIV", Symbol::Equiv),
     ];
-    for sign in &signs {
-        assert_one(&rt, rt.alloc(), *sign, TokenKind::Sign)?;
+    for (sign, symbol) in &signs {
+        assert_one(&rt, rt.alloc(), *sign, *symbol)?;
     }
     Ok(())
 }
 
 #[test]
 fn the_longest_sign_wins(rt: HostRuntime) -> Result<(), Fail> {
-    let sign = TokenKind::Sign;
     assert_cut(
         &rt,
         rt.alloc(),
         b"( * )",
-        &[(sign, 0, 1), (sign, 2, 3), (sign, 4, 5)],
+        &[
+            (Symbol::OpenParen, 0, 1),
+            (Symbol::Star, 2, 3),
+            (Symbol::CloseParen, 4, 5),
+        ],
         None,
         5,
     )?;
@@ -59,7 +96,7 @@ fn the_longest_sign_wins(rt: HostRuntime) -> Result<(), Fail> {
         &rt,
         rt.alloc(),
         b"<-",
-        &[(sign, 0, 1), (sign, 1, 2)],
+        &[(Symbol::Less, 0, 1), (Symbol::Minus, 1, 2)],
         None,
         2,
     )?;
@@ -67,7 +104,7 @@ fn the_longest_sign_wins(rt: HostRuntime) -> Result<(), Fail> {
         &rt,
         rt.alloc(),
         b"<->>",
-        &[(sign, 0, 3), (sign, 3, 4)],
+        &[(Symbol::Equiv, 0, 3), (Symbol::Greater, 3, 4)],
         None,
         4,
     )?;
@@ -75,7 +112,7 @@ fn the_longest_sign_wins(rt: HostRuntime) -> Result<(), Fail> {
         &rt,
         rt.alloc(),
         b"===",
-        &[(sign, 0, 2), (sign, 2, 3)],
+        &[(Symbol::Equal, 0, 2), (Symbol::Assign, 2, 3)],
         None,
         3,
     )?;
@@ -83,7 +120,11 @@ fn the_longest_sign_wins(rt: HostRuntime) -> Result<(), Fail> {
         &rt,
         rt.alloc(),
         b"(*x",
-        &[(sign, 0, 1), (sign, 1, 2), (TokenKind::Ident, 2, 3)],
+        &[
+            (Symbol::OpenParen, 0, 1),
+            (Symbol::Star, 1, 2),
+            (Symbol::Ident, 2, 3),
+        ],
         None,
         3,
     )
@@ -91,24 +132,25 @@ fn the_longest_sign_wins(rt: HostRuntime) -> Result<(), Fail> {
 
 #[test]
 fn words_by_their_tables(rt: HostRuntime) -> Result<(), Fail> {
-    assert_one(&rt, rt.alloc(), b"GUARANTEES", TokenKind::Keyword)?;
-    assert_one(&rt, rt.alloc(), b"otherwise", TokenKind::Keyword)?;
-    assert_one(&rt, rt.alloc(), b"GUARANTEESx", TokenKind::Ident)?;
-    assert_one(&rt, rt.alloc(), b"X1", TokenKind::Ident)?;
-    assert_one(&rt, rt.alloc(), b"not", TokenKind::Ident)?;
-    assert_one(&rt, rt.alloc(), b"Finite", TokenKind::Ident)?;
-    assert_one(&rt, rt.alloc(), b"_@a'0", TokenKind::Ident)?;
+    let guarantee = Symbol::Section(Section::Guarantee);
+    assert_one(&rt, rt.alloc(), b"GUARANTEES", guarantee)?;
+    assert_one(&rt, rt.alloc(), b"otherwise", Symbol::Otherwise)?;
+    assert_one(&rt, rt.alloc(), b"GUARANTEESx", Symbol::Ident)?;
+    assert_one(&rt, rt.alloc(), b"X1", Symbol::Ident)?;
+    assert_one(&rt, rt.alloc(), b"not", Symbol::Ident)?;
+    assert_one(&rt, rt.alloc(), b"Finite", Symbol::Ident)?;
+    assert_one(&rt, rt.alloc(), b"_@a'0", Symbol::Ident)?;
     assert_one(
         &rt,
         rt.alloc(),
         b"00120000000000000000000000",
-        TokenKind::Number,
+        Symbol::Number,
     )?;
     assert_cut(
         &rt,
         rt.alloc(),
         b"1a",
-        &[(TokenKind::Number, 0, 1), (TokenKind::Ident, 1, 2)],
+        &[(Symbol::Number, 0, 1), (Symbol::Ident, 1, 2)],
         None,
         2,
     )
@@ -148,7 +190,7 @@ fn unsupported_words_stop(rt: HostRuntime) -> Result<(), Fail> {
         &rt,
         rt.alloc(),
         b"a SUMS SUM",
-        &[(TokenKind::Ident, 0, 1), (TokenKind::Ident, 2, 6)],
+        &[(Symbol::Ident, 0, 1), (Symbol::Ident, 2, 6)],
         Some(SpecCode::Unsupported),
         7,
     )
@@ -162,23 +204,16 @@ fn comments_nest(rt: HostRuntime) -> Result<(), Fail> {
         &rt,
         rt.alloc(),
         b"/* /* */ \" */a",
-        &[(TokenKind::Ident, 13, 14)],
+        &[(Symbol::Ident, 13, 14)],
         None,
         14,
     )?;
-    assert_cut(
-        &rt,
-        rt.alloc(),
-        b"a//",
-        &[(TokenKind::Ident, 0, 1)],
-        None,
-        3,
-    )?;
+    assert_cut(&rt, rt.alloc(), b"a//", &[(Symbol::Ident, 0, 1)], None, 3)?;
     assert_cut(
         &rt,
         rt.alloc(),
         b"// /*\nb",
-        &[(TokenKind::Ident, 6, 7)],
+        &[(Symbol::Ident, 6, 7)],
         None,
         7,
     )?;
@@ -191,38 +226,17 @@ fn openers_that_are_not_closed(rt: HostRuntime) -> Result<(), Fail> {
     assert_cut(&rt, rt.alloc(), b" /* /* */", &[], stop, 1)?;
     assert_cut(&rt, rt.alloc(), b"/*/", &[], stop, 0)?;
     assert_cut(&rt, rt.alloc(), b"/*", &[], stop, 0)?;
-    assert_cut(
-        &rt,
-        rt.alloc(),
-        b"a \"b",
-        &[(TokenKind::Ident, 0, 1)],
-        stop,
-        2,
-    )
+    assert_cut(&rt, rt.alloc(), b"a \"b", &[(Symbol::Ident, 0, 1)], stop, 2)
 }
 
 #[test]
 fn bytes_that_begin_nothing(rt: HostRuntime) -> Result<(), Fail> {
     let stop = Some(SpecCode::BadByte);
     assert_cut(&rt, rt.alloc(), b"\0a", &[], stop, 0)?;
-    assert_cut(
-        &rt,
-        rt.alloc(),
-        b"a.b",
-        &[(TokenKind::Ident, 0, 1)],
-        stop,
-        1,
-    )?;
-    assert_cut(
-        &rt,
-        rt.alloc(),
-        b"a&b",
-        &[(TokenKind::Ident, 0, 1)],
-        stop,
-        1,
-    )?;
+    assert_cut(&rt, rt.alloc(), b"a.b", &[(Symbol::Ident, 0, 1)], stop, 1)?;
+    assert_cut(&rt, rt.alloc(), b"a&b", &[(Symbol::Ident, 0, 1)], stop, 1)?;
     assert_cut(&rt, rt.alloc(), b"'a", &[], stop, 0)?;
-    assert_one(&rt, rt.alloc(), b"\"\xc8 /*\"", TokenKind::Text)?;
+    assert_one(&rt, rt.alloc(), b"\"\xc8 /*\"", Symbol::Text)?;
     assert_cut(&rt, rt.alloc(), b"\xc8", &[], stop, 0)
 }
 

@@ -1,5 +1,5 @@
 use Rattle.std.proofs.Common.{refl}
-use Rattle.tlsf_expand.specs.TextSeen.{spec_seen}
+use Rattle.tlsf_expand.specs.FlatText.{spec_seen}
 use Rattle.flat_answer.specs.Expand.{written}
 use Rattle.boundsyn_top.proofs.flat.flat_output.Goals as goal
 

@@ -1,4 +1,4 @@
-use Rattle.tlsf_expand.specs.TextSeen.{spec_seen}
+use Rattle.tlsf_expand.specs.FlatText.{spec_seen}
 use Rattle.boundsyn_top.proofs.ReplyLemmas.{flat_without_fault, whatever}
 use Rattle.boundsyn_top.proofs.flat.tell_by.Goals as goal
 

@@ -14,7 +14,7 @@ returns-clause-told g c = λ text kind t tells.
     let others = map (λ o. o.items) core.others.items in
     let shown : IsShrunk text kind c.args.settings s core.document.items others =
     subst (λ r. IfOk r (λ k. IsShrunk text kind c.args.settings k.shrink k.document.items (map (λ o. o.items) k.others.items))) c.in_ok-core.was (c.shrunk.ensures.shrunk text kind t tells) in
-    let keep_is = c.deref-3.ensures.value ∙ c.in_ok-keep.ensures in
+    let keep_is = c.deref.ensures.value ∙ c.in_ok-keep.ensures in
     record {
       keep = kept_in s;
       each = length-map s is_kept ∙ c.in_ok-core.ensures.length;
@@ -22,5 +22,5 @@ returns-clause-told g c = λ text kind t tells.
       defeated = shown.defeated;
       others = others;
       spared = at_last text kind c.args.settings s core.document.items others shown (λ n is. all_needed s (none_asked s c.in_ok-core.ensures.none_open) n is);
-      lines = c.in_ok-core_text.ensures ∙ (λ i. core_lines (keep_is i) (c.deref-4.ensures.value i) (map (λ o. o.items) (c.deref-5.ensures.value i)));
+      lines = c.in_ok-core_text.ensures ∙ (λ i. core_lines (keep_is i) (c.deref-2.ensures.value i) (map (λ o. o.items) (c.deref-3.ensures.value i)));
     }

@@ -1,14 +1,14 @@
-use Rattle.std.proofs.Common.{rules, ◌≡◌, ◌<◌, ◌≤◌, true, false, IfOk, length, refl, sym, ap, subst, ◌∙◌, arith}
+use Rattle.std.proofs.Common.{◌≡◌, ◌<◌, ◌≤◌, true, false, IfOk, length, ap, subst}
 use Rattle.std.proofs.lemmas.Result.{IfOk-weaker}
-use Rattle.tlsf_tokens.specs.declared.code.SpecCode.TheVariants.{TooManyGuarantees}
-use Rattle.tlsf_expand.specs.TextSeen.{spec_seen}
+use Rattle.spec_faults.specs.declared.code.SpecCode.TheVariants.{TooManyGuarantees}
+use Rattle.tlsf_expand.specs.FlatText.{spec_seen}
 use Rattle.program_replies.specs.declared.replies.Status.TheVariants as ended
 use Rattle.program_replies.specs.Lines.{refusal_line}
 use Rattle.program_replies.specs.Statuses.{status_number}
 use Rattle.synth_answer.specs.Answer.{IsAnswerOn}
 use Rattle.synth_answer.proofs.Meaning.{truth_of_text}
-use Rattle.core_answer.specs.Core.{CoreAnswers, IsToldOver, Tells, refused}
-use Rattle.core_answer.proofs.Wholes.{core_replied, core_text, given_here, not_false, own_ground, spared_text, tells_all, text_in, the_flat, too_many_here}
+use Rattle.core_answer.specs.Core.{CoreAnswers, refused}
+use Rattle.core_answer.proofs.Wholes.{core_replied, core_text, given_here, is_not, not_false, own_ground, spared_text, tells_all, text_in, the_flat, too_many_here}
 use Rattle.core_answer.proofs.answering.text_answer.Goals as goal
 
 pub returns-then-count-gt-MOST_GUARANTEES : goal.returns-then-count-gt-MOST_GUARANTEES
@@ -30,7 +30,7 @@ returns-then-not-whole g c = λ text kind t.
     let few : length spec.expanded.sections.guarantee ≤ 64 = subst (λ n. n ≤ 64) c.guarantee_count-count.ensures c.if-count-gt-MOST_GUARANTEES.false in
     let on = subst (λ r. IfOk r (λ b. IsAnswerOn (own_ground text kind spec problems t) c.args.settings b.reply.bytes.items (status_number b.reply.status) b.defeats)) c.in_ok-whole.was
     (c.answer_on.ensures (truth_of_text t.says) flat.formulas flat.expanded.whole (given_here text kind spec problems t)) in
-    let not_defeated : a.defeats ≡ false = search rules in
+    let not_defeated : a.defeats ≡ false = is_not a.defeats c.if-not-whole.true in
     spared_text text kind spec problems t c.args.settings a.reply.bytes.items (status_number a.reply.status) a.defeats on few not_defeated
 
 pub returns : goal.returns

@@ -1,4 +1,4 @@
-use Rattle.std.proofs.Common.{rules, ◌≡◌, get_or, refl, sym}
+use Rattle.std.proofs.Common.{rules, get_or, refl, sym}
 use Rattle.core_answer.proofs.OtherParts.{next_other, past_others}
 use Rattle.core_answer.proofs.lines.push_others.Goals as goal
 

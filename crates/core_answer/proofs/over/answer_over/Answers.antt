@@ -1,10 +1,9 @@
-use Rattle.std.proofs.Common.{Err, IfOk, ap, sym, subst, map, ◌∙◌}
+use Rattle.std.proofs.Common.{Err, ap, subst}
 use Rattle.std.proofs.lemmas.Result.{IfOk-weaker}
-use Rattle.tlsf_expand.specs.TextSeen.{spec_seen}
+use Rattle.tlsf_expand.specs.FlatText.{spec_seen}
 use Rattle.program_replies.specs.Statuses.{status_number}
 use Rattle.core_answer.specs.Core.{IsToldOver}
 use Rattle.core_answer.specs.Reply.{IsReducedReply, IsRefusedReply}
-use Rattle.core_answer.proofs.Lists.{made_of, says_of, full_of}
 use Rattle.core_answer.proofs.Overs.{told_no_room, told_reduced}
 use Rattle.core_answer.proofs.over.answer_over.Goals as goal
 
@@ -17,7 +16,7 @@ returns-in-Ok g c = λ text kind t fewer.
     (λ a. IsReducedReply spec.expanded r c.args.settings a.reply.bytes.items a.reply.status a.defeats)
     (λ a. IsToldOver text keep kind c.args.settings a.reply.bytes.items (status_number a.reply.status) a.defeats)
     (λ a reply. told_reduced text kind spec t keep c.args.settings fewer a.reply.bytes.items r
-    (made_of spec keep c.requires.sections r c.in-Ok.ensures.ok) (says_of spec keep c.requires.sections r c.in-Ok.ensures.truth) a.reply.status a.defeats reply)
+    c.in-Ok.ensures.ok c.in-Ok.ensures.truth a.reply.status a.defeats reply)
     c.reduced_answer.ensures
 
 pub returns-in-Err : goal.returns-in-Err
@@ -28,6 +27,6 @@ returns-in-Err g c = λ text kind t fewer.
     (λ a. IsRefusedReply c.list_fault.result a.reply.bytes.items a.reply.status a.defeats)
     (λ a. IsToldOver text keep kind c.args.settings a.reply.bytes.items (status_number a.reply.status) a.defeats)
     (λ a reply. told_no_room text kind spec t keep c.args.settings fewer a.reply.bytes.items c.in-Err.fault
-    (λ full. full_of spec keep c.requires.sections (c.in-Err.ensures.too_many (ap Err full))) a.reply.status a.defeats
+    (λ full. c.in-Err.ensures.too_many (ap Err full)) a.reply.status a.defeats
     (subst (λ fault. IsRefusedReply fault a.reply.bytes.items a.reply.status a.defeats) c.list_fault.ensures reply))
     c.refusal.ensures

@@ -1,10 +1,10 @@
 use Rattle.std.proofs.Common.{Err, ap, subst}
 use Rattle.std.proofs.lemmas.Result.{IfOk-weaker}
 use Rattle.ltl_formula.specs.Nodes.{tree_at}
-use Rattle.tlsf_expand.specs.TextSeen.{spec_seen}
+use Rattle.tlsf_expand.specs.FlatText.{spec_seen}
 use Rattle.spec_problems.specs.OfFormula.{AreProblemsIn, AreProblemsOver}
 use Rattle.synth_answer.proofs.Meaning.{problems_for}
-use Rattle.core_answer.specs.Reply.{IsReducedReply, IsRefusedReply, reduced_answered, reduced_refused}
+use Rattle.core_answer.specs.Reply.{IsReducedReply, IsRefusedReply, reduced_refused}
 use Rattle.core_answer.proofs.Replies.{answered_on}
 use Rattle.core_answer.proofs.over.reduced_answer.Goals as goal
 

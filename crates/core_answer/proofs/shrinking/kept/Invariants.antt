@@ -1,4 +1,4 @@
-use Rattle.std.proofs.Common.{◌≡◌, ◌++◌, drop, length}
+use Rattle.std.proofs.Common.{◌≡◌, ◌++◌, drop}
 use Rattle.unreal_core.specs.Laws.{kept_in}
 use Rattle.core_answer.proofs.shrinking.kept.Given as goal
 

@@ -1,6 +1,6 @@
-use Rattle.std.proofs.Common.{◌≡◌, ℕ, ◌-◌, ◌<◌, Bool, false, List, IfOk, length, replicate, set, refl, sym, ap, subst, ◌∙◌}
+use Rattle.std.proofs.Common.{◌≡◌, ◌-◌, ◌<◌, false, IfOk, length, replicate, set, refl, sym, ap, subst, ◌∙◌}
 use Rattle.std.proofs.lemmas.List.{length-map, length-set}
-use Rattle.tlsf_expand.specs.TextSeen.{spec_seen}
+use Rattle.tlsf_expand.specs.FlatText.{spec_seen}
 use Rattle.program_replies.specs.Statuses.{status_number}
 use Rattle.unreal_core.specs.declared.shrink.Standing.TheVariants.{Open}
 use Rattle.unreal_core.specs.Laws.{is_kept, kept_in}

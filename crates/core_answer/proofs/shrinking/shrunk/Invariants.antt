@@ -1,5 +1,4 @@
-use Rattle.std.proofs.Common.{length}
-use Rattle.tlsf_expand.specs.TextSeen.{spec_seen}
+use Rattle.tlsf_expand.specs.FlatText.{spec_seen}
 use Rattle.unreal_core.proofs.Questions.{weight}
 use Rattle.core_answer.proofs.Steps.{IsSoFar}
 use Rattle.core_answer.proofs.shrinking.shrunk.Given as goal

@@ -1,13 +1,12 @@
 use Rattle.std.proofs.Common.{None, Err, ap}
-use Rattle.tlsf_expand.specs.TextSeen.{spec_seen}
-use Rattle.flat_text.specs.Plain.{text_of}
+use Rattle.tlsf_expand.specs.FlatText.{spec_seen}
 use Rattle.flat_answer.proofs.Replies.{refused_expand, refused_lasso}
 use Rattle.flat_answer.proofs.texts.expanded.Goals as goal
 
 pub returns-in-Ok-clause-writable : goal.returns-in-Ok-clause-writable
 returns-in-Ok-clause-writable c =
     let flat = c.in-Ok.ensures.flat in
-    c.expanded_can_be_written.ensures (text_of flat.tree) None (spec_seen c.in-Ok.spec) flat.expanded
+    c.expanded_can_be_written.ensures flat.tree None (spec_seen c.in-Ok.spec) flat.expanded
 
 pub returns-in_ok-refusal-in-Err-clause-refused : goal.returns-in_ok-refusal-in-Err-clause-refused
 returns-in_ok-refusal-in-Err-clause-refused c =

@@ -1,6 +1,6 @@
 use Rattle.std.proofs.Common.{◌≡◌, Err, ap, ◌∙◌, subst}
 use Rattle.std.proofs.lemmas.Result.{IfOk-weaker}
-use Rattle.tlsf_expand.specs.TextSeen.{spec_seen}
+use Rattle.tlsf_expand.specs.FlatText.{spec_seen}
 use Rattle.flat_lines.specs.FlatLines.{all_names}
 use Rattle.lasso_word.specs.WordText.{IsFirstBadLine, StatesWord}
 use Rattle.program_replies.specs.declared.replies.Status.TheVariants.{Done, LineRefused}

@@ -1,4 +1,4 @@
-use Rattle.tlsf_expand.specs.TextSeen.{spec_seen}
+use Rattle.tlsf_expand.specs.FlatText.{spec_seen}
 use Rattle.flat_lines.specs.FlatLines.{flat_bytes}
 use Rattle.flat_lines.proofs.Pieces.{nothing_yet}
 use Rattle.flat_lines.proofs.put.put_flat.Goals as goal

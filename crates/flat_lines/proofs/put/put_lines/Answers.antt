@@ -1,4 +1,4 @@
-use Rattle.tlsf_expand.specs.TextSeen.{spec_seen}
+use Rattle.tlsf_expand.specs.FlatText.{spec_seen}
 use Rattle.flat_lines.specs.FlatLines.{ended_line}
 use Rattle.flat_lines.specs.declared.lines.Line.TheVariants.{Kinds}
 use Rattle.flat_lines.proofs.Pieces.{on_err, pieces_front}

@@ -2,7 +2,7 @@ use Rattle.std.proofs.Common.{ℕ, List, length, subst, sym}
 use Rattle.ltl_formula.specs.Nodes.{tree_at}
 use Rattle.ltl_formula.specs.Tree.{SignalsBelow}
 use Rattle.ltl_formula.proofs.ListSignals.{signals_of_lists_are_kept}
-use Rattle.tlsf_expand.specs.TextSeen.{spec_seen}
+use Rattle.tlsf_expand.specs.FlatText.{spec_seen}
 use Rattle.flat_lines.specs.FlatLines.{LineStands, all_names}
 use Rattle.flat_lines.proofs.put.write_line.Goals as goal
 

@@ -1,5 +1,5 @@
 use Rattle.std.proofs.Common.{Err, ap}
-use Rattle.tlsf_expand.specs.TextSeen.{spec_seen}
+use Rattle.tlsf_expand.specs.FlatText.{spec_seen}
 use Rattle.spec_problems.specs.OfText.{of_problems, of_text}
 use Rattle.spec_problems.proofs.Refusals.{same_fault}
 use Rattle.spec_problems.proofs.Whole.{accept_later, says_what}

@@ -1,12 +1,12 @@
 use Rattle.std.proofs.Common.{◌≡◌, ℕ, Bool, List, Option, Err, ap, refl}
 use Rattle.letter_word.specs.declared.kinds.Kind.{Kind}
-use Rattle.tlsf_tokens.specs.declared.code.SpecCode.{SpecCode}
-use Rattle.tlsf_tokens.specs.declared.code.SpecFault.{SpecFault}
-use Rattle.tlsf_tokens.specs.declared.code.SpecFault.TheVariants.{At, NoMemory}
+use Rattle.spec_faults.specs.declared.code.SpecCode.{SpecCode}
+use Rattle.spec_faults.specs.declared.code.SpecFault.{SpecFault}
+use Rattle.spec_faults.specs.declared.code.SpecFault.TheVariants.{At, NoMemory}
 use Rattle.spec_problems.specs.OfText.{IsFirstFault}
 use Rattle.synth_engine.specs.declared.settings.Settings.{Settings}
 use Rattle.std.proofs.lemmas.Result.{IfOk-weaker}
-use Rattle.tlsf_expand.specs.TextSeen.{spec_seen}
+use Rattle.tlsf_expand.specs.FlatText.{spec_seen}
 use Rattle.program_replies.specs.declared.replies.Status.{Status}
 use Rattle.program_replies.specs.Statuses.{status_number}
 use Rattle.synth_answer.specs.Answer.{Answers, IsAnswerOn}

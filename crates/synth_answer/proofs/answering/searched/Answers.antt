@@ -1,5 +1,5 @@
 use Rattle.std.proofs.Common.{sym}
-use Rattle.tlsf_expand.specs.TextSeen.{spec_seen}
+use Rattle.tlsf_expand.specs.FlatText.{spec_seen}
 use Rattle.synth_answer.proofs.Fitting.{outcome_fits}
 use Rattle.synth_answer.proofs.answering.searched.Goals as goal
 

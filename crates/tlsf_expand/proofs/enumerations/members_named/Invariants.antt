@@ -1,5 +1,5 @@
 use Rattle.std.proofs.Common.{◌≡◌, map, drop}
-use Rattle.tlsf_values.specs.Seen.{definition_seen}
+use Rattle.tlsf_syntax.specs.Seen.{definition_seen}
 use Rattle.tlsf_expand.specs.Signals.{values_named}
 use Rattle.tlsf_expand.proofs.enumerations.members_named.Given as goal
 

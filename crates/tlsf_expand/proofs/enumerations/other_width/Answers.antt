@@ -1,6 +1,6 @@
 use Rattle.std.proofs.Common.{sym, ap, map, drop, ◌+◌, ◌∙◌}
 use Rattle.tlsf_values.specs.Patterns.{all_values}
-use Rattle.tlsf_values.specs.Seen.{member_seen, pattern_seen}
+use Rattle.tlsf_syntax.specs.Seen.{member_seen, pattern_seen}
 use Rattle.tlsf_expand.specs.Signals.{first_of, other_width}
 use Rattle.tlsf_expand.proofs.Laying.{members_from, other_width_append}
 use Rattle.tlsf_expand.proofs.enumerations.other_width.Goals as goal

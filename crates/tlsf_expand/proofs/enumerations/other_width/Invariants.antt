@@ -1,6 +1,6 @@
 use Rattle.std.proofs.Common.{◌≡◌, map, drop}
 use Rattle.tlsf_values.specs.Patterns.{all_values}
-use Rattle.tlsf_values.specs.Seen.{member_seen}
+use Rattle.tlsf_syntax.specs.Seen.{member_seen}
 use Rattle.tlsf_expand.specs.Signals.{other_width}
 use Rattle.tlsf_expand.proofs.enumerations.other_width.Given as goal
 

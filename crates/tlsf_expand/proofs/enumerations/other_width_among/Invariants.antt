@@ -1,5 +1,5 @@
 use Rattle.std.proofs.Common.{◌≡◌, map, drop}
-use Rattle.tlsf_values.specs.Seen.{pattern_seen}
+use Rattle.tlsf_syntax.specs.Seen.{pattern_seen}
 use Rattle.tlsf_expand.specs.Signals.{other_width}
 use Rattle.tlsf_expand.proofs.enumerations.other_width_among.Given as goal
 

@@ -1,5 +1,5 @@
 use Rattle.std.proofs.Common.{◌≡◌, map, drop}
-use Rattle.tlsf_values.specs.Seen.{definition_seen}
+use Rattle.tlsf_syntax.specs.Seen.{definition_seen}
 use Rattle.tlsf_expand.specs.Signals.{uneven_value}
 use Rattle.tlsf_expand.proofs.enumerations.uneven_value.Given as goal
 

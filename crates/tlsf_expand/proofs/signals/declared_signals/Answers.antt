@@ -1,6 +1,6 @@
 use Rattle.std.proofs.Common.{◌≡◌, ℕ, length, map, ap, arith}
 use Rattle.tlsf_expand.specs.SignalsSeen.{declared_seen}
-use Rattle.tlsf_expand.specs.TextSeen.{declaration_seen, text_seen}
+use Rattle.tlsf_syntax.specs.Seen.{declaration_seen, text_seen}
 use Rattle.tlsf_expand.proofs.Laying.{few_given}
 use Rattle.tlsf_expand.proofs.signals.declared_signals.Goals as goal
 

@@ -1,6 +1,6 @@
 use Rattle.std.proofs.Common.{◌≡◌, map, drop}
 use Rattle.tlsf_expand.specs.Signals.{declares}
-use Rattle.tlsf_expand.specs.TextSeen.{declaration_seen}
+use Rattle.tlsf_syntax.specs.Seen.{declaration_seen}
 use Rattle.tlsf_expand.proofs.signals.declares.Given as goal
 
 abbrev pub invariant-loop-declaration : goal.invariant-loop-declaration

@@ -1,13 +1,13 @@
 use Rattle.std.proofs.Common.{◌≡◌, ◌++◌, ◌∷◌, [], Ok, ap, arith, rules}
-use Rattle.tlsf_reader.specs.TextView.{blocks_view}
 use Rattle.tlsf_reader.proofs.Descending.{builds_more}
 use Rattle.tlsf_reader.proofs.Climbing.{read_exit}
 use Rattle.tlsf_reader.proofs.TextDescending.{list_read, list_stopped}
 use Rattle.tlsf_reader.proofs.DefinitionDescending.{block_stopped}
+use Rattle.tlsf_reader.specs.TextView.{each, block_view}
 use Rattle.tlsf_reader.proofs.definition.blocks.Goals as goal
 
 pub returns-in_err-block-clause-read : goal.returns-in_err-block-clause-read
-returns-in_err-block-clause-read c = read_exit _ c.from_residual.ensures.1 (list_stopped {rest = []} c.loop-blocks.invariant.builds (block_stopped {view = blocks_view} c.in_err-block.ensures.read))
+returns-in_err-block-clause-read c = read_exit _ c.from_residual.ensures.1 (list_stopped {rest = []} c.loop-blocks.invariant.builds (block_stopped {view = each block_view} c.in_err-block.ensures.read))
 
 pub loop-blocks-preserved : goal.loop-blocks-preserved
 loop-blocks-preserved c =

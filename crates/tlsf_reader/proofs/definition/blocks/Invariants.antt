@@ -1,5 +1,5 @@
 use Rattle.std.proofs.Common.{◌≤◌, length}
-use Rattle.tlsf_grammar.specs.TextReading.{blocks_read}
+use Rattle.tlsf_syntax.specs.TextReading.{blocks_read}
 use Rattle.tlsf_reader.specs.TextView.{block_view}
 use Rattle.tlsf_reader.specs.Descent.{Builds}
 use Rattle.tlsf_reader.specs.TextDescent.{in_front}

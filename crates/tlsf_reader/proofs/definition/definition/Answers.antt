@@ -1,11 +1,9 @@
 use Rattle.std.proofs.Common.{◌≡◌, List, [], map, ap, subst}
-use Rattle.tlsf_grammar.specs.Tree as plain
-use Rattle.tlsf_grammar.specs.Lexemes.{word_of}
-use Rattle.tlsf_grammar.specs.TextReading.{function_read}
+use Rattle.tlsf_syntax.specs.Tree as plain
+use Rattle.tlsf_syntax.specs.Lexemes.{word_of}
+use Rattle.tlsf_syntax.specs.TextReading.{function_read}
 use Rattle.tlsf_reader.specs.Seen.{seen}
-use Rattle.tlsf_reader.specs.View.{word_view}
-use Rattle.tlsf_reader.specs.TextView.{definition_view}
-use Rattle.tlsf_reader.specs.TextDescent.{enumeration_read}
+use Rattle.tlsf_syntax.specs.Seen.{word_seen, definition_seen}
 use Rattle.tlsf_reader.specs.Descent.{IsRead}
 use Rattle.tlsf_reader.proofs.Descending.{read_stop, read_go, read_expected, read_unexpected, read_next, read_other}
 use Rattle.tlsf_reader.proofs.Climbing.{read_exit}
@@ -33,6 +31,6 @@ returns-in-Some-next_if-clause-read c =
 
 pub returns-clause-read : goal.returns-clause-read
 returns-clause-read c =
-    let none : map word_view c.new.result.items ≡ [] = ap (map word_view) c.new.ensures.items in
+    let none : map word_seen c.new.result.items ≡ [] = ap (map word_seen) c.new.ensures.items in
     read_other after_enum named_definition c.in_default.ensures.next (read_expected _ c.in_ok-name.ensures.next (read_other _ (constant_definition (seen c.in_ok-name.name)) c.in_default-next_if.ensures.next
-    (subst (λ (ws : List plain.Named). IsRead definition_view (λ d. function_read d (word_of (seen c.in_ok-name.name)) ws c.next_if-2.new.self) c.function-2.new.ahead c.function-2.result) none c.function-2.ensures.read)))
+    (subst (λ (ws : List plain.Named). IsRead definition_seen (λ d. function_read d (word_of (seen c.in_ok-name.name)) ws c.next_if-2.new.self) c.function-2.new.ahead c.function-2.result) none c.function-2.ensures.read)))

@@ -1,6 +1,6 @@
 use Rattle.std.proofs.Common.{ap}
-use Rattle.tlsf_grammar.specs.Tree as plain
-use Rattle.tlsf_reader.specs.View.{tree_of}
+use Rattle.tlsf_syntax.specs.Tree as plain
+use Rattle.tlsf_syntax.specs.Seen.{expr_seen}
 use Rattle.tlsf_reader.proofs.Descending.{read_stop, read_go, read_expected, read_unexpected, read_here}
 use Rattle.tlsf_reader.proofs.Climbing.{read_exit}
 use Rattle.tlsf_reader.proofs.definition.parameter.Goals as goal
@@ -17,4 +17,4 @@ returns-in_err-expect-2-clause-read c =
 pub returns-clause-read : goal.returns-clause-read
 returns-clause-read c =
     read_expected _ c.in_ok-name.ensures.next (read_expected _ c.in_ok-expect.ensures.next (read_go _ c.in_ok-value.ensures.read (read_expected _ c.in_ok-expect-2.ensures.next
-    (read_here (ap (λ (x : plain.Named). plain.parameter x (tree_of c.in_ok-value.value)) c.in_ok-word.ensures)))))
+    (read_here (ap (λ (x : plain.Named). plain.parameter x (expr_seen c.in_ok-value.value)) c.in_ok-word.ensures)))))

@@ -1,13 +1,13 @@
 use Rattle.std.proofs.Common.{◌≤◌, length}
-use Rattle.tlsf_grammar.specs.TextReading.{parameters_read}
-use Rattle.tlsf_reader.specs.TextView.{definition_view}
+use Rattle.tlsf_syntax.specs.TextReading.{parameters_read}
+use Rattle.tlsf_syntax.specs.Seen.{definition_seen}
 use Rattle.tlsf_reader.specs.Descent.{Builds}
 use Rattle.tlsf_reader.specs.TextDescent.{in_front}
 use Rattle.tlsf_reader.proofs.definition.parameters.Given as goal
 
 abbrev pub invariant-loop-alloc : goal.invariant-loop-alloc
 invariant-loop-alloc l = record {
-  builds : Builds (in_front definition_view) (λ d. parameters_read d l.initial.ahead) l.parameters.items (λ d. parameters_read d l.ahead);
+  builds : Builds (in_front definition_seen) (λ d. parameters_read d l.initial.ahead) l.parameters.items (λ d. parameters_read d l.ahead);
   shorter : length l.ahead ≤ length l.initial.ahead;
 }
 

@@ -1,6 +1,6 @@
 use Rattle.std.proofs.Common.{◌<◌, length}
-use Rattle.tlsf_grammar.specs.Reading.{Answer}
-use Rattle.tlsf_grammar.specs.TextReading.{Value, value_read}
+use Rattle.tlsf_syntax.specs.Reading.{Answer}
+use Rattle.tlsf_syntax.specs.TextReading.{Value, value_read}
 use Rattle.tlsf_reader.specs.Descent.{Eventually}
 use Rattle.tlsf_reader.specs.TextDescent.{value_from}
 use Rattle.tlsf_reader.proofs.enumeration.pattern.Given as goal

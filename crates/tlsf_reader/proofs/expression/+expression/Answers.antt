@@ -1,51 +1,21 @@
-use Rattle.std.proofs.Common.{◌≡◌, ℕ, inl, inr, Bool, false, List, [], ◌∷◌, ◌++◌, length, map, refl, sym, ap, ◌∙◌, arith, rules}
-use Rattle.tlsf_tree.specs.declared.expr.Link.{Link, roll-Link, the_lemmas}
-use Rattle.tlsf_tree.specs.declared.expr.Op.{Op}
-use Rattle.tlsf_tree.specs.declared.expr.Span.{Span}
-use Rattle.tlsf_tree.specs.declared.symbol.Symbol.TheVariants as symbol
-use Rattle.tlsf_grammar.specs.Tree.{Tree, tree_span, prefix, count, window, index, named, set, tree, no_trees}
-use Rattle.tlsf_grammar.specs.Lexemes.{Lexeme, lexeme_span, word_of}
-use Rattle.tlsf_grammar.specs.Expressions.{primary, memberships, prefixes, releases, left, once, right, none}
-use Rattle.tlsf_grammar.specs.Reading.{Answer, taken, go_on, expect, from_to, level_number, operator_here, readers, Readers, if_next, set_second, close_set}
+use Rattle.std.proofs.Common.{◌≡◌, inl, inr, false, List, [], ◌∷◌, ◌++◌, length, refl, sym, ap, ◌∙◌, arith, rules}
+use Rattle.tlsf_syntax.specs.declared.expr.Link.{Link, roll-Link, the_lemmas}
+use Rattle.tlsf_syntax.specs.declared.expr.Span.{Span}
+use Rattle.tlsf_tokens.specs.declared.symbol.Symbol.TheVariants as symbol
+use Rattle.tlsf_syntax.specs.Tree.{Tree, tree_span, index, named, set, tree, no_trees}
+use Rattle.tlsf_syntax.specs.Lexemes.{Lexeme, lexeme_span, word_of}
+use Rattle.tlsf_syntax.specs.Expressions.{primary, memberships, prefixes, releases, left, once, right, none}
+use Rattle.tlsf_syntax.specs.Reading.{Answer, taken, go_on, expect, from_to, level_number, operator_here, readers, Readers, if_next, set_second, close_set}
 use Rattle.tlsf_reader.specs.declared.ahead.SignKind.TheVariants.{Plain, Counted, Windowed, Big}
 use Rattle.tlsf_reader.specs.Levels.{level_of, joins_as}
 use Rattle.tlsf_reader.specs.Seen.{seen}
-use Rattle.tlsf_reader.specs.View.{tree_of, link_of, trees_of, range_of}
-use Rattle.tlsf_reader.specs.Descent.{put_link, put_tree, view_ranges}
+use Rattle.tlsf_syntax.specs.Seen.{expr_seen, trees_seen, range_seen}
+use Rattle.tlsf_reader.specs.Descent.{put_link, put_tree, ranges_seen}
 use Rattle.tlsf_reader.proofs.Descending.{read_go, read_stop, read_expected, read_unexpected, read_built, read_here, read_nothing, read_level, read_refused, no_sign_from, builds_none, builds_more, link_more, ends_last, read_next, read_other, read_primary, read_no_primary, read_no_front, list_more, range_more, range_refused, read_between, read_bounds, read_unbounded, members_read, members_refused, between_read}
 use Rattle.tlsf_reader.proofs.Climbing.{read_exit, climbed, climbed_to, read_extended, chain_refused, read_chain, read_none, pair_refused, pair_read, read_unsigned, read_signed}
-use Rattle.tlsf_tree.specs.declared.expr.Expr.{Expr}
+use Rattle.tlsf_syntax.specs.declared.expr.Expr.{Expr}
 use Rattle.tlsf_reader.proofs.Lists.{list_stops, list_ends, range_exit, ranges_stop, ranges_end, read_closed}
 use Rattle.tlsf_reader.proofs.expression.+expression.Goals as goal
-
--- what is done with the parts of a form that are read
-
-abbrev made_prefix : ℕ → Op → ℕ → Tree → List Lexeme → Answer Tree
-made_prefix start o d t rest = taken (prefix (from_to start (tree_span t).end) o t) rest
-
-abbrev made_count : ℕ → Tree → ℕ → Tree → List Lexeme → Answer Tree
-made_count start t d u rest = taken (count (from_to start (tree_span u).end) t u) rest
-
-abbrev count_operand : Bool → ℕ → Tree → ℕ → Lexeme → List Lexeme → Answer Tree
-count_operand ends start t d l rest = go_on ((readers d).level ends prefixes rest) (made_count start t d)
-
-abbrev after_count : Bool → ℕ → ℕ → Tree → List Lexeme → Answer Tree
-after_count ends start d t rest = expect symbol.CloseBracket rest (count_operand ends start t d)
-
-abbrev made_window : ℕ → Op → Tree → Tree → ℕ → Tree → List Lexeme → Answer Tree
-made_window start o t u d v rest = taken (window (from_to start (tree_span v).end) o t u v) rest
-
-abbrev window_operand : Bool → ℕ → Op → Tree → Tree → ℕ → Lexeme → List Lexeme → Answer Tree
-window_operand ends start o t u d l rest = go_on ((readers d).level ends prefixes rest) (made_window start o t u d)
-
-abbrev after_window : Bool → ℕ → Op → Tree → ℕ → Tree → List Lexeme → Answer Tree
-after_window ends start o t d u rest = expect symbol.CloseBracket rest (window_operand ends start o t u d)
-
-abbrev second_bound : Bool → ℕ → Op → Tree → ℕ → Lexeme → List Lexeme → Answer Tree
-second_bound ends start o t d l rest = go_on ((readers d).level false releases rest) (after_window ends start o t d)
-
-abbrev first_bound : Bool → ℕ → Op → ℕ → Tree → List Lexeme → Answer Tree
-first_bound ends start o d t rest = expect symbol.Colon rest (second_bound ends start o t d)
 
 pub expression-returns-in_err-operand-clause-read : goal.expression-returns-in_err-operand-clause-read
 expression-returns-in_err-operand-clause-read t c =
@@ -114,19 +84,19 @@ extended-chain-requires t c = (omega arith, c.requires)
 
 pub extended-returns-in-Left-clause-read : goal.extended-returns-in-Left-clause-read
 extended-returns-in-Left-clause-read t c =
-    read_extended c.args.ends (level_of c.args.level) (level_of c.args.tighter) (tree_of c.args.tree) c.args.ahead.now left (sym c.joins.ensures ∙ ap joins_as c.in-Left.is) c.chain.ensures.read
+    read_extended c.args.ends (level_of c.args.level) (level_of c.args.tighter) (expr_seen c.args.tree) c.args.ahead.now left (sym c.joins.ensures ∙ ap joins_as c.in-Left.is) c.chain.ensures.read
 
 pub extended-returns-in-Once-clause-read : goal.extended-returns-in-Once-clause-read
 extended-returns-in-Once-clause-read t c =
-    read_extended c.args.ends (level_of c.args.level) (level_of c.args.tighter) (tree_of c.args.tree) c.args.ahead.now once (sym c.joins.ensures ∙ ap joins_as c.in-Once.is) c.pair.ensures.read
+    read_extended c.args.ends (level_of c.args.level) (level_of c.args.tighter) (expr_seen c.args.tree) c.args.ahead.now once (sym c.joins.ensures ∙ ap joins_as c.in-Once.is) c.pair.ensures.read
 
 pub extended-returns-in-Right-clause-read : goal.extended-returns-in-Right-clause-read
 extended-returns-in-Right-clause-read t c =
-    read_extended c.args.ends (level_of c.args.level) (level_of c.args.tighter) (tree_of c.args.tree) c.args.ahead.now right (sym c.joins.ensures ∙ ap joins_as c.in-Right.is) c.pair-in-Right.ensures.read
+    read_extended c.args.ends (level_of c.args.level) (level_of c.args.tighter) (expr_seen c.args.tree) c.args.ahead.now right (sym c.joins.ensures ∙ ap joins_as c.in-Right.is) c.pair-in-Right.ensures.read
 
 pub extended-returns-in-None-clause-read : goal.extended-returns-in-None-clause-read
 extended-returns-in-None-clause-read t c =
-    read_extended c.args.ends (level_of c.args.level) (level_of c.args.tighter) (tree_of c.args.tree) c.args.ahead.now none (sym c.joins.ensures ∙ ap joins_as c.in-None.is) (read_here refl)
+    read_extended c.args.ends (level_of c.args.level) (level_of c.args.tighter) (expr_seen c.args.tree) c.args.ahead.now none (sym c.joins.ensures ∙ ap joins_as c.in-None.is) (read_here refl)
 
 pub chain-loop-op-init : goal.chain-loop-op-init
 chain-loop-op-init t c = record {
@@ -138,23 +108,23 @@ chain-loop-op-init t c = record {
 pub chain-returns-in_err-right-clause-read : goal.chain-returns-in_err-right-clause-read
 chain-returns-in_err-right-clause-read t c =
     read_exit _ c.from_residual.ensures.1
-    (chain_refused c.args.ends (level_of c.args.level) (level_of c.args.tighter) c.args.ahead.now c.loop-op.ahead _ c.in-Some.op (tree_of c.args.first) c.loop-op.rest.items c.requires c.in-Some.ensures.value c.in-Some.ensures.some
+    (chain_refused c.args.ends (level_of c.args.level) (level_of c.args.tighter) c.args.ahead.now c.loop-op.ahead _ c.in-Some.op (expr_seen c.args.first) c.loop-op.rest.items c.requires c.in-Some.ensures.value c.in-Some.ensures.some
     c.loop-op.invariant.builds c.in_err-right.ensures.read)
 
-pub chain-returns-then-is_err-clause-read : goal.chain-returns-then-is_err-clause-read
-chain-returns-then-is_err-clause-read t c = read_nothing refl
+pub chain-returns-in_err-push-clause-read : goal.chain-returns-in_err-push-clause-read
+chain-returns-in_err-push-clause-read t c = read_exit _ c.from_residual-in_err-push.ensures.1 (read_nothing refl)
 
 pub chain-loop-op-preserved : goal.chain-loop-op-preserved
 chain-loop-op-preserved t c =
     let s = c.in-Some.ensures in
-    let right = tree_of c.in_ok-right.right in
     let l : Link = roll-Link (record { op = c.in-Some.op; right = c.in_ok-right.right }) in
     let pushed : c.push.new.self.items ≡ c.loop-op.rest.items ++ l ∷ [] = search rules in
-    let made : link_of l ≡ (c.in-Some.op, tree_of c.in_ok-right.right) = search (rules, the_lemmas) in
+    let op_is : l.op ≡ c.in-Some.op = search (rules, the_lemmas) in
+    let right_is : l.right ≡ c.in_ok-right.right = search (rules, the_lemmas) in
     record {
       builds = builds_more c.push.new.self.items pushed c.loop-op.invariant.builds
-          (link_more c.args.ends (level_of c.args.level) (level_of c.args.tighter) c.loop-op.ahead _ c.expression.new.ahead c.in-Some.op l right c.requires (sym s.value) s.some made (c.in_ok-right.ensures.read.ok _ refl));
-      end = ap (λ (x : Span). x.end) c.span-end-in-Some.ensures ∙ ap (λ (p : Op × Tree). (tree_span p.1).end) (sym made) ∙ ends_last (tree_span (tree_of c.args.first)).end c.loop-op.rest.items l c.push.new.self.items pushed;
+          (link_more c.args.ends (level_of c.args.level) (level_of c.args.tighter) c.loop-op.ahead _ c.expression.new.ahead c.in-Some.op l (expr_seen c.in_ok-right.right) c.requires (sym s.value) s.some op_is (ap expr_seen right_is) (c.in_ok-right.ensures.read.ok _ refl));
+      end = ap (λ (x : Span). x.end) c.span-end-in-Some.ensures ∙ ap (λ (e : Expr). (tree_span (expr_seen e)).end) (sym right_is) ∙ ends_last (tree_span (expr_seen c.args.first)).end c.loop-op.rest.items l c.push.new.self.items pushed;
       shorter = omega (arith, s.shorter, c.in_ok-right.ensures.shorter);
     }
 
@@ -163,21 +133,21 @@ chain-chain-requires t c = c.loop-op.invariant.end
 
 pub chain-returns-clause-read : goal.chain-returns-clause-read
 chain-returns-clause-read t c =
-    read_chain c.args.ends (level_of c.args.level) (level_of c.args.tighter) c.args.ahead.now c.loop-op.ahead _ (tree_of c.args.first) c.loop-op.rest.items c.requires c.in_default.ensures.value c.in_default.ensures.none
+    read_chain c.args.ends (level_of c.args.level) (level_of c.args.tighter) c.args.ahead.now c.loop-op.ahead _ (expr_seen c.args.first) c.loop-op.rest.items c.requires c.in_default.ensures.value c.in_default.ensures.none
     c.loop-op.invariant.builds c.chain.ensures
 
 pub pair-returns-in_default-clause-read : goal.pair-returns-in_default-clause-read
-pair-returns-in_default-clause-read t c = read_none _ (tree_of c.args.left) c.args.ahead.now _ _ c.in_default.ensures.value c.in_default.ensures.none refl
+pair-returns-in_default-clause-read t c = read_none _ (expr_seen c.args.left) c.args.ahead.now _ _ c.in_default.ensures.value c.in_default.ensures.none refl
 
 pub pair-returns-in_err-right-clause-read : goal.pair-returns-in_err-right-clause-read
 pair-returns-in_err-right-clause-read t c =
     read_exit _ c.from_residual.ensures.1
-    (pair_refused c.args.ends (level_of c.args.operand) (operator_here c.args.ends (level_of c.args.level) c.args.ahead.now) c.in-Some.op (tree_of c.args.left) c.args.ahead.now _ c.in-Some.ensures.value c.in-Some.ensures.some
+    (pair_refused c.args.ends (level_of c.args.operand) (operator_here c.args.ends (level_of c.args.level) c.args.ahead.now) c.in-Some.op (expr_seen c.args.left) c.args.ahead.now _ c.in-Some.ensures.value c.in-Some.ensures.some
     c.in_err-right.ensures.read)
 
 pub pair-returns-clause-read : goal.pair-returns-clause-read
 pair-returns-clause-read t c =
-    pair_read c.args.ends (level_of c.args.operand) (operator_here c.args.ends (level_of c.args.level) c.args.ahead.now) c.in-Some.op (tree_of c.args.left) c.args.ahead.now _ c.in-Some.ensures.value c.in-Some.ensures.some
+    pair_read c.args.ends (level_of c.args.operand) (operator_here c.args.ends (level_of c.args.level) c.args.ahead.now) c.in-Some.op (expr_seen c.args.left) c.args.ahead.now _ c.in-Some.ensures.value c.in-Some.ensures.some
     c.in_ok-right.ensures.read c.pair.ensures
 
 pub signed-returns-in_err-tree-clause-read : goal.signed-returns-in_err-tree-clause-read
@@ -211,77 +181,70 @@ signed-returns-in-Big-clause-read t c =
     read_signed c.args.ends c.args.ahead.now _ c.in-Some.sign (Big c.in-Big.op) c.in-Some.ensures.sign c.in-Big.is (c.big.ensures.read (seen c.in-Some.sign.first) refl)
 
 pub prefixed-returns-in_err-part-clause-read : goal.prefixed-returns-in_err-part-clause-read
-prefixed-returns-in_err-part-clause-read t c = λ l is. read_exit _ c.from_residual.ensures.1 (read_stop (made_prefix l.start c.args.op) c.in_err-part.ensures.read)
+prefixed-returns-in_err-part-clause-read t c = λ l is. read_exit _ c.from_residual.ensures.1 (read_stop _ c.in_err-part.ensures.read)
 
 pub prefixed-returns-clause-read : goal.prefixed-returns-clause-read
-prefixed-returns-clause-read t c = λ l is. read_go (made_prefix l.start c.args.op) c.in_ok-part.ensures.read (read_built (rw is c.prefix.ensures))
+prefixed-returns-clause-read t c = λ l is. read_go _ c.in_ok-part.ensures.read (read_built (rw is c.prefix.ensures))
 
 pub counted-returns-in_err-count-clause-read : goal.counted-returns-in_err-count-clause-read
-counted-returns-in_err-count-clause-read t c = λ l is. read_exit _ c.from_residual.ensures.1 (read_stop (after_count c.args.ends l.start) c.in_err-count.ensures.read)
+counted-returns-in_err-count-clause-read t c = λ l is. read_exit _ c.from_residual.ensures.1 (read_stop _ c.in_err-count.ensures.read)
 
 pub counted-returns-in_err-expect-clause-read : goal.counted-returns-in_err-expect-clause-read
 counted-returns-in_err-expect-clause-read t c =
     λ l is.
     read_exit _ c.from_residual-in_err-expect.ensures.1
-    (read_go (after_count c.args.ends l.start) c.in_ok-count.ensures.read (read_unexpected (count_operand c.args.ends l.start (tree_of c.in_ok-count.count)) c.in_err-expect.ensures.next))
+    (read_go _ c.in_ok-count.ensures.read (read_unexpected _ c.in_err-expect.ensures.next))
 
 pub counted-returns-in_err-part-clause-read : goal.counted-returns-in_err-part-clause-read
 counted-returns-in_err-part-clause-read t c =
     λ l is.
     read_exit _ c.from_residual-in_err-part.ensures.1
-    (read_go (after_count c.args.ends l.start) c.in_ok-count.ensures.read (read_expected (count_operand c.args.ends l.start (tree_of c.in_ok-count.count)) c.in_ok-expect.ensures.next
-    (read_stop (made_count l.start (tree_of c.in_ok-count.count)) c.in_err-part.ensures.read)))
+    (read_go _ c.in_ok-count.ensures.read (read_expected _ c.in_ok-expect.ensures.next
+    (read_stop _ c.in_err-part.ensures.read)))
 
 pub counted-returns-clause-read : goal.counted-returns-clause-read
 counted-returns-clause-read t c =
     λ l is.
-    read_go (after_count c.args.ends l.start) c.in_ok-count.ensures.read (read_expected (count_operand c.args.ends l.start (tree_of c.in_ok-count.count)) c.in_ok-expect.ensures.next
-    (read_go (made_count l.start (tree_of c.in_ok-count.count)) c.in_ok-part.ensures.read (read_built (rw is c.count.ensures))))
+    read_go _ c.in_ok-count.ensures.read (read_expected _ c.in_ok-expect.ensures.next
+    (read_go _ c.in_ok-part.ensures.read (read_built (rw is c.count.ensures))))
 
 pub windowed-returns-in_err-from-clause-read : goal.windowed-returns-in_err-from-clause-read
-windowed-returns-in_err-from-clause-read t c = λ l is. read_exit _ c.from_residual.ensures.1 (read_stop (first_bound c.args.ends l.start c.args.op) c.in_err-from.ensures.read)
+windowed-returns-in_err-from-clause-read t c = λ l is. read_exit _ c.from_residual.ensures.1 (read_stop _ c.in_err-from.ensures.read)
 
 pub windowed-returns-in_err-expect-clause-read : goal.windowed-returns-in_err-expect-clause-read
 windowed-returns-in_err-expect-clause-read t c =
     λ l is.
     read_exit _ c.from_residual-in_err-expect.ensures.1
-    (read_go (first_bound c.args.ends l.start c.args.op) c.in_ok-from.ensures.read (read_unexpected (second_bound c.args.ends l.start c.args.op (tree_of c.in_ok-from.from)) c.in_err-expect.ensures.next))
+    (read_go _ c.in_ok-from.ensures.read (read_unexpected _ c.in_err-expect.ensures.next))
 
 pub windowed-returns-in_err-to-clause-read : goal.windowed-returns-in_err-to-clause-read
 windowed-returns-in_err-to-clause-read t c =
     λ l is.
-    let first = tree_of c.in_ok-from.from in
     read_exit _ c.from_residual-in_err-to.ensures.1
-    (read_go (first_bound c.args.ends l.start c.args.op) c.in_ok-from.ensures.read (read_expected (second_bound c.args.ends l.start c.args.op first) c.in_ok-expect.ensures.next
-    (read_stop (after_window c.args.ends l.start c.args.op first) c.in_err-to.ensures.read)))
+    (read_go _ c.in_ok-from.ensures.read (read_expected _ c.in_ok-expect.ensures.next
+    (read_stop _ c.in_err-to.ensures.read)))
 
 pub windowed-returns-in_err-expect-2-clause-read : goal.windowed-returns-in_err-expect-2-clause-read
 windowed-returns-in_err-expect-2-clause-read t c =
     λ l is.
-    let first = tree_of c.in_ok-from.from in
-    let second = tree_of c.in_ok-to.to in
     read_exit _ c.from_residual-in_err-expect-2.ensures.1
-    (read_go (first_bound c.args.ends l.start c.args.op) c.in_ok-from.ensures.read (read_expected (second_bound c.args.ends l.start c.args.op first) c.in_ok-expect.ensures.next
-    (read_go (after_window c.args.ends l.start c.args.op first) c.in_ok-to.ensures.read (read_unexpected (window_operand c.args.ends l.start c.args.op first second) c.in_err-expect-2.ensures.next))))
+    (read_go _ c.in_ok-from.ensures.read (read_expected _ c.in_ok-expect.ensures.next
+    (read_go _ c.in_ok-to.ensures.read (read_unexpected _ c.in_err-expect-2.ensures.next))))
 
 pub windowed-returns-in_err-part-clause-read : goal.windowed-returns-in_err-part-clause-read
 windowed-returns-in_err-part-clause-read t c =
     λ l is.
-    let first = tree_of c.in_ok-from.from in
-    let second = tree_of c.in_ok-to.to in
     read_exit _ c.from_residual-in_err-part.ensures.1
-    (read_go (first_bound c.args.ends l.start c.args.op) c.in_ok-from.ensures.read (read_expected (second_bound c.args.ends l.start c.args.op first) c.in_ok-expect.ensures.next
-    (read_go (after_window c.args.ends l.start c.args.op first) c.in_ok-to.ensures.read (read_expected (window_operand c.args.ends l.start c.args.op first second) c.in_ok-expect-2.ensures.next
-    (read_stop (made_window l.start c.args.op first second) c.in_err-part.ensures.read)))))
+    (read_go _ c.in_ok-from.ensures.read (read_expected _ c.in_ok-expect.ensures.next
+    (read_go _ c.in_ok-to.ensures.read (read_expected _ c.in_ok-expect-2.ensures.next
+    (read_stop _ c.in_err-part.ensures.read)))))
 
 pub windowed-returns-clause-read : goal.windowed-returns-clause-read
 windowed-returns-clause-read t c =
     λ l is.
-    let first = tree_of c.in_ok-from.from in
-    let second = tree_of c.in_ok-to.to in
-    read_go (first_bound c.args.ends l.start c.args.op) c.in_ok-from.ensures.read (read_expected (second_bound c.args.ends l.start c.args.op first) c.in_ok-expect.ensures.next
-    (read_go (after_window c.args.ends l.start c.args.op first) c.in_ok-to.ensures.read (read_expected (window_operand c.args.ends l.start c.args.op first second) c.in_ok-expect-2.ensures.next
-    (read_go (made_window l.start c.args.op first second) c.in_ok-part.ensures.read (read_built (rw is c.window.ensures))))))
+    read_go _ c.in_ok-from.ensures.read (read_expected _ c.in_ok-expect.ensures.next
+    (read_go _ c.in_ok-to.ensures.read (read_expected _ c.in_ok-expect-2.ensures.next
+    (read_go _ c.in_ok-part.ensures.read (read_built (rw is c.window.ensures))))))
 
 pub big-returns-in_err-expect-clause-read : goal.big-returns-in_err-expect-clause-read
 big-returns-in_err-expect-clause-read t c = λ l is. read_exit _ c.from_residual.ensures.1 (read_unexpected _ c.in_err-expect.ensures.next)
@@ -306,13 +269,13 @@ big-returns-clause-read t c =
     read_expected _ c.in_ok-expect.ensures.next (read_go _ c.in_ok-ranges.ensures.read (read_expected _ c.in_ok-expect-2.ensures.next (read_go _ c.in_ok-part.ensures.read (read_built (rw is c.big.ensures)))))
 
 pub ranges-loop-ranges-init : goal.ranges-loop-ranges-init
-ranges-loop-ranges-init t c = record { builds = builds_none range_of _ _ c.new-ranges.ensures.items; shorter = omega arith }
+ranges-loop-ranges-init t c = record { builds = builds_none range_seen _ _ c.new-ranges.ensures.items; shorter = omega arith }
 
 pub ranges-returns-in_err-range-clause-read : goal.ranges-returns-in_err-range-clause-read
 ranges-returns-in_err-range-clause-read t c = read_exit _ c.from_residual.ensures.1 (ranges_stop c.loop-ranges.invariant.builds c.in_err-range.ensures.read)
 
-pub ranges-returns-then-is_err-clause-read : goal.ranges-returns-then-is_err-clause-read
-ranges-returns-then-is_err-clause-read t c = read_nothing refl
+pub ranges-returns-in_err-push-clause-read : goal.ranges-returns-in_err-push-clause-read
+ranges-returns-in_err-push-clause-read t c = read_exit _ c.from_residual-in_err-push.ensures.1 (read_nothing refl)
 
 pub ranges-loop-ranges-preserved : goal.ranges-loop-ranges-preserved
 ranges-loop-ranges-preserved t c =
@@ -335,29 +298,29 @@ range-returns-in-Some-clause-read t c = members_read _ _ _ _ _ _ c.in-Some.ensur
 
 pub range-returns-in_err-low-clause-read : goal.range-returns-in_err-low-clause-read
 range-returns-in_err-low-clause-read t c =
-    range_exit _ c.from_residual-in_err-low.ensures.1 (range_refused {seen_as = view_ranges} _ c.expression-2.new.ahead _ _ (read_between _ _ c.in_default.ensures.name (read_stop _ c.in_err-low.ensures.read)))
+    range_exit _ c.from_residual-in_err-low.ensures.1 (range_refused {seen_as = ranges_seen} _ c.expression-2.new.ahead _ _ (read_between _ _ c.in_default.ensures.name (read_stop _ c.in_err-low.ensures.read)))
 
 pub range-returns-in_err-low_strict-clause-read : goal.range-returns-in_err-low_strict-clause-read
 range-returns-in_err-low_strict-clause-read t c =
     range_exit _ c.from_residual-in_err-low_strict.ensures.1
-    (range_refused {seen_as = view_ranges} _ c.bound.new.self _ _ (read_between _ _ c.in_default.ensures.name (read_go _ c.in_ok-low.ensures.read (read_unbounded _ c.in_err-low_strict.ensures.bound))))
+    (range_refused {seen_as = ranges_seen} _ c.bound.new.self _ _ (read_between _ _ c.in_default.ensures.name (read_go _ c.in_ok-low.ensures.read (read_unbounded _ c.in_err-low_strict.ensures.bound))))
 
 pub range-returns-in_err-name-clause-read : goal.range-returns-in_err-name-clause-read
 range-returns-in_err-name-clause-read t c =
     range_exit _ c.from_residual-in_err-name.ensures.1
-    (range_refused {seen_as = view_ranges} _ c.expect.new.self _ _ (read_between _ _ c.in_default.ensures.name (read_go _ c.in_ok-low.ensures.read (read_bounds _ c.in_ok-low_strict.ensures.bound
+    (range_refused {seen_as = ranges_seen} _ c.expect.new.self _ _ (read_between _ _ c.in_default.ensures.name (read_go _ c.in_ok-low.ensures.read (read_bounds _ c.in_ok-low_strict.ensures.bound
     (read_unexpected _ c.in_err-name.ensures.next)))))
 
 pub range-returns-in_err-high_strict-clause-read : goal.range-returns-in_err-high_strict-clause-read
 range-returns-in_err-high_strict-clause-read t c =
     range_exit _ c.from_residual-in_err-high_strict.ensures.1
-    (range_refused {seen_as = view_ranges} _ c.bound-2.new.self _ _ (read_between _ _ c.in_default.ensures.name (read_go _ c.in_ok-low.ensures.read (read_bounds _ c.in_ok-low_strict.ensures.bound
+    (range_refused {seen_as = ranges_seen} _ c.bound-2.new.self _ _ (read_between _ _ c.in_default.ensures.name (read_go _ c.in_ok-low.ensures.read (read_bounds _ c.in_ok-low_strict.ensures.bound
     (read_expected _ c.in_ok-name.ensures.next (read_unbounded _ c.in_err-high_strict.ensures.bound))))))
 
 pub range-returns-in_err-high-clause-read : goal.range-returns-in_err-high-clause-read
 range-returns-in_err-high-clause-read t c =
     range_exit _ c.from_residual-in_err-high.ensures.1
-    (range_refused {seen_as = view_ranges} _ c.expression-3.new.ahead _ _ (read_between _ _ c.in_default.ensures.name (read_go _ c.in_ok-low.ensures.read (read_bounds _ c.in_ok-low_strict.ensures.bound
+    (range_refused {seen_as = ranges_seen} _ c.expression-3.new.ahead _ _ (read_between _ _ c.in_default.ensures.name (read_go _ c.in_ok-low.ensures.read (read_bounds _ c.in_ok-low_strict.ensures.bound
     (read_expected _ c.in_ok-name.ensures.next (read_bounds _ c.in_ok-high_strict.ensures.bound (read_stop _ c.in_err-high.ensures.read)))))))
 
 pub range-returns-clause-read : goal.range-returns-clause-read
@@ -458,7 +421,7 @@ pub set-returns-in-Some-clause-read : goal.set-returns-in-Some-clause-read
 set-returns-in-Some-clause-read t c =
     let l = seen c.args.first in
     read_next _ _ c.in-Some.ensures.next
-    (read_here (c.set.ensures ∙ ap (λ (es : List Expr). set (from_to l.start (seen c.in-Some.last).end) (trees_of (map tree_of es))) c.new.ensures.items))
+    (read_here (c.set.ensures ∙ ap (λ (es : List Expr). set (from_to l.start (seen c.in-Some.last).end) (trees_seen es)) c.new.ensures.items))
 
 pub set-returns-in_err-one-clause-read : goal.set-returns-in_err-one-clause-read
 set-returns-in_err-one-clause-read t c = read_exit _ c.from_residual.ensures.1 (read_other _ (λ d. filled (readers d) (seen c.args.first)) c.in_default.ensures.next (read_stop _ c.in_err-one.ensures.read))
@@ -480,7 +443,7 @@ pub set-returns-clause-read : goal.set-returns-clause-read
 set-returns-clause-read t c =
     let l = seen c.args.first in
     let one = c.in_ok-one.one in
-    read_other _ (λ d. filled (readers d) l) c.in_default.ensures.next (read_go _ c.in_ok-one.ensures.read (read_other _ (λ d. close_set l (tree (tree_of one) no_trees)) c.in_default-next_if.ensures.next
+    read_other _ (λ d. filled (readers d) l) c.in_default.ensures.next (read_go _ c.in_ok-one.ensures.read (read_other _ (λ d. close_set l (tree (expr_seen one) no_trees)) c.in_default-next_if.ensures.next
     (read_closed l c.next_if-2.new.self c.in_ok-members.members.items (one ∷ []) c.in_ok-members.ensures c.close_set.ensures.read)))
 
 -- no steps: more members, or the end of the set
@@ -503,15 +466,15 @@ longer_set-returns-in_err-members-clause-read t c = read_exit _ c.from_residual-
 pub longer_set-returns-in_default-next_if-clause-read : goal.longer_set-returns-in_default-next_if-clause-read
 longer_set-returns-in_default-next_if-clause-read t c =
     let l = seen c.args.first in
-    let t = tree_of c.args.one in
-    let u = tree_of c.args.two in
+    let t = expr_seen c.args.one in
+    let u = expr_seen c.args.two in
     read_other _ (λ d. more_members (readers d) l t u) c.in_default.ensures.next (read_other _ (λ d. close_set l (tree t (tree u no_trees))) c.in_default-next_if.ensures.next
     (read_closed l c.next_if-2.new.self c.in_ok-members.members.items (c.args.one ∷ c.args.two ∷ []) c.in_ok-members.ensures c.close_set.ensures.read))
 
 pub longer_set-returns-in_err-more-clause-read : goal.longer_set-returns-in_err-more-clause-read
 longer_set-returns-in_err-more-clause-read t c =
     read_exit _ c.from_residual-in_err-more.ensures.1
-    (read_other _ (λ d. more_members (readers d) (seen c.args.first) (tree_of c.args.one) (tree_of c.args.two)) c.in_default.ensures.next (read_next _ _ c.in-Some-next_if.ensures.next
+    (read_other _ (λ d. more_members (readers d) (seen c.args.first) (expr_seen c.args.one) (expr_seen c.args.two)) c.in_default.ensures.next (read_next _ _ c.in-Some-next_if.ensures.next
     (read_stop _ c.in_err-more.ensures.read)))
 
 pub longer_set-returns-in_err-members-2-clause-read : goal.longer_set-returns-in_err-members-2-clause-read
@@ -521,7 +484,7 @@ pub longer_set-returns-clause-read : goal.longer_set-returns-clause-read
 longer_set-returns-clause-read t c =
     let l = seen c.args.first in
     let more = c.in_ok-more.more.items in
-    read_other _ (λ d. more_members (readers d) l (tree_of c.args.one) (tree_of c.args.two)) c.in_default.ensures.next (read_next _ _ c.in-Some-next_if.ensures.next (read_go _ c.in_ok-more.ensures.read
+    read_other _ (λ d. more_members (readers d) l (expr_seen c.args.one) (expr_seen c.args.two)) c.in_default.ensures.next (read_next _ _ c.in-Some-next_if.ensures.next (read_go _ c.in_ok-more.ensures.read
     (read_closed l c.expressions.new.ahead c.in_ok-members-2.members.items (c.args.one ∷ c.args.two ∷ more) (c.in_ok-members-2.ensures ∙ ap (λ (es : List Expr). es ++ more) c.in_ok-members.ensures)
     c.close_set-2.ensures.read)))
 
@@ -531,8 +494,8 @@ expressions-loop-list-init t c = record { builds = builds_none put_tree _ _ c.ne
 pub expressions-returns-in_err-tree-clause-read : goal.expressions-returns-in_err-tree-clause-read
 expressions-returns-in_err-tree-clause-read t c = read_exit _ c.from_residual.ensures.1 (list_stops c.loop-list.ahead c.loop-list.invariant.builds c.in_err-tree.ensures.read)
 
-pub expressions-returns-then-is_err-clause-read : goal.expressions-returns-then-is_err-clause-read
-expressions-returns-then-is_err-clause-read t c = read_nothing refl
+pub expressions-returns-in_err-push-clause-read : goal.expressions-returns-in_err-push-clause-read
+expressions-returns-in_err-push-clause-read t c = read_exit _ c.from_residual-in_err-push.ensures.1 (read_nothing refl)
 
 pub expressions-loop-list-preserved : goal.expressions-loop-list-preserved
 expressions-loop-list-preserved t c =

@@ -1,4 +1,4 @@
-use Rattle.tlsf_tree.specs.declared.symbol.Symbol.TheVariants as symbol
+use Rattle.tlsf_tokens.specs.declared.symbol.Symbol.TheVariants as symbol
 use Rattle.tlsf_reader.specs.Seen.{seen}
 use Rattle.tlsf_reader.proofs.Descending.{read_expected}
 use Rattle.tlsf_reader.proofs.InfoDescending.{read_field}

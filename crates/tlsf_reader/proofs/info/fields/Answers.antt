@@ -1,6 +1,6 @@
 use Rattle.std.proofs.Common.{◌≡◌, ◌++◌, ◌∷◌, [], true, false, arith, rules}
-use Rattle.tlsf_tree.specs.declared.symbol.Symbol.TheVariants as symbol
-use Rattle.tlsf_grammar.specs.Reading.{begins}
+use Rattle.tlsf_tokens.specs.declared.symbol.Symbol.TheVariants as symbol
+use Rattle.tlsf_syntax.specs.Reading.{begins}
 use Rattle.tlsf_reader.proofs.Descending.{builds_more}
 use Rattle.tlsf_reader.proofs.Climbing.{read_exit}
 use Rattle.tlsf_reader.proofs.TextDescending.{list_read, until_end, until_more, until_stopped}

@@ -1,5 +1,5 @@
 use Rattle.std.proofs.Common.{◌≡◌, ◌+◌, ◌*◌, drop, rules, arith, ◌∙◌}
-use Rattle.tlsf_grammar.specs.Lexemes.{decimal_from}
+use Rattle.tlsf_syntax.specs.Lexemes.{decimal_from}
 use Rattle.tlsf_reader.proofs.Nodes.{no_literal, next_digit}
 use Rattle.tlsf_reader.proofs.node.literal.Goals as goal
 

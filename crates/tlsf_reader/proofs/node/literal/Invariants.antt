@@ -1,5 +1,5 @@
 use Rattle.std.proofs.Common.{◌≡◌, ◌<◌, drop}
-use Rattle.tlsf_grammar.specs.Lexemes.{decimal_from}
+use Rattle.tlsf_syntax.specs.Lexemes.{decimal_from}
 use Rattle.tlsf_reader.proofs.node.literal.Given as goal
 
 abbrev pub invariant-loop-digit : goal.invariant-loop-digit

@@ -1,8 +1,7 @@
-use Rattle.std.proofs.Common.{map, sym, ◌∙◌}
+use Rattle.std.proofs.Common.{map, sym, ◌∙◌, subst}
 use Rattle.tlsf_reader.specs.Seen.{seen}
 use Rattle.tlsf_reader.proofs.Repeats.{fields_there, field_lacking}
-use Rattle.std.proofs.Common.{ap, subst, ◌≡◌}
-use Rattle.tlsf_tree.specs.declared.symbol.Symbol.TheVariants as symbol
+use Rattle.tlsf_tokens.specs.declared.symbol.Symbol.TheVariants as symbol
 use Rattle.tlsf_reader.specs.Faults.{title_is, description_is, semantics_is, target_is}
 use Rattle.tlsf_reader.specs.Least.{IsLeast}
 use Rattle.tlsf_reader.specs.Places.{FieldMissingAt, first_brace}

@@ -1,7 +1,7 @@
 use Rattle.std.proofs.Common.{map, sym, ◌∙◌}
 use Rattle.tlsf_reader.specs.Seen.{seen}
 use Rattle.tlsf_reader.proofs.Repeats.{parts_there, last_lacking}
-use Rattle.tlsf_tree.specs.declared.symbol.Symbol.TheVariants as symbol
+use Rattle.tlsf_tokens.specs.declared.symbol.Symbol.TheVariants as symbol
 use Rattle.tlsf_reader.specs.Faults.{inputs_are, outputs_are}
 use Rattle.tlsf_reader.proofs.repeat.part_missing.Goals.{else-has-via-then-has+else-has-2, else-has-via-else-has}
 use Rattle.tlsf_reader.proofs.repeat.part_missing.Goals as goal

@@ -1,7 +1,6 @@
-use Rattle.std.proofs.Common.{◌≡◌, map, length}
+use Rattle.std.proofs.Common.{map, length}
 use Rattle.tlsf_reader.specs.Seen.{seen}
-use Rattle.tlsf_reader.specs.Places.{OccursAt, RepeatedAmong, occurs, first_brace}
-use Rattle.tlsf_reader.proofs.Repeats.{Keeps, SameRepeated}
+use Rattle.tlsf_reader.proofs.Repeats.{SameRepeated}
 use Rattle.tlsf_reader.proofs.repeat.repetition.Given as goal
 
 abbrev pub invariant-loop-left : goal.invariant-loop-left

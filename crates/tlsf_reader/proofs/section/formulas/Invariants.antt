@@ -1,13 +1,13 @@
 use Rattle.std.proofs.Common.{◌≤◌, length}
-use Rattle.tlsf_grammar.specs.TextReading.{formulas_read}
-use Rattle.tlsf_reader.specs.View.{tree_of}
+use Rattle.tlsf_syntax.specs.TextReading.{formulas_read}
+use Rattle.tlsf_syntax.specs.Seen.{expr_seen}
 use Rattle.tlsf_reader.specs.Descent.{Builds}
 use Rattle.tlsf_reader.specs.TextDescent.{in_front}
 use Rattle.tlsf_reader.proofs.section.formulas.Given as goal
 
 abbrev pub invariant-loop-alloc : goal.invariant-loop-alloc
 invariant-loop-alloc l = record {
-  builds : Builds (in_front tree_of) (λ d. formulas_read d l.initial.ahead) l.formulas.items (λ d. formulas_read d l.ahead);
+  builds : Builds (in_front expr_seen) (λ d. formulas_read d l.initial.ahead) l.formulas.items (λ d. formulas_read d l.ahead);
   shorter : length l.ahead ≤ length l.initial.ahead;
 }
 

@@ -1,4 +1,4 @@
-use Rattle.tlsf_tree.specs.declared.symbol.Symbol.TheVariants as symbol
+use Rattle.tlsf_tokens.specs.declared.symbol.Symbol.TheVariants as symbol
 use Rattle.tlsf_reader.specs.Seen.{seen}
 use Rattle.tlsf_reader.proofs.Descending.{read_stop, read_go, read_expected, read_unexpected}
 use Rattle.tlsf_reader.proofs.Climbing.{read_exit}

@@ -1,7 +1,7 @@
 use Rattle.std.proofs.Common.{◌≡◌, List, [], map, ap, subst}
-use Rattle.tlsf_grammar.specs.Tree as plain
-use Rattle.tlsf_grammar.specs.TextReading.{main_read}
-use Rattle.tlsf_reader.specs.TextView.{fields_view, block_view, written_view}
+use Rattle.tlsf_syntax.specs.Tree as plain
+use Rattle.tlsf_syntax.specs.TextReading.{main_read}
+use Rattle.tlsf_reader.specs.TextView.{block_view, written_view, each, field_view}
 use Rattle.tlsf_reader.specs.Descent.{IsRead}
 use Rattle.tlsf_reader.proofs.Descending.{read_stop, read_go, read_expected, read_unexpected, read_next, read_other}
 use Rattle.tlsf_reader.proofs.Climbing.{read_exit}
@@ -27,5 +27,5 @@ returns-in-Some c =
 pub returns : goal.returns
 returns c =
     let none : map block_view c.new.result.items ≡ [] = ap (map block_view) c.new.ensures.items in
-    read_other _ (main_alone (fields_view c.args.fields)) c.in_default.ensures.next
-    (subst (λ (bs : List plain.Block). IsRead written_view (λ d. main_read d (fields_view c.args.fields) bs c.next_if.new.self) c.main_part-2.new.ahead c.main_part-2.result) none c.main_part-2.ensures)
+    read_other _ (main_alone (each field_view c.args.fields)) c.in_default.ensures.next
+    (subst (λ (bs : List plain.Block). IsRead written_view (λ d. main_read d (each field_view c.args.fields) bs c.next_if.new.self) c.main_part-2.new.ahead c.main_part-2.result) none c.main_part-2.ensures)

@@ -1,5 +1,5 @@
 use Rattle.std.proofs.Common.{map, sym, ap, arith}
-use Rattle.tlsf_grammar.specs.TextReading.{text_read}
+use Rattle.tlsf_syntax.specs.TextReading.{text_read}
 use Rattle.tlsf_reader.specs.Seen.{seen}
 use Rattle.tlsf_reader.proofs.Descending.{read_same}
 use Rattle.tlsf_reader.proofs.WholeTexts.{text_refused, text_longer, text_whole}

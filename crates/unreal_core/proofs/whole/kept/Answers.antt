@@ -1,6 +1,5 @@
-use Rattle.std.proofs.Common.{◌≡◌, [], ◌++◌, drop, sym, ap, ◌∙◌}
+use Rattle.std.proofs.Common.{◌++◌, sym, ap, ◌∙◌}
 use Rattle.std.proofs.lemmas.List.{append-nil}
-use Rattle.unreal_core.specs.Reduced.{kept}
 use Rattle.unreal_core.proofs.Reducing.{kept_past}
 use Rattle.unreal_core.proofs.whole.kept.Goals as goal
 

@@ -2,7 +2,6 @@ use Rattle.std.proofs.Common.{All, map, sym, ap, subst, ◌∙◌}
 use Rattle.ltl_formula.specs.Nodes.{Stands, tree_at}
 use Rattle.tlsf_values.specs.Results.{IsOutcomeAs}
 use Rattle.unreal_core.specs.Put.{put_all}
-use Rattle.unreal_core.specs.Reduced.{kept}
 use Rattle.unreal_core.proofs.Reducing.{kept_all, kept_map}
 use Rattle.unreal_core.proofs.whole.put_kept.Goals as goal
 

@@ -3,7 +3,7 @@ use Rattle.std.proofs.lemmas.Result.{err_from_is_err_and}
 use Rattle.tlsf_values.specs.Results.{IsFault}
 use Rattle.tlsf_expand.specs.Signals.{declarations_value}
 use Rattle.tlsf_expand.specs.SignalsSeen.{declared_seen}
-use Rattle.tlsf_expand.specs.TextSeen.{declaration_seen, text_seen}
+use Rattle.tlsf_syntax.specs.Seen.{declaration_seen, text_seen}
 use Rattle.tlsf_expand.proofs.Laying.{declarations_from, declaration_given, declaration_fault, fault_out}
 use Rattle.tlsf_expand.proofs.signals.Declared.declarations.Goals as goal
 

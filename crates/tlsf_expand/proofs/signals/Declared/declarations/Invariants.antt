@@ -1,7 +1,7 @@
 use Rattle.std.proofs.Common.{◌≡◌, map, drop}
 use Rattle.tlsf_expand.specs.Signals.{declarations_value}
 use Rattle.tlsf_expand.specs.SignalsSeen.{declared_seen}
-use Rattle.tlsf_expand.specs.TextSeen.{declaration_seen, text_seen}
+use Rattle.tlsf_syntax.specs.Seen.{declaration_seen, text_seen}
 use Rattle.tlsf_expand.proofs.signals.Declared.declarations.Given as goal
 
 abbrev pub invariant-loop-declaration : goal.invariant-loop-declaration

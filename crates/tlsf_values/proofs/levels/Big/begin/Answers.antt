@@ -4,7 +4,7 @@ use Rattle.tlsf_values.proofs.LevelLemmas.{level_less, level_more, level_step}
 use Rattle.tlsf_values.specs.LevelsSeen.{after, pending, turns}
 use Rattle.tlsf_values.specs.MembersSeen.{members_seen}
 use Rattle.tlsf_values.specs.declared.value.Value.TheVariants.{Number}
-use Rattle.tlsf_values.specs.Seen.{word_seen}
+use Rattle.tlsf_syntax.specs.Seen.{word_seen}
 use Rattle.tlsf_values.proofs.levels.Big.begin.Goals as goal
 
 pub returns-in_default-clause-less : goal.returns-in_default-clause-less

@@ -1,21 +1,20 @@
-use Rattle.std.proofs.Common.{◌≡◌, ◌+◌, ◌^◌, ◌≤◌, [], ◌∷◌, ◌++◌, rules, ap, arith, drop, length, reverse, ◌∙◌}
+use Rattle.std.proofs.Common.{◌≡◌, ◌+◌, ◌^◌, ◌≤◌, [], ◌∷◌, rules, ap, arith, drop, length, reverse, ◌∙◌}
 use Rattle.std.proofs.lemmas.Result.{err_from_is_err_and}
 use Rattle.tlsf_values.proofs.GrowLemmas.{nodes_grow}
-use Rattle.tlsf_values.proofs.CheckedLemmas.{checked_fault}
+use Rattle.tlsf_values.proofs.OutcomeLemmas.{checked_fault}
 use Rattle.tlsf_values.proofs.EvaluatorLemmas.{value_too_deep, value_deeper, body_too_deep, body_deeper}
 use Rattle.tlsf_values.proofs.EvaluationLemmas.{call_fits, call_misfits, index_is, big_empty, big_of_set, big_of_run, rest_whole, arguments_more, chain_more, at_item, some_item, arguments_step, chosen_step}
-use Rattle.tlsf_values.proofs.FormLemmas.{chain_form, big_form}
 use Rattle.tlsf_values.proofs.SeenLemmas.{start_seen}
-use Rattle.tlsf_values.proofs.SeenLemmas.{set_form, call_form}
+use Rattle.tlsf_values.proofs.SeenLemmas.{set_form, call_form, chain_form, big_form}
 use Rattle.tlsf_values.specs.Outcomes.{gives}
 use Rattle.tlsf_values.specs.Sets.{set_of}
-use Rattle.tlsf_values.specs.PartsSeen.{number_if}
-use Rattle.tlsf_values.proofs.PartLemmas.{parts_fault, parts_step, set_of_numbers}
+use Rattle.tlsf_values.proofs.PartLemmas.{numbers_then, parts_step}
+use Rattle.tlsf_values.specs.PartsSeen.{parts_seen}
 use Rattle.tlsf_values.specs.Names.{look_up}
 use Rattle.tlsf_values.specs.NamesSeen.{names_seen}
 use Rattle.tlsf_values.specs.MembersSeen.{members_seen}
-use Rattle.tlsf_values.specs.Seen.{expr_seen, trees_seen}
-use Rattle.tlsf_values.specs.Values.{evaluator, start_of, values_at}
+use Rattle.tlsf_syntax.specs.Seen.{expr_seen, trees_seen}
+use Rattle.tlsf_values.specs.Values.{evaluator, start_of}
 use Rattle.tlsf_values.specs.declared.value.Value.TheVariants.{Set}
 use Rattle.tlsf_values.specs.ScopeSeen.{code_body_seen}
 use Rattle.tlsf_values.proofs.LevelLemmas.{less_than, level_within, opened}
@@ -80,38 +79,6 @@ chain-returns-in_err-value-2-clause-value t c =
     let at = at_item c.args.rest.now c.loop-link.link-index c.link-item.result (search rules) c.link-item.is in
     rw (c.in_ok-value.ensures.value, c.loop-link.invariant.2 ∙ chain_more (names_seen c.args.self.now) (evaluator (names_seen c.args.self.now) c.args.left) c.args.bound.now c.args.place (start_of (expr_seen c.args.first.now)) c.loop-link.value c.args.rest.now c.loop-link.link-index c.link-item.result c.loop-link.work at) (search (rules, start_seen))
 
-pub steps-returns-clause-value : goal.steps-returns-clause-value
-steps-returns-clause-value t c =
-    let bound = c.in_ok-first_value.ensures.bound in
-    let second = rw bound at c.in_ok-second_value.ensures.value in
-    let last = rw (c.in_ok-second_value.ensures.bound ∙ bound) at c.in_ok-last_value.ensures.value in
-    rw (c.in_ok-first_value.ensures.value, second, last, start_seen c.args.first.now, start_seen c.args.second.now, start_seen c.args.last.now, c.in_ok-from.ensures, c.in_ok-next.ensures, c.in_ok-to.ensures) (search rules)
-
-pub steps-returns-in_err-from-clause-value : goal.steps-returns-in_err-from-clause-value
-steps-returns-in_err-from-clause-value t c =
-    let p = err_from_is_err_and c.from_residual-in_err-from.result c.from_residual-in_err-from.ensures.1 in
-    let bound = c.in_ok-first_value.ensures.bound in
-    let second = rw bound at c.in_ok-second_value.ensures.value in
-    let last = rw (c.in_ok-second_value.ensures.bound ∙ bound) at c.in_ok-last_value.ensures.value in
-    rw (c.in_ok-first_value.ensures.value, second, last, start_seen c.args.first.now, p.1, p.2) (checked_fault _ _ _ _ c.in_err-from.ensures)
-
-pub windowed-returns-in_err-first-2-clause-value : goal.windowed-returns-in_err-first-2-clause-value
-windowed-returns-in_err-first-2-clause-value t c =
-    let p = err_from_is_err_and c.from_residual-in_err-first-2.result c.from_residual-in_err-first-2.ensures.1 in
-    let bound = c.in_ok-first.ensures.bound in
-    let second = rw bound at c.in_ok-last.ensures.value in
-    let last = rw (c.in_ok-last.ensures.bound ∙ bound) at c.in_ok-value.ensures.value in
-    rw (← c.in-Some.ensures, c.in_ok-first.ensures.value, second, last, start_seen c.args.from.now, p.1, p.2) (checked_fault _ _ _ _ c.in_err-first-2.ensures)
-
-pub form-returns-in_err-values-in-Set-clause-value : goal.form-returns-in_err-values-in-Set-clause-value
-form-returns-in_err-values-in-Set-clause-value t c = rw (set_form c.args.expr.now c.in-Set.parts (search rules)) (search (rules, parts_fault))
-
-pub form-returns-in_err-numbers-in-Set-clause-value : goal.form-returns-in_err-numbers-in-Set-clause-value
-form-returns-in_err-numbers-in-Set-clause-value t c = rw (set_form c.args.expr.now c.in-Set.parts (search rules), set_of_numbers (values_at (evaluator (names_seen c.args.self.now) c.args.left) c.args.bound.now [] (trees_seen c.in-Set.parts.items) c.args.work.now) (trees_seen c.in-Set.parts.items) c.in_ok-values-in-Set.values.items c.part_values.new.work (λ zs w. gives (Set (set_of zs)) w) (search rules)) (search rules)
-
-pub form-returns-in_ok-made-in-Set-clause-value : goal.form-returns-in_ok-made-in-Set-clause-value
-form-returns-in_ok-made-in-Set-clause-value t c = rw (set_form c.args.expr.now c.in-Set.parts (search rules), set_of_numbers (values_at (evaluator (names_seen c.args.self.now) c.args.left) c.args.bound.now [] (trees_seen c.in-Set.parts.items) c.args.work.now) (trees_seen c.in-Set.parts.items) c.in_ok-values-in-Set.values.items c.part_values.new.work (λ zs w. gives (Set (set_of zs)) w) (search rules)) (search rules)
-
 pub form-returns-in-Call-clause-value : goal.form-returns-in-Call-clause-value
 form-returns-in-Call-clause-value t c = rw (call_form c.args.expr.now c.in-Call.word c.in-Call.arguments (search rules)) (search rules)
 
@@ -147,38 +114,6 @@ chosen-loop-alternative-preserved t c =
       c.loop-alternative.invariant.2 ∙ chosen_step (evaluator (names_seen c.args.self.now) c.args.left) c.args.bound.now c.args.place c.args.alternatives.now c.loop-alternative.alternative-index c.alternative-item.result c.loop-alternative.work c.guard.new.work
           at (rw c.if-branch.false at guard),
     )
-
-pub part_values-loop-part-preserved : goal.part_values-loop-part-preserved
-part_values-loop-part-preserved t c =
-    let at = at_item c.args.parts.now c.loop-part.part-index c.part-item.result (search rules) c.part-item.is in
-    let pushed : c.push.new.self.items ≡ c.loop-part.values.items ++ number_if c.in_ok-value.value ∷ [] = search rules in (
-      search rules,
-      search (rules, nodes_grow),
-      c.loop-part.invariant.2 ∙ parts_step (evaluator (names_seen c.args.self.now) c.args.left) c.args.bound.now c.loop-part.values.items c.push.new.self.items c.args.parts.now c.loop-part.part-index c.part-item.result c.loop-part.work c.value.new.work c.in_ok-value.value
-          at (rw c.loop-part.invariant.0 at c.in_ok-value.ensures.value) pushed,
-    )
-
-pub steps-returns-in_err-next-clause-value : goal.steps-returns-in_err-next-clause-value
-steps-returns-in_err-next-clause-value t c =
-    let p = err_from_is_err_and c.from_residual-in_err-next.result c.from_residual-in_err-next.ensures.1 in
-    let bound = c.in_ok-first_value.ensures.bound in
-    let second = rw bound at c.in_ok-second_value.ensures.value in
-    let last = rw (c.in_ok-second_value.ensures.bound ∙ bound) at c.in_ok-last_value.ensures.value in
-    rw (c.in_ok-first_value.ensures.value, second, last, start_seen c.args.first.now, start_seen c.args.second.now, c.in_ok-from.ensures, p.1, p.2) (checked_fault _ _ _ _ c.in_err-next.ensures)
-
-pub windowed-returns-in_err-last-2-clause-value : goal.windowed-returns-in_err-last-2-clause-value
-windowed-returns-in_err-last-2-clause-value t c =
-    let p = err_from_is_err_and c.from_residual-in_err-last-2.result c.from_residual-in_err-last-2.ensures.1 in
-    let bound = c.in_ok-first.ensures.bound in
-    let second = rw bound at c.in_ok-last.ensures.value in
-    let last = rw (c.in_ok-last.ensures.bound ∙ bound) at c.in_ok-value.ensures.value in
-    rw (← c.in-Some.ensures, c.in_ok-first.ensures.value, second, last, start_seen c.args.from.now, start_seen c.args.to.now, c.in_ok-first-2.ensures, p.1, p.2) (checked_fault _ _ _ _ c.in_err-last-2.ensures)
-
-pub counted-returns-in_err-times-clause-value : goal.counted-returns-in_err-times-clause-value
-counted-returns-in_err-times-clause-value t c =
-    let p = err_from_is_err_and c.from_residual-in_err-times.result c.from_residual-in_err-times.ensures.1 in
-    let second = rw c.in_ok-number_value.ensures.bound at c.in_ok-value.ensures.value in
-    rw (c.in_ok-number_value.ensures.value, second, start_seen c.args.number.now, p.1, p.2) (checked_fault _ _ _ _ c.in_err-times.ensures)
 
 pub inward-returns-in_err-formula-in-empty-clause-fault : goal.inward-returns-in_err-formula-in-empty-clause-fault
 inward-returns-in_err-formula-in-empty-clause-fault t c =
@@ -262,3 +197,37 @@ over_ranges-loop-levels-preserved t c =
       search (rules, nodes_grow),
       c.loop-levels.invariant.2 ∙ (rw (c.in-Some.is, inner) at c.in_ok-formula.ensures.value []) ∙ rw c.in_default-2.is at c.in_ok-whole.ensures.value (evaluator (names_seen c.args.self.now) c.args.left) c.args.ranges.now,
     )
+
+pub part_numbers-loop-part-preserved : goal.part_numbers-loop-part-preserved
+part_numbers-loop-part-preserved t c =
+    let at = at_item c.args.parts.now c.loop-part.part-index c.part-item.result (search rules) c.part-item.is in (
+      search rules,
+      search (rules, nodes_grow),
+      c.loop-part.invariant.2 ∙ parts_step (evaluator (names_seen c.args.self.now) c.args.left) c.args.bound.now (parts_seen c.loop-part.wrong c.loop-part.numbers.items) (parts_seen c.in_ok-wrong.wrong c.add_part.new.numbers.items) c.args.parts.now c.loop-part.part-index c.part-item.result c.loop-part.work c.value.new.work c.in_ok-value.value
+          at (rw c.loop-part.invariant.0 at c.in_ok-value.ensures.value) (search rules),
+    )
+
+pub form-returns-in_err-numbers-in-Set-clause-value : goal.form-returns-in_err-numbers-in-Set-clause-value
+form-returns-in_err-numbers-in-Set-clause-value t c = rw (set_form c.args.expr.now c.in-Set.parts (search rules), numbers_then (evaluator (names_seen c.args.self.now) c.args.left) c.args.bound.now (trees_seen c.in-Set.parts.items) c.args.work.now (λ zs w. gives (Set (set_of zs)) w)) (search rules)
+
+pub form-returns-in_ok-made-in-Set-clause-value : goal.form-returns-in_ok-made-in-Set-clause-value
+form-returns-in_ok-made-in-Set-clause-value t c = rw (set_form c.args.expr.now c.in-Set.parts (search rules), numbers_then (evaluator (names_seen c.args.self.now) c.args.left) c.args.bound.now (trees_seen c.in-Set.parts.items) c.args.work.now (λ zs w. gives (Set (set_of zs)) w)) (search rules)
+
+pub steps-returns-clause-value : goal.steps-returns-clause-value
+steps-returns-clause-value t c =
+    let bound = c.in_ok-first_value.ensures.bound in
+    let second = rw bound at c.in_ok-second_value.ensures.value in
+    let last = rw (c.in_ok-second_value.ensures.bound ∙ bound) at c.in_ok-last_value.ensures.value in
+    rw (c.in_ok-first_value.ensures.value, second, last, start_seen c.args.first.now, start_seen c.args.second.now, start_seen c.args.last.now) c.steps_over.ensures.value
+
+pub counted-returns-clause-value : goal.counted-returns-clause-value
+counted-returns-clause-value t c =
+    let second = rw c.in_ok-number_value.ensures.bound at c.in_ok-value.ensures.value in
+    rw (c.in_ok-number_value.ensures.value, second, start_seen c.args.number.now, start_seen c.args.part.now) c.counted_next.ensures.value
+
+pub windowed-returns-clause-value : goal.windowed-returns-clause-value
+windowed-returns-clause-value t c =
+    let bound = c.in_ok-first.ensures.bound in
+    let second = rw bound at c.in_ok-last.ensures.value in
+    let last = rw (c.in_ok-last.ensures.bound ∙ bound) at c.in_ok-value.ensures.value in
+    rw (← c.in-Some.ensures, c.in_ok-first.ensures.value, second, last, start_seen c.args.from.now, start_seen c.args.to.now, start_seen c.args.part.now) c.window_over.ensures.value

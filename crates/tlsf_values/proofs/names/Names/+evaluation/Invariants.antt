@@ -1,11 +1,11 @@
-use Rattle.std.proofs.Common.{◌≡◌, ◌+◌, ◌*◌, ◌^◌, length, [], ◌++◌, map, drop, reverse}
+use Rattle.std.proofs.Common.{◌≡◌, ◌+◌, ◌*◌, ◌^◌, length, [], map, drop, reverse}
 use Rattle.tlsf_values.specs.LevelsSeen.{inner_of, onward, turns_left}
 use Rattle.ltl_formula.specs.Nodes.{Grows}
 use Rattle.tlsf_values.specs.NamesSeen.{names_seen}
-use Rattle.tlsf_values.specs.Outcomes.{gives, go_on}
-use Rattle.tlsf_values.specs.PartsSeen.{as_numbers}
-use Rattle.tlsf_values.specs.Seen.{alternative_seen, expr_seen, link_list_seen, range_list_seen, trees_seen, word_seen}
-use Rattle.tlsf_values.specs.Values.{arguments_at, big_value, chain_value, chosen_value, evaluator, start_of, values_at}
+use Rattle.tlsf_values.specs.PartsSeen.{numbers_at, parts_seen}
+use Rattle.tlsf_values.proofs.PartLemmas.{numbers_after}
+use Rattle.tlsf_syntax.specs.Seen.{alternative_seen, expr_seen, link_list_seen, range_list_seen, trees_seen, word_seen}
+use Rattle.tlsf_values.specs.Values.{arguments_at, big_value, chain_value, chosen_value, evaluator, start_of}
 use Rattle.tlsf_values.proofs.names.Names.+evaluation.Given as goal
 
 abbrev pub decreases-value : goal.decreases-value
@@ -35,8 +35,8 @@ decreases-arguments l = 2 ^ 70 * l.left + 1
 abbrev pub decreases-index : goal.decreases-index
 decreases-index l = 2 ^ 70 * l.left + 2
 
-abbrev pub decreases-part_values : goal.decreases-part_values
-decreases-part_values l = 2 ^ 70 * l.left + 1
+abbrev pub decreases-part_numbers : goal.decreases-part_numbers
+decreases-part_numbers l = 2 ^ 70 * l.left + 1
 
 abbrev pub decreases-steps : goal.decreases-steps
 decreases-steps l = 2 ^ 70 * l.left + 1
@@ -76,12 +76,12 @@ invariant-arguments-loop-i l =
     (l.bound ≡ l.fn.bound) × Grows l.fn.work.formulas l.work.formulas ×
     (arguments_at r b [] (map word_seen l.words) (trees_seen l.arguments) l.fn.work ≡ arguments_at r b l.inner (map word_seen (drop l.i l.words)) (trees_seen (drop l.i l.arguments)) l.work)
 
-abbrev pub invariant-part_values-loop-part : goal.invariant-part_values-loop-part
-invariant-part_values-loop-part l =
+abbrev pub invariant-part_numbers-loop-part : goal.invariant-part_numbers-loop-part
+invariant-part_numbers-loop-part l =
     let r = evaluator (names_seen l.self) l.left in
     let b = l.fn.bound in
     (l.bound ≡ l.fn.bound) × Grows l.fn.work.formulas l.work.formulas ×
-    (as_numbers (values_at r b [] (trees_seen l.parts) l.fn.work) ≡ go_on (as_numbers (values_at r b [] (trees_seen (drop l.part-index l.parts)) l.work)) (λ zs w. gives (l.values.items ++ zs) w))
+    (numbers_at r b (trees_seen l.parts) l.fn.work ≡ numbers_after r b (parts_seen l.wrong l.numbers.items) (trees_seen (drop l.part-index l.parts)) l.work)
 
 abbrev pub invariant-chain-loop-link : goal.invariant-chain-loop-link
 invariant-chain-loop-link l =

@@ -1,7 +1,7 @@
 use Rattle.std.proofs.Common.{◌≡◌, map, drop}
 use Rattle.tlsf_values.specs.Names.{with_definitions}
 use Rattle.tlsf_values.specs.NamesSeen.{names_seen}
-use Rattle.tlsf_values.specs.Seen.{definition_seen}
+use Rattle.tlsf_syntax.specs.Seen.{definition_seen}
 use Rattle.tlsf_values.proofs.names.Names.add_definitions.Given as goal
 
 abbrev pub invariant-loop-definition : goal.invariant-loop-definition

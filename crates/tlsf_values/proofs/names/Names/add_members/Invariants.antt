@@ -1,7 +1,7 @@
 use Rattle.std.proofs.Common.{◌≡◌, map, drop}
 use Rattle.tlsf_values.specs.Names.{with_members}
 use Rattle.tlsf_values.specs.NamesSeen.{names_seen}
-use Rattle.tlsf_values.specs.Seen.{member_seen}
+use Rattle.tlsf_syntax.specs.Seen.{member_seen}
 use Rattle.tlsf_values.proofs.names.Names.add_members.Given as goal
 
 abbrev pub invariant-loop-member : goal.invariant-loop-member

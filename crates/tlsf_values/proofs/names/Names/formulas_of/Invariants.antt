@@ -3,7 +3,7 @@ use Rattle.ltl_formula.specs.Nodes.{Grows}
 use Rattle.tlsf_values.specs.NamesSeen.{names_seen}
 use Rattle.tlsf_values.specs.Outcomes.{gives, go_on}
 use Rattle.tlsf_values.specs.SectionValues.{section_value}
-use Rattle.tlsf_values.specs.Seen.{expr_seen}
+use Rattle.tlsf_syntax.specs.Seen.{expr_seen}
 use Rattle.tlsf_values.proofs.names.Names.formulas_of.Given as goal
 
 abbrev pub invariant-loop-expr : goal.invariant-loop-expr

@@ -1,7 +1,7 @@
 use Rattle.std.proofs.Common.{◌≡◌, None, map, drop}
 use Rattle.ltl_formula.specs.Nodes.{Grows}
 use Rattle.tlsf_values.specs.Patterns.{all_values, values_made}
-use Rattle.tlsf_values.specs.Seen.{member_seen}
+use Rattle.tlsf_syntax.specs.Seen.{member_seen}
 use Rattle.tlsf_values.proofs.work.Work.members_made.Given as goal
 
 abbrev pub invariant-loop-member : goal.invariant-loop-member

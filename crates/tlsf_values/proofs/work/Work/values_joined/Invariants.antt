@@ -1,6 +1,7 @@
 use Rattle.std.proofs.Common.{◌≡◌, map, drop}
 use Rattle.ltl_formula.specs.Nodes.{Grows}
-use Rattle.tlsf_values.specs.Patterns.{pattern_seen, values_joined}
+use Rattle.tlsf_syntax.specs.Seen.{pattern_seen}
+use Rattle.tlsf_values.specs.Patterns.{values_joined}
 use Rattle.tlsf_values.proofs.work.Work.values_joined.Given as goal
 
 abbrev pub invariant-loop-value : goal.invariant-loop-value

@@ -1,7 +1,8 @@
 use Rattle.std.proofs.Common.{false, None, map, sym, ap, subst, ◌∙◌}
 use Rattle.std.proofs.lemmas.Result.{err_from_is_err_and}
+use Rattle.tlsf_syntax.specs.Seen.{pattern_seen}
 use Rattle.tlsf_values.specs.Outcomes.{go_on}
-use Rattle.tlsf_values.specs.Patterns.{or_truth, pattern_seen}
+use Rattle.tlsf_values.specs.Patterns.{or_truth}
 use Rattle.tlsf_values.specs.Results.{IsOutcome}
 use Rattle.tlsf_values.proofs.PatternLemmas.{values_end, end_fault}
 use Rattle.tlsf_values.proofs.work.Work.values_made.Goals as goal

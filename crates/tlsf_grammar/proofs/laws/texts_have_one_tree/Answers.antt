@@ -1,5 +1,0 @@
-use Rattle.tlsf_grammar.proofs.Texts.{one_text}
-use Rattle.tlsf_grammar.proofs.laws.texts_have_one_tree.Goals as goal
-
-pub returns : goal.returns
-returns c = one_text

@@ -1,0 +1,16 @@
+pub mod Tracks
+pub mod Symbols
+pub mod Seen
+pub mod Spans
+pub mod Climbs
+pub mod Starts
+pub mod Reading
+pub mod Texts
+pub mod Unexpected
+pub mod Completes
+pub mod Sound
+pub mod Agreement
+pub mod TextAgreement
+pub mod TextSound
+pub mod Exact
+pub mod SemanticsWords

@@ -1,0 +1,188 @@
+-- The grammar of expressions of TLSF, full format: the levels from the tightest to the loosest, one case a line.
+-- How tightly operators bind is this project's own choice where TLSF 1.1 leaves one.
+use Rattle.std.specs.Prelude.{◌≡◌, Bool, true, false, List, [], ◌∷◌, ◌++◌, Option, None, Some}
+use Rattle.tlsf_syntax.specs.declared.expr.Op.{Op}
+use Rattle.tlsf_syntax.specs.declared.expr.Op.TheVariants as op
+use Rattle.tlsf_tokens.specs.declared.symbol.Symbol.{Symbol}
+use Rattle.tlsf_tokens.specs.declared.symbol.Symbol.TheVariants as symbol
+use Rattle.tlsf_syntax.specs.Tree.{Tree, Trees, Links, Ranges, tree_span, number, truth, named, call, index, size_of, paren, set, steps, chain, pair, prefix, count, window, big, no_trees, tree, no_links, link, no_ranges, members, between}
+use Rattle.tlsf_syntax.specs.Lexemes.{Lexeme, Is, word_of, span_of, literal_of}
+
+-- the levels of expressions, from the tightest to the loosest
+pub data Level : Type 0 where
+  primary : Level
+  products : Level
+  quotients : Level
+  sums : Level
+  differences : Level
+  meets : Level
+  unions : Level
+  comparisons : Level
+  memberships : Level
+  prefixes : Level
+  conjunctions : Level
+  disjunctions : Level
+  implications : Level
+  weak_untils : Level
+  untils : Level
+  -- whole expressions
+  releases : Level
+
+-- the level that a level is built of
+abbrev pub tighter_of : Level → Option Level
+tighter_of primary = None
+tighter_of products = Some primary
+tighter_of quotients = Some products
+tighter_of sums = Some quotients
+tighter_of differences = Some sums
+tighter_of meets = Some differences
+tighter_of unions = Some meets
+tighter_of comparisons = Some unions
+tighter_of memberships = Some comparisons
+tighter_of prefixes = Some memberships
+tighter_of conjunctions = Some prefixes
+tighter_of disjunctions = Some conjunctions
+tighter_of implications = Some disjunctions
+tighter_of weak_untils = Some implications
+tighter_of untils = Some weak_untils
+tighter_of releases = Some untils
+
+-- how the operators of a level join their operands
+pub data Joins : Type 0 where
+  -- any number, to the left, in one node
+  left : Joins
+  -- at most one
+  once : Joins
+  -- to the right
+  right : Joins
+  -- the level has no operator between operands
+  none : Joins
+
+abbrev pub joins_of : Level → Joins
+joins_of primary = none
+joins_of comparisons = once
+joins_of memberships = once
+joins_of prefixes = none
+joins_of implications = right
+joins_of weak_untils = right
+joins_of untils = right
+joins_of _ = left
+
+-- the operators between operands, each with its level
+abbrev pub operator_of : Symbol → Option (Level × Op)
+operator_of symbol.Star = Some (products, op.Mul)
+operator_of symbol.Slash = Some (quotients, op.Div)
+operator_of symbol.Percent = Some (quotients, op.Rem)
+operator_of symbol.Plus = Some (sums, op.Plus)
+operator_of symbol.Minus = Some (sums, op.Minus)
+operator_of symbol.Difference = Some (differences, op.Difference)
+operator_of symbol.Meet = Some (meets, op.Meet)
+operator_of symbol.Join = Some (unions, op.Join)
+operator_of symbol.Equal = Some (comparisons, op.Equal)
+operator_of symbol.Unequal = Some (comparisons, op.Unequal)
+operator_of symbol.Less = Some (comparisons, op.Less)
+operator_of symbol.LessEqual = Some (comparisons, op.LessEqual)
+operator_of symbol.Greater = Some (comparisons, op.Greater)
+operator_of symbol.GreaterEqual = Some (comparisons, op.GreaterEqual)
+operator_of symbol.In = Some (memberships, op.Element)
+operator_of symbol.And = Some (conjunctions, op.And)
+operator_of symbol.Or = Some (disjunctions, op.Or)
+operator_of symbol.Implies = Some (implications, op.Implies)
+operator_of symbol.Equiv = Some (implications, op.Equiv)
+operator_of symbol.WeakUntil = Some (weak_untils, op.WeakUntil)
+operator_of symbol.Until = Some (untils, op.Until)
+operator_of symbol.Release = Some (releases, op.Release)
+operator_of _ = None
+
+-- the signs that stand before one operand
+abbrev pub prefix_of : Symbol → Option Op
+prefix_of symbol.Not = Some op.Not
+prefix_of symbol.Next = Some op.Next
+prefix_of symbol.Finally = Some op.Finally
+prefix_of symbol.Globally = Some op.Globally
+prefix_of _ = None
+
+-- the signs that stand before a window of steps
+abbrev pub window_of : Symbol → Option Op
+window_of symbol.Finally = Some op.Finally
+window_of symbol.Globally = Some op.Globally
+window_of _ = None
+
+-- the signs of big operators
+abbrev pub big_of : Symbol → Option Op
+big_of symbol.And = Some op.And
+big_of symbol.Or = Some op.Or
+big_of _ = None
+
+-- the signs round the name of a range, and whether the bound is strict
+abbrev pub bound_of : Symbol → Option Bool
+bound_of symbol.Less = Some true
+bound_of symbol.LessEqual = Some false
+bound_of _ = None
+
+mutual
+  -- `Derives n ls t`: the level n derives the lexemes with this tree. A level without its operator makes no node.
+  pub data Derives : Level → List Lexeme → Tree → Type 0 where
+    -- primaries
+    of_number : (l : Lexeme) → Is symbol.Number l → Derives primary (l ∷ []) (number (span_of (l ∷ [])) (literal_of l.text))
+    of_true : (l : Lexeme) → Is symbol.True l → Derives primary (l ∷ []) (truth (span_of (l ∷ [])) true)
+    of_false : (l : Lexeme) → Is symbol.False l → Derives primary (l ∷ []) (truth (span_of (l ∷ [])) false)
+    of_name : (l : Lexeme) → Is symbol.Ident l → Derives primary (l ∷ []) (named (span_of (l ∷ [])) l.text)
+    of_call : (l before after : Lexeme) (ls : List Lexeme) (first : Tree) (more : Trees) → Is symbol.Ident l → Is symbol.OpenParen before → DerivesList ls (tree first more)
+        → Is symbol.CloseParen after → Derives primary (l ∷ before ∷ ls ++ after ∷ []) (call (span_of (l ∷ before ∷ ls ++ after ∷ [])) (word_of l) (tree first more))
+    of_index : (l before after : Lexeme) (ls : List Lexeme) (t : Tree) → Is symbol.Ident l → Is symbol.OpenBracket before → Derives releases ls t
+        → Is symbol.CloseBracket after → Derives primary (l ∷ before ∷ ls ++ after ∷ []) (index (span_of (l ∷ before ∷ ls ++ after ∷ [])) (word_of l) t)
+    of_size : (l : Lexeme) (ls : List Lexeme) (t : Tree) → Is symbol.SizeOf l → Derives primary ls t → Derives primary (l ∷ ls) (size_of (span_of (l ∷ ls)) t)
+    of_paren : (before after : Lexeme) (ls : List Lexeme) (t : Tree) → Is symbol.OpenParen before → Derives releases ls t → Is symbol.CloseParen after
+        → Derives primary (before ∷ ls ++ after ∷ []) (paren (span_of (before ∷ ls ++ after ∷ [])) t)
+    of_set : (before after : Lexeme) (ls : List Lexeme) (ts : Trees) → Is symbol.OpenBrace before → DerivesList ls ts → Is symbol.CloseBrace after
+        → Derives primary (before ∷ ls ++ after ∷ []) (set (span_of (before ∷ ls ++ after ∷ [])) ts)
+    of_steps : (before comma dots after : Lexeme) (ls ms ns : List Lexeme) (t u v : Tree) → Is symbol.OpenBrace before → Derives releases ls t → Is symbol.Comma comma → Derives releases ms u
+        → Is symbol.Dots dots → Derives releases ns v → Is symbol.CloseBrace after
+        → Derives primary (before ∷ ls ++ comma ∷ ms ++ dots ∷ ns ++ after ∷ []) (steps (span_of (before ∷ ls ++ comma ∷ ms ++ dots ∷ ns ++ after ∷ [])) t u v)
+    -- each level is built of the one above it
+    of_tighter : (n m : Level) (ls : List Lexeme) (t : Tree) → tighter_of m ≡ Some n → Derives n ls t → Derives m ls t
+    of_chain : (n m : Level) (ls ms : List Lexeme) (t u : Tree) (o : Op) (more : Links) → tighter_of m ≡ Some n → joins_of m ≡ left → Derives n ls t → DerivesLinks m ms (link o u more)
+        → Derives m (ls ++ ms) (chain (span_of (ls ++ ms)) t (link o u more))
+    of_once : (n m : Level) (l : Lexeme) (ls ms : List Lexeme) (t u : Tree) (o : Op) → tighter_of m ≡ Some n → joins_of m ≡ once → Derives n ls t → operator_of l.symbol ≡ Some (m, o)
+        → Derives n ms u → Derives m (ls ++ l ∷ ms) (pair (span_of (ls ++ l ∷ ms)) o t u)
+    of_right : (n m : Level) (l : Lexeme) (ls ms : List Lexeme) (t u : Tree) (o : Op) → tighter_of m ≡ Some n → joins_of m ≡ right → Derives n ls t → operator_of l.symbol ≡ Some (m, o)
+        → Derives m ms u → Derives m (ls ++ l ∷ ms) (pair (span_of (ls ++ l ∷ ms)) o t u)
+    -- signs before an operand
+    of_prefix : (l : Lexeme) (ls : List Lexeme) (t : Tree) (o : Op) → prefix_of l.symbol ≡ Some o → Derives prefixes ls t → Derives prefixes (l ∷ ls) (prefix (span_of (l ∷ ls)) o t)
+    of_count : (l before after : Lexeme) (ls ms : List Lexeme) (t u : Tree) → Is symbol.Next l → Is symbol.OpenBracket before → Derives releases ls t → Is symbol.CloseBracket after → Derives prefixes ms u
+        → Derives prefixes (l ∷ before ∷ ls ++ after ∷ ms) (count (span_of (l ∷ before ∷ ls ++ after ∷ ms)) t u)
+    of_window : (l before colon after : Lexeme) (ls ms ns : List Lexeme) (t u v : Tree) (o : Op) → window_of l.symbol ≡ Some o → Is symbol.OpenBracket before → Derives releases ls t
+        → Is symbol.Colon colon → Derives releases ms u → Is symbol.CloseBracket after → Derives prefixes ns v
+        → Derives prefixes (l ∷ before ∷ ls ++ colon ∷ ms ++ after ∷ ns) (window (span_of (l ∷ before ∷ ls ++ colon ∷ ms ++ after ∷ ns)) o t u v)
+    of_big : (l before after : Lexeme) (ls ms : List Lexeme) (rs : Ranges) (t : Tree) (o : Op) → big_of l.symbol ≡ Some o → Is symbol.OpenBracket before → DerivesRanges ls rs
+        → Is symbol.CloseBracket after → Derives prefixes ms t → Derives prefixes (l ∷ before ∷ ls ++ after ∷ ms) (big (span_of (l ∷ before ∷ ls ++ after ∷ ms)) o rs t)
+
+  -- no expression, or some with commas between
+  pub data DerivesList : List Lexeme → Trees → Type 0 where
+    of_none : DerivesList [] no_trees
+    of_last : (ls : List Lexeme) (t : Tree) → Derives releases ls t → DerivesList ls (tree t no_trees)
+    of_more : (comma : Lexeme) (ls ms : List Lexeme) (t u : Tree) (more : Trees) → Derives releases ls t → Is symbol.Comma comma → DerivesList ms (tree u more)
+        → DerivesList (ls ++ comma ∷ ms) (tree t (tree u more))
+
+  -- operators of the level, each with an operand of the level above it
+  pub data DerivesLinks : Level → List Lexeme → Links → Type 0 where
+    of_no_link : (m : Level) → DerivesLinks m [] no_links
+    of_link : (n m : Level) (l : Lexeme) (ls ms : List Lexeme) (t : Tree) (o : Op) (more : Links) → tighter_of m ≡ Some n → operator_of l.symbol ≡ Some (m, o) → Derives n ls t
+        → DerivesLinks m ms more → DerivesLinks m (l ∷ ls ++ ms) (link o t more)
+
+  -- one or more ranges with commas between
+  pub data DerivesRanges : List Lexeme → Ranges → Type 0 where
+    of_members : (l sign : Lexeme) (ls ms : List Lexeme) (t : Tree) (more : Ranges) → Is symbol.Ident l → Is symbol.In sign → Derives releases ls t → DerivesMoreRanges ms more
+        → DerivesRanges (l ∷ sign ∷ ls ++ ms) (members (word_of l) t more)
+    of_between : (low_sign l high_sign : Lexeme) (ls ms ns : List Lexeme) (t u : Tree) (low high : Bool) (more : Ranges) → Derives sums ls t → bound_of low_sign.symbol ≡ Some low
+        → Is symbol.Ident l → bound_of high_sign.symbol ≡ Some high → Derives sums ms u → DerivesMoreRanges ns more
+        → DerivesRanges (ls ++ low_sign ∷ l ∷ high_sign ∷ ms ++ ns) (between t low (word_of l) high u more)
+
+  pub data DerivesMoreRanges : List Lexeme → Ranges → Type 0 where
+    of_no_range : DerivesMoreRanges [] no_ranges
+    of_range : (comma : Lexeme) (ls : List Lexeme) (rs : Ranges) → Is symbol.Comma comma → DerivesRanges ls rs → DerivesMoreRanges (comma ∷ ls) rs
+
+-- the span of each expression runs from its first byte to the byte after its last
+abbrev pub SpansAreWhole : Type 0
+SpansAreWhole = (n : Level) (ls : List Lexeme) (t : Tree) → Derives n ls t → tree_span t ≡ span_of ls

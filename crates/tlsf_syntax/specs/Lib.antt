@@ -1,0 +1,12 @@
+pub mod Nesting
+pub mod Frames
+pub mod Tree
+pub mod Text
+pub mod Seen
+pub mod Lexemes
+pub mod Symbols
+pub mod Expressions
+pub mod Reading
+pub mod Texts
+pub mod TextReading
+pub mod Rows

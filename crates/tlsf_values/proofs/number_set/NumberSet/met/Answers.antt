@@ -1,9 +1,0 @@
-use Rattle.std.proofs.Common.{◌≡◌, filter, rules}
-use Rattle.tlsf_values.specs.Sets.{is_in}
-use Rattle.tlsf_values.proofs.SetLemmas.{filtered_set}
-use Rattle.tlsf_values.proofs.number_set.NumberSet.met.Goals as goal
-
-pub of_rising-requires : goal.of_rising-requires
-of_rising-requires c =
-    let kept : c.in_ok-common.common.items ≡ filter (is_in c.args.other.now) c.args.self.now = search rules in
-    filtered_set (is_in c.args.other.now) c.args.self.now c.in_ok-common.common.items c.as_slice.ensures.rising kept
