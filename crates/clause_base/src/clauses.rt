@@ -2,6 +2,7 @@ ghost use Rattle.std.specs.Prelude.{◌≡◌, ℕ, ◌<◌, ◌↔◌, List, �
 ghost use Rattle.std.specs.Bool.{OnTrue, OnFalse};
 ghost use Rattle.std.specs.List.Sorted.{IsNonDecreasingBy, IsPermutation};
 ghost use Rattle.clause_base.specs.declared.clauses.ClauseFault.TheVariants.{BadVariable, Tautology, NoMemory};
+ghost use Rattle.std.specs.Arc.{arc_slice_items};
 ghost use Rattle.clause_base.specs.Literal.{Literal};
 ghost use Rattle.clause_base.specs.Clause.{IsClause, IsClauseOf, IsWithin, HasBadVariable, IsTautology, clause_eq};
 ghost use Rattle.clause_base.specs.Equality.{clause_eq-partial, clause_eq-equivalence, clause_eq-hashed, clause_writes};
@@ -10,6 +11,7 @@ use crate::Lit;
 use std::alloc::{AllocError, AllocFailed, Global};
 use std::hash::{Hash, Hasher};
 use std::marker::Model;
+use std::sync::ArcSlice;
 
 /// Why `Clause::new` refused its literals.
 #[derive(Clone, Copy, Debug, PartialEq, Eq, Hash)]
@@ -39,18 +41,18 @@ impl<T: Drop> From<AllocFailed<T>> for ClauseFault {
 }
 
 /// A disjunction of literals, none of them opposite to another. Seen by contracts as the list of its literals, which are
-/// sorted by variable, with no variable twice.
+/// sorted by variable, with no variable twice. A copy shares them and takes no memory.
 #[derive(Debug, Drop)]
 pub struct Clause {
-    lits: Vec<Lit>,
+    lits: ArcSlice<Lit>,
 }
 
 impl Model for Clause {
     ghost Value = { List Literal };
 
-    ghost view = { λ c. c.lits.items };
+    ghost view = { λ c. arc_slice_items c.lits };
 
-    ghost invariant = { λ c. IsClause c.lits.items };
+    ghost invariant = { λ c. IsClause (arc_slice_items c.lits) };
 }
 
 impl PartialEq for Clause {
@@ -105,7 +107,9 @@ impl Clause {
         }
         let sorted = sorted_by_variable(alloc, lits)?;
         let lits = without_repeats(alloc, &sorted)?;
-        Ok(Clause { lits })
+        Ok(Clause {
+            lits: ArcSlice::from_vec(lits)?,
+        })
     }
 
     /// The literals, sorted by variable, with no variable twice.
@@ -113,7 +117,7 @@ impl Clause {
         ensures value { result.now ≡ self.now }
         ensures sorted { IsClause self.now }
     {
-        &self.lits
+        self.lits.as_slice()
     }
 }
 

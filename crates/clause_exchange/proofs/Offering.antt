@@ -21,7 +21,8 @@ use Rattle.refutation_log.proofs.TeachLemmas.{taught-push}
 use Rattle.refutation_log.proofs.Lists.{take-append_all, take_drop}
 use Rattle.clause_exchange.specs.declared.exchange.Refused.{Refused}
 use Rattle.clause_exchange.specs.declared.views.Part.{Part}
-use Rattle.clause_exchange.specs.SharedLog.{PassView, IsPrefix, IsLogOn, IsAfterTurn, IsOffered}
+use Rattle.text_base.specs.Prefix.{IsPrefix}
+use Rattle.clause_exchange.specs.SharedLog.{PassView, IsLogOn, IsAfterTurn, IsOffered}
 use Rattle.clause_exchange.specs.Rule.{HasRoom}
 use Rattle.clause_exchange.specs.Steps.{Place, idle, begun, Begins, IsOpenTo, IsMoved, moved}
 use Rattle.clause_exchange.specs.Offers.{IsOfferedTo, IsCopiedOf}

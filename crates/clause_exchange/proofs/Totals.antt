@@ -8,28 +8,14 @@ use Rattle.clause_exchange.specs.declared.views.Part.{Part}
 use Rattle.clause_exchange.specs.Rule.{total, count_of, fresh_parts}
 
 module _ {A : Type 0} where
-  pub at_within : (l : List A) (i : ℕ) (a : A) → get_elem? l i ≡ some a → i < length l
-  at_within [] i a e = absurd (some-ne-none a (sym e))
-  at_within (x ∷ xs) zero a e = omega arith
-  at_within (x ∷ xs) (suc i) a e = omega (arith, at_within xs i a e)
-
-  pub set_there : (l : List A) (i : ℕ) (v w : A) → get_elem? l i ≡ some v → get_elem? (set l i w) i ≡ some w
-  set_there [] i v w e = absurd (some-ne-none v (sym e))
-  set_there (x ∷ xs) zero v w e = refl
-  set_there (x ∷ xs) (suc i) v w e = set_there xs i v w e
-
   pub at_one : (l : List A) (i : ℕ) (a b : A) → get_elem? l i ≡ some a → get_elem? l i ≡ some b → a ≡ b
   at_one l i a b p q = some-injective a b (sym p ∙ q)
 
-  pub uncons : (l : List A) (a : A) → get_elem? l 0 ≡ some a → (more : List A) × (l ≡ a ∷ more)
-  uncons [] a e = absurd (some-ne-none a (sym e))
-  uncons (x ∷ xs) a e = (xs, ap (λ (y : A). y ∷ xs) (some-injective x a e))
-
   -- a fact of each element, after one of them has changed
-  pub each_set : (K K' : ℕ → A → Type 0) (l : List A) (i : ℕ) (w : A) → K' i w → ((j : ℕ) (v : A) → j ≢ i → get_elem? l j ≡ some v → K j v → K' j v)
-      → ((j : ℕ) (v : A) → get_elem? l j ≡ some v → K j v) → (j : ℕ) (v : A) → get_elem? (set l i w) j ≡ some v → K' j v
+  pub each_set : (K K' : A → Type 0) (l : List A) (i : ℕ) (w : A) → K' w → ((j : ℕ) (v : A) → j ≢ i → get_elem? l j ≡ some v → K v → K' v)
+      → ((j : ℕ) (v : A) → get_elem? l j ≡ some v → K v) → (j : ℕ) (v : A) → get_elem? (set l i w) j ≡ some v → K' v
   each_set K K' l i w mine others all j v e = ⊎_elim
-      (λ (t : (j ≡ i) × (w ≡ v)). subst (λ (x : ℕ × A). K' x.0 x.1) (λ k. (sym t.0 k, t.1 k)) mine)
+      (λ (t : (j ≡ i) × (w ≡ v)). subst K' t.1 mine)
       (λ (t : (j ≢ i) × (get_elem? l j ≡ some v)). others j v t.0 t.1 (all j v t.1))
       (at_set l i j w v e)
 
@@ -43,7 +29,7 @@ module _ {A : Type 0} where
     total-set (x ∷ xs) zero v w e = omega (arith, ap g (some-injective x v e))
     total-set (x ∷ xs) (suc j) v w e = omega (arith, total-set xs j v w e)
 
-    term_le : (l : List A) (j : ℕ) (v : A) → get_elem? l j ≡ some v → g v ≤ total g l
+    pub term_le : (l : List A) (j : ℕ) (v : A) → get_elem? l j ≡ some v → g v ≤ total g l
     term_le [] j v e = absurd (some-ne-none v (sym e))
     term_le (x ∷ xs) zero v e = omega (arith, ap g (some-injective x v e))
     term_le (x ∷ xs) (suc j) v e = omega (arith, term_le xs j v e)
@@ -55,9 +41,9 @@ module _ {A : Type 0} where
     terms_le (x ∷ xs) (suc j) zero v u n e d = omega (arith, ap g (some-injective x u d), term_le xs j v e)
     terms_le (x ∷ xs) (suc j) (suc k) v u n e d = omega (arith, terms_le xs j k v u (λ h. n (ap suc h)) e d)
 
-  pub total_le : (f g : A → ℕ) → ((x : A) → f x ≤ g x) → (l : List A) → total f l ≤ total g l
-  total_le f g le [] = omega arith
-  total_le f g le (x ∷ xs) = omega (arith, le x, total_le f g le xs)
+    pub total_zero : (l : List A) → ((j : ℕ) (v : A) → get_elem? l j ≡ some v → g v ≡ 0) → total g l ≡ 0
+    total_zero [] all = refl
+    total_zero (x ∷ xs) all = omega (arith, all 0 x refl, total_zero xs (λ j v e. all (suc j) v e))
 
 -- ---- counts
 
@@ -83,10 +69,6 @@ cond_less n m lt = by (nat_eq m n) refl
     by : (b : Bool) → nat_eq m n ≡ b → one_if b ≡ 0
     by true e = let same : m ≡ n = eqb-true m n e in absurd (omega arith)
     by false e = refl
-
-pub length-fresh_parts : (terms : Terms) (from count : ℕ) → length (fresh_parts terms from count) ≡ count
-length-fresh_parts terms from zero = refl
-length-fresh_parts terms from (suc count) = omega (arith, length-fresh_parts terms (suc from) count)
 
 one_more : (from n rest : ℕ) → rest ≤ 1 → (n < suc from → rest ≡ 0) → one_if (nat_eq from n) + rest ≤ 1
 one_more from n rest few none = by (nat_eq from n) refl

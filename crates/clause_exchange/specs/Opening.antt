@@ -5,9 +5,9 @@ use Rattle.refutation_log.specs.State.{Log}
 use Rattle.clause_exchange.specs.declared.views.Setup.{Setup}
 use Rattle.clause_exchange.specs.declared.views.Part.{Part}
 use Rattle.clause_exchange.specs.declared.views.View.{View}
-use Rattle.clause_exchange.specs.declared.views.View.TheVariants.{Holding}
+use Rattle.clause_exchange.specs.declared.views.View.TheVariants.{Resting}
 use Rattle.clause_exchange.specs.SharedLog.{SharedLog, PassView, new_pass}
-use Rattle.clause_exchange.specs.Rule.{terms_of, fresh_parts, waits, parts_of}
+use Rattle.clause_exchange.specs.Rule.{terms_of, fresh_parts, in_turn, parts_of}
 use Rattle.clause_exchange.specs.Steps.{Place}
 
 -- The exchange of a table.
@@ -16,11 +16,11 @@ exchange_of id setup = record { id = id; terms = terms_of setup }
 
 -- A seat that holds the passes of an exchange from a number on.
 abbrev pub holding : Setup → ℕ → ℕ → Place
-holding setup number count = (Holding (fresh_parts (terms_of setup) number count), [])
+holding setup number count = (Resting (fresh_parts (terms_of setup) number count), [])
 
 -- The table of an exchange, with the seat that holds all of its passes.
 pub record IsDealer (id : TableId) (key : Setup) (seat : Seat Log View) : Type 0 where
-  pub words : id.words ≡ 2
+  pub words : id.words ≡ 1
   pub slots : id.slots ≡ 1
   pub table : seat.table_id ≡ id
   pub holds : seat.me ≡ holding key 0 key.seats
@@ -38,5 +38,5 @@ part_seen p = record { terms = p.exchange.terms; number = p.number; seen = p.see
 pub record IsGathered (id : TableId) (seat : Seat Log View) (passes : List PassView) : Type 0 where
   pub table : seat.table_id ≡ id
   pub no_slot : seat.me.1 ≡ []
-  pub rests : waits seat.me.0 ≡ 0
+  pub rests : in_turn seat.me.0 ≡ 0
   pub parts : parts_of seat.me.0 ≡ map part_seen passes

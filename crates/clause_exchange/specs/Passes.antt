@@ -1,9 +1,9 @@
-use Rattle.std.specs.Prelude.{◌≡◌, [], None}
+use Rattle.std.specs.Prelude.{◌≡◌, [], ◌∷◌, None}
 use Rattle.atomic_table.specs.Seated.{TableId}
 use Rattle.refutation_log.specs.Teaches.{entries_by}
 use Rattle.clause_exchange.specs.declared.views.Part.{Part}
 use Rattle.clause_exchange.specs.declared.views.View.{View}
-use Rattle.clause_exchange.specs.declared.views.View.TheVariants.{Sitting, Holding}
+use Rattle.clause_exchange.specs.declared.views.View.TheVariants.{Resting, Begun}
 use Rattle.clause_exchange.specs.SharedLog.{PassView}
 use Rattle.clause_exchange.specs.Steps.{Place, idle}
 
@@ -12,8 +12,9 @@ abbrev pub no_part : Part
 no_part = record { terms = record { vars = 0; base = []; limit = None; seats = 0 }; number = 0; seen = []; own = [] }
 
 abbrev pub part_of : View → Part
-part_of (Sitting stage part) = part
-part_of (Holding parts) = no_part
+part_of (Resting []) = no_part
+part_of (Resting (p ∷ ps)) = p
+part_of (Begun log part) = part
 
 abbrev pub view_of_part : TableId → Part → PassView
 view_of_part id part = record { exchange = record { id = id; terms = part.terms }; number = part.number; seen = part.seen; own = part.own }

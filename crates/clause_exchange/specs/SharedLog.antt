@@ -1,4 +1,5 @@
-use Rattle.std.specs.Prelude.{◌≡◌, ℕ, ◌<◌, List, [], ◌++◌, All}
+use Rattle.std.specs.Prelude.{◌≡◌, ℕ, ◌<◌, List, [], All}
+use Rattle.text_base.specs.Prefix.{IsPrefix}
 use Rattle.atomic_table.specs.Seated.{TableId}
 use Rattle.refutation_log.specs.declared.entries.Entry.{Entry}
 use Rattle.refutation_log.specs.declared.turns.Turn.TheVariants.{Append}
@@ -19,10 +20,6 @@ pub record PassView : Type 0 where
   pub number : ℕ
   pub seen : List Entry
   pub own : List Entry
-
--- A list begins with another (this project's own).
-abbrev pub IsPrefix : {X : Type 0} → List X → List X → Type 0
-IsPrefix {X} first list = (more : List X) × (list ≡ first ++ more)
 
 -- A log that passes on these terms may leave: legal and taught over the base clauses, with entries of these passes alone.
 pub record IsLogOn (terms : Terms) (log : List Entry) : Type 0 where

@@ -4,25 +4,22 @@ use Rattle.refutation_log.specs.declared.entries.Entry.{Entry}
 use Rattle.refutation_log.specs.State.{Log}
 use Rattle.refutation_log.specs.Teaches.{entries_by}
 use Rattle.clause_exchange.specs.declared.views.Part.{Part}
-use Rattle.clause_exchange.specs.declared.views.Stage.TheVariants.{Idle, Waiting, Begun}
 use Rattle.clause_exchange.specs.declared.views.View.{View}
-use Rattle.clause_exchange.specs.declared.views.View.TheVariants.{Sitting, Holding}
-use Rattle.clause_exchange.specs.SharedLog.{IsPrefix, IsLogOn}
+use Rattle.clause_exchange.specs.declared.views.View.TheVariants.{Resting, Begun}
+use Rattle.text_base.specs.Prefix.{IsPrefix}
+use Rattle.clause_exchange.specs.SharedLog.{IsLogOn}
 use Rattle.clause_exchange.specs.Rule.{HasRoom, IsPartOf, parts_of}
 
 abbrev pub Place : Type 0
 Place = Me Log View
 
--- A seat outside of a turn.
+-- The seat of a pass outside of a turn.
 abbrev pub idle : Part → Place
-idle part = (Sitting Idle part, [])
-
-abbrev pub waiting : ℕ → Part → Place
-waiting ticket part = (Sitting (Waiting ticket) part, [])
+idle part = (Resting (part ∷ []), [])
 
 -- A seat in a turn that began at a list, with what the slot holds now.
 abbrev pub begun : List Entry → Log → Part → Place
-begun log value part = (Sitting (Begun log) part, (0, value) ∷ [])
+begun log value part = (Begun log part, (0, value) ∷ [])
 
 -- What a seat knows of the slot as its turn begins.
 pub record IsOpenTo (part : Part) (value : Log) : Type 0 where
@@ -45,30 +42,27 @@ pub record IsMoved (part : Part) (log : List Entry) (value : Log) : Type 0 where
 abbrev pub moved : Part → List Entry → Part
 moved part log = record { terms = part.terms; number = part.number; seen = log; own = entries_by part.number log }
 
--- What the steps tell.
-abbrev pub drawn : Step Log → Place → ℕ → Place → Type 0
-drawn st m found n = (part : Part) → m ≡ idle part → n ≡ waiting found part
+-- What the steps tell: whoever finds 0 has the log, and whoever gives it back has seen what it left.
+abbrev pub taken : Step Log → Place → ℕ → Place → Type 0
+taken st m found n = (part : Part) → m ≡ idle part → (found ≡ 0 → Begins part n) × (found ≢ 0 → n ≡ idle part)
 
-abbrev pub looked : Step Log → Place → ℕ → Place → Type 0
-looked st m found n = (ticket : ℕ) (part : Part) → m ≡ waiting ticket part → (found ≡ ticket → Begins part n) × (found ≢ ticket → n ≡ waiting ticket part)
-
-abbrev pub served : Step Log → Place → ℕ → Place → Type 0
-served st m found n = (log : List Entry) (value : Log) (part : Part) → m ≡ begun log value part → n ≡ idle (moved part value.entries)
+abbrev pub given : Step Log → Place → ℕ → Place → Type 0
+given st m stored n = (log : List Entry) (value : Log) (part : Part) → m ≡ begun log value part → n ≡ idle (moved part value.entries)
 
 -- The first part goes to a seat of its own, and the others stay.
 abbrev pub undealt : View → View
-undealt (Sitting stage part) = Sitting stage part
-undealt (Holding []) = Holding []
-undealt (Holding (p ∷ ps)) = Holding ps
+undealt (Resting []) = Resting []
+undealt (Resting (p ∷ ps)) = Resting ps
+undealt (Begun log part) = Begun log part
 
 abbrev pub dealt : View → View
-dealt (Sitting stage part) = Holding []
-dealt (Holding []) = Holding []
-dealt (Holding (p ∷ ps)) = Sitting Idle p
+dealt (Resting []) = Resting []
+dealt (Resting (p ∷ ps)) = Resting (p ∷ [])
+dealt (Begun log part) = Resting []
 
 -- The parts of the other seat come first.
 abbrev pub gathered : View → View → View
-gathered v w = Holding (parts_of w ++ parts_of v)
+gathered v w = Resting (parts_of w ++ parts_of v)
 
 abbrev pub spent : View
-spent = Holding []
+spent = Resting []

@@ -5,12 +5,13 @@ ghost use Rattle.clause_base.specs.Clause.{IsWithin, IsFormula};
 ghost use Rattle.refutation_log.specs.Entry.{clauses_of, AreSorted};
 ghost use Rattle.refutation_log.specs.Follows.{Follows};
 ghost use Rattle.refutation_log.specs.Teaches.{Teaches};
-ghost use Rattle.clause_exchange.specs.SharedLog.{IsPrefix, IsLogOn, IsAfterTurn, IsOffered, HoldsAllOf, new_pass};
-ghost use Rattle.clause_exchange.specs.Rule.{HasRoom, waits, parts_of};
+ghost use Rattle.text_base.specs.Prefix.{IsPrefix};
+ghost use Rattle.clause_exchange.specs.SharedLog.{IsLogOn, IsAfterTurn, IsOffered, HoldsAllOf, new_pass};
+ghost use Rattle.clause_exchange.specs.Rule.{HasRoom, in_turn, parts_of};
 ghost use Rattle.clause_exchange.specs.Opening.{exchange_of, holding, part_seen, IsDealer, IsDealt, IsGathered};
 
 use crate::turns::{Place, Words, begin, copy, end, offer};
-use crate::views::{Deal, Gather, Queued, Setup, View};
+use crate::views::{Deal, Gather, OneAtATime, Setup, View};
 use atomic_table::{Seat, Table};
 use clause_base::Cnf;
 use refutation_log::{Entry, LogState, Reply};
@@ -21,7 +22,7 @@ use std::sync::{Arc, Wait};
 /// A refutation log that the threads with its passes share. Seen by contracts as which one it is and what it was opened with.
 #[derive(Drop)]
 pub struct Exchange {
-    table: Table<LogState, View, Setup, Queued, Global>,
+    table: Table<LogState, View, Setup, OneAtATime, Global>,
     setup: Setup,
 }
 
@@ -35,7 +36,7 @@ impl Model for Exchange {
 
     ghost view = { λ e. record { id = e.table.shared.table_id; terms = terms_of e.setup } };
 
-    ghost invariant = { λ e. (e.table.shared.table_id.words ≡ 2) × (e.table.shared.table_id.slots ≡ 1) × (e.table.shared.key ≡ e.setup) × (0 < e.setup.seats) };
+    ghost invariant = { λ e. (e.table.shared.table_id.words ≡ 1) × (e.table.shared.table_id.slots ≡ 1) × (e.table.shared.key ≡ e.setup) × (0 < e.setup.seats) };
 }
 
 /// The right to take turns on an exchange. Seen by contracts as its exchange, its number there, what it has seen of the log, and the
@@ -170,15 +171,14 @@ fn empty_log(alloc: Global, limit: Option<u64>) -> Result<LogState, AllocError>
 fn laid_out(
     alloc: Global,
     setup: &Setup,
-) -> Result<(Table<LogState, View, Setup, Queued, Global>, Place), AllocError>
-    requires { setup.now.seats ≤ 64 }
+) -> Result<(Table<LogState, View, Setup, OneAtATime, Global>, Place), AllocError>
     ensures key { IfOk result (λ laid. laid.0.shared.key ≡ setup.now) }
     ensures dealer { IfOk result (λ laid. IsDealer laid.0.shared.table_id setup.now laid.1) }
 {
     let log = empty_log(alloc, setup.limit)?;
     let mut slots = Vec::with_capacity(alloc, 1)?;
     slots.push_reserved(log);
-    match Table::new(alloc, &[0, 0], slots, setup) {
+    match Table::new(alloc, &[0], slots, setup) {
         Ok(laid) => Ok(laid),
         Err(_) => Err(AllocError),
     }
@@ -204,7 +204,7 @@ fn deal(
 
 /// Gives out the first pass of those that a seat holds.
 fn deal_one(words: &Words, dealer: &mut Place) -> Pass
-    requires table { (dealer.old.table_id ≡ words.now.table_id) × (words.now.table_id.words ≡ 2) }
+    requires table { (dealer.old.table_id ≡ words.now.table_id) × (words.now.table_id.words ≡ 1) }
     requires holds { (number : ℕ) × (count : ℕ) × (dealer.old.me ≡ holding words.now.key number (suc count)) }
     ensures table { dealer.new.table_id ≡ dealer.old.table_id }
     ensures dealt { (number count : ℕ) → dealer.old.me ≡ holding words.now.key number (suc count) → (dealer.new.me ≡ holding words.now.key (suc number) count) × (result ≡ new_pass (exchange_of words.now.table_id words.now.key) number) }
@@ -216,7 +216,7 @@ fn deal_one(words: &Words, dealer: &mut Place) -> Pass
 
 /// Takes in all passes, the last one first.
 fn gather(words: &Words, mut passes: Vec<Pass>) -> Place
-    requires table { words.now.table_id.words ≡ 2 }
+    requires table { words.now.table_id.words ≡ 1 }
     requires some { 0 < length passes.items }
     requires own { All (λ p. p.exchange.id ≡ words.now.table_id) passes.items }
     ensures { IsGathered words.now.table_id result passes.items }
@@ -233,10 +233,10 @@ fn gather(words: &Words, mut passes: Vec<Pass>) -> Place
 
 /// Takes in one pass.
 fn gather_one(words: &Words, place: &mut Place, pass: Pass)
-    requires table { (place.old.table_id ≡ words.now.table_id) × (pass.exchange.id ≡ words.now.table_id) × (words.now.table_id.words ≡ 2) }
-    requires rests { waits place.old.me.0 ≡ 0 }
+    requires table { (place.old.table_id ≡ words.now.table_id) × (pass.exchange.id ≡ words.now.table_id) × (words.now.table_id.words ≡ 1) }
+    requires rests { in_turn place.old.me.0 ≡ 0 }
     ensures same { place.new.table_id ≡ place.old.table_id }
-    ensures gathered { (place.new.me.1 ≡ place.old.me.1) × (waits place.new.me.0 ≡ 0) × (parts_of place.new.me.0 ≡ part_seen pass ∷ parts_of place.old.me.0) }
+    ensures gathered { (place.new.me.1 ≡ place.old.me.1) × (in_turn place.new.me.0 ≡ 0) × (parts_of place.new.me.0 ≡ part_seen pass ∷ parts_of place.old.me.0) }
 {
     let Pass { place: other } = pass;
     words.join_seat::<Gather>(place, other);

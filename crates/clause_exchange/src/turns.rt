@@ -1,38 +1,43 @@
-//! The parts of one turn: a ticket is drawn and waited for, something is done with the log, and the next ticket is served.
+//! The parts of one turn: the log is taken as soon as no other seat has it, something is done with it, and it is given back.
 ghost use Rattle.std.specs.Prelude.{◌≡◌, ◌<◌, List, Option, Some, None, IfOk, OnOk, OnErr, length, slice_get};
 ghost use Rattle.refutation_log.specs.State.{Log, KeepsLog};
 ghost use Rattle.refutation_log.specs.declared.entries.Entry.{Entry as EntryView};
 ghost use Rattle.clause_exchange.specs.declared.views.Part.{Part as PartView};
-ghost use Rattle.clause_exchange.specs.SharedLog.{IsPrefix};
+ghost use Rattle.text_base.specs.Prefix.{IsPrefix};
 ghost use Rattle.clause_exchange.specs.Rule.{HasRoom};
 ghost use Rattle.clause_exchange.specs.Steps.{idle, begun, Begins, IsMoved, moved};
 ghost use Rattle.clause_exchange.specs.Offers.{IsOfferedTo, IsCopiedOf};
 
 use crate::exchange::Refused;
-use crate::views::{Draw, Look, Queued, Serve, Setup, View};
+use crate::views::{Give, OneAtATime, Setup, Take, View};
 use atomic_table::{Seat, Shared};
 use crossbeam_utils::Backoff;
 use refutation_log::{Entry, LogState, Reply, Turn};
 use std::alloc::AllocError;
 use std::sync::Wait;
 
-/// The words and the slot of an exchange, as its passes share them.
-pub type Words = Shared<LogState, View, Setup, Queued>;
+/// The word and the slot of an exchange, as its passes share them.
+pub type Words = Shared<LogState, View, Setup, OneAtATime>;
 
 /// What one pass knows, and the log while it has it.
 pub type Place = Seat<LogState, View>;
 
-/// Draws a ticket and waits until it is served. Then the seat has the log.
+/// The word while a seat has the log.
+const TAKEN: u64 = 1;
+
+/// The word while the log is at home.
+const FREE: u64 = 0;
+
+/// Waits until no other seat has the log, and takes it. Nobody stands in line: a seat that isn't running holds up no other.
 pub fn begin<R: Wait>(rt: &R, words: &Words, place: &mut Place)
-    requires table { (place.old.table_id ≡ words.now.table_id) × (words.now.table_id.words ≡ 2) × (words.now.table_id.slots ≡ 1) }
+    requires table { (place.old.table_id ≡ words.now.table_id) × (words.now.table_id.words ≡ 1) × (words.now.table_id.slots ≡ 1) }
     requires idle { (part : PartView) × (place.old.me ≡ idle part) }
     ensures same { (place.new.table_id ≡ place.old.table_id) × (place.new.id ≡ place.old.id) }
     ensures begun { (part : PartView) → place.old.me ≡ idle part → Begins part place.new.me }
 {
-    let ticket = words.fetch_add::<Draw>(place, 0, 1);
     let backoff = Backoff::new();
     for _ in rt.forever() {
-        if words.load::<Look>(place, 1) == ticket {
+        if words.swap::<Take>(place, 0, TAKEN) == FREE {
             return;
         }
         backoff.snooze();
@@ -40,14 +45,14 @@ pub fn begin<R: Wait>(rt: &R, words: &Words, place: &mut Place)
     unreachable!()
 }
 
-/// Gives the log back, and serves the next ticket.
+/// Gives the log back.
 pub fn end(words: &Words, place: &mut Place)
-    requires table { (place.old.table_id ≡ words.now.table_id) × (words.now.table_id.words ≡ 2) × (words.now.table_id.slots ≡ 1) }
+    requires table { (place.old.table_id ≡ words.now.table_id) × (words.now.table_id.words ≡ 1) × (words.now.table_id.slots ≡ 1) }
     requires moved { (log : List EntryView) × (value : Log) × (part : PartView) × (place.old.me ≡ begun log value part) × IsMoved part log value }
     ensures same { (place.new.table_id ≡ place.old.table_id) × (place.new.id ≡ place.old.id) }
     ensures idle { (log : List EntryView) (value : Log) (part : PartView) → place.old.me ≡ begun log value part → place.new.me ≡ idle (moved part value.entries) }
 {
-    words.fetch_add::<Serve>(place, 1, 1);
+    words.store::<Give>(place, 0, FREE);
 }
 
 /// Offers an entry to the log that the seat has.

@@ -30,25 +30,18 @@ pub struct Part {
     pub own: LinkedList<Entry>,
 }
 
-/// Where a pass stands in its turn.
-pub enum Stage {
-    Idle,
-    /// It has drawn this ticket.
-    Waiting(u64),
-    /// Its turn has begun, at this list, and it has the log.
-    Begun(LinkedList<Entry>),
-}
-
-/// What a seat knows: one pass, or the passes that weren't given out yet or were taken in again.
+/// What a seat knows.
 pub enum View {
-    Sitting(Stage, Part),
-    Holding(LinkedList<Part>),
+    /// The passes that it holds between turns: one, or those that weren't given out yet or were taken in again.
+    Resting(LinkedList<Part>),
+    /// The pass whose turn it is, and the list at which the turn began. The seat has the log.
+    Begun(LinkedList<Entry>, Part),
 }
 
-/// Word 0 counts the tickets that were drawn and word 1 those that were served, both modulo 2^64. The one slot holds the log.
-pub struct Queued;
+/// The one word is 1 while a seat has the log, and else 0. The one slot holds the log.
+pub struct OneAtATime;
 
-impl TableRule<LogState, View, Setup> for Queued {
+impl TableRule<LogState, View, Setup> for OneAtATime {
     ghost use Rattle.clause_exchange.specs.Rule.{Keeps, terms_of, dealer};
 
     ghost holds = { λ setup. Keeps (terms_of setup) };
@@ -56,31 +49,22 @@ impl TableRule<LogState, View, Setup> for Queued {
     ghost first = { λ setup. dealer (terms_of setup) };
 }
 
-/// A ticket is drawn.
-pub struct Draw;
+/// The turn begins, if no other seat has the log.
+pub struct Take;
 
-impl Play<LogState, View> for Draw {
-    ghost use Rattle.clause_exchange.specs.Steps.{drawn};
+impl Play<LogState, View> for Take {
+    ghost use Rattle.clause_exchange.specs.Steps.{taken};
 
-    ghost then = { drawn };
+    ghost then = { taken };
 }
 
-/// A look at the ticket that is served; at one's own, the turn begins.
-pub struct Look;
+/// The turn ends: the log goes back.
+pub struct Give;
 
-impl Play<LogState, View> for Look {
-    ghost use Rattle.clause_exchange.specs.Steps.{looked};
+impl Play<LogState, View> for Give {
+    ghost use Rattle.clause_exchange.specs.Steps.{given};
 
-    ghost then = { looked };
-}
-
-/// The turn ends: the log goes back, and the next ticket is served.
-pub struct Serve;
-
-impl Play<LogState, View> for Serve {
-    ghost use Rattle.clause_exchange.specs.Steps.{served};
-
-    ghost then = { served };
+    ghost then = { given };
 }
 
 /// A pass is given out.

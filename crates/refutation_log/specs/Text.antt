@@ -29,7 +29,3 @@ pub record IsWritable (vars : ℕ) (e : Entry) : Type 0 where
   pub within : IsWithin vars e.clause
   pub small : IsWithin (2 ^ 30) e.clause
   pub hints : All (λ h. (0 < h) × (h < 2 ^ 64)) e.hints
-
--- The bytes are the old ones and what was written after them.
-abbrev pub Grows : List ℕ → List ℕ → Type 0
-Grows old new = (more : List ℕ) × (new ≡ old ++ more)

@@ -1,4 +1,5 @@
 ghost use Rattle.std.specs.Prelude.{◌≡◌, ℕ, List, IfOk, nat_eq};
+ghost use Rattle.std.specs.Arc.{arc_slice_items};
 ghost use Rattle.std.specs.Cmp.Lexicographic.{pointwise};
 ghost use Rattle.std.specs.Cmp.Rules.{comparing, hashing};
 ghost use Rattle.std.proofs.Common.{rules};
@@ -6,19 +7,20 @@ ghost use Rattle.std.proofs.Common.{rules};
 use clause_base::Clause;
 use std::alloc::{AllocError, Global};
 use std::marker::Model;
+use std::sync::ArcSlice;
 
 /// The numbers of the clauses by which a clause follows: 1 to b name the base clauses, b + 1 and on the entries of the log.
 ///
-/// Seen by contracts as the list of the numbers.
+/// Seen by contracts as the list of the numbers. A copy shares them and takes no memory.
 #[derive(Debug, Drop)]
 pub struct Hints {
-    numbers: Vec<u64>,
+    numbers: ArcSlice<u64>,
 }
 
 impl Model for Hints {
     ghost Value = { List ℕ };
 
-    ghost view = { λ h. h.numbers.items };
+    ghost view = { λ h. arc_slice_items h.numbers };
 }
 
 impl PartialEq for Hints {
@@ -51,7 +53,7 @@ impl Hints {
         ensures { IfOk result (λ hints. hints ≡ numbers.now) }
     {
         Ok(Hints {
-            numbers: numbers.to_vec(alloc)?,
+            numbers: ArcSlice::from_slice(alloc, numbers)?,
         })
     }
 
@@ -59,11 +61,11 @@ impl Hints {
     pub fn numbers(&self) -> &[u64]
         ensures { result.now ≡ self.now }
     {
-        &self.numbers
+        self.numbers.as_slice()
     }
 }
 
-/// A clause of a log, with the worker that learnt it and the hints by which it follows.
+/// A clause of a log, with the worker that learnt it and the hints by which it follows. A copy takes no memory.
 #[derive(Debug, Drop, PartialEq, Eq)]
 pub struct Entry {
     pub by: u32,

@@ -1,6 +1,7 @@
 ghost use Rattle.std.specs.Prelude.{◌≡◌, ◌++◌, OnOk, OnErr, ◌∷◌, []};
 ghost use Rattle.std.specs.List.{flat_map};
-ghost use Rattle.refutation_log.specs.Text.{literal_word, hint_word, entry_line, log_text, Grows};
+ghost use Rattle.text_base.specs.Prefix.{IsPrefix};
+ghost use Rattle.refutation_log.specs.Text.{literal_word, hint_word, entry_line, log_text};
 ghost use Rattle.refutation_log.specs.Read.{IsReadBack};
 ghost use Rattle.refutation_log.specs.Shown.{shown};
 
@@ -39,7 +40,7 @@ pub fn write_entries(entries: &[Entry], out: &mut Vec<u8>) -> Result<(), AllocEr
 
 fn push_log(log: &LogState, out: &mut Vec<u8>) -> Result<(), AllocError>
     ensures ok { OnOk result (out.new.items ≡ out.old.items ++ log_text log.now.entries) }
-    ensures grown { Grows out.old.items out.new.items }
+    ensures grown { IsPrefix out.old.items out.new.items }
 {
     for i in 0..log.entries() {
         write_entry(&log.entry(i), out)?;
@@ -49,7 +50,7 @@ fn push_log(log: &LogState, out: &mut Vec<u8>) -> Result<(), AllocError>
 
 fn push_entries(entries: &[Entry], out: &mut Vec<u8>) -> Result<(), AllocError>
     ensures ok { OnOk result (out.new.items ≡ out.old.items ++ log_text entries.now) }
-    ensures grown { Grows out.old.items out.new.items }
+    ensures grown { IsPrefix out.old.items out.new.items }
 {
     for entry in entries {
         write_entry(&entry.view(), out)?;
@@ -60,7 +61,7 @@ fn push_entries(entries: &[Entry], out: &mut Vec<u8>) -> Result<(), AllocError>
 /// Appends one entry's line.
 fn write_entry(entry: &EntryRef<'_>, out: &mut Vec<u8>) -> Result<(), AllocError>
     ensures ok { OnOk result (out.new.items ≡ out.old.items ++ entry_line (shown entry.now)) }
-    ensures grown { Grows out.old.items out.new.items }
+    ensures grown { IsPrefix out.old.items out.new.items }
 {
     push_number(out, u64::from(entry.by))?;
     out.push(b' ')?;
@@ -72,7 +73,7 @@ fn write_entry(entry: &EntryRef<'_>, out: &mut Vec<u8>) -> Result<(), AllocError
 
 fn write_clause(clause: &Clause, out: &mut Vec<u8>) -> Result<(), AllocError>
     ensures ok { OnOk result (out.new.items ≡ out.old.items ++ flat_map literal_word clause.now) }
-    ensures grown { Grows out.old.items out.new.items }
+    ensures grown { IsPrefix out.old.items out.new.items }
 {
     for lit in clause.lits() {
         write_literal(*lit, out)?;
@@ -82,7 +83,7 @@ fn write_clause(clause: &Clause, out: &mut Vec<u8>) -> Result<(), AllocError>
 
 fn write_literal(lit: Lit, out: &mut Vec<u8>) -> Result<(), AllocError>
     ensures ok { OnOk result (out.new.items ≡ out.old.items ++ literal_word lit) }
-    ensures grown { Grows out.old.items out.new.items }
+    ensures grown { IsPrefix out.old.items out.new.items }
 {
     if !lit.is_positive() {
         out.push(b'-')?;
@@ -94,7 +95,7 @@ fn write_literal(lit: Lit, out: &mut Vec<u8>) -> Result<(), AllocError>
 
 fn write_hints(hints: &Hints, out: &mut Vec<u8>) -> Result<(), AllocError>
     ensures ok { OnOk result (out.new.items ≡ out.old.items ++ flat_map hint_word hints.now) }
-    ensures grown { Grows out.old.items out.new.items }
+    ensures grown { IsPrefix out.old.items out.new.items }
 {
     for hint in hints.numbers() {
         write_hint(*hint, out)?;
@@ -104,7 +105,7 @@ fn write_hints(hints: &Hints, out: &mut Vec<u8>) -> Result<(), AllocError>
 
 fn write_hint(hint: u64, out: &mut Vec<u8>) -> Result<(), AllocError>
     ensures ok { OnOk result (out.new.items ≡ out.old.items ++ hint_word hint) }
-    ensures grown { Grows out.old.items out.new.items }
+    ensures grown { IsPrefix out.old.items out.new.items }
 {
     push_number(out, hint)?;
     out.push(b' ')?;

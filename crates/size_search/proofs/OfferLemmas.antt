@@ -20,7 +20,7 @@ use Rattle.refutation_log.specs.Log.{is_empty_clause, is_ended, IsFull, IsLegal,
 use Rattle.refutation_log.specs.Teaches.{IsQuietBut, Teaches, entries_by}
 use Rattle.refutation_log.specs.Turn.{place_of, is_at_limit, reply_to_new, reply_of, log_after, log_replied}
 use Rattle.refutation_log.proofs.StateLemmas.{is_ended-last, is_empty_clause-length}
-use Rattle.clause_exchange.specs.SharedLog.{IsPrefix}
+use Rattle.text_base.specs.Prefix.{IsPrefix}
 use Rattle.clause_solver.proofs.NewLemmas.{teaching_clauses_are_new}
 
 -- ---- an entry was offered to a log

@@ -5,7 +5,8 @@ use Rattle.std.proofs.lemmas.List.{append-nil}
 use Rattle.std.specs.Prelude.{IfSome}
 use Rattle.clause_base.specs.Literal.{Literal}
 use Rattle.refutation_log.specs.declared.entries.Entry.{Entry}
-use Rattle.clause_exchange.specs.SharedLog.{IsPrefix, IsAfterTurn, PassView, SharedLog, new_pass}
+use Rattle.text_base.specs.Prefix.{IsPrefix}
+use Rattle.clause_exchange.specs.SharedLog.{IsAfterTurn, PassView, SharedLog, new_pass}
 use Rattle.clause_solver.specs.Worker.{WorkerModel, IsWorkingOn}
 use Rattle.clause_solver.proofs.WorkLemmas.{work_goes_on}
 use Rattle.size_search.specs.declared.seats.Work.{Work}

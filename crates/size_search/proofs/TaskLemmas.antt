@@ -19,7 +19,8 @@ use Rattle.refutation_log.specs.Log.{is_empty_clause, is_ended, IsWithinLimit}
 use Rattle.refutation_log.proofs.LegalLemmas.{closed_refutes}
 use Rattle.refutation_log.proofs.StateLemmas.{is_ended-last}
 use Rattle.clause_exchange.specs.declared.views.Terms.{Terms}
-use Rattle.clause_exchange.specs.SharedLog.{IsAfterTurn, IsLogOn, IsPrefix, PassView, SharedLog}
+use Rattle.text_base.specs.Prefix.{IsPrefix}
+use Rattle.clause_exchange.specs.SharedLog.{IsAfterTurn, IsLogOn, PassView, SharedLog}
 use Rattle.size_search.specs.Task.{SizeTaskModel, IsKept}
 use Rattle.size_search.specs.Decided.{IsAcceptedOf, IsClosedOn}
 use Rattle.size_search.specs.SizeLog.{HoldsEnded}

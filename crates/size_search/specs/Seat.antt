@@ -1,6 +1,7 @@
 use Rattle.std.specs.Prelude.{◌≡◌, List}
 use Rattle.refutation_log.specs.declared.entries.Entry.{Entry}
-use Rattle.clause_exchange.specs.SharedLog.{IsPrefix, PassView}
+use Rattle.text_base.specs.Prefix.{IsPrefix}
+use Rattle.clause_exchange.specs.SharedLog.{PassView}
 use Rattle.clause_solver.specs.Worker.{WorkerModel, IsWorkingOn}
 
 -- A seat goes on: it is the same seat at the same log, and has seen all that it had seen of it, and maybe more (this project's own).

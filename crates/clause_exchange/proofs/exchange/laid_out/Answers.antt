@@ -9,4 +9,4 @@ pub new-requires : goal.new-requires
 new-requires c =
     let terms = terms_of c.args.setup.now in
     let one : c.push_reserved.new.self.items ≡ c.in_ok-log.log ∷ [] = c.push_reserved.ensures.items ∙ ap (λ l. l ++ c.in_ok-log.log ∷ []) c.in_ok-slots.ensures.items in
-    subst (λ (xs : List Log). Keeps terms (opening (0 ∷ 0 ∷ []) xs (dealer terms))) (sym one) (opens terms c.in_ok-log.log c.requires c.in_ok-log.ensures.empty c.in_ok-log.ensures.room)
+    subst (λ (xs : List Log). Keeps terms (opening (0 ∷ []) xs (dealer terms))) (sym one) (opens terms c.in_ok-log.log c.in_ok-log.ensures.empty c.in_ok-log.ensures.room)

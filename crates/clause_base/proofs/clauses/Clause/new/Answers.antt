@@ -1,4 +1,4 @@
-use Rattle.std.proofs.Common.{◌≡◌, Err, ap, subst}
+use Rattle.std.proofs.Common.{◌≡◌, Err, ap, subst, sym}
 use Rattle.std.proofs.lemmas.Result.{err_from_is_err_and}
 use Rattle.clause_base.specs.declared.clauses.ClauseFault.TheVariants.{Tautology}
 use Rattle.clause_base.specs.Clause.{IsClauseOf, IsTautology}
@@ -14,11 +14,12 @@ returns-in_err-lits-clause-tautology c h =
 
 pub returns-clause-ok : goal.returns-clause-ok
 returns-clause-ok c =
-    clause_of_permutation c.args.lits.now c.in_ok-sorted.sorted.items c.in_ok-lits.lits.items c.in_ok-sorted.ensures.permutation
-    (subst (λ xs. IsClauseOf xs c.in_ok-lits.lits.items) c.deref.ensures.value c.in_ok-lits.ensures.ok)
+    subst (IsClauseOf c.args.lits.now) (sym c.in_ok-from_vec.ensures)
+    (clause_of_permutation c.args.lits.now c.in_ok-sorted.sorted.items c.in_ok-lits.lits.items c.in_ok-sorted.ensures.permutation
+    (subst (λ xs. IsClauseOf xs c.in_ok-lits.lits.items) c.deref.ensures.value c.in_ok-lits.ensures.ok))
 
 pub returns-clause-within : goal.returns-clause-within
-returns-clause-within c = clause_within c.args.vars c.args.lits.now c.in_ok-lits.lits.items (returns-clause-ok c) c.if-has_bad_variable.ensures.none
+returns-clause-within c = clause_within c.args.vars c.args.lits.now _ (returns-clause-ok c) c.if-has_bad_variable.ensures.none
 
 pub returns-clause-no_tautology : goal.returns-clause-no_tautology
-returns-clause-no_tautology c _ h = clause_no_tautology c.args.lits.now c.in_ok-lits.lits.items (returns-clause-ok c) h
+returns-clause-no_tautology c _ h = clause_no_tautology c.args.lits.now _ (returns-clause-ok c) h

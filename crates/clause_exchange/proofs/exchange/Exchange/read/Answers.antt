@@ -1,6 +1,7 @@
 use Rattle.std.proofs.Common.{◌≡◌, List, OnOk, OnErr, sym, refl, ap, ◌∙◌, subst}
 use Rattle.refutation_log.specs.declared.entries.Entry.{Entry}
-use Rattle.clause_exchange.specs.SharedLog.{PassView, IsPrefix}
+use Rattle.text_base.specs.Prefix.{IsPrefix}
+use Rattle.clause_exchange.specs.SharedLog.{PassView}
 use Rattle.clause_exchange.specs.Steps.{Begins, idle, moved}
 use Rattle.clause_exchange.specs.Opening.{part_seen}
 use Rattle.clause_exchange.proofs.Knowing.{prefix_through}
