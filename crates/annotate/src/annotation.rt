@@ -1,6 +1,6 @@
 // The annotation of one circuit for one text.
 ghost use Rattle.std.specs.Prelude.{◌<◌, IsTrue, length};
-ghost use Rattle.tlsf_expand.specs.TextSeen.{spec_seen};
+ghost use Rattle.tlsf_expand.specs.FlatText.{spec_seen};
 ghost use Rattle.synth_answer.specs.Printed.{given_by};
 ghost use Rattle.verify_answer.specs.Reply.{AreReady};
 

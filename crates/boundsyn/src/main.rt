@@ -1,9 +1,13 @@
-//! The program: files of the system, standard output and an open gate, around the one call that does the
-//! work, with its status as the exit status.
+//! The program: files of the system, standard output and a gate that holds nobody back, around the one call that does the
+//! work, with its status as the exit status. The word `--progress` before the others, which that call doesn't see, asks for a line on
+//! standard error each second of a search.
 #![tactic(auto)]
 
+mod counting_gate;
+
 use boundsyn_top::run;
-use outside_edge::{FileShelf, OpenGate, StdSink};
+use counting_gate::CountingGate;
+use outside_edge::{FileShelf, StdSink};
 use std::alloc::AllocError;
 use std::env;
 use std::io::ErrorKind;
@@ -11,6 +15,8 @@ use std::process::ExitCode;
 
 // The status where memory is wanted before there are words.
 const NO_MEMORY: u8 = 5;
+
+const PROGRESS: &str = "--progress";
 
 fn main(rt: HostRuntime) -> ExitCode {
     let alloc = rt.alloc();
@@ -20,11 +26,18 @@ fn main(rt: HostRuntime) -> ExitCode {
         Err(error) if error.kind() == ErrorKind::OutOfMemory => Err(AllocError),
         Err(_) => Ok(Vec::new(alloc)),
     };
-    let Ok(words) = words else {
+    let Ok(mut words) = words else {
+        return ExitCode::from(NO_MEMORY);
+    };
+    let is_progress_wanted = words.len() > 1 && words[1].as_str() == PROGRESS;
+    if is_progress_wanted {
+        words.remove(1);
+    }
+    let Ok(gate) = CountingGate::new(&rt, alloc, is_progress_wanted) else {
         return ExitCode::from(NO_MEMORY);
     };
     let mut shelf = FileShelf::new(&rt, alloc);
     let mut out = StdSink::new(&rt);
-    let status = run(&rt, alloc, &words, &mut shelf, &mut out, &OpenGate);
+    let status = run(&rt, alloc, &words, &mut shelf, &mut out, &gate);
     ExitCode::from(status)
 }

@@ -8,10 +8,12 @@ ghost use Rattle.letter_word.specs.declared.kinds.Side.TheVariants.{System, Envi
 ghost use Rattle.synth_engine.specs.Searched.{IsSearched};
 
 mod games;
+mod gates;
 
 use games::{arbiter, crowd, delay, delay_spoiled, foresight, foresight_spoiled};
+use gates::RowGate;
 use machine_model::Problem;
-use outside_edge::{Gate, HoldGate, OpenGate, ShareGate};
+use outside_edge::{HoldGate, ShareGate};
 use size_search::SizeLog;
 use std::alloc::Global;
 use std::io;
@@ -27,13 +29,13 @@ const USUAL: Settings = Settings {
 };
 
 /// Searches, and prints what came of it.
-fn tell<R: Threads + Wait + Sync + Print, G: Gate + Sync>(
+fn tell<R: Threads + Wait + Sync + Print>(
     rt: &R,
     alloc: Global,
     name: &str,
     problems: (Problem, Option<Problem>),
     settings: Settings,
-    gate: &G,
+    gate: &RowGate,
 ) -> anyhow::Result<()>
     requires max { settings.max ≤ 8 }
     requires some { 1 ≤ settings.max }
@@ -119,21 +121,28 @@ fn main(rt: HostRuntime) -> anyhow::Result<()> {
     for workers in [0, 1, 2, 8] {
         let settings = Settings { workers, ..USUAL };
         let both = (delay(alloc)?, Some(delay_spoiled(alloc)?));
-        tell(&rt, alloc, "delay", both, settings, &OpenGate)?;
+        tell(&rt, alloc, "delay", both, settings, &RowGate::Open)?;
         let both = (foresight(alloc)?, Some(foresight_spoiled(alloc)?));
-        tell(&rt, alloc, "foresight", both, settings, &OpenGate)?;
+        tell(&rt, alloc, "foresight", both, settings, &RowGate::Open)?;
         tell(
             &rt,
             alloc,
             "arbiter",
             (arbiter(alloc)?, None),
             settings,
-            &OpenGate,
+            &RowGate::Open,
         )?;
     }
     let small = Settings { max: 1, ..USUAL };
     let both = (delay(alloc)?, Some(delay_spoiled(alloc)?));
-    tell(&rt, alloc, "delay of one state", both, small, &OpenGate)?;
+    tell(
+        &rt,
+        alloc,
+        "delay of one state",
+        both,
+        small,
+        &RowGate::Open,
+    )?;
     let endless = Settings {
         entries: None,
         ..small
@@ -145,7 +154,7 @@ fn main(rt: HostRuntime) -> anyhow::Result<()> {
         "delay of one state without a limit",
         both,
         endless,
-        &OpenGate,
+        &RowGate::Open,
     )?;
     let none = Settings {
         entries: Some(0),
@@ -158,7 +167,7 @@ fn main(rt: HostRuntime) -> anyhow::Result<()> {
         "delay of one state without entries",
         both,
         none,
-        &OpenGate,
+        &RowGate::Open,
     )?;
     tell(
         &rt,
@@ -166,14 +175,21 @@ fn main(rt: HostRuntime) -> anyhow::Result<()> {
         "delay of one state against nobody",
         (delay(alloc)?, None),
         small,
-        &OpenGate,
+        &RowGate::Open,
     )?;
-    tell(&rt, alloc, "crowd", (crowd(alloc)?, None), USUAL, &OpenGate)?;
+    tell(
+        &rt,
+        alloc,
+        "crowd",
+        (crowd(alloc)?, None),
+        USUAL,
+        &RowGate::Open,
+    )?;
     let held = Settings {
         workers: 2,
         ..USUAL
     };
-    let gate = HoldGate::new();
+    let gate = RowGate::Hold(HoldGate::new());
     tell(
         &rt,
         alloc,
@@ -187,7 +203,7 @@ fn main(rt: HostRuntime) -> anyhow::Result<()> {
         workers: 4,
         ..small
     };
-    let gate = ShareGate::new(2);
+    let gate = RowGate::Share(ShareGate::new(2));
     let outcome = search(&rt, alloc, arbiter(alloc)?, None, shared, &gate)?;
     tell_outcome(&rt, &outcome)?;
     println!(&rt; "shared {}, met {}", is_shared(&outcome), gate.met())?;

@@ -1,10 +1,10 @@
 ghost use Rattle.std.specs.Prelude.{◌≡◌, ℕ, ◌+◌, ◌*◌, ◌^◌, ◌<◌, ◌≤◌, ◌++◌, Some, IfOk, OnOk, All, length, map};
 ghost use Rattle.std.specs.List.{range_with_len};
-ghost use Rattle.machine_model.specs.Machine.{size_of};
+ghost use Rattle.machine_model.specs.Machine.{IsKept, size_of};
 ghost use Rattle.aiger_text.specs.Circuit.{IsCircuitOfKind};
 ghost use Rattle.gate_build.specs.Laws.{HasTheRunsOf, HasTheStatesOf};
-ghost use Rattle.gate_build.specs.Table.{all_of, first_gate, gates_from, latches_of, latches_with, literals_from, split_literals};
-ghost use Rattle.gate_build.specs.Bits.{bit_in, bit_of};
+ghost use Rattle.gate_build.specs.Table.{all_of, first_gate, gates_from, latches_with, literals_from};
+ghost use Rattle.gate_build.specs.Bits.{AreFunctionsOf, IsSplit, bit_in, bit_of};
 ghost use Rattle.gate_build.specs.Table as table;
 
 use crate::gates::Operands;
@@ -33,18 +33,47 @@ pub fn circuit_of(
     ensures states { IfOk result (λ c. HasTheStatesOf machine.now c) }
     ensures variables { IfOk result (λ c. c.variables ≤ 67562) }
 {
+    let split_on = split_literals(alloc, machine)?;
+    let functions = functions_of(alloc, machine, &split_on)?;
+    put_together(alloc, machine, functions, read_names, write_names)
+}
+
+// The literals on which functions are split: those of the latches, and of the inputs behind them.
+fn split_literals(alloc: Global, machine: &Machine) -> Result<Vec<u32>, AllocError>
+    requires few { size_of machine.now ≤ 8 }
+    ensures split { IfOk result (λ v. IsSplit machine.now v.items) }
+    ensures kept { IsKept machine.now }
+{
     let reads = machine.reads();
     let latches = latches_for(machine.size());
-    let first = reads + latches + 1;
     let inputs = literals(alloc, 0, reads)?;
     let mut split_on = literals(alloc, reads, latches)?;
     split_on.extend_from_slice(&inputs)?;
+    Ok(split_on)
+}
+
+// The literals of the bits of next states and of those that are written, and the gates that build them.
+#[derive(Drop)]
+struct Functions {
+    nexts: Vec<u32>,
+    outputs: Vec<u32>,
+    gates: Vec<Gate>,
+}
+
+fn functions_of(alloc: Global, machine: &Machine, split_on: &[u32]) -> Result<Functions, AllocError>
+    requires few { size_of machine.now ≤ 8 }
+    requires split { IsSplit machine.now split_on.now }
+    ensures { IfOk result (AreFunctionsOf machine.now) }
+{
+    let reads = machine.reads();
+    let latches = latches_for(machine.size());
+    let first = reads + latches + 1;
     let mut gates = IndexSet::new(alloc);
     let nexts = all(
         first,
         &mut gates,
         machine,
-        &split_on,
+        split_on,
         Part::AllNexts,
         latches,
         alloc,
@@ -53,19 +82,47 @@ pub fn circuit_of(
         first,
         &mut gates,
         machine,
-        &split_on,
+        split_on,
         Part::AllWritten,
         machine.writes(),
         alloc,
     )?;
     let made = gate_list(alloc, first, gates.as_slice())?;
+    Ok(Functions {
+        nexts,
+        outputs,
+        gates: made,
+    })
+}
+
+// The circuit of a machine's functions.
+fn put_together(
+    alloc: Global,
+    machine: &Machine,
+    functions: Functions,
+    read_names: &[Name],
+    write_names: &[Name],
+) -> Result<Circuit, AllocError>
+    requires few { size_of machine.now ≤ 8 }
+    requires reads { length read_names.now ≡ machine.now.reads }
+    requires writes { length write_names.now ≡ machine.now.writes }
+    requires functions { AreFunctionsOf machine.now functions }
+    ensures { IfOk result (λ c. c ≡ table.circuit_of machine.now read_names.now write_names.now) }
+{
+    let reads = machine.reads();
+    let latches = latches_for(machine.size());
+    let Functions {
+        nexts,
+        outputs,
+        gates,
+    } = functions;
     Circuit::of_sorted_gates(
         alloc,
-        reads + latches + made.len() as u32,
-        inputs,
+        reads + latches + gates.len() as u32,
+        literals(alloc, 0, reads)?,
         latch_list(alloc, reads, &nexts)?,
         outputs,
-        made,
+        gates,
         names(alloc, read_names)?,
         names(alloc, write_names)?,
     )
@@ -114,10 +171,7 @@ fn all(
     requires few { size_of machine.now ≤ 8 }
     requires first { first ≡ first_gate machine.now }
     requires low { first ≤ 12 }
-    requires split_on { split_on.now ≡ split_literals machine.now }
-    requires literals { All (λ l. l < 2 ^ 31) split_on.now }
-    requires small { length split_on.now ≤ 11 }
-    requires whole { 2 ^ length split_on.now ≡ 2 ^ latches_of machine.now * 2 ^ machine.now.reads }
+    requires split { IsSplit machine.now split_on.now }
     requires room { length gates.old.keys + count * 2 ^ 13 ≤ 2 ^ 20 }
     ensures value { IfOk result (λ v. all_of machine.now (λ j. bit_of machine.now (bit_in part j)) count gates.old.keys ≡ record { gates = gates.new.keys; literals = v.items }) }
     ensures grown { OnOk result (length gates.new.keys ≤ length gates.old.keys + count * 2 ^ 13) }

@@ -85,13 +85,25 @@ fn document_behind(line: &[u8]) -> Option<(&str, u64)> {
     }
 }
 
+/// The bytes of a file.
+pub fn push_shown(
+    alloc: Global,
+    files: &[File],
+    name: &str,
+    out: &mut Vec<u8>,
+) -> anyhow::Result<()> {
+    let bytes = bytes_of(alloc, files, name)?;
+    out.extend_from_slice(&bytes)?;
+    Ok(())
+}
+
 /// The lines of a file that have a letter, so not those of latches, outputs, gates and entries.
 pub fn push_frame(
     alloc: Global,
     files: &[File],
     name: &str,
     out: &mut Vec<u8>,
-) -> Result<(), AllocError> {
+) -> anyhow::Result<()> {
     let bytes = bytes_of(alloc, files, name)?;
     for line in bytes.split_inclusive(|byte| *byte == b'\n') {
         if line.iter().any(|byte| byte.is_ascii_alphabetic()) {

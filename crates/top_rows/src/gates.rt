@@ -1,11 +1,52 @@
-//! Runs whose workers pass a gate.
+//! Runs whose workers pass a gate that holds them back.
 
-use crate::runs::{File, NO_FAULTS, run_through};
+use crate::runs::{Ended, File, NO_FAULTS, run_through};
 use crate::told::{numbered, push_ended, push_status, verdict_line};
-use outside_edge::{HoldGate, ShareGate};
+use outside_edge::{Gate, HoldGate, Moment, ShareGate};
 use std::alloc::{AllocError, Global};
 use std::sync::Wait;
 use std::thread::Threads;
+
+/// The gates of all rows in one type, since the whole program is checked anew for each type of gate.
+#[derive(Drop)]
+pub enum RowGate {
+    Open,
+    Hold(HoldGate),
+    Share(ShareGate),
+}
+
+impl RowGate {
+    /// Whether the workers met that it holds back.
+    fn met(&self) -> bool {
+        match self {
+            RowGate::Open => false,
+            RowGate::Hold(gate) => gate.met(),
+            RowGate::Share(gate) => gate.met(),
+        }
+    }
+}
+
+impl Gate for RowGate {
+    fn pass(&self, worker: u32, log: u32, moment: Moment) {
+        match self {
+            RowGate::Open => {},
+            RowGate::Hold(gate) => gate.pass(worker, log, moment),
+            RowGate::Share(gate) => gate.pass(worker, log, moment),
+        }
+    }
+}
+
+/// A run whose workers pass this gate, and whether those met that it holds back.
+fn run_gated<R: Threads + Wait + Sync>(
+    rt: &R,
+    alloc: Global,
+    words: &str,
+    files: &[File],
+    gate: RowGate,
+) -> Result<(Ended, bool), AllocError> {
+    let ended = run_through(rt, alloc, words, files, NO_FAULTS, &gate)?;
+    Ok((ended, gate.met()))
+}
 
 /// What comes of a run whose workers pass a gate that holds one of them back.
 pub fn push_held<R: Threads + Wait + Sync>(
@@ -15,10 +56,10 @@ pub fn push_held<R: Threads + Wait + Sync>(
     words: &str,
     out: &mut Vec<u8>,
 ) -> anyhow::Result<()> {
-    let gate = HoldGate::new();
-    let ended = run_through(rt, alloc, words, files, NO_FAULTS, &gate)?;
+    let gate = RowGate::Hold(HoldGate::new());
+    let (ended, met) = run_gated(rt, alloc, words, files, gate)?;
     push_ended(alloc, &ended, out)?;
-    let line = format!(in alloc; "met {}\n", gate.met())?;
+    let line = format!(in alloc; "met {met}\n")?;
     out.extend_from_slice(line.as_bytes())?;
     Ok(())
 }
@@ -53,15 +94,22 @@ pub fn push_shared<R: Threads + Wait + Sync>(
     out: &mut Vec<u8>,
 ) -> anyhow::Result<()> {
     let (log, words) = numbered(rest)?;
-    let gate = ShareGate::new(u32::try_from(log)?);
-    let ended = run_through(rt, alloc, words, files, NO_FAULTS, &gate)?;
+    let gate = RowGate::Share(ShareGate::new(u32::try_from(log)?));
+    let (ended, met) = run_gated(rt, alloc, words, files, gate)?;
+    push_sharing(alloc, &ended, met, out)?;
+    Ok(())
+}
+
+/// The verdict, whether entries are of two workers, and whether those met.
+fn push_sharing(
+    alloc: Global,
+    ended: &Ended,
+    met: bool,
+    out: &mut Vec<u8>,
+) -> Result<(), AllocError> {
     push_status(alloc, ended.status, out)?;
     out.extend_from_slice(verdict_line(&ended.written))?;
-    let line = format!(in alloc;
-        "shared {}, met {}\n",
-        is_shared(&ended.written),
-        gate.met()
-    )?;
-    out.extend_from_slice(line.as_bytes())?;
-    Ok(())
+    let shared = is_shared(&ended.written);
+    let line = format!(in alloc; "shared {shared}, met {met}\n")?;
+    out.extend_from_slice(line.as_bytes())
 }

@@ -30,7 +30,7 @@ mod told;
 
 use anyhow::{Context, bail};
 use changed::{push_cut, push_fronts, push_padded};
-use documents::{push_frame, push_outline};
+use documents::{push_frame, push_outline, push_shown};
 use gates::{push_held, push_shared};
 use grown::grown;
 use runs::{Faults, File, NO_FAULTS, run_on};
@@ -38,7 +38,7 @@ use std::alloc::Global;
 use std::io::{self, Write};
 use std::sync::Wait;
 use std::thread::Threads;
-use told::{bytes_of, numbered, push_ended, push_status, verdict_line};
+use told::{numbered, push_ended, push_status, verdict_line};
 
 /// What stands before each heading.
 const HEADING: &str = "==== ";
@@ -151,6 +151,32 @@ fn file_of(alloc: Global, way: &str, rest: &str, body: &str) -> anyhow::Result<O
     }
 }
 
+/// What comes of one run.
+fn push_run<R: Threads + Wait + Sync>(
+    rt: &R,
+    alloc: Global,
+    files: &[File],
+    words: &str,
+    out: &mut Vec<u8>,
+) -> anyhow::Result<()> {
+    let ended = run_on(rt, alloc, words, files, NO_FAULTS)?;
+    push_ended(alloc, &ended, out)?;
+    Ok(())
+}
+
+/// The status alone of one run.
+fn push_run_status<R: Threads + Wait + Sync>(
+    rt: &R,
+    alloc: Global,
+    files: &[File],
+    words: &str,
+    out: &mut Vec<u8>,
+) -> anyhow::Result<()> {
+    let ended = run_on(rt, alloc, words, files, NO_FAULTS)?;
+    push_status(alloc, ended.status, out)?;
+    Ok(())
+}
+
 /// Adds what comes of a heading's runs.
 fn push_runs<R: Threads + Wait + Sync>(
     rt: &R,
@@ -161,26 +187,22 @@ fn push_runs<R: Threads + Wait + Sync>(
     out: &mut Vec<u8>,
 ) -> anyhow::Result<()> {
     match way {
-        "run" => push_ended(alloc, &run_on(rt, alloc, rest, files, NO_FAULTS)?, out)?,
-        "status" => {
-            let ended = run_on(rt, alloc, rest, files, NO_FAULTS)?;
-            push_status(alloc, ended.status, out)?;
-        },
-        "show" => out.extend_from_slice(&bytes_of(alloc, files, rest)?)?,
-        "frame" => push_frame(alloc, files, rest, out)?,
-        "shelf" | "sink" => push_failing(rt, alloc, files, way, rest, out)?,
-        "sinks" => push_sink_faults(rt, alloc, files, rest, out)?,
-        "unended" | "zeroed" => push_cut(rt, alloc, files, way, rest, out)?,
-        "padded" => push_padded(rt, alloc, files, rest, out)?,
-        "fronts" => push_fronts(rt, alloc, files, rest, out)?,
-        "keep" => push_kept(rt, alloc, files, rest, out)?,
-        "undecided" => push_undecided(rt, alloc, files, rest, out)?,
-        "outline" => push_outline(rt, alloc, files, rest, out)?,
-        "held" => push_held(rt, alloc, files, rest, out)?,
-        "shared" => push_shared(rt, alloc, files, rest, out)?,
+        "run" => push_run(rt, alloc, files, rest, out),
+        "status" => push_run_status(rt, alloc, files, rest, out),
+        "show" => push_shown(alloc, files, rest, out),
+        "frame" => push_frame(alloc, files, rest, out),
+        "shelf" | "sink" => push_failing(rt, alloc, files, way, rest, out),
+        "sinks" => push_sink_faults(rt, alloc, files, rest, out),
+        "unended" | "zeroed" => push_cut(rt, alloc, files, way, rest, out),
+        "padded" => push_padded(rt, alloc, files, rest, out),
+        "fronts" => push_fronts(rt, alloc, files, rest, out),
+        "keep" => push_kept(rt, alloc, files, rest, out),
+        "undecided" => push_undecided(rt, alloc, files, rest, out),
+        "outline" => push_outline(rt, alloc, files, rest, out),
+        "held" => push_held(rt, alloc, files, rest, out),
+        "shared" => push_shared(rt, alloc, files, rest, out),
         _ => bail!("no such way"),
     }
-    Ok(())
 }
 
 /// Keeps a file, or adds a heading and what comes of its runs.

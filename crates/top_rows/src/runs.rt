@@ -1,7 +1,8 @@
 //! Runs of the program over files and a sink in memory.
 
+use crate::gates::RowGate;
 use boundsyn_top::run;
-use outside_edge::{FileBytes, Gate, MemoryShelf, MemorySink, OpenGate};
+use outside_edge::{FileBytes, MemoryShelf, MemorySink};
 use std::alloc::{AllocError, Global};
 use std::sync::Wait;
 use std::thread::Threads;
@@ -59,17 +60,17 @@ pub fn run_on<R: Threads + Wait + Sync>(
     files: &[File],
     faults: Faults,
 ) -> Result<Ended, AllocError> {
-    run_through(rt, alloc, words, files, faults, &OpenGate)
+    run_through(rt, alloc, words, files, faults, &RowGate::Open)
 }
 
 /// The same, with a gate that workers pass.
-pub fn run_through<R: Threads + Wait + Sync, G: Gate + Sync>(
+pub fn run_through<R: Threads + Wait + Sync>(
     rt: &R,
     alloc: Global,
     words: &str,
     files: &[File],
     faults: Faults,
-    gate: &G,
+    gate: &RowGate,
 ) -> Result<Ended, AllocError> {
     let mut shelf = MemoryShelf::new(alloc, held(alloc, files)?, numbers(alloc, faults.shelf)?);
     let mut sink = MemorySink::new(alloc, numbers(alloc, faults.sink)?);

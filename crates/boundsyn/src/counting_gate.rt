@@ -9,8 +9,8 @@ use std::time::Instant;
 /// The logs of sizes 1 to 8 of both sides have numbers below this.
 const LOGS: usize = 18;
 
-/// A gate that counts the turns at each log and holds nobody back. Whoever passes first after a second has gone by writes a line to
-/// standard error: the side, the size and the number of turns of each log that had some since the line before.
+/// A gate that holds nobody back. Where lines are wanted it counts the turns at each log, and whoever passes first after a second has
+/// gone by writes one to standard error: the side, the size and the number of turns of each log that had some since the line before.
 #[derive(Drop)]
 pub struct CountingGate<'a, R: Clock + Eprint> {
     rt: &'a R,
@@ -23,8 +23,12 @@ pub struct CountingGate<'a, R: Clock + Eprint> {
 }
 
 impl<'a, R: Clock + Eprint> CountingGate<'a, R> {
-    /// Without a clock nothing is told.
-    pub fn new(rt: &'a R, alloc: Global) -> Result<CountingGate<'a, R>, AllocError> {
+    /// Where lines aren't wanted, or there is no clock, nothing is counted.
+    pub fn new(
+        rt: &'a R,
+        alloc: Global,
+        is_wanted: bool,
+    ) -> Result<CountingGate<'a, R>, AllocError> {
         let mut turns = Vec::with_capacity(alloc, LOGS)?;
         for _ in 0..LOGS {
             turns.push(AtomicU64::new(0))?;
@@ -32,7 +36,11 @@ impl<'a, R: Clock + Eprint> CountingGate<'a, R> {
         Ok(CountingGate {
             rt,
             alloc,
-            start: Instant::now(rt).ok(),
+            start: if is_wanted {
+                Instant::now(rt).ok()
+            } else {
+                None
+            },
             told: AtomicU64::new(0),
             turns,
         })
@@ -81,7 +89,7 @@ impl<'a, R: Clock + Eprint> CountingGate<'a, R> {
 
 impl<'a, R: Clock + Eprint> Gate for CountingGate<'a, R> {
     fn pass(&self, _worker: u32, log: u32, moment: Moment) {
-        if moment != Moment::AfterRead {
+        if self.start.is_none() || moment != Moment::AfterRead {
             return;
         }
         if let Some(turns) = self.turns.get(log as usize) {
