@@ -4,9 +4,9 @@ ghost use Rattle.clause_base.specs.Clause.{IsClause, IsFormula, IsWithin};
 ghost use Rattle.machine_model.specs.Automaton.{JoinsStates, states_of};
 ghost use Rattle.machine_model.specs.Problem.{IsProblem, automaton_of, reads_of, writes_of};
 ghost use Rattle.product_bound.specs.Annotation.{bound_of, rise_at};
-ghost use Rattle.annotation_encode.specs.BaseClauses.{all_below, base_clauses, count_literals, each_below, edge_clauses, fits_read, is_idle, letter_clauses, order_clause, order_clauses, row_clause, row_clauses, row_count, read_signal, row_orders, signal_fits, start_clause, state_clauses, step_clause, step_clauses, write_literal, write_literals, written_signal};
+ghost use Rattle.annotation_encode.specs.BaseClauses.{all_below, base_clauses, count_literals, each_below, edge_clauses, fits_read, is_idle, isnt, letter_clauses, order_clause, order_clauses, row_clause, row_clauses, row_count, read_signal, row_orders, signal_fits, start_clause, state_clauses, step_clauses, write_literal, write_literals, written_signal};
 ghost use Rattle.annotation_encode.specs.Laws.{HasAccepted, IsMetBySome};
-ghost use Rattle.annotation_encode.specs.Variables.{letter_count, row_place, variables_of};
+ghost use Rattle.annotation_encode.specs.Variables.{letter_count, row_place, var_move, variables_of};
 
 use crate::counting::count;
 use crate::numbering::{
@@ -211,9 +211,12 @@ impl Encoding<'_> {
         if self.is_idle(edge, t, to) {
             return Ok(());
         }
+        let mut lits = self.shared_literals(edge.cube, t, letter, to)?;
+        let shared = lits.len();
         for count in 0..self.bound + 1 {
-            let lits = self.step_literals(edge, t, letter, to, count)?;
+            self.push_count_literals(edge, t, to, count, &mut lits)?;
             self.push_clause(&lits, clauses)?;
+            lits.truncate(shared);
         }
         Ok(())
     }
@@ -226,26 +229,23 @@ impl Encoding<'_> {
         t == to && (edge.from == edge.to && !self.problem.automaton.is_rejecting(edge.to))
     }
 
-    fn step_literals(
+    /// The literals that a step's clauses have in common, whatever their number.
+    fn shared_literals(
         &self,
-        edge: Edge,
+        cube: Cube,
         t: u32,
         letter: u32,
         to: u32,
-        count: u32,
     ) -> Result<Vec<Lit>, AllocError>
         requires problem { IsProblem self.now.problem.now }
-        requires edge { JoinsStates (states_of (automaton_of self.now.problem.now)) edge }
         requires state { t < self.now.problem.now.size }
         requires letter { letter < letter_count self.now.problem.now }
         requires target { to < self.now.problem.now.size }
-        requires number { count ≤ bound_of self.now.problem.now }
-        ensures { IfOk result (λ lits. lits.items ≡ step_clause self.now.problem.now edge t letter to count) }
+        ensures { IfOk result (λ lits. lits.items ≡ isnt (var_move self.now.problem.now t letter to) ∷ write_literals self.now.problem.now cube t letter) }
     {
         let mut lits = Vec::with_capacity(self.alloc, 11)?;
         lits.push(Lit::new(var_move(self.problem, t, letter, to), false))?;
-        self.push_write_literals(edge.cube, t, letter, &mut lits)?;
-        self.push_count_literals(edge, t, to, count, &mut lits)?;
+        self.push_write_literals(cube, t, letter, &mut lits)?;
         Ok(lits)
     }
 

@@ -136,6 +136,10 @@ clause_of_permutation lits sorted kept p k = record {
   );
 }
 
+-- literals whose variables rise are their own clause
+pub clause_of_rising : (lits kept : List Literal) → kept ≡ lits → IsClause lits → IsClauseOf lits kept
+clause_of_rising lits kept e r = subst (IsClauseOf lits) (sym e) (record { sorted = r; same_literals = λ l. (λ h. h, λ h. h) })
+
 pub tautology_of_permutation : (lits sorted : List Literal) → IsPermutation lits sorted → IsTautology sorted → IsTautology lits
 tautology_of_permutation lits sorted p h =
     let back = λ (l : Literal) (m : Contains sorted l). Contains-permutation sorted lits l (IsPermutation-sym lits sorted p) m in

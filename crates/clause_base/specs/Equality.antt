@@ -1,5 +1,5 @@
 -- `literal_eq` and `clause_eq` decide equality.
-use Rattle.std.proofs.Common.{◌≡◌, Bool, true, false, ◌++◌, List, ◌&&◌, refl, sym, ap, subst, true≢false}
+use Rattle.std.proofs.Common.{◌≡◌, Bool, true, false, List, ◌&&◌, refl, sym, ap, subst, true≢false}
 use Rattle.std.specs.Bool.{Decides}
 use Rattle.std.specs.Cmp.{IsEquivalence, IsPartialEquivalence, partial_equiv_from_equiv, both_ways, first_so, second_so}
 use Rattle.std.specs.Cmp.Lexicographic.{pointwise_decides}
@@ -7,6 +7,7 @@ use Rattle.std.specs.Hash as fed
 use Rattle.std.specs.Hash.{HashWrites, same_Alike}
 use Rattle.std.proofs.lemmas.Bool.Decides.{Decides-eqb}
 use Rattle.clause_base.specs.Literal.{Literal, sign_eq, literal_eq}
+use Rattle.clause_base.specs.Codes.{code_of}
 use Rattle.clause_base.specs.Clause.{clause_eq}
 
 pub Decides-sign_eq : (a b : Bool) → Decides (sign_eq a b) (a ≡ b)
@@ -42,9 +43,9 @@ literal_eq-equivalence = equivalence literal_eq Decides-literal_eq
 pub literal_eq-partial : IsPartialEquivalence literal_eq
 literal_eq-partial = partial_equiv_from_equiv literal_eq-equivalence
 
--- the writes by which a literal is hashed: its variable and its sign
+-- the write by which a literal is hashed: its number
 abbrev pub literal_writes : Literal → HashWrites
-literal_writes l = fed.u32 l.var ++ fed.bool l.positive
+literal_writes l = fed.u32 (code_of l)
 
 pub literal_eq-hashed : (x y : Literal) → literal_eq x y ≡ true → literal_writes x ≡ literal_writes y
 literal_eq-hashed = (same_Alike literal_writes Decides-literal_eq).fed

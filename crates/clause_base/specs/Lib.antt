@@ -4,3 +4,4 @@ pub mod Truth
 pub mod Partial
 pub mod Laws
 pub mod Equality
+pub mod Codes

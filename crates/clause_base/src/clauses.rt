@@ -2,7 +2,6 @@ ghost use Rattle.std.specs.Prelude.{◌≡◌, ℕ, ◌<◌, ◌↔◌, List, �
 ghost use Rattle.std.specs.Bool.{OnTrue, OnFalse};
 ghost use Rattle.std.specs.List.Sorted.{IsNonDecreasingBy, IsPermutation};
 ghost use Rattle.clause_base.specs.declared.clauses.ClauseFault.TheVariants.{BadVariable, Tautology, NoMemory};
-ghost use Rattle.std.specs.Arc.{arc_slice_items};
 ghost use Rattle.clause_base.specs.Literal.{Literal};
 ghost use Rattle.clause_base.specs.Clause.{IsClause, IsClauseOf, IsWithin, HasBadVariable, IsTautology, clause_eq};
 ghost use Rattle.clause_base.specs.Equality.{clause_eq-partial, clause_eq-equivalence, clause_eq-hashed, clause_writes};
@@ -11,7 +10,6 @@ use crate::Lit;
 use std::alloc::{AllocError, AllocFailed, Global};
 use std::hash::{Hash, Hasher};
 use std::marker::Model;
-use std::sync::ArcSlice;
 
 /// Why `Clause::new` refused its literals.
 #[derive(Clone, Copy, Debug, PartialEq, Eq, Hash)]
@@ -41,18 +39,18 @@ impl<T: Drop> From<AllocFailed<T>> for ClauseFault {
 }
 
 /// A disjunction of literals, none of them opposite to another. Seen by contracts as the list of its literals, which are
-/// sorted by variable, with no variable twice. A copy shares them and takes no memory.
+/// sorted by variable, with no variable twice.
 #[derive(Debug, Drop)]
 pub struct Clause {
-    lits: ArcSlice<Lit>,
+    lits: Vec<Lit>,
 }
 
 impl Model for Clause {
     ghost Value = { List Literal };
 
-    ghost view = { λ c. arc_slice_items c.lits };
+    ghost view = { λ c. c.lits.items };
 
-    ghost invariant = { λ c. IsClause (arc_slice_items c.lits) };
+    ghost invariant = { λ c. IsClause c.lits.items };
 }
 
 impl PartialEq for Clause {
@@ -90,7 +88,7 @@ impl Clone for Clause {
 }
 
 impl Clause {
-    /// The clause of these literals, sorted by variable and without repeats. Costs a sort.
+    /// The clause of these literals, sorted by variable and without repeats. Costs a copy where they stand so, else a sort.
     ///
     /// Refused where a variable passes `vars`, else where a variable has both signs.
     pub fn new(alloc: Global, vars: u32, lits: &[Lit]) -> Result<Clause, ClauseFault>
@@ -105,11 +103,14 @@ impl Clause {
         if has_bad_variable(vars, lits) {
             return Err(ClauseFault::BadVariable);
         }
+        if is_rising(lits) {
+            return Ok(Clause {
+                lits: lits.to_vec(alloc)?,
+            });
+        }
         let sorted = sorted_by_variable(alloc, lits)?;
         let lits = without_repeats(alloc, &sorted)?;
-        Ok(Clause {
-            lits: ArcSlice::from_vec(lits)?,
-        })
+        Ok(Clause { lits })
     }
 
     /// The literals, sorted by variable, with no variable twice.
@@ -117,7 +118,7 @@ impl Clause {
         ensures value { result.now ≡ self.now }
         ensures sorted { IsClause self.now }
     {
-        self.lits.as_slice()
+        &self.lits
     }
 }
 
@@ -137,6 +138,20 @@ fn sorted_by_variable(alloc: Global, lits: &[Lit]) -> Result<Vec<Lit>, AllocErro
     let mut sorted = lits.to_vec(alloc)?;
     sorted.sort_unstable_by_key(|lit| lit.var());
     Ok(sorted)
+}
+
+/// Whether the variables rise strictly.
+fn is_rising(lits: &[Lit]) -> bool
+    ensures { OnTrue result (IsClause lits.now) }
+{
+    let mut last = 0;
+    for lit in lits {
+        if lit.var() <= last {
+            return false;
+        }
+        last = lit.var();
+    }
+    true
 }
 
 /// The clause of literals that are sorted by variable.

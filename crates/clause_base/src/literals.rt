@@ -1,25 +1,28 @@
-ghost use Rattle.std.specs.Prelude.{◌≡◌, ℕ, ◌^◌, ◌<◌, ◌≤◌};
+ghost use Rattle.std.specs.Prelude.{◌≡◌, ℕ, ◌^◌, ◌+◌, ◌<◌, ◌≤◌};
 ghost use Rattle.clause_base.specs.Literal.{Literal, negated, literal_eq};
+ghost use Rattle.clause_base.specs.Codes.{code_of, decoded, code_of-decoded};
 ghost use Rattle.clause_base.specs.Equality.{literal_eq-partial, literal_eq-equivalence, literal_eq-hashed, literal_writes};
 
 use std::hash::{Hash, Hasher};
 use std::marker::Model;
 
-/// A variable, numbered from 1 to 2^30, or its negation. Seen by contracts as its variable and its sign.
+/// A variable, numbered from 1 to 2^30, or its negation. Seen by contracts as its variable and its sign. It is kept as one
+/// number, so that a clause takes half the memory.
 #[derive(Clone, Copy, Debug)]
 pub struct Lit {
-    var: u32,
-    positive: bool,
+    code: u32,
 }
 
 impl Model for Lit {
     ghost Value = { Literal };
 
-    ghost view = { λ l. record { var = l.var; positive = l.positive } };
+    ghost view = { λ l. decoded l.code };
 
-    ghost invariant = { λ l. (0 < l.var) × (l.var ≤ 2 ^ 30) };
+    ghost invariant = { λ l. (2 ≤ l.code) × (l.code ≤ 2 ^ 31 + 1) };
 
-    ghost inverse = { λ l. record { var = l.var; positive = l.positive } };
+    ghost inverse = { λ l. record { code = code_of l } };
+
+    ghost inverse_ok = { λ l _ i. record { code = code_of-decoded l.code i } };
 }
 
 impl PartialEq for Lit {
@@ -28,7 +31,7 @@ impl PartialEq for Lit {
     ghost laws = { literal_eq-partial };
 
     fn eq(&self, other: &Lit) -> bool {
-        self.var == other.var && self.positive == other.positive
+        self.code == other.code
     }
 }
 
@@ -42,8 +45,7 @@ impl Hash for Lit {
     ghost respects_eq = { literal_eq-hashed };
 
     fn hash<H: Hasher>(&self, state: &mut H) {
-        self.var.hash(state);
-        self.positive.hash(state);
+        self.code.hash(state);
     }
 }
 
@@ -54,7 +56,9 @@ impl Lit {
         requires small { var ≤ 2 ^ 30 }
         ensures { result ≡ record { var = var; positive = positive } }
     {
-        Lit { var, positive }
+        Lit {
+            code: 2 * var + u32::from(positive),
+        }
     }
 
     /// The variable, from 1 to 2^30.
@@ -63,23 +67,25 @@ impl Lit {
         ensures from_one { 0 < result }
         ensures small { result ≤ 2 ^ 30 }
     {
-        self.var
+        self.code / 2
     }
 
     /// Whether this is the variable itself, and not its negation.
     pub fn is_positive(self) -> bool
         ensures { result ≡ self.positive }
     {
-        self.positive
+        self.code % 2 == 1
     }
 
     /// The literal of the same variable and the other sign.
     pub fn negated(self) -> Lit
         ensures { result ≡ negated self }
     {
-        Lit {
-            var: self.var,
-            positive: !self.positive,
-        }
+        let code = if self.is_positive() {
+            self.code - 1
+        } else {
+            self.code + 1
+        };
+        Lit { code }
     }
 }

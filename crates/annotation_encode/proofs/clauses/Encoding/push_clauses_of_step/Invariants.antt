@@ -1,6 +1,10 @@
 use Rattle.std.proofs.Common.{◌≡◌, [], ◌∷◌, ◌++◌}
-use Rattle.annotation_encode.specs.BaseClauses.{each_below, step_clause}
+use Rattle.annotation_encode.specs.BaseClauses.{each_below, isnt, step_clause, write_literals}
+use Rattle.annotation_encode.specs.Variables.{var_move}
 use Rattle.annotation_encode.proofs.clauses.Encoding.push_clauses_of_step.Given as goal
 
 abbrev pub invariant-loop-count : goal.invariant-loop-count
-invariant-loop-count l = l.clauses.items ≡ l.fn.clauses.items ++ each_below l.count (λ c. step_clause l.self.problem.now l.edge l.t l.letter l.to c ∷ [])
+invariant-loop-count l = record {
+  clauses : l.clauses.items ≡ l.fn.clauses.items ++ each_below l.count (λ c. step_clause l.self.problem.now l.edge l.t l.letter l.to c ∷ []);
+  lits : l.lits.items ≡ isnt (var_move l.self.problem.now l.t l.letter l.to) ∷ write_literals l.self.problem.now l.edge.cube l.t l.letter;
+}
