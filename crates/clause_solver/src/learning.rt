@@ -10,7 +10,7 @@ ghost use Rattle.clause_solver.specs.Turned.{IsLesson};
 use crate::order::Order;
 use clause_base::Cnf;
 use conflict_learn::{clause_of, learn};
-use refutation_log::Entry;
+use refutation_log::{Entry, SharedClause};
 use std::alloc::{AllocError, Global};
 use unit_propagate::Trail;
 
@@ -33,9 +33,10 @@ pub fn lesson(
 {
     let _len = trail.len();
     let learned = learn(alloc, base, seen, trail, falsified)?;
+    let clause = SharedClause::new(alloc, learned.clause)?;
     Ok(Entry {
         by: worker,
-        clause: learned.clause,
+        clause,
         hints: learned.hints,
     })
 }

@@ -60,7 +60,7 @@ pub fn settled_level(trail: &Trail, entries: &[Entry]) -> u32
 {
     let mut least = u32::MAX;
     for entry in entries {
-        least = least.min(idle_level(trail, &entry.clause));
+        least = least.min(idle_level(trail, entry.clause.as_clause()));
     }
     least
 }

@@ -51,7 +51,7 @@ fn follow_fault(
     ensures fault { IfOk result (λ fault. fault ≡ fault_of_entry base.now.clauses.items before.now entry.now) }
     ensures kept { OnOk result (marks.new ≡ marks.old) }
 {
-    marks.oppose(&entry.clause)?;
+    marks.oppose(entry.clause.as_clause())?;
     let fault = hints_fault(marks, base, before, entry.hints.numbers())?;
     marks.clear();
     Ok(fault)
@@ -117,5 +117,5 @@ fn clause_named<'a>(base: &'a Cnf, before: &'a [Entry], number: u64) -> Option<&
         return Some(&base.clauses[place]);
     }
     let entry = before.get(place - base.clauses.len())?;
-    Some(&entry.clause)
+    Some(entry.clause.as_clause())
 }

@@ -4,9 +4,8 @@ ghost use Rattle.log_checker.specs.Faults.{place_fault};
 ghost use Rattle.log_checker.specs.Causes.{IsPlaced};
 
 use crate::LogFault;
-use clause_base::Clause;
 use indexmap::IndexSet;
-use refutation_log::Entry;
+use refutation_log::{Entry, SharedClause};
 use std::alloc::{AllocError, Global};
 
 /// The place of the first entry that stands past the limit, after an empty clause, or after an equal one, and which of these it is; or
@@ -18,7 +17,7 @@ pub(crate) fn first_place_fault(
 ) -> Result<(usize, Option<LogFault>), AllocError>
     ensures { IfOk result (λ p. IsPlaced (place_fault limit) entries.now p.0 p.1) }
 {
-    let mut seen: IndexSet<&Clause> = IndexSet::new(alloc);
+    let mut seen: IndexSet<&SharedClause> = IndexSet::new(alloc);
     let mut ended = false;
     for (i, entry) in entries.iter().enumerate() {
         if is_past(limit, i) {

@@ -5,7 +5,7 @@ ghost use Rattle.log_checker.specs.Hinted.{AreWithin};
 
 use clause_base::{Clause, Cnf, Lit};
 use log_checker::{LogFault, check_log, check_log_split, check_open, check_open_split};
-use refutation_log::{Entry, Hints};
+use refutation_log::{Entry, Hints, SharedClause};
 use std::alloc::Global;
 use std::process::Abort;
 use std::test::Fail;
@@ -23,7 +23,7 @@ fn clause(alloc: Global, lits: &[i32]) -> Result<Clause, Fail> {
 fn entry(alloc: Global, lits: &[i32], hints: &[u64]) -> Result<Entry, Fail> {
     Ok(Entry {
         by: 1,
-        clause: clause(alloc, lits)?,
+        clause: SharedClause::new(alloc, clause(alloc, lits)?)?,
         hints: Hints::new(alloc, hints)?,
     })
 }
@@ -70,7 +70,9 @@ fn are_clauses_within(vars: u32, clauses: &[Clause]) -> bool
 fn are_within(vars: u32, entries: &[Entry]) -> bool
     ensures { OnTrue result (AreWithin vars entries.now) }
 {
-    entries.iter().all(|entry| is_within(vars, &entry.clause))
+    entries
+        .iter()
+        .all(|entry| is_within(vars, entry.clause.as_clause()))
 }
 
 /// What both forms of `check_log` answer, which must be the same.

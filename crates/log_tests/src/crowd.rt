@@ -7,7 +7,7 @@ ghost use Rattle.log_tests.specs.EitherWay.{either_way as both_ways, one_or, Are
 
 use clause_base::{Clause, ClauseFault, Cnf, Lit};
 use clause_exchange::{Exchange, Opened, Pass};
-use refutation_log::{Entry, Hints, LogState};
+use refutation_log::{Entry, Hints, LogState, SharedClause};
 use std::alloc::Global;
 use std::sync::{Arc, Wait};
 use std::test::Fail;
@@ -49,7 +49,7 @@ fn entry(alloc: Global, by: u32, var: u32) -> Result<Entry, ClauseFault>
 {
     Ok(Entry {
         by,
-        clause: one_and(alloc, Lit::new(var, true))?,
+        clause: SharedClause::new(alloc, one_and(alloc, Lit::new(var, true))?)?,
         hints: Hints::new(alloc, &[1, 2])?,
     })
 }

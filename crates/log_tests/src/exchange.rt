@@ -6,7 +6,7 @@ ghost use Rattle.clause_exchange.specs.SharedLog.{new_pass};
 
 use clause_base::{Clause, Cnf, Lit};
 use clause_exchange::{Exchange, Opened, Pass};
-use refutation_log::{Entry, Hints, LogState, Reply};
+use refutation_log::{Entry, Hints, LogState, Reply, SharedClause};
 use std::alloc::Global;
 use std::sync::{Arc, Wait};
 use std::test::Fail;
@@ -39,7 +39,7 @@ fn empty_clause(alloc: Global, by: u32) -> Result<Entry, Fail>
 {
     Ok(Entry {
         by,
-        clause: Clause::new(alloc, 1, &[])?,
+        clause: SharedClause::new(alloc, Clause::new(alloc, 1, &[])?)?,
         hints: Hints::new(alloc, &[1, 2])?,
     })
 }

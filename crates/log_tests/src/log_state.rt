@@ -1,5 +1,5 @@
 use clause_base::{Clause, Lit};
-use refutation_log::{Entry, Hints, LogState, Reply, Turn};
+use refutation_log::{Entry, Hints, LogState, Reply, SharedClause, Turn};
 use std::alloc::Global;
 use std::test::Fail;
 
@@ -11,7 +11,7 @@ fn entry(alloc: Global, vars: &[u32], hints: &[u64]) -> Result<Entry, Fail> {
     }
     Ok(Entry {
         by: 1,
-        clause: Clause::new(alloc, 9, &lits)?,
+        clause: SharedClause::new(alloc, Clause::new(alloc, 9, &lits)?)?,
         hints: Hints::new(alloc, hints)?,
     })
 }
@@ -87,7 +87,7 @@ fn fill(log: &mut LogState, alloc: Global, count: u32) -> Result<u32, Fail> {
             Lit::new(1 + i / 500 % 500, true),
             Lit::new(501 + i % 500, false),
         ];
-        let clause = Clause::new(alloc, 1000, &lits)?;
+        let clause = SharedClause::new(alloc, Clause::new(alloc, 1000, &lits)?)?;
         let hints = Hints::new(alloc, &[1])?;
         log.reserve()?;
         if let Reply::At(_) = log.turn(Turn::Append(Entry {

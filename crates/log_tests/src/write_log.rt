@@ -1,5 +1,5 @@
 use clause_base::{Clause, Lit};
-use refutation_log::{Entry, Hints, LogState, Turn, write_entries, write_log};
+use refutation_log::{Entry, Hints, LogState, SharedClause, Turn, write_entries, write_log};
 use std::alloc::Global;
 use std::test::Fail;
 
@@ -12,7 +12,7 @@ pub(crate) fn add(
     hints: &[u64],
 ) -> Result<(), Fail> {
     log.reserve()?;
-    let clause = Clause::new(alloc, 1 << 30, lits)?;
+    let clause = SharedClause::new(alloc, Clause::new(alloc, 1 << 30, lits)?)?;
     let hints = Hints::new(alloc, hints)?;
     let _reply = log.turn(Turn::Append(Entry { by, clause, hints }));
     Ok(())

@@ -1,13 +1,93 @@
 ghost use Rattle.std.specs.Prelude.{◌≡◌, ℕ, List, IfOk, nat_eq};
-ghost use Rattle.std.specs.Arc.{arc_slice_items};
+ghost use Rattle.std.specs.Arc.{arc_slice_items, arc_value};
 ghost use Rattle.std.specs.Cmp.Lexicographic.{pointwise};
 ghost use Rattle.std.specs.Cmp.Rules.{comparing, hashing};
 ghost use Rattle.std.proofs.Common.{rules};
+ghost use Rattle.clause_base.specs.Literal.{Literal};
+ghost use Rattle.clause_base.specs.Clause.{IsClause, clause_eq};
+ghost use Rattle.clause_base.specs.Equality.{clause_eq-partial, clause_eq-equivalence, clause_eq-hashed, clause_writes};
 
-use clause_base::Clause;
+use clause_base::{Clause, Lit};
 use std::alloc::{AllocError, Global};
+use std::hash::{Hash, Hasher};
 use std::marker::Model;
-use std::sync::ArcSlice;
+use std::sync::{Arc, ArcSlice};
+
+/// A clause of a log. Seen by contracts as the list of its literals. A copy shares it and takes no memory.
+#[derive(Debug, Drop)]
+pub struct SharedClause {
+    clause: Arc<Clause>,
+}
+
+impl Model for SharedClause {
+    ghost Value = { List Literal };
+
+    ghost view = { λ c. arc_value c.clause };
+
+    ghost invariant = { λ c. IsClause (arc_value c.clause) };
+}
+
+impl PartialEq for SharedClause {
+    ghost eq = { clause_eq };
+
+    ghost laws = { clause_eq-partial };
+
+    fn eq(&self, other: &SharedClause) -> bool {
+        self.clause == other.clause
+    }
+}
+
+impl Eq for SharedClause {
+    ghost laws = { clause_eq-equivalence };
+}
+
+impl Hash for SharedClause {
+    ghost hash_input = { clause_writes };
+
+    ghost respects_eq = { clause_eq-hashed };
+
+    fn hash<H: Hasher>(&self, state: &mut H) {
+        self.clause.hash(state);
+    }
+}
+
+impl Clone for SharedClause {
+    ghost is_clone = { λ c copy. copy ≡ c };
+
+    fn clone(&self) -> Result<SharedClause, AllocError> {
+        Ok(SharedClause {
+            clause: self.clause.clone()?,
+        })
+    }
+}
+
+impl SharedClause {
+    /// The same clause, to be shared.
+    pub fn new(alloc: Global, clause: Clause) -> Result<SharedClause, AllocError>
+        ensures { IfOk result (λ shared. shared ≡ clause) }
+    {
+        // That it is sorted is known once it is read.
+        let _sorted = clause.lits();
+        Ok(SharedClause {
+            clause: Arc::new(alloc, clause)?,
+        })
+    }
+
+    /// The clause.
+    pub fn as_clause(&self) -> &Clause
+        ensures value { result.now ≡ self.now }
+    {
+        &self.clause
+    }
+
+    /// The literals, sorted by variable, with no variable twice.
+    pub fn lits(&self) -> &[Lit]
+        ensures value { result.now ≡ self.now }
+        ensures sorted { IsClause self.now }
+    {
+        self.clause.lits()
+    }
+}
 
 /// The numbers of the clauses by which a clause follows: 1 to b name the base clauses, b + 1 and on the entries of the log.
 ///
@@ -69,7 +149,7 @@ impl Hints {
 #[derive(Debug, Drop, PartialEq, Eq)]
 pub struct Entry {
     pub by: u32,
-    pub clause: Clause,
+    pub clause: SharedClause,
     pub hints: Hints,
 }
 
@@ -104,7 +184,7 @@ impl Entry {
 #[derive(Clone, Copy, Debug)]
 pub struct EntryRef<'a> {
     pub by: u32,
-    pub clause: &'a Clause,
+    pub clause: &'a SharedClause,
     pub hints: &'a Hints,
 }
 

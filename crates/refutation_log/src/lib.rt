@@ -12,7 +12,7 @@ mod state;
 mod turns;
 mod write;
 
-pub use entries::{Entry, EntryRef, Hints};
+pub use entries::{Entry, EntryRef, Hints, SharedClause};
 pub use read::{LogText, LogTextFault, read_log};
 pub use state::LogState;
 pub use turns::{Reply, Turn};

@@ -4,7 +4,7 @@ ghost use Rattle.refutation_log.specs.declared.read.LogTextFault.TheVariants.{Ba
 ghost use Rattle.clause_base.specs.Clause.{IsClause, IsWithin};
 ghost use Rattle.refutation_log.specs.Read.{StatesEntry, IsReadAs, IsBadLine, IsTooShort, IsReadBy, StatesNumber, StatesLiteral, StatesLiterals, StatesHint, StatesHints};
 
-use crate::{Entry, Hints};
+use crate::{Entry, Hints, SharedClause};
 use clause_base::{Clause, ClauseFault, Lit};
 use std::alloc::{AllocError, AllocFailed, Global};
 use text_base::{Cursor, read_number};
@@ -91,6 +91,7 @@ fn take_entry<'a>(
     let Some(clause) = clause_as_written(alloc, vars, &lits)? else {
         return Ok(None);
     };
+    let clause = SharedClause::new(alloc, clause)?;
     let hints = Hints::new(alloc, &numbers)?;
     Ok(Some((Entry { by, clause, hints }, bytes)))
 }

@@ -9,8 +9,7 @@ ghost use Rattle.refutation_log.specs.Shown.{shown};
 ghost use Rattle.refutation_log.specs.State.{Log, entry_of, HasRoomFor, IsReserved, KeepsLog, KeepsSpare};
 
 use crate::entries::Derivation;
-use crate::{Entry, EntryRef, Reply, Turn};
-use clause_base::Clause;
+use crate::{Entry, EntryRef, Reply, SharedClause, Turn};
 use indexmap::IndexMap;
 use std::alloc::{AllocError, Global};
 use std::marker::Model;
@@ -21,7 +20,7 @@ use std::marker::Model;
 /// each entry is sorted, with each variable once. An equal clause is found by hashing.
 #[derive(Debug, Drop)]
 pub struct LogState {
-    entries: IndexMap<Clause, Derivation>,
+    entries: IndexMap<SharedClause, Derivation>,
     limit: Option<u64>,
 }
 
@@ -162,7 +161,7 @@ impl LogState {
     }
 
     /// The reply to an entry with this clause.
-    fn reply_to(&self, clause: &Clause) -> Reply
+    fn reply_to(&self, clause: &SharedClause) -> Reply
         ensures { result ≡ reply_for self.now.entries self.now.limit clause.now }
     {
         if let Some(place) = self.place_of(clause) {
@@ -177,7 +176,7 @@ impl LogState {
     }
 
     /// The place of an equal clause.
-    fn place_of(&self, clause: &Clause) -> Option<usize>
+    fn place_of(&self, clause: &SharedClause) -> Option<usize>
         ensures { result ≡ place_in clause.now self.now.entries }
     {
         self.entries.get_index_of(clause)
@@ -185,7 +184,7 @@ impl LogState {
 }
 
 /// Puts an entry last whose clause is new.
-fn put_last(entries: &mut IndexMap<Clause, Derivation>, entry: Entry)
+fn put_last(entries: &mut IndexMap<SharedClause, Derivation>, entry: Entry)
     requires room { 0 < spare entries.old }
     requires unknown { place_in entry.clause (map entry_of entries.old.entries) ≡ None }
     ensures last { map entry_of entries.new.entries ≡ map entry_of entries.old.entries ++ entry ∷ [] }

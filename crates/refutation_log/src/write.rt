@@ -5,8 +5,8 @@ ghost use Rattle.refutation_log.specs.Text.{literal_word, hint_word, entry_line,
 ghost use Rattle.refutation_log.specs.Read.{IsReadBack};
 ghost use Rattle.refutation_log.specs.Shown.{shown};
 
-use crate::{Entry, EntryRef, Hints, LogState};
-use clause_base::{Clause, Lit};
+use crate::{Entry, EntryRef, Hints, LogState, SharedClause};
+use clause_base::Lit;
 use std::alloc::AllocError;
 use text_base::push_number;
 
@@ -71,7 +71,7 @@ fn write_entry(entry: &EntryRef<'_>, out: &mut Vec<u8>) -> Result<(), AllocError
     out.extend_from_slice(b"0\n")
 }
 
-fn write_clause(clause: &Clause, out: &mut Vec<u8>) -> Result<(), AllocError>
+fn write_clause(clause: &SharedClause, out: &mut Vec<u8>) -> Result<(), AllocError>
     ensures ok { OnOk result (out.new.items ≡ out.old.items ++ flat_map literal_word clause.now) }
     ensures grown { IsPrefix out.old.items out.new.items }
 {

@@ -6,7 +6,7 @@ ghost use Rattle.unit_propagate.specs.Watched.{IsWatching};
 
 use crate::fixtures::{VARS, Values, add};
 use clause_base::{Clause, Cnf, Lit};
-use refutation_log::{Entry, Hints};
+use refutation_log::{Entry, Hints, SharedClause};
 use std::alloc::{AllocError, Global};
 use std::test::Fail;
 use unit_propagate::{Propagated, Trail};
@@ -67,6 +67,7 @@ impl Random {
         let mut entries = Vec::new(alloc);
         for _i in 0..count {
             if let Some(clause) = self.clause(alloc)? {
+                let clause = SharedClause::new(alloc, clause)?;
                 let hints = Hints::new(alloc, &[])?;
                 entries.push(Entry {
                     by: 0,
@@ -100,7 +101,7 @@ fn scan(values: &mut Values, base: &Cnf, seen: &[Entry]) -> bool {
             }
         }
         for entry in seen {
-            if look(values, &entry.clause) {
+            if look(values, entry.clause.as_clause()) {
                 return true;
             }
         }
@@ -276,7 +277,7 @@ fn two_entries(alloc: Global) -> Result<Vec<Entry>, Fail>
     ] {
         entries.push(Entry {
             by: 0,
-            clause: Clause::new(alloc, VARS, &lits)?,
+            clause: SharedClause::new(alloc, Clause::new(alloc, VARS, &lits)?)?,
             hints: Hints::new(alloc, &[])?,
         })?;
     }

@@ -131,7 +131,7 @@ fn named<'a>(base: &'a Cnf, log: &'a [Entry], number: usize) -> Option<&'a Claus
     let place = number.checked_sub(1)?;
     match place.checked_sub(base.clauses.len()) {
         None => base.clauses.get(place),
-        Some(place) => Some(&log.get(place)?.clause),
+        Some(place) => Some(log.get(place)?.clause.as_clause()),
     }
 }
 

@@ -19,6 +19,6 @@ pub fn clause_at<'a>(base: &'a Cnf, seen: &'a [Entry], k: usize) -> &'a Clause
 {
     match base.clauses.get(k) {
         Some(clause) => clause,
-        None => &seen[k - base.clauses.len()].clause,
+        None => seen[k - base.clauses.len()].clause.as_clause(),
     }
 }

@@ -11,9 +11,9 @@ returns c =
     let marks = c.args.trail.now.marks in
     let conflict = falsified_clause cl (literals_of marks) c.args.falsified c.requires.falsified in
     let learnt = c.in_ok-learned.ensures.learnt conflict.0 conflict.1 in
-    record {
+    rw c.in_ok-clause.ensures (record {
       worker = refl;
       within = rw c.requires.variables (falsified_within c.args.trail.now.vars marks c.in_ok-learned.learned.clause c.len-len.ensures.trail learnt.falsified);
       follows = c.in_ok-learned.ensures.follows;
       teaches = learnt_clauses_teach c.args.trail.now.vars cl marks conflict.0 c.in_ok-learned.learned.clause c.len-len.ensures.trail learnt (quiet_below_clause cl marks conflict.0 c.requires.quiet);
-    }
+    })

@@ -9,7 +9,7 @@ use Rattle.clause_solver.proofs.levels.settled_level.Goals as goal
 pub loop-entry-preserved : goal.loop-entry-preserved
 loop-entry-preserved c =
     idle_more c.args.trail.now.marks c.args.entries.now c.loop-entry.entry-index c.entry-item.result c.loop-entry.least c.idle_level.result c.min-least.result (slice_get-get_or c.args.entries.now c.loop-entry.entry-index c.entry-item.result (omega arith) ∙ ap Some (sym c.entry-item.is)) c.min-least.ensures
-    c.loop-entry.invariant c.idle_level.ensures
+    c.loop-entry.invariant (rw c.as_clause.ensures.value at c.idle_level.ensures)
 
 pub returns : goal.returns
 returns c =

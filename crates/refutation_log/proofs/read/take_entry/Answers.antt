@@ -18,6 +18,7 @@ returns-in_default-4 c =
 
 pub returns : goal.returns
 returns c =
-    entry_of_parts c.args.vars c.args.bytes.now c.in-Some.by c.in-Some.bytes.now c.in-Some-2.bytes.now c.in-Some-3.bytes.now c.in-Some-2.lits.items c.in-Some-4.clause
-    c.in-Some-3.numbers.items c.in_ok-hints.hints c.in-Some.ensures (rw c.in-Some-2.is at c.in_ok-lits.ensures) (rw c.in-Some-3.is at c.in_ok-numbers.ensures)
-    (rw (c.in-Some-4.is, c.deref.ensures.value) at c.in_ok-clause.ensures.some) (c.in_ok-hints.ensures ∙ c.deref-2.ensures.value)
+    let stated = rw (c.in-Some-4.is, c.deref.ensures.value) at c.in_ok-clause.ensures.some in
+    entry_of_parts c.args.vars c.args.bytes.now c.in-Some.by c.in-Some.bytes.now c.in-Some-2.bytes.now c.in-Some-3.bytes.now c.in-Some-2.lits.items
+    c.in_ok-clause-2.clause c.in-Some-3.numbers.items c.in_ok-hints.hints c.in-Some.ensures (rw c.in-Some-2.is at c.in_ok-lits.ensures)
+    (rw c.in-Some-3.is at c.in_ok-numbers.ensures) (c.in_ok-clause-2.ensures ∙ stated.0, stated.1, stated.2) (c.in_ok-hints.ensures ∙ c.deref-2.ensures.value)
