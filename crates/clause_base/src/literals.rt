@@ -77,6 +77,24 @@ impl Lit {
         self.code % 2 == 1
     }
 
+    /// The number by which it is kept: twice the variable, and one more where it is positive.
+    pub fn code(self) -> u32
+        ensures value { result ≡ code_of self }
+        ensures least { 2 ≤ result }
+        ensures greatest { result ≤ 2 ^ 31 + 1 }
+    {
+        self.code
+    }
+
+    /// The literal of such a number.
+    pub fn of_code(code: u32) -> Lit
+        requires least { 2 ≤ code }
+        requires greatest { code ≤ 2 ^ 31 + 1 }
+        ensures { result ≡ decoded code }
+    {
+        Lit { code }
+    }
+
     /// The literal of the same variable and the other sign.
     pub fn negated(self) -> Lit
         ensures { result ≡ negated self }

@@ -28,7 +28,8 @@ const TAKEN: u64 = 1;
 /// The word while the log is at home.
 const FREE: u64 = 0;
 
-/// Waits until no other seat has the log, and takes it. Nobody stands in line: a seat that isn't running holds up no other.
+/// Waits until no other seat has the log, and takes it. Nobody stands in line: a seat that isn't running holds up the others only
+/// while it has the log.
 pub fn begin<R: Wait>(rt: &R, words: &Words, place: &mut Place)
     requires table { (place.old.table_id ≡ words.now.table_id) × (words.now.table_id.words ≡ 1) × (words.now.table_id.slots ≡ 1) }
     requires idle { (part : PartView) × (place.old.me ≡ idle part) }

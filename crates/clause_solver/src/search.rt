@@ -10,7 +10,7 @@ use crate::learning::{lesson, reward};
 use crate::levels::settled_level;
 use crate::models::model_of;
 use crate::order::Order;
-use crate::restarts::Restarts;
+use crate::restarts::{Restarts, levels_in};
 use crate::worker::Turned;
 use clause_base::Cnf;
 use refutation_log::Entry;
@@ -84,7 +84,7 @@ impl Search {
         if let Propagated::Falsified(clause) = self.trail.propagate(base, seen)? {
             let entry = lesson(alloc, self.number, base, seen, &self.trail, clause)?;
             reward(&mut self.order, base, seen, &entry);
-            self.restarts.count();
+            self.restarts.count(levels_in(&self.trail, &entry));
             return Ok(Some(Turned::Learnt(entry)));
         }
         let Some(lit) = decision(&mut self.order, &self.trail, base.vars) else {

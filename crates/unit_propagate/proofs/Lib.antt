@@ -1,4 +1,5 @@
 pub mod Places
+pub mod CodeLemmas
 pub mod TrailLemmas
 pub mod MarksLemmas
 pub mod RowsLemmas

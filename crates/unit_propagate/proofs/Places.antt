@@ -1,8 +1,8 @@
 -- Elements of lists by their places.
-use Rattle.std.proofs.Common.{◌≡◌, ◌≢◌, ℕ, suc, zero, ◌+◌, ◌<◌, ◌≤◌, List, [], ◌∷◌, ◌++◌, Some, take, set, get_or, slice_get, replicate, length, length-append, Contains, All, refl, subst, ap, ◌∙◌, arith}
+use Rattle.std.proofs.Common.{◌≡◌, ◌≢◌, ℕ, suc, zero, ◌+◌, ◌-◌, ◌<◌, ◌≤◌, ◌⊎◌, inl, inr, List, [], ◌∷◌, ◌++◌, Some, take, drop, set, get_or, slice_get, replicate, length, length-append, Contains, All, refl, subst, ap, ◌∙◌, arith}
 use Rattle.std.specs.Prelude.{AllPairs, Result, Ok, Err, OnOk, OnErr}
 use Rattle.std.proofs.lemmas.List.{get_or_append_left, get_or-set_same, length-set, length_push, get_or_push, take_all}
-use Rattle.std.proofs.lemmas.List.Elements.{Contains-get_or}
+use Rattle.std.proofs.lemmas.List.Elements.{Contains-get_or, Contains-append_left, Contains-append_right}
 use Rattle.std.proofs.lemmas.Option.{slice_get_within, slice_get-get_or, get_or_from_slice_get}
 
 -- an element at a place is contained, and the other way round
@@ -88,3 +88,21 @@ All-from_contains P xs h k d l = h (get_or xs k d) (Contains-get_or xs k d l)
 
 pub All-to_end : {X : Type 0} (P : X → Type 0) (xs : List X) (i : ℕ) → length xs ≤ i → All P (take i xs) → All P xs
 All-to_end P xs i h a = subst (All P) (take_all i xs h) a
+
+-- a place of the first elements, and one of those behind them
+pub slice_get-within_take : {X : Type 0} (n : ℕ) (xs : List X) (i : ℕ) (x : X) → i < n → slice_get xs i ≡ Some x → slice_get (take n xs) i ≡ Some x
+slice_get-within_take zero xs i x lt h = absurd (omega arith)
+slice_get-within_take (suc n) [] i x lt h = absurd (cc)
+slice_get-within_take (suc n) (y ∷ xs) zero x lt h = h
+slice_get-within_take (suc n) (y ∷ xs) (suc i) x lt h = slice_get-within_take n xs i x (omega arith) h
+
+pub slice_get-within_drop : {X : Type 0} (n : ℕ) (xs : List X) (i : ℕ) (x : X) → n ≤ i → slice_get xs i ≡ Some x → slice_get (drop n xs) (i - n) ≡ Some x
+slice_get-within_drop zero xs i x le h = let e : i - 0 ≡ i = omega arith in ap (slice_get xs) e ∙ h
+slice_get-within_drop (suc n) [] i x le h = absurd (cc)
+slice_get-within_drop (suc n) (y ∷ xs) zero x le h = absurd (omega arith)
+slice_get-within_drop (suc n) (y ∷ xs) (suc i) x le h = let e : suc i - suc n ≡ i - n = omega arith in ap (slice_get (drop n xs)) e ∙ slice_get-within_drop n xs i x (omega arith) h
+
+-- the same after a part is taken out
+pub Contains-cut : {X : Type 0} (xs : List X) (from to i : ℕ) (x : X) → (i < from) ⊎ (to ≤ i) → slice_get xs i ≡ Some x → Contains (take from xs ++ drop to xs) x
+Contains-cut xs from to i x (inl lt) h = Contains-append_left (take from xs) (drop to xs) x (Contains-slice_get (take from xs) i x (slice_get-within_take from xs i x lt h))
+Contains-cut xs from to i x (inr le) h = Contains-append_right (take from xs) (drop to xs) x (Contains-slice_get (drop to xs) (i - to) x (slice_get-within_drop to xs i x le h))

@@ -2,7 +2,7 @@
 use Rattle.std.proofs.Common.{◌≡◌, ◌≢◌, ℕ, suc, zero, ◌+◌, ◌-◌, ◌*◌, ◌^◌, ◌<◌, ◌≤◌, max, Bool, true, false, not, cond, List, [], ◌∷◌, ◌++◌, ◌⊎◌, inl, inr, Some, None, take, slice_get, length, Contains, All, refl, sym, subst, ap, ◌∙◌, true≢false, append_assoc, arith}
 use Rattle.std.specs.Prelude.{nat_eq}
 use Rattle.std.specs.Option.{option_map_or}
-use Rattle.std.proofs.lemmas.List.{length_push, map-append}
+use Rattle.std.proofs.lemmas.List.{length_push, length-set, map-append}
 use Rattle.std.proofs.lemmas.List.Elements.{All-push, All-weaker, All-contains, Contains-append_left, Contains-push}
 use Rattle.std.proofs.lemmas.Option.{slice_get_within}
 use Rattle.std.proofs.lemmas.Bool.Decides.{Decides-eqb}
@@ -19,10 +19,13 @@ use Rattle.unit_propagate.specs.Trail.{IsFree, highest_level, literals_of}
 use Rattle.unit_propagate.specs.Sound.{IsReason, Extends}
 use Rattle.unit_propagate.specs.Marks.{MarkList, room_of}
 use Rattle.unit_propagate.specs.Watched.{IsWatching, IsWatched, HasTrue}
-use Rattle.unit_propagate.specs.Rows.{row_at, code_of}
-use Rattle.unit_propagate.specs.Watches.{Guard}
-use Rattle.unit_propagate.specs.Propagator.{IsKept, IsPending, IsVisiting, IsVisited, Goes, Stays}
-use Rattle.unit_propagate.proofs.Places.{slice_get-front, slice_get-Contains, All-from_contains}
+use Rattle.clause_base.specs.Codes.{code_of}
+use Rattle.unit_propagate.specs.Rows.{row_at}
+use Rattle.unit_propagate.specs.Watches.{WatchList, Guard, Stands, Keeps, Cuts}
+use Rattle.unit_propagate.specs.Propagator.{IsKept, StandsAt, IsVisiting, IsVisited, Goes, Stays}
+use Rattle.unit_propagate.proofs.Places.{slice_get-front, slice_get-Contains, Contains-slice_get, slice_get-set_same, slice_get-set_other, Contains-cut, All-from_contains}
+use Rattle.unit_propagate.proofs.CodeLemmas.{code_same}
+use Rattle.unit_propagate.proofs.RowsLemmas.{same_or_not}
 use Rattle.unit_propagate.proofs.TrailLemmas.{highest_above, highest_bound, highest-append, mark-of, literal-of}
 
 pub same_literal : (a b : Literal) → (a ≡ b) ⊎ (a ≢ b)
@@ -38,23 +41,6 @@ negated-negated l = by l.var l.positive
     by : (v : ℕ) (p : Bool) → negated (negated (record { var = v; positive = p })) ≡ record { var = v; positive = p }
     by v true = refl
     by v false = refl
-
--- two literals have different lists
-pub code_same : (a b : Literal) → code_of a ≡ code_of b → a ≡ b
-code_same a b = by a.var a.positive b.var b.positive
-  where
-    by : (v : ℕ) (p : Bool) (w : ℕ) (q : Bool) → 2 * v + cond p 1 0 ≡ 2 * w + cond q 1 0 → ◌≡◌ {A = Literal} (record { var = v; positive = p }) (record { var = w; positive = q })
-    by v true w true e = let s : v ≡ w = omega arith in λ i. record { var = s i; positive = true }
-    by v true w false e = absurd (omega arith)
-    by v false w true e = absurd (omega arith)
-    by v false w false e = let s : v ≡ w = omega arith in λ i. record { var = s i; positive = false }
-
-pub code_fits : (vars rows : ℕ) (l : Literal) → rows ≡ 2 * room_of vars → l.var ≤ vars → code_of l ≤ 2 * 2 ^ 30 + 1 → code_of l < rows
-code_fits vars rows l e h c = by l.var l.positive h c
-  where
-    by : (v : ℕ) (p : Bool) → v ≤ vars → 2 * v + cond p 1 0 ≤ 2 * 2 ^ 30 + 1 → 2 * v + cond p 1 0 < rows
-    by v true a b = omega arith
-    by v false a b = omega arith
 
 -- ---- a longer trail
 
@@ -142,21 +128,54 @@ Stays-same s after = record { size = refl; units = λ k l at. at; place = refl }
 pub Stays-trans : (a b c : Propagator) → Stays a b → Stays b c → Stays a c
 Stays-trans a b c p q = record { size = q.size ∙ p.size; units = λ k l at. p.units k l (q.units k l at); place = q.place ∙ p.place }
 
+-- ---- the table of lists changes, and nothing else
+
+-- a value with other lists is known by its three parts
+pub by_parts : (P : WatchList → Type 0) (w : WatchList) (watched : List (List Literal)) (units : List ℕ) → w.watched ≡ watched → w.units ≡ units → P (record { watched = watched; rows = w.rows; units = units }) → P w
+by_parts P w watched units e u h =
+    let e' = sym e in
+    let u' = sym u in
+    let is : ◌≡◌ {A = WatchList} (record { watched = watched; rows = w.rows; units = units }) w = λ i. record { watched = e' i; rows = w.rows; units = u' i } in
+    subst P is h
+
+module _ (clauses : List (List Literal)) (s : Propagator) (rows : List (List Watcher)) (k : IsKept s) (watching : IsWatching clauses s.watches.watched) (size : length rows ≡ length s.watches.rows)
+    (stands : (q : ℕ) (c : List Literal) (x : Literal) → slice_get s.watches.watched q ≡ Some c → IsWatched c x → Stands rows x q c) where
+  abbrev after : Propagator
+  after = record s { watches = record s.watches { rows = rows } }
+
+  pub IsKept-rows : IsKept after
+  IsKept-rows = record {
+    listed = record { size = size ∙ k.listed.size; listed = stands; alone = k.listed.alone; units = k.listed.units };
+    guarded = k.guarded;
+    done = k.done;
+    place = k.place;
+    kept = k.kept;
+    forced = k.forced;
+  }
+
+  pub Goes-rows : Goes clauses s after
+  Goes-rows = record { kept = IsKept-rows; watching = watching; vars = refl; extends = λ first x. x; size = omega arith }
+
+  pub Stays-rows : Stays s after
+  Stays-rows = record { size = refl; units = λ q l at. at; place = refl }
+
 -- ---- looking at a clause of the list
 
-pub IsVisiting-push : (clauses : List (List Literal)) (s : Propagator) (m : Mark) (after : MarkList) (l : Literal) (i : ℕ) → after ≡ record { vars = s.marks.vars; marks = s.marks.marks ++ m ∷ [] }
-    → IsVisiting clauses s l i → IsVisiting clauses (record s { marks = after }) l i
-IsVisiting-push clauses s m after l i e v = record {
+pub IsVisiting-push : (clauses : List (List Literal)) (s : Propagator) (m : Mark) (after : MarkList) (l : Literal) (j i : ℕ) → after ≡ record { vars = s.marks.vars; marks = s.marks.marks ++ m ∷ [] }
+    → IsVisiting clauses s l j i → IsVisiting clauses (record s { marks = after }) l j i
+IsVisiting-push clauses s m after l j i e v = record {
   kept = IsKept-push s m after e v.kept;
   watching = v.watching;
   falsified = grown (negated l) v.falsified;
-  seen = λ k c at is. elim (v.seen k c at is) [ inl h ↦ inl (h.0, h.1, grown h.0 h.2) | inr h ↦ inr h ];
+  order = v.order;
+  seen = λ k c at is. elim (v.seen k c at is) [ inl h ↦ inl ((h.0.0, h.0.1, grown h.0.0 h.0.2), h.1) | inr h ↦ inr h ];
 }
   where
     grown : (x : Literal) → Contains (literals_of s.marks.marks) x → Contains (literals_of after.marks) x
     grown x h = subst (λ (y : MarkList). Contains (literals_of y.marks) x) (sym e) (longer s.marks.marks (m ∷ []) x h)
 
-later : (rows : List (List Watcher)) (l : Literal) (i : ℕ) (u : Watcher) (k' : ℕ) (c : List Literal) → slice_get (row_at rows (code_of l)) i ≡ Some u → IsPending rows l i k' c → ((u.clause ≡ k') × Contains c u.blocker) ⊎ IsPending rows l (i + 1) k' c
+pub later : (rows : List (List Watcher)) (l : Literal) (i : ℕ) (u : Watcher) (k' : ℕ) (c : List Literal) → slice_get (row_at rows (code_of l)) i ≡ Some u → StandsAt (λ g. i ≤ g) rows l k' c
+    → ((u.clause ≡ k') × Contains c u.blocker) ⊎ StandsAt (λ g. i + 1 ≤ g) rows l k' c
 later rows l i u k' c at h = by (less i h.0 h.2)
   where
     less : (i j : ℕ) → i ≤ j → (j ≡ i) ⊎ (i + 1 ≤ j)
@@ -165,29 +184,112 @@ later rows l i u k' c at h = by (less i h.0 h.2)
     less (suc i) zero h = absurd (omega arith)
     less (suc i) (suc j) h = elim (less i j (omega arith)) [ inl e ↦ inl (ap suc e) | inr b ↦ inr (omega arith) ]
 
-    by : (h.0 ≡ i) ⊎ (i + 1 ≤ h.0) → ((u.clause ≡ k') × Contains c u.blocker) ⊎ IsPending rows l (i + 1) k' c
+    by : (h.0 ≡ i) ⊎ (i + 1 ≤ h.0) → ((u.clause ≡ k') × Contains c u.blocker) ⊎ StandsAt (λ g. i + 1 ≤ g) rows l k' c
     by (inl e) =
         let a : slice_get (row_at rows (code_of l)) i ≡ Some h.1 = subst (λ x. slice_get (row_at rows (code_of l)) x ≡ Some h.1) e h.3 in
         let s : h.1 ≡ u = cc in
         inl (ap (λ (x : Watcher). x.clause) (sym s) ∙ h.4, subst (λ (x : Watcher). Contains c x.blocker) s h.5)
     by (inr b) = inr (h.0, h.1, b, h.3, h.4, h.5)
 
--- the clause at the place needs nothing more
-pub passed : (clauses : List (List Literal)) (s : Propagator) (l : Literal) (i : ℕ) (u : Watcher) → IsVisiting clauses s l i → slice_get (row_at s.watches.rows (code_of l)) i ≡ Some u
-    → ((c : List Literal) → slice_get s.watches.watched u.clause ≡ Some c → IsWatched c l → Contains c u.blocker → HasTrue s.marks.marks c) → IsVisiting clauses s l (i + 1)
-passed clauses s l i u v at says = record {
+stands : (P : ℕ → Type 0) (rows : List (List Watcher)) (l : Literal) (k : ℕ) (c : List Literal) → StandsAt P rows l k c → Stands rows l k c
+stands P rows l k c h = (h.1, Contains-slice_get (row_at rows (code_of l)) h.0 h.1 h.3, h.4, h.5)
+
+-- the clause at the place leaves the list, which it needn't be in
+pub passed : (clauses : List (List Literal)) (s : Propagator) (l : Literal) (j i : ℕ) (u : Watcher) → IsVisiting clauses s l j i → slice_get (row_at s.watches.rows (code_of l)) i ≡ Some u
+    → ((c : List Literal) → slice_get s.watches.watched u.clause ≡ Some c → IsWatched c l → ⊥) → IsVisiting clauses s l j (i + 1)
+passed clauses s l j i u v at says = record {
   kept = v.kept;
   watching = v.watching;
   falsified = v.falsified;
+  order = let o : j ≤ i = v.order in omega arith;
   seen = λ k' c there is. elim (v.seen k' c there is) [
     | inl h ↦ inl h
-    | inr h ↦ elim (later s.watches.rows l i u k' c at h) [ inl e ↦ inl (says c (subst (λ x. slice_get s.watches.watched x ≡ Some c) (sym e.0) there) is e.1) | inr b ↦ inr b ]
+    | inr h ↦ elim (later s.watches.rows l i u k' c at h) [ inl e ↦ absurd (says c (subst (λ x. slice_get s.watches.watched x ≡ Some c) (sym e.0) there) is) | inr b ↦ inr b ]
   ];
 }
 
+-- the clause at the place stays in the list, at the first place that is left open, and some literal of it is true
+module _ (clauses : List (List Literal)) (s : Propagator) (l : Literal) (j i : ℕ) (u x : Watcher) (w : WatchList) (v : IsVisiting clauses s l j i) (at : slice_get (row_at s.watches.rows (code_of l)) i ≡ Some u)
+    (keeps : Keeps s.watches w (code_of l) j x) (same : u.clause ≡ x.clause)
+    (says : (c : List Literal) → slice_get s.watches.watched u.clause ≡ Some c → IsWatched c l → Contains c u.blocker → HasTrue s.marks.marks c × Contains c x.blocker) where
+  order : j ≤ i
+  order = v.order
+
+  low : j < length (row_at s.watches.rows (code_of l))
+  low = let lt : i < length (row_at s.watches.rows (code_of l)) = slice_get_within (row_at s.watches.rows (code_of l)) i u at in let o = order in omega arith
+
+  written : slice_get (row_at w.rows (code_of l)) j ≡ Some x
+  written = ap (λ xs. slice_get xs j) keeps.sets.here ∙ slice_get-set_same (row_at s.watches.rows (code_of l)) j x low
+
+  other_place : (g : ℕ) → g ≢ j → slice_get (row_at w.rows (code_of l)) g ≡ slice_get (row_at s.watches.rows (code_of l)) g
+  other_place g n = ap (λ xs. slice_get xs g) keeps.sets.here ∙ slice_get-set_other (row_at s.watches.rows (code_of l)) j g x n
+
+  seen : (k : ℕ) (c : List Literal) → slice_get s.watches.watched k ≡ Some c → IsWatched c l → (HasTrue s.marks.marks c × StandsAt (λ g. g < j + 1) w.rows l k c) ⊎ StandsAt (λ g. i + 1 ≤ g) w.rows l k c
+  seen k c there is = elim (v.seen k c there is) [
+    | inl h ↦ inl (h.0, (h.1.0, h.1.1, (let lt : h.1.0 < j = h.1.2 in omega arith), other_place h.1.0 (λ e. let lt : h.1.0 < j = h.1.2 in omega arith) ∙ h.1.3, h.1.4, h.1.5))
+    | inr h ↦ elim (later s.watches.rows l i u k c at h) [
+      | inl e ↦ let t = says c (subst (λ q. slice_get s.watches.watched q ≡ Some c) (sym e.0) there) is e.1 in inl (t.0, (j, x, omega arith, written, sym same ∙ e.0, t.1))
+      | inr b ↦ inr (b.0, b.1, b.2, other_place b.0 (λ e. let le : i + 1 ≤ b.0 = b.2 in let o = order in omega arith) ∙ b.3, b.4, b.5)
+    ]
+  ]
+
+  standing : (k : ℕ) (c : List Literal) (y : Literal) → slice_get s.watches.watched k ≡ Some c → IsWatched c y → Stands w.rows y k c
+  standing k c y there is = elim (same_or_not (code_of y) (code_of l)) [
+    | inl e ↦
+        let one = code_same y l e in
+        subst (λ z. Stands w.rows z k c) (sym one) (elim (seen k c there (subst (IsWatched c) one is)) [
+          | inl h ↦ stands (λ g. g < j + 1) w.rows l k c h.1
+          | inr h ↦ stands (λ g. i + 1 ≤ g) w.rows l k c h
+        ])
+    | inr n ↦ let h = v.kept.listed.listed k c y there is in (h.0, subst (λ xs. Contains xs h.0) (sym (keeps.sets.others (code_of y) n)) h.1, h.2, h.3)
+  ]
+
+  pub stays_visiting : IsVisiting clauses (record s { watches = w }) l (j + 1) (i + 1)
+  stays_visiting = by_parts (λ y. IsVisiting clauses (record s { watches = y }) l (j + 1) (i + 1)) w s.watches.watched s.watches.units keeps.watched keeps.units (record {
+    kept = IsKept-rows clauses s w.rows v.kept v.watching keeps.sets.size standing;
+    watching = v.watching;
+    falsified = v.falsified;
+    order = let o = order in omega arith;
+    seen = seen;
+  })
+
+  pub stays_goes : Goes clauses s (record s { watches = w })
+  stays_goes = by_parts (λ y. Goes clauses s (record s { watches = y })) w s.watches.watched s.watches.units keeps.watched keeps.units (Goes-rows clauses s w.rows v.kept v.watching keeps.sets.size standing)
+
+  pub stays_stays : Stays s (record s { watches = w })
+  stays_stays = by_parts (λ y. Stays s (record s { watches = y })) w s.watches.watched s.watches.units keeps.watched keeps.units (Stays-rows clauses s w.rows v.kept v.watching keeps.sets.size standing)
+
+  pub stays_row : length (row_at w.rows (code_of l)) ≡ length (row_at s.watches.rows (code_of l))
+  stays_row = ap length keeps.sets.here ∙ length-set (row_at s.watches.rows (code_of l)) j x
+
+-- the list is closed up
+module _ (clauses : List (List Literal)) (s : Propagator) (l : Literal) (j i : ℕ) (w : WatchList) (v : IsVisiting clauses s l j i) (cuts : Cuts s.watches w (code_of l) j i) where
+  left : (P : ℕ → Type 0) (k : ℕ) (c : List Literal) → ((g : ℕ) → P g → (g < j) ⊎ (i ≤ g)) → StandsAt P s.watches.rows l k c → Stands w.rows l k c
+  left P k c out h = (h.1, subst (λ xs. Contains xs h.1) (sym cuts.cuts.here) (Contains-cut (row_at s.watches.rows (code_of l)) j i h.0 h.1 (out h.0 h.2) h.3), h.4, h.5)
+
+  left_standing : (k : ℕ) (c : List Literal) (y : Literal) → slice_get s.watches.watched k ≡ Some c → IsWatched c y → Stands w.rows y k c
+  left_standing k c y there is = elim (same_or_not (code_of y) (code_of l)) [
+    | inl e ↦
+        let one = code_same y l e in
+        subst (λ z. Stands w.rows z k c) (sym one) (elim (v.seen k c there (subst (IsWatched c) one is)) [
+          | inl h ↦ left (λ g. g < j) k c (λ g lt. inl lt) h.1
+          | inr h ↦ left (λ g. i ≤ g) k c (λ g le. inr le) h
+        ])
+    | inr n ↦ let h = v.kept.listed.listed k c y there is in (h.0, subst (λ xs. Contains xs h.0) (sym (cuts.cuts.others (code_of y) n)) h.1, h.2, h.3)
+  ]
+
+  pub cut_goes : Goes clauses s (record s { watches = w })
+  cut_goes = by_parts (λ y. Goes clauses s (record s { watches = y })) w s.watches.watched s.watches.units cuts.watched cuts.units (Goes-rows clauses s w.rows v.kept v.watching cuts.cuts.size left_standing)
+
+  pub cut_stays : Stays s (record s { watches = w })
+  cut_stays = by_parts (λ y. Stays s (record s { watches = y })) w s.watches.watched s.watches.units cuts.watched cuts.units (Stays-rows clauses s w.rows v.kept v.watching cuts.cuts.size left_standing)
+
+pub cut_visited : (s : Propagator) (l : Literal) (w : WatchList) → w.watched ≡ s.watches.watched → IsVisited s l → IsVisited (record s { watches = w }) l
+cut_visited s l w e v = record { seen = λ k c at is. v.seen k c (ap (λ ps. slice_get ps k) (sym e) ∙ at) is }
+
 -- at the list's end all are looked at
-pub visited : (clauses : List (List Literal)) (s : Propagator) (l : Literal) (i : ℕ) → IsVisiting clauses s l i → slice_get (row_at s.watches.rows (code_of l)) i ≡ None → IsVisited s l
-visited clauses s l i v none = record { seen = λ k c at is. elim (v.seen k c at is) [ inl h ↦ h | inr h ↦ absurd (gone k c h) ] }
+pub visited : (clauses : List (List Literal)) (s : Propagator) (l : Literal) (j i : ℕ) → IsVisiting clauses s l j i → slice_get (row_at s.watches.rows (code_of l)) i ≡ None → IsVisited s l
+visited clauses s l j i v none = record { seen = λ k c at is. elim (v.seen k c at is) [ inl h ↦ h.0 | inr h ↦ absurd (gone k c h) ] }
   where
     past : (xs : List Watcher) (i j : ℕ) (k : Watcher) → slice_get xs i ≡ None → i ≤ j → slice_get xs j ≡ Some k → ⊥
     past [] i j k a b c = cc
@@ -195,15 +297,16 @@ visited clauses s l i v none = record { seen = λ k c at is. elim (v.seen k c at
     past (x ∷ xs) (suc i) zero k a b c = omega arith
     past (x ∷ xs) (suc i) (suc j) k a b c = past xs i j k a (omega arith) c
 
-    gone : (k : ℕ) (c : List Literal) → IsPending s.watches.rows l i k c → ⊥
+    gone : (k : ℕ) (c : List Literal) → StandsAt (λ g. i ≤ g) s.watches.rows l k c → ⊥
     gone k c h = past (row_at s.watches.rows (code_of l)) i h.0 h.1 none h.2 h.3
 
 -- nothing of a list is looked at
-pub unvisited : (clauses : List (List Literal)) (s : Propagator) (l : Literal) → IsKept s → IsWatching clauses s.watches.watched → Contains (literals_of s.marks.marks) (negated l) → IsVisiting clauses s l 0
+pub unvisited : (clauses : List (List Literal)) (s : Propagator) (l : Literal) → IsKept s → IsWatching clauses s.watches.watched → Contains (literals_of s.marks.marks) (negated l) → IsVisiting clauses s l 0 0
 unvisited clauses s l k w f = record {
   kept = k;
   watching = w;
   falsified = f;
+  order = omega arith;
   seen = λ j c at is. inr (let h = k.listed.listed j c l at is in let g = slice_get-Contains (row_at s.watches.rows (code_of l)) h.0 h.1 in (g.0, h.0, omega arith, g.1, h.2, h.3));
 }
 

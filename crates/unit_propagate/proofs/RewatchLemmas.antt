@@ -16,13 +16,15 @@ use Rattle.unit_propagate.specs.declared.rows.Watcher.{Watcher}
 use Rattle.unit_propagate.specs.Trail.{IsTrail, highest_level, literals_of}
 use Rattle.unit_propagate.specs.Marks.{MarkList, room_of}
 use Rattle.unit_propagate.specs.Watched.{IsWatching, IsWatchOf, IsWatched}
-use Rattle.unit_propagate.specs.Rows.{row_at, code_of}
+use Rattle.clause_base.specs.Codes.{code_of}
+use Rattle.unit_propagate.specs.Rows.{row_at}
 use Rattle.unit_propagate.specs.Watches.{WatchList, IsListed, Guard, Rewatches, CanRewatch, Adds, AddsAlone, KeepsWatches, RowsGrow, IsSide, Stands, exchanged, ordered, differs}
-use Rattle.unit_propagate.specs.Propagator.{IsKept, IsPending, IsVisiting, Goes, Stays}
+use Rattle.unit_propagate.specs.Propagator.{IsKept, StandsAt, IsVisiting, Goes, Stays}
 use Rattle.unit_propagate.proofs.Places.{slice_get-Contains, Contains-slice_get, slice_get-set_same, slice_get-set_other, slice_get-last, slice_get-front, AllPairs-slice_get, All-slice_get}
 use Rattle.unit_propagate.proofs.TrailLemmas.{literal-of, mark-of, highest_above}
 use Rattle.unit_propagate.proofs.RowsLemmas.{RowsGrow-adds, added_there, same_or_not}
-use Rattle.unit_propagate.proofs.PropagatorLemmas.{same_literal, code_same, Goes-trans}
+use Rattle.unit_propagate.proofs.CodeLemmas.{code_same}
+use Rattle.unit_propagate.proofs.PropagatorLemmas.{same_literal, later, Goes-trans}
 use Rattle.unit_propagate.proofs.StepLemmas.{list_fits}
 
 three : (i j : ℕ) → (i < j) ⊎ ((i ≡ j) ⊎ (j < i))
@@ -134,9 +136,9 @@ module _ (c : List Literal) (p j : ℕ) (from to : Literal) (at_p : slice_get c 
     once = once_after is.once;
   }
 
--- clause k watches to in place of from, which is false, besides other
-module _ (clauses : List (List Literal)) (s : Propagator) (w : WatchList) (from to other : Literal) (i : ℕ) (u n : Watcher) (p j : ℕ) (c : List Literal)
-    (v : IsVisiting clauses s from i) (r : Rewatches s.watches w i n p j from to) (same : u.clause ≡ n.clause) (blocks : Contains c n.blocker)
+-- clause k watches to in place of from, which is false, besides other, and is passed
+module _ (clauses : List (List Literal)) (s : Propagator) (w : WatchList) (from to other : Literal) (f i : ℕ) (u n : Watcher) (p j : ℕ) (c : List Literal)
+    (v : IsVisiting clauses s from f i) (r : Rewatches s.watches w n p j from to) (same : u.clause ≡ n.clause) (blocks : Contains c n.blocker)
     (at : slice_get (row_at s.watches.rows (code_of from)) i ≡ Some u) (there : slice_get s.watches.watched n.clause ≡ Some c) (side : IsSide c from p other)
     (high : 2 ≤ j) (at_j : slice_get c j ≡ Some to) (alive : Contains (literals_of s.marks.marks) (negated to) → ⊥) where
   abbrev k : ℕ
@@ -208,51 +210,32 @@ module _ (clauses : List (List Literal)) (s : Propagator) (w : WatchList) (from 
   ]
 
   -- the lists
-  grown : RowsGrow s.watches.rows r.between
-  grown = RowsGrow-adds s.watches.rows r.between (code_of to) n r.adds
+  grown : RowsGrow s.watches.rows w.rows
+  grown = RowsGrow-adds s.watches.rows w.rows (code_of to) n r.adds
 
-  middle : row_at r.between (code_of from) ≡ row_at s.watches.rows (code_of from)
-  middle = r.adds.others (code_of from) codes
+  same_row : row_at w.rows (code_of from) ≡ row_at s.watches.rows (code_of from)
+  same_row = r.adds.others (code_of from) codes
 
-  -- what stands elsewhere in the list isn't this clause's
-  elsewhere : (g q : ℕ) (x : Watcher) → q ≢ k → x.clause ≡ q → slice_get (row_at s.watches.rows (code_of from)) g ≡ Some x → g ≢ i
-  elsewhere g q x m is h e =
-      let a : slice_get (row_at s.watches.rows (code_of from)) i ≡ Some x = subst (λ y. slice_get (row_at s.watches.rows (code_of from)) y ≡ Some x) e h in
-      let b = at in
-      let eq : x ≡ u = cc in
-      m (sym is ∙ ap (λ (y : Watcher). y.clause) eq ∙ same)
-
-  stays_pending : (q : ℕ) (d : List Literal) → q ≢ k → IsPending s.watches.rows from i q d → IsPending w.rows from i q d
-  stays_pending q d m h =
-      let here : slice_get (row_at r.between (code_of from)) h.0 ≡ Some h.1 = ap (λ xs. slice_get xs h.0) middle ∙ h.3 in
-      let g = r.drops.stays h.0 h.1 here (elsewhere h.0 q h.1 m h.4 h.3) in
-      (g.0, h.1, g.2 h.2, g.1, h.4, h.5)
-
-  kept_watcher : (l : Literal) (q : ℕ) (x : Watcher) → q ≢ k → x.clause ≡ q → Contains (row_at s.watches.rows (code_of l)) x → Contains (row_at w.rows (code_of l)) x
-  kept_watcher l q x o is h = elim (same_or_not (code_of l) (code_of from)) [
-    | inl e ↦
-        let g = slice_get-Contains (row_at s.watches.rows (code_of from)) x (subst (λ y. Contains (row_at s.watches.rows y) x) e h) in
-        let here : slice_get (row_at r.between (code_of from)) g.0 ≡ Some x = ap (λ xs. slice_get xs g.0) middle ∙ g.1 in
-        let d = r.drops.stays g.0 x here (elsewhere g.0 q x o is g.1) in
-        subst (λ y. Contains (row_at w.rows y) x) (sym e) (Contains-slice_get (row_at w.rows (code_of from)) d.0 x d.1)
-    | inr m ↦ subst (λ xs. Contains xs x) (sym (r.drops.others (code_of l) m)) (grown.stays (code_of l) x h)
+  -- the clause at the place is this one
+  still_to_come : (q : ℕ) (d : List Literal) → q ≢ k → StandsAt (λ g. i ≤ g) s.watches.rows from q d → StandsAt (λ g. i + 1 ≤ g) w.rows from q d
+  still_to_come q d m h = elim (later s.watches.rows from i u q d at h) [
+    | inl e ↦ absurd (m (sym e.0 ∙ same))
+    | inr b ↦ (b.0, b.1, b.2, ap (λ xs. slice_get xs b.0) same_row ∙ b.3, b.4, b.5)
   ]
 
-  kept_in_list : (l : Literal) (q : ℕ) (d : List Literal) → q ≢ k → Stands s.watches.rows l q d → Stands w.rows l q d
-  kept_in_list l q d o h = (h.0, kept_watcher l q h.0 o h.2 h.1, h.2, h.3)
+  still_there : (q : ℕ) (d : List Literal) → StandsAt (λ g. g < f) s.watches.rows from q d → StandsAt (λ g. g < f) w.rows from q d
+  still_there q d h = (h.0, h.1, h.2, ap (λ xs. slice_get xs h.0) same_row ∙ h.3, h.4, h.5)
+
+  kept_in_list : (l : Literal) (q : ℕ) (d : List Literal) → Stands s.watches.rows l q d → Stands w.rows l q d
+  kept_in_list l q d h = (h.0, grown.stays (code_of l) h.0 h.1, h.2, h.3)
 
   to_listed : Stands w.rows to k after
-  to_listed = (
-    n,
-    subst (λ xs. Contains xs n) (sym (r.drops.others (code_of to) (λ e. codes (sym e)))) (added_there s.watches.rows r.between (code_of to) n r.adds),
-    refl,
-    all_after c p j from to at_p at_j apart n.blocker blocks,
-  )
+  to_listed = (n, added_there s.watches.rows w.rows (code_of to) n r.adds, refl, all_after c p j from to at_p at_j apart n.blocker blocks)
 
   other_listed : Stands w.rows other k after
   other_listed =
       let h : Stands s.watches.rows other k c = v.kept.listed.listed k c other there other_watched in
-      (h.0, subst (λ xs. Contains xs h.0) (sym (r.drops.others (code_of other) (λ e. other_from (code_same other from e)))) (grown.stays (code_of other) h.0 h.1), h.2, all_after c p j from to at_p at_j apart h.0.blocker h.3)
+      (h.0, grown.stays (code_of other) h.0 h.1, h.2, all_after c p j from to at_p at_j apart h.0.blocker h.3)
 
   in_list : (l : Literal) → (l ≡ to) ⊎ (l ≡ other) → Stands w.rows l k after
   in_list l (inl e) = subst (λ x. Stands w.rows x k after) (sym e) to_listed
@@ -271,10 +254,10 @@ module _ (clauses : List (List Literal)) (s : Propagator) (w : WatchList) (from 
 
   listed : IsListed (room_of s.marks.vars) w
   listed = record {
-    size = r.drops.size ∙ r.adds.size ∙ v.kept.listed.size;
+    size = r.adds.size ∙ v.kept.listed.size;
     listed = λ q d l h is. elim (same_at q d h) [
       | inl e ↦ subst (λ y. Stands w.rows l y d) (sym e.0) (subst (Stands w.rows l k) (sym e.1) (in_list l (watched_now l (subst (λ x. IsWatched x l) e.1 is))))
-      | inr e ↦ kept_in_list l q d e.0 (v.kept.listed.listed q d l e.1 is)
+      | inr e ↦ kept_in_list l q d (v.kept.listed.listed q d l e.1 is)
     ];
     alone = λ q l h. subst (λ us. Contains us q) (sym r.units) (v.kept.listed.alone q l (unit_before q l h));
     units = λ q u h.
@@ -314,14 +297,15 @@ module _ (clauses : List (List Literal)) (s : Propagator) (w : WatchList) (from 
   not_from l (inl e) q = to_from (sym e ∙ q)
   not_from l (inr e) q = other_from (sym e ∙ q)
 
-  pub rewatched : IsVisiting clauses (record s { watches = w }) from i
+  pub rewatched : IsVisiting clauses (record s { watches = w }) from f (i + 1)
   rewatched = record {
     kept = kept_after;
     watching = watching_after;
     falsified = v.falsified;
+    order = let o : f ≤ i = v.order in omega arith;
     seen = λ q d h is. elim (same_at q d h) [
       | inl e ↦ absurd (not_from from (watched_now from (subst (λ x. IsWatched x from) e.1 is)) refl)
-      | inr e ↦ elim (v.seen q d e.1 is) [ inl t ↦ inl t | inr t ↦ inr (stays_pending q d e.0 t) ]
+      | inr e ↦ elim (v.seen q d e.1 is) [ inl t ↦ inl (t.0, still_there q d t.1) | inr t ↦ inr (still_to_come q d e.0 t) ]
     ];
   }
 
@@ -337,23 +321,19 @@ module _ (clauses : List (List Literal)) (s : Propagator) (w : WatchList) (from 
   pub rewatched_stays : Stays s (record s { watches = w })
   rewatched_stays = record { size = ap length is_set ∙ length-set s.watches.watched k after; units = unit_before; place = refl }
 
-  pub rewatched_row : length (row_at w.rows (code_of from)) + 1 ≡ length (row_at s.watches.rows (code_of from))
-  rewatched_row = r.drops.shorter ∙ ap length middle
+  pub rewatched_row : length (row_at w.rows (code_of from)) ≡ length (row_at s.watches.rows (code_of from))
+  rewatched_row = ap length same_row
 
 -- the clause may watch to in place of from
-pub rewatchable : (clauses : List (List Literal)) (s : Propagator) (from to other : Literal) (i : ℕ) (u : Watcher) (k p j : ℕ) (c : List Literal) → IsVisiting clauses s from i → slice_get (row_at s.watches.rows (code_of from)) i ≡ Some u
-    → slice_get s.watches.watched k ≡ Some c → IsSide c from p other → slice_get c j ≡ Some to → (Contains (literals_of s.marks.marks) (negated to) → ⊥) → All (IsWithin s.marks.vars) clauses
-    → (code_of from ≤ 2 * 2 ^ 30 + 1 → code_of from < length s.watches.rows) → CanRewatch s.watches i k p j from to
-rewatchable clauses s from to other i u k p j c v at there side at_j alive within fits = record {
+pub rewatchable : (clauses : List (List Literal)) (s : Propagator) (from to other : Literal) (f i k p j : ℕ) (c : List Literal) → IsVisiting clauses s from f i
+    → slice_get s.watches.watched k ≡ Some c → IsSide c from p other → slice_get c j ≡ Some to → All (IsWithin s.marks.vars) clauses → CanRewatch s.watches k p j from to
+rewatchable clauses s from to other f i k p j c v there side at_j within = record {
   clause = c;
   there = there;
   at_p = elim side.1 [ inl h ↦ ap (slice_get c) h.0 ∙ h.1 | inr h ↦ ap (slice_get c) h.0 ∙ h.1 ];
   at_j = at_j;
-  from_fits = fits;
   to_fits = λ h. list_fits s to v.kept (let w = v.watching k c there in
       All-contains (λ (x : Literal). x.var ≤ s.marks.vars) w.0 to (All-slice_get (IsWithin s.marks.vars) clauses k w.0 within w.1) (w.2.only to (Contains-slice_get c j to at_j))) h;
-  different = λ e. alive (subst (λ l. Contains (literals_of s.marks.marks) (negated l)) (sym (code_same to from e)) v.falsified);
-  in_row = slice_get_within (row_at s.watches.rows (code_of from)) i u at;
 }
 
 -- ---- a clause is watched anew

@@ -1,14 +1,14 @@
 -- Tables of lists, after a write to one list.
-use Rattle.std.proofs.Common.{◌≡◌, ◌≢◌, ℕ, suc, zero, ◌+◌, ◌-◌, ◌<◌, ◌≤◌, nat_eq, Bool, true, false, List, [], ◌∷◌, ◌++◌, ◌⊎◌, inl, inr, Some, map, set, take, get_or, slice_get, length, Contains, refl, sym, subst, ap, ◌∙◌, true≢false, arith}
-use Rattle.std.specs.List.{swap_remove}
-use Rattle.std.proofs.lemmas.List.{map-set, set-get_or, length-set, length-map, length-take, get_or-set_same, get_or-set_other, get_or-take, get_or-map}
+use Rattle.std.proofs.Common.{◌≡◌, ◌≢◌, ℕ, ◌+◌, ◌-◌, ◌<◌, ◌≤◌, nat_eq, Bool, true, false, List, [], ◌∷◌, ◌++◌, ◌⊎◌, inl, inr, map, set, take, drop, get_or, length, Contains, refl, sym, subst, ap, ◌∙◌, true≢false, arith}
+use Rattle.std.specs.List.{copy_within}
+use Rattle.std.proofs.Math.Seq.{paste}
+use Rattle.std.proofs.lemmas.List.Edits.{take-paste}
+use Rattle.std.proofs.lemmas.List.{map-set, set-get_or, length-set, length-map, length-drop, take_all, get_or-set_same, get_or-set_other, get_or-map}
 use Rattle.std.proofs.lemmas.List.Elements.{Contains-push, Contains-append_left}
-use Rattle.std.proofs.lemmas.Option.{slice_get_within, slice_get-get_or, get_or_from_slice_get}
 use Rattle.std.proofs.lemmas.Bool.Decides.{Decides-eqb}
 use Rattle.unit_propagate.specs.declared.rows.Watcher.{Watcher}
-use Rattle.unit_propagate.specs.Rows.{row_at, AddsTo, DropsAt}
+use Rattle.unit_propagate.specs.Rows.{row_at, AddsTo, SetsAt, CutsOut}
 use Rattle.unit_propagate.specs.Watches.{RowsGrow}
-use Rattle.unit_propagate.proofs.Places.{slice_get-set_same, slice_get-set_other}
 
 row_same : (rows : List (List Watcher)) (row : ℕ) (ys : List Watcher) → row < length rows → row_at (set rows row ys) row ≡ ys
 row_same rows row ys h = get_or-set_same rows row ys [] h
@@ -34,48 +34,34 @@ module _ {V : Type 0} (f : V → List Watcher) (vs : List V) (row : ℕ) (v v' :
     others = λ other n. row_other (map f vs) row other (f v') n;
   })
 
--- an element that isn't the removed one stays
-dropped_length : (xs : List Watcher) (i : ℕ) (d : Watcher) → i < length xs → length (swap_remove xs i d) + 1 ≡ length xs
-dropped_length xs i d h =
-    let a : length (set xs i (get_or xs (length xs - 1) d)) ≡ length xs = length-set xs i (get_or xs (length xs - 1) d) in
-    let b = length-take (length xs - 1) (set xs i (get_or xs (length xs - 1) d)) in
-    omega (arith, b)
+-- a write to one list, and a part taken out of it
+module _ {V : Type 0} (f : V → List Watcher) (vs : List V) (row : ℕ) (v v' : V) (fits : row < length (map f vs)) (there : v ≡ get_or vs row v) where
+  written : row_at (map f (set vs row v')) row ≡ f v'
+  written = ap (λ rows. row_at rows row) (map-set f vs row v') ∙ row_same (map f vs) row (f v') fits
 
-dropped_at : (xs : List Watcher) (i : ℕ) (d : Watcher) (k : ℕ) → k < length xs - 1 → slice_get (swap_remove xs i d) k ≡ slice_get (set xs i (get_or xs (length xs - 1) d)) k
-dropped_at xs i d k h =
-    let ys : List Watcher = set xs i (get_or xs (length xs - 1) d) in
-    let a : length ys ≡ length xs = length-set xs i (get_or xs (length xs - 1) d) in
-    let b = length-take (length xs - 1) ys in
-    slice_get-get_or (take (length xs - 1) ys) k d (omega (arith, b)) ∙ ap Some (get_or-take (length xs - 1) ys k d h) ∙ sym (slice_get-get_or ys k d (omega arith))
+  elsewhere : (other : ℕ) → other ≢ row → row_at (map f (set vs row v')) other ≡ row_at (map f vs) other
+  elsewhere other n = ap (λ rows. row_at rows other) (map-set f vs row v') ∙ row_other (map f vs) row other (f v') n
 
-dropped_stays : (xs : List Watcher) (i : ℕ) (d : Watcher) (j : ℕ) (number : Watcher) → i < length xs → slice_get xs j ≡ Some number → j ≢ i → (j + 1 < length xs) ⊎ (j + 1 ≡ length xs)
-    → (j' : ℕ) × (slice_get (swap_remove xs i d) j' ≡ Some number) × (i ≤ j → i ≤ j')
-dropped_stays xs i d j number lt at n (inl h) =
-    (j, dropped_at xs i d j (omega arith) ∙ slice_get-set_other xs i j (get_or xs (length xs - 1) d) n ∙ at, λ l. l)
-dropped_stays xs i d j number lt at n (inr h) =
-    let k : j ≡ length xs - 1 = omega arith in
-    let last : get_or xs (length xs - 1) d ≡ number = ap (λ x. get_or xs x d) (sym k) ∙ get_or_from_slice_get xs j number d at in
-    (i, dropped_at xs i d i (omega arith) ∙ slice_get-set_same xs i (get_or xs (length xs - 1) d) lt ∙ ap Some last, λ l. omega arith)
+  same_size : length (map f (set vs row v')) ≡ length (map f vs)
+  same_size = ap length (map-set f vs row v') ∙ length-set (map f vs) row (f v')
 
-last_or_not : (j n : ℕ) → j < n → (j + 1 < n) ⊎ (j + 1 ≡ n)
-last_or_not j zero h = absurd (omega arith)
-last_or_not zero (suc zero) h = inr (omega arith)
-last_or_not zero (suc (suc n)) h = inl (omega arith)
-last_or_not (suc j) (suc n) h = elim (last_or_not j n (omega arith)) [ inl a ↦ inl (omega arith) | inr b ↦ inr (omega arith) ]
+  pub in_row : (n : ℕ) → n ≤ length (row_at (map f vs) row) → n ≤ length (f v)
+  in_row n h = let e : length (row_at (map f vs) row) ≡ length (f v) = ap length (row_of f vs row v v' fits there) in omega arith
 
-module _ {V : Type 0} (f : V → List Watcher) (vs : List V) (row : ℕ) (v v' : V) (fits : row < length (map f vs)) (there : v ≡ get_or vs row v) (i : ℕ) (d : Watcher) (low : i < length (row_at (map f vs) row))
-    (is : f v' ≡ swap_remove (f v) i d) where
-  now : row_at (map f (set vs row v')) row ≡ swap_remove (row_at (map f vs) row) i d
-  now = ap (λ rows. row_at rows row) (map-set f vs row v') ∙ row_same (map f vs) row (f v') fits ∙ is ∙ ap (λ xs. swap_remove xs i d) (sym (row_of f vs row v v' fits there))
+  pub SetsAt-write : (i : ℕ) (x : Watcher) → f v' ≡ set (f v) i x → SetsAt (map f vs) (map f (set vs row v')) row i x
+  SetsAt-write i x e = record { size = same_size; here = written ∙ e ∙ ap (λ xs. set xs i x) (sym (row_of f vs row v v' fits there)); others = elsewhere }
 
-  pub DropsAt-write : DropsAt (map f vs) (map f (set vs row v')) row i
-  DropsAt-write = record {
-    size = ap length (map-set f vs row v') ∙ length-set (map f vs) row (f v');
-    shorter = ap (λ xs. length xs + 1) now ∙ dropped_length (row_at (map f vs) row) i d low;
-    stays = λ j number at n. let k = dropped_stays (row_at (map f vs) row) i d j number low at n (last_or_not j (length (row_at (map f vs) row)) (slice_get_within (row_at (map f vs) row) j number at)) in
-        (k.0, ap (λ xs. slice_get xs k.0) now ∙ k.1, k.2);
-    others = λ other n. ap (λ rows. row_at rows other) (map-set f vs row v') ∙ row_other (map f vs) row other (f v') n;
-  }
+  pub CutsOut-write : (from to : ℕ) → f v' ≡ take from (f v) ++ drop to (f v) → CutsOut (map f vs) (map f (set vs row v')) row from to
+  CutsOut-write from to e = record { size = same_size; here = written ∙ e ∙ ap (λ xs. take from xs ++ drop to xs) (sym (row_of f vs row v v' fits there)); others = elsewhere }
+
+-- what is behind is copied to the place of what is taken out, and the end cut off
+pub cut_out : (xs ys zs : List Watcher) (from to end behind : ℕ) → from ≤ to → to ≤ length xs → end ≡ length xs → behind ≡ length xs - to
+    → ys ≡ copy_within xs to end from → zs ≡ take (from + behind) ys → zs ≡ take from xs ++ drop to xs
+cut_out xs ys zs from to end behind le lt e b copied cut =
+    let n : end - to ≡ behind = omega arith in
+    let len : length (drop to xs) ≡ length xs - to = length-drop to xs in
+    cut ∙ ap (take (from + behind)) (copied ∙ ap (paste xs from (drop to xs)) n)
+    ∙ take-paste xs from (drop to xs) behind (omega arith) (omega arith) ∙ ap (λ ds. take from xs ++ ds) (take_all behind (drop to xs) (omega arith))
 
 -- ---- lists that only grow
 pub RowsGrow-same : (rows : List (List Watcher)) → RowsGrow rows rows

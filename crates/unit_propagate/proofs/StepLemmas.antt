@@ -12,11 +12,13 @@ use Rattle.unit_propagate.specs.Trail.{literals_of}
 use Rattle.unit_propagate.specs.Sound.{IsReason}
 use Rattle.unit_propagate.specs.Marks.{MarkList}
 use Rattle.unit_propagate.specs.Watched.{IsWatchOf, IsWatched, HasTrue}
-use Rattle.unit_propagate.specs.Rows.{row_at, code_of}
+use Rattle.clause_base.specs.Codes.{code_of}
+use Rattle.unit_propagate.specs.Rows.{row_at}
 use Rattle.unit_propagate.specs.Watches.{IsSide}
 use Rattle.unit_propagate.specs.Propagator.{IsKept, IsVisiting}
 use Rattle.unit_propagate.proofs.Places.{All-slice_get, All-from_contains, slice_get-Contains, Contains-slice_get}
-use Rattle.unit_propagate.proofs.PropagatorLemmas.{same_literal, code_fits, passed, falsified_at, reason_at, last_there, IsVisiting-push}
+use Rattle.unit_propagate.proofs.CodeLemmas.{code_fits}
+use Rattle.unit_propagate.proofs.PropagatorLemmas.{same_literal, passed, last_there, falsified_at, reason_at}
 
 -- the literals from the third on are false, up to a place
 pub false_more : (marks : List Mark) (lits : List Literal) (i : ℕ) (x : Literal) → slice_get lits i ≡ Some x → Contains (literals_of marks) (negated x)
@@ -36,23 +38,20 @@ pub false_all : (marks : List Mark) (lits : List Literal) (i : ℕ) → length l
     → (j : ℕ) (y : Literal) → 2 ≤ j → slice_get lits j ≡ Some y → Contains (literals_of marks) (negated y)
 false_all marks lits i h before j y low there = before j y low (let l : j < length lits = slice_get_within lits j y there in omega arith) there
 
-module _ (clauses : List (List Literal)) (s : Propagator) (l : Literal) (i : ℕ) (u : Watcher) (v : IsVisiting clauses s l i) (there : slice_get (row_at s.watches.rows (code_of l)) i ≡ Some u) where
-  -- the blocker is true
-  pub next_blocked : Contains (literals_of s.marks.marks) u.blocker → IsVisiting clauses s l (i + 1)
-  next_blocked h = passed clauses s l i u v there (λ c at is member. (u.blocker, member, h))
-
+module _ (clauses : List (List Literal)) (s : Propagator) (l : Literal) (j i : ℕ) (u : Watcher) (v : IsVisiting clauses s l j i) (there : slice_get (row_at s.watches.rows (code_of l)) i ≡ Some u) where
   -- there is no such clause
-  pub next_past : length s.watches.watched ≤ u.clause → IsVisiting clauses s l (i + 1)
-  next_past h = passed clauses s l i u v there (λ c at is member. absurd (let lt : u.clause < length s.watches.watched = slice_get_within s.watches.watched u.clause c at in omega arith))
+  pub gone_past : length s.watches.watched ≤ u.clause → IsVisiting clauses s l j (i + 1)
+  gone_past h = passed clauses s l j i u v there (λ c at is. absurd (let lt : u.clause < length s.watches.watched = slice_get_within s.watches.watched u.clause c at in omega arith))
 
   module _ (c : List Literal) (at : slice_get s.watches.watched u.clause ≡ Some c) where
     -- it doesn't watch the literal
-    pub next_apart : (IsWatched c l → ⊥) → IsVisiting clauses s l (i + 1)
-    next_apart h = passed clauses s l i u v there (λ d there' is member. let e : d ≡ c = cc in absurd (h (subst (λ x. IsWatched x l) e is)))
+    pub gone_apart : (IsWatched c l → ⊥) → IsVisiting clauses s l j (i + 1)
+    gone_apart h = passed clauses s l j i u v there (λ d there' is. let e : d ≡ c = cc in absurd (h (subst (λ x. IsWatched x l) e is)))
 
     -- some literal is true
-    pub next_true : HasTrue s.marks.marks c → IsVisiting clauses s l (i + 1)
-    next_true h = passed clauses s l i u v there (λ d there' is member. let e : c ≡ d = cc in subst (HasTrue s.marks.marks) e h)
+    pub has_true : (b : Literal) → Contains c b → Contains (literals_of s.marks.marks) b → (d : List Literal) → slice_get s.watches.watched u.clause ≡ Some d → IsWatched d l → Contains d u.blocker
+        → HasTrue s.marks.marks d × Contains d b
+    has_true b in_c h d there' is member = let e : c ≡ d = cc in let in_d : Contains d b = subst (λ x. Contains x b) e in_c in ((b, in_d, h), in_d)
 
     module _ (p : ℕ) (other : Literal) (side : IsSide c l p other) where
       pub other_there : Contains c other
@@ -100,16 +99,19 @@ module _ (clauses : List (List Literal)) (s : Propagator) (l : Literal) (i : ℕ
         let w = v.watching u.clause c at in
         All-contains (λ (y : Literal). y.var ≤ vars) w.0 x (All-slice_get (IsWithin vars) clauses u.clause w.0 h w.1) (w.2.only x m)
 
--- the other watched literal was forced
-pub next_forced : (clauses : List (List Literal)) (s : Propagator) (l : Literal) (i : ℕ) (u : Watcher) (c : List Literal) (other : Literal) (m : Mark) (after : MarkList) → after ≡ record { vars = s.marks.vars; marks = s.marks.marks ++ m ∷ [] }
-    → m.lit ≡ other → IsVisiting clauses s l i → slice_get (row_at s.watches.rows (code_of l)) i ≡ Some u → slice_get s.watches.watched u.clause ≡ Some c → Contains c other
-    → IsVisiting clauses (record s { marks = after }) l (i + 1)
-next_forced clauses s l i u c other m after e lit v there at is =
-    next_true clauses (record s { marks = after }) l i u (IsVisiting-push clauses s m after l i e v) there c at (
-      other,
-      is,
-      subst (Contains (literals_of after.marks)) lit (subst (λ (x : MarkList). Contains (literals_of x.marks) m.lit) (sym e) (last_there s.marks.marks m)),
-    )
+-- there is a place left open in the list before the one that is looked at
+pub open_place : (clauses : List (List Literal)) (s : Propagator) (l : Literal) (j i : ℕ) (u : Watcher) → IsVisiting clauses s l j i → slice_get (row_at s.watches.rows (code_of l)) i ≡ Some u
+    → j < length (row_at s.watches.rows (code_of l))
+open_place clauses s l j i u v at = let o : j ≤ i = v.order in let lt : i < length (row_at s.watches.rows (code_of l)) = slice_get_within (row_at s.watches.rows (code_of l)) i u at in omega arith
+
+-- the blocker is true
+pub blocked : (s : Propagator) (l : Literal) (u : Watcher) → Contains (literals_of s.marks.marks) u.blocker → (c : List Literal) → slice_get s.watches.watched u.clause ≡ Some c → IsWatched c l → Contains c u.blocker
+    → HasTrue s.marks.marks c × Contains c u.blocker
+blocked s l u h c at is member = ((u.blocker, member, h), member)
+
+-- a literal that was forced is true
+pub forced_there : (s : Propagator) (m : Mark) (after : MarkList) → after ≡ record { vars = s.marks.vars; marks = s.marks.marks ++ m ∷ [] } → Contains (literals_of after.marks) m.lit
+forced_there s m after e = subst (λ (x : MarkList). Contains (literals_of x.marks) m.lit) (sym e) (last_there s.marks.marks m)
 
 -- a literal's list is in the table
 pub list_fits : (s : Propagator) (l : Literal) → IsKept s → l.var ≤ s.marks.vars → code_of l ≤ 2 * 2 ^ 30 + 1 → code_of l < length s.watches.rows

@@ -5,8 +5,9 @@ use Rattle.std.proofs.lemmas.Option.{slice_get_within}
 use Rattle.clause_base.specs.Literal.{Literal}
 use Rattle.clause_base.proofs.Members.{Contains-head, Contains-later}
 use Rattle.unit_propagate.specs.declared.rows.Watcher.{Watcher}
-use Rattle.unit_propagate.specs.Rows.{row_at, code_of, AddsTo, DropsAt}
-use Rattle.unit_propagate.specs.Watches.{WatchList, Adds, AddsAlone, KeepsWatches, Rewatches, CanRewatch, ordered, exchanged, Stands, differs}
+use Rattle.clause_base.specs.Codes.{code_of}
+use Rattle.unit_propagate.specs.Rows.{row_at, AddsTo, SetsAt, CutsOut}
+use Rattle.unit_propagate.specs.Watches.{WatchList, Adds, AddsAlone, KeepsWatches, Rewatches, CanRewatch, Keeps, Cuts, ordered, exchanged, Stands, differs}
 use Rattle.unit_propagate.proofs.RowsLemmas.{RowsGrow-same, RowsGrow-trans, RowsGrow-adds, added_there}
 use Rattle.unit_propagate.proofs.RewatchLemmas.{ordered_sides, ordered_more}
 
@@ -70,31 +71,25 @@ AddsAlone-of w l watched units k e s u = record { watched = e; rows = refl; unit
 pub KeepsWatches-same : (w : WatchList) (watched : List (List Literal)) (units : List ℕ) → watched ≡ w.watched → units ≡ w.units → KeepsWatches w (record { watched = watched; rows = w.rows; units = units })
 KeepsWatches-same w watched units e u = record { watched = e; grow = RowsGrow-same w.rows; units = u }
 
-pub Rewatches-of : (w : WatchList) (i : ℕ) (n : Watcher) (p j : ℕ) (from to : Literal) (between rows : List (List Watcher)) (row row' : ℕ) (watched : List (List Literal)) → CanRewatch w i n.clause p j from to → row ≡ code_of to → row' ≡ code_of from
-    → AddsTo w.rows between row n → DropsAt between rows row' i
+pub Rewatches-of : (w : WatchList) (n : Watcher) (p j : ℕ) (from to : Literal) (rows : List (List Watcher)) (row : ℕ) (watched : List (List Literal)) → CanRewatch w n.clause p j from to → row ≡ code_of to
+    → AddsTo w.rows rows row n
     → ((c : List Literal) (a b : Literal) → slice_get w.watched n.clause ≡ Some c → slice_get c p ≡ Some a → slice_get c j ≡ Some b → watched ≡ slice_set w.watched n.clause (exchanged c p j a b))
-    → Rewatches w (record { watched = watched; rows = rows; units = w.units }) i n p j from to
-Rewatches-of w i n p j from to between rows row row' watched can e f adds drops is = record {
+    → Rewatches w (record { watched = watched; rows = rows; units = w.units }) n p j from to
+Rewatches-of w n p j from to rows row watched can e adds is = record {
   watched = λ c at. let a = can.there in let s : can.clause ≡ c = cc in is c from to at (subst (λ x. slice_get x p ≡ Some from) s can.at_p) (subst (λ x. slice_get x j ≡ Some to) s can.at_j);
-  between = between;
-  adds = subst (λ x. AddsTo w.rows between x n) e adds;
-  drops = subst (λ x. DropsAt between rows x i) f drops;
+  adds = subst (λ x. AddsTo w.rows rows x n) e adds;
   units = refl;
 }
 
--- the lists are there
-pub to_in_table : (w : WatchList) (i k p j : ℕ) (from to : Literal) (row : ℕ) → CanRewatch w i k p j from to → row ≡ code_of to → row ≤ 2 * 2 ^ 30 + 1 → row < length w.rows
-to_in_table w i k p j from to row can e le = let h : code_of to < length w.rows = can.to_fits (omega arith) in omega arith
+-- the list is there
+pub to_in_table : (w : WatchList) (k p j : ℕ) (from to : Literal) (row : ℕ) → CanRewatch w k p j from to → row ≡ code_of to → row ≤ 2 * 2 ^ 30 + 1 → row < length w.rows
+to_in_table w k p j from to row can e le = let h : code_of to < length w.rows = can.to_fits (omega arith) in omega arith
 
-pub from_in_table : (w : WatchList) (i : ℕ) (n : Watcher) (p j : ℕ) (from to : Literal) (between : List (List Watcher)) (row row' : ℕ) → CanRewatch w i n.clause p j from to → row ≡ code_of to → AddsTo w.rows between row n
-    → row' ≡ code_of from → row' ≤ 2 * 2 ^ 30 + 1 → row' < length between
-from_in_table w i n p j from to between row row' can e adds f le =
-    let h : code_of from < length w.rows = can.from_fits (omega arith) in let s : length between ≡ length w.rows = adds.size in omega arith
+pub clause_there : (w : WatchList) (k p j : ℕ) (from to : Literal) → CanRewatch w k p j from to → (c : List Literal) × (slice_get w.watched k ≡ Some c) × (p < length c) × (j < length c)
+clause_there w k p j from to can = (can.clause, can.there, slice_get_within can.clause p from can.at_p, slice_get_within can.clause j to can.at_j)
 
-pub from_in_row : (w : WatchList) (i : ℕ) (n : Watcher) (p j : ℕ) (from to : Literal) (between : List (List Watcher)) (row row' : ℕ) → CanRewatch w i n.clause p j from to → row ≡ code_of to → AddsTo w.rows between row n
-    → row' ≡ code_of from → i < length (row_at between row')
-from_in_row w i n p j from to between row row' can e adds f =
-    subst (λ x. i < length (row_at between x)) (sym f) (subst (λ xs. i < length xs) (sym (adds.others (code_of from) (λ q. can.different (sym (q ∙ e))))) can.in_row)
+pub Keeps-of : (w : WatchList) (row row' i : ℕ) (x : Watcher) (rows : List (List Watcher)) → row ≡ row' → SetsAt w.rows rows row i x → Keeps w (record { watched = w.watched; rows = rows; units = w.units }) row' i x
+Keeps-of w row row' i x rows e sets = record { watched = refl; sets = subst (λ r. SetsAt w.rows rows r i x) e sets; units = refl }
 
-pub clause_there : (w : WatchList) (i k p j : ℕ) (from to : Literal) → CanRewatch w i k p j from to → (c : List Literal) × (slice_get w.watched k ≡ Some c) × (p < length c) × (j < length c)
-clause_there w i k p j from to can = (can.clause, can.there, slice_get_within can.clause p from can.at_p, slice_get_within can.clause j to can.at_j)
+pub Cuts-of : (w : WatchList) (row row' from to : ℕ) (rows : List (List Watcher)) → row ≡ row' → CutsOut w.rows rows row from to → Cuts w (record { watched = w.watched; rows = rows; units = w.units }) row' from to
+Cuts-of w row row' from to rows e cuts = record { watched = refl; cuts = subst (λ r. CutsOut w.rows rows r from to) e cuts; units = refl }

@@ -10,7 +10,8 @@ use Rattle.unit_propagate.specs.Trail.{literals_of}
 use Rattle.unit_propagate.specs.Sound.{Extends}
 use Rattle.unit_propagate.specs.Marks.{room_of}
 use Rattle.unit_propagate.specs.Watched.{IsWatching, IsWatched, HasTrue}
-use Rattle.unit_propagate.specs.Rows.{row_at, code_of}
+use Rattle.clause_base.specs.Codes.{code_of}
+use Rattle.unit_propagate.specs.Rows.{row_at}
 use Rattle.unit_propagate.specs.Watches.{IsListed, IsGuarded, IsDone}
 
 -- The base clauses and those of the entries.
@@ -27,18 +28,19 @@ pub record IsKept (s : Propagator) : Type 0 where
   pub kept : s.kept ≤ s.place
   pub forced : s.done ≤ length s.watches.units
 
--- A clause stands in the list of a literal, at a place or behind it, with one of its own literals as its blocker.
-abbrev pub IsPending : List (List Watcher) → Literal → ℕ → ℕ → List Literal → Type 0
-IsPending rows l i k clause = (j : ℕ) × (x : Watcher) × (i ≤ j) × (slice_get (row_at rows (code_of l)) j ≡ Some x) × (x.clause ≡ k) × Contains clause x.blocker
+-- A clause stands in the list of a literal, at a place of some kind, with one of its own literals as its blocker.
+abbrev pub StandsAt : (ℕ → Type 0) → List (List Watcher) → Literal → ℕ → List Literal → Type 0
+StandsAt P rows l k clause = (g : ℕ) × (x : Watcher) × P g × (slice_get (row_at rows (code_of l)) g ≡ Some x) × (x.clause ≡ k) × Contains clause x.blocker
 
--- The clauses that watch a false literal are looked at, up to a place of its list: in each of them that isn't to come, some literal is
--- true.
-pub record IsVisiting (clauses : List (List Literal)) (s : Propagator) (l : Literal) (i : ℕ) : Type 0 where
+-- The clauses that watch a false literal are looked at, up to place i of its list, where those that stay have gone to the places before
+-- place j: in each of them that isn't to come, some literal is true.
+pub record IsVisiting (clauses : List (List Literal)) (s : Propagator) (l : Literal) (j i : ℕ) : Type 0 where
   pub kept : IsKept s
   pub watching : IsWatching clauses s.watches.watched
   pub falsified : Contains (literals_of s.marks.marks) (negated l)
+  pub order : j ≤ i
   pub seen : (k : ℕ) (c : List Literal) → slice_get s.watches.watched k ≡ Some c → IsWatched c l
-      → HasTrue s.marks.marks c ⊎ IsPending s.watches.rows l i k c
+      → (HasTrue s.marks.marks c × StandsAt (λ g. g < j) s.watches.rows l k c) ⊎ StandsAt (λ g. i ≤ g) s.watches.rows l k c
 
 -- What propagation leaves at each step.
 pub record Goes (clauses : List (List Literal)) (old new : Propagator) : Type 0 where

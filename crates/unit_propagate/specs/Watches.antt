@@ -2,7 +2,8 @@ use Rattle.std.specs.Prelude.{◌≡◌, ◌≢◌, ℕ, ◌+◌, ◌*◌, ◌^�
 use Rattle.clause_base.specs.Literal.{Literal, negated, literal_eq}
 use Rattle.unit_propagate.specs.declared.marks.Mark.{Mark}
 use Rattle.unit_propagate.specs.declared.rows.Watcher.{Watcher}
-use Rattle.unit_propagate.specs.Rows.{row_at, code_of, AddsTo, DropsAt}
+use Rattle.clause_base.specs.Codes.{code_of}
+use Rattle.unit_propagate.specs.Rows.{row_at, AddsTo, SetsAt, CutsOut}
 use Rattle.unit_propagate.specs.Watched.{IsWatched}
 
 -- What a `Watches` is seen as: the literals of each clause, the watched ones first, for each literal the clauses that watch it, and the places of the clauses with one literal.
@@ -43,23 +44,30 @@ IsSide c l p other = (1 < length c) × (((p ≡ 0) × (slice_get c 0 ≡ Some l)
 abbrev pub exchanged : List Literal → ℕ → ℕ → Literal → Literal → List Literal
 exchanged c p j from to = slice_set (slice_set c p to) j from
 
--- Clause k stands at place i of the list of its literal at place p, and has another literal at place j.
-pub record CanRewatch (old : WatchList) (i k p j : ℕ) (from to : Literal) : Type 0 where
+-- Clause k has two literals at two places, whose lists are in the table.
+pub record CanRewatch (old : WatchList) (k p j : ℕ) (from to : Literal) : Type 0 where
   pub clause : List Literal
   pub there : slice_get old.watched k ≡ Some clause
   pub at_p : slice_get clause p ≡ Some from
   pub at_j : slice_get clause j ≡ Some to
-  pub from_fits : code_of from ≤ 2 * 2 ^ 30 + 1 → code_of from < length old.rows
   pub to_fits : code_of to ≤ 2 * 2 ^ 30 + 1 → code_of to < length old.rows
-  pub different : code_of to ≢ code_of from
-  pub in_row : i < length (row_at old.rows (code_of from))
 
--- A clause watches the literal at place j in place of that at place p, as this watcher.
-pub record Rewatches (old new : WatchList) (i : ℕ) (x : Watcher) (p j : ℕ) (from to : Literal) : Type 0 where
+-- A clause watches the literal at place j in place of that at place p, as this watcher. In the list of the latter it still stands.
+pub record Rewatches (old new : WatchList) (x : Watcher) (p j : ℕ) (from to : Literal) : Type 0 where
   pub watched : (c : List Literal) → slice_get old.watched x.clause ≡ Some c → new.watched ≡ slice_set old.watched x.clause (exchanged c p j from to)
-  pub between : List (List Watcher)
-  pub adds : AddsTo old.rows between (code_of to) x
-  pub drops : DropsAt between new.rows (code_of from) i
+  pub adds : AddsTo old.rows new.rows (code_of to) x
+  pub units : new.units ≡ old.units
+
+-- A watcher is written at place i of one list.
+pub record Keeps (old new : WatchList) (row i : ℕ) (x : Watcher) : Type 0 where
+  pub watched : new.watched ≡ old.watched
+  pub sets : SetsAt old.rows new.rows row i x
+  pub units : new.units ≡ old.units
+
+-- The watchers from one place of a list up to another are taken out of it.
+pub record Cuts (old new : WatchList) (row from to : ℕ) : Type 0 where
+  pub watched : new.watched ≡ old.watched
+  pub cuts : CutsOut old.rows new.rows row from to
   pub units : new.units ≡ old.units
 
 -- A clause of two literals or more is watched from now on.

@@ -6,11 +6,11 @@ use clause_base::Lit;
 use std::alloc::{AllocError, Global};
 use std::marker::Model;
 
-/// Where the literals of a clause begin in the array, and where they end.
+/// Where the literals of a clause begin in the array, and where they end. The array has places for fewer than 2^32 literals.
 #[derive(Clone, Copy, Debug)]
 pub struct Span {
-    pub start: usize,
-    pub end: usize,
+    pub start: u32,
+    pub end: u32,
 }
 
 /// Clauses, whose literals stand one behind the other in one array. Seen by contracts as the list of the clauses.
@@ -21,7 +21,7 @@ pub struct Arena {
 }
 
 impl Model for Arena {
-    ghost use Rattle.std.specs.Prelude.{List, length};
+    ghost use Rattle.std.specs.Prelude.{List, length, ◌<◌, ◌^◌};
     ghost use Rattle.clause_base.specs.Literal.{Literal};
     ghost use Rattle.unit_propagate.specs.Arena.{parts_at, AreSpans};
 
@@ -29,7 +29,22 @@ impl Model for Arena {
 
     ghost view = { λ a. parts_at a.lits.items a.spans.items };
 
-    ghost invariant = { λ a. AreSpans (length a.lits.items) a.spans.items };
+    ghost invariant = { λ a. AreSpans (length a.lits.items) a.spans.items × (length a.spans.items < 2 ^ 32) };
+}
+
+/// The span of one clause more than so many. Past the last place of an array there is no memory.
+fn span_of(start: usize, end: usize, count: usize) -> Result<Span, AllocError>
+    requires { start ≤ end }
+    ensures value { IfOk result (λ s. s ≡ record { start = start; end = end }) }
+    ensures few { OnOk result (count + 1 < 2 ^ 32) }
+{
+    if end.max(count) >= u32::MAX as usize {
+        return Err(AllocError);
+    }
+    Ok(Span {
+        start: start as u32,
+        end: end as u32,
+    })
 }
 
 /// Whether a literal is neither of two.
@@ -81,7 +96,7 @@ impl Arena {
     /// The number of clauses.
     pub fn len(&self) -> usize
         ensures value { result ≡ length self.now }
-        ensures small { result < 2 ^ 63 }
+        ensures small { result < 2 ^ 32 }
     {
         self.spans.len()
     }
@@ -92,7 +107,7 @@ impl Arena {
         ensures { slice_get self.now k ≡ Some result.now }
     {
         let span = self.spans[k];
-        &self.lits[span.start..span.end]
+        &self.lits[span.start as usize..span.end as usize]
     }
 
     /// Two literals of a clause change places.
@@ -100,7 +115,7 @@ impl Arena {
         requires { (c : List Literal) × (slice_get self.old k ≡ Some c) × (i < length c) × (j < length c) }
         ensures { (c : List Literal) (a b : Literal) → slice_get self.old k ≡ Some c → slice_get c i ≡ Some a → slice_get c j ≡ Some b → self.new ≡ slice_set self.old k (exchanged c i j a b) }
     {
-        let start = self.spans[k].start;
+        let start = self.spans[k].start as usize;
         let lit = self.lits[start + i];
         self.lits[start + i] = self.lits[start + j];
         self.lits[start + j] = lit;
@@ -113,8 +128,8 @@ impl Arena {
     {
         let start = self.lits.len();
         append(&mut self.lits, lits, first, second)?;
-        let end = self.lits.len();
-        self.spans.push(Span { start, end })?;
+        let span = span_of(start, self.lits.len(), self.spans.len())?;
+        self.spans.push(span)?;
         Ok(())
     }
 
@@ -125,8 +140,8 @@ impl Arena {
     {
         let start = self.lits.len();
         self.lits.push(lit)?;
-        let end = self.lits.len();
-        self.spans.push(Span { start, end })?;
+        let span = span_of(start, self.lits.len(), self.spans.len())?;
+        self.spans.push(span)?;
         Ok(())
     }
 }

@@ -29,8 +29,8 @@ pub struct Marks {
     vars: u32,
     slots: Vec<Option<Slot>>,
 
-    // The signs of the slots: a small table, which propagation looks into.
-    signs: Vec<Option<bool>>,
+    // Whether each literal is true, by its number: a small table, which propagation looks into.
+    trues: Vec<bool>,
     marks: Vec<Mark>,
 }
 
@@ -39,7 +39,14 @@ impl Model for Marks {
 
     ghost view = { λ t. record { vars = t.vars; marks = t.marks.items } };
 
-    ghost invariant = { λ t. IsMarks t.vars t.slots.items t.signs.items t.marks.items (vec_capacity t.marks) };
+    ghost invariant = { λ t. IsMarks t.vars t.slots.items t.trues.items t.marks.items (vec_capacity t.marks) };
+}
+
+/// A place of a table of flags.
+fn flag_at(flags: &[bool], place: usize) -> Option<bool>
+    ensures { result ≡ slice_get flags.now place }
+{
+    flags.get(place).copied()
 }
 
 impl Marks {
@@ -49,12 +56,12 @@ impl Marks {
     {
         let room = vars.min(1 << 30) as usize + 1;
         let slots = vec![in alloc; None; room]?;
-        let signs = vec![in alloc; None; room]?;
+        let trues = vec![in alloc; false; 2 * room]?;
         let marks = Vec::with_capacity(alloc, room)?;
         Ok(Marks {
             vars,
             slots,
-            signs,
+            trues,
             marks,
         })
     }
@@ -85,15 +92,6 @@ impl Marks {
         self.slots.get(var as usize).copied().flatten()
     }
 
-    /// The sign of the literal that gives a variable its value.
-    fn sign(&self, var: u32) -> Option<bool>
-        ensures some { IfSome result (λ sign. (i : ℕ) × (m : Mark) × (slice_get self.now.marks i ≡ Some m) × (m.lit ≡ record { var = var; positive = sign })) }
-        ensures none { IfNone result (IsFree self.now.marks var) }
-        ensures trail { IsTrail self.now.vars self.now.marks }
-    {
-        self.signs.get(var as usize).copied().flatten()
-    }
-
     /// The highest level, which is that of the last literal.
     pub fn level(&self) -> u32
         ensures value { result ≡ highest_level self.now.marks }
@@ -120,7 +118,7 @@ impl Marks {
         let positive = lit.is_positive();
         let var = lit.var() as usize;
         self.slots[var] = Some(Slot { positive, place });
-        self.signs[var] = Some(positive);
+        self.trues[lit.code() as usize] = true;
         self.marks.push(Mark { lit, level, reason }).unwrap();
     }
 
@@ -134,7 +132,7 @@ impl Marks {
         let last = self.marks.pop()?;
         let var = last.lit.var() as usize;
         self.slots[var] = None;
-        self.signs[var] = None;
+        self.trues[last.lit.code() as usize] = false;
         Some(last)
     }
 
@@ -161,10 +159,7 @@ impl Marks {
         ensures no { OnFalse result (Contains (literals_of self.now.marks) lit → ⊥) }
         ensures trail { IsTrail self.now.vars self.now.marks }
     {
-        match self.sign(lit.var()) {
-            Some(positive) => positive == lit.is_positive(),
-            None => false,
-        }
+        flag_at(&self.trues, lit.code() as usize).unwrap_or(false)
     }
 
     /// Whether a literal is false.

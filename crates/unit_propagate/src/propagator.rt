@@ -1,10 +1,10 @@
-ghost use Rattle.std.specs.Prelude.{◌≡◌, ◌≢◌, ℕ, ◌+◌, ◌*◌, ◌<◌, ◌≤◌, ◌^◌, ◌⊎◌, true, false, List, [], ◌∷◌, ◌++◌, None, Some, Ok, All, Contains, length, filter, nat_le, slice_get, IfOk, IfSome, IfNone, OnOk};
+ghost use Rattle.std.specs.Prelude.{◌≡◌, ◌≢◌, ℕ, ◌+◌, ◌*◌, ◌<◌, ◌≤◌, ◌^◌, ◌⊎◌, true, false, List, [], ◌∷◌, ◌++◌, None, Some, Ok, All, Contains, length, filter, nat_le, slice_get, IfOk, IfSome, IfNone, OnOk, OnErr};
 ghost use Rattle.std.specs.Bool.{OnTrue, OnFalse};
 ghost use Rattle.clause_base.specs.Literal.{Literal, negated};
 ghost use Rattle.clause_base.specs.Clause.{IsClause, IsWithin};
 ghost use Rattle.refutation_log.specs.Follows.{is_falsified_named};
 ghost use Rattle.unit_propagate.specs.declared.marks.Mark.{Mark};
-ghost use Rattle.unit_propagate.specs.declared.propagator.Step.TheVariants.{Next, Again, Conflict};
+ghost use Rattle.unit_propagate.specs.declared.propagator.Step.TheVariants.{Kept, Gone, Conflict};
 ghost use Rattle.unit_propagate.specs.Trail.{IsTrail, highest_level, literals_of};
 ghost use Rattle.unit_propagate.specs.Quiet.{IsQuiet};
 ghost use Rattle.unit_propagate.specs.Watched.{IsWatched};
@@ -148,12 +148,20 @@ fn open_literal(marks: &Marks, lits: &[Lit]) -> Option<Placed>
 /// How the look at a clause that watches a false literal ended.
 #[derive(Clone, Copy, Debug)]
 enum Step {
-    /// Some literal of the clause is true: on to the next clause of the list.
-    Next,
-    /// The clause left the list, and another stands at its place.
-    Again,
+    /// Some literal of the clause is true, and it stays in the list.
+    Kept,
+    /// The clause leaves the list.
+    Gone,
     /// All of its literals are false.
     Conflict,
+}
+
+/// How far the list of a literal that became false was looked at: the watchers before `kept` stay, and those from `place` on are to come.
+#[derive(Debug, Drop)]
+struct Looked {
+    kept: usize,
+    place: usize,
+    end: Result<Option<u64>, AllocError>,
 }
 
 /// A trail with what it watches, and how far it was looked at.
@@ -173,7 +181,8 @@ impl Propagator {
     ghost use Rattle.unit_propagate.specs.declared.propagator.Propagator.{Propagator};
     ghost use Rattle.unit_propagate.specs.Sound.{IsReason};
     ghost use Rattle.unit_propagate.specs.Watched.{IsWatching};
-    ghost use Rattle.unit_propagate.specs.Rows.{row_at, code_of};
+    ghost use Rattle.clause_base.specs.Codes.{code_of};
+    ghost use Rattle.unit_propagate.specs.Rows.{row_at};
     ghost use Rattle.unit_propagate.specs.Propagator.{clauses_in, IsKept, IsVisiting, IsVisited, Goes, Stays, AreUnitsTrue};
 
     /// An empty trail, which watches nothing.
@@ -328,61 +337,117 @@ impl Propagator {
         true
     }
 
-    /// Looks at a clause, which stands at place `i` of the list of a literal that became false.
+    /// Looks at a clause, which stands at place `i` of the list of a literal that became false. Where it stays in the list it goes to place
+    /// `to`, with a literal that is true as its blocker.
     fn step(
         &mut self,
         base: &Cnf,
         seen: &[Entry],
         falsified: Lit,
+        to: usize,
         i: usize,
         watcher: Watcher,
     ) -> Result<Step, AllocError>
         requires within { All (IsWithin self.old.marks.vars) (clauses_in base.now seen.now) }
-        requires visiting { IsVisiting (clauses_in base.now seen.now) self.old falsified i }
+        requires visiting { IsVisiting (clauses_in base.now seen.now) self.old falsified to i }
         requires fits { code_of falsified ≤ 2 * 2 ^ 30 + 1 → code_of falsified < length self.old.watches.rows }
         requires there { slice_get (row_at self.old.watches.rows (code_of falsified)) i ≡ Some watcher }
-        ensures next { result ≡ Ok Next → IsVisiting (clauses_in base.now seen.now) self.new falsified (i + 1) }
-        ensures next_row { result ≡ Ok Next → length (row_at self.new.watches.rows (code_of falsified)) ≡ length (row_at self.old.watches.rows (code_of falsified)) }
-        ensures again { result ≡ Ok Again → IsVisiting (clauses_in base.now seen.now) self.new falsified i }
-        ensures again_row { result ≡ Ok Again → length (row_at self.new.watches.rows (code_of falsified)) + 1 ≡ length (row_at self.old.watches.rows (code_of falsified)) }
+        ensures stays_there { result ≡ Ok Kept → IsVisiting (clauses_in base.now seen.now) self.new falsified (to + 1) (i + 1) }
+        ensures gone { result ≡ Ok Gone → IsVisiting (clauses_in base.now seen.now) self.new falsified to (i + 1) }
         ensures conflict { result ≡ Ok Conflict → is_falsified_named (clauses_in base.now seen.now) (literals_of self.new.marks.marks) (watcher.clause + 1) ≡ true }
-        ensures small { result ≡ Ok Conflict → watcher.clause + 1 < 2 ^ 64 }
+        ensures still { result ≡ Ok Conflict → self.new ≡ self.old }
+        ensures err { OnErr result (self.new ≡ self.old) }
+        ensures row { length (row_at self.new.watches.rows (code_of falsified)) ≡ length (row_at self.old.watches.rows (code_of falsified)) }
+        ensures size { length self.new.watches.rows ≡ length self.old.watches.rows }
         ensures goes { Goes (clauses_in base.now seen.now) self.old self.new }
         ensures stays { Stays self.old self.new }
     {
         if self.marks.is_true(watcher.blocker) {
-            return Ok(Step::Next);
+            self.watches.keep(falsified, to, watcher);
+            return Ok(Step::Kept);
         }
-        let k = watcher.clause;
+        let k = watcher.clause as usize;
         if k >= self.watches.len() {
-            return Ok(Step::Next);
+            return Ok(Step::Gone);
         }
         let lits = self.watches.clause(k);
         let Some(side) = side_of(lits, falsified) else {
-            return Ok(Step::Next);
+            return Ok(Step::Gone);
         };
-        let other = side.other;
-        if self.marks.is_true(other) {
-            return Ok(Step::Next);
+        let blocker = side.other;
+        let next = Watcher {
+            clause: watcher.clause,
+            blocker,
+        };
+        if self.marks.is_true(blocker) {
+            self.watches.keep(falsified, to, next);
+            return Ok(Step::Kept);
         }
-        if let Some(next) = open_literal(&self.marks, lits) {
-            let watcher = Watcher {
-                clause: k,
-                blocker: other,
-            };
+        if let Some(open) = open_literal(&self.marks, lits) {
             self.watches
-                .rewatch(i, watcher, side.place, next.place, falsified, next.lit)?;
-            return Ok(Step::Again);
+                .rewatch(next, side.place, open.place, falsified, open.lit)?;
+            return Ok(Step::Gone);
         }
-        if self.marks.is_false(other) {
+        if self.marks.is_false(blocker) {
             return Ok(Step::Conflict);
         }
         let level = self.marks.level();
-        self.marks.push(other, level, Some(k as u64 + 1));
-        Ok(Step::Next)
+        self.marks.push(blocker, level, Some(k as u64 + 1));
+        self.watches.keep(falsified, to, next);
+        Ok(Step::Kept)
     }
 
-    /// Looks at each clause that watches a literal that became false. Answers the number of one that is falsified.
+    /// Looks at each clause that watches a literal that became false, until one is falsified.
+    fn look(&mut self, base: &Cnf, seen: &[Entry], falsified: Lit) -> Looked
+        requires within { All (IsWithin self.old.marks.vars) (clauses_in base.now seen.now) }
+        requires visiting { IsVisiting (clauses_in base.now seen.now) self.old falsified 0 0 }
+        requires fits { code_of falsified ≤ 2 * 2 ^ 30 + 1 → code_of falsified < length self.old.watches.rows }
+        ensures visiting { IsVisiting (clauses_in base.now seen.now) self.new falsified result.kept result.place }
+        ensures in_row { result.place ≤ length (row_at self.new.watches.rows (code_of falsified)) }
+        ensures size { length self.new.watches.rows ≡ length self.old.watches.rows }
+        ensures all { result.end ≡ Ok None → IsVisited self.new falsified }
+        ensures falsified { (n : ℕ) → result.end ≡ Ok (Some n) → is_falsified_named (clauses_in base.now seen.now) (literals_of self.new.marks.marks) n ≡ true }
+        ensures goes { Goes (clauses_in base.now seen.now) self.old self.new }
+        ensures stays { Stays self.old self.new }
+    {
+        let mut kept = 0;
+        let mut place = 0;
+        while let Some(watcher) = self.watches.watcher(falsified, place) {
+            let clause = watcher.clause;
+            let step = match self.step(base, seen, falsified, kept, place, watcher) {
+                Ok(step) => step,
+                Err(error) => {
+                    return Looked {
+                        kept,
+                        place,
+                        end: Err(error),
+                    };
+                }
+            };
+            match step {
+                Step::Kept => {
+                    kept += 1;
+                    place += 1;
+                }
+                Step::Gone => place += 1,
+                Step::Conflict => {
+                    return Looked {
+                        kept,
+                        place,
+                        end: Ok(Some(clause as u64 + 1)),
+                    };
+                }
+            }
+        }
+        Looked {
+            kept,
+            place,
+            end: Ok(None),
+        }
+    }
+
+    /// Looks at each clause that watches a literal that became false, and closes up what those that left its list leave open. Answers the
+    /// number of one that is falsified.
     fn visit(
         &mut self,
         base: &Cnf,
@@ -390,23 +455,16 @@ impl Propagator {
         falsified: Lit,
     ) -> Result<Option<u64>, AllocError>
         requires within { All (IsWithin self.old.marks.vars) (clauses_in base.now seen.now) }
-        requires visiting { IsVisiting (clauses_in base.now seen.now) self.old falsified 0 }
+        requires visiting { IsVisiting (clauses_in base.now seen.now) self.old falsified 0 0 }
         requires fits { code_of falsified ≤ 2 * 2 ^ 30 + 1 → code_of falsified < length self.old.watches.rows }
         ensures all { result ≡ Ok None → IsVisited self.new falsified }
         ensures falsified { (n : ℕ) → result ≡ Ok (Some n) → is_falsified_named (clauses_in base.now seen.now) (literals_of self.new.marks.marks) n ≡ true }
         ensures goes { Goes (clauses_in base.now seen.now) self.old self.new }
         ensures stays { Stays self.old self.new }
     {
-        let mut i = 0;
-        while let Some(watcher) = self.watches.watcher(falsified, i) {
-            let k = watcher.clause;
-            match self.step(base, seen, falsified, i, watcher)? {
-                Step::Next => i += 1,
-                Step::Again => {}
-                Step::Conflict => return Ok(Some(k as u64 + 1)),
-            }
-        }
-        Ok(None)
+        let looked = self.look(base, seen, falsified);
+        self.watches.cut(falsified, looked.kept, looked.place);
+        looked.end
     }
 
     /// Looks at the next literal of the trail. Answers the number of a clause that is falsified.

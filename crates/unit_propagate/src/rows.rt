@@ -1,5 +1,5 @@
-ghost use Rattle.std.specs.Prelude.{◌≡◌, ◌+◌, ◌<◌, List, [], length, map, replicate, slice_get, IsSome, ◌^◌, IfOk, OnOk, OnErr};
-ghost use Rattle.unit_propagate.specs.Rows.{row_at, AddsTo, DropsAt};
+ghost use Rattle.std.specs.Prelude.{◌≡◌, ◌<◌, ◌≤◌, List, [], length, map, replicate, slice_get, IsSome, ◌^◌, IfOk, OnOk, OnErr};
+ghost use Rattle.unit_propagate.specs.Rows.{row_at, AddsTo, SetsAt, CutsOut};
 
 use clause_base::Lit;
 use std::alloc::{AllocError, Global};
@@ -9,7 +9,7 @@ use std::marker::Model;
 /// needs nothing.
 #[derive(Clone, Copy, Debug)]
 pub struct Watcher {
-    pub clause: usize,
+    pub clause: u32,
     pub blocker: Lit,
 }
 
@@ -59,12 +59,25 @@ impl Rows {
         Ok(())
     }
 
-    /// Takes the watcher at place `i` out of a list, and puts the last one in its place.
-    pub fn swap_remove(&mut self, row: usize, i: usize)
+    /// Writes a watcher at place `i` of a list.
+    pub fn set(&mut self, row: usize, i: usize, watcher: Watcher)
         requires in_table { row < length self.old }
         requires in_row { i < length (row_at self.old row) }
-        ensures { DropsAt self.old self.new row i }
+        ensures { SetsAt self.old self.new row i watcher }
     {
-        let _watcher = self.rows[row].swap_remove(i);
+        self.rows[row][i] = watcher;
+    }
+
+    /// Takes the watchers from place `from` up to place `to` out of a list. Costs the number of those behind.
+    pub fn cut(&mut self, row: usize, from: usize, to: usize)
+        requires order { from ≤ to }
+        requires in_table { row < length self.old }
+        requires in_row { to ≤ length (row_at self.old row) }
+        ensures { CutsOut self.old self.new row from to }
+    {
+        let list = &mut self.rows[row];
+        let behind = list.len() - to;
+        list.copy_within(to.., from);
+        list.truncate(from + behind);
     }
 }

@@ -1,7 +1,8 @@
 ghost use Rattle.std.specs.Prelude.{◌≡◌, ◌≢◌, ℕ, ◌+◌, ◌*◌, ◌<◌, ◌≤◌, ◌^◌, List, [], ◌∷◌, replicate, length, slice_get, IfOk, OnOk, OnErr, Some, IsSome};
 ghost use Rattle.clause_base.specs.Literal.{Literal};
-ghost use Rattle.unit_propagate.specs.Rows.{row_at, code_of};
-ghost use Rattle.unit_propagate.specs.Watches.{WatchList, Adds, AddsAlone, KeepsWatches, Rewatches, CanRewatch, ordered};
+ghost use Rattle.clause_base.specs.Codes.{code_of};
+ghost use Rattle.unit_propagate.specs.Rows.{row_at};
+ghost use Rattle.unit_propagate.specs.Watches.{WatchList, Adds, AddsAlone, KeepsWatches, Rewatches, CanRewatch, Keeps, Cuts, ordered};
 
 use crate::arena::Arena;
 use crate::rows::{Rows, Watcher};
@@ -30,7 +31,7 @@ fn code(lit: Lit) -> usize
     ensures value { result ≡ code_of lit }
     ensures small { result ≤ 2 * 2 ^ 30 + 1 }
 {
-    2 * lit.var() as usize + usize::from(lit.is_positive())
+    lit.code() as usize
 }
 
 impl Watches {
@@ -49,7 +50,7 @@ impl Watches {
     /// The number of clauses.
     pub fn len(&self) -> usize
         ensures value { result ≡ length self.now.watched }
-        ensures small { result < 2 ^ 63 }
+        ensures small { result < 2 ^ 32 }
     {
         self.arena.len()
     }
@@ -96,25 +97,42 @@ impl Watches {
         self.rows.get(code(lit), i)
     }
 
-    /// A clause at place `i` of the list of its literal `from` at place `p` watches its literal `to` at place `j` in that one's place, as
-    /// this watcher.
+    /// Writes a watcher at place `i` of the list of a literal.
+    pub fn keep(&mut self, lit: Lit, i: usize, watcher: Watcher)
+        requires fits { code_of lit ≤ 2 * 2 ^ 30 + 1 → code_of lit < length self.old.rows }
+        requires in_row { i < length (row_at self.old.rows (code_of lit)) }
+        ensures { Keeps self.old self.new (code_of lit) i watcher }
+    {
+        self.rows.set(code(lit), i, watcher);
+    }
+
+    /// Takes the watchers from place `from` up to place `to` out of the list of a literal.
+    pub fn cut(&mut self, lit: Lit, from: usize, to: usize)
+        requires order { from ≤ to }
+        requires fits { code_of lit ≤ 2 * 2 ^ 30 + 1 → code_of lit < length self.old.rows }
+        requires in_row { to ≤ length (row_at self.old.rows (code_of lit)) }
+        ensures { Cuts self.old self.new (code_of lit) from to }
+    {
+        self.rows.cut(code(lit), from, to);
+    }
+
+    /// A clause watches its literal `to` at place `j`, as this watcher, in place of its literal `from` at place `p`, in whose list it still
+    /// stands.
     pub fn rewatch(
         &mut self,
-        i: usize,
         watcher: Watcher,
         p: usize,
         j: usize,
         from: Lit,
         to: Lit,
     ) -> Result<(), AllocError>
-        requires { CanRewatch self.old i watcher.clause p j from to }
-        ensures ok { OnOk result (Rewatches self.old self.new i watcher p j from to) }
+        requires { CanRewatch self.old watcher.clause p j from to }
+        ensures ok { OnOk result (Rewatches self.old self.new watcher p j from to) }
         ensures err { OnErr result (self.new ≡ self.old) }
     {
-        let k = watcher.clause;
+        let clause = watcher.clause;
         self.rows.push(code(to), watcher)?;
-        self.arena.exchange(k, p, j);
-        self.rows.swap_remove(code(from), i);
+        self.arena.exchange(clause as usize, p, j);
         Ok(())
     }
 
@@ -125,18 +143,18 @@ impl Watches {
         ensures ok { OnOk result (Adds self.old self.new (ordered lits.now first second)) }
         ensures err { OnErr result (KeepsWatches self.old self.new) }
     {
-        let k = self.arena.len();
+        let clause = self.arena.len() as u32;
         self.rows.push(
             code(first),
             Watcher {
-                clause: k,
+                clause,
                 blocker: second,
             },
         )?;
         self.rows.push(
             code(second),
             Watcher {
-                clause: k,
+                clause,
                 blocker: first,
             },
         )?;

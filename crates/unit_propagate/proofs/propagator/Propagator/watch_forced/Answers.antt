@@ -8,7 +8,7 @@ use Rattle.unit_propagate.specs.declared.propagator.Propagator.{Propagator}
 use Rattle.unit_propagate.specs.Trail.{literals_of}
 use Rattle.unit_propagate.specs.Sound.{IsReason}
 use Rattle.unit_propagate.specs.Marks.{MarkList}
-use Rattle.unit_propagate.specs.Rows.{code_of}
+use Rattle.clause_base.specs.Codes.{code_of}
 use Rattle.unit_propagate.specs.Watches.{WatchList}
 use Rattle.unit_propagate.proofs.PropagatorLemmas.{reason_at}
 use Rattle.unit_propagate.proofs.StepLemmas.{list_fits}

@@ -1,0 +1,12 @@
+use Rattle.std.proofs.Common.{◌≡◌, ◌≤◌, ◌-◌, length}
+use Rattle.clause_base.specs.Codes.{code_of}
+use Rattle.unit_propagate.specs.Rows.{row_at}
+use Rattle.unit_propagate.specs.Propagator.{clauses_in, IsVisiting, Goes, Stays}
+use Rattle.unit_propagate.proofs.propagator.Propagator.look.Given as goal
+
+abbrev pub invariant-loop-watcher : goal.invariant-loop-watcher
+invariant-loop-watcher l = IsVisiting (clauses_in l.base l.seen) l.self l.falsified l.kept l.place × Goes (clauses_in l.base l.seen) l.initial.self l.self × Stays l.initial.self l.self
+    × (length l.self.watches.rows ≡ length l.initial.self.watches.rows) × (l.place ≤ length (row_at l.self.watches.rows (code_of l.falsified)))
+
+abbrev pub decreases-loop-watcher : goal.decreases-loop-watcher
+decreases-loop-watcher l = length (row_at l.self.watches.rows (code_of l.falsified)) - l.place
