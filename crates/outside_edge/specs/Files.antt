@@ -1,7 +1,6 @@
 -- What a shelf holds. This project's own.
 use Rattle.std.specs.Prelude.{◌≡◌, ℕ, ◌≤◌, ◌↔◌, List, [], ◌∷◌, ◌++◌, length, take, drop, Option, None, Some, unwrap_or, if◌then◌else◌, IfSome, IfOk, Result, nat_eq}
 use Rattle.std.specs.Cmp.Lexicographic.{pointwise}
-use Rattle.outside_edge.specs.declared.shelf.ShelfFault.{ShelfFault}
 
 -- the bytes under each name that is there
 abbrev pub Files : Type 0
@@ -38,7 +37,7 @@ abbrev pub part_of : List ℕ → ℕ → ℕ → List ℕ
 part_of bytes from most = take most (drop from bytes)
 
 -- a list of bytes gained at most so many others, and the answer of a call that appended them is how many
-pub record Appends (most : ℕ) (before after : List ℕ) (answer : Result ℕ ShelfFault) : Type 0 where
+pub record Appends {E : Type 0} (most : ℕ) (before after : List ℕ) (answer : Result ℕ E) : Type 0 where
   pub bytes : List ℕ
   pub gained : after ≡ before ++ bytes
   pub within : length bytes ≤ most

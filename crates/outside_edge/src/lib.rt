@@ -13,6 +13,7 @@ mod hold_gate;
 mod in_memory;
 mod memory_shelf;
 mod memory_sink;
+mod open_part;
 mod plain_shelf;
 mod plain_sink;
 mod share_gate;

@@ -74,32 +74,3 @@ impl Sink for MemorySink {
         Ok(())
     }
 }
-
-#[cfg(test)]
-mod tests {
-    use super::*;
-    use crate::PlainSink;
-    use std::test::Fail;
-
-    fn put<K: Sink>(sink: &mut K, bytes: &[u8]) -> Result<(), SinkFault> {
-        sink.put(bytes)
-    }
-
-    #[test]
-    fn fails_at_stated_calls(rt: HostRuntime) -> Result<(), Fail> {
-        let failing = Vec::from_slice(rt.alloc(), &[2])?;
-        let mut sink = MemorySink::new(rt.alloc(), failing);
-        assert_eq!(rt; put(&mut sink, b"ab"), Ok(()));
-        assert_eq!(rt; put(&mut sink, b"cd"), Err(SinkFault::Failed));
-        assert_eq!(rt; put(&mut sink, b"ef"), Ok(()));
-        assert_eq!(rt; sink.bytes(), b"abef".as_slice());
-        Ok(())
-    }
-
-    #[test]
-    fn a_plain_sink_never_fails(rt: HostRuntime) {
-        let mut sink = PlainSink::new(rt.alloc());
-        assert_eq!(rt; put(&mut sink, b"ab"), Ok(()));
-        assert_eq!(rt; sink.bytes(), b"ab".as_slice());
-    }
-}

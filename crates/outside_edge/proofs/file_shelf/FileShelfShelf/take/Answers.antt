@@ -1,9 +1,23 @@
-use Rattle.std.proofs.Common.{rules}
-use Rattle.outside_edge.proofs.EdgeLemmas.{Rose-push, count_of-push_other}
+use Rattle.std.proofs.Common.{◌≡◌, ◌≤◌, ℕ, List, ap, sym, subst, ◌∙◌}
+use Rattle.outside_edge.specs.Faults.{count_of}
 use Rattle.outside_edge.proofs.file_shelf.FileShelfShelf.take.Goals as goal
 
-pub returns-in-Failed-clause-failed : goal.returns-in-Failed-clause-failed
-returns-in-Failed-clause-failed g c = λ _. Rose-push c.args.self.now c.push_reserved.new.self.items c.args.name.now (search rules)
+-- closing leaves the counts as the part left them
+as_before : (part closed : List (List ℕ)) (other : List ℕ) (n : ℕ) → closed ≡ part → count_of part other ≡ n → count_of closed other ≡ n
+as_before part closed other n same counted = ap (λ names. count_of names other) same ∙ counted
 
-pub returns-in-Failed-clause-others : goal.returns-in-Failed-clause-others
-returns-in-Failed-clause-others g c other differ = count_of-push_other c.args.self.now c.push_reserved.new.self.items c.args.name.now other (search rules) differ
+not_below : (part closed : List (List ℕ)) (any : List ℕ) (n : ℕ) → closed ≡ part → n ≤ count_of part any → n ≤ count_of closed any
+not_below part closed any n same risen =
+    let P : List (List ℕ) → Type 0 = λ names. n ≤ count_of names any in subst P (sym same) risen
+
+pub returns-then-count-limit-clause-others : goal.returns-then-count-limit-clause-others
+returns-then-count-limit-clause-others g c other differ = as_before _ _ other _ c.close.ensures.same (c.part.ensures.others other differ)
+
+pub returns-then-count-limit-clause-never_falls : goal.returns-then-count-limit-clause-never_falls
+returns-then-count-limit-clause-never_falls g c any = not_below _ _ any _ c.close.ensures.same (c.part.ensures.never_falls any)
+
+pub returns-clause-others : goal.returns-clause-others
+returns-clause-others g c other differ = as_before _ _ other _ c.close.ensures.same (c.part.ensures.others other differ)
+
+pub returns-clause-never_falls : goal.returns-clause-never_falls
+returns-clause-never_falls g c any = not_below _ _ any _ c.close.ensures.same (c.part.ensures.never_falls any)

@@ -1,5 +1,5 @@
 use Rattle.std.proofs.Common.{◌≡◌, ℕ, ◌+◌, List, ◌++◌, length}
-use Rattle.outside_edge.proofs.file_shelf.append_next.Given as goal
+use Rattle.outside_edge.proofs.open_part.append_next.Given as goal
 
 -- what was appended so far, and the room that is left
 abbrev pub invariant-loop-room : goal.invariant-loop-room
