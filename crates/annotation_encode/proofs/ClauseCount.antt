@@ -13,13 +13,15 @@ use Rattle.clause_base.specs.Literal.{Literal}
 use Rattle.letter_word.specs.Signals.{has}
 use Rattle.letter_word.specs.declared.cubes.Cube.{Cube}
 use Rattle.letter_word.proofs.Sets.{has-past}
-use Rattle.machine_model.specs.Automaton.{rejects}
+use Rattle.machine_model.specs.Automaton.{rejects, states_of}
 use Rattle.machine_model.specs.Problem.{automaton_of, reads_of}
 use Rattle.machine_model.specs.declared.automata.Edge.{Edge}
 use Rattle.machine_model.specs.declared.problems.Problem.{Problem}
-use Rattle.annotation_encode.specs.BaseClauses.{all_below, base_clauses, each_below, edge_clauses, fits_read, is_idle, letter_clauses, order_clause, order_clauses, read_signal, row_clause, row_clauses, row_count, row_orders, signal_fits, start_clause, state_clauses, step_clause, step_clauses}
-use Rattle.annotation_encode.specs.Count.{count_of, free_below, is_free, order_count, target_count}
-use Rattle.annotation_encode.specs.Variables.{letter_count, number_count}
+use Rattle.product_bound.specs.Annotation.{bound_at, rejecting_at}
+use Rattle.annotation_encode.specs.BaseClauses.{all_below, base_clauses, chain_clause, chain_clauses, each_below, edge_clauses, fits_read, is_idle, letter_clauses, order_clause, order_clauses, pair_chains, read_signal, row_clause, row_clauses, row_count, row_orders, signal_fits, start_clause, state_chains, state_clauses, step_clause, step_clauses, step_count}
+use Rattle.annotation_encode.specs.Count.{chain_count, count_of, free_below, is_free, most_clauses, order_count, target_count}
+use Rattle.annotation_encode.specs.Variables.{counted_before, letter_count}
+use Rattle.annotation_encode.proofs.Counted.{length-each_sum, sum_first-times}
 use Rattle.annotation_encode.proofs.Lists.{length-each_below}
 
 -- how many numbers below n pass a test
@@ -191,12 +193,12 @@ module _ (p : Problem) (cube : Cube) where
 single : {A : Type 0} (x : A) → length (x ∷ []) ≡ 1
 single x = refl
 
-length-steps : (p : Problem) (e : Edge) (t i to : ℕ) (idle : Bool) → is_idle p e t to ≡ idle → length (step_clauses p e t i to) ≡ cond idle 0 (number_count p)
-length-steps p e t i to true h = ap length (cond-true (is_idle p e t to) [] (each_below (number_count p) (λ c. step_clause p e t i to c ∷ [])) h)
+length-steps : (p : Problem) (e : Edge) (t i to : ℕ) (idle : Bool) → is_idle p e t to ≡ idle → length (step_clauses p e t i to) ≡ cond idle 0 (step_count p e)
+length-steps p e t i to true h = ap length (cond-true (is_idle p e t to) [] (each_below (step_count p e) (λ c. step_clause p e t i to c ∷ [])) h)
 length-steps p e t i to false h =
-    ap length (cond-false (is_idle p e t to) [] (each_below (number_count p) (λ c. step_clause p e t i to c ∷ [])) h)
-    ∙ length-each_below (number_count p) 1 (λ c. step_clause p e t i to c ∷ []) (λ c less. refl)
-    ∙ (let z : number_count p * 1 ≡ number_count p = omega arith in z)
+    ap length (cond-false (is_idle p e t to) [] (each_below (step_count p e) (λ c. step_clause p e t i to c ∷ [])) h)
+    ∙ length-each_below (step_count p e) 1 (λ c. step_clause p e t i to c ∷ []) (λ c less. refl)
+    ∙ (let z : step_count p e * 1 ≡ step_count p e = omega arith in z)
 
 targets : (p : Problem) (e : Edge) (t : ℕ) → t < p.size → count_below p.size (λ to. not (is_idle p e t to)) ≡ target_count p e
 targets p e t ht = go ((e.from == e.to) && not (rejects (automaton_of p) e.to)) refl
@@ -213,12 +215,12 @@ targets p e t ht = go ((e.from == e.to) && not (rejects (automaton_of p) e.to)) 
         ∙ count_below-all p.size (λ to. not ((t == to) && false)) (λ k less. ap not (right_zero (t == k)))
         ∙ sym (cond-false ((e.from == e.to) && not (rejects (automaton_of p) e.to)) (p.size - 1) p.size h)
 
-length-targets : (p : Problem) (e : Edge) (t i : ℕ) → t < p.size → length (each_below p.size (λ to. step_clauses p e t i to)) ≡ target_count p e * number_count p
+length-targets : (p : Problem) (e : Edge) (t i : ℕ) → t < p.size → length (each_below p.size (λ to. step_clauses p e t i to)) ≡ target_count p e * step_count p e
 length-targets p e t i ht =
-    length-each_if p.size (number_count p) (λ to. not (is_idle p e t to)) (λ to. step_clauses p e t i to)
+    length-each_if p.size (step_count p e) (λ to. not (is_idle p e t to)) (λ to. step_clauses p e t i to)
     (λ to less busy. length-steps p e t i to false (opposite (is_idle p e t to) busy))
     (λ to less idle. length-steps p e t i to true (opposite' (is_idle p e t to) idle))
-    ∙ ap (λ n. n * number_count p) (targets p e t ht)
+    ∙ ap (λ n. n * step_count p e) (targets p e t ht)
   where
     opposite : (b : Bool) → not b ≡ true → b ≡ false
     opposite true e = absurd (let x : false ≡ true = e in cc)
@@ -228,62 +230,96 @@ length-targets p e t i ht =
     opposite' true e = refl
     opposite' false e = absurd (let x : true ≡ false = e in cc)
 
-length-letters : (p : Problem) (e : Edge) (t : ℕ) → t < p.size → length (state_clauses p e t) ≡ 2 ^ free_below p e.cube (reads_of p) * (target_count p e * number_count p)
+length-letters : (p : Problem) (e : Edge) (t : ℕ) → t < p.size → length (state_clauses p e t) ≡ 2 ^ free_below p e.cube (reads_of p) * (target_count p e * step_count p e)
 unfolding fits_first
 length-letters p e t ht =
-    length-each_if (letter_count p) (target_count p e * number_count p) (λ i. fits_read p e.cube i) (λ i. letter_clauses p e t i)
+    length-each_if (letter_count p) (target_count p e * step_count p e) (λ i. fits_read p e.cube i) (λ i. letter_clauses p e t i)
     (λ i less fits. ap length (cond-true (fits_read p e.cube i) (each_below p.size (λ to. step_clauses p e t i to)) [] fits) ∙ length-targets p e t i ht)
     (λ i less misses. ap length (cond-false (fits_read p e.cube i) (each_below p.size (λ to. step_clauses p e t i to)) [] misses))
-    ∙ ap (λ n. n * (target_count p e * number_count p)) (fitting p e.cube (reads_of p))
+    ∙ ap (λ n. n * (target_count p e * step_count p e)) (fitting p e.cube (reads_of p))
 
-pub length-edge : (p : Problem) (e : Edge) → length (edge_clauses p e) ≡ p.size * (2 ^ free_below p e.cube (reads_of p) * (target_count p e * number_count p))
-length-edge p e = length-each_below p.size (2 ^ free_below p e.cube (reads_of p) * (target_count p e * number_count p)) (λ t. state_clauses p e t) (λ t ht. length-letters p e t ht)
+pub length-edge : (p : Problem) (e : Edge) → length (edge_clauses p e) ≡ p.size * (2 ^ free_below p e.cube (reads_of p) * (target_count p e * step_count p e))
+length-edge p e = length-each_below p.size (2 ^ free_below p e.cube (reads_of p) * (target_count p e * step_count p e)) (λ t. state_clauses p e t) (λ t ht. length-letters p e t ht)
 
 -- the other clauses
 pub length-rows : (p : Problem) → length (row_clauses p) ≡ row_count p
 length-rows p = length-each_below (row_count p) 1 (λ place. row_clause p place ∷ []) (λ place less. refl) ∙ (let z : row_count p * 1 ≡ row_count p = omega arith in z)
 
-pub length-orders : (p : Problem) → length (order_clauses p) ≡ order_count p
-length-orders p = go (p.version == 2) refl
+length-pair_chains : (p : Problem) (t q : ℕ) → length (pair_chains p t q) ≡ p.size * rejecting_at p q
+length-pair_chains p t q = length-each_below (bound_at p q) 1 (λ c. chain_clause p t q c ∷ []) (λ c less. refl) ∙ (let z : bound_at p q * 1 ≡ bound_at p q = omega arith in z)
+
+length-state_chains : (p : Problem) (t : ℕ) → length (state_chains p t) ≡ p.size * counted_before p (states_of (automaton_of p))
+length-state_chains p t =
+    length-each_sum (states_of (automaton_of p)) (λ q. pair_chains p t q) (λ q. p.size * rejecting_at p q) (λ q less. length-pair_chains p t q)
+    ∙ sum_first-times p.size (rejecting_at p) (states_of (automaton_of p))
+
+pub length-chains : (p : Problem) → length (chain_clauses p) ≡ chain_count p
+length-chains p = go (p.version == 3) refl
   where
-    go : (b : Bool) → (p.version == 2) ≡ b → length (cond (p.version == 2) (each_below (row_count p) (λ place. row_orders p place)) []) ≡ cond (p.version == 2) (row_count p * (p.size - 2)) 0
+    go : (b : Bool) → (p.version == 3) ≡ b → length (cond (p.version == 3) (each_below p.size (λ t. state_chains p t)) [])
+        ≡ cond (p.version == 3) (p.size * (p.size * counted_before p (states_of (automaton_of p)))) 0
     go true h =
-        ap length (cond-true (p.version == 2) (each_below (row_count p) (λ place. row_orders p place)) [] h)
+        ap length (cond-true (p.version == 3) (each_below p.size (λ t. state_chains p t)) [] h)
+        ∙ length-each_below p.size (p.size * counted_before p (states_of (automaton_of p))) (λ t. state_chains p t) (λ t less. length-state_chains p t)
+        ∙ sym (cond-true (p.version == 3) (p.size * (p.size * counted_before p (states_of (automaton_of p)))) 0 h)
+    go false h =
+        ap length (cond-false (p.version == 3) (each_below p.size (λ t. state_chains p t)) [] h)
+        ∙ sym (cond-false (p.version == 3) (p.size * (p.size * counted_before p (states_of (automaton_of p)))) 0 h)
+
+pub length-orders : (p : Problem) → length (order_clauses p) ≡ order_count p
+length-orders p = go (nat_le 2 p.version) refl
+  where
+    go : (b : Bool) → nat_le 2 p.version ≡ b
+        → length (cond (nat_le 2 p.version) (each_below (row_count p) (λ place. row_orders p place)) []) ≡ cond (nat_le 2 p.version) (row_count p * (p.size - 2)) 0
+    go true h =
+        ap length (cond-true (nat_le 2 p.version) (each_below (row_count p) (λ place. row_orders p place)) [] h)
         ∙ length-each_below (row_count p) (p.size - 2) (λ place. row_orders p place)
         (λ place less. length-each_below (p.size - 2) 1 (λ k. order_clause p place (k + 2) ∷ []) (λ k less. refl) ∙ (let z : (p.size - 2) * 1 ≡ p.size - 2 = omega arith in z))
-        ∙ sym (cond-true (p.version == 2) (row_count p * (p.size - 2)) 0 h)
+        ∙ sym (cond-true (nat_le 2 p.version) (row_count p * (p.size - 2)) 0 h)
     go false h =
-        ap length (cond-false (p.version == 2) (each_below (row_count p) (λ place. row_orders p place)) [] h)
-        ∙ sym (cond-false (p.version == 2) (row_count p * (p.size - 2)) 0 h)
+        ap length (cond-false (nat_le 2 p.version) (each_below (row_count p) (λ place. row_orders p place)) [] h)
+        ∙ sym (cond-false (nat_le 2 p.version) (row_count p * (p.size - 2)) 0 h)
 
-pub length-base : (p : Problem) → length (base_clauses p) ≡ row_count p + 1 + order_count p + length (flat_map (edge_clauses p) (automaton_of p).edges)
+-- how many base clauses are about no edge
+abbrev pub beside_edges : Problem → ℕ
+beside_edges p = row_count p + 1 + chain_count p + order_count p
+
+pub length-base : (p : Problem) → length (base_clauses p) ≡ beside_edges p + length (flat_map (edge_clauses p) (automaton_of p).edges)
 length-base p =
     let steps : List (List Literal) = flat_map (edge_clauses p) (automaton_of p).edges in
-    let all : length (row_clauses p ++ (start_clause p ∷ (steps ++ order_clauses p))) ≡ length (row_clauses p) + length (start_clause p ∷ (steps ++ order_clauses p)) = length-append (row_clauses p) (start_clause p ∷ (steps ++ order_clauses p)) in
-    let rest : length (steps ++ order_clauses p) ≡ length steps + length (order_clauses p) = length-append steps (order_clauses p) in
+    let more : List (List Literal) = chain_clauses p ++ order_clauses p in
+    let all : length (row_clauses p ++ (start_clause p ∷ (steps ++ more))) ≡ length (row_clauses p) + length (start_clause p ∷ (steps ++ more)) = length-append (row_clauses p) (start_clause p ∷ (steps ++ more)) in
+    let rest : length (steps ++ more) ≡ length steps + length more = length-append steps more in
+    let last : length more ≡ length (chain_clauses p) + length (order_clauses p) = length-append (chain_clauses p) (order_clauses p) in
     let rows : length (row_clauses p) ≡ row_count p = length-rows p in
+    let chains : length (chain_clauses p) ≡ chain_count p = length-chains p in
     let orders : length (order_clauses p) ≡ order_count p = length-orders p in
-    omega (arith, all, rest, rows, orders)
+    omega (arith, all, rest, last, rows, chains, orders)
 
 -- the answers of `count`
-pub count_none : (p : Problem) → 1000000 < length (base_clauses p) → None ≡ count_of p
-count_none p h = go (nat_le (length (base_clauses p)) 1000000) refl
+pub count_none : (p : Problem) → most_clauses p < length (base_clauses p) → None ≡ count_of p
+count_none p h = go (nat_le (length (base_clauses p)) (most_clauses p)) refl
   where
-    go : (b : Bool) → nat_le (length (base_clauses p)) 1000000 ≡ b → None ≡ cond b (Some (length (base_clauses p))) None
+    go : (b : Bool) → nat_le (length (base_clauses p)) (most_clauses p) ≡ b → None ≡ cond b (Some (length (base_clauses p))) None
     go false e = refl
-    go true e = elim (leb_tells (length (base_clauses p)) 1000000) [
-      | inl le ↦ absurd (let most : length (base_clauses p) ≤ 1000000 = le.1 in omega (arith, most, h))
+    go true e = elim (leb_tells (length (base_clauses p)) (most_clauses p)) [
+      | inl le ↦ absurd (let most : length (base_clauses p) ≤ most_clauses p = le.1 in omega (arith, most, h))
       | inr gt ↦ absurd (let x : true ≡ false = sym e ∙ gt.0 in cc)
     ]
 
-pub count_some : (p : Problem) (n : ℕ) → n ≡ length (base_clauses p) → n ≤ 1000000 → Some n ≡ count_of p
-count_some p n same small = go (nat_le (length (base_clauses p)) 1000000) refl
+pub too_many : (p : Problem) → most_clauses p < beside_edges p → None ≡ count_of p
+too_many p many =
+    let base : length (base_clauses p) ≡ beside_edges p + length (flat_map (edge_clauses p) (automaton_of p).edges) = length-base p in
+    count_none p (omega (arith, base, many))
+
+pub count_some : (p : Problem) (n : ℕ) → n ≡ length (base_clauses p) → n ≤ most_clauses p → Some n ≡ count_of p
+count_some p n same small = go (nat_le (length (base_clauses p)) (most_clauses p)) refl
   where
-    go : (b : Bool) → nat_le (length (base_clauses p)) 1000000 ≡ b → Some n ≡ cond b (Some (length (base_clauses p))) None
+    go : (b : Bool) → nat_le (length (base_clauses p)) (most_clauses p) ≡ b → Some n ≡ cond b (Some (length (base_clauses p))) None
     go true e = ap Some same
-    go false e = elim (leb_tells (length (base_clauses p)) 1000000) [
+    go false e = elim (leb_tells (length (base_clauses p)) (most_clauses p)) [
       | inl le ↦ absurd (let x : true ≡ false = sym le.0 ∙ e in cc)
-      | inr gt ↦ absurd (let less : 1000000 < length (base_clauses p) = gt.1 in omega (arith, less, same, small))
+      | inr gt ↦ absurd (let less : most_clauses p < length (base_clauses p) = gt.1 in omega (arith, less, same, small))
     ]
 
 -- one more edge
@@ -298,24 +334,24 @@ length-more f xs i x h is =
 
 -- the steps of `count`
 pub count_goes : (p : Problem) (xs : List Edge) (total i : ℕ) (x : Edge) → i < length xs → x ≡ get_or xs i x
-    → total ≡ row_count p + 1 + order_count p + length (flat_map (edge_clauses p) (take i xs))
-    → total + length (edge_clauses p x) ≡ row_count p + 1 + order_count p + length (flat_map (edge_clauses p) (take (i + 1) xs))
+    → total ≡ beside_edges p + length (flat_map (edge_clauses p) (take i xs))
+    → total + length (edge_clauses p x) ≡ beside_edges p + length (flat_map (edge_clauses p) (take (i + 1) xs))
 count_goes p xs total i x h is sum =
     let more : length (flat_map (edge_clauses p) (take (i + 1) xs)) ≡ length (flat_map (edge_clauses p) (take i xs)) + length (edge_clauses p x) = length-more (edge_clauses p) xs i x h is in
     omega (arith, sum, more)
 
 pub count_stops : (p : Problem) (xs : List Edge) (total i : ℕ) (x : Edge) → xs ≡ (automaton_of p).edges → i < length xs → x ≡ get_or xs i x
-    → total ≡ row_count p + 1 + order_count p + length (flat_map (edge_clauses p) (take i xs)) → 1000000 < total + length (edge_clauses p x) → None ≡ count_of p
+    → total ≡ beside_edges p + length (flat_map (edge_clauses p) (take i xs)) → most_clauses p < total + length (edge_clauses p x) → None ≡ count_of p
 count_stops p xs total i x e h is sum many =
     let some : length (flat_map (edge_clauses p) (take i xs)) + length (edge_clauses p (get_or xs i x)) ≤ length (flat_map (edge_clauses p) xs) = length-flat_map-take (edge_clauses p) xs i x h in
     let here : length (edge_clauses p x) ≡ length (edge_clauses p (get_or xs i x)) = ap (λ y. length (edge_clauses p y)) is in
     let all : length (flat_map (edge_clauses p) xs) ≡ length (flat_map (edge_clauses p) (automaton_of p).edges) = ap (λ ys. length (flat_map (edge_clauses p) ys)) e in
-    let base : length (base_clauses p) ≡ row_count p + 1 + order_count p + length (flat_map (edge_clauses p) (automaton_of p).edges) = length-base p in
+    let base : length (base_clauses p) ≡ beside_edges p + length (flat_map (edge_clauses p) (automaton_of p).edges) = length-base p in
     count_none p (omega (arith, some, here, all, base, sum, many))
 
 pub count_ends : (p : Problem) (xs : List Edge) (total i : ℕ) → xs ≡ (automaton_of p).edges → length xs ≤ i
-    → total ≡ row_count p + 1 + order_count p + length (flat_map (edge_clauses p) (take i xs)) → total ≤ 1000000 → Some total ≡ count_of p
+    → total ≡ beside_edges p + length (flat_map (edge_clauses p) (take i xs)) → total ≤ most_clauses p → Some total ≡ count_of p
 count_ends p xs total i e h sum small =
     let taken : length (flat_map (edge_clauses p) (take i xs)) ≡ length (flat_map (edge_clauses p) (automaton_of p).edges) = ap (λ ys. length (flat_map (edge_clauses p) ys)) (take_all i xs h ∙ e) in
-    let base : length (base_clauses p) ≡ row_count p + 1 + order_count p + length (flat_map (edge_clauses p) (automaton_of p).edges) = length-base p in
+    let base : length (base_clauses p) ≡ beside_edges p + length (flat_map (edge_clauses p) (automaton_of p).edges) = length-base p in
     count_some p total (omega (arith, taken, base, sum)) small

@@ -1,6 +1,6 @@
 -- The literals of each base clause stand by rising variable, and none passes the number of variables.
-use Rattle.std.proofs.Common.{◌≡◌, ℕ, zero, suc, ◌+◌, ◌-◌, ◌*◌, ◌<◌, ◌≤◌, Bool, true, false, not, ◌&&◌, List, [], ◌∷◌, ◌++◌, get_or, refl, sym, ap, ◌∙◌, arith, cond, inl, inr}
-use Rattle.std.specs.Prelude.{nat_le, nat_lt, count_by}
+use Rattle.std.proofs.Common.{subst, ◌≡◌, ℕ, zero, suc, ◌+◌, ◌-◌, ◌*◌, ◌<◌, ◌≤◌, Bool, true, false, not, ◌&&◌, List, [], ◌∷◌, ◌++◌, get_or, refl, sym, ap, ◌∙◌, arith, cond, inl, inr}
+use Rattle.std.specs.Prelude.{◌==◌, nat_le, nat_lt, count_by}
 use Rattle.std.proofs.lemmas.Bool.{cases_eq, cases_lt, eq-eqb}
 use Rattle.std.proofs.lemmas.Bool.Decides.{Decides-ltb}
 use Rattle.std.proofs.Math.Nat.{mul-le-mul_right}
@@ -11,10 +11,12 @@ use Rattle.machine_model.specs.Automaton.{IsAutomaton, JoinsStates, rejects, sta
 use Rattle.machine_model.specs.Problem.{IsProblem, automaton_of, writes_of}
 use Rattle.machine_model.specs.declared.automata.Edge.{Edge}
 use Rattle.machine_model.specs.declared.problems.Problem.{Problem}
-use Rattle.product_bound.specs.Annotation.{bound_of, rejecting_count, rise_at}
+use Rattle.machine_model.specs.Components.{local_count}
+use Rattle.product_bound.specs.Annotation.{bound_at, leaves, number_after, rejecting_count, rise_at, start_number}
 use Rattle.std.proofs.lemmas.List.Sums.{sum_by-cons}
-use Rattle.annotation_encode.specs.BaseClauses.{count_literals, each_below, in_order, is, is_idle, isnt, order_clause, row_clause, row_count, row_move, start_clause, step_clause, write_literal, write_literals, written_signal}
+use Rattle.annotation_encode.specs.BaseClauses.{chain_clause, count_literals, each_below, in_order, is, is_idle, isnt, order_clause, row_clause, row_count, row_move, start_clause, step_clause, step_count, write_literal, write_literals, written_signal}
 use Rattle.annotation_encode.specs.Variables.{letter_count, move_count, var_count, var_move, var_write, variables_of, write_count, write_place}
+use Rattle.annotation_encode.proofs.Counted.{after_stays, stays, step_within}
 use Rattle.annotation_encode.proofs.Lists.{at_most}
 use Rattle.annotation_encode.proofs.Rising.{Rises, Rises-append, Rises-each_below, Rises-none, Rises-one, Rises-pair, Rises-wider}
 use Rattle.annotation_encode.proofs.Sizes.{count_within, move_within, place_below, row_end, same_count, writes_within}
@@ -46,21 +48,25 @@ counted (x ∷ xs) (suc q) e =
     let rest : 1 ≤ count_by (λ is. is) xs = counted xs q e in
     omega (arith, step, rest)
 
-pub rise_small : (p : Problem) (q : ℕ) → IsProblem p → rise_at (automaton_of p) q ≤ bound_of p
-rise_small p q problem = go (rejects (automaton_of p) q) refl
+pub start_small : (p : Problem) → IsProblem p → start_number p ≤ bound_at p 0
+start_small p problem = by_version (p.version == 3)
   where
-    go : (b : Bool) → rejects (automaton_of p) q ≡ b → cond b 1 0 ≤ bound_of p
-    go false e = omega arith
-    go true e =
-        let some : 1 ≤ rejecting_count (automaton_of p) = counted (automaton_of p).rejecting q e in
+    by_rise : (b : Bool) → rejects (automaton_of p) 0 ≡ b → cond b 1 0 ≤ p.size * rejecting_count (automaton_of p)
+    by_rise false e = omega arith
+    by_rise true e =
+        let some : 1 ≤ rejecting_count (automaton_of p) = counted (automaton_of p).rejecting 0 e in
         let size : 1 ≤ p.size = problem.some in
         let more : 1 * rejecting_count (automaton_of p) ≤ p.size * rejecting_count (automaton_of p) = mul-le-mul_right (rejecting_count (automaton_of p)) size in
         omega (arith, some, more)
 
+    by_version : (b : Bool) → cond b 0 (rise_at (automaton_of p) 0) ≤ p.size * cond b (local_count (automaton_of p) 0) (rejecting_count (automaton_of p))
+    by_version true = omega arith
+    by_version false = by_rise (rejects (automaton_of p) 0) refl
+
 pub start-rises : (p : Problem) → IsProblem p → IsAutomaton (automaton_of p) → Rises 0 (variables_of p) (start_clause p)
 start-rises p problem made =
-    let b : var_count p 0 0 (rise_at (automaton_of p) 0) ≤ variables_of p = count_within p 0 0 (rise_at (automaton_of p) 0) problem.some made.some (rise_small p 0 problem) in
-    Rises-one 0 (variables_of p) (is (var_count p 0 0 (rise_at (automaton_of p) 0))) (omega arith) b
+    let b : var_count p 0 0 (start_number p) ≤ variables_of p = count_within p 0 0 (start_number p) problem.some made.some (start_small p problem) in
+    Rises-one 0 (variables_of p) (is (var_count p 0 0 (start_number p))) (omega arith) b
 
 -- what is written
 write-rises : (p : Problem) (cube : Cube) (t i s : ℕ)
@@ -91,17 +97,14 @@ idle p e t to c same_t same_q still =
     go true h = absurd (let no : c ≡ c + 1 = h in omega arith)
     go false h = refl
 
-pub counts-rises : (p : Problem) (e : Edge) (t to c : ℕ) → IsProblem p → JoinsStates (states_of (automaton_of p)) e → t < p.size → to < p.size → c ≤ bound_of p
+pub counts-rises : (p : Problem) (e : Edge) (t to c : ℕ) → JoinsStates (states_of (automaton_of p)) e → t < p.size → to < p.size → c ≤ bound_at p e.from
     → is_idle p e t to ≡ false → Rises (move_count p + write_count p) (variables_of p) (count_literals p e t to c)
-counts-rises p e t to c problem joins ht hto hc busy = by_bound (nat_le (c + rise_at (automaton_of p) e.to) (bound_of p)) refl
+counts-rises p e t to c joins ht hto hc busy = by_bound (nat_le (number_after p e.from e.to c) (bound_at p e.to)) refl
   where
-    left : Literal
-    left = isnt (var_count p t e.from c)
+    still : e.from ≡ e.to → c ≡ number_after p e.from e.to c → c ≡ c + rise_at (automaton_of p) e.to
+    still same is = is ∙ after_stays p e.from e.to c (subst (λ r. leaves p e.from r ≡ false) same (stays p e.from))
 
-    left_within : var_count p t e.from c ≤ variables_of p
-    left_within = count_within p t e.from c ht joins.from hc
-
-    by_order : (after : ℕ) → after ≡ c + rise_at (automaton_of p) e.to → after ≤ bound_of p → (less : Bool) → nat_lt (var_count p t e.from c) (var_count p to e.to after) ≡ less
+    by_order : (after : ℕ) → after ≡ number_after p e.from e.to c → after ≤ bound_at p e.to → (less : Bool) → nat_lt (var_count p t e.from c) (var_count p to e.to after) ≡ less
         → Rises (move_count p + write_count p) (variables_of p) (cond less (isnt (var_count p t e.from c) ∷ is (var_count p to e.to after) ∷ []) (is (var_count p to e.to after) ∷ isnt (var_count p t e.from c) ∷ []))
     by_order after is_after small true h =
         let order : var_count p t e.from c < var_count p to e.to after = (Decides-ltb (var_count p t e.from c) (var_count p to e.to after)).0 h in
@@ -113,30 +116,38 @@ counts-rises p e t to c problem joins ht hto hc busy = by_bound (nat_le (c + ris
           | inr ge ↦ elim (cases_eq (var_count p t e.from c) (var_count p to e.to after)) [
             | inl same ↦
                 let parts : (t ≡ to) × (e.from ≡ e.to) × (c ≡ after) = same_count p t e.from c to e.to after joins.from hc joins.to small same in
-                absurd (let still : is_idle p e t to ≡ true = idle p e t to c parts.0 parts.1 (parts.2 ∙ is_after) in let no : true ≡ false = sym still ∙ busy in cc)
+                absurd (let calm : is_idle p e t to ≡ true = idle p e t to c parts.0 parts.1 (still parts.1 (parts.2 ∙ is_after)) in let no : true ≡ false = sym calm ∙ busy in cc)
             | inr ne ↦
                 let end : var_count p t e.from c ≤ variables_of p = count_within p t e.from c ht joins.from hc in
                 Rises-pair (move_count p + write_count p) (variables_of p) (is (var_count p to e.to after)) (isnt (var_count p t e.from c)) (omega arith) (omega (arith, ge, ne)) end
           ]
         ]
 
-    by_bound : (fits : Bool) → nat_le (c + rise_at (automaton_of p) e.to) (bound_of p) ≡ fits
+    by_bound : (fits : Bool) → nat_le (number_after p e.from e.to c) (bound_at p e.to) ≡ fits
         → Rises (move_count p + write_count p) (variables_of p)
-        (cond fits (in_order (isnt (var_count p t e.from c)) (is (var_count p to e.to (c + rise_at (automaton_of p) e.to)))) (isnt (var_count p t e.from c) ∷ []))
-    by_bound true h = by_order (c + rise_at (automaton_of p) e.to) refl (at_most (c + rise_at (automaton_of p) e.to) (bound_of p) h) (nat_lt (var_count p t e.from c) (var_count p to e.to (c + rise_at (automaton_of p) e.to))) refl
+        (cond fits (in_order (isnt (var_count p t e.from c)) (is (var_count p to e.to (number_after p e.from e.to c)))) (isnt (var_count p t e.from c) ∷ []))
+    by_bound true h =
+        by_order (number_after p e.from e.to c) refl (at_most (number_after p e.from e.to c) (bound_at p e.to) h)
+        (nat_lt (var_count p t e.from c) (var_count p to e.to (number_after p e.from e.to c))) refl
     by_bound false h =
         let end : var_count p t e.from c ≤ variables_of p = count_within p t e.from c ht joins.from hc in
         Rises-one (move_count p + write_count p) (variables_of p) (isnt (var_count p t e.from c)) (omega arith) end
 
-pub step-rises : (p : Problem) (e : Edge) (t i to c : ℕ) → IsProblem p → JoinsStates (states_of (automaton_of p)) e → t < p.size → i < letter_count p → to < p.size → c ≤ bound_of p
+pub step-rises : (p : Problem) (e : Edge) (t i to c : ℕ) → JoinsStates (states_of (automaton_of p)) e → t < p.size → i < letter_count p → to < p.size → c < step_count p e
     → is_idle p e t to ≡ false → Rises 0 (variables_of p) (step_clause p e t i to c)
-step-rises p e t i to c problem joins ht hi hto hc busy =
+step-rises p e t i to c joins ht hi hto hc busy =
     let m : var_move p t i to ≤ move_count p = move_within p t i to ht hi hto in
     Rises-append 0 (move_count p) (variables_of p) (isnt (var_move p t i to) ∷ []) (write_literals p e.cube t i ++ count_literals p e t to c) (omega arith) (omega arith)
     (Rises-one 0 (move_count p) (isnt (var_move p t i to)) (omega arith) m)
     (Rises-append (move_count p) (move_count p + write_count p) (variables_of p) (write_literals p e.cube t i) (count_literals p e t to c) (omega arith) (omega arith)
     (writes-rises p e.cube t i ht hi)
-    (counts-rises p e t to c problem joins ht hto hc busy))
+    (counts-rises p e t to c joins ht hto (step_within p e c hc) busy))
+
+-- the chains of numbers
+pub chain-rises : (p : Problem) (t q c : ℕ) → t < p.size → q < states_of (automaton_of p) → c < bound_at p q → Rises 0 (variables_of p) (chain_clause p t q c)
+chain-rises p t q c ht hq hc =
+    let end : var_count p t q (suc c) ≤ variables_of p = count_within p t q (suc c) ht hq (omega (arith, hc)) in
+    Rises-pair 0 (variables_of p) (is (var_count p t q c)) (isnt (var_count p t q (suc c))) (omega arith) (omega arith) end
 
 -- the order of states
 pub order-rises : (p : Problem) (place to : ℕ) → place < row_count p → 2 ≤ to → to < p.size → Rises 0 (variables_of p) (order_clause p place to)

@@ -27,13 +27,14 @@ use Rattle.machine_model.specs.declared.automata.Edge.{Edge}
 use Rattle.machine_model.specs.declared.machines.Row.{Row}
 use Rattle.machine_model.specs.declared.problems.Problem.{Problem}
 use Rattle.machine_model.proofs.Tables.{no_row}
-use Rattle.product_bound.specs.Annotation.{HasNumber, IsValidAnnotation, bound_of, number_at, rise_at}
+use Rattle.product_bound.specs.Annotation.{HasNumber, IsValidAnnotation, bound_at, number_after, number_at, start_number}
 use Rattle.product_bound.specs.Numbered.{IsNumbered, greatest_next}
 use Rattle.annotation_encode.specs.Assigned.{IsAssignmentOf, reaches}
-use Rattle.annotation_encode.specs.BaseClauses.{base_clauses, count_literals, each_below, fits_read, is, isnt, order_clause, read_signal, row_clause, row_count, row_move, signal_fits, start_clause, step_clause, write_literal, write_literals, written_signal}
+use Rattle.annotation_encode.specs.BaseClauses.{base_clauses, chain_clause, count_literals, each_below, fits_read, is, isnt, order_clause, read_signal, row_clause, row_count, row_move, signal_fits, start_clause, step_clause, write_literal, write_literals, written_signal}
 use Rattle.annotation_encode.specs.Variables.{letter_count, row_place, var_count, var_move, var_write}
 use Rattle.annotation_encode.proofs.BaseClausesAll.{HoldsOfKinds, all_base}
-use Rattle.annotation_encode.proofs.ClauseOrder.{rise_small}
+use Rattle.annotation_encode.proofs.ClauseOrder.{start_small}
+use Rattle.annotation_encode.proofs.Counted.{after_rises, step_within}
 use Rattle.annotation_encode.proofs.Letters.{fits_joined, joined_at, reads_at, writes_at}
 use Rattle.annotation_encode.proofs.Lists.{all_below-each, any-each_below, at_most, none-each_below, not_above}
 
@@ -193,12 +194,42 @@ module _ (p : Problem) (m : MachineModel) (numbers : List (Option ℕ)) (values 
 
   start_met : is_true_clause values (start_clause p) ≡ true
   start_met =
-      let r : ℕ = rise_at (automaton_of p) 0 in
-      let start : HasNumber p numbers 0 0 (rise_at (automaton_of p) 0) = valid.start in
-      let value : value_of values (var_count p 0 0 (rise_at (automaton_of p) 0)) ≡ reaches (number_at p numbers 0 0) (rise_at (automaton_of p) 0)
-      = is_assigned.counts 0 0 (rise_at (automaton_of p) 0) problem.some made.some (rise_small p 0 problem) in
-      let enough : reaches (number_at p numbers 0 0) (rise_at (automaton_of p) 0) ≡ true = ap (λ o. reaches o (rise_at (automaton_of p) 0)) start.stands ∙ not_above (rise_at (automaton_of p) 0) start.number start.enough in
-      true_clause (start_clause p) (any_one test (is (var_count p 0 0 (rise_at (automaton_of p) 0))) (positive (var_count p 0 0 (rise_at (automaton_of p) 0)) ∙ value ∙ enough))
+      let start : HasNumber p numbers 0 0 (start_number p) = valid.start in
+      let value : value_of values (var_count p 0 0 (start_number p)) ≡ reaches (number_at p numbers 0 0) (start_number p)
+      = is_assigned.counts 0 0 (start_number p) problem.some made.some (start_small p problem) in
+      let enough : reaches (number_at p numbers 0 0) (start_number p) ≡ true = ap (λ o. reaches o (start_number p)) start.stands ∙ not_above (start_number p) start.number start.enough in
+      true_clause (start_clause p) (any_one test (is (var_count p 0 0 (start_number p))) (positive (var_count p 0 0 (start_number p)) ∙ value ∙ enough))
+
+  -- a pair that reaches a number reaches the one before it
+  chains_met : (t q c : ℕ) → t < p.size → q < states_of (automaton_of p) → c < bound_at p q → is_true_clause values (chain_clause p t q c) ≡ true
+  chains_met t q c ht hq hc = true_clause (chain_clause p t q c) (by_number (number_at p numbers t q) refl)
+    where
+      value : (d : ℕ) → d ≤ bound_at p q → value_of values (var_count p t q d) ≡ reaches (number_at p numbers t q) d
+      value d small = is_assigned.counts t q d ht hq small
+
+      isnt_next : reaches (number_at p numbers t q) (suc c) ≡ false → list_any test (chain_clause p t q c) ≡ true
+      isnt_next none =
+          let here : test (isnt (var_count p t q (suc c))) ≡ true = negative (var_count p t q (suc c)) ∙ ap not (value (suc c) (omega (arith, hc)) ∙ none) in
+          ap (λ b. test (is (var_count p t q c)) || (b || false)) here ∙ right_true (test (is (var_count p t q c)))
+
+      is_here : reaches (number_at p numbers t q) c ≡ true → list_any test (chain_clause p t q c) ≡ true
+      is_here some =
+          let here : test (is (var_count p t q c)) ≡ true = positive (var_count p t q c) ∙ value c (omega (arith, hc)) ∙ some in
+          ap (λ b. b || (test (isnt (var_count p t q (suc c))) || false)) here
+
+      by_number : (o : Option ℕ) → number_at p numbers t q ≡ o → list_any test (chain_clause p t q c) ≡ true
+      by_number None at = isnt_next (ap (λ o. reaches o (suc c)) at)
+      by_number (Some n) at = elim (cases_lt n (suc c)) [
+        | inl less ↦ isnt_next (ap (λ o. reaches o (suc c)) at ∙ above (suc c) n less)
+        | inr ge ↦ is_here (ap (λ o. reaches o c) at ∙ not_above c n (omega (arith, ge)))
+      ]
+        where
+          above : (a b : ℕ) → b < a → nat_le a b ≡ false
+          above a b h = go (nat_le a b) refl
+            where
+              go : (x : Bool) → nat_le a b ≡ x → x ≡ false
+              go false e = refl
+              go true e = absurd (let le : a ≤ b = at_most a b e in omega (arith, le, h))
 
   -- what a write literal that is false says
   missed : (v : ℕ) (must none : Bool) → list_any test (cond must (isnt v ∷ []) (cond none (is v ∷ []) [])) ≡ false
@@ -252,47 +283,60 @@ module _ (p : Problem) (m : MachineModel) (numbers : List (Option ℕ)) (values 
         (λ s hs. written_fits none s (subst (λ n. s < n) (sym writes) hs)) in
         subst (λ n. Fits e.cube (record { 0 = n })) (joined_same p.side m p.inputs p.outputs i (writes_of m t i) (fits.reads ∙ reads) (fits.writes ∙ writes)) all
 
-    module _ (to c : ℕ) (hto : to < p.size) (hc : c ≤ bound_of p) where
-      -- the pair that is left doesn't reach c, or the one after it does
-      number_steps : list_any test (write_literals p e.cube t i) ≡ false → next_of m t i ≡ to
-          → (test (isnt (var_count p t e.from c)) ≡ true) ⊎ ((nat_le (c + rise_at (automaton_of p) e.to) (bound_of p) ≡ true) × (test (is (var_count p to e.to (c + rise_at (automaton_of p) e.to))) ≡ true))
+    module _ (to c : ℕ) (hto : to < p.size) (hc : c ≤ bound_at p e.from) where
+      -- the least number behind the step
+      after : ℕ
+      after = number_after p e.from e.to c
+
+      after_is : after ≡ number_after p e.from e.to c
+      unfolding after
+      after_is = refl
+
+      -- the pair that is left doesn't reach c, or the one after it reaches what it has to
+      Steps : Type 0
+      Steps = (test (isnt (var_count p t e.from c)) ≡ true) ⊎ ((nat_le after (bound_at p e.to) ≡ true) × (test (is (var_count p to e.to after)) ≡ true))
+
+      number_steps : list_any test (write_literals p e.cube t i) ≡ false → next_of m t i ≡ to → Steps
+      unfolding Steps
       number_steps none moved = by_number (number_at p numbers t e.from) refl
         where
           value : value_of values (var_count p t e.from c) ≡ reaches (number_at p numbers t e.from) c
           value = is_assigned.counts t e.from c ht joins.from hc
 
           by_number : (o : Option ℕ) → number_at p numbers t e.from ≡ o
-              → (test (isnt (var_count p t e.from c)) ≡ true) ⊎ ((nat_le (c + rise_at (automaton_of p) e.to) (bound_of p) ≡ true) × (test (is (var_count p to e.to (c + rise_at (automaton_of p) e.to))) ≡ true))
+              → (test (isnt (var_count p t e.from c)) ≡ true) ⊎ ((nat_le after (bound_at p e.to) ≡ true) × (test (is (var_count p to e.to after)) ≡ true))
           by_number None at = inl (negative (var_count p t e.from c) ∙ ap not (value ∙ ap (λ o. reaches o c) at))
           by_number (Some n) at = by_reach (nat_le c n) refl
             where
               by_reach : (b : Bool) → nat_le c n ≡ b
-                  → (test (isnt (var_count p t e.from c)) ≡ true) ⊎ ((nat_le (c + rise_at (automaton_of p) e.to) (bound_of p) ≡ true) × (test (is (var_count p to e.to (c + rise_at (automaton_of p) e.to))) ≡ true))
+                  → (test (isnt (var_count p t e.from c)) ≡ true) ⊎ ((nat_le after (bound_at p e.to) ≡ true) × (test (is (var_count p to e.to after)) ≡ true))
               by_reach false h = inl (negative (var_count p t e.from c) ∙ ap not (value ∙ ap (λ o. reaches o c) at ∙ h))
               by_reach true h =
                   let below : c ≤ n = at_most c n h in
                   let edge : HasEdge (automaton_of p) (letter_of p.side m t i) e.from e.to = record { cube = e.cube; stands = there; fits = whole_fits none } in
-                  let after : HasNumber p numbers (next_of m t i) e.to (n + rise_at (automaton_of p) e.to) = valid.edges t e.from n i e.to ht joins.from at i_small edge in
-                  let then : HasNumber p numbers to e.to (n + rise_at (automaton_of p) e.to) = subst (λ s. HasNumber p numbers s e.to (n + rise_at (automaton_of p) e.to)) moved after in
-                  let small : then.number ≤ bound_of p = valid.bounded to e.to then.number hto joins.to then.stands in
-                  let enough : n + rise_at (automaton_of p) e.to ≤ then.number = then.enough in
-                  let fitting : c + rise_at (automaton_of p) e.to ≤ bound_of p = omega (arith, below, small, enough) in
-                  let reaching : c + rise_at (automaton_of p) e.to ≤ then.number = omega (arith, below, enough) in
-                  let next_value : value_of values (var_count p to e.to (c + rise_at (automaton_of p) e.to)) ≡ reaches (number_at p numbers to e.to) (c + rise_at (automaton_of p) e.to)
-                  = is_assigned.counts to e.to (c + rise_at (automaton_of p) e.to) hto joins.to fitting in
+                  let next : HasNumber p numbers (next_of m t i) e.to (number_after p e.from e.to n) = valid.edges t e.from n i e.to ht joins.from at i_small edge in
+                  let then : HasNumber p numbers to e.to (number_after p e.from e.to n) = subst (λ s. HasNumber p numbers s e.to (number_after p e.from e.to n)) moved next in
+                  let small : then.number ≤ bound_at p e.to = valid.bounded to e.to then.number hto joins.to then.stands in
+                  let enough : number_after p e.from e.to n ≤ then.number = then.enough in
+                  let rises : number_after p e.from e.to c ≤ number_after p e.from e.to n = after_rises p e.from e.to c n below in
+                  let same : after ≡ number_after p e.from e.to c = after_is in
+                  let fitting : after ≤ bound_at p e.to = omega (arith, same, rises, small, enough) in
+                  let reaching : after ≤ then.number = omega (arith, same, rises, enough) in
+                  let next_value : value_of values (var_count p to e.to after) ≡ reaches (number_at p numbers to e.to) after
+                  = is_assigned.counts to e.to after hto joins.to fitting in
                   inr (
-                    not_above (c + rise_at (automaton_of p) e.to) (bound_of p) fitting,
-                    positive (var_count p to e.to (c + rise_at (automaton_of p) e.to)) ∙ next_value ∙ ap (λ o. reaches o (c + rise_at (automaton_of p) e.to)) then.stands
-                        ∙ not_above (c + rise_at (automaton_of p) e.to) then.number reaching,
+                    not_above after (bound_at p e.to) fitting,
+                    positive (var_count p to e.to after) ∙ next_value ∙ ap (λ o. reaches o after) then.stands ∙ not_above after then.number reaching,
                   )
 
       step_met : is_true_clause values (step_clause p e t i to c) ≡ true
+      unfolding after Steps
       step_met = true_clause (step_clause p e t i to c)
           (either_true (test (isnt (var_move p t i to))) (list_any test (write_literals p e.cube t i ++ count_literals p e t to c)) (λ stays.
           list_any-append test (write_literals p e.cube t i) (count_literals p e t to c)
           ∙ either_true (list_any test (write_literals p e.cube t i)) (list_any test (count_literals p e t to c)) (λ none.
-          counts_true test (nat_le (c + rise_at (automaton_of p) e.to) (bound_of p)) (nat_lt (var_count p t e.from c) (var_count p to e.to (c + rise_at (automaton_of p) e.to)))
-          (isnt (var_count p t e.from c)) (is (var_count p to e.to (c + rise_at (automaton_of p) e.to))) (number_steps none (moved stays)))))
+          counts_true test (nat_le (number_after p e.from e.to c) (bound_at p e.to)) (nat_lt (var_count p t e.from c) (var_count p to e.to (number_after p e.from e.to c)))
+          (isnt (var_count p t e.from c)) (is (var_count p to e.to (number_after p e.from e.to c))) (number_steps none (moved stays)))))
         where
           truth : (b : Bool) → not b ≡ false → b ≡ true
           truth true e = refl
@@ -326,12 +370,13 @@ module _ (p : Problem) (m : MachineModel) (numbers : List (Option ℕ)) (values 
           letters_back : 2 ^ m.reads ≡ letter_count p
           letters_back = sym letters
 
-  pub all_met : (p.version ≡ 2 → IsNumbered m) → meets values (base_clauses p) ≡ true
+  pub all_met : (2 ≤ p.version → IsNumbered m) → meets values (base_clauses p) ≡ true
   all_met numbered =
       let kinds : HoldsOfKinds p (λ clause. is_true_clause values clause ≡ true) = record {
         rows = rows_met;
         start = start_met;
-        steps = λ e t i to c there ht hi read hto busy hc. step_met e t i there ht hi read to c hto hc;
+        steps = λ e t i to c there ht hi read hto busy hc. step_met e t i there ht hi read to c hto (step_within p e c hc);
+        chains = λ t q c three ht hq hc. chains_met t q c ht hq hc;
         orders = λ place to two hp least hto. orders_met (numbered two) place to hp least hto;
       } in
       (Decides-all (is_true_clause values) (λ clause. is_true_clause values clause ≡ true) (λ clause. (λ h. h, λ h. h)) (base_clauses p)).1 (all_base p (λ clause. is_true_clause values clause ≡ true) kinds)

@@ -7,9 +7,10 @@ use Rattle.letter_word.specs.declared.kinds.Kind.TheVariants.{Mealy, Moore}
 use Rattle.machine_model.specs.Automaton.{states_of}
 use Rattle.machine_model.specs.Problem.{automaton_of, writes_of}
 use Rattle.machine_model.specs.declared.problems.Problem.{Problem}
-use Rattle.product_bound.specs.Annotation.{bound_of, places_of}
+use Rattle.product_bound.specs.Annotation.{bound_at}
 use Rattle.annotation_encode.specs.Laws.{NumberingsDontMeet}
-use Rattle.annotation_encode.specs.Variables.{letter_count, move_count, number_count, row_place, var_count, var_move, variables_of, write_count, write_place, write_places}
+use Rattle.annotation_encode.specs.Variables.{letter_count, move_count, numbers_before, row_place, state_numbers, var_count, var_move, variables_of, write_count, write_place, write_places}
+use Rattle.annotation_encode.proofs.Counted.{number_within, same_number}
 
 -- place a * w + b of h rows of w
 pub place_below : (a w b h : ℕ) → a < h → b < w → a * w + b < h * w
@@ -45,24 +46,23 @@ write_below Moore letters states t i ht hi = ht
 pub writes_within : (p : Problem) (t i : ℕ) → t < p.size → i < letter_count p → write_place p.kind (letter_count p) t i * writes_of p + writes_of p ≤ write_count p
 writes_within p t i ht hi = row_end (write_place p.kind (letter_count p) t i) (writes_of p) (write_places p.kind (letter_count p) p.size) (write_below p.kind (letter_count p) p.size t i ht hi)
 
-pub pair_below : (p : Problem) (t q : ℕ) → t < p.size → q < states_of (automaton_of p) → t * states_of (automaton_of p) + q < places_of p
-pair_below p t q ht hq = place_below t (states_of (automaton_of p)) q p.size ht hq
+pub count_below : (p : Problem) (t q c : ℕ) → t < p.size → q < states_of (automaton_of p) → c ≤ bound_at p q
+    → t * state_numbers p + (numbers_before p q + c) < p.size * state_numbers p
+count_below p t q c ht hq hc = place_below t (state_numbers p) (numbers_before p q + c) p.size ht (number_within p q c hq hc)
 
-pub count_within : (p : Problem) (t q c : ℕ) → t < p.size → q < states_of (automaton_of p) → c ≤ bound_of p → var_count p t q c ≤ variables_of p
+pub count_within : (p : Problem) (t q c : ℕ) → t < p.size → q < states_of (automaton_of p) → c ≤ bound_at p q → var_count p t q c ≤ variables_of p
 count_within p t q c ht hq hc =
-    let small : c < number_count p = omega arith in
-    let b : (t * states_of (automaton_of p) + q) * number_count p + c < places_of p * number_count p = place_below (t * states_of (automaton_of p) + q) (number_count p) c (places_of p) (pair_below p t q ht hq) small in
+    let b : t * state_numbers p + (numbers_before p q + c) < p.size * state_numbers p = count_below p t q c ht hq hc in
     omega (arith, b)
 
-pub same_count : (p : Problem) (t q c s r d : ℕ) → q < states_of (automaton_of p) → c ≤ bound_of p → r < states_of (automaton_of p) → d ≤ bound_of p
+pub same_count : (p : Problem) (t q c s r d : ℕ) → q < states_of (automaton_of p) → c ≤ bound_at p q → r < states_of (automaton_of p) → d ≤ bound_at p r
     → var_count p t q c ≡ var_count p s r d → (t ≡ s) × (q ≡ r) × (c ≡ d)
 same_count p t q c s r d hq hc hr hd e =
-    let hc' : c < number_count p = omega arith in
-    let hd' : d < number_count p = omega arith in
-    let e' : (t * states_of (automaton_of p) + q) * number_count p + c ≡ (s * states_of (automaton_of p) + r) * number_count p + d = omega (arith, e) in
-    let outer : (t * states_of (automaton_of p) + q ≡ s * states_of (automaton_of p) + r) × (c ≡ d) = same_place (t * states_of (automaton_of p) + q) (number_count p) c (s * states_of (automaton_of p) + r) d hc' hd' e' in
-    let inner : (t ≡ s) × (q ≡ r) = same_place t (states_of (automaton_of p)) q s r hq hr outer.0 in
-    (inner.0, inner.1, outer.1)
+    let e' : t * state_numbers p + (numbers_before p q + c) ≡ s * state_numbers p + (numbers_before p r + d) = omega (arith, e) in
+    let outer : (t ≡ s) × (numbers_before p q + c ≡ numbers_before p r + d)
+    = same_place t (state_numbers p) (numbers_before p q + c) s (numbers_before p r + d) (number_within p q c hq hc) (number_within p r d hr hd) e' in
+    let inner : (q ≡ r) × (c ≡ d) = same_number p q c r d hc hd outer.1 in
+    (outer.0, inner.0, inner.1)
 
 pub dont_meet : (p : Problem) → NumberingsDontMeet p
 dont_meet p = record {

@@ -1,4 +1,4 @@
-use Rattle.std.specs.Prelude.{◌≡◌, ◌==◌, ℕ, ◌+◌, ◌-◌, ◌/◌, ◌%◌, ◌<◌, ◌≤◌, Bool, false, List, Option, Some, None, length, map, nat_le, nat_lt, slice_index_or, if◌then◌else◌}
+use Rattle.std.specs.Prelude.{◌≡◌, ◌==◌, ℕ, ◌+◌, ◌-◌, ◌/◌, ◌%◌, ◌<◌, ◌≤◌, Bool, false, List, Option, Some, None, length, map, nat_le, nat_lt, [], ◌∷◌, ◌++◌, if◌then◌else◌}
 use Rattle.std.specs.List.{range_with_len}
 use Rattle.clause_base.specs.Truth.{value_of}
 use Rattle.letter_word.specs.Signals.{has}
@@ -9,7 +9,8 @@ use Rattle.machine_model.specs.Machine.{MachineModel, next_of, writes_of}
 use Rattle.machine_model.specs.Problem.{automaton_of}
 use Rattle.machine_model.specs.Problem as problem
 use Rattle.machine_model.specs.declared.problems.Problem.{Problem}
-use Rattle.product_bound.specs.Annotation.{bound_of, number_at}
+use Rattle.product_bound.specs.Annotation.{bound_at, number_at}
+use Rattle.annotation_encode.specs.BaseClauses.{each_below}
 use Rattle.annotation_encode.specs.Variables.{letter_count, move_count, number_count, var_count, var_move, var_write, variables_of, write_count}
 
 -- whether a pair with this number reaches c
@@ -23,7 +24,7 @@ pub record IsAssignmentOf (p : Problem) (m : MachineModel) (numbers : List (Opti
   pub places : length values ≡ variables_of p
   pub moves : (t i to : ℕ) → t < p.size → i < letter_count p → to < p.size → value_of values (var_move p t i to) ≡ (next_of m t i == to)
   pub writes : (t i s : ℕ) → t < p.size → i < letter_count p → s < problem.writes_of p → value_of values (var_write p t i s) ≡ has (writes_of m t i) s
-  pub counts : (t q c : ℕ) → t < p.size → q < states_of (automaton_of p) → c ≤ bound_of p → value_of values (var_count p t q c) ≡ reaches (number_at p numbers t q) c
+  pub counts : (t q c : ℕ) → t < p.size → q < states_of (automaton_of p) → c ≤ bound_at p q → value_of values (var_count p t q c) ≡ reaches (number_at p numbers t q) c
 
 -- Its values in the order of the variables.
 
@@ -39,16 +40,22 @@ written_at Moore letters m place = writes_of m place 0
 abbrev pub write_value : Problem → MachineModel → ℕ → Bool
 write_value p m k = has (written_at p.kind (letter_count p) m (k / problem.writes_of p)) (k % problem.writes_of p)
 
-abbrev pub count_value : Problem → List (Option ℕ) → ℕ → Bool
-count_value p numbers k = reaches (slice_index_or numbers (k / number_count p) None) (k % number_count p)
+-- that of a move, or behind them of a write
+abbrev pub machine_value : Problem → MachineModel → ℕ → Bool
+machine_value p m k = if nat_lt k (move_count p) then move_value p m k else write_value p m (k - move_count p)
 
-abbrev pub assigned_value : Problem → MachineModel → List (Option ℕ) → ℕ → Bool
-assigned_value p m numbers k =
-    if nat_lt k (move_count p)
-    then move_value p m k
-    else (if nat_lt k (move_count p + write_count p)
-    then write_value p m (k - move_count p)
-    else count_value p numbers (k - (move_count p + write_count p)))
+abbrev pub machine_values : Problem → MachineModel → List Bool
+machine_values p m = map (machine_value p m) (range_with_len 0 (move_count p + write_count p))
+
+-- those of a pair, of the pairs of the machine's state t, and of all pairs
+abbrev pub pair_values : Problem → List (Option ℕ) → ℕ → ℕ → List Bool
+pair_values p numbers t q = each_below (number_count p q) (λ c. reaches (number_at p numbers t q) c ∷ [])
+
+abbrev pub state_values : Problem → List (Option ℕ) → ℕ → List Bool
+state_values p numbers t = each_below (states_of (automaton_of p)) (λ q. pair_values p numbers t q)
+
+abbrev pub count_values : Problem → List (Option ℕ) → List Bool
+count_values p numbers = each_below p.size (λ t. state_values p numbers t)
 
 abbrev pub assigned_values : Problem → MachineModel → List (Option ℕ) → List Bool
-assigned_values p m numbers = map (assigned_value p m numbers) (range_with_len 0 (variables_of p))
+assigned_values p m numbers = machine_values p m ++ count_values p numbers

@@ -5,11 +5,11 @@ use Rattle.letter_word.specs.Signals.{has}
 use Rattle.letter_word.specs.declared.cubes.Cube.{Cube}
 use Rattle.letter_word.specs.declared.kinds.Side.{Side}
 use Rattle.letter_word.specs.declared.kinds.Side.TheVariants.{System, Environment}
-use Rattle.machine_model.specs.Automaton.{rejects}
+use Rattle.machine_model.specs.Automaton.{rejects, states_of}
 use Rattle.machine_model.specs.Problem.{automaton_of, reads_of, writes_of}
 use Rattle.machine_model.specs.declared.automata.Edge.{Edge}
 use Rattle.machine_model.specs.declared.problems.Problem.{Problem}
-use Rattle.product_bound.specs.Annotation.{bound_of, rise_at}
+use Rattle.product_bound.specs.Annotation.{bound_at, leaves, number_after, start_number}
 use Rattle.annotation_encode.specs.Variables.{letter_count, number_count, var_count, var_move, var_write}
 
 -- The base clauses of a problem say that a machine of its size has an annotation within the bound (bounded synthesis of
@@ -64,11 +64,12 @@ row_clause p place = each_below p.size (λ to. is (row_move p place to) ∷ [])
 abbrev pub row_clauses : Problem → List (List Literal)
 row_clauses p = each_below (row_count p) (λ place. row_clause p place ∷ [])
 
--- 2. The first pair has a number, which counts the start where it is rejecting.
+-- 2. The first pair has a number, which counts the start where it is rejecting and all rejecting states are counted.
 abbrev pub start_clause : Problem → List Literal
-start_clause p = is (var_count p 0 0 (rise_at (automaton_of p) 0)) ∷ []
+start_clause p = is (var_count p 0 0 (start_number p)) ∷ []
 
--- 3. Along each edge that fits what the machine reads and writes numbers don't fall, and rise into a rejecting state.
+-- 3. Along each edge that fits what the machine reads and writes numbers don't fall, and rise into a rejecting state; in
+-- version 3 behind an edge that leaves a component there is some number.
 
 -- whether a signal that is set, or isn't, is as the cube wants it
 abbrev pub signal_fits : Cube → ℕ → Bool → Bool
@@ -93,12 +94,11 @@ write_literals p cube t i = each_below (writes_of p) (λ s. write_literal p cube
 abbrev pub in_order : Literal → Literal → List Literal
 in_order a b = if nat_lt a.var b.var then (a ∷ b ∷ []) else (b ∷ a ∷ [])
 
--- the pair that is left doesn't reach c, or the one after it reaches as much, and one more where it is rejecting, if the
--- bound allows that
+-- the pair that is left doesn't reach c, or the one after it reaches what it has to, if the bound allows that
 abbrev pub count_literals : Problem → Edge → ℕ → ℕ → ℕ → List Literal
 count_literals p e t to c =
-    let after = c + rise_at (automaton_of p) e.to in
-    if nat_le after (bound_of p)
+    let after = number_after p e.from e.to c in
+    if nat_le after (bound_at p e.to)
     then in_order (isnt (var_count p t e.from c)) (is (var_count p to e.to after))
     else (isnt (var_count p t e.from c) ∷ [])
 
@@ -110,8 +110,12 @@ step_clause p e t i to c = isnt (var_move p t i to) ∷ (write_literals p e.cube
 abbrev pub is_idle : Problem → Edge → ℕ → ℕ → Bool
 is_idle p e t to = (t == to) && ((e.from == e.to) && not (rejects (automaton_of p) e.to))
 
+-- for how many numbers a step has clauses: for each of the pair that is left, or for 0 alone where numbers are counted anew
+abbrev pub step_count : Problem → Edge → ℕ
+step_count p e = if leaves p e.from e.to then 1 else number_count p e.from
+
 abbrev pub step_clauses : Problem → Edge → ℕ → ℕ → ℕ → List (List Literal)
-step_clauses p e t i to = if is_idle p e t to then [] else each_below (number_count p) (λ c. step_clause p e t i to c ∷ [])
+step_clauses p e t i to = if is_idle p e t to then [] else each_below (step_count p e) (λ c. step_clause p e t i to c ∷ [])
 
 abbrev pub letter_clauses : Problem → Edge → ℕ → ℕ → List (List Literal)
 letter_clauses p e t i = if fits_read p e.cube i then each_below p.size (λ to. step_clauses p e t i to) else []
@@ -122,7 +126,20 @@ state_clauses p e t = each_below (letter_count p) (λ i. letter_clauses p e t i)
 abbrev pub edge_clauses : Problem → Edge → List (List Literal)
 edge_clauses p e = each_below p.size (λ t. state_clauses p e t)
 
--- 4. In version 2 a row moves to a state from 2 on only where a row before it moves to the state before that one.
+-- 4. In version 3 a pair that reaches a number reaches the one before it.
+abbrev pub chain_clause : Problem → ℕ → ℕ → ℕ → List Literal
+chain_clause p t q c = is (var_count p t q c) ∷ isnt (var_count p t q (suc c)) ∷ []
+
+abbrev pub pair_chains : Problem → ℕ → ℕ → List (List Literal)
+pair_chains p t q = each_below (bound_at p q) (λ c. chain_clause p t q c ∷ [])
+
+abbrev pub state_chains : Problem → ℕ → List (List Literal)
+state_chains p t = each_below (states_of (automaton_of p)) (λ q. pair_chains p t q)
+
+abbrev pub chain_clauses : Problem → List (List Literal)
+chain_clauses p = if p.version == 3 then each_below p.size (λ t. state_chains p t) else []
+
+-- 5. From version 2 on a row moves to a state from 2 on only where a row before it moves to the state before that one.
 abbrev pub order_clause : Problem → ℕ → ℕ → List Literal
 order_clause p place to = each_below place (λ k. is (row_move p k (to - 1)) ∷ []) ++ isnt (row_move p place to) ∷ []
 
@@ -130,8 +147,8 @@ abbrev pub row_orders : Problem → ℕ → List (List Literal)
 row_orders p place = each_below (p.size - 2) (λ k. order_clause p place (k + 2) ∷ [])
 
 abbrev pub order_clauses : Problem → List (List Literal)
-order_clauses p = if p.version == 2 then each_below (row_count p) (λ place. row_orders p place) else []
+order_clauses p = if nat_le 2 p.version then each_below (row_count p) (λ place. row_orders p place) else []
 
 -- all of them, in this order
 abbrev pub base_clauses : Problem → List (List Literal)
-base_clauses p = row_clauses p ++ (start_clause p ∷ (flat_map (edge_clauses p) (automaton_of p).edges ++ order_clauses p))
+base_clauses p = row_clauses p ++ (start_clause p ∷ (flat_map (edge_clauses p) (automaton_of p).edges ++ (chain_clauses p ++ order_clauses p)))

@@ -1,15 +1,20 @@
 use Rattle.std.specs.Prelude.{◌≡◌, ◌==◌, ℕ, zero, suc, ◌+◌, ◌-◌, ◌*◌, ◌<◌, ◌≤◌, Bool, not, ◌&&◌, Option, Some, None, is_some, length, nat_le, if◌then◌else◌}
 use Rattle.letter_word.specs.Signals.{has}
 use Rattle.letter_word.specs.declared.cubes.Cube.{Cube}
-use Rattle.machine_model.specs.Automaton.{rejects}
+use Rattle.machine_model.specs.Automaton.{rejects, states_of}
 use Rattle.machine_model.specs.Problem.{automaton_of, sized}
 use Rattle.machine_model.specs.declared.automata.Edge.{Edge}
 use Rattle.machine_model.specs.declared.problems.Problem.{Problem}
 use Rattle.annotation_encode.specs.BaseClauses.{base_clauses, read_signal, row_count}
+use Rattle.annotation_encode.specs.Variables.{counted_before}
 
--- the number of base clauses, unless it passes a million (a limit of this project)
+-- how many base clauses a problem may have: a million, and in version 3 four million (limits of this project)
+abbrev pub most_clauses : Problem → ℕ
+most_clauses p = if p.version == 3 then 4000000 else 1000000
+
+-- the number of base clauses, unless it passes that limit
 abbrev pub count_of : Problem → Option ℕ
-count_of p = if nat_le (length (base_clauses p)) 1000000 then Some (length (base_clauses p)) else None
+count_of p = if nat_le (length (base_clauses p)) (most_clauses p) then Some (length (base_clauses p)) else None
 
 -- the greatest number of states, of those up to this one, for which the problem has so few base clauses, and 0 where it
 -- has more for each (this project's own)
@@ -43,6 +48,10 @@ free_below p cube (suc n) = free_below p cube n + (if is_free cube (read_signal 
 abbrev pub target_count : Problem → Edge → ℕ
 target_count p e = if (e.from == e.to) && not (rejects (automaton_of p) e.to) then (p.size - 1) else p.size
 
+-- how many clauses chain a pair's numbers
+abbrev pub chain_count : Problem → ℕ
+chain_count p = if p.version == 3 then (p.size * (p.size * counted_before p (states_of (automaton_of p)))) else 0
+
 -- how many clauses order the states
 abbrev pub order_count : Problem → ℕ
-order_count p = if p.version == 2 then (row_count p * (p.size - 2)) else 0
+order_count p = if nat_le 2 p.version then (row_count p * (p.size - 2)) else 0

@@ -6,7 +6,7 @@ use Rattle.machine_model.specs.Automaton.{IsAutomaton, states_of}
 use Rattle.machine_model.specs.Machine.{IsMachine, MachineModel}
 use Rattle.machine_model.specs.Problem.{IsMachineOf, IsProblem, automaton_of, parts_of, writes_of}
 use Rattle.machine_model.specs.declared.problems.Problem.{Problem}
-use Rattle.product_bound.specs.Annotation.{bound_of}
+use Rattle.product_bound.specs.Annotation.{bound_at}
 use Rattle.product_bound.specs.Laws.{HasRejectingRun}
 use Rattle.annotation_encode.specs.BaseClauses.{base_clauses}
 use Rattle.annotation_encode.specs.Variables.{letter_count, var_count, var_move, var_write, variables_of, write_place}
@@ -19,11 +19,11 @@ pub record NumberingsDontMeet (p : Problem) : Type 0 where
       → var_move p t i to ≡ var_move p s j on → (t ≡ s) × (i ≡ j) × (to ≡ on)
   pub writes : (t i s u j r : ℕ) → i < letter_count p → s < writes_of p → j < letter_count p → r < writes_of p
       → var_write p t i s ≡ var_write p u j r → (write_place p.kind (letter_count p) t i ≡ write_place p.kind (letter_count p) u j) × (s ≡ r)
-  pub counts : (t q c s r d : ℕ) → q < states_of (automaton_of p) → c ≤ bound_of p → r < states_of (automaton_of p) → d ≤ bound_of p
+  pub counts : (t q c s r d : ℕ) → q < states_of (automaton_of p) → c ≤ bound_at p q → r < states_of (automaton_of p) → d ≤ bound_at p r
       → var_count p t q c ≡ var_count p s r d → (t ≡ s) × (q ≡ r) × (c ≡ d)
   pub moves_first : (t i to u j s : ℕ) → t < p.size → i < letter_count p → to < p.size → var_move p t i to < var_write p u j s
   pub then_writes : (t i s u q c : ℕ) → t < p.size → i < letter_count p → s < writes_of p → var_write p t i s < var_count p u q c
-  pub last : (t q c : ℕ) → t < p.size → q < states_of (automaton_of p) → c ≤ bound_of p → var_count p t q c ≤ variables_of p
+  pub last : (t q c : ℕ) → t < p.size → q < states_of (automaton_of p) → c ≤ bound_at p q → var_count p t q c ≤ variables_of p
 
 abbrev pub VariablesDiffer : Type 0
 VariablesDiffer = (p : Problem) → NumberingsDontMeet p

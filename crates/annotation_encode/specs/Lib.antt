@@ -3,3 +3,4 @@ pub mod BaseClauses
 pub mod Assigned
 pub mod Count
 pub mod Laws
+pub mod Counts

@@ -1,22 +1,22 @@
-ghost use Rattle.std.specs.Prelude.{◌≡◌, ◌+◌, ◌-◌, ◌*◌, ◌<◌, true, IfOk, length};
+ghost use Rattle.std.specs.Prelude.{◌≡◌, ◌+◌, ◌^◌, ◌<◌, ◌≤◌, ◌++◌, ◌∷◌, [], true, IfOk, OnOk, length};
 ghost use Rattle.clause_base.specs.Truth.{meets};
 ghost use Rattle.machine_model.specs.Problem.{IsMachineOf, IsProblem};
-ghost use Rattle.product_bound.specs.Annotation.{IsValidAnnotation, bound_of, places_of};
+ghost use Rattle.product_bound.specs.Annotation.{IsValidAnnotation, places_of};
 ghost use Rattle.product_bound.specs.Numbered.{IsNumbered};
-ghost use Rattle.annotation_encode.specs.Assigned.{IsAssignmentOf, assigned_value, count_value, move_value, reaches, write_value, written_at};
-ghost use Rattle.annotation_encode.specs.BaseClauses.{base_clauses};
-ghost use Rattle.annotation_encode.specs.Variables.{letter_count, move_count, number_count, variables_of, write_count, write_places};
+ghost use Rattle.annotation_encode.specs.Assigned.{IsAssignmentOf, machine_value, machine_values, move_value, reaches, state_values, write_value, written_at};
+ghost use Rattle.annotation_encode.specs.BaseClauses.{base_clauses, each_below};
+ghost use Rattle.annotation_encode.specs.Variables.{letter_count, move_count, write_count, write_places};
 
-use crate::numbering::{letter_count, move_count, number_count, variable_count, write_count};
+use crate::numbering::{Numbering, letter_count, move_count, write_count};
 use clause_base::Assignment;
 use letter_word::{Kind, Letter};
 use machine_model::{Machine, Problem};
-use product_bound::{Annotation, bound_of};
+use product_bound::Annotation;
 use std::alloc::{AllocError, Global};
 
 /// The assignment of a machine and a valid annotation of it: of the moves and the writes those of the machine alone are
-/// true, and of the numbers each up to the pair's. It meets every base clause. In version 2 the machine has to be
-/// numbered.
+/// true, and of the numbers each up to the pair's. It meets every base clause. From version 2 on the machine has
+/// to be numbered.
 ///
 /// Takes a few steps for each variable.
 pub fn assignment_of(
@@ -29,46 +29,85 @@ pub fn assignment_of(
     requires machine { IsMachineOf problem.now machine.now }
     requires places { length annotation.now.numbers.items ≡ places_of problem.now }
     requires valid { IsValidAnnotation problem.now machine.now annotation.now.numbers.items }
-    requires numbered { problem.now.version ≡ 2 → IsNumbered machine.now }
+    requires numbered { 2 ≤ problem.now.version → IsNumbered machine.now }
     ensures assigned { IfOk result (λ assignment. IsAssignmentOf problem.now machine.now annotation.now.numbers.items assignment.values.items) }
     ensures met { IfOk result (λ assignment. meets assignment.values.items (base_clauses problem.now) ≡ true) }
 {
     let _states = problem.automaton.states();
     let _size = machine.size();
-    let numbers = annotation.numbers.as_slice();
-    let bound = bound_of(problem);
-    let vars = variable_count(problem, bound);
-    let mut values = Vec::with_capacity(alloc, vars as usize)?;
-    for place in 0..vars {
-        values.push(assigned_value(problem, machine, numbers, bound, place))?;
+    let numbering = Numbering::new(problem);
+    let mut values = Vec::with_capacity(alloc, numbering.variables() as usize)?;
+    push_machine_values(problem, machine, &mut values)?;
+    for t in 0..problem.size {
+        push_state_values(numbering, annotation, t, &mut values)?;
     }
     Ok(Assignment { values })
 }
 
-/// The value at a place of the assignment.
-fn assigned_value(
+/// Adds the values of the moves, and behind them of the writes.
+fn push_machine_values(
     problem: &Problem,
     machine: &Machine,
-    numbers: &[Option<u32>],
-    bound: u32,
-    place: u32,
-) -> bool
+    values: &mut Vec<bool>,
+) -> Result<(), AllocError>
     requires problem { IsProblem problem.now }
     requires machine { IsMachineOf problem.now machine.now }
-    requires places { length numbers.now ≡ places_of problem.now }
-    requires bound { bound ≡ bound_of problem.now }
-    requires within { place < variables_of problem.now }
-    ensures { result ≡ assigned_value problem.now machine.now numbers.now place }
+    ensures { OnOk result (values.new.items ≡ values.old.items ++ machine_values problem.now machine.now) }
+{
+    for place in 0..move_count(problem) + write_count(problem) {
+        values.push(machine_value(problem, machine, place))?;
+    }
+    Ok(())
+}
+
+/// The value of the move or the write at a place.
+fn machine_value(problem: &Problem, machine: &Machine, place: u32) -> bool
+    requires problem { IsProblem problem.now }
+    requires machine { IsMachineOf problem.now machine.now }
+    requires within { place < move_count problem.now + write_count problem.now }
+    ensures { result ≡ machine_value problem.now machine.now place }
 {
     let moves = move_count(problem);
     if place < moves {
-        return move_value(problem, machine, place);
+        move_value(problem, machine, place)
+    } else {
+        write_value(problem, machine, place - moves)
     }
-    let writes = write_count(problem);
-    if place < moves + writes {
-        return write_value(problem, machine, place - moves);
+}
+
+/// Adds the values of the pairs of the machine's state `t`.
+fn push_state_values(
+    numbering: Numbering<'_>,
+    annotation: &Annotation,
+    t: u32,
+    values: &mut Vec<bool>,
+) -> Result<(), AllocError>
+    requires problem { IsProblem numbering.problem.now }
+    requires places { length annotation.now.numbers.items ≡ places_of numbering.problem.now }
+    requires state { t < numbering.problem.now.size }
+    ensures { OnOk result (values.new.items ≡ values.old.items ++ state_values numbering.entry.problem.now annotation.now.numbers.items t) }
+{
+    let states = numbering.problem.automaton.states();
+    for q in 0..states {
+        let number = annotation.numbers[(t * states + q) as usize];
+        push_pair_values(numbering.bound_at(q), number, values)?;
     }
-    count_value(problem, numbers, bound, place - (moves + writes))
+    Ok(())
+}
+
+/// Adds the values of a pair with this number.
+fn push_pair_values(
+    bound: u32,
+    number: Option<u32>,
+    values: &mut Vec<bool>,
+) -> Result<(), AllocError>
+    requires { bound < 2 ^ 31 }
+    ensures { OnOk result (values.new.items ≡ values.old.items ++ each_below (bound + 1) (λ c. reaches number c ∷ [])) }
+{
+    for count in 0..bound + 1 {
+        values.push(reaches(number, count))?;
+    }
+    Ok(())
 }
 
 /// Whether the machine moves as the move at this place says.
@@ -106,18 +145,6 @@ fn written_at(problem: &Problem, machine: &Machine, place: u32) -> u32
         Kind::Mealy => machine.writes_at(place / letters, place % letters),
         Kind::Moore => machine.writes_at(place, 0),
     }
-}
-
-/// Whether a pair reaches the number at this place.
-fn count_value(problem: &Problem, numbers: &[Option<u32>], bound: u32, place: u32) -> bool
-    requires problem { IsProblem problem.now }
-    requires places { length numbers.now ≡ places_of problem.now }
-    requires bound { bound ≡ bound_of problem.now }
-    requires within { place < places_of problem.now * number_count problem.now }
-    ensures { result ≡ count_value problem.now numbers.now place }
-{
-    let counts = number_count(problem, bound);
-    reaches(numbers[(place / counts) as usize], place % counts)
 }
 
 /// Whether a pair with this number reaches the count.

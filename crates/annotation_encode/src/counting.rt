@@ -1,19 +1,28 @@
-ghost use Rattle.std.specs.Prelude.{◌≡◌, ◌-◌, ◌*◌, ◌^◌, ◌≤◌, length, if◌then◌else◌};
+ghost use Rattle.std.specs.Prelude.{◌≡◌, ◌+◌, ◌-◌, ◌*◌, ◌^◌, ◌≤◌, length, if◌then◌else◌};
 ghost use Rattle.machine_model.specs.Automaton.{JoinsStates, states_of};
 ghost use Rattle.machine_model.specs.Problem.{IsProblem, automaton_of, reads_of, sized};
-ghost use Rattle.annotation_encode.specs.BaseClauses.{edge_clauses, row_count};
-ghost use Rattle.annotation_encode.specs.Variables.{number_count};
-ghost use Rattle.annotation_encode.specs.Count.{allowed_sizes, count_of, free_below, is_free, order_count, target_count};
+ghost use Rattle.annotation_encode.specs.BaseClauses.{edge_clauses, row_count, step_count};
+ghost use Rattle.annotation_encode.specs.Count.{allowed_sizes, chain_count, count_of, free_below, is_free, most_clauses, order_count, target_count};
 
 use crate::clauses::read_signal;
-use crate::numbering::letter_count;
+use crate::numbering::{Numbering, letter_count};
 use letter_word::{Cube, Letter};
 use machine_model::{Edge, Problem};
+use product_bound::leaves;
 
-/// The greatest number of base clauses of a problem that is worked on.
-const MOST_CLAUSES: u64 = 1_000_000;
+/// The greatest number of base clauses of a problem that is worked on: 1,000,000, and in version 3 4,000,000.
+fn most_clauses(problem: &Problem) -> u64
+    ensures value { result ≡ most_clauses problem.now }
+    ensures small { result ≤ 4000000 }
+{
+    if problem.version == 3 {
+        4_000_000
+    } else {
+        1_000_000
+    }
+}
 
-/// The number of base clauses, or None where it passes 1,000,000.
+/// The number of base clauses, or None where it passes 1,000,000, in version 3 4,000,000.
 ///
 /// The clauses aren't listed to find it: it takes as many steps as there are edges and read signals, multiplied. It takes
 /// no memory.
@@ -24,8 +33,8 @@ pub fn count(problem: &Problem) -> Option<u64>
     count_at(problem, problem.size)
 }
 
-/// The greatest number of states, from 1 to `max`, for which the problem has at most 1,000,000 base clauses, and 0 where
-/// it has more for each. For fewer states there are fewer clauses. The problem's own size isn't looked at.
+/// The greatest number of states, from 1 to `max`, for which the problem has at most so many base clauses, and 0 where it
+/// has more for each. For fewer states there are fewer clauses. The problem's own size isn't looked at.
 ///
 /// Takes at most `max` times as long as `count`, and no memory.
 pub fn allowed_sizes(problem: &Problem, max: u32) -> u32
@@ -42,33 +51,72 @@ pub fn allowed_sizes(problem: &Problem, max: u32) -> u32
     0
 }
 
-/// The number of base clauses for this many states, or None where it passes 1,000,000.
+/// The number of base clauses for this many states, or None where it passes the limit.
 fn count_at(problem: &Problem, size: u32) -> Option<u64>
     requires problem { IsProblem problem.now }
     requires some { 1 ≤ size }
     requires size { size ≤ 8 }
     ensures { result ≡ count_of (sized problem.now size) }
 {
-    let numbers = number_count(problem, size);
-    let mut total = u64::from(row_count(problem, size)) + 1 + u64::from(order_count(problem, size));
+    let numbering = Numbering::new(problem);
+    let most = most_clauses(problem);
+    let mut total = count_beside_edges(problem, numbering, size);
+    if total > most {
+        return None;
+    }
     let edges = problem.automaton.edges();
     for edge in edges {
-        total += edge_count(problem, size, numbers, *edge);
-        if total > MOST_CLAUSES {
+        total += edge_count(problem, numbering, size, *edge);
+        if total > most {
             return None;
         }
     }
     Some(total)
 }
 
-/// How many numbers a pair may have.
-fn number_count(problem: &Problem, size: u32) -> u32
+/// How many clauses there are that are about no edge.
+fn count_beside_edges(problem: &Problem, numbering: Numbering<'_>, size: u32) -> u64
     requires problem { IsProblem problem.now }
+    requires numbering { numbering.problem.now ≡ problem.now }
+    requires some { 1 ≤ size }
     requires size { size ≤ 8 }
-    ensures value { result ≡ number_count (sized problem.now size) }
+    ensures value { result ≡ row_count (sized problem.now size) + 1 + chain_count (sized problem.now size) + order_count (sized problem.now size) }
+    ensures small { result ≤ 257000000 }
+{
+    u64::from(row_count(problem, size))
+        + 1
+        + u64::from(chain_count(problem, numbering, size))
+        + u64::from(order_count(problem, size))
+}
+
+/// How many clauses chain a pair's numbers.
+fn chain_count(problem: &Problem, numbering: Numbering<'_>, size: u32) -> u32
+    requires problem { IsProblem problem.now }
+    requires numbering { numbering.problem.now ≡ problem.now }
+    requires size { size ≤ 8 }
+    ensures value { result ≡ chain_count (sized problem.now size) }
+    ensures small { result ≤ 256000000 }
+{
+    if problem.version != 3 {
+        return 0;
+    }
+    size * (size * numbering.counted_before(problem.automaton.states()))
+}
+
+/// For how many numbers a step along an edge has clauses.
+fn step_count(problem: &Problem, numbering: Numbering<'_>, size: u32, edge: Edge) -> u32
+    requires problem { IsProblem problem.now }
+    requires numbering { numbering.problem.now ≡ problem.now }
+    requires size { size ≤ 8 }
+    requires edge { JoinsStates (states_of (automaton_of problem.now)) edge }
+    ensures value { result ≡ step_count (sized problem.now size) edge }
     ensures small { result ≤ 16001 }
 {
-    size * problem.automaton.rejecting_count() + 1
+    if leaves(problem, edge.from, edge.to) {
+        1
+    } else {
+        size * numbering.rejecting_at(edge.from) + 1
+    }
 }
 
 /// How many rows a machine has.
@@ -88,7 +136,7 @@ fn order_count(problem: &Problem, size: u32) -> u32
     ensures value { result ≡ order_count (sized problem.now size) }
     ensures small { result ≤ 12288 }
 {
-    if problem.version != 2 {
+    if problem.version < 2 {
         return 0;
     }
     let later = later_states(size);
@@ -104,33 +152,31 @@ fn later_states(size: u32) -> u32
     size.saturating_sub(2)
 }
 
-/// How many clauses an edge has, where a pair may have so many numbers.
-fn edge_count(problem: &Problem, size: u32, numbers: u32, edge: Edge) -> u64
+/// How many clauses an edge has.
+fn edge_count(problem: &Problem, numbering: Numbering<'_>, size: u32, edge: Edge) -> u64
     requires problem { IsProblem problem.now }
+    requires numbering { numbering.problem.now ≡ problem.now }
     requires some { 1 ≤ size }
     requires size { size ≤ 8 }
-    requires numbers { numbers ≡ number_count (sized problem.now size) }
-    requires few { numbers ≤ 16001 }
     requires edge { JoinsStates (states_of (automaton_of problem.now)) edge }
     ensures value { result ≡ length (edge_clauses (sized problem.now size) edge) }
     ensures small { result ≤ 262160384 }
 {
-    let clauses = size * state_count(problem, size, numbers, edge);
+    let clauses = size * state_count(problem, numbering, size, edge);
     u64::from(clauses)
 }
 
 /// How many of them are about one state.
-fn state_count(problem: &Problem, size: u32, numbers: u32, edge: Edge) -> u32
+fn state_count(problem: &Problem, numbering: Numbering<'_>, size: u32, edge: Edge) -> u32
     requires problem { IsProblem problem.now }
+    requires numbering { numbering.problem.now ≡ problem.now }
     requires some { 1 ≤ size }
     requires size { size ≤ 8 }
-    requires numbers { numbers ≡ number_count (sized problem.now size) }
-    requires few { numbers ≤ 16001 }
     requires edge { JoinsStates (states_of (automaton_of problem.now)) edge }
-    ensures value { result ≡ 2 ^ free_below problem.now edge.cube (reads_of problem.now) * (target_count (sized problem.now size) edge * number_count (sized problem.now size)) }
+    ensures value { result ≡ 2 ^ free_below problem.now edge.cube (reads_of problem.now) * (target_count (sized problem.now size) edge * step_count (sized problem.now size) edge) }
     ensures small { result ≤ 32770048 }
 {
-    let steps = target_count(problem, size, edge) * numbers;
+    let steps = target_count(problem, size, edge) * step_count(problem, numbering, size, edge);
     fitting_letters(problem, edge.cube) * steps
 }
 

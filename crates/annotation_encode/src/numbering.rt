@@ -1,13 +1,122 @@
 ghost use Rattle.std.specs.Prelude.{◌≡◌, ◌+◌, ◌*◌, ◌^◌, ◌<◌, ◌≤◌};
 ghost use Rattle.machine_model.specs.Automaton.{states_of};
 ghost use Rattle.machine_model.specs.Problem.{IsProblem, automaton_of, writes_of};
-ghost use Rattle.product_bound.specs.Annotation.{bound_of, places_of};
+ghost use Rattle.product_bound.specs.Annotation.{bound_at, rejecting_at, rejecting_count};
 ghost use Rattle.annotation_encode.specs.BaseClauses.{row_count, row_move};
-ghost use Rattle.annotation_encode.specs.Variables.{letter_count, move_count, number_count, row_place, var_count, var_move, var_write, variables_of, write_count, write_place, write_places};
+ghost use Rattle.annotation_encode.specs.Variables.{counted_before, letter_count, move_count, numbers_before, row_place, state_numbers, var_count, var_move, var_write, variables_of, write_count, write_place, write_places};
 
 use letter_word::Kind;
 use machine_model::Problem;
-use product_bound::bound_of;
+use machine_model::laws::components_are_classes;
+use product_bound::counted_by;
+
+/// A problem with the number of its rejecting states, which is found once.
+#[derive(Clone, Copy)]
+pub struct Numbering<'a> {
+    pub problem: &'a Problem,
+    rejecting: u32,
+    ghost rejecting_is: { rejecting ≡ rejecting_count (automaton_of problem.now) },
+}
+
+impl<'a> Numbering<'a> {
+    /// Takes a step for each state of the automaton.
+    pub fn new(problem: &'a Problem) -> Self
+        ensures { result.problem.now ≡ problem.now }
+    {
+        Numbering {
+            problem,
+            rejecting: problem.automaton.rejecting_count(),
+        }
+    }
+
+    /// How many rejecting states are counted in state `q`.
+    pub fn rejecting_at(&self, q: u32) -> u32
+        requires problem { IsProblem self.now.problem.now }
+        requires state { q < states_of (automaton_of self.now.problem.now) }
+        ensures value { result ≡ rejecting_at self.now.problem.now q }
+        ensures small { result ≤ 2000 }
+    {
+        components_are_classes();
+        let _states = self.problem.automaton.states();
+        match counted_by(self.problem) {
+            Some(components) => components.count(q),
+            None => self.rejecting,
+        }
+    }
+
+    /// How many are counted in the states before `q`, together.
+    pub fn counted_before(&self, q: u32) -> u32
+        requires problem { IsProblem self.now.problem.now }
+        requires state { q ≤ states_of (automaton_of self.now.problem.now) }
+        ensures value { result ≡ counted_before self.now.problem.now q }
+        ensures small { result ≤ 2000 * q }
+    {
+        components_are_classes();
+        let _states = self.problem.automaton.states();
+        match counted_by(self.problem) {
+            Some(components) => components.before(q),
+            None => q * self.rejecting,
+        }
+    }
+
+    /// The greatest number that a pair of the automaton's state `q` may have.
+    pub fn bound_at(&self, q: u32) -> u32
+        requires problem { IsProblem self.now.problem.now }
+        requires state { q < states_of (automaton_of self.now.problem.now) }
+        ensures value { result ≡ bound_at self.now.problem.now q }
+        ensures small { result ≤ 16000 }
+    {
+        self.problem.size * self.rejecting_at(q)
+    }
+
+    /// How many variables say, for one state of the machine, which numbers are reached in the automaton's states before `q`.
+    fn numbers_before(&self, q: u32) -> u32
+        requires problem { IsProblem self.now.problem.now }
+        requires state { q ≤ states_of (automaton_of self.now.problem.now) }
+        ensures value { result ≡ numbers_before self.now.problem.now q }
+        ensures small { result ≤ 16001 * q }
+    {
+        self.problem.size * self.counted_before(q) + q
+    }
+
+    /// How many say so in all of them.
+    fn state_numbers(&self) -> u32
+        requires { IsProblem self.now.problem.now }
+        ensures value { result ≡ state_numbers self.now.problem.now }
+        ensures small { result ≤ 32002000 }
+    {
+        self.numbers_before(self.problem.automaton.states())
+    }
+
+    /// The number of variables.
+    pub fn variables(&self) -> u32
+        requires { IsProblem self.now.problem.now }
+        ensures value { result ≡ variables_of self.now.problem.now }
+        ensures small { result ≤ 2 ^ 29 }
+    {
+        move_count(self.problem)
+            + write_count(self.problem)
+            + self.problem.size * self.state_numbers()
+    }
+
+    /// The variable that says: the number of the pair is at least `c`.
+    pub fn var_count(&self, pair: (u32, u32), c: u32) -> u32
+        requires problem { IsProblem self.now.problem.now }
+        requires state { pair.0 < self.now.problem.now.size }
+        requires pair { pair.1 < states_of (automaton_of self.now.problem.now) }
+        requires number { c ≤ bound_at self.now.problem.now pair.1 }
+        ensures value { result ≡ var_count self.now.problem.now pair.0 pair.1 c }
+        ensures some { 0 < result }
+        ensures small { result ≤ 2 ^ 29 }
+    {
+        move_count(self.problem)
+            + write_count(self.problem)
+            + 1
+            + pair.0 * self.state_numbers()
+            + self.numbers_before(pair.1)
+            + c
+    }
+}
 
 /// The number of variables. Takes a step for each state of the automaton.
 pub fn variables(problem: &Problem) -> u32
@@ -15,19 +124,7 @@ pub fn variables(problem: &Problem) -> u32
     ensures value { result ≡ variables_of problem.now }
     ensures small { result ≤ 2 ^ 29 }
 {
-    variable_count(problem, bound_of(problem))
-}
-
-/// The same where the bound is at hand.
-pub(crate) fn variable_count(problem: &Problem, bound: u32) -> u32
-    requires problem { IsProblem problem.now }
-    requires bound { bound ≡ bound_of problem.now }
-    ensures value { result ≡ variables_of problem.now }
-    ensures small { result ≤ 2 ^ 29 }
-{
-    move_count(problem)
-        + write_count(problem)
-        + problem.size * problem.automaton.states() * number_count(problem, bound)
+    Numbering::new(problem).variables()
 }
 
 /// The variable that says: in state `t` on read letter `i` the machine moves to state `to`.
@@ -75,30 +172,12 @@ pub fn var_count(problem: &Problem, t: u32, q: u32, c: u32) -> u32
     requires problem { IsProblem problem.now }
     requires state { t < problem.now.size }
     requires pair { q < states_of (automaton_of problem.now) }
-    requires number { c ≤ bound_of problem.now }
+    requires number { c ≤ bound_at problem.now q }
     ensures value { result ≡ var_count problem.now t q c }
     ensures some { 0 < result }
     ensures small { result ≤ 2 ^ 29 }
 {
-    count_var(problem, bound_of(problem), (t, q), c)
-}
-
-/// The same where the bound is at hand.
-pub(crate) fn count_var(problem: &Problem, bound: u32, pair: (u32, u32), c: u32) -> u32
-    requires problem { IsProblem problem.now }
-    requires bound { bound ≡ bound_of problem.now }
-    requires state { pair.0 < problem.now.size }
-    requires pair { pair.1 < states_of (automaton_of problem.now) }
-    requires number { c ≤ bound_of problem.now }
-    ensures value { result ≡ var_count problem.now pair.0 pair.1 c }
-    ensures some { 0 < result }
-    ensures small { result ≤ 2 ^ 29 }
-{
-    move_count(problem)
-        + write_count(problem)
-        + 1
-        + pair_place(problem, pair.0, pair.1) * number_count(problem, bound)
-        + c
+    Numbering::new(problem).var_count((t, q), c)
 }
 
 /// The number of rows of a machine, one for each state and read letter.
@@ -174,26 +253,4 @@ pub(crate) fn write_count(problem: &Problem) -> u32
     ensures small { result ≤ 16384 }
 {
     write_places(problem) * problem.writes()
-}
-
-/// How many numbers a pair may have.
-pub(crate) fn number_count(problem: &Problem, bound: u32) -> u32
-    requires problem { IsProblem problem.now }
-    requires bound { bound ≡ bound_of problem.now }
-    ensures value { result ≡ number_count problem.now }
-    ensures small { result ≤ 16001 }
-{
-    bound + 1
-}
-
-/// The place of the pair (t, q).
-fn pair_place(problem: &Problem, t: u32, q: u32) -> u32
-    requires problem { IsProblem problem.now }
-    requires state { t < problem.now.size }
-    requires pair { q < states_of (automaton_of problem.now) }
-    ensures value { result ≡ t * states_of (automaton_of problem.now) + q }
-    ensures small { result < 16000 }
-{
-    let states = problem.automaton.states();
-    t * states + q
 }

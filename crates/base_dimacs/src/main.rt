@@ -1,5 +1,5 @@
 //! The base clauses of one side and size of a text in DIMACS form, to be given to other solvers: standard input holds the text, and the words
-//! are `system N` or `environment N`.
+//! are `system N` or `environment N`, and then `local` where numbers are counted by component.
 #![tactic(auto)]
 
 mod dimacs;
@@ -7,6 +7,7 @@ mod problems;
 
 use crate::dimacs::push_formula;
 use crate::problems::base_of;
+use annotation_encode::Counts;
 use anyhow::{bail, ensure};
 use spec_problems::text_problems;
 use std::env;
@@ -15,14 +16,16 @@ use std::io::{Read, Write};
 fn main(rt: HostRuntime) -> anyhow::Result<()> {
     let alloc = rt.alloc();
     let words: Vec<String> = env::args(&rt)?.collect(alloc)?;
-    let [_program, side, size] = words.as_slice() else {
-        bail!("wanted: system N or environment N");
+    let (side, size, counts) = match words.as_slice() {
+        [_program, side, size] => (side, size, Counts::Whole),
+        [_program, side, size, counts] if counts.as_str() == "local" => (side, size, Counts::Local),
+        _ => bail!("wanted: system N or environment N, and then local or nothing"),
     };
     let size: u32 = size.parse()?;
     ensure!(size > 0 && size <= 8, "wanted: a size of 1 to 8");
     let mut text = Vec::new(alloc);
     rt.stdin().read_to_end(&mut text)?;
-    let Ok(text) = text_problems(alloc, &text, None, 2) else {
+    let Ok(text) = text_problems(alloc, &text, None, counts.version()) else {
         bail!("the text is refused");
     };
     let Some(base) = base_of(alloc, &text.problems, side.as_str(), size)? else {

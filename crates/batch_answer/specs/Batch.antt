@@ -9,7 +9,7 @@ use Rattle.synth_answer.specs.Answer.{Answers}
 
 -- how each search is bounded: by the same limits, and without workers beside the one that makes it
 abbrev pub bounds_of : Settings → Settings
-bounds_of settings = record { max = settings.max; entries = settings.entries; workers = 0 }
+bounds_of settings = record { max = settings.max; entries = settings.entries; workers = 0; counts = settings.counts }
 
 -- a search can be bounded so
 pub record IsBounded (settings : Settings) : Type 0 where

@@ -1,6 +1,7 @@
 -- The answer of `bench` (this project's own).
 use Rattle.std.specs.Prelude.{◌≡◌, ℕ, ◌++◌, List, None, codes, decimal}
 use Rattle.arbiter_text.specs.Arbiter.{generated_text}
+use Rattle.annotation_encode.specs.declared.counts.Counts.TheVariants.{Whole}
 use Rattle.synth_engine.specs.declared.settings.Settings.{Settings}
 use Rattle.cert_text.specs.declared.documents.Verdict.{Verdict}
 use Rattle.cert_text.specs.declared.documents.Verdict.TheVariants.{Realizable, Unrealizable, Bounded, UnknownSizes, UnknownEntries}
@@ -8,9 +9,9 @@ use Rattle.cert_text.specs.Parts.{Document}
 use Rattle.cert_text.specs.States.{States}
 use Rattle.synth_answer.specs.Answer.{Answers}
 
--- how the search is bounded: the usual greatest size, and no limit on the entries of a log
+-- how the search is bounded: the usual greatest size, no limit on the entries of a log, and all rejecting states are counted
 abbrev pub bounds_of : ℕ → Settings
-bounds_of workers = record { max = 4; entries = None; workers = workers }
+bounds_of workers = record { max = 4; entries = None; workers = workers; counts = Whole }
 
 -- The status of a verdict. One that rests on a full log has none: where there is no limit, no log is full.
 abbrev pub HasStatus : Verdict → ℕ → Type 0

@@ -3,6 +3,7 @@ ghost use Rattle.std.specs.Prelude.{◌≡◌, ◌≤◌, ◌++◌, IfOk, OnOk};
 ghost use Rattle.program_replies.specs.Statuses.{status_number};
 ghost use Rattle.bench_answer.specs.Bench.{BenchAnswer, HasVerdict, IsDocument, bounds_of, lines_of, states_of, word_of};
 
+use annotation_encode::Counts;
 use arbiter_text::write_arbiter;
 use cert_text::laws::documents_are_determined;
 use cert_text::{DocumentFault, Verdict, read_document};
@@ -54,6 +55,7 @@ fn bounds(workers: u32) -> Settings
         max: 4,
         entries: None,
         workers,
+        counts: Counts::Whole,
     }
 }
 

@@ -40,7 +40,7 @@ module _ (problems : ProblemsOfTextsAreDetermined) where
   no_fault : (text : List ℕ) (kind : Option Kind) (settings : Settings) (bytes : List ℕ) (code : SpecCode) (place : ℕ) →
       Printed text kind settings bytes → IsFirstFault text kind code place → ⊥
   no_fault text kind settings bytes code place p fault =
-      problems.no_fault text kind 2 (printed_spec p) p.problems code place (printed_problems text kind settings bytes p) fault
+      problems.no_fault text kind _ (printed_spec p) p.problems code place (printed_problems text kind settings bytes p) fault
 
   synth_fault : (text : List ℕ) (kind : Option Kind) (settings : Settings) (bytes : List ℕ) (status : ℕ) (code : SpecCode) (place : ℕ) →
       Answers text kind settings bytes status → IsFirstFault text kind code place → (status ≡ 1) × (bytes ≡ refusal_line code place)

@@ -89,7 +89,7 @@ not_first told asked spec name is other = λ same. other (first (subst (λ xs. C
 
 -- a text that has problems, or a flat form, has no fault
 pub without_fault : (text : List ℕ) (t : TextProblems) → ProblemsOfTextsAreDetermined → IsTaken text t → HasNone (IsFirstFault text (Some Mealy))
-without_fault text t law taken = record { none = λ code place fault. law.no_fault text (Some Mealy) 2 (spec_seen t.spec) t.problems code place taken.problems fault }
+without_fault text t law taken = record { none = λ code place fault. law.no_fault text (Some Mealy) 3 (spec_seen t.spec) t.problems code place taken.problems fault }
 
 pub own_without_fault : (text : List ℕ) (t : TextProblems) → ProblemsOfTextsAreDetermined → verification.IsTaken text t → HasNone (IsFirstFault text None)
 own_without_fault text t law taken = record { none = λ code place fault. law.no_fault text None 2 (spec_seen t.spec) t.problems code place taken.problems fault }

@@ -29,7 +29,7 @@ statuses_of (batch list wanted) = 0 ∷ 40 ∷ []
 
 -- how the words bound a search
 abbrev pub bounds_of : Search → Settings
-bounds_of wanted = record { max = wanted.max; entries = wanted.entries; workers = wanted.workers }
+bounds_of wanted = record { max = wanted.max; entries = wanted.entries; workers = wanted.workers; counts = wanted.counts }
 
 -- the bytes and the status that may answer a command, each by the definition of its answer
 abbrev pub MayAnswer : Option Files → Asked → List ℕ → ℕ → Type 0

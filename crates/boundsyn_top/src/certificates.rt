@@ -2,8 +2,8 @@
 ghost use Rattle.std.specs.Prelude.{◌≡◌, ◌≢◌, ℕ, List, Some, IfOk};
 ghost use Rattle.letter_word.specs.declared.kinds.Kind.TheVariants.{Mealy};
 ghost use Rattle.check_answer.specs.Answer.{CheckAnswers};
-ghost use Rattle.check_answer.specs.Reply.{IsTaken};
-ghost use Rattle.spec_problems.specs.OfFormula.{AreProblems};
+ghost use Rattle.check_answer.specs.Reply.{IsTaken, facts_taken};
+ghost use Rattle.document_check.specs.Shown.{AreFacts};
 ghost use Rattle.spec_problems.specs.OfText.{IsFirstFault};
 ghost use Rattle.program_replies.specs.Statuses.{status_number};
 ghost use Rattle.program_words.specs.Settings.{check};
@@ -78,7 +78,7 @@ fn checked<R, H>(
 where
     R: Threads + Wait + Sync,
     H: Shelf,
-    requires { AreProblems found.now.problems }
+    requires { AreFacts (facts_taken found.now) }
     ensures reply { (text : List ℕ) → IsTaken text found.now → HasNone (IsFirstFault text (Some Mealy))
         → IfOk result (λ r. RepliesByFile (H.files shelf.old) (H.faults shelf.old) (H.faults shelf.new) certificate.now
         (HasNone (IsFirstFault text (Some Mealy))) (λ document. CheckAnswers text document r.bytes.items (status_number r.status)) r.bytes.items (status_number r.status)) }

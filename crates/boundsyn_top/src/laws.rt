@@ -1,6 +1,7 @@
 //! Laws of the answers, and what a run answers where nothing outside can fail.
 ghost use Rattle.std.specs.Prelude.{◌∷◌, map, string_bytes, Contains};
 ghost use Rattle.program_words.specs.Settings.{Asked};
+ghost use Rattle.synth_answer.specs.Numbers.{NumbersAreDetermined};
 ghost use Rattle.boundsyn_top.specs.Commands.{statuses_of};
 ghost use Rattle.boundsyn_top.specs.Faults.{RefusalsAreDetermined};
 ghost use Rattle.boundsyn_top.specs.Run.{Asks};
@@ -30,6 +31,14 @@ pub fn refusals_are_determined()
     flat_texts_are_determined();
     core_faults_are_determined();
     lists_are_determined();
+}
+
+/// Two answers of status 10, or of status 20, to one text and kind tell the same number of states, whatever `--max`, the limits
+/// on entries, what was counted, the workers and the schedules were.
+pub fn numbers_are_determined()
+    ensures { NumbersAreDetermined }
+{
+    synth_answer::laws::numbers_are_determined();
 }
 
 /// Over a shelf and a sink that never fail, words that ask for something get an answer, or memory was wanted.

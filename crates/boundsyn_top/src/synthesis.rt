@@ -50,5 +50,6 @@ pub fn bounds(wanted: Search) -> synth_engine::Settings
         max: wanted.max,
         entries: wanted.entries,
         workers: wanted.workers,
+        counts: wanted.counts,
     }
 }

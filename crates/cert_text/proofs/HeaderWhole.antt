@@ -1,11 +1,11 @@
 -- A header as a whole: it has no bad line exactly where its text stands there.
-use Rattle.std.proofs.Common.{◌≡◌, ℕ, zero, suc, ◌+◌, ◌^◌, ◌<◌, ◌≤◌, Bool, true, false, ◌&&◌, cond, Option, Some, None, List, [], ◌∷◌, ◌++◌, refl, sym, ap, subst, ◌∙◌, arith, decimal, append_assoc, inl, inr}
+use Rattle.std.proofs.Common.{◌≡◌, ℕ, zero, suc, ◌+◌, ◌^◌, ◌<◌, ◌≤◌, ◌==◌, Bool, true, false, ◌&&◌, cond, Option, Some, None, List, [], ◌∷◌, ◌++◌, refl, sym, ap, subst, ◌∙◌, arith, decimal, append_assoc, inl, inr}
 use Rattle.std.specs.Prelude.{option_map, option_and_then, codes, unwrap_or, nat_le, IfSome}
 use Rattle.std.specs.List.{list_all}
 use Rattle.std.specs.Str.{bytes_eq}
 use Rattle.std.specs.Char.{is_ascii_digit}
 use Rattle.std.specs.Cmp.Lexicographic.{bytes_decides}
-use Rattle.std.proofs.lemmas.Bool.{le-leb, leb-true}
+use Rattle.std.proofs.lemmas.Bool.{eqb-true, le-leb, leb-true, or_cases}
 use Rattle.std.proofs.lemmas.List.{append_cancel_left}
 use Rattle.letter_word.specs.declared.kinds.Kind.{Kind}
 use Rattle.letter_word.specs.declared.kinds.Kind.TheVariants.{Mealy, Moore}
@@ -16,10 +16,10 @@ use Rattle.cert_text.specs.declared.documents.Verdict.{Verdict}
 use Rattle.cert_text.specs.declared.documents.Verdict.TheVariants.{Realizable, Unrealizable, Bounded, UnknownSizes, UnknownEntries}
 use Rattle.cert_text.specs.declared.header.Header.{Header}
 use Rattle.cert_text.specs.Lines.{version_line, verdict_line, kind_line, max_line, entries_line, found_lines}
-use Rattle.cert_text.specs.Order.{fits_max, fits_version, has_its_place, is_in_range, may_tell_found}
-use Rattle.cert_text.specs.Header.{entries_in, found_at, found_in, front, header_of, kind_in, max_in, on_entries, on_found, on_kind, on_max, on_verdict, on_version, verdict_in, version_in, behind}
+use Rattle.cert_text.specs.Order.{fits_max, fits_version, has_its_place, is_in_range, is_version, may_tell_found}
+use Rattle.cert_text.specs.Header.{entries_in, found_at, found_in, front, header_of, kind_in, max_in, on_entries, on_found, on_kind, on_max, on_verdict, on_version, verdict_in, version_in, version_number, behind, in_range}
 use Rattle.cert_text.specs.WellFormed.{IsFoundNumber}
-use Rattle.cert_text.proofs.LineRead.{range_is, range_read, follows_words, words_read, number_is, front_is, front_read, text_lacks, words_lack}
+use Rattle.cert_text.proofs.LineRead.{IsInRange, in_range_is, in_range_read, range_is, range_read, follows_words, words_read, number_is, front_is, front_read, text_lacks, words_lack}
 use Rattle.cert_text.proofs.VerdictRead.{number_in, any_verdict_is, verdict_parts, verdict_read, verdict_lacks}
 use Rattle.cert_text.proofs.HeadRead.{last_step}
 
@@ -115,6 +115,36 @@ in_range_true least most n low high = both_true (nat_le least n) (nat_le n most)
 pub in_range_bounds : (least most n : ℕ) → is_in_range least most n ≡ true → (least ≤ n) × (n ≤ most)
 in_range_bounds least most n is = let k = both (nat_le least n) (nat_le n most) is in (leb-true least n k.0, leb-true n most k.1)
 
+-- a version is a small number, which its line alone states
+pub version_bounds : (v : ℕ) → is_version v ≡ true → (1 ≤ v) × (v ≤ 5)
+version_bounds v is = elim (or_cases (is_in_range 1 3 v) (v == 5) is) [
+  | inl low ↦ let k = in_range_bounds 1 3 v low in let most : v ≤ 3 = k.1 in (k.0, omega arith)
+  | inr five ↦ let e : v ≡ 5 = eqb-true v 5 five in (omega arith, omega arith)
+]
+
+version_by : (word : List ℕ) (v n : ℕ) (b : Bool) → IsInRange 1 5 n word → is_version n ≡ b → cond b (Some n) None ≡ Some v → (word ≡ decimal v) × (is_version v ≡ true)
+version_by word v n true range e is =
+    let same : n ≡ v = ap (λ (o : Option ℕ). unwrap_or o 0) is in
+    (range.word_is ∙ ap decimal same, ap is_version (sym same) ∙ e)
+version_by word v n false range e is = absurd (cc)
+
+version_of : (word : List ℕ) (v : ℕ) (o : Option ℕ) → in_range 1 5 word ≡ o → option_and_then (λ n. cond (is_version n) (Some n) None) o ≡ Some v
+    → (word ≡ decimal v) × (is_version v ≡ true)
+version_of word v None e is = absurd (cc)
+version_of word v (Some n) e is = version_by word v n (is_version n) (in_range_is 1 5 n word (omega arith) e) refl is
+
+version_parts : (line : List ℕ) (v : ℕ) → version_in line ≡ Some v → (line ≡ version_line v) × (is_version v ≡ true)
+version_parts line v is =
+    let k = follows_words (codes "boundsyn ") line version_number v is in
+    let w = version_of k.0 v (in_range 1 5 k.0) refl k.2 in
+    (k.1 ∙ ap (λ (t : List ℕ). codes "boundsyn " ++ t) w.0, w.1)
+
+version_read : (v : ℕ) → is_version v ≡ true → version_in (version_line v) ≡ Some v
+version_read v is =
+    let k = version_bounds v is in
+    words_read (codes "boundsyn ") (decimal v) version_number v
+    (ap (option_and_then (λ n. cond (is_version n) (Some n) None)) (in_range_read 1 5 v (omega arith) k.0 k.1) ∙ ap (λ b. cond b (Some v) None) is)
+
 -- a verdict that fits has a small number
 pub small_number : (max : ℕ) (verdict : Verdict) → fits_max max verdict ≡ true → number_in verdict ≤ max
 small_number max (Realizable n) fits = (in_range_bounds 1 max n fits).1
@@ -200,7 +230,7 @@ header_steps circuit first b0 b1 b2 b3 b4 b5 rest v r k m e f e0 e1 place e2 e3 
 
 -- the ranges of a header's numbers
 pub record HasRanges (circuit : Bool) (version : ℕ) (verdict : Verdict) (max : ℕ) (entries : Option ℕ) (found : ℕ) : Type 0 where
-  pub version_in : is_in_range 1 3 version ≡ true
+  pub version_in : is_version version ≡ true
   pub fits : fits_version version verdict ≡ true
   pub its_place : has_its_place circuit verdict ≡ true
   pub max_in : is_in_range 1 8 max ≡ true
@@ -236,7 +266,7 @@ module _ (circuit : Bool) (first : ℕ) (b0 : List ℕ) where
       let f2 = front_is kind_in b2 k b3 e2 in
       let f3 = front_is max_in b3 m b4 e3 in
       let f4 = front_is entries_in b4 e b5 e4 in
-      let r0 = range_is (codes "boundsyn ") f0.line 1 3 v (omega arith) f0.read in
+      let r0 = version_parts f0.line v f0.read in
       let r3 = range_is (codes "max ") f3.line 1 8 m (omega arith) f3.read in
       let high = r3.2 in
       let small = small_number m r fits in
@@ -258,7 +288,7 @@ module _ (circuit : Bool) (first : ℕ) (b0 : List ℕ) where
         found = found.found;
         rest = found.rest;
         ranges = record {
-          version_in = in_range_true 1 3 v r0.1 r0.2;
+          version_in = r0.1;
           fits = parts.1;
           its_place = place;
           max_in = in_range_true 1 8 m r3.1 r3.2;
@@ -327,7 +357,7 @@ pub header_read : (circuit : Bool) (first : ℕ) (v : ℕ) (r : Verdict) (k : Ki
     → front (found_in m) rest ≡ None
     → header_of circuit first (lines_text v r k m e f ++ rest) ≡ record { header = header_with v r k m e f; rest = rest }
 header_read circuit first v r k m e f rest ranges other =
-    let v_in = in_range_bounds 1 3 v ranges.version_in in
+    let v_in = version_bounds v ranges.version_in in
     let low = v_in.0 in
     let high = v_in.1 in
     let m_in = in_range_bounds 1 8 m ranges.max_in in
@@ -342,7 +372,7 @@ header_read circuit first v r k m e f rest ranges other =
     ap (header_of circuit first) (append_assoc (text_of_lines (version_line v ∷ verdict_line r ∷ kind_line k ∷ max_line m ∷ entries_line e ∷ [])) (text_of_lines (found_lines f)) rest)
     ∙ header_steps circuit first b0 b1 b2 b3 b4 b5 rest v r k m e f
     (ap (front version_in) (sym (first_line (version_line v) (verdict_line r ∷ kind_line k ∷ max_line m ∷ entries_line e ∷ []) b5))
-    ∙ front_read version_in (version_line v) b1 v (text_lacks (codes "boundsyn ") v (words_lack (codes "boundsyn ") refl) (omega arith)) (range_read (codes "boundsyn ") 1 3 v (omega arith) v_in.0 v_in.1))
+    ∙ front_read version_in (version_line v) b1 v (text_lacks (codes "boundsyn ") v (words_lack (codes "boundsyn ") refl) (omega arith)) (version_read v ranges.version_in))
     (ap (front (verdict_in v)) (sym (first_line (verdict_line r) (kind_line k ∷ max_line m ∷ entries_line e ∷ []) b5))
     ∙ front_read (verdict_in v) (verdict_line r) b2 r (verdict_lacks r (omega arith)) (verdict_read v r (omega arith) ranges.fits))
     ranges.its_place

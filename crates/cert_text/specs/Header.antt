@@ -12,7 +12,7 @@ use Rattle.cert_text.specs.declared.documents.Verdict.{Verdict}
 use Rattle.cert_text.specs.declared.documents.Verdict.TheVariants.{Realizable, Unrealizable, Bounded, UnknownSizes, UnknownEntries}
 use Rattle.cert_text.specs.declared.header.Header.{Header}
 use Rattle.cert_text.specs.Lines.{bounded_words, unknown_words}
-use Rattle.cert_text.specs.Order.{has_its_place, fits_version, fits_max, may_tell_found}
+use Rattle.cert_text.specs.Order.{has_its_place, fits_version, fits_max, is_version, may_tell_found}
 
 -- what follows these bytes at a line's begin
 abbrev pub behind : List ℕ → List ℕ → Option (List ℕ)
@@ -28,8 +28,11 @@ capped word = if is_numeral word then Some (min (decimal_value word) (2 ^ 32 - 1
 
 -- == one line ==
 
+abbrev pub version_number : List ℕ → Option ℕ
+version_number word = option_and_then (λ n. if is_version n then Some n else None) (in_range 1 5 word)
+
 abbrev pub version_in : List ℕ → Option ℕ
-version_in line = option_and_then (in_range 1 3) (behind (codes "boundsyn ") line)
+version_in line = option_and_then version_number (behind (codes "boundsyn ") line)
 
 -- the number behind these words
 abbrev pub number_behind : List ℕ → List ℕ → Option ℕ

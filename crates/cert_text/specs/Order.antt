@@ -21,16 +21,24 @@ has_circuit (UnknownEntries side n) = false
 abbrev pub has_its_place : Bool → Verdict → Bool
 has_its_place circuit verdict = if circuit then has_circuit verdict else not (has_circuit verdict)
 
--- bounded verdicts are those of version 3
+abbrev pub is_in_range : ℕ → ℕ → ℕ → Bool
+is_in_range least most n = nat_le least n && nat_le n most
+
+-- the versions of documents: 5 is as 3, over base clauses that count by component
+abbrev pub is_version : ℕ → Bool
+is_version version = is_in_range 1 3 version || (version == 5)
+
+-- whether documents of this version have bounded verdicts, and logs beside a counter-machine
+abbrev pub tells_bounds : ℕ → Bool
+tells_bounds version = (version == 3) || (version == 5)
+
+-- bounded verdicts are those of such versions
 abbrev pub fits_version : ℕ → Verdict → Bool
 fits_version version (Realizable n) = true
 fits_version version (Unrealizable n) = true
-fits_version version (Bounded side n) = version == 3
+fits_version version (Bounded side n) = tells_bounds version
 fits_version version UnknownSizes = true
 fits_version version (UnknownEntries side n) = true
-
-abbrev pub is_in_range : ℕ → ℕ → ℕ → Bool
-is_in_range least most n = nat_le least n && nat_le n most
 
 -- the verdict's number is a size: from 1 to the greatest that was asked for
 abbrev pub fits_max : ℕ → Verdict → Bool
@@ -57,7 +65,7 @@ order_found max (suc n) = UpTo System n
 -- some number and then of the environment's, none above the greatest that was asked for
 abbrev pub order_of : ℕ → Verdict → ℕ → ℕ → Order
 order_of version (Realizable n) max found = UpTo System (n - 1)
-order_of version (Unrealizable n) max found = UpTo Environment (if version == 3 then n - 1 else 0)
+order_of version (Unrealizable n) max found = UpTo Environment (if tells_bounds version then n - 1 else 0)
 order_of version (Bounded side n) max found = UpTo side (n - 1)
 order_of version UnknownSizes max found = AnyUpTo max
 order_of version (UnknownEntries side n) max found = order_found max found

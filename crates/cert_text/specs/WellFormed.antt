@@ -2,7 +2,7 @@
 use Rattle.std.specs.Prelude.{◌≡◌, ℕ, ◌<◌, ◌≤◌, ◌^◌, ◌⊎◌, Bool, true, false, length, All, IsTrue, IfSome, is_some}
 use Rattle.refutation_log.specs.Text.{IsWritable}
 use Rattle.cert_text.specs.Parts.{LogPart, Document}
-use Rattle.cert_text.specs.Order.{AreInOrder, fits_max, fits_version, has_its_place, is_in_range, may_tell_found, order_of, start_of}
+use Rattle.cert_text.specs.Order.{AreInOrder, fits_max, fits_version, has_its_place, is_in_range, is_version, may_tell_found, order_of, start_of}
 use Rattle.cert_text.specs.Reading.{all_named}
 
 -- a log whose numbers lines can hold, over whose variables its entries are such as lines may state
@@ -21,7 +21,7 @@ IsFoundNumber false max found = found ≡ 0
 -- A circuit with all its names stands exactly for the verdicts that have one, the numbers are in their ranges, and the logs stand
 -- in the order that the verdict wants, as far as that needs no text.
 pub record IsWellFormed (d : Document) : Type 0 where
-  pub version : IsTrue (is_in_range 1 3 d.version)
+  pub version : IsTrue (is_version d.version)
   pub verdict : IsTrue (fits_version d.version d.verdict)
   pub circuit : IsTrue (has_its_place (is_some d.circuit) d.verdict)
   pub named : IfSome d.circuit (λ c. IsTrue (all_named c))

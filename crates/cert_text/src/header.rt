@@ -1,11 +1,11 @@
 // The lines of a document before its logs.
 ghost use Rattle.std.specs.Prelude.{◌≡◌, ◌+◌, ◌<◌, ◌^◌, option_map, option_and_then};
-ghost use Rattle.cert_text.specs.Header.{any_verdict_in as verdict_of_line, behind, bad_at as with_bad, capped, entries_in, found_at as with_found, found_in, front, header_of, kind_in, max_in, no_header, number_behind as number_after, on_entries, on_kind, on_max, on_verdict, verdict_in, version_in};
+ghost use Rattle.cert_text.specs.Header.{any_verdict_in as verdict_of_line, behind, bad_at as with_bad, capped, entries_in, found_at as with_found, found_in, front, header_of, kind_in, max_in, no_header, number_behind as number_after, on_entries, on_kind, on_max, on_verdict, verdict_in, version_in, version_number as version_number_of};
 ghost use Rattle.cert_text.specs.Shown.{shown_header};
 ghost use Rattle.cert_text.specs.Order.{may_tell_found};
 
 use crate::documents::Verdict;
-use crate::order::{fits_max, fits_version, has_its_place, may_tell_found};
+use crate::order::{fits_max, fits_version, has_its_place, is_version, may_tell_found};
 use crate::words::{behind, capped, in_range};
 use aiger_text::{cut_at, number_within};
 use letter_word::{Kind, Side};
@@ -189,8 +189,19 @@ fn version_at(bytes: &[u8]) -> Option<(u32, &[u8])>
     ensures { option_map (λ p. (p.0, p.1.now)) result ≡ front version_in bytes.now }
 {
     let (line, rest) = cut_at(bytes, b'\n')?;
-    let version = in_range(behind(line, b"boundsyn ")?, 1, 3)?;
+    let version = version_number(behind(line, b"boundsyn ")?)?;
     Some((version, rest))
+}
+
+fn version_number(word: &[u8]) -> Option<u32>
+    ensures { result ≡ version_number_of word.now }
+{
+    let version = in_range(word, 1, 5)?;
+    if is_version(version) {
+        Some(version)
+    } else {
+        None
+    }
 }
 
 fn verdict_at(version: u32, bytes: &[u8]) -> Option<(Verdict, &[u8])>

@@ -17,6 +17,7 @@ mod write;
 
 pub use documents::{Document, DocumentFault, LogPart, Verdict};
 pub use header::Header;
+pub use order::tells_bounds;
 pub use reader::{DocumentReader, read_document};
 pub use reading::{CircuitPart, DocumentLines, read_lines};
 pub use write::write_document;

@@ -1,6 +1,6 @@
 // Which logs a document has, and in which order.
 ghost use Rattle.std.specs.Prelude.{◌≡◌, ◌<◌, ◌^◌};
-ghost use Rattle.cert_text.specs.Order.{has_its_place, fits_max, fits_version, may_end, may_follow, may_tell_found, order_found as order_with, order_of as order_wanted, place as place_at, same_side, start_of};
+ghost use Rattle.cert_text.specs.Order.{has_its_place, fits_max, fits_version, is_version, may_end, may_follow, may_tell_found, order_found as order_with, order_of as order_wanted, place as place_at, same_side, start_of, tells_bounds};
 
 use crate::documents::Verdict;
 use letter_word::Side;
@@ -33,12 +33,26 @@ pub fn has_its_place(circuit: bool, verdict: Verdict) -> bool
     }
 }
 
+/// Whether there are documents of this version.
+pub fn is_version(version: u32) -> bool
+    ensures { result ≡ is_version version }
+{
+    (1 <= version && version <= 3) || version == 5
+}
+
+/// Whether documents of this version have bounded verdicts, and logs beside a counter-machine.
+pub fn tells_bounds(version: u32) -> bool
+    ensures { result ≡ tells_bounds version }
+{
+    version == 3 || version == 5
+}
+
 /// Whether documents of this version have such a verdict.
 pub fn fits_version(version: u32, verdict: Verdict) -> bool
     ensures { result ≡ fits_version version verdict }
 {
     match verdict {
-        Verdict::Bounded(_, _) => version == 3,
+        Verdict::Bounded(_, _) => tells_bounds(version),
         _ => true,
     }
 }
@@ -72,7 +86,7 @@ pub fn order_of(version: u32, verdict: Verdict, max: u32, found: u32) -> Order
 {
     match verdict {
         Verdict::Realizable(n) => Order::UpTo(Side::System, n.saturating_sub(1)),
-        Verdict::Unrealizable(n) if version == 3 => {
+        Verdict::Unrealizable(n) if tells_bounds(version) => {
             Order::UpTo(Side::Environment, n.saturating_sub(1))
         }
         Verdict::Unrealizable(_) => Order::UpTo(Side::Environment, 0),

@@ -27,6 +27,7 @@ use Rattle.satisfaction.specs.Satisfaction.{EachCanLose}
 use Rattle.satisfaction.specs.Wanted.{Says, Wanted}
 use Rattle.cert_text.specs.declared.documents.Verdict.{Verdict}
 use Rattle.cert_text.specs.declared.documents.Verdict.TheVariants.{Realizable, Unrealizable, Bounded, UnknownSizes, UnknownEntries}
+use Rattle.cert_text.specs.Order.{tells_bounds}
 use Rattle.cert_text.specs.Parts.{Document, LogPart}
 use Rattle.cert_text.specs.States.{States}
 use Rattle.document_check.specs.declared.facts.Size.{Size}
@@ -70,7 +71,7 @@ module _ (system environment : ℕ) (few_systems : system ≤ 8) (few_environmen
 
   wanted_fit : (version : ℕ) (verdict : Verdict) (found : ℕ) → All IsSize (wanted_sizes version verdict found system environment)
   wanted_fit version (Realizable n) found = smaller_fit System (n - 1) system few_systems
-  wanted_fit version (Unrealizable n) found = counter_fit (version == 3) n
+  wanted_fit version (Unrealizable n) found = counter_fit (tells_bounds version) n
   wanted_fit version (Bounded System n) found = smaller_fit System (n - 1) system few_systems
   wanted_fit version (Bounded Environment n) found = smaller_fit Environment (n - 1) environment few_environments
   wanted_fit version UnknownSizes found = all_fit
@@ -121,10 +122,10 @@ module _ (text : List ℕ) (t : TextProblems) (k : Context text t) where
   formula = tree_at spec.formulas spec.expanded.whole
 
   are_facts : AreFacts given
-  are_facts = record { system = k.taken.meet.is_system; environment = k.taken.meet.is_environment }
+  are_facts = k.taken.facts
 
-  for_text : AreProblemsFor spec.expanded s
-  for_text = are_problems_for text (Some Mealy) spec s k.taken.meet k.taken.problems
+  for_text : AreProblemsFor 3 spec.expanded s
+  for_text = are_problems_for 3 text (Some Mealy) spec s k.taken.meet k.taken.problems
 
   -- what the text wants of machines of this kind
   abbrev wanted_with : Kind → Wanted

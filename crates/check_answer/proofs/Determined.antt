@@ -19,11 +19,11 @@ module _ (texts : ProblemsOfTextsAreDetermined) (bad_lines : BadLinesAreDetermin
   moved : (text certificate : List ℕ) (g h : Given text) (n : ℕ) → IsFirstBadFor (facts_in g) certificate n → IsFirstBadFor (facts_in h) certificate n
   moved text certificate g h n first =
       first_bad_of_text g.spec h.spec g.problems h.problems certificate n
-      (texts.one_text text (Some Mealy) 2 g.spec h.spec g.problems h.problems g.are_problems h.are_problems)
-      (texts.one text (Some Mealy) 2 g.spec h.spec g.problems h.problems g.are_problems h.are_problems) first
+      (texts.one_text text (Some Mealy) 3 g.spec h.spec g.problems h.problems g.are_problems h.are_problems)
+      (texts.one text (Some Mealy) 3 g.spec h.spec g.problems h.problems g.are_problems h.are_problems) first
 
   no_fault : (text : List ℕ) (g : Given text) (code : SpecCode) (position : ℕ) → IsFirstFault text (Some Mealy) code position → ⊥
-  no_fault text g code position fault = texts.no_fault text (Some Mealy) 2 g.spec g.problems code position g.are_problems fault
+  no_fault text g code position fault = texts.no_fault text (Some Mealy) 3 g.spec g.problems code position g.are_problems fault
 
   of_fault : (text certificate bytes : List ℕ) (status : ℕ) (code : SpecCode) (position : ℕ) → CheckAnswers text certificate bytes status
       → IsFirstFault text (Some Mealy) code position → (status ≡ 1) × (bytes ≡ refusal_line code position)

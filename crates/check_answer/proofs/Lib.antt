@@ -4,3 +4,4 @@ mod Determined
 mod Told
 mod Accepted
 mod Answered
+pub mod TakenFacts

@@ -162,6 +162,7 @@ same_parts p q same = λ i. record {
   kind = same.kind i;
   size = same.size i;
   version = same.version i;
+  components = same.components i;
 }
 
 same_if_any : (e f : Option Problem) → IsSameIfAny e f → IsProblemAt f e

@@ -63,9 +63,8 @@ module _ (x : Wanted) (given : Facts) (kind : Kind) (version : ℕ) (limit : Opt
   says_of_sizes (Realizable n) are holds allowed = λ k some less.
       All-contains HasNone (sizes_to System (min (n - 1) system)) (size_at System k) (each_none (sizes_to System (min (n - 1) system)) are holds)
       (below System n system k (leb-true n system allowed) some less)
-  says_of_sizes (Unrealizable n) are holds allowed = λ three k some less.
+  says_of_sizes (Unrealizable n) are holds allowed = λ yes_is k some less.
       let sizes : List Size = sizes_to Environment (min (n - 1) environment) in
-      let yes_is : (version == 3) ≡ true = ap (λ (v : ℕ). v == 3) three in
       All-contains HasNone sizes (size_at Environment k)
       (each_none sizes (subst (λ (b : Bool). map size_of logs ≡ (if b then sizes else [])) yes_is are) holds)
       (below Environment n environment k (leb-true n environment allowed) some less)

@@ -1,5 +1,5 @@
 -- The answer of `check` to a text and a certificate (this project's own).
-use Rattle.std.specs.Prelude.{◌≡◌, ℕ, ◌<◌, ◌≤◌, ⊤, true, List, ◌++◌, Some, All, codes, decimal}
+use Rattle.std.specs.Prelude.{◌≡◌, ℕ, ◌<◌, ◌≤◌, ⊤, true, List, ◌++◌, Some, All, IsTrue, codes, decimal}
 use Rattle.letter_word.specs.declared.kinds.Kind.{Kind}
 use Rattle.letter_word.specs.declared.kinds.Kind.TheVariants.{Mealy, Moore}
 use Rattle.letter_word.specs.declared.kinds.Side.{Side}
@@ -13,6 +13,7 @@ use Rattle.satisfaction.specs.Wanted.{Wanted}
 use Rattle.satisfaction.specs.Satisfaction.{EachCanLose, NoneSatisfies}
 use Rattle.cert_text.specs.declared.documents.Verdict.{Verdict}
 use Rattle.cert_text.specs.declared.documents.Verdict.TheVariants.{Realizable, Unrealizable, Bounded, UnknownSizes, UnknownEntries}
+use Rattle.cert_text.specs.Order.{tells_bounds}
 use Rattle.cert_text.specs.Parts.{Document}
 use Rattle.cert_text.specs.States.{States}
 use Rattle.document_check.specs.Facts.{Facts, allowed_at}
@@ -47,11 +48,12 @@ accepted_line verdict kind = codes "accepted " ++ verdict_words verdict ++ codes
 -- == the text ==
 
 -- A text's flat form and the problems of its two sides. It is taken with a kind given, so that kinds of its own that differ are no
--- fault; which kind makes no difference, since the test of documents takes a document's own in its place, and its version too.
+-- fault; which kind makes no difference, since the test of documents takes a document's own in its place, and its version too. With
+-- version 3 the components are at hand for documents that count by them.
 pub record Given (text : List ℕ) : Type 0 where
   pub spec : FlatText
   pub problems : SideProblems
-  pub are_problems : AreProblemsOf text (Some Mealy) 2 spec problems
+  pub are_problems : AreProblemsOf text (Some Mealy) 3 spec problems
 
 -- what the text gives to the test of documents
 abbrev pub facts_in : {text : List ℕ} → Given text → Facts
@@ -65,10 +67,10 @@ HasNoMachine x System n = NoneSatisfies x n
 HasNoMachine x Environment n = EachCanLose x n
 
 -- What a verdict says of sizes, with the numbers of allowed sizes: that a machine is the smallest of its side, or that there is none.
--- A counter-machine of the older versions comes without logs, and logs that may be full say nothing.
+-- A counter-machine of versions 1 and 2 comes without logs, and logs that may be full say nothing.
 abbrev pub SaysOfSizes : Wanted → ℕ → ℕ → ℕ → Verdict → Type 0
 SaysOfSizes x version system environment (Realizable n) = (k : ℕ) → 0 < k → k < n → NoneSatisfies x k
-SaysOfSizes x version system environment (Unrealizable n) = version ≡ 3 → (k : ℕ) → 0 < k → k < n → EachCanLose x k
+SaysOfSizes x version system environment (Unrealizable n) = IsTrue (tells_bounds version) → (k : ℕ) → 0 < k → k < n → EachCanLose x k
 SaysOfSizes x version system environment (Bounded side n) = ⊤
 SaysOfSizes x version system environment UnknownSizes =
     ((k : ℕ) → 0 < k → k ≤ system → NoneSatisfies x k) × ((k : ℕ) → 0 < k → k ≤ environment → EachCanLose x k)

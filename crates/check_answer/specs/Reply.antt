@@ -10,6 +10,9 @@ use Rattle.spec_problems.specs.OfText.{AreProblemsOf, SaysWhat}
 use Rattle.cert_text.specs.declared.documents.DocumentFault.{DocumentFault}
 use Rattle.cert_text.specs.declared.documents.DocumentFault.TheVariants as fault
 use Rattle.cert_text.specs.declared.documents.Verdict.{Verdict}
+use Rattle.document_check.specs.Facts.{Facts}
+use Rattle.document_check.specs.Shown.{AreFacts}
+use Rattle.synth_answer.specs.Printed.{given_by}
 use Rattle.program_replies.specs.Lines.{line_refusal}
 use Rattle.program_replies.specs.Statuses.{status_number}
 use Rattle.program_replies.specs.declared.replies.Status.{Status}
@@ -18,9 +21,14 @@ use Rattle.check_answer.specs.declared.answering.Problems.{Problems}
 use Rattle.check_answer.specs.declared.answering.Problems.TheVariants.{Of, Refused}
 use Rattle.check_answer.specs.Answer.{CheckAnswers, accepted_line}
 
+-- what a text with its problems gives to the test of documents
+abbrev pub facts_taken : TextProblems → Facts
+facts_taken t = given_by (spec_seen t.spec) t.problems
+
 -- a text that was read and expanded, with a kind given, and its problems
 pub record IsTaken (text : List ℕ) (t : TextProblems) : Type 0 where
-  pub problems : AreProblemsOf text (Some Mealy) 2 (spec_seen t.spec) t.problems
+  pub problems : AreProblemsOf text (Some Mealy) 3 (spec_seen t.spec) t.problems
+  pub facts : AreFacts (facts_taken t)
   pub meet : AreProblems t.problems
   pub accept : AcceptBySide (tree_at t.spec.formulas t.spec.whole) t.problems
   pub means : SaysWhat text t.spec.formulas t.spec.whole

@@ -2,14 +2,11 @@
 ghost use Rattle.std.specs.Prelude.{◌≡◌, ℕ, List, IfOk};
 ghost use Rattle.machine_model.specs.Automaton.{IsAutomaton};
 ghost use Rattle.machine_model.specs.Problem.{automaton_of};
-ghost use Rattle.tlsf_expand.specs.FlatText.{spec_seen};
-ghost use Rattle.spec_problems.specs.OfFormula.{AreProblems};
-ghost use Rattle.document_check.specs.Shown.{facts_of as facts_seen};
+ghost use Rattle.document_check.specs.Shown.{AreFacts, facts_of as facts_seen};
 ghost use Rattle.program_replies.specs.Statuses.{status_number};
-ghost use Rattle.synth_answer.specs.Printed.{given_by};
 ghost use Rattle.synth_answer.specs.Reply.{HaveAutomata, IsRefusal};
 ghost use Rattle.check_answer.specs.Answer.{CheckAnswers};
-ghost use Rattle.check_answer.specs.Reply.{AreTakenOf, IsLineRefusal, IsTaken};
+ghost use Rattle.check_answer.specs.Reply.{AreTakenOf, IsLineRefusal, IsTaken, facts_taken};
 
 use crate::lines::acceptance;
 use cert_text::DocumentFault;
@@ -37,7 +34,7 @@ pub enum Problems {
 pub fn problems_or_refusal(alloc: Global, text: &[u8]) -> Result<Problems, AllocError>
     ensures { IfOk result (AreTakenOf text.now) }
 {
-    match text_problems(alloc, text, Some(Kind::Mealy), 2) {
+    match text_problems(alloc, text, Some(Kind::Mealy), 3) {
         Ok(problems) => Ok(Problems::Of(problems)),
         Err(fault) => Ok(Problems::Refused(refusal(alloc, fault)?)),
     }
@@ -63,7 +60,7 @@ pub fn check_answer<R: Threads + Sync>(
     text: &TextProblems,
     certificate: &[u8],
 ) -> Result<Reply, AllocError>
-    requires { AreProblems text.now.problems }
+    requires { AreFacts (facts_taken text.now) }
     ensures { (bytes : List ℕ) → IsTaken bytes text.now → IfOk result (λ r. CheckAnswers bytes certificate.now r.bytes.items (status_number r.status)) }
 {
     laws_hold();
@@ -77,7 +74,7 @@ pub fn check_answer<R: Threads + Sync>(
 
 // What a text gives to the test of documents.
 fn facts_of(text: &TextProblems) -> TextFacts<'_>
-    ensures { facts_seen result ≡ given_by (spec_seen text.now.spec) text.now.problems }
+    ensures { facts_seen result ≡ facts_taken text.now }
 {
     TextFacts {
         inputs: &text.spec.inputs,

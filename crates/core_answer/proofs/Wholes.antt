@@ -35,7 +35,7 @@ use Rattle.core_answer.specs.Over.{IsFaultOver, IsGroundOver, over_all}
 use Rattle.core_answer.proofs.Growing.{forms_grow}
 use Rattle.core_answer.proofs.Standings.{fresh_all}
 
-module _ (text : List ℕ) (kind : Option Kind) (spec : FlatText) (s : SideProblems) (t : IsTextWith text kind spec s) where
+module _ {version : ℕ} (text : List ℕ) (kind : Option Kind) (spec : FlatText) (s : SideProblems) (t : IsTextWith version text kind spec s) where
   abbrev pub the_flat : FlatText
   the_flat = t.are.flat
 
@@ -58,8 +58,8 @@ module _ (text : List ℕ) (kind : Option Kind) (spec : FlatText) (s : SideProbl
   abbrev pub own_ground : Ground
   own_ground = text_ground spec the_flat t.says
 
-  pub given_here : AreGivenOn own_ground s
-  given_here = given_on text kind spec s t.says t.are t.accept
+  pub given_here : AreGivenOn version own_ground s
+  given_here = given_on version text kind spec s t.says t.are t.accept
 
   pub same_count : length spec.expanded.sections.guarantee ≡ guarantees_in the_flat
   same_count = ap (λ (x : Expanded). length x.sections.guarantee) t.are.same
@@ -67,14 +67,14 @@ module _ (text : List ℕ) (kind : Option Kind) (spec : FlatText) (s : SideProbl
   module _ (settings : Settings) (bytes : List ℕ) (status : ℕ) (defeat : Bool) (on : IsAnswerOn own_ground settings bytes status defeat) where
     abbrev pub answers_text : IsAnswerFor (IsFirstFault text kind) (IsGroundOf text) kind settings bytes status defeat
     answers_text =
-        answer_for (IsFirstFault text kind) (IsGroundOf text) kind settings own_ground (is_ground text kind spec s t.says t.are) (ground_by_its_kind text kind spec s t.says t.are)
+        answer_for (IsFirstFault text kind) (IsGroundOf text) kind settings own_ground (is_ground version text kind spec s t.says t.are) (ground_by_its_kind version text kind spec s t.says t.are)
         bytes status defeat on
 
     -- it is told over all guarantees
     pub told_over_all : (count : ℕ) → IsToldOver text (replicate count true) kind settings bytes status defeat
     told_over_all count =
         answer_for (IsFaultOver text (replicate count true) kind) (IsGroundOver text (replicate count true)) kind settings own_ground
-        (over_all (fresh_all count) (is_ground text kind spec s t.says t.are)) (over_all (fresh_all count) (ground_by_its_kind text kind spec s t.says t.are))
+        (over_all (fresh_all count) (is_ground version text kind spec s t.says t.are)) (over_all (fresh_all count) (ground_by_its_kind version text kind spec s t.says t.are))
         bytes status defeat on
 
     pub tells_all : defeat ≡ true → (count : ℕ) → Tells text (replicate count true) kind settings true bytes
@@ -98,7 +98,7 @@ module _ (text : List ℕ) (kind : Option Kind) (spec : FlatText) (s : SideProbl
     }
 
   pub too_many_here : ProblemsOfTextsAreDetermined → 64 < length spec.expanded.sections.guarantee → IsCoreFault text kind TooManyGuarantees 0
-  too_many_here laws more = too_many the_flat t.are.is_flat (λ code place fault. laws.no_fault text kind 2 spec s code place t.are fault) (subst (λ n. 64 < n) same_count more)
+  too_many_here laws more = too_many the_flat t.are.is_flat (λ code place fault. laws.no_fault text kind version spec s code place t.are fault) (subst (λ n. 64 < n) same_count more)
 
 -- the sections stand in the longer list too
 pub stand_here : (text : List ℕ) (kind : Option Kind) (spec : FlatText) → IsTextIn text kind spec → SectionsStand spec.formulas spec.expanded.sections

@@ -15,9 +15,9 @@ use Rattle.unreal_core.specs.Laws.{kept_in}
 use Rattle.tlsf_expand.specs.Standing.{SectionsStand}
 use Rattle.core_answer.specs.Core.{AreSpared, Tells}
 
--- a text with its problems
-pub record IsTextWith (text : List ℕ) (kind : Option Kind) (spec : FlatText) (s : SideProblems) : Type 0 where
-  pub are : AreProblemsOf text kind 2 spec s
+-- a text with its problems over base clauses of this version
+pub record IsTextWith (version : ℕ) (text : List ℕ) (kind : Option Kind) (spec : FlatText) (s : SideProblems) : Type 0 where
+  pub are : AreProblemsOf text kind version spec s
   pub accept : AcceptBySide (tree_at spec.formulas spec.expanded.whole) s
   pub says : SaysWhat text spec.formulas spec.expanded.whole
 

@@ -6,6 +6,7 @@ ghost use Rattle.tlsf_expand.specs.FlatText.{spec_seen};
 ghost use Rattle.flat_text.specs.FlatNames.{HasPlainNames};
 ghost use Rattle.program_replies.specs.declared.replies.Status.TheVariants as ended;
 ghost use Rattle.program_replies.specs.Statuses.{status_number};
+ghost use Rattle.annotation_encode.specs.Counts.{counts_version};
 ghost use Rattle.synth_answer.specs.Reply.{AreProblemsFor, IsRefusal};
 ghost use Rattle.tlsf_expand.specs.Standing.{SectionsStand};
 ghost use Rattle.core_answer.specs.Core.{CoreAnswers, IsToldCore, Tells};
@@ -51,7 +52,7 @@ pub fn core_answer<R: Threads + Wait + Sync, G: Gate + Sync>(
     ensures { IfOk result (λ r. CoreAnswers text.now kind settings r.bytes.items (status_number r.status)) }
 {
     sections_of_texts_stand();
-    match text_problems(alloc, text, kind, 2) {
+    match text_problems(alloc, text, kind, settings.counts.version()) {
         Ok(found) => text_answer(rt, alloc, found, settings, gate),
         Err(fault) => refusal(alloc, fault),
     }
@@ -79,11 +80,11 @@ fn text_answer<R: Threads + Wait + Sync, G: Gate + Sync>(
     requires most_size { settings.max ≤ 8 }
     requires entries { IfSome settings.entries (λ most. most ≤ 250000) }
     requires workers { settings.workers ≤ 8 }
-    requires problems { AreProblemsFor (spec_seen found.spec).expanded found.problems }
+    requires problems { AreProblemsFor (counts_version settings.counts) (spec_seen found.spec).expanded found.problems }
     requires stand { SectionsStand (spec_seen found.spec).formulas (spec_seen found.spec).expanded.sections }
     requires few { HasFewSignals (length found.spec.inputs.items) (length found.spec.outputs.items) found.spec.formulas }
     requires names { HasPlainNames (spec_seen found.spec).expanded }
-    ensures { (text : List ℕ) (kind : Option AKind) → IsTextWith text kind (spec_seen found.spec) found.problems
+    ensures { (text : List ℕ) (kind : Option AKind) → IsTextWith (counts_version settings.counts) text kind (spec_seen found.spec) found.problems
         → IfOk result (λ r. CoreAnswers text kind settings r.bytes.items (status_number r.status)) }
 {
     sections_of_texts_stand();

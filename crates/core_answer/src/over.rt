@@ -1,6 +1,7 @@
 //! A text with some of its guarantees, answered.
 ghost use Rattle.std.specs.Prelude.{◌≡◌, ◌≤◌, ℕ, List, Option, false, IfOk, IfSome, length};
 ghost use Rattle.letter_word.specs.declared.kinds.Kind.{Kind as AKind};
+ghost use Rattle.annotation_encode.specs.Counts.{counts_version};
 ghost use Rattle.ltl_formula.specs.Nodes.{Stands};
 ghost use Rattle.tlsf_expand.specs.FewSignals.{HasFewSignals};
 ghost use Rattle.tlsf_expand.specs.FlatText.{spec_seen};
@@ -13,6 +14,7 @@ ghost use Rattle.core_answer.specs.Known.{IsTextIn};
 ghost use Rattle.core_answer.specs.Over.{are_all};
 ghost use Rattle.core_answer.specs.Reply.{IsReducedReply, IsRefusedReply, list_fault};
 
+use annotation_encode::Counts;
 use ltl_formula::AddFault;
 use outside_edge::Gate;
 use program_replies::refused;
@@ -74,23 +76,28 @@ fn reduced_answer<R: Threads + Wait + Sync, G: Gate + Sync>(
         mut formulas,
         whole,
     } = reduced;
-    match problems_of(alloc, &mut formulas, whole, interface(spec)) {
+    match problems_of(
+        alloc,
+        &mut formulas,
+        whole,
+        interface(spec, settings.counts),
+    ) {
         Ok(problems) => answer_on(rt, alloc, spec, problems, settings, gate),
         Err(fault) => refusal(alloc, fault),
     }
 }
 
 /// What the problems share with those of the text.
-fn interface(spec: &Spec) -> Interface
+fn interface(spec: &Spec, counts: Counts) -> Interface
     requires inputs { length spec.now.inputs.items ≤ 8 }
     requires outputs { length spec.now.outputs.items ≤ 8 }
-    ensures { result ≡ interface_of 2 (spec_seen spec.now).expanded }
+    ensures { result ≡ interface_of (counts_version counts) (spec_seen spec.now).expanded }
 {
     Interface {
         inputs: spec.inputs.len() as u32,
         outputs: spec.outputs.len() as u32,
         kind: spec.kind,
-        version: 2,
+        version: counts.version(),
     }
 }
 

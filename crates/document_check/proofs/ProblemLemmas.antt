@@ -2,14 +2,14 @@
 use Rattle.std.proofs.Common.{◌≡◌, ℕ, zero, suc, ◌+◌, ◌≤◌, ◌==◌, ◌&&◌, Bool, true, false, cond, Option, Some, None, List, length, refl, sym, ap, subst, ◌∙◌, inl, inr, ◌⊎◌}
 use Rattle.std.specs.Prelude.{is_some, nat_le, All, IfSome, option_map, unwrap_or}
 use Rattle.std.specs.Option.{option_map_or}
-use Rattle.machine_model.specs.Automaton.{states_of}
 use Rattle.clause_base.specs.Literal.{Literal}
 use Rattle.letter_word.specs.declared.kinds.Kind.{Kind}
 use Rattle.letter_word.specs.declared.kinds.Side.{Side}
 use Rattle.letter_word.specs.declared.kinds.Side.TheVariants.{System, Environment}
 use Rattle.letter_word.specs.Kinds.{other_kind}
 use Rattle.machine_model.specs.declared.problems.Problem.{Problem}
-use Rattle.machine_model.specs.Problem.{IsProblem, NamesSignals, Parts, parts_of, sized}
+use Rattle.machine_model.specs.Problem.{IsProblem, IsVersion, Parts, parts_of, sized}
+use Rattle.machine_model.proofs.PartsLemmas.{alike, kept_at}
 use Rattle.annotation_encode.specs.BaseClauses.{base_clauses}
 use Rattle.annotation_encode.specs.Count.{allowed_sizes, count_of}
 use Rattle.annotation_encode.specs.Variables.{variables_of}
@@ -19,11 +19,10 @@ use Rattle.log_checker.specs.Faults.{IsLogFault}
 use Rattle.cert_text.specs.Parts.{LogPart}
 use Rattle.document_check.specs.Facts.{Facts, allowed_at, clause_version, problem_at}
 use Rattle.document_check.specs.FirstBad.{has_numbers, LogFails, other_numbers, bad_entry, left_open, is_good}
-use Rattle.document_check.specs.Shown.{AreFacts, IsProblemAt}
+use Rattle.document_check.specs.Shown.{AreFacts, IsInEachVersion, IsProblemAt}
 
 same_count : (p q : Problem) → parts_of p ≡ parts_of q → count_of p ≡ count_of q
-same_count p q same =
-    ap (λ (cs : List (List Literal)). cond (nat_le (length cs) 1000000) (Some (length cs)) None) (equal_clauses p q same).clauses
+same_count p q same = ap (λ parts. count_of (kept_at p parts)) same
 
 sized_same : (p q : Problem) (n : ℕ) → parts_of p ≡ parts_of q → parts_of (sized p n) ≡ parts_of (sized q n)
 sized_same p q n same = ap (λ (x : Parts). record x { size = n }) same
@@ -67,31 +66,31 @@ module _ (full : Bool) (limit : Option ℕ) (l : LogPart) (q p : Problem) (same 
 
 -- ---- the problems are problems
 
-a_version : (version : ℕ) → (clause_version version ≡ 1) ⊎ (clause_version version ≡ 2)
-a_version version = by (version == 1)
+a_version : (version : ℕ) → IsVersion (clause_version version)
+a_version version = by (version == 1) (version == 5)
   where
-    by : (b : Bool) → (cond b 1 2 ≡ (let n : ℕ = 1 in n)) ⊎ (cond b 1 2 ≡ (let n : ℕ = 2 in n))
-    by true = inl refl
-    by false = inr refl
+    by : (first fifth : Bool) → IsVersion (cond first 1 (cond fifth 3 2))
+    by true fifth = inl refl
+    by false true = inr (inr refl)
+    by false false = inr (inl refl)
 
 module _ (kind : Kind) (version size : ℕ) (some : 1 ≤ size) (few : size ≤ 8) where
-  again : (p : Problem) → IsProblem p → IsProblem (record p { kind = kind; size = size; version = clause_version version })
-  again p is = record { inputs = is.inputs; outputs = is.outputs; some = some; size = few; states = is.states; signals = is.signals; version = a_version version }
+  again : (p : Problem) → IsInEachVersion p → IsProblem (record p { kind = kind; size = size; version = clause_version version })
+  again p is = record {
+    inputs = is.problem.inputs;
+    outputs = is.problem.outputs;
+    some = some;
+    size = few;
+    states = is.problem.states;
+    signals = is.problem.signals;
+    version = a_version version;
+    components = λ third. record { components = is.components.components; made = is.components.made; right = is.components.right };
+  }
 
   moved : (p q : Problem) → parts_of q ≡ parts_of p → IsProblem p → IsProblem q
-  moved p q same is =
-      let e : parts_of p ≡ parts_of q = sym same in
-      record {
-        inputs = subst (λ (x : Parts). x.inputs ≤ 8) e is.inputs;
-        outputs = subst (λ (x : Parts). x.outputs ≤ 8) e is.outputs;
-        some = subst (λ (x : Parts). 1 ≤ x.size) e is.some;
-        size = subst (λ (x : Parts). x.size ≤ 8) e is.size;
-        states = subst (λ (x : Parts). states_of x.automaton ≤ 2000) e is.states;
-        signals = subst (λ (x : Parts). All (NamesSignals (x.inputs + x.outputs)) x.automaton.edges) e is.signals;
-        version = subst (λ (x : Parts). (x.version ≡ 1) ⊎ (x.version ≡ 2)) e is.version;
-      }
+  moved p q same is = (alike p q (sym same)).problem is
 
-environment_by : (kind : Kind) (version size : ℕ) → 1 ≤ size → size ≤ 8 → (o : Option Problem) (q : Problem) → IfSome o IsProblem
+environment_by : (kind : Kind) (version size : ℕ) → 1 ≤ size → size ≤ 8 → (o : Option Problem) (q : Problem) → IfSome o IsInEachVersion
     → IsProblemAt (option_map (λ (p : Problem). record p { kind = other_kind kind; size = size; version = clause_version version }) o) (Some q) → IsProblem q
 environment_by kind version size some few None q all is = absurd is
 environment_by kind version size some few (Some p) q all is =

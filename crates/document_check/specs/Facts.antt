@@ -9,6 +9,7 @@ use Rattle.machine_model.specs.declared.problems.Problem.{Problem}
 use Rattle.annotation_encode.specs.Count.{allowed_sizes}
 use Rattle.cert_text.specs.declared.documents.Verdict.{Verdict}
 use Rattle.cert_text.specs.declared.documents.Verdict.TheVariants.{Realizable, Unrealizable, Bounded, UnknownSizes, UnknownEntries}
+use Rattle.cert_text.specs.Order.{tells_bounds}
 use Rattle.document_check.specs.declared.facts.Size.{Size}
 
 -- The names of the inputs and outputs, and the problem of the system and of the environment, if it has one. Their kinds, sizes and
@@ -21,7 +22,7 @@ pub record Facts : Type 0 where
 
 -- the version of the base clauses of a document's version
 abbrev pub clause_version : ℕ → ℕ
-clause_version version = if version == 1 then 1 else 2
+clause_version version = if version == 1 then 1 else (if version == 5 then 3 else 2)
 
 -- the problem of one size of one side, for a document of this kind and version
 abbrev pub problem_at : Facts → Kind → ℕ → Side → ℕ → Option Problem
@@ -42,7 +43,7 @@ sizes_to side (suc n) = sizes_to side n ++ record { side = side; size = suc n } 
 -- Of versions 1 and 2, a counter-machine has none, and beside a system's machine that was found stand the logs below its size.
 abbrev pub wanted_sizes : ℕ → Verdict → ℕ → ℕ → ℕ → List Size
 wanted_sizes version (Realizable n) found system environment = sizes_to System (min (n - 1) system)
-wanted_sizes version (Unrealizable n) found system environment = if version == 3 then sizes_to Environment (min (n - 1) environment) else []
+wanted_sizes version (Unrealizable n) found system environment = if tells_bounds version then sizes_to Environment (min (n - 1) environment) else []
 wanted_sizes version (Bounded System n) found system environment = sizes_to System (min (n - 1) system)
 wanted_sizes version (Bounded Environment n) found system environment = sizes_to Environment (min (n - 1) environment)
 wanted_sizes version UnknownSizes found system environment = sizes_to System system ++ sizes_to Environment environment

@@ -2,7 +2,7 @@
 use Rattle.std.specs.Prelude.{◌≡◌, ◌+◌, ◌<◌, ◌≤◌, ◌^◌, ⊤, List, [], ◌∷◌, ℕ, Option, Some, None, All, IfSome, length}
 use Rattle.std.specs.Option.{option_copied}
 use Rattle.machine_model.specs.declared.problems.Problem.{Problem}
-use Rattle.machine_model.specs.Problem.{IsProblem, parts_of}
+use Rattle.machine_model.specs.Problem.{HasComponents, IsProblem, parts_of}
 use Rattle.refutation_log.specs.Text.{IsWritable}
 use Rattle.cert_text.specs.Parts.{LogPart}
 use Rattle.document_check.specs.declared.facts.TextFacts.{TextFacts}
@@ -12,10 +12,15 @@ use Rattle.document_check.specs.Facts.{Facts}
 abbrev pub facts_of : TextFacts → Facts
 facts_of t = record { inputs = t.inputs.now; outputs = t.outputs.now; system = t.system.now; environment = option_copied t.environment }
 
--- The problems are problems, within the limits of the calls that take one.
+-- a problem within the limits of the calls that take one, in each version: its components are at hand
+pub record IsInEachVersion (p : Problem) : Type 0 where
+  pub problem : IsProblem p
+  pub components : HasComponents p
+
+-- both problems are such
 pub record AreFacts (facts : Facts) : Type 0 where
-  pub system : IsProblem facts.system
-  pub environment : IfSome facts.environment IsProblem
+  pub system : IsInEachVersion facts.system
+  pub environment : IfSome facts.environment IsInEachVersion
 
 -- a problem that says the same as this one, if there is one
 abbrev pub IsProblemAt : Option Problem → Option Problem → Type 0

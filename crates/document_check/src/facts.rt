@@ -6,13 +6,14 @@ ghost use Rattle.document_check.specs.FirstBad.{asked_in as asked_of};
 ghost use Rattle.document_check.specs.Shown.{AreFacts, facts_of, IsProblemAt, IsSize};
 
 use annotation_encode::allowed_sizes;
-use cert_text::{Header, Verdict};
+use cert_text::{Header, Verdict, tells_bounds};
 use letter_word::{Kind, Side};
 use machine_model::Problem;
 use std::alloc::{AllocError, Global};
 use text_base::Name;
 
 /// What a document is checked against. The kinds, sizes and versions of the problems aren't looked at: a document has its own.
+/// Their components are at hand for a document that counts by component.
 #[derive(Clone, Copy)]
 pub struct TextFacts<'a> {
     /// The names of the inputs, and of the outputs.
@@ -138,8 +139,20 @@ fn problem_for(
         side: sized.side,
         kind,
         size: sized.size,
-        version: if version == 1 { 1 } else { 2 },
+        version: clause_version(version),
+        components: sized.components,
     })
+}
+
+// The version of the base clauses of a document's version.
+fn clause_version(version: u32) -> u32
+    ensures { result ≡ clause_version version }
+{
+    match version {
+        1 => 1,
+        5 => 3,
+        _ => 2,
+    }
 }
 
 /// The sizes of the logs that a verdict wants.
@@ -161,7 +174,7 @@ pub fn wanted_sizes(
             push_sizes(&mut sizes, Side::System, n.saturating_sub(1).min(system))?;
         }
         Verdict::Unrealizable(n) => {
-            if asked.version == 3 {
+            if tells_bounds(asked.version) {
                 push_sizes(
                     &mut sizes,
                     Side::Environment,

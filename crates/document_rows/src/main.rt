@@ -4,7 +4,8 @@
 //! `unended` the same without its last byte. What the stored run must print follows from the format alone.
 #![tactic(auto)]
 
-ghost use Rattle.spec_problems.specs.OfFormula.{AreProblems};
+ghost use Rattle.std.specs.Prelude.{IfSome};
+ghost use Rattle.document_check.specs.Shown.{IsInEachVersion};
 
 use cert_text::{Document, DocumentFault, DocumentReader, read_document, write_document};
 use document_check::{TextFacts, check_document};
@@ -63,7 +64,8 @@ fn push_checked<R: Threads + Sync>(
     bytes: &[u8],
     out: &mut Vec<u8>,
 ) -> Result<(), AllocError>
-    requires { AreProblems text.now.problems }
+    requires system { IsInEachVersion text.now.problems.system }
+    requires environment { IfSome text.now.problems.environment IsInEachVersion }
 {
     let facts = TextFacts {
         inputs: text.spec.inputs.as_slice(),
@@ -101,7 +103,7 @@ fn push_row<R: Threads + Sync>(
     if heading.starts_with(b"==== read") {
         return push_read(alloc, bytes, out);
     }
-    let Ok(text) = text_problems(alloc, spec, Some(Kind::Mealy), 2) else {
+    let Ok(text) = text_problems(alloc, spec, Some(Kind::Mealy), 3) else {
         return out.extend_from_slice(b"no text\n");
     };
     if heading.starts_with(b"==== unended") && !bytes.is_empty() {

@@ -41,7 +41,7 @@ struct Frame {
 impl Frame {
     /// The problem of an automaton, where it is within the limits.
     fn problem(self, alloc: Global, edges: &[Edge], rejecting: &[bool]) -> anyhow::Result<Problem>
-        ensures { IfOk result (IsSearched self.side) }
+        ensures { IfOk result (IsSearched 2 self.side) }
     {
         ensure!(self.inputs <= 8 && self.outputs <= 8, "too many signals");
         ensure!(rejecting.len() <= 2000, "too many states");
@@ -67,13 +67,14 @@ impl Frame {
             kind: self.kind,
             size: 1,
             version: 2,
+            components: None,
         })
     }
 }
 
 /// G ((r -> X g) && (!r -> X !g)): the system delays the input by one step.
 pub fn delay(alloc: Global) -> anyhow::Result<Problem>
-    ensures { IfOk result (IsSearched System) }
+    ensures { IfOk result (IsSearched 2 System) }
 {
     let edges = [
         edge(0, R, 1),
@@ -89,7 +90,7 @@ pub fn delay(alloc: Global) -> anyhow::Result<Problem>
 
 /// The other side of the same: it wants the input not to be delayed.
 pub fn delay_spoiled(alloc: Global) -> anyhow::Result<Problem>
-    ensures { IfOk result (IsSearched Environment) }
+    ensures { IfOk result (IsSearched 2 Environment) }
 {
     let edges = [
         edge(0, R, 1),
@@ -104,7 +105,7 @@ pub fn delay_spoiled(alloc: Global) -> anyhow::Result<Problem>
 
 /// G (g <-> X r): the system says before what the input will be.
 pub fn foresight(alloc: Global) -> anyhow::Result<Problem>
-    ensures { IfOk result (IsSearched System) }
+    ensures { IfOk result (IsSearched 2 System) }
 {
     let edges = [
         edge(0, ANY, 0),
@@ -120,7 +121,7 @@ pub fn foresight(alloc: Global) -> anyhow::Result<Problem>
 
 /// The other side of the same: its input is once not what the system said.
 pub fn foresight_spoiled(alloc: Global) -> anyhow::Result<Problem>
-    ensures { IfOk result (IsSearched Environment) }
+    ensures { IfOk result (IsSearched 2 Environment) }
 {
     let edges = [
         edge(0, G, 1),
@@ -136,7 +137,7 @@ pub fn foresight_spoiled(alloc: Global) -> anyhow::Result<Problem>
 /// G (r -> F g) && G (s -> F h) && G (!g || !h): the system grants the requests of two clients, one at a time. The signals are r, s, g
 /// and h.
 pub fn arbiter(alloc: Global) -> anyhow::Result<Problem>
-    ensures { IfOk result (IsSearched System) }
+    ensures { IfOk result (IsSearched 2 System) }
 {
     let both = Cube { must: 12, not: 0 };
     let no_first = Cube { must: 0, not: 4 };
@@ -156,7 +157,7 @@ pub fn arbiter(alloc: Global) -> anyhow::Result<Problem>
 
 /// A system's problem with so many edges that no size of it is allowed.
 pub fn crowd(alloc: Global) -> anyhow::Result<Problem>
-    ensures { IfOk result (IsSearched System) }
+    ensures { IfOk result (IsSearched 2 System) }
 {
     let edges = [edge(0, ANY, 1); 4000];
     system(8, 8, Kind::Mealy).problem(alloc, &edges, &[true; 2])

@@ -2,14 +2,16 @@
 //! the stored run must print was worked out by hand: numbers of states, which logs stand, and which of them are closed.
 #![tactic(auto)]
 
-ghost use Rattle.std.specs.Prelude.{◌≤◌};
+ghost use Rattle.std.specs.Prelude.{◌≡◌, ◌≤◌};
 ghost use Rattle.std.specs.Option.{ForSome};
+ghost use Rattle.annotation_encode.specs.declared.counts.Counts.TheVariants.{Whole};
 ghost use Rattle.letter_word.specs.declared.kinds.Side.TheVariants.{System, Environment};
 ghost use Rattle.synth_engine.specs.Searched.{IsSearched};
 
 mod games;
 mod gates;
 
+use annotation_encode::Counts;
 use games::{arbiter, crowd, delay, delay_spoiled, foresight, foresight_spoiled};
 use gates::RowGate;
 use machine_model::Problem;
@@ -26,6 +28,7 @@ const USUAL: Settings = Settings {
     max: 4,
     entries: Some(50_000),
     workers: 0,
+    counts: Counts::Whole,
 };
 
 /// Searches, and prints what came of it.
@@ -40,8 +43,9 @@ fn tell<R: Threads + Wait + Sync + Print>(
     requires max { settings.max ≤ 8 }
     requires some { 1 ≤ settings.max }
     requires workers { settings.workers ≤ 8 }
-    requires system { IsSearched System problems.0 }
-    requires environment { ForSome problems.1 (IsSearched Environment) }
+    requires counts { settings.counts ≡ Whole }
+    requires system { IsSearched 2 System problems.0 }
+    requires environment { ForSome problems.1 (IsSearched 2 Environment) }
 {
     let (system, environment) = problems;
     let outcome = search(rt, alloc, system, environment, settings, gate)?;

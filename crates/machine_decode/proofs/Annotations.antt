@@ -1,8 +1,8 @@
 -- Where the assignment meets every base clause, each row has a move, and the decoded annotation is valid.
-use Rattle.std.proofs.Common.{◌≡◌, ℕ, ◌+◌, ◌^◌, ◌<◌, ◌≤◌, inl, inr, Bool, true, false, not, List, [], ◌∷◌, ◌++◌, Option, Some, None, refl, sym, ap, ◌∙◌, subst, arith, cond}
+use Rattle.std.proofs.Common.{◌≡◌, ℕ, zero, suc, ◌+◌, ◌^◌, ◌<◌, ◌≤◌, inl, inr, Bool, true, false, not, List, [], ◌∷◌, ◌++◌, Option, Some, None, refl, sym, ap, ◌∙◌, subst, arith, cond}
 use Rattle.std.specs.Prelude.{Contains, ◌==◌, ◌||◌, ◌&&◌, nat_le, nat_lt}
 use Rattle.std.specs.List.{list_any}
-use Rattle.std.proofs.lemmas.Bool.{cases_lt}
+use Rattle.std.proofs.lemmas.Bool.{and_parts, cases_lt, cond-false, cond-true, cond_both}
 use Rattle.std.proofs.lemmas.Bool.Decides.{Decides-eqb}
 use Rattle.std.proofs.lemmas.List.Elements.{All-contains}
 use Rattle.std.proofs.lemmas.List.Folds.{list_any-append}
@@ -19,16 +19,18 @@ use Rattle.machine_model.specs.Problem as looked_for
 use Rattle.machine_model.specs.Problem.{IsMachineOf, IsProblem, automaton_of, reads_of}
 use Rattle.machine_model.specs.declared.automata.Edge.{Edge}
 use Rattle.machine_model.specs.declared.problems.Problem.{Problem}
-use Rattle.product_bound.specs.Annotation.{HasNumber, IsValidAnnotation, bound_of, number_at, rise_at}
-use Rattle.annotation_encode.specs.BaseClauses.{base_clauses, count_literals, fits_read, is, is_idle, isnt, read_signal, row_count, row_move, signal_fits, step_clause, write_literal, write_literals, written_signal}
-use Rattle.annotation_encode.specs.Variables.{letter_count, row_place, var_count, var_move, var_write}
+use Rattle.machine_model.specs.Components.{JoinedIsReached, are_joined}
+use Rattle.product_bound.specs.Annotation.{HasNumber, IsValidAnnotation, bound_at, leaves, number_after, number_at, rise_at, start_number}
+use Rattle.annotation_encode.specs.BaseClauses.{base_clauses, count_literals, fits_read, is, is_idle, isnt, read_signal, row_count, row_move, signal_fits, step_clause, step_count, write_literal, write_literals, written_signal}
+use Rattle.annotation_encode.specs.Variables.{letter_count, number_count, row_place, var_count, var_move, var_write}
 use Rattle.annotation_encode.proofs.BaseClausesAll.{HoldsOfKinds, kinds_hold}
-use Rattle.annotation_encode.proofs.ClauseOrder.{rise_small}
+use Rattle.annotation_encode.proofs.ClauseOrder.{start_small}
 use Rattle.annotation_encode.proofs.Letters.{joined_at, read_kept, reads_at, writes_at, written_kept}
 use Rattle.annotation_encode.proofs.Lists.{all_below-from, at_most, none-from}
 use Rattle.annotation_encode.proofs.Meets.{joined_same, reads_same, writes_same}
 use Rattle.machine_decode.specs.Decoded.{IsDecoded, IsGreatestCount, IsLeastMove}
 use Rattle.machine_model.specs.declared.machines.Row.{Row}
+use Rattle.product_bound.proofs.Counted.{after_leaves}
 use Rattle.product_bound.proofs.Valid.{never_accepted}
 use Rattle.machine_decode.specs.Written.{AreRows, HasMoves, numbers_of}
 use Rattle.machine_decode.proofs.Machines.{is_decoded, is_machine, is_of, machine_of}
@@ -70,7 +72,7 @@ module _ (p : Problem) (values : List Bool) (problem : IsProblem p) (made : IsAu
     letters = ap (λ n. 2 ^ n) (sym fits.reads)
 
     -- a number that is reached is at most the pair's
-    reached : (t q c : ℕ) → t < p.size → q < states_of (automaton_of p) → c ≤ bound_of p → value_of values (var_count p t q c) ≡ true → HasNumber p numbers t q c
+    reached : (t q c : ℕ) → t < p.size → q < states_of (automaton_of p) → c ≤ bound_at p q → value_of values (var_count p t q c) ≡ true → HasNumber p numbers t q c
     reached t q c ht hq hc true_here = go (number_at p numbers t q) refl (decoded.counts t q ht hq)
       where
         go : (o : Option ℕ) → number_at p numbers t q ≡ o → IsGreatestCount p values t q o → HasNumber p numbers t q c
@@ -84,15 +86,26 @@ module _ (p : Problem) (values : List Bool) (problem : IsProblem p) (made : IsAu
           ];
         }
 
-    said : (t q c : ℕ) → t < p.size → q < states_of (automaton_of p) → number_at p numbers t q ≡ Some c → (c ≤ bound_of p) × (value_of values (var_count p t q c) ≡ true)
+    said : (t q c : ℕ) → t < p.size → q < states_of (automaton_of p) → number_at p numbers t q ≡ Some c → (c ≤ bound_at p q) × (value_of values (var_count p t q c) ≡ true)
     said t q c ht hq at =
         let counts : IsGreatestCount p values t q (Some c) = subst (IsGreatestCount p values t q) at (decoded.counts t q ht hq) in
         (counts.0, counts.1)
 
-    start_is : HasNumber p numbers 0 0 (rise_at (automaton_of p) 0)
-    start_is = reached 0 0 (rise_at (automaton_of p) 0) problem.some made.some (rise_small p 0 problem) (alone (value_of values (var_count p 0 0 (rise_at (automaton_of p) 0))) kinds.start)
+    start_is : HasNumber p numbers 0 0 (start_number p)
+    start_is = reached 0 0 (start_number p) problem.some made.some (start_small p problem) (alone (value_of values (var_count p 0 0 (start_number p))) kinds.start)
 
-    module _ (e : Edge) (t i c : ℕ) (there : Contains (automaton_of p).edges e) (ht : t < p.size) (hi : i < letter_count p) (hc : c ≤ bound_of p)
+    -- in version 3 a pair that reaches a number reaches 0
+    down : (t q c : ℕ) → p.version ≡ 3 → t < p.size → q < states_of (automaton_of p) → c ≤ bound_at p q → value_of values (var_count p t q c) ≡ true → value_of values (var_count p t q 0) ≡ true
+    down t q zero three ht hq hc here = here
+    down t q (suc c) three ht hq hc here =
+        down t q c three ht hq (omega arith) (before (value_of values (var_count p t q c)) (value_of values (var_count p t q (suc c))) (kinds.chains t q c three ht hq (omega arith)) here)
+      where
+        before : (a b : Bool) → (a || (not b || false)) ≡ true → b ≡ true → a ≡ true
+        before true b h e = refl
+        before false true h e = h
+        before false false h e = e
+
+    module _ (e : Edge) (t i c : ℕ) (there : Contains (automaton_of p).edges e) (ht : t < p.size) (hi : i < letter_count p) (hc : c ≤ bound_at p e.from)
         (true_here : value_of values (var_count p t e.from c) ≡ true) (fitting : Fits e.cube (letter_of p.side m t i)) where
       joins : JoinsStates (states_of (automaton_of p)) e
       joins = All-contains (JoinsStates (states_of (automaton_of p))) (automaton_of p).edges e made.edges there
@@ -151,25 +164,37 @@ module _ (p : Problem) (values : List Bool) (problem : IsProblem p) (made : IsAu
       moved : is_true_literal values (isnt (var_move p t i to)) ≡ false
       moved = ap not move.moves
 
-      left_false : is_true_literal values (isnt (var_count p t e.from c)) ≡ false
-      left_false = ap not true_here
+      -- by the step's clause for a number that is reached
+      by_clause : (d : ℕ) → is_idle p e t to ≡ false → d < step_count p e → value_of values (var_count p t e.from d) ≡ true → HasNumber p numbers to e.to (number_after p e.from e.to d)
+      by_clause d busy hd reached_here =
+          let after : ℕ = number_after p e.from e.to d in
+          let clause : is_true_clause values (step_clause p e t i to d) ≡ true = kinds.steps e t i to d there ht hi read move.within busy hd in
+          let rest : list_any (is_true_literal values) (write_literals p e.cube t i ++ count_literals p e t to d) ≡ true
+          = left_true (is_true_literal values (isnt (var_move p t i to))) _ clause moved in
+          let both : (list_any (is_true_literal values) (write_literals p e.cube t i) || list_any (is_true_literal values) (count_literals p e t to d)) ≡ true
+          = sym (list_any-append (is_true_literal values) (write_literals p e.cube t i) (count_literals p e t to d)) ∙ rest in
+          let none : list_any (is_true_literal values) (write_literals p e.cube t i) ≡ false = none-from (is_true_literal values) (looked_for.writes_of p) (λ s. write_literal p e.cube t i s) no_write in
+          let counts : list_any (is_true_literal values) (count_literals p e t to d) ≡ true = left_true (list_any (is_true_literal values) (write_literals p e.cube t i)) (list_any (is_true_literal values) (count_literals p e t to d)) both none in
+          let right : (nat_le (number_after p e.from e.to d) (bound_at p e.to) ≡ true) × (is_true_literal values (is (var_count p to e.to (number_after p e.from e.to d))) ≡ true)
+          = second (is_true_literal values) (nat_le (number_after p e.from e.to d) (bound_at p e.to)) (nat_lt (var_count p t e.from d) (var_count p to e.to (number_after p e.from e.to d)))
+          (isnt (var_count p t e.from d)) (is (var_count p to e.to (number_after p e.from e.to d))) (ap not reached_here) counts in
+          reached to e.to (number_after p e.from e.to d) move.within joins.to (at_most (number_after p e.from e.to d) (bound_at p e.to) right.0) right.1
 
-      pub rises : HasNumber p numbers to e.to (c + rise_at (automaton_of p) e.to)
+      pub rises : HasNumber p numbers to e.to (number_after p e.from e.to c)
       rises = by_idle (is_idle p e t to) refl
         where
-          by_idle : (idle : Bool) → is_idle p e t to ≡ idle → HasNumber p numbers to e.to (c + rise_at (automaton_of p) e.to)
-          by_idle false busy =
-              let clause : is_true_clause values (step_clause p e t i to c) ≡ true = kinds.steps e t i to c there ht hi read move.within busy hc in
-              let rest : list_any (is_true_literal values) (write_literals p e.cube t i ++ count_literals p e t to c) ≡ true
-              = left_true (is_true_literal values (isnt (var_move p t i to))) _ clause moved in
-              let both : (list_any (is_true_literal values) (write_literals p e.cube t i) || list_any (is_true_literal values) (count_literals p e t to c)) ≡ true
-              = sym (list_any-append (is_true_literal values) (write_literals p e.cube t i) (count_literals p e t to c)) ∙ rest in
-              let none : list_any (is_true_literal values) (write_literals p e.cube t i) ≡ false = none-from (is_true_literal values) (looked_for.writes_of p) (λ s. write_literal p e.cube t i s) no_write in
-              let counts : list_any (is_true_literal values) (count_literals p e t to c) ≡ true = left_true (list_any (is_true_literal values) (write_literals p e.cube t i)) (list_any (is_true_literal values) (count_literals p e t to c)) both none in
-              let right : (nat_le (c + rise_at (automaton_of p) e.to) (bound_of p) ≡ true) × (is_true_literal values (is (var_count p to e.to (c + rise_at (automaton_of p) e.to))) ≡ true)
-              = second (is_true_literal values) (nat_le (c + rise_at (automaton_of p) e.to) (bound_of p)) (nat_lt (var_count p t e.from c) (var_count p to e.to (c + rise_at (automaton_of p) e.to)))
-              (isnt (var_count p t e.from c)) (is (var_count p to e.to (c + rise_at (automaton_of p) e.to))) left_false counts in
-              reached to e.to (c + rise_at (automaton_of p) e.to) move.within joins.to (at_most (c + rise_at (automaton_of p) e.to) (bound_of p) right.0) right.1
+          by_idle : (idle : Bool) → is_idle p e t to ≡ idle → HasNumber p numbers to e.to (number_after p e.from e.to c)
+          by_idle false busy = by_leaving (leaves p e.from e.to) refl
+            where
+              by_leaving : (b : Bool) → leaves p e.from e.to ≡ b → HasNumber p numbers to e.to (number_after p e.from e.to c)
+              by_leaving false stays =
+                  let counts : step_count p e ≡ number_count p e.from = cond-false (leaves p e.from e.to) 1 (number_count p e.from) stays in
+                  by_clause c busy (omega (arith, counts, hc)) true_here
+              by_leaving true leaving =
+                  let one : step_count p e ≡ 1 = cond-true (leaves p e.from e.to) 1 (number_count p e.from) leaving in
+                  let three : p.version ≡ 3 = (Decides-eqb p.version 3).0 (and_parts (p.version == 3) (not (are_joined (automaton_of p) e.from e.to)) leaving).0 in
+                  let same : number_after p e.from e.to 0 ≡ number_after p e.from e.to c = after_leaves p e.from e.to 0 leaving ∙ sym (after_leaves p e.from e.to c leaving) in
+                  subst (λ n. HasNumber p numbers to e.to n) same (by_clause 0 busy (omega (arith, one)) (down t e.from c three ht joins.from hc true_here))
           by_idle true idle =
               let same_t : (t == to) ≡ true = first_so (t == to) ((e.from == e.to) && not (rejects (automaton_of p) e.to)) idle in
               let rest : ((e.from == e.to) && not (rejects (automaton_of p) e.to)) ≡ true = second_so (t == to) ((e.from == e.to) && not (rejects (automaton_of p) e.to)) idle in
@@ -177,10 +202,11 @@ module _ (p : Problem) (values : List Bool) (problem : IsProblem p) (made : IsAu
               let calm : not (rejects (automaton_of p) e.to) ≡ true = second_so (e.from == e.to) (not (rejects (automaton_of p) e.to)) rest in
               let t_is : t ≡ to = (Decides-eqb t to).0 same_t in
               let q_is : e.from ≡ e.to = (Decides-eqb e.from e.to).0 same_q in
-              let still : c ≡ c + rise_at (automaton_of p) e.to = no_rise (rejects (automaton_of p) e.to) calm in
               let here : HasNumber p numbers t e.from c = reached t e.from c ht joins.from hc true_here in
               let there' : HasNumber p numbers to e.to c = subst (λ s. HasNumber p numbers s e.to c) t_is (subst (λ q. HasNumber p numbers t q c) q_is here) in
-              subst (λ n. HasNumber p numbers to e.to n) still there'
+              let still : number_after p e.from e.to c ≤ c = cond_both (leaves p e.from e.to) 0 (c + rise_at (automaton_of p) e.to) (λ n. n ≤ c) (λ _. omega arith) (λ _. no_rise (rejects (automaton_of p) e.to) calm) in
+              let enough : c ≤ there'.number = there'.enough in
+              record { number = there'.number; stands = there'.stands; enough = omega (arith, still, enough) }
             where
               first_so : (a b : Bool) → (a && b) ≡ true → a ≡ true
               first_so true b h = refl
@@ -190,7 +216,7 @@ module _ (p : Problem) (values : List Bool) (problem : IsProblem p) (made : IsAu
               second_so true b h = h
               second_so false b h = absurd (let x : false ≡ true = h in cc)
 
-              no_rise : (b : Bool) → not b ≡ true → c ≡ c + cond b 1 0
+              no_rise : (b : Bool) → not b ≡ true → c + cond b 1 0 ≤ c
               no_rise true h = absurd (let x : false ≡ true = h in cc)
               no_rise false h = omega arith
 
@@ -200,7 +226,7 @@ module _ (p : Problem) (values : List Bool) (problem : IsProblem p) (made : IsAu
       bounded = λ t q c ht hq at. (said t q c ht hq at).0;
       start = start_is;
       edges = λ t q c i r ht hq at hi edge.
-          let has_c : (c ≤ bound_of p) × (value_of values (var_count p t q c) ≡ true) = said t q c ht hq at in
+          let has_c : (c ≤ bound_at p q) × (value_of values (var_count p t q c) ≡ true) = said t q c ht hq at in
           let letter : i < letter_count p = omega (arith, letters, hi) in
           rises (record { from = q; cube = edge.cube; to = r }) t i c edge.stands ht letter has_c.0 has_c.1 edge.fits;
     }
@@ -213,9 +239,9 @@ pub record IsOutcome (p : Problem) (values : List Bool) (m : MachineModel) (numb
   pub valid : IsValidAnnotation p m numbers
   pub accepted : SideAccepts (automaton_of p) p.side m
 
-outcome_of : (p : Problem) (values : List Bool) (table : List Row) → IsProblem p → IsAutomaton (automaton_of p) → meets values (base_clauses p) ≡ true → AreRows p values (row_count p) table
+outcome_of : (p : Problem) (values : List Bool) (table : List Row) → JoinedIsReached → IsProblem p → IsAutomaton (automaton_of p) → meets values (base_clauses p) ≡ true → AreRows p values (row_count p) table
     → IsOutcome p values (machine_of p table) (numbers_of p values)
-outcome_of p values table problem made met rows =
+outcome_of p values table reached_is problem made met rows =
     let fits : IsMachineOf p (machine_of p table) = is_of p values table problem rows in
     let machine : IsMachine (machine_of p table) = is_machine p values table problem rows in
     let decoded : IsDecoded p values (machine_of p table) (numbers_of p values) = is_decoded p values table problem rows in
@@ -227,13 +253,13 @@ outcome_of p values table problem made met rows =
       made = machine;
       decoded = decoded;
       valid = valid;
-      accepted = λ w run. never_accepted p (machine_of p table) (numbers_of p values) w run.0 made machine fits some valid run.1;
+      accepted = λ w run. never_accepted p (machine_of p table) (numbers_of p values) w run.0 reached_is made machine fits some valid run.1;
     }
 
-pub outcome : (p : Problem) (values values' : List Bool) (table : List Row) (m : MachineModel) (numbers : List (Option ℕ)) → IsProblem p → IsAutomaton (automaton_of p)
+pub outcome : (p : Problem) (values values' : List Bool) (table : List Row) (m : MachineModel) (numbers : List (Option ℕ)) → JoinedIsReached → IsProblem p → IsAutomaton (automaton_of p)
     → meets values' (base_clauses p) ≡ true → values ≡ values' → AreRows p values (row_count p) table → m ≡ machine_of p table → numbers ≡ numbers_of p values
     → IsOutcome p values' m numbers
-outcome p values values' table m numbers problem made met same rows machine listed =
+outcome p values values' table m numbers reached_is problem made met same rows machine listed =
     subst (λ ns. IsOutcome p values' m ns) (sym (listed ∙ ap (numbers_of p) same))
     (subst (λ k. IsOutcome p values' k (numbers_of p values')) (sym machine)
-    (outcome_of p values' table problem made met (subst (λ vs. AreRows p vs (row_count p) table) same rows)))
+    (outcome_of p values' table reached_is problem made met (subst (λ vs. AreRows p vs (row_count p) table) same rows)))

@@ -14,10 +14,11 @@ use Rattle.machine_model.specs.declared.machines.Row.{Row}
 use Rattle.machine_model.specs.declared.problems.Problem.{Problem}
 use Rattle.product_bound.specs.Annotation.{number_at, places_of}
 use Rattle.annotation_encode.specs.BaseClauses.{row_count}
-use Rattle.annotation_encode.specs.Variables.{letter_count, move_count, number_count, row_place, var_write, write_count, write_place}
-use Rattle.annotation_encode.proofs.Sizes.{pair_below, row_below}
+use Rattle.annotation_encode.specs.Variables.{letter_count, move_count, number_count, row_place, var_count, var_write, write_place}
+use Rattle.product_bound.proofs.Trails.{place_within}
+use Rattle.annotation_encode.proofs.Sizes.{row_below}
 use Rattle.machine_decode.specs.Decoded.{IsDecoded, IsGreatestCount, IsLeastMove}
-use Rattle.machine_decode.specs.Written.{AreRows, IsRow, letter_from, number_of, numbers_of}
+use Rattle.machine_decode.specs.Written.{AreRows, IsRow, letter_from, number_of, numbers_of, pair_number}
 use Rattle.machine_decode.proofs.Parts.{IsGreatest, greatest_is, letter_has, letter_small}
 
 -- the machine of these rows
@@ -77,16 +78,21 @@ module _ (p : Problem) (values : List Bool) (table : List Row) (problem : IsProb
   pub is_of : IsMachineOf p (machine_of p table)
   is_of = record { kind = refl; size = size_is; reads = refl; writes = refl }
 
-  numbers_at : (t q : ℕ) → t < p.size → q < states_of (automaton_of p) → number_at p (numbers_of p values) t q ≡ number_of p values (t * states_of (automaton_of p) + q)
+  numbers_at : (t q : ℕ) → t < p.size → q < states_of (automaton_of p) → number_at p (numbers_of p values) t q ≡ pair_number p values t q
   numbers_at t q ht hq =
-      get_or-map-range_with_len (number_of p values) 0 (places_of p) (t * states_of (automaton_of p) + q) (t * states_of (automaton_of p) + q) None (pair_below p t q ht hq) (omega arith)
+      get_or-map-range_with_len (number_of p values) 0 (places_of p) (t * states_of (automaton_of p) + q) (t * states_of (automaton_of p) + q) None (place_within p t q ht hq) (omega arith)
+      ∙ (λ j. pair_number p values (div-mul-add t (states_of (automaton_of p)) q hq j) (mod-mul-add t (states_of (automaton_of p)) q hq j))
 
-  greatest : (t q : ℕ) (o : Option ℕ) → IsGreatest values (move_count p + write_count p + 1 + (t * states_of (automaton_of p) + q) * number_count p) (number_count p) o → IsGreatestCount p values t q o
-  greatest t q None none = λ c hc. none c (omega arith)
+  -- a number's variable, counted from that of 0
+  value_at : (t q c : ℕ) → value_of values (var_count p t q 0 + c) ≡ value_of values (var_count p t q c)
+  value_at t q c = let e : var_count p t q 0 + c ≡ var_count p t q c = omega arith in ap (value_of values) e
+
+  greatest : (t q : ℕ) (o : Option ℕ) → IsGreatest values (var_count p t q 0) (number_count p q) o → IsGreatestCount p values t q o
+  greatest t q None none = λ c hc. sym (value_at t q c) ∙ none c (omega arith)
   greatest t q (Some n) some = (
-    (let below : n < number_count p = some.0 in omega arith),
-    some.1,
-    λ c above hc. some.2 c above (omega arith),
+    (let below : n < number_count p q = some.0 in omega arith),
+    sym (value_at t q n) ∙ some.1,
+    λ c above hc. sym (value_at t q c) ∙ some.2 c above (omega arith),
   )
 
   pub is_decoded : IsDecoded p values (machine_of p table) (numbers_of p values)
@@ -98,6 +104,5 @@ module _ (p : Problem) (values : List Bool) (table : List Row) (problem : IsProb
     places = length-map-range_with_len (number_of p values) 0 (places_of p);
     counts = λ t q ht hq.
         subst (IsGreatestCount p values t q) (sym (numbers_at t q ht hq))
-        (greatest t q (number_of p values (t * states_of (automaton_of p) + q))
-        (greatest_is values (move_count p + write_count p + 1 + (t * states_of (automaton_of p) + q) * number_count p) (number_count p)));
+        (greatest t q (pair_number p values t q) (greatest_is values (var_count p t q 0) (number_count p q)));
   }

@@ -14,10 +14,7 @@ use Rattle.letter_word.proofs.Sets.{has-past}
 use Rattle.machine_model.specs.declared.machines.Row.{Row}
 use Rattle.machine_model.specs.declared.problems.Problem.{Problem}
 use Rattle.machine_model.proofs.Tables.{no_row}
-use Rattle.machine_model.specs.Automaton.{states_of}
-use Rattle.machine_model.specs.Problem.{automaton_of}
 use Rattle.annotation_encode.specs.BaseClauses.{each_below}
-use Rattle.annotation_encode.specs.Variables.{move_count, number_count, var_count, write_count}
 use Rattle.machine_decode.specs.Written.{AreRows, IsRow, greatest_from, letter_from}
 
 -- a number below n for which a test passes
@@ -137,10 +134,3 @@ letter_more values first n = let e : n + 1 ≡ suc n = omega arith in ap (letter
 
 pub greatest_more : (values : List Bool) (first n : ℕ) → greatest_from values first (n + 1) ≡ cond (value_of values (first + n)) (Some n) (greatest_from values first n)
 greatest_more values first n = let e : n + 1 ≡ suc n = omega arith in ap (greatest_from values first) e
-
--- the variable of a pair's first number
-pub first_of : (p : Problem) (first pair counts : ℕ) → first ≡ var_count p 0 0 0 → counts ≡ number_count p → first + pair * counts ≡ move_count p + write_count p + 1 + pair * number_count p
-first_of p first pair counts e n =
-    let zero_pair : (0 * states_of (automaton_of p) + 0) * number_count p ≡ 0 = omega arith in
-    let same : pair * counts ≡ pair * number_count p = ap (λ k. pair * k) n in
-    omega (arith, e, same, zero_pair)

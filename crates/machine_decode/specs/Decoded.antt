@@ -6,7 +6,7 @@ use Rattle.machine_model.specs.Machine.{MachineModel, next_of, writes_of}
 use Rattle.machine_model.specs.Problem as looked_for
 use Rattle.machine_model.specs.Problem.{automaton_of}
 use Rattle.machine_model.specs.declared.problems.Problem.{Problem}
-use Rattle.product_bound.specs.Annotation.{bound_of, number_at, places_of}
+use Rattle.product_bound.specs.Annotation.{bound_at, number_at, places_of}
 use Rattle.annotation_encode.specs.BaseClauses.{row_move}
 use Rattle.annotation_encode.specs.Variables.{letter_count, row_place, var_count, var_write}
 
@@ -19,10 +19,10 @@ pub record IsLeastMove (p : Problem) (values : List Bool) (place to : ℕ) : Typ
 
 -- the greatest number that a pair reaches, if it reaches any (this project's own)
 abbrev pub IsGreatestCount : Problem → List Bool → ℕ → ℕ → Option ℕ → Type 0
-IsGreatestCount p values t q None = (c : ℕ) → c ≤ bound_of p → value_of values (var_count p t q c) ≡ false
+IsGreatestCount p values t q None = (c : ℕ) → c ≤ bound_at p q → value_of values (var_count p t q c) ≡ false
 IsGreatestCount p values t q (Some number) =
-    (number ≤ bound_of p) × (value_of values (var_count p t q number) ≡ true)
-    × ((c : ℕ) → number < c → c ≤ bound_of p → value_of values (var_count p t q c) ≡ false)
+    (number ≤ bound_at p q) × (value_of values (var_count p t q number) ≡ true)
+    × ((c : ℕ) → number < c → c ≤ bound_at p q → value_of values (var_count p t q c) ≡ false)
 
 -- what an assignment says of a machine and an annotation: each row goes to the least state to which it may move, what is
 -- written is what is true, and each pair has the greatest number that it reaches (bounded synthesis of Finkbeiner and

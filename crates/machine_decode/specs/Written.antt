@@ -1,12 +1,13 @@
-use Rattle.std.specs.Prelude.{◌≡◌, ℕ, zero, suc, ◌+◌, ◌*◌, ◌/◌, ◌%◌, ◌^◌, ◌<◌, Bool, true, List, Option, Some, None, length, map, slice_index_or, if◌then◌else◌}
+use Rattle.std.specs.Prelude.{◌≡◌, ℕ, zero, suc, ◌+◌, ◌/◌, ◌%◌, ◌^◌, ◌<◌, Bool, true, List, Option, Some, None, length, map, slice_index_or, if◌then◌else◌}
 use Rattle.std.specs.List.{range_with_len}
 use Rattle.clause_base.specs.Truth.{value_of}
-use Rattle.machine_model.specs.Problem.{writes_of}
+use Rattle.machine_model.specs.Automaton.{states_of}
+use Rattle.machine_model.specs.Problem.{automaton_of, writes_of}
 use Rattle.machine_model.specs.declared.machines.Row.{Row}
 use Rattle.machine_model.specs.declared.problems.Problem.{Problem}
 use Rattle.product_bound.specs.Annotation.{places_of}
 use Rattle.annotation_encode.specs.BaseClauses.{row_count, row_move}
-use Rattle.annotation_encode.specs.Variables.{letter_count, move_count, number_count, var_write, write_count}
+use Rattle.annotation_encode.specs.Variables.{letter_count, number_count, var_count, var_write}
 use Rattle.machine_decode.specs.Decoded.{IsLeastMove}
 
 -- The parts of a decoded machine and annotation.
@@ -45,9 +46,13 @@ pub record HasMove (p : Problem) (values : List Bool) (place : ℕ) : Type 0 whe
 pub record HasMoves (p : Problem) (values : List Bool) : Type 0 where
   pub each : (place : ℕ) → place < row_count p → HasMove p values place
 
--- the number of the pair at a place
+-- the greatest number that a pair reaches
+abbrev pub pair_number : Problem → List Bool → ℕ → ℕ → Option ℕ
+pair_number p values t q = greatest_from values (var_count p t q 0) (number_count p q)
+
+-- that of the pair at a place
 abbrev pub number_of : Problem → List Bool → ℕ → Option ℕ
-number_of p values pair = greatest_from values (move_count p + write_count p + 1 + pair * number_count p) (number_count p)
+number_of p values place = pair_number p values (place / states_of (automaton_of p)) (place % states_of (automaton_of p))
 
 abbrev pub numbers_of : Problem → List Bool → List (Option ℕ)
 numbers_of p values = map (number_of p values) (range_with_len 0 (places_of p))

@@ -1,18 +1,20 @@
 ghost use Rattle.std.specs.Prelude.{◌≡◌, ◌+◌, ◌/◌, ◌%◌, ◌^◌, ◌<◌, ◌≤◌, Some, true, IfOk, length, vec_len, if◌then◌else◌};
 ghost use Rattle.clause_base.specs.Truth.{meets, value_of};
 ghost use Rattle.machine_model.specs.Accepts.{SideAccepts};
+ghost use Rattle.machine_model.specs.Automaton.{states_of};
 ghost use Rattle.machine_model.specs.Machine.{IsMachine};
 ghost use Rattle.machine_model.specs.Problem.{IsMachineOf, IsProblem, automaton_of, writes_of};
 ghost use Rattle.product_bound.specs.Annotation.{IsValidAnnotation, places_of};
 ghost use Rattle.annotation_encode.specs.BaseClauses.{base_clauses, row_count, row_move};
-ghost use Rattle.annotation_encode.specs.Variables.{letter_count, number_count, var_write, variables_of};
+ghost use Rattle.annotation_encode.specs.Variables.{letter_count, var_write, variables_of};
 ghost use Rattle.machine_decode.specs.Decoded.{IsDecoded, IsLeastMove};
-ghost use Rattle.machine_decode.specs.Written.{AreRows, HasMoves, IsRow, greatest_from, letter_from, numbers_of, written_of};
+ghost use Rattle.machine_decode.specs.Written.{AreRows, HasMoves, IsRow, greatest_from, letter_from, numbers_of, pair_number, written_of};
 
-use annotation_encode::{var_count, var_move, var_write};
+use annotation_encode::{Numbering, var_move, var_write};
 use clause_base::Assignment;
+use machine_model::laws::joined_is_reached;
 use machine_model::{Machine, Problem, Row};
-use product_bound::{Annotation, bound_of};
+use product_bound::Annotation;
 use std::alloc::{AllocError, Global};
 
 /// A machine, and a valid annotation of it.
@@ -41,6 +43,7 @@ pub fn decode(
     ensures valid { IfOk result (λ decoded. IsValidAnnotation problem.now decoded.machine decoded.annotation.numbers.items) }
     ensures accepted { IfOk result (λ decoded. SideAccepts (automaton_of problem.now) problem.now.side decoded.machine) }
 {
+    joined_is_reached();
     let _states = problem.automaton.states();
     let values = assignment.values.as_slice();
     let table = decoded_table(alloc, problem, values)?;
@@ -193,17 +196,27 @@ fn decoded_numbers(
     requires { IsProblem problem.now }
     ensures { IfOk result (λ numbers. numbers.items ≡ numbers_of problem.now values.now) }
 {
+    let numbering = Numbering::new(problem);
     let states = problem.automaton.states();
-    prove!(states > 0);
-    let first = var_count(problem, 0, 0, 0);
-    let counts = number_count(problem);
     let pairs = pair_count(problem);
     let mut numbers = Vec::with_capacity(alloc, pairs as usize)?;
     for pair in 0..pairs {
-        let number = greatest_from(values, first + pair * counts, counts);
+        let number = decoded_number(&numbering, values, (pair / states, pair % states));
         numbers.push(number)?;
     }
     Ok(numbers)
+}
+
+/// The greatest number that a pair reaches.
+fn decoded_number(numbering: &Numbering, values: &[bool], pair: (u32, u32)) -> Option<u32>
+    requires problem { IsProblem numbering.now.problem.now }
+    requires state { pair.0 < numbering.now.problem.now.size }
+    requires pair { pair.1 < states_of (automaton_of numbering.now.problem.now) }
+    ensures { result ≡ pair_number numbering.now.problem.now values.now pair.0 pair.1 }
+{
+    let first = numbering.var_count(pair, 0);
+    let bound = numbering.bound_at(pair.1);
+    greatest_from(values, first, bound + 1)
 }
 
 /// The number of pairs.
@@ -213,15 +226,6 @@ fn pair_count(problem: &Problem) -> u32
     ensures small { result ≤ 16000 }
 {
     problem.size * problem.automaton.states()
-}
-
-/// How many numbers a pair may have.
-fn number_count(problem: &Problem) -> u32
-    requires { IsProblem problem.now }
-    ensures value { result ≡ number_count problem.now }
-    ensures small { result ≤ 16001 }
-{
-    bound_of(problem) + 1
 }
 
 /// The greatest of the first numbers whose variable is true, that of 0 being the first.

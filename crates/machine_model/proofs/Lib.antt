@@ -10,3 +10,8 @@ pub mod Existence
 pub mod Unrolled
 pub mod Examples
 pub mod PartsLemmas
+pub mod Reachability
+pub mod Classes
+pub mod StateBits
+pub mod Closure
+pub mod Naming

@@ -2,6 +2,9 @@ pub mod Machine
 pub mod Run
 pub mod Course
 pub mod Automaton
+pub mod Components
+pub mod Reached
+pub mod Named
 pub mod Accepts
 pub mod Problem
 pub mod Laws

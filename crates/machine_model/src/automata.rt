@@ -104,39 +104,3 @@ fn has_bad_edge(edges: &[Edge], states: usize) -> bool
     }
     false
 }
-
-#[cfg(test)]
-mod tests {
-    use super::*;
-    use std::test::Fail;
-
-    // Why an automaton with one edge, of the empty cube, is refused.
-    fn refusal(
-        rt: &HostRuntime,
-        from: u32,
-        to: u32,
-        states: &[bool],
-    ) -> Result<Option<AutomatonFault>, Fail>
-        requires { length states.now < 2 ^ 32 }
-    {
-        let mut edges = Vec::new(rt.alloc());
-        let cube = Cube { must: 0, not: 0 };
-        edges.push(Edge { from, cube, to })?;
-        Ok(Automaton::new(edges, Vec::from_slice(rt.alloc(), states)?).err())
-    }
-
-    #[test]
-    fn each_fault(rt: HostRuntime) -> Result<(), Fail> {
-        assert_eq!(rt; refusal(&rt, 0, 0, &[])?, Some(AutomatonFault::Empty));
-        assert_eq!(rt;
-            refusal(&rt, 0, 2, &[false, true])?,
-            Some(AutomatonFault::BadEdge)
-        );
-        assert_eq!(rt;
-            refusal(&rt, 2, 0, &[false, true])?,
-            Some(AutomatonFault::BadEdge)
-        );
-        assert_eq!(rt; refusal(&rt, 1, 1, &[false, true])?, None);
-        Ok(())
-    }
-}

@@ -1,5 +1,6 @@
 // Laws of run lassos, of accepted words and of problems. Each is the contract of a function that does nothing.
 ghost use Rattle.machine_model.specs.Laws.{EveryReadLassoHasARun, RunsAreDetermined, MooreWritesBeforeReading, RunsStayWithin, RunsUnroll, AcceptanceIsOfTheWord, AcceptanceIsOfTheReadWord};
+ghost use Rattle.machine_model.specs.Components.{ComponentsAreDetermined, ComponentsClass, JoinedIsReached};
 ghost use Rattle.machine_model.specs.Example.{ExampleAccepts};
 ghost use Rattle.machine_model.specs.Problem.{EqualPartsAreAlike};
 
@@ -43,15 +44,22 @@ pub fn equal_parts_are_alike()
     ensures { EqualPartsAreAlike }
 {}
 
-#[cfg(test)]
-mod tests {
-    // What a small automaton accepts, by the definition: the check proves it, and nothing is run.
-    fn a_small_automaton()
-        ensures { ExampleAccepts }
-    {}
+/// Two states are in one component exactly where paths lead both ways.
+pub fn joined_is_reached()
+    ensures { JoinedIsReached }
+{}
 
-    #[test]
-    fn accepts_by_the_definition() {
-        a_small_automaton();
-    }
-}
+/// Components are classes of states, and the states of one have the same number.
+pub fn components_are_classes()
+    ensures { ComponentsClass }
+{}
+
+/// An automaton has one list of components.
+pub fn components_are_determined()
+    ensures { ComponentsAreDetermined }
+{}
+
+/// What a small automaton accepts, by the definition.
+pub fn small_automaton_accepts()
+    ensures { ExampleAccepts }
+{}

@@ -5,12 +5,15 @@
 #![tactic(auto)]
 
 mod automata;
+mod components;
 pub mod laws;
 mod machines;
 mod problems;
+mod reached;
 mod runs;
 
 pub use automata::{Automaton, AutomatonFault, Edge};
+pub use components::Components;
 pub use machines::{Machine, MachineFault, Row};
 pub use problems::Problem;
 pub use runs::{RunLasso, run_lasso, whole_letter};

@@ -74,6 +74,7 @@ fn problem(alloc: Global, side: Side, automaton: Automaton) -> Result<Problem, F
         kind: Kind::Mealy,
         size: 1,
         version: 2,
+        components: None,
     })
 }
 

@@ -17,7 +17,7 @@ fn is_true(values: &[bool], lit: Lit) -> bool
     if lit.is_positive() { value } else { !value }
 }
 
-fn is_true_clause(values: &[bool], clause: &Clause) -> bool
+pub(crate) fn is_true_clause(values: &[bool], clause: &Clause) -> bool
     ensures { result ≡ is_true_clause values.now clause.now }
 {
     clause.lits().iter().any(|lit| is_true(values, *lit))
@@ -41,7 +41,7 @@ fn decoded(
         values: Vec::from_slice(rt.alloc(), values)?,
     };
     let cnf = encode(rt.alloc(), &problem)?;
-    if assignment.values.len() != variables(&problem) as usize || problem.version == 2 {
+    if assignment.values.len() != variables(&problem) as usize || problem.version >= 2 {
         return Ok(None);
     }
     if !is_met(&assignment.values, &cnf.clauses) {

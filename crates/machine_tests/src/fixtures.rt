@@ -92,6 +92,7 @@ pub(crate) fn delay(rt: &HostRuntime, size: u32, version: u32) -> Result<Problem
         kind: Kind::Mealy,
         size,
         version,
+        components: None,
     })
 }
 
@@ -124,6 +125,7 @@ pub(crate) fn wire(rt: &HostRuntime) -> Result<Problem, Fail> {
         kind: Kind::Mealy,
         size: 1,
         version: 1,
+        components: None,
     })
 }
 

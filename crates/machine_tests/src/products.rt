@@ -38,7 +38,7 @@ fn a_state_that_is_never_named(rt: HostRuntime) -> Result<(), Fail> {
 }
 
 // The machine, if it is one of the problem.
-fn fitting(problem: &Problem, machine: Machine) -> Option<Machine>
+pub(crate) fn fitting(problem: &Problem, machine: Machine) -> Option<Machine>
     ensures { IfSome result (IsMachineOf problem.now) }
 {
     if machine.size() != problem.size {

@@ -1,24 +1,26 @@
 -- A machine has a valid annotation, or a rejecting run.
-use Rattle.std.proofs.Common.{◌≡◌, ℕ, zero, suc, ◌+◌, ◌-◌, ◌*◌, ◌^◌, ◌<◌, ◌≤◌, ◌⊎◌, inl, inr, List, [], ◌∷◌, map, refl, sym, ap, ◌∙◌, subst, arith, Option, Some, None}
-use Rattle.std.specs.Prelude.{All, Contains}
-use Rattle.std.specs.List.{range_with_len}
-use Rattle.std.proofs.lemmas.Bool.{cases_lt}
+use Rattle.std.proofs.Common.{◌≡◌, ℕ, suc, ◌+◌, ◌*◌, ◌^◌, ◌<◌, ◌≤◌, ◌⊎◌, inl, inr, List, [], ◌∷◌, false, refl, sym, ap, ◌∙◌, subst, arith}
+use Rattle.std.specs.Prelude.{All, Contains, ◌==◌}
+use Rattle.std.proofs.lemmas.Bool.{cases_Bool, cases_lt}
 use Rattle.std.proofs.lemmas.List.Elements.{All-contains}
-use Rattle.std.proofs.lemmas.List.FromFn.{get_or-map-range_with_len, length-map-range_with_len}
 use Rattle.letter_word.specs.Cube.{Fits}
 use Rattle.machine_model.specs.Accepts.{SideAccepts}
 use Rattle.machine_model.specs.Automaton.{HasEdge, IsAutomaton, JoinsStates, states_of}
+use Rattle.machine_model.specs.Components.{ComponentsClass}
 use Rattle.machine_model.specs.Course.{letter_of}
 use Rattle.machine_model.specs.Machine.{MachineModel, IsMachine, next_of, size_of}
 use Rattle.machine_model.specs.Problem.{IsMachineOf, automaton_of}
 use Rattle.machine_model.specs.declared.automata.Edge.{Edge}
 use Rattle.machine_model.specs.declared.problems.Problem.{Problem}
-use Rattle.product_bound.specs.Annotation.{HasNumber, IsValidAnnotation, bound_of, number_at, places_of, rise_at}
+use Rattle.product_bound.specs.Annotation.{bound_of, number_after, places_of, rise_at}
 use Rattle.product_bound.specs.Laws.{HasRejectingRun, HasValidAnnotation}
 use Rattle.product_bound.specs.declared.laws.ProductStep.{ProductStep}
+use Rattle.product_bound.proofs.Counted.{after_stays, stays_whole, whole_bound, whole_start}
 use Rattle.product_bound.proofs.Decide.{each_below, each_in}
 use Rattle.product_bound.proofs.Letters.{fits_or_not, to_within}
 use Rattle.product_bound.proofs.Levels.{ClosedLevels, IsClosed, Wants, closed_levels}
+use Rattle.product_bound.proofs.Local.{Rises, are_local_levels, local_level}
+use Rattle.product_bound.proofs.Numbers.{AreLevels, annotation_by_levels}
 use Rattle.product_bound.proofs.Sums.{Once, total}
 use Rattle.product_bound.proofs.Trails.{Trail, once_or_run, place, place_within, places, rise, rise-place, same_pair, trail_small}
 
@@ -47,22 +49,7 @@ record Found (p : Problem) (m : MachineModel) (v c : ℕ) : Type 0 where
   at : v ≡ place p t q
   counts : total (rise p) (place p t q ∷ places p steps) ≡ c
 
--- the number that a level stands for
-number_of : ℕ → Option ℕ
-number_of zero = None
-number_of (suc c) = Some c
-
-number_of-Some : (level c : ℕ) → number_of level ≡ Some c → level ≡ suc c
-unfolding number_of
-number_of-Some zero c e = cc
-number_of-Some (suc d) c e = let same : d ≡ c = cc in ap suc same
-
-number_of-positive : (level : ℕ) → 0 < level → number_of level ≡ Some (level - 1)
-unfolding number_of
-number_of-positive zero h = absurd (omega arith)
-number_of-positive (suc c) h = let e : c ≡ suc c - 1 = omega arith in ap Some e
-
-module _ (p : Problem) (m : MachineModel) (made : IsAutomaton (automaton_of p)) (machine : IsMachine m) (fits : IsMachineOf p m) (some : 0 < size_of m) where
+module _ (p : Problem) (m : MachineModel) (classes : ComponentsClass) (made : IsAutomaton (automaton_of p)) (machine : IsMachine m) (fits : IsMachineOf p m) (some : 0 < size_of m) where
   start : Found p m 0 (rise p 0)
   start =
       let n : 0 < states_of (automaton_of p) = made.some in
@@ -175,64 +162,52 @@ module _ (p : Problem) (m : MachineModel) (made : IsAutomaton (automaton_of p)) 
   levels = closed_levels (places_of p) (bound_of p) (rise p) (Arrow p m) (Found p m) start (HasRejectingRun p m) along within small look
 
   module _ (found : ClosedLevels (rise p) (Arrow p m) (Found p m)) where
-    numbers : List (Option ℕ)
-    numbers = map (λ v. number_of (found.level v)) (range_with_len 0 (places_of p))
-
-    number_is : (t q : ℕ) → t < p.size → q < states_of (automaton_of p) → number_at p numbers t q ≡ number_of (found.level (place p t q))
-    unfolding numbers
-    number_is t q ht hq = get_or-map-range_with_len (λ v. number_of (found.level v)) 0 (places_of p) (place p t q) (place p t q) None (place_within p t q ht hq) (omega arith)
-
     start_zero : place p 0 0 ≡ 0
     start_zero = omega arith
 
-    has_number : (t q least : ℕ) → t < p.size → q < states_of (automaton_of p) → suc least ≤ found.level (place p t q) → HasNumber p numbers t q least
-    has_number t q least ht hq h = record {
-      number = found.level (place p t q) - 1;
-      stands = number_is t q ht hq ∙ number_of-positive (found.level (place p t q)) (omega arith);
-      enough = omega arith;
-    }
+    -- the first pair's level
+    first : suc (rise_at (automaton_of p) 0) ≤ found.level (place p 0 0)
+    first =
+        let level : suc (rise p 0) ≤ found.level 0 = found.sound.start in
+        let here : suc (rise p 0) ≤ found.level (place p 0 0) = rw start_zero level in
+        let same : rise p 0 ≡ rise_at (automaton_of p) 0 = ap (rise p) (sym start_zero) ∙ rise-place p 0 0 made.some in
+        rw (← same) here
 
-    level_is : (t q c : ℕ) → t < p.size → q < states_of (automaton_of p) → number_at p numbers t q ≡ Some c → found.level (place p t q) ≡ suc c
-    level_is t q c ht hq e = number_of-Some (found.level (place p t q)) c (sym (number_is t q ht hq) ∙ e)
+    rises : Rises p m found.level
+    rises t q read r ht hq hr hi edge has =
+        let arrow : Arrow p m (place p t q) (place p (next_of m t read) r) = record {
+          t = t;
+          q = q;
+          read = read;
+          r = r;
+          is_state = ht;
+          is_from = hq;
+          is_letter = hi;
+          edge = edge;
+          from_is = refl;
+          to_is = refl;
+        } in
+        let enough : found.level (place p t q) + rise p (place p (next_of m t read) r) ≤ found.level (place p (next_of m t read) r) = found.closed (place p t q) (place p (next_of m t read) r) arrow has in
+        rw (← rise-place p (next_of m t read) r hr) enough
 
-    valid : IsValidAnnotation p m numbers
-    valid = record {
-      bounded = λ t q c ht hq e. small (place p t q) c (found.sound.found (place p t q) c (level_is t q c ht hq e));
-      start =
-          let level : suc (rise p 0) ≤ found.level 0 = found.sound.start in
-          let here : suc (rise p 0) ≤ found.level (place p 0 0) = rw start_zero level in
-          let n : 0 < states_of (automaton_of p) = made.some in
-          let same : rise p 0 ≡ rise_at (automaton_of p) 0 = ap (rise p) (sym start_zero) ∙ rise-place p 0 0 n in
-          has_number 0 0 (rise_at (automaton_of p) 0) (rw (sym fits.size) some) n (rw (← same) here);
-      edges = λ t q c read r ht hq e hi edge.
-          let level : found.level (place p t q) ≡ suc c = level_is t q c ht hq e in
-          let to : r < states_of (automaton_of p) = to_within (automaton_of p) (letter_of p.side m t read) q r made edge in
-          let t_small : t < size_of m = rw fits.size ht in
-          let next_small : next_of m t read < size_of m = machine.nexts t read t_small hi in
-          let arrow : Arrow p m (place p t q) (place p (next_of m t read) r) = record {
-            t = t;
-            q = q;
-            read = read;
-            r = r;
-            is_state = ht;
-            is_from = hq;
-            is_letter = hi;
-            edge = edge;
-            from_is = refl;
-            to_is = refl;
-          } in
-          let enough : found.level (place p t q) + rise p (place p (next_of m t read) r) ≤ found.level (place p (next_of m t read) r) = found.closed (place p t q) (place p (next_of m t read) r) arrow (omega arith) in
-          let same : rise p (place p (next_of m t read) r) ≡ rise_at (automaton_of p) r = rise-place p (next_of m t read) r to in
-          has_number (next_of m t read) r (c + rise_at (automaton_of p) r) (rw (sym fits.size) next_small) to (omega (arith, level, enough, same));
+    -- where all rejecting states are counted
+    whole : (p.version == 3) ≡ false → AreLevels p m found.level
+    whole version = record {
+      bounded = λ t q c ht hq e. rw (whole_bound p q version) (small (place p t q) c (found.sound.found (place p t q) c e));
+      start = rw (whole_start p version) first;
+      edges = λ t q c read r ht hq hr hi edge e.
+          let up : found.level (place p t q) + rise_at (automaton_of p) r ≤ found.level (place p (next_of m t read) r) = rises t q read r ht hq hr hi edge (omega (arith, e)) in
+          let same : number_after p q r c ≡ c + rise_at (automaton_of p) r = after_stays p q r c (stays_whole p q r version) in
+          omega (arith, up, same, e);
     }
 
     annotation : HasValidAnnotation p m
-    unfolding numbers
-    annotation = record {
-      numbers = map (λ v. number_of (found.level v)) (range_with_len 0 (places_of p));
-      places = length-map-range_with_len (λ v. number_of (found.level v)) 0 (places_of p);
-      valid = valid;
-    }
+    annotation = elim (cases_Bool (p.version == 3)) [
+      | inr version ↦ annotation_by_levels p m made machine fits some found.level (whole version)
+      | inl version ↦
+          let has : 0 < found.level (place p 0 0) = omega (arith, first) in
+          annotation_by_levels p m made machine fits some (local_level p (classes (automaton_of p) made) made found.level) (are_local_levels p (classes (automaton_of p) made) made found.level m machine fits version has rises)
+    ]
 
   pub annotation_or_run : HasValidAnnotation p m ⊎ HasRejectingRun p m
   annotation_or_run = elim levels [ inl found ↦ inl (annotation found) | inr refuted ↦ inr refuted ]

@@ -1,49 +1,42 @@
 -- The rule of a valid annotation, part by part, and whole.
-use Rattle.std.proofs.Common.{◌≡◌, ℕ, ◌+◌, ◌*◌, ◌/◌, ◌%◌, ◌<◌, ◌≤◌, List, length, sym, ap, ◌∙◌, arith, Option, Some, None, get_or}
-use Rattle.std.specs.Prelude.{All, Contains}
-use Rattle.std.proofs.Math.Nat.{mod-lt, div-lt_iff_lt-mul}
-use Rattle.std.proofs.lemmas.Nat.{div-add-mod'}
-use Rattle.std.proofs.lemmas.List.{get_or_default}
+use Rattle.std.proofs.Common.{◌≡◌, ℕ, ◌≤◌, List, sym, ◌∙◌, subst, arith, Option, Some, None, get_or}
+use Rattle.std.specs.Prelude.{Contains}
 use Rattle.std.proofs.lemmas.List.Elements.{All-contains, Contains-get_or}
 use Rattle.machine_model.specs.Automaton.{IsAutomaton, JoinsStates, states_of}
 use Rattle.machine_model.specs.Machine.{MachineModel}
 use Rattle.machine_model.specs.Problem.{automaton_of}
 use Rattle.machine_model.specs.declared.automata.Edge.{Edge}
 use Rattle.machine_model.specs.declared.problems.Problem.{Problem}
-use Rattle.product_bound.specs.Annotation.{HasNumber, IsValidAnnotation, bound_of, number_at, places_of, rise_at}
-use Rattle.product_bound.specs.Kept.{IsWithin, KeepsEdge, KeepsEdges, KeepsNumber, KeepsStates}
-use Rattle.product_bound.proofs.Trails.{place_within}
+use Rattle.product_bound.specs.Annotation.{HasNumber, IsValidAnnotation, number_after, number_at, start_number}
+use Rattle.product_bound.specs.Kept.{AreWithin, KeepsEdge, KeepsEdges, KeepsNumber, KeepsStates}
 
 module _ (p : Problem) (numbers : List (Option ℕ)) (t q s r : ℕ) where
   pub none_kept : (a : ℕ) → number_at p numbers t q ≡ Some a → number_at p numbers s r ≡ None → KeepsNumber p numbers t q s r → ⊥
   none_kept a from to kept =
-      let has : HasNumber p numbers s r (a + rise_at (automaton_of p) r) = kept.number a from in
+      let has : HasNumber p numbers s r (number_after p q r a) = kept.number a from in
       let both : Some has.number ≡ None = sym has.stands ∙ to in
       cc
 
-  pub kept_by : (a b : ℕ) → number_at p numbers t q ≡ Some a → number_at p numbers s r ≡ Some b → a + rise_at (automaton_of p) r ≤ b → KeepsNumber p numbers t q s r
+  pub kept_by : (a b : ℕ) → number_at p numbers t q ≡ Some a → number_at p numbers s r ≡ Some b → number_after p q r a ≤ b → KeepsNumber p numbers t q s r
   kept_by a b from to enough = record {
     number = λ c e.
         let same : Some a ≡ Some c = sym from ∙ e in
         let equal : a ≡ c = cc in
-        record { number = b; stands = to; enough = omega (arith, equal, enough) };
+        record { number = b; stands = to; enough = subst (λ n. number_after p q r n ≤ b) equal enough };
   }
 
-  pub kept_says : (a b : ℕ) → number_at p numbers t q ≡ Some a → number_at p numbers s r ≡ Some b → KeepsNumber p numbers t q s r → a + rise_at (automaton_of p) r ≤ b
+  pub kept_says : (a b : ℕ) → number_at p numbers t q ≡ Some a → number_at p numbers s r ≡ Some b → KeepsNumber p numbers t q s r → number_after p q r a ≤ b
   kept_says a b from to kept =
-      let has : HasNumber p numbers s r (a + rise_at (automaton_of p) r) = kept.number a from in
+      let has : HasNumber p numbers s r (number_after p q r a) = kept.number a from in
       let same : Some has.number ≡ Some b = sym has.stands ∙ to in
       let equal : has.number ≡ b = cc in
-      let enough : a + rise_at (automaton_of p) r ≤ has.number = has.enough in
+      let enough : number_after p q r a ≤ has.number = has.enough in
       omega (arith, equal, enough)
 
-module _ (p : Problem) (m : MachineModel) (numbers : List (Option ℕ)) (made : IsAutomaton (automaton_of p)) (places : length numbers ≡ places_of p) where
-  pub valid_of : All (IsWithin (bound_of p)) numbers → HasNumber p numbers 0 0 (rise_at (automaton_of p) 0) → KeepsStates p m numbers → IsValidAnnotation p m numbers
+module _ (p : Problem) (m : MachineModel) (numbers : List (Option ℕ)) (made : IsAutomaton (automaton_of p)) where
+  pub valid_of : AreWithin p numbers → HasNumber p numbers 0 0 (start_number p) → KeepsStates p m numbers → IsValidAnnotation p m numbers
   valid_of within start kept = record {
-    bounded = λ t q c ht hq e.
-        let inside : t * states_of (automaton_of p) + q < length numbers = rw places (place_within p t q ht hq) in
-        let here : IsWithin (bound_of p) (get_or numbers (t * states_of (automaton_of p) + q) None) = within (t * states_of (automaton_of p) + q) None inside in
-        here.small c e;
+    bounded = λ t q c ht hq e. ((within.states q hq).each t ht).small c e;
     start = start;
     edges = λ t q c read r ht hq e hi edge.
         let of_edges : KeepsEdges p m numbers t read = (kept.states t ht).letters read hi in
@@ -51,19 +44,10 @@ module _ (p : Problem) (m : MachineModel) (numbers : List (Option ℕ)) (made : 
         (of_edge.edge edge.fits).number c e;
   }
 
-  pub within_says : IsValidAnnotation p m numbers → All (IsWithin (bound_of p)) numbers
-  within_says valid k d h =
-      let Q : ℕ = states_of (automaton_of p) in
-      let some : 0 < states_of (automaton_of p) = made.some in
-      let small : k < p.size * states_of (automaton_of p) = rw places at h in
-      let t_small : k / states_of (automaton_of p) < p.size = (div-lt_iff_lt-mul some).1 small in
-      let q_small : k % states_of (automaton_of p) < states_of (automaton_of p) = mod-lt k some in
-      let same : k / states_of (automaton_of p) * states_of (automaton_of p) + k % states_of (automaton_of p) ≡ k = div-add-mod' k (states_of (automaton_of p)) in
-      record {
-        small = λ c e.
-            let at : number_at p numbers (k / states_of (automaton_of p)) (k % states_of (automaton_of p)) ≡ Some c = ap (λ j. get_or numbers j None) same ∙ get_or_default numbers k None d h ∙ e in
-            valid.bounded (k / states_of (automaton_of p)) (k % states_of (automaton_of p)) c t_small q_small at;
-      }
+  pub within_says : IsValidAnnotation p m numbers → AreWithin p numbers
+  within_says valid = record {
+    states = λ q hq. record { each = λ t ht. record { small = λ c e. valid.bounded t q c ht hq e } };
+  }
 
   pub states_say : IsValidAnnotation p m numbers → KeepsStates p m numbers
   states_say valid = record {

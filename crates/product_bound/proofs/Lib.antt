@@ -1,4 +1,6 @@
 pub mod Letters
+pub mod Counted
+pub mod Reaching
 pub mod Valid
 pub mod Cycle
 pub mod Sums
@@ -6,6 +8,8 @@ pub mod Levels
 pub mod Decide
 pub mod Trails
 pub mod Exists
+pub mod Numbers
+pub mod Local
 pub mod KeptLemmas
 pub mod Places
 pub mod Numbering

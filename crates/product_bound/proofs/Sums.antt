@@ -1,5 +1,5 @@
 -- Sums of a function over the numbers below n, and lists that hold each number that counts at most once.
-use Rattle.std.proofs.Common.{◌≡◌, ℕ, zero, suc, ◌+◌, ◌*◌, ◌%◌, ◌<◌, ◌≤◌, inl, inr, List, [], ◌∷◌, length, refl, sym, ap, ◌∙◌, arith, Bool, false, cond, eqb, get_or}
+use Rattle.std.proofs.Common.{◌≡◌, ℕ, zero, suc, ◌+◌, ◌*◌, ◌%◌, ◌<◌, ◌≤◌, inl, inr, List, [], ◌∷◌, length, refl, sym, ap, ◌∙◌, subst, arith, Bool, false, cond, eqb, get_or}
 use Rattle.std.specs.Prelude.{Contains, count_by}
 use Rattle.std.proofs.lemmas.Bool.{cases_eq, cond-true, cond-false, eq-eqb, ne_eqb}
 use Rattle.std.proofs.lemmas.List.Sums.{sum_by-cons}
@@ -16,6 +16,28 @@ sum_below-same (suc n) f g same =
     let front : sum_below n f ≡ sum_below n g = sum_below-same n f g (λ v h. same v (omega arith)) in
     let here : f n ≡ g n = same n (omega arith) in
     omega arith
+
+pub sum_below-le : (n : ℕ) (f g : ℕ → ℕ) → ((v : ℕ) → v < n → f v ≤ g v) → sum_below n f ≤ sum_below n g
+sum_below-le zero f g least = omega arith
+sum_below-le (suc n) f g least =
+    let front : sum_below n f ≤ sum_below n g = sum_below-le n f g (λ v h. least v (omega arith)) in
+    let here : f n ≤ g n = least n (omega arith) in
+    omega (arith, front, here)
+
+-- where one function is nowhere less than another, and at x by k more
+pub sum_below-more : (n : ℕ) (f g : ℕ → ℕ) (x k : ℕ) → x < n → ((v : ℕ) → v < n → f v ≤ g v) → f x + k ≤ g x → sum_below n f + k ≤ sum_below n g
+sum_below-more zero f g x k h least more = absurd (omega arith)
+sum_below-more (suc n) f g x k h least more =
+    elim (cases_eq x n) [
+      | inl e ↦
+          let front : sum_below n f ≤ sum_below n g = sum_below-le n f g (λ v below. least v (omega arith)) in
+          let here : f n + k ≤ g n = subst (λ v. f v + k ≤ g v) e more in
+          omega (arith, front, here)
+      | inr ne ↦
+          let front : sum_below n f + k ≤ sum_below n g = sum_below-more n f g x k (omega (arith, ne)) (λ v below. least v (omega arith)) more in
+          let here : f n ≤ g n = least n (omega arith) in
+          omega (arith, front, here)
+    ]
 
 pub sum_below-most : (n b : ℕ) (f : ℕ → ℕ) → ((v : ℕ) → v < n → f v ≤ b) → sum_below n f ≤ n * b
 sum_below-most zero b f small = omega arith

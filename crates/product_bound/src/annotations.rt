@@ -1,11 +1,12 @@
-ghost use Rattle.std.specs.Prelude.{◌≡◌, ◌↔◌, ◌^◌, ◌<◌, All, IsTrue, length};
+ghost use Rattle.std.specs.Prelude.{◌≡◌, ◌==◌, ◌↔◌, ◌^◌, ◌<◌, ◌≤◌, IfNone, IfSome, IsTrue, false, length};
 ghost use Rattle.machine_model.specs.Accepts.{SideAccepts};
 ghost use Rattle.machine_model.specs.Automaton.{states_of};
 ghost use Rattle.machine_model.specs.Problem.{IsMachineOf, IsProblem, automaton_of};
-ghost use Rattle.product_bound.specs.Annotation.{HasNumber, IsValidAnnotation, bound_of, number_at, places_of, rise_at};
-ghost use Rattle.product_bound.specs.Kept.{IsWithin, KeepsEdges, KeepsLetters, KeepsNumber, KeepsStates};
+ghost use Rattle.product_bound.specs.Annotation.{HasNumber, IsCountedBy, IsValidAnnotation, bound_at, bound_of, leaves, number_after, number_at, places_of, rejecting_at, rise_at, start_number};
+ghost use Rattle.product_bound.specs.Kept.{AreWithin, IsStateWithin, IsWithin, KeepsEdges, KeepsLetters, KeepsNumber, KeepsStates};
 
-use machine_model::{Automaton, Machine, Problem, whole_letter};
+use machine_model::laws::{components_are_classes, joined_is_reached};
+use machine_model::{Automaton, Components, Machine, Problem, whole_letter};
 
 /// How often rejecting states may have been met where the machine and the automaton are in two states at once.
 ///
@@ -16,7 +17,8 @@ pub struct Annotation {
     pub numbers: Vec<Option<u32>>,
 }
 
-/// The greatest number that an annotation may hold: the machine's size times the number of rejecting states.
+/// The greatest number that an annotation may hold where all rejecting states are counted: the machine's size times their
+/// number.
 pub fn bound_of(problem: &Problem) -> u32
     requires { IsProblem problem.now }
     ensures { result ≡ bound_of problem.now }
@@ -24,10 +26,68 @@ pub fn bound_of(problem: &Problem) -> u32
     problem.size * problem.automaton.rejecting_count()
 }
 
-/// Whether the annotation is valid: numbers are within the bound, the first pair has one that counts a rejecting start,
-/// and along each edge that fits what the machine reads and writes they don't fall, and rise into a rejecting state.
+/// The greatest number that an annotation may hold for state `q` of the automaton: the machine's size times the number of
+/// rejecting states that are counted there.
 ///
-/// Takes as many steps as there are edges, states of the machine and read letters, multiplied. It takes no memory.
+/// Takes a step for each state where all rejecting states are counted.
+pub fn bound_at(problem: &Problem, q: u32) -> u32
+    requires problem { IsProblem problem.now }
+    requires state { q < states_of (automaton_of problem.now) }
+    ensures { result ≡ bound_at problem.now q }
+{
+    problem.size * rejecting_at(problem, q)
+}
+
+/// How many rejecting states are counted in state `q`: all of them, or in version 3 those that a run that stays in its
+/// component can meet.
+pub fn rejecting_at(problem: &Problem, q: u32) -> u32
+    requires problem { IsProblem problem.now }
+    requires state { q < states_of (automaton_of problem.now) }
+    ensures value { result ≡ rejecting_at problem.now q }
+    ensures few { result ≤ 2000 }
+{
+    components_are_classes();
+    let _states = problem.automaton.states();
+    match counted_by(problem) {
+        Some(components) => components.count(q),
+        None => problem.automaton.rejecting_count(),
+    }
+}
+
+/// Whether numbers are counted anew at an edge from state `q` to state `r`: in version 3, where it leaves a component.
+pub fn leaves(problem: &Problem, q: u32, r: u32) -> bool
+    requires problem { IsProblem problem.now }
+    requires from { q < states_of (automaton_of problem.now) }
+    requires to { r < states_of (automaton_of problem.now) }
+    ensures { result ≡ leaves problem.now q r }
+{
+    match counted_by(problem) {
+        Some(components) => !components.are_joined(q, r),
+        None => false,
+    }
+}
+
+/// The components by which numbers are counted, in version 3.
+pub fn counted_by(problem: &Problem) -> Option<&Components>
+    requires { IsProblem problem.now }
+    ensures whole { IfNone result ((problem.now.version == 3) ≡ false) }
+    ensures local { IfSome result (λ components. IsCountedBy problem.now components.now) }
+{
+    if problem.version != 3 {
+        return None;
+    }
+    match &problem.components {
+        Some(components) => Some(&**components),
+        None => unreachable!(),
+    }
+}
+
+/// Whether the annotation is valid: numbers are within the bounds of their states, the first pair has one that counts a
+/// rejecting start, and along each edge that fits what the machine reads and writes they don't fall, and rise into a
+/// rejecting state. In version 3 numbers are counted anew behind an edge that leaves a component, and at the start.
+///
+/// Takes as many steps as there are edges, states of the machine and read letters, multiplied, and at most one for each two
+/// states of the automaton. It takes no memory.
 pub fn is_valid(problem: &Problem, machine: &Machine, annotation: &Annotation) -> bool
     requires problem { IsProblem problem.now }
     requires machine { IsMachineOf problem.now machine.now }
@@ -35,11 +95,12 @@ pub fn is_valid(problem: &Problem, machine: &Machine, annotation: &Annotation) -
     ensures rule { IsTrue result ↔ IsValidAnnotation problem.now machine.now annotation.now.numbers.items }
     ensures accepted { IsTrue result → SideAccepts (automaton_of problem.now) problem.now.side machine.now }
 {
+    joined_is_reached();
     let numbers = annotation.numbers.as_slice();
     let states = problem.automaton.states();
     let size = machine.size();
     prove!(states > 0 && size == problem.size);
-    if !are_within(numbers, bound_of(problem)) {
+    if !are_within(problem, numbers) {
         return false;
     }
     if !starts_high_enough(problem, numbers) {
@@ -48,12 +109,31 @@ pub fn is_valid(problem: &Problem, machine: &Machine, annotation: &Annotation) -
     keeps_states(problem, machine, numbers)
 }
 
-/// Whether no number passes the bound.
-fn are_within(numbers: &[Option<u32>], bound: u32) -> bool
-    ensures { IsTrue result ↔ All (IsWithin bound) numbers.now }
+/// Whether no number passes the bound of its state.
+fn are_within(problem: &Problem, numbers: &[Option<u32>]) -> bool
+    requires problem { IsProblem problem.now }
+    requires places { length numbers.now ≡ places_of problem.now }
+    ensures { IsTrue result ↔ AreWithin problem.now numbers.now }
 {
-    for number in numbers {
-        if !is_within(*number, bound) {
+    let states = problem.automaton.states();
+    for q in 0..states {
+        if !is_state_within(problem, numbers, q) {
+            return false;
+        }
+    }
+    true
+}
+
+/// Whether no number of state `q` of the automaton passes its bound.
+fn is_state_within(problem: &Problem, numbers: &[Option<u32>], q: u32) -> bool
+    requires problem { IsProblem problem.now }
+    requires places { length numbers.now ≡ places_of problem.now }
+    requires state { q < states_of (automaton_of problem.now) }
+    ensures { IsTrue result ↔ IsStateWithin problem.now numbers.now q }
+{
+    let bound = bound_at(problem, q);
+    for t in 0..problem.size {
+        if !is_within(number_at(problem, numbers, t, q), bound) {
             return false;
         }
     }
@@ -70,17 +150,28 @@ fn is_within(number: Option<u32>, bound: u32) -> bool
     }
 }
 
-/// Whether the first pair has a number, which counts the start where it is rejecting.
+/// Whether the first pair has a number, which counts the start where it is rejecting and all rejecting states are counted.
 fn starts_high_enough(problem: &Problem, numbers: &[Option<u32>]) -> bool
     requires problem { IsProblem problem.now }
     requires places { length numbers.now ≡ places_of problem.now }
-    ensures { IsTrue result ↔ HasNumber problem.now numbers.now 0 0 (rise_at (automaton_of problem.now) 0) }
+    ensures { IsTrue result ↔ HasNumber problem.now numbers.now 0 0 (start_number problem.now) }
 {
-    let automaton = &*problem.automaton;
-    let _states = automaton.states();
+    let _states = problem.automaton.states();
     match number_at(problem, numbers, 0, 0) {
-        Some(number) => number >= rise_at(automaton, 0),
+        Some(number) => number >= start_number(problem),
         None => false,
+    }
+}
+
+/// The least number of the first pair.
+fn start_number(problem: &Problem) -> u32
+    requires { 0 < states_of (automaton_of problem.now) }
+    ensures { result ≡ start_number problem.now }
+{
+    if problem.version == 3 {
+        0
+    } else {
+        rise_at(&problem.automaton, 0)
     }
 }
 
@@ -153,8 +244,7 @@ fn keeps_edges(
     true
 }
 
-/// Whether the number of the pair `from`, if it has one, is at most that of the pair `to`, and less where that pair's
-/// state is rejecting.
+/// Whether the number of the pair `to` is as an edge from the pair `from` wants it.
 fn keeps_number(
     problem: &Problem,
     numbers: &[Option<u32>],
@@ -175,13 +265,24 @@ fn keeps_number(
     ) {
         (None, _) => true,
         (Some(_), None) => false,
-        (Some(number), Some(after)) => {
-            if problem.automaton.is_rejecting(to.1) {
-                number < after
-            } else {
-                number <= after
-            }
-        }
+        (Some(number), Some(after)) => is_enough(problem, (from.1, number), (to.1, after)),
+    }
+}
+
+/// Whether the second state's number is high enough behind an edge from the first state with its number.
+fn is_enough(problem: &Problem, from: (u32, u32), to: (u32, u32)) -> bool
+    requires problem { IsProblem problem.now }
+    requires from { from.0 < states_of (automaton_of problem.now) }
+    requires to { to.0 < states_of (automaton_of problem.now) }
+    ensures { IsTrue result ↔ (number_after problem.now from.0 to.0 from.1 ≤ to.1) }
+{
+    if leaves(problem, from.0, to.0) {
+        return true;
+    }
+    if problem.automaton.is_rejecting(to.0) {
+        from.1 < to.1
+    } else {
+        from.1 <= to.1
     }
 }
 

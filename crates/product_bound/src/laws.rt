@@ -9,6 +9,7 @@ ghost use Rattle.product_bound.specs.Numbered.{named_before, numbered_of, number
 
 use crate::annotations::letter_count;
 use letter_word::{Lasso, Letter};
+use machine_model::laws::{components_are_classes, joined_is_reached};
 use machine_model::{Machine, Problem, Row, RunLasso, whole_letter};
 use std::alloc::{AllocError, Global};
 
@@ -148,12 +149,18 @@ fn place_in(states: &[u32], state: u32) -> usize
 /// A side accepts a machine exactly where the machine has a valid annotation.
 pub fn accepted_is_annotated()
     ensures { AcceptedIsAnnotated }
-{}
+{
+    joined_is_reached();
+    components_are_classes();
+}
 
 /// A machine of a problem is accepted by its side, or has a run that the side's automaton accepts.
 pub fn accepted_or_rejected()
     ensures { AcceptedOrRejected }
-{}
+{
+    joined_is_reached();
+    components_are_classes();
+}
 
 /// Each machine has a numbered one of its kind and size with the same run lassos.
 pub fn numbered_suffices()

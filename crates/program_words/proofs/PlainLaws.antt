@@ -162,6 +162,16 @@ synth_workers name = record {
   value_fault = λ rows position text plain. plain_turn_fault (leaf (line.searching name)) rows (Some (codes "workers", [])) (option (codes "workers")) (open_option (codes "workers")) position text plain;
 }
 
+synth_counts : (name : Text) → OptionSteps (leaf (line.searching name)) (codes "counts")
+unfolding clap_on_literals
+synth_counts name = record {
+  settles = record { rows = λ text rows. refl; fault = λ text rows waiting position. refl };
+  word = λ rows pending position. refl;
+  word_fault_is = λ rows pending position. refl;
+  value_is = λ rows position text plain. plain_walked (leaf (line.searching name)).rules rows (Some (codes "counts", [])) (option (codes "counts")) (open_option (codes "counts")) position text plain;
+  value_fault = λ rows position text plain. plain_turn_fault (leaf (line.searching name)) rows (Some (codes "counts", [])) (option (codes "counts")) (open_option (codes "counts")) position text plain;
+}
+
 synth_kind : (name : Text) → OptionSteps (leaf (line.searching name)) (codes "kind")
 unfolding clap_on_literals
 synth_kind name = record {
@@ -210,6 +220,16 @@ batch_workers = record {
   word_fault_is = λ rows pending position. refl;
   value_is = λ rows position text plain. plain_walked (leaf line.batch).rules rows (Some (codes "workers", [])) (option (codes "workers")) (open_option (codes "workers")) position text plain;
   value_fault = λ rows position text plain. plain_turn_fault (leaf line.batch) rows (Some (codes "workers", [])) (option (codes "workers")) (open_option (codes "workers")) position text plain;
+}
+
+batch_counts : OptionSteps (leaf line.batch) (codes "counts")
+unfolding clap_on_literals
+batch_counts = record {
+  settles = record { rows = λ text rows. refl; fault = λ text rows waiting position. refl };
+  word = λ rows pending position. refl;
+  word_fault_is = λ rows pending position. refl;
+  value_is = λ rows position text plain. plain_walked (leaf line.batch).rules rows (Some (codes "counts", [])) (option (codes "counts")) (open_option (codes "counts")) position text plain;
+  value_fault = λ rows position text plain. plain_turn_fault (leaf line.batch) rows (Some (codes "counts", [])) (option (codes "counts")) (open_option (codes "counts")) position text plain;
 }
 
 synth_spec_settles : (name : Text) → Settles (leaf (line.searching name)) (codes "spec")
@@ -305,8 +325,9 @@ synth_steps : (name id : Text) → IsAmong id synth_options → OptionSteps (lea
 synth_steps name id (inl e) = subst (OptionSteps (leaf (line.searching name))) (sym e) (synth_max name)
 synth_steps name id (inr (inl e)) = subst (OptionSteps (leaf (line.searching name))) (sym e) (synth_entries name)
 synth_steps name id (inr (inr (inl e))) = subst (OptionSteps (leaf (line.searching name))) (sym e) (synth_workers name)
-synth_steps name id (inr (inr (inr (inl e)))) = subst (OptionSteps (leaf (line.searching name))) (sym e) (synth_kind name)
-synth_steps name id (inr (inr (inr (inr bad)))) = absurd bad
+synth_steps name id (inr (inr (inr (inl e)))) = subst (OptionSteps (leaf (line.searching name))) (sym e) (synth_counts name)
+synth_steps name id (inr (inr (inr (inr (inl e))))) = subst (OptionSteps (leaf (line.searching name))) (sym e) (synth_kind name)
+synth_steps name id (inr (inr (inr (inr (inr bad))))) = absurd bad
 
 bench_steps : (id : Text) → IsAmong id bench_options → OptionSteps (leaf line.bench) id
 bench_steps id (inl e) = subst (OptionSteps (leaf line.bench)) (sym e) bench_workers
@@ -316,14 +337,16 @@ batch_steps : (id : Text) → IsAmong id batch_options → OptionSteps (leaf lin
 batch_steps id (inl e) = subst (OptionSteps (leaf line.batch)) (sym e) batch_max
 batch_steps id (inr (inl e)) = subst (OptionSteps (leaf line.batch)) (sym e) batch_entries
 batch_steps id (inr (inr (inl e))) = subst (OptionSteps (leaf line.batch)) (sym e) batch_workers
-batch_steps id (inr (inr (inr bad))) = absurd bad
+batch_steps id (inr (inr (inr (inl e)))) = subst (OptionSteps (leaf line.batch)) (sym e) batch_counts
+batch_steps id (inr (inr (inr (inr bad)))) = absurd bad
 
 synth_different : (id : Text) → IsAmong id synth_options → bytes_eq (codes "spec") id ≡ false
 synth_different id (inl e) = ap (bytes_eq (codes "spec")) e
 synth_different id (inr (inl e)) = ap (bytes_eq (codes "spec")) e
 synth_different id (inr (inr (inl e))) = ap (bytes_eq (codes "spec")) e
 synth_different id (inr (inr (inr (inl e)))) = ap (bytes_eq (codes "spec")) e
-synth_different id (inr (inr (inr (inr bad)))) = absurd bad
+synth_different id (inr (inr (inr (inr (inl e))))) = ap (bytes_eq (codes "spec")) e
+synth_different id (inr (inr (inr (inr (inr bad))))) = absurd bad
 
 bench_different : (id : Text) → IsAmong id bench_options → bytes_eq (codes "clients") id ≡ false
 bench_different id (inl e) = ap (bytes_eq (codes "clients")) e
@@ -333,7 +356,8 @@ batch_different : (id : Text) → IsAmong id batch_options → bytes_eq (codes "
 batch_different id (inl e) = ap (bytes_eq (codes "list")) e
 batch_different id (inr (inl e)) = ap (bytes_eq (codes "list")) e
 batch_different id (inr (inr (inl e))) = ap (bytes_eq (codes "list")) e
-batch_different id (inr (inr (inr bad))) = absurd bad
+batch_different id (inr (inr (inr (inl e)))) = ap (bytes_eq (codes "list")) e
+batch_different id (inr (inr (inr (inr bad)))) = absurd bad
 
 synth_read : (program spec : Text) (options : List Item) → IsTrue (is_plain spec) → AreOptions synth_options [] options →
     settings_of (program ∷ codes "synth" ∷ spec ∷ option_words options) ≡ command_asked (codes "synth") (given_by (item (codes "spec") spec ∷ options))
@@ -343,7 +367,7 @@ synth_read program spec options plain are =
     let end = options_end s synth_options (synth_steps (codes "synth")) [] (item (codes "spec") spec) 2 (options) refl (synth_spec_settles (codes "synth")) (behind_name (item (codes "spec") spec) synth_options synth_different [] options are) in
     let all = after_name s (walk_from nothing_held) (after [] (item (codes "spec") spec) 2) spec (option_words options) (item (codes "spec") spec ∷ options) 2
     (plain_walked s.rules [] None idle open_idle 1 spec plain) (plain_turn_fault s [] None idle open_idle 1 spec plain) end in
-    read_command program (codes "synth") s (spec ∷ option_words options) (item (codes "spec") spec ∷ options) synth_met refl refl (leaf_reads s (spec ∷ option_words options) (item (codes "spec") spec ∷ options) 2 all (refl, (refl, (refl, (refl, (refl, tt))))) refl)
+    read_command program (codes "synth") s (spec ∷ option_words options) (item (codes "spec") spec ∷ options) synth_met refl refl (leaf_reads s (spec ∷ option_words options) (item (codes "spec") spec ∷ options) 2 all (refl, (refl, (refl, (refl, (refl, (refl, tt)))))) refl)
 
 check_read : (program spec certificate : Text) → IsTrue (is_plain spec) → IsTrue (is_plain certificate) →
     settings_of (program ∷ codes "check" ∷ spec ∷ certificate ∷ []) ≡ command_asked (codes "check") (given_by (item (codes "spec") spec ∷ item (codes "certificate") certificate ∷ []))
@@ -419,7 +443,7 @@ core_read program spec options plain are =
     let end = options_end s synth_options (synth_steps (codes "core")) [] (item (codes "spec") spec) 2 (options) refl (synth_spec_settles (codes "core")) (behind_name (item (codes "spec") spec) synth_options synth_different [] options are) in
     let all = after_name s (walk_from nothing_held) (after [] (item (codes "spec") spec) 2) spec (option_words options) (item (codes "spec") spec ∷ options) 2
     (plain_walked s.rules [] None idle open_idle 1 spec plain) (plain_turn_fault s [] None idle open_idle 1 spec plain) end in
-    read_command program (codes "core") s (spec ∷ option_words options) (item (codes "spec") spec ∷ options) core_met refl refl (leaf_reads s (spec ∷ option_words options) (item (codes "spec") spec ∷ options) 2 all (refl, (refl, (refl, (refl, (refl, tt))))) refl)
+    read_command program (codes "core") s (spec ∷ option_words options) (item (codes "spec") spec ∷ options) core_met refl refl (leaf_reads s (spec ∷ option_words options) (item (codes "spec") spec ∷ options) 2 all (refl, (refl, (refl, (refl, (refl, (refl, tt)))))) refl)
 
 batch_read : (program list : Text) (options : List Item) → IsTrue (is_plain list) → AreOptions batch_options [] options →
     settings_of (program ∷ codes "batch" ∷ list ∷ option_words options) ≡ command_asked (codes "batch") (given_by (item (codes "list") list ∷ options))
@@ -429,7 +453,7 @@ batch_read program list options plain are =
     let end = options_end s batch_options batch_steps [] (item (codes "list") list) 2 (options) refl batch_list_settles (behind_name (item (codes "list") list) batch_options batch_different [] options are) in
     let all = after_name s (walk_from nothing_held) (after [] (item (codes "list") list) 2) list (option_words options) (item (codes "list") list ∷ options) 2
     (plain_walked s.rules [] None idle open_idle 1 list plain) (plain_turn_fault s [] None idle open_idle 1 list plain) end in
-    read_command program (codes "batch") s (list ∷ option_words options) (item (codes "list") list ∷ options) batch_met refl refl (leaf_reads s (list ∷ option_words options) (item (codes "list") list ∷ options) 2 all (refl, (refl, (refl, (refl, tt)))) refl)
+    read_command program (codes "batch") s (list ∷ option_words options) (item (codes "list") list ∷ options) batch_met refl refl (leaf_reads s (list ∷ option_words options) (item (codes "list") list ∷ options) 2 all (refl, (refl, (refl, (refl, (refl, tt))))) refl)
 
 pub plain_words_are_read : PlainWordsAreRead
 plain_words_are_read = record {

@@ -32,9 +32,12 @@ most = option (codes "max")
 abbrev pub entries : Rule
 entries = option (codes "entries")
 
+abbrev pub counts : Rule
+counts = option (codes "counts")
+
 -- a command that searches for a machine of one text
 abbrev pub searching : Text → Shape
-searching name = command name (spec ∷ most ∷ entries ∷ workers ∷ option (codes "kind") ∷ [])
+searching name = command name (spec ∷ most ∷ entries ∷ workers ∷ counts ∷ option (codes "kind") ∷ [])
 
 abbrev pub synth : Shape
 synth = searching (codes "synth")
@@ -61,7 +64,7 @@ abbrev pub core : Shape
 core = searching (codes "core")
 
 abbrev pub batch : Shape
-batch = command (codes "batch") (required (codes "list") ∷ most ∷ entries ∷ workers ∷ [])
+batch = command (codes "batch") (required (codes "list") ∷ most ∷ entries ∷ workers ∷ counts ∷ [])
 
 abbrev pub program : App
 program = record {

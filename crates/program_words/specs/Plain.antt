@@ -38,13 +38,13 @@ AreOptions known before (o ∷ more) =
     IsAmong o.id known × IsTrue (is_plain o.text) × (has_item o.id before ≡ false) × AreOptions known (before ++ o ∷ []) more
 
 abbrev pub synth_options : List Text
-synth_options = codes "max" ∷ codes "entries" ∷ codes "workers" ∷ codes "kind" ∷ []
+synth_options = codes "max" ∷ codes "entries" ∷ codes "workers" ∷ codes "counts" ∷ codes "kind" ∷ []
 
 abbrev pub bench_options : List Text
 bench_options = codes "workers" ∷ []
 
 abbrev pub batch_options : List Text
-batch_options = codes "max" ∷ codes "entries" ∷ codes "workers" ∷ []
+batch_options = codes "max" ∷ codes "entries" ∷ codes "workers" ∷ codes "counts" ∷ []
 
 abbrev pub item : Text → Text → Item
 item id text = record { id = id; text = text }

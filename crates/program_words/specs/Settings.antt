@@ -4,6 +4,8 @@ use Rattle.std.specs.Option.{option_map_or}
 use Rattle.std.specs.Str.{bytes_eq}
 use Rattle.letter_word.specs.declared.kinds.Kind.{Kind}
 use Rattle.letter_word.specs.declared.kinds.Kind.TheVariants.{Mealy, Moore}
+use Rattle.annotation_encode.specs.declared.counts.Counts.{Counts}
+use Rattle.annotation_encode.specs.declared.counts.Counts.TheVariants.{Whole, Local}
 use Rattle.clap.specs.Walk.{Row, Text, first_of}
 use Rattle.clap.specs.Simple.{subcommand_of}
 use Rattle.clap.specs.Faults.{fault_of}
@@ -94,11 +96,18 @@ kind_in text = if bytes_eq text (codes "mealy") then Some (Some Mealy)
 abbrev pub kind_asked : Given → Option (Option Kind)
 kind_asked given = option_map_or kind_in (given (codes "kind")) (Some None)
 
+abbrev pub counts_in : Text → Option Counts
+counts_in text = if bytes_eq text (codes "whole") then Some Whole
+    else if bytes_eq text (codes "local") then Some Local else None
+
+abbrev pub counts_asked : Given → Option Counts
+counts_asked given = option_map_or counts_in (given (codes "counts")) (Some Whole)
+
 abbrev pub search_asked : ℕ → Given → Option Search
 search_asked most given =
-    option_and_then (λ max. option_and_then (λ entries. option_map (λ workers.
-    record { max = max; entries = entries; workers = workers })
-    (worker_count most given)) (entry_limit given)) (most_size most given)
+    option_and_then (λ max. option_and_then (λ entries. option_and_then (λ workers. option_map (λ counts.
+    record { max = max; entries = entries; workers = workers; counts = counts })
+    (counts_asked given)) (worker_count most given)) (entry_limit given)) (most_size most given)
 
 -- ---- each command
 

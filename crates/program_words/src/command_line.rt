@@ -35,6 +35,7 @@ fn searching<'a>(alloc: Global, name: &'a str) -> Result<Command<'a>, AllocError
         .arg(option(alloc, "max"))?
         .arg(option(alloc, "entries"))?
         .arg(option(alloc, "workers"))?
+        .arg(option(alloc, "counts"))?
         .arg(option(alloc, "kind"))
 }
 
@@ -89,7 +90,8 @@ fn batch<'a>(alloc: Global) -> Result<Command<'a>, AllocError>
         .arg(required(alloc, "list"))?
         .arg(option(alloc, "max"))?
         .arg(option(alloc, "entries"))?
-        .arg(option(alloc, "workers"))
+        .arg(option(alloc, "workers"))?
+        .arg(option(alloc, "counts"))
 }
 
 // What must be given, by its place.

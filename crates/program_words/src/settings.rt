@@ -1,3 +1,4 @@
+use annotation_encode::Counts;
 use letter_word::Kind;
 
 /// How a search is bounded, and on how many threads it runs.
@@ -9,6 +10,8 @@ pub struct Search {
     pub entries: Option<u64>,
     /// The number of workers, 1 to 8, or to 4 where many texts are searched.
     pub workers: u32,
+    /// What annotations count.
+    pub counts: Counts,
 }
 
 /// What the words ask for. Names are those of files.

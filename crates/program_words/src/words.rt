@@ -1,10 +1,11 @@
 ghost use Rattle.std.specs.Prelude.{◌≡◌, ◌≢◌, Some, None, map, option_map, option_and_then, string_bytes, IfOk, IfSome, IsErrOf, ◌≤◌};
 ghost use Rattle.clap.specs.Words.{first_of, found_of, rows_of, subcommand_rows_of};
-ghost use Rattle.program_words.specs.Settings.{asked_by, asked_of, batch_asked, bench_asked, check_asked, core_asked, entry_limit, expand_asked, gen_asked, given_in, IsInRange, IsSearchInRange, kind_asked, kind_in, lasso_asked, limit_in, number_or, search_asked, settings_of, synth_asked, verify_asked};
+ghost use Rattle.program_words.specs.Settings.{asked_by, asked_of, batch_asked, bench_asked, check_asked, core_asked, counts_asked, counts_in, entry_limit, expand_asked, gen_asked, given_in, IsInRange, IsSearchInRange, kind_asked, kind_in, lasso_asked, limit_in, number_or, search_asked, settings_of, synth_asked, verify_asked};
 
 use crate::command_line::program;
 use crate::numbers::number_in;
 use crate::settings::{Search, Settings};
+use annotation_encode::Counts;
 use clap::ArgMatches;
 use clap::error::ErrorKind;
 use letter_word::Kind;
@@ -173,6 +174,7 @@ fn search_in(own: &ArgMatches<'_>, most: u32) -> Option<Search>
         max: number_or(own, "max", 4, 1, most)?,
         entries: limit_or(own)?,
         workers: number_or(own, "workers", 4, 1, most)?,
+        counts: counts_or(own)?,
     })
 }
 
@@ -207,6 +209,25 @@ fn limit_in(text: &str) -> Option<Option<u64>>
     }
     let entries = number_in(text, 0, 250_000)?;
     Some(Some(u64::from(entries)))
+}
+
+fn counts_or(own: &ArgMatches<'_>) -> Option<Counts>
+    ensures { result ≡ counts_asked (given_in (rows_of (found_of own.now))) }
+{
+    match text_of(own, "counts") {
+        None => Some(Counts::Whole),
+        Some(text) => counts_in(text),
+    }
+}
+
+fn counts_in(text: &str) -> Option<Counts>
+    ensures { result ≡ counts_in text.now }
+{
+    match text {
+        "whole" => Some(Counts::Whole),
+        "local" => Some(Counts::Local),
+        _ => None,
+    }
 }
 
 fn kind_or(own: &ArgMatches<'_>) -> Option<Option<Kind>>

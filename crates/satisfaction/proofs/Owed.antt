@@ -8,11 +8,13 @@ use Rattle.ltl_formula.specs.Tree.{Tree}
 use Rattle.machine_model.specs.Machine.{MachineModel, IsMachine}
 use Rattle.machine_model.specs.Run.{ArePartners, IsPlay, IsRun}
 use Rattle.dual_search.specs.Defeat.{DefeatsAll, EachRunMakes}
+use Rattle.dual_search.proofs.Repeats.{is_machine, is_play, repeats}
+use Rattle.dual_search.proofs.Repeats.{are_partners as repeating}
 use Rattle.dual_search.proofs.Defeats.{accepted_counter_machines_defeat, accepted_machines_make}
 use Rattle.aiger_text.specs.Circuit.{IsCircuitOfKind}
 use Rattle.satisfaction.specs.Wanted.{Wanted, Says}
 use Rattle.satisfaction.specs.Satisfaction.{IsSystemFor, IsEnvironmentFor, Satisfies, Defeats, CanLose, CircuitSatisfies, CircuitDefeats}
-use Rattle.satisfaction.specs.Laws.{AcceptedSystemsSatisfy, AcceptedEnvironmentsDefeat, RejectedEnvironmentsCanLose, IsCircuitFor, CircuitsSatisfy, CircuitsDefeat}
+use Rattle.satisfaction.specs.Laws.{AcceptedSystemsSatisfy, AcceptedEnvironmentsDefeat, RejectedEnvironmentsCanLose, IsCircuitFor, CircuitsSatisfy, CircuitsDefeat, DefeatingCannotLose}
 
 pub accepted_systems_satisfy : AcceptedSystemsSatisfy
 accepted_systems_satisfy x f a m says exact system =
@@ -66,6 +68,17 @@ rejected_environments_can_lose x f a e w says exact run accepted = record {
   run = run;
   means = sym (says.same w) ∙ (exact.lassos w run.1.ring).0 accepted;
 }
+
+-- its run lasso is a play against the machine that repeats it
+pub defeating_cannot_lose : DefeatingCannotLose
+defeating_cannot_lose x e defeats loses =
+    let states = loses.run.0 in
+    let run = loses.run.1 in
+    let repeated = repeats e loses.word states run in
+    let system = is_system x repeated e (is_machine e loses.word states run) defeats.environment (repeating e loses.word states run) in
+    let lost = defeats.loses repeated loses.word system (is_play e loses.word states run) in
+    let both : true ≡ false = sym loses.means ∙ lost in
+    absurd (let never : ⊥ = cc in never)
 
 pub circuits_satisfy : CircuitsSatisfy
 circuits_satisfy x m c satisfies circuit inputs outputs = record {

@@ -32,6 +32,10 @@ RejectedEnvironmentsCanLose =
     (x : Wanted) (f : Tree) (a : AutomatonModel) (e : MachineModel) (w : Word) → Says f x → AcceptsWhere true f a
     → IsRun e Environment w → Accepts a w → CanLose x e
 
+-- a machine of the environment that defeats every machine can't lose
+abbrev pub DefeatingCannotLose : Type 0
+DefeatingCannotLose = (x : Wanted) (e : MachineModel) → Defeats x e → CanLose x e → ⊥
+
 -- the circuit has the kind and the runs of a machine, and these names of what it reads and of what it writes
 pub record IsCircuitFor (m : MachineModel) (c : Circuit) : Type 0 where
   pub kind : IsCircuitOfKind m.kind c

@@ -1,5 +1,5 @@
 // Laws of what machines and circuits owe. Each is the contract of a function that does nothing.
-ghost use Rattle.satisfaction.specs.Laws.{AcceptedEnvironmentsDefeat, AcceptedSystemsSatisfy, CircuitsDefeat, CircuitsSatisfy, RejectedEnvironmentsCanLose};
+ghost use Rattle.satisfaction.specs.Laws.{AcceptedEnvironmentsDefeat, AcceptedSystemsSatisfy, CircuitsDefeat, CircuitsSatisfy, DefeatingCannotLose, RejectedEnvironmentsCanLose};
 
 /// The system's side accepts exactly the machines that satisfy.
 pub fn accepted_systems_satisfy()
@@ -14,6 +14,11 @@ pub fn accepted_environments_defeat()
 /// A machine of the environment with a run lasso that its automaton accepts can lose.
 pub fn rejected_environments_can_lose()
     ensures { RejectedEnvironmentsCanLose }
+{}
+
+/// A machine of the environment that defeats every machine can't lose.
+pub fn defeating_cannot_lose()
+    ensures { DefeatingCannotLose }
 {}
 
 /// A circuit with the runs of a machine that satisfies does so too.

@@ -1,8 +1,8 @@
 use Rattle.std.proofs.Common.{◌≡◌, ℕ, ◌+◌, ◌<◌, ◌≤◌, Option, Some, None, refl, sym, ap, subst, arith}
 use Rattle.letter_word.specs.declared.kinds.Side.{Side}
 use Rattle.machine_model.specs.Machine.{MachineModel, size_of}
-use Rattle.size_board.specs.Names.{Named, IsSearchable, SideHas, sizes_of, sought_by, sought_of}
-use Rattle.machine_model.specs.Problem.{IsProblem, sized}
+use Rattle.size_board.specs.Names.{Named, IsSearchable, KnowsComponents, SideHas, sizes_of, sought_by, sought_of}
+use Rattle.machine_model.specs.Problem.{HasComponents, IsProblem, sized}
 use Rattle.machine_model.specs.declared.problems.Problem.{Problem}
 use Rattle.std.specs.Option.{option_map_or}
 use Rattle.size_board.specs.Board.{BoardModel, IsSound, high_of, machine_of}
@@ -29,11 +29,30 @@ sought_of_problem p m = (
 )
 
 pub sized_problem : (p : Problem) (n : ℕ) → IsSearchable (sought_of p) → 0 < n → n ≤ 8 → IsProblem (sized p n)
-sized_problem p n s some few = record { inputs = s.inputs; outputs = s.outputs; some = some; size = few; states = s.states; signals = s.signals; version = s.version }
+sized_problem p n s some few = record {
+  inputs = s.inputs;
+  outputs = s.outputs;
+  some = some;
+  size = few;
+  states = s.states;
+  signals = s.signals;
+  version = s.version;
+  components = λ third. let known : KnowsComponents (sought_of p) = s.components third in record { components = known.components; made = known.made; right = known.right };
+}
+
+searchable : (p : Problem) → IsProblem p → IsSearchable (sought_of p)
+searchable p is = record {
+  inputs = is.inputs;
+  outputs = is.outputs;
+  states = is.states;
+  signals = is.signals;
+  version = is.version;
+  components = λ third. let has : HasComponents p = is.components third in record { components = has.components; made = has.made; right = has.right };
+}
 
 pub sought_is_problem : SoughtIsProblem
 sought_is_problem = record {
-  searchable = λ p is. record { inputs = is.inputs; outputs = is.outputs; states = is.states; signals = is.signals; version = is.version };
+  searchable = searchable;
   problem = sized_problem;
   parts = λ p q same size. λ i. record {
     automaton = (same i).automaton;
@@ -43,5 +62,6 @@ sought_is_problem = record {
     kind = (same i).kind;
     size = size i;
     version = (same i).version;
+    components = (same i).components;
   };
 }

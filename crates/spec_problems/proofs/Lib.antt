@@ -1,3 +1,4 @@
 pub mod Refusals
 pub mod Whole
+pub mod Within
 pub mod OneAnswer

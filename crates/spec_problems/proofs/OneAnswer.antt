@@ -1,5 +1,5 @@
 -- A formula and a text have one answer.
-use Rattle.std.proofs.Common.{◌≡◌, ℕ, List, Option, Some, None, refl, sym, ap, subst, ◌∙◌}
+use Rattle.std.proofs.Common.{◌≡◌, ◌⊎◌, inl, inr, ℕ, List, Option, Some, None, refl, sym, ap, subst, ◌∙◌}
 use Rattle.letter_word.specs.declared.kinds.Kind.{Kind}
 use Rattle.letter_word.specs.declared.kinds.Side.{Side}
 use Rattle.letter_word.specs.declared.kinds.Side.TheVariants.{System, Environment}
@@ -9,7 +9,11 @@ use Rattle.ltl_formula.specs.Added.{Built}
 use Rattle.ltl_formula.specs.Nodes.{tree_at}
 use Rattle.ltl_formula.specs.Tree.{Tree}
 use Rattle.machine_model.specs.declared.problems.Problem.{Problem}
+use Rattle.std.proofs.lemmas.Bool.{cases_eq}
 use Rattle.machine_model.specs.Automaton.{AutomatonModel}
+use Rattle.machine_model.specs.Components.{AreComponentsOf}
+use Rattle.machine_model.specs.Problem.{automaton_of, components_of, HasComponents}
+use Rattle.machine_model.proofs.Naming.{one_components}
 use Rattle.dual_search.specs.declared.automata.Automata.{Automata}
 use Rattle.dual_search.proofs.Sides.{answers_are_apart}
 use Rattle.spec_faults.specs.declared.code.SpecCode.{SpecCode}
@@ -25,6 +29,18 @@ use Rattle.spec_problems.specs.OfFormula.{IsProblemOver, IsEnvironmentOver, AreP
 use Rattle.spec_problems.specs.OfText.{AreProblemsOf, interface_of, IsFirstFault, of_text, of_problems}
 use Rattle.spec_problems.specs.Laws.{IsSameProblem, IsSameIfAny, AreSameProblems, ProblemsOfFormulasAreDetermined, ProblemsOfTextsAreDetermined}
 
+one_of_components : (x : Interface) (p q : Problem) → automaton_of p ≡ automaton_of q → ((x.version ≡ 3 → ⊥) → components_of p ≡ None) → (x.version ≡ 3 → HasComponents p)
+    → ((x.version ≡ 3 → ⊥) → components_of q ≡ None) → (x.version ≡ 3 → HasComponents q) → components_of p ≡ components_of q
+one_of_components x p q same whole counted whole' counted' = elim (cases_eq x.version 3) [
+  | inl third ↦
+      let mine : HasComponents p = counted third in
+      let yours : HasComponents q = counted' third in
+      mine.made
+      ∙ ap Some (one_components (automaton_of q) mine.components yours.components (subst (λ a. AreComponentsOf a mine.components) same mine.right) yours.right)
+      ∙ sym yours.made
+  | inr other ↦ whole other ∙ sym (whole' other)
+]
+
 same_problem : (x : Interface) (side : Side) (kind : Kind) (a b : AutomatonModel) (p q : Problem) → a ≡ b → IsProblemOver x side kind a p → IsProblemOver x side kind b q → IsSameProblem p q
 same_problem x side kind a b p q e h g = record {
   automaton = h.automaton ∙ e ∙ sym g.automaton;
@@ -34,6 +50,7 @@ same_problem x side kind a b p q e h g = record {
   kind = h.kind ∙ sym g.kind;
   size = h.size ∙ sym g.size;
   version = h.version ∙ sym g.version;
+  components = one_of_components x p q (h.automaton ∙ e ∙ sym g.automaton) h.whole h.counted g.whole g.counted;
 }
 
 same_if_any : (x : Interface) (o : Option AutomatonModel) (e f : Option Problem) → IsEnvironmentOver x o e → IsEnvironmentOver x o f → IsSameIfAny e f

@@ -4,7 +4,7 @@ use Rattle.letter_word.specs.declared.kinds.Kind.{Kind}
 use Rattle.ltl_formula.specs.declared.nodes.Node.{Node}
 use Rattle.ltl_formula.specs.Tree.{Tree}
 use Rattle.machine_model.specs.declared.problems.Problem.{Problem}
-use Rattle.machine_model.specs.Problem.{automaton_of}
+use Rattle.machine_model.specs.Problem.{automaton_of, components_of}
 use Rattle.spec_faults.specs.declared.code.SpecCode.{SpecCode}
 use Rattle.tlsf_expand.specs.FlatText.{FlatText}
 use Rattle.spec_problems.specs.declared.sides.Interface.{Interface}
@@ -21,6 +21,7 @@ pub record IsSameProblem (p q : Problem) : Type 0 where
   pub kind : p.kind ≡ q.kind
   pub size : p.size ≡ q.size
   pub version : p.version ≡ q.version
+  pub components : components_of p ≡ components_of q
 
 abbrev pub IsSameIfAny : Option Problem → Option Problem → Type 0
 IsSameIfAny None None = Unit {0}

@@ -1,18 +1,22 @@
 // The problems of both sides of a formula.
 
-ghost use Rattle.std.specs.Prelude.{◌≡◌, ℕ, Err, IfOk, OnOk};
+ghost use Rattle.std.specs.Prelude.{◌≡◌, ℕ, ◌≤◌, None, Err, IfOk, IfSome, IsSome, OnOk};
+ghost use Rattle.std.specs.Arc.{arc_value};
 ghost use Rattle.ltl_formula.specs.ListSignals.{KeepsSignals};
 ghost use Rattle.ltl_formula.specs.Nodes.{Grows, IsNodeList, Stands, tree_at};
+ghost use Rattle.machine_model.specs.Automaton.{states_of};
+ghost use Rattle.machine_model.specs.Components.{AreComponentsOf};
+ghost use Rattle.machine_model.specs.Problem.{IsVersion};
 ghost use Rattle.spec_faults.specs.declared.code.SpecCode.{SpecCode as Code};
 ghost use Rattle.spec_faults.specs.declared.code.SpecFault.TheVariants.{At};
 ghost use Rattle.tlsf_expand.specs.FewSignals.{HasFewSignals};
-ghost use Rattle.spec_problems.specs.OfFormula.{AcceptBySide, AreProblems, AreProblemsIn, AreProblemsOver, IsEnvironmentOver, IsFormFault, IsProblemOver, IsVersion, refusal_of};
+ghost use Rattle.spec_problems.specs.OfFormula.{AcceptBySide, AreProblems, AreProblemsIn, AreProblemsOver, IsEnvironmentOver, IsFormFault, IsProblemOver, refusal_of};
 
 use cobuchi_build::BuildFault;
 use dual_search::{Automata, problems};
 use letter_word::{Kind, Side};
 use ltl_formula::{FormulaId, Formulas};
-use machine_model::{Automaton, Problem};
+use machine_model::{Automaton, Components, Problem};
 use spec_faults::{SpecCode, SpecFault};
 use std::alloc::{AllocError, Global};
 use std::sync::Arc;
@@ -26,7 +30,7 @@ pub struct Interface {
     pub outputs: u32,
     /// The kind of the system's machines. Those of the environment are of the other one.
     pub kind: Kind,
-    /// The version of the base clauses, 1 or 2.
+    /// The version of the base clauses, from 1 to 3.
     pub version: u32,
 }
 
@@ -92,6 +96,8 @@ fn sides(
     interface: Interface,
     automata: Automata,
 ) -> Result<SideProblems, AllocError>
+    requires system { states_of automata.system ≤ 2000 }
+    requires environment { IfSome automata.environment (λ a. states_of a ≤ 2000) }
     ensures { IfOk result (AreProblemsOver interface automata) }
 {
     let environment = environment(alloc, interface, automata.environment)?;
@@ -114,6 +120,7 @@ fn environment(
     interface: Interface,
     automaton: Option<Automaton>,
 ) -> Result<Option<Problem>, AllocError>
+    requires { IfSome automaton (λ a. states_of a ≤ 2000) }
     ensures { IfOk result (IsEnvironmentOver interface automaton) }
 {
     match automaton {
@@ -136,8 +143,10 @@ fn problem(
     kind: Kind,
     automaton: Automaton,
 ) -> Result<Problem, AllocError>
+    requires { states_of automaton ≤ 2000 }
     ensures { IfOk result (IsProblemOver interface side kind automaton) }
 {
+    let components = components(alloc, interface.version, &automaton)?;
     Ok(Problem {
         automaton: Arc::new(alloc, automaton)?,
         inputs: interface.inputs,
@@ -146,5 +155,24 @@ fn problem(
         kind,
         size: 1,
         version: interface.version,
+        components,
     })
+}
+
+/// The automaton's components, where base clauses of this version count by them.
+fn components(
+    alloc: Global,
+    version: u32,
+    automaton: &Automaton,
+) -> Result<Option<Arc<Components>>, AllocError>
+    requires { states_of automaton.now ≤ 2000 }
+    ensures whole { IfOk result (λ made. (version ≡ 3 → ⊥) → made ≡ None) }
+    ensures counted { IfOk result (λ made. version ≡ 3 → IfSome made (λ components. AreComponentsOf automaton.now (arc_value components))) }
+    ensures some { IfOk result (λ made. version ≡ 3 → IsSome made) }
+{
+    if version != 3 {
+        return Ok(None);
+    }
+    let components = Components::of(alloc, automaton)?;
+    Ok(Some(Arc::new(alloc, components)?))
 }

@@ -2,12 +2,13 @@
 
 ghost use Rattle.std.specs.Prelude.{◌≡◌, ℕ, Err, IfOk, length};
 ghost use Rattle.ltl_formula.specs.Nodes.{IsNodeList, tree_at};
+ghost use Rattle.machine_model.specs.Problem.{IsVersion};
 ghost use Rattle.spec_faults.specs.declared.code.SpecCode.{SpecCode as Code};
 ghost use Rattle.spec_faults.specs.declared.code.SpecFault.TheVariants.{At};
 ghost use Rattle.tlsf_expand.specs.FewSignals.{HasFewSignals};
 ghost use Rattle.tlsf_expand.specs.FlatText.{spec_seen};
 ghost use Rattle.flat_text.specs.FlatNames.{HasPlainNames};
-ghost use Rattle.spec_problems.specs.OfFormula.{AcceptBySide, AreProblems, IsVersion};
+ghost use Rattle.spec_problems.specs.OfFormula.{AcceptBySide, AreProblems};
 ghost use Rattle.spec_problems.specs.OfText.{AreProblemsOf, IsFirstFault, SaysWhat};
 
 use crate::sides::{Interface, SideProblems, problems_of};

@@ -1,5 +1,5 @@
 -- The outcome of a search of a text's problems.
-use Rattle.std.proofs.Common.{◌≡◌, ◌≤◌, length, refl, ◌∙◌, subst, arith}
+use Rattle.std.proofs.Common.{◌≡◌, ℕ, ◌≤◌, length, refl, ◌∙◌, subst, arith}
 use Rattle.letter_word.specs.declared.kinds.Side.{Side}
 use Rattle.letter_word.specs.declared.kinds.Side.TheVariants.{System, Environment}
 use Rattle.machine_model.specs.Machine.{MachineModel}
@@ -18,9 +18,9 @@ use Rattle.synth_answer.specs.Reply.{AreProblemsFor, FitsNames, HasFittingMachin
 use Rattle.synth_answer.proofs.Meaning.{kind_for, reads_environment, reads_system, writes_environment, writes_system}
 use Rattle.synth_answer.proofs.Sides.{IsOf, find}
 
-module _ (x : Expanded) (s : SideProblems) (problems : AreProblemsFor x s) (settings : Settings) (most : settings.max ≤ 8) (sizes : SizesRise) where
-  problem_for : (side : Side) (p : Problem) → IsOf s.system s.environment side p → IsProblemFor x side (kind_for side x.kind) p
-  problem_for System p of = subst (IsProblemFor x System x.kind) of problems.of_system
+module _ (v : ℕ) (x : Expanded) (s : SideProblems) (problems : AreProblemsFor v x s) (settings : Settings) (most : settings.max ≤ 8) (sizes : SizesRise) where
+  problem_for : (side : Side) (p : Problem) → IsOf s.system s.environment side p → IsProblemFor v x side (kind_for side x.kind) p
+  problem_for System p of = subst (IsProblemFor v x System x.kind) of problems.of_system
   problem_for Environment p of = problems.of_environment p of
 
   reads_for : (side : Side) (p : Problem) → p.side ≡ side → p.inputs ≡ length x.inputs → p.outputs ≡ length x.outputs → reads_of p ≡ length (read_by side x.inputs x.outputs)

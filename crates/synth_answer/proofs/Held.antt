@@ -10,6 +10,8 @@ use Rattle.letter_word.specs.Kinds.{other_kind}
 use Rattle.machine_model.specs.Problem.{sized}
 use Rattle.machine_model.specs.declared.problems.Problem.{Problem}
 use Rattle.annotation_encode.specs.Count.{SizesRise, allowed_sizes}
+use Rattle.annotation_encode.specs.Counts.{counts_version}
+use Rattle.annotation_encode.specs.declared.counts.Counts.{Counts}
 use Rattle.annotation_encode.specs.Variables.{variables_of}
 use Rattle.refutation_log.specs.Log.{is_ended}
 use Rattle.aiger_text.specs.Circuit.{Circuit}
@@ -19,12 +21,13 @@ use Rattle.cert_text.specs.declared.order.Place.{Place}
 use Rattle.cert_text.specs.Order.{has_its_place, place}
 use Rattle.cert_text.specs.Parts.{Document, LogPart}
 use Rattle.document_check.specs.declared.facts.Size.{Size}
-use Rattle.document_check.specs.Facts.{Facts, allowed_at, circuit_side, problem_at, sizes_to, wanted_sizes}
+use Rattle.document_check.specs.Facts.{Facts, allowed_at, circuit_side, clause_version, problem_at, sizes_to, wanted_sizes}
 use Rattle.document_check.specs.Holds as check
 use Rattle.synth_engine.specs.Searched.{allowed_of}
 use Rattle.synth_engine.specs.Logs.{base_at}
 use Rattle.synth_engine.specs.Outcomes.{OfSide}
-use Rattle.synth_answer.specs.Holds.{ForLog, IsClosedFor, IsClosedLog, IsEndedLog, IsFirstOpen, IsFullFor, IsFullLog, place_of, read_by, sizes_of, written_by}
+use Rattle.synth_answer.proofs.AsThree.{same_clauses, same_sizes}
+use Rattle.synth_answer.specs.Holds.{ForLog, IsClosedFor, IsClosedLog, IsEndedLog, IsFirstOpen, IsFullFor, IsFullLog, document_version, place_of, read_by, sizes_of, written_by}
 use Rattle.synth_answer.proofs.Sides.{IsOf, all_map, all_three, on_both_of, out_of}
 
 -- a circuit of the side has the text's names, in their order
@@ -79,14 +82,14 @@ AreAsWanted x limit logs (Bounded side n) = All (IsEndedLog x limit) logs × Any
 AreAsWanted x limit logs UnknownSizes = All (IsClosedLog x limit) logs
 AreAsWanted x limit logs (UnknownEntries side n) = All (IsEndedLog x limit) logs × IsFirstOpen x limit (place side n) logs
 
--- the problems are those of a document of version 3 with this kind
-pub record AreOfKind (x : Facts) (kind : Kind) : Type 0 where
+-- the problems are those of a document of this kind over base clauses that count so
+pub record AreOfKind (x : Facts) (kind : Kind) (counts : Counts) : Type 0 where
   pub kind_is : x.system.kind ≡ kind
   pub size : x.system.size ≡ 1
-  pub version : x.system.version ≡ 2
+  pub version : x.system.version ≡ counts_version counts
   pub other_kind_is : ForSome x.environment (λ p. p.kind ≡ other_kind kind)
   pub other_size : ForSome x.environment (λ p. p.size ≡ 1)
-  pub other_version : ForSome x.environment (λ p. p.version ≡ 2)
+  pub other_version : ForSome x.environment (λ p. p.version ≡ counts_version counts)
 
 -- == names ==
 
@@ -202,34 +205,38 @@ open_holds x limit logs (UnknownEntries side n) h =
 
 -- == the problems of sizes ==
 
-same_at : (p : Problem) (kind : Kind) (n : ℕ) → p.kind ≡ kind → p.version ≡ 2 → record p { kind = kind; size = n; version = 2 } ≡ sized p n
-same_at p kind n k v = ap (λ y. record p { kind = y; size = n; version = 2 }) (sym k) ∙ ap (λ y. record p { size = n; version = y }) (sym v)
+same_at : (counts : Counts) (p : Problem) (kind : Kind) (n : ℕ) → p.kind ≡ kind → p.version ≡ counts_version counts
+    → record p { kind = kind; size = n; version = clause_version (document_version counts) } ≡ sized p n
+same_at counts p kind n k v =
+    ap (λ y. record p { kind = y; size = n; version = clause_version (document_version counts) }) (sym k)
+    ∙ ap (λ y. record p { size = n; version = y }) (same_clauses counts ∙ sym v)
 
-same_one : (p : Problem) (kind : Kind) → p.kind ≡ kind → p.version ≡ 2 → p.size ≡ 1 → record p { kind = kind; size = 1; version = 2 } ≡ p
-same_one p kind k v one = same_at p kind 1 k v ∙ ap (λ y. record p { size = y }) (sym one)
+same_one : (counts : Counts) (p : Problem) (kind : Kind) → p.kind ≡ kind → p.version ≡ counts_version counts → p.size ≡ 1
+    → record p { kind = kind; size = 1; version = clause_version (document_version counts) } ≡ p
+same_one counts p kind k v one = same_at counts p kind 1 k v ∙ ap (λ y. record p { size = y }) (sym one)
 
-allowed_holds : (x : Facts) (kind : Kind) (max : ℕ) (side : Side) → AreOfKind x kind → sizes_of x max side ≡ allowed_at x kind 3 max side
-allowed_holds x kind max System of = ap (λ p. allowed_sizes p max) (sym (same_one x.system kind of.kind_is of.version of.size))
-allowed_holds x kind max Environment of = by_problem x.environment of.other_kind_is of.other_version of.other_size
+allowed_holds : (counts : Counts) (x : Facts) (kind : Kind) (max : ℕ) (side : Side) → AreOfKind x kind counts → sizes_of x max side ≡ allowed_at x kind (document_version counts) max side
+allowed_holds counts x kind max System of = ap (λ p. allowed_sizes p max) (sym (same_one counts x.system kind of.kind_is of.version of.size))
+allowed_holds counts x kind max Environment of = by_problem x.environment of.other_kind_is of.other_version of.other_size
   where
-    by_problem : (e : Option Problem) → ForSome e (λ p. p.kind ≡ other_kind kind) → ForSome e (λ p. p.version ≡ 2) → ForSome e (λ p. p.size ≡ 1)
-        → sizes_of (record x { environment = e }) max Environment ≡ allowed_at (record x { environment = e }) kind 3 max Environment
+    by_problem : (e : Option Problem) → ForSome e (λ p. p.kind ≡ other_kind kind) → ForSome e (λ p. p.version ≡ counts_version counts) → ForSome e (λ p. p.size ≡ 1)
+        → sizes_of (record x { environment = e }) max Environment ≡ allowed_at (record x { environment = e }) kind (document_version counts) max Environment
     by_problem None k v one = refl
-    by_problem (Some p) k v one = ap (λ q. allowed_sizes q max) (sym (same_one p (other_kind kind) (k p refl) (v p refl) (one p refl)))
+    by_problem (Some p) k v one = ap (λ q. allowed_sizes q max) (sym (same_one counts p (other_kind kind) (k p refl) (v p refl) (one p refl)))
 
-some_log : (x : Facts) (kind : Kind) (full : Bool) (limit : Option ℕ) (l : LogPart) (side : Side) (n : ℕ) → AreOfKind x kind
-    → OfSide x.system x.environment (λ p. check.IsLogOf full limit l (sized p n)) side → check.IsLogOfSome full limit l (problem_at x kind 3 side n)
-some_log x kind full limit l System n of h = subst (check.IsLogOf full limit l) (sym (same_at x.system kind n of.kind_is of.version)) h
-some_log x kind full limit l Environment n of h = by_problem x.environment of.other_kind_is of.other_version h
+some_log : (counts : Counts) (x : Facts) (kind : Kind) (full : Bool) (limit : Option ℕ) (l : LogPart) (side : Side) (n : ℕ) → AreOfKind x kind counts
+    → OfSide x.system x.environment (λ p. check.IsLogOf full limit l (sized p n)) side → check.IsLogOfSome full limit l (problem_at x kind (document_version counts) side n)
+some_log counts x kind full limit l System n of h = subst (check.IsLogOf full limit l) (sym (same_at counts x.system kind n of.kind_is of.version)) h
+some_log counts x kind full limit l Environment n of h = by_problem x.environment of.other_kind_is of.other_version h
   where
-    by_problem : (e : Option Problem) → ForSome e (λ p. p.kind ≡ other_kind kind) → ForSome e (λ p. p.version ≡ 2)
-        → OfSide x.system e (λ p. check.IsLogOf full limit l (sized p n)) Environment → check.IsLogOfSome full limit l (problem_at (record x { environment = e }) kind 3 Environment n)
+    by_problem : (e : Option Problem) → ForSome e (λ p. p.kind ≡ other_kind kind) → ForSome e (λ p. p.version ≡ counts_version counts)
+        → OfSide x.system e (λ p. check.IsLogOf full limit l (sized p n)) Environment → check.IsLogOfSome full limit l (problem_at (record x { environment = e }) kind (document_version counts) Environment n)
     by_problem None k v h = absurd h
-    by_problem (Some p) k v h = subst (check.IsLogOf full limit l) (sym (same_at p (other_kind kind) n (k p refl) (v p refl))) h
+    by_problem (Some p) k v h = subst (check.IsLogOf full limit l) (sym (same_at counts p (other_kind kind) n (k p refl) (v p refl))) h
 
-all_hold : (x : Facts) (kind : Kind) (full : Bool) (limit : Option ℕ) (logs : List LogPart) → All (check.HoldsAt x kind 3 full limit) logs → check.AllHold x kind 3 full limit logs
-all_hold x kind full limit [] all = tt
-all_hold x kind full limit (l ∷ logs) all = (All-head (check.HoldsAt x kind 3 full limit) l logs all, all_hold x kind full limit logs (All-tail (check.HoldsAt x kind 3 full limit) l logs all))
+all_hold : (counts : Counts) (x : Facts) (kind : Kind) (full : Bool) (limit : Option ℕ) (logs : List LogPart) → All (check.HoldsAt x kind (document_version counts) full limit) logs → check.AllHold x kind (document_version counts) full limit logs
+all_hold counts x kind full limit [] all = tt
+all_hold counts x kind full limit (l ∷ logs) all = (All-head (check.HoldsAt x kind (document_version counts) full limit) l logs all, all_hold counts x kind full limit logs (All-tail (check.HoldsAt x kind (document_version counts) full limit) l logs all))
 
 -- == the logs ==
 
@@ -241,12 +248,12 @@ sizes_same x max Environment p of = ap (λ o. allowed_of max o) of
 abbrev pub IsAllowedLog : Facts → ℕ → LogPart → Type 0
 IsAllowedLog x max l = (0 < l.size) × (l.size ≤ sizes_of x max l.side)
 
-module _ (sizes : SizesRise) (x : Facts) (kind : Kind) (max : ℕ) (limit : Option ℕ) (of : AreOfKind x kind) where
+module _ (counts : Counts) (sizes : SizesRise) (x : Facts) (kind : Kind) (max : ℕ) (limit : Option ℕ) (of : AreOfKind x kind counts) where
   one_log : (full : Bool) (l : LogPart) → ForLog x HasHeadOf l → IsAllowedLog x max l → (P : Problem → Type 0)
       → ((p : Problem) → P p → check.IsAsWanted full (variables_of (sized p l.size)) (base_at p l.size) limit l.entries)
-      → OfSide x.system x.environment P l.side → check.HoldsAt x kind 3 full limit l
+      → OfSide x.system x.environment P l.side → check.HoldsAt x kind (document_version counts) full limit l
   one_log full l head allowed P to h =
-      some_log x kind full limit l l.side l.size of
+      some_log counts x kind full limit l l.side l.size of
       (on_both_of x.system x.environment l.side (λ p. HasHeadOf p l) P (λ p. check.IsLogOf full limit l (sized p l.size))
       (λ p is q w. record {
         vars = q.vars;
@@ -254,29 +261,29 @@ module _ (sizes : SizesRise) (x : Facts) (kind : Kind) (max : ℕ) (limit : Opti
         wanted = to p w;
       }) head h)
 
-  closed_log : (l : LogPart) → ForLog x HasHeadOf l → IsAllowedLog x max l → IsClosedLog x limit l → check.HoldsAt x kind 3 false limit l
+  closed_log : (l : LogPart) → ForLog x HasHeadOf l → IsAllowedLog x max l → IsClosedLog x limit l → check.HoldsAt x kind (document_version counts) false limit l
   closed_log l head allowed closed = one_log false l head allowed (λ p. IsClosedFor limit p l) (λ p h. h) closed
 
-  ended_log : (l : LogPart) → ForLog x HasHeadOf l → IsAllowedLog x max l → IsEndedLog x limit l → check.HoldsAt x kind 3 true limit l
+  ended_log : (l : LogPart) → ForLog x HasHeadOf l → IsAllowedLog x max l → IsEndedLog x limit l → check.HoldsAt x kind (document_version counts) true limit l
   ended_log l head allowed (inl closed) = one_log true l head allowed (λ p. IsClosedFor limit p l) (λ p h. inl h) closed
   ended_log l head allowed (inr full) = one_log true l head allowed (λ p. IsFullFor limit p l) (λ p h. inr h) full
 
   each_holds : (logs : List LogPart) → All (ForLog x HasHeadOf) logs → All (IsAllowedLog x max) logs → (v : Verdict) → AreAsWanted x limit logs v
-      → All (check.HoldsAt x kind 3 (check.may_be_full v) limit) logs
-  each_holds logs heads allowed (Realizable n) h = all_three (ForLog x HasHeadOf) (IsAllowedLog x max) (IsClosedLog x limit) (check.HoldsAt x kind 3 false limit) closed_log logs heads allowed h
-  each_holds logs heads allowed (Unrealizable n) h = all_three (ForLog x HasHeadOf) (IsAllowedLog x max) (IsClosedLog x limit) (check.HoldsAt x kind 3 false limit) closed_log logs heads allowed h
-  each_holds logs heads allowed (Bounded side n) h = all_three (ForLog x HasHeadOf) (IsAllowedLog x max) (IsEndedLog x limit) (check.HoldsAt x kind 3 true limit) ended_log logs heads allowed h.0
-  each_holds logs heads allowed UnknownSizes h = all_three (ForLog x HasHeadOf) (IsAllowedLog x max) (IsClosedLog x limit) (check.HoldsAt x kind 3 false limit) closed_log logs heads allowed h
-  each_holds logs heads allowed (UnknownEntries side n) h = all_three (ForLog x HasHeadOf) (IsAllowedLog x max) (IsEndedLog x limit) (check.HoldsAt x kind 3 true limit) ended_log logs heads allowed h.0
+      → All (check.HoldsAt x kind (document_version counts) (check.may_be_full v) limit) logs
+  each_holds logs heads allowed (Realizable n) h = all_three (ForLog x HasHeadOf) (IsAllowedLog x max) (IsClosedLog x limit) (check.HoldsAt x kind (document_version counts) false limit) closed_log logs heads allowed h
+  each_holds logs heads allowed (Unrealizable n) h = all_three (ForLog x HasHeadOf) (IsAllowedLog x max) (IsClosedLog x limit) (check.HoldsAt x kind (document_version counts) false limit) closed_log logs heads allowed h
+  each_holds logs heads allowed (Bounded side n) h = all_three (ForLog x HasHeadOf) (IsAllowedLog x max) (IsEndedLog x limit) (check.HoldsAt x kind (document_version counts) true limit) ended_log logs heads allowed h.0
+  each_holds logs heads allowed UnknownSizes h = all_three (ForLog x HasHeadOf) (IsAllowedLog x max) (IsClosedLog x limit) (check.HoldsAt x kind (document_version counts) false limit) closed_log logs heads allowed h
+  each_holds logs heads allowed (UnknownEntries side n) h = all_three (ForLog x HasHeadOf) (IsAllowedLog x max) (IsEndedLog x limit) (check.HoldsAt x kind (document_version counts) true limit) ended_log logs heads allowed h.0
 
-  with_allowed : (P : ℕ → ℕ → Type 0) → P (sizes_of x max System) (sizes_of x max Environment) → P (allowed_at x kind 3 max System) (allowed_at x kind 3 max Environment)
+  with_allowed : (P : ℕ → ℕ → Type 0) → P (sizes_of x max System) (sizes_of x max Environment) → P (allowed_at x kind (document_version counts) max System) (allowed_at x kind (document_version counts) max Environment)
   with_allowed P h =
-      subst (λ n. P n (allowed_at x kind 3 max Environment)) (allowed_holds x kind max System of)
-      (subst (λ m. P (sizes_of x max System) m) (allowed_holds x kind max Environment of) h)
+      subst (λ n. P n (allowed_at x kind (document_version counts) max Environment)) (allowed_holds counts x kind max System of)
+      (subst (λ m. P (sizes_of x max System) m) (allowed_holds counts x kind max Environment of) h)
 
   -- a document with these parts
   abbrev pub is_made_of : Verdict → Option Circuit → List LogPart → Document → Document
-  is_made_of v c logs d = record d { version = 3; verdict = v; kind = kind; max = max; entries = limit; found = 0; circuit = c; logs = logs }
+  is_made_of v c logs d = record d { version = document_version counts; verdict = v; kind = kind; max = max; entries = limit; found = 0; circuit = c; logs = logs }
 
   pub held : (v : Verdict) (c : Option Circuit) (logs : List LogPart) (d : Document) → IsTrue (has_its_place (is_some c) v) → IfSome (machine_of v) (λ m. IfSome c (HasNames x m.side))
       → IfSome (named_of v) (λ q. q.size ≤ sizes_of x max q.side) → map place_of logs ≡ wanted_places x max v → All (ForLog x HasHeadOf) logs → All (IsAllowedLog x max) logs
@@ -285,7 +292,8 @@ module _ (sizes : SizesRise) (x : Facts) (kind : Kind) (max : ℕ) (limit : Opti
     names = names_hold x v c has names;
     number = with_allowed (λ n m. IsTrue (check.is_allowed v n m)) (number_holds v x max number);
     found = omega arith;
-    sizes = with_allowed (λ n m. map check.size_of logs ≡ wanted_sizes 3 v 0 n m) (sizes_at logs ∙ ap (map size_at) places ∙ wanted_here v x max number);
-    logs = all_hold x kind (check.may_be_full v) limit logs (each_holds logs heads allowed v wanted);
+    sizes = with_allowed (λ n m. map check.size_of logs ≡ wanted_sizes (document_version counts) v 0 n m)
+        (sizes_at logs ∙ ap (map size_at) places ∙ wanted_here v x max number ∙ same_sizes counts v 0 (sizes_of x max System) (sizes_of x max Environment));
+    logs = all_hold counts x kind (check.may_be_full v) limit logs (each_holds logs heads allowed v wanted);
     named = open_holds x limit logs v wanted;
   }

@@ -7,3 +7,5 @@ pub mod Whole
 pub mod Fitting
 pub mod Held
 pub mod Grounds
+pub mod AsThree
+pub mod Numbers

@@ -12,7 +12,7 @@ use Rattle.letter_word.specs.Word.{Word}
 use Rattle.machine_model.specs.Accepts.{SideAccepts}
 use Rattle.machine_model.specs.Automaton.{AutomatonModel, IsAutomaton}
 use Rattle.machine_model.specs.Machine.{IsMachine, MachineModel, size_of}
-use Rattle.machine_model.specs.Problem.{IsMachineOf, IsProblem, automaton_of, reads_of, sized, writes_of}
+use Rattle.machine_model.specs.Problem.{HasComponents, IsMachineOf, IsProblem, automaton_of, reads_of, sized, writes_of}
 use Rattle.machine_model.specs.Run.{IsRunLasso}
 use Rattle.machine_model.specs.declared.problems.Problem.{Problem}
 use Rattle.annotation_encode.specs.Laws.{HasNoAccepted}
@@ -35,7 +35,7 @@ use Rattle.spec_problems.specs.OfText.{AreProblemsOf, SaysWhat, interface_of}
 use Rattle.satisfaction.specs.Wanted.{Says, Wanted}
 use Rattle.satisfaction.specs.Satisfaction.{EachCanLose, IsEnvironmentFor, IsSystemFor, NoneSatisfies}
 use Rattle.size_search.specs.Decided.{IsAcceptedOf}
-use Rattle.synth_answer.specs.Answer.{DoesItsPart}
+use Rattle.synth_answer.specs.Answer.{DoesItsPart, SomeDefeats, SomeSatisfies}
 use Rattle.synth_answer.specs.Holds.{read_by, written_by}
 use Rattle.synth_answer.specs.Ground.{AreGivenOn, Ground, IsGroundOf, ground_with}
 use Rattle.synth_answer.specs.Reply.{AreProblemsFor, IsCircuitWith, IsProblemFor, LawsHold}
@@ -48,35 +48,35 @@ wanted_of x tree = record { inputs = x.inputs; outputs = x.outputs; kind = x.kin
 
 -- == its problems ==
 
-one_for : (x : Expanded) (side : Side) (machines : Kind) (a : AutomatonModel) (p : Problem) → IsProblem p → IsProblemOver (interface_of 2 x) side machines a p → IsProblemFor x side machines p
-one_for x side machines a p within over = record {
+one_for : (v : ℕ) (x : Expanded) (side : Side) (machines : Kind) (a : AutomatonModel) (p : Problem) → IsProblem p → IsProblemOver (interface_of v x) side machines a p → IsProblemFor v x side machines p
+one_for v x side machines a p within over = record {
   within = within;
   inputs = over.inputs;
   outputs = over.outputs;
   of_side = over.side;
   kind_is = over.kind;
   size = over.size;
-  version = over.version;
+  version_is = over.version;
 }
 
-environment_for : (x : Expanded) (a : Option AutomatonModel) (e : Option Problem) → IsEnvironmentOver (interface_of 2 x) a e → IfSome e IsProblem
-    → (p : Problem) → e ≡ Some p → IsProblemFor x Environment (other_kind x.kind) p
-environment_for x None None over within p is = absurd (cc)
-environment_for x None (Some q) over within p is = absurd over
-environment_for x (Some a) None over within p is = absurd over
-environment_for x (Some a) (Some q) over within p is =
-    some_of (IsProblemFor x Environment (other_kind x.kind)) (Some q) p (one_for x Environment (other_kind x.kind) a q within over) is
+environment_for : (v : ℕ) (x : Expanded) (a : Option AutomatonModel) (e : Option Problem) → IsEnvironmentOver (interface_of v x) a e → IfSome e IsProblem
+    → (p : Problem) → e ≡ Some p → IsProblemFor v x Environment (other_kind x.kind) p
+environment_for v x None None over within p is = absurd (cc)
+environment_for v x None (Some q) over within p is = absurd over
+environment_for v x (Some a) None over within p is = absurd over
+environment_for v x (Some a) (Some q) over within p is =
+    some_of (IsProblemFor v x Environment (other_kind x.kind)) (Some q) p (one_for v x Environment (other_kind x.kind) a q within over) is
 
 -- the problems of a formula, with the numbers of names and the kind of a flat text
-pub problems_for : (x : Expanded) (a : Automata) (s : SideProblems) → AreProblems s → AreProblemsOver (interface_of 2 x) a s → AreProblemsFor x s
-problems_for x a s meet over = record {
-  of_system = one_for x System x.kind a.system s.system meet.is_system over.of_system;
-  of_environment = environment_for x a.environment s.environment over.of_environment meet.is_environment;
+pub problems_for : (v : ℕ) (x : Expanded) (a : Automata) (s : SideProblems) → AreProblems s → AreProblemsOver (interface_of v x) a s → AreProblemsFor v x s
+problems_for v x a s meet over = record {
+  of_system = one_for v x System x.kind a.system s.system meet.is_system over.of_system;
+  of_environment = environment_for v x a.environment s.environment over.of_environment meet.is_environment;
 }
 
-pub are_problems_for : (text : List ℕ) (kind : Option Kind) (spec : FlatText) (s : SideProblems) → AreProblems s → AreProblemsOf text kind 2 spec s → AreProblemsFor spec.expanded s
-are_problems_for text kind spec s meet are =
-    subst (λ x. AreProblemsFor x s) (sym are.same) (problems_for are.flat.expanded are.problems.automata s meet are.problems.problems)
+pub are_problems_for : (v : ℕ) (text : List ℕ) (kind : Option Kind) (spec : FlatText) (s : SideProblems) → AreProblems s → AreProblemsOf text kind v spec s → AreProblemsFor v spec.expanded s
+are_problems_for v text kind spec s meet are =
+    subst (λ x. AreProblemsFor v x s) (sym are.same) (problems_for v are.flat.expanded are.problems.automata s meet are.problems.problems)
 
 -- == the kind that a text is taken with ==
 
@@ -131,23 +131,23 @@ ground_at text kind spec flat says is same = record {
   whole = refl;
 }
 
-pub is_ground : (text : List ℕ) (kind : Option Kind) (spec : FlatText) (s : SideProblems) (says : SaysWhat text spec.formulas spec.expanded.whole)
-    (are : AreProblemsOf text kind 2 spec s) → IsGroundOf text kind (text_ground spec are.flat says)
-is_ground text kind spec s says are = ground_at text kind spec are.flat says are.is_flat are.same
+pub is_ground : (v : ℕ) (text : List ℕ) (kind : Option Kind) (spec : FlatText) (s : SideProblems) (says : SaysWhat text spec.formulas spec.expanded.whole)
+    (are : AreProblemsOf text kind v spec s) → IsGroundOf text kind (text_ground spec are.flat says)
+is_ground v text kind spec s says are = ground_at text kind spec are.flat says are.is_flat are.same
 
 -- it is the same where the text is taken with the kind that it has
-pub ground_by_its_kind : (text : List ℕ) (kind : Option Kind) (spec : FlatText) (s : SideProblems) (says : SaysWhat text spec.formulas spec.expanded.whole)
-    (are : AreProblemsOf text kind 2 spec s) → IsGroundOf text (Some spec.expanded.kind) (text_ground spec are.flat says)
-ground_by_its_kind text kind spec s says are =
+pub ground_by_its_kind : (v : ℕ) (text : List ℕ) (kind : Option Kind) (spec : FlatText) (s : SideProblems) (says : SaysWhat text spec.formulas spec.expanded.whole)
+    (are : AreProblemsOf text kind v spec s) → IsGroundOf text (Some spec.expanded.kind) (text_ground spec are.flat says)
+ground_by_its_kind v text kind spec s says are =
     ground_at text (Some spec.expanded.kind) spec are.flat says
     (subst (λ (x : Expanded). IsFlatOf text (Some x.kind) are.flat) (sym are.same) (flat_by_its_kind text kind are.flat are.is_flat)) are.same
 
 -- the problems of the text stand on it
-pub given_on : (text : List ℕ) (kind : Option Kind) (spec : FlatText) (s : SideProblems) (says : SaysWhat text spec.formulas spec.expanded.whole)
-    (are : AreProblemsOf text kind 2 spec s) → AcceptBySide (tree_at spec.formulas spec.expanded.whole) s → AreGivenOn (text_ground spec are.flat says) s
-given_on text kind spec s says are accept = record {
+pub given_on : (v : ℕ) (text : List ℕ) (kind : Option Kind) (spec : FlatText) (s : SideProblems) (says : SaysWhat text spec.formulas spec.expanded.whole)
+    (are : AreProblemsOf text kind v spec s) → AcceptBySide (tree_at spec.formulas spec.expanded.whole) s → AreGivenOn v (text_ground spec are.flat says) s
+given_on v text kind spec s says are accept = record {
   later = spec.formulas;
-  are_problems = subst (λ (x : Expanded). AreProblemsIn (interface_of 2 x) (tree_at are.flat.formulas are.flat.expanded.whole) are.flat.formulas spec.formulas s) (sym are.same) are.problems;
+  are_problems = subst (λ (x : Expanded). AreProblemsIn (interface_of v x) (tree_at are.flat.formulas are.flat.expanded.whole) are.flat.formulas spec.formulas s) (sym are.same) are.problems;
   formula = tree_at spec.formulas spec.expanded.whole;
   accept = accept;
   says = record { same = says.meaning.same };
@@ -194,6 +194,7 @@ sized_within p n within some most = record {
   states = within.states;
   signals = within.signals;
   version = within.version;
+  components = λ third. let has : HasComponents p = within.components third in record { components = has.components; made = has.made; right = has.right };
 }
 
 module _ (laws : LawsHold) (x : Wanted) (f : Tree) (says : Says f x) where
@@ -249,6 +250,19 @@ module _ (laws : LawsHold) (x : Wanted) (f : Tree) (says : Says f x) where
       let rejected = none.each_rejected e environment.machine sought in
       laws.can_lose x f (automaton_of p) e rejected.word says known.accepts
       (rejected.states, subst (λ side. IsRunLasso e side rejected.word rejected.states) known.of_side rejected.run) rejected.accepted
+
+  -- an accepted machine satisfies, or defeats every machine
+  pub some_satisfies : (p : Problem) (n : ℕ) (m : MachineModel) → IsSideOf x f System p → IsAcceptedOf (sized p n) m → SomeSatisfies x n
+  some_satisfies p n m known accepted =
+      let system = system_for p n m known accepted.machine accepted.looked_for in
+      let accepts = subst (λ side. SideAccepts (automaton_of p) side m) known.of_side accepted.accepted in
+      record { machine = m; size = accepted.looked_for.size; satisfies = (laws.systems x f (automaton_of p) m says known.accepts system).0 accepts }
+
+  pub some_defeats : (p : Problem) (n : ℕ) (m : MachineModel) → IsSideOf x f Environment p → IsAcceptedOf (sized p n) m → SomeDefeats x n
+  some_defeats p n m known accepted =
+      let environment = environment_for_text p n m known accepted.machine accepted.looked_for in
+      let accepts = subst (λ side. SideAccepts (automaton_of p) side m) known.of_side accepted.accepted in
+      record { machine = m; size = accepted.looked_for.size; defeats = (laws.environments x f (automaton_of p) m says known.accepts environment).0 accepts }
 
   -- the circuit of an accepted machine does its side's part
   pub does_its_part : (side : Side) (p : Problem) (n : ℕ) (m : MachineModel) (c : Circuit) → IsSideOf x f side p → IsAcceptedOf (sized p n) m

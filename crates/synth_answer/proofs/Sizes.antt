@@ -1,19 +1,19 @@
 -- Numbers of variables and of base clauses are small.
-use Rattle.std.proofs.Common.{◌≡◌, ℕ, ◌*◌, ◌^◌, ◌≤◌, Bool, true, false, Some, None, length, refl, arith, if◌then◌else◌}
+use Rattle.std.proofs.Common.{◌≡◌, ◌==◌, ℕ, ◌*◌, ◌^◌, ◌≤◌, Bool, true, false, Some, None, length, refl, arith, if◌then◌else◌}
 use Rattle.std.proofs.Math.Nat.{mul-le-mul, pow-le-pow_right}
 use Rattle.std.proofs.lemmas.Bool.{leb-true}
 use Rattle.letter_word.specs.declared.kinds.Kind.{Kind}
 use Rattle.letter_word.specs.declared.kinds.Kind.TheVariants.{Mealy, Moore}
 use Rattle.letter_word.specs.declared.kinds.Side.{Side}
 use Rattle.letter_word.specs.declared.kinds.Side.TheVariants.{System, Environment}
-use Rattle.std.proofs.lemmas.List.Sums.{count_by-le-length}
-use Rattle.machine_model.specs.Automaton.{AutomatonModel, states_of}
+use Rattle.machine_model.specs.Automaton.{IsAutomaton, states_of}
+use Rattle.machine_model.specs.Components.{ComponentsClass}
 use Rattle.machine_model.specs.Problem.{IsProblem, automaton_of, reads_of, sized, writes_of}
 use Rattle.machine_model.specs.declared.problems.Problem.{Problem}
-use Rattle.product_bound.specs.Annotation.{bound_of, places_of, rejecting_count}
 use Rattle.annotation_encode.specs.BaseClauses.{base_clauses}
-use Rattle.annotation_encode.specs.Count.{count_of}
-use Rattle.annotation_encode.specs.Variables.{letter_count, move_count, number_count, variables_of, write_count, write_places}
+use Rattle.annotation_encode.specs.Count.{count_of, most_clauses}
+use Rattle.annotation_encode.specs.Variables.{counted_before, letter_count, move_count, state_numbers, variables_of, write_count, write_places}
+use Rattle.annotation_encode.proofs.Counted.{few_before}
 
 few_reads : (p : Problem) (side : Side) → p.side ≡ side → IsProblem p → reads_of p ≤ 8
 few_reads p System e within = rw e within.inputs
@@ -36,28 +36,34 @@ few_places Moore letters states l s = omega (arith, s)
 few_written : (p : Problem) → IsProblem p → write_count p ≤ 16384
 few_written p within = mul-le-mul (few_places p.kind (letter_count p) p.size (few_letters p within) within.size) (few_writes p p.side refl within)
 
-few_pairs : (p : Problem) → IsProblem p → places_of p ≤ 16000
-few_pairs p within = mul-le-mul within.size within.states
+few_numbers : (p : Problem) → ComponentsClass → IsAutomaton (automaton_of p) → IsProblem p → state_numbers p ≤ 32002000
+few_numbers p classes made within =
+    let states : states_of (automaton_of p) ≤ 2000 = within.states in
+    let sum : counted_before p (states_of (automaton_of p)) ≤ 2000 * states_of (automaton_of p) = few_before p (states_of (automaton_of p)) classes made states in
+    let counted : counted_before p (states_of (automaton_of p)) ≤ 4000000 = omega (arith, sum, states) in
+    let product : p.size * counted_before p (states_of (automaton_of p)) ≤ 8 * 4000000 = mul-le-mul within.size counted in
+    omega (arith, product, states)
 
-few_rejecting : (a : AutomatonModel) → states_of a ≤ 2000 → rejecting_count a ≤ 2000
-few_rejecting a few = let least = count_by-le-length (λ is_rejecting. is_rejecting) a.rejecting in omega (arith, least, few)
-
-few_numbers : (p : Problem) → IsProblem p → number_count p ≤ 16001
-few_numbers p within =
-    let rejecting : rejecting_count (automaton_of p) ≤ 2000 = few_rejecting (automaton_of p) within.states in
-    let bound : bound_of p ≤ 16000 = mul-le-mul within.size rejecting in
-    omega (arith, bound)
-
-pub few_variables : (p : Problem) → IsProblem p → variables_of p ≤ 2 ^ 30
-few_variables p within =
+pub few_variables : (p : Problem) → ComponentsClass → IsAutomaton (automaton_of p) → IsProblem p → variables_of p ≤ 2 ^ 30
+few_variables p classes made within =
     let moves = few_moves p within in
     let written = few_written p within in
-    let pairs : places_of p * number_count p ≤ 256016000 = mul-le-mul (few_pairs p within) (few_numbers p within) in
-    omega (arith, moves, written, pairs)
+    let numbers : p.size * state_numbers p ≤ 8 * 32002000 = mul-le-mul within.size (few_numbers p classes made within) in
+    omega (arith, moves, written, numbers)
 
 test_passed : (b : Bool) (n : ℕ) → (if b then Some n else None) ≡ Some n → b ≡ true
 test_passed true n e = refl
 test_passed false n e = absurd (cc)
 
-pub few_clauses : (p : Problem) (n : ℕ) → count_of (sized p n) ≡ Some (length (base_clauses (sized p n))) → length (base_clauses (sized p n)) ≤ 1000000
-few_clauses p n counted = leb-true (length (base_clauses (sized p n))) 1000000 (test_passed _ _ counted)
+most_is : (p : Problem) → most_clauses p ≤ 4000000
+most_is p = go (p.version == 3)
+  where
+    go : (b : Bool) → (if b then 4000000 else 1000000) ≤ 4000000
+    go true = omega arith
+    go false = omega arith
+
+pub few_clauses : (p : Problem) (n : ℕ) → count_of (sized p n) ≡ Some (length (base_clauses (sized p n))) → length (base_clauses (sized p n)) ≤ 4000000
+few_clauses p n counted =
+    let few : length (base_clauses (sized p n)) ≤ most_clauses p = leb-true (length (base_clauses (sized p n))) (most_clauses p) (test_passed _ _ counted) in
+    let most : most_clauses p ≤ 4000000 = most_is p in
+    omega (arith, few, most)

@@ -13,6 +13,7 @@ use Rattle.machine_model.specs.Machine.{MachineModel, size_of}
 use Rattle.machine_model.specs.Problem.{IsProblem, automaton_of, sized}
 use Rattle.machine_model.specs.declared.problems.Problem.{Problem}
 use Rattle.annotation_encode.specs.Count.{allowed_sizes}
+use Rattle.annotation_encode.specs.Counts.{counts_version}
 use Rattle.annotation_encode.specs.Laws.{HasNoAccepted}
 use Rattle.annotation_encode.specs.Variables.{variables_of}
 use Rattle.refutation_log.specs.declared.entries.Entry.{Entry}
@@ -58,7 +59,8 @@ use Rattle.synth_answer.specs.Ground.{AreGivenOn, Ground, facts_on, ground_with}
 use Rattle.synth_answer.specs.Printed.{IsPrinted, PrintedFor}
 use Rattle.synth_answer.specs.Reply.{AreProblemsFor, HaveAutomata, IsCircuitWith, IsMachineText, IsShort, IsReplyTo, IsSearchedReply, IsTextOf, LawsHold, document_of, outcome_defeats, part_of}
 use Rattle.synth_answer.proofs.LogLemmas.{IsOfNoLine, all_parts_at, any_at, places_at, split_at}
-use Rattle.synth_answer.proofs.Meaning.{IsSideOf, does_its_part, each_can_lose, none_satisfies, sized_within}
+use Rattle.synth_answer.proofs.Meaning.{IsSideOf, does_its_part, each_can_lose, none_satisfies, sized_within, some_defeats, some_satisfies}
+use Rattle.synth_answer.proofs.AsThree.{is_a_version, same_fits, same_found, same_order}
 use Rattle.synth_answer.proofs.Places.{IsClaimTo, claims_to, has_place, in_order_all, in_order_side, log_at, parts_at, parts_at_both, unmap}
 use Rattle.synth_answer.proofs.Sides.{IsOf, all_both, all_map, all_three, at_side, find, of_side, on_both, on_side, out_of, some_of}
 use Rattle.synth_answer.proofs.Sizes.{few_clauses, few_variables}
@@ -70,8 +72,8 @@ pub record Context (x : Expanded) (truth : Word → Bool) (nodes : List Node) (w
   pub most : settings.max ≤ 8
   pub entries : IfSome settings.entries (λ most. most ≤ 250000)
   pub workers : settings.workers ≤ 8
-  pub given : AreGivenOn (ground_with x truth nodes whole) s
-  pub for_text : AreProblemsFor x s
+  pub given : AreGivenOn (counts_version settings.counts) (ground_with x truth nodes whole) s
+  pub for_text : AreProblemsFor (counts_version settings.counts) x s
   pub names : HasPlainNames x
   pub automata : HaveAutomata s
 
@@ -117,7 +119,7 @@ module _ (x : Expanded) (truth : Word → Bool) (nodes : List Node) (whole : For
   pub says : Says formula the_text
   says = k.given.says
 
-  for_text : AreProblemsFor x s
+  for_text : AreProblemsFor (counts_version settings.counts) x s
   for_text = k.for_text
 
   pub side_known : (side : Side) (p : Problem) → IsOf s.system s.environment side p → IsSideOf the_text formula side p
@@ -174,7 +176,7 @@ module _ (x : Expanded) (truth : Word → Bool) (nodes : List Node) (whole : For
       let most = size_allowed l.side p l.size of fits in
       let all = (k.laws.sizes.allowed p settings.max).within in
       let few = k.most in
-      let vars = few_variables (sized p l.size) (size_within l.side p l.size of fits) in
+      let vars = few_variables (sized p l.size) k.laws.components (side_known l.side p of).automaton (size_within l.side p l.size of fits) in
       let base = few_clauses p l.size ((k.laws.sizes.allowed p settings.max).counted l.size fits.some most) in
       let small : l.vars ≤ 2 ^ 30 = subst (λ n. n ≤ 2 ^ 30) (sym log.vars) vars in
       let workers = k.workers in
@@ -251,31 +253,31 @@ module _ (x : Expanded) (truth : Word → Bool) (nodes : List Node) (whole : For
 
   well_formed : (v : Verdict) (c : Option Circuit) (logs : List SizeLog) → Suits v c logs → All IsShort logs → IsWellFormed (before_lines v c logs)
   well_formed v c logs suits short = record {
-    version = refl;
-    verdict = suits.version;
+    version = is_a_version settings.counts;
+    verdict = subst IsTrue (same_fits settings.counts v) suits.version;
     circuit = suits.has_place;
     named = suits.all_names;
     max = in_range 1 8 settings.max k.some k.most;
     number = suits.max;
     entries = k.entries;
-    found = suits.found;
-    order = suits.order;
+    found = subst (λ may. IsFoundNumber may settings.max 0) (same_found settings.counts v) suits.found;
+    order = subst (λ o. AreInOrder o (start_of o) (map part_of logs)) (same_order settings.counts v settings.max 0) suits.order;
     logs = All-map IsLogPart part_of logs (all_three IsHere (λ l. FitsSize given settings.max l.side l.size) IsShort (λ l. IsLogPart (part_of l)) log_part logs suits.here suits.fits short);
   }
 
-  of_kind : AreOfKind given x.kind
+  of_kind : AreOfKind given x.kind settings.counts
   of_kind = record {
     kind_is = for_text.of_system.kind_is;
     size = for_text.of_system.size;
-    version = for_text.of_system.version;
+    version = for_text.of_system.version_is;
     other_kind_is = λ p is. (for_text.of_environment p is).kind_is;
     other_size = λ p is. (for_text.of_environment p is).size;
-    other_version = λ p is. (for_text.of_environment p is).version;
+    other_version = λ p is. (for_text.of_environment p is).version_is;
   }
 
   holds_for : (v : Verdict) (c : Option Circuit) (logs : List SizeLog) → Suits v c logs → check.HoldsFor given (doc v c logs)
   holds_for v c logs suits =
-      held k.laws.sizes given x.kind settings.max settings.entries of_kind v c (lined c logs) (doc v c logs) suits.has_place suits.names suits.number
+      held settings.counts k.laws.sizes given x.kind settings.max settings.entries of_kind v c (lined c logs) (doc v c logs) suits.has_place suits.names suits.number
       (places_at (first_line c) (map part_of logs) ∙ suits.places)
       (all_parts_at (ForLog given HasHeadOf) same_head (first_line c) logs (all_map IsHere (λ l. ForLog given HasHeadOf (part_of l)) head_part logs suits.here))
       (all_parts_at (IsAllowedLog given settings.max) (λ l n h. h) (first_line c) logs
@@ -527,6 +529,7 @@ module _ (x : Expanded) (truth : Word → Bool) (nodes : List Node) (whole : For
               verdict = refl;
               circuit = refl;
               satisfies = part_does System s.system refl m logs found small c made.of_machine;
+              machine = some_satisfies k.laws the_text formula says s.system (size_of m) m (side_known System s.system refl) found.accepted;
               runs = made.of_machine.every System;
               states = has_its_states System s.system refl m logs found small v c least.closed made.of_machine;
               smaller = λ n some less. is_refuted v (Some c) logs n (log_below System s.system refl m logs found small v (Some c) (IsClosedLog given settings.entries) closed n some less)
@@ -562,6 +565,7 @@ module _ (x : Expanded) (truth : Word → Bool) (nodes : List Node) (whole : For
               verdict = refl;
               circuit = refl;
               defeats = part_does Environment p there.of m logs found small c made.of_machine;
+              machine = some_defeats k.laws the_text formula says p (size_of m) m (side_known Environment p there.of) found.accepted;
               runs = made.of_machine.every Environment;
               states = has_its_states Environment p there.of m logs found small v c there.holds.closed made.of_machine;
               smaller = λ n some less. can_be_beaten v (Some c) logs n (log_below Environment p there.of m logs found small v (Some c) (IsClosedLog given settings.entries) closed n some less)

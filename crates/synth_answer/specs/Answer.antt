@@ -3,11 +3,12 @@ use Rattle.std.specs.Prelude.{◌≡◌, ℕ, ◌<◌, ◌≤◌, Bool, true, fa
 use Rattle.letter_word.specs.declared.kinds.Kind.{Kind}
 use Rattle.letter_word.specs.declared.kinds.Side.{Side}
 use Rattle.letter_word.specs.declared.kinds.Side.TheVariants.{System, Environment}
+use Rattle.machine_model.specs.Machine.{MachineModel, size_of}
 use Rattle.aiger_text.specs.Circuit.{Circuit, HasStates, RunsOnEveryInput}
 use Rattle.spec_faults.specs.declared.code.SpecCode.{SpecCode}
 use Rattle.spec_problems.specs.OfText.{IsFirstFault}
 use Rattle.satisfaction.specs.Wanted.{Wanted}
-use Rattle.satisfaction.specs.Satisfaction.{CircuitDefeats, CircuitSatisfies, EachCanLose, NoneSatisfies}
+use Rattle.satisfaction.specs.Satisfaction.{CircuitDefeats, CircuitSatisfies, Defeats, EachCanLose, NoneSatisfies, Satisfies}
 use Rattle.synth_engine.specs.declared.settings.Settings.{Settings}
 use Rattle.synth_engine.specs.Outcomes.{CannotFill}
 use Rattle.cert_text.specs.declared.documents.Verdict.TheVariants.{Realizable, Unrealizable, Bounded, UnknownSizes, UnknownEntries}
@@ -47,20 +48,35 @@ DoesItsPart x Environment c = CircuitDefeats x c
 
 -- == each answer with a document ==
 
--- a circuit of exactly n states that satisfies, and no machine of fewer states does
+-- some machine of the system of n states satisfies
+pub record SomeSatisfies (x : Wanted) (n : ℕ) : Type 0 where
+  pub machine : MachineModel
+  pub size : size_of machine ≡ n
+  pub satisfies : Satisfies x machine
+
+-- some machine of the environment of n states defeats every machine
+pub record SomeDefeats (x : Wanted) (n : ℕ) : Type 0 where
+  pub machine : MachineModel
+  pub size : size_of machine ≡ n
+  pub defeats : Defeats x machine
+
+-- a circuit of exactly n states that satisfies, as a machine of n states does, and no machine of fewer states does
 pub record IsRealizable (x : Wanted) (given : Facts) (d : Document) (n : ℕ) (c : Circuit) : Type 0 where
   pub verdict : d.verdict ≡ Realizable n
   pub circuit : d.circuit ≡ Some c
   pub satisfies : CircuitSatisfies x c
+  pub machine : SomeSatisfies x n
   pub runs : RunsOnEveryInput System c
   pub states : HasStates c n
   pub smaller : (k : ℕ) → 0 < k → k < n → IsRefuted x given d k
 
--- a circuit of the environment of exactly n states that defeats every machine, and no machine of fewer states does
+-- a circuit of the environment of exactly n states that defeats every machine, as a machine of n states does, and no machine of fewer
+-- states does
 pub record IsUnrealizable (x : Wanted) (given : Facts) (d : Document) (n : ℕ) (c : Circuit) : Type 0 where
   pub verdict : d.verdict ≡ Unrealizable n
   pub circuit : d.circuit ≡ Some c
   pub defeats : CircuitDefeats x c
+  pub machine : SomeDefeats x n
   pub runs : RunsOnEveryInput Environment c
   pub states : HasStates c n
   pub smaller : (k : ℕ) → 0 < k → k < n → CanBeBeaten x given d k

@@ -28,13 +28,13 @@ pub record Ground : Type 0 where
 abbrev pub formula_on : Ground → Tree
 formula_on g = tree_at g.formulas g.whole
 
--- what both problems share, over base clauses of version 2
-abbrev pub interface_on : Ground → Interface
-interface_on g = record { inputs = length g.wanted.inputs; outputs = length g.wanted.outputs; kind = g.wanted.kind; version = 2 }
+-- what both problems share, over base clauses of this version
+abbrev pub interface_on : ℕ → Ground → Interface
+interface_on version g = record { inputs = length g.wanted.inputs; outputs = length g.wanted.outputs; kind = g.wanted.kind; version = version }
 
 -- these are the problems of both sides; the later list has the normal forms too
-abbrev pub AreProblemsOn : Ground → List Node → SideProblems → Type 0
-AreProblemsOn g later s = AreProblemsIn (interface_on g) (formula_on g) g.formulas later s
+abbrev pub AreProblemsOn : ℕ → Ground → List Node → SideProblems → Type 0
+AreProblemsOn version g later s = AreProblemsIn (interface_on version g) (formula_on g) g.formulas later s
 
 -- what a document is checked against
 abbrev pub facts_on : Ground → SideProblems → Facts
@@ -53,10 +53,10 @@ ground_with x truth nodes id = record {
   whole = id;
 }
 
--- the problems are those of the ground, and their automata accept by what is wanted
-pub record AreGivenOn (g : Ground) (s : SideProblems) : Type 0 where
+-- the problems are those of the ground over base clauses of this version, and their automata accept by what is wanted
+pub record AreGivenOn (version : ℕ) (g : Ground) (s : SideProblems) : Type 0 where
   pub later : List Node
-  pub are_problems : AreProblemsOn g later s
+  pub are_problems : AreProblemsOn version g later s
   pub formula : Tree
   pub accept : AcceptBySide formula s
   pub says : Says formula g.wanted

@@ -5,6 +5,8 @@ use Rattle.letter_word.specs.declared.kinds.Side.TheVariants.{System, Environmen
 use Rattle.machine_model.specs.Problem.{sized}
 use Rattle.machine_model.specs.declared.problems.Problem.{Problem}
 use Rattle.annotation_encode.specs.Count.{allowed_sizes}
+use Rattle.annotation_encode.specs.declared.counts.Counts.{Counts}
+use Rattle.annotation_encode.specs.declared.counts.Counts.TheVariants.{Whole, Local}
 use Rattle.annotation_encode.specs.Variables.{variables_of}
 use Rattle.refutation_log.specs.Log.{IsClosed, IsFull}
 use Rattle.cert_text.specs.declared.order.Place.{Place}
@@ -14,6 +16,11 @@ use Rattle.document_check.specs.Facts.{Facts}
 use Rattle.synth_engine.specs.Searched.{allowed_of}
 use Rattle.synth_engine.specs.Logs.{base_at}
 use Rattle.synth_engine.specs.Outcomes.{OfSide}
+
+-- the version of a document whose logs are over base clauses that count so
+abbrev pub document_version : Counts → ℕ
+document_version Whole = 3
+document_version Local = 5
 
 -- the number of allowed sizes of a side
 abbrev pub sizes_of : Facts → ℕ → Side → ℕ

@@ -7,6 +7,7 @@ use Rattle.letter_word.specs.Kinds.{other_kind}
 use Rattle.std.specs.Option.{ForSome}
 use Rattle.machine_model.specs.Machine.{MachineModel, size_of}
 use Rattle.machine_model.specs.Automaton.{IsAutomaton}
+use Rattle.machine_model.specs.Components.{ComponentsClass}
 use Rattle.machine_model.specs.Problem.{IsProblem, automaton_of}
 use Rattle.machine_model.specs.declared.problems.Problem.{Problem}
 use Rattle.aiger_text.specs.Circuit.{Circuit, IsCircuitOfKind, RunsOnEveryInput}
@@ -35,7 +36,7 @@ use Rattle.program_replies.specs.Lines.{refusal_line}
 use Rattle.program_replies.specs.declared.replies.Status.{Status}
 use Rattle.program_replies.specs.declared.replies.Status.TheVariants as status
 use Rattle.synth_answer.specs.Answer.{is_environment}
-use Rattle.synth_answer.specs.Holds.{read_by, written_by}
+use Rattle.synth_answer.specs.Holds.{document_version, read_by, written_by}
 
 -- a log as a document has it
 abbrev pub part_of : SizeLog → LogPart
@@ -44,7 +45,7 @@ part_of l = record { side = l.side; size = l.size; vars = l.vars; base = l.base;
 -- the document that is written, before its lines have numbers
 abbrev pub document_of : Kind → Settings → Verdict → Option Circuit → List SizeLog → Document
 document_of kind settings verdict circuit logs = record {
-  version = 3;
+  version = document_version settings.counts;
   verdict = verdict;
   kind = kind;
   max = settings.max;
@@ -120,19 +121,19 @@ IsRefusal NoMemory bytes ended = ⊥
 
 -- == what is searched ==
 
--- the problem of a side of a text, whose machines are of this kind
-pub record IsProblemFor (x : Expanded) (side : Side) (kind : Kind) (p : Problem) : Type 0 where
+-- the problem of a side of a text, over base clauses of this version, whose machines are of this kind
+pub record IsProblemFor (version : ℕ) (x : Expanded) (side : Side) (kind : Kind) (p : Problem) : Type 0 where
   pub within : IsProblem p
   pub inputs : p.inputs ≡ length x.inputs
   pub outputs : p.outputs ≡ length x.outputs
   pub of_side : p.side ≡ side
   pub kind_is : p.kind ≡ kind
   pub size : p.size ≡ 1
-  pub version : p.version ≡ 2
+  pub version_is : p.version ≡ version
 
-pub record AreProblemsFor (x : Expanded) (s : SideProblems) : Type 0 where
-  pub of_system : IsProblemFor x System x.kind s.system
-  pub of_environment : ForSome s.environment (IsProblemFor x Environment (other_kind x.kind))
+pub record AreProblemsFor (version : ℕ) (x : Expanded) (s : SideProblems) : Type 0 where
+  pub of_system : IsProblemFor version x System x.kind s.system
+  pub of_environment : ForSome s.environment (IsProblemFor version x Environment (other_kind x.kind))
 
 -- the problems' automata are such
 pub record HaveAutomata (s : SideProblems) : Type 0 where
@@ -163,6 +164,7 @@ pub record IsSearchedReply (x : Expanded) (s : SideProblems) (settings : Setting
 -- == the laws of the layers below ==
 
 pub record LawsHold : Type 0 where
+  pub components : ComponentsClass
   pub sizes : SizesRise
   pub all_states : SmallestMeetsAllStates
   pub writable : LegalLogsAreWritable

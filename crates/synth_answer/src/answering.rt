@@ -5,6 +5,7 @@ ghost use Rattle.ltl_formula.specs.declared.nodes.FormulaId.{FormulaId as Id};
 ghost use Rattle.ltl_formula.specs.declared.nodes.Node.{Node};
 ghost use Rattle.machine_model.specs.Automaton.{IsAutomaton};
 ghost use Rattle.machine_model.specs.Problem.{automaton_of};
+ghost use Rattle.annotation_encode.specs.Counts.{counts_version};
 ghost use Rattle.flat_text.specs.FlatNames.{HasPlainNames};
 ghost use Rattle.program_replies.specs.Statuses.{status_number};
 ghost use Rattle.tlsf_expand.specs.FlatText.{spec_seen};
@@ -35,8 +36,8 @@ pub struct Answered {
     pub defeats: bool,
 }
 
-/// The answer to a text: the line of its first fault with status 1, or a document of version 3 with status 10, 11, 20 or 30. A kind that
-/// is given stands for the text's own.
+/// The answer to a text: the line of its first fault with status 1, or a document of version 3 or 5, by what is counted,
+/// with status 10, 11, 20 or 30. A kind that is given stands for the text's own.
 ///
 /// It waits for the workers of the search, each of which passes the gate at three moments of its turns.
 pub fn answer<R: Threads + Wait + Sync, G: Gate + Sync>(
@@ -53,13 +54,13 @@ pub fn answer<R: Threads + Wait + Sync, G: Gate + Sync>(
     requires workers { settings.workers ≤ 8 }
     ensures { IfOk result (λ r. Answers text.now kind settings r.bytes.items (status_number r.status)) }
 {
-    match text_problems(alloc, text, kind, 2) {
+    match text_problems(alloc, text, kind, settings.counts.version()) {
         Ok(found) => document(rt, alloc, found, settings, gate),
         Err(fault) => refusal(alloc, fault),
     }
 }
 
-/// A document for problems over base clauses of version 2 that stand on some ground, whose names and kind are those of a flat text, with
+/// A document for problems over the settings' base clauses that stand on some ground, whose names and kind are those of a flat text, with
 /// status 10, 11, 20 or 30. It waits as `answer` does.
 pub fn answer_on<R: Threads + Wait + Sync, G: Gate + Sync>(
     rt: &R,
@@ -73,9 +74,9 @@ pub fn answer_on<R: Threads + Wait + Sync, G: Gate + Sync>(
     requires most_size { settings.max ≤ 8 }
     requires entries { IfSome settings.entries (λ most. most ≤ 250000) }
     requires workers { settings.workers ≤ 8 }
-    requires problems { AreProblemsFor (spec_seen spec.now).expanded problems }
+    requires problems { AreProblemsFor (counts_version settings.counts) (spec_seen spec.now).expanded problems }
     requires names { HasPlainNames (spec_seen spec.now).expanded }
-    ensures { (truth : Word → Bool) (nodes : List Node) (whole : Id) → AreGivenOn (ground_with (spec_seen spec.now).expanded truth nodes whole) problems
+    ensures { (truth : Word → Bool) (nodes : List Node) (whole : Id) → AreGivenOn (counts_version settings.counts) (ground_with (spec_seen spec.now).expanded truth nodes whole) problems
         → IfOk result (λ a. IsAnswerOn (ground_with (spec_seen spec.now).expanded truth nodes whole) settings a.reply.bytes.items (status_number a.reply.status) a.defeats) }
 {
     laws_hold();
@@ -104,9 +105,9 @@ fn document<R: Threads + Wait + Sync, G: Gate + Sync>(
     requires most_size { settings.max ≤ 8 }
     requires entries { IfSome settings.entries (λ most. most ≤ 250000) }
     requires workers { settings.workers ≤ 8 }
-    requires problems { AreProblemsFor (spec_seen found.spec).expanded found.problems }
+    requires problems { AreProblemsFor (counts_version settings.counts) (spec_seen found.spec).expanded found.problems }
     requires names { HasPlainNames (spec_seen found.spec).expanded }
-    ensures { (truth : Word → Bool) (nodes : List Node) (whole : Id) → AreGivenOn (ground_with (spec_seen found.spec).expanded truth nodes whole) found.problems
+    ensures { (truth : Word → Bool) (nodes : List Node) (whole : Id) → AreGivenOn (counts_version settings.counts) (ground_with (spec_seen found.spec).expanded truth nodes whole) found.problems
         → IfOk result (λ r. (d : Bool) × IsAnswerOn (ground_with (spec_seen found.spec).expanded truth nodes whole) settings r.bytes.items (status_number r.status) d) }
 {
     let TextProblems { spec, problems } = found;
@@ -126,7 +127,7 @@ fn searched<R: Threads + Wait + Sync, G: Gate + Sync>(
     requires some_size { 1 ≤ settings.max }
     requires most_size { settings.max ≤ 8 }
     requires workers { settings.workers ≤ 8 }
-    requires problems { AreProblemsFor (spec_seen spec.now).expanded problems }
+    requires problems { AreProblemsFor (counts_version settings.counts) (spec_seen spec.now).expanded problems }
     ensures { IfOk result (λ a. IsSearchedReply (spec_seen spec.now).expanded problems settings a.reply.bytes.items a.reply.status a.defeats) }
 {
     automata_are_kept(&problems);

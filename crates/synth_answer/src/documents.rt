@@ -1,8 +1,10 @@
-//! Documents of version 3 over the logs of a search.
+//! Documents over the logs of a search.
 ghost use Rattle.std.specs.Prelude.{◌≡◌, ◌<◌, ◌^◌, All, IfOk, length, map};
+ghost use Rattle.synth_answer.specs.Holds.{document_version};
 ghost use Rattle.synth_answer.specs.Reply.{IsShort, IsTextOf, part_of as part_seen};
 
 use aiger_text::Circuit;
+use annotation_encode::Counts;
 use cert_text::{Document, LogPart, Verdict, write_document};
 use letter_word::Kind;
 use size_search::SizeLog;
@@ -21,7 +23,7 @@ pub fn document_text(
     ensures { IfOk result (λ bytes. IsTextOf kind settings verdict circuit logs.items bytes.items) }
 {
     let document = Document {
-        version: 3,
+        version: document_version(settings.counts),
         verdict,
         kind,
         max: settings.max,
@@ -36,6 +38,16 @@ pub fn document_text(
     let mut bytes = Vec::new(alloc);
     write_document(&document, &mut bytes)?;
     Ok(bytes)
+}
+
+/// The version of a document whose logs are over base clauses that count so.
+fn document_version(counts: Counts) -> u32
+    ensures { result ≡ document_version counts }
+{
+    match counts {
+        Counts::Whole => 3,
+        Counts::Local => 5,
+    }
 }
 
 fn parts_of(alloc: Global, logs: Vec<SizeLog>) -> Result<Vec<LogPart>, AllocError>

@@ -4,6 +4,7 @@ ghost use Rattle.synth_answer.specs.Reply.{LawsHold};
 use annotation_encode::laws::sizes_rise;
 use document_check::laws::bad_lines_are_determined;
 use gate_build::laws::smallest_meets_all_states;
+use machine_model::laws::components_are_classes;
 use refutation_log::laws::legal_logs_are_writable;
 use satisfaction::laws::{
     accepted_environments_defeat, accepted_systems_satisfy, circuits_defeat, circuits_satisfy,
@@ -15,6 +16,7 @@ use size_laws::closed_logs_refute;
 pub fn laws_hold()
     ensures { LawsHold }
 {
+    components_are_classes();
     sizes_rise();
     smallest_meets_all_states();
     legal_logs_are_writable();

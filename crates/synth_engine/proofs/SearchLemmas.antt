@@ -11,6 +11,7 @@ use Rattle.machine_model.specs.Problem.{IsProblem, Parts, parts_of, sized}
 use Rattle.machine_model.specs.declared.problems.Problem.{Problem}
 use Rattle.machine_model.proofs.Tables.{size_pos}
 use Rattle.annotation_encode.specs.Count.{allowed_sizes}
+use Rattle.size_board.proofs.LawProofs.{sought_is_problem}
 use Rattle.size_board.specs.Names.{AreNamed, IsAccepted, IsSearchable, Named, SideHas, Sought, sizes_of, sought_by, sought_of}
 use Rattle.size_search.specs.Task.{SizeTaskModel}
 use Rattle.synth_engine.specs.declared.settings.Settings.{Settings}
@@ -44,7 +45,7 @@ unfolding plan_at
 plan_is s e max plan is = λ i. record { system = is.system_is i; environment = is.environment_is i; system_sizes = is.system_sizes i; environment_sizes = is.environment_sizes i }
 
 searchable : (p : Problem) → IsProblem p → IsSearchable (sought_of p)
-searchable p is = record { inputs = is.inputs; outputs = is.outputs; states = is.states; signals = is.signals; version = is.version }
+searchable p is = sought_is_problem.searchable p is
 
 some_same : {X : Type 0} (a b : X) → Some a ≡ Some b → a ≡ b
 some_same a b e = cc
@@ -52,7 +53,7 @@ some_same a b e = cc
 none_some : {X : Type 0} (a : X) → None ≡ Some a → ⊥
 none_some a e = cc
 
-environment_searchable : (e : Option Problem) → ForSome e (IsSearched Environment) → (x : Sought) → option_map sought_of e ≡ Some x → IsSearchable x × (x.side ≡ Environment)
+environment_searchable : {v : ℕ} (e : Option Problem) → ForSome e (IsSearched v Environment) → (x : Sought) → option_map sought_of e ≡ Some x → IsSearchable x × (x.side ≡ Environment)
 environment_searchable None is x at = absurd (none_some x at)
 environment_searchable (Some p) is x at =
     let P : Sought → Type 0 = λ (y : Sought). IsSearchable y × (y.side ≡ Environment) in
@@ -60,7 +61,7 @@ environment_searchable (Some p) is x at =
     subst P (some_same (sought_of p) x at) (searchable p here.within, here.of_side)
 
 -- a board of the plan may be made
-pub plan_named : (s : Problem) (e : Option Problem) (max : ℕ) (plan : Plan) → IsPlanOf s e max plan → IsSearched System s → ForSome e (IsSearched Environment)
+pub plan_named : {v : ℕ} (s : Problem) (e : Option Problem) (max : ℕ) (plan : Plan) → IsPlanOf s e max plan → IsSearched v System s → ForSome e (IsSearched v Environment)
     → AreNamed (named_of plan) plan.system plan.environment plan.system_sizes plan.environment_sizes
 unfolding plan_at
 plan_named s e max plan is system environment =
@@ -86,7 +87,7 @@ plan_named s e max plan is system environment =
 -- TASKS
 
 sought_from : Parts → Sought
-sought_from x = record { automaton = x.automaton; inputs = x.inputs; outputs = x.outputs; side = x.side; kind = x.kind; version = x.version }
+sought_from x = record { automaton = x.automaton; inputs = x.inputs; outputs = x.outputs; side = x.side; kind = x.kind; version = x.version; components = x.components }
 
 same_sought : (p q : Problem) → parts_of p ≡ parts_of q → sought_of p ≡ sought_of q
 unfolding sought_from
@@ -230,15 +231,15 @@ winner_is s e settings plan (Some w) is h =
 
 -- WHAT IS LEFT TO BE SETTLED
 
-environment_left : (s : Problem) (e : Option Problem) (settings : Settings) (u : Unsettled) → ForSome e (IsSearched Environment) → AreTasksOfAny e settings (allowed_of settings.max e) u.tasks.items
+environment_left : {v : ℕ} (s : Problem) (e : Option Problem) (settings : Settings) (u : Unsettled) → ForSome e (IsSearched v Environment) → AreTasksOfAny e settings (allowed_of settings.max e) u.tasks.items
     → ((p : Problem) → e ≡ Some p → IsLeft Environment settings u p) × (e ≡ None → length u.tasks.items ≡ 0)
 environment_left s None settings u is are = (λ p at. absurd (none_some p at), λ none. are)
 environment_left s (Some q) settings u is are =
     let here : IsLeft Environment settings u q = record { of_side = (is q refl).of_side; tasks = are } in
     (λ p at. subst (IsLeft Environment settings u) (some_same q p at) here, λ none. absurd (none_some q (sym none)))
 
-pub all_left : (s : Problem) (e : Option Problem) (settings : Settings) (plan : Plan) (sizes : Sizes) (us ue : Unsettled) → IsPlanOf s e settings.max plan → AreSizesOf plan settings sizes → IsSearched System s
-    → ForSome e (IsSearched Environment) → us.tasks ≡ sizes.system → ue.tasks ≡ sizes.environment → AreLeft s e settings us ue
+pub all_left : {v : ℕ} (s : Problem) (e : Option Problem) (settings : Settings) (plan : Plan) (sizes : Sizes) (us ue : Unsettled) → IsPlanOf s e settings.max plan → AreSizesOf plan settings sizes → IsSearched v System s
+    → ForSome e (IsSearched v Environment) → us.tasks ≡ sizes.system → ue.tasks ≡ sizes.environment → AreLeft s e settings us ue
 unfolding plan_at
 all_left s e settings plan sizes us ue is are system environment system_is environment_is =
     let here : AreSizesOf (plan_at s e settings.max) settings sizes = subst (λ x. AreSizesOf x settings sizes) (plan_is s e settings.max plan is) are in

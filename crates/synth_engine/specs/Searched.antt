@@ -5,11 +5,11 @@ use Rattle.machine_model.specs.Problem.{IsProblem}
 use Rattle.machine_model.specs.declared.problems.Problem.{Problem}
 use Rattle.annotation_encode.specs.Count.{allowed_sizes}
 
--- A problem of this side whose sizes are searched, over base clauses of version 2 (this project's own).
-pub record IsSearched (side : Side) (p : Problem) : Type 0 where
+-- A problem of this side whose sizes are searched, over base clauses of this version (this project's own).
+pub record IsSearched (version : ℕ) (side : Side) (p : Problem) : Type 0 where
   pub within : IsProblem p
   pub of_side : p.side ≡ side
-  pub version : p.version ≡ 2
+  pub version_is : p.version ≡ version
 
 -- the number of allowed sizes of a side, none where it has no problem
 abbrev pub allowed_of : ℕ → Option Problem → ℕ

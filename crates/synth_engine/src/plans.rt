@@ -5,7 +5,6 @@ ghost use Rattle.machine_model.specs.declared.problems.Problem.{Problem as Probl
 ghost use Rattle.std.specs.Option.{ForSome};
 ghost use Rattle.letter_word.specs.declared.kinds.Side.TheVariants.{System, Environment};
 ghost use Rattle.machine_model.specs.Problem.{IsProblem};
-ghost use Rattle.synth_engine.specs.Searched.{IsSearched};
 ghost use Rattle.synth_engine.specs.Hands.{AreRacks};
 ghost use Rattle.synth_engine.specs.Plans.{AreProblemsDown, AreTasksUpTo, IsFieldOf, IsOpenedFor, IsPlanOf};
 
@@ -45,8 +44,8 @@ impl Plan {
     /// A plan of all sizes that are allowed, of at most so many states.
     pub fn new(system: Problem, environment: Option<Problem>, max: u32) -> Plan
         requires max { max ≤ 8 }
-        requires system { IsSearched System system }
-        requires environment { ForSome environment (IsSearched Environment) }
+        requires system { IsProblem system }
+        requires environment { ForSome environment IsProblem }
         ensures { IsPlanOf system environment max result }
     {
         let system_sizes = allowed_sizes(&system, max);

@@ -1,3 +1,5 @@
+use annotation_encode::Counts;
+
 /// What bounds a search.
 #[derive(Clone, Copy, Debug)]
 pub struct Settings {
@@ -7,4 +9,6 @@ pub struct Settings {
     pub entries: Option<u64>,
     /// How many workers run beside the caller, at most 8. With 0 the caller does all of the work.
     pub workers: u32,
+    /// What annotations count, and so of which version the base clauses are.
+    pub counts: Counts,
 }

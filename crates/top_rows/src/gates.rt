@@ -48,6 +48,23 @@ fn run_gated<R: Threads + Wait + Sync>(
     Ok((ended, gate.met()))
 }
 
+/// The verdict of a run whose workers pass a gate that holds one of them back, and whether they met there.
+pub fn push_met<R: Threads + Wait + Sync>(
+    rt: &R,
+    alloc: Global,
+    files: &[File],
+    words: &str,
+    out: &mut Vec<u8>,
+) -> anyhow::Result<()> {
+    let gate = RowGate::Hold(HoldGate::new());
+    let (ended, met) = run_gated(rt, alloc, words, files, gate)?;
+    push_status(alloc, ended.status, out)?;
+    out.extend_from_slice(verdict_line(&ended.written))?;
+    let line = format!(in alloc; "met {met}\n")?;
+    out.extend_from_slice(line.as_bytes())?;
+    Ok(())
+}
+
 /// What comes of a run whose workers pass a gate that holds one of them back.
 pub fn push_held<R: Threads + Wait + Sync>(
     rt: &R,

@@ -17,8 +17,9 @@
 //! `frame NAME`: a file, or those of its lines that have a letter.
 //!
 //! `held WORDS`: with a gate that holds one worker back until another has added to the same log; behind the run stands whether they met
-//! there. `shared LOG WORDS`: with a gate at which one worker on that log waits until another has added to it; behind the verdict stands
-//! whether the first log that is written has entries of two workers, the caller apart, and whether they met.
+//! there. `met WORDS`: the same, with the verdict in place of what was written. `shared LOG WORDS`: with a gate at which one worker on
+//! that log waits until another has added to it; behind the verdict stands whether the first log that is written has entries of two
+//! workers, the caller apart, and whether they met.
 #![tactic(auto)]
 
 mod changed;
@@ -31,7 +32,7 @@ mod told;
 use anyhow::{Context, bail};
 use changed::{push_cut, push_fronts, push_padded};
 use documents::{push_frame, push_outline, push_shown};
-use gates::{push_held, push_shared};
+use gates::{push_held, push_met, push_shared};
 use grown::grown;
 use runs::{Faults, File, NO_FAULTS, run_on};
 use std::alloc::Global;
@@ -200,6 +201,7 @@ fn push_runs<R: Threads + Wait + Sync>(
         "undecided" => push_undecided(rt, alloc, files, rest, out),
         "outline" => push_outline(rt, alloc, files, rest, out),
         "held" => push_held(rt, alloc, files, rest, out),
+        "met" => push_met(rt, alloc, files, rest, out),
         "shared" => push_shared(rt, alloc, files, rest, out),
         _ => bail!("no such way"),
     }

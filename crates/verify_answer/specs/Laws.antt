@@ -9,7 +9,7 @@ use Rattle.verify_answer.specs.FirstBad.{Annotates, IsFirstBadFor, IsValidFor}
 use Rattle.verify_answer.specs.Answer.{Given, VerifyAnswers, facts_in, verified_line}
 
 -- A text and a file have one answer: status 1 where the text has a fault, 40 where the file has a bad line for the text, and 0 where
--- its annotation is valid for its circuit. Of each file one of the last two holds, and one line is the first bad one.
+-- its annotation is valid for its circuit. So at most one of the three is so, with at most one line that is the first bad one.
 pub record VerificationsAreDetermined : Type 0 where
   pub of_fault : (text circuit bytes : List ℕ) (status : ℕ) (code : SpecCode) (position : ℕ) → VerifyAnswers text circuit bytes status
       → IsFirstFault text None code position → (status ≡ 1) × (bytes ≡ refusal_line code position)

@@ -1,7 +1,7 @@
-use Rattle.std.proofs.Common.{◌≡◌, map}
-use Rattle.std.specs.List.{range_with_len}
-use Rattle.annotation_encode.specs.Assigned.{assigned_value}
+use Rattle.std.proofs.Common.{◌≡◌, ◌++◌}
+use Rattle.annotation_encode.specs.Assigned.{machine_values, state_values}
+use Rattle.annotation_encode.specs.BaseClauses.{each_below}
 use Rattle.annotation_encode.proofs.assigning.assignment_of.Given as goal
 
-abbrev pub invariant-loop-place : goal.invariant-loop-place
-invariant-loop-place l = l.values.items ≡ map (assigned_value l.problem l.machine l.numbers) (range_with_len 0 l.place)
+abbrev pub invariant-loop-t : goal.invariant-loop-t
+invariant-loop-t l = l.values.items ≡ machine_values l.problem l.machine ++ each_below l.t (λ t. state_values l.problem l.annotation.numbers.items t)

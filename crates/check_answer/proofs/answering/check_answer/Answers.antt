@@ -10,7 +10,7 @@ use Rattle.check_answer.proofs.answering.check_answer.Goals as goal
 
 pub check_document-requires : goal.check_document-requires
 check_document-requires g c =
-    (search rules, subst AreFacts (sym c.facts_of.ensures) (record { system = c.requires.is_system; environment = c.requires.is_environment }))
+    (search rules, subst AreFacts (sym c.facts_of.ensures) c.requires)
 
 pub returns-in-Ok : goal.returns-in-Ok
 returns-in-Ok g c = λ bytes taken.

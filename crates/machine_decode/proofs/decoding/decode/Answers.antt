@@ -21,25 +21,25 @@ unreachable-requires c =
 
 pub returns-clause-machine : goal.returns-clause-machine
 returns-clause-machine c =
-    (outcome c.args.problem.now c.as_slice-values.result.now c.args.assignment.now.values.items c.in_ok-table.table.items c.in-Ok.machine c.in_ok-numbers.numbers.items c.requires.problem (subst IsAutomaton c.deref.ensures c.states-states.ensures.kept)
+    (outcome c.args.problem.now c.as_slice-values.result.now c.args.assignment.now.values.items c.in_ok-table.table.items c.in-Ok.machine c.in_ok-numbers.numbers.items c.joined_is_reached.ensures c.requires.problem (subst IsAutomaton c.deref.ensures c.states-states.ensures.kept)
     c.requires.met c.as_slice-values.ensures.value c.in_ok-table.ensures.rows (c.in-Ok.ensures.parts ∙ (λ j. record { kind = c.args.problem.now.kind; reads = c.reads.ensures j; writes = c.writes.ensures j; table = c.in_ok-table.table.items })) c.in_ok-numbers.ensures).looked_for
 
 pub returns-clause-made : goal.returns-clause-made
 returns-clause-made c =
-    (outcome c.args.problem.now c.as_slice-values.result.now c.args.assignment.now.values.items c.in_ok-table.table.items c.in-Ok.machine c.in_ok-numbers.numbers.items c.requires.problem (subst IsAutomaton c.deref.ensures c.states-states.ensures.kept)
+    (outcome c.args.problem.now c.as_slice-values.result.now c.args.assignment.now.values.items c.in_ok-table.table.items c.in-Ok.machine c.in_ok-numbers.numbers.items c.joined_is_reached.ensures c.requires.problem (subst IsAutomaton c.deref.ensures c.states-states.ensures.kept)
     c.requires.met c.as_slice-values.ensures.value c.in_ok-table.ensures.rows (c.in-Ok.ensures.parts ∙ (λ j. record { kind = c.args.problem.now.kind; reads = c.reads.ensures j; writes = c.writes.ensures j; table = c.in_ok-table.table.items })) c.in_ok-numbers.ensures).made
 
 pub returns-clause-decoded : goal.returns-clause-decoded
 returns-clause-decoded c =
-    (outcome c.args.problem.now c.as_slice-values.result.now c.args.assignment.now.values.items c.in_ok-table.table.items c.in-Ok.machine c.in_ok-numbers.numbers.items c.requires.problem (subst IsAutomaton c.deref.ensures c.states-states.ensures.kept)
+    (outcome c.args.problem.now c.as_slice-values.result.now c.args.assignment.now.values.items c.in_ok-table.table.items c.in-Ok.machine c.in_ok-numbers.numbers.items c.joined_is_reached.ensures c.requires.problem (subst IsAutomaton c.deref.ensures c.states-states.ensures.kept)
     c.requires.met c.as_slice-values.ensures.value c.in_ok-table.ensures.rows (c.in-Ok.ensures.parts ∙ (λ j. record { kind = c.args.problem.now.kind; reads = c.reads.ensures j; writes = c.writes.ensures j; table = c.in_ok-table.table.items })) c.in_ok-numbers.ensures).decoded
 
 pub returns-clause-valid : goal.returns-clause-valid
 returns-clause-valid c =
-    (outcome c.args.problem.now c.as_slice-values.result.now c.args.assignment.now.values.items c.in_ok-table.table.items c.in-Ok.machine c.in_ok-numbers.numbers.items c.requires.problem (subst IsAutomaton c.deref.ensures c.states-states.ensures.kept)
+    (outcome c.args.problem.now c.as_slice-values.result.now c.args.assignment.now.values.items c.in_ok-table.table.items c.in-Ok.machine c.in_ok-numbers.numbers.items c.joined_is_reached.ensures c.requires.problem (subst IsAutomaton c.deref.ensures c.states-states.ensures.kept)
     c.requires.met c.as_slice-values.ensures.value c.in_ok-table.ensures.rows (c.in-Ok.ensures.parts ∙ (λ j. record { kind = c.args.problem.now.kind; reads = c.reads.ensures j; writes = c.writes.ensures j; table = c.in_ok-table.table.items })) c.in_ok-numbers.ensures).valid
 
 pub returns-clause-accepted : goal.returns-clause-accepted
 returns-clause-accepted c =
-    (outcome c.args.problem.now c.as_slice-values.result.now c.args.assignment.now.values.items c.in_ok-table.table.items c.in-Ok.machine c.in_ok-numbers.numbers.items c.requires.problem (subst IsAutomaton c.deref.ensures c.states-states.ensures.kept)
+    (outcome c.args.problem.now c.as_slice-values.result.now c.args.assignment.now.values.items c.in_ok-table.table.items c.in-Ok.machine c.in_ok-numbers.numbers.items c.joined_is_reached.ensures c.requires.problem (subst IsAutomaton c.deref.ensures c.states-states.ensures.kept)
     c.requires.met c.as_slice-values.ensures.value c.in_ok-table.ensures.rows (c.in-Ok.ensures.parts ∙ (λ j. record { kind = c.args.problem.now.kind; reads = c.reads.ensures j; writes = c.writes.ensures j; table = c.in_ok-table.table.items })) c.in_ok-numbers.ensures).accepted

@@ -1,7 +1,6 @@
-use Rattle.std.proofs.Common.{take}
-use Rattle.std.specs.Prelude.{All}
-use Rattle.product_bound.specs.Kept.{IsWithin}
+use Rattle.std.proofs.Common.{ℕ, ◌<◌}
+use Rattle.product_bound.specs.Kept.{IsStateWithin}
 use Rattle.product_bound.proofs.annotations.are_within.Given as goal
 
-abbrev pub invariant-loop-number : goal.invariant-loop-number
-invariant-loop-number l = All (IsWithin l.bound) (take l.number-index l.numbers)
+abbrev pub invariant-loop-q : goal.invariant-loop-q
+invariant-loop-q l = (q : ℕ) → q < l.q → IsStateWithin l.problem l.numbers q

@@ -8,7 +8,7 @@ pub returns : goal.returns
 returns c = λ p m problem made machine fits.
     let size : 1 ≤ p.size = problem.some in
     let some : 0 < size_of m = rw fits.size (omega arith) in
-    elim (annotation_or_run p m made machine fits some) [
-      | inl annotation ↦ inl (λ w run. never_accepted p m annotation.numbers w run.0 made machine fits some annotation.valid run.1)
+    elim (annotation_or_run p m c.components_are_classes.ensures made machine fits some) [
+      | inl annotation ↦ inl (λ w run. never_accepted p m annotation.numbers w run.0 c.joined_is_reached.ensures made machine fits some annotation.valid run.1)
       | inr refuted ↦ inr refuted
     ]

@@ -18,6 +18,9 @@ sizes_are g c = rw c.in_ok-sizes.ensures.sizes c.in_ok-field.ensures.sizes
 workers_are : (g : _) (c : In-Some g) → AreWorkersOf c.in_ok-sizes.sizes c.args.settings.workers c.in_ok-sizes.crews.items
 workers_are g c = rw c.in_ok-sizes.ensures.sizes c.in_ok-sizes.ensures.crews
 
+pub new-plan-requires-clause-environment : goal.new-plan-requires-clause-environment
+new-plan-requires-clause-environment g c p is = (c.requires.environment p is).within
+
 pub open-requires-clause-environment : goal.open-requires-clause-environment
 open-requires-clause-environment g c κs within = λ x is. (c.requires.environment x (sym c.new-plan.ensures.environment_is ∙ is)).within
 

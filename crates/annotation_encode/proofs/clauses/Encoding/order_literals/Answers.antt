@@ -4,4 +4,4 @@ use Rattle.annotation_encode.proofs.Lists.{each_more}
 use Rattle.annotation_encode.proofs.clauses.Encoding.order_literals.Goals as goal
 
 pub loop-before-preserved : goal.loop-before-preserved
-loop-before-preserved c = each_more ([]) c.loop-before.lits.items c.push.new.self.items (λ k. is (row_move c.args.self.now.problem.now k (c.args.to - 1)) ∷ []) c.loop-before.before c.loop-before.invariant (search rules)
+loop-before-preserved c = each_more ([]) c.loop-before.lits.items c.push.new.self.items (λ k. is (row_move c.args.self.now.numbering.problem.now k (c.args.to - 1)) ∷ []) c.loop-before.before c.loop-before.invariant (search rules)

@@ -3,4 +3,4 @@ use Rattle.annotation_encode.specs.BaseClauses.{each_below, is, row_move}
 use Rattle.annotation_encode.proofs.clauses.Encoding.order_literals.Given as goal
 
 abbrev pub invariant-loop-before : goal.invariant-loop-before
-invariant-loop-before l = l.lits.items ≡ each_below l.before (λ k. is (row_move l.self.problem.now k (l.to - 1)) ∷ [])
+invariant-loop-before l = l.lits.items ≡ each_below l.before (λ k. is (row_move l.self.numbering.problem.now k (l.to - 1)) ∷ [])

@@ -7,8 +7,8 @@ use Rattle.annotation_encode.proofs.clauses.Encoding.push_clause.Goals as goal
 
 pub unreachable-requires : goal.unreachable-requires
 unreachable-requires c =
-    let within : IsWithin c.variable_count.result c.args.lits.now = subst (λ n. IsWithin n c.args.lits.now) (sym c.variable_count.ensures.value) c.requires.within in
-    none_bad c.variable_count.result c.args.lits.now within (c.new.ensures.bad_variable.0 (cc))
+    let within : IsWithin c.variables.result c.args.lits.now = subst (λ n. IsWithin n c.args.lits.now) (sym c.variables.ensures.value) c.requires.within in
+    none_bad c.variables.result c.args.lits.now within (c.new.ensures.bad_variable.0 (cc))
 
 pub unreachable-requires-in-Err-Tautology : goal.unreachable-requires-in-Err-Tautology
 unreachable-requires-in-Err-Tautology c = no_tautology c.args.lits.now c.requires.clause (c.new.ensures.tautology (cc)).1

@@ -4,4 +4,4 @@ use Rattle.annotation_encode.proofs.Lists.{each_more}
 use Rattle.annotation_encode.proofs.clauses.Encoding.push_clauses_of_state.Goals as goal
 
 pub loop-letter-preserved : goal.loop-letter-preserved
-loop-letter-preserved c = each_more (c.args.clauses.now.items) c.loop-letter.clauses.items c.push_clauses_of_letter.new.clauses.items (λ i. letter_clauses c.args.self.now.problem.now c.args.edge c.args.t i) c.loop-letter.letter c.loop-letter.invariant (search rules)
+loop-letter-preserved c = each_more (c.args.clauses.now.items) c.loop-letter.clauses.items c.push_clauses_of_letter.new.clauses.items (λ i. letter_clauses c.args.self.now.numbering.problem.now c.args.edge c.args.t i) c.loop-letter.letter c.loop-letter.invariant (search rules)

@@ -5,6 +5,6 @@ use Rattle.annotation_encode.proofs.clauses.Encoding.push_clauses_of_step.Given 
 
 abbrev pub invariant-loop-count : goal.invariant-loop-count
 invariant-loop-count l = record {
-  clauses : l.clauses.items ≡ l.fn.clauses.items ++ each_below l.count (λ c. step_clause l.self.problem.now l.edge l.t l.letter l.to c ∷ []);
-  lits : l.lits.items ≡ isnt (var_move l.self.problem.now l.t l.letter l.to) ∷ write_literals l.self.problem.now l.edge.cube l.t l.letter;
+  clauses : l.clauses.items ≡ l.fn.clauses.items ++ each_below l.count (λ c. step_clause l.self.numbering.problem.now l.edge l.t l.letter l.to c ∷ []);
+  lits : l.lits.items ≡ isnt (var_move l.self.numbering.problem.now l.t l.letter l.to) ∷ write_literals l.self.numbering.problem.now l.edge.cube l.t l.letter;
 }

@@ -4,4 +4,4 @@ use Rattle.annotation_encode.specs.BaseClauses.{edge_clauses}
 use Rattle.annotation_encode.proofs.clauses.Encoding.push_edge_clauses.Given as goal
 
 abbrev pub invariant-loop-edge : goal.invariant-loop-edge
-invariant-loop-edge l = l.clauses.items ≡ l.fn.clauses.items ++ flat_map (edge_clauses l.self.problem.now) (take l.edge-index l.edges)
+invariant-loop-edge l = l.clauses.items ≡ l.fn.clauses.items ++ flat_map (edge_clauses l.self.numbering.problem.now) (take l.edge-index l.edges)

@@ -3,4 +3,4 @@ use Rattle.annotation_encode.specs.BaseClauses.{each_below, row_orders}
 use Rattle.annotation_encode.proofs.clauses.Encoding.push_order_clauses.Given as goal
 
 abbrev pub invariant-loop-place : goal.invariant-loop-place
-invariant-loop-place l = l.clauses.items ≡ l.fn.clauses.items ++ each_below l.place (λ place. row_orders l.self.problem.now place)
+invariant-loop-place l = l.clauses.items ≡ l.fn.clauses.items ++ each_below l.place (λ place. row_orders l.self.numbering.problem.now place)

@@ -7,8 +7,8 @@ use Rattle.annotation_encode.proofs.ClauseOrder.{order-rises}
 use Rattle.annotation_encode.proofs.clauses.Encoding.push_orders_of_row.Goals as goal
 use Rattle.annotation_encode.proofs.clauses.Encoding.push_orders_of_row.Goals.{After-deref}
 
-rises : (c : After-deref) → Rises 0 (variables_of c.args.self.now.problem.now) c.deref.result.now
-rises c = subst (Rises 0 (variables_of c.args.self.now.problem.now)) (sym (c.deref.ensures.value ∙ c.in_ok-lits.ensures)) (order-rises c.args.self.now.problem.now c.args.place (c.loop-more.more + 2) c.requires.row (omega arith) (search rules))
+rises : (c : After-deref) → Rises 0 (variables_of c.args.self.now.numbering.problem.now) c.deref.result.now
+rises c = subst (Rises 0 (variables_of c.args.self.now.numbering.problem.now)) (sym (c.deref.ensures.value ∙ c.in_ok-lits.ensures)) (order-rises c.args.self.now.numbering.problem.now c.args.place (c.loop-more.more + 2) c.requires.row (omega arith) (search rules))
 
 pub push_clause-requires-clause-clause : goal.push_clause-requires-clause-clause
 push_clause-requires-clause-clause c = (rises (goal.at.push_clause-requires-clause-clause c).After-deref).rising
@@ -17,4 +17,4 @@ pub push_clause-requires-clause-within : goal.push_clause-requires-clause-within
 push_clause-requires-clause-within c = (rises (goal.at.push_clause-requires-clause-within c).After-deref).within
 
 pub loop-more-preserved : goal.loop-more-preserved
-loop-more-preserved c = each_more (c.args.clauses.now.items) c.loop-more.clauses.items c.push_clause.new.clauses.items (λ k. order_clause c.args.self.now.problem.now c.args.place (k + 2) ∷ []) c.loop-more.more c.loop-more.invariant (search rules)
+loop-more-preserved c = each_more (c.args.clauses.now.items) c.loop-more.clauses.items c.push_clause.new.clauses.items (λ k. order_clause c.args.self.now.numbering.problem.now c.args.place (k + 2) ∷ []) c.loop-more.more c.loop-more.invariant (search rules)

@@ -7,8 +7,8 @@ use Rattle.annotation_encode.proofs.ClauseOrder.{row-rises}
 use Rattle.annotation_encode.proofs.clauses.Encoding.push_row_clauses.Goals as goal
 use Rattle.annotation_encode.proofs.clauses.Encoding.push_row_clauses.Goals.{After-deref}
 
-rises : (c : After-deref) → Rises 0 (variables_of c.args.self.now.problem.now) c.deref.result.now
-rises c = subst (Rises 0 (variables_of c.args.self.now.problem.now)) (sym (c.deref.ensures.value ∙ c.in_ok-lits.ensures)) (row-rises c.args.self.now.problem.now c.loop-place.place (search rules))
+rises : (c : After-deref) → Rises 0 (variables_of c.args.self.now.numbering.problem.now) c.deref.result.now
+rises c = subst (Rises 0 (variables_of c.args.self.now.numbering.problem.now)) (sym (c.deref.ensures.value ∙ c.in_ok-lits.ensures)) (row-rises c.args.self.now.numbering.problem.now c.loop-place.place (search rules))
 
 pub push_clause-requires-clause-clause : goal.push_clause-requires-clause-clause
 push_clause-requires-clause-clause c = (rises (goal.at.push_clause-requires-clause-clause c).After-deref).rising
@@ -17,4 +17,4 @@ pub push_clause-requires-clause-within : goal.push_clause-requires-clause-within
 push_clause-requires-clause-within c = (rises (goal.at.push_clause-requires-clause-within c).After-deref).within
 
 pub loop-place-preserved : goal.loop-place-preserved
-loop-place-preserved c = each_more (c.args.clauses.now.items) c.loop-place.clauses.items c.push_clause.new.clauses.items (λ place. row_clause c.args.self.now.problem.now place ∷ []) c.loop-place.place c.loop-place.invariant (search rules)
+loop-place-preserved c = each_more (c.args.clauses.now.items) c.loop-place.clauses.items c.push_clause.new.clauses.items (λ place. row_clause c.args.self.now.numbering.problem.now place ∷ []) c.loop-place.place c.loop-place.invariant (search rules)

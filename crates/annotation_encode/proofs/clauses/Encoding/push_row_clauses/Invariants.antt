@@ -3,4 +3,4 @@ use Rattle.annotation_encode.specs.BaseClauses.{each_below, row_clause}
 use Rattle.annotation_encode.proofs.clauses.Encoding.push_row_clauses.Given as goal
 
 abbrev pub invariant-loop-place : goal.invariant-loop-place
-invariant-loop-place l = l.clauses.items ≡ l.fn.clauses.items ++ each_below l.place (λ place. row_clause l.self.problem.now place ∷ [])
+invariant-loop-place l = l.clauses.items ≡ l.fn.clauses.items ++ each_below l.place (λ place. row_clause l.self.numbering.problem.now place ∷ [])
