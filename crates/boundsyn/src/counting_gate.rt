@@ -1,25 +1,38 @@
+use diagnostics::{SizeTurns, progress_line};
+use letter_word::Side;
 use outside_edge::{Gate, Moment};
 use std::alloc::{AllocError, Global};
-use std::fmt::Write;
 use std::io;
 use std::rt::Clock;
-use std::sync::atomic::{AtomicU64, Ordering};
+use std::sync::atomic::{AtomicBool, AtomicU64, Ordering};
 use std::time::Instant;
 
 /// The logs of sizes 1 to 8 of both sides have numbers below this.
 const LOGS: usize = 18;
 
-/// A gate that holds nobody back. Where lines are wanted it counts the turns at each log, and whoever passes first after a second has
-/// gone by writes one to standard error: the side, the size and the number of turns of each log that had some since the line before.
+/// What is counted at one log.
+#[derive(Drop)]
+struct Counts {
+    turns: AtomicU64,
+    /// The turns of which the last line told.
+    told: AtomicU64,
+    entries: AtomicU64,
+}
+
+/// A gate that holds nobody back, and remembers that somebody passed. Where lines are wanted it counts the turns and entries at each
+/// log, and whoever passes first after a second has gone by writes one to standard error.
 #[derive(Drop)]
 pub struct CountingGate<'a, R: Clock + Eprint> {
     rt: &'a R,
     alloc: Global,
     start: Option<Instant>,
+    /// The most entries of a log, as far as lines tell of them.
+    limit: Option<u64>,
     /// How many seconds have been told of.
     told: AtomicU64,
+    is_passed: AtomicBool,
     /// By the numbers of the logs.
-    turns: Vec<AtomicU64>,
+    counts: Vec<Counts>,
 }
 
 impl<'a, R: Clock + Eprint> CountingGate<'a, R> {
@@ -28,75 +41,100 @@ impl<'a, R: Clock + Eprint> CountingGate<'a, R> {
         rt: &'a R,
         alloc: Global,
         is_wanted: bool,
+        limit: Option<u64>,
     ) -> Result<CountingGate<'a, R>, AllocError> {
-        let mut turns = Vec::with_capacity(alloc, LOGS)?;
+        let mut counts = Vec::with_capacity(alloc, LOGS)?;
         for _ in 0..LOGS {
-            turns.push(AtomicU64::new(0))?;
+            counts.push(Counts {
+                turns: AtomicU64::new(0),
+                told: AtomicU64::new(0),
+                entries: AtomicU64::new(0),
+            })?;
         }
+        let start = if is_wanted {
+            Instant::now(rt).ok()
+        } else {
+            None
+        };
         Ok(CountingGate {
             rt,
             alloc,
-            start: if is_wanted {
-                Instant::now(rt).ok()
-            } else {
-                None
-            },
+            start,
+            limit,
             told: AtomicU64::new(0),
-            turns,
+            is_passed: AtomicBool::new(false),
+            counts,
         })
     }
 
-    /// Whether a second has gone by of which nobody has told.
-    fn is_due(&self) -> bool {
-        let Some(start) = self.start else {
-            return false;
-        };
-        let Ok(gone) = start.elapsed(self.rt) else {
-            return false;
-        };
+    /// Whether a worker passed.
+    pub fn is_passed(&self) -> bool {
+        self.is_passed.load(Ordering::SeqCst)
+    }
+
+    /// The number of seconds that have gone by, where nobody has told of the last one.
+    fn due_second(&self) -> Option<u64> {
+        let gone = self.start?.elapsed(self.rt).ok()?;
         let seconds = gone.as_secs();
         let told = self.told.load(Ordering::SeqCst);
-        seconds > told
-            && self
-                .told
-                .compare_exchange(told, seconds, Ordering::SeqCst, Ordering::SeqCst)
-                .is_ok()
+        if seconds <= told {
+            return None;
+        }
+        self.told
+            .compare_exchange(told, seconds, Ordering::SeqCst, Ordering::SeqCst)
+            .ok()?;
+        Some(seconds)
     }
 
-    /// Writes the line, and counts from 0 again.
-    fn tell(&self) -> io::Result<()> {
-        let line = self.line()?;
-        eprintln!(self.rt; "{line}")
+    /// Writes the line.
+    fn tell(&self, seconds: u64) -> io::Result<()> {
+        let line = self.line(seconds)?;
+        self.rt.eprint(line.as_str())
     }
 
-    fn line(&self) -> Result<String, AllocError> {
-        let mut line = String::from_str(self.alloc, "turns:")?;
-        for (log, turns) in self.turns.iter().enumerate() {
-            let count = turns.swap(0, Ordering::SeqCst);
-            if count > 0 {
-                let side = if log % 2 == 0 {
-                    "system"
-                } else {
-                    "environment"
-                };
-                let size = log / 2;
-                write!(line, " {side} {size}: {count}")?;
+    fn line(&self, seconds: u64) -> Result<String, AllocError> {
+        let mut sizes = Vec::new(self.alloc);
+        for (log, counts) in self.counts.iter().enumerate() {
+            let all = counts.turns.load(Ordering::SeqCst);
+            let told = counts.told.swap(all, Ordering::SeqCst);
+            if all > 0 {
+                sizes.push(SizeTurns {
+                    side: side_of(log),
+                    size: log / 2,
+                    all,
+                    last: all.saturating_sub(told),
+                    entries: counts.entries.load(Ordering::SeqCst),
+                })?;
             }
         }
-        Ok(line)
+        progress_line(self.alloc, seconds, &sizes, self.limit)
+    }
+}
+
+// The side of a log.
+fn side_of(log: usize) -> Side {
+    if log % 2 == 0 {
+        Side::System
+    } else {
+        Side::Environment
     }
 }
 
 impl<'a, R: Clock + Eprint> Gate for CountingGate<'a, R> {
     fn pass(&self, _worker: u32, log: u32, moment: Moment) {
-        if self.start.is_none() || moment != Moment::AfterRead {
+        self.is_passed.store(true, Ordering::SeqCst);
+        if self.start.is_none() {
             return;
         }
-        if let Some(turns) = self.turns.get(log as usize) {
-            turns.fetch_add(1, Ordering::SeqCst);
+        if let Some(counts) = self.counts.get(log as usize) {
+            match moment {
+                Moment::BeforeAppend => return,
+                Moment::AfterAppend => counts.entries.fetch_add(1, Ordering::SeqCst),
+                Moment::AfterRead => counts.turns.fetch_add(1, Ordering::SeqCst),
+            };
         }
-        if self.is_due() {
-            let _ = self.tell();
+        if let Some(seconds) = self.due_second() {
+            let _ = self.tell(seconds);
         }
     }
 }

@@ -1,0 +1,219 @@
+use std::alloc::AllocError;
+use std::fmt::Write;
+
+/// What a word may be.
+#[derive(Clone, Copy)]
+pub(crate) enum Values {
+    /// The name of a file.
+    File,
+    /// A number from the first to the second.
+    Number(u32, u32),
+    /// A number up to this one, or `none`.
+    Limit(u32),
+    /// One of two words.
+    Either(&'static str, &'static str),
+}
+
+/// What must be given by its place, or an option.
+#[derive(Clone, Copy)]
+pub(crate) struct Part {
+    pub(crate) name: &'static str,
+    pub(crate) values: Values,
+}
+
+/// A command.
+#[derive(Clone, Copy)]
+pub(crate) struct Command {
+    pub(crate) name: &'static str,
+    /// What must be given, in order.
+    pub(crate) places: &'static [Part],
+    pub(crate) options: &'static [Part],
+}
+
+/// The commands, in the order of the help page.
+pub(crate) const COMMANDS: [Command; 9] = [
+    Command {
+        name: "synth",
+        places: &[SPEC],
+        options: &[MAX, ENTRIES, WORKERS, KIND, COUNTS],
+    },
+    Command {
+        name: "check",
+        places: &[
+            SPEC,
+            Part {
+                name: "CERT",
+                values: Values::File,
+            },
+        ],
+        options: &[],
+    },
+    Command {
+        name: "expand",
+        places: &[SPEC],
+        options: &[],
+    },
+    Command {
+        name: "lasso",
+        places: &[
+            SPEC,
+            Part {
+                name: "WORD",
+                values: Values::File,
+            },
+        ],
+        options: &[],
+    },
+    Command {
+        name: "gen",
+        places: &[Part {
+            name: "K",
+            values: Values::Number(1, 8),
+        }],
+        options: &[],
+    },
+    Command {
+        name: "bench",
+        places: &[Part {
+            name: "K",
+            values: Values::Number(1, 4),
+        }],
+        options: &[WORKERS],
+    },
+    Command {
+        name: "verify",
+        places: &[
+            SPEC,
+            Part {
+                name: "CIRCUIT",
+                values: Values::File,
+            },
+        ],
+        options: &[],
+    },
+    Command {
+        name: "core",
+        places: &[SPEC],
+        options: &[MAX, ENTRIES, WORKERS, KIND, COUNTS],
+    },
+    Command {
+        name: "batch",
+        places: &[Part {
+            name: "LIST",
+            values: Values::File,
+        }],
+        options: &[
+            Part {
+                name: "--max",
+                values: Values::Number(1, 4),
+            },
+            ENTRIES,
+            Part {
+                name: "--workers",
+                values: Values::Number(1, 4),
+            },
+            COUNTS,
+        ],
+    },
+];
+
+const SPEC: Part = Part {
+    name: "SPEC",
+    values: Values::File,
+};
+
+const MAX: Part = Part {
+    name: "--max",
+    values: Values::Number(1, 8),
+};
+
+const ENTRIES: Part = Part {
+    name: "--entries",
+    values: Values::Limit(250_000),
+};
+
+const WORKERS: Part = Part {
+    name: "--workers",
+    values: Values::Number(1, 8),
+};
+
+const KIND: Part = Part {
+    name: "--kind",
+    values: Values::Either("mealy", "moore"),
+};
+
+const COUNTS: Part = Part {
+    name: "--counts",
+    values: Values::Either("whole", "local"),
+};
+
+/// The command of that name.
+pub(crate) fn command_of(name: &str) -> Option<Command> {
+    COMMANDS
+        .iter()
+        .find(|command| command.name == name)
+        .copied()
+}
+
+impl Command {
+    /// Appends its form, as `gen K`.
+    pub(crate) fn push_form(self, out: &mut String) -> Result<(), AllocError> {
+        let Command {
+            name,
+            places,
+            options,
+        } = self;
+        out.push_str(name)?;
+        for place in places {
+            let name = place.name;
+            write!(out, " {name}")?;
+        }
+        for option in options {
+            let name = option.name;
+            write!(out, " [{name} ")?;
+            option.values.push_to(out)?;
+            out.push(']')?;
+        }
+        Ok(())
+    }
+
+    /// The option of that name.
+    pub(crate) fn option(self, name: &str) -> Option<Part> {
+        self.options
+            .iter()
+            .find(|option| option.name == name)
+            .copied()
+    }
+}
+
+impl Values {
+    /// Whether a word is one of them.
+    pub(crate) fn fit(self, word: &str) -> bool {
+        match self {
+            Values::File => true,
+            Values::Number(least, most) => is_number(word, least, most),
+            Values::Limit(most) => word == "none" || is_number(word, 0, most),
+            Values::Either(one, other) => word == one || word == other,
+        }
+    }
+
+    /// Appends what they are, as a form and a sentence have it.
+    pub(crate) fn push_to(self, out: &mut String) -> Result<(), AllocError> {
+        match self {
+            Values::File => out.push_str("the name of a file"),
+            Values::Number(least, most) => write!(out, "{least}..{most}"),
+            Values::Limit(most) => write!(out, "0..{most}|none"),
+            Values::Either(one, other) => write!(out, "{one}|{other}"),
+        }
+    }
+}
+
+// Whether a word is a number without leading zeros in that range.
+fn is_number(word: &str, least: u32, most: u32) -> bool {
+    let is_numeral = word.bytes().all(|byte| byte.is_ascii_digit())
+        && (word.len() == 1 || !word.starts_with('0'));
+    is_numeral
+        && word
+            .parse::<u32>()
+            .is_ok_and(|number| least <= number && number <= most)
+}

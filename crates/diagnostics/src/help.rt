@@ -1,0 +1,44 @@
+use crate::VERSION;
+use crate::commands::COMMANDS;
+use std::alloc::AllocError;
+use std::fmt::Write;
+
+const PAGE: &str = "  synth SPEC           the smallest controller with its logs, or who defeats it
+  check SPEC CERT      test the logs of a printed document
+  expand SPEC          the text without parameters, functions and sets
+  lasso SPEC WORD      whether the text holds on a word
+  gen K                the text of an arbiter of K clients, 1 to 8
+  bench K              a search on that text, K from 1 to 4
+  verify SPEC CIRCUIT  test an annotated circuit of another maker
+  core SPEC            guarantees that can't be met together
+  batch LIST           `synth` on each text of a list
+options behind these words, and what holds without them:
+  --max N              most states, 1 to 8 (4); in batch 1 to 4 (4)
+  --entries B          most entries of a log, 0 to 250000 or none (50000)
+  --workers W          threads, 1 to 8 (4); in batch 1 to 4 (4)
+  --kind mealy|moore   the kind, in place of the text's own
+  --counts whole|local how base clauses bound their counts (whole)
+words before the command, for standard error:
+  --progress           a line each second   --verbose  what was found, too
+  --quiet              no messages
+statuses:  0 done  10 realizable  11 a machine, but a log is full
+  20 unrealizable  30 unknown  40 a line refused  1 the text refused
+  2 a usage error  3 can't read  4 can't write  5 out of memory
+";
+
+/// Appends the help page.
+pub(crate) fn push_help(out: &mut String) -> Result<(), AllocError> {
+    writeln!(out, "boundsyn {VERSION}: bounded synthesis of TLSF texts")?;
+    out.push_str(PAGE)
+}
+
+/// Appends the forms of all commands.
+pub(crate) fn push_forms(out: &mut String) -> Result<(), AllocError> {
+    out.push_str("  the words are one of:\n")?;
+    for command in COMMANDS {
+        out.push_str("    ")?;
+        command.push_form(out)?;
+        out.push('\n')?;
+    }
+    out.push_str("  `boundsyn --help` says what they do\n")
+}

@@ -1,0 +1,26 @@
+//! What a run of the program says on standard error: why a text, a line or a word is refused, why there is no verdict, what couldn't be
+//! read or written, and, where that is wanted, what was found.
+//!
+//! `message` makes it from what was seen of a run from around it: its words, its status, copies of its files (`KeptFiles`) and what it
+//! wrote (`Heard`). It promises safety alone, and what it says changes nothing of a run. Stands on text_messages for texts and lines.
+#![tactic(auto)]
+
+mod answers;
+mod commands;
+mod heard;
+mod help;
+mod kept;
+mod messages;
+mod own_words;
+mod progress;
+mod unknown;
+mod wrong_words;
+
+pub use heard::Heard;
+pub use kept::{KeptFile, KeptFiles};
+pub use messages::{Seen, message};
+pub use own_words::{OwnWords, read_own_words};
+pub use progress::{SizeTurns, entry_limit, progress_line};
+
+/// The version of the program, which is that of the file VERSION.
+pub const VERSION: &str = "0.3.0";

@@ -1,0 +1,187 @@
+use crate::answers::push_answer;
+use crate::heard::{Answer, Heard};
+use crate::kept::{KeptFile, KeptFiles};
+use crate::unknown::push_unknown;
+use crate::wrong_words::push_wrong_words;
+use program_replies::Status;
+use std::alloc::{AllocError, Global};
+use std::fmt::Write;
+use text_messages::{LineFault, LineOf, Source, push_line_fault, push_text_fault};
+
+const DONE: u8 = Status::Done as u8;
+
+const REFUSED: u8 = Status::Refused as u8;
+
+const WORDS_REFUSED: u8 = Status::WordsRefused as u8;
+
+const CANNOT_READ: u8 = Status::CannotRead as u8;
+
+const CANNOT_WRITE: u8 = Status::CannotWrite as u8;
+
+const NO_MEMORY: u8 = Status::NoMemory as u8;
+
+const BOUNDED: u8 = Status::Bounded as u8;
+
+const UNKNOWN: u8 = Status::Unknown as u8;
+
+const LINE_REFUSED: u8 = Status::LineRefused as u8;
+
+/// What was seen of a run from around it.
+#[derive(Clone, Copy)]
+pub struct Seen<'a> {
+    /// The words that it was given, the program's name among them.
+    pub words: &'a [String],
+    pub status: u8,
+    pub files: &'a KeptFiles,
+    pub heard: &'a Heard,
+    /// Why the last file that couldn't be taken couldn't, if that is known.
+    pub read_error: Option<&'a str>,
+    /// Why the output couldn't be written, if that is known.
+    pub write_error: Option<&'a str>,
+    /// Whether a worker of a search passed its gate.
+    pub is_searched: bool,
+}
+
+/// What is said of the run on standard error: why its status is no success, and, where that is wanted, what was found. Nothing is said
+/// where memory lacked for what was to be remembered.
+pub fn message(alloc: Global, seen: Seen<'_>, is_verbose: bool) -> Result<String, AllocError> {
+    let mut out = String::new(alloc);
+    push_message(alloc, seen, is_verbose, &mut out)?;
+    Ok(out)
+}
+
+fn push_message(
+    alloc: Global,
+    seen: Seen<'_>,
+    is_verbose: bool,
+    out: &mut String,
+) -> Result<(), AllocError> {
+    let is_lost = seen.files.is_lost() || seen.heard.is_lost();
+    match seen.status {
+        WORDS_REFUSED => push_wrong_words(alloc, seen.words, out),
+        CANNOT_READ => push_unread(seen, out),
+        CANNOT_WRITE => push_unwritten(seen, out),
+        NO_MEMORY => push_memory(seen, out),
+        _ if is_lost => Ok(()),
+        DONE => push_texts(alloc, seen, is_verbose, out),
+        REFUSED => push_refused(alloc, seen, out),
+        BOUNDED | UNKNOWN => push_open(alloc, seen, out),
+        LINE_REFUSED => push_refused_line(alloc, seen, out),
+        _ if is_verbose => push_found(alloc, seen, out),
+        _ => Ok(()),
+    }
+}
+
+fn source(file: &KeptFile) -> Source<'_> {
+    Source {
+        name: file.name.as_str(),
+        bytes: &file.bytes,
+        is_whole: file.is_whole,
+    }
+}
+
+fn first_file(seen: Seen<'_>) -> Option<Source<'_>> {
+    Some(source(seen.files.files().first()?))
+}
+
+// == faults of the system ==
+
+fn push_unread(seen: Seen<'_>, out: &mut String) -> Result<(), AllocError> {
+    let name = seen.files.failed().unwrap_or("a file");
+    let reason = seen.read_error.unwrap_or("the system gave no reason");
+    writeln!(out, "{name}: error: can't be read: {reason}")
+}
+
+fn push_unwritten(seen: Seen<'_>, out: &mut String) -> Result<(), AllocError> {
+    let reason = seen.write_error.unwrap_or("the system gave no reason");
+    let bytes = seen.heard.bytes();
+    writeln!(
+        out,
+        "boundsyn: error: the output can't be written: {reason}; at least {bytes} bytes went out before"
+    )
+}
+
+fn push_memory(seen: Seen<'_>, out: &mut String) -> Result<(), AllocError> {
+    let place = if seen.heard.bytes() > 0 {
+        "while the answer was written"
+    } else if seen.is_searched {
+        "in the search"
+    } else if seen.files.files().is_empty() {
+        "before a text was read"
+    } else {
+        "after the text was read, before a search"
+    };
+    writeln!(out, "boundsyn: error: memory ran out {place}")
+}
+
+// == answers ==
+
+fn push_refused(alloc: Global, seen: Seen<'_>, out: &mut String) -> Result<(), AllocError> {
+    match (first_file(seen), seen.heard.answer().fault) {
+        (Some(file), Some(fault)) => push_text_fault(alloc, file, fault, out),
+        _ => Ok(()),
+    }
+}
+
+// What a refused line is of, by the command.
+fn line_of(seen: Seen<'_>) -> Option<LineOf> {
+    match seen.words.get(1)?.as_str() {
+        "check" => Some(LineOf::Document),
+        "lasso" => Some(LineOf::Word),
+        "verify" => Some(LineOf::Circuit),
+        "batch" => Some(LineOf::List),
+        _ => None,
+    }
+}
+
+fn push_refused_line(alloc: Global, seen: Seen<'_>, out: &mut String) -> Result<(), AllocError> {
+    let (Some(of), Some(line)) = (line_of(seen), seen.heard.answer().line) else {
+        return Ok(());
+    };
+    match seen.files.files().last() {
+        Some(file) => push_line_fault(alloc, source(file), LineFault { of, line }, out),
+        None => Ok(()),
+    }
+}
+
+fn push_open(alloc: Global, seen: Seen<'_>, out: &mut String) -> Result<(), AllocError> {
+    match (first_file(seen), seen.heard.answer().verdict) {
+        (Some(file), Some(_)) => push_unknown(alloc, file.name, seen.heard.answer(), out),
+        _ => Ok(()),
+    }
+}
+
+fn push_found(alloc: Global, seen: Seen<'_>, out: &mut String) -> Result<(), AllocError> {
+    match first_file(seen) {
+        Some(file) => push_answer(alloc, file, seen.heard.answer(), out),
+        None => Ok(()),
+    }
+}
+
+// Appends a message for each refused text of a list, and what was found of the others where that is wanted.
+fn push_texts(
+    alloc: Global,
+    seen: Seen<'_>,
+    is_verbose: bool,
+    out: &mut String,
+) -> Result<(), AllocError> {
+    let texts = seen.files.files().iter().skip(1);
+    for (file, answer) in texts.zip(seen.heard.texts()) {
+        push_text(alloc, source(file), answer, is_verbose, out)?;
+    }
+    Ok(())
+}
+
+fn push_text(
+    alloc: Global,
+    file: Source<'_>,
+    answer: &Answer,
+    is_verbose: bool,
+    out: &mut String,
+) -> Result<(), AllocError> {
+    match answer.fault {
+        Some(fault) => push_text_fault(alloc, file, fault, out),
+        None if is_verbose => push_answer(alloc, file, answer, out),
+        None => Ok(()),
+    }
+}

@@ -1,0 +1,98 @@
+use letter_word::Side;
+use std::alloc::{AllocError, Global};
+use std::fmt::Write;
+
+/// The most characters of a line.
+const MOST_COLUMNS: usize = 120;
+
+/// What was counted at one size of one side.
+#[derive(Clone, Copy)]
+pub struct SizeTurns {
+    pub side: Side,
+    pub size: usize,
+    /// The turns that were taken there so far.
+    pub all: u64,
+    /// Those of the last second.
+    pub last: u64,
+    /// The entries that were appended to its log, so far as they were counted.
+    pub entries: u64,
+}
+
+/// The limit of entries that the words set, where one search alone runs: with `synth`. The other commands count those of many logs.
+pub fn entry_limit(words: &[String]) -> Option<u64> {
+    let command = words.get(1)?;
+    if command.as_str() != "synth" {
+        return None;
+    }
+    let mut limit = Some(50_000u64);
+    let mut is_next = false;
+    for word in words.iter().skip(2) {
+        let word = word.as_str();
+        if is_next {
+            limit = word.parse::<u64>().ok();
+        } else if let Some(value) = word.strip_prefix("--entries=") {
+            limit = value.parse::<u64>().ok();
+        }
+        is_next = word == "--entries";
+    }
+    limit
+}
+
+/// The line on a search that runs so many seconds: for each size the turns in all, those of the last second, and, where there is a
+/// limit, the entries of its log. At most 120 characters, with its end; the sizes at which nobody took a turn lately come last.
+pub fn progress_line(
+    alloc: Global,
+    seconds: u64,
+    sizes: &[SizeTurns],
+    limit: Option<u64>,
+) -> Result<String, AllocError> {
+    let mut line = format!(in alloc; "{seconds} s")?;
+    if let Some(limit) = limit {
+        write!(line, ", limit {limit}")?;
+    }
+    line.push(':')?;
+    for is_lately in [true, false] {
+        for size in sizes.iter().filter(|size| (size.last > 0) == is_lately) {
+            push_size(alloc, *size, limit, &mut line)?;
+        }
+    }
+    line.push('\n')?;
+    Ok(line)
+}
+
+// Appends a size as far as it fits in the line.
+fn push_size(
+    alloc: Global,
+    size: SizeTurns,
+    limit: Option<u64>,
+    line: &mut String,
+) -> Result<(), AllocError> {
+    let piece = piece(alloc, size, limit)?;
+    if line.len().saturating_add(piece.len()) <= MOST_COLUMNS {
+        line.push_str(&piece)?;
+    }
+    Ok(())
+}
+
+// What is told of one size: ` system 2: turns 810 (+95), entries 812;`.
+fn piece(alloc: Global, turns: SizeTurns, limit: Option<u64>) -> Result<String, AllocError> {
+    let side = match turns.side {
+        Side::System => "system",
+        Side::Environment => "environment",
+    };
+    let SizeTurns {
+        size,
+        all,
+        last,
+        entries,
+        ..
+    } = turns;
+    let mut piece = format!(in alloc; " {side} {size}: turns {all} (+{last})")?;
+    if let Some(limit) = limit {
+        // A worker whose entry came too late for a full log counts it too.
+        let entries = entries.min(limit);
+        write!(piece, ", entries {entries}")?;
+    }
+    piece.push(';')?;
+    Ok(piece)
+}

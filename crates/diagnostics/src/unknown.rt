@@ -1,0 +1,265 @@
+use crate::heard::{Answer, Log, Verdict};
+use letter_word::{Kind, Side};
+use std::alloc::{AllocError, Global};
+use std::fmt::Write;
+
+/// The greatest size that any search may be allowed.
+const GREATEST_SIZE: u64 = 8;
+
+/// The version of documents over base clauses that bound counts locally, of which a size may have more.
+const LOCAL_VERSION: u64 = 5;
+
+/// What became of the sizes of one side.
+#[derive(Drop)]
+struct Sizes {
+    refuted: Vec<u64>,
+    full: Vec<u64>,
+    /// How many sizes were searched, from 1 on.
+    count: u64,
+}
+
+impl Sizes {
+    fn of(alloc: Global, logs: &[Log]) -> Result<Sizes, AllocError> {
+        let closed = logs.iter().filter(|log| log.is_closed);
+        let others = logs.iter().filter(|log| !log.is_closed);
+        Ok(Sizes {
+            refuted: closed.map(|log| log.size).collect(alloc)?,
+            full: others.map(|log| log.size).collect(alloc)?,
+            count: logs.len() as u64,
+        })
+    }
+}
+
+/// Appends why an answer has no verdict, or a machine that may not be the smallest: what became of the sizes of each side, why no
+/// greater ones were searched, and what may help.
+pub(crate) fn push_unknown(
+    alloc: Global,
+    name: &str,
+    answer: &Answer,
+    out: &mut String,
+) -> Result<(), AllocError> {
+    let system = Sizes::of(alloc, &answer.logs_of(alloc, Side::System)?)?;
+    let environment = Sizes::of(alloc, &answer.logs_of(alloc, Side::Environment)?)?;
+    write!(out, "{name}: ")?;
+    match answer.verdict {
+        Some(Verdict::Bounded(side, states)) => {
+            push_bounded(side, states, out)?;
+            let sizes = if side == Side::System {
+                &system
+            } else {
+                &environment
+            };
+            push_sizes(side, sizes, answer, out)?;
+            out.push_str("\n")?;
+            push_advice(Advice::bounded(answer), answer, out)
+        },
+        _ => {
+            push_open(&system, &environment, out)?;
+            push_side(Side::System, &system, answer, out)?;
+            push_side(Side::Environment, &environment, answer, out)?;
+            push_advice(Advice::unknown(&system, &environment, answer), answer, out)
+        },
+    }
+}
+
+fn push_bounded(side: Side, states: u64, out: &mut String) -> Result<(), AllocError> {
+    let what = match side {
+        Side::System => "realizable",
+        Side::Environment => "unrealizable: the environment wins",
+    };
+    let states = Count(states);
+    out.push_str(what)?;
+    out.push_str(" with ")?;
+    states.push_to("state", out)?;
+    out.push_str(", and whether with fewer isn't known\n")
+}
+
+// Appends that there is no verdict.
+fn push_open(system: &Sizes, environment: &Sizes, out: &mut String) -> Result<(), AllocError> {
+    out.push_str(if system.count == 0 && environment.count == 0 {
+        "unknown: no size was searched at all\n"
+    } else {
+        "unknown: no machine was found at the sizes that were searched\n"
+    })
+}
+
+// Appends what became of the sizes of a side, and why no greater one was searched.
+fn push_side(
+    side: Side,
+    sizes: &Sizes,
+    answer: &Answer,
+    out: &mut String,
+) -> Result<(), AllocError> {
+    push_sizes(side, sizes, answer, out)?;
+    if sizes.count > 0 {
+        out.push_str("; ")?;
+    }
+    if sizes.count >= answer.max {
+        let max = answer.max;
+        return writeln!(out, "greater ones aren't asked for (`--max {max}`)");
+    }
+    if side == Side::Environment && sizes.count == 0 {
+        out.push_str("its automaton passes a limit, or ")?;
+    }
+    let next = sizes.count.saturating_add(1);
+    let most = most_clauses(answer);
+    writeln!(out, "size {next} would have over {most} base clauses")
+}
+
+fn most_clauses(answer: &Answer) -> &'static str {
+    if answer.version == Some(LOCAL_VERSION) {
+        "4,000,000"
+    } else {
+        "1,000,000"
+    }
+}
+
+fn push_sizes(
+    side: Side,
+    sizes: &Sizes,
+    answer: &Answer,
+    out: &mut String,
+) -> Result<(), AllocError> {
+    let name = match side {
+        Side::System => "system",
+        Side::Environment => "environment",
+    };
+    write!(out, "  {name}: ")?;
+    if !sizes.refuted.is_empty() {
+        push_list("size", &sizes.refuted, out)?;
+        out.push_str(" refuted")?;
+    }
+    if !sizes.full.is_empty() {
+        if !sizes.refuted.is_empty() {
+            out.push_str("; ")?;
+        }
+        let noun = if sizes.full.len() > 1 {
+            "the logs of size"
+        } else {
+            "the log of size"
+        };
+        push_list(noun, &sizes.full, out)?;
+        out.push_str(" full")?;
+        if let Some(entries) = answer.entries {
+            write!(out, " (`--entries {entries}`)")?;
+        }
+    }
+    Ok(())
+}
+
+// Appends numbers behind a noun: `sizes 1, 2 and 3`.
+fn push_list(noun: &str, numbers: &[u64], out: &mut String) -> Result<(), AllocError> {
+    out.push_str(noun)?;
+    if numbers.len() > 1 {
+        out.push('s')?;
+    }
+    out.push(' ')?;
+    push_numbers(numbers, out)
+}
+
+/// Appends numbers: `1, 2 and 3`.
+pub(crate) fn push_numbers(numbers: &[u64], out: &mut String) -> Result<(), AllocError> {
+    let last = numbers.len().saturating_sub(1);
+    for (place, number) in numbers.iter().enumerate() {
+        if place > 0 {
+            out.push_str(if place == last { " and " } else { ", " })?;
+        }
+        write!(out, "{number}")?;
+    }
+    Ok(())
+}
+
+/// A number of things.
+#[derive(Clone, Copy)]
+pub(crate) struct Count(pub(crate) u64);
+
+impl Count {
+    /// Appends it with the noun: `1 state`, `2 states`.
+    pub(crate) fn push_to(self, noun: &str, out: &mut String) -> Result<(), AllocError> {
+        let number = self.0;
+        write!(out, "{number} {noun}")?;
+        if number == 1 { Ok(()) } else { out.push('s') }
+    }
+}
+
+/// What may help.
+#[derive(Clone, Copy)]
+struct Advice {
+    /// Where other base clauses may help.
+    counts: bool,
+    /// Whose sizes reached the greatest one that was asked for, where there are greater ones.
+    max: Option<&'static str>,
+    /// Where a log is full.
+    entries: bool,
+    kind: bool,
+    /// Where a size has too many base clauses.
+    is_cut: bool,
+}
+
+impl Advice {
+    fn bounded(answer: &Answer) -> Advice {
+        Advice {
+            counts: answer.version != Some(LOCAL_VERSION),
+            max: None,
+            entries: true,
+            kind: false,
+            is_cut: false,
+        }
+    }
+
+    fn unknown(system: &Sizes, environment: &Sizes, answer: &Answer) -> Advice {
+        let is_cut = system.count < answer.max || environment.count < answer.max;
+        let is_full = !system.full.is_empty() || !environment.full.is_empty();
+        Advice {
+            counts: (is_cut || is_full) && answer.version != Some(LOCAL_VERSION),
+            max: reaching(system, environment, answer),
+            entries: is_full,
+            kind: true,
+            is_cut,
+        }
+    }
+}
+
+// Which side reached the greatest size that was asked for, where there are greater ones.
+fn reaching(system: &Sizes, environment: &Sizes, answer: &Answer) -> Option<&'static str> {
+    if answer.max >= GREATEST_SIZE {
+        return None;
+    }
+    match (system.count >= answer.max, environment.count >= answer.max) {
+        (true, true) => Some("both sides"),
+        (true, false) => Some("the system"),
+        (false, true) => Some("the environment"),
+        (false, false) => None,
+    }
+}
+
+fn push_advice(advice: Advice, answer: &Answer, out: &mut String) -> Result<(), AllocError> {
+    if advice.counts {
+        out.push_str("  try `--counts local`, with which a size has fewer base clauses\n")?;
+    }
+    if let Some(side) = advice.max {
+        writeln!(
+            out,
+            "  try a greater `--max`, up to 8, for {side}, as far as base clauses allow"
+        )?;
+    }
+    if advice.entries {
+        out.push_str("  try `--entries none`, or a greater number up to 250000\n")?;
+    }
+    if advice.kind {
+        let other = match answer.kind {
+            Kind::Mealy => "moore",
+            Kind::Moore => "mealy",
+        };
+        writeln!(out, "  try `--kind {other}`, where that kind serves")?;
+    }
+    if advice.is_cut {
+        let other = if advice.counts { "other " } else { "" };
+        let most = most_clauses(answer);
+        writeln!(
+            out,
+            "  no {other}option allows a size with over {most} base clauses"
+        )?;
+    }
+    out.push_str("  fewer or simpler guarantees with F and U make the search easier\n")
+}

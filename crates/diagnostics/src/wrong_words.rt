@@ -1,0 +1,234 @@
+use crate::VERSION;
+use crate::commands::{Command, Part, Values, command_of};
+use crate::help::{push_forms, push_help};
+use std::alloc::{AllocError, Global};
+use std::fmt::Write;
+use text_messages::push_line_start;
+
+/// What is wrong with words, the first of them from the left.
+#[derive(Clone, Copy)]
+enum Wrong<'a> {
+    Help,
+    Version,
+    NotText,
+    NoCommand,
+    UnknownCommand(&'a str),
+    UnknownOption(&'a str),
+    Twice(&'a str),
+    NoValue(Part),
+    BadValue(Part, &'a str),
+    NoName(Part),
+    NameTooMany(&'a str),
+    /// None that is known here.
+    Other,
+}
+
+/// Appends which of the words is wrong and why, and the form of its command or of all; or the help page, or the version.
+pub(crate) fn push_wrong_words(
+    alloc: Global,
+    words: &[String],
+    out: &mut String,
+) -> Result<(), AllocError> {
+    let command = words.get(1).and_then(|word| command_of(word.as_str()));
+    match wrong_in(command, words) {
+        Wrong::Help => return push_help(out),
+        Wrong::Version => return writeln!(out, "boundsyn {VERSION}"),
+        wrong => {
+            out.push_str("boundsyn: error: ")?;
+            push_wrong(alloc, wrong, out)?;
+            out.push('\n')?;
+        },
+    }
+    match command {
+        Some(command) => {
+            out.push_str("  the words are: boundsyn ")?;
+            command.push_form(out)?;
+            out.push('\n')
+        },
+        None => push_forms(out),
+    }
+}
+
+fn push_wrong(alloc: Global, wrong: Wrong<'_>, out: &mut String) -> Result<(), AllocError> {
+    match wrong {
+        Wrong::NotText => out.push_str("a word isn't in UTF-8"),
+        Wrong::NoCommand => out.push_str("no command is given"),
+        Wrong::UnknownCommand(word) => push_about(alloc, "unknown command ", word, out),
+        Wrong::UnknownOption(word) => push_about(alloc, "unknown option ", word, out),
+        Wrong::Twice(word) => push_about(alloc, "given a second time: ", word, out),
+        Wrong::NameTooMany(word) => push_about(alloc, "a name too many: ", word, out),
+        Wrong::NoValue(part) => { push_part(part, "has no value", out) },
+        Wrong::NoName(part) => push_part(part, "is missing", out),
+        Wrong::BadValue(part, word) => {
+            push_about(alloc, "", word, out)?;
+            out.push_str(" is no value of ")?;
+            push_values(part, out)
+        },
+        Wrong::Help | Wrong::Version | Wrong::Other => out.push_str("the words have another form"),
+    }
+}
+
+fn push_part(part: Part, what: &str, out: &mut String) -> Result<(), AllocError> {
+    let name = part.name;
+    write!(out, "{name} {what}")?;
+    match part.values {
+        Values::File => Ok(()),
+        values => {
+            out.push_str(": ")?;
+            values.push_to(out)
+        },
+    }
+}
+
+fn push_values(part: Part, out: &mut String) -> Result<(), AllocError> {
+    let name = part.name;
+    write!(out, "{name}, which is ")?;
+    part.values.push_to(out)
+}
+
+// Appends a word in quotes behind a text.
+fn push_about(alloc: Global, before: &str, word: &str, out: &mut String) -> Result<(), AllocError> {
+    out.push_str(before)?;
+    out.push('`')?;
+    push_line_start(alloc, word.as_bytes(), out)?;
+    out.push('`')
+}
+
+fn wrong_in<'a>(command: Option<Command>, words: &'a [String]) -> Wrong<'a> {
+    let Some(first) = words.get(1) else {
+        // Words that are no text are given as none at all, without the program's name.
+        return if words.is_empty() {
+            Wrong::NotText
+        } else {
+            Wrong::NoCommand
+        };
+    };
+    let first = first.as_str();
+    match (first, command) {
+        ("--help" | "-h" | "help", _) => Wrong::Help,
+        ("--version" | "-V", _) => Wrong::Version,
+        ("--progress" | "--quiet" | "--verbose", _) => Wrong::Twice(first),
+        (_, None) if first.starts_with('-') => Wrong::UnknownOption(first),
+        (_, None) => Wrong::UnknownCommand(first),
+        (_, Some(command)) => wrong_behind(command, words),
+    }
+}
+
+// What is wrong behind a command.
+fn wrong_behind<'a>(command: Command, words: &'a [String]) -> Wrong<'a> {
+    let mut reading = Reading {
+        is_open: false,
+        names: 0,
+        is_plain: false,
+    };
+    for (place, word) in words.iter().enumerate().skip(2) {
+        let before = words.get(2..place).unwrap_or(&[]);
+        if let Some(wrong) = reading.wrong(command, word.as_str(), before) {
+            return wrong;
+        }
+    }
+    reading.end(command, words)
+}
+
+// What is known of the words so far.
+#[derive(Clone, Copy)]
+struct Reading {
+    /// Whether the last word is an option whose value comes next.
+    is_open: bool,
+    /// How many names there were.
+    names: usize,
+    /// Whether the word `--` was there, behind which all are names.
+    is_plain: bool,
+}
+
+impl Reading {
+    // Reads a word; it is wrong where one is given. The words before it are those behind the command.
+    fn wrong<'a>(
+        &mut self,
+        command: Command,
+        word: &'a str,
+        before: &[String],
+    ) -> Option<Wrong<'a>> {
+        if self.is_open {
+            self.is_open = false;
+            return wrong_value(last_option(command, before)?, word);
+        }
+        if self.is_plain || !word.starts_with('-') || word == "-" {
+            return self.wrong_name(command, word);
+        }
+        match word {
+            "--" => {
+                self.is_plain = true;
+                None
+            },
+            "--help" | "-h" => Some(Wrong::Help),
+            _ => self.wrong_option(command, word, before),
+        }
+    }
+
+    fn wrong_name<'a>(&mut self, command: Command, word: &'a str) -> Option<Wrong<'a>> {
+        let Some(place) = command.places.get(self.names).copied() else {
+            return Some(Wrong::NameTooMany(word));
+        };
+        self.names = self.names.saturating_add(1);
+        wrong_value(place, word)
+    }
+
+    fn wrong_option<'a>(
+        &mut self,
+        command: Command,
+        word: &'a str,
+        before: &[String],
+    ) -> Option<Wrong<'a>> {
+        let (name, value) = match word.split_once('=') {
+            Some((name, value)) => (name, Some(value)),
+            None => (word, None),
+        };
+        let Some(option) = command.option(name) else {
+            return Some(Wrong::UnknownOption(word));
+        };
+        if before
+            .iter()
+            .any(|earlier| names_option(earlier.as_str(), name))
+        {
+            return Some(Wrong::Twice(name));
+        }
+        self.is_open = value.is_none();
+        wrong_value(option, value?)
+    }
+
+    // What is wrong where no word comes any more.
+    fn end<'a>(self, command: Command, words: &[String]) -> Wrong<'a> {
+        let open = if self.is_open {
+            last_option(command, words)
+        } else {
+            None
+        };
+        match (open, command.places.get(self.names)) {
+            (Some(option), _) => Wrong::NoValue(option),
+            (None, Some(place)) => Wrong::NoName(*place),
+            (None, None) => Wrong::Other,
+        }
+    }
+}
+
+// The option that the last word names.
+fn last_option(command: Command, words: &[String]) -> Option<Part> {
+    command.option(words.last()?.as_str())
+}
+
+fn wrong_value<'a>(part: Part, word: &'a str) -> Option<Wrong<'a>> {
+    if part.values.fit(word) {
+        None
+    } else {
+        Some(Wrong::BadValue(part, word))
+    }
+}
+
+// Whether a word names that option, alone or with its value.
+fn names_option(word: &str, name: &str) -> bool {
+    match word.strip_prefix(name) {
+        Some(rest) => rest.is_empty() || rest.starts_with('='),
+        None => false,
+    }
+}
