@@ -1,94 +1,21 @@
-//! The program: shows a document as a summary, a table, a drawing or a waveform, on standard output.
+//! The program: shows a document or a circuit as a summary, a table, a drawing, a waveform, code or a page, and a text for other tools,
+//! on standard output; only `--proofs` writes files.
 #![tactic(auto)]
 
+mod answers;
+mod faults;
 mod words;
 
-use machine_views::{ShowFault, View, WordView, show};
-use outside_edge::{FileShelf, Shelf, ShelfFault};
-use std::alloc::{AllocError, Global};
+use answers::{machine_answer, text_answer};
+use faults::Fault;
+use spec_texts::Form;
+use std::alloc::Global;
 use std::env;
-use std::io::{self, ErrorKind};
+use std::io::{ErrorKind, Write};
 use std::process::ExitCode;
-use std::rt::Files;
-use words::{Asked, Settings, read_words};
+use words::{Task, read_words};
 
-const USAGE: &str =
-    "boundsyn-show DOC [--table | --dot | --vcd WORD | --wave WORD] [--rounds N], where N is 1 to 100";
-
-/// Why nothing is shown.
-#[derive(Clone, Copy)]
-enum Fault {
-    NoMemory,
-    CannotRead,
-    CannotWrite,
-    BadWords,
-    NotShown(ShowFault),
-}
-
-impl From<AllocError> for Fault {
-    fn from(_error: AllocError) -> Fault {
-        Fault::NoMemory
-    }
-}
-
-impl From<ShelfFault> for Fault {
-    fn from(fault: ShelfFault) -> Fault {
-        match fault {
-            ShelfFault::NoMemory => Fault::NoMemory,
-            ShelfFault::Failed | ShelfFault::TooLong => Fault::CannotRead,
-        }
-    }
-}
-
-impl From<ShowFault> for Fault {
-    fn from(fault: ShowFault) -> Fault {
-        match fault {
-            ShowFault::NoMemory => Fault::NoMemory,
-            other => Fault::NotShown(other),
-        }
-    }
-}
-
-impl Fault {
-    /// The exit status, as `boundsyn` has it where it has such a fault.
-    fn status(self) -> u8 {
-        match self {
-            Fault::NotShown(_) => 1,
-            Fault::BadWords => 2,
-            Fault::CannotRead => 3,
-            Fault::CannotWrite => 4,
-            Fault::NoMemory => 5,
-        }
-    }
-}
-
-/// The bytes of a file.
-fn bytes_of<R: Files>(rt: &R, alloc: Global, name: &str) -> Result<Vec<u8>, Fault> {
-    let mut bytes = Vec::new(alloc);
-    FileShelf::new(rt, alloc).take(name, u64::MAX, &mut bytes)?;
-    Ok(bytes)
-}
-
-/// What is asked for, of the files that are named.
-fn text_asked<R: Files>(rt: &R, alloc: Global, settings: Settings<'_>) -> Result<String, Fault> {
-    let document = bytes_of(rt, alloc, settings.document)?;
-    let word = match settings.asked {
-        Asked::Vcd(name) | Asked::Wave(name) => bytes_of(rt, alloc, name)?,
-        _ => Vec::new(alloc),
-    };
-    let word = WordView {
-        text: &word,
-        rounds: settings.rounds,
-    };
-    let view = match settings.asked {
-        Asked::Summary => View::Summary,
-        Asked::Table => View::Table,
-        Asked::Dot => View::Dot,
-        Asked::Vcd(_) => View::Vcd(word),
-        Asked::Wave(_) => View::Wave(word),
-    };
-    Ok(show(alloc, &document, view)?)
-}
+const VERSION: &str = "boundsyn-show 0.3.0";
 
 /// Shows what the words of the command line ask for.
 fn run(rt: &HostRuntime, alloc: Global) -> Result<(), Fault> {
@@ -98,33 +25,30 @@ fn run(rt: &HostRuntime, alloc: Global) -> Result<(), Fault> {
         Err(error) if error.kind() == ErrorKind::OutOfMemory => return Err(Fault::NoMemory),
         Err(_) => Vec::new(alloc),
     };
-    let Some(settings) = read_words(alloc, &words)? else {
+    let Some(task) = read_words(alloc, &words)? else {
         return Err(Fault::BadWords);
     };
-    let text = text_asked(rt, alloc, settings)?;
-    print!(rt; "{text}").or(Err(Fault::CannotWrite))
+    answer(rt, alloc, task)
 }
 
-/// The line that `boundsyn` writes at such a fault, and a sentence for a person.
-fn report(rt: &HostRuntime, fault: Fault) -> io::Result<()> {
-    match fault {
-        Fault::NoMemory => eprintln!(rt; "boundsyn-show: out of memory"),
-        Fault::CannotWrite => eprintln!(rt; "boundsyn-show: the output can't be written"),
-        Fault::CannotRead => {
-            println!(rt; "cannot read")?;
-            eprintln!(rt; "boundsyn-show: a file can't be read")
-        }
-        Fault::BadWords => {
-            println!(rt; "words refused")?;
-            eprintln!(rt; "usage: {USAGE}")
-        }
-        Fault::NotShown(reason) => {
-            if let Some(line) = reason.line() {
-                println!(rt; "refused at line {line}")?;
-            }
-            eprintln!(rt; "boundsyn-show: {reason}")
-        }
+fn answer(rt: &HostRuntime, alloc: Global, task: Task<'_>) -> Result<(), Fault> {
+    match task {
+        Task::Version => eprintln!(rt; "{VERSION}").or(Err(Fault::CannotWrite)),
+        Task::Machine(task) => write_out(rt, &machine_answer(rt, alloc, task)?),
+        Task::Text(name, form) => write_text(rt, alloc, name, form),
     }
+}
+
+fn write_text(rt: &HostRuntime, alloc: Global, name: &str, form: Form) -> Result<(), Fault> {
+    let text = text_answer(rt, alloc, name, form)?;
+    if let Some(note) = text.note {
+        let _ = eprintln!(rt; "boundsyn-show: {note}");
+    }
+    write_out(rt, &text.bytes)
+}
+
+fn write_out(rt: &HostRuntime, bytes: &[u8]) -> Result<(), Fault> {
+    rt.stdout().write_all(bytes).or(Err(Fault::CannotWrite))
 }
 
 fn main(rt: HostRuntime) -> ExitCode {
@@ -132,6 +56,6 @@ fn main(rt: HostRuntime) -> ExitCode {
     let Err(fault) = run(&rt, alloc) else {
         return ExitCode::SUCCESS;
     };
-    let _ = report(&rt, fault);
+    let _ = fault.report(&rt);
     ExitCode::from(fault.status())
 }

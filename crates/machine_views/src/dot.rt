@@ -1,11 +1,11 @@
 // A machine as a graph for Graphviz.
-use crate::cubes::{Edge, edges_of};
-use crate::machines::Machine;
-use crate::signals::push_letter;
+use letter_word::{Kind, Letter};
+use machine_table::{Edge, Machine, Row, edges_of, push_letter};
 use std::alloc::{AllocError, Global};
 use std::fmt::Write;
 
-// States are nodes, an arrow from a point marks the start, and an edge has its cube of input letters and what is written.
+// States are nodes, and an arrow from a point marks the start. An edge has its cube of input letters, and what is written stands
+// behind that, or in the state where it is of the state alone.
 pub(crate) fn push_dot(
     alloc: Global,
     machine: &Machine,
@@ -14,12 +14,27 @@ pub(crate) fn push_dot(
     out.push_str("digraph machine {\n    rankdir=LR;\n    node [shape=circle];\n")?;
     out.push_str("    start [shape=point];\n    start -> s0;\n")?;
     for (state, row) in machine.rows.iter().enumerate() {
-        writeln!(out, "    s{state} [label=\"{state}\"];")?;
+        push_node(alloc, machine, state, row, out)?;
         for edge in &edges_of(alloc, row)? {
             push_edge(alloc, machine, state, edge, out)?;
         }
     }
     out.push_str("}\n")
+}
+
+fn push_node(
+    alloc: Global,
+    machine: &Machine,
+    state: usize,
+    row: &Row,
+    out: &mut String,
+) -> Result<(), AllocError> {
+    write!(out, "    s{state} [label=\"{state}")?;
+    if let Kind::Moore = machine.kind {
+        out.push_str("\\n")?;
+        push_written(alloc, machine, row.first_written(), out)?;
+    }
+    out.push_str("\"];\n")
 }
 
 fn push_edge(
@@ -29,14 +44,27 @@ fn push_edge(
     edge: &Edge,
     out: &mut String,
 ) -> Result<(), AllocError> {
-    let mut label = String::new(alloc);
-    edge.cube.push_to(&machine.inputs, &mut label)?;
-    label.push_str(" / ")?;
-    push_letter(edge.answer.written, &machine.outputs, &mut label)?;
     let next = edge.answer.next;
     write!(out, "    s{state} -> s{next} [label=\"")?;
-    push_quoted(&label, out)?;
+    let mut reads = String::new(alloc);
+    edge.cube.push_to(&machine.inputs, &mut reads)?;
+    push_quoted(&reads, out)?;
+    if let Kind::Mealy = machine.kind {
+        out.push_str(" / ")?;
+        push_written(alloc, machine, edge.answer.written, out)?;
+    }
     out.push_str("\"];\n")
+}
+
+fn push_written(
+    alloc: Global,
+    machine: &Machine,
+    written: Letter,
+    out: &mut String,
+) -> Result<(), AllocError> {
+    let mut writes = String::new(alloc);
+    push_letter(written, &machine.outputs, &mut writes)?;
+    push_quoted(&writes, out)
 }
 
 // A text as Graphviz reads it between quotes, where `&` could begin the name of a character.

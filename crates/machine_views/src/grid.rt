@@ -30,6 +30,15 @@ impl Grid {
         self.push(String::from_str(self.alloc, cell)?)
     }
 
+    pub(crate) fn push_two(&mut self, first: String, second: String) -> Result<(), AllocError> {
+        self.push(first)?;
+        self.push(second)
+    }
+
+    pub(crate) fn push_number(&mut self, number: usize) -> Result<(), AllocError> {
+        self.push(format!(in self.alloc; "{number}")?)
+    }
+
     // The rows as lines, with each column as wide as its widest cell.
     pub(crate) fn push_to(&self, out: &mut String) -> Result<(), AllocError> {
         let widths = self.widths()?;

@@ -1,24 +1,20 @@
-//! A document as one can look at it: a summary, the machine as a table or as a drawing for Graphviz, and what the machine does on
-//! a word as lines of text or as a VCD file.
+//! A machine as one can look at it: a summary of its document, a table, a drawing for Graphviz, and what it does on a word as lines of
+//! text or as a VCD file.
 //!
-//! `show` reads a document and gives one of these views as text. It promises safety alone. Stands on cert_text for documents,
-//! on aiger_text for the steps of circuits and on lasso_word for words.
+//! `show` gives one of these views as text. It promises safety alone. Stands on machine_source for what is shown, on machine_table for
+//! its machine and on lasso_word for words.
 #![tactic(auto)]
 
-mod circuit_steps;
-mod cubes;
 mod dot;
-mod exploring;
-mod faults;
 mod grid;
-mod machines;
 mod runs;
-mod signals;
 mod summary;
 mod table;
 mod vcd;
 mod views;
 mod wave;
 
-pub use faults::ShowFault;
+pub use runs::{Run, Step};
+pub use vcd::push_vcd;
 pub use views::{View, WordView, show};
+pub use wave::push_wave;

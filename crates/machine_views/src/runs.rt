@@ -1,18 +1,17 @@
 // What a machine does on a word, signal by signal.
-use crate::machines::Machine;
-use crate::signals::push_name;
 use letter_word::{Lasso, Letter};
+use machine_table::{Machine, label_of};
 use std::alloc::{AllocError, Global};
 use text_base::Name;
 
-// A step: the state in which it begins, what is read, and what is written.
+/// A step: the state in which it begins, what is read, and what is written.
 #[derive(Clone, Copy)]
-pub(crate) struct Step {
-    pub(crate) state: usize,
-    read: Letter,
-    written: Letter,
-    // Whether it is the first one of a round of the ring.
-    pub(crate) begins_round: bool,
+pub struct Step {
+    pub state: usize,
+    pub read: Letter,
+    pub written: Letter,
+    /// Whether it is the first one of a round of the ring.
+    pub begins_round: bool,
 }
 
 #[derive(Clone, Copy)]
@@ -29,9 +28,9 @@ pub(crate) struct Signal {
     place: u32,
 }
 
-// The steps on a word, and the signals of which they tell, inputs first.
+/// Steps of a machine, and the signals of which they tell, inputs first.
 #[derive(Drop)]
-pub(crate) struct Run {
+pub struct Run {
     pub(crate) signals: Vec<Signal>,
     pub(crate) steps: Vec<Step>,
 }
@@ -46,22 +45,32 @@ impl Step {
 }
 
 impl Run {
-    // What a machine does on the stem of a word and on so many rounds of its ring.
-    pub(crate) fn on_word(
+    /// These steps of a machine with inputs and outputs of these names.
+    pub fn of_steps(
+        alloc: Global,
+        inputs: &[Name],
+        outputs: &[Name],
+        steps: Vec<Step>,
+    ) -> Result<Run, AllocError> {
+        let mut signals = Vec::new(alloc);
+        push_signals(alloc, Sort::Input, inputs, &mut signals)?;
+        push_signals(alloc, Sort::Output, outputs, &mut signals)?;
+        Ok(Run { signals, steps })
+    }
+
+    /// What a machine does on the stem of a word and on so many rounds of its ring.
+    pub fn on_word(
         alloc: Global,
         machine: &Machine,
         word: &Lasso,
         rounds: u32,
     ) -> Result<Run, AllocError> {
-        let mut signals = Vec::new(alloc);
-        push_signals(alloc, Sort::Input, &machine.inputs, &mut signals)?;
-        push_signals(alloc, Sort::Output, &machine.outputs, &mut signals)?;
         let mut steps = Vec::new(alloc);
         let mut state = take_letters(machine, 0, word.stem(), false, &mut steps)?;
         for _ in 0..rounds {
             state = take_letters(machine, state, word.ring(), true, &mut steps)?;
         }
-        Ok(Run { signals, steps })
+        Run::of_steps(alloc, &machine.inputs, &machine.outputs, steps)
     }
 }
 
@@ -72,8 +81,7 @@ fn push_signals(
     signals: &mut Vec<Signal>,
 ) -> Result<(), AllocError> {
     for (place, name) in (0u32..32).zip(names) {
-        let mut label = String::new(alloc);
-        push_name(name, &mut label)?;
+        let label = label_of(alloc, name)?;
         signals.push(Signal { label, sort, place })?;
     }
     Ok(())

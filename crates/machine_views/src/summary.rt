@@ -1,10 +1,9 @@
 // What a document says, for a person.
-use crate::faults::ShowFault;
-use crate::machines::Machine;
-use crate::signals::push_names;
 use aiger_text::Circuit;
 use cert_text::{Document, LogPart, Verdict};
 use letter_word::{Kind, Side};
+use machine_source::Shown;
+use machine_table::{Machine, ShowFault, push_labels};
 use refutation_log::Entry;
 use std::alloc::{AllocError, Global};
 use std::collections::BTreeMap;
@@ -12,30 +11,53 @@ use std::fmt::Write;
 
 pub(crate) fn push_summary(
     alloc: Global,
+    shown: &Shown,
+    out: &mut String,
+) -> Result<(), AllocError> {
+    match shown {
+        Shown::Document(document) => push_document(alloc, document, shown.kind(), out),
+        Shown::Circuit(circuit) => {
+            out.push_str("verdict: none, since it is a circuit alone\n")?;
+            push_machine(alloc, circuit, None, out)
+        }
+    }
+}
+
+fn push_document(
+    alloc: Global,
     document: &Document,
+    kind: Option<Kind>,
     out: &mut String,
 ) -> Result<(), AllocError> {
     out.push_str("verdict: ")?;
     push_verdict(document.verdict, out)?;
-    let kind = match document.kind {
-        Kind::Mealy => "Mealy",
-        Kind::Moore => "Moore",
-    };
-    writeln!(out, "kind of the system: {kind}")?;
+    let kind_word = kind_word(document.kind);
+    writeln!(out, "kind of the system: {kind_word}")?;
     match &document.circuit {
-        Some(circuit) => push_machine(alloc, circuit, out)?,
+        Some(circuit) => push_machine(alloc, circuit, kind, out)?,
         None => out.push_str("states: none, since there is no machine\n")?,
     }
-    let max = document.max;
-    writeln!(out, "greatest size searched: {max}")?;
-    match document.entries {
-        Some(most) => writeln!(out, "most entries of a log: {most}")?,
-        None => out.push_str("most entries of a log: any number\n")?,
-    }
+    push_limits(document, out)?;
     for log in &document.logs {
         push_log(alloc, log, document.entries, out)?;
     }
     Ok(())
+}
+
+fn push_limits(document: &Document, out: &mut String) -> Result<(), AllocError> {
+    let max = document.max;
+    writeln!(out, "greatest size that --max allows: {max}")?;
+    match document.entries {
+        Some(most) => writeln!(out, "most entries of a log: {most}"),
+        None => out.push_str("most entries of a log: any number\n"),
+    }
+}
+
+fn kind_word(kind: Kind) -> &'static str {
+    match kind {
+        Kind::Mealy => "Mealy",
+        Kind::Moore => "Moore",
+    }
 }
 
 fn push_verdict(verdict: Verdict, out: &mut String) -> Result<(), AllocError> {
@@ -77,8 +99,13 @@ fn side_name(side: Side) -> &'static str {
 }
 
 // The states that are reached, and the names of what is read and written.
-fn push_machine(alloc: Global, circuit: &Circuit, out: &mut String) -> Result<(), AllocError> {
-    match Machine::of_circuit(alloc, circuit) {
+fn push_machine(
+    alloc: Global,
+    circuit: &Circuit,
+    kind: Option<Kind>,
+    out: &mut String,
+) -> Result<(), AllocError> {
+    match Machine::of_circuit(alloc, circuit, kind) {
         Ok(machine) => {
             let states = machine.rows.len();
             writeln!(out, "states: {states}")?;
@@ -91,9 +118,9 @@ fn push_machine(alloc: Global, circuit: &Circuit, out: &mut String) -> Result<()
 
 fn push_signals(machine: &Machine, out: &mut String) -> Result<(), AllocError> {
     out.push_str("inputs of the machine: ")?;
-    push_names(&machine.inputs, out)?;
+    push_labels(&machine.inputs, out)?;
     out.push_str("\noutputs of the machine: ")?;
-    push_names(&machine.outputs, out)?;
+    push_labels(&machine.outputs, out)?;
     out.push('\n')
 }
 

@@ -1,4 +1,4 @@
-// A run as a value change dump (IEEE 1364), which waveform viewers open. A step takes one unit of time.
+// A run as a value change dump (IEEE 1364), which waveform viewers open.
 use crate::runs::{Run, Signal, Step};
 use std::alloc::{AllocError, Global};
 use std::fmt::Write;
@@ -8,7 +8,8 @@ const FIRST_CODE: u8 = b'!';
 
 const STATE_CODE: char = '~';
 
-pub(crate) fn push_vcd(run: &Run, out: &mut String) -> Result<(), AllocError> {
+/// Appends a run as a value change dump, in which a step takes one unit of time.
+pub fn push_vcd(run: &Run, out: &mut String) -> Result<(), AllocError> {
     push_head(run, out)?;
     let mut before: Option<Step> = None;
     for (time, step) in run.steps.iter().enumerate() {

@@ -1,22 +1,23 @@
 use crate::dot::push_dot;
-use crate::faults::ShowFault;
-use crate::machines::Machine;
 use crate::runs::Run;
 use crate::summary::push_summary;
 use crate::table::push_table;
 use crate::vcd::push_vcd;
 use crate::wave::push_wave;
-use cert_text::{Document, read_document};
-use lasso_word::read_word;
+use lasso_word::{WordFault, read_word};
+use letter_word::Lasso;
+use machine_source::Shown;
+use machine_table::ShowFault;
 use std::alloc::Global;
+use text_base::Name;
 
 // The most names of which a word may be.
 const MOST_NAMES: usize = 16;
 
-/// What is shown of a document.
+/// What is shown of a document or of a circuit.
 #[derive(Clone, Copy)]
 pub enum View<'a> {
-    /// Its verdict, its machine's signals and its logs, for a person.
+    /// The document's verdict and logs, and the signals of the machine, for a person.
     Summary,
     /// The machine as a table.
     Table,
@@ -35,35 +36,32 @@ pub struct WordView<'a> {
     pub rounds: u32,
 }
 
-/// A document as text. The document isn't checked against the text that it is for.
-///
-/// The document is read first, then a machine is wanted, then the word is read. A machine is drawn where it has at most 8 inputs, at
-/// most 8 outputs and at most 4096 states. It takes a step of the circuit for each state and each letter of the inputs.
-pub fn show(alloc: Global, document: &[u8], view: View<'_>) -> Result<String, ShowFault> {
-    let document = read_document(alloc, document)?;
+/// What is shown, as text. A machine is wanted first, then the word is read.
+pub fn show(alloc: Global, shown: &Shown, view: View<'_>) -> Result<String, ShowFault> {
     let mut out = String::new(alloc);
     match view {
-        View::Summary => push_summary(alloc, &document, &mut out)?,
-        View::Table => push_table(alloc, &machine_of(alloc, &document)?, &mut out)?,
-        View::Dot => push_dot(alloc, &machine_of(alloc, &document)?, &mut out)?,
-        View::Vcd(word) => push_vcd(&run_of(alloc, &document, word)?, &mut out)?,
-        View::Wave(word) => push_wave(alloc, &run_of(alloc, &document, word)?, &mut out)?,
+        View::Summary => push_summary(alloc, shown, &mut out)?,
+        View::Table => push_table(alloc, &shown.machine(alloc)?, &mut out)?,
+        View::Dot => push_dot(alloc, &shown.machine(alloc)?, &mut out)?,
+        View::Vcd(word) => push_vcd(&run_of(alloc, shown, word)?, &mut out)?,
+        View::Wave(word) => push_wave(alloc, &run_of(alloc, shown, word)?, &mut out)?,
     }
     Ok(out)
 }
 
-fn machine_of(alloc: Global, document: &Document) -> Result<Machine, ShowFault> {
-    match &document.circuit {
-        Some(circuit) => Machine::of_circuit(alloc, circuit),
-        None => Err(ShowFault::NoMachine),
-    }
+fn run_of(alloc: Global, shown: &Shown, word: WordView<'_>) -> Result<Run, ShowFault> {
+    let machine = shown.machine(alloc)?;
+    let lasso = lasso_of(alloc, word.text, &machine.inputs)?;
+    Ok(Run::on_word(alloc, &machine, &lasso, word.rounds)?)
 }
 
-fn run_of(alloc: Global, document: &Document, word: WordView<'_>) -> Result<Run, ShowFault> {
-    let machine = machine_of(alloc, document)?;
-    if machine.inputs.len() > MOST_NAMES {
+fn lasso_of(alloc: Global, text: &[u8], names: &[Name]) -> Result<Lasso, ShowFault> {
+    if names.len() > MOST_NAMES {
         return Err(ShowFault::TooManySignals);
     }
-    let lasso = read_word(alloc, word.text, &machine.inputs)?;
-    Ok(Run::on_word(alloc, &machine, &lasso, word.rounds)?)
+    match read_word(alloc, text, names) {
+        Ok(lasso) => Ok(lasso),
+        Err(WordFault::NoMemory) => Err(ShowFault::NoMemory),
+        Err(WordFault::BadLine(line)) => Err(ShowFault::BadWord(line)),
+    }
 }

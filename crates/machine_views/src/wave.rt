@@ -6,9 +6,9 @@ use std::alloc::{AllocError, Global};
 // What stands before the states.
 const STATES: &str = "(state)";
 
-// A line for each input and each output, and one for the states in which the steps begin. `#` is true and `_` false, and `|`
-// stands before each round of the ring.
-pub(crate) fn push_wave(alloc: Global, run: &Run, out: &mut String) -> Result<(), AllocError> {
+/// Appends a line for each input and each output, and one for the states in which the steps begin. `#` is true and `_` false, and `|`
+/// stands before each round of the ring.
+pub fn push_wave(alloc: Global, run: &Run, out: &mut String) -> Result<(), AllocError> {
     let labels = label_width(run);
     let cell = cell_width(run);
     for signal in &run.signals {

@@ -1,0 +1,183 @@
+// The signals of a machine as ports of a module.
+use crate::identifiers::push_identifier;
+use machine_table::{Machine, ShowFault, label_of};
+use std::alloc::{AllocError, Global};
+use std::fmt::Write;
+use text_base::Name;
+
+// What a port is called, and the number of its bits where it is a bus.
+#[derive(Clone, Copy)]
+pub(crate) struct Port<'a> {
+    pub(crate) name: &'a str,
+    width: Option<usize>,
+}
+
+// The names of the signals of one sort as printable text.
+#[derive(Drop)]
+pub(crate) struct Labels {
+    inputs: Vec<String>,
+    outputs: Vec<String>,
+}
+
+// The ports of the signals, and the signals as expressions.
+#[derive(Drop)]
+pub(crate) struct Ports<'a> {
+    pub(crate) inputs: Vec<Port<'a>>,
+    pub(crate) outputs: Vec<Port<'a>>,
+    pub(crate) read: Vec<String>,
+    pub(crate) written: Vec<String>,
+}
+
+impl Labels {
+    // The labels of a machine's signals; two that are the same are refused.
+    pub(crate) fn of_machine(alloc: Global, machine: &Machine) -> Result<Labels, ShowFault> {
+        let inputs = labels_of(alloc, &machine.inputs)?;
+        let outputs = labels_of(alloc, &machine.outputs)?;
+        if has_twice(&inputs)
+            || has_twice(&outputs)
+            || inputs.iter().any(|label| is_among(label, &outputs))
+        {
+            return Err(ShowFault::SameNames);
+        }
+        Ok(Labels { inputs, outputs })
+    }
+
+    pub(crate) fn ports(&self, alloc: Global) -> Result<Ports<'_>, AllocError> {
+        Ok(Ports {
+            inputs: ports_of(alloc, &self.inputs, &self.outputs)?,
+            outputs: ports_of(alloc, &self.outputs, &self.inputs)?,
+            read: expressions_of(alloc, &self.inputs, &self.outputs)?,
+            written: expressions_of(alloc, &self.outputs, &self.inputs)?,
+        })
+    }
+}
+
+fn labels_of(alloc: Global, names: &[Name]) -> Result<Vec<String>, AllocError> {
+    let mut labels = Vec::new(alloc);
+    for name in names {
+        labels.push(label_of(alloc, name)?)?;
+    }
+    Ok(labels)
+}
+
+fn has_twice(labels: &[String]) -> bool {
+    labels.iter().any(|label| labels
+        .iter()
+        .filter(|other| other.as_str() == label.as_str())
+        .count()
+        > 1)
+}
+
+fn is_among(label: &str, labels: &[String]) -> bool {
+    labels.iter().any(|other| other.as_str() == label)
+}
+
+// A name `base[i]` as its base and its place.
+fn bit_of(label: &str) -> Option<(&str, usize)> {
+    let (base, place) = label.strip_suffix(']')?.rsplit_once('[')?;
+    if base.is_empty() || (place.len() > 1 && place.starts_with('0')) || place.starts_with('+') {
+        return None;
+    }
+    Some((base, place.parse::<usize>().ok()?))
+}
+
+fn is_bit(label: &str, base: &str, place: usize) -> bool {
+    bit_of(label).is_some_and(|bit| bit.0 == base && bit.1 == place)
+}
+
+fn is_bit_of(label: &str, base: &str) -> bool {
+    bit_of(label).is_some_and(|bit| bit.0 == base)
+}
+
+// The width of the bus of that base, where all its bits are there and no other signal is called so.
+fn width_of(base: &str, labels: &[String], others: &[String]) -> Option<usize> {
+    let width = labels.iter().filter(|label| is_bit_of(label, base)).count();
+    let has_all = (0..width).all(|place| labels.iter().any(|label| is_bit(label, base, place)));
+    let is_alone = !is_among(base, labels)
+        && !others
+            .iter()
+            .any(|other| other.as_str() == base || is_bit_of(other, base));
+    if has_all && is_alone {
+        Some(width)
+    } else {
+        None
+    }
+}
+
+// The bus to which a signal belongs, its width, and the signal's place in it.
+fn bus_of<'a>(
+    label: &'a str,
+    labels: &[String],
+    others: &[String],
+) -> Option<(&'a str, usize, usize)> {
+    let (base, place) = bit_of(label)?;
+    let width = width_of(base, labels, others)?;
+    Some((base, width, place))
+}
+
+fn ports_of<'a>(
+    alloc: Global,
+    labels: &'a [String],
+    others: &[String],
+) -> Result<Vec<Port<'a>>, AllocError> {
+    let mut ports: Vec<Port<'a>> = Vec::new(alloc);
+    for label in labels {
+        let port = match bus_of(label, labels, others) {
+            Some((base, width, _)) => Port {
+                name: base,
+                width: Some(width),
+            },
+            None => Port {
+                name: label,
+                width: None,
+            },
+        };
+        if !ports.iter().any(|other| other.name == port.name) {
+            ports.push(port)?;
+        }
+    }
+    Ok(ports)
+}
+
+fn expressions_of(
+    alloc: Global,
+    labels: &[String],
+    others: &[String],
+) -> Result<Vec<String>, AllocError> {
+    let mut expressions = Vec::new(alloc);
+    for label in labels {
+        let mut expression = String::new(alloc);
+        match bus_of(label, labels, others) {
+            Some((base, _, place)) => {
+                push_identifier(base, &mut expression)?;
+                write!(expression, "[{place}]")?;
+            }
+            None => push_identifier(label, &mut expression)?,
+        }
+        expressions.push(expression)?;
+    }
+    Ok(expressions)
+}
+
+impl Port<'_> {
+    // Appends its declaration behind the word for its sort.
+    pub(crate) fn push_declared(self, sort: &str, out: &mut String) -> Result<(), AllocError> {
+        write!(out, "    {sort} ")?;
+        if let Some(width) = self.width {
+            let last = width.saturating_sub(1);
+            write!(out, "[{last}:0] ")?;
+        }
+        push_identifier(self.name, out)
+    }
+}
+
+impl<'a> Ports<'a> {
+    // The names of all ports.
+    pub(crate) fn names(&self, alloc: Global) -> Result<Vec<&'a str>, AllocError> {
+        let mut names = Vec::new(alloc);
+        for port in self.inputs.iter().chain(self.outputs.iter()) {
+            names.push(port.name)?;
+        }
+        Ok(names)
+    }
+}
