@@ -1,0 +1,53 @@
+"""Rows on tools/syntcomp."""
+
+ANSWERS = {"wire": 10, "delay": 10, "arbiter_of_two": 10, "inverter": 10, "traffic_light": 10, "prophecy": 20, "door": 20}
+LINES = {10: "REALIZABLE\n", 20: "UNREALIZABLE\n"}
+
+
+def each_answer_has_its_line_and_status(it):
+    for name, status in ANSWERS.items():
+        assert it.run("syntcomp", "--realizability", f"examples/{name}.tlsf", "--workers", "1")[:2] == (status, LINES[status])
+
+
+def a_realizable_text_has_its_circuit_alone(it):
+    document = it.run("boundsyn", "synth", "examples/arbiter_of_two.tlsf", "--workers", "1")[1]
+    circuit = document.partition("\nc\n")[0] + "\n"
+    words = ("examples/arbiter_of_two.tlsf", "--workers", "1", "--counts", "whole")
+    assert it.run("syntcomp", *words)[:2] == (10, "REALIZABLE\n" + circuit)
+    assert it.run("syntcomp", "-o", "circuit.aag", *words)[:2] == (10, "REALIZABLE\n")
+    assert it.read("circuit.aag") == circuit
+    assert it.run("syntcomp", "examples/door.tlsf")[:2] == (20, "UNREALIZABLE\n")
+    assert it.run("syntcomp", "-", given="not a text")[:2] == (1, "")
+    with open(it.path("examples/wire.tlsf"), encoding="utf-8") as file:
+        assert it.run("syntcomp", "-", given=file.read())[:2] == (10, "REALIZABLE\naag 1 1 0 1 0\n2\n2\ni0 request\no0 grant\n")
+
+
+def counts_are_local_unless_another_way_is_asked_for(it):
+    it.replace("boundsyn", 'echo "$*" >words\nexec "$real" "$@"\n')
+    for asked, told in [([], "--counts local"), (["--counts", "whole"], "--counts whole"), (["--counts=whole"], "--counts=whole")]:
+        assert it.run("syntcomp", "examples/wire.tlsf", *asked)[0] == 10 and it.read("words") == f"synth examples/wire.tlsf {told}\n"
+
+
+def a_machine_without_logs_counts_for_its_side(it):
+    assert it.run("syntcomp", "--realizability", "examples/delay.tlsf", "--entries", "0")[:2] == (10, "REALIZABLE\n")
+    assert it.run("syntcomp", "examples/prophecy.tlsf", "--max", "1")[:2] == (30, "UNKNOWN\n")
+    it.replace("boundsyn", "printf 'aag 0 0 0 0 0\\nc\\nboundsyn 3\\nverdict bounded environment 1\\nend\\n'\nexit 11\n")
+    assert it.run("syntcomp", "any.tlsf")[:2] == (20, "UNREALIZABLE\n")
+
+
+def an_arbiter_of_six_clients_needs_six_states(it):
+    it.write("six.tlsf", it.run("boundsyn", "gen", "6")[1])
+    status, document, _ = it.run("boundsyn", "synth", "six.tlsf", "--max", "6", "--entries", "none", "--workers", "1", "--counts", "local")
+    assert status == 10 and "\nverdict realizable 6\n" in document
+    it.write("six.aag", document)
+    assert it.run("boundsyn", "check", "six.tlsf", "six.aag")[:2] == (0, "accepted realizable 6 as Mealy\n")
+
+
+def faults_keep_their_status_and_print_nothing(it):
+    it.write("broken.tlsf", "INFO {")
+    assert it.run("syntcomp", "broken.tlsf")[:2] == (1, "")
+    assert it.run("syntcomp", "examples/wire.tlsf", "--max", "nine")[:2] == (2, "")
+    assert it.run("syntcomp")[:2] == (2, "")
+    assert it.run("syntcomp", "nothing.tlsf")[:2] == (3, "")
+    assert it.run("syntcomp", "-o", "no/folder/file", "examples/wire.tlsf")[0] == 4
+    assert it.run("syntcomp", "--help")[0] == 0
