@@ -1,7 +1,7 @@
 use Rattle.std.proofs.Common.{◌≡◌, ℕ, zero, suc, ◌+◌, ◌<◌, ◌≤◌, Bool, true, false, cond, List, [], ◌∷◌, ◌++◌, get_or, length, take, refl, sym, ◌∙◌, ap, subst, inl, inr, arith, add-zero, zero-add}
 use Rattle.std.specs.Prelude.{Contains}
 use Rattle.std.proofs.lemmas.Bool.{false≢true}
-use Rattle.std.proofs.lemmas.List.{append-nil, length-take, take_more}
+use Rattle.std.proofs.lemmas.List.{length-take, take_more}
 use Rattle.ltl_formula.specs.declared.nodes.FormulaId.{FormulaId}
 use Rattle.obligation_sets.specs.Ids.{has_id, ids_from, ids_of, IdsRise}
 use Rattle.obligation_sets.proofs.Lists.{Contains-cons_cases, Contains-here, Contains-there, Contains-none}
@@ -71,12 +71,3 @@ id_of_flag flags f e = rw (zero-add f.0) at (from_id 0 flags f.0 e)
 
 pub rise_of : (flags : List Bool) (ids : List FormulaId) → ids ≡ ids_of flags → IdsRise ids
 rise_of flags ids e = subst IdsRise (sym e) (ids_of-rise flags)
-
--- the steps of a loop that collects the ids
-pub chosen_more : (flags : List Bool) (i : ℕ) (old new : List FormulaId) → i < length flags → get_or flags i false ≡ true → old ≡ ids_of (take i flags) → new ≡ old ++ id i ∷ [] → new ≡ ids_of (take (i + 1) flags)
-chosen_more flags i old new h chosen e pushed =
-    pushed ∙ ap (λ ids. ids ++ id i ∷ []) e ∙ sym (ids_of_more flags i h ∙ ap (λ b. ids_of (take i flags) ++ cond b (id i ∷ []) []) chosen)
-
-pub unchosen_more : (flags : List Bool) (i : ℕ) (ids : List FormulaId) → i < length flags → get_or flags i false ≡ false → ids ≡ ids_of (take i flags) → ids ≡ ids_of (take (i + 1) flags)
-unchosen_more flags i ids h unchosen e =
-    e ∙ sym (ids_of_more flags i h ∙ ap (λ b. ids_of (take i flags) ++ cond b (id i ∷ []) []) unchosen ∙ append-nil (ids_of (take i flags)))

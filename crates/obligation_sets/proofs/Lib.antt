@@ -1,6 +1,7 @@
 pub mod Cubes
 pub mod Lists
 pub mod IdLists
+pub mod Marks
 pub mod Steps
 pub mod Walks
 pub mod Along

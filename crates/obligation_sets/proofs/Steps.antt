@@ -1,8 +1,10 @@
-use Rattle.std.proofs.Common.{◌≡◌, ℕ, ◌<◌, Bool, List, Option, All, length, reverse, sym, ◌∙◌, ap, subst}
+use Rattle.std.proofs.Common.{◌≡◌, ℕ, ◌<◌, List, Option, All, length, map, reverse, sym, ◌∙◌, ap, subst}
+use Rattle.std.proofs.lemmas.List.{length-map}
 use Rattle.letter_word.specs.declared.cubes.Cube.{Cube}
 use Rattle.ltl_formula.specs.declared.nodes.FormulaId.{FormulaId}
 use Rattle.ltl_formula.specs.declared.nodes.Node.{Node}
 use Rattle.ltl_formula.specs.declared.nodes.Node.TheVariants.{Signal}
+use Rattle.obligation_sets.specs.declared.branches.Mark.{Mark}
 use Rattle.obligation_sets.specs.declared.branches.Step.{Step}
 use Rattle.obligation_sets.specs.Branch.{Branch}
 use Rattle.obligation_sets.specs.Cubes.{forbidding, wanting}
@@ -15,7 +17,7 @@ opposing_is b cube k node o s is same made joined = joined ∙ ap (joining b) (m
 pub expanding_signal_is : (ns : List Node) (b : Branch) (f : FormulaId) (cube : Cube) (k : ℕ) (node : Node) (o : Option Cube) (s : Step) → Signal k ≡ node → cube ≡ b.cube → o ≡ wanting cube k → s ≡ joining b o → s ≡ expanding ns b f node
 expanding_signal_is ns b f cube k node o s is same made joined = joined ∙ ap (joining b) (made ∙ ap (λ (c : Cube). wanting c k) same) ∙ ap (expanding ns b f) is
 
-pub work_places : (n : ℕ) (b : Branch) (items : List FormulaId) (flags : List Bool) → HasPlaces n b → reverse items ≡ b.work → flags ≡ b.done → All (λ f. f.0 < length flags) items
-work_places n b items flags places is same =
-    subst (λ (m : ℕ). All (λ f. f.0 < m) items) (sym (ap length same ∙ places.done))
+pub work_places : (n : ℕ) (b : Branch) (items : List FormulaId) (marks : List Mark) → HasPlaces n b → reverse items ≡ b.work → map (λ mark. mark.done) marks ≡ b.done → All (λ f. f.0 < length marks) items
+work_places n b items marks places is same =
+    subst (λ (m : ℕ). All (λ f. f.0 < m) items) (sym (sym (length-map marks (λ mark. mark.done)) ∙ ap length same ∙ places.done))
     (All-of_reverse (λ f. f.0 < n) items (subst (λ (fs : List FormulaId). All (λ f. f.0 < n) fs) (sym is) places.work))

@@ -3,6 +3,7 @@ pub mod IdLaws
 pub mod Apart
 pub mod Cubes
 pub mod Branch
+pub mod Marks
 pub mod OpenWork
 pub mod Steps
 pub mod Covers

@@ -1,6 +1,8 @@
 ghost use Rattle.std.specs.Prelude.{◌≡◌, ◌<◌, ◌^◌, [], ◌∷◌, All, IfOk, IfSome, MatchOption, OnOk, length, reverse};
+ghost use Rattle.std.specs.Prelude.{◌++◌, if◌then◌else◌};
 ghost use Rattle.obligation_sets.specs.Cubes.{forbidding, wanting};
-ghost use Rattle.obligation_sets.specs.Ids.{ids_of};
+ghost use Rattle.obligation_sets.specs.Ids.{has_id, ids_of, with_id};
+ghost use Rattle.obligation_sets.specs.Marks.{done_of, next_of, postponed_of};
 ghost use Rattle.obligation_sets.specs.OpenWork.{open_work};
 
 use crate::sets::{Cover, ObligationSet};
@@ -9,14 +11,24 @@ use ltl_formula::{FormulaId, Formulas, Node};
 use std::alloc::{AllocError, Global};
 use std::marker::Model;
 
-/// One way to meet obligations, as far as it is gone. The end of `work` is the front of the work list.
+/// What a branch has done with one formula.
+#[derive(Clone, Copy)]
+struct Mark {
+    // Whether it was taken off the work list.
+    done: bool,
+    // Whether it is left to the next position.
+    next: bool,
+    // Whether it is an until that is put off.
+    postponed: bool,
+}
+
+/// One way to meet obligations, as far as it is gone. The end of `work` is the front of the work list. All marks stand in
+/// one table, since a branch is copied and moved often.
 #[derive(Drop)]
 pub(crate) struct Branch {
     work: Vec<FormulaId>,
-    done: Vec<bool>,
     cube: Cube,
-    next: Vec<bool>,
-    postponed: Vec<bool>,
+    marks: Vec<Mark>,
 }
 
 /// What comes of taking one formula off a branch's work list.
@@ -35,10 +47,11 @@ pub(crate) enum Step {
 impl Model for Branch {
     ghost use Rattle.std.specs.Prelude.{reverse};
     ghost use Rattle.obligation_sets.specs.Branch.{Branch};
+    ghost use Rattle.obligation_sets.specs.Marks.{done_of, next_of, postponed_of};
 
     ghost Value = { Branch };
 
-    ghost view = { λ b. record { work = reverse b.work.items; done = b.done.items; cube = b.cube; next = b.next.items; postponed = b.postponed.items } };
+    ghost view = { λ b. record { work = reverse b.work.items; done = done_of b.marks.items; cube = b.cube; next = next_of b.marks.items; postponed = postponed_of b.marks.items } };
 }
 
 impl Branch {
@@ -58,13 +71,15 @@ impl Branch {
     {
         let mut work = Vec::from_slice(alloc, set.ids())?;
         work.reverse();
-        let none = vec![in alloc; false; formulas.len()]?;
+        let none = Mark {
+            done: false,
+            next: false,
+            postponed: false,
+        };
         Ok(Branch {
             work,
-            next: Vec::from_slice(alloc, &none)?,
-            postponed: Vec::from_slice(alloc, &none)?,
-            done: none,
             cube: Cube { must: 0, not: 0 },
+            marks: vec![in alloc; none; formulas.len()]?,
         })
     }
 
@@ -73,10 +88,10 @@ impl Branch {
         requires { HasPlaces (length formulas.now) self }
         ensures { IfOk result (λ s. s ≡ step formulas.now self) }
     {
-        let Some(id) = pop_open(&mut self.work, &self.done) else {
+        let Some(id) = pop_open(&mut self.work, &self.marks) else {
             return Ok(Step::Leaf(self));
         };
-        self.done[id.0 as usize] = true;
+        mark_done(&mut self.marks, id);
         self.expand(alloc, formulas, id)
     }
 
@@ -148,7 +163,7 @@ impl Branch {
         requires { id.0 < length self.next }
         ensures { result ≡ leaving id self }
     {
-        self.next[id.0 as usize] = true;
+        mark_next(&mut self.marks, id);
         self
     }
 
@@ -158,7 +173,7 @@ impl Branch {
         requires postponed { id.0 < length self.postponed }
         ensures { result ≡ postponing id self }
     {
-        self.postponed[id.0 as usize] = true;
+        mark_postponed(&mut self.marks, id);
         self.leave(id)
     }
 
@@ -167,10 +182,8 @@ impl Branch {
     {
         Ok(Branch {
             work: Vec::from_slice(alloc, &self.work)?,
-            done: Vec::from_slice(alloc, &self.done)?,
             cube: self.cube,
-            next: Vec::from_slice(alloc, &self.next)?,
-            postponed: Vec::from_slice(alloc, &self.postponed)?,
+            marks: Vec::from_slice(alloc, &self.marks)?,
         })
     }
 
@@ -180,29 +193,73 @@ impl Branch {
         requires postponed { length self.now.postponed < 2 ^ 32 }
         ensures { IfOk result (λ c. c ≡ cover_of self.now) }
     {
-        Ok(Cover {
-            cube: self.cube,
-            next: set_of(alloc, &self.next)?,
-            postponed: set_of(alloc, &self.postponed)?,
-        })
+        cover_of(alloc, self.cube, &self.marks)
     }
 }
 
 /// Takes the formulas off the end of `work` up to the first that isn't done.
-fn pop_open(work: &mut Vec<FormulaId>, done: &[bool]) -> Option<FormulaId>
-    requires { All (λ f. f.0 < length done.now) work.old.items }
+fn pop_open(work: &mut Vec<FormulaId>, marks: &[Mark]) -> Option<FormulaId>
+    requires { All (λ f. f.0 < length marks.now) work.old.items }
     ensures first { MatchOption result
-        ((open_work done.now (reverse work.old.items) ≡ []) × (work.new.items ≡ []))
-        (λ f. open_work done.now (reverse work.old.items) ≡ f ∷ reverse work.new.items) }
-    ensures within { IfSome result (λ f. f.0 < length done.now) }
-    ensures rest_within { All (λ f. f.0 < length done.now) work.new.items }
+        ((open_work (done_of marks.now) (reverse work.old.items) ≡ []) × (work.new.items ≡ []))
+        (λ f. open_work (done_of marks.now) (reverse work.old.items) ≡ f ∷ reverse work.new.items) }
+    ensures within { IfSome result (λ f. f.0 < length marks.now) }
+    ensures rest_within { All (λ f. f.0 < length marks.now) work.new.items }
 {
     while let Some(id) = work.pop() {
-        if !done[id.0 as usize] {
+        if !is_done(marks, id) {
             return Some(id);
         }
     }
     None
+}
+
+/// Whether a formula was taken off the work list.
+#[tactic(auto, using(crate::proofs::Marks::flag_is))]
+fn is_done(marks: &[Mark], id: FormulaId) -> bool
+    requires { id.0 < length marks.now }
+    ensures { result ≡ has_id (done_of marks.now) id }
+{
+    marks[id.0 as usize].done
+}
+
+/// Marks a formula as taken off the work list.
+#[tactic(auto, using(crate::proofs::Marks::set_flag, crate::proofs::Marks::same_flags))]
+fn mark_done(marks: &mut Vec<Mark>, id: FormulaId)
+    requires { id.0 < length marks.old.items }
+    ensures done { done_of marks.new.items ≡ with_id (done_of marks.old.items) id }
+    ensures next { next_of marks.new.items ≡ next_of marks.old.items }
+    ensures postponed { postponed_of marks.new.items ≡ postponed_of marks.old.items }
+{
+    let mark = marks[id.0 as usize];
+    marks[id.0 as usize] = Mark { done: true, ..mark };
+}
+
+/// Marks a formula as left to the next position.
+#[tactic(auto, using(crate::proofs::Marks::set_flag, crate::proofs::Marks::same_flags))]
+fn mark_next(marks: &mut Vec<Mark>, id: FormulaId)
+    requires { id.0 < length marks.old.items }
+    ensures done { done_of marks.new.items ≡ done_of marks.old.items }
+    ensures next { next_of marks.new.items ≡ with_id (next_of marks.old.items) id }
+    ensures postponed { postponed_of marks.new.items ≡ postponed_of marks.old.items }
+{
+    let mark = marks[id.0 as usize];
+    marks[id.0 as usize] = Mark { next: true, ..mark };
+}
+
+/// Marks an until as put off.
+#[tactic(auto, using(crate::proofs::Marks::set_flag, crate::proofs::Marks::same_flags))]
+fn mark_postponed(marks: &mut Vec<Mark>, id: FormulaId)
+    requires { id.0 < length marks.old.items }
+    ensures done { done_of marks.new.items ≡ done_of marks.old.items }
+    ensures next { next_of marks.new.items ≡ next_of marks.old.items }
+    ensures postponed { postponed_of marks.new.items ≡ with_id (postponed_of marks.old.items) id }
+{
+    let mark = marks[id.0 as usize];
+    marks[id.0 as usize] = Mark {
+        postponed: true,
+        ..mark
+    };
 }
 
 /// The cube that also wants the signal, or None where it forbids it.
@@ -235,16 +292,30 @@ fn forbidding(cube: Cube, signal: u32) -> Option<Cube>
     }
 }
 
-/// The set that its flags tell.
-fn set_of(alloc: Global, flags: &[bool]) -> Result<ObligationSet, AllocError>
-    requires { length flags.now < 2 ^ 32 }
-    ensures { IfOk result (λ s. s ≡ ids_of flags.now) }
+/// The cover that the marks of a leaf tell, found in one pass over them.
+fn cover_of(alloc: Global, cube: Cube, marks: &[Mark]) -> Result<Cover, AllocError>
+    requires { length marks.now < 2 ^ 32 }
+    ensures { IfOk result (λ c. c ≡ record { cube = cube; next = ids_of (next_of marks.now); postponed = ids_of (postponed_of marks.now) }) }
 {
-    let mut ids = Vec::new(alloc);
-    for (id, chosen) in flags.iter().enumerate() {
-        if *chosen {
-            ids.push(FormulaId(id as u32))?;
-        }
+    let mut next = Vec::new(alloc);
+    let mut postponed = Vec::new(alloc);
+    for (id, mark) in marks.iter().enumerate() {
+        note_chosen(&mut next, FormulaId(id as u32), mark.next)?;
+        note_chosen(&mut postponed, FormulaId(id as u32), mark.postponed)?;
     }
-    Ok(ObligationSet::new(ids))
+    Ok(Cover {
+        cube,
+        next: ObligationSet::new(next),
+        postponed: ObligationSet::new(postponed),
+    })
+}
+
+/// Puts a formula behind the others if it is chosen.
+fn note_chosen(ids: &mut Vec<FormulaId>, id: FormulaId, chosen: bool) -> Result<(), AllocError>
+    ensures { OnOk result (ids.new.items ≡ ids.old.items ++ (if chosen then id ∷ [] else [])) }
+{
+    if chosen {
+        ids.push(id)?;
+    }
+    Ok(())
 }

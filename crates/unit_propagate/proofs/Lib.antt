@@ -4,6 +4,7 @@ pub mod TrailLemmas
 pub mod MarksLemmas
 pub mod RowsLemmas
 pub mod ArenaLemmas
+pub mod NumberedLemmas
 pub mod WatchesLemmas
 pub mod PropagatorLemmas
 pub mod RewatchLemmas

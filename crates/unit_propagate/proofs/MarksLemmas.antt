@@ -1,5 +1,5 @@
 -- What a `Marks` keeps, when it is made, and when it gains or loses its last literal.
-use Rattle.std.proofs.Common.{◌≡◌, ◌≢◌, ℕ, zero, suc, ◌+◌, ◌-◌, ◌*◌, ◌<◌, ◌≤◌, nat_eq, Bool, true, false, List, [], ◌∷◌, ◌++◌, ◌⊎◌, inl, inr, Option, Some, None, set, get_or, take, slice_get, replicate, length, refl, sym, subst, ap, ◌∙◌, true≢false, arith}
+use Rattle.std.proofs.Common.{◌≡◌, ◌≢◌, ℕ, ◌+◌, ◌-◌, ◌*◌, ◌<◌, ◌≤◌, nat_eq, Bool, true, false, List, [], ◌∷◌, ◌++◌, ◌⊎◌, inl, inr, Option, Some, None, set, get_or, take, slice_get, replicate, length, refl, sym, subst, ap, ◌∙◌, true≢false, arith}
 use Rattle.std.specs.List.{sum_by}
 use Rattle.std.specs.Prelude.{AllPairs, Contains, unwrap_or}
 use Rattle.std.specs.Bool.{OnTrue, OnFalse}

@@ -1,5 +1,5 @@
 -- What a propagator keeps when a literal is added to its trail, and when a clause is looked at.
-use Rattle.std.proofs.Common.{◌≡◌, ◌≢◌, ℕ, suc, zero, ◌+◌, ◌-◌, ◌*◌, ◌^◌, ◌<◌, ◌≤◌, max, Bool, true, false, not, cond, List, [], ◌∷◌, ◌++◌, ◌⊎◌, inl, inr, Some, None, take, slice_get, length, Contains, All, refl, sym, subst, ap, ◌∙◌, true≢false, append_assoc, arith}
+use Rattle.std.proofs.Common.{◌≡◌, ◌≢◌, ℕ, suc, zero, ◌+◌, ◌-◌, ◌<◌, ◌≤◌, max, Bool, true, false, not, cond, List, [], ◌∷◌, ◌++◌, ◌⊎◌, inl, inr, Some, None, take, slice_get, length, Contains, All, refl, sym, subst, ap, ◌∙◌, true≢false, append_assoc, arith}
 use Rattle.std.specs.Prelude.{nat_eq}
 use Rattle.std.specs.Option.{option_map_or}
 use Rattle.std.proofs.lemmas.List.{length_push, length-set, map-append}
@@ -17,7 +17,7 @@ use Rattle.unit_propagate.specs.declared.propagator.Propagator.{Propagator}
 use Rattle.unit_propagate.specs.declared.rows.Watcher.{Watcher}
 use Rattle.unit_propagate.specs.Trail.{IsFree, highest_level, literals_of}
 use Rattle.unit_propagate.specs.Sound.{IsReason, Extends}
-use Rattle.unit_propagate.specs.Marks.{MarkList, room_of}
+use Rattle.unit_propagate.specs.Marks.{MarkList}
 use Rattle.unit_propagate.specs.Watched.{IsWatching, IsWatched, HasTrue}
 use Rattle.clause_base.specs.Codes.{code_of}
 use Rattle.unit_propagate.specs.Rows.{row_at}
@@ -288,17 +288,11 @@ pub cut_visited : (s : Propagator) (l : Literal) (w : WatchList) → w.watched �
 cut_visited s l w e v = record { seen = λ k c at is. v.seen k c (ap (λ ps. slice_get ps k) (sym e) ∙ at) is }
 
 -- at the list's end all are looked at
-pub visited : (clauses : List (List Literal)) (s : Propagator) (l : Literal) (j i : ℕ) → IsVisiting clauses s l j i → slice_get (row_at s.watches.rows (code_of l)) i ≡ None → IsVisited s l
+pub visited : (clauses : List (List Literal)) (s : Propagator) (l : Literal) (j i : ℕ) → IsVisiting clauses s l j i → length (row_at s.watches.rows (code_of l)) ≤ i → IsVisited s l
 visited clauses s l j i v none = record { seen = λ k c at is. elim (v.seen k c at is) [ inl h ↦ h.0 | inr h ↦ absurd (gone k c h) ] }
   where
-    past : (xs : List Watcher) (i j : ℕ) (k : Watcher) → slice_get xs i ≡ None → i ≤ j → slice_get xs j ≡ Some k → ⊥
-    past [] i j k a b c = cc
-    past (x ∷ xs) zero j k a b c = cc
-    past (x ∷ xs) (suc i) zero k a b c = omega arith
-    past (x ∷ xs) (suc i) (suc j) k a b c = past xs i j k a (omega arith) c
-
     gone : (k : ℕ) (c : List Literal) → StandsAt (λ g. i ≤ g) s.watches.rows l k c → ⊥
-    gone k c h = past (row_at s.watches.rows (code_of l)) i h.0 h.1 none h.2 h.3
+    gone k c h = absurd (let le : i ≤ h.0 = h.2 in let lt : h.0 < length (row_at s.watches.rows (code_of l)) = slice_get_within (row_at s.watches.rows (code_of l)) h.0 h.1 h.3 in omega arith)
 
 -- nothing of a list is looked at
 pub unvisited : (clauses : List (List Literal)) (s : Propagator) (l : Literal) → IsKept s → IsWatching clauses s.watches.watched → Contains (literals_of s.marks.marks) (negated l) → IsVisiting clauses s l 0 0

@@ -1,5 +1,5 @@
 -- Tables of lists, after a write to one list.
-use Rattle.std.proofs.Common.{◌≡◌, ◌≢◌, ℕ, ◌+◌, ◌-◌, ◌<◌, ◌≤◌, nat_eq, Bool, true, false, List, [], ◌∷◌, ◌++◌, ◌⊎◌, inl, inr, map, set, take, drop, get_or, length, Contains, refl, sym, subst, ap, ◌∙◌, true≢false, arith}
+use Rattle.std.proofs.Common.{◌≡◌, ◌≢◌, ℕ, suc, ◌+◌, ◌-◌, ◌<◌, ◌≤◌, nat_eq, Bool, true, false, List, [], ◌∷◌, ◌++◌, ◌⊎◌, inl, inr, map, set, take, drop, get_or, length, Contains, refl, sym, subst, ap, ◌∙◌, true≢false, arith}
 use Rattle.std.specs.List.{copy_within}
 use Rattle.std.proofs.Math.Seq.{paste}
 use Rattle.std.proofs.lemmas.List.Edits.{take-paste}
@@ -21,7 +21,7 @@ module _ {V : Type 0} (f : V → List Watcher) (vs : List V) (row : ℕ) (v v' :
   within : row < length vs
   within = let e : length (map f vs) ≡ length vs = length-map vs f in omega arith
 
-  row_of : row_at (map f vs) row ≡ f v
+  pub row_of : row_at (map f vs) row ≡ f v
   row_of = get_or-map f vs row v [] within ∙ ap f (sym there)
 
   pub same_write : f v' ≡ f v → map f (set vs row v') ≡ map f vs
@@ -88,3 +88,27 @@ RowsGrow-adds a b row number h = record {
 
 pub added_there : (a b : List (List Watcher)) (row : ℕ) (number : Watcher) → AddsTo a b row number → Contains (row_at b row) number
 added_there a b row number h = subst (λ xs. Contains xs number) (sym h.here) (Contains-push (row_at a row) number)
+
+-- ---- a watcher that was put last is taken out again
+rows_same : (old new : List (List Watcher)) → length new ≡ length old → ((row : ℕ) → row_at new row ≡ row_at old row) → new ≡ old
+rows_same [] [] e h = refl
+rows_same [] (y ∷ ys) e h = absurd (omega arith)
+rows_same (x ∷ xs) [] e h = absurd (omega arith)
+rows_same (x ∷ xs) (y ∷ ys) e h =
+    let n : length ys ≡ length xs = omega arith in
+    let here : y ≡ x = h 0 in
+    let rest : ys ≡ xs = rows_same xs ys n (λ k. h (suc k)) in
+    λ i. here i ∷ rest i
+
+cut_last : (xs : List Watcher) (x : Watcher) → take (length xs) (xs ++ x ∷ []) ++ drop (suc (length xs)) (xs ++ x ∷ []) ≡ xs
+cut_last [] x = refl
+cut_last (y ∷ xs) x = ap (λ ys. y ∷ ys) (cut_last xs x)
+
+pub taken_back : (old between same new : List (List Watcher)) (row end : ℕ) (x : Watcher) → AddsTo old between row x → same ≡ between → CutsOut same new row end (end + 1) → end ≡ length (row_at old row) → new ≡ old
+taken_back old between same new row end x adds e cuts n = rows_same old new (cuts.size ∙ ap length e ∙ adds.size) (λ r. elim (same_or_not r row) [
+  | inl s ↦
+      let m : end + 1 ≡ suc (length (row_at old row)) = omega arith in
+      subst (λ (k : ℕ). row_at new k ≡ row_at old k) (sym s)
+      (cuts.here ∙ (λ i. take (n i) (row_at (e i) row) ++ drop (m i) (row_at (e i) row)) ∙ ap (λ ys. take (length (row_at old row)) ys ++ drop (suc (length (row_at old row))) ys) adds.here ∙ cut_last (row_at old row) x)
+  | inr o ↦ cuts.others r o ∙ ap (λ rs. row_at rs r) e ∙ adds.others r o
+])

@@ -39,10 +39,6 @@ pub false_all : (marks : List Mark) (lits : List Literal) (i : ℕ) → length l
 false_all marks lits i h before j y low there = before j y low (let l : j < length lits = slice_get_within lits j y there in omega arith) there
 
 module _ (clauses : List (List Literal)) (s : Propagator) (l : Literal) (j i : ℕ) (u : Watcher) (v : IsVisiting clauses s l j i) (there : slice_get (row_at s.watches.rows (code_of l)) i ≡ Some u) where
-  -- there is no such clause
-  pub gone_past : length s.watches.watched ≤ u.clause → IsVisiting clauses s l j (i + 1)
-  gone_past h = passed clauses s l j i u v there (λ c at is. absurd (let lt : u.clause < length s.watches.watched = slice_get_within s.watches.watched u.clause c at in omega arith))
-
   module _ (c : List Literal) (at : slice_get s.watches.watched u.clause ≡ Some c) where
     -- it doesn't watch the literal
     pub gone_apart : (IsWatched c l → ⊥) → IsVisiting clauses s l j (i + 1)
@@ -105,9 +101,9 @@ pub open_place : (clauses : List (List Literal)) (s : Propagator) (l : Literal) 
 open_place clauses s l j i u v at = let o : j ≤ i = v.order in let lt : i < length (row_at s.watches.rows (code_of l)) = slice_get_within (row_at s.watches.rows (code_of l)) i u at in omega arith
 
 -- the blocker is true
-pub blocked : (s : Propagator) (l : Literal) (u : Watcher) → Contains (literals_of s.marks.marks) u.blocker → (c : List Literal) → slice_get s.watches.watched u.clause ≡ Some c → IsWatched c l → Contains c u.blocker
-    → HasTrue s.marks.marks c × Contains c u.blocker
-blocked s l u h c at is member = ((u.blocker, member, h), member)
+pub blocked : (s : Propagator) (l : Literal) (u : Watcher) (b : Literal) → u.blocker ≡ b → Contains (literals_of s.marks.marks) b → (c : List Literal) → slice_get s.watches.watched u.clause ≡ Some c → IsWatched c l → Contains c u.blocker
+    → HasTrue s.marks.marks c × Contains c b
+blocked s l u b e h c at is member = let there : Contains c b = subst (Contains c) e member in ((b, there, h), there)
 
 -- a literal that was forced is true
 pub forced_there : (s : Propagator) (m : Mark) (after : MarkList) → after ≡ record { vars = s.marks.vars; marks = s.marks.marks ++ m ∷ [] } → Contains (literals_of after.marks) m.lit

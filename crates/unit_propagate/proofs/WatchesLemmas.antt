@@ -1,26 +1,14 @@
 -- Watching clauses.
-use Rattle.std.proofs.Common.{◌≡◌, ℕ, ◌+◌, ◌*◌, ◌^◌, ◌<◌, ◌≤◌, filter, List, [], ◌∷◌, ◌++◌, inl, inr, Some, slice_get, length, Contains, refl, sym, subst, ap, ◌∙◌, arith}
-use Rattle.std.specs.Prelude.{Result, Ok, Err, OnOk, OnErr, slice_set}
-use Rattle.std.proofs.lemmas.Option.{slice_get_within}
+use Rattle.std.proofs.Common.{◌≡◌, ℕ, filter, List, [], ◌∷◌, ◌++◌, inl, inr, Some, slice_get, length, Contains, refl, sym, subst}
+use Rattle.std.specs.Prelude.{slice_set}
 use Rattle.clause_base.specs.Literal.{Literal}
 use Rattle.clause_base.proofs.Members.{Contains-head, Contains-later}
 use Rattle.unit_propagate.specs.declared.rows.Watcher.{Watcher}
 use Rattle.clause_base.specs.Codes.{code_of}
 use Rattle.unit_propagate.specs.Rows.{row_at, AddsTo, SetsAt, CutsOut}
-use Rattle.unit_propagate.specs.Watches.{WatchList, Adds, AddsAlone, KeepsWatches, Rewatches, CanRewatch, Keeps, Cuts, ordered, exchanged, Stands, differs}
-use Rattle.unit_propagate.proofs.RowsLemmas.{RowsGrow-same, RowsGrow-trans, RowsGrow-adds, added_there}
+use Rattle.unit_propagate.specs.Watches.{WatchList, Adds, Rewatches, CanRewatch, Keeps, Cuts, ordered, exchanged, Stands, differs}
+use Rattle.unit_propagate.proofs.RowsLemmas.{RowsGrow-trans, RowsGrow-adds, added_there}
 use Rattle.unit_propagate.proofs.RewatchLemmas.{ordered_sides, ordered_more}
-
-pub KeepsWatches-one : (w : WatchList) (rows : List (List Watcher)) (row : ℕ) (k : Watcher) → AddsTo w.rows rows row k → KeepsWatches w (record { watched = w.watched; rows = rows; units = w.units })
-KeepsWatches-one w rows row k h = record { watched = refl; grow = RowsGrow-adds w.rows rows row k h; units = refl }
-
-pub KeepsWatches-two : (w : WatchList) (between rows : List (List Watcher)) (row row' : ℕ) (k k' : Watcher) (watched : List (List Literal)) → watched ≡ w.watched → AddsTo w.rows between row k → AddsTo between rows row' k'
-    → KeepsWatches w (record { watched = watched; rows = rows; units = w.units })
-KeepsWatches-two w between rows row row' k k' watched e p q = record {
-  watched = e;
-  grow = RowsGrow-trans w.rows between rows (RowsGrow-adds w.rows between row k p) (RowsGrow-adds between rows row' k' q);
-  units = refl;
-}
 
 pub Adds-two : (w : WatchList) (c : List Literal) (first second : Literal) (between rows : List (List Watcher)) (row row' k : ℕ) (watched : List (List Literal))
     → watched ≡ w.watched ++ (ordered c first second) ∷ []
@@ -51,26 +39,6 @@ Adds-two w c first second between rows row row' k watched e r r' s p q = record 
     second_in : Contains (ordered c first second) second
     second_in = Contains-later first (second ∷ filter (differs first second) c) second (Contains-head second (filter (differs first second) c))
 
--- the last part of an addition had memory, or not
-pub Adds-result : {T E : Type 0} (r : Result T E) (w : WatchList) (c : List Literal) (first second : Literal) (between rows : List (List Watcher)) (row row' k : ℕ) (watched : List (List Literal))
-    → OnOk r (watched ≡ w.watched ++ (ordered c first second) ∷ [])
-    → row ≡ code_of first → row' ≡ code_of second → k ≡ length w.watched → AddsTo w.rows between row (record { clause = k; blocker = second }) → AddsTo between rows row' (record { clause = k; blocker = first })
-    → OnOk r (Adds w (record { watched = watched; rows = rows; units = w.units }) (ordered c first second))
-Adds-result (Ok x) w c first second between rows row row' k watched e r r' s p q = Adds-two w c first second between rows row row' k watched e r r' s p q
-Adds-result (Err x) w c first second between rows row row' k watched e r r' s p q = tt
-
-pub Keeps-result : {T E : Type 0} (r : Result T E) (w : WatchList) (between rows : List (List Watcher)) (row row' : ℕ) (k k' : Watcher) (watched : List (List Literal)) → OnErr r (watched ≡ w.watched)
-    → AddsTo w.rows between row k → AddsTo between rows row' k' → OnErr r (KeepsWatches w (record { watched = watched; rows = rows; units = w.units }))
-Keeps-result (Ok x) w between rows row row' k k' watched e p q = tt
-Keeps-result (Err x) w between rows row row' k k' watched e p q = KeepsWatches-two w between rows row row' k k' watched e p q
-
-pub AddsAlone-of : (w : WatchList) (l : Literal) (watched : List (List Literal)) (units : List ℕ) (k : ℕ) → watched ≡ w.watched ++ (l ∷ []) ∷ [] → k ≡ length w.watched → units ≡ w.units ++ k ∷ []
-    → AddsAlone w (record { watched = watched; rows = w.rows; units = units }) l
-AddsAlone-of w l watched units k e s u = record { watched = e; rows = refl; units = u ∙ ap (λ x. w.units ++ x ∷ []) s }
-
-pub KeepsWatches-same : (w : WatchList) (watched : List (List Literal)) (units : List ℕ) → watched ≡ w.watched → units ≡ w.units → KeepsWatches w (record { watched = watched; rows = w.rows; units = units })
-KeepsWatches-same w watched units e u = record { watched = e; grow = RowsGrow-same w.rows; units = u }
-
 pub Rewatches-of : (w : WatchList) (n : Watcher) (p j : ℕ) (from to : Literal) (rows : List (List Watcher)) (row : ℕ) (watched : List (List Literal)) → CanRewatch w n.clause p j from to → row ≡ code_of to
     → AddsTo w.rows rows row n
     → ((c : List Literal) (a b : Literal) → slice_get w.watched n.clause ≡ Some c → slice_get c p ≡ Some a → slice_get c j ≡ Some b → watched ≡ slice_set w.watched n.clause (exchanged c p j a b))
@@ -80,13 +48,6 @@ Rewatches-of w n p j from to rows row watched can e adds is = record {
   adds = subst (λ x. AddsTo w.rows rows x n) e adds;
   units = refl;
 }
-
--- the list is there
-pub to_in_table : (w : WatchList) (k p j : ℕ) (from to : Literal) (row : ℕ) → CanRewatch w k p j from to → row ≡ code_of to → row ≤ 2 * 2 ^ 30 + 1 → row < length w.rows
-to_in_table w k p j from to row can e le = let h : code_of to < length w.rows = can.to_fits (omega arith) in omega arith
-
-pub clause_there : (w : WatchList) (k p j : ℕ) (from to : Literal) → CanRewatch w k p j from to → (c : List Literal) × (slice_get w.watched k ≡ Some c) × (p < length c) × (j < length c)
-clause_there w k p j from to can = (can.clause, can.there, slice_get_within can.clause p from can.at_p, slice_get_within can.clause j to can.at_j)
 
 pub Keeps-of : (w : WatchList) (row row' i : ℕ) (x : Watcher) (rows : List (List Watcher)) → row ≡ row' → SetsAt w.rows rows row i x → Keeps w (record { watched = w.watched; rows = rows; units = w.units }) row' i x
 Keeps-of w row row' i x rows e sets = record { watched = refl; sets = subst (λ r. SetsAt w.rows rows r i x) e sets; units = refl }

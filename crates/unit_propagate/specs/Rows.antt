@@ -22,3 +22,7 @@ pub record CutsOut (old new : List (List Watcher)) (row from to : ℕ) : Type 0 
   pub size : length new ≡ length old
   pub here : row_at new row ≡ take from (row_at old row) ++ drop to (row_at old row)
   pub others : (other : ℕ) → other ≢ row → row_at new other ≡ row_at old other
+
+-- A watcher is put last in one list, and then one in another.
+abbrev pub AddsBoth : List (List Watcher) → List (List Watcher) → ℕ → Watcher → ℕ → Watcher → Type 0
+AddsBoth old new first x second y = (between : List (List Watcher)) × AddsTo old between first x × AddsTo between new second y

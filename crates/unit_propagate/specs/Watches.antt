@@ -1,9 +1,10 @@
-use Rattle.std.specs.Prelude.{◌≡◌, ◌≢◌, ℕ, ◌+◌, ◌*◌, ◌^◌, ◌<◌, ◌≤◌, ◌⊎◌, Bool, false, not, if◌then◌else◌, List, [], ◌∷◌, ◌++◌, Some, Contains, length, filter, slice_get, slice_set}
+use Rattle.std.specs.Prelude.{◌≡◌, ◌≢◌, ℕ, ◌+◌, ◌*◌, ◌^◌, ◌<◌, ◌≤◌, ◌⊎◌, Bool, false, not, if◌then◌else◌, List, [], ◌∷◌, ◌++◌, Some, All, Contains, map, length, filter, slice_get, slice_set}
 use Rattle.clause_base.specs.Literal.{Literal, negated, literal_eq}
 use Rattle.unit_propagate.specs.declared.marks.Mark.{Mark}
 use Rattle.unit_propagate.specs.declared.rows.Watcher.{Watcher}
 use Rattle.clause_base.specs.Codes.{code_of}
 use Rattle.unit_propagate.specs.Rows.{row_at, AddsTo, SetsAt, CutsOut}
+use Rattle.unit_propagate.specs.Arena.{IsPlace, index_of}
 use Rattle.unit_propagate.specs.Watched.{IsWatched}
 
 -- What a `Watches` is seen as: the literals of each clause, the watched ones first, for each literal the clauses that watch it, and the places of the clauses with one literal.
@@ -11,6 +12,17 @@ pub record WatchList : Type 0 where
   pub watched : List (List Literal)
   pub rows : List (List Watcher)
   pub units : List ℕ
+
+-- A watcher by the number of its clause in place of its place in the array.
+abbrev pub numbered : List ℕ → Watcher → Watcher
+numbered starts x = record { clause = index_of starts x.clause; blocker = x.blocker }
+
+abbrev pub numbered_rows : List ℕ → List (List Watcher) → List (List Watcher)
+numbered_rows starts rows = map (map (numbered starts)) rows
+
+-- Each watcher has the place of a clause.
+abbrev pub ArePlaces : List ℕ → List (List Watcher) → Type 0
+ArePlaces starts rows = (row : ℕ) → All (λ x. IsPlace starts x.clause) (row_at rows row)
 
 -- A literal is neither of two.
 abbrev pub differs : Literal → Literal → Literal → Bool

@@ -4,6 +4,7 @@ ghost use Rattle.clause_base.specs.Literal.{Literal, negated};
 ghost use Rattle.clause_base.specs.Clause.{IsClause, IsWithin};
 ghost use Rattle.refutation_log.specs.Follows.{is_falsified_named};
 ghost use Rattle.unit_propagate.specs.declared.marks.Mark.{Mark};
+ghost use Rattle.unit_propagate.specs.declared.rows.Watcher.{Watcher};
 ghost use Rattle.unit_propagate.specs.declared.propagator.Step.TheVariants.{Kept, Gone, Conflict};
 ghost use Rattle.unit_propagate.specs.Trail.{IsTrail, highest_level, literals_of};
 ghost use Rattle.unit_propagate.specs.Quiet.{IsQuiet};
@@ -12,7 +13,6 @@ ghost use Rattle.unit_propagate.specs.Watches.{IsFalsifier, IsSide};
 
 use crate::clauses::{clause_at, clause_count};
 use crate::marks::Marks;
-use crate::rows::Watcher;
 use crate::watches::Watches;
 use clause_base::{Clause, Cnf, Lit};
 use refutation_log::Entry;
@@ -346,15 +346,15 @@ impl Propagator {
         falsified: Lit,
         to: usize,
         i: usize,
-        watcher: Watcher,
+        blocker: Lit,
     ) -> Result<Step, AllocError>
         requires within { All (IsWithin self.old.marks.vars) (clauses_in base.now seen.now) }
         requires visiting { IsVisiting (clauses_in base.now seen.now) self.old falsified to i }
         requires fits { code_of falsified ≤ 2 * 2 ^ 30 + 1 → code_of falsified < length self.old.watches.rows }
-        requires there { slice_get (row_at self.old.watches.rows (code_of falsified)) i ≡ Some watcher }
+        requires there { (x : Watcher) × (slice_get (row_at self.old.watches.rows (code_of falsified)) i ≡ Some x) × (x.blocker ≡ blocker) }
         ensures stays_there { result ≡ Ok Kept → IsVisiting (clauses_in base.now seen.now) self.new falsified (to + 1) (i + 1) }
         ensures gone { result ≡ Ok Gone → IsVisiting (clauses_in base.now seen.now) self.new falsified to (i + 1) }
-        ensures conflict { result ≡ Ok Conflict → is_falsified_named (clauses_in base.now seen.now) (literals_of self.new.marks.marks) (watcher.clause + 1) ≡ true }
+        ensures conflict { result ≡ Ok Conflict → (x : Watcher) × (slice_get (row_at self.new.watches.rows (code_of falsified)) i ≡ Some x) × (is_falsified_named (clauses_in base.now seen.now) (literals_of self.new.marks.marks) (x.clause + 1) ≡ true) }
         ensures still { result ≡ Ok Conflict → self.new ≡ self.old }
         ensures err { OnErr result (self.new ≡ self.old) }
         ensures row { length (row_at self.new.watches.rows (code_of falsified)) ≡ length (row_at self.old.watches.rows (code_of falsified)) }
@@ -362,38 +362,31 @@ impl Propagator {
         ensures goes { Goes (clauses_in base.now seen.now) self.old self.new }
         ensures stays { Stays self.old self.new }
     {
-        if self.marks.is_true(watcher.blocker) {
-            self.watches.keep(falsified, to, watcher);
+        if self.marks.is_true(blocker) {
+            self.watches.keep(falsified, to, i, blocker);
             return Ok(Step::Kept);
         }
-        let k = watcher.clause as usize;
-        if k >= self.watches.len() {
-            return Ok(Step::Gone);
-        }
-        let lits = self.watches.clause(k);
+        let lits = self.watches.watching(falsified, i);
         let Some(side) = side_of(lits, falsified) else {
             return Ok(Step::Gone);
         };
-        let blocker = side.other;
-        let next = Watcher {
-            clause: watcher.clause,
-            blocker,
-        };
-        if self.marks.is_true(blocker) {
-            self.watches.keep(falsified, to, next);
+        let other = side.other;
+        if self.marks.is_true(other) {
+            self.watches.keep(falsified, to, i, other);
             return Ok(Step::Kept);
         }
         if let Some(open) = open_literal(&self.marks, lits) {
             self.watches
-                .rewatch(next, side.place, open.place, falsified, open.lit)?;
+                .rewatch(i, side.place, open.place, falsified, open.lit, other)?;
             return Ok(Step::Gone);
         }
-        if self.marks.is_false(blocker) {
+        if self.marks.is_false(other) {
             return Ok(Step::Conflict);
         }
+        let number = self.watches.number(falsified, i);
         let level = self.marks.level();
-        self.marks.push(blocker, level, Some(k as u64 + 1));
-        self.watches.keep(falsified, to, next);
+        self.marks.push(other, level, Some(number as u64 + 1));
+        self.watches.keep(falsified, to, i, other);
         Ok(Step::Kept)
     }
 
@@ -412,9 +405,8 @@ impl Propagator {
     {
         let mut kept = 0;
         let mut place = 0;
-        while let Some(watcher) = self.watches.watcher(falsified, place) {
-            let clause = watcher.clause;
-            let step = match self.step(base, seen, falsified, kept, place, watcher) {
+        while let Some(blocker) = self.watches.blocker(falsified, place) {
+            let step = match self.step(base, seen, falsified, kept, place, blocker) {
                 Ok(step) => step,
                 Err(error) => {
                     return Looked {
@@ -434,7 +426,7 @@ impl Propagator {
                     return Looked {
                         kept,
                         place,
-                        end: Ok(Some(clause as u64 + 1)),
+                        end: Ok(Some(self.watches.number(falsified, place) as u64 + 1)),
                     };
                 }
             }

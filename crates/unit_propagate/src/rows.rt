@@ -1,5 +1,5 @@
-ghost use Rattle.std.specs.Prelude.{◌≡◌, ◌<◌, ◌≤◌, List, [], length, map, replicate, slice_get, IsSome, ◌^◌, IfOk, OnOk, OnErr};
-ghost use Rattle.unit_propagate.specs.Rows.{row_at, AddsTo, SetsAt, CutsOut};
+ghost use Rattle.std.specs.Prelude.{◌≡◌, ◌<◌, ◌≤◌, List, [], length, map, replicate, slice_get, IsSome, Some, ◌^◌, IfOk, OnOk, OnErr};
+ghost use Rattle.unit_propagate.specs.Rows.{row_at, AddsTo, AddsBoth, SetsAt, CutsOut};
 
 use clause_base::Lit;
 use std::alloc::{AllocError, Global};
@@ -49,6 +49,15 @@ impl Rows {
         self.rows[row].get(i).copied()
     }
 
+    /// The watcher at place `i` of a list that has one there.
+    pub fn at(&self, row: usize, i: usize) -> Watcher
+        requires in_table { row < length self.now }
+        requires in_row { i < length (row_at self.now row) }
+        ensures { slice_get (row_at self.now row) i ≡ Some result }
+    {
+        self.rows[row][i]
+    }
+
     /// Puts a watcher last in a list.
     pub fn push(&mut self, row: usize, watcher: Watcher) -> Result<(), AllocError>
         requires { row < length self.old }
@@ -56,6 +65,28 @@ impl Rows {
         ensures err { OnErr result (self.new ≡ self.old) }
     {
         self.rows[row].push(watcher)?;
+        Ok(())
+    }
+
+    /// Puts a watcher last in a list, and then one in another, or neither.
+    pub fn push_both(
+        &mut self,
+        first: usize,
+        x: Watcher,
+        second: usize,
+        y: Watcher,
+    ) -> Result<(), AllocError>
+        requires first_fits { first < length self.old }
+        requires second_fits { second < length self.old }
+        ensures ok { OnOk result (AddsBoth self.old self.new first x second y) }
+        ensures err { OnErr result (self.new ≡ self.old) }
+    {
+        let end = self.rows[first].len();
+        self.push(first, x)?;
+        if let Err(error) = self.push(second, y) {
+            self.cut(first, end, end + 1);
+            return Err(error);
+        }
         Ok(())
     }
 

@@ -1,6 +1,7 @@
-ghost use Rattle.std.specs.Prelude.{◌≡◌, ◌≢◌, ℕ, ◌+◌, ◌*◌, ◌<◌, ◌≤◌, ◌^◌, List, [], ◌∷◌, replicate, length, slice_get, IfOk, OnOk, OnErr, Some, IsSome};
+ghost use Rattle.std.specs.Prelude.{◌≡◌, ◌≢◌, ℕ, ◌+◌, ◌*◌, ◌<◌, ◌≤◌, ◌^◌, List, [], ◌∷◌, replicate, length, slice_get, IfOk, IfSome, IfNone, OnOk, OnErr, Some, IsSome};
 ghost use Rattle.clause_base.specs.Literal.{Literal};
 ghost use Rattle.clause_base.specs.Codes.{code_of};
+ghost use Rattle.unit_propagate.specs.declared.rows.Watcher.{Watcher};
 ghost use Rattle.unit_propagate.specs.Rows.{row_at};
 ghost use Rattle.unit_propagate.specs.Watches.{WatchList, Adds, AddsAlone, KeepsWatches, Rewatches, CanRewatch, Keeps, Cuts, ordered};
 
@@ -10,7 +11,8 @@ use clause_base::Lit;
 use std::alloc::{AllocError, Global};
 use std::marker::Model;
 
-/// The literals of each clause, the two watched ones first, and the clauses that watch a literal. Clauses go by their places.
+/// The literals of each clause, the two watched ones first, and the clauses that watch a literal. Contracts see a watcher with the number of
+/// its clause, from 0; it is kept with the clause's place in the array.
 #[derive(Debug, Drop)]
 pub struct Watches {
     arena: Arena,
@@ -19,11 +21,13 @@ pub struct Watches {
 }
 
 impl Model for Watches {
-    ghost use Rattle.unit_propagate.specs.Watches.{WatchList};
+    ghost use Rattle.unit_propagate.specs.Watches.{WatchList, numbered_rows, ArePlaces};
 
     ghost Value = { WatchList };
 
-    ghost view = { λ w. record { watched = w.arena; rows = w.rows; units = w.units.items } };
+    ghost view = { λ w. record { watched = w.arena.clauses; rows = numbered_rows w.arena.starts w.rows; units = w.units.items } };
+
+    ghost invariant = { λ w. ArePlaces w.arena.starts w.rows };
 }
 
 /// The place of a literal's list.
@@ -88,22 +92,43 @@ impl Watches {
         self.arena.clause(k)[0]
     }
 
-    /// One of the clauses that watch a literal.
-    pub fn watcher(&self, lit: Lit, i: usize) -> Option<Watcher>
+    /// The blocker of one of the clauses that watch a literal.
+    pub fn blocker(&self, lit: Lit, i: usize) -> Option<Lit>
         requires { code_of lit ≤ 2 * 2 ^ 30 + 1 → code_of lit < length self.now.rows }
-        ensures value { result ≡ slice_get (row_at self.now.rows (code_of lit)) i }
+        ensures some { IfSome result (λ b. (x : Watcher) × (slice_get (row_at self.now.rows (code_of lit)) i ≡ Some x) × (x.blocker ≡ b)) }
+        ensures none { IfNone result (length (row_at self.now.rows (code_of lit)) ≤ i) }
         ensures small { IsSome result → i < 2 ^ 63 }
     {
-        self.rows.get(code(lit), i)
+        Some(self.rows.get(code(lit), i)?.blocker)
     }
 
-    /// Writes a watcher at place `i` of the list of a literal.
-    pub fn keep(&mut self, lit: Lit, i: usize, watcher: Watcher)
-        requires fits { code_of lit ≤ 2 * 2 ^ 30 + 1 → code_of lit < length self.old.rows }
-        requires in_row { i < length (row_at self.old.rows (code_of lit)) }
-        ensures { Keeps self.old self.new (code_of lit) i watcher }
+    /// The literals of one of the clauses that watch a literal, the watched ones first.
+    pub fn watching(&self, lit: Lit, i: usize) -> &[Lit]
+        requires fits { code_of lit ≤ 2 * 2 ^ 30 + 1 → code_of lit < length self.now.rows }
+        requires there { i < length (row_at self.now.rows (code_of lit)) }
+        ensures { (x : Watcher) → slice_get (row_at self.now.rows (code_of lit)) i ≡ Some x → slice_get self.now.watched x.clause ≡ Some result.now }
     {
-        self.rows.set(code(lit), i, watcher);
+        self.arena.at(self.rows.at(code(lit), i).clause)
+    }
+
+    /// The number, from 0, of one of the clauses that watch a literal.
+    pub fn number(&self, lit: Lit, i: usize) -> u32
+        requires fits { code_of lit ≤ 2 * 2 ^ 30 + 1 → code_of lit < length self.now.rows }
+        requires there { i < length (row_at self.now.rows (code_of lit)) }
+        ensures { (x : Watcher) → slice_get (row_at self.now.rows (code_of lit)) i ≡ Some x → result ≡ x.clause }
+    {
+        self.arena.number(self.rows.at(code(lit), i).clause)
+    }
+
+    /// Writes the watcher at place `i` of the list of a literal, with another blocker, at place `to`.
+    pub fn keep(&mut self, lit: Lit, to: usize, i: usize, blocker: Lit)
+        requires fits { code_of lit ≤ 2 * 2 ^ 30 + 1 → code_of lit < length self.old.rows }
+        requires in_row { to < length (row_at self.old.rows (code_of lit)) }
+        requires there { i < length (row_at self.old.rows (code_of lit)) }
+        ensures { (x : Watcher) → slice_get (row_at self.old.rows (code_of lit)) i ≡ Some x → Keeps self.old self.new (code_of lit) to (record { clause = x.clause; blocker = blocker }) }
+    {
+        let clause = self.rows.at(code(lit), i).clause;
+        self.rows.set(code(lit), to, Watcher { clause, blocker });
     }
 
     /// Takes the watchers from place `from` up to place `to` out of the list of a literal.
@@ -116,23 +141,25 @@ impl Watches {
         self.rows.cut(code(lit), from, to);
     }
 
-    /// A clause watches its literal `to` at place `j`, as this watcher, in place of its literal `from` at place `p`, in whose list it still
-    /// stands.
+    /// The clause of the watcher at place `i` of the list of its literal `from` watches its literal `to` at place `j`, with this blocker, in
+    /// place of `from` at place `p`, in whose list it still stands.
     pub fn rewatch(
         &mut self,
-        watcher: Watcher,
+        i: usize,
         p: usize,
         j: usize,
         from: Lit,
         to: Lit,
+        blocker: Lit,
     ) -> Result<(), AllocError>
-        requires { CanRewatch self.old watcher.clause p j from to }
-        ensures ok { OnOk result (Rewatches self.old self.new watcher p j from to) }
+        requires fits { code_of from ≤ 2 * 2 ^ 30 + 1 → code_of from < length self.old.rows }
+        requires there { (x : Watcher) × (slice_get (row_at self.old.rows (code_of from)) i ≡ Some x) × CanRewatch self.old x.clause p j from to }
+        ensures ok { OnOk result ((x : Watcher) → slice_get (row_at self.old.rows (code_of from)) i ≡ Some x → Rewatches self.old self.new (record { clause = x.clause; blocker = blocker }) p j from to) }
         ensures err { OnErr result (self.new ≡ self.old) }
     {
-        let clause = watcher.clause;
-        self.rows.push(code(to), watcher)?;
-        self.arena.exchange(clause as usize, p, j);
+        let clause = self.rows.at(code(from), i).clause;
+        self.rows.push(code(to), Watcher { clause, blocker })?;
+        self.arena.exchange(clause, p, j);
         Ok(())
     }
 
@@ -143,22 +170,26 @@ impl Watches {
         ensures ok { OnOk result (Adds self.old self.new (ordered lits.now first second)) }
         ensures err { OnErr result (KeepsWatches self.old self.new) }
     {
-        let clause = self.arena.len() as u32;
-        self.rows.push(
-            code(first),
-            Watcher {
-                clause,
-                blocker: second,
-            },
-        )?;
-        self.rows.push(
-            code(second),
-            Watcher {
-                clause,
-                blocker: first,
-            },
-        )?;
-        self.arena.push(lits, first, second)
+        let Some(clause) = self.arena.next() else {
+            return Err(AllocError);
+        };
+        self.arena.push(lits, first, second)?;
+        let at_first = Watcher {
+            clause,
+            blocker: second,
+        };
+        let at_second = Watcher {
+            clause,
+            blocker: first,
+        };
+        if let Err(error) = self
+            .rows
+            .push_both(code(first), at_first, code(second), at_second)
+        {
+            self.arena.pop();
+            return Err(error);
+        }
+        Ok(())
     }
 
     /// Keeps the next clause, which has no other literal.

@@ -1,0 +1,6 @@
+use Rattle.std.proofs.Common.{length}
+use Rattle.unit_propagate.proofs.ArenaLemmas.{index_fresh}
+use Rattle.unit_propagate.proofs.arena.Arena.len.Goals as goal
+
+pub returns-clause-fresh : goal.returns-clause-fresh
+returns-clause-fresh c = rw (← c.self.view_is) (index_fresh (length c.self.inside.lits.items) c.self.inside.spans.items c.self.invariant.0.within)

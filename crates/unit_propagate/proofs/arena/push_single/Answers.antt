@@ -1,0 +1,10 @@
+use Rattle.std.proofs.Common.{◌≡◌, ◌+◌, ◌∷◌, [], length, ap, ◌∙◌}
+use Rattle.clause_base.specs.Codes.{decoded}
+use Rattle.unit_propagate.proofs.ArenaLemmas.{pushed_result}
+use Rattle.unit_propagate.proofs.arena.push_single.Goals as goal
+
+pub returns-clause-ok : goal.returns-clause-ok
+returns-clause-ok c =
+    let start : c.len-start.result ≡ length c.args.out.now.items = c.len-start.ensures ∙ c.args.out.now.ok.0 in
+    pushed_result c.close_clause.result c.args.out.now.items c.open_clause.new.out.items c.push.new.self.items c.close_clause.new.out.items c.args.spans.now.items c.close_clause.new.spans.items
+    (c.args.lit ∷ []) (decoded 2) (decoded 2) (c.len-start.result + 2) c.in_ok-open_clause.ensures.ok c.in_ok-push.ensures.items (ap (λ n. n + 2) start) c.close_clause.ensures.ok
