@@ -12,8 +12,9 @@ use machine_model::Automaton;
 use program_replies::{Reply, Status, refused_at_line};
 use spec_problems::TextProblems;
 use std::alloc::{AllocError, Global};
+use synth_answer::Problems;
 use text_base::push_number;
-use verify_answer::{Problems, problems_or_refusal, verify_answer};
+use verify_answer::{problems_for_verify, verify_answer};
 
 /// What comes of a text and a circuit.
 #[derive(Drop)]
@@ -26,7 +27,7 @@ pub enum Outcome {
 
 /// Annotates a circuit for a text, or says why it can't.
 pub fn annotate(alloc: Global, text: &[u8], circuit: &[u8]) -> Result<Outcome, AllocError> {
-    match problems_or_refusal(alloc, text)? {
+    match problems_for_verify(alloc, text)? {
         Problems::Of(problems) => annotate_for(alloc, &problems, circuit),
         Problems::Refused(reply) => Ok(Outcome::Told(reply.bytes)),
     }

@@ -3,7 +3,7 @@ use Rattle.std.proofs.Common.{◌≡◌, ◌≢◌, ℕ, ◌+◌, ◌<◌, ◌�
 use Rattle.std.proofs.lemmas.List.Elements.{All-append, All-cons, All-head, All-nil, All-tail}
 use Rattle.std.specs.Prelude.{Option, Some, None, IfNone}
 use Rattle.std.proofs.lemmas.Grind.{common_steps}
-use Rattle.batch_answer.specs.ListText.{IsBadNext, IsFirstBadLine, IsFirstLine, IsList, IsName, IsNext, IsOneLine, lines_of, most_lines, one_too_many, not_ended, no_name}
+use Rattle.batch_answer.specs.ListText.{IsBadNext, IsFirstBadLineOfList, IsFirstLine, IsList, IsName, IsNext, IsOneLine, lines_of, most_lines, one_too_many, not_ended, no_name}
 use Rattle.batch_answer.specs.Laws.{ListsAreDetermined}
 
 abbrev is_no_end : ℕ → Type 0
@@ -133,7 +133,7 @@ read-list bytes names [] so_far none = record { text = so_far.text ∙ no_more (
 read-list bytes names (x ∷ rest) so_far none = absurd (omega (arith, none))
 
 pub read-bad : (bytes : List ℕ) (names : List (List ℕ)) (rest : List ℕ) (n : ℕ) → IsRead bytes names rest → IsBadNext (length names) rest
-    → n ≡ length names + 1 → IsFirstBadLine bytes n
+    → n ≡ length names + 1 → IsFirstBadLineOfList bytes n
 read-bad bytes names rest n so_far bad number =
     record { names = names; rest = rest; text = so_far.text; each = so_far.each; few = so_far.few; number = number; bad = bad }
 

@@ -11,9 +11,10 @@ use Rattle.std.proofs.lemmas.Grind.{common_steps}
 use Rattle.text_base.proofs.NumeralLemmas.{decimal_is_numeral}
 use Rattle.batch_run.specs.Answers.{AreAnswers}
 use Rattle.synth_engine.specs.declared.settings.Settings.{Settings}
+use Rattle.synth_engine.specs.Settings.{alone}
 use Rattle.synth_answer.specs.Answer.{Answers, refused, realizable, unrealizable, bounded, no_size, no_entries}
 use Rattle.batch_answer.specs.ListText.{IsOneLine}
-use Rattle.batch_answer.specs.Batch.{AreLines, IsPartFor, Part, batch_text, bounds_of, part_text}
+use Rattle.batch_answer.specs.Batch.{AreLines, IsPartFor, Part, batch_text, part_text}
 use Rattle.program_replies.specs.Lines.{line_count}
 use Rattle.batch_answer.specs.Laws.{BatchesAreReadBack}
 use Rattle.batch_answer.proofs.ListLemmas.{cut_same, heads, tails}
@@ -140,9 +141,9 @@ lines_short name p rest short =
 
 plain_part : (settings : Settings) (text : List ℕ) (p : Part) → IsPartFor settings text p → line_count p.lines < 2 ^ 64 → IsPlain p
 plain_part settings text p answer few = record {
-  status = small_status text (bounds_of settings) p.lines p.status answer;
+  status = small_status text (alone settings) p.lines p.status answer;
   count = few;
-  lines = answers_are_lines text None (bounds_of settings) p.lines p.status answer;
+  lines = answers_are_lines text None (alone settings) p.lines p.status answer;
 }
 
 read_back : (settings limits : Settings) (names : List (List ℕ)) (ps qs : List Part) (texts others : List (List ℕ)) → length names ≡ length texts → length names ≡ length others

@@ -10,12 +10,13 @@ use Rattle.tlsf_reader.specs.Faults.{most_bytes, too_long}
 use Rattle.flat_text.specs.FlatOf.{of_reading}
 use Rattle.spec_problems.specs.OfText.{of_text}
 use Rattle.synth_engine.specs.declared.settings.Settings.{Settings}
+use Rattle.synth_engine.specs.Settings.{alone}
 use Rattle.synth_answer.specs.Answer.{Answers, refused}
 use Rattle.batch_answer.specs.declared.texts.TakenText.{TakenText}
 use Rattle.batch_answer.specs.declared.texts.TakenText.TheVariants.{Whole, TooLong}
 use Rattle.batch_answer.specs.Taken.{AreTexts, IsReplyTo, IsText}
 use Rattle.batch_run.specs.Answers.{AreAnswers}
-use Rattle.batch_answer.specs.Batch.{BatchAnswers, IsPartFor, Part, batch_text, bounds_of, part_of}
+use Rattle.batch_answer.specs.Batch.{BatchAnswers, IsPartFor, Part, batch_text, part_of}
 
 module _ {E : Type 0} (bounds : Settings) where
   -- the answer to all bytes of a text
@@ -82,7 +83,7 @@ parts_many [] = refl
 parts_many (r ∷ replies) = ap suc (parts_many replies)
 
 pub batch_answers : (names : List (List ℕ)) (texts : List TakenText) (settings bounds : Settings) (replies : List Reply) (bytes : List ℕ)
-    → length names ≡ length texts → bounds ≡ bounds_of settings → AreAnswers (IsReplyTo bounds) texts replies
+    → length names ≡ length texts → bounds ≡ alone settings → AreAnswers (IsReplyTo bounds) texts replies
     → bytes ≡ batch_text names (map part_of replies) → (files : List (List ℕ)) → AreTexts texts files → BatchAnswers names files settings bytes
 batch_answers names texts settings bounds replies bytes one_each is answers text files are = record {
   one_each = one_each ∙ as_many texts files are;

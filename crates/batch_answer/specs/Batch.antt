@@ -1,22 +1,12 @@
 -- The answer of `batch` (this project's own).
-use Rattle.std.specs.Prelude.{◌≡◌, ◌≤◌, ℕ, ◌++◌, IfSome, ⊤, List, [], ◌∷◌, None, codes, decimal, length}
+use Rattle.std.specs.Prelude.{◌≡◌, ℕ, ◌++◌, ⊤, List, [], ◌∷◌, None, codes, decimal, length}
 use Rattle.program_replies.specs.declared.replies.Reply.{Reply}
 use Rattle.program_replies.specs.Lines.{line_count}
 use Rattle.program_replies.specs.Statuses.{status_number}
 use Rattle.batch_run.specs.Answers.{AreAnswers}
 use Rattle.synth_engine.specs.declared.settings.Settings.{Settings}
+use Rattle.synth_engine.specs.Settings.{alone}
 use Rattle.synth_answer.specs.Answer.{Answers}
-
--- how each search is bounded: by the same limits, and without workers beside the one that makes it
-abbrev pub bounds_of : Settings → Settings
-bounds_of settings = record { max = settings.max; entries = settings.entries; workers = 0; counts = settings.counts }
-
--- a search can be bounded so
-pub record IsBounded (settings : Settings) : Type 0 where
-  pub some_size : 1 ≤ settings.max
-  pub most_size : settings.max ≤ 8
-  pub entries : IfSome settings.entries (λ most. most ≤ 250000)
-  pub workers : settings.workers ≤ 8
 
 -- what a part tells of its text
 pub record Part : Type 0 where
@@ -25,7 +15,7 @@ pub record Part : Type 0 where
 
 -- the text alone has this answer
 abbrev pub IsPartFor : Settings → List ℕ → Part → Type 0
-IsPartFor settings text part = Answers text None (bounds_of settings) part.lines part.status
+IsPartFor settings text part = Answers text None (alone settings) part.lines part.status
 
 -- the part that a reply gives
 abbrev pub part_of : Reply → Part

@@ -4,13 +4,13 @@ use Rattle.letter_word.specs.declared.kinds.Kind.{Kind}
 use Rattle.synth_engine.specs.declared.settings.Settings.{Settings}
 use Rattle.synth_answer.specs.Answer.{Answers}
 use Rattle.batch_answer.specs.Batch.{AreLines, BatchAnswers}
-use Rattle.batch_answer.specs.ListText.{IsFirstBadLine, IsList}
+use Rattle.batch_answer.specs.ListText.{IsFirstBadLineOfList, IsList}
 
 -- bytes are one list, or have one first bad line, and not both
 pub record ListsAreDetermined : Type 0 where
   pub one_list : (bytes : List ℕ) (names others : List (List ℕ)) → IsList bytes names → IsList bytes others → names ≡ others
-  pub one_line : (bytes : List ℕ) (m n : ℕ) → IsFirstBadLine bytes m → IsFirstBadLine bytes n → m ≡ n
-  pub apart : (bytes : List ℕ) (names : List (List ℕ)) (n : ℕ) → IsList bytes names → IsFirstBadLine bytes n → ⊥
+  pub one_line : (bytes : List ℕ) (m n : ℕ) → IsFirstBadLineOfList bytes m → IsFirstBadLineOfList bytes n → m ≡ n
+  pub apart : (bytes : List ℕ) (names : List (List ℕ)) (n : ℕ) → IsList bytes names → IsFirstBadLineOfList bytes n → ⊥
 
 -- an answer to a text is whole lines
 abbrev pub AnswersAreLines : Type 0

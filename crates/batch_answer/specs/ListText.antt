@@ -38,7 +38,7 @@ pub data IsBadNext (count : ℕ) (rest : List ℕ) : Type 0 where
   no_name : (line behind : List ℕ) → rest ≡ line ++ 10 ∷ behind → IsOneLine line → (IsName line → ⊥) → IsBadNext count rest
 
 -- The bytes are no list: the lines before line n are those of names, and line n isn't the next one.
-pub record IsFirstBadLine (bytes : List ℕ) (n : ℕ) : Type 0 where
+pub record IsFirstBadLineOfList (bytes : List ℕ) (n : ℕ) : Type 0 where
   pub names : List (List ℕ)
   pub rest : List ℕ
   pub text : bytes ≡ lines_of names ++ rest

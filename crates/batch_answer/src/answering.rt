@@ -1,5 +1,5 @@
 //! The answer to many texts.
-ghost use Rattle.std.specs.Prelude.{◌≡◌, ◌^◌, ◌<◌, ◌≤◌, ℕ, List, IfOk, IfSome, length};
+ghost use Rattle.std.specs.Prelude.{◌≡◌, ◌^◌, ◌<◌, ◌≤◌, ℕ, List, IfOk, length};
 ghost use Rattle.batch_answer.specs.Batch.{BatchAnswers};
 ghost use Rattle.batch_answer.specs.Taken.{AreTexts};
 
@@ -29,15 +29,12 @@ pub fn batch_answer<R: Threads + Wait + Sync, G: Gate + Sync>(
 ) -> Result<Reply, AllocError>
     requires one_each { length names.now ≡ length texts.now }
     requires few { length texts.now < 2 ^ 32 }
-    requires some_size { 1 ≤ settings.max }
-    requires most_size { settings.max ≤ 8 }
-    requires entries { IfSome settings.entries (λ most. most ≤ 250000) }
     requires workers { 1 ≤ settings.workers }
     ensures done { IfOk result (λ r. r.status ≡ Status.Done) }
     ensures answers { (files : List (List ℕ)) → AreTexts texts.now files → IfOk result (λ r. BatchAnswers names.now files settings r.bytes.items) }
 {
     let job = Answering::new(alloc, settings);
-    let replies = run_all(rt, alloc, &job, texts, settings.workers, gate)?;
+    let replies = run_all(rt, alloc, &job, texts, settings.workers(), gate)?;
     Ok(Reply {
         bytes: batch_text(alloc, names, &replies)?,
         status: Status::Done,

@@ -2,7 +2,7 @@
 ghost use Rattle.std.specs.Prelude.{◌≡◌, ◌<◌, ◌≤◌, ℕ, Err, IfNone, IfOk, IfSome, length};
 ghost use Rattle.std.specs.Bool.{MatchBool};
 ghost use Rattle.batch_answer.specs.declared.list.ListFault.TheVariants.{BadLine, NoMemory};
-ghost use Rattle.batch_answer.specs.ListText.{BeginsName, IsBadNext, IsFirstBadLine, IsFirstLine, IsList, IsName, IsNext, IsOneLine, most_lines};
+ghost use Rattle.batch_answer.specs.ListText.{BeginsName, IsBadNext, IsFirstBadLineOfList, IsFirstLine, IsList, IsName, IsNext, IsOneLine, most_lines};
 
 use crate::file_name::FileName;
 use std::alloc::{AllocError, AllocFailed, Global};
@@ -39,7 +39,7 @@ const MOST_LINES: usize = 64;
 /// has no end, and so is the 65th.
 pub fn read_list(alloc: Global, bytes: &[u8]) -> Result<Vec<FileName>, ListFault>
     ensures list { IfOk result (λ names. IsList bytes.now names.items) }
-    ensures bad { (n : ℕ) → result ≡ Err (BadLine n) → IsFirstBadLine bytes.now n }
+    ensures bad { (n : ℕ) → result ≡ Err (BadLine n) → IsFirstBadLineOfList bytes.now n }
 {
     let mut names = Vec::new(alloc);
     let mut rest = bytes;

@@ -1,5 +1,5 @@
 //! One text of a batch, and the job of answering it.
-ghost use Rattle.std.specs.Prelude.{◌≡◌, ◌≤◌, IfSome};
+ghost use Rattle.std.specs.Prelude.{◌≡◌};
 
 use batch_run::Job;
 use outside_edge::OpenGate;
@@ -33,31 +33,22 @@ pub struct Answering {
 
 impl Model for Answering {
     ghost use Rattle.synth_engine.specs.declared.settings.Settings.{Settings};
-    ghost use Rattle.batch_answer.specs.Batch.{IsBounded};
 
     ghost Value = { Settings };
 
     ghost view = { λ job. job.bounds };
-
-    ghost invariant = { λ job. IsBounded job.bounds };
 }
 
 impl Answering {
-    ghost use Rattle.batch_answer.specs.Batch.{bounds_of};
+    ghost use Rattle.synth_engine.specs.Settings.{alone};
 
     /// With the limits of the settings.
     pub fn new(alloc: Global, settings: Settings) -> Answering
-        requires some_size { 1 ≤ settings.max }
-        requires most_size { settings.max ≤ 8 }
-        requires entries { IfSome settings.entries (λ most. most ≤ 250000) }
-        ensures bounds { result ≡ bounds_of settings }
+        ensures { result ≡ alone settings }
     {
         Answering {
             alloc,
-            bounds: Settings {
-                workers: 0,
-                ..settings
-            },
+            bounds: settings.alone(),
         }
     }
 }

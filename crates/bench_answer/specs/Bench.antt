@@ -41,11 +41,6 @@ abbrev pub lines_of : ℕ → Verdict → List ℕ
 lines_of clients verdict =
     codes "clients " ++ decimal clients ++ codes "\nverdict " ++ word_of verdict ++ codes "\nstates " ++ decimal (states_of verdict) ++ codes "\n"
 
--- the bytes state a document
-pub record IsDocument (bytes : List ℕ) : Type 0 where
-  pub document : Document
-  pub states : States bytes document
-
 -- the bytes state a document with this verdict
 pub record HasVerdict (bytes : List ℕ) (verdict : Verdict) : Type 0 where
   pub document : Document

@@ -1,18 +1,17 @@
 //! The search on the text of an arbiter, and its three lines.
-ghost use Rattle.std.specs.Prelude.{◌≡◌, ◌≤◌, ◌++◌, IfOk, OnOk};
+ghost use Rattle.std.specs.Prelude.{◌≡◌, ◌≤◌, IfOk};
 ghost use Rattle.program_replies.specs.Statuses.{status_number};
-ghost use Rattle.bench_answer.specs.Bench.{BenchAnswer, HasVerdict, IsDocument, bounds_of, lines_of, states_of, word_of};
+ghost use Rattle.bench_answer.specs.Bench.{BenchAnswer, lines_of, states_of, word_of};
 
 use annotation_encode::Counts;
 use arbiter_text::write_arbiter;
-use cert_text::laws::documents_are_determined;
-use cert_text::{DocumentFault, Verdict, read_document};
+use cert_text::Verdict;
 use outside_edge::Gate;
-use program_replies::{Reply, Status};
+use program_replies::Reply;
 use std::alloc::{AllocError, Global};
 use std::sync::Wait;
 use std::thread::Threads;
-use synth_answer::answer;
+use synth_answer::told_answer;
 use synth_engine::Settings;
 use text_base::push_number;
 
@@ -34,42 +33,16 @@ pub fn bench_answer<R: Threads + Wait + Sync, G: Gate + Sync>(
 {
     let mut text = Vec::new(alloc);
     write_arbiter(clients, &mut text)?;
-    let found = answer(rt, alloc, &text, None, bounds(workers), gate)?;
+    let settings = Settings::new(4, None, workers, Counts::Whole);
+    let told = told_answer(rt, alloc, &text, None, settings, gate)?;
     // The text of an arbiter has no fault, which no law says yet.
-    if let Status::Refused = found.status {
+    let Some(verdict) = told.verdict else {
         return Err(AllocError);
-    }
-    documents_are_determined();
-    let verdict = verdict_in(alloc, &found.bytes)?;
+    };
     Ok(Reply {
         bytes: lines(alloc, clients, verdict)?,
-        status: found.status,
+        status: told.reply.status,
     })
-}
-
-// How the search is bounded.
-fn bounds(workers: u32) -> Settings
-    ensures { result ≡ bounds_of workers }
-{
-    Settings {
-        max: 4,
-        entries: None,
-        workers,
-        counts: Counts::Whole,
-    }
-}
-
-// The verdict of the document that the bytes state.
-fn verdict_in(alloc: Global, bytes: &[u8]) -> Result<Verdict, AllocError>
-    requires { IsDocument bytes.now }
-    ensures { IfOk result (HasVerdict bytes.now) }
-{
-    documents_are_determined();
-    match read_document(alloc, bytes) {
-        Ok(document) => Ok(document.verdict),
-        Err(DocumentFault::NoMemory) => Err(AllocError),
-        Err(DocumentFault::BadLine(_)) => unreachable!(),
-    }
 }
 
 // The three lines.

@@ -4,6 +4,7 @@ use Rattle.letter_word.specs.declared.kinds.Kind.{Kind}
 use Rattle.spec_faults.specs.declared.code.SpecCode.{SpecCode}
 use Rattle.outside_edge.specs.Files.{Files, bytes_under}
 use Rattle.program_replies.specs.Lines.{line_refusal, refusal_line}
+use Rattle.program_replies.proofs.RefusalLemmas.{one_refusal}
 use Rattle.program_words.specs.Settings.{Asked, batch, bench, check, core, expand, gen, lasso, synth, verify}
 use Rattle.tlsf_expand.specs.FlatText.{FlatText}
 use Rattle.flat_text.specs.FlatOf.{IsFlatOf}
@@ -25,16 +26,13 @@ use Rattle.core_answer.specs.Core.{CoreAnswers, IsCoreFault, guarantees_in}
 use Rattle.core_answer.specs.Core as cores
 use Rattle.core_answer.specs.Laws.{CoreFaultsAreDetermined}
 use Rattle.batch_answer.specs.Laws.{ListsAreDetermined}
-use Rattle.batch_answer.specs.ListText.{IsFirstBadLine}
+use Rattle.batch_answer.specs.ListText.{IsFirstBadLineOfList}
 use Rattle.boundsyn_top.specs.Batch.{ListAnswers}
 use Rattle.boundsyn_top.specs.Batch as batches
 use Rattle.boundsyn_top.specs.Files.{HoldsOfFile}
-use Rattle.boundsyn_top.specs.Commands.{AnswersAsked, bounds_of}
+use Rattle.boundsyn_top.specs.Commands.{AnswersAsked}
 use Rattle.boundsyn_top.specs.Faults.{HasBadLine, HasFault, RefusalsAreDetermined}
 use Rattle.boundsyn_top.proofs.FileLemmas.{of_told}
-
-same_line : (code code' : SpecCode) (place place' : ℕ) → code ≡ code' → place ≡ place' → refusal_line code place ≡ refusal_line code' place'
-same_line code code' place place' a b = rw (a, b) refl
 
 module _ (problems : ProblemsOfTextsAreDetermined) where
   no_fault : (text : List ℕ) (kind : Option Kind) (settings : Settings) (bytes : List ℕ) (code : SpecCode) (place : ℕ) →
@@ -45,7 +43,7 @@ module _ (problems : ProblemsOfTextsAreDetermined) where
   synth_fault : (text : List ℕ) (kind : Option Kind) (settings : Settings) (bytes : List ℕ) (status : ℕ) (code : SpecCode) (place : ℕ) →
       Answers text kind settings bytes status → IsFirstFault text kind code place → (status ≡ 1) × (bytes ≡ refusal_line code place)
   synth_fault text kind settings bytes status code place (refused other at ended first line) fault =
-      let e = problems.one_fault text kind other code at place first fault in (ended, line ∙ same_line other code at place e.0 e.1)
+      let e = problems.one_fault text kind other code at place first fault in (ended, line ∙ one_refusal other code at place e.0 e.1)
   synth_fault text kind settings bytes status code place (realizable p n c is holds) fault = absurd (no_fault text kind settings bytes code place p fault)
   synth_fault text kind settings bytes status code place (unrealizable p n c is holds) fault = absurd (no_fault text kind settings bytes code place p fault)
   synth_fault text kind settings bytes status code place (bounded p side n c is holds) fault = absurd (no_fault text kind settings bytes code place p fault)
@@ -72,7 +70,7 @@ module _ (problems : ProblemsOfTextsAreDetermined) where
     core_fault : (text : List ℕ) (kind : Option Kind) (settings : Settings) (bytes : List ℕ) (status : ℕ) (code : SpecCode) (place : ℕ) →
         CoreAnswers text kind settings bytes status → IsCoreFault text kind code place → (status ≡ 1) × (bytes ≡ refusal_line code place)
     core_fault text kind settings bytes status code place (cores.refused other at ended first line) fault =
-        let e = faults text kind other code at place first fault in (ended, line ∙ same_line other code at place e.0 e.1)
+        let e = faults text kind other code at place first fault in (ended, line ∙ one_refusal other code at place e.0 e.1)
     core_fault text kind settings bytes status code place (cores.spared flat is_flat few a told) (cores.of_text same at fault) =
         synth_fault text kind settings bytes status same at a fault
     core_fault text kind settings bytes status code place (cores.spared flat is_flat few a told) (cores.too_many other is_other none many) =
@@ -84,7 +82,7 @@ module _ (problems : ProblemsOfTextsAreDetermined) where
 
 -- nothing but its line answers a list with a bad line
 bad_list : ListsAreDetermined → (told : Option Files) (lines : List ℕ) (settings : Settings) (bytes : List ℕ) (status n : ℕ) →
-    ListAnswers told lines settings bytes status → IsFirstBadLine lines n → (status ≡ 40) × (bytes ≡ line_refusal n)
+    ListAnswers told lines settings bytes status → IsFirstBadLineOfList lines n → (status ≡ 40) × (bytes ≡ line_refusal n)
 bad_list law told lines settings bytes status n (batches.bad_line m ended first is) bad = (ended, is ∙ ap line_refusal (law.one_line lines m n first bad))
 bad_list law told lines settings bytes status n (batches.answered names texts ended is_list are answer) bad = absurd (law.apart lines names n is_list bad)
 
@@ -93,8 +91,8 @@ module _ (problems : ProblemsOfTextsAreDetermined) (checks : ChecksAreDetermined
   of_text : (files : Files) (asked : Asked) (bytes : List ℕ) (status : ℕ) (code : SpecCode) (place : ℕ) → HasFault files asked code place →
       AnswersAsked (Some files) asked bytes status → (status ≡ 1) × (bytes ≡ refusal_line code place)
   of_text files (synth spec wanted kind) bytes status code place fault a =
-      synth_fault problems (bytes_under files spec) kind (bounds_of wanted) bytes status code place
-      (of_told files spec (λ text. Answers text kind (bounds_of wanted) bytes status) a.answer) fault
+      synth_fault problems (bytes_under files spec) kind wanted bytes status code place
+      (of_told files spec (λ text. Answers text kind wanted bytes status) a.answer) fault
   of_text files (check spec document) bytes status code place fault a =
       let h = of_told files spec (λ text. HoldsOfFile (Some files) document (λ lines. CheckAnswers text lines bytes status)) a.answer in
       checks.of_fault (bytes_under files spec) h.bytes bytes status code place h.holds fault
@@ -109,8 +107,8 @@ module _ (problems : ProblemsOfTextsAreDetermined) (checks : ChecksAreDetermined
       let h = of_told files spec (λ text. HoldsOfFile (Some files) circuit (λ lines. VerifyAnswers text lines bytes status)) a.answer in
       verifications.of_fault (bytes_under files spec) h.bytes bytes status code place h.holds fault
   of_text files (core spec wanted kind) bytes status code place fault a =
-      core_fault problems flats faults (bytes_under files spec) kind (bounds_of wanted) bytes status code place
-      (of_told files spec (λ text. CoreAnswers text kind (bounds_of wanted) bytes status) a.answer) fault
+      core_fault problems flats faults (bytes_under files spec) kind wanted bytes status code place
+      (of_told files spec (λ text. CoreAnswers text kind wanted bytes status) a.answer) fault
   of_text files (batch list wanted) bytes status code place fault a = absurd fault
 
   of_line : (files : Files) (asked : Asked) (bytes : List ℕ) (status n : ℕ) → HasBadLine files asked n →
@@ -133,8 +131,8 @@ module _ (problems : ProblemsOfTextsAreDetermined) (checks : ChecksAreDetermined
       (of_told files circuit (λ lines. VerifyAnswers (bytes_under files spec) lines bytes status) h) bad.bad
   of_line files (core spec wanted kind) bytes status n bad a = absurd bad
   of_line files (batch list wanted) bytes status n bad a =
-      bad_list lists (Some files) (bytes_under files list) (bounds_of wanted) bytes status n
-      (of_told files list (λ lines. ListAnswers (Some files) lines (bounds_of wanted) bytes status) a.answer) bad
+      bad_list lists (Some files) (bytes_under files list) wanted bytes status n
+      (of_told files list (λ lines. ListAnswers (Some files) lines wanted bytes status) a.answer) bad
 
   pub determined : RefusalsAreDetermined
   determined = record { of_text = of_text; of_line = of_line }

@@ -10,7 +10,6 @@ use Rattle.program_replies.specs.declared.replies.Status.{Status}
 use Rattle.program_replies.specs.declared.replies.Status.TheVariants.{CannotRead, Done, WordsRefused}
 use Rattle.program_replies.specs.Statuses.{status_number}
 use Rattle.program_replies.specs.Lines.{refusal_line}
-use Rattle.program_words.specs.declared.settings.Search.{Search}
 use Rattle.program_words.specs.Settings.{Asked, settings_of, batch, bench, check, core, expand, gen, lasso, synth, verify}
 use Rattle.cert_text.specs.declared.documents.Verdict.{Verdict}
 use Rattle.cert_text.specs.declared.documents.Verdict.TheVariants as verdict
@@ -29,15 +28,15 @@ use Rattle.synth_answer.specs.Answer.{Answers, realizable, unrealizable, bounded
 use Rattle.synth_answer.specs.Answer as synthesis
 use Rattle.check_answer.specs.Answer.{CheckAnswers, accepted}
 use Rattle.check_answer.specs.Answer as certificate
-use Rattle.check_answer.specs.Reply.{IsTaken}
-use Rattle.verify_answer.specs.Reply as verification
+use Rattle.check_answer.specs.Reply.{IsForCheck}
+use Rattle.verify_answer.specs.Reply.{IsForVerify}
 use Rattle.verify_answer.specs.Answer.{VerifyAnswers, verified}
 use Rattle.verify_answer.specs.Answer as circuits
 use Rattle.core_answer.specs.Core.{CoreAnswers, IsCoreFault}
 use Rattle.core_answer.specs.Core as cores
 use Rattle.batch_answer.specs.Batch.{BatchAnswers}
 use Rattle.batch_answer.specs.Laws.{ListsAreDetermined}
-use Rattle.batch_answer.specs.ListText.{IsFirstBadLine, IsList}
+use Rattle.batch_answer.specs.ListText.{IsFirstBadLineOfList, IsList}
 use Rattle.batch_answer.specs.declared.list.ListFault.{ListFault}
 use Rattle.batch_answer.specs.declared.list.ListFault.TheVariants as faults
 use Rattle.flat_answer.specs.Expand.{ExpandAnswers, written}
@@ -49,32 +48,33 @@ use Rattle.boundsyn_top.specs.declared.output.Output.TheVariants.{Whole}
 use Rattle.boundsyn_top.specs.Output.{IsExpansion, IsWholeOf, bytes_of, status_of}
 use Rattle.boundsyn_top.specs.Files as file
 use Rattle.boundsyn_top.specs.Files.{AreOfFile, HoldsOfFile, IsUntaken, RepliesByFile}
-use Rattle.boundsyn_top.specs.Commands.{MayAnswer, bounds_of, statuses_of}
+use Rattle.boundsyn_top.specs.Commands.{MayAnswer, statuses_of}
 use Rattle.boundsyn_top.specs.Batch.{AreFilesOf, IsBadList, IsListRefusal, IsListed, ListAnswers, OneRose, RepliesByLines, RepliesByNames}
 use Rattle.boundsyn_top.specs.Batch as batches
 use Rattle.boundsyn_top.specs.Faults.{HasNone}
 use Rattle.boundsyn_top.specs.Takes.{GoesOn, TakesBehind, TakesFile, behind, first, first_file}
+use Rattle.boundsyn_top.specs.Steps.{ShelfStep}
 use Rattle.boundsyn_top.specs.Run.{Asks, IsForeign, IsOutputFor, IsOutputOf, IsReply, RepliesTo, answers, answered, cannot_read, unread, words_refused}
 use Rattle.boundsyn_top.proofs.FileLemmas.{rose_later, some_bytes, too_long_text}
 
 -- == the words ==
 
-words_unasked : (words : List (List ℕ)) (told : Option Files) (before after : List ℕ → ℕ) (bytes : List ℕ) (status : Status) →
-    settings_of words ≡ None → bytes ≡ codes "words refused\n" → status ≡ WordsRefused → IsReply words told before after bytes (status_number status)
-words_unasked words told before after bytes status none is ended = rw ended (words_refused refl (record { none = none }) is)
+words_unasked : (words : List (List ℕ)) (step : ShelfStep) (bytes : List ℕ) (status : Status) →
+    settings_of words ≡ None → bytes ≡ codes "words refused\n" → status ≡ WordsRefused → IsReply words step bytes (status_number status)
+words_unasked words step bytes status none is ended = rw ended (words_refused refl (record { none = none }) is)
 
 -- what a command replies is what a run may write
-reply_by : (words : List (List ℕ)) (told : Option Files) (before after : List ℕ → ℕ) (asked : Asked) (bytes : List ℕ) (status : ℕ) →
-    Asks words asked → RepliesTo told before after asked bytes status → IsReply words told before after bytes status
-reply_by words told before after asked bytes status asks (unread name taken rose status_is is) =
+reply_by : (words : List (List ℕ)) (step : ShelfStep) (asked : Asked) (bytes : List ℕ) (status : ℕ) →
+    Asks words asked → RepliesTo step asked bytes status → IsReply words step bytes status
+reply_by words step asked bytes status asks (unread name taken rose status_is is) =
     cannot_read status_is (record { asked = asked; asks = asks; name = name; taken = taken; rose = rose }) is
-reply_by words told before after asked bytes status asks (answers status_is answer) =
+reply_by words step asked bytes status asks (answers status_is answer) =
     answered (record { asked = asked; asks = asks; status_is = status_is; answer = answer })
 
-pub output_by : (words : List (List ℕ)) (told : Option Files) (before after : List ℕ → ℕ) (asked : Asked) (output : Output) →
-    settings_of words ≡ Some asked → IsOutputOf told before after asked output → IsOutputFor words told before after output
-output_by words told before after asked output is o = record {
-  reply = reply_by words told before after asked (bytes_of output) (status_of output) (record { settings = is }) o.replies;
+pub output_by : (words : List (List ℕ)) (step : ShelfStep) (asked : Asked) (output : Output) →
+    settings_of words ≡ Some asked → IsOutputOf step asked output → IsOutputFor words step output
+output_by words step asked output is o = record {
+  reply = reply_by words step asked (bytes_of output) (status_of output) (record { settings = is }) o.replies;
   writable = o.writable;
 }
 
@@ -88,11 +88,11 @@ pub not_first : (told : Option Files) (asked : Asked) (spec name : List ℕ) →
 not_first told asked spec name is other = λ same. other (first (subst (λ xs. Contains xs name) (sym is) (0, omega arith, sym same)))
 
 -- a text that has problems, or a flat form, has no fault
-pub without_fault : (text : List ℕ) (t : TextProblems) → ProblemsOfTextsAreDetermined → IsTaken text t → HasNone (IsFirstFault text (Some Mealy))
-without_fault text t law taken = record { none = λ code place fault. law.no_fault text (Some Mealy) 3 (spec_seen t.spec) t.problems code place taken.problems fault }
+pub without_fault : (text : List ℕ) (t : TextProblems) → ProblemsOfTextsAreDetermined → IsForCheck text t → HasNone (IsFirstFault text (Some Mealy))
+without_fault text t law taken = record { none = λ code place fault. law.no_fault text (Some Mealy) 3 (spec_seen t.spec) t.problems code place taken.text_with.are fault }
 
-pub own_without_fault : (text : List ℕ) (t : TextProblems) → ProblemsOfTextsAreDetermined → verification.IsTaken text t → HasNone (IsFirstFault text None)
-own_without_fault text t law taken = record { none = λ code place fault. law.no_fault text None 2 (spec_seen t.spec) t.problems code place taken.problems fault }
+pub own_without_fault : (text : List ℕ) (t : TextProblems) → ProblemsOfTextsAreDetermined → IsForVerify text t → HasNone (IsFirstFault text None)
+own_without_fault text t law taken = record { none = λ code place fault. law.no_fault text None 2 (spec_seen t.spec) t.problems code place taken.text_with.are fault }
 
 pub flat_without_fault : (text : List ℕ) (flat : FlatText) → FlatTextsHaveNoFault → IsFlatOf text None flat → HasNone (IsFlatFault text None)
 flat_without_fault text flat law is_flat = record { none = λ code place fault. law text None flat code place is_flat fault }
@@ -119,7 +119,7 @@ verify_goes_on (Some files) spec circuit text are none = record {
 }
 
 -- a name of a list is taken, where the list has no bad line
-pub listed_taken : (told : Option Files) (list : List ℕ) (wanted : Search) (lines name : List ℕ) → AreOfFile told list lines → IsListed lines name →
+pub listed_taken : (told : Option Files) (list : List ℕ) (wanted : Settings) (lines name : List ℕ) → AreOfFile told list lines → IsListed lines name →
     (IsBadList lines → ⊥) → TakesBehind told (batch list wanted) name
 listed_taken None list wanted lines name are listed good = (tt, record { unless = tt })
 listed_taken (Some files) list wanted lines name are listed good =
@@ -136,15 +136,15 @@ whole_is P (Err error) (Ok output) is h = absurd is
 whole_is P (Err error) (Err other) is h = tt
 
 -- the output of a command's reply
-pub whole_of : (told : Option Files) (before after : List ℕ → ℕ) (asked : Asked) (reply : Reply) →
-    RepliesTo told before after asked reply.bytes.items (status_number reply.status) → IsOutputOf told before after asked (Whole reply)
-whole_of told before after asked reply replies = record { replies = replies; writable = tt }
+pub whole_of : (step : ShelfStep) (asked : Asked) (reply : Reply) →
+    RepliesTo step asked reply.bytes.items (status_number reply.status) → IsOutputOf step asked (Whole reply)
+whole_of step asked reply replies = record { replies = replies; writable = tt }
 
-pub unasked_output : (words : List (List ℕ)) (told : Option Files) (before after : List ℕ → ℕ) (reply : Reply) →
+pub unasked_output : (words : List (List ℕ)) (step : ShelfStep) (reply : Reply) →
     settings_of words ≡ None → reply.bytes.items ≡ codes "words refused\n" → reply.status ≡ WordsRefused →
-    IsOutputFor words told before after (Whole reply)
-unasked_output words told before after reply none is ended = record {
-  reply = words_unasked words told before after reply.bytes.items reply.status none is ended;
+    IsOutputFor words step (Whole reply)
+unasked_output words step reply none is ended = record {
+  reply = words_unasked words step reply.bytes.items reply.status none is ended;
   writable = tt;
 }
 
@@ -196,31 +196,35 @@ list_status : (told : Option Files) (lines : List ℕ) (settings : Settings) (by
 list_status told lines settings bytes status (batches.bad_line n is bad line) = (1, omega arith, sym is)
 list_status told lines settings bytes status (batches.answered names texts is list are answer) = (0, omega arith, sym is)
 
-module _ (shelf : Option Files) (before after : List ℕ → ℕ) where
-  replies : (asked : Asked) (bytes : List ℕ) (status : ℕ) → Contains (statuses_of asked) status → MayAnswer shelf asked bytes status →
-      RepliesTo shelf before after asked bytes status
+module _ (step : ShelfStep) where
+  -- the rest of the step, behind a moment in between
+  abbrev pub rest_from : Option Files → (List ℕ → ℕ) → ShelfStep
+  rest_from told middle = record { files = told; before = middle; after = step.after }
+
+  replies : (asked : Asked) (bytes : List ℕ) (status : ℕ) → Contains (statuses_of asked) status → MayAnswer step.files asked bytes status →
+      RepliesTo step asked bytes status
   replies asked bytes status status_is may = answers status_is (record { answer = may })
 
   -- a text that isn't taken, where the first fault of a text that is too long answers the command
   untaken : (asked : Asked) (spec : List ℕ) (bytes : List ℕ) (status : ℕ) → Contains (first_file asked) spec →
-      ((text : List ℕ) → AreOfFile shelf spec text → most_bytes < length text → bytes ≡ refusal_line TooLong most_bytes → status ≡ 1 →
-      RepliesTo shelf before after asked bytes status) →
-      IsUntaken shelf before after spec bytes status → RepliesTo shelf before after asked bytes status
+      ((text : List ℕ) → AreOfFile step.files spec text → most_bytes < length text → bytes ≡ refusal_line TooLong most_bytes → status ≡ 1 →
+      RepliesTo step asked bytes status) →
+      IsUntaken step spec bytes status → RepliesTo step asked bytes status
   untaken asked spec bytes status named longer (file.too_long long ended is) =
-      let t = too_long_text shelf spec most_bytes long in longer t.0 t.1 t.2 is ended
+      let t = too_long_text step.files spec most_bytes long in longer t.0 t.1 t.2 is ended
   untaken asked spec bytes status named longer (file.unread rose ended is) = unread spec (first named) rose ended is
 
   -- == synth ==
 
-  pub synth_answered : (spec text : List ℕ) (wanted : Search) (kind : Option Kind) (bytes : List ℕ) (status : ℕ) →
-      AreOfFile shelf spec text → Answers text kind (bounds_of wanted) bytes status →
-      RepliesTo shelf before after (synth spec wanted kind) bytes status
+  pub synth_answered : (spec text : List ℕ) (wanted : Settings) (kind : Option Kind) (bytes : List ℕ) (status : ℕ) →
+      AreOfFile step.files spec text → Answers text kind wanted bytes status →
+      RepliesTo step (synth spec wanted kind) bytes status
   synth_answered spec text wanted kind bytes status are answer =
-      replies (synth spec wanted kind) bytes status (synth_status text kind (bounds_of wanted) bytes status answer)
+      replies (synth spec wanted kind) bytes status (synth_status text kind wanted bytes status answer)
       (record { bytes = text; are_told = are; holds = answer })
 
-  pub synth_untaken : (spec : List ℕ) (wanted : Search) (kind : Option Kind) (bytes : List ℕ) (status : ℕ) →
-      IsUntaken shelf before after spec bytes status → RepliesTo shelf before after (synth spec wanted kind) bytes status
+  pub synth_untaken : (spec : List ℕ) (wanted : Settings) (kind : Option Kind) (bytes : List ℕ) (status : ℕ) →
+      IsUntaken step spec bytes status → RepliesTo step (synth spec wanted kind) bytes status
   synth_untaken spec wanted kind bytes status =
       untaken (synth spec wanted kind) spec bytes status (0, omega arith, refl)
       (λ text are long is ended. synth_answered spec text wanted kind bytes status are
@@ -228,68 +232,76 @@ module _ (shelf : Option Files) (before after : List ℕ → ℕ) where
 
   -- whatever the other file is
   pub whatever : (name : List ℕ) (Due : Type 0) (P : List ℕ → Type 0) (bytes : List ℕ) (status : ℕ) → ((lines : List ℕ) → P lines) →
-      RepliesByFile shelf before after name Due P bytes status
-  whatever name Due P bytes status all = let some = some_bytes shelf name in file.of_file (record { bytes = some.0; are_told = some.1; holds = all some.0 })
+      RepliesByFile step name Due P bytes status
+  whatever name Due P bytes status all = let some = some_bytes step.files name in file.of_file (record { bytes = some.0; are_told = some.1; holds = all some.0 })
 
-  pub of_bytes : (name lines : List ℕ) (Due : Type 0) (P : List ℕ → Type 0) (bytes : List ℕ) (status : ℕ) → AreOfFile shelf name lines → P lines →
-      RepliesByFile shelf before after name Due P bytes status
+  pub of_bytes : (name lines : List ℕ) (Due : Type 0) (P : List ℕ → Type 0) (bytes : List ℕ) (status : ℕ) → AreOfFile step.files name lines → P lines →
+      RepliesByFile step name Due P bytes status
   of_bytes name lines Due P bytes status are holds = file.of_file (record { bytes = lines; are_told = are; holds = holds })
 
-  pub unread_file : (name : List ℕ) (Due : Type 0) (P : List ℕ → Type 0) (bytes : List ℕ) (status : Status) → Due → Rose (before name) (after name) →
-      bytes ≡ codes "cannot read\n" → status ≡ CannotRead → RepliesByFile shelf before after name Due P bytes (status_number status)
+  pub unread_file : (name : List ℕ) (Due : Type 0) (P : List ℕ → Type 0) (bytes : List ℕ) (status : Status) → Due → Rose (step.before name) (step.after name) →
+      bytes ≡ codes "cannot read\n" → status ≡ CannotRead → RepliesByFile step name Due P bytes (status_number status)
   unread_file name Due P bytes status due rose is ended = rw ended (file.count_rose due rose refl is)
 
   -- == a text and another file ==
 
   module _ (asked : Asked) (spec other : List ℕ) (A : List ℕ → List ℕ → List ℕ → ℕ → Type 0)
-      (may : (bytes : List ℕ) (status : ℕ) → HoldsOfFile shelf spec (λ text. HoldsOfFile shelf other (λ lines. A text lines bytes status)) → MayAnswer shelf asked bytes status)
+      (may : (bytes : List ℕ) (status : ℕ) → HoldsOfFile step.files spec (λ text. HoldsOfFile step.files other (λ lines. A text lines bytes status)) → MayAnswer step.files asked bytes status)
       (statuses : (text lines bytes : List ℕ) (status : ℕ) → A text lines bytes status → Contains (statuses_of asked) status) where
-    both_answered : (text lines bytes : List ℕ) (status : ℕ) → AreOfFile shelf spec text → AreOfFile shelf other lines → A text lines bytes status →
-        RepliesTo shelf before after asked bytes status
+    both_answered : (text lines bytes : List ℕ) (status : ℕ) → AreOfFile step.files spec text → AreOfFile step.files other lines → A text lines bytes status →
+        RepliesTo step asked bytes status
     both_answered text lines bytes status are are_lines answer =
         replies asked bytes status (statuses text lines bytes status answer)
         (may bytes status (record { bytes = text; are_told = are; holds = record { bytes = lines; are_told = are_lines; holds = answer } }))
 
     -- the text alone is refused
-    text_refused : (text bytes : List ℕ) (status : ℕ) → AreOfFile shelf spec text → ((lines : List ℕ) → A text lines bytes status) →
-        RepliesTo shelf before after asked bytes status
-    text_refused text bytes status are answer = let some = some_bytes shelf other in both_answered text some.0 bytes status are some.1 (answer some.0)
+    text_refused : (text bytes : List ℕ) (status : ℕ) → AreOfFile step.files spec text → ((lines : List ℕ) → A text lines bytes status) →
+        RepliesTo step asked bytes status
+    text_refused text bytes status are answer = let some = some_bytes step.files other in both_answered text some.0 bytes status are some.1 (answer some.0)
 
     text_untaken : Contains (first_file asked) spec →
         ((text lines bytes : List ℕ) (status : ℕ) → IsReadingFault text TooLong most_bytes → bytes ≡ refusal_line TooLong most_bytes → status ≡ 1 →
         A text lines bytes status) →
-        (bytes : List ℕ) (status : ℕ) → IsUntaken shelf before after spec bytes status → RepliesTo shelf before after asked bytes status
+        (bytes : List ℕ) (status : ℕ) → IsUntaken step spec bytes status → RepliesTo step asked bytes status
     text_untaken named refuses bytes status =
         untaken asked spec bytes status named
         (λ text are long is ended. text_refused text bytes status are (λ lines. refuses text lines bytes status (too_long long) is ended))
 
-    by_file : (Due : Type 0) (middle : List ℕ → ℕ) (text bytes : List ℕ) (status : ℕ) → AreOfFile shelf spec text → (Due → TakesFile shelf asked other) →
-        ((any : List ℕ) → before any ≤ middle any) → RepliesByFile shelf middle after other Due (λ lines. A text lines bytes status) bytes status →
-        RepliesTo shelf before after asked bytes status
-    by_file Due middle text bytes status are taken more (file.count_rose due rose ended is) =
-        unread other (taken due) (rose_later (before other) (middle other) (after other) (more other) rose) ended is
-    by_file Due middle text bytes status are taken more (file.of_file h) = both_answered text h.bytes bytes status are h.are_told h.holds
+    by_file_here : (Due : Type 0) (middle : List ℕ → ℕ) (text bytes : List ℕ) (status : ℕ) → AreOfFile step.files spec text → (Due → TakesFile step.files asked other) →
+        ((any : List ℕ) → step.before any ≤ middle any) → RepliesByFile (rest_from step.files middle) other Due (λ lines. A text lines bytes status) bytes status →
+        RepliesTo step asked bytes status
+    by_file_here Due middle text bytes status are taken more (file.count_rose due rose ended is) =
+        unread other (taken due) (rose_later (step.before other) (middle other) (step.after other) (more other) rose) ended is
+    by_file_here Due middle text bytes status are taken more (file.of_file h) = both_answered text h.bytes bytes status are h.are_told h.holds
+
+    by_file : (Due : Type 0) (told : Option Files) (middle : List ℕ → ℕ) (text bytes : List ℕ) (status : ℕ) → told ≡ step.files → AreOfFile step.files spec text →
+        (Due → TakesFile step.files asked other) → ((any : List ℕ) → step.before any ≤ middle any) →
+        RepliesByFile (rest_from told middle) other Due (λ lines. A text lines bytes status) bytes status → RepliesTo step asked bytes status
+    by_file Due told middle text bytes status same are taken more replied =
+        by_file_here Due middle text bytes status are taken more
+        (subst (λ o. RepliesByFile (rest_from o middle) other Due (λ lines. A text lines bytes status) bytes status) same replied)
 
   -- == check ==
 
   pub check_untaken : (spec document : List ℕ) (bytes : List ℕ) (status : ℕ) →
-      IsUntaken shelf before after spec bytes status → RepliesTo shelf before after (check spec document) bytes status
+      IsUntaken step spec bytes status → RepliesTo step (check spec document) bytes status
   check_untaken spec document =
       text_untaken (check spec document) spec document CheckAnswers (λ bytes status h. h) check_status (0, omega arith, refl)
       (λ text lines bytes status fault is ended.
       certificate.refused TooLong most_bytes ended (of_text TooLong most_bytes (of_reading TooLong most_bytes fault)) is)
 
-  pub check_by_file : (middle : List ℕ → ℕ) (spec document text : List ℕ) (bytes : List ℕ) (status : ℕ) → AreOfFile shelf spec text →
-      ((any : List ℕ) → before any ≤ middle any) → RepliesByFile shelf middle after document (HasNone (IsFirstFault text (Some Mealy))) (λ lines. CheckAnswers text lines bytes status) bytes status →
-      RepliesTo shelf before after (check spec document) bytes status
-  check_by_file middle spec document text bytes status are =
-      by_file (check spec document) spec document CheckAnswers (λ bytes status h. h) check_status (HasNone (IsFirstFault text (Some Mealy))) middle text bytes status are
-      (λ due. behind (refl, check_goes_on shelf spec document text are due))
+  pub check_by_file : (told : Option Files) (middle : List ℕ → ℕ) (spec document text : List ℕ) (bytes : List ℕ) (status : ℕ) → told ≡ step.files →
+      AreOfFile step.files spec text → ((any : List ℕ) → step.before any ≤ middle any) →
+      RepliesByFile (rest_from told middle) document (HasNone (IsFirstFault text (Some Mealy))) (λ lines. CheckAnswers text lines bytes status) bytes status →
+      RepliesTo step (check spec document) bytes status
+  check_by_file told middle spec document text bytes status same are =
+      by_file (check spec document) spec document CheckAnswers (λ bytes status h. h) check_status (HasNone (IsFirstFault text (Some Mealy))) told middle text bytes status same are
+      (λ due. behind (refl, check_goes_on step.files spec document text are due))
 
   -- == expand ==
 
-  pub expand_answered : (spec text : List ℕ) (output : Output) → AreOfFile shelf spec text → IsExpansion text output →
-      IsOutputOf shelf before after (expand spec) output
+  pub expand_answered : (spec text : List ℕ) (output : Output) → AreOfFile step.files spec text → IsExpansion text output →
+      IsOutputOf step (expand spec) output
   expand_answered spec text output are e = record {
     replies = replies (expand spec) (bytes_of output) (status_of output) (expand_status text (bytes_of output) (status_of output) e.answers)
         (record { bytes = text; are_told = are; holds = e.answers });
@@ -297,7 +309,7 @@ module _ (shelf : Option Files) (before after : List ℕ → ℕ) where
   }
 
   pub expand_untaken : (spec : List ℕ) (bytes : List ℕ) (status : ℕ) →
-      IsUntaken shelf before after spec bytes status → RepliesTo shelf before after (expand spec) bytes status
+      IsUntaken step spec bytes status → RepliesTo step (expand spec) bytes status
   expand_untaken spec bytes status =
       untaken (expand spec) spec bytes status (0, omega arith, refl)
       (λ text are long is ended. replies (expand spec) bytes status (1, omega arith, sym ended)
@@ -306,55 +318,57 @@ module _ (shelf : Option Files) (before after : List ℕ → ℕ) where
   -- == lasso ==
 
   pub lasso_untaken : (spec word : List ℕ) (bytes : List ℕ) (status : ℕ) →
-      IsUntaken shelf before after spec bytes status → RepliesTo shelf before after (lasso spec word) bytes status
+      IsUntaken step spec bytes status → RepliesTo step (lasso spec word) bytes status
   lasso_untaken spec word =
       text_untaken (lasso spec word) spec word LassoAnswers (λ bytes status h. h) lasso_status (0, omega arith, refl)
       (λ text lines bytes status fault is ended. lassos.refused TooLong most_bytes ended (of_reading TooLong most_bytes fault) is)
 
-  pub lasso_by_file : (middle : List ℕ → ℕ) (spec word text : List ℕ) (bytes : List ℕ) (status : ℕ) → AreOfFile shelf spec text →
-      ((any : List ℕ) → before any ≤ middle any) → RepliesByFile shelf middle after word (HasNone (IsFlatFault text None)) (λ lines. LassoAnswers text lines bytes status) bytes status →
-      RepliesTo shelf before after (lasso spec word) bytes status
-  lasso_by_file middle spec word text bytes status are =
-      by_file (lasso spec word) spec word LassoAnswers (λ bytes status h. h) lasso_status (HasNone (IsFlatFault text None)) middle text bytes status are
-      (λ due. behind (refl, lasso_goes_on shelf spec word text are due))
+  pub lasso_by_file : (told : Option Files) (middle : List ℕ → ℕ) (spec word text : List ℕ) (bytes : List ℕ) (status : ℕ) → told ≡ step.files →
+      AreOfFile step.files spec text → ((any : List ℕ) → step.before any ≤ middle any) →
+      RepliesByFile (rest_from told middle) word (HasNone (IsFlatFault text None)) (λ lines. LassoAnswers text lines bytes status) bytes status →
+      RepliesTo step (lasso spec word) bytes status
+  lasso_by_file told middle spec word text bytes status same are =
+      by_file (lasso spec word) spec word LassoAnswers (λ bytes status h. h) lasso_status (HasNone (IsFlatFault text None)) told middle text bytes status same are
+      (λ due. behind (refl, lasso_goes_on step.files spec word text are due))
 
   -- == gen and bench ==
 
   pub generated : (clients : ℕ) (bytes : List ℕ) (status : Status) → bytes ≡ generated_text clients → status ≡ Done →
-      RepliesTo shelf before after (gen clients) bytes (status_number status)
+      RepliesTo step (gen clients) bytes (status_number status)
   generated clients bytes status is done = rw done (replies (gen clients) bytes 0 (0, omega arith, refl) (is, refl))
 
   pub bench_answered : (clients workers : ℕ) (bytes : List ℕ) (status : ℕ) → BenchAnswer clients workers bytes status →
-      RepliesTo shelf before after (bench clients workers) bytes status
+      RepliesTo step (bench clients workers) bytes status
   bench_answered clients workers bytes status answer =
       replies (bench clients workers) bytes status (bench_status answer.verdict status answer.has_status) answer
 
   -- == verify ==
 
   pub verify_untaken : (spec circuit : List ℕ) (bytes : List ℕ) (status : ℕ) →
-      IsUntaken shelf before after spec bytes status → RepliesTo shelf before after (verify spec circuit) bytes status
+      IsUntaken step spec bytes status → RepliesTo step (verify spec circuit) bytes status
   verify_untaken spec circuit =
       text_untaken (verify spec circuit) spec circuit VerifyAnswers (λ bytes status h. h) verify_status (0, omega arith, refl)
       (λ text lines bytes status fault is ended.
       circuits.refused TooLong most_bytes ended (of_text TooLong most_bytes (of_reading TooLong most_bytes fault)) is)
 
-  pub verify_by_file : (middle : List ℕ → ℕ) (spec circuit text : List ℕ) (bytes : List ℕ) (status : ℕ) → AreOfFile shelf spec text →
-      ((any : List ℕ) → before any ≤ middle any) → RepliesByFile shelf middle after circuit (HasNone (IsFirstFault text None)) (λ lines. VerifyAnswers text lines bytes status) bytes status →
-      RepliesTo shelf before after (verify spec circuit) bytes status
-  verify_by_file middle spec circuit text bytes status are =
-      by_file (verify spec circuit) spec circuit VerifyAnswers (λ bytes status h. h) verify_status (HasNone (IsFirstFault text None)) middle text bytes status are
-      (λ due. behind (refl, verify_goes_on shelf spec circuit text are due))
+  pub verify_by_file : (told : Option Files) (middle : List ℕ → ℕ) (spec circuit text : List ℕ) (bytes : List ℕ) (status : ℕ) → told ≡ step.files →
+      AreOfFile step.files spec text → ((any : List ℕ) → step.before any ≤ middle any) →
+      RepliesByFile (rest_from told middle) circuit (HasNone (IsFirstFault text None)) (λ lines. VerifyAnswers text lines bytes status) bytes status →
+      RepliesTo step (verify spec circuit) bytes status
+  verify_by_file told middle spec circuit text bytes status same are =
+      by_file (verify spec circuit) spec circuit VerifyAnswers (λ bytes status h. h) verify_status (HasNone (IsFirstFault text None)) told middle text bytes status same are
+      (λ due. behind (refl, verify_goes_on step.files spec circuit text are due))
 
   -- == core ==
 
-  pub core_answered : (spec text : List ℕ) (wanted : Search) (kind : Option Kind) (bytes : List ℕ) (status : ℕ) →
-      AreOfFile shelf spec text → CoreAnswers text kind (bounds_of wanted) bytes status → RepliesTo shelf before after (core spec wanted kind) bytes status
+  pub core_answered : (spec text : List ℕ) (wanted : Settings) (kind : Option Kind) (bytes : List ℕ) (status : ℕ) →
+      AreOfFile step.files spec text → CoreAnswers text kind wanted bytes status → RepliesTo step (core spec wanted kind) bytes status
   core_answered spec text wanted kind bytes status are answer =
-      replies (core spec wanted kind) bytes status (core_status text kind (bounds_of wanted) bytes status answer)
+      replies (core spec wanted kind) bytes status (core_status text kind wanted bytes status answer)
       (record { bytes = text; are_told = are; holds = answer })
 
-  pub core_untaken : (spec : List ℕ) (wanted : Search) (kind : Option Kind) (bytes : List ℕ) (status : ℕ) →
-      IsUntaken shelf before after spec bytes status → RepliesTo shelf before after (core spec wanted kind) bytes status
+  pub core_untaken : (spec : List ℕ) (wanted : Settings) (kind : Option Kind) (bytes : List ℕ) (status : ℕ) →
+      IsUntaken step spec bytes status → RepliesTo step (core spec wanted kind) bytes status
   core_untaken spec wanted kind bytes status =
       untaken (core spec wanted kind) spec bytes status (0, omega arith, refl)
       (λ text are long is ended. core_answered spec text wanted kind bytes status are
@@ -364,23 +378,29 @@ module _ (shelf : Option Files) (before after : List ℕ → ℕ) where
   -- == batch ==
 
   -- the list couldn't be read
-  pub list_unread : (list : List ℕ) (wanted : Search) (bytes : List ℕ) (status : Status) → Rose (before list) (after list) →
-      bytes ≡ codes "cannot read\n" → status ≡ CannotRead → RepliesTo shelf before after (batch list wanted) bytes (status_number status)
+  pub list_unread : (list : List ℕ) (wanted : Settings) (bytes : List ℕ) (status : Status) → Rose (step.before list) (step.after list) →
+      bytes ≡ codes "cannot read\n" → status ≡ CannotRead → RepliesTo step (batch list wanted) bytes (status_number status)
   list_unread list wanted bytes status rose is ended = rw ended (unread list (first (0, omega arith, refl)) rose refl is)
 
-  pub by_lines : (middle : List ℕ → ℕ) (list : List ℕ) (wanted : Search) (lines bytes : List ℕ) (status : ℕ) → AreOfFile shelf list lines →
-      ((any : List ℕ) → before any ≤ middle any) → RepliesByLines shelf middle after lines (bounds_of wanted) bytes status →
-      RepliesTo shelf before after (batch list wanted) bytes status
-  by_lines middle list wanted lines bytes status are more (batches.text_rose name listed good rose ended is) =
-      unread name (behind (listed_taken shelf list wanted lines name are listed good))
-      (rose_later (before name) (middle name) (after name) (more name) rose) ended is
-  by_lines middle list wanted lines bytes status are more (batches.of_lines answer) =
-      replies (batch list wanted) bytes status (list_status shelf lines (bounds_of wanted) bytes status answer)
+  by_lines_here : (middle : List ℕ → ℕ) (list : List ℕ) (wanted : Settings) (lines bytes : List ℕ) (status : ℕ) → AreOfFile step.files list lines →
+      ((any : List ℕ) → step.before any ≤ middle any) → RepliesByLines (rest_from step.files middle) lines wanted bytes status →
+      RepliesTo step (batch list wanted) bytes status
+  by_lines_here middle list wanted lines bytes status are more (batches.text_rose name listed good rose ended is) =
+      unread name (behind (listed_taken step.files list wanted lines name are listed good))
+      (rose_later (step.before name) (middle name) (step.after name) (more name) rose) ended is
+  by_lines_here middle list wanted lines bytes status are more (batches.of_lines answer) =
+      replies (batch list wanted) bytes status (list_status step.files lines wanted bytes status answer)
       (record { bytes = lines; are_told = are; holds = answer })
+
+  pub by_lines : (told : Option Files) (middle : List ℕ → ℕ) (list : List ℕ) (wanted : Settings) (lines bytes : List ℕ) (status : ℕ) → told ≡ step.files →
+      AreOfFile step.files list lines → ((any : List ℕ) → step.before any ≤ middle any) →
+      RepliesByLines (rest_from told middle) lines wanted bytes status → RepliesTo step (batch list wanted) bytes status
+  by_lines told middle list wanted lines bytes status same are more replied =
+      by_lines_here middle list wanted lines bytes status are more (subst (λ o. RepliesByLines (rest_from o middle) lines wanted bytes status) same replied)
 
   -- the reply to texts is one to the list that names them
   pub by_names : ListsAreDetermined → (lines : List ℕ) (names : List (List ℕ)) (settings : Settings) (bytes : List ℕ) (status : ℕ) → IsList lines names →
-      RepliesByNames shelf before after names settings bytes status → RepliesByLines shelf before after lines settings bytes status
+      RepliesByNames step names settings bytes status → RepliesByLines step lines settings bytes status
   by_names law lines names settings bytes status is_list (batches.one_rose one ended is) =
       batches.text_rose one.name (record { names = names; is_list = is_list; among = one.among })
       (λ bad. law.apart lines names bad.line is_list bad.bad) one.rose ended is
@@ -388,15 +408,15 @@ module _ (shelf : Option Files) (before after : List ℕ → ℕ) where
       batches.of_lines (batches.answered names texts ended is_list are answer)
 
   pub list_refused : (lines : List ℕ) (settings : Settings) (fault : ListFault) (bytes : List ℕ) (status : Status) →
-      ((n : ℕ) → fault ≡ faults.BadLine n → IsFirstBadLine lines n) → IsListRefusal fault bytes status →
-      RepliesByLines shelf before after lines settings bytes (status_number status)
+      ((n : ℕ) → fault ≡ faults.BadLine n → IsFirstBadLineOfList lines n) → IsListRefusal fault bytes status →
+      RepliesByLines step lines settings bytes (status_number status)
   list_refused lines settings (faults.BadLine n) bytes status bad is = rw is.1 (batches.of_lines (batches.bad_line n refl (bad n refl) is.0))
   list_refused lines settings faults.NoMemory bytes status bad is = absurd is
 
-  pub names_unread : (names : List (List ℕ)) (settings : Settings) (bytes : List ℕ) (status : Status) → OneRose before after names →
-      bytes ≡ codes "cannot read\n" → status ≡ CannotRead → RepliesByNames shelf before after names settings bytes (status_number status)
+  pub names_unread : (names : List (List ℕ)) (settings : Settings) (bytes : List ℕ) (status : Status) → OneRose step.before step.after names →
+      bytes ≡ codes "cannot read\n" → status ≡ CannotRead → RepliesByNames step names settings bytes (status_number status)
   names_unread names settings bytes status one is ended = rw ended (batches.one_rose one refl is)
 
-  pub texts_answered : (names texts : List (List ℕ)) (settings : Settings) (bytes : List ℕ) (status : Status) → AreFilesOf shelf names texts →
-      BatchAnswers names texts settings bytes → status ≡ Done → RepliesByNames shelf before after names settings bytes (status_number status)
+  pub texts_answered : (names texts : List (List ℕ)) (settings : Settings) (bytes : List ℕ) (status : Status) → AreFilesOf step.files names texts →
+      BatchAnswers names texts settings bytes → status ≡ Done → RepliesByNames step names settings bytes (status_number status)
   texts_answered names texts settings bytes status are answer done = rw done (batches.of_texts texts refl are answer)

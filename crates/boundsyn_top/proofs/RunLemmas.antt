@@ -14,22 +14,23 @@ use Rattle.program_words.specs.Settings.{Asked, synth, check, expand, lasso, gen
 use Rattle.boundsyn_top.specs.Commands.{AnswersAsked, statuses_of}
 use Rattle.boundsyn_top.specs.Faults.{RefusalsAreDetermined}
 use Rattle.boundsyn_top.specs.Run.{AnswersWords, AskForNothing, Asks, EndsWith, Gained, GainedPart, IsEnding, IsForeign, IsReply, IsStopped, LineFails, ReadFailed, ReadsWell, TextFails, answered, answering, cannot_read, prevented, says, words_refused}
+use Rattle.boundsyn_top.specs.Steps.{ShelfStep}
 use Rattle.boundsyn_top.specs.Takes.{Stops, TakesBehind, TakesFile, behind, first, first_file}
 use Rattle.boundsyn_top.proofs.SinkLemmas.{gains_nothing}
 
 -- the clauses of `run` that speak of its result, at plain values
-pub record Promise (words : List (List ℕ)) (shelf : Option Files) (before after : List ℕ → ℕ)
+pub record Promise (words : List (List ℕ)) (step : ShelfStep)
     (written later : Option (List ℕ)) (faults faults_after result : ℕ) : Type 0 where
   pub statuses : Contains (2 ∷ 3 ∷ 4 ∷ 5 ∷ answering) result
-  pub answered : Contains answering result → Gained written later (λ bytes. AnswersWords words shelf bytes result)
+  pub answered : Contains answering result → Gained written later (λ bytes. AnswersWords words step.files bytes result)
   pub words_refused : result ≡ 2 → Gained written later (λ bytes. AskForNothing words × (bytes ≡ codes "words refused\n"))
-  pub cannot_read : result ≡ 3 → Gained written later (λ bytes. ReadFailed words shelf before after × (bytes ≡ codes "cannot read\n"))
+  pub cannot_read : result ≡ 3 → Gained written later (λ bytes. ReadFailed words step × (bytes ≡ codes "cannot read\n"))
   pub cannot_write : result ≡ 4 → Rose faults faults_after
-  pub cut_short : (result ≡ 4) ⊎ (result ≡ 5) → GainedPart written later (λ bytes status. IsReply words shelf before after bytes status)
+  pub cut_short : (result ≡ 4) ⊎ (result ≡ 5) → GainedPart written later (λ bytes status. IsReply words step bytes status)
   pub bad_words_are_refused : AskForNothing words → Contains (2 ∷ 4 ∷ 5 ∷ []) result
-  pub fault_is_refused : (code : SpecCode) (place : ℕ) → TextFails words shelf code place → EndsWith written later (refusal_line code place) 1 result
-  pub bad_line_is_refused : (n : ℕ) → LineFails words shelf n → EndsWith written later (line_refusal n) 40 result
-  pub complete : (asked : Asked) → Asks words asked → ReadsWell shelf asked before after → (Rose faults faults_after → ⊥) → Contains (5 ∷ statuses_of asked) result
+  pub fault_is_refused : (code : SpecCode) (place : ℕ) → TextFails words step.files code place → EndsWith written later (refusal_line code place) 1 result
+  pub bad_line_is_refused : (n : ℕ) → LineFails words step.files n → EndsWith written later (line_refusal n) 40 result
+  pub complete : (asked : Asked) → Asks words asked → ReadsWell step asked → (Rose faults faults_after → ⊥) → Contains (5 ∷ statuses_of asked) result
 
 -- words ask for one thing, or for nothing
 one_asked : (words : List (List ℕ)) (a b : Asked) → Asks words a → Asks words b → a ≡ b
@@ -139,9 +140,9 @@ no_cut : (n m : ℕ) → n ≡ m → (m ≡ 4 → ⊥) → (m ≡ 5 → ⊥) →
 no_cut n m is four five (inl e) = four (sym is ∙ e)
 no_cut n m is four five (inr e) = five (sym is ∙ e)
 
-module _ (words : List (List ℕ)) (shelf : Option Files) (before after : List ℕ → ℕ) (written later : Option (List ℕ)) (faults faults_after : ℕ) where
+module _ (words : List (List ℕ)) (step : ShelfStep) (written later : Option (List ℕ)) (faults faults_after : ℕ) where
   whole_words : (bytes : List ℕ) (n : ℕ) → Gains written later bytes → n ≡ 2 → AskForNothing words → bytes ≡ codes "words refused\n" →
-      Promise words shelf before after written later faults faults_after n
+      Promise words step written later faults faults_after n
   whole_words bytes n gained n_is none is = record {
     statuses = (0, omega arith, sym n_is);
     answered = λ h. absurd (not_answering n 2 n_is (omega arith) (omega arith) h);
@@ -155,8 +156,8 @@ module _ (words : List (List ℕ)) (shelf : Option Files) (before after : List �
     complete = λ asked asks well written_all. absurd (clash words asked asks none);
   }
 
-  whole_unread : (bytes : List ℕ) (n : ℕ) → Gains written later bytes → n ≡ 3 → ReadFailed words shelf before after → bytes ≡ codes "cannot read\n" →
-      Promise words shelf before after written later faults faults_after n
+  whole_unread : (bytes : List ℕ) (n : ℕ) → Gains written later bytes → n ≡ 3 → ReadFailed words step → bytes ≡ codes "cannot read\n" →
+      Promise words step written later faults faults_after n
   whole_unread bytes n gained n_is rose is = record {
     statuses = (1, omega arith, sym n_is);
     answered = λ h. absurd (not_answering n 3 n_is (omega arith) (omega arith) h);
@@ -167,19 +168,19 @@ module _ (words : List (List ℕ)) (shelf : Option Files) (before after : List �
     bad_words_are_refused = λ e. absurd (clash words rose.asked rose.asks e);
     fault_is_refused = λ code place f. prevented (0, omega arith, sym n_is);
     bad_line_is_refused = λ line f. prevented (0, omega arith, sym n_is);
-    complete = λ asked asks well written_all. absurd (subst (λ a. ReadsWell shelf a before after) (one_asked words asked rose.asked asks rose.asks) well rose.name rose.taken rose.rose);
+    complete = λ asked asks well written_all. absurd (subst (λ a. ReadsWell step a) (one_asked words asked rose.asked asks rose.asks) well rose.name rose.taken rose.rose);
   }
 
   -- the answer, where the text has a fault or the other file a bad line
-  at_fault : RefusalsAreDetermined → (bytes : List ℕ) (n : ℕ) → AnswersWords words shelf bytes n →
-      (code : SpecCode) (place : ℕ) → TextFails words shelf code place → (n ≡ 1) × (bytes ≡ refusal_line code place)
+  at_fault : RefusalsAreDetermined → (bytes : List ℕ) (n : ℕ) → AnswersWords words step.files bytes n →
+      (code : SpecCode) (place : ℕ) → TextFails words step.files code place → (n ≡ 1) × (bytes ≡ refusal_line code place)
   at_fault law bytes n a code place f =
       law.of_text f.files f.asked bytes n code place f.fault
       (subst (λ x. AnswersAsked (Some f.files) x bytes n) (one_asked words a.asked f.asked a.asks f.asks)
       (subst (λ o. AnswersAsked o a.asked bytes n) f.are_told a.answer))
 
-  at_line : RefusalsAreDetermined → (bytes : List ℕ) (n : ℕ) → AnswersWords words shelf bytes n →
-      (line : ℕ) → LineFails words shelf line → (n ≡ 40) × (bytes ≡ line_refusal line)
+  at_line : RefusalsAreDetermined → (bytes : List ℕ) (n : ℕ) → AnswersWords words step.files bytes n →
+      (line : ℕ) → LineFails words step.files line → (n ≡ 40) × (bytes ≡ line_refusal line)
   at_line law bytes n a line f =
       law.of_line f.files f.asked bytes n line f.bad
       (subst (λ x. AnswersAsked (Some f.files) x bytes n) (one_asked words a.asked f.asked a.asks f.asks)
@@ -188,8 +189,8 @@ module _ (words : List (List ℕ)) (shelf : Option Files) (before after : List �
   ends : (bytes line : List ℕ) (n status : ℕ) → Gains written later bytes → (n ≡ status) × (bytes ≡ line) → EndsWith written later line status n
   ends bytes line n status gained e = says e.0 (subst (λ b. Gains written later b) e.1 gained)
 
-  whole_answer : RefusalsAreDetermined → (bytes : List ℕ) (n : ℕ) → Gains written later bytes → AnswersWords words shelf bytes n →
-      Promise words shelf before after written later faults faults_after n
+  whole_answer : RefusalsAreDetermined → (bytes : List ℕ) (n : ℕ) → Gains written later bytes → AnswersWords words step.files bytes n →
+      Promise words step written later faults faults_after n
   whole_answer law bytes n gained a =
       let is = is_answering a.asked n a.status_is in
       record {
@@ -206,23 +207,23 @@ module _ (words : List (List ℕ)) (shelf : Option Files) (before after : List �
       }
 
   -- all was written
-  run_whole : RefusalsAreDetermined → (bytes : List ℕ) (n : ℕ) → IsReply words shelf before after bytes n → Gains written later bytes →
-      Promise words shelf before after written later faults faults_after n
+  run_whole : RefusalsAreDetermined → (bytes : List ℕ) (n : ℕ) → IsReply words step bytes n → Gains written later bytes →
+      Promise words step written later faults faults_after n
   run_whole law bytes n (words_refused n_is none is) gained = whole_words bytes n gained n_is none is
   run_whole law bytes n (cannot_read n_is rose is) gained = whole_unread bytes n gained n_is rose is
   run_whole law bytes n (answered a) gained = whole_answer law bytes n gained a
 
-  part_of : (bytes : List ℕ) (n : ℕ) → IsReply words shelf before after bytes n → GainsFront written later bytes →
-      GainedPart written later (λ bytes status. IsReply words shelf before after bytes status)
+  part_of : (bytes : List ℕ) (n : ℕ) → IsReply words step bytes n → GainsFront written later bytes →
+      GainedPart written later (λ bytes status. IsReply words step bytes status)
   part_of bytes n reply front = record { front = front.front; gained = front.gained; allowed = inr (bytes, n, front, reply) }
 
-  part_nothing : later ≡ written → GainedPart written later (λ bytes status. IsReply words shelf before after bytes status)
+  part_nothing : later ≡ written → GainedPart written later (λ bytes status. IsReply words step bytes status)
   part_nothing same = record { front = []; gained = gains_nothing written later same; allowed = inl refl }
 
   -- the sink failed
   run_failed : (n : ℕ) → n ≡ 4 → Rose faults faults_after →
-      GainedPart written later (λ bytes status. IsReply words shelf before after bytes status) →
-      Promise words shelf before after written later faults faults_after n
+      GainedPart written later (λ bytes status. IsReply words step bytes status) →
+      Promise words step written later faults faults_after n
   run_failed n n_is rose part = record {
     statuses = (2, omega arith, sym n_is);
     answered = λ h. absurd (not_answering n 4 n_is (omega arith) (omega arith) h);
@@ -237,8 +238,8 @@ module _ (words : List (List ℕ)) (shelf : Option Files) (before after : List �
   }
 
   -- memory was wanted
-  run_wants : (n : ℕ) → n ≡ 5 → GainedPart written later (λ bytes status. IsReply words shelf before after bytes status) →
-      Promise words shelf before after written later faults faults_after n
+  run_wants : (n : ℕ) → n ≡ 5 → GainedPart written later (λ bytes status. IsReply words step bytes status) →
+      Promise words step written later faults faults_after n
   run_wants n n_is part = record {
     statuses = (3, omega arith, sym n_is);
     answered = λ h. absurd (not_answering n 5 n_is (omega arith) (omega arith) h);
@@ -253,16 +254,16 @@ module _ (words : List (List ℕ)) (shelf : Option Files) (before after : List �
   }
 
   -- memory was wanted before anything was written
-  pub run_silent : (n : ℕ) → n ≡ 5 → later ≡ written → Promise words shelf before after written later faults faults_after n
+  pub run_silent : (n : ℕ) → n ≡ 5 → later ≡ written → Promise words step written later faults faults_after n
   run_silent n n_is same = run_wants n n_is (part_nothing same)
 
   -- what became of a reply
-  pub run_ended : RefusalsAreDetermined → (bytes : List ℕ) (status : ℕ) → IsReply words shelf before after bytes status →
+  pub run_ended : RefusalsAreDetermined → (bytes : List ℕ) (status : ℕ) → IsReply words step bytes status →
       (put : Result (Unit {0}) SinkFault) → OnOk put (Gains written later bytes) → OnErr put (GainsFront written later bytes) →
       (IsErrOf put Failed → Rose faults faults_after) → (result : ℕ) → IsEnding put status result →
-      Promise words shelf before after written later faults faults_after result
+      Promise words step written later faults faults_after result
   run_ended law bytes status reply (Ok u) gained front rose result is =
-      run_whole law bytes result (subst (λ k. IsReply words shelf before after bytes k) (sym is) reply) gained
+      run_whole law bytes result (subst (λ k. IsReply words step bytes k) (sym is) reply) gained
   run_ended law bytes status reply (Err Failed) gained front rose result is = run_failed result is (rose refl) (part_of bytes status reply front)
   run_ended law bytes status reply (Err NoMemory) gained front rose result is = run_wants result is (part_of bytes status reply front)
 

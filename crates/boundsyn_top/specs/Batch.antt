@@ -6,13 +6,14 @@ use Rattle.program_replies.specs.declared.replies.Status.{Status}
 use Rattle.program_replies.specs.declared.replies.Status.TheVariants.{LineRefused}
 use Rattle.program_replies.specs.Lines.{line_refusal}
 use Rattle.synth_engine.specs.declared.settings.Settings.{Settings}
-use Rattle.batch_answer.specs.ListText.{IsFirstBadLine, IsList}
+use Rattle.batch_answer.specs.ListText.{IsFirstBadLineOfList, IsList}
 use Rattle.batch_answer.specs.Taken.{IsText}
 use Rattle.batch_answer.specs.Batch.{BatchAnswers}
 use Rattle.batch_answer.specs.declared.list.ListFault.{ListFault}
 use Rattle.batch_answer.specs.declared.list.ListFault.TheVariants as fault
 use Rattle.batch_answer.specs.declared.texts.TakenText.{TakenText}
 use Rattle.boundsyn_top.specs.Files.{HoldsOfFile}
+use Rattle.boundsyn_top.specs.Steps.{ShelfStep}
 
 -- == the list ==
 
@@ -25,7 +26,7 @@ pub record IsListed (lines name : List ℕ) : Type 0 where
 -- the lines are no list
 pub record IsBadList (lines : List ℕ) : Type 0 where
   pub line : ℕ
-  pub bad : IsFirstBadLine lines line
+  pub bad : IsFirstBadLineOfList lines line
 
 -- the bytes and the status for a fault of a list; for want of memory there are none
 abbrev pub IsListRefusal : ListFault → List ℕ → Status → Type 0
@@ -52,18 +53,18 @@ pub record OneRose (before after : List ℕ → ℕ) (names : List (List ℕ)) :
 
 -- The bytes and the status that answer a list: the line of its first bad line, or the answers to the texts that it names.
 pub data ListAnswers (told : Option Files) (lines : List ℕ) (settings : Settings) (bytes : List ℕ) (status : ℕ) : Type 0 where
-  bad_line : (n : ℕ) → status ≡ 40 → IsFirstBadLine lines n → bytes ≡ line_refusal n → ListAnswers told lines settings bytes status
+  bad_line : (n : ℕ) → status ≡ 40 → IsFirstBadLineOfList lines n → bytes ≡ line_refusal n → ListAnswers told lines settings bytes status
   answered : (names texts : List (List ℕ)) → status ≡ 0 → IsList lines names → AreFilesOf told names texts → BatchAnswers names texts settings bytes
       → ListAnswers told lines settings bytes status
 
 -- The reply to texts of these names: the line where one of their counts of faults rose, or their answers.
-pub data RepliesByNames (told : Option Files) (before after : List ℕ → ℕ) (names : List (List ℕ)) (settings : Settings) (bytes : List ℕ) (status : ℕ) : Type 0 where
-  one_rose : OneRose before after names → status ≡ 3 → bytes ≡ codes "cannot read\n" → RepliesByNames told before after names settings bytes status
-  of_texts : (texts : List (List ℕ)) → status ≡ 0 → AreFilesOf told names texts → BatchAnswers names texts settings bytes
-      → RepliesByNames told before after names settings bytes status
+pub data RepliesByNames (step : ShelfStep) (names : List (List ℕ)) (settings : Settings) (bytes : List ℕ) (status : ℕ) : Type 0 where
+  one_rose : OneRose step.before step.after names → status ≡ 3 → bytes ≡ codes "cannot read\n" → RepliesByNames step names settings bytes status
+  of_texts : (texts : List (List ℕ)) → status ≡ 0 → AreFilesOf step.files names texts → BatchAnswers names texts settings bytes
+      → RepliesByNames step names settings bytes status
 
 -- The reply to a list: the line where the count of faults of a text of it rose, or what answers it.
-pub data RepliesByLines (told : Option Files) (before after : List ℕ → ℕ) (lines : List ℕ) (settings : Settings) (bytes : List ℕ) (status : ℕ) : Type 0 where
-  text_rose : (name : List ℕ) → IsListed lines name → (IsBadList lines → ⊥) → Rose (before name) (after name) → status ≡ 3 → bytes ≡ codes "cannot read\n"
-      → RepliesByLines told before after lines settings bytes status
-  of_lines : ListAnswers told lines settings bytes status → RepliesByLines told before after lines settings bytes status
+pub data RepliesByLines (step : ShelfStep) (lines : List ℕ) (settings : Settings) (bytes : List ℕ) (status : ℕ) : Type 0 where
+  text_rose : (name : List ℕ) → IsListed lines name → (IsBadList lines → ⊥) → Rose (step.before name) (step.after name) → status ≡ 3 → bytes ≡ codes "cannot read\n"
+      → RepliesByLines step lines settings bytes status
+  of_lines : ListAnswers step.files lines settings bytes status → RepliesByLines step lines settings bytes status

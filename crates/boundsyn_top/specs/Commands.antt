@@ -2,9 +2,7 @@
 use Rattle.std.specs.Prelude.{◌≡◌, ℕ, Option, List, [], ◌∷◌}
 use Rattle.outside_edge.specs.Files.{Files}
 use Rattle.program_words.specs.Settings.{Asked, synth, check, expand, lasso, gen, bench, verify, core, batch}
-use Rattle.program_words.specs.declared.settings.Search.{Search}
 use Rattle.arbiter_text.specs.Arbiter.{generated_text}
-use Rattle.synth_engine.specs.declared.settings.Settings.{Settings}
 use Rattle.synth_answer.specs.Answer.{Answers}
 use Rattle.check_answer.specs.Answer.{CheckAnswers}
 use Rattle.flat_answer.specs.Expand.{ExpandAnswers}
@@ -27,13 +25,9 @@ statuses_of (verify spec circuit) = 0 ∷ 1 ∷ 40 ∷ []
 statuses_of (core spec wanted kind) = 1 ∷ 10 ∷ 11 ∷ 20 ∷ 30 ∷ []
 statuses_of (batch list wanted) = 0 ∷ 40 ∷ []
 
--- how the words bound a search
-abbrev pub bounds_of : Search → Settings
-bounds_of wanted = record { max = wanted.max; entries = wanted.entries; workers = wanted.workers; counts = wanted.counts }
-
 -- the bytes and the status that may answer a command, each by the definition of its answer
 abbrev pub MayAnswer : Option Files → Asked → List ℕ → ℕ → Type 0
-MayAnswer told (synth spec wanted kind) bytes status = HoldsOfFile told spec (λ text. Answers text kind (bounds_of wanted) bytes status)
+MayAnswer told (synth spec wanted kind) bytes status = HoldsOfFile told spec (λ text. Answers text kind wanted bytes status)
 MayAnswer told (check spec certificate) bytes status =
     HoldsOfFile told spec (λ text. HoldsOfFile told certificate (λ document. CheckAnswers text document bytes status))
 MayAnswer told (expand spec) bytes status = HoldsOfFile told spec (λ text. ExpandAnswers text bytes status)
@@ -43,8 +37,8 @@ MayAnswer told (gen clients) bytes status = (bytes ≡ generated_text clients) �
 MayAnswer told (bench clients workers) bytes status = BenchAnswer clients workers bytes status
 MayAnswer told (verify spec circuit) bytes status =
     HoldsOfFile told spec (λ text. HoldsOfFile told circuit (λ lines. VerifyAnswers text lines bytes status))
-MayAnswer told (core spec wanted kind) bytes status = HoldsOfFile told spec (λ text. CoreAnswers text kind (bounds_of wanted) bytes status)
-MayAnswer told (batch list wanted) bytes status = HoldsOfFile told list (λ lines. ListAnswers told lines (bounds_of wanted) bytes status)
+MayAnswer told (core spec wanted kind) bytes status = HoldsOfFile told spec (λ text. CoreAnswers text kind wanted bytes status)
+MayAnswer told (batch list wanted) bytes status = HoldsOfFile told list (λ lines. ListAnswers told lines wanted bytes status)
 
 -- the bytes and the status that answer what was asked
 pub record AnswersAsked (told : Option Files) (asked : Asked) (bytes : List ℕ) (status : ℕ) : Type 0 where

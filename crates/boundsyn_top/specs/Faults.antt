@@ -5,12 +5,12 @@ use Rattle.spec_faults.specs.declared.code.SpecCode.{SpecCode}
 use Rattle.flat_text.specs.FlatOf.{IsFlatFault, IsFlatOf}
 use Rattle.spec_problems.specs.OfText.{IsFirstFault}
 use Rattle.document_check.specs.FirstBad.{IsFirstBadFor}
-use Rattle.check_answer.specs.Answer.{Given, facts_in}
+use Rattle.check_answer.specs.Answer.{GivenToCheck, facts_to_check}
 use Rattle.lasso_word.specs.WordText.{IsFirstBadLine}
-use Rattle.verify_answer.specs.Answer as verification
-use Rattle.verify_answer.specs.FirstBad as circuits
+use Rattle.verify_answer.specs.Answer.{GivenToVerify, facts_to_verify}
+use Rattle.verify_answer.specs.FirstBad.{IsFirstBadOfCircuit}
 use Rattle.core_answer.specs.Core.{IsCoreFault}
-use Rattle.batch_answer.specs.ListText as lists
+use Rattle.batch_answer.specs.ListText.{IsFirstBadLineOfList}
 use Rattle.flat_lines.specs.FlatLines.{all_names}
 use Rattle.tlsf_expand.specs.FlatText.{FlatText}
 use Rattle.outside_edge.specs.Files.{Files, bytes_under}
@@ -37,8 +37,8 @@ pub record HasNone (Fault : SpecCode → ℕ → Type 0) : Type 0 where
 
 -- the text has no fault, and this is the certificate's first bad line for it
 pub record IsBadCertificate (text certificate : List ℕ) (line : ℕ) : Type 0 where
-  pub given : Given text
-  pub bad : IsFirstBadFor (facts_in given) certificate line
+  pub given : GivenToCheck text
+  pub bad : IsFirstBadFor (facts_to_check given) certificate line
 
 -- the text has no fault, and this is the first bad line of the word over its signals
 pub record IsBadWord (text word : List ℕ) (line : ℕ) : Type 0 where
@@ -48,8 +48,8 @@ pub record IsBadWord (text word : List ℕ) (line : ℕ) : Type 0 where
 
 -- the text has no fault, and this is the first bad line of the circuit's file for it
 pub record IsBadCircuit (text circuit : List ℕ) (line : ℕ) : Type 0 where
-  pub given : verification.Given text
-  pub bad : circuits.IsFirstBadFor (verification.facts_in given) circuit line
+  pub given : GivenToVerify text
+  pub bad : IsFirstBadOfCircuit (facts_to_verify given) circuit line
 
 -- The text has no fault, and this is the first bad line of the other file; or it is that of the list.
 abbrev pub HasBadLine : Files → Asked → ℕ → Type 0
@@ -61,7 +61,7 @@ HasBadLine files (gen clients) n = ⊥
 HasBadLine files (bench clients workers) n = ⊥
 HasBadLine files (verify spec circuit) n = IsBadCircuit (bytes_under files spec) (bytes_under files circuit) n
 HasBadLine files (core spec wanted kind) n = ⊥
-HasBadLine files (batch list wanted) n = lists.IsFirstBadLine (bytes_under files list) n
+HasBadLine files (batch list wanted) n = IsFirstBadLineOfList (bytes_under files list) n
 
 -- nothing but its line answers a fault, or a bad line
 pub record RefusalsAreDetermined : Type 0 where

@@ -6,6 +6,7 @@ use Rattle.spec_faults.specs.declared.code.SpecCode.TheVariants.{TooLong}
 use Rattle.tlsf_reader.specs.Faults.{most_bytes}
 use Rattle.program_replies.specs.Lines.{refusal_line}
 use Rattle.program_replies.specs.Statuses.{status_number}
+use Rattle.boundsyn_top.specs.Steps.{ShelfStep}
 use Rattle.boundsyn_top.specs.declared.files.Taken.{Taken}
 use Rattle.boundsyn_top.specs.declared.files.Taken.TheVariants.{Whole, Refused}
 
@@ -20,20 +21,20 @@ pub record HoldsOfFile (told : Option Files) (name : List ℕ) (P : List ℕ →
   pub holds : P bytes
 
 -- the reply where a text isn't taken: it has more bytes than a text may have, or its count of faults rose
-pub data IsUntaken (told : Option Files) (before after : List ℕ → ℕ) (name bytes : List ℕ) (status : ℕ) : Type 0 where
-  too_long : IfSome told (λ files. most_bytes < length (bytes_under files name)) → status ≡ 1 → bytes ≡ refusal_line TooLong most_bytes
-      → IsUntaken told before after name bytes status
-  unread : Rose (before name) (after name) → status ≡ 3 → bytes ≡ codes "cannot read\n"
-      → IsUntaken told before after name bytes status
+pub data IsUntaken (step : ShelfStep) (name bytes : List ℕ) (status : ℕ) : Type 0 where
+  too_long : IfSome step.files (λ files. most_bytes < length (bytes_under files name)) → status ≡ 1 → bytes ≡ refusal_line TooLong most_bytes
+      → IsUntaken step name bytes status
+  unread : Rose (step.before name) (step.after name) → status ≡ 3 → bytes ≡ codes "cannot read\n"
+      → IsUntaken step name bytes status
 
 -- what taking a text gives: its bytes, or the reply where it isn't taken
-abbrev pub IsTaken : Option Files → (List ℕ → ℕ) → (List ℕ → ℕ) → List ℕ → Taken → Type 0
-IsTaken told before after name (Whole bytes) = AreOfFile told name bytes.items
-IsTaken told before after name (Refused reply) = IsUntaken told before after name reply.bytes.items (status_number reply.status)
+abbrev pub IsTakenText : ShelfStep → List ℕ → Taken → Type 0
+IsTakenText step name (Whole bytes) = AreOfFile step.files name bytes.items
+IsTakenText step name (Refused reply) = IsUntaken step name reply.bytes.items (status_number reply.status)
 
 -- The reply that a file of any length gives: the line where it was due to be taken and its count of faults rose, or what something
 -- holds of with its bytes.
-pub data RepliesByFile (told : Option Files) (before after : List ℕ → ℕ) (name : List ℕ) (Due : Type 0) (P : List ℕ → Type 0) (bytes : List ℕ) (status : ℕ) : Type 0 where
-  count_rose : Due → Rose (before name) (after name) → status ≡ 3 → bytes ≡ codes "cannot read\n"
-      → RepliesByFile told before after name Due P bytes status
-  of_file : HoldsOfFile told name P → RepliesByFile told before after name Due P bytes status
+pub data RepliesByFile (step : ShelfStep) (name : List ℕ) (Due : Type 0) (P : List ℕ → Type 0) (bytes : List ℕ) (status : ℕ) : Type 0 where
+  count_rose : Due → Rose (step.before name) (step.after name) → status ≡ 3 → bytes ≡ codes "cannot read\n"
+      → RepliesByFile step name Due P bytes status
+  of_file : HoldsOfFile step.files name P → RepliesByFile step name Due P bytes status

@@ -1,4 +1,5 @@
 pub mod Output
+pub mod Steps
 pub mod Files
 pub mod Batch
 pub mod Commands

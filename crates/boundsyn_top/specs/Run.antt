@@ -11,6 +11,7 @@ use Rattle.boundsyn_top.specs.declared.output.Output.{Output}
 use Rattle.boundsyn_top.specs.Output.{IsWritable, bytes_of, status_of}
 use Rattle.boundsyn_top.specs.Commands.{AnswersAsked, statuses_of}
 use Rattle.boundsyn_top.specs.Faults.{HasBadLine, HasFault}
+use Rattle.boundsyn_top.specs.Steps.{ShelfStep}
 use Rattle.boundsyn_top.specs.Takes.{Stops, TakesFile}
 
 -- == the words ==
@@ -26,18 +27,18 @@ pub record AskForNothing (words : List (List ℕ)) : Type 0 where
 -- == what is replied ==
 
 -- the shelf's count rose of a file that the command takes
-pub record ReadFailed (words : List (List ℕ)) (told : Option Files) (before after : List ℕ → ℕ) : Type 0 where
+pub record ReadFailed (words : List (List ℕ)) (step : ShelfStep) : Type 0 where
   pub asked : Asked
   pub asks : Asks words asked
   pub name : List ℕ
-  pub taken : TakesFile told asked name
-  pub rose : Rose (before name) (after name)
+  pub taken : TakesFile step.files asked name
+  pub rose : Rose (step.before name) (step.after name)
 
 -- What a command replies: the line of a file of it that couldn't be read, or its answer.
-pub data RepliesTo (told : Option Files) (before after : List ℕ → ℕ) (asked : Asked) (bytes : List ℕ) (status : ℕ) : Type 0 where
-  unread : (name : List ℕ) → TakesFile told asked name → Rose (before name) (after name) → status ≡ 3 → bytes ≡ codes "cannot read\n" →
-      RepliesTo told before after asked bytes status
-  answers : Contains (statuses_of asked) status → AnswersAsked told asked bytes status → RepliesTo told before after asked bytes status
+pub data RepliesTo (step : ShelfStep) (asked : Asked) (bytes : List ℕ) (status : ℕ) : Type 0 where
+  unread : (name : List ℕ) → TakesFile step.files asked name → Rose (step.before name) (step.after name) → status ≡ 3 → bytes ≡ codes "cannot read\n" →
+      RepliesTo step asked bytes status
+  answers : Contains (statuses_of asked) status → AnswersAsked step.files asked bytes status → RepliesTo step asked bytes status
 
 -- the answer to what the words ask for
 pub record AnswersWords (words : List (List ℕ)) (told : Option Files) (bytes : List ℕ) (status : ℕ) : Type 0 where
@@ -47,21 +48,21 @@ pub record AnswersWords (words : List (List ℕ)) (told : Option Files) (bytes :
   pub answer : AnswersAsked told asked bytes status
 
 -- What a run writes whole, with its status: the answer, or the line of refused words or of a file that couldn't be read.
-pub data IsReply (words : List (List ℕ)) (told : Option Files) (before after : List ℕ → ℕ) (bytes : List ℕ) (status : ℕ) : Type 0 where
+pub data IsReply (words : List (List ℕ)) (step : ShelfStep) (bytes : List ℕ) (status : ℕ) : Type 0 where
   words_refused : status ≡ 2 → AskForNothing words → bytes ≡ codes "words refused\n" →
-      IsReply words told before after bytes status
-  cannot_read : status ≡ 3 → ReadFailed words told before after → bytes ≡ codes "cannot read\n" →
-      IsReply words told before after bytes status
-  answered : AnswersWords words told bytes status → IsReply words told before after bytes status
+      IsReply words step bytes status
+  cannot_read : status ≡ 3 → ReadFailed words step → bytes ≡ codes "cannot read\n" →
+      IsReply words step bytes status
+  answered : AnswersWords words step.files bytes status → IsReply words step bytes status
 
 -- what is written is a command's reply
-pub record IsOutputOf (told : Option Files) (before after : List ℕ → ℕ) (asked : Asked) (output : Output) : Type 0 where
-  pub replies : RepliesTo told before after asked (bytes_of output) (status_of output)
+pub record IsOutputOf (step : ShelfStep) (asked : Asked) (output : Output) : Type 0 where
+  pub replies : RepliesTo step asked (bytes_of output) (status_of output)
   pub writable : IsWritable output
 
 -- what is written is a run's reply
-pub record IsOutputFor (words : List (List ℕ)) (told : Option Files) (before after : List ℕ → ℕ) (output : Output) : Type 0 where
-  pub reply : IsReply words told before after (bytes_of output) (status_of output)
+pub record IsOutputFor (words : List (List ℕ)) (step : ShelfStep) (output : Output) : Type 0 where
+  pub reply : IsReply words step (bytes_of output) (status_of output)
   pub writable : IsWritable output
 
 -- the statuses of an answer
@@ -112,8 +113,8 @@ pub record LineFails (words : List (List ℕ)) (told : Option Files) (n : ℕ) :
   pub bad : HasBadLine files asked n
 
 -- no count rose of a file that the command takes
-abbrev pub ReadsWell : Option Files → Asked → (List ℕ → ℕ) → (List ℕ → ℕ) → Type 0
-ReadsWell told asked before after = (name : List ℕ) → TakesFile told asked name → Rose (before name) (after name) → ⊥
+abbrev pub ReadsWell : ShelfStep → Asked → Type 0
+ReadsWell step asked = (name : List ℕ) → TakesFile step.files asked name → Rose (step.before name) (step.after name) → ⊥
 
 -- the words ask for no command that takes the file
 abbrev pub IsForeign : List (List ℕ) → Option Files → List ℕ → Type 0

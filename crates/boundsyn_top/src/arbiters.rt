@@ -1,8 +1,8 @@
 //! The replies to `gen` and `bench`, which read no file.
-ghost use Rattle.std.specs.Prelude.{◌≤◌, ℕ, List, Option, IfOk};
-ghost use Rattle.outside_edge.specs.Files.{Files};
+ghost use Rattle.std.specs.Prelude.{◌≤◌, IfOk};
 ghost use Rattle.program_words.specs.Settings.{bench, gen};
 ghost use Rattle.boundsyn_top.specs.Run.{IsOutputOf};
+ghost use Rattle.boundsyn_top.specs.Steps.{ShelfStep};
 
 use crate::output::{Output, whole_output};
 use arbiter_text::write_arbiter;
@@ -15,7 +15,7 @@ use std::thread::Threads;
 
 /// The text of an arbiter.
 pub fn generate(alloc: Global, clients: u32) -> Result<Output, AllocError>
-    ensures { IfOk result (λ o. (told : Option Files) (before after : List ℕ → ℕ) → IsOutputOf told before after (gen clients) o) }
+    ensures { IfOk result (λ o. (step : ShelfStep) → IsOutputOf step (gen clients) o) }
 {
     let mut bytes = Vec::new(alloc);
     write_arbiter(clients, &mut bytes)?;
@@ -39,7 +39,7 @@ where
     requires some_client { 1 ≤ clients }
     requires most_clients { clients ≤ 4 }
     requires workers { workers ≤ 8 }
-    ensures { IfOk result (λ o. (told : Option Files) (before after : List ℕ → ℕ) → IsOutputOf told before after (bench clients workers) o) }
+    ensures { IfOk result (λ o. (step : ShelfStep) → IsOutputOf step (bench clients workers) o) }
 {
     whole_output(bench_answer(rt, alloc, clients, workers, gate))
 }

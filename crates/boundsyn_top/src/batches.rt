@@ -1,26 +1,25 @@
 //! The reply to `batch`.
-ghost use Rattle.std.specs.Prelude.{◌≡◌, ◌≢◌, ◌≤◌, ℕ, List, Contains, IfOk, IfSome, MatchOption, length};
+ghost use Rattle.std.specs.Prelude.{◌≡◌, ◌≢◌, ◌≤◌, ℕ, List, Contains, IfOk, MatchOption, length};
 ghost use Rattle.std.specs.List.{AllZip};
 ghost use Rattle.outside_edge.specs.Faults.{Rose};
 ghost use Rattle.program_replies.specs.Statuses.{status_number};
 ghost use Rattle.program_words.specs.Settings.{batch};
 ghost use Rattle.batch_answer.specs.ListText.{IsList};
 ghost use Rattle.boundsyn_top.specs.Batch.{IsBadList, IsListRefusal, IsListed, IsTakenAs, OneRose, RepliesByLines, RepliesByNames};
-ghost use Rattle.boundsyn_top.specs.Commands.{bounds_of};
 ghost use Rattle.boundsyn_top.specs.Run.{IsOutputOf};
+ghost use Rattle.boundsyn_top.specs.Steps.{step_of};
 ghost use Rattle.boundsyn_top.specs.Takes.{TakesFile};
 
 use crate::files::{LONGEST_TEXT, cannot_read, take_whole};
 use crate::output::{Output, whole_output};
-use crate::synthesis::bounds;
 use batch_answer::laws::lists_are_determined;
 use batch_answer::{FileName, ListFault, TakenText, batch_answer, read_list};
 use outside_edge::{Gate, Shelf, ShelfFault};
 use program_replies::{Reply, refused_at_line};
-use program_words::Search;
 use std::alloc::{AllocError, Global};
 use std::sync::Wait;
 use std::thread::Threads;
+use synth_engine::Settings;
 
 /// Answers the texts that a list names. They are taken only where the list has no bad line, and all before the first is answered.
 pub fn answer_list<R, H, G>(
@@ -28,18 +27,15 @@ pub fn answer_list<R, H, G>(
     alloc: Global,
     shelf: &mut H,
     list: &str,
-    wanted: Search,
+    wanted: Settings,
     gate: &G,
 ) -> Result<Output, AllocError>
 where
     R: Threads + Wait + Sync,
     H: Shelf,
     G: Gate + Sync,
-    requires some_size { 1 ≤ wanted.max }
-    requires most_size { wanted.max ≤ 8 }
-    requires entries { IfSome wanted.entries (λ most. most ≤ 250000) }
     requires workers { 1 ≤ wanted.workers }
-    ensures output { IfOk result (IsOutputOf (H.files shelf.old) (H.faults shelf.old) (H.faults shelf.new) (batch list.now wanted)) }
+    ensures output { IfOk result (IsOutputOf (step_of H.files H.faults shelf.old shelf.new) (batch list.now wanted)) }
     ensures files { H.files shelf.new ≡ H.files shelf.old }
     ensures other_files { (name : List ℕ) → ¬ TakesFile (H.files shelf.old) (batch list.now wanted) name → H.faults shelf.new name ≡ H.faults shelf.old name }
 {
@@ -55,19 +51,16 @@ fn answer_lines<R, H, G>(
     alloc: Global,
     shelf: &mut H,
     lines: &[u8],
-    wanted: Search,
+    wanted: Settings,
     gate: &G,
 ) -> Result<Reply, AllocError>
 where
     R: Threads + Wait + Sync,
     H: Shelf,
     G: Gate + Sync,
-    requires some_size { 1 ≤ wanted.max }
-    requires most_size { wanted.max ≤ 8 }
-    requires entries { IfSome wanted.entries (λ most. most ≤ 250000) }
     requires workers { 1 ≤ wanted.workers }
-    ensures reply { IfOk result (λ r. RepliesByLines (H.files shelf.old) (H.faults shelf.old) (H.faults shelf.new)
-        lines.now (bounds_of wanted) r.bytes.items (status_number r.status)) }
+    ensures reply { IfOk result (λ r. RepliesByLines (step_of H.files H.faults shelf.old shelf.new)
+        lines.now wanted r.bytes.items (status_number r.status)) }
     ensures files { H.files shelf.new ≡ H.files shelf.old }
     ensures other_files { (name : List ℕ) → ¬ (IsListed lines.now name × ¬ IsBadList lines.now) → H.faults shelf.new name ≡ H.faults shelf.old name }
 {
@@ -94,7 +87,7 @@ fn answer_texts<R, H, G>(
     alloc: Global,
     shelf: &mut H,
     names: &[FileName],
-    wanted: Search,
+    wanted: Settings,
     gate: &G,
 ) -> Result<Reply, AllocError>
 where
@@ -102,17 +95,14 @@ where
     H: Shelf,
     G: Gate + Sync,
     requires few { length names.now ≤ 64 }
-    requires some_size { 1 ≤ wanted.max }
-    requires most_size { wanted.max ≤ 8 }
-    requires entries { IfSome wanted.entries (λ most. most ≤ 250000) }
     requires workers { 1 ≤ wanted.workers }
-    ensures reply { IfOk result (λ r. RepliesByNames (H.files shelf.old) (H.faults shelf.old) (H.faults shelf.new)
-        names.now (bounds_of wanted) r.bytes.items (status_number r.status)) }
+    ensures reply { IfOk result (λ r. RepliesByNames (step_of H.files H.faults shelf.old shelf.new)
+        names.now wanted r.bytes.items (status_number r.status)) }
     ensures files { H.files shelf.new ≡ H.files shelf.old }
     ensures other_files { (name : List ℕ) → ¬ Contains names.now name → H.faults shelf.new name ≡ H.faults shelf.old name }
 {
     match take_texts(alloc, shelf, names)? {
-        Some(texts) => batch_answer(rt, alloc, names, &texts, bounds(wanted), gate),
+        Some(texts) => batch_answer(rt, alloc, names, &texts, wanted, gate),
         None => cannot_read(alloc),
     }
 }

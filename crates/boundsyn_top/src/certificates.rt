@@ -2,7 +2,7 @@
 ghost use Rattle.std.specs.Prelude.{◌≡◌, ◌≢◌, ℕ, List, Some, IfOk};
 ghost use Rattle.letter_word.specs.declared.kinds.Kind.TheVariants.{Mealy};
 ghost use Rattle.check_answer.specs.Answer.{CheckAnswers};
-ghost use Rattle.check_answer.specs.Reply.{IsTaken, facts_taken};
+ghost use Rattle.check_answer.specs.Reply.{IsForCheck, facts_for_check};
 ghost use Rattle.document_check.specs.Shown.{AreFacts};
 ghost use Rattle.spec_problems.specs.OfText.{IsFirstFault};
 ghost use Rattle.program_replies.specs.Statuses.{status_number};
@@ -10,11 +10,12 @@ ghost use Rattle.program_words.specs.Settings.{check};
 ghost use Rattle.boundsyn_top.specs.Faults.{HasNone};
 ghost use Rattle.boundsyn_top.specs.Files.{RepliesByFile};
 ghost use Rattle.boundsyn_top.specs.Run.{IsOutputOf};
+ghost use Rattle.boundsyn_top.specs.Steps.{step_of};
 ghost use Rattle.boundsyn_top.specs.Takes.{TakesFile};
 
 use crate::files::{Taken, cannot_read, take_parts, take_text};
 use crate::output::{Output, whole_output};
-use check_answer::{Problems, check_answer, problems_or_refusal};
+use check_answer::{check_answer, problems_for_check};
 use outside_edge::Shelf;
 use program_replies::Reply;
 use spec_problems::TextProblems;
@@ -22,6 +23,7 @@ use spec_problems::laws::problems_of_texts_are_determined;
 use std::alloc::{AllocError, Global};
 use std::sync::Wait;
 use std::thread::Threads;
+use synth_answer::Problems;
 
 /// Checks a document against a text. The document is taken only where the text has no fault.
 pub fn check_certificate<R, H>(
@@ -34,7 +36,7 @@ pub fn check_certificate<R, H>(
 where
     R: Threads + Wait + Sync,
     H: Shelf,
-    ensures output { IfOk result (IsOutputOf (H.files shelf.old) (H.faults shelf.old) (H.faults shelf.new) (check spec.now certificate.now)) }
+    ensures output { IfOk result (IsOutputOf (step_of H.files H.faults shelf.old shelf.new) (check spec.now certificate.now)) }
     ensures files { H.files shelf.new ≡ H.files shelf.old }
     ensures other_files { (name : List ℕ) → ¬ TakesFile (H.files shelf.old) (check spec.now certificate.now) name → H.faults shelf.new name ≡ H.faults shelf.old name }
 {
@@ -55,13 +57,13 @@ fn check_by<R, H>(
 where
     R: Threads + Wait + Sync,
     H: Shelf,
-    ensures reply { IfOk result (λ r. RepliesByFile (H.files shelf.old) (H.faults shelf.old) (H.faults shelf.new) certificate.now
+    ensures reply { IfOk result (λ r. RepliesByFile (step_of H.files H.faults shelf.old shelf.new) certificate.now
         (HasNone (IsFirstFault text.now (Some Mealy))) (λ document. CheckAnswers text.now document r.bytes.items (status_number r.status)) r.bytes.items (status_number r.status)) }
     ensures files { H.files shelf.new ≡ H.files shelf.old }
     ensures other_files { (name : List ℕ) → (HasNone (IsFirstFault text.now (Some Mealy)) → name ≢ certificate.now) → H.faults shelf.new name ≡ H.faults shelf.old name }
 {
     problems_of_texts_are_determined();
-    match problems_or_refusal(alloc, text)? {
+    match problems_for_check(alloc, text)? {
         Problems::Of(found) => checked(rt, alloc, shelf, &found, certificate),
         Problems::Refused(reply) => Ok(reply),
     }
@@ -78,9 +80,9 @@ fn checked<R, H>(
 where
     R: Threads + Wait + Sync,
     H: Shelf,
-    requires { AreFacts (facts_taken found.now) }
-    ensures reply { (text : List ℕ) → IsTaken text found.now → HasNone (IsFirstFault text (Some Mealy))
-        → IfOk result (λ r. RepliesByFile (H.files shelf.old) (H.faults shelf.old) (H.faults shelf.new) certificate.now
+    requires { AreFacts (facts_for_check found.now) }
+    ensures reply { (text : List ℕ) → IsForCheck text found.now → HasNone (IsFirstFault text (Some Mealy))
+        → IfOk result (λ r. RepliesByFile (step_of H.files H.faults shelf.old shelf.new) certificate.now
         (HasNone (IsFirstFault text (Some Mealy))) (λ document. CheckAnswers text document r.bytes.items (status_number r.status)) r.bytes.items (status_number r.status)) }
     ensures files { H.files shelf.new ≡ H.files shelf.old }
     ensures other_files { (name : List ℕ) → name ≢ certificate.now → H.faults shelf.new name ≡ H.faults shelf.old name }

@@ -1,18 +1,18 @@
 //! The reply to `core`.
-ghost use Rattle.std.specs.Prelude.{◌≡◌, ◌≢◌, ◌≤◌, ℕ, List, IfOk, IfSome};
+ghost use Rattle.std.specs.Prelude.{◌≡◌, ◌≢◌, ℕ, List, IfOk};
 ghost use Rattle.program_words.specs.Settings.{core};
 ghost use Rattle.boundsyn_top.specs.Run.{IsOutputOf};
+ghost use Rattle.boundsyn_top.specs.Steps.{step_of};
 
 use crate::files::{Taken, take_text};
 use crate::output::{Output, whole_output};
-use crate::synthesis::bounds;
 use core_answer::core_answer;
 use letter_word::Kind;
 use outside_edge::{Gate, Shelf};
-use program_words::Search;
 use std::alloc::{AllocError, Global};
 use std::sync::Wait;
 use std::thread::Threads;
+use synth_engine::Settings;
 
 /// Searches for guarantees of a text that can't be met together.
 pub fn find_core<R, H, G>(
@@ -20,7 +20,7 @@ pub fn find_core<R, H, G>(
     alloc: Global,
     shelf: &mut H,
     spec: &str,
-    wanted: Search,
+    wanted: Settings,
     kind: Option<Kind>,
     gate: &G,
 ) -> Result<Output, AllocError>
@@ -28,18 +28,12 @@ where
     R: Threads + Wait + Sync,
     H: Shelf,
     G: Gate + Sync,
-    requires some_size { 1 ≤ wanted.max }
-    requires most_size { wanted.max ≤ 8 }
-    requires entries { IfSome wanted.entries (λ most. most ≤ 250000) }
-    requires workers { wanted.workers ≤ 8 }
-    ensures output { IfOk result (IsOutputOf (H.files shelf.old) (H.faults shelf.old) (H.faults shelf.new) (core spec.now wanted kind)) }
+    ensures output { IfOk result (IsOutputOf (step_of H.files H.faults shelf.old shelf.new) (core spec.now wanted kind)) }
     ensures files { H.files shelf.new ≡ H.files shelf.old }
     ensures other_files { (name : List ℕ) → name ≢ spec.now → H.faults shelf.new name ≡ H.faults shelf.old name }
 {
     match take_text(alloc, shelf, spec)? {
-        Taken::Whole(text) => {
-            whole_output(core_answer(rt, alloc, &text, kind, bounds(wanted), gate))
-        },
+        Taken::Whole(text) => { whole_output(core_answer(rt, alloc, &text, kind, wanted, gate)) },
         Taken::Refused(reply) => Ok(Output::Whole(reply)),
     }
 }

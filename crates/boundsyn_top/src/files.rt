@@ -2,7 +2,8 @@
 ghost use Rattle.std.specs.Prelude.{◌≡◌, ◌≢◌, ◌≤◌, ℕ, List, codes, IfOk, MatchOption};
 ghost use Rattle.outside_edge.specs.Faults.{Rose};
 ghost use Rattle.program_replies.specs.Lines.{refusal_line};
-ghost use Rattle.boundsyn_top.specs.Files.{AreOfFile, IsTaken};
+ghost use Rattle.boundsyn_top.specs.Files.{AreOfFile, IsTakenText};
+ghost use Rattle.boundsyn_top.specs.Steps.{step_of};
 
 use outside_edge::{Shelf, ShelfFault};
 use program_replies::{Reply, Status, refused, whole};
@@ -26,7 +27,7 @@ pub enum Taken {
 
 /// Takes a text.
 pub fn take_text<H: Shelf>(alloc: Global, shelf: &mut H, name: &str) -> Result<Taken, AllocError>
-    ensures taken { IfOk result (IsTaken (H.files shelf.old) (H.faults shelf.old) (H.faults shelf.new) name.now) }
+    ensures taken { IfOk result (IsTakenText (step_of H.files H.faults shelf.old shelf.new) name.now) }
     ensures files { H.files shelf.new ≡ H.files shelf.old }
     ensures others { (other : List ℕ) → other ≢ name.now → H.faults shelf.new other ≡ H.faults shelf.old other }
     ensures never_falls { (any : List ℕ) → H.faults shelf.old any ≤ H.faults shelf.new any }

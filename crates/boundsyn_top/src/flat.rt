@@ -11,6 +11,7 @@ ghost use Rattle.boundsyn_top.specs.Faults.{HasNone};
 ghost use Rattle.boundsyn_top.specs.Files.{RepliesByFile};
 ghost use Rattle.boundsyn_top.specs.Output.{IsExpansion};
 ghost use Rattle.boundsyn_top.specs.Run.{IsOutputOf};
+ghost use Rattle.boundsyn_top.specs.Steps.{step_of};
 ghost use Rattle.boundsyn_top.specs.Takes.{TakesFile};
 
 use crate::files::{Taken, cannot_read, take_text, take_whole};
@@ -24,7 +25,7 @@ use tlsf_expand::Spec;
 
 /// The flat form of a text.
 pub fn expand_spec<H: Shelf>(alloc: Global, shelf: &mut H, spec: &str) -> Result<Output, AllocError>
-    ensures output { IfOk result (IsOutputOf (H.files shelf.old) (H.faults shelf.old) (H.faults shelf.new) (expand spec.now)) }
+    ensures output { IfOk result (IsOutputOf (step_of H.files H.faults shelf.old shelf.new) (expand spec.now)) }
     ensures files { H.files shelf.new ≡ H.files shelf.old }
     ensures other_files { (name : List ℕ) → name ≢ spec.now → H.faults shelf.new name ≡ H.faults shelf.old name }
 {
@@ -50,7 +51,7 @@ pub fn tell_truth<H: Shelf>(
     spec: &str,
     word: &str,
 ) -> Result<Output, AllocError>
-    ensures output { IfOk result (IsOutputOf (H.files shelf.old) (H.faults shelf.old) (H.faults shelf.new) (lasso spec.now word.now)) }
+    ensures output { IfOk result (IsOutputOf (step_of H.files H.faults shelf.old shelf.new) (lasso spec.now word.now)) }
     ensures files { H.files shelf.new ≡ H.files shelf.old }
     ensures other_files { (name : List ℕ) → ¬ TakesFile (H.files shelf.old) (lasso spec.now word.now) name → H.faults shelf.new name ≡ H.faults shelf.old name }
 {
@@ -67,7 +68,7 @@ fn tell_by<H: Shelf>(
     text: &[u8],
     word: &str,
 ) -> Result<Reply, AllocError>
-    ensures reply { IfOk result (λ r. RepliesByFile (H.files shelf.old) (H.faults shelf.old) (H.faults shelf.new) word.now
+    ensures reply { IfOk result (λ r. RepliesByFile (step_of H.files H.faults shelf.old shelf.new) word.now
         (HasNone (IsFlatFault text.now None)) (λ lines. LassoAnswers text.now lines r.bytes.items (status_number r.status)) r.bytes.items (status_number r.status)) }
     ensures files { H.files shelf.new ≡ H.files shelf.old }
     ensures other_files { (name : List ℕ) → (HasNone (IsFlatFault text.now None) → name ≢ word.now) → H.faults shelf.new name ≡ H.faults shelf.old name }
@@ -89,7 +90,7 @@ fn told<H: Shelf>(
     requires few { HasFewSignals (length flat.now.inputs.items) (length flat.now.outputs.items) flat.now.formulas }
     requires stands { Stands flat.now.formulas flat.now.whole }
     ensures reply { (text : List ℕ) → IsFlatOf text None (spec_seen flat.now) → HasNone (IsFlatFault text None)
-        → IfOk result (λ r. RepliesByFile (H.files shelf.old) (H.faults shelf.old) (H.faults shelf.new) word.now
+        → IfOk result (λ r. RepliesByFile (step_of H.files H.faults shelf.old shelf.new) word.now
         (HasNone (IsFlatFault text None)) (λ lines. LassoAnswers text lines r.bytes.items (status_number r.status)) r.bytes.items (status_number r.status)) }
     ensures files { H.files shelf.new ≡ H.files shelf.old }
     ensures other_files { (name : List ℕ) → name ≢ word.now → H.faults shelf.new name ≡ H.faults shelf.old name }

@@ -2,6 +2,7 @@
 ghost use Rattle.std.specs.Prelude.{◌≡◌, ℕ, List, codes, map, string_bytes, IfOk};
 ghost use Rattle.program_words.specs.Settings.{IsInRange, asked_by};
 ghost use Rattle.boundsyn_top.specs.Run.{IsForeign, IsOutputFor, IsOutputOf};
+ghost use Rattle.boundsyn_top.specs.Steps.{step_of};
 ghost use Rattle.boundsyn_top.specs.Takes.{TakesFile};
 
 use crate::arbiters::{generate, search_arbiter};
@@ -31,7 +32,7 @@ where
     R: Threads + Wait + Sync,
     H: Shelf,
     G: Gate + Sync,
-    ensures output { IfOk result (IsOutputFor (map string_bytes words.now) (H.files shelf.old) (H.faults shelf.old) (H.faults shelf.new)) }
+    ensures output { IfOk result (IsOutputFor (map string_bytes words.now) (step_of H.files H.faults shelf.old shelf.new)) }
     ensures files { H.files shelf.new ≡ H.files shelf.old }
     ensures other_files { (name : List ℕ) → IsForeign (map string_bytes words.now) (H.files shelf.old) name → H.faults shelf.new name ≡ H.faults shelf.old name }
 {
@@ -55,7 +56,7 @@ where
     H: Shelf,
     G: Gate + Sync,
     requires { IsInRange (asked_by settings) }
-    ensures output { IfOk result (IsOutputOf (H.files shelf.old) (H.faults shelf.old) (H.faults shelf.new) (asked_by settings.entry)) }
+    ensures output { IfOk result (IsOutputOf (step_of H.files H.faults shelf.old shelf.new) (asked_by settings.entry)) }
     ensures files { H.files shelf.new ≡ H.files shelf.old }
     ensures other_files { (name : List ℕ) → ¬ TakesFile (H.files shelf.old) (asked_by settings.entry) name → H.faults shelf.new name ≡ H.faults shelf.old name }
 {

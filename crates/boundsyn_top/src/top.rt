@@ -7,6 +7,7 @@ ghost use Rattle.program_words.specs.Settings.{Asked};
 ghost use Rattle.spec_faults.specs.declared.code.SpecCode.{SpecCode};
 ghost use Rattle.boundsyn_top.specs.Commands.{statuses_of};
 ghost use Rattle.boundsyn_top.specs.Run.{AnswersWords, AskForNothing, Asks, EndsWith, Gained, GainedPart, IsEnding, IsForeign, IsReply, IsStopped, LineFails, ReadFailed, ReadsWell, TextFails, answering};
+ghost use Rattle.boundsyn_top.specs.Steps.{step_of};
 ghost use Rattle.boundsyn_top.specs.Takes.{first_file};
 
 use crate::laws::refusals_are_determined;
@@ -45,12 +46,12 @@ where
     ensures words_refused { result ≡ 2 → Gained (K.written out.old) (K.written out.new)
         (λ bytes. AskForNothing (map string_bytes words.now) × (bytes ≡ codes "words refused\n")) }
     ensures cannot_read { result ≡ 3 → Gained (K.written out.old) (K.written out.new)
-        (λ bytes. ReadFailed (map string_bytes words.now) (H.files shelf.old) (H.faults shelf.old) (H.faults shelf.new) × (bytes ≡ codes "cannot read\n")) }
+        (λ bytes. ReadFailed (map string_bytes words.now) (step_of H.files H.faults shelf.old shelf.new) × (bytes ≡ codes "cannot read\n")) }
 
     // What is cut short: a front of bytes that would have been allowed.
     ensures cannot_write { result ≡ 4 → Rose (K.faults out.old) (K.faults out.new) }
     ensures cut_short { (result ≡ 4) ⊎ (result ≡ 5) → GainedPart (K.written out.old) (K.written out.new)
-        (λ bytes status. IsReply (map string_bytes words.now) (H.files shelf.old) (H.faults shelf.old) (H.faults shelf.new) bytes status) }
+        (λ bytes status. IsReply (map string_bytes words.now) (step_of H.files H.faults shelf.old shelf.new) bytes status) }
 
     // When each refusal comes, unless something outside failed or memory was wanted.
     ensures bad_words_are_refused { AskForNothing (map string_bytes words.now) → Contains (2 ∷ 4 ∷ 5 ∷ []) result }
@@ -58,7 +59,7 @@ where
         → EndsWith (K.written out.old) (K.written out.new) (refusal_line code place) 1 result }
     ensures bad_line_is_refused { (n : ℕ) → LineFails (map string_bytes words.now) (H.files shelf.old) n
         → EndsWith (K.written out.old) (K.written out.new) (line_refusal n) 40 result }
-    ensures complete { (asked : Asked) → Asks (map string_bytes words.now) asked → ReadsWell (H.files shelf.old) asked (H.faults shelf.old) (H.faults shelf.new)
+    ensures complete { (asked : Asked) → Asks (map string_bytes words.now) asked → ReadsWell (step_of H.files H.faults shelf.old shelf.new) asked
         → ¬ Rose (K.faults out.old) (K.faults out.new) → Contains (5 ∷ statuses_of asked) result }
 
     // No other file is taken, and where the text or the list is refused none but its own.

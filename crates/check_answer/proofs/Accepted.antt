@@ -1,5 +1,5 @@
 -- What a document that holds for a text says of it.
-use Rattle.std.proofs.Common.{◌≡◌, ◌==◌, ℕ, zero, suc, ◌-◌, ◌<◌, ◌≤◌, Bool, true, false, List, [], ◌∷◌, ◌++◌, Option, Some, None, All, IfSome, length, map, refl, sym, ap, ◌∙◌, subst, arith, if◌then◌else◌}
+use Rattle.std.proofs.Common.{◌≡◌, ◌==◌, ℕ, zero, suc, ◌-◌, ◌≤◌, Bool, true, false, List, [], ◌∷◌, ◌++◌, Option, Some, None, All, IfSome, map, refl, sym, ap, subst, arith, if◌then◌else◌}
 use Rattle.std.specs.Prelude.{min, nat_le, option_map}
 use Rattle.std.specs.Option.{option_map_or}
 use Rattle.std.proofs.Math.Nat.{min-le_right}
@@ -30,7 +30,6 @@ use Rattle.cert_text.specs.declared.documents.Verdict.TheVariants.{Realizable, U
 use Rattle.cert_text.specs.Order.{tells_bounds}
 use Rattle.cert_text.specs.Parts.{Document, LogPart}
 use Rattle.cert_text.specs.States.{States}
-use Rattle.document_check.specs.declared.facts.Size.{Size}
 use Rattle.document_check.specs.Facts.{Facts, allowed_at, clause_version, problem_at, sizes_to, wanted_sizes}
 use Rattle.document_check.specs.Holds.{AllHold, HoldsAt, HoldsFor, IsLogOfSome, may_be_full, size_of}
 use Rattle.document_check.specs.Laws.{AllRefute, ClosedLogsRefuteSizes}
@@ -41,8 +40,8 @@ use Rattle.synth_answer.specs.Printed.{given_by}
 use Rattle.synth_answer.specs.Reply.{AreProblemsFor, HaveAutomata, LawsHold}
 use Rattle.synth_answer.proofs.Meaning.{IsSideOf, are_problems_for, each_can_lose, none_satisfies, wanted_of}
 use Rattle.synth_answer.proofs.Sides.{all_three, some_of}
-use Rattle.check_answer.specs.Answer.{HasNoMachine, IsAccepted}
-use Rattle.check_answer.specs.Reply.{IsTaken}
+use Rattle.check_answer.specs.Answer.{HasNoMachine, IsAcceptedDocument}
+use Rattle.check_answer.specs.Reply.{IsForCheck}
 use Rattle.check_answer.proofs.OfKind.{flat_of_kind, of_kind}
 use Rattle.check_answer.proofs.Told.{says_of_sizes}
 
@@ -105,7 +104,7 @@ each_refutes facts kind version (l ∷ logs) all =
 pub record Context (text : List ℕ) (t : TextProblems) : Type 0 where
   pub laws : LawsHold
   pub refute : ClosedLogsRefuteSizes
-  pub taken : IsTaken text t
+  pub taken : IsForCheck text t
   pub automata : HaveAutomata t.problems
 
 module _ (text : List ℕ) (t : TextProblems) (k : Context text t) where
@@ -125,24 +124,24 @@ module _ (text : List ℕ) (t : TextProblems) (k : Context text t) where
   are_facts = k.taken.facts
 
   for_text : AreProblemsFor 3 spec.expanded s
-  for_text = are_problems_for 3 text (Some Mealy) spec s k.taken.meet k.taken.problems
+  for_text = are_problems_for 3 text (Some Mealy) spec s k.taken.meet k.taken.text_with.are
 
   -- what the text wants of machines of this kind
   abbrev wanted_with : Kind → Wanted
-  wanted_with kind = wanted_of (record spec.expanded { kind = kind }) k.taken.means.tree
+  wanted_with kind = wanted_of (record spec.expanded { kind = kind }) k.taken.text_with.says.tree
 
   says : (kind : Kind) → Says formula (wanted_with kind)
-  says kind = record { same = k.taken.means.meaning.same }
+  says kind = record { same = k.taken.text_with.says.meaning.same }
 
   is_wanted : (kind : Kind) → IsWantedBy text (Some kind) (wanted_with kind)
   is_wanted kind = record {
-    flat = of_kind kind k.taken.problems.flat;
-    is_flat = flat_of_kind text Mealy kind k.taken.problems.flat k.taken.problems.is_flat;
-    inputs = ap (λ x. x.inputs) k.taken.problems.same;
-    outputs = ap (λ x. x.outputs) k.taken.problems.same;
+    flat = of_kind kind k.taken.text_with.are.flat;
+    is_flat = flat_of_kind text Mealy kind k.taken.text_with.are.flat k.taken.text_with.are.is_flat;
+    inputs = ap (λ x. x.inputs) k.taken.text_with.are.same;
+    outputs = ap (λ x. x.outputs) k.taken.text_with.are.same;
     kind_is = refl;
-    tree = k.taken.means.tree;
-    read = k.taken.means.read;
+    tree = k.taken.text_with.says.tree;
+    read = k.taken.text_with.says.read;
     meaning = λ w. refl;
   }
 
@@ -161,7 +160,7 @@ module _ (text : List ℕ) (t : TextProblems) (k : Context text t) where
       inputs = for_text.of_system.inputs;
       outputs = for_text.of_system.outputs;
       automaton = k.automata.of_system;
-      accepts = k.taken.accept.system_where;
+      accepts = k.taken.text_with.accept.system_where;
     }
 
     environment_known : (p : Problem) → s.environment ≡ Some p → IsSideOf (wanted_with kind) formula Environment (environments p)
@@ -173,7 +172,7 @@ module _ (text : List ℕ) (t : TextProblems) (k : Context text t) where
       inputs = (for_text.of_environment p is).inputs;
       outputs = (for_text.of_environment p is).outputs;
       automaton = k.automata.of_environment p is;
-      accepts = some_of (λ (q : Problem). AcceptsWhere true formula (automaton_of q)) s.environment p k.taken.accept.environment_where is;
+      accepts = some_of (λ (q : Problem). AcceptsWhere true formula (automaton_of q)) s.environment p k.taken.text_with.accept.environment_where is;
     }
 
     module _ (full : Bool) (limit : Option ℕ) (l : LogPart) where
@@ -221,7 +220,7 @@ module _ (text : List ℕ) (t : TextProblems) (k : Context text t) where
         (each_holds given d.kind d.version (may_be_full d.verdict) d.entries d.logs holds.logs)
         (each_refutes given d.kind d.version d.logs (k.refute given d holds))
 
-    pub is_accepted : IsAccepted text certificate given d
+    pub is_accepted : IsAcceptedDocument text certificate given d
     is_accepted = record {
       states = states;
       holds = holds;

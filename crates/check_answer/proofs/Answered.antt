@@ -1,12 +1,9 @@
 -- From a reply to the answer.
-use Rattle.std.proofs.Common.{◌≡◌, ℕ, List, Some, refl, ap, subst}
+use Rattle.std.proofs.Common.{◌≡◌, ℕ, List, Some, Result, Ok, Err, IfOk, refl, ap, subst}
 use Rattle.letter_word.specs.declared.kinds.Kind.TheVariants.{Mealy}
-use Rattle.spec_faults.specs.declared.code.SpecCode.{SpecCode}
-use Rattle.spec_faults.specs.declared.code.SpecFault.{SpecFault}
-use Rattle.spec_faults.specs.declared.code.SpecFault.TheVariants.{At, NoMemory}
 use Rattle.tlsf_expand.specs.FlatText.{spec_seen}
 use Rattle.spec_problems.specs.declared.texts.TextProblems.{TextProblems}
-use Rattle.spec_problems.specs.OfText.{IsFirstFault}
+use Rattle.spec_problems.specs.OfFormula.{AreProblems}
 use Rattle.cert_text.specs.declared.documents.DocumentFault.{DocumentFault}
 use Rattle.cert_text.specs.declared.documents.DocumentFault.TheVariants as fault
 use Rattle.cert_text.specs.Parts.{Document}
@@ -17,21 +14,29 @@ use Rattle.document_check.specs.Holds.{HoldsFor}
 use Rattle.program_replies.specs.declared.replies.Status.{Status}
 use Rattle.program_replies.specs.Statuses.{status_number}
 use Rattle.synth_answer.specs.Printed.{given_by}
-use Rattle.synth_answer.specs.Reply.{IsRefusal}
-use Rattle.check_answer.specs.Answer.{CheckAnswers, Given}
+use Rattle.synth_answer.specs.Texts.{AreOfText, IfProblems}
+use Rattle.synth_answer.proofs.TextFacts.{facts_are}
+use Rattle.synth_answer.specs.declared.texts.Problems.{Problems}
+use Rattle.synth_answer.specs.declared.texts.Problems.TheVariants.{Of, Refused}
+use Rattle.check_answer.specs.Answer.{CheckAnswers, GivenToCheck}
 use Rattle.check_answer.specs.Answer as answer
-use Rattle.check_answer.specs.Reply.{IsAcceptance, IsLineRefusal}
+use Rattle.check_answer.specs.Reply.{AreForCheck, IsAcceptance, IsLineRefusal}
 use Rattle.check_answer.proofs.Accepted.{Context, is_accepted}
 
-pub fault_answers : (text : List ℕ) (fault : SpecFault) (bytes : List ℕ) (ended : Status)
-    → ((code : SpecCode) (position : ℕ) → fault ≡ At code position → IsFirstFault text (Some Mealy) code position)
-    → IsRefusal fault bytes ended → (certificate : List ℕ) → CheckAnswers text certificate bytes (status_number ended)
-fault_answers text (At code position) bytes ended first is certificate = answer.refused code position (ap status_number is.1) (first code position refl) is.0
-fault_answers text NoMemory bytes ended first is certificate = absurd is
+-- a text's problems for `check`, or the line of its first fault
+pub for_check : {E : Type 0} (text : List ℕ) (found : Result Problems E) → IfOk found (AreOfText 3 text (Some Mealy)) → IfOk found (IfProblems (λ t. AreProblems t.problems))
+    → IfOk found (AreForCheck text)
+for_check text (Ok (Of t)) of_text meet = record {
+  text_with = of_text;
+  facts = facts_are text (Some Mealy) (spec_seen t.spec) t.problems of_text.are meet;
+  meet = meet;
+}
+for_check text (Ok (Refused reply)) r meet = λ certificate. answer.refused r.code r.place r.status_is r.fault r.line
+for_check text (Err e) of_text meet = tt
 
 module _ (text certificate : List ℕ) (t : TextProblems) (k : Context text t) (facts : Facts) (same : facts ≡ given_by (spec_seen t.spec) t.problems) where
-  abbrev of_text : Given text
-  of_text = record { spec = spec_seen t.spec; problems = t.problems; are_problems = k.taken.problems }
+  abbrev of_text : GivenToCheck text
+  of_text = record { spec = spec_seen t.spec; problems = t.problems; are_problems = k.taken.text_with.are }
 
   pub line_answers : (found : DocumentFault) (bytes : List ℕ) (ended : Status) → ((n : ℕ) → found ≡ fault.BadLine n → IsFirstBadFor facts certificate n)
       → IsLineRefusal found bytes ended → CheckAnswers text certificate bytes (status_number ended)

@@ -4,4 +4,3 @@ mod Determined
 mod Told
 mod Accepted
 mod Answered
-pub mod TakenFacts

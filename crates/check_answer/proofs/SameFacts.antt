@@ -1,5 +1,5 @@
 -- Facts that say the same, wherever their automata are kept, have the same first bad lines.
-use Rattle.std.proofs.Common.{◌≡◌, ℕ, ◌+◌, Bool, Option, Some, None, List, [], ◌∷◌, refl, sym, ap, subst, ◌∙◌, if◌then◌else◌}
+use Rattle.std.proofs.Common.{◌≡◌, ℕ, ◌+◌, Bool, Option, Some, None, List, [], ◌∷◌, refl, ap, subst, ◌∙◌, if◌then◌else◌}
 use Rattle.std.specs.Prelude.{MatchOption, codes, option_map}
 use Rattle.std.specs.Option.{option_map_or, option_or}
 use Rattle.std.specs.Str.{bytes_eq}
@@ -21,7 +21,7 @@ use Rattle.document_check.specs.declared.facts.Asked.{Asked}
 use Rattle.document_check.specs.declared.facts.Size.{Size}
 use Rattle.document_check.specs.Facts.{Facts, allowed_at, clause_version, problem_at, wanted_sizes}
 use Rattle.document_check.specs.Holds.{may_be_full}
-use Rattle.document_check.specs.FirstBad.{Fails, FailsBehind, FailsIn, IsFirstBadFor, LogsFail, LogsFailIn, all_there, another, asked_in, circuit_line, counts_line, earliest, end_line, faulty_line, foreign_line, is_foreign, last_line, no_problem, number_line, one_fails, one_good, one_missing, one_more, side_in, stated_line, wanted_in}
+use Rattle.document_check.specs.FirstBad.{FailsBehind, FailsIn, IsFirstBadFor, LogsFail, LogsFailIn, all_there, another, asked_in, circuit_line, counts_line, earliest, end_line, faulty_line, foreign_line, is_foreign, last_line, no_problem, number_line, one_fails, one_good, one_missing, one_more, side_in, stated_line, wanted_in}
 use Rattle.document_check.specs.Shown.{IsProblemAt}
 use Rattle.document_check.proofs.LogsLineLemmas.{fails_at, goes_on, without_problem}
 use Rattle.document_check.proofs.ProblemLemmas.{allowed_is}

@@ -1,5 +1,5 @@
 -- What the verdict of a document that holds says of sizes without a machine.
-use Rattle.std.proofs.Common.{◌≡◌, ◌==◌, ℕ, zero, suc, ◌-◌, ◌<◌, ◌≤◌, ◌⊎◌, inl, inr, Bool, true, false, List, [], ◌∷◌, ◌++◌, Option, Some, None, All, Contains, IsTrue, map, refl, sym, ap, subst, arith, if◌then◌else◌}
+use Rattle.std.proofs.Common.{◌≡◌, ℕ, zero, suc, ◌-◌, ◌<◌, ◌≤◌, ◌⊎◌, inl, inr, Bool, true, false, List, [], ◌∷◌, ◌++◌, Option, Some, None, All, Contains, IsTrue, map, sym, subst, arith, if◌then◌else◌}
 use Rattle.std.specs.Prelude.{min}
 use Rattle.std.proofs.Math.Nat.{le-min}
 use Rattle.std.proofs.lemmas.Bool.{leb-true}
@@ -16,14 +16,12 @@ use Rattle.cert_text.specs.Parts.{LogPart}
 use Rattle.document_check.specs.declared.facts.Size.{Size}
 use Rattle.document_check.specs.Facts.{Facts, problem_at, sizes_to, wanted_sizes}
 use Rattle.document_check.specs.Holds.{HoldsAt, IsLogOfSome, is_allowed, may_be_full, size_of}
+use Rattle.synth_answer.proofs.Places.{le_cases}
 use Rattle.synth_answer.proofs.Sides.{all_both}
 use Rattle.check_answer.specs.Answer.{HasNoMachine, SaysOfSizes}
 
 abbrev size_at : Side → ℕ → Size
 size_at side n = record { side = side; size = n }
-
-le_cases : (k n : ℕ) → k ≤ suc n → (k ≤ n) ⊎ (k ≡ suc n)
-le_cases k n h = grind (arith, h)
 
 one_more : (side : Side) (n k : ℕ) → (k ≤ n) ⊎ (k ≡ suc n) → (k ≤ n → Contains (sizes_to side n) (size_at side k)) → Contains (sizes_to side n ++ size_at side (suc n) ∷ []) (size_at side k)
 one_more side n k (inl less) before = Contains-append_left (sizes_to side n) (size_at side (suc n) ∷ []) (size_at side k) (before less)

@@ -50,14 +50,14 @@ accepted_line verdict kind = codes "accepted " ++ verdict_words verdict ++ codes
 -- A text's flat form and the problems of its two sides. It is taken with a kind given, so that kinds of its own that differ are no
 -- fault; which kind makes no difference, since the test of documents takes a document's own in its place, and its version too. With
 -- version 3 the components are at hand for documents that count by them.
-pub record Given (text : List ℕ) : Type 0 where
+pub record GivenToCheck (text : List ℕ) : Type 0 where
   pub spec : FlatText
   pub problems : SideProblems
   pub are_problems : AreProblemsOf text (Some Mealy) 3 spec problems
 
 -- what the text gives to the test of documents
-abbrev pub facts_in : {text : List ℕ} → Given text → Facts
-facts_in g = given_by g.spec g.problems
+abbrev pub facts_to_check : {text : List ℕ} → GivenToCheck text → Facts
+facts_to_check g = given_by g.spec g.problems
 
 -- == a document that is accepted ==
 
@@ -79,7 +79,7 @@ SaysOfSizes x version system environment (UnknownEntries side n) = ⊤
 -- The bytes state the document, which holds for the text. What is wanted of machines is what the text wants, with the document's
 -- kind, and each log that ends with the empty clause shows that its side has no machine of its size; so the verdict says what it does
 -- of sizes. Nothing is said of the circuit but that it reads and has the text's names.
-pub record IsAccepted (text certificate : List ℕ) (given : Facts) (d : Document) : Type 0 where
+pub record IsAcceptedDocument (text certificate : List ℕ) (given : Facts) (d : Document) : Type 0 where
   pub states : States certificate d
   pub holds : HoldsFor given d
   pub wanted : Wanted
@@ -94,7 +94,7 @@ pub record IsAccepted (text certificate : List ℕ) (given : Facts) (d : Documen
 pub data CheckAnswers (text certificate bytes : List ℕ) (status : ℕ) : Type 0 where
   refused : (code : SpecCode) (position : ℕ) → status ≡ 1 → IsFirstFault text (Some Mealy) code position → bytes ≡ refusal_line code position
       → CheckAnswers text certificate bytes status
-  bad_line : (g : Given text) (n : ℕ) → status ≡ 40 → IsFirstBadFor (facts_in g) certificate n → bytes ≡ line_refusal n
+  bad_line : (g : GivenToCheck text) (n : ℕ) → status ≡ 40 → IsFirstBadFor (facts_to_check g) certificate n → bytes ≡ line_refusal n
       → CheckAnswers text certificate bytes status
-  accepted : (g : Given text) (d : Document) → status ≡ 0 → IsAccepted text certificate (facts_in g) d → bytes ≡ accepted_line d.verdict d.kind
+  accepted : (g : GivenToCheck text) (d : Document) → status ≡ 0 → IsAcceptedDocument text certificate (facts_to_check g) d → bytes ≡ accepted_line d.verdict d.kind
       → CheckAnswers text certificate bytes status

@@ -2,41 +2,38 @@
 use Rattle.std.specs.Prelude.{◌≡◌, ℕ, List, Some}
 use Rattle.letter_word.specs.declared.kinds.Kind.{Kind}
 use Rattle.letter_word.specs.declared.kinds.Kind.TheVariants.{Mealy}
-use Rattle.ltl_formula.specs.Nodes.{tree_at}
 use Rattle.tlsf_expand.specs.FlatText.{spec_seen}
 use Rattle.spec_problems.specs.declared.texts.TextProblems.{TextProblems}
-use Rattle.spec_problems.specs.OfFormula.{AcceptBySide, AreProblems}
-use Rattle.spec_problems.specs.OfText.{AreProblemsOf, SaysWhat}
+use Rattle.spec_problems.specs.OfFormula.{AreProblems}
 use Rattle.cert_text.specs.declared.documents.DocumentFault.{DocumentFault}
 use Rattle.cert_text.specs.declared.documents.DocumentFault.TheVariants as fault
 use Rattle.cert_text.specs.declared.documents.Verdict.{Verdict}
 use Rattle.document_check.specs.Facts.{Facts}
 use Rattle.document_check.specs.Shown.{AreFacts}
+use Rattle.synth_answer.specs.declared.texts.Problems.{Problems}
+use Rattle.synth_answer.specs.declared.texts.Problems.TheVariants.{Of, Refused}
 use Rattle.synth_answer.specs.Printed.{given_by}
+use Rattle.synth_answer.specs.Texts.{IsTextWith}
 use Rattle.program_replies.specs.Lines.{line_refusal}
 use Rattle.program_replies.specs.Statuses.{status_number}
 use Rattle.program_replies.specs.declared.replies.Status.{Status}
 use Rattle.program_replies.specs.declared.replies.Status.TheVariants as ended
-use Rattle.check_answer.specs.declared.answering.Problems.{Problems}
-use Rattle.check_answer.specs.declared.answering.Problems.TheVariants.{Of, Refused}
 use Rattle.check_answer.specs.Answer.{CheckAnswers, accepted_line}
 
 -- what a text with its problems gives to the test of documents
-abbrev pub facts_taken : TextProblems → Facts
-facts_taken t = given_by (spec_seen t.spec) t.problems
+abbrev pub facts_for_check : TextProblems → Facts
+facts_for_check t = given_by (spec_seen t.spec) t.problems
 
 -- a text that was read and expanded, with a kind given, and its problems
-pub record IsTaken (text : List ℕ) (t : TextProblems) : Type 0 where
-  pub problems : AreProblemsOf text (Some Mealy) 3 (spec_seen t.spec) t.problems
-  pub facts : AreFacts (facts_taken t)
+pub record IsForCheck (text : List ℕ) (t : TextProblems) : Type 0 where
+  pub text_with : IsTextWith 3 text (Some Mealy) (spec_seen t.spec) t.problems
+  pub facts : AreFacts (facts_for_check t)
   pub meet : AreProblems t.problems
-  pub accept : AcceptBySide (tree_at t.spec.formulas t.spec.whole) t.problems
-  pub means : SaysWhat text t.spec.formulas t.spec.whole
 
 -- A text's problems, or a reply that answers the text with whatever certificate.
-abbrev pub AreTakenOf : List ℕ → Problems → Type 0
-AreTakenOf text (Of t) = IsTaken text t
-AreTakenOf text (Refused r) = (certificate : List ℕ) → CheckAnswers text certificate r.bytes.items (status_number r.status)
+abbrev pub AreForCheck : List ℕ → Problems → Type 0
+AreForCheck text (Of t) = IsForCheck text t
+AreForCheck text (Refused r) = (certificate : List ℕ) → CheckAnswers text certificate r.bytes.items (status_number r.status)
 
 -- the bytes and the status for a fault of a document; for want of memory there are none
 abbrev pub IsLineRefusal : DocumentFault → List ℕ → Status → Type 0

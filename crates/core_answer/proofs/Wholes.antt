@@ -4,15 +4,10 @@ use Rattle.std.specs.Prelude.{not}
 use Rattle.letter_word.specs.declared.kinds.Kind.{Kind}
 use Rattle.ltl_formula.proofs.Lists.{signals_are_below}
 use Rattle.std.proofs.lemmas.Result.{IfOk-weaker}
-use Rattle.spec_faults.specs.declared.code.SpecCode.{SpecCode}
 use Rattle.spec_faults.specs.declared.code.SpecCode.TheVariants.{TooManyGuarantees}
-use Rattle.spec_faults.specs.declared.code.SpecFault.{SpecFault}
-use Rattle.spec_faults.specs.declared.code.SpecFault.TheVariants.{At, NoMemory}
 use Rattle.program_replies.specs.declared.replies.Reply.{Reply}
-use Rattle.program_replies.specs.declared.replies.Status.{Status}
 use Rattle.program_replies.specs.declared.replies.Status.TheVariants.{Unrealizable}
 use Rattle.program_replies.specs.Statuses.{status_number}
-use Rattle.synth_answer.specs.Reply.{IsRefusal}
 use Rattle.tlsf_expand.specs.Expansion.{Expanded}
 use Rattle.tlsf_expand.specs.FlatText.{FlatText}
 use Rattle.flat_text.specs.FlatOf.{IsFlatOf}
@@ -23,14 +18,15 @@ use Rattle.ltl_formula.specs.Nodes.{tree_at}
 use Rattle.synth_engine.specs.declared.settings.Settings.{Settings}
 use Rattle.synth_answer.specs.Answer.{IsAnswerFor, IsAnswerOn}
 use Rattle.synth_answer.specs.Ground.{AreGivenOn, Ground, IsGroundOf}
+use Rattle.synth_answer.specs.Texts.{IsTextWith}
 use Rattle.synth_answer.proofs.Grounds.{answer_for}
 use Rattle.synth_answer.proofs.Meaning.{flat_by_its_kind, given_on, ground_by_its_kind, is_ground, text_ground}
 use Rattle.unreal_core.specs.WholeLaws.{SectionsOfTextsStand}
 use Rattle.tlsf_expand.specs.Standing.{SectionsStand}
 use Rattle.tlsf_expand.proofs.Expanded.{sections_stand_later}
 use Rattle.unreal_core.proofs.Texts.{list_of_text}
-use Rattle.core_answer.specs.Core.{CoreAnswers, IsCore, IsCoreFault, IsToldCore, IsToldOver, Tells, core, guarantees_in, of_text, refused, spared, too_many}
-use Rattle.core_answer.specs.Known.{IsTextIn, IsTextWith}
+use Rattle.core_answer.specs.Core.{CoreAnswers, IsCore, IsCoreFault, IsToldCore, IsToldOver, Tells, core, guarantees_in, spared, too_many}
+use Rattle.core_answer.specs.Known.{IsTextIn}
 use Rattle.core_answer.specs.Over.{IsFaultOver, IsGroundOver, over_all}
 use Rattle.core_answer.proofs.Growing.{forms_grow}
 use Rattle.core_answer.proofs.Standings.{fresh_all}
@@ -115,12 +111,6 @@ pub core_replied : (text : List ℕ) (kind : Option Kind) (settings : Settings) 
 core_replied text kind settings count r ended told made =
     IfOk-weaker r (λ r. (r.status ≡ Unrealizable) × IsToldCore text kind settings count r.bytes.items) (λ r. CoreAnswers text kind settings r.bytes.items (status_number r.status))
     (λ r h. core (ap status_number h.0) (made r.bytes.items h.1)) (both_ok (λ r. r.status ≡ Unrealizable) (λ r. IsToldCore text kind settings count r.bytes.items) r ended told)
-
--- the line of a fault of the text
-pub fault_answers : (text : List ℕ) (kind : Option Kind) (settings : Settings) (fault : SpecFault) (bytes : List ℕ) (ended : Status)
-    → ((code : SpecCode) (position : ℕ) → fault ≡ At code position → IsFirstFault text kind code position) → IsRefusal fault bytes ended → CoreAnswers text kind settings bytes (status_number ended)
-fault_answers text kind settings (At code position) bytes ended first h = refused code position (ap status_number h.1) (of_text code position (first code position refl)) h.0
-fault_answers text kind settings NoMemory bytes ended first h = absurd h
 
 pub is_not : (b : Bool) → not b ≡ true → b ≡ false
 is_not true h = sym h

@@ -2,10 +2,6 @@
 use Rattle.std.specs.Prelude.{◌≡◌, ℕ, ◌+◌, true, List, [], ◌∷◌, Option, Some}
 use Rattle.letter_word.specs.declared.kinds.Kind.{Kind}
 use Rattle.ltl_formula.specs.Nodes.{Grows}
-use Rattle.spec_problems.specs.declared.sides.SideProblems.{SideProblems}
-use Rattle.spec_problems.specs.OfFormula.{AcceptBySide}
-use Rattle.spec_problems.specs.OfText.{AreProblemsOf, SaysWhat}
-use Rattle.ltl_formula.specs.Nodes.{tree_at}
 use Rattle.tlsf_expand.specs.FlatText.{FlatText}
 use Rattle.flat_text.specs.FlatOf.{IsFlatOf}
 use Rattle.synth_engine.specs.declared.settings.Settings.{Settings}
@@ -14,12 +10,6 @@ use Rattle.unreal_core.specs.declared.shrink.Standing.TheVariants.{Open, Needed,
 use Rattle.unreal_core.specs.Laws.{kept_in}
 use Rattle.tlsf_expand.specs.Standing.{SectionsStand}
 use Rattle.core_answer.specs.Core.{AreSpared, Tells}
-
--- a text with its problems over base clauses of this version
-pub record IsTextWith (version : ℕ) (text : List ℕ) (kind : Option Kind) (spec : FlatText) (s : SideProblems) : Type 0 where
-  pub are : AreProblemsOf text kind version spec s
-  pub accept : AcceptBySide (tree_at spec.formulas spec.expanded.whole) s
-  pub says : SaysWhat text spec.formulas spec.expanded.whole
 
 -- a text, in whose list the normal forms stand too; it is the same where it is taken with the kind that it has
 pub record IsTextIn (text : List ℕ) (kind : Option Kind) (spec : FlatText) : Type 0 where

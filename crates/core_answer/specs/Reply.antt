@@ -14,7 +14,7 @@ use Rattle.satisfaction.specs.Wanted.{Says}
 use Rattle.synth_engine.specs.declared.settings.Settings.{Settings}
 use Rattle.synth_answer.specs.Answer.{IsAnswerOn}
 use Rattle.synth_answer.specs.Ground.{ground_with}
-use Rattle.synth_answer.specs.Reply.{IsRefusal}
+use Rattle.program_replies.specs.Refusals.{IsRefusal}
 use Rattle.unreal_core.specs.declared.whole.Reduced.{Reduced}
 
 -- a list without room is refused at byte 0

@@ -1,5 +1,5 @@
 //! The answer to a text.
-ghost use Rattle.std.specs.Prelude.{◌≡◌, ◌≤◌, ℕ, List, Option, true, false, IfOk, IfSome, length, replicate};
+ghost use Rattle.std.specs.Prelude.{◌≡◌, ◌≤◌, ℕ, List, Option, true, false, IfOk, length, replicate};
 ghost use Rattle.letter_word.specs.declared.kinds.Kind.{Kind as AKind};
 ghost use Rattle.tlsf_expand.specs.FewSignals.{HasFewSignals};
 ghost use Rattle.tlsf_expand.specs.FlatText.{spec_seen};
@@ -7,23 +7,24 @@ ghost use Rattle.flat_text.specs.FlatNames.{HasPlainNames};
 ghost use Rattle.program_replies.specs.declared.replies.Status.TheVariants as ended;
 ghost use Rattle.program_replies.specs.Statuses.{status_number};
 ghost use Rattle.annotation_encode.specs.Counts.{counts_version};
-ghost use Rattle.synth_answer.specs.Reply.{AreProblemsFor, IsRefusal};
+ghost use Rattle.synth_answer.specs.Reply.{AreProblemsFor};
+ghost use Rattle.synth_answer.specs.Texts.{IsTextWith};
 ghost use Rattle.tlsf_expand.specs.Standing.{SectionsStand};
 ghost use Rattle.core_answer.specs.Core.{CoreAnswers, IsToldCore, Tells};
-ghost use Rattle.core_answer.specs.Known.{IsTextIn, IsTextWith};
+ghost use Rattle.core_answer.specs.Known.{IsTextIn};
 
 use crate::lines::core_text;
 use crate::shrinking::{kept, shrunk};
 use letter_word::Kind;
 use outside_edge::Gate;
 use program_replies::{Reply, Status, refused};
-use spec_faults::{SpecCode, SpecFault};
+use spec_faults::SpecCode;
+use spec_problems::TextProblems;
 use spec_problems::laws::problems_of_texts_are_determined;
-use spec_problems::{TextProblems, text_problems};
 use std::alloc::{AllocError, Global};
 use std::sync::Wait;
 use std::thread::Threads;
-use synth_answer::answer_on;
+use synth_answer::{Problems, answer_on, problems_or_refusal};
 use synth_engine::Settings;
 use tlsf_expand::Spec;
 use unreal_core::laws::sections_of_texts_stand;
@@ -45,26 +46,12 @@ pub fn core_answer<R: Threads + Wait + Sync, G: Gate + Sync>(
     settings: Settings,
     gate: &G,
 ) -> Result<Reply, AllocError>
-    requires some_size { 1 ≤ settings.max }
-    requires most_size { settings.max ≤ 8 }
-    requires entries { IfSome settings.entries (λ most. most ≤ 250000) }
-    requires workers { settings.workers ≤ 8 }
     ensures { IfOk result (λ r. CoreAnswers text.now kind settings r.bytes.items (status_number r.status)) }
 {
     sections_of_texts_stand();
-    match text_problems(alloc, text, kind, settings.counts.version()) {
-        Ok(found) => text_answer(rt, alloc, found, settings, gate),
-        Err(fault) => refusal(alloc, fault),
-    }
-}
-
-// The reply to a text with this fault.
-fn refusal(alloc: Global, fault: SpecFault) -> Result<Reply, AllocError>
-    ensures { IfOk result (λ r. IsRefusal fault r.bytes.items r.status) }
-{
-    match fault {
-        SpecFault::At { code, place } => refused(alloc, code, place),
-        SpecFault::NoMemory => Err(AllocError),
+    match problems_or_refusal(alloc, text, kind, settings.version())? {
+        Problems::Of(found) => text_answer(rt, alloc, found, settings, gate),
+        Problems::Refused(reply) => Ok(reply),
     }
 }
 
@@ -76,10 +63,6 @@ fn text_answer<R: Threads + Wait + Sync, G: Gate + Sync>(
     settings: Settings,
     gate: &G,
 ) -> Result<Reply, AllocError>
-    requires some_size { 1 ≤ settings.max }
-    requires most_size { settings.max ≤ 8 }
-    requires entries { IfSome settings.entries (λ most. most ≤ 250000) }
-    requires workers { settings.workers ≤ 8 }
     requires problems { AreProblemsFor (counts_version settings.counts) (spec_seen found.spec).expanded found.problems }
     requires stand { SectionsStand (spec_seen found.spec).formulas (spec_seen found.spec).expanded.sections }
     requires few { HasFewSignals (length found.spec.inputs.items) (length found.spec.outputs.items) found.spec.formulas }
@@ -119,10 +102,6 @@ fn core_of<R: Threads + Wait + Sync, G: Gate + Sync>(
     settings: Settings,
     gate: &G,
 ) -> Result<Reply, AllocError>
-    requires some_size { 1 ≤ settings.max }
-    requires most_size { settings.max ≤ 8 }
-    requires entries { IfSome settings.entries (λ most. most ≤ 250000) }
-    requires workers { settings.workers ≤ 8 }
     requires count { count ≡ length (spec_seen spec.now).expanded.sections.guarantee }
     requires most { count ≤ 64 }
     requires stand { SectionsStand (spec_seen spec.now).formulas (spec_seen spec.now).expanded.sections }

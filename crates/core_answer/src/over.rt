@@ -1,5 +1,5 @@
 //! A text with some of its guarantees, answered.
-ghost use Rattle.std.specs.Prelude.{◌≡◌, ◌≤◌, ℕ, List, Option, false, IfOk, IfSome, length};
+ghost use Rattle.std.specs.Prelude.{◌≡◌, ◌≤◌, ℕ, List, Option, false, IfOk, length};
 ghost use Rattle.letter_word.specs.declared.kinds.Kind.{Kind as AKind};
 ghost use Rattle.annotation_encode.specs.Counts.{counts_version};
 ghost use Rattle.ltl_formula.specs.Nodes.{Stands};
@@ -14,10 +14,9 @@ ghost use Rattle.core_answer.specs.Known.{IsTextIn};
 ghost use Rattle.core_answer.specs.Over.{are_all};
 ghost use Rattle.core_answer.specs.Reply.{IsReducedReply, IsRefusedReply, list_fault};
 
-use annotation_encode::Counts;
 use ltl_formula::AddFault;
 use outside_edge::Gate;
-use program_replies::refused;
+use program_replies::refusal;
 use spec_faults::{SpecCode, SpecFault};
 use spec_problems::{Interface, problems_of};
 use std::alloc::{AllocError, Global};
@@ -37,10 +36,6 @@ pub(crate) fn answer_over<R: Threads + Wait + Sync, G: Gate + Sync>(
     settings: Settings,
     gate: &G,
 ) -> Result<Answered, AllocError>
-    requires some_size { 1 ≤ settings.max }
-    requires most_size { settings.max ≤ 8 }
-    requires entries { IfSome settings.entries (λ most. most ≤ 250000) }
-    requires workers { settings.workers ≤ 8 }
     requires stand { SectionsStand (spec_seen spec.now).formulas (spec_seen spec.now).expanded.sections }
     requires each { length keep.now ≡ length (spec_seen spec.now).expanded.sections.guarantee }
     requires few { HasFewSignals (length spec.now.inputs.items) (length spec.now.outputs.items) spec.now.formulas }
@@ -50,7 +45,7 @@ pub(crate) fn answer_over<R: Threads + Wait + Sync, G: Gate + Sync>(
 {
     match whole_of(alloc, &spec.formulas, &spec.sections, spec.strict, keep) {
         Ok(reduced) => reduced_answer(rt, alloc, spec, reduced, settings, gate),
-        Err(fault) => refusal(alloc, list_fault(fault)),
+        Err(fault) => refused_over(alloc, list_fault(fault)),
     }
 }
 
@@ -63,10 +58,6 @@ fn reduced_answer<R: Threads + Wait + Sync, G: Gate + Sync>(
     settings: Settings,
     gate: &G,
 ) -> Result<Answered, AllocError>
-    requires some_size { 1 ≤ settings.max }
-    requires most_size { settings.max ≤ 8 }
-    requires entries { IfSome settings.entries (λ most. most ≤ 250000) }
-    requires workers { settings.workers ≤ 8 }
     requires stands { Stands reduced.formulas reduced.whole }
     requires few { HasFewSignals (length spec.now.inputs.items) (length spec.now.outputs.items) reduced.formulas }
     requires names { HasPlainNames (spec_seen spec.now).expanded }
@@ -76,42 +67,34 @@ fn reduced_answer<R: Threads + Wait + Sync, G: Gate + Sync>(
         mut formulas,
         whole,
     } = reduced;
-    match problems_of(
-        alloc,
-        &mut formulas,
-        whole,
-        interface(spec, settings.counts),
-    ) {
+    match problems_of(alloc, &mut formulas, whole, interface(spec, settings)) {
         Ok(problems) => answer_on(rt, alloc, spec, problems, settings, gate),
-        Err(fault) => refusal(alloc, fault),
+        Err(fault) => refused_over(alloc, fault),
     }
 }
 
 /// What the problems share with those of the text.
-fn interface(spec: &Spec, counts: Counts) -> Interface
+fn interface(spec: &Spec, settings: Settings) -> Interface
     requires inputs { length spec.now.inputs.items ≤ 8 }
     requires outputs { length spec.now.outputs.items ≤ 8 }
-    ensures { result ≡ interface_of (counts_version counts) (spec_seen spec.now).expanded }
+    ensures { result ≡ interface_of (counts_version settings.counts) (spec_seen spec.now).expanded }
 {
     Interface {
         inputs: spec.inputs.len() as u32,
         outputs: spec.outputs.len() as u32,
         kind: spec.kind,
-        version: counts.version(),
+        version: settings.version(),
     }
 }
 
 /// The line of a refusal, which has no counter-machine.
-fn refusal(alloc: Global, fault: SpecFault) -> Result<Answered, AllocError>
+fn refused_over(alloc: Global, fault: SpecFault) -> Result<Answered, AllocError>
     ensures { IfOk result (λ a. IsRefusedReply fault a.reply.bytes.items a.reply.status a.defeats) }
 {
-    match fault {
-        SpecFault::At { code, place } => Ok(Answered {
-            reply: refused(alloc, code, place)?,
-            defeats: false,
-        }),
-        SpecFault::NoMemory => Err(AllocError),
-    }
+    Ok(Answered {
+        reply: refusal(alloc, fault)?,
+        defeats: false,
+    })
 }
 
 /// The refusal of a text whose guarantees that are kept find no room in a list.

@@ -1,5 +1,5 @@
 //! Guarantees of a text left out one at a time, until those that are kept can't be met together.
-ghost use Rattle.std.specs.Prelude.{◌≡◌, ◌<◌, ◌≤◌, ℕ, List, [], None, Option, false, true, IfOk, IfSome, IsSome, OnOk, length, map, replicate, slice_index_or};
+ghost use Rattle.std.specs.Prelude.{◌≡◌, ◌<◌, ◌≤◌, ℕ, List, [], None, Option, false, true, IfOk, IsSome, OnOk, length, map, replicate, slice_index_or};
 ghost use Rattle.letter_word.specs.declared.kinds.Kind.{Kind as AKind};
 ghost use Rattle.tlsf_expand.specs.FewSignals.{HasFewSignals};
 ghost use Rattle.tlsf_expand.specs.FlatText.{spec_seen};
@@ -81,10 +81,6 @@ pub(crate) fn shrunk<R: Threads + Wait + Sync, G: Gate + Sync>(
     settings: Settings,
     gate: &G,
 ) -> Result<Core, AllocError>
-    requires some_size { 1 ≤ settings.max }
-    requires most_size { settings.max ≤ 8 }
-    requires entries { IfSome settings.entries (λ most. most ≤ 250000) }
-    requires workers { settings.workers ≤ 8 }
     requires stand { SectionsStand (spec_seen spec.now).formulas (spec_seen spec.now).expanded.sections }
     requires count { count ≡ length (spec_seen spec.now).expanded.sections.guarantee }
     requires most { count ≤ 64 }

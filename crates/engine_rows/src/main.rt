@@ -2,7 +2,7 @@
 //! the stored run must print was worked out by hand: numbers of states, which logs stand, and which of them are closed.
 #![tactic(auto)]
 
-ghost use Rattle.std.specs.Prelude.{◌≡◌, ◌≤◌};
+ghost use Rattle.std.specs.Prelude.{◌≡◌, ◌≤◌, IfSome};
 ghost use Rattle.std.specs.Option.{ForSome};
 ghost use Rattle.annotation_encode.specs.declared.counts.Counts.TheVariants.{Whole};
 ghost use Rattle.letter_word.specs.declared.kinds.Side.TheVariants.{System, Environment};
@@ -23,13 +23,22 @@ use std::sync::Wait;
 use std::thread::Threads;
 use synth_engine::{Outcome, Settings, search};
 
-/// What bounds the searches that name no other bounds.
-const USUAL: Settings = Settings {
-    max: 4,
-    entries: Some(50_000),
-    workers: 0,
-    counts: Counts::Whole,
-};
+/// What bounds the searches of at most 4 states, with so many workers.
+fn usual(workers: u32) -> Settings
+    requires { workers ≤ 8 }
+    ensures { result.counts ≡ Whole }
+{
+    Settings::new(4, Some(50_000), workers, Counts::Whole)
+}
+
+/// What bounds the searches of one state.
+fn small(entries: Option<u64>, workers: u32) -> Settings
+    requires entries { IfSome entries (λ most. most ≤ 250000) }
+    requires workers { workers ≤ 8 }
+    ensures { result.counts ≡ Whole }
+{
+    Settings::new(1, entries, workers, Counts::Whole)
+}
 
 /// Searches, and prints what came of it.
 fn tell<R: Threads + Wait + Sync + Print>(
@@ -40,16 +49,13 @@ fn tell<R: Threads + Wait + Sync + Print>(
     settings: Settings,
     gate: &RowGate,
 ) -> anyhow::Result<()>
-    requires max { settings.max ≤ 8 }
-    requires some { 1 ≤ settings.max }
-    requires workers { settings.workers ≤ 8 }
     requires counts { settings.counts ≡ Whole }
     requires system { IsSearched 2 System problems.0 }
     requires environment { ForSome problems.1 (IsSearched 2 Environment) }
 {
     let (system, environment) = problems;
     let outcome = search(rt, alloc, system, environment, settings, gate)?;
-    print!(rt; "{name}, {} workers: ", settings.workers)?;
+    print!(rt; "{name}, {} workers: ", settings.workers())?;
     tell_outcome(rt, &outcome)?;
     Ok(())
 }
@@ -123,7 +129,7 @@ fn is_shared(outcome: &Outcome) -> bool {
 fn main(rt: HostRuntime) -> anyhow::Result<()> {
     let alloc = rt.alloc();
     for workers in [0, 1, 2, 8] {
-        let settings = Settings { workers, ..USUAL };
+        let settings = usual(workers);
         let both = (delay(alloc)?, Some(delay_spoiled(alloc)?));
         tell(&rt, alloc, "delay", both, settings, &RowGate::Open)?;
         let both = (foresight(alloc)?, Some(foresight_spoiled(alloc)?));
@@ -137,20 +143,17 @@ fn main(rt: HostRuntime) -> anyhow::Result<()> {
             &RowGate::Open,
         )?;
     }
-    let small = Settings { max: 1, ..USUAL };
+    let alone = small(Some(50_000), 0);
     let both = (delay(alloc)?, Some(delay_spoiled(alloc)?));
     tell(
         &rt,
         alloc,
         "delay of one state",
         both,
-        small,
+        alone,
         &RowGate::Open,
     )?;
-    let endless = Settings {
-        entries: None,
-        ..small
-    };
+    let endless = small(None, 0);
     let both = (delay(alloc)?, Some(delay_spoiled(alloc)?));
     tell(
         &rt,
@@ -160,10 +163,7 @@ fn main(rt: HostRuntime) -> anyhow::Result<()> {
         endless,
         &RowGate::Open,
     )?;
-    let none = Settings {
-        entries: Some(0),
-        ..small
-    };
+    let none = small(Some(0), 0);
     let both = (delay(alloc)?, Some(delay_spoiled(alloc)?));
     tell(
         &rt,
@@ -178,7 +178,7 @@ fn main(rt: HostRuntime) -> anyhow::Result<()> {
         alloc,
         "delay of one state against nobody",
         (delay(alloc)?, None),
-        small,
+        alone,
         &RowGate::Open,
     )?;
     tell(
@@ -186,13 +186,10 @@ fn main(rt: HostRuntime) -> anyhow::Result<()> {
         alloc,
         "crowd",
         (crowd(alloc)?, None),
-        USUAL,
+        usual(0),
         &RowGate::Open,
     )?;
-    let held = Settings {
-        workers: 2,
-        ..USUAL
-    };
+    let held = usual(2);
     let gate = RowGate::Hold(HoldGate::new());
     tell(
         &rt,
@@ -203,10 +200,7 @@ fn main(rt: HostRuntime) -> anyhow::Result<()> {
         &gate,
     )?;
     println!(&rt; "met {}", gate.met())?;
-    let shared = Settings {
-        workers: 4,
-        ..small
-    };
+    let shared = small(Some(50_000), 4);
     let gate = RowGate::Share(ShareGate::new(2));
     let outcome = search(&rt, alloc, arbiter(alloc)?, None, shared, &gate)?;
     tell_outcome(&rt, &outcome)?;

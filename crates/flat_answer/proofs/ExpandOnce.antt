@@ -6,12 +6,9 @@ use Rattle.flat_text.specs.FlatOf.{IsFlatFault, IsFlatOf}
 use Rattle.flat_text.specs.Laws.{FlatFaultsAreDetermined, FlatTextsAreDetermined, FlatTextsHaveNoFault}
 use Rattle.flat_lines.specs.FlatLines.{flat_bytes}
 use Rattle.program_replies.specs.Lines.{refusal_line}
+use Rattle.program_replies.proofs.RefusalLemmas.{one_refusal}
 use Rattle.flat_answer.specs.Expand.{ExpandAnswers, refused, written}
 use Rattle.flat_answer.specs.Laws.{ExpandAnswersAreDue, HasFlatFault}
-
--- the line of one fault at one place
-pub same_line : (code code' : SpecCode) (place place' : ℕ) → (code ≡ code') × (place ≡ place') → refusal_line code place ≡ refusal_line code' place'
-same_line code code' place place' same = ap (λ c. refusal_line c place) same.0 ∙ ap (refusal_line code') same.1
 
 statuses : (text bytes : List ℕ) (status : ℕ) → ExpandAnswers text bytes status → Contains (0 ∷ 1 ∷ []) status
 statuses text bytes status (refused code place is fault line) = (1, omega arith, sym is)
@@ -23,7 +20,8 @@ has_fault text bytes status (written flat is is_flat line) one = absurd (omega (
 
 module _ (one_fault : FlatFaultsAreDetermined) (one_flat : FlatTextsAreDetermined) (apart : FlatTextsHaveNoFault) where
   of_fault : (text bytes : List ℕ) (status : ℕ) (code : SpecCode) (place : ℕ) → ExpandAnswers text bytes status → IsFlatFault text None code place → (status ≡ 1) × (bytes ≡ refusal_line code place)
-  of_fault text bytes status code place (refused c p is fault line) due = (is, line ∙ same_line c code p place (one_fault text None c code p place fault due))
+  of_fault text bytes status code place (refused c p is fault line) due =
+      let same = one_fault text None c code p place fault due in (is, line ∙ one_refusal c code p place same.0 same.1)
   of_fault text bytes status code place (written flat is is_flat line) due = absurd (apart text None flat code place is_flat due)
 
   of_flat : (text bytes : List ℕ) (status : ℕ) (flat : FlatText) → ExpandAnswers text bytes status → IsFlatOf text None flat → (status ≡ 0) × (bytes ≡ flat_bytes flat)

@@ -12,9 +12,9 @@ use Rattle.flat_lines.specs.FlatLines.{all_names}
 use Rattle.lasso_word.specs.WordText.{IsFirstBadLine, StatesWord}
 use Rattle.lasso_word.specs.Stated.{ReadingsAreApart}
 use Rattle.program_replies.specs.Lines.{line_refusal, refusal_line}
+use Rattle.program_replies.proofs.RefusalLemmas.{one_refusal}
 use Rattle.flat_answer.specs.Lasso.{LassoAnswers, truth_line, refused, bad_line, told}
-use Rattle.flat_answer.specs.Laws.{HasBadLine, HasFlatFault, LassoAnswersAreDue}
-use Rattle.flat_answer.proofs.ExpandOnce.{same_line}
+use Rattle.flat_answer.specs.Laws.{HasBadWordLine, HasFlatFault, LassoAnswersAreDue}
 
 statuses : (text word bytes : List ℕ) (status : ℕ) → LassoAnswers text word bytes status → Contains (0 ∷ 1 ∷ 40 ∷ []) status
 statuses text word bytes status (refused code place is fault line) = (1, omega arith, sym is)
@@ -26,14 +26,15 @@ has_fault text word bytes status (refused code place is fault line) one = record
 has_fault text word bytes status (bad_line flat n is is_flat first line) one = absurd (omega (arith, is, one))
 has_fault text word bytes status (told truth is on line) one = absurd (omega (arith, is, one))
 
-has_bad_line : (text word bytes : List ℕ) (status : ℕ) → LassoAnswers text word bytes status → status ≡ 40 → HasBadLine text word
+has_bad_line : (text word bytes : List ℕ) (status : ℕ) → LassoAnswers text word bytes status → status ≡ 40 → HasBadWordLine text word
 has_bad_line text word bytes status (refused code place is fault line) forty = absurd (omega (arith, is, forty))
 has_bad_line text word bytes status (bad_line flat n is is_flat first line) forty = record { flat = flat; is_flat = is_flat; line = n; first = first }
 has_bad_line text word bytes status (told truth is on line) forty = absurd (omega (arith, is, forty))
 
 module _ (one_fault : FlatFaultsAreDetermined) (one_flat : FlatTextsAreDetermined) (apart : FlatTextsHaveNoFault) (readings : ReadingsAreApart) (one_tree : TreesAreDetermined) where
   of_fault : (text word bytes : List ℕ) (status : ℕ) (code : SpecCode) (place : ℕ) → LassoAnswers text word bytes status → IsFlatFault text None code place → (status ≡ 1) × (bytes ≡ refusal_line code place)
-  of_fault text word bytes status code place (refused c p is fault line) due = (is, line ∙ same_line c code p place (one_fault text None c code p place fault due))
+  of_fault text word bytes status code place (refused c p is fault line) due =
+      let same = one_fault text None c code p place fault due in (is, line ∙ one_refusal c code p place same.0 same.1)
   of_fault text word bytes status code place (bad_line flat n is is_flat first line) due = absurd (apart text None flat code place is_flat due)
   of_fault text word bytes status code place (told truth is on line) due = absurd (apart text None on.flat code place on.is_flat due)
 

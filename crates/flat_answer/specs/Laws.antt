@@ -20,7 +20,7 @@ pub record HasFlatFault (text : List ℕ) : Type 0 where
   pub fault : IsFlatFault text None code place
 
 -- the text has none, and the word a first bad line over its signals
-pub record HasBadLine (text word : List ℕ) : Type 0 where
+pub record HasBadWordLine (text word : List ℕ) : Type 0 where
   pub flat : FlatText
   pub is_flat : IsFlatOf text None flat
   pub line : ℕ
@@ -42,7 +42,7 @@ pub record ExpandAnswersAreDue : Type 0 where
 pub record LassoAnswersAreDue : Type 0 where
   pub statuses : (text word bytes : List ℕ) (status : ℕ) → LassoAnswers text word bytes status → Contains (0 ∷ 1 ∷ 40 ∷ []) status
   pub refused : (text word bytes : List ℕ) (status : ℕ) → LassoAnswers text word bytes status → status ≡ 1 → HasFlatFault text
-  pub line_refused : (text word bytes : List ℕ) (status : ℕ) → LassoAnswers text word bytes status → status ≡ 40 → HasBadLine text word
+  pub line_refused : (text word bytes : List ℕ) (status : ℕ) → LassoAnswers text word bytes status → status ≡ 40 → HasBadWordLine text word
   pub of_fault : (text word bytes : List ℕ) (status : ℕ) (code : SpecCode) (place : ℕ) → LassoAnswers text word bytes status
       → IsFlatFault text None code place → (status ≡ 1) × (bytes ≡ refusal_line code place)
   pub of_bad_line : (text word bytes : List ℕ) (status : ℕ) (flat : FlatText) (line : ℕ) → LassoAnswers text word bytes status

@@ -9,12 +9,11 @@ ghost use Rattle.flat_lines.specs.FlatLines.{CanBeWritten};
 ghost use Rattle.program_replies.specs.Statuses.{status_number};
 ghost use Rattle.flat_answer.specs.Expand.{ExpandAnswers};
 ghost use Rattle.flat_answer.specs.Lasso.{LassoAnswers};
-ghost use Rattle.flat_answer.specs.Expansions.{IfFlat, IfRefused, IsRefusal};
+ghost use Rattle.flat_answer.specs.Expansions.{IfFlat, IfRefused};
 
 use flat_lines::laws::expanded_can_be_written;
 use flat_text::expand_text;
-use program_replies::{Reply, refused};
-use spec_faults::SpecFault;
+use program_replies::{Reply, refusal};
 use std::alloc::{AllocError, Global};
 use tlsf_expand::Spec;
 
@@ -41,15 +40,5 @@ pub fn expanded(alloc: Global, text: &[u8]) -> Result<Expansion, AllocError>
     match expand_text(alloc, text, None) {
         Ok(spec) => Ok(Expansion::Flat(spec)),
         Err(fault) => Ok(Expansion::Refused(refusal(alloc, fault)?)),
-    }
-}
-
-// The reply to a text with this fault.
-fn refusal(alloc: Global, fault: SpecFault) -> Result<Reply, AllocError>
-    ensures { IfOk result (λ r. IsRefusal fault r.bytes.items r.status) }
-{
-    match fault {
-        SpecFault::At { code, place } => refused(alloc, code, place),
-        SpecFault::NoMemory => Err(AllocError),
     }
 }

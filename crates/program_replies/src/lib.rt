@@ -6,4 +6,4 @@
 
 mod replies;
 
-pub use replies::{Reply, Status, line_count, refused, refused_at_line, whole};
+pub use replies::{Reply, Status, line_count, refusal, refused, refused_at_line, whole};

@@ -2,8 +2,9 @@
 ghost use Rattle.std.specs.Prelude.{◌≡◌, ◌==◌, ◌++◌, codes, decimal, IfOk, OnOk};
 ghost use Rattle.spec_faults.specs.Codes.{name_of, number_of};
 ghost use Rattle.program_replies.specs.Lines.{line_count, line_refusal, refusal_line};
+ghost use Rattle.program_replies.specs.Refusals.{IsRefusal};
 
-use spec_faults::SpecCode;
+use spec_faults::{SpecCode, SpecFault};
 use std::alloc::{AllocError, Global};
 use text_base::push_number;
 
@@ -73,6 +74,16 @@ pub fn refused(alloc: Global, code: SpecCode, place: u64) -> Result<Reply, Alloc
         bytes,
         status: Status::Refused,
     })
+}
+
+/// The reply to a text with this fault.
+pub fn refusal(alloc: Global, fault: SpecFault) -> Result<Reply, AllocError>
+    ensures { IfOk result (λ r. IsRefusal fault r.bytes.items r.status) }
+{
+    match fault {
+        SpecFault::At { code, place } => refused(alloc, code, place),
+        SpecFault::NoMemory => Err(AllocError),
+    }
 }
 
 /// The reply to a certificate or a word whose first bad line is this one, from 1.

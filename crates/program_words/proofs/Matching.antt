@@ -1,8 +1,7 @@
 -- What the matches of the command line say of the words.
-use Rattle.std.proofs.Common.{◌≡◌, ◌==◌, ◌≢◌, true, false, arith, List, [], ◌∷◌, Option, Some, None, Result, Ok, Err, refl, sym, subst, ap, ◌∙◌, inl, inr, length, IfOk, IsErrOf}
-use Rattle.std.specs.Prelude.{option_map, if◌then◌else◌}
+use Rattle.std.proofs.Common.{◌≡◌, ◌==◌, ◌≢◌, true, false, arith, List, [], ◌∷◌, None, refl, sym, subst, ap, ◌∙◌, inl, inr, length}
+use Rattle.std.specs.Prelude.{if◌then◌else◌}
 use Rattle.std.proofs.lemmas.Grind.{common_steps}
-use Rattle.std.specs.Option.{ok_or}
 use Rattle.clap.specs.Faults.{fault_of, is_simple_and_free}
 use Rattle.clap.specs.Kinds.{HasKind, Kinds}
 use Rattle.clap.specs.Simple.{App, HasMatchesOf, is_simple, subcommand_of, subcommand_rows_of}
@@ -12,10 +11,7 @@ use Rattle.clap.specs.declared.error.Error.{Error}
 use Rattle.clap.specs.declared.error.kind.ErrorKind.TheVariants.{OutOfMemory}
 use Rattle.clap.specs.declared.parser.matches.ArgMatches.{ArgMatches}
 use Rattle.program_words.specs.CommandLine.{program}
-use Rattle.program_words.specs.Settings.{Asked, asked_by, asked_of, settings_of}
-use Rattle.program_words.specs.declared.settings.Settings.{Settings}
-use Rattle.program_words.specs.declared.words.WordsFault.{WordsFault}
-use Rattle.program_words.specs.declared.words.WordsFault.TheVariants.{Refused}
+use Rattle.program_words.specs.Settings.{asked_of, settings_of}
 
 program_is_simple : is_simple program ≡ true
 program_is_simple = refl
@@ -41,13 +37,3 @@ refused a words e is fails other =
     by [] (inl memory) = absurd (other memory)
     by [] (inr bad) = absurd bad
     by (k ∷ ks) h = let test : (length (k ∷ ks) == 0) ≡ false = grind (arith, common_steps) in rw test refl
-
-pub settings_found : (o : Option Settings) (r : Result Settings WordsFault) (all : Option Asked) → r ≡ ok_or o Refused → all ≡ option_map asked_by o →
-    IfOk r (λ s. all ≡ Some (asked_by s))
-settings_found (Some s) r all is asked = subst (λ (r : Result Settings WordsFault). IfOk r (λ s. all ≡ Some (asked_by s))) (sym is) asked
-settings_found None r all is asked = subst (λ (r : Result Settings WordsFault). IfOk r (λ s. all ≡ Some (asked_by s))) (sym is) tt
-
-pub none_found : (o : Option Settings) (r : Result Settings WordsFault) (all : Option Asked) → r ≡ ok_or o Refused → all ≡ option_map asked_by o →
-    IsErrOf r Refused → all ≡ None
-none_found (Some s) r all is asked = subst (λ (r : Result Settings WordsFault). IsErrOf r Refused → all ≡ None) (sym is) (λ bad. cc)
-none_found None r all is asked = λ _. asked

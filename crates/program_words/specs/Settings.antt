@@ -9,7 +9,7 @@ use Rattle.annotation_encode.specs.declared.counts.Counts.TheVariants.{Whole, Lo
 use Rattle.clap.specs.Walk.{Row, Text, first_of}
 use Rattle.clap.specs.Simple.{subcommand_of}
 use Rattle.clap.specs.Faults.{fault_of}
-use Rattle.program_words.specs.declared.settings.Search.{Search}
+use Rattle.synth_engine.specs.declared.settings.Settings.{Settings as Search}
 use Rattle.program_words.specs.declared.settings.Settings.{Settings}
 use Rattle.program_words.specs.declared.settings.Settings.TheVariants as settings
 use Rattle.program_words.specs.CommandLine.{program}

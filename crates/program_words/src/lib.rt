@@ -10,5 +10,5 @@ mod numbers;
 mod settings;
 mod words;
 
-pub use settings::{Search, Settings};
+pub use settings::Settings;
 pub use words::{WordsFault, read_words};

@@ -1,20 +1,8 @@
-use annotation_encode::Counts;
 use letter_word::Kind;
+use synth_engine::Settings as Search;
 
-/// How a search is bounded, and on how many threads it runs.
-#[derive(Clone, Copy)]
-pub struct Search {
-    /// The most states that are tried, 1 to 8, or to 4 where many texts are searched.
-    pub max: u32,
-    /// The most entries of a log, up to 250,000, if there is a limit.
-    pub entries: Option<u64>,
-    /// The number of workers, 1 to 8, or to 4 where many texts are searched.
-    pub workers: u32,
-    /// What annotations count.
-    pub counts: Counts,
-}
-
-/// What the words ask for. Names are those of files.
+/// What the words ask for. Names are those of files. A search has 1 to 8 workers; where many texts are searched, at most 4 and as many
+/// states.
 #[derive(Clone, Copy)]
 pub enum Settings<'a> {
     Synth {

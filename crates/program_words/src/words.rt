@@ -4,12 +4,13 @@ ghost use Rattle.program_words.specs.Settings.{asked_by, asked_of, batch_asked, 
 
 use crate::command_line::program;
 use crate::numbers::number_in;
-use crate::settings::{Search, Settings};
+use crate::settings::Settings;
 use annotation_encode::Counts;
 use clap::ArgMatches;
 use clap::error::ErrorKind;
 use letter_word::Kind;
 use std::alloc::{AllocError, Global};
+use synth_engine::Settings as Search;
 
 // The most states and workers of a search for one text.
 const MOST_ALONE: u32 = 8;
@@ -44,7 +45,7 @@ pub fn read_words(alloc: Global, words: &[String]) -> Result<Settings<'_>, Words
 {
     let program = program(alloc)?;
     match program.try_get_matches_from(words) {
-        Ok(matches) => settings_in(&matches).ok_or(WordsFault::Refused),
+        Ok(matches) => found_settings(&matches),
         Err(error) => Err(fault_by(error.kind())),
     }
 }
@@ -55,6 +56,18 @@ fn fault_by(kind: ErrorKind) -> WordsFault
     match kind {
         ErrorKind::OutOfMemory => WordsFault::NoMemory,
         _ => WordsFault::Refused,
+    }
+}
+
+// What the matches ask for. A `match`, since `ok_or` would take names and a search by value together.
+fn found_settings<'a>(matches: &ArgMatches<'a>) -> Result<Settings<'a>, WordsFault>
+    ensures settings { IfOk result (λ s. asked_of (subcommand_rows_of matches.now) ≡ Some (asked_by s)) }
+    ensures refused { IsErrOf result WordsFault.Refused → asked_of (subcommand_rows_of matches.now) ≡ None }
+    ensures ranges { IfOk result (λ s. IsInRange (asked_by s)) }
+{
+    match settings_in(matches) {
+        Some(settings) => Ok(settings),
+        None => Err(WordsFault::Refused),
     }
 }
 
@@ -167,15 +180,15 @@ fn batch_in<'a>(own: &ArgMatches<'a>) -> Option<Settings<'a>>
 // How a search is bounded, by at most so many states and workers.
 fn search_in(own: &ArgMatches<'_>, most: u32) -> Option<Search>
     requires default { 4 ≤ most }
+    requires most { most ≤ 8 }
     ensures asked { result ≡ search_asked most (given_in (rows_of (found_of own.now))) }
     ensures ranges { IfSome result (IsSearchInRange most) }
 {
-    Some(Search {
-        max: number_or(own, "max", 4, 1, most)?,
-        entries: limit_or(own)?,
-        workers: number_or(own, "workers", 4, 1, most)?,
-        counts: counts_or(own)?,
-    })
+    let max = number_or(own, "max", 4, 1, most)?;
+    let entries = limit_or(own)?;
+    let workers = number_or(own, "workers", 4, 1, most)?;
+    let counts = counts_or(own)?;
+    Some(Search::new(max, entries, workers, counts))
 }
 
 // The number that an option has, or its default.

@@ -1,6 +1,5 @@
 -- A document over base clauses that count by component is one of version 3 in all but its base clauses.
 use Rattle.std.proofs.Common.{◌≡◌, ℕ, true, refl}
-use Rattle.letter_word.specs.declared.kinds.Side.{Side}
 use Rattle.letter_word.specs.declared.kinds.Side.TheVariants.{System, Environment}
 use Rattle.annotation_encode.specs.Counts.{counts_version}
 use Rattle.annotation_encode.specs.declared.counts.Counts.{Counts}

@@ -3,9 +3,11 @@ pub mod LogLemmas
 pub mod Sides
 pub mod Meaning
 pub mod Sizes
+pub mod ListLemmas
 pub mod Whole
 pub mod Fitting
 pub mod Held
 pub mod Grounds
 pub mod AsThree
 pub mod Numbers
+pub mod TextFacts

@@ -1,5 +1,5 @@
 -- Two answers to one text tell the same number of states.
-use Rattle.std.proofs.Common.{◌≡◌, ◌⊎◌, inl, inr, ℕ, ◌*◌, ◌^◌, ◌<◌, ◌≤◌, true, List, length, Option, sym, ap, subst, ◌∙◌, arith}
+use Rattle.std.proofs.Common.{◌≡◌, inl, inr, ℕ, ◌*◌, ◌^◌, ◌<◌, List, length, Option, sym, ap, subst, ◌∙◌, arith}
 use Rattle.std.proofs.lemmas.Bool.{cases_lt}
 use Rattle.std.proofs.lemmas.List.{nil_from_length}
 use Rattle.letter_word.specs.declared.kinds.Kind.{Kind}
@@ -12,9 +12,9 @@ use Rattle.tlsf_expand.specs.Meaning.{means}
 use Rattle.tlsf_reader.specs.Reads.{TreesAreDetermined}
 use Rattle.tlsf_syntax.specs.Text.{Text}
 use Rattle.satisfaction.specs.Wanted.{Wanted}
-use Rattle.satisfaction.specs.Satisfaction.{CanLose, Defeats, EachCanLose, IsEnvironmentFor, IsSystemFor, NoneSatisfies, Satisfies}
+use Rattle.satisfaction.specs.Satisfaction.{EachCanLose, NoneSatisfies}
 use Rattle.satisfaction.specs.Laws.{DefeatingCannotLose}
-use Rattle.synth_answer.specs.Answer.{Answers, CanBeBeaten, IsRefuted, SomeDefeats, SomeSatisfies, refused, realizable, unrealizable, bounded, no_size, no_entries}
+use Rattle.synth_answer.specs.Answer.{Answers, SomeDefeats, SomeSatisfies, refused, realizable, unrealizable, bounded, no_size, no_entries}
 use Rattle.synth_answer.specs.Ground.{IsWantedBy}
 use Rattle.synth_answer.specs.Numbers.{NumbersAreDetermined, number_of}
 

@@ -47,7 +47,7 @@ parts_at_both side other n m logs e =
 
 -- == which places there are ==
 
-le_cases : (k n : ℕ) → k ≤ suc n → (k ≤ n) ⊎ (k ≡ suc n)
+pub le_cases : (k n : ℕ) → k ≤ suc n → (k ≤ n) ⊎ (k ≡ suc n)
 le_cases k n h = grind (arith, h)
 
 pub has_place : (side : Side) (n k : ℕ) → 0 < k → k ≤ n → Contains (places_to side n) (place side k)

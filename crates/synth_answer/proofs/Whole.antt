@@ -1,7 +1,6 @@
 -- From the outcome of a search to the answer.
-use Rattle.std.proofs.Common.{◌≡◌, ◌==◌, ℕ, ◌+◌, ◌-◌, ◌<◌, ◌≤◌, ◌^◌, ◌⊎◌, inl, inr, Bool, true, false, List, [], ◌∷◌, ◌++◌, Option, Some, None, All, Any, Contains, IsTrue, IfSome, map, refl, sym, ap, ◌∙◌, subst, arith, is_some, if◌then◌else◌}
-use Rattle.std.proofs.lemmas.Bool.{le-leb}
-use Rattle.std.proofs.lemmas.List.Elements.{All-cons, All-contains, All-head, All-map, All-nil, All-same, All-tail, All-append, Contains-append_left, Contains-append_right}
+use Rattle.std.proofs.Common.{◌≡◌, ◌==◌, ℕ, ◌+◌, ◌-◌, ◌<◌, ◌≤◌, ◌^◌, ◌⊎◌, inl, inr, Bool, true, false, List, ◌∷◌, ◌++◌, Option, Some, None, All, Any, Contains, IsTrue, IfSome, map, refl, sym, ap, ◌∙◌, subst, arith, is_some, if◌then◌else◌}
+use Rattle.std.proofs.lemmas.List.Elements.{All-contains, All-head, All-map, All-same, All-append, Contains-append_left, Contains-append_right}
 use Rattle.std.specs.List.{list_all}
 use Rattle.letter_word.specs.Word.{Word}
 use Rattle.letter_word.specs.declared.kinds.Side.{Side}
@@ -30,6 +29,7 @@ use Rattle.satisfaction.specs.Wanted.{Says, Wanted}
 use Rattle.size_board.specs.declared.events.Claim.{Claim}
 use Rattle.size_search.specs.declared.size_log.SizeLog.{SizeLog}
 use Rattle.synth_engine.specs.declared.settings.Settings.{Settings}
+use Rattle.synth_engine.specs.Settings.{IsWithinBounds}
 use Rattle.synth_engine.specs.Searched.{allowed_of}
 use Rattle.synth_engine.specs.Logs.{IsLogOf, base_at, sizes_to}
 use Rattle.synth_engine.specs.Logs as engine
@@ -49,7 +49,7 @@ use Rattle.cert_text.specs.Parts.{Document, LogPart}
 use Rattle.cert_text.specs.Reading.{all_named}
 use Rattle.cert_text.specs.WellFormed.{IsFoundNumber, IsLogPart, IsWellFormed}
 use Rattle.cert_text.specs.States.{logs_at, numbered, written_comment_line}
-use Rattle.synth_answer.specs.Answer.{CanBeBeaten, DoesItsPart, HasLog, IsAnswerOn, IsBounded, IsRealizable, IsRefuted, IsUnrealizable, OfPrinted, is_environment}
+use Rattle.synth_answer.specs.Answer.{CanBeBeaten, DoesItsPart, HasLog, IsBounded, IsRealizable, IsRefuted, IsToldOn, IsUnrealizable, OfPrinted}
 use Rattle.synth_answer.specs.Answer as answer
 use Rattle.document_check.specs.Facts.{Facts}
 use Rattle.document_check.specs.Holds as check
@@ -57,7 +57,8 @@ use Rattle.synth_answer.specs.Holds.{ForLog, IsClosedFor, IsClosedLog, IsEndedLo
 use Rattle.synth_answer.proofs.Held.{AreAsWanted, AreOfKind, HasHeadOf, HasNames, IsAllowedLog, held, machine_of, named_of, places_to, wanted_places}
 use Rattle.synth_answer.specs.Ground.{AreGivenOn, Ground, facts_on, ground_with}
 use Rattle.synth_answer.specs.Printed.{IsPrinted, PrintedFor}
-use Rattle.synth_answer.specs.Reply.{AreProblemsFor, HaveAutomata, IsCircuitWith, IsMachineText, IsShort, IsReplyTo, IsSearchedReply, IsTextOf, LawsHold, document_of, outcome_defeats, part_of}
+use Rattle.synth_answer.specs.Reply.{AreProblemsFor, HaveAutomata, IsCircuitWith, IsMachineText, IsShort, IsReplyTo, IsSearchedReply, IsTextOf, LawsHold, document_of, outcome_verdict, part_of}
+use Rattle.synth_answer.proofs.ListLemmas.{all_back, all_front, all_some, in_range, line_names}
 use Rattle.synth_answer.proofs.LogLemmas.{IsOfNoLine, all_parts_at, any_at, places_at, split_at}
 use Rattle.synth_answer.proofs.Meaning.{IsSideOf, does_its_part, each_can_lose, none_satisfies, sized_within, some_defeats, some_satisfies}
 use Rattle.synth_answer.proofs.AsThree.{is_a_version, same_fits, same_found, same_order}
@@ -68,34 +69,11 @@ use Rattle.synth_answer.proofs.Sizes.{few_clauses, few_variables}
 -- what is known of a ground, with the names and the kind of a flat text, and of its problems
 pub record Context (x : Expanded) (truth : Word → Bool) (nodes : List Node) (whole : FormulaId) (settings : Settings) (s : SideProblems) : Type 0 where
   pub laws : LawsHold
-  pub some : 1 ≤ settings.max
-  pub most : settings.max ≤ 8
-  pub entries : IfSome settings.entries (λ most. most ≤ 250000)
-  pub workers : settings.workers ≤ 8
+  pub bounds : IsWithinBounds settings
   pub given : AreGivenOn (counts_version settings.counts) (ground_with x truth nodes whole) s
   pub for_text : AreProblemsFor (counts_version settings.counts) x s
   pub names : HasPlainNames x
   pub automata : HaveAutomata s
-
-in_range : (least most n : ℕ) → least ≤ n → n ≤ most → IsTrue (is_in_range least most n)
-in_range least most n l m = let a = le-leb least n l in let b = le-leb n most m in rw (a, b) refl
-
-all_some : (names : List (List ℕ)) → list_all is_some (map Some names) ≡ true
-all_some [] = refl
-all_some (name ∷ names) = all_some names
-
-line_names : (names : List (List ℕ)) → All IsOneWord names → All (λ name. IfSome name IsLineName) (map Some names)
-line_names names all =
-    All-map (λ name. IfSome name IsLineName) Some names
-    (all_map IsOneWord IsLineName (λ name h. record { nonempty = h.nonempty; one_line = h.one_line }) names all)
-
-all_front : {A : Type 0} (P : A → Type 0) (xs ys : List A) → All P (xs ++ ys) → All P xs
-all_front P [] ys all = All-nil P
-all_front P (x ∷ xs) ys all = All-cons P x xs (All-head P x (xs ++ ys) all) (all_front P xs ys (All-tail P x (xs ++ ys) all))
-
-all_back : {A : Type 0} (P : A → Type 0) (xs ys : List A) → All P (xs ++ ys) → All P ys
-all_back P [] ys all = all
-all_back P (x ∷ xs) ys all = all_back P xs ys (All-tail P x (xs ++ ys) all)
 
 -- the size of a log is an allowed one
 pub record FitsSize (given : Facts) (max : ℕ) (side : Side) (n : ℕ) : Type 0 where
@@ -158,7 +136,7 @@ module _ (x : Expanded) (truth : Word → Bool) (nodes : List Node) (whole : For
   size_within side p n of fits =
       let most = size_allowed side p n of fits in
       let all = (k.laws.sizes.allowed p settings.max).within in
-      let few = k.most in
+      let few = k.bounds.most_size in
       sized_within p n (side_known side p of).within fits.some (omega (arith, most, all, few))
 
   refuted : (side : Side) (p : Problem) (n : ℕ) (log : List Entry) → IsOf s.system s.environment side p → FitsSize given settings.max side n
@@ -175,11 +153,11 @@ module _ (x : Expanded) (truth : Word → Bool) (nodes : List Node) (whole : For
   one_part l fits short p of log =
       let most = size_allowed l.side p l.size of fits in
       let all = (k.laws.sizes.allowed p settings.max).within in
-      let few = k.most in
+      let few = k.bounds.most_size in
       let vars = few_variables (sized p l.size) k.laws.components (side_known l.side p of).automaton (size_within l.side p l.size of fits) in
       let base = few_clauses p l.size ((k.laws.sizes.allowed p settings.max).counted l.size fits.some most) in
       let small : l.vars ≤ 2 ^ 30 = subst (λ n. n ≤ 2 ^ 30) (sym log.vars) vars in
-      let workers = k.workers in
+      let workers = k.bounds.most_workers in
       record {
         size = omega (arith, most, all, few);
         vars = omega (arith, small);
@@ -257,9 +235,9 @@ module _ (x : Expanded) (truth : Word → Bool) (nodes : List Node) (whole : For
     verdict = subst IsTrue (same_fits settings.counts v) suits.version;
     circuit = suits.has_place;
     named = suits.all_names;
-    max = in_range 1 8 settings.max k.some k.most;
+    max = in_range 1 8 settings.max k.bounds.some_size k.bounds.most_size;
     number = suits.max;
-    entries = k.entries;
+    entries = k.bounds.most_entries;
     found = subst (λ may. IsFoundNumber may settings.max 0) (same_found settings.counts v) suits.found;
     order = subst (λ o. AreInOrder o (start_of o) (map part_of logs)) (same_order settings.counts v settings.max 0) suits.order;
     logs = All-map IsLogPart part_of logs (all_three IsHere (λ l. FitsSize given settings.max l.side l.size) IsShort (λ l. IsLogPart (part_of l)) log_part logs suits.here suits.fits short);
@@ -505,7 +483,7 @@ module _ (x : Expanded) (truth : Word → Bool) (nodes : List Node) (whole : For
   -- == the answers with a machine ==
 
   pub real : (m : MachineModel) (logs : List SizeLog) (bytes : List ℕ) → outcomes.IsSmallest s.system settings m logs
-      → IsMachineText x settings System (Realizable (size_of m)) m logs bytes → IsAnswerOn ground settings bytes 10 false
+      → IsMachineText x settings System (Realizable (size_of m)) m logs bytes → IsToldOn ground settings bytes 10 (Some (Realizable (size_of m)))
   real m logs bytes least made =
       let found = least.found in
       let small = least.smaller in
@@ -539,7 +517,7 @@ module _ (x : Expanded) (truth : Word → Bool) (nodes : List Node) (whole : For
       }
 
   pub unreal : (m : MachineModel) (logs : List SizeLog) (bytes : List ℕ) → OfSide s.system s.environment (λ p. outcomes.IsSmallest p settings m logs) Environment
-      → IsMachineText x settings Environment (Unrealizable (size_of m)) m logs bytes → IsAnswerOn ground settings bytes 20 true
+      → IsMachineText x settings Environment (Unrealizable (size_of m)) m logs bytes → IsToldOn ground settings bytes 20 (Some (Unrealizable (size_of m)))
   unreal m logs bytes least made =
       let there = find s.system s.environment Environment (λ p. outcomes.IsSmallest p settings m logs) least in
       let p = there.problem in
@@ -571,12 +549,12 @@ module _ (x : Expanded) (truth : Word → Bool) (nodes : List Node) (whole : For
               smaller = λ n some less. can_be_beaten v (Some c) logs n (log_below Environment p there.of m logs found small v (Some c) (IsClosedLog given settings.entries) closed n some less)
                   (fits_below Environment p there.of m logs found small n some less);
             });
-        told = refl;
+        told = refl {a = Some v};
       }
 
   pub bounded : (side : Side) (m : MachineModel) (logs : List SizeLog) (bytes : List ℕ) → OfSide s.system s.environment (λ p. outcomes.IsBounded p settings m logs) side
       → (outcomes.CannotFill s.system s.environment settings → ⊥)
-      → IsMachineText x settings side (Bounded side (size_of m)) m logs bytes → IsAnswerOn ground settings bytes 11 (is_environment side)
+      → IsMachineText x settings side (Bounded side (size_of m)) m logs bytes → IsToldOn ground settings bytes 11 (Some (Bounded side (size_of m)))
   bounded side m logs bytes least can_fill made =
       let there = find s.system s.environment side (λ p. outcomes.IsBounded p settings m logs) least in
       let p = there.problem in
@@ -699,7 +677,7 @@ module _ (x : Expanded) (truth : Word → Bool) (nodes : List Node) (whole : For
         (λ l. IsEndedLog given settings.entries (part_of l)) ended_part logs all.each ended)
 
   pub no_size : (logs : List SizeLog) (bytes : List ℕ) → outcomes.HasNoSize s.system s.environment settings logs
-      → IsTextOf x.kind settings UnknownSizes None logs bytes → IsAnswerOn ground settings bytes 30 false
+      → IsTextOf x.kind settings UnknownSizes None logs bytes → IsToldOn ground settings bytes 30 (Some UnknownSizes)
   no_size logs bytes none made =
       let closed = closed_lines logs none.all none.closed in
       let tells : TellsNone logs none.all UnknownSizes = record {
@@ -760,7 +738,7 @@ module _ (x : Expanded) (truth : Word → Bool) (nodes : List Node) (whole : For
 
   pub no_entries : (side : Side) (size : ℕ) (logs : List SizeLog) (bytes : List ℕ) → outcomes.HasNoEntries s.system s.environment settings side size logs
       → (outcomes.CannotFill s.system s.environment settings → ⊥)
-      → IsTextOf x.kind settings (UnknownEntries side size) None logs bytes → IsAnswerOn ground settings bytes 30 false
+      → IsTextOf x.kind settings (UnknownEntries side size) None logs bytes → IsToldOn ground settings bytes 30 (Some (UnknownEntries side size))
   no_entries side size logs bytes none can_fill made =
       let v = UnknownEntries side size in
       let ended = ended_lines logs none.all none.decided in
@@ -790,12 +768,12 @@ module _ (x : Expanded) (truth : Word → Bool) (nodes : List Node) (whole : For
 
   -- == the whole ==
 
-  pub answered : (bytes : List ℕ) (ended : Status) (defeat : Bool) → IsSearchedReply x s settings bytes ended defeat → IsAnswerOn ground settings bytes (status_number ended) defeat
-  answered bytes ended defeat r =
-      subst (λ d. IsAnswerOn ground settings bytes (status_number ended) d) r.told (by_outcome r.outcome r.real r.unreal r.bounded r.no_size r.no_entries r.decisive r.reply)
+  pub told : (bytes : List ℕ) (ended : Status) (said : Verdict) → IsSearchedReply x s settings bytes ended said → IsToldOn ground settings bytes (status_number ended) (Some said)
+  told bytes ended said r =
+      subst (λ v. IsToldOn ground settings bytes (status_number ended) (Some v)) r.told (by_outcome r.outcome r.real r.unreal r.bounded r.no_size r.no_entries r.decisive r.reply)
     where
-      at_status : (n : ℕ) (told : Status) (d : Bool) → ended ≡ told → status_number told ≡ n → IsAnswerOn ground settings bytes n d → IsAnswerOn ground settings bytes (status_number ended) d
-      at_status n told d is number a = subst (λ m. IsAnswerOn ground settings bytes m d) (sym (ap status_number is ∙ number)) a
+      at_status : (n : ℕ) (told : Status) (v : Verdict) → ended ≡ told → status_number told ≡ n → IsToldOn ground settings bytes n (Some v) → IsToldOn ground settings bytes (status_number ended) (Some v)
+      at_status n told v is number a = subst (λ m. IsToldOn ground settings bytes m (Some v)) (sym (ap status_number is ∙ number)) a
 
       by_outcome : (o : Outcome) → outcomes.OnReal (outcomes.IsSmallest s.system settings) o
           → outcomes.OnUnreal (λ m logs. OfSide s.system s.environment (λ p. outcomes.IsSmallest p settings m logs) Environment) o
@@ -803,9 +781,9 @@ module _ (x : Expanded) (truth : Word → Bool) (nodes : List Node) (whole : For
           → outcomes.OnNoSize (outcomes.HasNoSize s.system s.environment settings) o
           → outcomes.OnNoEntries (outcomes.HasNoEntries s.system s.environment settings) o
           → (outcomes.CannotFill s.system s.environment settings → outcomes.IsDecisive o)
-          → IsReplyTo x settings o bytes ended → IsAnswerOn ground settings bytes (status_number ended) (outcome_defeats o)
-      by_outcome (outcome.Real m logs) a b c d e decisive reply = at_status 10 status.Realizable false reply.0 refl (real m logs.items bytes a reply.1)
-      by_outcome (outcome.Unreal m logs) a b c d e decisive reply = at_status 20 status.Unrealizable true reply.0 refl (unreal m logs.items bytes b reply.1)
-      by_outcome (outcome.Bounded side m logs) a b c d e decisive reply = at_status 11 status.Bounded (is_environment side) reply.0 refl (bounded side m logs.items bytes c decisive reply.1)
-      by_outcome (outcome.NoSize logs) a b c d e decisive reply = at_status 30 status.Unknown false reply.0 refl (no_size logs.items bytes d reply.1)
-      by_outcome (outcome.NoEntries side size logs) a b c d e decisive reply = at_status 30 status.Unknown false reply.0 refl (no_entries side size logs.items bytes e decisive reply.1)
+          → IsReplyTo x settings o bytes ended → IsToldOn ground settings bytes (status_number ended) (Some (outcome_verdict o))
+      by_outcome (outcome.Real m logs) a b c d e decisive reply = at_status 10 status.Realizable (Realizable (size_of m)) reply.0 refl (real m logs.items bytes a reply.1)
+      by_outcome (outcome.Unreal m logs) a b c d e decisive reply = at_status 20 status.Unrealizable (Unrealizable (size_of m)) reply.0 refl (unreal m logs.items bytes b reply.1)
+      by_outcome (outcome.Bounded side m logs) a b c d e decisive reply = at_status 11 status.Bounded (Bounded side (size_of m)) reply.0 refl (bounded side m logs.items bytes c decisive reply.1)
+      by_outcome (outcome.NoSize logs) a b c d e decisive reply = at_status 30 status.Unknown UnknownSizes reply.0 refl (no_size logs.items bytes d reply.1)
+      by_outcome (outcome.NoEntries side size logs) a b c d e decisive reply = at_status 30 status.Unknown (UnknownEntries side size) reply.0 refl (no_entries side size logs.items bytes e decisive reply.1)

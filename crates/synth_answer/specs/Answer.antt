@@ -1,5 +1,5 @@
 -- The answers of `synth`, each with its status (this project's own).
-use Rattle.std.specs.Prelude.{◌≡◌, ℕ, ◌<◌, ◌≤◌, Bool, true, false, List, Option, Some, Any, Contains}
+use Rattle.std.specs.Prelude.{◌≡◌, ℕ, ◌<◌, ◌≤◌, Bool, true, false, List, Option, Some, None, Any, Contains}
 use Rattle.letter_word.specs.declared.kinds.Kind.{Kind}
 use Rattle.letter_word.specs.declared.kinds.Side.{Side}
 use Rattle.letter_word.specs.declared.kinds.Side.TheVariants.{System, Environment}
@@ -11,6 +11,7 @@ use Rattle.satisfaction.specs.Wanted.{Wanted}
 use Rattle.satisfaction.specs.Satisfaction.{CircuitDefeats, CircuitSatisfies, Defeats, EachCanLose, NoneSatisfies, Satisfies}
 use Rattle.synth_engine.specs.declared.settings.Settings.{Settings}
 use Rattle.synth_engine.specs.Outcomes.{CannotFill}
+use Rattle.cert_text.specs.declared.documents.Verdict.{Verdict}
 use Rattle.cert_text.specs.declared.documents.Verdict.TheVariants.{Realizable, Unrealizable, Bounded, UnknownSizes, UnknownEntries}
 use Rattle.cert_text.specs.Order.{place}
 use Rattle.document_check.specs.Facts.{Facts}
@@ -149,6 +150,38 @@ defeats (unrealizable p n c is holds) = true
 defeats (bounded p side n c is holds) = is_environment side
 defeats (no_size p is holds) = false
 defeats (no_entries p side n is holds) = false
+
+-- the verdict of an answer's document, if it has one
+abbrev pub verdict_of : {IsFault : SpecCode → ℕ → Type 0} {IsGround : Option Kind → Ground → Type 0} {kind : Option Kind} {settings : Settings}
+    {bytes : List ℕ} {status : ℕ} → AnswersFor IsFault IsGround kind settings bytes status → Option Verdict
+verdict_of (refused code position is fault line) = None
+verdict_of (realizable p n c is holds) = Some (Realizable n)
+verdict_of (unrealizable p n c is holds) = Some (Unrealizable n)
+verdict_of (bounded p side n c is holds) = Some (Bounded side n)
+verdict_of (no_size p is holds) = Some UnknownSizes
+verdict_of (no_entries p side n is holds) = Some (UnknownEntries side n)
+
+-- an answer, and the verdict of its document
+pub record IsToldFor (IsFault : SpecCode → ℕ → Type 0) (IsGround : Option Kind → Ground → Type 0) (kind : Option Kind) (settings : Settings)
+    (bytes : List ℕ) (status : ℕ) (verdict : Option Verdict) : Type 0 where
+  pub answers : AnswersFor IsFault IsGround kind settings bytes status
+  pub told : verdict_of answers ≡ verdict
+
+-- the same of what answers a text
+abbrev pub IsTold : List ℕ → Option Kind → Settings → List ℕ → ℕ → Option Verdict → Type 0
+IsTold text kind settings bytes status verdict = IsToldFor (IsFirstFault text kind) (IsGroundOf text) kind settings bytes status verdict
+
+-- and of a document that answers over this ground, whatever has it
+abbrev pub IsToldOn : Ground → Settings → List ℕ → ℕ → Option Verdict → Type 0
+IsToldOn g settings bytes status verdict = IsToldFor (λ code position. ⊥) (λ kind other. other ≡ g) (Some g.wanted.kind) settings bytes status verdict
+
+-- whether a document of this verdict has a counter-machine
+abbrev pub verdict_defeats : Verdict → Bool
+verdict_defeats (Realizable n) = false
+verdict_defeats (Unrealizable n) = true
+verdict_defeats (Bounded side n) = is_environment side
+verdict_defeats UnknownSizes = false
+verdict_defeats (UnknownEntries side n) = false
 
 -- an answer, and whether it defeats
 pub record IsAnswerFor (IsFault : SpecCode → ℕ → Type 0) (IsGround : Option Kind → Ground → Type 0) (kind : Option Kind) (settings : Settings)

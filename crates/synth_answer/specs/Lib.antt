@@ -4,3 +4,4 @@ pub mod Printed
 pub mod Answer
 pub mod Reply
 pub mod Numbers
+pub mod Texts

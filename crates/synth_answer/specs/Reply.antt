@@ -1,5 +1,5 @@
 -- How the outcome of a search is written (this project's own).
-use Rattle.std.specs.Prelude.{◌≡◌, ℕ, ◌≤◌, ◌<◌, ◌^◌, ⊤, Bool, true, false, List, [], Option, Some, None, All, IfSome, length, map}
+use Rattle.std.specs.Prelude.{◌≡◌, ℕ, ◌≤◌, ◌<◌, ◌^◌, ⊤, List, [], Option, Some, None, All, IfSome, length, map}
 use Rattle.letter_word.specs.declared.kinds.Kind.{Kind}
 use Rattle.letter_word.specs.declared.kinds.Side.{Side}
 use Rattle.letter_word.specs.declared.kinds.Side.TheVariants.{System, Environment}
@@ -22,6 +22,7 @@ use Rattle.spec_problems.specs.declared.sides.SideProblems.{SideProblems}
 use Rattle.tlsf_expand.specs.Expansion.{Expanded}
 use Rattle.size_search.specs.declared.size_log.SizeLog.{SizeLog}
 use Rattle.synth_engine.specs.declared.settings.Settings.{Settings}
+use Rattle.synth_engine.specs.Settings.{IsWithinBounds}
 use Rattle.synth_engine.specs.declared.outcomes.Outcome.{Outcome}
 use Rattle.synth_engine.specs.declared.outcomes.Outcome.TheVariants.{Real, Unreal, Bounded, NoSize, NoEntries}
 use Rattle.synth_engine.specs.Outcomes.{CannotFill, HasNoEntries, HasNoSize, IsBounded, IsDecisive, IsSmallest, OfSide, OnBounded, OnNoEntries, OnNoSize, OnReal, OnUnreal}
@@ -30,12 +31,8 @@ use Rattle.cert_text.specs.declared.documents.Verdict.TheVariants as verdict
 use Rattle.cert_text.specs.Parts.{Document, LogPart}
 use Rattle.cert_text.specs.WellFormed.{IsWellFormed}
 use Rattle.cert_text.specs.States.{States, numbered}
-use Rattle.spec_faults.specs.declared.code.SpecFault.{SpecFault}
-use Rattle.spec_faults.specs.declared.code.SpecFault.TheVariants.{At, NoMemory}
-use Rattle.program_replies.specs.Lines.{refusal_line}
 use Rattle.program_replies.specs.declared.replies.Status.{Status}
 use Rattle.program_replies.specs.declared.replies.Status.TheVariants as status
-use Rattle.synth_answer.specs.Answer.{is_environment}
 use Rattle.synth_answer.specs.Holds.{document_version, read_by, written_by}
 
 -- a log as a document has it
@@ -114,11 +111,6 @@ IsReplyTo x settings (NoSize logs) bytes ended =
 IsReplyTo x settings (NoEntries side size logs) bytes ended =
     (ended ≡ status.Unknown) × IsTextOf x.kind settings (verdict.UnknownEntries side size) None logs.items bytes
 
--- the bytes and the status for a fault of a text; for want of memory there are none
-abbrev pub IsRefusal : SpecFault → List ℕ → Status → Type 0
-IsRefusal (At code position) bytes ended = (bytes ≡ refusal_line code position) × (ended ≡ status.Refused)
-IsRefusal NoMemory bytes ended = ⊥
-
 -- == what is searched ==
 
 -- the problem of a side of a text, over base clauses of this version, whose machines are of this kind
@@ -140,16 +132,17 @@ pub record HaveAutomata (s : SideProblems) : Type 0 where
   pub of_system : IsAutomaton (automaton_of s.system)
   pub of_environment : ForSome s.environment (λ p. IsAutomaton (automaton_of p))
 
--- whether an outcome has a machine of the environment
-abbrev pub outcome_defeats : Outcome → Bool
-outcome_defeats (Real machine logs) = false
-outcome_defeats (Unreal machine logs) = true
-outcome_defeats (Bounded side machine logs) = is_environment side
-outcome_defeats (NoSize logs) = false
-outcome_defeats (NoEntries side size logs) = false
+-- what is said of an outcome
+abbrev pub outcome_verdict : Outcome → Verdict
+outcome_verdict (Real machine logs) = verdict.Realizable (size_of machine)
+outcome_verdict (Unreal machine logs) = verdict.Unrealizable (size_of machine)
+outcome_verdict (Bounded side machine logs) = verdict.Bounded side (size_of machine)
+outcome_verdict (NoSize logs) = verdict.UnknownSizes
+outcome_verdict (NoEntries side size logs) = verdict.UnknownEntries side size
 
--- the bytes and the status for some outcome of a search of these problems, and whether it defeats
-pub record IsSearchedReply (x : Expanded) (s : SideProblems) (settings : Settings) (bytes : List ℕ) (ended : Status) (defeat : Bool) : Type 0 where
+-- the bytes and the status for some outcome of a search of these problems, and its verdict
+pub record IsSearchedReply (x : Expanded) (s : SideProblems) (settings : Settings) (bytes : List ℕ) (ended : Status) (said : Verdict) : Type 0 where
+  pub bounds : IsWithinBounds settings
   pub automata : HaveAutomata s
   pub outcome : Outcome
   pub real : OnReal (IsSmallest s.system settings) outcome
@@ -159,7 +152,7 @@ pub record IsSearchedReply (x : Expanded) (s : SideProblems) (settings : Setting
   pub no_entries : OnNoEntries (HasNoEntries s.system s.environment settings) outcome
   pub decisive : CannotFill s.system s.environment settings → IsDecisive outcome
   pub reply : IsReplyTo x settings outcome bytes ended
-  pub told : outcome_defeats outcome ≡ defeat
+  pub told : outcome_verdict outcome ≡ said
 
 -- == the laws of the layers below ==
 

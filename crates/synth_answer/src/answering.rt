@@ -1,27 +1,25 @@
 //! The answer to a text, and to problems that stand on some ground.
-ghost use Rattle.std.specs.Prelude.{◌≡◌, ◌≤◌, Bool, IfOk, IfSome, List};
+ghost use Rattle.std.specs.Prelude.{◌≡◌, Bool, IfOk, List, Some};
 ghost use Rattle.letter_word.specs.Word.{Word};
 ghost use Rattle.ltl_formula.specs.declared.nodes.FormulaId.{FormulaId as Id};
 ghost use Rattle.ltl_formula.specs.declared.nodes.Node.{Node};
-ghost use Rattle.machine_model.specs.Automaton.{IsAutomaton};
-ghost use Rattle.machine_model.specs.Problem.{automaton_of};
 ghost use Rattle.annotation_encode.specs.Counts.{counts_version};
 ghost use Rattle.flat_text.specs.FlatNames.{HasPlainNames};
 ghost use Rattle.program_replies.specs.Statuses.{status_number};
 ghost use Rattle.tlsf_expand.specs.FlatText.{spec_seen};
-ghost use Rattle.synth_answer.specs.Answer.{Answers, IsAnswerOn, is_environment};
+ghost use Rattle.synth_answer.specs.Answer.{Answers, IsAnswerOn, IsTold, IsToldOn, is_environment, verdict_defeats};
 ghost use Rattle.synth_answer.specs.Ground.{AreGivenOn, ground_with};
-ghost use Rattle.synth_answer.specs.Reply.{AreProblemsFor, HaveAutomata, IsRefusal, IsSearchedReply, outcome_defeats};
+ghost use Rattle.synth_answer.specs.Reply.{AreProblemsFor, IsSearchedReply, outcome_verdict};
 
 use crate::facts::laws_hold;
 use crate::outcomes::reply_to;
+use crate::texts::{Problems, automata_are_kept, problems_or_refusal};
 use annotation_encode::laws::sizes_rise;
+use cert_text::Verdict;
 use letter_word::{Kind, Side};
-use machine_model::Problem;
 use outside_edge::Gate;
-use program_replies::{Reply, refused};
-use spec_faults::SpecFault;
-use spec_problems::{SideProblems, TextProblems, text_problems};
+use program_replies::Reply;
+use spec_problems::{SideProblems, TextProblems};
 use std::alloc::{AllocError, Global};
 use std::sync::Wait;
 use std::thread::Threads;
@@ -36,6 +34,14 @@ pub struct Answered {
     pub defeats: bool,
 }
 
+/// The line of a refusal or a document, with its status.
+#[derive(Drop)]
+pub struct Told {
+    pub reply: Reply,
+    /// What the document says, if there is one.
+    pub verdict: Option<Verdict>,
+}
+
 /// The answer to a text: the line of its first fault with status 1, or a document of version 3 or 5, by what is counted,
 /// with status 10, 11, 20 or 30. A kind that is given stands for the text's own.
 ///
@@ -48,15 +54,29 @@ pub fn answer<R: Threads + Wait + Sync, G: Gate + Sync>(
     settings: Settings,
     gate: &G,
 ) -> Result<Reply, AllocError>
-    requires some_size { 1 ≤ settings.max }
-    requires most_size { settings.max ≤ 8 }
-    requires entries { IfSome settings.entries (λ most. most ≤ 250000) }
-    requires workers { settings.workers ≤ 8 }
     ensures { IfOk result (λ r. Answers text.now kind settings r.bytes.items (status_number r.status)) }
 {
-    match text_problems(alloc, text, kind, settings.counts.version()) {
-        Ok(found) => document(rt, alloc, found, settings, gate),
-        Err(fault) => refusal(alloc, fault),
+    let told = told_answer(rt, alloc, text, kind, settings, gate)?;
+    Ok(told.reply)
+}
+
+/// The same answer, with the verdict of its document. It waits as `answer` does.
+pub fn told_answer<R: Threads + Wait + Sync, G: Gate + Sync>(
+    rt: &R,
+    alloc: Global,
+    text: &[u8],
+    kind: Option<Kind>,
+    settings: Settings,
+    gate: &G,
+) -> Result<Told, AllocError>
+    ensures { IfOk result (λ t. IsTold text.now kind settings t.reply.bytes.items (status_number t.reply.status) t.verdict) }
+{
+    match problems_or_refusal(alloc, text, kind, settings.version())? {
+        Problems::Of(found) => document(rt, alloc, found, settings, gate),
+        Problems::Refused(reply) => Ok(Told {
+            reply,
+            verdict: None,
+        }),
     }
 }
 
@@ -70,27 +90,16 @@ pub fn answer_on<R: Threads + Wait + Sync, G: Gate + Sync>(
     settings: Settings,
     gate: &G,
 ) -> Result<Answered, AllocError>
-    requires some_size { 1 ≤ settings.max }
-    requires most_size { settings.max ≤ 8 }
-    requires entries { IfSome settings.entries (λ most. most ≤ 250000) }
-    requires workers { settings.workers ≤ 8 }
     requires problems { AreProblemsFor (counts_version settings.counts) (spec_seen spec.now).expanded problems }
     requires names { HasPlainNames (spec_seen spec.now).expanded }
     ensures { (truth : Word → Bool) (nodes : List Node) (whole : Id) → AreGivenOn (counts_version settings.counts) (ground_with (spec_seen spec.now).expanded truth nodes whole) problems
         → IfOk result (λ a. IsAnswerOn (ground_with (spec_seen spec.now).expanded truth nodes whole) settings a.reply.bytes.items (status_number a.reply.status) a.defeats) }
 {
-    laws_hold();
-    searched(rt, alloc, spec, problems, settings, gate)
-}
-
-// The reply to a text with this fault.
-fn refusal(alloc: Global, fault: SpecFault) -> Result<Reply, AllocError>
-    ensures { IfOk result (λ r. IsRefusal fault r.bytes.items r.status) }
-{
-    match fault {
-        SpecFault::At { code, place } => refused(alloc, code, place),
-        SpecFault::NoMemory => Err(AllocError),
-    }
+    let (reply, verdict) = document_on(rt, alloc, spec, problems, settings, gate)?;
+    Ok(Answered {
+        reply,
+        defeats: verdict_defeats(verdict),
+    })
 }
 
 // The document for a text.
@@ -100,19 +109,36 @@ fn document<R: Threads + Wait + Sync, G: Gate + Sync>(
     found: TextProblems,
     settings: Settings,
     gate: &G,
-) -> Result<Reply, AllocError>
-    requires some_size { 1 ≤ settings.max }
-    requires most_size { settings.max ≤ 8 }
-    requires entries { IfSome settings.entries (λ most. most ≤ 250000) }
-    requires workers { settings.workers ≤ 8 }
+) -> Result<Told, AllocError>
     requires problems { AreProblemsFor (counts_version settings.counts) (spec_seen found.spec).expanded found.problems }
     requires names { HasPlainNames (spec_seen found.spec).expanded }
     ensures { (truth : Word → Bool) (nodes : List Node) (whole : Id) → AreGivenOn (counts_version settings.counts) (ground_with (spec_seen found.spec).expanded truth nodes whole) found.problems
-        → IfOk result (λ r. (d : Bool) × IsAnswerOn (ground_with (spec_seen found.spec).expanded truth nodes whole) settings r.bytes.items (status_number r.status) d) }
+        → IfOk result (λ t. IsToldOn (ground_with (spec_seen found.spec).expanded truth nodes whole) settings t.reply.bytes.items (status_number t.reply.status) t.verdict) }
 {
     let TextProblems { spec, problems } = found;
-    let answered = answer_on(rt, alloc, &spec, problems, settings, gate)?;
-    Ok(answered.reply)
+    let (reply, verdict) = document_on(rt, alloc, &spec, problems, settings, gate)?;
+    Ok(Told {
+        reply,
+        verdict: Some(verdict),
+    })
+}
+
+// The document for problems that stand on some ground, and what it says.
+fn document_on<R: Threads + Wait + Sync, G: Gate + Sync>(
+    rt: &R,
+    alloc: Global,
+    spec: &Spec,
+    problems: SideProblems,
+    settings: Settings,
+    gate: &G,
+) -> Result<(Reply, Verdict), AllocError>
+    requires problems { AreProblemsFor (counts_version settings.counts) (spec_seen spec.now).expanded problems }
+    requires names { HasPlainNames (spec_seen spec.now).expanded }
+    ensures { (truth : Word → Bool) (nodes : List Node) (whole : Id) → AreGivenOn (counts_version settings.counts) (ground_with (spec_seen spec.now).expanded truth nodes whole) problems
+        → IfOk result (λ r. IsToldOn (ground_with (spec_seen spec.now).expanded truth nodes whole) settings r.0.bytes.items (status_number r.0.status) (Some r.1)) }
+{
+    laws_hold();
+    searched(rt, alloc, spec, problems, settings, gate)
 }
 
 // The document for these problems, by the outcome of their search.
@@ -123,33 +149,44 @@ fn searched<R: Threads + Wait + Sync, G: Gate + Sync>(
     problems: SideProblems,
     settings: Settings,
     gate: &G,
-) -> Result<Answered, AllocError>
-    requires some_size { 1 ≤ settings.max }
-    requires most_size { settings.max ≤ 8 }
-    requires workers { settings.workers ≤ 8 }
+) -> Result<(Reply, Verdict), AllocError>
     requires problems { AreProblemsFor (counts_version settings.counts) (spec_seen spec.now).expanded problems }
-    ensures { IfOk result (λ a. IsSearchedReply (spec_seen spec.now).expanded problems settings a.reply.bytes.items a.reply.status a.defeats) }
+    ensures { IfOk result (λ r. IsSearchedReply (spec_seen spec.now).expanded problems settings r.0.bytes.items r.0.status r.1) }
 {
     automata_are_kept(&problems);
     sizes_rise();
+    let _max = settings.max();
     let SideProblems {
         system,
         environment,
     } = problems;
     let outcome = search(rt, alloc, system, environment, settings, gate)?;
-    let defeats = outcome_defeats(&outcome);
+    let verdict = outcome_verdict(&outcome);
     let reply = reply_to(alloc, spec, settings, outcome)?;
-    Ok(Answered { reply, defeats })
+    Ok((reply, verdict))
 }
 
-// Whether an outcome has a machine of the environment.
-fn outcome_defeats(outcome: &Outcome) -> bool
-    ensures { result ≡ outcome_defeats outcome.now }
+// What is said of an outcome.
+fn outcome_verdict(outcome: &Outcome) -> Verdict
+    ensures { result ≡ outcome_verdict outcome.now }
 {
     match outcome {
-        Outcome::Unreal { .. } => true,
-        Outcome::Bounded { side, .. } => is_environment(*side),
-        Outcome::Real { .. } | Outcome::NoSize { .. } | Outcome::NoEntries { .. } => false,
+        Outcome::Real { machine, .. } => Verdict::Realizable(machine.size()),
+        Outcome::Unreal { machine, .. } => Verdict::Unrealizable(machine.size()),
+        Outcome::Bounded { side, machine, .. } => Verdict::Bounded(*side, machine.size()),
+        Outcome::NoSize { .. } => Verdict::UnknownSizes,
+        Outcome::NoEntries { side, size, .. } => Verdict::UnknownEntries(*side, *size),
+    }
+}
+
+// Whether a document of this verdict has a machine of the environment.
+fn verdict_defeats(verdict: Verdict) -> bool
+    ensures { result ≡ verdict_defeats verdict }
+{
+    match verdict {
+        Verdict::Unrealizable(_) => true,
+        Verdict::Bounded(side, _) => is_environment(side),
+        Verdict::Realizable(_) | Verdict::UnknownSizes | Verdict::UnknownEntries(..) => false,
     }
 }
 
@@ -160,20 +197,4 @@ fn is_environment(side: Side) -> bool
         Side::System => false,
         Side::Environment => true,
     }
-}
-
-// What the types of the automata keep.
-fn automata_are_kept(problems: &SideProblems)
-    ensures { HaveAutomata problems.now }
-{
-    automaton_is_kept(&problems.system);
-    if let Some(environment) = &problems.environment {
-        automaton_is_kept(environment);
-    }
-}
-
-fn automaton_is_kept(problem: &Problem)
-    ensures { IsAutomaton (automaton_of problem.now) }
-{
-    let _states = problem.automaton.states();
 }

@@ -23,11 +23,11 @@ pub fn document_text(
     ensures { IfOk result (λ bytes. IsTextOf kind settings verdict circuit logs.items bytes.items) }
 {
     let document = Document {
-        version: document_version(settings.counts),
+        version: document_version(settings.counts()),
         verdict,
         kind,
-        max: settings.max,
-        entries: settings.entries,
+        max: settings.max(),
+        entries: settings.entries(),
         found: 0,
         circuit,
         logs: parts_of(alloc, logs)?,

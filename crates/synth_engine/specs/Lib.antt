@@ -1,3 +1,4 @@
+pub mod Settings
 pub mod Searched
 pub mod Logs
 pub mod Outcomes

@@ -8,6 +8,7 @@ ghost use Rattle.synth_engine.specs.Plans.{AreWorkersOf};
 
 use crate::hands::draw;
 use crate::plans::Field;
+use crate::settings::Settings;
 use crate::sizes::Sizes;
 use outside_edge::Gate;
 use size_search::{Decided, Seat, SizeTask};
@@ -24,13 +25,16 @@ pub struct Crew {
 
 impl Field {
     /// Gives each worker its seats. The worker with the greatest number comes first, and the caller last.
-    pub fn hand_out(self, alloc: Global, workers: u32) -> Result<(Sizes, Vec<Crew>), AllocError>
-        requires few { workers ≤ 8 }
-        requires system { AreRacks (workers + 1) self.sizes.system.items self.system.items }
-        requires environment { AreRacks (workers + 1) self.sizes.environment.items self.environment.items }
+    pub fn hand_out(
+        self,
+        alloc: Global,
+        settings: Settings,
+    ) -> Result<(Sizes, Vec<Crew>), AllocError>
+        requires system { AreRacks (settings.workers + 1) self.sizes.system.items self.system.items }
+        requires environment { AreRacks (settings.workers + 1) self.sizes.environment.items self.environment.items }
         ensures sizes { IfOk result (λ r. r.0 ≡ self.sizes) }
-        ensures count { IfOk result (λ r. length r.1.items ≡ workers + 1) }
-        ensures crews { IfOk result (λ r. AreWorkersOf self.sizes workers r.1.items) }
+        ensures count { IfOk result (λ r. length r.1.items ≡ settings.workers + 1) }
+        ensures crews { IfOk result (λ r. AreWorkersOf self.sizes settings.workers r.1.items) }
     {
         let Field {
             sizes,
@@ -38,7 +42,7 @@ impl Field {
             mut environment,
         } = self;
         let mut crews = Vec::new(alloc);
-        for number in (0..workers + 1).rev() {
+        for number in (0..settings.workers() + 1).rev() {
             let (of_system, rest_of_system) = draw(alloc, system)?;
             let (of_environment, rest_of_environment) = draw(alloc, environment)?;
             system = rest_of_system;

@@ -41,13 +41,13 @@ struct OpenedSizes {
 }
 
 impl Plan {
-    /// A plan of all sizes that are allowed, of at most so many states.
-    pub fn new(system: Problem, environment: Option<Problem>, max: u32) -> Plan
-        requires max { max ≤ 8 }
+    /// A plan of all sizes that are allowed under the settings.
+    pub fn new(system: Problem, environment: Option<Problem>, settings: Settings) -> Plan
         requires system { IsProblem system }
         requires environment { ForSome environment IsProblem }
-        ensures { IsPlanOf system environment max result }
+        ensures { IsPlanOf system environment settings.max result }
     {
+        let max = settings.max();
         let system_sizes = allowed_sizes(&system, max);
         let environment_sizes = match &environment {
             Some(problem) => allowed_sizes(problem, max),
@@ -73,7 +73,6 @@ impl Plan {
         requires environment { ForSome self.now.environment IsProblem }
         requires few { self.now.system_sizes ≤ 8 }
         requires few_of_environment { self.now.environment_sizes ≤ 8 }
-        requires workers { settings.workers ≤ 8 }
         ensures { IfOk result (IsFieldOf self.now settings) }
     {
         let system = open_sizes(rt, alloc, &self.system, self.system_sizes, settings)?;
@@ -105,7 +104,6 @@ fn open_sizes<R: Threads + Sync>(
 ) -> Result<OpenedSizes, AllocError>
     requires problem { IsProblem problem.now }
     requires count { count ≤ 8 }
-    requires workers { settings.workers ≤ 8 }
     ensures tasks { IfOk result (λ o. AreTasksUpTo problem.now settings count o.tasks.items) }
     ensures seats { IfOk result (λ o. AreRacks (settings.workers + 1) o.tasks.items o.seats.items) }
 {
@@ -149,10 +147,9 @@ fn open_all<R: Threads + Sync>(
     settings: Settings,
 ) -> Result<Vec<Opened>, AllocError>
     requires problems { All IsProblem problems.items }
-    requires workers { settings.workers ≤ 8 }
     ensures { IfOk result (λ opened. AllZip (IsOpenedFor settings) problems.items opened.items) }
 {
-    if settings.workers == 0 {
+    if settings.workers() == 0 {
         return open_in_turn(alloc, problems, settings);
     }
     let results = open_at_once(rt, alloc, problems, settings)?;
@@ -166,7 +163,6 @@ fn open_in_turn(
     settings: Settings,
 ) -> Result<Vec<Opened>, AllocError>
     requires problems { All IsProblem problems.items }
-    requires workers { settings.workers ≤ 8 }
     ensures { IfOk result (λ opened. AllZip (IsOpenedFor settings) problems.items opened.items) }
 {
     let mut all = Vec::with_capacity(alloc, problems.len())?;
@@ -184,7 +180,6 @@ fn open_at_once<R: Threads + Sync>(
     settings: Settings,
 ) -> Result<Vec<Result<Opened, AllocError>>, AllocError>
     requires problems { All IsProblem problems.items }
-    requires workers { settings.workers ≤ 8 }
     ensures count { IfOk result (λ opened. vec_len opened ≡ vec_len problems) }
     ensures each { IfOk result (λ opened. (i : ℕ) (d : _) (p : ProblemView) → i < vec_len problems → IfOk (slice_index_or opened.items i d) (IsOpenedFor settings (slice_index_or problems.items i p))) }
 {
@@ -192,7 +187,7 @@ fn open_at_once<R: Threads + Sync>(
         rt,
         problems,
         &|problem: Problem| -> Result<Opened, AllocError>
-            requires { IsProblem problem × (settings.workers ≤ 8) }
+            requires { IsProblem problem }
             ensures { IfOk result (IsOpenedFor settings problem) }
         { open_size(alloc, problem, settings) },
     )
@@ -215,8 +210,7 @@ fn all_opened(
 /// Opens a problem of one size.
 fn open_size(alloc: Global, problem: Problem, settings: Settings) -> Result<Opened, AllocError>
     requires problem { IsProblem problem }
-    requires workers { settings.workers ≤ 8 }
     ensures { IfOk result (IsOpenedFor settings problem) }
 {
-    SizeTask::open(alloc, problem, settings.entries, settings.workers + 1)
+    SizeTask::open(alloc, problem, settings.entries(), settings.workers() + 1)
 }

@@ -33,9 +33,6 @@ pub fn search<R: Threads + Wait + Sync, G: Gate + Sync>(
     settings: Settings,
     gate: &G,
 ) -> Result<Outcome, AllocError>
-    requires some_size { 1 ≤ settings.max }
-    requires most_size { settings.max ≤ 8 }
-    requires workers { settings.workers ≤ 8 }
     requires system { IsSearched (counts_version settings.counts) System system }
     requires environment { ForSome environment (IsSearched (counts_version settings.counts) Environment) }
     ensures real { IfOk result (OnReal (IsSmallest system settings)) }
@@ -46,9 +43,9 @@ pub fn search<R: Threads + Wait + Sync, G: Gate + Sync>(
     ensures refuted { IfOk result (λ outcome. ClosedRefute system environment settings (logs_of outcome)) }
     ensures decisive { CannotFill system environment settings → IfOk result IsDecisive }
 {
-    let plan = Plan::new(system, environment, settings.max);
+    let plan = Plan::new(system, environment, settings);
     let field = plan.open(rt, alloc, settings)?;
-    let (sizes, mut crews) = field.hand_out(alloc, settings.workers)?;
+    let (sizes, mut crews) = field.hand_out(alloc, settings)?;
     let Some(mut own) = crews.pop() else {
         unreachable!()
     };

@@ -1,17 +1,16 @@
 -- From what was found to the answer.
-use Rattle.std.proofs.Common.{◌≡◌, ℕ, None, List, refl, sym, ap, ◌∙◌}
+use Rattle.std.proofs.Common.{◌≡◌, ℕ, None, List, Result, Ok, Err, IfOk, length, refl, sym, ap, ◌∙◌}
 use Rattle.letter_word.specs.declared.kinds.Kind.{Kind}
 use Rattle.letter_word.specs.declared.kinds.Kind.TheVariants.{Mealy, Moore}
 use Rattle.letter_word.specs.declared.kinds.Side.TheVariants.{System}
 use Rattle.letter_word.specs.Word.{Word}
 use Rattle.aiger_text.specs.Circuit.{Circuit, IsCircuitOfKind, IsCircuitRun, RunsOnEveryInput, Valuation}
-use Rattle.spec_faults.specs.declared.code.SpecCode.{SpecCode}
-use Rattle.spec_faults.specs.declared.code.SpecFault.{SpecFault}
-use Rattle.spec_faults.specs.declared.code.SpecFault.TheVariants.{At, NoMemory}
 use Rattle.tlsf_expand.specs.Meaning.{means}
 use Rattle.tlsf_expand.specs.FlatText.{FlatText, spec_seen}
 use Rattle.spec_problems.specs.declared.texts.TextProblems.{TextProblems}
-use Rattle.spec_problems.specs.OfText.{IsFirstFault}
+use Rattle.spec_problems.specs.declared.sides.SideProblems.{SideProblems}
+use Rattle.spec_problems.specs.OfFormula.{AreProblems}
+use Rattle.spec_problems.specs.OfText.{AreProblemsOf}
 use Rattle.satisfaction.specs.Wanted.{Wanted}
 use Rattle.document_check.specs.Facts.{Facts}
 use Rattle.annot_check.specs.Laws.{AcceptsFalse, SatisfiesAs}
@@ -21,18 +20,29 @@ use Rattle.program_replies.specs.declared.replies.Status.TheVariants as ended
 use Rattle.program_replies.specs.Statuses.{status_number}
 use Rattle.synth_answer.specs.Ground.{IsWantedBy}
 use Rattle.synth_answer.specs.Printed.{given_by}
-use Rattle.synth_answer.specs.Reply.{IsRefusal}
-use Rattle.verify_answer.specs.Answer.{Given, VerifyAnswers, bad_line, refused, verified, verified_line}
-use Rattle.verify_answer.specs.FirstBad.{IsFirstBadFor, over}
-use Rattle.verify_answer.specs.Reply.{IsShown, IsTaken}
+use Rattle.synth_answer.specs.Texts.{AreOfText, IfProblems}
+use Rattle.synth_answer.specs.declared.texts.Problems.{Problems}
+use Rattle.synth_answer.specs.declared.texts.Problems.TheVariants.{Of, Refused}
+use Rattle.verify_answer.specs.Answer.{GivenToVerify, VerifyAnswers, bad_line, refused, verified, verified_line}
+use Rattle.verify_answer.specs.FirstBad.{IsFirstBadOfCircuit, over}
+use Rattle.verify_answer.specs.Reply.{AreForVerify, AreReady, IsForVerify, IsShown}
 use Rattle.verify_answer.specs.Verified.{HasSignals, IsSatisfying, named_as}
 use Rattle.verify_answer.proofs.Signals.{has_signals}
 
-pub fault_answers : (text : List ℕ) (fault : SpecFault) (bytes : List ℕ) (status : Status)
-    → ((code : SpecCode) (position : ℕ) → fault ≡ At code position → IsFirstFault text None code position)
-    → IsRefusal fault bytes status → (circuit : List ℕ) → VerifyAnswers text circuit bytes (status_number status)
-fault_answers text (At code position) bytes status first is = λ circuit. refused code position (ap status_number is.1) (first code position refl) is.0
-fault_answers text NoMemory bytes status first is = absurd is
+-- what the text gives to the test of circuits is ready
+ready : (text : List ℕ) (spec : FlatText) (s : SideProblems) → AreProblemsOf text None 2 spec s → AreProblems s → AreReady (given_by spec s)
+ready text spec s are meet = record {
+  problem = meet.is_system;
+  inputs = are.problems.problems.of_system.inputs ∙ sym (ap (λ x. length x.inputs) are.same);
+  outputs = are.problems.problems.of_system.outputs ∙ sym (ap (λ x. length x.outputs) are.same);
+}
+
+-- a text's problems for `verify`, or the line of its first fault
+pub for_verify : {E : Type 0} (text : List ℕ) (found : Result Problems E) → IfOk found (AreOfText 2 text None) → IfOk found (IfProblems (λ t. AreProblems t.problems))
+    → IfOk found (AreForVerify text)
+for_verify text (Ok (Of t)) of_text meet = record { text_with = of_text; ready = ready text (spec_seen t.spec) t.problems of_text.are meet }
+for_verify text (Ok (Refused reply)) r meet = λ circuit. refused r.code r.place r.status_is r.fault r.line
+for_verify text (Err e) of_text meet = tt
 
 -- a circuit's names make no difference to its runs and its kind
 run_unnamed : (x : Wanted) (c : Circuit) (w : Word) (values : ℕ → Valuation) → IsCircuitRun System (named_as x c) w values → IsCircuitRun System c w values
@@ -45,7 +55,7 @@ kind_named x c Moore of_kind = record {
       of_kind.same_outputs v w in_v in_w i k (run_unnamed x c v in_v run_v) (run_unnamed x c w in_w run_w) less_i less_k same;
 }
 
-module _ (text : List ℕ) (t : TextProblems) (taken : IsTaken text t) where
+module _ (text : List ℕ) (t : TextProblems) (taken : IsForVerify text t) where
   abbrev spec : FlatText
   spec = spec_seen t.spec
 
@@ -58,28 +68,28 @@ module _ (text : List ℕ) (t : TextProblems) (taken : IsTaken text t) where
     inputs = spec.expanded.inputs;
     outputs = spec.expanded.outputs;
     kind = t.problems.system.kind;
-    means = λ w. means w taken.means.tree;
+    means = λ w. means w taken.text_with.says.tree;
   }
 
   kind_is : t.problems.system.kind ≡ spec.expanded.kind
-  kind_is = taken.problems.problems.problems.of_system.kind ∙ sym (ap (λ x. x.kind) taken.problems.same)
+  kind_is = taken.text_with.are.problems.problems.of_system.kind ∙ sym (ap (λ x. x.kind) taken.text_with.are.same)
 
   is_wanted : IsWantedBy text None wanted
   is_wanted = record {
-    flat = taken.problems.flat;
-    is_flat = taken.problems.is_flat;
-    inputs = ap (λ x. x.inputs) taken.problems.same;
-    outputs = ap (λ x. x.outputs) taken.problems.same;
-    kind_is = taken.problems.problems.problems.of_system.kind;
-    tree = taken.means.tree;
-    read = taken.means.read;
+    flat = taken.text_with.are.flat;
+    is_flat = taken.text_with.are.is_flat;
+    inputs = ap (λ x. x.inputs) taken.text_with.are.same;
+    outputs = ap (λ x. x.outputs) taken.text_with.are.same;
+    kind_is = taken.text_with.are.problems.problems.of_system.kind;
+    tree = taken.text_with.says.tree;
+    read = taken.text_with.says.read;
     meaning = λ w. refl;
   }
 
   -- the automaton accepts each lasso on which the text is false
   accepts : AcceptsFalse wanted.means (over given)
   accepts = record {
-    lassos = λ w ring no. (taken.accept.system_where.lassos w ring).1 (taken.means.meaning.same w ∙ no);
+    lassos = λ w ring no. (taken.text_with.accept.system_where.lassos w ring).1 (taken.text_with.says.meaning.same w ∙ no);
   }
 
   satisfying : (c : Circuit) → HasSignals given.inputs given.outputs c → SatisfiesAs t.problems.system.kind wanted.means c → RunsOnEveryInput System c → IsSatisfying wanted c
@@ -98,7 +108,7 @@ module _ (text : List ℕ) (t : TextProblems) (taken : IsTaken text t) where
       → VerifyAnswers text circuit bytes (status_number status)
   shown_answers circuit bytes status shown line done =
       let by = shown.shown in
-      let g : Given text = record { spec = spec; problems = t.problems; are_problems = taken.problems } in
+      let g : GivenToVerify text = record { spec = spec; problems = t.problems; are_problems = taken.text_with.are } in
       verified g (ap status_number done) (record {
         file = shown.file;
         list = shown.list;
@@ -109,8 +119,8 @@ module _ (text : List ℕ) (t : TextProblems) (taken : IsTaken text t) where
         satisfying = satisfying shown.file.circuit (has_signals given shown.file by.circuit shown.annotates.commented.of_text.fits) (by.satisfies wanted.means accepts) by.runs;
       }) line
 
-  pub bad_answers : (circuit bytes : List ℕ) (status : Status) (n : ℕ) → IsFirstBadFor given circuit n → bytes ≡ line_refusal n → status ≡ ended.LineRefused
+  pub bad_answers : (circuit bytes : List ℕ) (status : Status) (n : ℕ) → IsFirstBadOfCircuit given circuit n → bytes ≡ line_refusal n → status ≡ ended.LineRefused
       → VerifyAnswers text circuit bytes (status_number status)
   bad_answers circuit bytes status n first line done =
-      let g : Given text = record { spec = spec; problems = t.problems; are_problems = taken.problems } in
+      let g : GivenToVerify text = record { spec = spec; problems = t.problems; are_problems = taken.text_with.are } in
       bad_line g n (ap status_number done) first line

@@ -20,7 +20,7 @@ use Rattle.annot_check.proofs.Apart.{causes_are_apart}
 use Rattle.cert_text.specs.Reading.{fault_line}
 use Rattle.document_check.specs.Facts.{Facts}
 use Rattle.document_check.specs.FirstBad.{earliest, faulty_line, stated_line}
-use Rattle.verify_answer.specs.FirstBad.{Annotates, FitsText, HasComment, IsFirstBadFor, IsValidFor, cause_line, comment_of, no_comment, of_fault, of_line, of_names, of_pairs, over}
+use Rattle.verify_answer.specs.FirstBad.{Annotates, FitsText, HasComment, IsFirstBadOfCircuit, IsValidFor, cause_line, comment_of, no_comment, of_fault, of_line, of_names, of_pairs, over}
 use Rattle.verify_answer.proofs.SameNames.{faulty_same}
 
 some_is : (o : Option ℕ) (n m : ℕ) → o ≡ Some n → o ≡ Some m → n ≡ m
@@ -86,7 +86,7 @@ module _ (one_thing : FilesStateOneThing) (one_fault : FilesHaveOneFault) (nothi
         let fault : i ≡ j = (causes_are_apart f.circuit).one facts.system.kind (over facts) p.pairs i j cause_i moved some_i some_j in
         λ k. cause_line (file k) (list k) (fault k)
 
-    pub one_line : (n m : ℕ) → IsFirstBadFor facts bytes n → IsFirstBadFor facts bytes m → n ≡ m
+    pub one_line : (n m : ℕ) → IsFirstBadOfCircuit facts bytes n → IsFirstBadOfCircuit facts bytes m → n ≡ m
     one_line _ _ (of_fault i n first is) (of_fault j m other also) =
         some_is (earliest (Some (fault_line i)) (faulty_line facts bytes)) n m is
         (ap (λ (x : CircuitFault). earliest (Some (fault_line x)) (faulty_line facts bytes)) (one_fault bytes i j first other) ∙ also)
@@ -119,7 +119,7 @@ module _ (one_thing : FilesStateOneThing) (one_fault : FilesHaveOneFault) (nothi
     one_line _ _ (of_pairs f p i a some cause) (of_line g d m other also) = absurd (not_both g f d p m other also a)
     one_line _ _ (of_pairs f p i a some cause) (of_pairs g q j b any also) = one_cause f g p q i j a b some any cause also
 
-    pub valid_has_none : (g : File) (q : Listed) (n : ℕ) → Annotates facts bytes g q → IsValidFor facts g q → IsFirstBadFor facts bytes n → ⊥
+    pub valid_has_none : (g : File) (q : Listed) (n : ℕ) → Annotates facts bytes g q → IsValidFor facts g q → IsFirstBadOfCircuit facts bytes n → ⊥
     valid_has_none g q _ b valid (of_fault i n first is) = nothing bytes g i b.commented.of_text.states first
     valid_has_none g q _ b valid (of_names f n states some) = no_names_bad f g n states some b.commented.of_text
     valid_has_none g q _ b valid (no_comment f fits none) = not_missing f g b.comment fits none b.commented
@@ -155,7 +155,7 @@ module _ (inputs outputs : List (List ℕ)) (s t : Problem) (e f : Option Proble
       subst (λ (k : Kind). IsValidPairList file.circuit k (automaton_of t) list.pairs) same_kind
       (subst (λ (x : AutomatonModel). IsValidPairList file.circuit s.kind x list.pairs) same_automaton valid)
 
-  pub first_moved : (n : ℕ) → IsFirstBadFor one bytes n → IsFirstBadFor other bytes n
+  pub first_moved : (n : ℕ) → IsFirstBadOfCircuit one bytes n → IsFirstBadOfCircuit other bytes n
   first_moved _ (of_fault fault n first is) =
       of_fault fault n first (ap (λ (o : Option ℕ). earliest (Some (fault_line fault)) o) (sym (faulty_same inputs outputs s t e f bytes)) ∙ is)
   first_moved _ (of_names file n states some) = of_names file n states some

@@ -8,7 +8,7 @@ use Rattle.cert_text.specs.Reading.{fault_line}
 use Rattle.cert_text.proofs.CommentLine.{comment_fits}
 use Rattle.document_check.specs.Facts.{Facts}
 use Rattle.document_check.specs.FirstBad.{earliest, faulty_line}
-use Rattle.verify_answer.specs.FirstBad.{Annotates, HasComment, IsFirstBadFor, of_fault, of_pairs}
+use Rattle.verify_answer.specs.FirstBad.{Annotates, HasComment, IsFirstBadOfCircuit, of_fault, of_pairs}
 use Rattle.verify_answer.specs.Reply.{IsFoundOf, IsToldOf}
 
 some_first : (line : ℕ) (o : Option ℕ) → earliest (Some line) o ≡ None → ⊥
@@ -27,7 +27,7 @@ module _ (facts : Facts) (bytes : List ℕ) where
   pub list_found : (file : File) (list : Listed) (o : Option ℕ) → Annotates facts bytes file list → IsToldOf facts file list o → IsFoundOf facts bytes o
   list_found file list None annotates told = record { file = file; list = list; annotates = annotates; shown = told }
   list_found file list (Some n) annotates told =
-      subst (IsFirstBadFor facts bytes) (sym told.line) (of_pairs file list told.fault annotates told.some told.cause)
+      subst (IsFirstBadOfCircuit facts bytes) (sym told.line) (of_pairs file list told.fault annotates told.some told.cause)
 
 -- == the comment ==
 

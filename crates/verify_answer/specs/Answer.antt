@@ -9,7 +9,7 @@ use Rattle.spec_problems.specs.OfText.{AreProblemsOf, IsFirstFault}
 use Rattle.document_check.specs.Facts.{Facts}
 use Rattle.program_replies.specs.Lines.{line_refusal, refusal_line}
 use Rattle.synth_answer.specs.Printed.{given_by}
-use Rattle.verify_answer.specs.FirstBad.{IsFirstBadFor}
+use Rattle.verify_answer.specs.FirstBad.{IsFirstBadOfCircuit}
 use Rattle.verify_answer.specs.Verified.{IsVerified}
 
 -- the line of a circuit that is verified, with the text's kind
@@ -18,21 +18,21 @@ verified_line Mealy = codes "verified as Mealy\n"
 verified_line Moore = codes "verified as Moore\n"
 
 -- a text's flat form and the problems of its two sides, with the kind that it names
-pub record Given (text : List ℕ) : Type 0 where
+pub record GivenToVerify (text : List ℕ) : Type 0 where
   pub spec : FlatText
   pub problems : SideProblems
   pub are_problems : AreProblemsOf text None 2 spec problems
 
 -- what the text gives to the test of circuits
-abbrev pub facts_in : {text : List ℕ} → Given text → Facts
-facts_in g = given_by g.spec g.problems
+abbrev pub facts_to_verify : {text : List ℕ} → GivenToVerify text → Facts
+facts_to_verify g = given_by g.spec g.problems
 
 -- The bytes and the status that answer a text and a circuit's file: the line of the text's first fault, that of the file's first bad
 -- line for the text, or `verified as KIND`.
 pub data VerifyAnswers (text circuit bytes : List ℕ) (status : ℕ) : Type 0 where
   refused : (code : SpecCode) (position : ℕ) → status ≡ 1 → IsFirstFault text None code position → bytes ≡ refusal_line code position
       → VerifyAnswers text circuit bytes status
-  bad_line : (g : Given text) (n : ℕ) → status ≡ 40 → IsFirstBadFor (facts_in g) circuit n → bytes ≡ line_refusal n
+  bad_line : (g : GivenToVerify text) (n : ℕ) → status ≡ 40 → IsFirstBadOfCircuit (facts_to_verify g) circuit n → bytes ≡ line_refusal n
       → VerifyAnswers text circuit bytes status
-  verified : (g : Given text) → status ≡ 0 → IsVerified text circuit (facts_in g) → bytes ≡ verified_line (facts_in g).system.kind
+  verified : (g : GivenToVerify text) → status ≡ 0 → IsVerified text circuit (facts_to_verify g) → bytes ≡ verified_line (facts_to_verify g).system.kind
       → VerifyAnswers text circuit bytes status

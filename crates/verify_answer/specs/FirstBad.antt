@@ -61,12 +61,12 @@ cause_line file list (Broken j) = file.comment_line + list.head_line + 1 + j
 -- Line n is the first at which the file fails for the text. In this order: the circuit has a fault of its own, beside which its
 -- numbers of inputs and outputs and its names are tested, or it hasn't the text's numbers, or a name is another one; the line `c` is
 -- missing; a line of the comment isn't what is wanted there; the list of pairs isn't valid.
-pub data IsFirstBadFor (facts : Facts) (bytes : List ℕ) : ℕ → Type 0 where
+pub data IsFirstBadOfCircuit (facts : Facts) (bytes : List ℕ) : ℕ → Type 0 where
   of_fault : (fault : CircuitFault) (n : ℕ) → IsFirstFault bytes fault → earliest (Some (fault_line fault)) (faulty_line facts bytes) ≡ Some n
-      → IsFirstBadFor facts bytes n
-  of_names : (file : File) (n : ℕ) → States bytes file → stated_line facts System file ≡ Some n → IsFirstBadFor facts bytes n
-  no_comment : (file : File) → FitsText facts bytes file → file.comment_at ≡ None → IsFirstBadFor facts bytes file.comment_line
+      → IsFirstBadOfCircuit facts bytes n
+  of_names : (file : File) (n : ℕ) → States bytes file → stated_line facts System file ≡ Some n → IsFirstBadOfCircuit facts bytes n
+  no_comment : (file : File) → FitsText facts bytes file → file.comment_at ≡ None → IsFirstBadOfCircuit facts bytes file.comment_line
   of_line : (file : File) (comment : List ℕ) (n : ℕ) → HasComment facts bytes file comment
-      → IsFirstBadLine comment (length file.circuit.latches) (states_of (over facts)) n → IsFirstBadFor facts bytes (file.comment_line + n)
+      → IsFirstBadLine comment (length file.circuit.latches) (states_of (over facts)) n → IsFirstBadOfCircuit facts bytes (file.comment_line + n)
   of_pairs : (file : File) (list : Listed) (fault : AnnotFault) → Annotates facts bytes file list → (fault ≡ NoMemory → ⊥)
-      → IsCause file.circuit facts.system.kind (over facts) list.pairs fault → IsFirstBadFor facts bytes (cause_line file list fault)
+      → IsCause file.circuit facts.system.kind (over facts) list.pairs fault → IsFirstBadOfCircuit facts bytes (cause_line file list fault)

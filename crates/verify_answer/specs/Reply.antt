@@ -2,12 +2,9 @@
 use Rattle.std.specs.Prelude.{◌≡◌, ◌≢◌, ◌<◌, ⊤, ℕ, Bool, List, Option, Some, None, length}
 use Rattle.letter_word.specs.declared.kinds.Side.TheVariants.{System}
 use Rattle.letter_word.specs.Word.{Word}
-use Rattle.ltl_formula.specs.Nodes.{tree_at}
 use Rattle.machine_model.specs.Problem.{IsProblem}
 use Rattle.tlsf_expand.specs.FlatText.{spec_seen}
 use Rattle.spec_problems.specs.declared.texts.TextProblems.{TextProblems}
-use Rattle.spec_problems.specs.OfFormula.{AcceptBySide}
-use Rattle.spec_problems.specs.OfText.{AreProblemsOf, SaysWhat}
 use Rattle.aiger_text.specs.Circuit.{RunsOnEveryInput}
 use Rattle.aiger_text.specs.CircuitFile.{File}
 use Rattle.aiger_text.specs.CircuitType.{IsCircuit}
@@ -18,10 +15,11 @@ use Rattle.annot_check.specs.Causes.{IsCause}
 use Rattle.annot_check.specs.Laws.{AcceptsFalse, SatisfiesAs}
 use Rattle.annot_check.specs.Pairs.{Listed}
 use Rattle.program_replies.specs.Statuses.{status_number}
+use Rattle.synth_answer.specs.declared.texts.Problems.{Problems}
+use Rattle.synth_answer.specs.declared.texts.Problems.TheVariants.{Of, Refused}
 use Rattle.synth_answer.specs.Printed.{given_by}
-use Rattle.verify_answer.specs.declared.answering.Problems.{Problems}
-use Rattle.verify_answer.specs.declared.answering.Problems.TheVariants.{Of, Refused}
-use Rattle.verify_answer.specs.FirstBad.{Annotates, IsFirstBadFor, IsValidFor, cause_line, over}
+use Rattle.synth_answer.specs.Texts.{IsTextWith}
+use Rattle.verify_answer.specs.FirstBad.{Annotates, IsFirstBadOfCircuit, IsValidFor, cause_line, over}
 use Rattle.verify_answer.specs.Answer.{VerifyAnswers}
 
 -- what a text gives to the test of circuits is within the limits, and its problem is over its inputs and outputs
@@ -31,16 +29,14 @@ pub record AreReady (facts : Facts) : Type 0 where
   pub outputs : facts.system.outputs ≡ length facts.outputs
 
 -- a text that was read and expanded, with the kind that it names, and its problems
-pub record IsTaken (text : List ℕ) (t : TextProblems) : Type 0 where
-  pub problems : AreProblemsOf text None 2 (spec_seen t.spec) t.problems
+pub record IsForVerify (text : List ℕ) (t : TextProblems) : Type 0 where
+  pub text_with : IsTextWith 2 text None (spec_seen t.spec) t.problems
   pub ready : AreReady (given_by (spec_seen t.spec) t.problems)
-  pub accept : AcceptBySide (tree_at t.spec.formulas t.spec.whole) t.problems
-  pub means : SaysWhat text t.spec.formulas t.spec.whole
 
 -- A text's problems, or a reply that answers the text with whatever circuit.
-abbrev pub AreTakenOf : List ℕ → Problems → Type 0
-AreTakenOf text (Of t) = IsTaken text t
-AreTakenOf text (Refused r) = (circuit : List ℕ) → VerifyAnswers text circuit r.bytes.items (status_number r.status)
+abbrev pub AreForVerify : List ℕ → Problems → Type 0
+AreForVerify text (Of t) = IsForVerify text t
+AreForVerify text (Refused r) = (circuit : List ℕ) → VerifyAnswers text circuit r.bytes.items (status_number r.status)
 
 -- The list is valid, and so the circuit satisfies, as its kind, whatever is false on lassos alone that the system's automaton accepts.
 pub record IsShownBy (facts : Facts) (file : File) (list : Listed) : Type 0 where
@@ -79,4 +75,4 @@ pub record IsShown (facts : Facts) (bytes : List ℕ) : Type 0 where
 -- what is found out of a file: its first bad line, or that its annotation is valid
 abbrev pub IsFoundOf : Facts → List ℕ → Option ℕ → Type 0
 IsFoundOf facts bytes None = IsShown facts bytes
-IsFoundOf facts bytes (Some n) = IsFirstBadFor facts bytes n
+IsFoundOf facts bytes (Some n) = IsFirstBadOfCircuit facts bytes n

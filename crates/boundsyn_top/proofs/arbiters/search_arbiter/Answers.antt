@@ -8,6 +8,6 @@ pub returns : goal.returns
 returns g c =
     whole_is _ c.bench_answer.result c.whole_output.result c.whole_output.ensures
     (IfOk-weaker c.bench_answer.result _ _
-    (λ r answer told before after. whole_of told before after (bench c.args.clients c.args.workers) r
-    (bench_answered told before after c.args.clients c.args.workers r.bytes.items (status_number r.status) answer))
+    (λ r answer step. whole_of step (bench c.args.clients c.args.workers) r
+    (bench_answered step c.args.clients c.args.workers r.bytes.items (status_number r.status) answer))
     c.bench_answer.ensures)

@@ -7,7 +7,7 @@ use Rattle.boundsyn_top.proofs.batches.answer_lines.Goals as goal
 pub returns-in-Ok-clause-reply : goal.returns-in-Ok-clause-reply
 returns-in-Ok-clause-reply g c =
     IfOk-weaker c.answer_texts.result _ _
-    (λ r replies. by_names _ _ _ c.lists_are_determined.ensures c.args.lines.now c.in-Ok.names.items _ r.bytes.items (status_number r.status)
+    (λ r replies. by_names _ c.lists_are_determined.ensures c.args.lines.now c.in-Ok.names.items _ r.bytes.items (status_number r.status)
     c.in-Ok.ensures.list (rw c.deref.ensures.value at replies))
     c.answer_texts.ensures.reply
 
@@ -23,5 +23,5 @@ returns-in-Ok-clause-other_files g c = λ name foreign.
 pub returns-in-Err-clause-reply : goal.returns-in-Err-clause-reply
 returns-in-Err-clause-reply g c =
     IfOk-weaker c.list_refusal.result _ _
-    (λ r is. list_refused _ _ _ c.args.lines.now _ c.in-Err.fault r.bytes.items r.status (λ n same. c.in-Err.ensures.bad n (ap Err same)) is)
+    (λ r is. list_refused _ c.args.lines.now _ c.in-Err.fault r.bytes.items r.status (λ n same. c.in-Err.ensures.bad n (ap Err same)) is)
     c.list_refusal.ensures

@@ -11,9 +11,9 @@ returns-in-Some-clause-output g c =
     let are = rw c.in-Some.is at c.in_ok-lines.ensures.taken in
     whole_is _ c.answer_lines.result c.whole_output.result c.whole_output.ensures
     (IfOk-weaker c.answer_lines.result _ _
-    (λ r replies. whole_of _ _ _ (batch c.args.list.now c.args.wanted) r (by_lines _ _ _ (g.H.Shelf.faults c.take_whole.new.shelf) c.args.list.now c.args.wanted
-    c.in-Some.lines.items r.bytes.items (status_number r.status) are c.take_whole.ensures.never_falls
-    (rw (c.deref.ensures.value, c.take_whole.ensures.files) at replies)))
+    (λ r replies. whole_of _ (batch c.args.list.now c.args.wanted) r (by_lines _ _ (g.H.Shelf.faults c.take_whole.new.shelf) c.args.list.now c.args.wanted
+    c.in-Some.lines.items r.bytes.items (status_number r.status) c.take_whole.ensures.files are c.take_whole.ensures.never_falls
+    (rw c.deref.ensures.value at replies)))
     c.answer_lines.ensures.reply)
 
 pub returns-in-Some-clause-other_files : goal.returns-in-Some-clause-other_files
@@ -29,7 +29,7 @@ returns-in-None-clause-output g c =
     let rose = rw c.in-None.is at c.in_ok-lines.ensures.taken in
     whole_is _ c.cannot_read.result c.whole_output-in-None.result c.whole_output-in-None.ensures
     (IfOk-weaker c.cannot_read.result _ _
-    (λ r is. whole_of _ _ _ (batch c.args.list.now c.args.wanted) r (list_unread _ _ _ c.args.list.now c.args.wanted r.bytes.items r.status rose is.0 is.1))
+    (λ r is. whole_of _ (batch c.args.list.now c.args.wanted) r (list_unread _ c.args.list.now c.args.wanted r.bytes.items r.status rose is.0 is.1))
     c.cannot_read.ensures)
 
 pub returns-in-None-clause-other_files : goal.returns-in-None-clause-other_files

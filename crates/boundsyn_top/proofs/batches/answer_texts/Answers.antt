@@ -19,11 +19,11 @@ pub returns-in-Some-clause-reply : goal.returns-in-Some-clause-reply
 returns-in-Some-clause-reply g c =
     let found = files_taken _ c.args.names.now c.in-Some.texts.items (rw c.in-Some.is at c.in_ok-texts.ensures.taken) in
     if_both c.batch_answer.result _ _ _
-    (λ r answer done. texts_answered _ _ _ c.args.names.now found.files _ r.bytes.items r.status found.of_names (rw c.bounds.ensures at answer) done)
+    (λ r answer done. texts_answered _ c.args.names.now found.files _ r.bytes.items r.status found.of_names answer done)
     (c.batch_answer.ensures.answers found.files (rw c.deref.ensures.value found.are_texts))
     c.batch_answer.ensures.done
 
 pub returns-in-None-clause-reply : goal.returns-in-None-clause-reply
 returns-in-None-clause-reply g c =
     let one = rw c.in-None.is at c.in_ok-texts.ensures.taken in
-    IfOk-weaker c.cannot_read.result _ _ (λ r is. names_unread _ _ _ c.args.names.now _ r.bytes.items r.status one is.0 is.1) c.cannot_read.ensures
+    IfOk-weaker c.cannot_read.result _ _ (λ r is. names_unread _ c.args.names.now _ r.bytes.items r.status one is.0 is.1) c.cannot_read.ensures

@@ -14,4 +14,4 @@ returns-in-Of-clause-other_files g c = λ name differs.
 pub returns-in-Refused-clause-reply : goal.returns-in-Refused-clause-reply
 returns-in-Refused-clause-reply g c =
     let all = rw c.in-Refused.is at c.in_ok-found.ensures in
-    whatever _ _ _ c.args.certificate.now _ _ _ _ all
+    whatever _ c.args.certificate.now _ _ _ _ all

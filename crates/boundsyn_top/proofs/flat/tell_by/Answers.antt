@@ -15,4 +15,4 @@ returns-in-Flat-clause-other_files g c = λ name differs.
 pub returns-in-Refused-clause-reply : goal.returns-in-Refused-clause-reply
 returns-in-Refused-clause-reply g c =
     let all = rw c.in-Refused.is at c.in_ok-flat.ensures.refused_to_words in
-    whatever _ _ _ c.args.word.now _ _ _ _ all
+    whatever _ c.args.word.now _ _ _ _ all

@@ -11,15 +11,15 @@ returns-in-Whole-clause-output g c =
     let are = rw c.in-Whole.is at c.in_ok-text.ensures.taken in
     whole_is _ c.tell_by.result c.whole_output.result c.whole_output.ensures
     (IfOk-weaker c.tell_by.result _ _
-    (λ r by_file. whole_of _ _ _ (lasso c.args.spec.now c.args.word.now) r (lasso_by_file _ _ _ (g.H.Shelf.faults c.take_text.new.shelf) c.args.spec.now
-    c.args.word.now c.in-Whole.text.items r.bytes.items (status_number r.status) are c.take_text.ensures.never_falls
-    (rw (c.deref.ensures.value, c.take_text.ensures.files) at by_file)))
+    (λ r by_file. whole_of _ (lasso c.args.spec.now c.args.word.now) r (lasso_by_file _ _ (g.H.Shelf.faults c.take_text.new.shelf) c.args.spec.now
+    c.args.word.now c.in-Whole.text.items r.bytes.items (status_number r.status) c.take_text.ensures.files are c.take_text.ensures.never_falls
+    (rw c.deref.ensures.value at by_file)))
     c.tell_by.ensures.reply)
 
 pub returns-in-Refused-clause-output : goal.returns-in-Refused-clause-output
 returns-in-Refused-clause-output g c =
     let untaken = rw c.in-Refused.is at c.in_ok-text.ensures.taken in
-    whole_of _ _ _ (lasso c.args.spec.now c.args.word.now) c.in-Refused.reply (lasso_untaken _ _ _ c.args.spec.now c.args.word.now _ _ untaken)
+    whole_of _ (lasso c.args.spec.now c.args.word.now) c.in-Refused.reply (lasso_untaken _ c.args.spec.now c.args.word.now _ _ untaken)
 
 pub returns-in-Whole-clause-other_files : goal.returns-in-Whole-clause-other_files
 returns-in-Whole-clause-other_files g c = λ name foreign.

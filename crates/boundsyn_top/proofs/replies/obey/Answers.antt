@@ -31,8 +31,8 @@ pub returns-in-Batch-clause-other_files : goal.returns-in-Batch-clause-other_fil
 returns-in-Batch-clause-other_files g c = λ name foreign. c.answer_list.ensures.other_files name (rw c.in-Batch.is at foreign)
 
 pub returns-in-Gen-clause-output : goal.returns-in-Gen-clause-output
-returns-in-Gen-clause-output g c = rw c.in-Gen.is (IfOk-weaker c.generate.result _ _ (λ o output. output _ _ _) c.generate.ensures)
+returns-in-Gen-clause-output g c = rw c.in-Gen.is (IfOk-weaker c.generate.result _ _ (λ o output. output _) c.generate.ensures)
 
 pub returns-in-Bench-clause-output : goal.returns-in-Bench-clause-output
 returns-in-Bench-clause-output g c =
-    rw c.in-Bench.is (IfOk-weaker c.search_arbiter.result _ _ (λ o output. output _ _ _) c.search_arbiter.ensures)
+    rw c.in-Bench.is (IfOk-weaker c.search_arbiter.result _ _ (λ o output. output _) c.search_arbiter.ensures)

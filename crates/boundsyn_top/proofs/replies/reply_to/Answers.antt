@@ -8,7 +8,7 @@ use Rattle.boundsyn_top.proofs.replies.reply_to.Goals as goal
 pub returns-in-Ok-clause-output : goal.returns-in-Ok-clause-output
 returns-in-Ok-clause-output g c =
     IfOk-weaker c.obey.result _ _
-    (λ o output. output_by (map string_bytes c.args.words.now) _ _ _ (asked_by c.in-Ok.settings) o c.in-Ok.ensures.settings output)
+    (λ o output. output_by (map string_bytes c.args.words.now) _ (asked_by c.in-Ok.settings) o c.in-Ok.ensures.settings output)
     c.obey.ensures.output
 
 pub returns-in-Ok-clause-other_files : goal.returns-in-Ok-clause-other_files
@@ -19,5 +19,5 @@ pub returns-in-Err-Refused-clause-output : goal.returns-in-Err-Refused-clause-ou
 returns-in-Err-Refused-clause-output g c =
     whole_is _ c.words_refused.result c.whole_output.result c.whole_output.ensures
     (IfOk-weaker c.words_refused.result _ _
-    (λ r is. unasked_output (map string_bytes c.args.words.now) _ _ _ r (c.in-Err-Refused.ensures.refused (cc)) is.0 is.1)
+    (λ r is. unasked_output (map string_bytes c.args.words.now) _ r (c.in-Err-Refused.ensures.refused (cc)) is.0 is.1)
     c.words_refused.ensures)

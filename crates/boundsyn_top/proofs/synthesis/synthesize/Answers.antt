@@ -9,11 +9,11 @@ returns-in-Whole-clause-output g c =
     let are = rw c.in-Whole.is at c.in_ok-text.ensures.taken in
     whole_is _ c.answer.result c.whole_output.result c.whole_output.ensures
     (IfOk-weaker c.answer.result _ _
-    (λ r answer. whole_of _ _ _ (synth c.args.spec.now c.args.wanted c.args.kind) r (synth_answered _ _ _ c.args.spec.now c.in-Whole.text.items c.args.wanted c.args.kind
-    r.bytes.items (status_number r.status) are (rw (c.deref.ensures.value, c.bounds.ensures) at answer)))
+    (λ r answer. whole_of _ (synth c.args.spec.now c.args.wanted c.args.kind) r (synth_answered _ c.args.spec.now c.in-Whole.text.items c.args.wanted c.args.kind
+    r.bytes.items (status_number r.status) are (rw c.deref.ensures.value at answer)))
     c.answer.ensures)
 
 pub returns-in-Refused-clause-output : goal.returns-in-Refused-clause-output
 returns-in-Refused-clause-output g c =
     let untaken = rw c.in-Refused.is at c.in_ok-text.ensures.taken in
-    whole_of _ _ _ (synth c.args.spec.now c.args.wanted c.args.kind) c.in-Refused.reply (synth_untaken _ _ _ c.args.spec.now c.args.wanted c.args.kind _ _ untaken)
+    whole_of _ (synth c.args.spec.now c.args.wanted c.args.kind) c.in-Refused.reply (synth_untaken _ c.args.spec.now c.args.wanted c.args.kind _ _ untaken)

@@ -1,4 +1,4 @@
-use Rattle.std.proofs.Common.{rules, ◌≡◌, Err, sym, ap, subst}
+use Rattle.std.proofs.Common.{rules, Err, sym, ap, subst}
 use Rattle.std.proofs.lemmas.Result.{IfOk-weaker}
 use Rattle.program_replies.specs.Statuses.{status_number}
 use Rattle.cert_text.specs.Parts.{Document}

@@ -1,31 +1,29 @@
-use Rattle.std.proofs.Common.{Err, ap}
-use Rattle.std.proofs.lemmas.Result.{IfOk-weaker}
 use Rattle.annotation_encode.specs.Counts.{counts_version}
 use Rattle.tlsf_expand.specs.FlatText.{spec_seen}
-use Rattle.program_replies.specs.Statuses.{status_number}
-use Rattle.synth_answer.specs.Reply.{IsRefusal}
 use Rattle.synth_answer.proofs.Meaning.{are_problems_for}
-use Rattle.core_answer.specs.Core.{CoreAnswers}
-use Rattle.core_answer.proofs.Wholes.{fault_answers, stand_here, text_in}
+use Rattle.core_answer.specs.Core.{of_text, refused}
+use Rattle.core_answer.proofs.Wholes.{stand_here, text_in}
 use Rattle.core_answer.proofs.answering.core_answer.Goals as goal
 
 pub text_answer-requires-clause-problems : goal.text_answer-requires-clause-problems
 text_answer-requires-clause-problems g c κs within =
-    let e = c.in-Ok.ensures in
-    are_problems_for (counts_version c.args.settings.counts) c.args.text.now c.args.kind (spec_seen c.in-Ok.found.spec) c.in-Ok.found.problems e.meet
-    (rw c.version.ensures at e.problems)
+    let t = rw (c.in-Of.is, c.version.ensures) at c.in_ok-found.ensures.text in
+    are_problems_for (counts_version c.args.settings.counts) c.args.text.now c.args.kind (spec_seen c.in-Of.found.spec) c.in-Of.found.problems
+    (rw c.in-Of.is at c.in_ok-found.ensures.meet) t.are
 
 pub text_answer-requires-clause-stand : goal.text_answer-requires-clause-stand
 text_answer-requires-clause-stand g c κs within =
-    let e = c.in-Ok.ensures in
+    let t = rw (c.in-Of.is, c.version.ensures) at c.in_ok-found.ensures.text in
     let text = c.args.text.now in
-    let spec = spec_seen c.in-Ok.found.spec in
-    stand_here text c.args.kind spec (text_in {version = counts_version c.args.settings.counts} text c.args.kind spec c.in-Ok.found.problems (record { are = rw c.version.ensures at e.problems; accept = e.accept; says = e.means }) c.sections_of_texts_stand.ensures)
+    let spec = spec_seen c.in-Of.found.spec in
+    stand_here text c.args.kind spec (text_in {version = counts_version c.args.settings.counts} text c.args.kind spec c.in-Of.found.problems t c.sections_of_texts_stand.ensures)
 
-pub returns-in-Err : goal.returns-in-Err
-returns-in-Err g c =
-    IfOk-weaker c.refusal.result
-    (λ r. IsRefusal c.in-Err.fault r.bytes.items r.status)
-    (λ r. CoreAnswers c.args.text.now c.args.kind c.args.settings r.bytes.items (status_number r.status))
-    (λ r h. fault_answers c.args.text.now c.args.kind c.args.settings c.in-Err.fault r.bytes.items r.status (λ code position is. c.in-Err.ensures.fault code position (ap Err is)) h)
-    c.refusal.ensures
+pub returns-in-Of : goal.returns-in-Of
+returns-in-Of g c =
+    let t = rw (c.in-Of.is, c.version.ensures) at c.in_ok-found.ensures.text in
+    c.text_answer.ensures c.args.text.now c.args.kind t
+
+pub returns-in-Refused : goal.returns-in-Refused
+returns-in-Refused g c =
+    let r = rw c.in-Refused.is at c.in_ok-found.ensures.text in
+    refused r.code r.place r.status_is (of_text r.code r.place r.fault) r.line

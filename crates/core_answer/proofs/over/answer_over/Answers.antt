@@ -23,10 +23,10 @@ pub returns-in-Err : goal.returns-in-Err
 returns-in-Err g c = λ text kind t fewer.
     let spec = spec_seen c.args.spec.now in
     let keep = c.args.keep.now in
-    IfOk-weaker c.refusal.result
+    IfOk-weaker c.refused_over.result
     (λ a. IsRefusedReply c.list_fault.result a.reply.bytes.items a.reply.status a.defeats)
     (λ a. IsToldOver text keep kind c.args.settings a.reply.bytes.items (status_number a.reply.status) a.defeats)
     (λ a reply. told_no_room text kind spec t keep c.args.settings fewer a.reply.bytes.items c.in-Err.fault
     (λ full. c.in-Err.ensures.too_many (ap Err full)) a.reply.status a.defeats
     (subst (λ fault. IsRefusedReply fault a.reply.bytes.items a.reply.status a.defeats) c.list_fault.ensures reply))
-    c.refusal.ensures
+    c.refused_over.ensures

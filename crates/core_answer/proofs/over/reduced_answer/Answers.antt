@@ -25,8 +25,8 @@ returns-in-Ok g c =
 
 pub returns : goal.returns
 returns g c =
-    IfOk-weaker c.refusal.result
+    IfOk-weaker c.refused_over.result
     (λ a. IsRefusedReply c.in-Err.fault a.reply.bytes.items a.reply.status a.defeats)
     (λ a. IsReducedReply (spec_seen c.args.spec.now).expanded c.args.reduced c.args.settings a.reply.bytes.items a.reply.status a.defeats)
     (λ a reply. reduced_refused c.in-Err.fault (λ code place is. c.in-Err.ensures.fault code place (ap Err is)) reply)
-    c.refusal.ensures
+    c.refused_over.ensures

@@ -1,5 +1,8 @@
 use Rattle.std.proofs.Common.{None, Err, ap}
 use Rattle.tlsf_expand.specs.FlatText.{spec_seen}
+use Rattle.flat_text.specs.FlatOf.{IsFlatFault}
+use Rattle.program_replies.specs.Statuses.{status_number}
+use Rattle.program_replies.proofs.RefusalLemmas.{refused_by}
 use Rattle.flat_answer.proofs.Replies.{refused_expand, refused_lasso}
 use Rattle.flat_answer.proofs.texts.expanded.Goals as goal
 
@@ -11,9 +14,13 @@ returns-in-Ok-clause-writable c =
 pub returns-in_ok-refusal-in-Err-clause-refused : goal.returns-in_ok-refusal-in-Err-clause-refused
 returns-in_ok-refusal-in-Err-clause-refused c =
     let reply = c.in_ok-refusal-in-Err.field-0 in
-    refused_expand c.args.text.now c.in-Err.fault reply.bytes.items reply.status (λ code place is. c.in-Err.ensures.fault code place (ap Err is)) c.in_ok-refusal-in-Err.ensures
+    let text = c.args.text.now in
+    refused_expand text reply.bytes.items (status_number reply.status)
+    (refused_by (IsFlatFault text None) c.in-Err.fault reply.bytes.items reply.status (λ code place is. c.in-Err.ensures.fault code place (ap Err is)) c.in_ok-refusal-in-Err.ensures)
 
 pub returns-in_ok-refusal-in-Err-clause-refused_to_words : goal.returns-in_ok-refusal-in-Err-clause-refused_to_words
 returns-in_ok-refusal-in-Err-clause-refused_to_words c =
     let reply = c.in_ok-refusal-in-Err.field-0 in
-    refused_lasso c.args.text.now c.in-Err.fault reply.bytes.items reply.status (λ code place is. c.in-Err.ensures.fault code place (ap Err is)) c.in_ok-refusal-in-Err.ensures
+    let text = c.args.text.now in
+    refused_lasso text reply.bytes.items (status_number reply.status)
+    (refused_by (IsFlatFault text None) c.in-Err.fault reply.bytes.items reply.status (λ code place is. c.in-Err.ensures.fault code place (ap Err is)) c.in_ok-refusal-in-Err.ensures)

@@ -17,12 +17,13 @@ search-requires-clause-system g c κs within =
 pub reply_to-requires : goal.reply_to-requires
 reply_to-requires g c =
     let e = c.in_ok-outcome.ensures in
-    outcome_fits (counts_version c.args.settings.counts) (spec_seen c.args.spec.now).expanded c.args.problems c.requires.problems c.args.settings c.requires.most_size c.sizes_rise.ensures c.in_ok-outcome.outcome e.real e.unreal e.bounded
+    outcome_fits (counts_version c.args.settings.counts) (spec_seen c.args.spec.now).expanded c.args.problems c.requires.problems c.args.settings c.max-max.ensures.bounds.most_size c.sizes_rise.ensures c.in_ok-outcome.outcome e.real e.unreal e.bounded
 
 pub returns : goal.returns
 returns g c =
     let e = c.in_ok-outcome.ensures in
     record {
+      bounds = c.max-max.ensures.bounds;
       automata = c.automata_are_kept.ensures;
       outcome = c.in_ok-outcome.outcome;
       real = e.real;
@@ -32,5 +33,5 @@ returns g c =
       no_entries = e.no_entries;
       decisive = λ cannot. e.decisive cannot;
       reply = c.in_ok-reply.ensures;
-      told = sym c.outcome_defeats-defeats.ensures;
+      told = sym c.outcome_verdict-verdict.ensures;
     }

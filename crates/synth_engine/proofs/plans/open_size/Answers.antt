@@ -16,4 +16,6 @@ opened q settings (Ok o) is terms len each = record { problem = is; terms = term
 opened q settings (Err e) is terms len each = tt
 
 pub returns : goal.returns
-returns c = opened c.args.problem c.args.settings c.open.result c.open.ensures.problem c.open.ensures.terms c.open.ensures.count c.open.ensures.seats
+returns c =
+    opened c.args.problem c.args.settings c.open.result c.open.ensures.problem (rw (c.entries.ensures.value, c.workers.ensures.value) at c.open.ensures.terms)
+    (rw c.workers.ensures.value at c.open.ensures.count) (rw c.workers.ensures.value at c.open.ensures.seats)

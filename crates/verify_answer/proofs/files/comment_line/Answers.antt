@@ -7,7 +7,7 @@ use Rattle.annot_check.specs.declared.pairs.Pair.{Pair}
 use Rattle.machine_model.specs.Automaton.{states_of}
 use Rattle.annot_check.specs.AnnotationText.{IsFirstBadLine, StatesPairs}
 use Rattle.document_check.specs.Shown.{facts_of}
-use Rattle.verify_answer.specs.FirstBad.{IsFirstBadFor, of_line, over}
+use Rattle.verify_answer.specs.FirstBad.{IsFirstBadOfCircuit, of_line, over}
 use Rattle.verify_answer.specs.Reply.{IsFoundOf, IsToldOf}
 use Rattle.verify_answer.proofs.Found.{comment_short, list_found}
 use Rattle.verify_answer.proofs.Signals.{can_be_checked}
@@ -52,7 +52,7 @@ returns-in_ok-line-in-Err c =
     let latches : c.latch_count-latches.result ≡ length c.args.file.now.circuit.latches = c.latch_count-latches.ensures ∙ ap (λ (f : File). length f.circuit.latches) c.file.view_is in
     let states : c.states.result ≡ states_of (over (facts_of c.args.facts)) = c.states.ensures.value ∙ ap states_of c.deref.ensures in
     let bad = c.in-Err.ensures.bad c.in_ok-line-in-Err.line (ap Err c.in_ok-line-in-Err.ensures) in
-    subst (λ (f : File). IsFirstBadFor (facts_of c.args.facts) c.args.bytes.now (f.comment_line + c.in_ok-line-in-Err.line)) (sym c.file.view_is)
+    subst (λ (f : File). IsFirstBadOfCircuit (facts_of c.args.facts) c.args.bytes.now (f.comment_line + c.in_ok-line-in-Err.line)) (sym c.file.view_is)
     (of_line c.args.file.now c.args.comment.now c.in_ok-line-in-Err.line c.requires.commented
     (subst (λ (n : ℕ). IsFirstBadLine c.args.comment.now n (states_of (over (facts_of c.args.facts))) c.in_ok-line-in-Err.line) latches
     (subst (λ (n : ℕ). IsFirstBadLine c.args.comment.now c.latch_count-latches.result n c.in_ok-line-in-Err.line) states bad)))

@@ -3,7 +3,7 @@ use Rattle.letter_word.specs.declared.kinds.Side.TheVariants.{System}
 use Rattle.aiger_text.specs.CircuitFile.{File}
 use Rattle.document_check.specs.Shown.{facts_of}
 use Rattle.document_check.specs.FirstBad.{stated_line}
-use Rattle.verify_answer.specs.FirstBad.{IsFirstBadFor, comment_of, no_comment, of_names}
+use Rattle.verify_answer.specs.FirstBad.{IsFirstBadOfCircuit, comment_of, no_comment, of_names}
 use Rattle.verify_answer.proofs.Found.{none_mapped}
 use Rattle.verify_answer.proofs.files.file_line.Goals as goal
 
@@ -15,5 +15,5 @@ pub returns-in_default-comment_of : goal.returns-in_default-comment_of
 returns-in_default-comment_of c =
     let fits : stated_line (facts_of c.args.facts) System c.args.file.now ≡ None = sym c.stated_line.ensures ∙ c.in_default.is in
     let none : comment_of c.args.file.now c.args.bytes.now ≡ None = search rules in
-    subst (λ (f : File). IsFirstBadFor (facts_of c.args.facts) c.args.bytes.now f.comment_line) (sym c.file.view_is)
+    subst (λ (f : File). IsFirstBadOfCircuit (facts_of c.args.facts) c.args.bytes.now f.comment_line) (sym c.file.view_is)
     (no_comment c.args.file.now (record { states = c.requires.states; fits = fits }) (none_mapped _ c.args.file.now.comment_at none))

@@ -15,9 +15,9 @@ draw-requires-in-loop-number c =
 pub loop-number-preserved : goal.loop-number-preserved
 loop-number-preserved c =
     let test = c.loop-number-test.true in
-    let count : length c.loop-number.crews.items + c.loop-number.number ≡ c.args.workers + 1 = c.loop-number.invariant.count in
+    let count : length c.loop-number.crews.items + c.loop-number.number ≡ c.args.settings.workers + 1 = c.loop-number.invariant.count in
     let before : c.loop-number.number ≡ c.loop-number.number - 1 + 1 = omega arith in
-    let number : c.loop-number.number - 1 ≡ c.args.workers - length c.loop-number.crews.items = omega arith in
+    let number : c.loop-number.number - 1 ≡ c.args.settings.workers - length c.loop-number.crews.items = omega arith in
     let later : length c.push.new.self.items ≡ length c.loop-number.crews.items + 1 = ap length c.in_ok-push.ensures.items ∙ length-append c.loop-number.crews.items (_ ∷ []) in
     let system = handed c.loop-number.number (c.loop-number.number - 1) c.args.self.sizes.system.items c.loop-number.system.items c.in_ok-of_system.rest_of_system.items c.in_ok-of_system.of_system.items before
     c.loop-number.invariant.system c.in_ok-of_system.ensures in
@@ -28,6 +28,6 @@ loop-number-preserved c =
       count = omega arith;
       system = system.0;
       environment = environment.0;
-      workers = workers_push c.args.self.sizes c.args.workers c.loop-number.crews.items c.push.new.self.items _ c.loop-number.invariant.workers c.in_ok-push.ensures.items
+      workers = workers_push c.args.self.sizes c.args.settings.workers c.loop-number.crews.items c.push.new.self.items _ c.loop-number.invariant.workers c.in_ok-push.ensures.items
           (record { system = system.1; environment = environment.1 }) number;
     }

@@ -1,0 +1,30 @@
+-- A text that is read before anything else: its problems, or the reply to its first fault (this project's own).
+use Rattle.std.specs.Prelude.{ℕ, List, Option}
+use Rattle.letter_word.specs.declared.kinds.Kind.{Kind}
+use Rattle.ltl_formula.specs.Nodes.{tree_at}
+use Rattle.tlsf_expand.specs.FlatText.{FlatText, spec_seen}
+use Rattle.spec_problems.specs.declared.sides.SideProblems.{SideProblems}
+use Rattle.spec_problems.specs.declared.texts.TextProblems.{TextProblems}
+use Rattle.spec_problems.specs.OfFormula.{AcceptBySide}
+use Rattle.spec_problems.specs.OfText.{AreProblemsOf, IsFirstFault, SaysWhat}
+use Rattle.program_replies.specs.Refusals.{RefusedBy}
+use Rattle.program_replies.specs.Statuses.{status_number}
+use Rattle.synth_answer.specs.declared.texts.Problems.{Problems}
+use Rattle.synth_answer.specs.declared.texts.Problems.TheVariants.{Of, Refused}
+
+-- a text's flat form with the problems of its two sides over base clauses of this version, what their automata accept, and what the text
+-- says
+pub record IsTextWith (version : ℕ) (text : List ℕ) (kind : Option Kind) (spec : FlatText) (s : SideProblems) : Type 0 where
+  pub are : AreProblemsOf text kind version spec s
+  pub accept : AcceptBySide (tree_at spec.formulas spec.expanded.whole) s
+  pub says : SaysWhat text spec.formulas spec.expanded.whole
+
+-- a text's problems, or the reply to its first fault
+abbrev pub AreOfText : ℕ → List ℕ → Option Kind → Problems → Type 0
+AreOfText version text kind (Of t) = IsTextWith version text kind (spec_seen t.spec) t.problems
+AreOfText version text kind (Refused reply) = RefusedBy (IsFirstFault text kind) reply.bytes.items (status_number reply.status)
+
+-- if there are problems, this holds of them
+abbrev pub IfProblems : (TextProblems → Type 0) → Problems → Type 0
+IfProblems P (Of t) = P t
+IfProblems P (Refused reply) = Unit {0}
