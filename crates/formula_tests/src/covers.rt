@@ -1,10 +1,11 @@
+//! The covers of a set of one formula.
 ghost use Rattle.std.specs.Prelude.{◌≡◌, [], ◌∷◌, IfOk};
 
-use crate::fixtures::{add, pairs};
-use ltl_formula::{FormulaId, Formulas, Node};
-use obligation_sets::{CoverFault, ObligationSet, covers};
+use crate::fixtures::{formula, push_times};
+use ltl_formula::{FormulaId, Formulas};
+use obligation_sets::{Cover, CoverFault, ObligationSet, covers};
 use std::alloc::{AllocError, Global};
-use std::process::Abort;
+use std::fmt::Write;
 use std::test::Fail;
 
 fn set_of_one(alloc: Global, id: FormulaId) -> Result<ObligationSet, AllocError>
@@ -15,84 +16,59 @@ fn set_of_one(alloc: Global, id: FormulaId) -> Result<ObligationSet, AllocError>
     Ok(ObligationSet::new(ids))
 }
 
+fn covers_of(alloc: Global, text: &[u8]) -> Result<Result<Vec<Cover>, CoverFault>, Fail> {
+    let mut formulas = Formulas::new(alloc);
+    let f = formula(alloc, &mut formulas, text)?;
+    let set = set_of_one(alloc, f)?;
+    Ok(covers(alloc, &formulas, &set))
+}
+
+// What each cover wants and forbids, how many formulas it leaves to the next position, and how many untils it puts off.
+fn told(alloc: Global, text: &[u8]) -> Result<String, Fail> {
+    let mut told = String::new(alloc);
+    for cover in &covers_of(alloc, text)?? {
+        let (next, postponed) = (cover.next.ids().len(), cover.postponed.ids().len());
+        write!(
+            told,
+            "{} {} {next} {postponed}; ",
+            cover.cube.must, cover.cube.not
+        )?;
+    }
+    Ok(told)
+}
+
+#[test]
+fn small_sets(rt: HostRuntime) -> Result<(), Fail> {
+    for (text, want) in [
+        (b"1".as_slice(), "0 0 0 0; "),
+        (b"0", ""),
+        (b"d", "8 0 0 0; "),
+        (b"d!", "0 8 0 0; "),
+        (b"dd!&", ""),
+        // An until is met now or put off.
+        (b"abU", "2 0 0 0; 1 0 1 1; "),
+    ] {
+        assert_eq!(rt; told(rt.alloc(), text)?.as_str(), want);
+    }
+    Ok(())
+}
+
+// The conjunction of `(X^j a) || (X^j b)` for each j from 1 to `count`.
+fn pairs(alloc: Global, count: u32) -> Result<Vec<u8>, AllocError> {
+    let mut text = b"1".to_vec(alloc)?;
+    for j in 0..count {
+        text.extend_from_slice(b"aX")?;
+        push_times(&mut text, b"X", j)?;
+        text.extend_from_slice(b"bX")?;
+        push_times(&mut text, b"X", j)?;
+        text.extend_from_slice(b"|&")?;
+    }
+    Ok(text)
+}
+
 #[test]
 fn sixteen_pairs_have_65536_covers(rt: HostRuntime) -> Result<(), Fail> {
-    let mut formulas = Formulas::new(rt.alloc());
-    let all = pairs(&rt, &mut formulas, 16)?;
-    assert!(rt; (all.0 as usize) < formulas.len());
-    let set = set_of_one(rt.alloc(), all)?;
-    assert_eq!(rt; covers(rt.alloc(), &formulas, &set)?.len(), 65_536);
-    Ok(())
-}
-
-#[test]
-fn seventeen_pairs_have_too_many_leaves(rt: HostRuntime) -> Result<(), Fail> {
-    let mut formulas = Formulas::new(rt.alloc());
-    let all = pairs(&rt, &mut formulas, 17)?;
-    assert!(rt; (all.0 as usize) < formulas.len());
-    let set = set_of_one(rt.alloc(), all)?;
-    let fault = covers(rt.alloc(), &formulas, &set).err();
-    assert_eq!(rt; fault, Some(CoverFault::TooManyLeaves));
-    Ok(())
-}
-
-#[test]
-fn an_until_is_met_now_or_put_off(rt: HostRuntime) -> Result<(), Fail> {
-    let mut formulas = Formulas::new(rt.alloc());
-    let p = formulas.add(Node::Signal(0))?;
-    let q = formulas.add(Node::Signal(1))?;
-    assert!(rt; (p.0 as usize) < formulas.len() && (q.0 as usize) < formulas.len());
-    let until = formulas.add(Node::Until(p, q))?;
-    assert!(rt; (until.0 as usize) < formulas.len());
-    let set = set_of_one(rt.alloc(), until)?;
-    let found = covers(rt.alloc(), &formulas, &set)?;
-    assert_eq!(rt; found.len(), 2);
-    assert!(rt; found[0].cube.must == 2 && found[0].next.ids().is_empty());
-    assert!(rt; found[1].cube.must == 1 && found[1].cube.not == 0);
-    assert_eq!(rt; found[1].next.ids(), [until].as_slice());
-    assert_eq!(rt; found[1].postponed.ids(), [until].as_slice());
-    Ok(())
-}
-
-/// What the covers of a set of one formula want and forbid; they leave nothing over.
-fn cubes_of(
-    rt: &impl Abort,
-    alloc: Global,
-    formulas: &Formulas,
-    id: FormulaId,
-) -> Result<Vec<[u32; 2]>, Fail> {
-    assert!(rt; (id.0 as usize) < formulas.len());
-    let set = set_of_one(alloc, id)?;
-    let mut cubes = Vec::new(alloc);
-    for cover in &covers(alloc, formulas, &set)? {
-        assert!(rt; cover.next.ids().is_empty() && cover.postponed.ids().is_empty());
-        cubes.push([cover.cube.must, cover.cube.not])?;
-    }
-    Ok(cubes)
-}
-
-#[test]
-fn constants_and_literals(rt: HostRuntime) -> Result<(), Fail> {
-    let mut formulas = Formulas::new(rt.alloc());
-    let truth = formulas.add(Node::True)?;
-    let falsity = formulas.add(Node::False)?;
-    let p = formulas.add(Node::Signal(3))?;
-    assert!(rt; (p.0 as usize) < formulas.len());
-    let opposite = formulas.add(Node::Not(p))?;
-    assert_eq!(rt;
-        cubes_of(&rt, rt.alloc(), &formulas, truth)?.as_slice(),
-        [[0, 0]].as_slice()
-    );
-    assert!(rt; cubes_of(&rt, rt.alloc(), &formulas, falsity)?.is_empty());
-    assert_eq!(rt;
-        cubes_of(&rt, rt.alloc(), &formulas, p)?.as_slice(),
-        [[8, 0]].as_slice()
-    );
-    assert_eq!(rt;
-        cubes_of(&rt, rt.alloc(), &formulas, opposite)?.as_slice(),
-        [[0, 8]].as_slice()
-    );
-    let clash = add(&rt, &mut formulas, Node::And(p, opposite))?;
-    assert!(rt; cubes_of(&rt, rt.alloc(), &formulas, clash)?.is_empty());
+    let all = covers_of(rt.alloc(), &pairs(rt.alloc(), 16)?)??;
+    assert_eq!(rt; all.len(), 65_536);
     Ok(())
 }

@@ -1,76 +1,92 @@
-// Formulas of few signals, and what an automaton is as a text.
+//! Formulas as texts: `a` is signal 0, `b` signal 1 and so on, `1` and `0` are the constants, and each operator stands behind its parts,
+//! as in `abX>` for `a -> X b`. `:` stands for the formula before it once more.
 ghost use Rattle.std.specs.Prelude.{IfOk};
 ghost use Rattle.ltl_formula.specs.Nodes.{Stands};
 
-use letter_word::Cube;
-use ltl_formula::{AddFault, FormulaId, Formulas, Node};
-use machine_model::{Automaton, Edge};
-use std::alloc::Global;
-use std::fmt::Write;
-use std::process::Abort;
+use ltl_formula::{FormulaId, Formulas, Node};
+use std::alloc::{AllocError, Global};
 use std::test::Fail;
 
-pub(crate) fn add(
-    rt: &impl Abort,
+fn add(formulas: &mut Formulas, node: Node) -> Result<FormulaId, Fail> {
+    if !formulas.can_add(node) {
+        return Err(Fail::from("a part is missing"));
+    }
+    Ok(formulas.add(node)?)
+}
+
+// The node of an operator with one part.
+fn unary(operator: u8, a: FormulaId) -> Option<Node> {
+    match operator {
+        b'!' => Some(Node::Not(a)),
+        b'X' => Some(Node::Next(a)),
+        b'F' => Some(Node::Finally(a)),
+        b'G' => Some(Node::Globally(a)),
+        _ => None,
+    }
+}
+
+// The node of an operator with two parts.
+fn binary(operator: u8, a: FormulaId, b: FormulaId) -> Node {
+    match operator {
+        b'&' => Node::And(a, b),
+        b'|' => Node::Or(a, b),
+        b'>' => Node::Implies(a, b),
+        b'=' => Node::Equiv(a, b),
+        b'U' => Node::Until(a, b),
+        b'R' => Node::Release(a, b),
+        _ => Node::WeakUntil(a, b),
+    }
+}
+
+// The node of a byte, whose parts are taken off.
+fn node_of(byte: u8, parts: &mut Vec<FormulaId>) -> Node {
+    if byte == b'1' {
+        return Node::True;
+    }
+    if byte == b'0' {
+        return Node::False;
+    }
+    if byte.is_ascii_lowercase() {
+        return Node::Signal(u32::from(byte.wrapping_sub(b'a')));
+    }
+    let last = parts.pop().unwrap_or(FormulaId(0));
+    match unary(byte, last) {
+        Some(node) => node,
+        None => binary(byte, parts.pop().unwrap_or(FormulaId(0)), last),
+    }
+}
+
+/// The formula of a text.
+pub(crate) fn formula(
+    alloc: Global,
     formulas: &mut Formulas,
-    node: Node,
-) -> Result<FormulaId, AddFault>
+    text: &[u8],
+) -> Result<FormulaId, Fail>
     ensures { IfOk result (Stands formulas.new) }
 {
-    assert!(rt; formulas.can_add(node));
-    formulas.add(node)
-}
-
-/// `G ((r -> X g) && (!r -> X !g))` with r as signal 0 and g as signal 1, of ten nodes.
-pub(crate) fn one_delay(rt: &impl Abort, formulas: &mut Formulas) -> Result<FormulaId, AddFault> {
-    let r = add(rt, formulas, Node::Signal(0))?;
-    let g = add(rt, formulas, Node::Signal(1))?;
-    let later = add(rt, formulas, Node::Next(g))?;
-    let left = add(rt, formulas, Node::Implies(r, later))?;
-    let not_r = add(rt, formulas, Node::Not(r))?;
-    let not_g = add(rt, formulas, Node::Not(g))?;
-    let later = add(rt, formulas, Node::Next(not_g))?;
-    let right = add(rt, formulas, Node::Implies(not_r, later))?;
-    let both = add(rt, formulas, Node::And(left, right))?;
-    add(rt, formulas, Node::Globally(both))
-}
-
-/// The conjunction of `(X^j p) || (X^j q)` for each j from 1 to `count`.
-pub(crate) fn pairs(
-    rt: &impl Abort,
-    formulas: &mut Formulas,
-    count: u32,
-) -> Result<FormulaId, AddFault> {
-    let mut p = add(rt, formulas, Node::Signal(0))?;
-    let mut q = add(rt, formulas, Node::Signal(1))?;
-    let mut all = add(rt, formulas, Node::True)?;
-    for _ in 0..count {
-        p = add(rt, formulas, Node::Next(p))?;
-        q = add(rt, formulas, Node::Next(q))?;
-        let pair = add(rt, formulas, Node::Or(p, q))?;
-        all = add(rt, formulas, Node::And(all, pair))?;
+    let mut parts = Vec::new(alloc);
+    for byte in text {
+        let id = match parts.last().copied() {
+            Some(last) if *byte == b':' => last,
+            _ => {
+                let node = node_of(*byte, &mut parts);
+                add(formulas, node)?
+            }
+        };
+        parts.push(id)?;
     }
-    Ok(all)
+    let id = parts.pop().ok_or("no formula")?;
+    if (id.0 as usize) < formulas.len() {
+        Ok(id)
+    } else {
+        Err(Fail::from("no formula"))
+    }
 }
 
-/// A line for each edge: where it comes from, what its cube wants and forbids as sets of signals, where it leads. Then
-/// the rejecting states.
-pub(crate) fn text_of(alloc: Global, automaton: &Automaton) -> Result<String, Fail> {
-    let mut text = String::new(alloc);
-    for edge in automaton.edges() {
-        write_edge(&mut text, *edge)?;
+/// Appends a text so many times.
+pub(crate) fn push_times(text: &mut Vec<u8>, part: &[u8], times: u32) -> Result<(), AllocError> {
+    for _ in 0..times {
+        text.extend_from_slice(part)?;
     }
-    for q in 0..automaton.states() {
-        if automaton.is_rejecting(q) {
-            write!(text, "{q} ")?;
-        }
-    }
-    Ok(text)
-}
-
-fn write_edge(text: &mut String, edge: Edge) -> Result<(), Fail> {
-    let Edge { from, cube, to } = edge;
-    let Cube { must, not } = cube;
-    write!(text, "{from} {must} {not} {to}; ")?;
     Ok(())
 }

@@ -1,54 +1,81 @@
-ghost use Rattle.std.specs.Prelude.{◌≡◌, ◌^◌, ◌<◌, IfOk, length};
+//! Plays of two machines that read one signal and write one.
+ghost use Rattle.std.specs.Prelude.{◌≡◌, IfOk};
 
 use dual_search::play;
-use letter_word::{Kind, Letter};
+use letter_word::{Kind, Lasso, Letter};
 use machine_model::{Machine, Row};
 use std::alloc::Global;
 use std::test::Fail;
 
-// A machine that reads one signal and writes one, of such rows (next, writes).
-fn machine(alloc: Global, kind: Kind, rows: &[(u32, u32)]) -> Result<Machine, Fail>
-    requires { length rows.now < 2 ^ 32 }
+// A machine of these rows: a digit for the next state, and one for what is written.
+fn machine(alloc: Global, kind: Kind, digits: &[u8]) -> Result<Machine, Fail>
     ensures kind { IfOk result (λ m. m.kind ≡ kind) }
     ensures reads { IfOk result (λ m. m.reads ≡ 1) }
     ensures writes { IfOk result (λ m. m.writes ≡ 1) }
 {
-    let table: Vec<Row> = rows
-        .iter()
-        .map(|&(next, writes)| Row { next, writes })
-        .collect(alloc)?;
-    Ok(Machine::new(kind, 1, 1, table)?)
+    let mut rows = Vec::new(alloc);
+    for pair in digits.chunks(2) {
+        if let [next, writes] = pair {
+            rows.push(Row {
+                next: u32::from(*next & 7),
+                writes: u32::from(*writes & 1),
+            })?;
+        }
+    }
+    if rows.len() > 9 {
+        return Err(Fail::from("too many rows"));
+    }
+    Ok(Machine::new(kind, 1, 1, rows)?)
 }
 
-// The machine that never raises g, against the one that plays the opposite of g.
-#[test]
-fn opposite_of_a_grant(rt: HostRuntime) -> Result<(), Fail> {
-    let never = machine(rt.alloc(), Kind::Moore, &[(0, 0), (0, 0)])?;
-    let opposite = machine(rt.alloc(), Kind::Mealy, &[(0, 1), (0, 0)])?;
-    let word = play(rt.alloc(), &never, &opposite)?;
-    assert_eq!(rt; word.stem(), [].as_slice());
-    assert_eq!(rt; word.ring(), [Letter(1)].as_slice());
+// A digit for each letter.
+fn push_letters(text: &mut Vec<u8>, letters: &[Letter]) -> Result<(), Fail> {
+    for letter in letters {
+        text.push(b'0' + (letter.0 % 10) as u8)?;
+    }
+    text.push(b' ')?;
     Ok(())
 }
 
-// The machine that writes what it reads, against one that raises its signal once: r and g, and then nothing.
-#[test]
-fn comes_back_to_a_later_state(rt: HostRuntime) -> Result<(), Fail> {
-    let copy = machine(rt.alloc(), Kind::Mealy, &[(0, 0), (0, 1)])?;
-    let once = machine(rt.alloc(), Kind::Moore, &[(1, 1), (1, 1), (1, 0), (1, 0)])?;
-    let word = play(rt.alloc(), &copy, &once)?;
-    assert_eq!(rt; word.stem(), [Letter(3)].as_slice());
-    assert_eq!(rt; word.ring(), [Letter(0)].as_slice());
-    Ok(())
+// The stem and the ring of a lasso.
+fn told(alloc: Global, word: &Lasso) -> Result<Vec<u8>, Fail> {
+    let mut text = Vec::new(alloc);
+    push_letters(&mut text, word.stem())?;
+    push_letters(&mut text, word.ring())?;
+    Ok(text)
 }
 
-// Two states each: the machine writes what it read last, against the one that turns that round.
+// What a Moore machine and a Mealy machine play, where the former is the system or the environment.
+fn played(alloc: Global, moore: &[u8], mealy: &[u8], is_system: bool) -> Result<Vec<u8>, Fail> {
+    let moore = machine(alloc, Kind::Moore, moore)?;
+    let mealy = machine(alloc, Kind::Mealy, mealy)?;
+    let word = if is_system {
+        play(alloc, &moore, &mealy)?
+    } else {
+        play(alloc, &mealy, &moore)?
+    };
+    told(alloc, &word)
+}
+
 #[test]
-fn goes_round_in_two(rt: HostRuntime) -> Result<(), Fail> {
-    let last = machine(rt.alloc(), Kind::Moore, &[(0, 0), (1, 0), (0, 1), (1, 1)])?;
-    let opposite = machine(rt.alloc(), Kind::Mealy, &[(0, 1), (0, 0)])?;
-    let word = play(rt.alloc(), &last, &opposite)?;
-    assert_eq!(rt; word.stem(), [].as_slice());
-    assert_eq!(rt; word.ring(), [Letter(1), Letter(2)].as_slice());
+fn small_plays(rt: HostRuntime) -> Result<(), Fail> {
+    for (moore, mealy, is_system, want) in [
+        // The machine that never raises g, against the one that plays the opposite of g.
+        (
+            b"0000".as_slice(),
+            b"0100".as_slice(),
+            true,
+            b" 1 ".as_slice(),
+        ),
+        // The machine that writes what it reads, against one that raises its signal once: r and g, and then nothing.
+        (b"11111010", b"0001", false, b"3 0 "),
+        // The machine writes what it read last, against the one that turns that round.
+        (b"00100111", b"0100", true, b" 12 "),
+    ] {
+        assert_eq!(rt;
+            played(rt.alloc(), moore, mealy, is_system)?.as_slice(),
+            want
+        );
+    }
     Ok(())
 }

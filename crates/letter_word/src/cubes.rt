@@ -37,30 +37,3 @@ impl Cube {
         })
     }
 }
-
-#[cfg(test)]
-mod tests {
-    use super::*;
-    use std::test::Fail;
-
-    const WANTS_0: Cube = Cube { must: 1, not: 0 };
-
-    const WANTS_2_NOT_1: Cube = Cube { must: 4, not: 2 };
-
-    const FORBIDS_0: Cube = Cube { must: 0, not: 1 };
-
-    #[test]
-    fn letters_fit_by_their_signals(rt: HostRuntime) {
-        assert!(rt; Letter(4).has(2) && !Letter(4).has(1) && !Letter(u32::MAX).has(32));
-        for (letter, fits) in [(4, true), (5, true), (6, false), (1, false)] {
-            assert_eq!(rt; WANTS_2_NOT_1.fits(Letter(letter)), fits, "at {letter}");
-        }
-    }
-
-    #[test]
-    fn cubes_meet_unless_they_clash(rt: HostRuntime) {
-        let both = WANTS_0.meet(WANTS_2_NOT_1);
-        assert_eq!(rt; both.map(|cube| (cube.must, cube.not)), Some((5, 2)));
-        assert!(rt; WANTS_0.meet(FORBIDS_0).is_none() && FORBIDS_0.meet(WANTS_0).is_none());
-    }
-}

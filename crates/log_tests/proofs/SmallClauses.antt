@@ -27,13 +27,3 @@ one_literal l (x ∷ y ∷ ys) is =
     let same : x.var ≡ y.var = ap (λ (z : Literal). z.var) (first ∙ sym second) in
     let rises : x.var < y.var = is.sorted.1.0 in
     absurd (omega arith)
-
--- two passes have every number below two
-pub two_numbers : (passes : List PassView) (first second : PassView) (seats : ℕ) → passes ≡ first ∷ second ∷ [] → first.number ≡ 0 → second.number ≡ 1 → seats ≡ 2
-    → (n : ℕ) → n < seats → Contains (map (λ p. p.number) passes) n
-two_numbers passes first second seats is zeroth oneth two n lt = subst (λ ps. Contains (map (λ (p : PassView). p.number) ps) n) (sym is) (by n (omega arith))
-  where
-    by : (n : ℕ) → n < 2 → Contains (first.number ∷ second.number ∷ []) n
-    by zero lt = (0, omega arith, zeroth)
-    by (suc zero) lt = (1, omega arith, oneth)
-    by (suc (suc n)) lt = absurd (omega arith)

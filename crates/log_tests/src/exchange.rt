@@ -1,4 +1,4 @@
-//! An entry that is known, one that is read late, and two threads.
+//! An entry that is known to a pass that comes late, and read by it.
 ghost use Rattle.std.specs.Prelude.{◌≡◌, ◌≤◌, [], ◌∷◌, IfOk, Some};
 ghost use Rattle.std.specs.Arc.{arc_value};
 ghost use Rattle.refutation_log.specs.Examples.{one_and_not as the_two};
@@ -6,11 +6,10 @@ ghost use Rattle.clause_exchange.specs.SharedLog.{new_pass};
 
 use clause_base::{Clause, Cnf, Lit};
 use clause_exchange::{Exchange, Opened, Pass};
-use refutation_log::{Entry, Hints, LogState, Reply, SharedClause};
+use refutation_log::{Entry, Hints, Reply, SharedClause};
 use std::alloc::Global;
 use std::sync::{Arc, Wait};
 use std::test::Fail;
-use std::thread::{self, Threads};
 
 /// The clause of one literal.
 fn unit(alloc: Global, lit: Lit) -> Result<Clause, Fail>
@@ -97,86 +96,9 @@ fn one_after_the_other<R: Wait>(
 }
 
 #[test]
-fn an_equal_clause_is_known(rt: HostRuntime) -> Result<(), Fail> {
+fn who_comes_late_meets_what_was_added(rt: HostRuntime) -> Result<(), Fail> {
     let (reply, other, log) = one_after_the_other(&rt, rt.alloc())?;
-    assert_eq!(rt; reply, Some(Reply::At(0)));
-    assert_eq!(rt; other, Some(Reply::Known(0)));
-    assert_eq!(rt; log.len(), 1);
-    Ok(())
-}
-
-/// What one pass offers, and what the other reads then.
-fn offered_and_read<R: Wait>(rt: &R, alloc: Global) -> Result<(Entry, Vec<Entry>), Fail> {
-    let (exchange, mut first, mut second) = two_passes(alloc)?;
-    let ours = empty_clause(alloc, 0)?;
-    let copy = ours.clone()?;
-    let _reply = offer(rt, &exchange, &mut first, ours);
-    Ok((copy, read_all(rt, alloc, &exchange, &mut second)?))
-}
-
-#[test]
-fn who_reads_late_gets_what_was_added(rt: HostRuntime) -> Result<(), Fail> {
-    let (added, log) = offered_and_read(&rt, rt.alloc())?;
-    assert!(rt; log.as_slice() == [added].as_slice());
-    Ok(())
-}
-
-/// Offers the empty clause, and hands the pass back.
-fn offered<R: Wait>(
-    rt: &R,
-    exchange: &Exchange,
-    mut pass: Pass,
-    entry: Entry,
-) -> (Pass, Option<Reply>)
-    requires exchange { pass.exchange ≡ exchange.now }
-    requires base { exchange.now.terms.base ≡ the_two }
-    requires entry { (entry.by ≡ pass.number) × (entry.clause ≡ []) × (entry.hints ≡ 1 ∷ 2 ∷ []) }
-    ensures { (result.0.exchange ≡ pass.exchange) × (result.0.number ≡ pass.number) }
-{
-    let reply = offer(rt, exchange, &mut pass, entry);
-    (pass, reply)
-}
-
-/// The log of an exchange with two passes.
-fn closed(alloc: Global, exchange: Exchange, first: Pass, second: Pass) -> Result<LogState, Fail>
-    requires seats { exchange.terms.seats ≡ 2 }
-    requires first { (first.exchange ≡ exchange) × (first.number ≡ 0) }
-    requires second { (second.exchange ≡ exchange) × (second.number ≡ 1) }
-{
-    let mut passes = Vec::with_capacity(alloc, 2)?;
-    passes.push_reserved(first);
-    passes.push_reserved(second);
-    Ok(exchange.close(passes))
-}
-
-/// Two threads offer the empty clause. Gives their replies, and the log at the end.
-fn race<R: Threads + Wait + Sync>(
-    rt: &R,
-    alloc: Global,
-) -> Result<(Option<Reply>, Option<Reply>, LogState), Fail> {
-    let (exchange, first, second) = two_passes(alloc)?;
-    let ours = empty_clause(alloc, 0)?;
-    let theirs = empty_clause(alloc, 1)?;
-    let shared = &exchange;
-    let ((first, reply), (second, other)) = thread::join(
-        rt,
-        move ||
-            requires { (first.exchange ≡ shared.now) × (shared.now.terms.base ≡ the_two) × (ours.by ≡ first.number) × (ours.clause ≡ []) × (ours.hints ≡ 1 ∷ 2 ∷ []) }
-            ensures { (result.0.exchange ≡ first.exchange) × (result.0.number ≡ first.number) }
-        { offered(rt, shared, first, ours) },
-        move ||
-            requires { (second.exchange ≡ shared.now) × (shared.now.terms.base ≡ the_two) × (theirs.by ≡ second.number) × (theirs.clause ≡ []) × (theirs.hints ≡ 1 ∷ 2 ∷ []) }
-            ensures { (result.0.exchange ≡ second.exchange) × (result.0.number ≡ second.number) }
-        { offered(rt, shared, second, theirs) },
-    );
-    Ok((reply, other, closed(alloc, exchange, first, second)?))
-}
-
-#[test]
-fn of_two_threads_one_is_first(rt: HostRuntime) -> Result<(), Fail> {
-    let (reply, other, log) = race(&rt, rt.alloc())?;
-    let (at, known) = (Some(Reply::At(0)), Some(Reply::Known(0)));
-    assert!(rt; (reply == at && other == known) || (reply == known && other == at));
-    assert!(rt; log.entries() == 1 && log.is_closed());
+    assert_eq!(rt; (reply, other), (Some(Reply::At(0)), Some(Reply::Known(0))));
+    assert_eq!(rt; log.as_slice(), [empty_clause(rt.alloc(), 0)?].as_slice());
     Ok(())
 }

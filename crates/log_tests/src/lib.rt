@@ -1,6 +1,5 @@
-// Tests of refutation logs: the turns on a log, its text written and read, what the checker says of one, by both of its
-// forms, and the log that threads share. What they call is the public surface of refutation_log, log_checker and
-// clause_exchange; they stand on clause_base too, whose literals and clauses the entries are made of.
+// Tests of refutation logs, over the public surface of refutation_log, log_checker and clause_exchange; they stand on clause_base too.
+// What a clause of those contracts says of every log isn't tested again: the reply to each turn, and what a turn leaves.
 #![tactic(auto)]
 
 #[cfg(test)]
@@ -10,8 +9,6 @@ mod crowd;
 #[cfg(test)]
 mod exchange;
 #[cfg(test)]
-mod log_state;
+mod log_texts;
 #[cfg(test)]
-mod read_log;
-#[cfg(test)]
-mod write_log;
+mod long_log;

@@ -1,222 +1,77 @@
-//! Problems whose clauses are known.
+//! The base clauses of a delay, which were worked out by hand from their definition; the fourteen of its version 3 at one state are
+//! the stored run of base_dimacs.
 ghost use Rattle.std.specs.Prelude.{IfOk};
 ghost use Rattle.machine_model.specs.Problem.{IsProblem};
 
-use crate::fixtures::{
-    ANY, G, G_NOT_R, NEITHER, NOT_G, NOT_R, R, R_AND_G, R_NOT_G, automaton, checked, delay, edge,
-    wire,
-};
-use annotation_encode::{allowed_sizes, count, encode, variables};
+use crate::fixtures::{checked, delay};
+use annotation_encode::{count, encode};
 use clause_base::Clause;
-use letter_word::{Kind, Side};
-use machine_model::{Edge, Problem};
-use std::alloc::AllocError;
+use machine_model::Problem;
+use std::fmt::Write;
 use std::test::Fail;
 
-// The environment's problem for the specification of a delay.
-fn delayed_environment(rt: &HostRuntime, size: u32) -> Result<Problem, Fail> {
-    let edges = [
-        edge(0, NOT_R, 1),
-        edge(0, R, 2),
-        edge(0, ANY, 3),
-        edge(1, NEITHER, 1),
-        edge(1, R_NOT_G, 2),
-        edge(1, NOT_G, 3),
-        edge(2, G_NOT_R, 1),
-        edge(2, R_AND_G, 2),
-        edge(2, G, 3),
-    ];
-    let rejecting = [true; 4];
-    Ok(Problem {
-        automaton: automaton(rt, &edges, &rejecting)?,
-        inputs: 1,
-        outputs: 1,
-        side: Side::Environment,
-        kind: Kind::Moore,
-        size,
-        version: 1,
-        components: None,
-    })
-}
-
-// Eight inputs, no outputs, size 8, and two rejecting states.
-fn large(rt: &HostRuntime, edges: &[Edge]) -> Result<Problem, Fail> {
-    let rejecting = [true; 2];
-    Ok(Problem {
-        automaton: automaton(rt, edges, &rejecting)?,
-        inputs: 8,
-        outputs: 0,
-        side: Side::System,
-        kind: Kind::Mealy,
-        size: 8,
-        version: 1,
-        components: None,
-    })
-}
-
-// The numbers of variables and of clauses.
-fn sizes(problem: Problem) -> Option<(u32, u64)> {
-    let problem = checked(problem)?;
-    Some((variables(&problem), count(&problem)?))
-}
-
-// The number of base clauses, and of the sizes up to 8 that have few enough.
-fn counts(problem: Problem) -> Option<(Option<u64>, u32)> {
-    let problem = checked(problem)?;
-    Some((count(&problem), allowed_sizes(&problem, 8)))
-}
-
-// The same problem in version 3.
-fn local(rt: &HostRuntime, problem: Problem) -> Result<Problem, Fail>
+// The problem of a delay. That of version 3 counts by component.
+fn problem(rt: &HostRuntime, size: u32, version: u32) -> Result<Problem, Fail>
     ensures { IfOk result IsProblem }
 {
-    let problem = checked(problem).ok_or("a problem within the limits")?;
+    let problem = checked(delay(rt, size, version.min(2))?).ok_or("a problem within the limits")?;
+    if version < 3 {
+        return Ok(problem);
+    }
     Ok(problem.by_component(rt.alloc())?)
 }
 
-fn local_sizes(rt: &HostRuntime, problem: Problem) -> Result<(u32, Option<u64>), Fail> {
-    let problem = local(rt, problem)?;
-    Ok((variables(&problem), count(&problem)))
-}
-
-// A clause as its variables, negative where they are negated.
-fn signed(rt: &HostRuntime, clause: &Clause) -> Result<Vec<i64>, AllocError> {
-    let mut numbers = Vec::new(rt.alloc());
+// The number of each literal's variable, negative where it is negated.
+fn push_clause(text: &mut String, clause: &Clause) -> Result<(), Fail> {
     for lit in clause.lits() {
-        let var = i64::from(lit.var());
-        numbers.push(if lit.is_positive() { var } else { -var })?;
+        let sign = if lit.is_positive() { "" } else { "-" };
+        write!(text, "{sign}{} ", lit.var())?;
     }
-    Ok(numbers)
+    text.push_str("0 ")?;
+    Ok(())
 }
 
-// The clauses of these numbers, counted from 1, and how many there are.
-fn clauses_at(
-    rt: &HostRuntime,
-    problem: Problem,
-    places: &[usize],
-) -> Result<(usize, Vec<Vec<i64>>), Fail> {
-    let problem = checked(problem).ok_or("a problem within the limits")?;
-    clauses_of(rt, &problem, places)
-}
-
-fn clauses_of(
-    rt: &HostRuntime,
-    problem: &Problem,
-    places: &[usize],
-) -> Result<(usize, Vec<Vec<i64>>), Fail>
+// The numbers of variables and of clauses, and the clauses of these numbers, counted from 0.
+fn clauses_at(rt: &HostRuntime, problem: &Problem, places: &[usize]) -> Result<String, Fail>
     requires { IsProblem problem.now }
 {
     let cnf = encode(rt.alloc(), problem)?;
-    let mut clauses = Vec::new(rt.alloc());
+    let mut text = String::new(rt.alloc());
+    write!(text, "{} {:?}: ", cnf.vars, count(problem))?;
     for place in places {
-        let clause = cnf.clauses.get(place.saturating_sub(1)).ok_or("a clause")?;
-        clauses.push(signed(rt, clause)?)?;
+        let clause = cnf.clauses.get(*place).ok_or("a clause")?;
+        push_clause(&mut text, clause)?;
     }
-    Ok((cnf.clauses.len(), clauses))
+    Ok(text)
 }
 
-#[test]
-fn variables_and_clauses(rt: HostRuntime) -> Result<(), Fail> {
-    assert_eq!(rt; sizes(delay(&rt, 1, 1)?), Some((20, 35)));
-    assert_eq!(rt; sizes(delayed_environment(&rt, 1)?), Some((23, 63)));
-    assert_eq!(rt; sizes(wire(&rt)?), Some((8, 11)));
-    assert_eq!(rt; sizes(delay(&rt, 1, 1)?.sized(3)?), Some((144, 847)));
-    assert_eq!(rt; sizes(delay(&rt, 3, 2)?), Some((144, 853)));
-    Ok(())
-}
-
-#[test]
-fn a_million_clauses_at_most(rt: HostRuntime) -> Result<(), Fail> {
-    let edges = [
-        edge(0, ANY, 0),
-        edge(0, ANY, 1),
-        edge(1, ANY, 0),
-        edge(1, ANY, 1),
-    ];
-    let few = counts(large(&rt, &edges[..3])?);
-    assert_eq!(rt; few, Some((Some(837_633), 8)));
-    let many = counts(large(&rt, &edges)?);
-    assert_eq!(rt; many, Some((None, 7)));
-    Ok(())
+fn said(rt: &HostRuntime, size: u32, version: u32, places: &[usize]) -> Result<String, Fail> {
+    let problem = problem(rt, size, version)?;
+    clauses_at(rt, &problem, places)
 }
 
 #[test]
 fn the_clauses_of_a_delay(rt: HostRuntime) -> Result<(), Fail> {
-    let places = [1, 2, 3, 4, 5, 6, 7, 8, 13, 21, 30, 31];
-    let (count, clauses) = clauses_at(&rt, delay(&rt, 1, 1)?, &places)?;
-    let want: [&[i64]; 12] = [
-        &[1],
-        &[2],
-        &[5],
-        &[-2, -5, 10],
-        &[-2, -6, 11],
-        &[-2, -7, 12],
-        &[-2, -8],
-        &[-1, -5, 14],
-        &[-1, 3, -10, 19],
-        &[-1, -3, -14, 19],
-        &[-1, -19, 20],
-        &[-1, -20],
-    ];
-    assert_eq!(rt; count, 35);
-    for (clause, want) in clauses.iter().zip(want) {
-        assert_eq!(rt; clause.as_slice(), want);
-    }
-    Ok(())
-}
-
-#[test]
-fn the_order_of_states(rt: HostRuntime) -> Result<(), Fail> {
-    let (count, clauses) = clauses_at(&rt, delay(&rt, 3, 2)?, &[848, 849, 850])?;
-    let want: [&[i64]; 3] = [&[-3], &[2, -6], &[2, 5, -9]];
-    assert_eq!(rt; count, 853);
-    for (clause, want) in clauses.iter().zip(want) {
-        assert_eq!(rt; clause.as_slice(), want);
-    }
-    Ok(())
-}
-
-#[test]
-fn counted_by_component(rt: HostRuntime) -> Result<(), Fail> {
-    for (size, want) in [
-        (1, (9, Some(14))),
-        (2, (24, Some(61))),
-        (3, (45, Some(160))),
+    for (size, version, places, want) in [
+        (
+            1,
+            1,
+            [0, 1, 2, 3, 4, 5, 6, 7, 12, 20, 29, 30].as_slice(),
+            "20 Some(35): 1 0 2 0 5 0 -2 -5 10 0 -2 -6 11 0 -2 -7 12 0 -2 -8 0 -1 -5 14 0 \
+            -1 3 -10 19 0 -1 -3 -14 19 0 -1 -19 20 0 -1 -20 0 ",
+        ),
+        (3, 1, &[], "144 Some(847): "),
+        // The order of states.
+        (
+            3,
+            2,
+            &[847, 848, 849],
+            "144 Some(853): -3 0 2 -6 0 2 5 -9 0 ",
+        ),
+        (2, 3, &[], "24 Some(61): "),
+        (3, 3, &[], "45 Some(160): "),
     ] {
-        assert_eq!(rt; local_sizes(&rt, delay(&rt, size, 2)?)?, want);
-    }
-    for (size, want) in [
-        (1, (11, Some(27))),
-        (2, (34, Some(133))),
-        (3, (69, Some(373))),
-    ] {
-        assert_eq!(rt; local_sizes(&rt, delayed_environment(&rt, size)?)?, want);
-    }
-    Ok(())
-}
-
-#[test]
-fn the_clauses_of_a_delay_by_component(rt: HostRuntime) -> Result<(), Fail> {
-    let places = [1, 2, 3, 4, 5, 6, 7, 8, 9, 10, 11, 12, 13, 14];
-    let (_, clauses) = clauses_of(&rt, &local(&rt, delay(&rt, 1, 2)?)?, &places)?;
-    let want: [&[i64]; 14] = [
-        &[1],
-        &[2],
-        &[5],
-        &[-2, -5, 6],
-        &[-1, -5, 7],
-        &[-1, 3, -6, 8],
-        &[-2, 4, -6, 8],
-        &[-1, -3, -7, 8],
-        &[-2, -4, -7, 8],
-        &[-1, -8, 9],
-        &[-1, -9],
-        &[-2, -8, 9],
-        &[-2, -9],
-        &[8, -9],
-    ];
-    for (clause, want) in clauses.iter().zip(want) {
-        assert_eq!(rt; clause.as_slice(), want);
+        assert_eq!(rt; said(&rt, size, version, places)?.as_str(), want);
     }
     Ok(())
 }

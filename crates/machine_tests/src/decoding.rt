@@ -1,12 +1,11 @@
-//! Assignments of problems whose clauses are known.
+//! Assignments of a problem whose clauses are known.
 ghost use Rattle.std.specs.Prelude.{◌≡◌};
 ghost use Rattle.clause_base.specs.Truth.{is_true_clause, is_true_literal, meets};
 
-use crate::fixtures::{checked, rows_of, wire};
+use crate::fixtures::{checked, digit, rows_of, wire};
 use annotation_encode::{assignment_of, encode, variables};
 use clause_base::{Assignment, Clause, Lit};
-use machine_decode::decode;
-use machine_model::{Problem, Row};
+use machine_decode::{Decoded, decode};
 use std::test::Fail;
 
 fn is_true(values: &[bool], lit: Lit) -> bool
@@ -17,7 +16,7 @@ fn is_true(values: &[bool], lit: Lit) -> bool
     if lit.is_positive() { value } else { !value }
 }
 
-pub(crate) fn is_true_clause(values: &[bool], clause: &Clause) -> bool
+fn is_true_clause(values: &[bool], clause: &Clause) -> bool
     ensures { result ≡ is_true_clause values.now clause.now }
 {
     clause.lits().iter().any(|lit| is_true(values, *lit))
@@ -29,57 +28,65 @@ fn is_met(values: &[bool], clauses: &[Clause]) -> bool
     clauses.iter().all(|clause| is_true_clause(values, clause))
 }
 
-// What an assignment decodes to, if it meets the clauses: the rows, the numbers, and the values of that machine and
-// annotation.
-fn decoded(
-    rt: &HostRuntime,
-    problem: Problem,
-    values: &[bool],
-) -> Result<Option<(Vec<Row>, Vec<Option<u32>>, Vec<bool>)>, Fail> {
-    let problem = checked(problem).ok_or("a problem within the limits")?;
+// The bits of a text.
+fn bits(rt: &HostRuntime, digits: &[u8]) -> Result<Vec<bool>, Fail> {
+    let mut bits = Vec::new(rt.alloc());
+    for digit in digits {
+        bits.push(*digit == b'1')?;
+    }
+    Ok(bits)
+}
+
+// A digit for each number, `-` where there is none.
+fn push_numbers(text: &mut Vec<u8>, numbers: &[Option<u32>]) -> Result<(), Fail> {
+    for number in numbers {
+        text.push(number.map_or(b'-', digit))?;
+    }
+    Ok(())
+}
+
+// The machine's rows, the number of each pair, and what the values of that machine and annotation are.
+fn told(rt: &HostRuntime, decoded: &Decoded, again: &Assignment) -> Result<Vec<u8>, Fail> {
+    let machine = decoded.machine.clone()?;
+    let mut text = rows_of(rt, &machine)?;
+    text.push(b' ')?;
+    push_numbers(&mut text, &decoded.annotation.numbers)?;
+    text.push(b' ')?;
+    for value in &again.values {
+        text.push(b'0' + u8::from(*value))?;
+    }
+    Ok(text)
+}
+
+// What an assignment of the wire decodes to; nothing, if it doesn't meet the clauses.
+fn decoded(rt: &HostRuntime, digits: &[u8]) -> Result<Vec<u8>, Fail> {
+    let problem = checked(wire(rt)?).ok_or("a problem within the limits")?;
     let assignment = Assignment {
-        values: Vec::from_slice(rt.alloc(), values)?,
+        values: bits(rt, digits)?,
     };
     let cnf = encode(rt.alloc(), &problem)?;
     if assignment.values.len() != variables(&problem) as usize || problem.version >= 2 {
-        return Ok(None);
+        return Ok(Vec::new(rt.alloc()));
     }
     if !is_met(&assignment.values, &cnf.clauses) {
-        return Ok(None);
+        return Ok(Vec::new(rt.alloc()));
     }
     let decoded = decode(rt.alloc(), &problem, &assignment)?;
     let again = assignment_of(rt.alloc(), &problem, &decoded.machine, &decoded.annotation)?;
-    let machine = decoded.machine.clone()?;
-    let rows = rows_of(rt, &machine)?;
-    Ok(Some((rows, decoded.annotation.numbers, again.values)))
+    told(rt, &decoded, &again)
 }
 
-// The machine copies r, and no pair with the rejecting state is met.
 #[test]
 fn a_wire(rt: HostRuntime) -> Result<(), Fail> {
-    let values = [true, true, false, true, true, false, false, false];
-    let found = decoded(&rt, wire(&rt)?, &values)?;
-    let (rows, numbers, again) = found.ok_or("the assignment meets the clauses")?;
-    let want = [(0, 0), (0, 1)].map(|(next, writes)| Row { next, writes });
-    assert_eq!(rt; rows.as_slice(), want.as_slice());
-    assert_eq!(rt; numbers.as_slice(), [Some(0), None].as_slice());
-    assert_eq!(rt; again.as_slice(), values.as_slice());
-    Ok(())
-}
-
-#[test]
-fn the_greatest_count(rt: HostRuntime) -> Result<(), Fail> {
-    let values = [true, true, false, true, true, true, false, false];
-    let found = decoded(&rt, wire(&rt)?, &values)?;
-    let (_rows, numbers, _again) = found.ok_or("the assignment meets the clauses")?;
-    assert_eq!(rt; numbers.as_slice(), [Some(1), None].as_slice());
-    Ok(())
-}
-
-// What isn't met is told apart: the machine would write the opposite of r.
-#[test]
-fn an_assignment_that_misses(rt: HostRuntime) -> Result<(), Fail> {
-    let values = [true, true, true, false, true, false, false, false];
-    assert!(rt; decoded(&rt, wire(&rt)?, &values)?.is_none());
+    for (digits, want) in [
+        // The machine copies r, and no pair with the rejecting state is met.
+        (b"11011000".as_slice(), b"0001 0- 11011000".as_slice()),
+        // The greatest count.
+        (b"11011100", b"0001 1- 11011100"),
+        // The machine would write the opposite of r.
+        (b"11101000", b""),
+    ] {
+        assert_eq!(rt; decoded(&rt, digits)?.as_slice(), want);
+    }
     Ok(())
 }

@@ -4,7 +4,7 @@ ghost use Rattle.std.specs.Bool.{OnFalse};
 ghost use Rattle.machine_model.specs.Problem.{IsProblem};
 
 use letter_word::{Cube, Kind, Side};
-use machine_model::{Automaton, Edge, Machine, Problem, Row};
+use machine_model::{Automaton, Edge, Machine, Problem};
 use std::sync::Arc;
 use std::test::Fail;
 
@@ -19,13 +19,9 @@ pub(crate) const G: Cube = Cube { must: 2, not: 0 };
 
 pub(crate) const NOT_G: Cube = Cube { must: 0, not: 2 };
 
-pub(crate) const R_AND_G: Cube = Cube { must: 3, not: 0 };
-
 pub(crate) const R_NOT_G: Cube = Cube { must: 1, not: 2 };
 
 pub(crate) const G_NOT_R: Cube = Cube { must: 2, not: 1 };
-
-pub(crate) const NEITHER: Cube = Cube { must: 0, not: 3 };
 
 pub(crate) fn edge(from: u32, cube: Cube, to: u32) -> Edge {
     Edge { from, cube, to }
@@ -129,17 +125,20 @@ pub(crate) fn wire(rt: &HostRuntime) -> Result<Problem, Fail> {
     })
 }
 
-// What a machine does in each state on each letter.
-pub(crate) fn rows_of(rt: &HostRuntime, machine: &Machine) -> Result<Vec<Row>, Fail> {
-    let mut rows = Vec::new(rt.alloc());
+// What a machine does in each state on each letter: a digit for the next state and one for what it writes.
+pub(crate) fn rows_of(rt: &HostRuntime, machine: &Machine) -> Result<Vec<u8>, Fail> {
+    let mut digits = Vec::new(rt.alloc());
     for t in 0..machine.size() {
         for letter in 0..letter_count(machine) {
-            let next = machine.next(t, letter);
-            let writes = machine.writes_at(t, letter);
-            rows.push(Row { next, writes })?;
+            digits.push(digit(machine.next(t, letter)))?;
+            digits.push(digit(machine.writes_at(t, letter)))?;
         }
     }
-    Ok(rows)
+    Ok(digits)
+}
+
+pub(crate) fn digit(number: u32) -> u8 {
+    b'0' + (number % 10) as u8
 }
 
 pub(crate) fn letter_count(machine: &Machine) -> u32

@@ -1,13 +1,9 @@
-// Tests of the search for machines of one size: machines, their runs and the components of automata, paths and annotations
-// of the product with an automaton, the base clauses of problems and what assignments of them stand for, and the board of
-// sizes. What they call is the public surface of machine_model, product_bound, annotation_encode, machine_decode and
-// size_board; they stand on clause_base too.
+// Tests of the search for machines of one size: runs of machines and components of automata, numbered machines and cycles of the
+// product with an automaton, the base clauses of problems and what an assignment of them stands for. What they call is the public
+// surface of machine_model, product_bound, annotation_encode and machine_decode; they stand on clause_base too. What a clause of those
+// contracts says isn't tested again: faults, limits, the turns of the board of sizes.
 #![tactic(auto)]
 
-#[cfg(test)]
-mod agreement;
-#[cfg(test)]
-mod boards;
 #[cfg(test)]
 mod clauses;
 #[cfg(test)]
@@ -16,8 +12,6 @@ mod components;
 mod decoding;
 #[cfg(test)]
 mod fixtures;
-#[cfg(test)]
-mod machines;
 #[cfg(test)]
 mod products;
 #[cfg(test)]

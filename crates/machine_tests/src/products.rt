@@ -6,39 +6,44 @@ ghost use Rattle.machine_model.specs.Problem.{IsMachineOf, IsProblem};
 ghost use Rattle.product_bound.specs.Product.{IsRejectingCycle, Leads, step_at};
 
 use crate::fixtures::{checked, delay, letter_count, rows_of};
-use letter_word::{Kind, Lasso, Letter};
+use letter_word::{Kind, Letter};
 use machine_model::{Automaton, Machine, Problem, Row, RunLasso, whole_letter};
 use product_bound::laws::{ProductStep, lasso_of_cycle, numbered};
-use product_bound::{Annotation, bound_of, is_valid};
+use product_bound::{Annotation, is_valid};
 use std::test::Fail;
 
-// The rows of a machine of three states without inputs after numbering.
-fn numbered_rows(rt: &HostRuntime, rows: [(u32, u32); 3]) -> Result<Vec<Row>, Fail> {
-    let rows = rows.map(|(next, writes)| Row { next, writes });
-    let machine = Machine::new(Kind::Moore, 0, 1, Vec::from_slice(rt.alloc(), &rows)?)?;
+// The rows of a machine without inputs after numbering.
+fn numbered_rows(rt: &HostRuntime, nexts: &[u8], writes: &[u8]) -> Result<Vec<u8>, Fail> {
+    let mut rows = Vec::new(rt.alloc());
+    for (next, writes) in nexts.iter().zip(writes) {
+        let (next, writes) = (u32::from(*next & 7), u32::from(*writes & 7));
+        rows.push(Row { next, writes })?;
+    }
+    if rows.len() > 9 {
+        return Err(Fail::from("too many rows"));
+    }
+    let machine = Machine::new(Kind::Moore, 0, 1, rows)?;
     rows_of(rt, &numbered(rt.alloc(), &machine)?)
 }
 
-// From 0 to 2 to 1 to 0, the signal being written in state 2.
 #[test]
 fn names_states_as_the_rows_do(rt: HostRuntime) -> Result<(), Fail> {
-    let rows = numbered_rows(&rt, [(2, 0), (0, 0), (1, 1)])?;
-    let want = [(1, 0), (2, 1), (0, 0)].map(|(next, writes)| Row { next, writes });
-    assert_eq!(rt; rows.as_slice(), want.as_slice());
-    Ok(())
-}
-
-// State 1 is never named, so it stands last, goes to state 0 and writes nothing.
-#[test]
-fn a_state_that_is_never_named(rt: HostRuntime) -> Result<(), Fail> {
-    let rows = numbered_rows(&rt, [(2, 1), (1, 1), (2, 1)])?;
-    let want = [(1, 1), (1, 1), (0, 0)].map(|(next, writes)| Row { next, writes });
-    assert_eq!(rt; rows.as_slice(), want.as_slice());
+    for (nexts, writes, want) in [
+        // From 0 to 2 to 1 to 0, the signal being written in state 2.
+        (b"201", b"001", b"102100"),
+        // State 1 is never named, so it stands last, goes to state 0 and writes nothing.
+        (b"212", b"111", b"111100"),
+    ] {
+        assert_eq!(rt;
+            numbered_rows(&rt, nexts, writes)?.as_slice(),
+            want.as_slice()
+        );
+    }
     Ok(())
 }
 
 // The machine, if it is one of the problem.
-pub(crate) fn fitting(problem: &Problem, machine: Machine) -> Option<Machine>
+fn fitting(problem: &Problem, machine: Machine) -> Option<Machine>
     ensures { IfSome result (IsMachineOf problem.now) }
 {
     if machine.size() != problem.size {
@@ -138,11 +143,6 @@ fn cycle(rt: &HostRuntime, states: &[u32], from: usize) -> Result<Option<RunLass
     Ok(Some(lasso_of_cycle(rt.alloc(), &problem, &machine, &path, from)?))
 }
 
-// Each r is answered by g one step later, and g comes so alone.
-fn is_answered(word: &Lasso) -> bool {
-    (0..word.len()).all(|i| word.letter(i).has(0) == word.letter(word.next(i)).has(1))
-}
-
 // The machine that never writes g leaves r unanswered: the path 0, 1, 3, 3 gives a word that says so.
 #[test]
 fn a_cycle_gives_a_word(rt: HostRuntime) -> Result<(), Fail> {
@@ -150,16 +150,28 @@ fn a_cycle_gives_a_word(rt: HostRuntime) -> Result<(), Fail> {
     assert_eq!(rt; run.word.stem(), [Letter(1), Letter(1)].as_slice());
     assert_eq!(rt; run.word.ring(), [Letter(1)].as_slice());
     assert_eq!(rt; run.states.as_slice(), [0, 0, 0].as_slice());
-    assert!(rt; !is_answered(&run.word));
     assert!(rt; cycle(&rt, &[0, 2, 3, 3], 2)?.is_none());
     Ok(())
 }
 
-// Whether numbers are a valid annotation of the machine that always writes this.
-fn validity(rt: &HostRuntime, writes: u32, numbers: &[Option<u32>]) -> Result<Option<bool>, Fail> {
-    let problem = checked(delay(rt, 1, 1)?).ok_or("a problem within the limits")?;
-    let machine = fitting(&problem, constant(rt, writes)?).ok_or("a machine of the problem")?;
-    let numbers = Vec::from_slice(rt.alloc(), numbers)?;
+// The number of a digit; `-` stands for none.
+fn number_of(digit: u8) -> Option<u32> {
+    if digit == b'-' {
+        return None;
+    }
+    Some(u32::from(digit & 7))
+}
+
+// Whether numbers are a valid annotation of the machine of two states that writes what it read last.
+fn validity(rt: &HostRuntime, digits: &[u8]) -> Result<Option<bool>, Fail> {
+    let rows = [(0, 0), (1, 0), (0, 1), (1, 1)].map(|(next, writes)| Row { next, writes });
+    let machine = Machine::new(Kind::Mealy, 1, 1, Vec::from_slice(rt.alloc(), &rows)?)?;
+    let problem = checked(delay(rt, 2, 1)?).ok_or("a problem within the limits")?;
+    let machine = fitting(&problem, machine).ok_or("a machine of the problem")?;
+    let mut numbers = Vec::new(rt.alloc());
+    for digit in digits {
+        numbers.push(number_of(*digit))?;
+    }
     let annotation = Annotation { numbers };
     if annotation.numbers.len() != problem.size as usize * problem.automaton.states() as usize {
         return Ok(None);
@@ -167,14 +179,18 @@ fn validity(rt: &HostRuntime, writes: u32, numbers: &[Option<u32>]) -> Result<Op
     Ok(Some(is_valid(&problem, &machine, &annotation)))
 }
 
-// No constant machine has one, since r comes and stays away.
+// What is owed in each state: 0 in the start, and 1 where the last r or its absence has to be answered, which it is.
 #[test]
-fn no_constant_is_a_delay(rt: HostRuntime) -> Result<(), Fail> {
-    let all = [Some(0), Some(1), Some(1), Some(2)];
-    assert_eq!(rt; validity(&rt, 0, &all)?, Some(false));
-    assert_eq!(rt; validity(&rt, 1, &all)?, Some(false));
-    assert_eq!(rt; validity(&rt, 0, &all[..3])?, None);
-    let problem = checked(delay(&rt, 1, 1)?).ok_or("a problem within the limits")?;
-    assert_eq!(rt; bound_of(&problem), 3);
+fn annotations_of_a_delay(rt: HostRuntime) -> Result<(), Fail> {
+    for (digits, want) in [
+        (b"0-1-01--".as_slice(), Some(true)),
+        // A number stays as it is along an edge into a rejecting state.
+        (b"0-1-00--", Some(false)),
+        // A pair that is met has none.
+        (b"0-1-0---", Some(false)),
+        (b"0-1-01-", None),
+    ] {
+        assert_eq!(rt; validity(&rt, digits)?, want);
+    }
     Ok(())
 }

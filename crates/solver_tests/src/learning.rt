@@ -1,24 +1,25 @@
-ghost use Rattle.std.specs.Prelude.{◌≡◌, ◌<◌, ◌≤◌, All, IfOk, IfSome};
-ghost use Rattle.clause_base.specs.Clause.{IsFormula, IsWithin};
-ghost use Rattle.unit_propagate.specs.Trail.{IsFree};
+//! What is learnt from small conflicts.
+ghost use Rattle.std.specs.Prelude.{◌≡◌};
+ghost use Rattle.clause_base.specs.Clause.{IsFormula};
 
-use crate::fixtures::{VARS, add, four_clauses};
-use clause_base::{Clause, Cnf, Lit};
+use crate::fixtures::{VARS, formula, free_var, letter};
+use clause_base::{Cnf, Lit};
 use conflict_learn::{Learned, learn};
 use std::alloc::{AllocError, Global};
 use std::test::Fail;
 use unit_propagate::{Propagated, Trail};
 
-/// The first of the variables 1 to 4 without a value.
-fn free_var(trail: &Trail) -> Option<u32>
-    ensures { IfSome result (λ v. (0 < v) × (v ≤ 4) × IsFree trail.now.marks v) }
-{
-    for var in 1..5 {
-        if trail.value(var).is_none() {
-            return Some(var);
-        }
+/// The letters of the clause, and then a digit for each hint.
+fn text_of(alloc: Global, learned: &Learned) -> Result<Vec<u8>, AllocError> {
+    let mut text = Vec::new(alloc);
+    for lit in learned.clause.lits() {
+        text.push(letter(*lit))?;
     }
-    None
+    text.push(b' ')?;
+    for hint in learned.hints.numbers() {
+        text.push(b'0' + (*hint % 10) as u8)?;
+    }
+    Ok(text)
 }
 
 /// What is learnt from the first conflict, where the first free variable is assumed with this sign as long as there is none.
@@ -26,7 +27,7 @@ fn first_conflict(alloc: Global, base: &Cnf, positive: bool) -> Result<Option<Le
     requires variables { base.now.vars ≡ 12 }
     requires formula { IsFormula base.now.vars base.now.clauses.items }
 {
-    let mut trail = Trail::new(alloc, base.vars)?;
+    let mut trail = Trail::new(alloc, VARS)?;
     for _i in 0..3 {
         if let Propagated::Falsified(number) = trail.propagate(base, &[])? {
             return Ok(Some(learn(alloc, base, &[], &trail, number)?));
@@ -39,66 +40,24 @@ fn first_conflict(alloc: Global, base: &Cnf, positive: bool) -> Result<Option<Le
     Ok(None)
 }
 
-#[test]
-fn learns_the_clause_of_the_first_unique_implication_point(rt: HostRuntime) -> Result<(), Fail> {
-    let base = Cnf {
-        vars: VARS,
-        clauses: four_clauses(rt.alloc())?,
-    };
-    let learned = first_conflict(rt.alloc(), &base, false)?.ok_or("no conflict")?;
-    assert_eq!(rt; learned.clause.lits(), [Lit::new(1, true)].as_slice());
-    assert_eq!(rt; learned.hints.numbers(), [1, 2].as_slice());
-    Ok(())
+/// The text of what is learnt from the first conflict of the formula of a text.
+fn learnt(alloc: Global, text: &[u8], positive: bool) -> Result<Vec<u8>, Fail> {
+    let base = formula(alloc, text)?;
+    let learned = first_conflict(alloc, &base, positive)?.ok_or("no conflict")?;
+    Ok(text_of(alloc, &learned)?)
 }
 
 #[test]
-fn learns_the_empty_clause_at_level_0(rt: HostRuntime) -> Result<(), Fail> {
-    let mut clauses = Vec::new(rt.alloc());
-    let one = Lit::new(1, true);
-    let two = Lit::new(2, true);
-    add(rt.alloc(), &mut clauses, &[one])?;
-    add(rt.alloc(), &mut clauses, &[one.negated(), two])?;
-    add(rt.alloc(), &mut clauses, &[one.negated(), two.negated()])?;
-    let base = Cnf {
-        vars: VARS,
-        clauses,
-    };
-    let learned = first_conflict(rt.alloc(), &base, false)?.ok_or("no conflict")?;
-    assert!(rt; learned.clause.lits().is_empty());
-    assert_eq!(rt; learned.hints.numbers(), [1, 2, 3].as_slice());
-    Ok(())
-}
-
-/// The clauses {-1 2}, {-1 -3 4} and {-2 -3 -4}: where 1 and then 3 are assumed, 2 follows from 1, and 4 can't be.
-fn two_after_one(alloc: Global) -> Result<Vec<Clause>, Fail>
-    ensures { IfOk result (λ v. All (IsWithin 12) v.items) }
-{
-    let mut clauses = Vec::new(alloc);
-    let two = Lit::new(2, true);
-    let four = Lit::new(4, true);
-    add(alloc, &mut clauses, &[Lit::new(1, false), two])?;
-    add(
-        alloc,
-        &mut clauses,
-        &[Lit::new(1, false), Lit::new(3, false), four],
-    )?;
-    add(
-        alloc,
-        &mut clauses,
-        &[two.negated(), Lit::new(3, false), four.negated()],
-    )?;
-    Ok(clauses)
-}
-
-#[test]
-fn drops_a_literal_that_the_others_imply(rt: HostRuntime) -> Result<(), Fail> {
-    let base = Cnf {
-        vars: VARS,
-        clauses: two_after_one(rt.alloc())?,
-    };
-    let learned = first_conflict(rt.alloc(), &base, true)?.ok_or("no conflict")?;
-    let kept = [Lit::new(1, false), Lit::new(3, false)];
-    assert_eq!(rt; learned.clause.lits(), kept.as_slice());
-    assert_eq!(rt; learned.hints.numbers(), [1, 2, 3].as_slice());
+fn learns_from_small_conflicts(rt: HostRuntime) -> Result<(), Fail> {
+    for (text, positive, want) in [
+        // The clause of the first unique implication point.
+        (b"ab aB Ab AB".as_slice(), false, b"a 12".as_slice()),
+        // The empty clause, at level 0.
+        (b"a Ab AB", false, b" 123"),
+        // Where 1 and then 3 are assumed, 2 follows from 1, and 4 can't be: that 2 is false, the others imply.
+        (b"Ab ACd BCD", true, b"AC 123"),
+    ] {
+        assert_eq!(rt; learnt(rt.alloc(), text, positive)?.as_slice(), want);
+    }
     Ok(())
 }

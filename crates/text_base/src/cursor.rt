@@ -73,20 +73,3 @@ impl<'a> Cursor<'a> {
         self.at += count;
     }
 }
-
-#[cfg(test)]
-mod tests {
-    use super::*;
-
-    #[test]
-    fn takes_each_byte_once(rt: HostRuntime) {
-        let mut cursor = Cursor::new(b"ab");
-        assert_eq!(rt; (cursor.peek(), cursor.at()), (Some(b'a'), 0));
-        assert_eq!(rt; (cursor.take(), cursor.at()), (Some(b'a'), 1));
-        assert_eq!(rt; (cursor.take(), cursor.at()), (Some(b'b'), 2));
-        assert_eq!(rt;
-            (cursor.peek(), cursor.take(), cursor.at()),
-            (None, None, 2)
-        );
-    }
-}

@@ -101,29 +101,3 @@ impl Hash for Name {
         self.bytes().hash(state);
     }
 }
-
-#[cfg(test)]
-mod tests {
-    use super::*;
-    use std::hash::DefaultHasher;
-    use std::test::Fail;
-
-    #[test]
-    fn names_are_their_bytes(rt: HostRuntime) -> Result<(), Fail> {
-        let name = Name::new(rt.alloc(), b"r'1")?;
-        let copy = name.clone()?;
-        let other = Name::new(rt.alloc(), b"r")?;
-        assert_eq!(rt; copy.bytes(), b"r'1".as_slice());
-        assert_eq!(rt; name, copy);
-        assert_ne!(rt; name, other);
-        assert_eq!(rt; other.cmp(&name), Ordering::Less);
-        assert_eq!(rt; hash_of(&name), hash_of(&copy));
-        Ok(())
-    }
-
-    fn hash_of(name: &Name) -> u64 {
-        let mut hasher = DefaultHasher::new();
-        name.hash(&mut hasher);
-        hasher.finish()
-    }
-}

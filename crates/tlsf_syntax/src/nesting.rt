@@ -133,6 +133,3 @@ pub fn first_too_deep(alloc: Global, symbols: &[Symbol]) -> Result<Option<usize>
     }
     Ok(None)
 }
-
-#[cfg(test)]
-mod tests;

@@ -219,6 +219,3 @@ pub fn tokens(alloc: Global, text: &[u8]) -> Result<TokenList, AllocError>
     let list = cut(alloc, text)?;
     Ok(list)
 }
-
-#[cfg(test)]
-mod tests;

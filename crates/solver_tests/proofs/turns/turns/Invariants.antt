@@ -5,4 +5,5 @@ use Rattle.clause_solver.specs.Worker.{IsWorkingOn}
 use Rattle.solver_tests.proofs.turns.turns.Given as goal
 
 abbrev pub invariant-loop-turn : goal.invariant-loop-turn
-invariant-loop-turn l = (l.worker.trail.vars ≡ l.base.vars) × All (λ (e : Entry). IsWithin l.base.vars e.clause) l.log.items × IsWorkingOn l.base.clauses.items l.log.items l.worker
+invariant-loop-turn l = (l.next.trail.vars ≡ l.base.vars) × (l.other.trail.vars ≡ l.base.vars) × All (λ (e : Entry). IsWithin l.base.vars e.clause) l.log.items
+    × IsWorkingOn l.base.clauses.items l.log.items l.next × IsWorkingOn l.base.clauses.items l.log.items l.other

@@ -1,6 +1,6 @@
 use Rattle.std.proofs.Common.{sym, subst, ap, ◌∙◌}
 use Rattle.clause_solver.specs.Worker.{WorkerModel, IsWorkingOn}
-use Rattle.solver_tests.proofs.turns.turns_of_two.Goals as goal
+use Rattle.solver_tests.proofs.turns.turns.Goals as goal
 
 pub loop-turn-preserved : goal.loop-turn-preserved
 loop-turn-preserved c =

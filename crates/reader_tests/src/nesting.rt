@@ -1,8 +1,10 @@
 // Numbers of written nesting, counted by hand.
 
-use super::*;
+use std::alloc::Global;
 use std::process::Abort;
 use std::test::Fail;
+use tlsf_syntax::first_too_deep;
+use tlsf_tokens::Symbol;
 
 /// Asserts which symbol is too deep where these symbols stand so many times one after another.
 fn assert_deep(
