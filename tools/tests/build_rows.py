@@ -42,6 +42,9 @@ def two_at_once_build_once(it):
 
 def an_interrupted_build_leaves_nothing(it):
     for sent, status in ((signal.SIGTERM, 143), (signal.SIGHUP, 129), (signal.SIGINT, 130)):
+        # A shell can't trap what is ignored when it begins, as SIGHUP is under nohup.
+        if signal.getsignal(sent) == signal.SIG_IGN:
+            signal.signal(sent, signal.SIG_DFL)
         started = it.held()
         started.send_signal(sent)
         started.communicate(timeout=60)
