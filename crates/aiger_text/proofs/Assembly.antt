@@ -3,7 +3,7 @@ use Rattle.std.specs.Prelude.{map, All, Result, Ok, Err, flat_map, codes, slice_
 use Rattle.std.specs.List.{position_from, join_with_byte}
 use Rattle.std.specs.Result.{result_unwrap_or}
 use Rattle.std.specs.Str.{bytes_eq}
-use Rattle.std.proofs.lemmas.Bool.{eqb-true}
+use Rattle.std.proofs.lemmas.Bool.{eqb-true, not-false, and_parts, or_cases}
 use Rattle.std.proofs.lemmas.List.{length-map, get_or-map, length-set, length-replicate}
 use Rattle.std.proofs.lemmas.List.Elements.{All-append, All-map}
 use Rattle.aiger_text.specs.declared.circuits.Latch.{Latch}
@@ -14,7 +14,7 @@ use Rattle.aiger_text.specs.declared.symbols.Named.{Named}
 use Rattle.aiger_text.specs.declared.symbols.Named.TheVariants.{AnInput, ALatch, AnOutput}
 use Rattle.aiger_text.specs.CircuitType.{IsCircuit, IsDefined, DependsOn, defined_literals, used_literals, gate_at}
 use Rattle.aiger_text.specs.CircuitText.{Symbol}
-use Rattle.aiger_text.specs.CircuitFile.{Draft, Parts, Names, Ending, defines, is_known, circuit_of, undefined_line, and_then, ending_from, with_symbol, symbol_in, named_at, lines_for, is_nil, Body, no_names, counts_in, header_of, parts_of, parts_of_lines, parts_behind, on_line, lines_of}
+use Rattle.aiger_text.specs.CircuitFile.{Draft, Parts, Names, Ending, defines, is_known, circuit_of, undefined_line, and_then, ending_from, with_symbol, symbol_in, named_at, lines_for, is_nil, Body, no_names, counts_in, header_of, circuit_parts, parts_of_lines, parts_behind, on_line, lines_of}
 use Rattle.aiger_text.specs.Sound.{InRange, IsOwn, IsSound, times_by, how_often}
 use Rattle.aiger_text.specs.declared.counts.Counts.{Counts}
 use Rattle.aiger_text.specs.Words.{cut_at}
@@ -22,16 +22,8 @@ use Rattle.aiger_text.specs.Walks.{HaveVariables}
 use Rattle.aiger_text.specs.Statements.{IsFaultOf}
 use Rattle.aiger_text.proofs.Scanning.{cuts, no_cut, has_piece, on_line-more}
 use Rattle.aiger_text.proofs.Firsts.{each_fails, found_none}
-use Rattle.aiger_text.proofs.SoundLemmas.{each_own, defined_once, is_defined, either, times-two, times-map}
+use Rattle.aiger_text.proofs.SoundLemmas.{each_own, defined_once, is_defined, times-two, times-map}
 use Rattle.aiger_text.proofs.Gates.{no_gate}
-
-not_false : (b : Bool) → not b ≡ false → b ≡ true
-not_false true e = refl
-not_false false e = absurd (cc)
-
-both : (a b : Bool) → (a && b) ≡ true → (a ≡ true) × (b ≡ true)
-both true b e = (refl, e)
-both false b e = absurd (cc)
 
 -- what holds of both operands of each gate
 all_operands : (P : ℕ → Type 0) (gates : List Gate) → All (λ gate. P gate.left) gates → All (λ gate. P gate.right) gates → All P (flat_map (λ gate. gate.left ∷ gate.right ∷ []) gates)
@@ -49,7 +41,7 @@ module _ (p : Parts) (sound : IsSound p.draft) where
   known_defined : (literal : ℕ) → InRange d.counts literal → is_known d literal ≡ true → IsDefined (circuit_of p) literal
   known_defined literal range known = record {
     in_range = range;
-    defined = elim (either (eqb (literal / 2) 0) (defines d (literal / 2)) known) [
+    defined = elim (or_cases (eqb (literal / 2) 0) (defines d (literal / 2)) known) [
       | inl constant ↦ inl (eqb-true (literal / 2) 0 constant)
       | inr defined ↦ inr (is_defined d sound (literal / 2) defined)
     ];
@@ -62,16 +54,16 @@ module _ (p : Parts) (sound : IsSound p.draft) where
       let third = found_none (2 + length d.inputs + length d.latches + length d.outputs)
       (position_from (λ (gate : Gate). not (is_known d gate.left && is_known d gate.right)) 0 d.gates) None second.1 in
       let operands : (k : ℕ) (x : Gate) → k < length d.gates → (is_known d (get_or d.gates k x).left ≡ true) × (is_known d (get_or d.gates k x).right ≡ true) =
-      λ k x h. both (is_known d (get_or d.gates k x).left) (is_known d (get_or d.gates k x).right)
-      (not_false (is_known d (get_or d.gates k x).left && is_known d (get_or d.gates k x).right)
+      λ k x h. and_parts (is_known d (get_or d.gates k x).left) (is_known d (get_or d.gates k x).right)
+      (not-false (is_known d (get_or d.gates k x).left && is_known d (get_or d.gates k x).right)
       (each_fails (λ (gate : Gate). not (is_known d gate.left && is_known d gate.right)) d.gates third.0 k x h)) in
       All-append (IsDefined (circuit_of p)) (map (λ (latch : Latch). latch.next) d.latches) (d.outputs ++ flat_map (λ (gate : Gate). gate.left ∷ gate.right ∷ []) d.gates)
       (All-map (IsDefined (circuit_of p)) (λ (latch : Latch). latch.next) d.latches
       (λ k x h. known_defined (get_or d.latches k x).next (sound.latches k x h).next
-      (not_false (is_known d (get_or d.latches k x).next) (each_fails (λ (latch : Latch). not (is_known d latch.next)) d.latches first.0 k x h))))
+      (not-false (is_known d (get_or d.latches k x).next) (each_fails (λ (latch : Latch). not (is_known d latch.next)) d.latches first.0 k x h))))
       (All-append (IsDefined (circuit_of p)) d.outputs (flat_map (λ (gate : Gate). gate.left ∷ gate.right ∷ []) d.gates)
       (λ k x h. known_defined (get_or d.outputs k x) (sound.outputs k x h)
-      (not_false (is_known d (get_or d.outputs k x)) (each_fails (λ literal. not (is_known d literal)) d.outputs second.0 k x h)))
+      (not-false (is_known d (get_or d.outputs k x)) (each_fails (λ literal. not (is_known d literal)) d.outputs second.0 k x h)))
       (all_operands (IsDefined (circuit_of p)) d.gates
       (λ k x h. known_defined (get_or d.gates k x).left (sound.gates k x h).left (operands k x h).0)
       (λ k x h. known_defined (get_or d.gates k x).right (sound.gates k x h).right (operands k x h).1)))
@@ -115,9 +107,6 @@ symbol_keeps names n (Some s) more e = by (eqb (slice_index (lines_for names s.n
         let same : named_at names n s.named s.place s.name ≡ more = ap (λ (r : Result Names CircuitFault). result_unwrap_or r more) e in
         subst (Keeps names) same (named_keeps names n s.named s.place s.name)
     by false e = absurd (cc)
-
-names_of : Ending → Result Ending CircuitFault → Names
-names_of none r = (result_unwrap_or r none).names
 
 pub ending_keeps : (names : Names) (n : ℕ) (lines : List (List ℕ)) (e : Ending) → ending_from names n lines ≡ Ok e → Keeps names e.names
 ending_keeps names n [] e is = absurd (cc)
@@ -164,20 +153,20 @@ module _ (bytes : List ℕ) where
   abbrev room : ℕ
   room = length bytes + 1
 
-  pub parts_unended : (counts : Counts) → cut_at 10 bytes ≡ None → counts_in room (header_of bytes) ≡ Ok counts → parts_of bytes ≡ Err (BadLine 1)
+  pub parts_unended : (counts : Counts) → cut_at 10 bytes ≡ None → counts_in room (header_of bytes) ≡ Ok counts → circuit_parts bytes ≡ Err (BadLine 1)
   parts_unended counts none header =
       ap (parts_of_lines room) (no_cut 10 bytes none) ∙ ap (and_then (λ counts. on_line [] 1 (parts_behind counts []))) header
 
-  pub parts_bad_unended : (fault : CircuitFault) → cut_at 10 bytes ≡ None → counts_in room (header_of bytes) ≡ Err fault → parts_of bytes ≡ Err fault
+  pub parts_bad_unended : (fault : CircuitFault) → cut_at 10 bytes ≡ None → counts_in room (header_of bytes) ≡ Err fault → circuit_parts bytes ≡ Err fault
   parts_bad_unended fault none header =
       ap (parts_of_lines room) (no_cut 10 bytes none) ∙ ap (and_then (λ counts. on_line [] 1 (parts_behind counts []))) header
 
   module _ (line text : List ℕ) (cut : cut_at 10 bytes ≡ Some (line, text)) where
-    pub parts_bad : (fault : CircuitFault) → counts_in room (header_of line) ≡ Err fault → parts_of bytes ≡ Err fault
+    pub parts_bad : (fault : CircuitFault) → counts_in room (header_of line) ≡ Err fault → circuit_parts bytes ≡ Err fault
     parts_bad fault header =
         ap (parts_of_lines room) (cuts 10 bytes line text cut).pieces ∙ ap (and_then (λ counts. on_line (lines_of text) 1 (parts_behind counts (lines_of text)))) header
 
-    pub parts_ended : (counts : Counts) → counts_in room (header_of line) ≡ Ok counts → parts_of bytes ≡ parts_behind counts (lines_of text)
+    pub parts_ended : (counts : Counts) → counts_in room (header_of line) ≡ Ok counts → circuit_parts bytes ≡ parts_behind counts (lines_of text)
     parts_ended counts header =
         ap (parts_of_lines room) (cuts 10 bytes line text cut).pieces ∙ ap (and_then (λ counts. on_line (lines_of text) 1 (parts_behind counts (lines_of text)))) header
         ∙ on_line-more (lines_of text) 1 (parts_behind counts (lines_of text)) (has_piece text)
@@ -189,12 +178,12 @@ abbrev pub behind_body : Body → Result Parts CircuitFault
 behind_body body = and_then (with_ending body.draft) (ending_from (no_names body.draft) body.line body.rest)
 
 -- the fault of a header is the file's
-pub header_fault : (bytes : List ℕ) (fault : CircuitFault) → cut_at 10 bytes ≡ None → IsFaultOf (counts_in (length bytes + 1) (header_of bytes)) fault → IsFaultOf (parts_of bytes) fault
+pub header_fault : (bytes : List ℕ) (fault : CircuitFault) → cut_at 10 bytes ≡ None → IsFaultOf (counts_in (length bytes + 1) (header_of bytes)) fault → IsFaultOf (circuit_parts bytes) fault
 header_fault bytes fault none (inl e) = inl e
 header_fault bytes fault none (inr e) = inr (parts_bad_unended bytes fault none e)
 
 pub header_fault_ended : (bytes line text : List ℕ) (fault : CircuitFault) → cut_at 10 bytes ≡ Some (line, text) → IsFaultOf (counts_in (length bytes + 1) (header_of line)) fault
-    → IsFaultOf (parts_of bytes) fault
+    → IsFaultOf (circuit_parts bytes) fault
 header_fault_ended bytes line text fault cut (inl e) = inl e
 header_fault_ended bytes line text fault cut (inr e) = inr (parts_bad bytes line text cut fault e)
 

@@ -1,11 +1,9 @@
-use Rattle.std.proofs.Common.{◌≡◌, ℕ, zero, suc, ◌+◌, ◌-◌, ◌*◌, ◌/◌, ◌%◌, ◌^◌, ◌<◌, Bool, true, false, cond, eqb, List, [], ◌∷◌, length, get_or, refl, sym, ap, ◌∙◌, arith}
+use Rattle.std.proofs.Common.{◌≡◌, ℕ, ◌+◌, ◌-◌, ◌/◌, ◌%◌, ◌^◌, ◌<◌, Bool, false, eqb, List, length, get_or, sym, ap, ◌∙◌, arith}
 use Rattle.std.specs.Prelude.{map}
-use Rattle.std.specs.Int.{bit_at}
 use Rattle.std.specs.List.{range_with_len}
-use Rattle.std.proofs.Math.Nat.{mod-lt, pow-suc, div-div-eq-div-mul}
+use Rattle.std.proofs.Math.Nat.{mod-lt, div-div-eq-div-mul}
 use Rattle.std.proofs.Math.Pow.{mod-mod-pow}
 use Rattle.std.proofs.lemmas.Nat.{pow-add, mod-pow-add, div-mul-add, pow_pos}
-use Rattle.std.proofs.lemmas.Nat.Bits.{bit_at_lowest, bit_at-suc, bit_at-zero}
 use Rattle.std.proofs.lemmas.List.FromFn.{length-map-range_with_len, get_or-map-range_with_len}
 use Rattle.letter_word.specs.Signals.{has}
 
@@ -18,38 +16,6 @@ length-bits_of n a = length-map-range_with_len (has a) 0 n
 
 pub get_or-bits_of : (n a k : ℕ) → k < n → get_or (bits_of n a) k false ≡ has a k
 get_or-bits_of n a k h = get_or-map-range_with_len (has a) 0 n k k false h (omega arith)
-
--- the number that has these bits
-abbrev pub number_of : List Bool → ℕ
-number_of [] = 0
-number_of (b ∷ bs) = cond b 1 0 + number_of bs * 2
-
-digit-lt : (b : Bool) → cond b 1 0 < 2
-digit-lt true = omega arith
-digit-lt false = omega arith
-
-digit-is : (b : Bool) → eqb (cond b 1 0) 1 ≡ b
-digit-is true = refl
-digit-is false = refl
-
-pub number_of-lt : (bs : List Bool) → number_of bs < 2 ^ length bs
-number_of-lt [] = omega arith
-number_of-lt (b ∷ bs) =
-    let one : cond b 1 0 < 2 = digit-lt b in
-    let more : number_of bs < 2 ^ length bs = number_of-lt bs in
-    let e : 2 ^ suc (length bs) ≡ 2 ^ length bs * 2 = pow-suc 2 (length bs) in
-    rw e (omega arith)
-
-pub has-number_of : (bs : List Bool) (k : ℕ) → k < length bs → has (number_of bs) k ≡ get_or bs k false
-has-number_of [] k h = absurd (omega arith)
-has-number_of (b ∷ bs) zero h =
-    let one : cond b 1 0 < 2 = digit-lt b in
-    let e : (cond b 1 0 + number_of bs * 2) % 2 ≡ cond b 1 0 = omega arith in
-    ap (λ n. eqb n 1) (bit_at_lowest (cond b 1 0 + number_of bs * 2) ∙ e) ∙ digit-is b
-has-number_of (b ∷ bs) (suc k) h =
-    let one : cond b 1 0 < 2 = digit-lt b in
-    let e : (cond b 1 0 + number_of bs * 2) / 2 ≡ number_of bs = omega arith in
-    ap (λ n. eqb n 1) (bit_at-suc (cond b 1 0 + number_of bs * 2) k ∙ ap (λ n. bit_at n k) e) ∙ has-number_of bs k (omega arith)
 
 -- the bits of the upper and of the lower part of a number
 pub has-div : (a w k : ℕ) → has (a / 2 ^ w) k ≡ has a (w + k)
@@ -64,6 +30,3 @@ has-mod a n k h =
     ap (λ (m : ℕ). a % 2 ^ m / 2 ^ k) sum ∙ ap (λ m. m / 2 ^ k) (mod-pow-add a (j + 1) k)
     ∙ div-mul-add (a / 2 ^ k % 2 ^ (j + 1)) (2 ^ k) (a % 2 ^ k) small in
     ap (λ m. eqb (m % 2) 1) front ∙ ap (λ m. eqb m 1) (mod-mod-pow (a / 2 ^ k) j 1)
-
-pub has-none : (k : ℕ) → has 0 k ≡ false
-has-none k = ap (λ n. eqb n 1) (bit_at-zero k)

@@ -2,7 +2,7 @@
 use Rattle.std.proofs.Common.{◌≡◌, ◌≢◌, ℕ, suc, ◌+◌, ◌*◌, ◌/◌, ◌%◌, ◌<◌, ◌≤◌, Bool, true, false, not, ◌&&◌, ◌||◌, cond, eqb, None, List, [], ◌∷◌, ◌++◌, length, get_or, refl, sym, ap, subst, ◌∙◌, arith, inl, inr, decimal}
 use Rattle.std.specs.Prelude.{map, All, Contains, flat_map, nat_le, nat_lt, Ok, Err}
 use Rattle.std.specs.List.{list_any, position_from, AllZip}
-use Rattle.std.proofs.lemmas.Bool.{eq-eqb, le-leb, lt-leb, lt-ltb, le-ltb, and_left, and_right, and_from, or_from, or_left, or_right}
+use Rattle.std.proofs.lemmas.Bool.{eq-eqb, le-leb, lt-leb, lt-ltb, le-ltb, and_left, and_right, and_from, or_from, or_left, or_right, ne_eqb}
 use Rattle.std.proofs.lemmas.List.{append-nil, append_assoc, map-append, length-append, length-map, get_or-map, get_or_append_left, get_or-append-add}
 use Rattle.std.proofs.lemmas.List.Elements.{All-cons, All-from_get_or, Contains-append_cases}
 use Rattle.std.proofs.lemmas.List.Folds.{list_any_none, list_any_at}
@@ -18,7 +18,7 @@ use Rattle.aiger_text.specs.CircuitFile.{Draft, defines, is_known, is_whole, wit
 use Rattle.aiger_text.specs.Sound.{IsOwn, IsOwnLatch, IsOwnGate}
 use Rattle.aiger_text.proofs.Firsts.{none_is}
 use Rattle.aiger_text.proofs.Scanning.{HasPiece, on_line-more}
-use Rattle.aiger_text.proofs.FormsRead.{unequal, literal_in-decimal, definable_in-decimal, latch_in-line, gate_in-line}
+use Rattle.aiger_text.proofs.FormsRead.{literal_in-decimal, definable_in-decimal, latch_in-line, gate_in-line}
 
 -- parts of what holds of all
 module _ {X : Type 0} (P : X → Type 0) where
@@ -74,12 +74,12 @@ none_defined d v all =
     let others : All (λ y. y / 2 ≢ v) (map (λ (latch : Latch). latch.literal) d.latches ++ map (λ (gate : Gate). gate.literal) d.gates) =
     back (λ y. y / 2 ≢ v) d.inputs (map (λ (latch : Latch). latch.literal) d.latches ++ map (λ (gate : Gate). gate.literal) d.gates) all in
     or_from _ _
-    (list_any_none (λ literal. eqb (literal / 2) v) d.inputs (λ k y h. unequal (get_or d.inputs k y / 2) v
+    (list_any_none (λ literal. eqb (literal / 2) v) d.inputs (λ k y h. ne_eqb (get_or d.inputs k y / 2) v
     (front (λ y. y / 2 ≢ v) d.inputs (map (λ (latch : Latch). latch.literal) d.latches ++ map (λ (gate : Gate). gate.literal) d.gates) all k y h)))
     (or_from _ _
-    (list_any_none (λ (latch : Latch). eqb (latch.literal / 2) v) d.latches (λ k y h. unequal ((get_or d.latches k y).literal / 2) v
+    (list_any_none (λ (latch : Latch). eqb (latch.literal / 2) v) d.latches (λ k y h. ne_eqb ((get_or d.latches k y).literal / 2) v
     (of_map (λ y. y / 2 ≢ v) (λ (latch : Latch). latch.literal) d.latches (front (λ y. y / 2 ≢ v) (map (λ (latch : Latch). latch.literal) d.latches) (map (λ (gate : Gate). gate.literal) d.gates) others) k y h)))
-    (list_any_none (λ (gate : Gate). eqb (gate.literal / 2) v) d.gates (λ k y h. unequal ((get_or d.gates k y).literal / 2) v
+    (list_any_none (λ (gate : Gate). eqb (gate.literal / 2) v) d.gates (λ k y h. ne_eqb ((get_or d.gates k y).literal / 2) v
     (of_map (λ y. y / 2 ≢ v) (λ (gate : Gate). gate.literal) d.gates (back (λ y. y / 2 ≢ v) (map (λ (latch : Latch). latch.literal) d.latches) (map (λ (gate : Gate). gate.literal) d.gates) others) k y h))))
 
 module _ (c : Circuit) (kept : IsCircuit c) (size : c.variables ≤ 100000) where

@@ -11,6 +11,7 @@ use Rattle.letter_word.specs.declared.kinds.Side.TheVariants.{System, Environmen
 use Rattle.letter_word.specs.declared.letters.Letter.{Letter}
 use Rattle.letter_word.specs.Word.{Word, IsLassoOver, lasso_len, letter_at, nth_letter, next}
 use Rattle.letter_word.specs.Signals.{has}
+use Rattle.letter_word.proofs.Bits.{number_of-lt, has-number_of, has-none}
 use Rattle.machine_model.specs.declared.machines.Row.{Row}
 use Rattle.machine_model.specs.Machine.{MachineModel, IsMachine, size_of, row_of}
 use Rattle.machine_model.specs.Run.{IsRunLasso, read_part, written_part}
@@ -23,7 +24,8 @@ use Rattle.aiger_text.specs.Circuit.{Circuit, Valuation, literal_value, output_v
 use Rattle.aiger_text.specs.CircuitType.{IsCircuit, IsOrder}
 use Rattle.aiger_text.specs.Step.{HasValues}
 use Rattle.aiger_text.proofs.Putting.{no_latch}
-use Rattle.aiger_text.proofs.Bits.{bits_of, length-bits_of, get_or-bits_of, number_of, number_of-lt, has-number_of, has-div, has-mod, has-none}
+use Rattle.aiger_text.proofs.Bits.{bits_of, length-bits_of, get_or-bits_of, has-div, has-mod}
+use Rattle.letter_word.specs.Bits.{number_of}
 use Rattle.aiger_text.proofs.Valuations.{HasValuation, valuation_of}
 
 -- one of two values, and the other where the first flag is set

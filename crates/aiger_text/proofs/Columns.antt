@@ -1,6 +1,6 @@
-use Rattle.std.proofs.Common.{◌≡◌, ◌≢◌, ℕ, zero, suc, ◌+◌, ◌-◌, ◌*◌, ◌/◌, ◌%◌, ◌^◌, ◌<◌, ◌≤◌, Bool, true, false, ◌&&◌, ◌||◌, eqb, ltb, List, [], ◌∷◌, length, get_or, refl, sym, ap, subst, ◌∙◌, arith, inl, inr}
+use Rattle.std.proofs.Common.{◌≡◌, ◌≢◌, ℕ, zero, suc, ◌+◌, ◌-◌, ◌*◌, ◌/◌, ◌%◌, ◌^◌, ◌<◌, ◌≤◌, Bool, false, ◌&&◌, ◌||◌, eqb, ltb, List, [], ◌∷◌, length, get_or, refl, sym, ap, subst, ◌∙◌, arith, inl, inr}
 use Rattle.std.proofs.Math.Nat.{pow-suc, mul-le-mul_right}
-use Rattle.std.proofs.lemmas.Bool.{cond-true, cond-false, lt-ltb, le-ltb, cases_lt, cases_eq, eq-eqb, eqb-true}
+use Rattle.std.proofs.lemmas.Bool.{cond-true, cond-false, lt-ltb, le-ltb, cases_lt, cases_eq, eq-eqb, ne_eqb}
 use Rattle.text_base.specs.Numerals.{decimal_value}
 use Rattle.aiger_text.specs.Columns.{digit_at, low}
 
@@ -68,13 +68,6 @@ raised x y p h =
     let m : (x + 1) * p ≤ y * p = mul-le-mul_right p h' in
     omega (arith, m)
 
-different : (x y : ℕ) → x ≢ y → eqb x y ≡ false
-different x y ne = by (eqb x y) refl
-  where
-    by : (b : Bool) → eqb x y ≡ b → b ≡ false
-    by true e = absurd (ne (eqb-true x y e))
-    by false e = refl
-
 -- the comparison of two numbers by a digit and what follows
 same_digits : (p own other a b : ℕ) → own ≡ other → ltb (b + other * p) (a + own * p) ≡ ltb b a
 same_digits p own other a b e =
@@ -97,14 +90,11 @@ compare p own other a b ha hb = elim (cases_eq own other) [
         let apart : own ≢ other = ne in
         let less : own < other = omega arith in
         le-ltb (b + other * p) (a + own * p) (omega (arith, raised own other p less, ha))
-        ∙ sym (ap (λ t. t || (eqb own other && ltb b a)) (le-ltb other own more) ∙ ap (λ t. false || (t && ltb b a)) (different own other ne))
+        ∙ sym (ap (λ t. t || (eqb own other && ltb b a)) (le-ltb other own more) ∙ ap (λ t. false || (t && ltb b a)) (ne_eqb own other ne))
   ]
 ]
 
 module _ (first second third most : List ℕ) where
-  pub nothing_yet : AddsUp first second third most 0 0 false
-  nothing_yet = record { rest = 0; sum = refl; small = omega arith; carry_small = omega arith; most_small = omega arith; above_is = sym (le-ltb 0 0 (omega arith)) }
-
   pub adds_more : (place carry : ℕ) (above : Bool) (a b c own : ℕ) → a < 10 → b < 10 → c < 10 → own < 10
       → a ≡ digit_at first place → b ≡ digit_at second place → c ≡ digit_at third place → own ≡ digit_at most place
       → AddsUp first second third most place carry above

@@ -12,7 +12,7 @@ use Rattle.aiger_text.specs.declared.faults.CircuitFault.TheVariants.{BadHeader,
 use Rattle.aiger_text.specs.Circuit.{Circuit}
 use Rattle.aiger_text.specs.CircuitType.{IsCircuit}
 use Rattle.aiger_text.specs.CircuitText.{text_of_lines, numbers_line, header_line, gate_line, IsLatchLine}
-use Rattle.aiger_text.specs.CircuitFile.{Header, lines_of, and_then, on_line, header_of, header_of_words, header_of_numbers, counts_in, parts_of, parts_of_lines, parts_behind, ending_from, no_names}
+use Rattle.aiger_text.specs.CircuitFile.{Header, lines_of, and_then, on_line, header_of, header_of_words, header_of_numbers, counts_in, circuit_parts, parts_of_lines, parts_behind, ending_from, no_names}
 use Rattle.aiger_text.specs.Words.{is_byte}
 use Rattle.aiger_text.specs.Sound.{IsOwn}
 use Rattle.aiger_text.proofs.Scanning.{HasPiece, has_piece, on_line-more}
@@ -198,7 +198,7 @@ module _ (c : Circuit) (kept : IsCircuit c) (size : c.variables ≤ 100000) (few
         let m : length (map decimal c.outputs) ≡ length c.outputs = rw length-map refl in
         omega (arith, m, third_fits (header_line c further ∷ map decimal c.inputs) latch_lines (map decimal c.outputs) (map gate_line c.gates) names tail)
 
-    pub parts_read : parts_of (text_of_lines lines ++ tail) ≡ and_then (with_ending (whole c kept size)) (ending_from (no_names (whole c kept size)) (behind c kept size) pieces)
+    pub parts_read : circuit_parts (text_of_lines lines ++ tail) ≡ and_then (with_ending (whole c kept size)) (ending_from (no_names (whole c kept size)) (behind c kept size) pieces)
     parts_read =
         let has : HasPiece pieces = has_append names (lines_of tail) (has_piece tail) in
         let body : HasPiece body_pieces = has_append (map decimal c.inputs) (latch_lines ++ (map decimal c.outputs ++ (map gate_line c.gates ++ pieces)))

@@ -1,7 +1,7 @@
 -- Lines of latches and gates that were written, read back.
 use Rattle.std.proofs.Common.{◌≡◌, ◌≢◌, ℕ, ◌+◌, ◌*◌, ◌%◌, ◌^◌, ◌<◌, ◌≤◌, Bool, true, false, not, ◌&&◌, cond, eqb, Option, Some, None, List, [], ◌∷◌, ◌++◌, refl, sym, ap, ◌∙◌, arith, inl, inr, decimal}
 use Rattle.std.specs.Prelude.{option_and_then, option_map, nat_le, Ok, Err}
-use Rattle.std.proofs.lemmas.Bool.{eqb-true, eq-eqb, le-leb}
+use Rattle.std.proofs.lemmas.Bool.{eq-eqb, le-leb, ne_eqb}
 use Rattle.aiger_text.specs.declared.circuits.Latch.{Latch}
 use Rattle.aiger_text.specs.declared.circuits.Gate.{Gate}
 use Rattle.aiger_text.specs.declared.counts.Counts.{Counts}
@@ -11,13 +11,6 @@ use Rattle.aiger_text.specs.CircuitText.{numbers_line, latch_line, gate_line, Is
 use Rattle.aiger_text.specs.CircuitFile.{literal_in, definable_in, latch_in, latch_of, latch_of_rest, latch_of_words, gate_in}
 use Rattle.aiger_text.specs.Sound.{InRange, IsOwn, IsOwnLatch, IsOwnGate}
 use Rattle.aiger_text.proofs.Numbers.{number_within-decimal, decimal-lacks, cut_at-seam, cut_at-none}
-
-pub unequal : (x y : ℕ) → x ≢ y → eqb x y ≡ false
-unequal x y ne = by (eqb x y) refl
-  where
-    by : (b : Bool) → eqb x y ≡ b → b ≡ false
-    by true e = absurd (ne (eqb-true x y e))
-    by false e = refl
 
 module _ (counts : Counts) (size : counts.variables ≤ 100000) where
   small : (l : ℕ) → InRange counts l → l < 2 ^ 64
@@ -31,7 +24,7 @@ module _ (counts : Counts) (size : counts.variables ≤ 100000) where
       let some : l ≢ 0 = own.some in
       ap (option_and_then (λ literal. cond (eqb (literal % 2) 0 && not (eqb literal 0)) (Some literal) None)) (literal_in-decimal l own.within)
       ∙ ap (λ b. cond (b && not (eqb l 0)) (Some l) None) (eq-eqb (l % 2) 0 own.even)
-      ∙ ap (λ b. cond (not b) (Some l) None) (unequal l 0 some)
+      ∙ ap (λ b. cond (not b) (Some l) None) (ne_eqb l 0 some)
 
   cut : (l : ℕ) (rest : List ℕ) → InRange counts l → cut_at 32 (decimal l ++ 32 ∷ rest) ≡ Some (decimal l, rest)
   cut l rest range = cut_at-seam 32 (decimal l) rest (decimal-lacks 32 l refl (small l range))
@@ -59,7 +52,7 @@ module _ (counts : Counts) (size : counts.variables ≤ 100000) where
       let some : latch.literal ≢ 0 = own.own.some in
       let even : latch.literal % 2 ≡ 0 = own.own.even in
       let other : reset ≢ latch.literal = λ e. absurd (omega (arith, some, even, bit, e)) in
-      ap (λ b. cond b (Err (Unsupported n)) (cond (nat_le reset 1) (Ok (record { literal = latch.literal; next = latch.next; reset = eqb reset 1 })) (Err (BadLine n)))) (unequal reset latch.literal other)
+      ap (λ b. cond b (Err (Unsupported n)) (cond (nat_le reset 1) (Ok (record { literal = latch.literal; next = latch.next; reset = eqb reset 1 })) (Err (BadLine n)))) (ne_eqb reset latch.literal other)
       ∙ ap (λ b. cond b (Ok (record { literal = latch.literal; next = latch.next; reset = eqb reset 1 })) (Err (BadLine n))) (le-leb reset 1 bit)
       ∙ ap (λ b. Ok (record { literal = latch.literal; next = latch.next; reset = b })) is
 

@@ -8,7 +8,7 @@ use Rattle.std.proofs.lemmas.List.Sums.{sum_by-set}
 use Rattle.std.proofs.lemmas.List.Elements.{Contains-push, Contains-push_cases, Contains-append_left, Contains-get_or}
 use Rattle.aiger_text.specs.declared.groups.Stage.{Stage}
 use Rattle.aiger_text.specs.declared.groups.Stage.TheVariants.{Done}
-use Rattle.aiger_text.specs.Groups.{IsGreatest, Rises, Closes, Cuts, stage_at, weight}
+use Rattle.aiger_text.specs.Groups.{IsGreatest, Rises, Closes, stage_at, weight}
 
 -- a number that a list has, by its place
 pub has_at : (xs : List ℕ) (x : ℕ) (there : Contains xs x) → get_or xs there.0 0 ≡ x
@@ -91,12 +91,6 @@ cut_one old now new most x e above so =
           ];
     }
 
-fewer_by : (old new : List ℕ) (most : ℕ) → ((y : ℕ) → Contains new y → y ≤ most) → CutsSoFar old new most → (x : ℕ) → Contains old x → most < x → length new < length old
-fewer_by old new most at_most so x there above = elim so.fewer [
-  | inl less ↦ less
-  | inr same ↦ let le : x ≤ most = at_most x (subst (λ (l : List ℕ). Contains l x) (sym same) there) in absurd (omega arith)
-]
-
 pub last_greatest : (xs : List ℕ) (x : ℕ) → 0 < length xs → get_or xs (length xs - 1) 0 ≡ x → Rises xs → IsGreatest xs x
 last_greatest xs x some is rises = record {
   there = subst (Contains xs) is (Contains-get_or xs (length xs - 1) 0 (omega arith));
@@ -113,20 +107,6 @@ last_greatest xs x some is rises = record {
             omega (arith, named, same)
       ];
 }
-
-pub cut_end : (old new : List ℕ) (most last : ℕ) → 0 < length new → get_or new (length new - 1) 0 ≡ last → last ≤ most → CutsSoFar old new most → Cuts old new most
-cut_end old new most last some is le so =
-    let greatest_is : IsGreatest new last = last_greatest new last some is so.rises in
-    let at_most : (y : ℕ) → Contains new y → y ≤ most = λ y there. let m : y ≤ last = greatest_is.most y there in omega (arith, m, le) in
-    record { from_old = so.from_old; stay = so.stay; at_most = at_most; rises = so.rises; fewer = fewer_by old new most at_most so }
-
-pub cut_empty : (old new : List ℕ) (most : ℕ) → new ≡ [] → CutsSoFar old new most → Cuts old new most
-cut_empty old new most none so =
-    let at_most : (y : ℕ) → Contains new y → y ≤ most = λ y there.
-    let never : Contains [] y = subst (λ (l : List ℕ). Contains l y) none there in
-    let below : never.0 < 0 = never.1 in
-    absurd (omega arith) in
-    record { from_old = so.from_old; stay = so.stay; at_most = at_most; rises = so.rises; fewer = fewer_by old new most at_most so }
 
 -- == gates that are done ==
 pub closes_none : (stages : List Stage) (opened : List ℕ) (from : ℕ) (on : Bool) → Closes stages stages opened from from on

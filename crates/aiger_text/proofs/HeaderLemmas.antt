@@ -1,54 +1,30 @@
-use Rattle.std.proofs.Common.{◌≡◌, ℕ, zero, suc, ◌+◌, ◌<◌, ◌≤◌, Bool, true, false, not, ◌&&◌, cond, eqb, min, Some, None, List, [], ◌∷◌, length, get_or, drop, refl, sym, ap, ◌∙◌, arith}
+use Rattle.std.proofs.Common.{◌≡◌, ℕ, zero, suc, ◌+◌, ◌<◌, ◌≤◌, Bool, true, false, not, cond, eqb, min, Some, None, List, [], ◌∷◌, length, get_or, drop, refl, sym, ap, ◌∙◌, arith}
 use Rattle.std.specs.Prelude.{map, Result, Ok, Err, nat_le, nat_lt, option_and_then}
 use Rattle.std.specs.List.{list_all}
 use Rattle.std.specs.Char.{is_ascii_digit}
-use Rattle.std.proofs.lemmas.Bool.{le-leb, lt-leb, lt-ltb, le-ltb, ltb-false, eqb-true, leb-false}
+use Rattle.std.proofs.lemmas.Bool.{le-leb, le-ltb, ltb-false, eqb-true, leb-false, and_left, and_right}
+use Rattle.std.specs.Cmp.{first_so, second_so}
 use Rattle.text_base.specs.Numerals.{decimal_value}
 use Rattle.aiger_text.specs.declared.counts.Counts.{Counts}
 use Rattle.aiger_text.specs.declared.faults.CircuitFault.{CircuitFault}
 use Rattle.aiger_text.specs.declared.faults.CircuitFault.TheVariants.{BadHeader, Unsupported, TooLarge}
 use Rattle.aiger_text.specs.Words.{is_numeral, leads_well, number_within}
 use Rattle.aiger_text.specs.CircuitFile.{Header, header_of_numbers, header_of_words, counts_in}
-
--- a list with an element that fails
-fails_first : (a b : Bool) → a ≡ false → (a && b) ≡ false
-fails_first true b e = absurd (cc)
-fails_first false b e = refl
-
-fails_rest : (a b : Bool) → b ≡ false → (a && b) ≡ false
-fails_rest true b e = e
-fails_rest false b e = refl
+use Rattle.aiger_text.proofs.WordLemmas.{numeral_is}
 
 pub fails_at : {X Y : Type 0} (p : Y → Bool) (f : X → Y) (xs : List X) (k : ℕ) (d : X) → k < length xs → p (f (get_or xs k d)) ≡ false → list_all p (map f xs) ≡ false
 fails_at p f [] k d h e = absurd (omega arith)
-fails_at p f (x ∷ xs) zero d h e = fails_first (p (f x)) (list_all p (map f xs)) e
-fails_at p f (x ∷ xs) (suc k) d h e = fails_rest (p (f x)) (list_all p (map f xs)) (fails_at p f xs k d (omega arith) e)
-
-holds_first : (a b : Bool) → (a && b) ≡ true → a ≡ true
-holds_first true b e = refl
-holds_first false b e = absurd (cc)
-
-holds_rest : (a b : Bool) → (a && b) ≡ true → b ≡ true
-holds_rest true b e = e
-holds_rest false b e = absurd (cc)
+fails_at p f (x ∷ xs) zero d h e = and_left (p (f x)) (list_all p (map f xs)) e
+fails_at p f (x ∷ xs) (suc k) d h e = and_right (p (f x)) (list_all p (map f xs)) (fails_at p f xs k d (omega arith) e)
 
 -- what holds of all elements
 pub holds_at : {X : Type 0} (p : X → Bool) (xs : List X) (k : ℕ) (d : X) → k < length xs → list_all p xs ≡ true → p (get_or xs k d) ≡ true
 holds_at p [] k d h e = absurd (omega arith)
-holds_at p (x ∷ xs) zero d h e = holds_first (p x) (list_all p xs) e
-holds_at p (x ∷ xs) (suc k) d h e = holds_at p xs k d (omega arith) (holds_rest (p x) (list_all p xs) e)
-
-pub holds_behind : {X : Type 0} (p : X → Bool) (xs : List X) (k : ℕ) → list_all p xs ≡ true → list_all p (drop k xs) ≡ true
-holds_behind p xs zero e = e
-holds_behind p [] (suc k) e = refl
-holds_behind p (x ∷ xs) (suc k) e = holds_behind p xs k (holds_rest (p x) (list_all p xs) e)
+holds_at p (x ∷ xs) zero d h e = first_so (p x) (list_all p xs) e
+holds_at p (x ∷ xs) (suc k) d h e = holds_at p xs k d (omega arith) (second_so (p x) (list_all p xs) e)
 
 pub digits_of : (word : List ℕ) → is_numeral word ≡ true → list_all is_ascii_digit word ≡ true
-digits_of word e = holds_rest (leads_well word) (list_all is_ascii_digit word) e
-
-number_is : (most : ℕ) (word : List ℕ) → is_numeral word ≡ true → number_within most word ≡ cond (nat_le (decimal_value word) most) (Some (decimal_value word)) None
-number_is most word h =
-    ap (λ b. option_and_then (λ n. cond (nat_le n most) (Some n) None) (cond b (Some (decimal_value word)) None)) h
+digits_of word e = second_so (leads_well word) (list_all is_ascii_digit word) e
 
 -- a numeral that isn't within a bound is above it
 above_by : (most : ℕ) (word : List ℕ) (b : Bool) → nat_le (decimal_value word) most ≡ b → cond b (Some (decimal_value word)) None ≡ None → most < decimal_value word
@@ -57,7 +33,7 @@ above_by most word false e is = leb-false (decimal_value word) most e
 
 pub is_above : (most : ℕ) (word : List ℕ) → is_numeral word ≡ true → number_within most word ≡ None → most < decimal_value word
 is_above most word h is =
-    above_by most word (nat_le (decimal_value word) most) refl (sym (number_is most word h) ∙ is)
+    above_by most word (nat_le (decimal_value word) most) refl (sym (numeral_is most word h) ∙ is)
 
 unequal : (x y : ℕ) (b : Bool) → eqb x y ≡ b → (x ≡ y → ⊥) → eqb x y ≡ false
 unequal x y true e ne = absurd (ne (eqb-true x y e))
@@ -74,42 +50,11 @@ value_by most n word true is = cc
 value_by most n word false is = absurd (cc)
 
 pub is_value : (most n : ℕ) (word : List ℕ) → is_numeral word ≡ true → number_within most word ≡ Some n → n ≡ decimal_value word
-is_value most n word h is = value_by most n word (nat_le (decimal_value word) most) (sym (number_is most word h) ∙ is)
-
--- fewer than five words, more than nine, or one that is no numeral
-pub too_few : (words : List (List ℕ)) (room : ℕ) → length words < 5 → counts_in room (header_of_words words) ≡ Err (BadHeader 1)
-too_few words room h = ap (counts_in room) (by (list_all is_numeral words) words h)
-  where
-    by : (b : Bool) (ws : List (List ℕ)) → length ws < 5 → option_and_then header_of_numbers (cond b (Some (map decimal_value ws)) None) ≡ None
-    by false ws h = refl
-    by true [] h = refl
-    by true (a ∷ []) h = refl
-    by true (a ∷ b ∷ []) h = refl
-    by true (a ∷ b ∷ c ∷ []) h = refl
-    by true (a ∷ b ∷ c ∷ d ∷ []) h = refl
-    by true (a ∷ b ∷ c ∷ d ∷ e ∷ ws) h = absurd (omega arith)
+is_value most n word h is = value_by most n word (nat_le (decimal_value word) most) (sym (numeral_is most word h) ∙ is)
 
 length-values : (ws : List (List ℕ)) → length (map decimal_value ws) ≡ length ws
 length-values [] = refl
 length-values (w ∷ ws) = ap suc (length-values ws)
-
-pub too_many : (words : List (List ℕ)) (room : ℕ) → 9 < length words → counts_in room (header_of_words words) ≡ Err (BadHeader 1)
-too_many words room h = ap (counts_in room) (by (list_all is_numeral words) words h)
-  where
-    by : (b : Bool) (ws : List (List ℕ)) → 9 < length ws → option_and_then header_of_numbers (cond b (Some (map decimal_value ws)) None) ≡ None
-    by false ws h = refl
-    by true (a ∷ b ∷ c ∷ d ∷ e ∷ ws) h =
-        let more : 4 < length (map decimal_value ws) = omega (arith, length-values ws) in
-        ap (λ t. cond t (Some (record { counts = record { variables = decimal_value a; inputs = decimal_value b; latches = decimal_value c; outputs = decimal_value d; gates = decimal_value e }; further = map decimal_value ws })) None)
-        (lt-leb (length (map decimal_value ws)) 4 more)
-    by true [] h = absurd (omega arith)
-    by true (a ∷ []) h = absurd (omega arith)
-    by true (a ∷ b ∷ []) h = absurd (omega arith)
-    by true (a ∷ b ∷ c ∷ []) h = absurd (omega arith)
-    by true (a ∷ b ∷ c ∷ d ∷ []) h = absurd (omega arith)
-
-pub no_numerals : (words : List (List ℕ)) (room : ℕ) → list_all is_numeral words ≡ false → counts_in room (header_of_words words) ≡ Err (BadHeader 1)
-no_numerals words room e = ap (λ b. counts_in room (option_and_then header_of_numbers (cond b (Some (map decimal_value words)) None))) e
 
 -- the header that five to nine numerals state
 abbrev pub value_at : List (List ℕ) → ℕ → ℕ
@@ -151,14 +96,6 @@ module _ (words : List (List ℕ)) (room : ℕ) (five : 5 ≤ length words) (nin
       ap (counts_in room) (header_is words five nine numerals)
       ∙ ap (λ o. by_tests o (nat_lt 100000 (value_at words 0)) (list_all (λ n. eqb n 0) (map decimal_value (drop 5 words)))) a
       ∙ ap (λ l. by_tests over l (list_all (λ n. eqb n 0) (map decimal_value (drop 5 words)))) b ∙ ap (by_tests over large) c
-
-  pub counts_over : sums_over ≡ true → counts_in room (header_of_words words) ≡ Err (BadHeader 1)
-  counts_over e = counts_are true (nat_lt 100000 (value_at words 0)) (list_all (λ n. eqb n 0) (map decimal_value (drop 5 words))) e refl refl
-
-  pub counts_large : sums_over ≡ false → number_within 100000 (get_or words 0 []) ≡ None → is_numeral (get_or words 0 []) ≡ true → counts_in room (header_of_words words) ≡ Err (TooLarge 1)
-  counts_large e none numeral =
-      counts_are false true (list_all (λ n. eqb n 0) (map decimal_value (drop 5 words))) e
-      (lt-ltb 100000 (value_at words 0) (is_above 100000 (get_or words 0 []) numeral none)) refl
 
   module _ (size : ℕ) (fits : sums_over ≡ false) (within : number_within 100000 (get_or words 0 []) ≡ Some size) (small : size ≤ 100000) (numeral : is_numeral (get_or words 0 []) ≡ true) where
     size_is : size ≡ value_at words 0

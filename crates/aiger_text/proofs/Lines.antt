@@ -1,6 +1,6 @@
 use Rattle.std.proofs.Common.{◌≡◌, ℕ, suc, ◌+◌, ◌<◌, ◌≤◌, List, [], ◌∷◌, ◌++◌, length, get_or, take, refl, sym, ap, ◌∙◌, arith, Option, Some, None}
-use Rattle.std.specs.Prelude.{map, flat_map, decimal}
-use Rattle.std.proofs.lemmas.List.{append-nil, append_assoc, length-take-le, take_more, take_all, map_more}
+use Rattle.std.specs.Prelude.{flat_map, decimal}
+use Rattle.std.proofs.lemmas.List.{append-nil, append_assoc, length-take-le, take_more, take_all}
 use Rattle.aiger_text.specs.declared.symbols.Named.{Named}
 use Rattle.aiger_text.specs.CircuitText.{text_of_lines, numbers_line, name_lines}
 
@@ -23,14 +23,6 @@ pub text_more : (old text new : List ℕ) (lines more : List (List ℕ)) → tex
 text_more old text new lines more before here =
     here ∙ ap (λ (t : List ℕ). t ++ text_of_lines more) before ∙ append_assoc old (text_of_lines lines) (text_of_lines more)
     ∙ ap (λ (t : List ℕ). old ++ t) (sym (text_of_lines-append lines more))
-
--- the lines of one more element
-pub lines_more : {X : Type 0} (f : X → List ℕ) (xs : List X) (i : ℕ) (d : X) (old text new : List ℕ) → i < length xs
-    → text ≡ old ++ text_of_lines (map f (take i xs)) → new ≡ text ++ text_of_lines (f (get_or xs i d) ∷ [])
-    → new ≡ old ++ text_of_lines (map f (take (i + 1) xs))
-lines_more f xs i d old text new h before here =
-    text_more old text new (map f (take i xs)) (f (get_or xs i d) ∷ []) before here
-    ∙ ap (λ (lines : List (List ℕ)). old ++ text_of_lines lines) (sym (map_more f xs i d h))
 
 pub name_lines-append : (named : Named) (from : ℕ) (names : List (Option (List ℕ))) (name : Option (List ℕ))
     → name_lines named from (names ++ name ∷ []) ≡ name_lines named from names ++ name_lines named (from + length names) (name ∷ [])

@@ -1,9 +1,9 @@
 -- Names that were written, read back.
-use Rattle.std.proofs.Common.{◌≡◌, ◌≢◌, ℕ, suc, ◌+◌, ◌^◌, ◌<◌, ◌≤◌, Bool, true, false, not, ◌&&◌, cond, eqb, Option, Some, None, List, [], ◌∷◌, ◌++◌, length, replicate, refl, sym, ap, ◌∙◌, arith, decimal}
+use Rattle.std.proofs.Common.{◌≡◌, ◌≢◌, ℕ, suc, ◌+◌, ◌^◌, ◌<◌, ◌≤◌, true, false, not, ◌&&◌, cond, eqb, Option, Some, None, List, [], ◌∷◌, ◌++◌, length, replicate, refl, sym, ap, ◌∙◌, arith, decimal}
 use Rattle.std.specs.Prelude.{All, IfSome, codes, nat_lt, option_and_then, Ok, Err, slice_index, slice_set}
 use Rattle.std.specs.List.{list_all}
 use Rattle.std.specs.Str.{bytes_eq}
-use Rattle.std.proofs.lemmas.Bool.{lt-ltb, eq-eqb}
+use Rattle.std.proofs.lemmas.Bool.{lt-ltb, eq-eqb, and_parts, not-true}
 use Rattle.std.proofs.lemmas.List.{append_assoc, length-append}
 use Rattle.std.proofs.lemmas.List.Elements.{All-append, All-cons}
 use Rattle.std.proofs.Math.Seq.{set-append_seam, get_or-append_seam}
@@ -15,7 +15,7 @@ use Rattle.aiger_text.specs.CircuitFile.{Names, and_then, named_by, symbol_in, s
 use Rattle.aiger_text.specs.RoundTrip.{IsLineName, lines_from}
 use Rattle.aiger_text.specs.Words.{is_byte, number_within}
 use Rattle.aiger_text.proofs.Scanning.{HasPiece, ending_by}
-use Rattle.aiger_text.proofs.Numbers.{Lacks, both, number_within-decimal, decimal-lacks, cut_at-seam}
+use Rattle.aiger_text.proofs.Numbers.{Lacks, number_within-decimal, decimal-lacks, cut_at-seam}
 use Rattle.aiger_text.proofs.BodyRead.{has_append}
 
 -- the letter says what is named
@@ -69,12 +69,8 @@ module _ (names : Names) (s : Symbol) (fits : Fits names s) where
 pub no_line_end : (name : List ℕ) → list_all (λ b. not (eqb b 10)) name ≡ true → Lacks 10 name
 no_line_end [] h = λ k d less. absurd (omega arith)
 no_line_end (b ∷ name) h =
-    let parts = both (not (eqb b 10)) (list_all (λ b. not (eqb b 10)) name) h in
-    All-cons (λ b. is_byte 10 b ≡ false) b name (differs (eqb b 10) parts.0) (no_line_end name parts.1)
-  where
-    differs : (b : Bool) → not b ≡ true → b ≡ false
-    differs true e = absurd (cc)
-    differs false e = refl
+    let parts = and_parts (not (eqb b 10)) (list_all (λ b. not (eqb b 10)) name) h in
+    All-cons (λ b. is_byte 10 b ≡ false) b name (not-true (eqb b 10) parts.0) (no_line_end name parts.1)
 
 pub symbol-lacks : (s : Symbol) → s.place < 2 ^ 64 → list_all (λ b. not (eqb b 10)) s.name ≡ true → Lacks 10 (symbol_line s)
 symbol-lacks s small line =

@@ -1,30 +1,21 @@
 -- Numbers that were written, read back.
-use Rattle.std.proofs.Common.{◌≡◌, ℕ, suc, ◌+◌, ◌^◌, ◌<◌, ◌≤◌, Bool, true, false, not, ◌&&◌, cond, eqb, Some, None, List, [], ◌∷◌, ◌++◌, length, take, drop, get_or, refl, sym, ap, ◌∙◌, arith, slice_get, decimal}
+use Rattle.std.proofs.Common.{◌≡◌, ℕ, suc, ◌+◌, ◌^◌, ◌<◌, ◌≤◌, Bool, true, false, not, ◌&&◌, cond, eqb, Some, None, List, [], ◌∷◌, ◌++◌, length, get_or, refl, sym, ap, ◌∙◌, arith, slice_get, decimal}
 use Rattle.std.specs.Prelude.{map, All, option_map}
 use Rattle.std.specs.List.{list_all}
 use Rattle.std.specs.Char.{is_ascii_digit}
-use Rattle.std.specs.Str.{all_ascii_digits}
-use Rattle.std.proofs.lemmas.Bool.{eqb-true, eq-eqb}
+use Rattle.std.proofs.lemmas.Bool.{eqb-true, eq-eqb, and_parts}
 use Rattle.std.proofs.lemmas.List.{get_or_append_left}
 use Rattle.std.proofs.Math.Seq.{take-append_seam, drop-append-add, get_or-append_seam}
 use Rattle.std.proofs.lemmas.List.Elements.{All-append, All-cons}
 use Rattle.std.proofs.lemmas.List.Splits.{slice_split_none, slice_split_at}
 use Rattle.text_base.specs.Numerals.{decimal_value, IsNumeralOf}
-use Rattle.text_base.proofs.NumeralLemmas.{decimal_is_numeral}
+use Rattle.text_base.proofs.NumeralLemmas.{decimal_is_numeral, digits_are}
 use Rattle.aiger_text.specs.Words.{is_byte, cut_at, leads_well, is_numeral, number_within}
 use Rattle.aiger_text.specs.CircuitText.{numbers_line}
 use Rattle.aiger_text.specs.CircuitFile.{words_of, numbers_of}
 use Rattle.aiger_text.proofs.WordLemmas.{digits-of_numeral, found-number}
 use Rattle.aiger_text.proofs.Firsts.{first_is, none_is}
-
-pub both : (a b : Bool) → (a && b) ≡ true → (a ≡ true) × (b ≡ true)
-both true b e = (refl, e)
-both false b e = absurd (cc)
-
--- the two tests for digits are one
-digits_are : (word : List ℕ) → list_all is_ascii_digit word ≡ all_ascii_digits word
-digits_are [] = refl
-digits_are (c ∷ cs) = ap (λ b. is_ascii_digit c && b) (digits_are cs)
+use Rattle.aiger_text.proofs.Scanning.{halves}
 
 leads : (word : List ℕ) → 0 < length word → (slice_get word 0 ≡ Some 48 → length word ≡ 1) → leads_well word ≡ true
 leads [] some one = absurd (omega arith)
@@ -80,7 +71,7 @@ apart separator c false e odd is = e
 lacks : (separator : ℕ) → is_ascii_digit separator ≡ false → (word : List ℕ) → list_all is_ascii_digit word ≡ true → Lacks separator word
 lacks separator odd [] h = λ k d less. absurd (omega arith)
 lacks separator odd (c ∷ cs) h =
-    let parts = both (is_ascii_digit c) (list_all is_ascii_digit cs) h in
+    let parts = and_parts (is_ascii_digit c) (list_all is_ascii_digit cs) h in
     All-cons (λ b. is_byte separator b ≡ false) c cs (apart separator c (eqb c separator) refl odd parts.0) (lacks separator odd cs parts.1)
 
 pub decimal-lacks : (separator n : ℕ) → is_ascii_digit separator ≡ false → n < 2 ^ 64 → Lacks separator (decimal n)
@@ -99,10 +90,6 @@ words_of-numbers n [] small = slice_split_none (is_byte 32) (decimal n) (decimal
 words_of-numbers n (m ∷ ns) small =
     slice_split_at (is_byte 32) (decimal n) 32 (numbers_line (m ∷ ns)) (decimal-lacks 32 n refl (small 0 n (omega arith))) refl
     ∙ ap (λ (ws : List (List ℕ)). decimal n ∷ ws) (words_of-numbers m ns (λ k d h. small (suc k) d (omega arith)))
-
--- a cut at the first separator
-abbrev halves : List ℕ → ℕ → List ℕ × List ℕ
-halves bytes place = (take place bytes, drop (place + 1) bytes)
 
 pub cut_at-seam : (separator : ℕ) (xs ys : List ℕ) → Lacks separator xs → cut_at separator (xs ++ separator ∷ ys) ≡ Some (xs, ys)
 cut_at-seam separator xs ys none =

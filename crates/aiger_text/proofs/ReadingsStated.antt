@@ -1,5 +1,5 @@
 -- What a file reads as is what it states.
-use Rattle.std.proofs.Common.{◌≡◌, ℕ, zero, suc, ◌+◌, ◌^◌, ◌<◌, ◌≤◌, Bool, true, false, ◌&&◌, eqb, Option, Some, None, List, [], ◌∷◌, length, get_or, replicate, set, refl, sym, ap, subst, ◌∙◌, arith, decimal}
+use Rattle.std.proofs.Common.{◌≡◌, ℕ, zero, suc, ◌+◌, ◌^◌, ◌<◌, ◌≤◌, true, false, ◌&&◌, eqb, Option, Some, None, List, [], ◌∷◌, length, get_or, replicate, set, refl, sym, ap, subst, ◌∙◌, arith, decimal}
 use Rattle.std.specs.Prelude.{map, Ok, slice_index}
 use Rattle.std.proofs.lemmas.Bool.{eqb-true}
 use Rattle.std.proofs.lemmas.List.{length-map, length-set, length-replicate, get_or-set_same, get_or-set_other}
@@ -9,7 +9,7 @@ use Rattle.aiger_text.specs.declared.symbols.Named.{Named}
 use Rattle.aiger_text.specs.declared.symbols.Named.TheVariants.{AnInput, ALatch, AnOutput}
 use Rattle.aiger_text.specs.Circuit.{Circuit}
 use Rattle.aiger_text.specs.CircuitText.{Symbol, ReadsAs, header_line, gate_line, symbol_line, comment_text, places, is_at, named_letter}
-use Rattle.aiger_text.specs.CircuitFile.{File, Parts, Names, lines_for, named_at, lines_of, ending_from, no_names, parts_of, and_then, file_of, circuit_of}
+use Rattle.aiger_text.specs.CircuitFile.{File, Parts, Names, lines_for, named_at, lines_of, ending_from, no_names, circuit_parts, and_then, file_of, circuit_of}
 use Rattle.aiger_text.specs.RoundTrip.{IsStatedAs, ReadingsAreStated, ReadingsAgree}
 use Rattle.aiger_text.specs.Words.{is_byte}
 use Rattle.aiger_text.proofs.Scanning.{has_piece, ending_by}
@@ -40,10 +40,6 @@ outputs_stay names n s = by s.named
     by AnInput = refl
     by ALatch = refl
     by AnOutput = length-set names.outputs s.place (Some s.name)
-
-place_is : (b : Bool) (x y : ℕ) → (b && eqb x y) ≡ true → eqb x y ≡ true
-place_is true x y e = e
-place_is false x y e = absurd (cc)
 
 set_here : (xs : List (Option (List ℕ))) (place k : ℕ) (name : List ℕ) → eqb place k ≡ true → k < length xs → get_or (set xs place (Some name)) k None ≡ Some name
 set_here xs place k name e h =
@@ -145,9 +141,9 @@ module _ (bytes : List ℕ) (size : length bytes < 2 ^ 64) (c : Circuit) (commen
   abbrev parts : Parts
   parts = record { draft = whole c reads.circuit reads.size; ending = record { names = names; line = first + length reads.symbols; comment = comment } }
 
-  parts_are : parts_of bytes ≡ Ok parts
+  parts_are : circuit_parts bytes ≡ Ok parts
   parts_are =
-      ap parts_of reads.bytes_are
+      ap circuit_parts reads.bytes_are
       ∙ parts_read c reads.circuit reads.size few reads.further reads.at_most_four reads.latch_lines reads.latches names_lines (symbols-lack c small reads.symbols reads.symbols_fit) (comment_text comment)
       ∙ ap (and_then (with_ending (whole c reads.circuit reads.size))) (symbols_read c small blank first reads.symbols (lines_of (comment_text comment)) may (has_piece (comment_text comment))
       ∙ comment_read names (first + length reads.symbols) comment)

@@ -9,7 +9,7 @@ use Rattle.aiger_text.specs.declared.symbols.Named.TheVariants.{AnInput, AnOutpu
 use Rattle.aiger_text.specs.Circuit.{Circuit}
 use Rattle.aiger_text.specs.CircuitType.{IsCircuit}
 use Rattle.aiger_text.specs.CircuitText.{header_line, latch_line, gate_line, name_lines, text_of_lines, circuit_lines, circuit_text, comment_text, IsLatchLine}
-use Rattle.aiger_text.specs.CircuitFile.{File, Parts, Names, States, lines_of, ending_from, no_names, parts_of, and_then, file_of}
+use Rattle.aiger_text.specs.CircuitFile.{File, Parts, Names, States, lines_of, ending_from, no_names, circuit_parts, and_then, file_of}
 use Rattle.aiger_text.specs.RoundTrip.{IsWritable, StatesOnly, WrittenIsRead, CommentsAreRead, written_file, lines_from, first_name_line}
 use Rattle.aiger_text.proofs.Scanning.{HasPiece, has_piece}
 use Rattle.aiger_text.proofs.Numbers.{Lacks}
@@ -93,9 +93,9 @@ module _ (c : Circuit) (kept : IsCircuit c) (few : length c.outputs < 2 ^ 64) (f
       ap (λ (ls : List (List ℕ)). text_of_lines ls ++ comment_text comment)
       (append_assoc (header_line c 0 ∷ map decimal c.inputs ++ map latch_line c.latches ++ map decimal c.outputs ++ map gate_line c.gates) input_lines output_lines)
 
-  parts_are : parts_of (circuit_text c ++ comment_text comment) ≡ Ok parts
+  parts_are : circuit_parts (circuit_text c ++ comment_text comment) ≡ Ok parts
   parts_are =
-      ap parts_of bytes_are
+      ap circuit_parts bytes_are
       ∙ parts_read c kept fits.size few 0 (omega arith) (map latch_line c.latches) (latch_lines_are c.latches) (input_lines ++ output_lines)
       (All-append (Lacks 10) input_lines output_lines (names-lack AnInput 0 c.input_names small_inputs fits.input_names) (names-lack AnOutput 0 c.output_names small_outputs fits.output_names)) (comment_text comment)
       ∙ ap (and_then (with_ending (whole c kept fits.size))) ending_read

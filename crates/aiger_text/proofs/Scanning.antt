@@ -18,7 +18,7 @@ pub record Cuts (separator : ℕ) (bytes line behind : List ℕ) : Type 0 where
   pub pieces : slice_split (is_byte separator) bytes ≡ line ∷ slice_split (is_byte separator) behind
   pub shorter : length bytes ≡ length line + 1 + length behind
 
-abbrev halves : List ℕ → ℕ → List ℕ × List ℕ
+abbrev pub halves : List ℕ → ℕ → List ℕ × List ℕ
 halves bytes place = (take place bytes, drop (place + 1) bytes)
 
 module _ (separator : ℕ) (bytes : List ℕ) where
@@ -96,11 +96,6 @@ module _ (d : Draft) (n : ℕ) (rest : List ℕ) where
       ∙ on_line-more (lines_of behind) n (and_then (λ more. body_from more (n + 1) (lines_of behind)) (with_line d n line)) (has_piece behind)
 
 module _ (names : Names) (n : ℕ) (rest : List ℕ) where
-  pub ending_last : cut_at 10 rest ≡ None → is_nil rest ≡ true → ending_from names n (lines_of rest) ≡ Ok (record { names = names; line = n; comment = None })
-  ending_last none empty =
-      ap (ending_from names n) (no_cut 10 rest none)
-      ∙ ap (λ b. cond b (Ok (record { names = names; line = n; comment = None })) (Err (BadLine n))) empty
-
   pub ending_open : cut_at 10 rest ≡ None → is_nil rest ≡ false → ending_from names n (lines_of rest) ≡ Err (BadLine n)
   ending_open none some =
       ap (ending_from names n) (no_cut 10 rest none)

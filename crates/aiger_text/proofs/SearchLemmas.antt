@@ -1,50 +1,11 @@
-use Rattle.std.proofs.Common.{◌≡◌, ℕ, ◌+◌, ◌/◌, ◌<◌, ◌≤◌, Bool, Option, Some, None, List, length, get_or, set, refl, sym, ap, subst, ◌∙◌, arith, inl, inr}
+use Rattle.std.proofs.Common.{◌≡◌, ℕ, ◌/◌, ◌<◌, Bool, Option, Some, None, List, length, get_or, refl, sym, ap, subst, ◌∙◌, arith, inl, inr}
 use Rattle.std.specs.Prelude.{Contains}
-use Rattle.std.proofs.lemmas.Bool.{cases_eq, cases_lt}
-use Rattle.std.proofs.lemmas.List.{get_or-set_same, get_or-set_other, get_or_default}
+use Rattle.std.proofs.lemmas.Bool.{cases_lt}
+use Rattle.std.proofs.lemmas.List.{get_or_default}
 use Rattle.aiger_text.specs.declared.circuits.Gate.{Gate}
 use Rattle.aiger_text.specs.CircuitType.{DependsOn, IsOrder, gate_at}
 use Rattle.aiger_text.specs.CircuitType.DependsOn.{left, right, through}
-use Rattle.aiger_text.specs.Walks.{Finds, FindsUpTo, HaveVariables, IsReached, IsVisited, IsOnCycle}
-
--- the table takes one more gate
-pub finds_more : (gates : List Gate) (places : List (Option ℕ)) (n k : ℕ) → HaveVariables gates n → length places ≡ n → k < length gates → FindsUpTo gates places k
-    → FindsUpTo gates (set places ((gate_at gates k).literal / 2) (Some k)) (k + 1)
-finds_more gates places n k variables same h finds =
-    let v : ℕ = (gate_at gates k).literal / 2 in
-    let room : v < length places = rw same (variables.room k h) in
-    record {
-      within = λ u j is. elim (cases_eq u v) [
-        | inl here ↦
-            let e : Some k ≡ Some j = sym (get_or-set_same places v (Some k) None room) ∙ ap (λ (x : ℕ). get_or (set places v (Some k)) x None) (sym here) ∙ is in
-            let e' : k ≡ j = cc in
-            omega arith
-        | inr other ↦
-            let before : j < k = finds.within u j (sym (get_or-set_other places v u (Some k) None other) ∙ is) in
-            omega arith
-      ];
-      own = λ u j is. elim (cases_eq u v) [
-        | inl here ↦
-            let e : Some k ≡ Some j = sym (get_or-set_same places v (Some k) None room) ∙ ap (λ (x : ℕ). get_or (set places v (Some k)) x None) (sym here) ∙ is in
-            let e' : k ≡ j = cc in
-            ap (λ (x : ℕ). (gate_at gates x).literal / 2) (sym e') ∙ sym here
-        | inr other ↦ finds.own u j (sym (get_or-set_other places v u (Some k) None other) ∙ is)
-      ];
-      all = λ j hj. elim (cases_lt j k) [
-        | inl before ↦
-            get_or-set_other places v ((gate_at gates j).literal / 2) (Some k) None (λ e. variables.apart j k before h e) ∙ finds.all j before
-        | inr last ↦
-            let e : k ≡ j = omega arith in
-            subst (λ (x : ℕ). get_or (set places v (Some k)) ((gate_at gates x).literal / 2) None ≡ Some x) e (get_or-set_same places v (Some k) None room)
-      ];
-    }
-
-pub finds_all : (gates : List Gate) (places : List (Option ℕ)) (n : ℕ) → length gates ≤ n → n ≤ length gates → FindsUpTo gates places n → Finds gates places
-finds_all gates places n le ge finds = record {
-  within = λ v k is. let h : k < n = finds.within v k is in omega arith;
-  own = finds.own;
-  all = λ k h. finds.all k (omega arith);
-}
+use Rattle.aiger_text.specs.Walks.{Finds, IsReached, IsVisited, IsOnCycle}
 
 module _ (gates : List Gate) (places : List (Option ℕ)) (finds : Finds gates places) where
   -- gates of one variable are one

@@ -1,13 +1,12 @@
-use Rattle.std.proofs.Common.{◌≡◌, ◌≢◌, ℕ, zero, suc, ◌+◌, ◌*◌, ◌/◌, ◌%◌, ◌<◌, ◌≤◌, ◌⊎◌, Bool, true, false, ◌||◌, cond, eqb, List, [], ◌∷◌, ◌++◌, length, get_or, refl, sym, ap, ◌∙◌, arith, inl, inr}
+use Rattle.std.proofs.Common.{◌≡◌, ◌≢◌, ℕ, zero, suc, ◌+◌, ◌*◌, ◌/◌, ◌%◌, ◌<◌, ◌≤◌, Bool, true, false, ◌||◌, cond, eqb, List, [], ◌∷◌, ◌++◌, length, get_or, refl, sym, ap, ◌∙◌, arith, inl, inr}
 use Rattle.std.specs.Prelude.{map, All, Contains}
 use Rattle.std.specs.List.{list_any}
-use Rattle.std.proofs.lemmas.Bool.{eq-eqb, eqb-true}
+use Rattle.std.proofs.lemmas.Bool.{eq-eqb, eqb-true, or_parts, or_cases}
 use Rattle.std.proofs.lemmas.List.{length_push, length-map, get_or-map}
 use Rattle.std.proofs.lemmas.List.Elements.{All-push, All-append, All-map, Contains-append_left, Contains-append_right}
 use Rattle.aiger_text.specs.declared.circuits.Latch.{Latch}
 use Rattle.aiger_text.specs.declared.circuits.Gate.{Gate}
-use Rattle.aiger_text.specs.declared.counts.Counts.{Counts}
-use Rattle.aiger_text.specs.CircuitFile.{Draft, defines, no_lines}
+use Rattle.aiger_text.specs.CircuitFile.{Draft, defines}
 use Rattle.aiger_text.specs.Sound.{InRange, IsOwn, IsOwnLatch, IsOwnGate, IsSound, times_by, how_often}
 
 -- counts of a longer list
@@ -27,22 +26,17 @@ pub times-map : {X : Type 0} (f : X → ℕ) (v : ℕ) (xs : List X) → times_b
 times-map f v [] = refl
 times-map f v (x ∷ xs) = ap (λ n. cond (eqb (f x / 2) v) 1 0 + n) (times-map f v xs)
 
--- none where no element passes
-neither : (a b : Bool) → (a || b) ≡ false → (a ≡ false) × (b ≡ false)
-neither true b e = absurd (cc)
-neither false b e = (refl, e)
-
 times-none : {X : Type 0} (f : X → ℕ) (v : ℕ) (xs : List X) → list_any (λ x. eqb (f x / 2) v) xs ≡ false → times_by f v xs ≡ 0
 times-none f v [] h = refl
 times-none f v (x ∷ xs) h =
-    let both = neither (eqb (f x / 2) v) (list_any (λ x. eqb (f x / 2) v) xs) h in
+    let both = or_parts (eqb (f x / 2) v) (list_any (λ x. eqb (f x / 2) v) xs) h in
     ap (λ b. cond b 1 0 + times_by f v xs) both.0 ∙ ap (λ n. 0 + n) (times-none f v xs both.1)
 
 never-defined : (d : Draft) (v : ℕ) → defines d v ≡ false → how_often d v ≡ 0
 never-defined d v h =
-    let first = neither (list_any (λ literal. eqb (literal / 2) v) d.inputs)
+    let first = or_parts (list_any (λ literal. eqb (literal / 2) v) d.inputs)
     (list_any (λ (latch : Latch). eqb (latch.literal / 2) v) d.latches || list_any (λ (gate : Gate). eqb (gate.literal / 2) v) d.gates) h in
-    let others = neither (list_any (λ (latch : Latch). eqb (latch.literal / 2) v) d.latches) (list_any (λ (gate : Gate). eqb (gate.literal / 2) v) d.gates) first.1 in
+    let others = or_parts (list_any (λ (latch : Latch). eqb (latch.literal / 2) v) d.latches) (list_any (λ (gate : Gate). eqb (gate.literal / 2) v) d.gates) first.1 in
     let a : times_by (λ literal. literal) v d.inputs ≡ 0 = times-none (λ literal. literal) v d.inputs first.0 in
     let b : times_by (λ (latch : Latch). latch.literal) v d.latches ≡ 0 = times-none (λ (latch : Latch). latch.literal) v d.latches others.0 in
     let c : times_by (λ (gate : Gate). gate.literal) v d.gates ≡ 0 = times-none (λ (gate : Gate). gate.literal) v d.gates others.1 in
@@ -58,19 +52,6 @@ once_more d literal v new before = by (eqb (literal / 2) v) refl
         let none : how_often d v ≡ 0 = ap (how_often d) (sym same) ∙ never-defined d (literal / 2) new in
         omega (arith, none)
     by false e = omega (arith, before)
-
--- nothing is stated at first
-pub sound_start : (counts : Counts) → IsSound (no_lines counts)
-sound_start counts = record {
-  inputs = λ k d h. absurd (omega arith);
-  latches = λ k d h. absurd (omega arith);
-  outputs = λ k d h. absurd (omega arith);
-  gates = λ k d h. absurd (omega arith);
-  once = λ v. omega arith;
-  input_count = omega arith;
-  latch_count = omega arith;
-  gate_count = omega arith;
-}
 
 module _ (d : Draft) (sound : IsSound d) where
   pub sound_input : (literal : ℕ) → IsOwn d.counts literal → defines d (literal / 2) ≡ false → length d.inputs < d.counts.inputs → IsSound (record d { inputs = d.inputs ++ literal ∷ [] })
@@ -166,10 +147,6 @@ found {X = X} f v (x ∷ xs) h = by (eqb (f x / 2) v) refl h (λ rest. found f v
         let within : r.0 < length xs = r.1.0 in
         (suc r.0, (omega arith, r.1.1))
 
-pub either : (a b : Bool) → (a || b) ≡ true → (a ≡ true) ⊎ (b ≡ true)
-either true b e = inl refl
-either false b e = inr e
-
 module _ (d : Draft) (sound : IsSound d) where
   abbrev latch_literals : List ℕ
   latch_literals = map (λ (latch : Latch). latch.literal) d.latches
@@ -206,14 +183,14 @@ module _ (d : Draft) (sound : IsSound d) where
 
   -- a variable that some line defines
   pub is_defined : (v : ℕ) → defines d v ≡ true → Contains all_literals (2 * v)
-  is_defined v h = elim (either (list_any (λ literal. eqb (literal / 2) v) d.inputs)
+  is_defined v h = elim (or_cases (list_any (λ literal. eqb (literal / 2) v) d.inputs)
       (list_any (λ (latch : Latch). eqb (latch.literal / 2) v) d.latches || list_any (λ (gate : Gate). eqb (gate.literal / 2) v) d.gates) h) [
         | inl input ↦
             let p = found (λ l. l) v d.inputs input in
             Contains-append_left d.inputs (latch_literals ++ gate_literals) (2 * v)
             (p.0, p.1.0, even_is (get_or d.inputs p.0 (2 * v)) v (sound.inputs p.0 (2 * v) p.1.0) (p.1.1 (2 * v)))
         | inr other ↦ Contains-append_right d.inputs (latch_literals ++ gate_literals) (2 * v)
-            (elim (either (list_any (λ (latch : Latch). eqb (latch.literal / 2) v) d.latches) (list_any (λ (gate : Gate). eqb (gate.literal / 2) v) d.gates) other) [
+            (elim (or_cases (list_any (λ (latch : Latch). eqb (latch.literal / 2) v) d.latches) (list_any (λ (gate : Gate). eqb (gate.literal / 2) v) d.gates) other) [
               | inl latch ↦
                   let p = found (λ (latch : Latch). latch.literal) v d.latches latch in
                   let none : Latch = record { literal = 0; next = 0; reset = false } in

@@ -1,7 +1,7 @@
 -- Symbol lines in any order, read back.
 use Rattle.std.proofs.Common.{◌≡◌, ◌≢◌, ℕ, suc, ◌+◌, ◌^◌, ◌<◌, Bool, true, false, ◌&&◌, cond, eqb, Option, Some, None, List, [], ◌∷◌, ◌++◌, length, get_or, replicate, refl, sym, ap, ◌∙◌, arith, ext_get_or}
 use Rattle.std.specs.Prelude.{map, All, IsTrue, find, option_map, slice_index}
-use Rattle.std.proofs.lemmas.Bool.{eqb-true, eq-eqb}
+use Rattle.std.proofs.lemmas.Bool.{eqb-true, eq-eqb, and_parts, false_from_ne_true}
 use Rattle.std.proofs.lemmas.List.{length-set, length-replicate, get_or-replicate, get_or-set_other}
 use Rattle.std.proofs.lemmas.List.FromFn.{get_or-map-range_with_len, length-map-range_with_len}
 use Rattle.std.proofs.lemmas.List.Elements.{All-cons}
@@ -11,19 +11,14 @@ use Rattle.aiger_text.specs.Circuit.{Circuit}
 use Rattle.aiger_text.specs.CircuitText.{Symbol, IsSymbolOf, symbol_line, named_letter, is_at, names_of, places}
 use Rattle.aiger_text.specs.CircuitFile.{Names, named_at, lines_for, ending_from}
 use Rattle.aiger_text.proofs.Scanning.{HasPiece}
-use Rattle.aiger_text.proofs.Numbers.{Lacks, both}
+use Rattle.aiger_text.proofs.Numbers.{Lacks}
 use Rattle.aiger_text.proofs.BodyRead.{has_append}
 use Rattle.aiger_text.proofs.NamesRead.{Fits, ending_on, symbol-lacks}
-
--- what two symbols of one place say
-different : (b : Bool) → (b ≡ true → ⊥) → b ≡ false
-different true never = absurd (never refl)
-different false never = refl
 
 -- a symbol at a place is at the place of another one there
 same_place : (sort : Named) (k : ℕ) (s t : Symbol) → is_at sort k s ≡ true → is_at sort k t ≡ is_at s.named s.place t
 same_place sort k s t at =
-    let parts = both (eqb (named_letter s.named) (named_letter sort)) (eqb s.place k) at in
+    let parts = and_parts (eqb (named_letter s.named) (named_letter sort)) (eqb s.place k) at in
     let letter : named_letter sort ≡ named_letter s.named = sym (eqb-true (named_letter s.named) (named_letter sort) parts.0) in
     let place : k ≡ s.place = sym (eqb-true s.place k parts.1) in
     λ i. eqb (named_letter t.named) (letter i) && eqb t.place (place i)
@@ -77,7 +72,7 @@ module _ (c : Circuit) (small : (sort : Named) → places c sort < 2 ^ 64) where
     count = λ sort. lines_stay names n s.named s.place s.name sort ∙ may.count sort;
     fits = λ k d h. may.fits (suc k) d (omega arith);
     unset = λ k d h. lines_kept names n s.named s.place s.name (get_or symbols k d).named (get_or symbols k d).place
-        (different (is_at s.named s.place (get_or symbols k d)) (may.apart 0 (suc k) d (omega arith) (omega arith))) ∙ may.unset (suc k) d (omega arith);
+        (false_from_ne_true (is_at s.named s.place (get_or symbols k d)) (may.apart 0 (suc k) d (omega arith) (omega arith))) ∙ may.unset (suc k) d (omega arith);
     apart = λ i k d less h. may.apart (suc i) (suc k) d (omega arith) (omega arith);
   }
 
@@ -140,7 +135,7 @@ module _ (sort : Named) (list_of : Names → List (Option (List ℕ)))
           ≡ or_else (option_map (λ (s : Symbol). s.name) (cond b (Some s) (find (is_at sort k) symbols))) (get_or (list_of names) k None)
       by true at =
           let none : find (is_at sort k) symbols ≡ None = none_later symbols k (λ i d below. same_place sort k s (get_or symbols i d) at
-          ∙ different (is_at s.named s.place (get_or symbols i d)) (apart 0 (suc i) d (omega arith) (omega arith))) in
+          ∙ false_from_ne_true (is_at s.named s.place (get_or symbols i d)) (apart 0 (suc i) d (omega arith) (omega arith))) in
           ap (λ (o : Option Symbol). or_else (option_map (λ (s : Symbol). s.name) o) (get_or (list_of (named_at names n s.named s.place s.name)) k None)) none ∙ hit names n k s at h
       by false away = ap (or_else (name_of symbols sort k)) (miss names n k s away)
 

@@ -3,7 +3,7 @@ use Rattle.std.proofs.Common.{◌≡◌, ◌≢◌, ℕ, ◌+◌, ◌-◌, ◌<�
 use Rattle.std.specs.Prelude.{Contains, map, ◌↔◌, MatchOption}
 use Rattle.std.specs.List.{sum_by}
 use Rattle.std.proofs.lemmas.Bool.{cases_eq, cases_lt}
-use Rattle.std.proofs.lemmas.List.{length_push, get_or_past, get_or-take, length-take-le}
+use Rattle.std.proofs.lemmas.List.{length_push, get_or-take, length-take-le}
 use Rattle.std.proofs.Math.Seq.{take-append_seam}
 use Rattle.std.proofs.lemmas.List.Elements.{Contains-push_cases, Contains-append_left}
 use Rattle.aiger_text.specs.declared.circuits.Gate.{Gate}
@@ -14,7 +14,7 @@ use Rattle.aiger_text.specs.Groups.{IsFirstDone, IsTour, IsGreatest, IsStart, Is
 use Rattle.aiger_text.proofs.WalkLemmas.{depends}
 use Rattle.aiger_text.proofs.SearchLemmas.{complete}
 use Rattle.aiger_text.proofs.GroupLemmas.{rises_front, rises_last, greatest, last_greatest}
-use Rattle.aiger_text.proofs.TourLemmas.{leads_on, open-new, open-done, new-done, one_place, reached_within, reached_from}
+use Rattle.aiger_text.proofs.TourLemmas.{leads_on, open-new, open-done, one_place, reached_within, reached_from}
 
 -- what the gate at place t uses is done, or stands in the last group
 abbrev pub IsReady : List Gate → List Stage → List ℕ → ℕ → ℕ → Type 0
@@ -375,9 +375,6 @@ none_by (g ∷ opened) none = absurd (none (omega arith))
 pub nothing_open : (gates : List Gate) (stages : List Stage) (opened path starts : List ℕ) → IsTour gates stages opened path starts → path ≡ [] → opened ≡ []
 nothing_open gates stages opened path starts tour none = none_by opened (λ some. none_there path 0 none (tour.roots 0 (tour.first some)))
 
-pub nothing_started : (gates : List Gate) (stages : List Stage) (opened path starts : List ℕ) → IsTour gates stages opened path starts → starts ≡ [] → opened ≡ []
-nothing_started gates stages opened path starts tour none = none_by opened (λ some. none_there starts 0 none (tour.first some))
-
 pub goes_both : (a b c : List Stage) → Goes a b → Goes b c → Goes a c
 goes_both a b c first second = record { keeps_done = λ k is. second.keeps_done k (first.keeps_done k is); no_new = λ k is. first.no_new k (second.no_new k is) }
 
@@ -392,30 +389,6 @@ done_by gates stages opened path starts k tour none old = by (stage_at stages k)
         let n : length opened ≡ 0 = ap length none in
         absurd (omega arith)
     by (Done on) e = ap is_done e
-
--- a tour that has not begun
-pub no_tour : (gates : List Gate) (stages : List Stage) → length stages ≡ length gates → ((k : ℕ) → k < length stages → stage_at stages k ≡ New) → IsTour gates stages [] [] []
-no_tour gates stages same new = record {
-  places = same;
-  within = λ i h. absurd (omega arith);
-  stands = λ i h. absurd (omega arith);
-  listed = λ k i is. elim (cases_lt k (length stages)) [
-    | inl inside ↦ open-new (stage_at stages k) i is (new k inside)
-    | inr past ↦
-        let never : ◌≡◌ {A = Stage} (Done false) (Open i) = sym (get_or_past stages k (Done false) past) ∙ is in
-        absurd (cc)
-  ];
-  onward = λ i k less h. absurd (omega arith);
-  back = λ i start begins less h. absurd (omega arith);
-  closed = λ k h hk is hh uses. new-done (stage_at stages k) (new k (omega (arith, same, hk))) is;
-  finished = λ i h hi away hh uses. absurd (omega arith);
-  roots = λ start there. there;
-  path_rises = λ i k less h. absurd (omega arith);
-  path_within = λ i there. let below : there.0 < 0 = there.1 in absurd (omega arith);
-  starts_rise = λ i k less h. absurd (omega arith);
-  first = λ some. absurd (omega arith);
-  known = λ k on hk is. new-done (stage_at stages k) (new k (omega (arith, same, hk))) (ap is_done is);
-}
 
 -- the first gate on a cycle, where all gates are done
 stage_of : (s : Stage) → is_done s ≡ true → (on : Bool) × (s ≡ Done on)

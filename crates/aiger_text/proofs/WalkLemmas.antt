@@ -16,9 +16,6 @@ use Rattle.aiger_text.specs.Walks.{Uses, IsWalk, MayEnter, Goes, HasCycle, mark_
 pub new-open : (m : Mark) → m ≡ New → m ≡ Open → ⊥
 new-open m a b = let e : New ≡ Open = sym a ∙ b in absurd (cc)
 
-new-done : (m : Mark) → m ≡ New → m ≡ Done → ⊥
-new-done m a b = let e : New ≡ Done = sym a ∙ b in absurd (cc)
-
 open-done : (m : Mark) → m ≡ Open → m ≡ Done → ⊥
 open-done m a b = let e : Open ≡ Done = sym a ∙ b in absurd (cc)
 
@@ -214,20 +211,6 @@ module _ (gates : List Gate) (marks : List Mark) (rest order : List ℕ) (top : 
             let first : i < length rest = omega arith in
             subst (λ (g : ℕ). Uses gates g (get_or rest (i + 1) 0)) (get_or_append_left rest (top ∷ []) 0 i first)
             (subst (λ (g : ℕ). Uses gates (get_or (rest ++ top ∷ []) i 0) g) (get_or_append_left rest (top ∷ []) 0 (i + 1) h) (walk.path i (omega (arith, n))));
-      }
-
-  pub close_goes : Goes marks closed_marks
-  close_goes =
-      let within : top < length marks = rw walk.places top_within in
-      let sum : sum_by weight closed_marks + weight (mark_at marks top) ≡ sum_by weight marks + 0 = sum_by-set weight marks top Done Done within in
-      let one : weight (mark_at marks top) ≡ 1 = ap weight top_open in
-      record {
-        keeps_done = done_stays;
-        no_new = λ k is. elim (cases_eq k top) [
-          | inl here ↦ absurd (new-done (mark_at closed_marks k) is (ap (mark_at closed_marks) here ∙ closed_here))
-          | inr other ↦ sym (closed_other k other) ∙ is
-        ];
-        lower = omega (arith, sum, one);
       }
 
 -- a gate stands where it stands

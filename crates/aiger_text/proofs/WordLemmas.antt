@@ -4,6 +4,7 @@ use Rattle.std.specs.List.{list_all}
 use Rattle.std.specs.Char.{is_ascii_digit}
 use Rattle.std.proofs.lemmas.List.Sums.{take_while-cons}
 use Rattle.std.proofs.lemmas.Bool.{le-leb, lt-leb}
+use Rattle.std.specs.Cmp.{second_so}
 use Rattle.text_base.specs.declared.number.NumberFault.{NumberFault}
 use Rattle.text_base.specs.declared.number.NumberFault.TheVariants.{NoDigits, Range}
 use Rattle.text_base.specs.Numerals.{digit_run, decimal_value}
@@ -19,18 +20,14 @@ pub run-all : {X : Type 0} (p : X → Bool) (xs : List X) → list_all p xs ≡ 
 run-all p [] h = refl
 run-all p (x ∷ xs) h = passes p x xs (p x) refl h (run-all p xs)
 
-second : (a b : Bool) → (a && b) ≡ true → b ≡ true
-second true b e = e
-second false b e = absurd (cc)
-
 pub digits-of_numeral : (word : List ℕ) → is_numeral word ≡ true → digit_run word ≡ word
-digits-of_numeral word h = run-all is_ascii_digit word (second (leads_well word) (list_all is_ascii_digit word) h)
+digits-of_numeral word h = run-all is_ascii_digit word (second_so (leads_well word) (list_all is_ascii_digit word) h)
 
 pub none-of_other : (most : ℕ) (word : List ℕ) → is_numeral word ≡ false → None ≡ number_within most word
 none-of_other most word h =
     ap (λ b. option_and_then (λ n. cond (nat_le n most) (Some n) None) (cond b (Some (decimal_value word)) None)) (sym h)
 
-numeral_is : (most : ℕ) (word : List ℕ) → is_numeral word ≡ true → number_within most word ≡ cond (nat_le (decimal_value word) most) (Some (decimal_value word)) None
+pub numeral_is : (most : ℕ) (word : List ℕ) → is_numeral word ≡ true → number_within most word ≡ cond (nat_le (decimal_value word) most) (Some (decimal_value word)) None
 numeral_is most word h =
     ap (λ b. option_and_then (λ n. cond (nat_le n most) (Some n) None) (cond b (Some (decimal_value word)) None)) h
 

@@ -257,8 +257,8 @@ parts_of_lines room (first ∷ rest) =
     and_then (λ counts. on_line rest 1 (parts_behind counts rest)) (counts_in room (header_of first))
 
 -- what the lines of a file state, or the first fault of a line
-abbrev pub parts_of : List ℕ → Result Parts CircuitFault
-parts_of bytes = parts_of_lines (length bytes + 1) (lines_of bytes)
+abbrev pub circuit_parts : List ℕ → Result Parts CircuitFault
+circuit_parts bytes = parts_of_lines (length bytes + 1) (lines_of bytes)
 
 -- a constant, or a literal of a variable that a line defines
 abbrev pub is_known : Draft → ℕ → Bool
@@ -311,7 +311,7 @@ file_of size p = record {
 -- the file is without fault, and states this
 pub record States (bytes : List ℕ) (file : File) : Type 0 where
   pub parts : Parts
-  pub lines : parts_of bytes ≡ Ok parts
+  pub lines : circuit_parts bytes ≡ Ok parts
   pub uses : undefined_line parts.draft ≡ None
   pub no_cycle : (k : ℕ) → k < length parts.draft.gates → IsOnCycle parts.draft.gates k → ⊥
   pub file_is : file ≡ file_of (length bytes) parts
@@ -319,7 +319,7 @@ pub record States (bytes : List ℕ) (file : File) : Type 0 where
 -- The first fault of a file: those of the header and of the lines in order, then the first use of what no line
 -- defines, and then the first gate that depends on itself.
 pub data IsFirstFault (bytes : List ℕ) : CircuitFault → Type 0 where
-  of_line : {fault : CircuitFault} → parts_of bytes ≡ Err fault → IsFirstFault bytes fault
-  of_use : {n : ℕ} (parts : Parts) → parts_of bytes ≡ Ok parts → undefined_line parts.draft ≡ Some n → IsFirstFault bytes (Undefined n)
-  of_cycle : (parts : Parts) (k : ℕ) → parts_of bytes ≡ Ok parts → undefined_line parts.draft ≡ None → IsFirstCycle parts.draft.gates k
+  of_line : {fault : CircuitFault} → circuit_parts bytes ≡ Err fault → IsFirstFault bytes fault
+  of_use : {n : ℕ} (parts : Parts) → circuit_parts bytes ≡ Ok parts → undefined_line parts.draft ≡ Some n → IsFirstFault bytes (Undefined n)
+  of_cycle : (parts : Parts) (k : ℕ) → circuit_parts bytes ≡ Ok parts → undefined_line parts.draft ≡ None → IsFirstCycle parts.draft.gates k
       → IsFirstFault bytes (Cycle (gate_line_number parts.draft k))

@@ -2,7 +2,7 @@
 use Rattle.std.specs.Prelude.{◌≡◌, ℕ, ◌+◌, ◌≤◌, Ok, List, length}
 use Rattle.aiger_text.specs.declared.reading.Parts.{Parts}
 use Rattle.aiger_text.specs.CircuitFile as file
-use Rattle.aiger_text.specs.CircuitFile.{parts_of}
+use Rattle.aiger_text.specs.CircuitFile.{circuit_parts}
 use Rattle.aiger_text.specs.Statements.{stated, IsMarked}
 use Rattle.aiger_text.specs.Labels.{shown_ending}
 use Rattle.aiger_text.specs.Sound.{IsSound}
@@ -12,7 +12,7 @@ shown_parts p = record { draft = stated p.statements; ending = shown_ending p.en
 
 -- these parts were read of the file
 pub record IsRead (bytes : List ℕ) (p : Parts) : Type 0 where
-  pub parts : parts_of bytes ≡ Ok (shown_parts p)
+  pub parts : circuit_parts bytes ≡ Ok (shown_parts p)
   pub marked : IsMarked p.statements
   pub sound : IsSound (stated p.statements)
   pub room : p.statements.counts.inputs + (p.statements.counts.latches + p.statements.counts.gates) ≤ p.statements.counts.variables

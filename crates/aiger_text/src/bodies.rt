@@ -1,4 +1,5 @@
-// The lines of numbers behind the header: inputs, latches, outputs and gates.
+//! The lines of numbers behind the header: inputs, latches, outputs and gates.
+
 ghost use Rattle.std.specs.Prelude.{◌≡◌, ◌+◌, ◌*◌, ◌/◌, ◌≤◌, [], OnOk, IfErr, IfOk, IfSome, Ok, length, false, ◌<◌};
 ghost use Rattle.aiger_text.specs.CircuitFile.{defines, definable_in, literal_in, latch_in, gate_in, with_input, with_latch, with_output, with_gate, with_line, and_then, is_whole, no_lines, body_from, lines_of};
 ghost use Rattle.aiger_text.specs.Sound.{IsSound, total};
@@ -11,7 +12,7 @@ use crate::forms::{definable_in, gate_in, latch_in, literal_in};
 use crate::words::cut_at;
 use std::alloc::{AllocError, Global};
 
-// What the lines so far state.
+/// What the lines so far state.
 #[derive(Drop)]
 pub(crate) struct Statements {
     pub(crate) counts: Counts,
@@ -19,7 +20,7 @@ pub(crate) struct Statements {
     pub(crate) latches: Vec<Latch>,
     pub(crate) outputs: Vec<u32>,
     pub(crate) gates: Vec<Gate>,
-    // Whether a line so far defines the variable.
+    /// Whether a line so far defines the variable.
     pub(crate) defined: Vec<bool>,
 }
 
@@ -40,7 +41,7 @@ impl Statements {
         })
     }
 
-    // Whether a line so far defines the variable.
+    /// Whether a line so far defines the variable.
     pub(crate) fn is_defined(&self, variable: u32) -> bool
         requires { IsMarked self.now }
         ensures { result ≡ defines (stated self.now) variable }
@@ -135,7 +136,7 @@ impl Statements {
         Ok(())
     }
 
-    // Takes the next line, which states an input, a latch, an output or a gate.
+    /// Takes the next line, which states an input, a latch, an output or a gate.
     fn take_line(&mut self, number: u64, line: &[u8]) -> Result<(), CircuitFault>
         requires marked { IsMarked self.old }
         requires sound { IsSound (stated self.old) }
@@ -158,7 +159,7 @@ impl Statements {
         }
     }
 
-    // Whether all that the header counts is there.
+    /// Whether all that the header counts is there.
     fn is_whole(&self) -> bool
         ensures { result ≡ is_whole (stated self.now) }
     {
@@ -169,7 +170,7 @@ impl Statements {
     }
 }
 
-// What the lines of numbers state, the number of the line behind them, and the text from there on.
+/// What the lines of numbers state, the number of the line behind them, and the text from there on.
 #[derive(Drop)]
 pub(crate) struct Body<'a> {
     pub(crate) statements: Statements,
@@ -177,7 +178,7 @@ pub(crate) struct Body<'a> {
     pub(crate) rest: &'a [u8],
 }
 
-// Reads the lines of numbers of the text behind the header.
+/// Reads the lines of numbers of the text behind the header.
 pub(crate) fn read_body(
     alloc: Global,
     counts: Counts,

@@ -6,7 +6,7 @@ use std::marker::Model;
 use text_base::Name;
 
 /// A latch: its literal, the literal of its next value, and its first value.
-#[derive(Clone, Copy, Debug, PartialEq, Eq, Hash)]
+#[derive(Clone, Copy, Debug, PartialEq, Eq)]
 pub struct Latch {
     pub literal: u32,
     pub next: u32,
@@ -14,7 +14,7 @@ pub struct Latch {
 }
 
 /// An and-gate: its literal and those of its two operands.
-#[derive(Clone, Copy, Debug, PartialEq, Eq, Hash)]
+#[derive(Clone, Copy, Debug, PartialEq, Eq)]
 pub struct Gate {
     pub literal: u32,
     pub left: u32,
@@ -31,7 +31,7 @@ pub struct Circuit {
     pub gates: Vec<Gate>,
     pub input_names: Vec<Option<Name>>,
     pub output_names: Vec<Option<Name>>,
-    // The places of the gates, each behind those that its gate uses.
+    /// The places of the gates, each behind those that its gate uses.
     pub(crate) order: Vec<usize>,
 }
 
@@ -79,7 +79,7 @@ impl Circuit {
         })
     }
 
-    // The circuit of these parts, with the places of its gates in an order in which they can be worked out.
+    /// The circuit of these parts, with the places of its gates in an order in which they can be worked out.
     pub(crate) fn of_ordered_gates(
         variables: u32,
         inputs: Vec<u32>,
@@ -108,7 +108,7 @@ impl Circuit {
     }
 }
 
-// The numbers below a count.
+/// The numbers below a count.
 fn places(alloc: Global, count: usize) -> Result<Vec<usize>, AllocError>
     ensures { IfOk result (λ places. ArePlaces count places.items) }
 {

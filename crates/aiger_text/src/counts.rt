@@ -1,5 +1,5 @@
 /// The counts of a header: the greatest variable, and how many inputs, latches, outputs and gates there are.
-#[derive(Clone, Copy, Debug)]
+#[derive(Clone, Copy)]
 pub(crate) struct Counts {
     pub(crate) variables: u32,
     pub(crate) inputs: u32,

@@ -1,4 +1,5 @@
-// What one line of numbers states.
+//! What one line of numbers states.
+
 ghost use Rattle.std.specs.Prelude.{◌≡◌, ◌+◌, ◌*◌, ◌≤◌, IfSome, IfOk};
 ghost use Rattle.aiger_text.specs.Sound.{InRange, IsOwn, IsOwnLatch, IsOwnGate};
 ghost use Rattle.aiger_text.specs.CircuitFile.{literal_in, definable_in, latch_of, latch_in, gate_in};
@@ -8,7 +9,7 @@ use crate::counts::Counts;
 use crate::faults::CircuitFault;
 use crate::words::{cut_at, number_within};
 
-// The literal that a word writes.
+/// The literal that a word writes.
 pub(crate) fn literal_in(counts: Counts, word: &[u8]) -> Option<u32>
     requires { counts.variables ≤ 100000 }
     ensures literal { result ≡ literal_in counts word.now }
@@ -19,7 +20,7 @@ pub(crate) fn literal_in(counts: Counts, word: &[u8]) -> Option<u32>
     Some(literal as u32)
 }
 
-// The literal that a word writes, where it is one that a line may define.
+/// The literal that a word writes, where it is one that a line may define.
 pub(crate) fn definable_in(counts: Counts, word: &[u8]) -> Option<u32>
     requires { counts.variables ≤ 100000 }
     ensures literal { result ≡ definable_in counts word.now }
@@ -33,7 +34,7 @@ pub(crate) fn definable_in(counts: Counts, word: &[u8]) -> Option<u32>
     }
 }
 
-// The latch that a line states by its literal, its next literal and its reset.
+/// The latch that a line states by its literal, its next literal and its reset.
 fn latch_of(
     number: u64,
     literal: Option<u32>,
@@ -61,7 +62,7 @@ fn latch_of(
     }
 }
 
-// The latch that a line states.
+/// The latch that a line states.
 pub(crate) fn latch_in(counts: Counts, number: u64, line: &[u8]) -> Result<Latch, CircuitFault>
     requires { counts.variables ≤ 100000 }
     ensures latch { result ≡ latch_in counts number line.now }
@@ -82,7 +83,7 @@ pub(crate) fn latch_in(counts: Counts, number: u64, line: &[u8]) -> Result<Latch
     }
 }
 
-// The gate that a line states.
+/// The gate that a line states.
 pub(crate) fn gate_in(counts: Counts, line: &[u8]) -> Option<Gate>
     requires { counts.variables ≤ 100000 }
     ensures gate { result ≡ gate_in counts line.now }

@@ -1,5 +1,6 @@
-// The first gate that depends on itself, in one walk: groups of gates that depend on each other are found by the
-// path-based algorithm for strongly connected components.
+//! The first gate that depends on itself, in one walk: groups of gates that depend on each other are found by the
+//! path-based algorithm for strongly connected components.
+
 ghost use Rattle.std.specs.Prelude.{◌≡◌, ℕ, ◌+◌, ◌-◌, ◌/◌, ◌<◌, ◌≤◌, ◌≢◌, ◌↔◌, ◌⊎◌, ◌++◌, ◌∷◌, [], true, false, None, Some, OnOk, IfOk, IfSome, IfNone, IsTrue, MatchOption, Contains, length, take, slice_index, slice_index_or};
 ghost use Rattle.aiger_text.specs.declared.groups.Stage.TheVariants.{New, Open, Done};
 ghost use Rattle.aiger_text.specs.declared.groups.Wish.TheVariants.{Nothing, Join};
@@ -11,40 +12,40 @@ use crate::circuits::Gate;
 use crate::walks::gate_of;
 use std::alloc::{AllocError, Global};
 
-// How far a tour has come with a gate.
-#[derive(Clone, Copy, Debug)]
+/// How far a tour has come with a gate.
+#[derive(Clone, Copy)]
 enum Stage {
     New,
-    // It stands at this place among the open gates.
+    /// It stands at this place among the open gates.
     Open(usize),
-    // It is done, and depends on itself or doesn't.
+    /// It is done, and depends on itself or doesn't.
     Done(bool),
 }
 
-// What a gate wishes for by its operands.
-#[derive(Clone, Copy, Debug)]
+/// What a gate wishes for by its operands.
+#[derive(Clone, Copy)]
 enum Wish {
-    // They are done, or in the gate's own group.
+    /// They are done, or in the gate's own group.
     Nothing,
-    // An operand is this gate, which is new.
+    /// An operand is this gate, which is new.
     Enter(usize),
-    // An operand is open at this place, which is in an earlier group.
+    /// An operand is open at this place, which is in an earlier group.
     Join(usize),
 }
 
-// A tour along gates that gates use. The open gates stand in the order in which they were entered; those that are
-// followed are the path. Each group is a piece of the open gates, which depend on each other.
+/// A tour along gates that gates use. The open gates stand in the order in which they were entered; those that are
+/// followed are the path. Each group is a piece of the open gates, which depend on each other.
 #[derive(Drop)]
 struct Tour {
     stages: Vec<Stage>,
     opened: Vec<usize>,
-    // The places of the path among the open gates.
+    /// The places of the path among the open gates.
     path: Vec<usize>,
-    // The places at which the groups begin.
+    /// The places at which the groups begin.
     starts: Vec<usize>,
 }
 
-// What an operand wishes for, where the last group begins at `start`.
+/// What an operand wishes for, where the last group begins at `start`.
 fn wish_of_operand(
     stages: &[Stage],
     gates: &[Gate],
@@ -72,7 +73,7 @@ fn wish_of_operand(
     }
 }
 
-// What a gate wishes for by its operands.
+/// What a gate wishes for by its operands.
 fn wish_of(
     stages: &[Stage],
     gates: &[Gate],
@@ -96,15 +97,15 @@ fn wish_of(
     }
 }
 
-// Whether a gate is an operand of its own.
+/// Whether a gate is an operand of its own.
 fn uses_itself(gate: Gate) -> bool
     ensures { IsTrue result ↔ ((gate.left / 2 ≡ gate.literal / 2) ⊎ (gate.right / 2 ≡ gate.literal / 2)) }
 {
     gate.left / 2 == gate.literal / 2 || gate.right / 2 == gate.literal / 2
 }
 
-// Whether the gates of a group depend on themselves, which begins at a place and ends with the open gates: there are two
-// of them, or the one uses itself.
+/// Whether the gates of a group depend on themselves, which begins at a place and ends with the open gates: there are two
+/// of them, or the one uses itself.
 fn is_cyclic(opened: &[usize], gates: &[Gate], start: usize) -> bool
     requires inside { start < length opened.now }
     requires gate { slice_index opened.now start < length gates.now }
@@ -113,7 +114,7 @@ fn is_cyclic(opened: &[usize], gates: &[Gate], start: usize) -> bool
     opened.len() - start > 1 || uses_itself(gates[opened[start]])
 }
 
-// Makes the gates from a place on done.
+/// Makes the gates from a place on done.
 fn close_from(stages: &mut [Stage], opened: &[usize], from: usize, on_cycle: bool)
     requires within { (i : ℕ) → i < length opened.now → slice_index opened.now i < length stages.old }
     requires from { from ≤ length opened.now }
@@ -124,7 +125,7 @@ fn close_from(stages: &mut [Stage], opened: &[usize], from: usize, on_cycle: boo
     }
 }
 
-// The last number of a list.
+/// The last number of a list.
 fn last_of(numbers: &[usize]) -> Option<usize>
     ensures last { IfSome result (λ number. (0 < length numbers.now) × (slice_index numbers.now (length numbers.now - 1) ≡ number)) }
     ensures none { IfNone result (numbers.now ≡ []) }
@@ -132,7 +133,7 @@ fn last_of(numbers: &[usize]) -> Option<usize>
     numbers.last().copied()
 }
 
-// Takes away the starts that are greater than a place.
+/// Takes away the starts that are greater than a place.
 fn cut_starts(starts: &mut Vec<usize>, most: usize)
     requires { Rises starts.old.items }
     ensures { Cuts starts.old.items starts.new.items most }
@@ -148,7 +149,7 @@ fn cut_starts(starts: &mut Vec<usize>, most: usize)
 }
 
 impl Tour {
-    // Opens a new gate, as a group of its own.
+    /// Opens a new gate, as a group of its own.
     fn enter(&mut self, gates: &[Gate], gate: usize) -> Result<(), AllocError>
         requires tour { IsTour gates.now self.old.stages.items self.old.opened.items self.old.path.items self.old.starts.items }
         requires gate { gate < length gates.now }
@@ -167,7 +168,7 @@ impl Tour {
         self.stages[gate] = Stage::Open(place);
         Ok(())
     }
-    // Joins the groups behind a place, where a gate of the last group uses the one at that place.
+    /// Joins the groups behind a place, where a gate of the last group uses the one at that place.
     fn join(&mut self, gates: &[Gate], top: usize, start: usize, place: usize)
         requires tour { IsTour gates.now self.old.stages.items self.old.opened.items self.old.path.items self.old.starts.items }
         requires top { IsGreatest self.old.path.items top }
@@ -179,7 +180,7 @@ impl Tour {
     {
         cut_starts(&mut self.starts, place);
     }
-    // Makes the last group done, which begins with the gate that is followed last.
+    /// Makes the last group done, which begins with the gate that is followed last.
     fn finish(&mut self, gates: &[Gate], places: &[Option<usize>], top: usize)
         requires tour { IsTour gates.now self.old.stages.items self.old.opened.items self.old.path.items self.old.starts.items }
         requires finds { Finds gates.now places.now }
@@ -202,7 +203,7 @@ impl Tour {
         close_from(&mut self.stages, &self.opened, top, on_cycle);
         self.opened.truncate(top);
     }
-    // Closes the gate that is followed last, whose operands wish for nothing.
+    /// Closes the gate that is followed last, whose operands wish for nothing.
     fn close(&mut self, gates: &[Gate], places: &[Option<usize>], top: usize, start: usize)
         requires tour { IsTour gates.now self.old.stages.items self.old.opened.items self.old.path.items self.old.starts.items }
         requires finds { Finds gates.now places.now }
@@ -222,7 +223,7 @@ impl Tour {
         };
     }
 
-    // Goes one step from the gate that is followed last.
+    /// Goes one step from the gate that is followed last.
     fn step(
         &mut self,
         gates: &[Gate],
@@ -252,7 +253,7 @@ impl Tour {
         }
     }
 
-    // Goes on until no gate is open.
+    /// Goes on until no gate is open.
     fn run(&mut self, gates: &[Gate], places: &[Option<usize>]) -> Result<(), AllocError>
         requires tour { IsTour gates.now self.old.stages.items self.old.opened.items self.old.path.items self.old.starts.items }
         requires finds { Finds gates.now places.now }
@@ -269,7 +270,7 @@ impl Tour {
         Ok(())
     }
 
-    // Whether a gate is new.
+    /// Whether a gate is new.
     fn is_new(&self, place: usize) -> bool
         requires { place < length self.now.stages.items }
         ensures { IsTrue result ↔ (stage_at self.now.stages.items place ≡ New) }
@@ -281,7 +282,7 @@ impl Tour {
         }
     }
 
-    // Makes a gate done, with all that it leads to.
+    /// Makes a gate done, with all that it leads to.
     fn visit(
         &mut self,
         gates: &[Gate],
@@ -306,7 +307,7 @@ impl Tour {
     }
 }
 
-// Whether a gate is done and depends on itself.
+/// Whether a gate is done and depends on itself.
 fn is_on_cycle(stage: Stage) -> bool
     ensures { IsTrue result ↔ (stage ≡ Done true) }
 {
@@ -317,7 +318,7 @@ fn is_on_cycle(stage: Stage) -> bool
     }
 }
 
-// The first gate that is done and depends on itself.
+/// The first gate that is done and depends on itself.
 fn first_cyclic(stages: &[Stage]) -> Option<usize>
     ensures { MatchOption result ((k : ℕ) → k < length stages.now → stage_at stages.now k ≡ Done true → ⊥) (IsFirstDone stages.now) }
 {
@@ -329,7 +330,7 @@ fn first_cyclic(stages: &[Stage]) -> Option<usize>
     None
 }
 
-// The first gate that depends on itself. It is linear in the gates.
+/// The first gate that depends on itself. It is linear in the gates.
 pub(crate) fn first_on_cycle(
     alloc: Global,
     gates: &[Gate],

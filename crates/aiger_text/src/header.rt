@@ -1,4 +1,5 @@
-// The first line of a file.
+//! The first line of a file.
+
 ghost use Rattle.std.specs.Prelude.{◌≡◌, ◌+◌, ◌<◌, ◌≤◌, IfOk, IfErr, IsTrue, Ok, length, ◌==◌, ◌||◌, ◌&&◌, map, min, nat_lt, true, [], slice_index_or, option_map};
 ghost use Rattle.std.specs.List.{list_all};
 ghost use Rattle.std.specs.Char.{is_ascii_digit};
@@ -13,7 +14,7 @@ use crate::faults::CircuitFault;
 use crate::words::{cut_at, is_numeral, number_within};
 use std::alloc::{AllocError, Global};
 
-// The counts of a header, where outputs above `room` count as so many.
+/// The counts of a header, where outputs above `room` count as so many.
 pub(crate) fn read_header(alloc: Global, line: &[u8], room: u64) -> Result<Counts, CircuitFault>
     ensures ok { IfOk result (λ counts. counts_in room (header_of line.now) ≡ Ok counts) }
     ensures size { IfOk result (λ counts. counts.variables ≤ 100000) }
@@ -27,7 +28,7 @@ pub(crate) fn read_header(alloc: Global, line: &[u8], room: u64) -> Result<Count
     counts_of(&words, room)
 }
 
-// What follows the mark at the line's begin.
+/// What follows the mark at the line's begin.
 fn behind_mark(line: &[u8]) -> Option<&[u8]>
     ensures { option_map (λ text. text.now) result ≡ behind_mark line.now }
 {
@@ -41,7 +42,7 @@ fn behind_mark(line: &[u8]) -> Option<&[u8]>
     }
 }
 
-// The words between spaces.
+/// The words between spaces.
 fn words_of(alloc: Global, text: &[u8]) -> Result<Vec<&[u8]>, AllocError>
     ensures { IfOk result (λ words. map (λ word. word.now) words.items ≡ words_of text.now) }
 {
@@ -55,7 +56,7 @@ fn words_of(alloc: Global, text: &[u8]) -> Result<Vec<&[u8]>, AllocError>
     Ok(words)
 }
 
-// The counts that the words state.
+/// The counts that the words state.
 fn counts_of(words: &[&[u8]], room: u64) -> Result<Counts, CircuitFault>
     ensures counts { result ≡ counts_in room (header_of_words (map (λ word. word.now) words.now)) }
     ensures size { IfOk result (λ counts. counts.variables ≤ 100000) }
@@ -73,7 +74,7 @@ fn counts_of(words: &[&[u8]], room: u64) -> Result<Counts, CircuitFault>
     counts_of_numerals(words, room)
 }
 
-// The counts that five to nine numerals state.
+/// The counts that five to nine numerals state.
 fn counts_of_numerals(words: &[&[u8]], room: u64) -> Result<Counts, CircuitFault>
     requires five { 5 ≤ length words.now }
     requires nine { length words.now ≤ 9 }
@@ -104,7 +105,7 @@ fn counts_of_numerals(words: &[&[u8]], room: u64) -> Result<Counts, CircuitFault
     })
 }
 
-// One of the words.
+/// One of the words.
 fn word_at<'a>(words: &[&'a [u8]], place: usize) -> &'a [u8]
     requires place { place < length words.now }
     requires numerals { list_all is_numeral (map (λ word. word.now) words.now) ≡ true }
@@ -126,7 +127,7 @@ fn are_numerals(words: &[&[u8]]) -> bool
     true
 }
 
-// Whether all of these numerals are 0.
+/// Whether all of these numerals are 0.
 fn are_zeros(words: &[&[u8]]) -> bool
     requires { list_all is_numeral (map (λ word. word.now) words.now) ≡ true }
     ensures { result ≡ list_all (λ n. n == 0) (map decimal_value (map (λ word. word.now) words.now)) }
@@ -140,7 +141,7 @@ fn are_zeros(words: &[&[u8]]) -> bool
     true
 }
 
-// The number that a numeral writes, or `most` where it is greater.
+/// The number that a numeral writes, or `most` where it is greater.
 fn capped(word: &[u8], most: u64) -> u64
     requires { is_numeral word.now ≡ true }
     ensures capped { result ≡ min (decimal_value word.now) most }
@@ -148,7 +149,7 @@ fn capped(word: &[u8], most: u64) -> u64
     number_within(word, most).unwrap_or(most)
 }
 
-// The digit of a numeral at a place, counted from its last one; 0 before its first.
+/// The digit of a numeral at a place, counted from its last one; 0 before its first.
 fn digit_at(word: &[u8], place: usize) -> u8
     requires { list_all is_ascii_digit word.now ≡ true }
     ensures digit { result ≡ digit_at word.now place }
@@ -161,7 +162,7 @@ fn digit_at(word: &[u8], place: usize) -> u8
     }
 }
 
-// Whether the sum of three numerals exceeds a fourth. It goes by their digits, which may be any number.
+/// Whether the sum of three numerals exceeds a fourth. It goes by their digits, which may be any number.
 fn sum_exceeds(first: &[u8], second: &[u8], third: &[u8], most: &[u8]) -> bool
     requires first { list_all is_ascii_digit first.now ≡ true }
     requires second { list_all is_ascii_digit second.now ≡ true }
@@ -183,7 +184,7 @@ fn sum_exceeds(first: &[u8], second: &[u8], third: &[u8], most: &[u8]) -> bool
     carry > 0 || above
 }
 
-// The length of the longer word.
+/// The length of the longer word.
 fn longest(first: &[u8], second: &[u8]) -> usize
     ensures first { length first.now ≤ result }
     ensures second { length second.now ≤ result }
@@ -195,7 +196,7 @@ fn longest(first: &[u8], second: &[u8]) -> usize
     }
 }
 
-// The length of the longest word.
+/// The length of the longest word.
 fn longest_of(first: &[u8], second: &[u8], third: &[u8], fourth: &[u8]) -> usize
     ensures first { length first.now ≤ result }
     ensures second { length second.now ≤ result }
@@ -207,7 +208,7 @@ fn longest_of(first: &[u8], second: &[u8], third: &[u8], fourth: &[u8]) -> usize
     if front < back { back } else { front }
 }
 
-// Whether a number is above another, by their first digits and by whether what follows is.
+/// Whether a number is above another, by their first digits and by whether what follows is.
 fn stays_above(digit: u8, other: u8, above: bool) -> bool
     ensures { result ≡ (nat_lt other digit || ((digit == other) && above)) }
 {

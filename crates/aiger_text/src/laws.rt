@@ -1,4 +1,5 @@
-// Laws of circuits. Each is the contract of a function that does nothing.
+//! Laws of circuits. Each is the contract of a function that does nothing.
+
 ghost use Rattle.letter_word.specs.declared.kinds.Side.{Side};
 ghost use Rattle.aiger_text.specs.Circuit.{RunsOnEveryInput};
 ghost use Rattle.aiger_text.specs.FileLaws.{FilesStateOneThing, FilesHaveOneFault, FaultsStateNothing};

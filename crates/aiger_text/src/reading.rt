@@ -1,9 +1,10 @@
-// A circuit's file as a whole.
+//! A circuit's file as a whole.
+
 ghost use Rattle.std.specs.Prelude.{◌≡◌, ℕ, ◌+◌, ◌^◌, ◌<◌, ◌≤◌, ◌⊎◌, IfOk, IfErr, None, length};
 ghost use Rattle.aiger_text.specs.declared.faults.CircuitFault.TheVariants.{NoMemory, Cycle};
 ghost use Rattle.aiger_text.specs.CircuitType.{DependsOn, IsCircuit, IsOrder};
 ghost use Rattle.aiger_text.specs.Walks.{Finds, IsFirstCycle};
-ghost use Rattle.aiger_text.specs.CircuitFile.{States, IsFirstFault, parts_of, no_names, undefined_line, gate_line_number, circuit_of, file_of};
+ghost use Rattle.aiger_text.specs.CircuitFile.{States, IsFirstFault, circuit_parts, no_names, undefined_line, gate_line_number, circuit_of, file_of};
 ghost use Rattle.aiger_text.specs.Statements.{stated, IsFaultOf};
 ghost use Rattle.aiger_text.specs.Sound.{IsSound, total};
 ghost use Rattle.aiger_text.specs.Labels.{named, HavePlaces};
@@ -40,14 +41,14 @@ impl Model for CircuitFile {
     ghost view = { λ f. record { circuit = f.circuit; comment_at = f.comment_at; comment_line = f.comment_line; name_lines = f.name_lines.items } };
 }
 
-// What the lines of a file state.
+/// What the lines of a file state.
 #[derive(Drop)]
 struct Parts<'a> {
     statements: Statements,
     ending: Ending<'a>,
 }
 
-// No names yet, for the inputs, latches and outputs that were read.
+/// No names yet, for the inputs, latches and outputs that were read.
 fn blank_labels(alloc: Global, statements: &Statements) -> Result<Labels, AllocError>
     ensures none { IfOk result (λ labels. named labels ≡ no_names (stated statements.now)) }
     ensures places { IfOk result HavePlaces }
@@ -60,11 +61,11 @@ fn blank_labels(alloc: Global, statements: &Statements) -> Result<Labels, AllocE
     )
 }
 
-// Reads the lines of a file.
+/// Reads the lines of a file.
 fn read_parts(alloc: Global, bytes: &[u8]) -> Result<Parts<'_>, CircuitFault>
     ensures ok { IfOk result (IsRead bytes.now) }
     ensures lines { IfOk result (λ parts. total (stated parts.statements) < 2 ^ 64) }
-    ensures err { IfErr result (IsFaultOf (parts_of bytes.now)) }
+    ensures err { IfErr result (IsFaultOf (circuit_parts bytes.now)) }
 {
     let room = bytes.len() as u64 + 1;
     let Some((line, text)) = cut_at(bytes, b'\n') else {
@@ -93,7 +94,7 @@ fn read_parts(alloc: Global, bytes: &[u8]) -> Result<Parts<'_>, CircuitFault>
     }
 }
 
-// The line of a gate.
+/// The line of a gate.
 fn gate_line_number(statements: &Statements, gate: usize) -> u64
     requires gate { gate < length statements.now.gates.items }
     requires lines { total (stated statements.now) < 2 ^ 64 }
@@ -105,7 +106,7 @@ fn gate_line_number(statements: &Statements, gate: usize) -> u64
         + gate as u64
 }
 
-// The places of the gates in an order in which they can be worked out; refused at the first gate that depends on itself.
+/// The places of the gates in an order in which they can be worked out; refused at the first gate that depends on itself.
 fn gate_order(alloc: Global, statements: &Statements) -> Result<Vec<usize>, CircuitFault>
     requires sound { IsSound (stated statements.now) }
     requires size { statements.now.counts.variables ≤ 100000 }
@@ -136,7 +137,7 @@ fn gate_order(alloc: Global, statements: &Statements) -> Result<Vec<usize>, Circ
     }
 }
 
-// Puts what was read together, of a file of this size.
+/// Puts what was read together, of a file of this size.
 fn finish(size: usize, parts: Parts<'_>, order: Vec<usize>) -> Result<CircuitFile, AllocError>
     requires circuit { IsCircuit (circuit_of (shown_parts parts)) }
     requires order { IsOrder parts.statements.gates.items order.items }

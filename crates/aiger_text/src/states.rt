@@ -11,7 +11,7 @@ use std::marker::Model;
 /// A circuit between two steps: the values of its inputs and latches, and of its outputs in the last step.
 #[derive(Debug, Drop)]
 pub struct CircuitState {
-    // The value of each variable in the last step; that of variable 0 is false.
+    /// The value of each variable in the last step; that of variable 0 is false.
     values: Vec<bool>,
     inputs: Vec<bool>,
     latches: Vec<bool>,
@@ -108,7 +108,7 @@ fn resets(alloc: Global, latches: &[Latch]) -> Result<Vec<bool>, AllocError>
     latches.iter().map(|latch| latch.reset).collect(alloc)
 }
 
-// The value of a literal, where the values of the variables are these.
+/// The value of a literal, where the values of the variables are these.
 fn value_of(values: &[bool], literal: u32) -> bool
     requires room { literal / 2 < length values.now }
     requires zero { slice_index_or values.now 0 false ≡ false }
@@ -117,7 +117,7 @@ fn value_of(values: &[bool], literal: u32) -> bool
     values[(literal / 2) as usize] ^ (literal % 2 == 1)
 }
 
-// Works out the values of all variables from those of the inputs and latches.
+/// Works out the values of all variables from those of the inputs and latches.
 fn settle(values: &mut [bool], circuit: &Circuit, inputs: &[bool], latches: &[bool])
     requires room { length values.old ≡ circuit.now.variables + 1 }
     requires zero { slice_index_or values.old 0 false ≡ false }
@@ -131,7 +131,7 @@ fn settle(values: &mut [bool], circuit: &Circuit, inputs: &[bool], latches: &[bo
     put_gates(values, &circuit.gates, &circuit.order);
 }
 
-// The value that a gate has, where the values of its operands' variables are these.
+/// The value that a gate has, where the values of its operands' variables are these.
 fn gate_value(values: &[bool], gate: &Gate) -> bool
     requires left { gate.now.left / 2 < length values.now }
     requires right { gate.now.right / 2 < length values.now }
@@ -141,7 +141,7 @@ fn gate_value(values: &[bool], gate: &Gate) -> bool
     value_of(values, gate.left) && value_of(values, gate.right)
 }
 
-// Gives the variables of the literals these values.
+/// Gives the variables of the literals these values.
 fn put_inputs(values: &mut [bool], literals: &[u32], bits: &[bool])
     requires places { length bits.now ≡ length literals.now }
     requires variables { AreVariables (length values.old) literals.now }
@@ -152,7 +152,7 @@ fn put_inputs(values: &mut [bool], literals: &[u32], bits: &[bool])
     }
 }
 
-// Gives the variables of the latches these values.
+/// Gives the variables of the latches these values.
 fn put_latches(values: &mut [bool], latches: &[Latch], bits: &[bool])
     requires places { length bits.now ≡ length latches.now }
     requires variables { AreVariables (length values.old) (map (λ latch. latch.literal) latches.now) }
@@ -163,7 +163,7 @@ fn put_latches(values: &mut [bool], latches: &[Latch], bits: &[bool])
     }
 }
 
-// Gives each gate's variable its value, one behind the other.
+/// Gives each gate's variable its value, one behind the other.
 fn put_gates(values: &mut [bool], gates: &[Gate], order: &[usize])
     requires zero { slice_index_or values.old 0 false ≡ false }
     requires order { IsOrder gates.now order.now }
@@ -178,7 +178,7 @@ fn put_gates(values: &mut [bool], gates: &[Gate], order: &[usize])
     }
 }
 
-// Takes the values of the literals.
+/// Takes the values of the literals.
 fn take_outputs(bits: &mut [bool], literals: &[u32], values: &[bool])
     requires places { length bits.old ≡ length literals.now }
     requires zero { slice_index_or values.now 0 false ≡ false }
@@ -190,7 +190,7 @@ fn take_outputs(bits: &mut [bool], literals: &[u32], values: &[bool])
     }
 }
 
-// Takes the values of the latches' next literals.
+/// Takes the values of the latches' next literals.
 fn take_latches(bits: &mut [bool], latches: &[Latch], values: &[bool])
     requires places { length bits.old ≡ length latches.now }
     requires zero { slice_index_or values.now 0 false ≡ false }

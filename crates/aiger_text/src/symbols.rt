@@ -1,4 +1,5 @@
-// Symbol lines, and what ends a circuit's file.
+//! Symbol lines, and what ends a circuit's file.
+
 ghost use Rattle.std.specs.Prelude.{◌≡◌, ◌+◌, ◌^◌, ◌<◌, ◌≤◌, IfOk, IfErr, IfSome, OnOk, Ok, Some, None, length, replicate, option_map};
 ghost use Rattle.aiger_text.specs.CircuitFile.{named_by, lines_for, symbol_in, with_symbol, named_at, ending_from, lines_of};
 ghost use Rattle.aiger_text.specs.Statements.{IsFaultOf};
@@ -10,7 +11,7 @@ use std::alloc::{AllocError, Global};
 use text_base::Name;
 
 /// What a symbol line names.
-#[derive(Clone, Copy, Debug, PartialEq, Eq, Hash)]
+#[derive(Clone, Copy, Debug, PartialEq, Eq)]
 pub enum Named {
     AnInput,
     ALatch,
@@ -32,7 +33,7 @@ impl Named {
     }
 }
 
-// What a line that begins with this letter names.
+/// What a line that begins with this letter names.
 fn named_by(letter: u8) -> Option<Named>
     ensures { result ≡ named_by letter }
 {
@@ -47,7 +48,7 @@ fn named_by(letter: u8) -> Option<Named>
     }
 }
 
-// The names of inputs and outputs, and the lines of all names, 0 where there is none.
+/// The names of inputs and outputs, and the lines of all names, 0 where there is none.
 #[derive(Drop)]
 pub(crate) struct Labels {
     pub(crate) inputs: Vec<Option<Name>>,
@@ -57,7 +58,7 @@ pub(crate) struct Labels {
     pub(crate) output_lines: Vec<u64>,
 }
 
-// What a symbol line states.
+/// What a symbol line states.
 #[derive(Clone, Copy)]
 struct Symbol<'a> {
     named: Named,
@@ -66,7 +67,7 @@ struct Symbol<'a> {
 }
 
 impl Labels {
-    // No names, for so many inputs, latches and outputs.
+    /// No names, for so many inputs, latches and outputs.
     pub(crate) fn new(
         alloc: Global,
         inputs: usize,
@@ -85,7 +86,7 @@ impl Labels {
         })
     }
 
-    // The lines of the names of one sort.
+    /// The lines of the names of one sort.
     fn lines_for(&self, sort: Named) -> &[u64]
         ensures { result.now ≡ lines_for (named self.now) sort }
     {
@@ -96,7 +97,7 @@ impl Labels {
         }
     }
 
-    // The symbol that a line states, where its place is there.
+    /// The symbol that a line states, where its place is there.
     fn symbol_in<'a>(&self, line: &'a [u8]) -> Option<Symbol<'a>>
         ensures symbol { option_map shown_symbol result ≡ symbol_in (named self.now) line.now }
         ensures place { IfSome result (λ symbol. symbol.place < length (lines_for (named self.now) symbol.named)) }
@@ -119,7 +120,7 @@ impl Labels {
         }
     }
 
-    // Gives the place the name of line `number`.
+    /// Gives the place the name of line `number`.
     fn put(&mut self, alloc: Global, number: u64, symbol: Symbol<'_>) -> Result<(), AllocError>
         requires places { HavePlaces self.old }
         requires place { symbol.place < length (lines_for (named self.old) symbol.named) }
@@ -142,7 +143,7 @@ impl Labels {
         Ok(())
     }
 
-    // Takes the next line, which names a place that has no name yet.
+    /// Takes the next line, which names a place that has no name yet.
     fn take_line(&mut self, alloc: Global, number: u64, line: &[u8]) -> Result<(), CircuitFault>
         requires { HavePlaces self.old }
         ensures ok { OnOk result (with_symbol (named self.old) number (symbol_in (named self.old) line.now) ≡ Ok (named self.new)) }
@@ -160,7 +161,7 @@ impl Labels {
     }
 }
 
-// So many places without a name.
+/// So many places without a name.
 fn no_names(alloc: Global, count: usize) -> Result<Vec<Option<Name>>, AllocError>
     ensures { IfOk result (λ names. names.items ≡ replicate count None) }
 {
@@ -171,7 +172,7 @@ fn no_names(alloc: Global, count: usize) -> Result<Vec<Option<Name>>, AllocError
     Ok(names)
 }
 
-// The names, the number of the line behind them, and the comment where there is one.
+/// The names, the number of the line behind them, and the comment where there is one.
 #[derive(Drop)]
 pub(crate) struct Ending<'a> {
     pub(crate) labels: Labels,
@@ -179,7 +180,7 @@ pub(crate) struct Ending<'a> {
     pub(crate) comment: Option<&'a [u8]>,
 }
 
-// Reads the symbol lines of the text from line `first` on, up to the line `c` or the end.
+/// Reads the symbol lines of the text from line `first` on, up to the line `c` or the end.
 pub(crate) fn read_ending(
     alloc: Global,
     mut labels: Labels,

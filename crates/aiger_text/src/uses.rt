@@ -1,4 +1,5 @@
-// The first line that uses a variable which no line defines.
+//! The first line that uses a variable which no line defines.
+
 ghost use Rattle.std.specs.Prelude.{◌≡◌, ℕ, ◌+◌, ◌<◌, ◌^◌, ◌&&◌, IfSome, length, not};
 ghost use Rattle.std.specs.List.{position_from};
 ghost use Rattle.aiger_text.specs.CircuitFile.{is_known, found_from, undefined_line};
@@ -8,7 +9,7 @@ ghost use Rattle.aiger_text.specs.Statements.{stated, IsMarked};
 use crate::bodies::Statements;
 
 impl Statements {
-    // Whether a literal is a constant, or of a variable that a line defines.
+    /// Whether a literal is a constant, or of a variable that a line defines.
     fn is_known(&self, literal: u32) -> bool
         requires { IsMarked self.now }
         ensures { result ≡ is_known (stated self.now) literal }
@@ -42,7 +43,7 @@ impl Statements {
         None
     }
 
-    // Whether both operands of a gate are known.
+    /// Whether both operands of a gate are known.
     fn knows_operands(&self, left: u32, right: u32) -> bool
         requires { IsMarked self.now }
         ensures { result ≡ (is_known (stated self.now) left && is_known (stated self.now) right) }
@@ -64,7 +65,7 @@ impl Statements {
         None
     }
 
-    // The first line that uses a variable which no line defines.
+    /// The first line that uses a variable which no line defines.
     pub(crate) fn undefined_line(&self) -> Option<u64>
         requires marked { IsMarked self.now }
         requires lines { total (stated self.now) < 2 ^ 64 }
@@ -84,7 +85,7 @@ impl Statements {
     }
 }
 
-// The line of the one that was found among so many lines from `first` on, or another line.
+/// The line of the one that was found among so many lines from `first` on, or another line.
 fn found_from(first: u64, count: usize, place: Option<usize>, other: Option<u64>) -> Option<u64>
     requires room { first + count < 2 ^ 64 }
     requires within { IfSome place (λ place. place < count) }

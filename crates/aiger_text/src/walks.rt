@@ -1,4 +1,5 @@
-// The order in which gates can be worked out.
+//! The order in which gates can be worked out.
+
 ghost use Rattle.std.specs.Prelude.{◌≡◌, ℕ, ◌+◌, ◌-◌, ◌/◌, ◌<◌, ◌↔◌, [], true, false, None, OnOk, IfOk, IfSome, IfNone, IsTrue, MatchOption, length, slice_index, slice_index_or};
 ghost use Rattle.aiger_text.specs.declared.walks.Mark.TheVariants.{New, Open, Done};
 ghost use Rattle.aiger_text.specs.CircuitType.{IsOrder};
@@ -7,26 +8,26 @@ ghost use Rattle.aiger_text.specs.Walks.{Finds, IsWalk, MayEnter, Goes, AtOperan
 use crate::circuits::Gate;
 use std::alloc::{AllocError, Global};
 
-// How far a walk has come with a gate.
-#[derive(Clone, Copy, Debug)]
+/// How far a walk has come with a gate.
+#[derive(Clone, Copy)]
 enum Mark {
     New,
     Open,
     Done,
 }
 
-// What a walk does next.
-#[derive(Clone, Copy, Debug)]
+/// What a walk does next.
+#[derive(Clone, Copy)]
 enum Next {
-    // The gate's operands are done, and so is the gate.
+    /// The gate's operands are done, and so is the gate.
     Close,
-    // An operand is this gate, which is new.
+    /// An operand is this gate, which is new.
     Enter(usize),
-    // An operand is this gate, which is open: it depends on itself.
+    /// An operand is this gate, which is open: it depends on itself.
     Meet(usize),
 }
 
-// A walk from gates to the gates that they use: the stack's gates are open, each using the next one.
+/// A walk from gates to the gates that they use: the stack's gates are open, each using the next one.
 #[derive(Drop)]
 struct Walk {
     marks: Vec<Mark>,
@@ -34,7 +35,7 @@ struct Walk {
     order: Vec<usize>,
 }
 
-// The gate that has the literal's variable.
+/// The gate that has the literal's variable.
 pub(crate) fn gate_of(places: &[Option<usize>], literal: u32) -> Option<usize>
     ensures { result ≡ slice_index_or places.now (literal / 2) None }
 {
@@ -44,7 +45,7 @@ pub(crate) fn gate_of(places: &[Option<usize>], literal: u32) -> Option<usize>
     }
 }
 
-// What an operand asks for.
+/// What an operand asks for.
 fn at_operand(marks: &[Mark], gates: &[Gate], places: &[Option<usize>], literal: u32) -> Next
     requires marks { length marks.now ≡ length gates.now }
     requires finds { Finds gates.now places.now }
@@ -60,7 +61,7 @@ fn at_operand(marks: &[Mark], gates: &[Gate], places: &[Option<usize>], literal:
     }
 }
 
-// What a gate asks for by its operands.
+/// What a gate asks for by its operands.
 fn at_gate(marks: &[Mark], gates: &[Gate], places: &[Option<usize>], gate: usize) -> Next
     requires marks { length marks.now ≡ length gates.now }
     requires finds { Finds gates.now places.now }
@@ -79,7 +80,7 @@ fn at_gate(marks: &[Mark], gates: &[Gate], places: &[Option<usize>], gate: usize
 }
 
 impl Walk {
-    // Opens a new gate.
+    /// Opens a new gate.
     fn enter(&mut self, gates: &[Gate], place: usize) -> Result<(), AllocError>
         requires walk { IsWalk gates.now self.old.marks.items self.old.stack.items self.old.order.items }
         requires place { MayEnter gates.now self.old.marks.items self.old.stack.items place }
@@ -93,7 +94,7 @@ impl Walk {
         Ok(())
     }
 
-    // Takes the last gate from the stack into the order.
+    /// Takes the last gate from the stack into the order.
     fn close(&mut self, gates: &[Gate]) -> Result<(), AllocError>
         requires walk { IsWalk gates.now self.old.marks.items self.old.stack.items self.old.order.items }
         requires some { 0 < length self.old.stack.items }
@@ -110,7 +111,7 @@ impl Walk {
         Ok(())
     }
 
-    // The last gate on the stack.
+    /// The last gate on the stack.
     fn top(&self) -> Option<usize>
         ensures last { IfSome result (λ place. (0 < length self.now.stack.items) × (slice_index self.now.stack.items (length self.now.stack.items - 1) ≡ place)) }
         ensures none { IfNone result (self.now.stack.items ≡ []) }
@@ -118,7 +119,7 @@ impl Walk {
         self.stack.last().copied()
     }
 
-    // Goes one step from the last gate on the stack; false where a gate depends on itself.
+    /// Goes one step from the last gate on the stack; false where a gate depends on itself.
     fn step(
         &mut self,
         gates: &[Gate],
@@ -141,7 +142,7 @@ impl Walk {
         Ok(true)
     }
 
-    // Walks on until nothing is open; false where a gate depends on itself.
+    /// Walks on until nothing is open; false where a gate depends on itself.
     fn run(&mut self, gates: &[Gate], places: &[Option<usize>]) -> Result<bool, AllocError>
         requires walk { IsWalk gates.now self.old.marks.items self.old.stack.items self.old.order.items }
         requires finds { Finds gates.now places.now }
@@ -159,7 +160,7 @@ impl Walk {
         Ok(true)
     }
 
-    // Whether a gate is new.
+    /// Whether a gate is new.
     fn is_new(&self, place: usize) -> bool
         requires { place < length self.now.marks.items }
         ensures { IsTrue result ↔ (mark_at self.now.marks.items place ≡ New) }
@@ -172,8 +173,8 @@ impl Walk {
     }
 }
 
-// The places of the gates in an order in which each stands behind those that it uses, or none where a gate depends on
-// itself. It is linear in the gates.
+/// The places of the gates in an order in which each stands behind those that it uses, or none where a gate depends on
+/// itself. It is linear in the gates.
 pub(crate) fn sorted_places(
     alloc: Global,
     gates: &[Gate],
@@ -198,7 +199,7 @@ pub(crate) fn sorted_places(
     Ok(Some(walk.order))
 }
 
-// The place of each gate, at its variable.
+/// The place of each gate, at its variable.
 pub(crate) fn gate_places(
     alloc: Global,
     variables: usize,

@@ -1,4 +1,5 @@
-// The pieces of a line and the numbers that they write.
+//! The pieces of a line and the numbers that they write.
+
 ghost use Rattle.std.specs.Prelude.{◌≡◌, ◌<◌, ◌≤◌, IfSome, length, option_map};
 ghost use Rattle.std.specs.List.{list_all, position_from};
 ghost use Rattle.std.specs.Char.{is_ascii_digit};
@@ -14,7 +15,7 @@ pub fn cut_at(bytes: &[u8], separator: u8) -> Option<(&[u8], &[u8])>
     Some((&bytes[..place], &bytes[place + 1..]))
 }
 
-// The place of the first separator.
+/// The place of the first separator.
 fn place_of(bytes: &[u8], separator: u8) -> Option<usize>
     ensures place { result ≡ position_from (is_byte separator) 0 bytes.now }
     ensures within { IfSome result (λ place. place < length bytes.now) }
@@ -22,7 +23,7 @@ fn place_of(bytes: &[u8], separator: u8) -> Option<usize>
     bytes.iter().position(|byte| *byte == separator)
 }
 
-// Whether it is one byte, or begins with another than `0`.
+/// Whether it is one byte, or begins with another than `0`.
 fn leads_well(word: &[u8]) -> bool
     ensures { result ≡ leads_well word.now }
 {

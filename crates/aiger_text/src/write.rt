@@ -35,7 +35,7 @@ fn text_of(alloc: Global, circuit: &Circuit) -> Result<Vec<u8>, AllocError>
     Ok(text)
 }
 
-// Appends a line of numbers, of which there is at least one.
+/// Appends a line of numbers, of which there is at least one.
 fn push_line(text: &mut Vec<u8>, first: u64, others: &[u64]) -> Result<(), AllocError>
     ensures { OnOk result (text.new.items ≡ text.old.items ++ text_of_lines (numbers_line (first ∷ others.now) ∷ [])) }
 {

@@ -31,13 +31,6 @@ module _ (c : Circuit) (a : AutomatonModel) (pairs : List Pair) where
     pub some : (p : ℕ) → first ≡ Some p → Breaks p
     pub earlier : (p : ℕ) → first ≡ Some p → (k : ℕ) → Contains done k → k < p → Keeps k
 
-  pub found_none : IsFoundAmong [] None
-  found_none = record {
-    none = λ is k there. absurd (let less : there.0 < 0 = there.1 in omega (arith, less));
-    some = λ p is. absurd (cc);
-    earlier = λ p is. absurd (cc);
-  }
-
   -- a place whose pair keeps the rule
   pub found_kept : (done : List ℕ) (first : Option ℕ) (place : ℕ) → IsFoundAmong done first → Keeps place → IsFoundAmong (done ++ place ∷ []) first
   found_kept done first place f keeps = record {
@@ -127,12 +120,6 @@ places_permuted f d before after n permuted places = record {
       (contains_mapped f before from.0 (Contains-permutation after before from.0 (IsPermutation-sym before after permuted) from.1)));
 }
 
-pub places_none : ArePlaces 0 []
-places_none = record {
-  all = λ k h. absurd (omega (arith, h));
-  within = λ k there. absurd (let less : there.0 < 0 = there.1 in omega (arith, less));
-}
-
 -- and one place more
 pub places_more : (n : ℕ) (places : List ℕ) → ArePlaces n places → ArePlaces (n + 1) (places ++ n ∷ [])
 places_more n places are = record {
@@ -145,7 +132,3 @@ places_more n places are = record {
     | inr one ↦ omega (arith, one)
   ];
 }
-
-pub map_pushed : {X Y : Type 0} (f : X → Y) (xs : List X) (x : X) → map f (xs ++ x ∷ []) ≡ map f xs ++ f x ∷ []
-map_pushed f [] x = refl
-map_pushed f (y ∷ ys) x = ap (λ zs. f y ∷ zs) (map_pushed f ys x)

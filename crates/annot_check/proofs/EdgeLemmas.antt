@@ -1,6 +1,6 @@
 -- The edges of one source, and what they lead to.
 use Rattle.std.proofs.Common.{◌≡◌, ℕ, ◌+◌, ◌-◌, ◌%◌, ◌^◌, ◌<◌, ◌≤◌, Bool, true, false, leb, ltb, List, length, get_or, take, drop, refl, sym, ap, subst, ◌∙◌, arith, inl, inr}
-use Rattle.std.specs.Prelude.{All, Contains, map}
+use Rattle.std.specs.Prelude.{All, Contains}
 use Rattle.std.specs.List.Sorted.{IsNonDecreasingBy, IsPartitionPoint, IsPartitionedBy, IsPermutation}
 use Rattle.std.proofs.lemmas.Bool.{cases_lt, leb-true, leb-false, le-leb, lt-ltb, ltb-true, ltb-false}
 use Rattle.std.proofs.lemmas.List.Sorted.{Contains-permutation, IsPermutation-sym}
@@ -12,14 +12,13 @@ use Rattle.machine_model.specs.declared.automata.Edge.{Edge}
 use Rattle.machine_model.specs.Automaton.{AutomatonModel, HasEdge, JoinsStates}
 use Rattle.std.proofs.Math.Nat.{mod-lt}
 use Rattle.std.proofs.lemmas.Nat.{pow_pos}
-use Rattle.aiger_text.specs.declared.circuits.Latch.{Latch}
 use Rattle.aiger_text.specs.Circuit.{Circuit}
 use Rattle.annot_check.specs.declared.pairs.Pair.{Pair}
 use Rattle.annot_check.specs.declared.numbers.Numbers.{Numbers}
 use Rattle.annot_check.specs.Causes.{BreaksRule}
 use Rattle.annot_check.specs.Numbers.{Knows, greatest_at}
-use Rattle.annot_check.specs.Pairs.{Stands, weight}
-use Rattle.annot_check.specs.Steps.{AreEdgesFrom, HasTheEdges, IsEnough, IsReaction, LeadsOn, OneFails, TellsRule, TellsStart}
+use Rattle.annot_check.specs.Pairs.{weight}
+use Rattle.annot_check.specs.Steps.{AreEdgesFrom, HasTheEdges, IsEnough, IsReaction, LeadsOn, OneFails, TellsRule}
 use Rattle.annot_check.specs.Valid.{Goes, KeepsRule}
 use Rattle.annot_check.proofs.Lists.{All-Contains}
 
@@ -202,17 +201,3 @@ module _ (c : Circuit) (a : AutomatonModel) (numbers : Numbers) (pair : Pair) (e
     fails = λ pairs knows _.
         breaks read letter next reaction (subst (λ (x : List Bool). OneFails letter (IsEnough numbers a pair.number x) edges) same one) pairs knows;
   }
-
--- the start, where the numbers were asked
-pub tells_start : (c : Circuit) (a : AutomatonModel) (numbers : Numbers) (code : List Bool) (starts : Bool) → code ≡ map (λ (latch : Latch). latch.reset) c.latches
-    → (starts ≡ true → IsEnough numbers a 0 code 0) → (IsEnough numbers a 0 code 0 → starts ≡ true) → TellsStart c a numbers starts
-tells_start c a numbers code starts is there back = record {
-  holds = λ pairs knows e.
-      subst (λ (x : List Bool). Stands pairs x 0 (weight a 0)) is
-      (subst (λ n. Stands pairs code 0 n) (let none : 0 + weight a 0 ≡ weight a 0 = omega arith in none) (knows.finds (record { code = code; state = 0 }) (0 + weight a 0) (there e)));
-  fails = λ pairs knows e stands.
-      let enough : Stands pairs code 0 (0 + weight a 0) =
-      subst (λ n. Stands pairs code 0 n) (let none : weight a 0 ≡ 0 + weight a 0 = omega arith in none) (subst (λ (x : List Bool). Stands pairs x 0 (weight a 0)) (sym is) stands) in
-      let yes_there : starts ≡ true = back (knows.finds_all (record { code = code; state = 0 }) (0 + weight a 0) enough) in
-      absurd (cc);
-}

@@ -1,7 +1,7 @@
 -- Variables that are marked as leading to an input.
 use Rattle.std.proofs.Common.{◌≡◌, ℕ, zero, suc, ◌+◌, ◌/◌, ◌<◌, ◌≤◌, Bool, true, false, not, ◌&&◌, ◌||◌, cond, List, [], ◌∷◌, length, get_or, set, replicate, refl, sym, ap, subst, ◌∙◌, arith, inl, inr, below_more}
 use Rattle.std.specs.Prelude.{Contains, if◌then◌else◌}
-use Rattle.std.proofs.lemmas.Bool.{cases_eq}
+use Rattle.std.proofs.lemmas.Bool.{cases_eq, and_parts, not-true, or_left, or_right}
 use Rattle.std.proofs.lemmas.List.{get_or-set_other, get_or-set_same, get_or_default, length-set, length-replicate}
 use Rattle.aiger_text.specs.declared.circuits.Gate.{Gate}
 use Rattle.aiger_text.specs.Circuit.{Circuit}
@@ -93,14 +93,6 @@ or_cases : (a b : Bool) {P : Type 0} → (a || b) ≡ true → (a ≡ true → P
 or_cases true b e one other = one refl
 or_cases false b e one other = other e
 
-and_true : (a b : Bool) → (a && b) ≡ true → (a ≡ true) × (b ≡ true)
-and_true true b e = (refl, e)
-and_true false b e = absurd (cc)
-
-not_true : (b : Bool) → not b ≡ true → b ≡ false
-not_true true e = absurd (cc)
-not_true false e = refl
-
 closed_from : (a b : Bool) → (a && not b) ≡ false → a ≡ true → b ≡ true
 closed_from a true e is = refl
 closed_from true false e is = absurd (cc)
@@ -110,11 +102,11 @@ pub growing_set : (c : Circuit) (old leads : List Bool) (grown : Bool) (n : ℕ)
     → gate.literal / 2 < length leads → ((marked leads gate.left || marked leads gate.right) && not (marked leads gate.literal)) ≡ true
     → Growing c old (set leads (gate.literal / 2) true) true (n + 1)
 growing_set c old leads grown n gate g h at room next =
-    let parts = and_true _ _ next in
+    let parts = and_parts _ _ next in
     let there : Contains c.gates gate = (n, h, at) in
     let lead : LeadsToInput c (gate.literal / 2) =
     or_cases (marked leads gate.left) (marked leads gate.right) parts.0 (λ e. left gate there (g.sound.sound (gate.left / 2) e)) (λ e. right gate there (g.sound.sound (gate.right / 2) e)) in
-    let less : unmarked (set leads (gate.literal / 2) true) + 1 ≡ unmarked leads = one_fewer leads (gate.literal / 2) room (not_true (marked leads gate.literal) parts.1) in
+    let less : unmarked (set leads (gate.literal / 2) true) + 1 ≡ unmarked leads = one_fewer leads (gate.literal / 2) room (not-true (marked leads gate.literal) parts.1) in
     let before : unmarked leads + cond grown 1 0 ≤ unmarked old = g.fewer in
     record {
       sound = record {
@@ -136,22 +128,9 @@ growing_skip c old leads grown n gate g h at next = record {
       (subst (IsClosedAt leads) (sym (get_or_default c.gates n d gate h ∙ at)) (λ e. closed_from (marked leads gate.left || marked leads gate.right) (marked leads gate.literal) next e)) k less;
 }
 
-pub growing_closed : (c : Circuit) (old leads : List Bool) (n : ℕ) → length c.gates ≤ n → Growing c old leads false n → AreClosed c leads
-growing_closed c old leads n all g = record {
-  gates = λ gate there. subst (IsClosedAt leads) there.2 (g.closed refl there.0 gate (let less : there.0 < length c.gates = there.1 in omega arith));
-}
-
 -- ---- outputs
 
 module _ (c : Circuit) (leads : List Bool) (sound : AreSound c leads) (closed : AreClosed c leads) where
-  or_left : (a b : Bool) → a ≡ true → (a || b) ≡ true
-  or_left true b e = refl
-  or_left false b e = absurd (cc)
-
-  or_right : (a b : Bool) → b ≡ true → (a || b) ≡ true
-  or_right true b e = refl
-  or_right false b e = e
-
   lead_marked : (v : ℕ) → LeadsToInput c v → get_or leads v false ≡ true
   lead_marked v (input literal there) = sound.inputs literal there
   lead_marked v (left gate there lead) =

@@ -80,13 +80,6 @@ module _ (old new : Place → Option ℕ) (pair : Pair) (number : ℕ) (own : pa
   pub adds : Adds old new pair
   adds = record { kept = kept; added = added; no_other = no_other }
 
--- nothing is known of no pairs
-pub knows_none : (greatest : Place → Option ℕ) → ((q : Place) → greatest q ≡ None) → Knows greatest []
-knows_none greatest none = record {
-  finds = λ q least h. absurd (subst (λ o. AtLeast o least) (none q) h);
-  finds_all = λ q least s. (let less : s.among.0 < 0 = s.among.1 in absurd (omega arith));
-}
-
 -- and one pair more
 pub knows_push : (old new : Place → Option ℕ) (pairs : List Pair) (pair : Pair) → Knows old pairs → Adds old new pair → Knows new (pairs ++ pair ∷ [])
 knows_push old new pairs pair knows adds = record {

@@ -12,22 +12,22 @@ use Rattle.annot_check.specs.declared.pairs.Pair.{Pair}
 use Rattle.annot_check.specs.declared.numbers.Place.{Place}
 use Rattle.annot_check.specs.Pairs.{Listed}
 use Rattle.annot_check.specs.Numbers.{place_eq, place_of}
-use Rattle.annot_check.specs.AnnotationText.{behind_head, count_of, is_taken, listed_in, pair_in, pairs_in, parts_of, reading_from}
+use Rattle.annot_check.specs.AnnotationText.{behind_head, count_of, is_taken, listed_in, pair_in, pairs_in, pieces_of, reading_from}
 use Rattle.annot_check.specs.Readings.{is_held, next_of}
 
 -- there is always a last part
-pub some_part : (bytes : List ℕ) → 0 < length (parts_of bytes)
+pub some_part : (bytes : List ℕ) → 0 < length (pieces_of bytes)
 some_part bytes = omega (arith, length-slice_split (λ b. b == 10) bytes)
 
 -- ---- a line cut off
 
-pub cut_is : (rest line behind : List ℕ) → cut_at 10 rest ≡ Some (line, behind) → (parts_of rest ≡ line ∷ parts_of behind) × (length behind < length rest)
+pub cut_is : (rest line behind : List ℕ) → cut_at 10 rest ≡ Some (line, behind) → (pieces_of rest ≡ line ∷ pieces_of behind) × (length behind < length rest)
 cut_is rest line behind is =
     let cut = cuts 10 rest line behind is in
     let shorter : length rest ≡ length line + 1 + length behind = cut.shorter in
     (cut.pieces, omega (arith, shorter))
 
-pub whole_is : (rest : List ℕ) → cut_at 10 rest ≡ None → parts_of rest ≡ rest ∷ []
+pub whole_is : (rest : List ℕ) → cut_at 10 rest ≡ None → pieces_of rest ≡ rest ∷ []
 whole_is rest none = no_cut 10 rest none
 
 -- ---- the head
@@ -42,29 +42,29 @@ module _ (latches states : ℕ) where
   read_line [] line n some = absurd (omega arith)
   read_line (next ∷ more) line n some = refl
 
-  module _ (rest line behind : List ℕ) (n : ℕ) (r : Result Listed ℕ) (cut : parts_of rest ≡ line ∷ parts_of behind) (so_far : reading_from latches states (parts_of rest) n ≡ r) where
-    at_this : r ≡ at_line (parts_of behind) n line
-    at_this = sym so_far ∙ ap (λ ps. reading_from latches states ps n) cut ∙ read_line (parts_of behind) line n (some_part behind)
+  module _ (rest line behind : List ℕ) (n : ℕ) (r : Result Listed ℕ) (cut : pieces_of rest ≡ line ∷ pieces_of behind) (so_far : reading_from latches states (pieces_of rest) n ≡ r) where
+    at_this : r ≡ at_line (pieces_of behind) n line
+    at_this = sym so_far ∙ ap (λ ps. reading_from latches states ps n) cut ∙ read_line (pieces_of behind) line n (some_part behind)
 
-    pub head_found : (word : List ℕ) (count : ℕ) → behind_head line ≡ Some word → count_of word ≡ Some count → listed_in latches states (parts_of behind) n count ≡ r
+    pub head_found : (word : List ℕ) (count : ℕ) → behind_head line ≡ Some word → count_of word ≡ Some count → listed_in latches states (pieces_of behind) n count ≡ r
     head_found word count begins counted =
         sym (at_this
-        ∙ ap (λ o. option_map_or (λ word. option_map_or (listed_in latches states (parts_of behind) n) (count_of word) (Err n)) o (reading_from latches states (parts_of behind) (n + 1))) begins
-        ∙ ap (λ o. option_map_or (listed_in latches states (parts_of behind) n) o (Err n)) counted)
+        ∙ ap (λ o. option_map_or (λ word. option_map_or (listed_in latches states (pieces_of behind) n) (count_of word) (Err n)) o (reading_from latches states (pieces_of behind) (n + 1))) begins
+        ∙ ap (λ o. option_map_or (listed_in latches states (pieces_of behind) n) o (Err n)) counted)
 
     pub head_bad : (word : List ℕ) → behind_head line ≡ Some word → count_of word ≡ None → r ≡ Err n
     head_bad word begins counted =
         at_this
-        ∙ ap (λ o. option_map_or (λ word. option_map_or (listed_in latches states (parts_of behind) n) (count_of word) (Err n)) o (reading_from latches states (parts_of behind) (n + 1))) begins
-        ∙ ap (λ o. option_map_or (listed_in latches states (parts_of behind) n) o (Err n)) counted
+        ∙ ap (λ o. option_map_or (λ word. option_map_or (listed_in latches states (pieces_of behind) n) (count_of word) (Err n)) o (reading_from latches states (pieces_of behind) (n + 1))) begins
+        ∙ ap (λ o. option_map_or (listed_in latches states (pieces_of behind) n) o (Err n)) counted
 
-    pub head_later : behind_head line ≡ None → reading_from latches states (parts_of behind) (n + 1) ≡ r
+    pub head_later : behind_head line ≡ None → reading_from latches states (pieces_of behind) (n + 1) ≡ r
     head_later begins =
         sym (at_this
-        ∙ ap (λ o. option_map_or (λ word. option_map_or (listed_in latches states (parts_of behind) n) (count_of word) (Err n)) o (reading_from latches states (parts_of behind) (n + 1))) begins)
+        ∙ ap (λ o. option_map_or (λ word. option_map_or (listed_in latches states (pieces_of behind) n) (count_of word) (Err n)) o (reading_from latches states (pieces_of behind) (n + 1))) begins)
 
   -- the last part
-  pub no_head : (rest : List ℕ) (n : ℕ) (r : Result Listed ℕ) → parts_of rest ≡ rest ∷ [] → reading_from latches states (parts_of rest) n ≡ r
+  pub no_head : (rest : List ℕ) (n : ℕ) (r : Result Listed ℕ) → pieces_of rest ≡ rest ∷ [] → reading_from latches states (pieces_of rest) n ≡ r
       → r ≡ cond ((length rest == 0) || is_some (behind_head rest)) (Err n) (Err (n + 1))
   no_head rest n r whole so_far = sym so_far ∙ ap (λ ps. reading_from latches states ps n) whole
 
@@ -85,18 +85,18 @@ module _ (latches states count : ℕ) where
   pair_line done [] line n some = absurd (omega arith)
   pair_line done (next ∷ more) line n some = refl
 
-  module _ (done : List Pair) (rest line behind : List ℕ) (n : ℕ) (r : Result (List Pair) ℕ) (cut : parts_of rest ≡ line ∷ parts_of behind)
-      (so_far : pairs_in latches states count done (parts_of rest) n ≡ r) where
-    at_this_pair : r ≡ behind_line done (parts_of behind) n line
-    at_this_pair = sym so_far ∙ ap (λ ps. pairs_in latches states count done ps n) cut ∙ pair_line done (parts_of behind) line n (some_part behind)
+  module _ (done : List Pair) (rest line behind : List ℕ) (n : ℕ) (r : Result (List Pair) ℕ) (cut : pieces_of rest ≡ line ∷ pieces_of behind)
+      (so_far : pairs_in latches states count done (pieces_of rest) n ≡ r) where
+    at_this_pair : r ≡ behind_line done (pieces_of behind) n line
+    at_this_pair = sym so_far ∙ ap (λ ps. pairs_in latches states count done ps n) cut ∙ pair_line done (pieces_of behind) line n (some_part behind)
 
     full : nat_lt (length done) count ≡ false → r ≡ cond (bytes_eq line (codes "end")) (Ok done) (Err n)
     full no_more =
-        at_this_pair ∙ ap (λ b. if b then option_map_or (at_pair done (parts_of behind) n) (pair_in latches states line) (Err n) else (if bytes_eq line (codes "end") then Ok done else Err n)) no_more
+        at_this_pair ∙ ap (λ b. if b then option_map_or (at_pair done (pieces_of behind) n) (pair_in latches states line) (Err n) else (if bytes_eq line (codes "end") then Ok done else Err n)) no_more
 
-    more : nat_lt (length done) count ≡ true → r ≡ option_map_or (at_pair done (parts_of behind) n) (pair_in latches states line) (Err n)
+    more : nat_lt (length done) count ≡ true → r ≡ option_map_or (at_pair done (pieces_of behind) n) (pair_in latches states line) (Err n)
     more room =
-        at_this_pair ∙ ap (λ b. if b then option_map_or (at_pair done (parts_of behind) n) (pair_in latches states line) (Err n) else (if bytes_eq line (codes "end") then Ok done else Err n)) room
+        at_this_pair ∙ ap (λ b. if b then option_map_or (at_pair done (pieces_of behind) n) (pair_in latches states line) (Err n) else (if bytes_eq line (codes "end") then Ok done else Err n)) room
 
     pub pairs_ended : nat_lt (length done) count ≡ false → bytes_eq line (codes "end") ≡ true → r ≡ Ok done
     pairs_ended no_more is = full no_more ∙ ap (λ b. cond b (Ok done) (Err n)) is
@@ -105,15 +105,15 @@ module _ (latches states count : ℕ) where
     pairs_open no_more is = full no_more ∙ ap (λ b. cond b (Ok done) (Err n)) is
 
     by_next : Option (List Pair) → Result (List Pair) ℕ
-    by_next o = option_map_or (λ (after : List Pair). pairs_in latches states count after (parts_of behind) (n + 1)) o (Err n)
+    by_next o = option_map_or (λ (after : List Pair). pairs_in latches states count after (pieces_of behind) (n + 1)) o (Err n)
 
-    next_by : (pair : Pair) (b : Bool) → (if b then Err n else pairs_in latches states count (done ++ pair ∷ []) (parts_of behind) (n + 1))
+    next_by : (pair : Pair) (b : Bool) → (if b then Err n else pairs_in latches states count (done ++ pair ∷ []) (pieces_of behind) (n + 1))
         ≡ by_next (if b then None else Some (done ++ pair ∷ []))
     unfolding by_next
     next_by pair true = refl
     next_by pair false = refl
 
-    as_next : (o : Option Pair) → option_map_or (at_pair done (parts_of behind) n) o (Err n)
+    as_next : (o : Option Pair) → option_map_or (at_pair done (pieces_of behind) n) o (Err n)
         ≡ by_next (option_and_then (λ pair. if is_taken pair done then None else Some (done ++ pair ∷ [])) o)
     unfolding by_next
     as_next None = refl
@@ -124,12 +124,12 @@ module _ (latches states count : ℕ) where
     pair_bad room none = more room ∙ as_next (pair_in latches states line) ∙ ap by_next none
 
     pub pair_good : (after : List Pair) → nat_lt (length done) count ≡ true → next_of latches states done line ≡ Some after
-        → pairs_in latches states count after (parts_of behind) (n + 1) ≡ r
+        → pairs_in latches states count after (pieces_of behind) (n + 1) ≡ r
     unfolding by_next
     pair_good after room is = sym (more room ∙ as_next (pair_in latches states line) ∙ ap by_next is)
 
   -- where the lines end too soon
-  pub pairs_short : (done : List Pair) (rest : List ℕ) (n : ℕ) (r : Result (List Pair) ℕ) → parts_of rest ≡ rest ∷ [] → pairs_in latches states count done (parts_of rest) n ≡ r → r ≡ Err n
+  pub pairs_short : (done : List Pair) (rest : List ℕ) (n : ℕ) (r : Result (List Pair) ℕ) → pieces_of rest ≡ rest ∷ [] → pairs_in latches states count done (pieces_of rest) n ≡ r → r ≡ Err n
   pairs_short done rest n r whole so_far = sym so_far ∙ ap (λ ps. pairs_in latches states count done ps n) whole
 
 -- ---- places that are taken
@@ -143,9 +143,6 @@ taken_is pair pairs keys is = ap (list_any (place_eq (place_of pair))) is ∙ an
 
 -- a line that states no pair, one whose place isn't free, and one that is taken
 module _ (latches states : ℕ) (line : List ℕ) (pairs : List Pair) (keys : List Place) (keyed : keys ≡ map place_of pairs) where
-  pub next_none : pair_in latches states line ≡ None → next_of latches states pairs line ≡ None
-  next_none none = ap (option_and_then (λ pair. if is_taken pair pairs then None else Some (pairs ++ pair ∷ []))) none
-
   next_is : (pair : Pair) (b : Bool) → pair_in latches states line ≡ Some pair → is_held pair keys ≡ b
       → next_of latches states pairs line ≡ (if b then None else Some (pairs ++ pair ∷ []))
   next_is pair b some held =
@@ -171,10 +168,3 @@ longer_from pairs after (Some pair) is = longer_by pairs after pair (is_taken pa
 
 pub next_longer : (latches states : ℕ) (line : List ℕ) (pairs after : List Pair) → next_of latches states pairs line ≡ Some after → length after ≡ length pairs + 1
 next_longer latches states line pairs after is = longer_from pairs after (pair_in latches states line) is
-
-map_push : {X Y : Type 0} (f : X → Y) (xs : List X) (x : X) → map f (xs ++ x ∷ []) ≡ map f xs ++ f x ∷ []
-map_push f [] x = refl
-map_push f (y ∷ ys) x = ap (λ zs. f y ∷ zs) (map_push f ys x)
-
-pub keys_pushed : (pairs : List Pair) (pair : Pair) (keys : List Place) → keys ≡ map place_of pairs → keys ++ place_of pair ∷ [] ≡ map place_of (pairs ++ pair ∷ [])
-keys_pushed pairs pair keys is = ap (λ (ks : List Place). ks ++ place_of pair ∷ []) is ∙ sym (map_push place_of pairs pair)

@@ -1,13 +1,11 @@
 -- One step of a circuit, from given values.
-use Rattle.std.proofs.Common.{add-one, below_more, set, ◌≡◌, ℕ, zero, suc, ◌+◌, ◌-◌, ◌*◌, ◌/◌, ◌%◌, ◌^◌, ◌<◌, ◌≤◌, Bool, true, false, cond, eqb, List, [], ◌∷◌, ◌++◌, length, get_or, drop, refl, sym, ap, subst, ◌∙◌, arith, inl, inr}
-use Rattle.std.specs.Int.{bit_at}
-use Rattle.std.proofs.Math.Nat.{mul-le-mul_right, pow-suc}
+use Rattle.std.proofs.Common.{below_more, set, ◌≡◌, ℕ, zero, suc, ◌+◌, ◌-◌, ◌*◌, ◌/◌, ◌%◌, ◌^◌, ◌<◌, ◌≤◌, Bool, true, false, List, [], ◌∷◌, ◌++◌, length, get_or, drop, refl, sym, ap, subst, ◌∙◌, arith, inl, inr}
+use Rattle.std.proofs.Math.Nat.{mul-le-mul_right}
 use Rattle.std.proofs.lemmas.Nat.{pow-add, div-mul-add, mod-mul-add}
-use Rattle.std.proofs.lemmas.Nat.Bits.{bit_at_lowest, bit_at-lt, bit_at-suc, same_from_bits_below}
-use Rattle.std.proofs.lemmas.Bool.{cases_eq, cases_lt, cond_both, eq-eqb, eqb-true}
-use Rattle.std.proofs.lemmas.List.{drop_all, get_or_append_left, length-append, length-drop, get_or-map, get_or-set_other, get_or-set_same, get_or_default, length-map, length-set, same_lists}
+use Rattle.std.proofs.lemmas.Bool.{cases_lt}
+use Rattle.std.proofs.lemmas.List.{get_or_append_left, length-append, length-drop, get_or-map, get_or-set_other, get_or-set_same, get_or_default, length-map, length-set, same_lists}
 use Rattle.std.proofs.Math.Pow.{pow_mono}
-use Rattle.std.proofs.Math.Seq.{drop-cons, get_or-append_seam}
+use Rattle.std.proofs.Math.Seq.{get_or-append_seam}
 use Rattle.letter_word.specs.declared.letters.Letter.{Letter}
 use Rattle.letter_word.specs.Signals.{has}
 use Rattle.aiger_text.specs.declared.circuits.Latch.{Latch}
@@ -23,36 +21,11 @@ use Rattle.std.specs.Cmp.Lexicographic.{pointwise_decides}
 use Rattle.annot_check.specs.declared.steps.Reaction.{Reaction}
 use Rattle.annot_check.specs.declared.steps.Reactions.{Reactions}
 use Rattle.annot_check.specs.Place.{same_code}
-use Rattle.annot_check.specs.Steps.{AreReactions, GivesInputs, IsReaction, number_of}
+use Rattle.annot_check.specs.Steps.{AreReactions, GivesInputs, IsReaction}
+use Rattle.letter_word.specs.Bits.{number_of}
+use Rattle.letter_word.proofs.Bits.{same_number, has-number_of, number_of-lt}
 use Rattle.annot_check.specs.Valid.{Goes}
 use Rattle.annot_check.proofs.Lists.{map-All}
-
-digit-lt : (b : Bool) → cond b 1 0 < 2
-digit-lt true = omega arith
-digit-lt false = omega arith
-
-digit-is : (b : Bool) → eqb (cond b 1 0) 1 ≡ b
-digit-is true = refl
-digit-is false = refl
-
-pub number_of-lt : (bs : List Bool) → number_of bs < 2 ^ length bs
-number_of-lt [] = omega arith
-number_of-lt (b ∷ bs) =
-    let one : cond b 1 0 < 2 = digit-lt b in
-    let more : number_of bs < 2 ^ length bs = number_of-lt bs in
-    let e : 2 ^ suc (length bs) ≡ 2 ^ length bs * 2 = pow-suc 2 (length bs) in
-    rw e (omega arith)
-
-has-number_of : (bs : List Bool) (k : ℕ) → k < length bs → has (number_of bs) k ≡ get_or bs k false
-has-number_of [] k h = absurd (omega arith)
-has-number_of (b ∷ bs) zero h =
-    let one : cond b 1 0 < 2 = digit-lt b in
-    let e : (cond b 1 0 + number_of bs * 2) % 2 ≡ cond b 1 0 = omega arith in
-    ap (λ n. eqb n 1) (bit_at_lowest (cond b 1 0 + number_of bs * 2) ∙ e) ∙ digit-is b
-has-number_of (b ∷ bs) (suc k) h =
-    let one : cond b 1 0 < 2 = digit-lt b in
-    let e : (cond b 1 0 + number_of bs * 2) / 2 ≡ number_of bs = omega arith in
-    ap (λ n. eqb n 1) (bit_at-suc (cond b 1 0 + number_of bs * 2) k ∙ ap (λ n. bit_at n k) e) ∙ has-number_of bs k (omega arith)
 
 -- what was read and what was written, in one letter
 module _ (n read : ℕ) (small : read < 2 ^ n) (written : List Bool) where
@@ -77,22 +50,6 @@ module _ (n read : ℕ) (small : read < 2 ^ n) (written : List Bool) where
       let more : (number_of written + 1) * 2 ^ n ≤ 2 ^ length written * 2 ^ n = mul-le-mul_right (2 ^ n) (let le : number_of written + 1 ≤ 2 ^ length written = omega arith in le) in
       let e : 2 ^ (n + length written) ≡ 2 ^ n * 2 ^ length written = pow-add 2 n (length written) in
       rw e (omega (arith, more))
-
-digit : Bool → ℕ
-digit b = cond b 1 0
-
-digit_of : (n : ℕ) → n < 2 → n ≡ digit (eqb n 1)
-unfolding digit
-digit_of n small = elim (cases_eq n 1) [
-  | inl one ↦ one ∙ ap (λ b. cond b 1 0) (sym (eq-eqb n 1 one))
-  | inr other ↦ cond_both (eqb n 1) 1 0 (λ m. n ≡ m) (λ e. eqb-true n 1 e) (λ _. let apart : n ≡ 1 → ⊥ = other in omega arith)
-]
-
--- numbers of so many bits are equal where their bits are
-pub same_number : (w a b : ℕ) → a < 2 ^ w → b < 2 ^ w → ((k : ℕ) → k < w → has a k ≡ has b k) → a ≡ b
-same_number w a b small_a small_b same =
-    same_from_bits_below w a b small_a small_b
-    (λ k h. digit_of (bit_at a k) (bit_at-lt a k) ∙ ap digit (same k h) ∙ sym (digit_of (bit_at b k) (bit_at-lt b k)))
 
 -- the letter of a step, and no other that reads the same
 module _ (c : Circuit) (circuit : IsCircuit c) (agree : ValuationsAgree c) (code : List Bool) (read : ℕ) (before after : StateModel)
@@ -227,16 +184,6 @@ set_all old now code n count all g =
     let within : k < length old.latches = rw (← g.count) h in
     get_or_default now.latches k d false h ∙ g.latches k (omega arith) ∙ get_or_default code k false d (omega arith)) in
     g.same ∙ ap (λ (xs : List Bool). (let t : StateModel = record old { latches = xs } in t)) one
-
--- the bits from place k on, and one more in front of them
-pub number_more : (bits : List Bool) (k n new : ℕ) (bit : Bool) → k < length bits → bit ≡ get_or bits k false → n ≡ number_of (drop (k + 1) bits)
-    → new ≡ cond bit 1 0 + n * 2 → new ≡ number_of (drop k bits)
-number_more bits k n new bit h is before e =
-    e ∙ ap (λ m. cond bit 1 0 + m * 2) before ∙ ap (λ b. cond b 1 0 + number_of (drop (k + 1) bits) * 2) is
-    ∙ ap number_of (let cut : get_or bits k false ∷ drop (k + 1) bits ≡ drop k bits = sym (rw add-one (drop-cons bits k false h)) in cut)
-
-pub number_none : (bits : List Bool) (n : ℕ) → length bits ≤ n → 0 ≡ number_of (drop n bits)
-number_none bits n all = ap number_of (sym (drop_all n bits all))
 
 -- a number of few bits is small
 pub small_number : (bits : List Bool) (k n : ℕ) → length bits < 9 → n ≡ number_of (drop k bits) → n < 256

@@ -11,8 +11,8 @@ use Rattle.annot_check.specs.Pairs.{Listed}
 use Rattle.annot_check.specs.Place.{same_code}
 
 -- the parts between the line ends; the last one isn't ended
-abbrev pub parts_of : List ℕ → List (List ℕ)
-parts_of bytes = slice_split (λ b. b == 10) bytes
+abbrev pub pieces_of : List ℕ → List (List ℕ)
+pieces_of bytes = slice_split (λ b. b == 10) bytes
 
 -- what the head begins with, and the most pairs
 abbrev pub head_word : List ℕ
@@ -101,12 +101,12 @@ reading_from latches states (line ∷ next ∷ more) n =
 
 -- what a text states: a list of pairs, or the first line that is refused
 abbrev pub reading_of : ℕ → ℕ → List ℕ → Result Listed ℕ
-reading_of latches states bytes = reading_from latches states (parts_of bytes) 1
+reading_of latches states bytes = reading_from latches states (pieces_of bytes) 1
 
 -- the text states this list of pairs, for so many latches and states
 abbrev pub StatesPairs : List ℕ → ℕ → ℕ → Listed → Type 0
 StatesPairs bytes latches states list = reading_of latches states bytes ≡ Ok list
 
 -- the text states no list of pairs, and this line is the first that is refused
-abbrev pub IsFirstBadLine : List ℕ → ℕ → ℕ → ℕ → Type 0
-IsFirstBadLine bytes latches states n = reading_of latches states bytes ≡ Err n
+abbrev pub IsFirstBadAnnotationLine : List ℕ → ℕ → ℕ → ℕ → Type 0
+IsFirstBadAnnotationLine bytes latches states n = reading_of latches states bytes ≡ Err n

@@ -8,7 +8,7 @@ use Rattle.annot_check.specs.declared.pairs.Pair.{Pair}
 use Rattle.annot_check.specs.declared.reading.Head.{Head}
 use Rattle.annot_check.specs.declared.reading.Taken.{Taken}
 use Rattle.annot_check.specs.Pairs.{Listed}
-use Rattle.annot_check.specs.AnnotationText.{is_taken, listed_in, pair_in, parts_of}
+use Rattle.annot_check.specs.AnnotationText.{is_taken, listed_in, pair_in, pieces_of}
 use Rattle.annot_check.specs.Numbers.{place_eq, place_of}
 
 -- the refusals of a text
@@ -21,7 +21,7 @@ IsReadFault (Broken j) = ⊥
 
 -- what the head leaves to read
 abbrev pub left_of : ℕ → ℕ → Head → Result Listed ℕ
-left_of latches states head = listed_in latches states (parts_of head.rest.now) head.line head.count
+left_of latches states head = listed_in latches states (pieces_of head.rest.now) head.line head.count
 
 -- the pairs with the one that a line states, where it states one whose place is free
 abbrev pub next_of : ℕ → ℕ → List Pair → List ℕ → Option (List Pair)

@@ -1,5 +1,5 @@
 -- What the checker finds out of one step and of the edges of one state (this project's own).
-use Rattle.std.specs.Prelude.{◌≡◌, ℕ, ◌%◌, ◌^◌, ◌<◌, Bool, true, false, List, [], ◌∷◌, ◌+◌, ◌*◌, Contains, Option, Some, None, min, length, slice_index_or, if◌then◌else◌}
+use Rattle.std.specs.Prelude.{◌≡◌, ℕ, ◌%◌, ◌^◌, ◌<◌, Bool, true, false, List, ◌+◌, Contains, Option, Some, None, min, length, slice_index_or}
 use Rattle.letter_word.specs.declared.letters.Letter.{Letter}
 use Rattle.letter_word.specs.Cube.{Fits}
 use Rattle.letter_word.specs.Signals.{has}
@@ -31,11 +31,6 @@ pub record GivesInputs (old new : StateModel) (read : ℕ) : Type 0 where
   pub inputs : (k : ℕ) → k < length old.inputs → slice_index_or new.inputs k false ≡ has read k
   pub same : new ≡ record old { inputs = new.inputs }
   pub count : length new.inputs ≡ length old.inputs
-
--- the number that has these bits
-abbrev pub number_of : List Bool → ℕ
-number_of [] = 0
-number_of (b ∷ bs) = (if b then 1 else 0) + number_of bs * 2
 
 -- the edges of this source are these
 pub record AreEdgesFrom (edges from : List Edge) (source : ℕ) : Type 0 where

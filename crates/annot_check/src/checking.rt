@@ -1,4 +1,5 @@
-// Whether a list of pairs is valid.
+//! Whether a list of pairs is valid.
+
 ghost use Rattle.std.specs.Prelude.{◌≡◌, IfErr, IfOk, MatchOption, OnOk};
 ghost use Rattle.std.specs.Bool.{MatchBool};
 ghost use Rattle.letter_word.specs.declared.kinds.Kind.TheVariants.{Moore};

@@ -1,4 +1,5 @@
-// Laws of valid lists of pairs and of the texts that state them. Each is the contract of a function that does nothing.
+//! Laws of valid lists of pairs and of the texts that state them. Each is the contract of a function that does nothing.
+
 ghost use Rattle.annot_check.specs.Laws.{CausesAreApart, ValidListsSatisfy, ValidListsShow, ValidListsShowKind};
 ghost use Rattle.annot_check.specs.Stated.{ReadingsAreApart};
 

@@ -1,4 +1,5 @@
-// Pairs by their places.
+//! Pairs by their places.
+
 ghost use Rattle.std.specs.Prelude.{◌≡◌, ◌≤◌, ◌⊎◌, IfOk, IfSome, OnOk, Some};
 
 use crate::pairs::{Code, Pair};
@@ -6,7 +7,7 @@ use std::alloc::{AllocError, Global};
 use std::collections::HashMap;
 
 /// The place of a pair: the values of the latches and the state.
-#[derive(Debug, Drop, PartialEq, Eq, Hash)]
+#[derive(Drop, PartialEq, Eq, Hash)]
 pub(crate) struct Place {
     pub(crate) code: Code,
     pub(crate) state: u32,

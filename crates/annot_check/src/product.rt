@@ -1,4 +1,5 @@
-// The product of a circuit and an automaton, and which of its pairs keep the rule.
+//! The product of a circuit and an automaton, and which of its pairs keep the rule.
+
 ghost use Rattle.std.specs.Prelude.{◌≡◌, ◌↔◌, ◌<◌, All, IfOk, IsTrue, MatchOption, OnOk, Some, false, length, map, true};
 ghost use Rattle.std.specs.List.Sorted.{IsNonDecreasingBy};
 ghost use Rattle.machine_model.specs.declared.automata.Edge.{Edge as AnEdge};

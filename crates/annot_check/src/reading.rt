@@ -1,8 +1,9 @@
-// The text of an annotation.
+//! The text of an annotation.
+
 ghost use Rattle.std.specs.Prelude.{◌≡◌, ◌==◌, ◌||◌, ◌+◌, ◌-◌, ◌^◌, ◌<◌, ◌≤◌, ◌∷◌, ◌++◌, ℕ, [], All, Err, IfErr, IfOk, None, Ok, OnOk, Some, if◌then◌else◌, is_some, length, not};
 ghost use Rattle.annot_check.specs.declared.pairs.Pair.{Pair as APair};
 ghost use Rattle.annot_check.specs.declared.faults.AnnotFault.TheVariants.{BadLine};
-ghost use Rattle.annot_check.specs.AnnotationText.{IsFirstBadLine, StatesPairs, behind_head, pairs_in, parts_of, reading_of};
+ghost use Rattle.annot_check.specs.AnnotationText.{IsFirstBadAnnotationLine, StatesPairs, behind_head, pairs_in, pieces_of, reading_of};
 ghost use Rattle.annot_check.specs.Numbers.{place_of};
 ghost use Rattle.annot_check.specs.Readings.{IsIndexed, IsReadFault, is_held, left_of, next_of};
 
@@ -27,7 +28,7 @@ pub fn read_annotation(
     states: u32,
 ) -> Result<PairList, AnnotFault>
     ensures pairs { IfOk result (StatesPairs lines.now latches states) }
-    ensures bad { (n : ℕ) → result ≡ Err (BadLine n) → IsFirstBadLine lines.now latches states n }
+    ensures bad { (n : ℕ) → result ≡ Err (BadLine n) → IsFirstBadAnnotationLine lines.now latches states n }
     ensures no_other { IfErr result IsReadFault }
     ensures codes { IfOk result (λ list. All (λ (pair : APair). length pair.code ≡ latches) list.pairs) }
     ensures lines { IfOk result (λ list. list.head_line + length list.pairs ≤ length lines.now) }
@@ -136,8 +137,8 @@ fn read_pairs(
     states: u32,
 ) -> Result<Vec<Pair>, AnnotFault>
     requires { head.now.line + length head.now.rest.now < 2 ^ 64 - 1 }
-    ensures ok { IfOk result (λ pairs. pairs_in latches states head.now.count [] (parts_of head.now.rest.now) (head.now.line + 1) ≡ Ok pairs.items) }
-    ensures bad { (n : ℕ) → result ≡ Err (BadLine n) → pairs_in latches states head.now.count [] (parts_of head.now.rest.now) (head.now.line + 1) ≡ Err n }
+    ensures ok { IfOk result (λ pairs. pairs_in latches states head.now.count [] (pieces_of head.now.rest.now) (head.now.line + 1) ≡ Ok pairs.items) }
+    ensures bad { (n : ℕ) → result ≡ Err (BadLine n) → pairs_in latches states head.now.count [] (pieces_of head.now.rest.now) (head.now.line + 1) ≡ Err n }
     ensures no_other { IfErr result IsReadFault }
     ensures codes { IfOk result (λ pairs. All (λ (pair : APair). length pair.code ≡ latches) pairs.items) }
     ensures lines { IfOk result (λ pairs. length pairs.items ≤ length head.now.rest.now) }

@@ -1,4 +1,5 @@
-// Which variables lead to inputs.
+//! Which variables lead to inputs.
+
 ghost use Rattle.std.specs.Prelude.{◌≡◌, ◌/◌, ◌+◌, ◌<◌, ◌&&◌, ◌||◌, not, IfOk, MatchOption, length, replicate, false, true};
 ghost use Rattle.annot_check.specs.Causes.{IsFirstByInput};
 ghost use Rattle.annot_check.specs.Marks.{AreClosed, AreSound, marked, unmarked};

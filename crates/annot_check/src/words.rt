@@ -1,4 +1,5 @@
-// The words of an annotation's lines.
+//! The words of an annotation's lines.
+
 ghost use Rattle.std.specs.Prelude.{◌≡◌, ◌==◌, map, length, true, IfOk, IfSome};
 ghost use Rattle.std.specs.List.{list_all};
 ghost use Rattle.std.specs.Option.{option_copied};

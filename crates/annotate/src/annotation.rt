@@ -1,4 +1,5 @@
-// The annotation of one circuit for one text.
+//! The annotation of one circuit for one text.
+
 ghost use Rattle.std.specs.Prelude.{◌<◌, IsTrue, length};
 ghost use Rattle.tlsf_expand.specs.FlatText.{spec_seen};
 ghost use Rattle.synth_answer.specs.Printed.{given_by};
@@ -26,7 +27,7 @@ pub enum Outcome {
 }
 
 /// Annotates a circuit for a text, or says why it can't.
-pub fn annotate(alloc: Global, text: &[u8], circuit: &[u8]) -> Result<Outcome, AllocError> {
+pub(crate) fn annotate(alloc: Global, text: &[u8], circuit: &[u8]) -> Result<Outcome, AllocError> {
     match problems_for_verify(alloc, text)? {
         Problems::Of(problems) => annotate_for(alloc, &problems, circuit),
         Problems::Refused(reply) => Ok(Outcome::Told(reply.bytes)),

@@ -1,4 +1,5 @@
-// The strongly connected components of a graph, and how many rejecting states a way to each pair may meet (Kosaraju's algorithm).
+//! The strongly connected components of a graph, and how many rejecting states a way to each pair may meet (Kosaraju's algorithm).
+
 use crate::graph::Way;
 use std::alloc::{AllocError, Global};
 
@@ -29,12 +30,12 @@ fn put(numbers: &mut [usize], place: usize, number: usize) {
 }
 
 /// The place of the first way that begins at a pair.
-pub fn first_way(ways: &[Way], from: usize) -> usize {
+pub(crate) fn first_way(ways: &[Way], from: usize) -> usize {
     ways.partition_point(|way| way.from < from)
 }
 
 /// The way at this place, where it begins at the pair.
-pub fn way_at(ways: &[Way], place: usize, from: usize) -> Option<Way> {
+pub(crate) fn way_at(ways: &[Way], place: usize, from: usize) -> Option<Way> {
     let way = ways.get(place).copied()?;
     if way.from == from { Some(way) } else { None }
 }

@@ -1,4 +1,5 @@
-// A run of the circuit on which the text is false: a way to a pair with a rejecting state that stands on a ring of ways.
+//! A run of the circuit on which the text is false: a way to a pair with a rejecting state that stands on a ring of ways.
+
 use crate::components::{first_way, is_rejecting, number_of, way_at};
 use crate::graph::{Graph, Way};
 use letter_word::Letter;
@@ -13,7 +14,7 @@ pub struct Run {
 }
 
 /// A run that meets a rejecting state again and again, if there is one.
-pub fn bad_run(
+pub(crate) fn bad_run(
     alloc: Global,
     graph: &Graph,
     component: &[usize],

@@ -1,9 +1,9 @@
 -- The list of values is the assignment of a machine and its annotation.
-use Rattle.std.proofs.Common.{◌≡◌, ℕ, ◌+◌, ◌-◌, ◌*◌, ◌/◌, ◌%◌, ◌^◌, ◌<◌, ◌≤◌, Bool, true, false, List, Option, [], ◌∷◌, ◌++◌, zero, suc, length, map, get_or, refl, sym, ap, ◌∙◌, arith, inl, inr}
+use Rattle.std.proofs.Common.{◌≡◌, ℕ, ◌+◌, ◌-◌, ◌*◌, ◌/◌, ◌%◌, ◌^◌, ◌<◌, ◌≤◌, false, List, Option, [], ◌∷◌, ◌++◌, zero, suc, length, map, get_or, refl, sym, ap, ◌∙◌, arith, inl, inr}
 use Rattle.std.specs.Prelude.{◌==◌, nat_lt}
 use Rattle.std.specs.List.{range_with_len}
 use Rattle.std.proofs.Math.Nat.{div-lt_iff_lt-mul, mod-lt}
-use Rattle.std.proofs.lemmas.Bool.{cases_eq, cond-true, cond-false}
+use Rattle.std.proofs.lemmas.Bool.{cases_eq, cond-true, cond-false, le-ltb}
 use Rattle.std.proofs.lemmas.Bool.Decides.{Decides-ltb}
 use Rattle.std.proofs.lemmas.List.{get_or_append_left, get_or-append-add, length-append}
 use Rattle.std.proofs.lemmas.List.FromFn.{get_or-map-range_with_len, length-map-range_with_len}
@@ -25,13 +25,6 @@ use Rattle.annotation_encode.specs.Variables.{letter_count, move_count, number_c
 use Rattle.annotation_encode.proofs.Sizes.{place_below, row_below, writes_within}
 use Rattle.annotation_encode.proofs.Counted.{length-each_sum, number_within, numbers_step}
 use Rattle.annotation_encode.proofs.Lists.{length-each_below}
-
-not_less : (a b : ℕ) → b ≤ a → nat_lt a b ≡ false
-not_less a b h = go (nat_lt a b) refl
-  where
-    go : (less : Bool) → nat_lt a b ≡ less → less ≡ false
-    go true e = absurd (let l : a < b = (Decides-ltb a b).0 e in omega (arith, l, h))
-    go false e = refl
 
 -- the value at a place of joined pieces, where the pieces before end at known places
 get-each_below : {A : Type 0} (n k j : ℕ) (f : ℕ → List A) (start : ℕ → ℕ) (d : A) → start 0 ≡ 0 → ((i : ℕ) → i < n → start (suc i) ≡ start i + length (f i))
@@ -99,7 +92,7 @@ module _ (p : Problem) (m : MachineModel) (numbers : List (Option ℕ)) where
   in_writes k j e =
       let least : move_count p ≤ k = omega (arith, e) in
       let at : k - move_count p ≡ j = omega (arith, e) in
-      cond-false (nat_lt k (move_count p)) (move_value p m k) _ (not_less k (move_count p) least) ∙ ap (write_value p m) at
+      cond-false (nat_lt k (move_count p)) (move_value p m k) _ (le-ltb k (move_count p) least) ∙ ap (write_value p m) at
 
   -- the pieces of the values of pairs
   length-pair : (t q : ℕ) → length (pair_values p numbers t q) ≡ number_count p q

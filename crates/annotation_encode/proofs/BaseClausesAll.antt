@@ -5,7 +5,7 @@ use Rattle.std.specs.List.{flat_map}
 use Rattle.std.proofs.lemmas.Bool.Decides.{Decides-eqb}
 use Rattle.std.proofs.lemmas.List.{append_assoc}
 use Rattle.std.proofs.lemmas.List.Elements.{All-append, All-cons, All-contains, All-nil, Contains-append_left, Contains-append_right}
-use Rattle.std.proofs.lemmas.Bool.{cond-true, cond-false}
+use Rattle.std.proofs.lemmas.Bool.{cond-true, cond-false, le-leb, leb-true}
 use Rattle.clause_base.proofs.Members.{Contains-head, Contains-later}
 use Rattle.clause_base.specs.Literal.{Literal}
 use Rattle.clause_base.specs.Clause.{IsWithin}
@@ -17,7 +17,7 @@ use Rattle.product_bound.specs.Annotation.{bound_at}
 use Rattle.annotation_encode.specs.BaseClauses.{base_clauses, chain_clause, chain_clauses, each_below, edge_clauses, fits_read, is_idle, letter_clauses, order_clause, order_clauses, pair_chains, row_clause, row_clauses, row_count, row_orders, start_clause, state_chains, state_clauses, step_clause, step_clauses, step_count}
 use Rattle.annotation_encode.specs.Variables.{letter_count, variables_of}
 use Rattle.annotation_encode.proofs.ClauseOrder.{chain-rises, order-rises, row-rises, start-rises, step-rises}
-use Rattle.annotation_encode.proofs.Lists.{All-each_below, All-flat_map, at_most, in_each, in_flat_map, joined_parts, not_above}
+use Rattle.annotation_encode.proofs.Lists.{All-each_below, All-flat_map, in_each, in_flat_map, joined_parts}
 
 -- what holds of each clause of a kind
 pub record HoldsOfKinds (p : Problem) (P : List Literal → Type 0) : Type 0 where
@@ -65,7 +65,7 @@ module _ (p : Problem) (P : List Literal → Type 0) (kinds : HoldsOfKinds p P) 
     where
       go : (b : Bool) → nat_le 2 p.version ≡ b → All P (cond b (each_below (row_count p) (λ place. row_orders p place)) [])
       go true h =
-          let two : 2 ≤ p.version = at_most 2 p.version h in
+          let two : 2 ≤ p.version = leb-true 2 p.version h in
           All-each_below P (row_count p) (λ place. row_orders p place) (λ place hp. All-each_below P (p.size - 2) (λ k. order_clause p place (k + 2) ∷ [])
           (λ k less. single (order_clause p place (k + 2)) (kinds.orders place (k + 2) two hp (omega arith) (omega arith))))
       go false h = All-nil P
@@ -131,7 +131,7 @@ in_orders p place to two hp least hto =
     = subst (λ k. Contains (row_orders p place) (order_clause p place k)) back
     (in_each (p.size - 2) (to - 2) (λ k. order_clause p place (k + 2) ∷ []) (order_clause p place ((to - 2) + 2)) (omega arith) (Contains-head (order_clause p place ((to - 2) + 2)) [])) in
     let all : Contains (order_clauses p) (order_clause p place to)
-    = subst (λ cs. Contains cs (order_clause p place to)) (sym (cond-true (nat_le 2 p.version) (each_below (row_count p) (λ place. row_orders p place)) [] (not_above 2 p.version two)))
+    = subst (λ cs. Contains cs (order_clause p place to)) (sym (cond-true (nat_le 2 p.version) (each_below (row_count p) (λ place. row_orders p place)) [] (le-leb 2 p.version two)))
     (in_each (row_count p) place (λ place. row_orders p place) (order_clause p place to) hp row) in
     behind_edges p (order_clause p place to) (Contains-append_right (chain_clauses p) (order_clauses p) (order_clause p place to) all)
 

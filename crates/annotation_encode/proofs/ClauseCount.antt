@@ -3,12 +3,13 @@ use Rattle.std.proofs.Common.{◌≡◌, ℕ, zero, suc, ◌+◌, ◌-◌, ◌*�
 use Rattle.std.specs.Prelude.{◌==◌, ◌&&◌, nat_le}
 use Rattle.std.specs.List.{flat_map}
 use Rattle.std.proofs.Math.Nat.{two-pow-succ}
-use Rattle.std.proofs.lemmas.Bool.{cases_eq, cond-true, cond-false, eq-eqb, ne_eqb}
+use Rattle.std.proofs.lemmas.Bool.{cases_eq, cond-true, cond-false, eq-eqb, ne_eqb, not-true, not-false}
 use Rattle.std.proofs.lemmas.Bool.Decides.{leb_tells}
 use Rattle.std.proofs.lemmas.List.{append-nil, length-append, take_all, take_more}
 use Rattle.std.proofs.lemmas.List.Concat.{flat_map-append}
 use Rattle.std.proofs.lemmas.List.Folds.{length-flat_map-take}
-use Rattle.std.proofs.lemmas.Nat.Bits.{bit_at_cat_high, bit_at_cat_low}
+use Rattle.std.proofs.lemmas.Nat.Bits.{bit_at_cat_high}
+use mathlib.Core.Bool.{and-true, and-false}
 use Rattle.clause_base.specs.Literal.{Literal}
 use Rattle.letter_word.specs.Signals.{has}
 use Rattle.letter_word.specs.declared.cubes.Cube.{Cube}
@@ -18,11 +19,13 @@ use Rattle.machine_model.specs.Problem.{automaton_of, reads_of}
 use Rattle.machine_model.specs.declared.automata.Edge.{Edge}
 use Rattle.machine_model.specs.declared.problems.Problem.{Problem}
 use Rattle.product_bound.specs.Annotation.{bound_at, rejecting_at}
-use Rattle.annotation_encode.specs.BaseClauses.{all_below, base_clauses, chain_clause, chain_clauses, each_below, edge_clauses, fits_read, is_idle, letter_clauses, order_clause, order_clauses, pair_chains, read_signal, row_clause, row_clauses, row_count, row_orders, signal_fits, start_clause, state_chains, state_clauses, step_clause, step_clauses, step_count}
+use Rattle.annotation_encode.specs.BaseClauses.{base_clauses, chain_clause, chain_clauses, each_below, edge_clauses, fits_read, is_idle, letter_clauses, order_clause, order_clauses, pair_chains, read_signal, row_clause, row_clauses, row_count, row_orders, signal_fits, start_clause, state_chains, state_clauses, step_clause, step_clauses, step_count}
+use Rattle.letter_word.specs.Below.{all_below}
 use Rattle.annotation_encode.specs.Count.{chain_count, count_of, free_below, is_free, most_clauses, order_count, target_count}
 use Rattle.annotation_encode.specs.Variables.{counted_before, letter_count}
 use Rattle.annotation_encode.proofs.Counted.{length-each_sum, sum_first-times}
 use Rattle.annotation_encode.proofs.Lists.{length-each_below}
+use Rattle.annotation_encode.proofs.Letters.{low_signal}
 
 -- how many numbers below n pass a test
 count_below : ℕ → (ℕ → Bool) → ℕ
@@ -99,10 +102,6 @@ count_below-but (suc n) t h =
           omega (arith, before, last)
     ]
 
--- letters that fit a cube's read signals: each free signal doubles them
-first_has : (a k b s : ℕ) → s < k → has (a * 2 ^ k + b) s ≡ has b s
-first_has a k b s h = ap (λ n. n == 1) (bit_at_cat_low a k b s h)
-
 set_bit : (k b : ℕ) → b < 2 ^ k → has (1 * 2 ^ k + b) k ≡ true
 set_bit k b h = let e : k - k ≡ 0 = omega arith in ap (λ n. n == 1) (bit_at_cat_high 1 k b k h (omega arith)) ∙ ap (has 1) e
 
@@ -116,14 +115,6 @@ no_bit k b h = go (has b k) refl
 all_below-same : (n : ℕ) (f g : ℕ → Bool) → ((k : ℕ) → k < n → f k ≡ g k) → all_below n f ≡ all_below n g
 all_below-same zero f g same = refl
 all_below-same (suc n) f g same = λ i. all_below-same n f g (λ k h. same k (omega arith)) i && same n (omega arith) i
-
-right_unit : (b : Bool) → (b && true) ≡ b
-right_unit true = refl
-right_unit false = refl
-
-right_zero : (b : Bool) → (b && false) ≡ false
-right_zero true = refl
-right_zero false = refl
 
 module _ (p : Problem) (cube : Cube) where
   fits_first : ℕ → ℕ → Bool
@@ -140,7 +131,7 @@ module _ (p : Problem) (cube : Cube) where
       let e : 2 ^ n + i ≡ 1 * 2 ^ n + i = omega arith in
       ap (fits_first (suc n)) e
       ∙ (λ j. all_below-same n (λ s. signal_fits cube (read_signal p s) (has (1 * 2 ^ n + i) s)) (λ s. signal_fits cube (read_signal p s) (has i s))
-      (λ s less. ap (signal_fits cube (read_signal p s)) (first_has 1 n i s less)) j
+      (λ s less. ap (signal_fits cube (read_signal p s)) (low_signal 1 n i s less)) j
       && signal_fits cube (read_signal p n) (set_bit n i h j))
 
   halves : (n : ℕ) → count_below (2 ^ suc n) (fits_first (suc n))
@@ -152,8 +143,8 @@ module _ (p : Problem) (cube : Cube) where
       + count_below-same (2 ^ n) (λ i. fits_first (suc n) (2 ^ n + i)) (λ i. fits_first n i && not (has cube.not (read_signal p n))) (high_half n) j)
 
   with_test : (n : ℕ) (b : Bool) → count_below (2 ^ n) (λ i. fits_first n i && b) ≡ cond b (count_below (2 ^ n) (fits_first n)) 0
-  with_test n true = count_below-same (2 ^ n) (λ i. fits_first n i && true) (fits_first n) (λ i h. right_unit (fits_first n i))
-  with_test n false = count_below-none (2 ^ n) (λ i. fits_first n i && false) (λ i h. right_zero (fits_first n i))
+  with_test n true = count_below-same (2 ^ n) (λ i. fits_first n i && true) (fits_first n) (λ i h. and-true (fits_first n i))
+  with_test n false = count_below-none (2 ^ n) (λ i. fits_first n i && false) (λ i h. and-false (fits_first n i))
 
   fitting : (n : ℕ) → count_below (2 ^ n) (fits_first n) ≡ 2 ^ free_below p cube n
   unfolding count_below fits_first
@@ -189,10 +180,6 @@ module _ (p : Problem) (cube : Cube) where
           ∙ ap (λ k. 2 ^ k) (let z : suc (free_below p cube n) ≡ free_below p cube n + 1 = omega arith in z)
           ∙ (λ j. 2 ^ (free_below p cube n + cond (sym (free_is false false a b) j) 1 0))
 
--- the clauses of an edge
-single : {A : Type 0} (x : A) → length (x ∷ []) ≡ 1
-single x = refl
-
 length-steps : (p : Problem) (e : Edge) (t i to : ℕ) (idle : Bool) → is_idle p e t to ≡ idle → length (step_clauses p e t i to) ≡ cond idle 0 (step_count p e)
 length-steps p e t i to true h = ap length (cond-true (is_idle p e t to) [] (each_below (step_count p e) (λ c. step_clause p e t i to c ∷ [])) h)
 length-steps p e t i to false h =
@@ -212,23 +199,15 @@ targets p e t ht = go ((e.from == e.to) && not (rejects (automaton_of p) e.to)) 
         ∙ sym (cond-true ((e.from == e.to) && not (rejects (automaton_of p) e.to)) (p.size - 1) p.size h)
     go false h =
         ap (λ b. count_below p.size (λ to. not ((t == to) && b))) h
-        ∙ count_below-all p.size (λ to. not ((t == to) && false)) (λ k less. ap not (right_zero (t == k)))
+        ∙ count_below-all p.size (λ to. not ((t == to) && false)) (λ k less. ap not (and-false (t == k)))
         ∙ sym (cond-false ((e.from == e.to) && not (rejects (automaton_of p) e.to)) (p.size - 1) p.size h)
 
 length-targets : (p : Problem) (e : Edge) (t i : ℕ) → t < p.size → length (each_below p.size (λ to. step_clauses p e t i to)) ≡ target_count p e * step_count p e
 length-targets p e t i ht =
     length-each_if p.size (step_count p e) (λ to. not (is_idle p e t to)) (λ to. step_clauses p e t i to)
-    (λ to less busy. length-steps p e t i to false (opposite (is_idle p e t to) busy))
-    (λ to less idle. length-steps p e t i to true (opposite' (is_idle p e t to) idle))
+    (λ to less busy. length-steps p e t i to false (not-true (is_idle p e t to) busy))
+    (λ to less idle. length-steps p e t i to true (not-false (is_idle p e t to) idle))
     ∙ ap (λ n. n * step_count p e) (targets p e t ht)
-  where
-    opposite : (b : Bool) → not b ≡ true → b ≡ false
-    opposite true e = absurd (let x : false ≡ true = e in cc)
-    opposite false e = refl
-
-    opposite' : (b : Bool) → not b ≡ false → b ≡ true
-    opposite' true e = refl
-    opposite' false e = absurd (let x : true ≡ false = e in cc)
 
 length-letters : (p : Problem) (e : Edge) (t : ℕ) → t < p.size → length (state_clauses p e t) ≡ 2 ^ free_below p e.cube (reads_of p) * (target_count p e * step_count p e)
 unfolding fits_first

@@ -1,7 +1,7 @@
 -- The literals of each base clause stand by rising variable, and none passes the number of variables.
 use Rattle.std.proofs.Common.{subst, ◌≡◌, ℕ, zero, suc, ◌+◌, ◌-◌, ◌*◌, ◌<◌, ◌≤◌, Bool, true, false, not, ◌&&◌, List, [], ◌∷◌, ◌++◌, get_or, refl, sym, ap, ◌∙◌, arith, cond, inl, inr}
 use Rattle.std.specs.Prelude.{◌==◌, nat_le, nat_lt, count_by}
-use Rattle.std.proofs.lemmas.Bool.{cases_eq, cases_lt, eq-eqb}
+use Rattle.std.proofs.lemmas.Bool.{cases_eq, cases_lt, eq-eqb, leb-true}
 use Rattle.std.proofs.lemmas.Bool.Decides.{Decides-ltb}
 use Rattle.std.proofs.Math.Nat.{mul-le-mul_right}
 use Rattle.clause_base.specs.Literal.{Literal}
@@ -17,7 +17,6 @@ use Rattle.std.proofs.lemmas.List.Sums.{sum_by-cons}
 use Rattle.annotation_encode.specs.BaseClauses.{chain_clause, count_literals, each_below, in_order, is, is_idle, isnt, order_clause, row_clause, row_count, row_move, start_clause, step_clause, step_count, write_literal, write_literals, written_signal}
 use Rattle.annotation_encode.specs.Variables.{letter_count, move_count, var_count, var_move, var_write, variables_of, write_count, write_place}
 use Rattle.annotation_encode.proofs.Counted.{after_stays, stays, step_within}
-use Rattle.annotation_encode.proofs.Lists.{at_most}
 use Rattle.annotation_encode.proofs.Rising.{Rises, Rises-append, Rises-each_below, Rises-none, Rises-one, Rises-pair, Rises-wider}
 use Rattle.annotation_encode.proofs.Sizes.{count_within, move_within, place_below, row_end, same_count, writes_within}
 
@@ -127,7 +126,7 @@ counts-rises p e t to c joins ht hto hc busy = by_bound (nat_le (number_after p 
         → Rises (move_count p + write_count p) (variables_of p)
         (cond fits (in_order (isnt (var_count p t e.from c)) (is (var_count p to e.to (number_after p e.from e.to c)))) (isnt (var_count p t e.from c) ∷ []))
     by_bound true h =
-        by_order (number_after p e.from e.to c) refl (at_most (number_after p e.from e.to c) (bound_at p e.to) h)
+        by_order (number_after p e.from e.to c) refl (leb-true (number_after p e.from e.to c) (bound_at p e.to) h)
         (nat_lt (var_count p t e.from c) (var_count p to e.to (number_after p e.from e.to c))) refl
     by_bound false h =
         let end : var_count p t e.from c ≤ variables_of p = count_within p t e.from c ht joins.from hc in

@@ -4,11 +4,13 @@ use Rattle.std.specs.Prelude.{◌==◌, ◌&&◌, ◌||◌, count_by}
 use Rattle.std.proofs.lemmas.Bool.{cases_eq, cases_lt, cond-true, cond-false, eq-eqb, ne_eqb}
 use Rattle.std.proofs.lemmas.List.{length-append}
 use Rattle.std.proofs.lemmas.List.Sums.{sum_by-cons}
+use mathlib.Core.Bool.{and-false}
 use Rattle.machine_model.specs.Automaton.{AutomatonModel, IsAutomaton, rejects, states_of}
-use Rattle.machine_model.specs.Components.{ComponentsClass, are_joined, is_reached, local_before, local_count}
+use Rattle.machine_model.specs.Components.{ComponentsClass, local_before, local_count}
 use Rattle.machine_model.specs.Problem.{IsProblem, automaton_of}
 use Rattle.machine_model.specs.declared.automata.Edge.{Edge}
 use Rattle.machine_model.specs.declared.problems.Problem.{Problem}
+use Rattle.machine_model.proofs.Classes.{joined_self}
 use Rattle.product_bound.specs.Annotation.{bound_at, bound_of, leaves, number_after, rejecting_at, rejecting_count, rise_at, start_number}
 use Rattle.annotation_encode.specs.BaseClauses.{each_below, step_count}
 use Rattle.annotation_encode.specs.Variables.{WholeNumbers, counted_before, number_count, numbers_before, state_numbers, sum_first}
@@ -44,14 +46,6 @@ unfolding sum_first
 length-each_sum zero f size each = refl
 length-each_sum (suc n) f size each =
     length-append (each_below n f) (f n) ∙ (λ i. length-each_sum n f size (λ k h. each k (omega arith)) i + each n (omega arith) i)
-
--- what is counted in each version
-pub by_version : (p : Problem) {P : Type 0} → ((p.version == 3) ≡ true → P) → ((p.version == 3) ≡ false → P) → P
-by_version p {P} local whole = go (p.version == 3) refl
-  where
-    go : (b : Bool) → (p.version == 3) ≡ b → P
-    go true h = local h
-    go false h = whole h
 
 local_at : (p : Problem) (q : ℕ) → (p.version == 3) ≡ true → rejecting_at p q ≡ local_count (automaton_of p) q
 local_at p q h = cond-true (p.version == 3) (local_count (automaton_of p) q) (rejecting_count (automaton_of p)) h
@@ -142,22 +136,8 @@ same_number p q c r d hc hd e =
       ]
     ]
 
--- a state is in one component with itself
-reached_self : (a : AutomatonModel) (n q : ℕ) → is_reached a n q q ≡ true
-unfolding is_reached
-reached_self a zero q = eq-eqb q q refl
-reached_self a (suc n) q = rw (reached_self a n q) refl
-
-joined_self : (a : AutomatonModel) (q : ℕ) → are_joined a q q ≡ true
-unfolding are_joined
-joined_self a q = λ i. reached_self a (states_of a) q i && reached_self a (states_of a) q i
-
 pub stays : (p : Problem) (q : ℕ) → leaves p q q ≡ false
-stays p q = ap (λ b. (p.version == 3) && not b) (joined_self (automaton_of p) q) ∙ right_false (p.version == 3)
-  where
-    right_false : (b : Bool) → (b && false) ≡ false
-    right_false true = refl
-    right_false false = refl
+stays p q = ap (λ b. (p.version == 3) && not b) (joined_self (automaton_of p) q) ∙ and-false (p.version == 3)
 
 -- numbers behind an edge
 pub after_stays : (p : Problem) (q r c : ℕ) → leaves p q r ≡ false → number_after p q r c ≡ c + rise_at (automaton_of p) r

@@ -29,7 +29,7 @@ high_signal a k b s small =
     let e : (k + s) - k ≡ s = omega arith in
     ap (λ n. n == 1) (bit_at_cat_high a k b (k + s) small (omega arith)) ∙ ap (has a) e
 
-low_signal : (a k b s : ℕ) → s < k → has (a * 2 ^ k + b) s ≡ has b s
+pub low_signal : (a k b s : ℕ) → s < k → has (a * 2 ^ k + b) s ≡ has b s
 low_signal a k b s h = ap (λ n. n == 1) (bit_at_cat_low a k b s h)
 
 has_read : (side : Side) (inputs outputs read written s : ℕ) → read < 2 ^ reads_at side inputs outputs → written < 2 ^ writes_at side inputs outputs

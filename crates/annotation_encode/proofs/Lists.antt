@@ -1,14 +1,15 @@
 -- Lists that are joined from the pieces below a number.
-use Rattle.std.proofs.Common.{◌≡◌, ℕ, zero, suc, ◌+◌, ◌*◌, ◌<◌, ◌≤◌, Bool, true, false, List, [], ◌∷◌, ◌++◌, length, refl, sym, ap, ◌∙◌, subst, arith, inl, inr}
-use Rattle.std.specs.Prelude.{All, Contains, ◌&&◌, ◌||◌, nat_le}
+use Rattle.std.proofs.Common.{◌≡◌, ℕ, zero, suc, ◌+◌, ◌*◌, ◌<◌, Bool, true, false, List, [], ◌∷◌, ◌++◌, length, refl, sym, ap, ◌∙◌, subst, arith, inl, inr}
+use Rattle.std.specs.Prelude.{All, Contains, ◌&&◌, ◌||◌}
 use Rattle.std.specs.List.{flat_map, list_any}
 use Rattle.std.proofs.lemmas.Bool.{cases_eq}
-use Rattle.std.proofs.lemmas.Bool.Decides.{leb_tells}
 use Rattle.std.proofs.lemmas.List.{append_assoc, length-append}
 use Rattle.std.proofs.lemmas.List.Elements.{All-append, Contains-append_left, Contains-append_right}
 use Rattle.clause_base.proofs.Members.{Contains-cases, Contains-head, Contains-later, Contains-none}
 use Rattle.std.proofs.lemmas.List.Folds.{list_any-append}
-use Rattle.annotation_encode.specs.BaseClauses.{all_below, each_below}
+use mathlib.Core.Bool.{and-false, or-true}
+use Rattle.annotation_encode.specs.BaseClauses.{each_below}
+use Rattle.letter_word.specs.Below.{all_below}
 
 pub each_below-more : {A : Type 0} (n : ℕ) (f : ℕ → List A) → each_below (n + 1) f ≡ each_below n f ++ f n
 each_below-more n f = let e : n + 1 ≡ suc n = omega arith in ap (λ k. each_below k f) e
@@ -45,13 +46,9 @@ pub all_below-fails : (n k : ℕ) (test : ℕ → Bool) → k < n → test k ≡
 all_below-fails zero k test h fails = absurd (omega arith)
 all_below-fails (suc n) k test h fails =
     elim (cases_eq k n) [
-      | inl e ↦ ap (λ b. all_below n test && b) (ap test (sym e) ∙ fails) ∙ right_false (all_below n test)
+      | inl e ↦ ap (λ b. all_below n test && b) (ap test (sym e) ∙ fails) ∙ and-false (all_below n test)
       | inr ne ↦ ap (λ b. b && test n) (all_below-fails n k test (omega (arith, h, ne)) fails)
     ]
-  where
-    right_false : (b : Bool) → (b && false) ≡ false
-    right_false true = refl
-    right_false false = refl
 
 pub all_below-each : (n k : ℕ) (test : ℕ → Bool) → all_below n test ≡ true → k < n → test k ≡ true
 all_below-each n k test all h = go (test k) refl
@@ -59,19 +56,6 @@ all_below-each n k test all h = go (test k) refl
     go : (b : Bool) → test k ≡ b → b ≡ true
     go true e = refl
     go false e = let no : true ≡ false = sym all ∙ all_below-fails n k test h e in cc
-
--- the test of an order
-pub at_most : (a b : ℕ) → nat_le a b ≡ true → a ≤ b
-at_most a b h = elim (leb_tells a b) [
-  | inl le ↦ le.1
-  | inr gt ↦ let no : true ≡ false = sym h ∙ gt.0 in absurd (let e : true ≡ false = no in cc)
-]
-
-pub not_above : (a b : ℕ) → a ≤ b → nat_le a b ≡ true
-not_above a b h = elim (leb_tells a b) [
-  | inl le ↦ le.0
-  | inr gt ↦ let less : b < a = gt.1 in absurd (omega (arith, less, h))
-]
 
 -- what holds of what each element gives holds of all
 pub All-flat_map : {A B : Type 0} (P : B → Type 0) (f : A → List B) (xs : List A) → ((x : A) → Contains xs x → All P (f x)) → All P (flat_map f xs)
@@ -85,13 +69,9 @@ any-each_below test zero k f h here = absurd (omega arith)
 any-each_below test (suc n) k f h here =
     list_any-append test (each_below n f) (f n)
     ∙ elim (cases_eq k n) [
-      | inl e ↦ ap (λ b. list_any test (each_below n f) || b) (ap (λ j. list_any test (f j)) (sym e) ∙ here) ∙ right_true (list_any test (each_below n f))
+      | inl e ↦ ap (λ b. list_any test (each_below n f) || b) (ap (λ j. list_any test (f j)) (sym e) ∙ here) ∙ or-true (list_any test (each_below n f))
       | inr ne ↦ ap (λ b. b || list_any test (f n)) (any-each_below test n k f (omega (arith, h, ne)) here)
     ]
-  where
-    right_true : (b : Bool) → (b || true) ≡ true
-    right_true true = refl
-    right_true false = refl
 
 -- and in none
 pub none-each_below : {A : Type 0} (test : A → Bool) (n k : ℕ) (f : ℕ → List A) → list_any test (each_below n f) ≡ false → k < n → list_any test (f k) ≡ false
@@ -104,10 +84,6 @@ none-each_below test n k f none h = go (list_any test (f k)) refl
 -- four lists, added one after the other to an empty one
 pub joined_parts : {A : Type 0} (rows : List A) (x : A) (mid end : List A) → rows ++ x ∷ [] ++ mid ++ end ≡ rows ++ (x ∷ (mid ++ end))
 joined_parts rows x mid end = append_assoc (rows ++ x ∷ []) mid end ∙ append_assoc rows (x ∷ []) (mid ++ end)
-
-pub all_below-from : (n : ℕ) (test : ℕ → Bool) → ((k : ℕ) → k < n → test k ≡ true) → all_below n test ≡ true
-all_below-from zero test each = refl
-all_below-from (suc n) test each = λ i. all_below-from n test (λ k h. each k (omega arith)) i && each n (omega arith) i
 
 pub none-from : {A : Type 0} (test : A → Bool) (n : ℕ) (f : ℕ → List A) → ((k : ℕ) → k < n → list_any test (f k) ≡ false) → list_any test (each_below n f) ≡ false
 none-from test zero f each = refl

@@ -3,7 +3,7 @@ use Rattle.std.proofs.Common.{◌≡◌, ℕ, zero, suc, ◌+◌, ◌-◌, ◌*�
 use Rattle.std.specs.Prelude.{Contains, ◌==◌, ◌||◌, nat_le, nat_lt}
 use Rattle.std.specs.List.{list_any}
 use Rattle.std.proofs.Math.Nat.{mod-lt, div-lt_iff_lt-mul}
-use Rattle.std.proofs.lemmas.Bool.{cases_lt, eq-eqb}
+use Rattle.std.proofs.lemmas.Bool.{cases_lt, eq-eqb, le-leb, leb-true, not-false}
 use Rattle.std.proofs.lemmas.Bool.Decides.{Decides-eqb}
 use Rattle.std.proofs.lemmas.List.{take_more}
 use Rattle.std.proofs.lemmas.List.Elements.{All-contains}
@@ -36,7 +36,7 @@ use Rattle.annotation_encode.proofs.BaseClausesAll.{HoldsOfKinds, all_base}
 use Rattle.annotation_encode.proofs.ClauseOrder.{start_small}
 use Rattle.annotation_encode.proofs.Counted.{after_rises, step_within}
 use Rattle.annotation_encode.proofs.Letters.{fits_joined, joined_at, reads_at, writes_at}
-use Rattle.annotation_encode.proofs.Lists.{all_below-each, any-each_below, at_most, none-each_below, not_above}
+use Rattle.annotation_encode.proofs.Lists.{all_below-each, any-each_below, none-each_below}
 
 -- tests
 right_true : (b : Bool) → (b || true) ≡ true
@@ -197,7 +197,7 @@ module _ (p : Problem) (m : MachineModel) (numbers : List (Option ℕ)) (values 
       let start : HasNumber p numbers 0 0 (start_number p) = valid.start in
       let value : value_of values (var_count p 0 0 (start_number p)) ≡ reaches (number_at p numbers 0 0) (start_number p)
       = is_assigned.counts 0 0 (start_number p) problem.some made.some (start_small p problem) in
-      let enough : reaches (number_at p numbers 0 0) (start_number p) ≡ true = ap (λ o. reaches o (start_number p)) start.stands ∙ not_above (start_number p) start.number start.enough in
+      let enough : reaches (number_at p numbers 0 0) (start_number p) ≡ true = ap (λ o. reaches o (start_number p)) start.stands ∙ le-leb (start_number p) start.number start.enough in
       true_clause (start_clause p) (any_one test (is (var_count p 0 0 (start_number p))) (positive (var_count p 0 0 (start_number p)) ∙ value ∙ enough))
 
   -- a pair that reaches a number reaches the one before it
@@ -221,7 +221,7 @@ module _ (p : Problem) (m : MachineModel) (numbers : List (Option ℕ)) (values 
       by_number None at = isnt_next (ap (λ o. reaches o (suc c)) at)
       by_number (Some n) at = elim (cases_lt n (suc c)) [
         | inl less ↦ isnt_next (ap (λ o. reaches o (suc c)) at ∙ above (suc c) n less)
-        | inr ge ↦ is_here (ap (λ o. reaches o c) at ∙ not_above c n (omega (arith, ge)))
+        | inr ge ↦ is_here (ap (λ o. reaches o c) at ∙ le-leb c n (omega (arith, ge)))
       ]
         where
           above : (a b : ℕ) → b < a → nat_le a b ≡ false
@@ -229,16 +229,12 @@ module _ (p : Problem) (m : MachineModel) (numbers : List (Option ℕ)) (values 
             where
               go : (x : Bool) → nat_le a b ≡ x → x ≡ false
               go false e = refl
-              go true e = absurd (let le : a ≤ b = at_most a b e in omega (arith, le, h))
+              go true e = absurd (let le : a ≤ b = leb-true a b e in omega (arith, le, h))
 
   -- what a write literal that is false says
   missed : (v : ℕ) (must none : Bool) → list_any test (cond must (isnt v ∷ []) (cond none (is v ∷ []) [])) ≡ false
       → (must ≡ true → value_of values v ≡ true) × (must ≡ false → none ≡ true → value_of values v ≡ false)
-  missed v true none h = (λ _. truth (value_of values v) (sym (negative v) ∙ one_is test (isnt v) h), λ e _. apart e)
-    where
-      truth : (b : Bool) → not b ≡ false → b ≡ true
-      truth true e = refl
-      truth false e = apart e
+  missed v true none h = (λ _. not-false (value_of values v) (sym (negative v) ∙ one_is test (isnt v) h), λ e _. apart e)
   missed v false true h = (λ e. apart (sym e), λ _ _. sym (positive v) ∙ one_is test (is v) h)
   missed v false false h = (λ e. apart (sym e), λ _ e. apart (sym e))
 
@@ -312,7 +308,7 @@ module _ (p : Problem) (m : MachineModel) (numbers : List (Option ℕ)) (values 
                   → (test (isnt (var_count p t e.from c)) ≡ true) ⊎ ((nat_le after (bound_at p e.to) ≡ true) × (test (is (var_count p to e.to after)) ≡ true))
               by_reach false h = inl (negative (var_count p t e.from c) ∙ ap not (value ∙ ap (λ o. reaches o c) at ∙ h))
               by_reach true h =
-                  let below : c ≤ n = at_most c n h in
+                  let below : c ≤ n = leb-true c n h in
                   let edge : HasEdge (automaton_of p) (letter_of p.side m t i) e.from e.to = record { cube = e.cube; stands = there; fits = whole_fits none } in
                   let next : HasNumber p numbers (next_of m t i) e.to (number_after p e.from e.to n) = valid.edges t e.from n i e.to ht joins.from at i_small edge in
                   let then : HasNumber p numbers to e.to (number_after p e.from e.to n) = subst (λ s. HasNumber p numbers s e.to (number_after p e.from e.to n)) moved next in
@@ -325,8 +321,8 @@ module _ (p : Problem) (m : MachineModel) (numbers : List (Option ℕ)) (values 
                   let next_value : value_of values (var_count p to e.to after) ≡ reaches (number_at p numbers to e.to) after
                   = is_assigned.counts to e.to after hto joins.to fitting in
                   inr (
-                    not_above after (bound_at p e.to) fitting,
-                    positive (var_count p to e.to after) ∙ next_value ∙ ap (λ o. reaches o after) then.stands ∙ not_above after then.number reaching,
+                    le-leb after (bound_at p e.to) fitting,
+                    positive (var_count p to e.to after) ∙ next_value ∙ ap (λ o. reaches o after) then.stands ∙ le-leb after then.number reaching,
                   )
 
       step_met : is_true_clause values (step_clause p e t i to c) ≡ true
@@ -338,13 +334,9 @@ module _ (p : Problem) (m : MachineModel) (numbers : List (Option ℕ)) (values 
           counts_true test (nat_le (number_after p e.from e.to c) (bound_at p e.to)) (nat_lt (var_count p t e.from c) (var_count p to e.to (number_after p e.from e.to c)))
           (isnt (var_count p t e.from c)) (is (var_count p to e.to (number_after p e.from e.to c))) (number_steps none (moved stays)))))
         where
-          truth : (b : Bool) → not b ≡ false → b ≡ true
-          truth true e = refl
-          truth false e = apart e
-
           moved : test (isnt (var_move p t i to)) ≡ false → next_of m t i ≡ to
           moved h =
-              let value : value_of values (var_move p t i to) ≡ true = truth (value_of values (var_move p t i to)) (sym (negative (var_move p t i to)) ∙ h) in
+              let value : value_of values (var_move p t i to) ≡ true = not-false (value_of values (var_move p t i to)) (sym (negative (var_move p t i to)) ∙ h) in
               (Decides-eqb (next_of m t i) to).0 (sym (is_assigned.moves t i to ht hi hto) ∙ value)
 
   orders_met : IsNumbered m → (place to : ℕ) → place < row_count p → 2 ≤ to → to < p.size → is_true_clause values (order_clause p place to) ≡ true

@@ -5,6 +5,7 @@ use Rattle.letter_word.specs.Signals.{has}
 use Rattle.letter_word.specs.declared.cubes.Cube.{Cube}
 use Rattle.letter_word.specs.declared.kinds.Side.{Side}
 use Rattle.letter_word.specs.declared.kinds.Side.TheVariants.{System, Environment}
+use Rattle.letter_word.specs.Below.{all_below}
 use Rattle.machine_model.specs.Automaton.{rejects, states_of}
 use Rattle.machine_model.specs.Problem.{automaton_of, reads_of, writes_of}
 use Rattle.machine_model.specs.declared.automata.Edge.{Edge}
@@ -20,11 +21,6 @@ use Rattle.annotation_encode.specs.Variables.{letter_count, number_count, var_co
 abbrev pub each_below : {A : Type 0} → ℕ → (ℕ → List A) → List A
 each_below zero f = []
 each_below (suc n) f = each_below n f ++ f n
-
--- whether a test passes at each number below n
-abbrev pub all_below : ℕ → (ℕ → Bool) → Bool
-all_below zero test = true
-all_below (suc n) test = all_below n test && test n
 
 -- a variable as a literal, and its negation
 abbrev pub is : ℕ → Literal

@@ -4,7 +4,8 @@ ghost use Rattle.clause_base.specs.Clause.{IsClause, IsFormula, IsWithin};
 ghost use Rattle.machine_model.specs.Automaton.{JoinsStates, states_of};
 ghost use Rattle.machine_model.specs.Problem.{IsProblem, automaton_of, reads_of, writes_of};
 ghost use Rattle.product_bound.specs.Annotation.{bound_at, number_after, start_number};
-ghost use Rattle.annotation_encode.specs.BaseClauses.{all_below, base_clauses, chain_clauses, count_literals, each_below, edge_clauses, fits_read, is_idle, isnt, letter_clauses, order_clause, order_clauses, pair_chains, row_clause, row_clauses, row_count, read_signal, row_orders, signal_fits, start_clause, state_chains, state_clauses, step_clauses, step_count, write_literal, write_literals, written_signal};
+ghost use Rattle.annotation_encode.specs.BaseClauses.{base_clauses, chain_clauses, count_literals, each_below, edge_clauses, fits_read, is_idle, isnt, letter_clauses, order_clause, order_clauses, pair_chains, row_clause, row_clauses, row_count, read_signal, row_orders, signal_fits, start_clause, state_chains, state_clauses, step_clauses, step_count, write_literal, write_literals, written_signal};
+ghost use Rattle.letter_word.specs.Below.{all_below};
 ghost use Rattle.annotation_encode.specs.Laws.{HasAccepted, IsMetBySome};
 ghost use Rattle.annotation_encode.specs.Variables.{letter_count, row_place, var_move, variables_of};
 

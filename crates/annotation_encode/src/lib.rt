@@ -18,4 +18,6 @@ pub use assigning::assignment_of;
 pub use clauses::encode;
 pub use counting::{allowed_sizes, count};
 pub use counts::Counts;
-pub use numbering::{Numbering, var_count, var_move, var_write, variables};
+pub use numbering::{
+    Numbering, letter_count, row_count, var_count, var_move, var_write, variables,
+};

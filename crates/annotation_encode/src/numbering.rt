@@ -45,7 +45,7 @@ impl<'a> Numbering<'a> {
     }
 
     /// How many are counted in the states before `q`, together.
-    pub fn counted_before(&self, q: u32) -> u32
+    pub(crate) fn counted_before(&self, q: u32) -> u32
         requires problem { IsProblem self.now.problem.now }
         requires state { q ≤ states_of (automaton_of self.now.problem.now) }
         ensures value { result ≡ counted_before self.now.problem.now q }
@@ -181,7 +181,7 @@ pub fn var_count(problem: &Problem, t: u32, q: u32, c: u32) -> u32
 }
 
 /// The number of rows of a machine, one for each state and read letter.
-pub(crate) fn row_count(problem: &Problem) -> u32
+pub fn row_count(problem: &Problem) -> u32
     requires { IsProblem problem.now }
     ensures value { result ≡ row_count problem.now }
     ensures small { result ≤ 2048 }
@@ -190,7 +190,7 @@ pub(crate) fn row_count(problem: &Problem) -> u32
 }
 
 /// The number of letters that the machine reads.
-pub(crate) fn letter_count(problem: &Problem) -> u32
+pub fn letter_count(problem: &Problem) -> u32
     requires { IsProblem problem.now }
     ensures value { result ≡ letter_count problem.now }
     ensures some { 0 < result }

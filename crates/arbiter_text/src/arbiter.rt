@@ -18,7 +18,7 @@ pub fn write_arbiter(clients: u32, out: &mut Vec<u8>) -> Result<(), AllocError>
     written
 }
 
-// Appends the number between the two texts, or a part of it all where there is no room.
+/// Appends the number between the two texts, or a part of it all where there is no room.
 fn write_between(
     before: &[u8],
     number: u32,
@@ -33,7 +33,7 @@ fn write_between(
     out.extend_from_slice(behind)
 }
 
-// What stands before the number of clients.
+/// What stands before the number of clients.
 fn head() -> &'static [u8]
     ensures { result.now ≡ before_number }
 {
@@ -48,7 +48,7 @@ GLOBAL {
     n = "
 }
 
-// What stands behind it.
+/// What stands behind it.
 fn tail() -> &'static [u8]
     ensures { result.now ≡ behind_number }
 {

@@ -2,13 +2,10 @@
 //! are `system N` or `environment N`, and then `local` where numbers are counted by component.
 #![tactic(auto)]
 
-mod dimacs;
-mod problems;
-
-use crate::dimacs::push_formula;
-use crate::problems::base_of;
 use annotation_encode::Counts;
 use anyhow::{bail, ensure};
+use letter_word::Side;
+use proof_files::{base_of, push_formula};
 use spec_problems::text_problems;
 use std::env;
 use std::io::{Read, Write};
@@ -28,11 +25,23 @@ fn main(rt: HostRuntime) -> anyhow::Result<()> {
     let Ok(text) = text_problems(alloc, &text, None, counts.version()) else {
         bail!("the text is refused");
     };
-    let Some(base) = base_of(alloc, &text.problems, side.as_str(), size)? else {
+    let Some(side) = side_of(side.as_str()) else {
+        bail!("there is no such side");
+    };
+    let Some(base) = base_of(alloc, &text.problems, side, size)? else {
         bail!("there is no such side");
     };
     let mut out = Vec::new(alloc);
     push_formula(&base, &mut out)?;
     rt.stdout().write_all(&out)?;
     Ok(())
+}
+
+/// The side of this word.
+fn side_of(word: &str) -> Option<Side> {
+    match word {
+        "system" => Some(Side::System),
+        "environment" => Some(Side::Environment),
+        _ => None,
+    }
 }

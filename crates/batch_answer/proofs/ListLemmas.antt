@@ -3,7 +3,7 @@ use Rattle.std.proofs.Common.{◌≡◌, ◌≢◌, ℕ, ◌+◌, ◌<◌, ◌�
 use Rattle.std.proofs.lemmas.List.Elements.{All-append, All-cons, All-head, All-nil, All-tail}
 use Rattle.std.specs.Prelude.{Option, Some, None, IfNone}
 use Rattle.std.proofs.lemmas.Grind.{common_steps}
-use Rattle.batch_answer.specs.ListText.{IsBadNext, IsFirstBadLineOfList, IsFirstLine, IsList, IsName, IsNext, IsOneLine, lines_of, most_lines, one_too_many, not_ended, no_name}
+use Rattle.batch_answer.specs.ListText.{IsBadNext, IsFirstLine, IsName, IsNext, IsOneLine, lines_of, most_lines, one_too_many, not_ended, no_name}
 use Rattle.batch_answer.specs.Laws.{ListsAreDetermined}
 
 abbrev is_no_end : ℕ → Type 0
@@ -117,9 +117,6 @@ pub record IsRead (bytes : List ℕ) (names : List (List ℕ)) (rest : List ℕ)
   pub each : All IsName names
   pub few : length names ≤ most_lines
 
-pub read-start : (bytes : List ℕ) → IsRead bytes [] bytes
-read-start bytes = record { text = refl; each = All-nil IsName; few = omega arith }
-
 pub read-more : (bytes : List ℕ) (names : List (List ℕ)) (rest name : List ℕ) → IsRead bytes names rest → IsNext (length names) rest name
     → IsRead bytes (names ++ name ∷ []) (drop (length name + 1) rest)
 read-more bytes names rest name so_far next = record {
@@ -127,15 +124,6 @@ read-more bytes names rest name so_far next = record {
   each = All-append IsName names (name ∷ []) so_far.each (All-cons IsName name [] next.is_name (All-nil IsName));
   few = let one = next.few in grind (arith, common_steps);
 }
-
-pub read-list : (bytes : List ℕ) (names : List (List ℕ)) (rest : List ℕ) → IsRead bytes names rest → length rest ≡ 0 → IsList bytes names
-read-list bytes names [] so_far none = record { text = so_far.text ∙ no_more (lines_of names); each = so_far.each; few = so_far.few }
-read-list bytes names (x ∷ rest) so_far none = absurd (omega (arith, none))
-
-pub read-bad : (bytes : List ℕ) (names : List (List ℕ)) (rest : List ℕ) (n : ℕ) → IsRead bytes names rest → IsBadNext (length names) rest
-    → n ≡ length names + 1 → IsFirstBadLineOfList bytes n
-read-bad bytes names rest n so_far bad number =
-    record { names = names; rest = rest; text = so_far.text; each = so_far.each; few = so_far.few; number = number; bad = bad }
 
 -- the first line is no name, and so not the next line of a list
 pub no_name_next : {X : Type 0} (name : Option X) (count : ℕ) (rest line : List ℕ) → IsFirstLine rest line → IfNone name (IsName line → ⊥)

@@ -1,5 +1,5 @@
 -- The bytes of a batch, read back.
-use Rattle.std.proofs.Common.{◌≡◌, ◌≢◌, ◌==◌, ◌^◌, ℕ, suc, ◌+◌, ◌<◌, Bool, true, false, ◌&&◌, List, [], ◌∷◌, ◌++◌, length, refl, sym, ◌∙◌, ap, subst, arith, decimal}
+use Rattle.std.proofs.Common.{◌≡◌, ◌≢◌, ◌==◌, ◌^◌, ℕ, suc, ◌+◌, ◌<◌, Bool, true, false, List, [], ◌∷◌, ◌++◌, length, refl, sym, ◌∙◌, ap, subst, arith, decimal}
 use Rattle.std.specs.Prelude.{None, codes}
 use Rattle.std.specs.Char.{is_ascii_digit}
 use Rattle.std.specs.Str.{all_ascii_digits}
@@ -8,6 +8,7 @@ use Rattle.std.proofs.lemmas.List.Elements.{All-cons, All-nil}
 use Rattle.std.proofs.lemmas.List.Sums.{count_by-le-length}
 use Rattle.std.proofs.lemmas.Fmt.{decimal_injective}
 use Rattle.std.proofs.lemmas.Grind.{common_steps}
+use Rattle.std.proofs.lemmas.Bool.{and_parts}
 use Rattle.text_base.proofs.NumeralLemmas.{decimal_is_numeral}
 use Rattle.batch_run.specs.Answers.{AreAnswers}
 use Rattle.synth_engine.specs.declared.settings.Settings.{Settings}
@@ -22,17 +23,13 @@ use Rattle.batch_answer.proofs.WholeLines.{answers_are_lines}
 
 -- == numbers ==
 
-both : (a b : Bool) → (a && b) ≡ true → (a ≡ true) × (b ≡ true)
-both true b e = (refl, e)
-both false b e = absurd (cc)
-
 no_end : (byte : ℕ) → is_ascii_digit byte ≡ true → byte ≢ 10
 no_end byte digit end = let never : ◌≡◌ {A = Bool} false true = ap is_ascii_digit (sym end) ∙ digit in absurd (cc)
 
 digits_in_line : (digits : List ℕ) → all_ascii_digits digits ≡ true → IsOneLine digits
 digits_in_line [] all = All-nil (λ byte. byte ≢ 10)
 digits_in_line (c ∷ cs) all =
-    let parts = both (is_ascii_digit c) (all_ascii_digits cs) all in
+    let parts = and_parts (is_ascii_digit c) (all_ascii_digits cs) all in
     All-cons (λ byte. byte ≢ 10) c cs (no_end c parts.0) (digits_in_line cs parts.1)
 
 -- a number that is behind the same bytes and before a line end

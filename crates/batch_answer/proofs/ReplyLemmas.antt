@@ -1,6 +1,7 @@
 -- What a reply owes to a text.
 use Rattle.std.proofs.Common.{◌≡◌, ℕ, List, length, refl, sym, ◌∙◌, ap, subst, Global, zero, suc, map, [], ◌∷◌}
 use Rattle.std.specs.Prelude.{IfOk, None, Result, Ok, Err, Vec, Some, slice_get}
+use Rattle.std.proofs.lemmas.Option.{same_Some, none-some}
 use Rattle.program_replies.specs.Lines.{refusal_line}
 use Rattle.program_replies.specs.Statuses.{status_number}
 use Rattle.program_replies.specs.declared.replies.Reply.{Reply}
@@ -38,12 +39,6 @@ module _ {E : Type 0} (bounds : Settings) where
 
 -- == the answers to all texts ==
 
-some_is : {X : Type 0} (x y : X) → Some x ≡ Some y → x ≡ y
-some_is x y h = cc
-
-none_some : {X : Type 0} (x : X) → None ≡ Some x → ⊥
-none_some x h = cc
-
 -- the text of a file stands at its place
 pub record TextAt (texts : List TakenText) (k : ℕ) (file : List ℕ) : Type 0 where
   pub text : TakenText
@@ -51,10 +46,10 @@ pub record TextAt (texts : List TakenText) (k : ℕ) (file : List ℕ) : Type 0 
   pub is_text : IsText text file
 
 text_at : (texts : List TakenText) (files : List (List ℕ)) → AreTexts texts files → (k : ℕ) (file : List ℕ) → slice_get files k ≡ Some file → TextAt texts k file
-text_at [] [] are k file found = absurd (none_some file found)
+text_at [] [] are k file found = absurd (none-some file found)
 text_at [] (f ∷ files) are k file found = absurd are
 text_at (t ∷ texts) [] are k file found = absurd are
-text_at (t ∷ texts) (f ∷ files) are zero file found = record { text = t; at = refl; is_text = subst (IsText t) (some_is f file found) are.0 }
+text_at (t ∷ texts) (f ∷ files) are zero file found = record { text = t; at = refl; is_text = subst (IsText t) (same_Some f file found) are.0 }
 text_at (t ∷ texts) (f ∷ files) are (suc k) file found =
     let more = text_at texts files are.1 k file found in
     record { text = more.text; at = more.at; is_text = more.is_text }
@@ -72,8 +67,8 @@ pub record ReplyAt (replies : List Reply) (k : ℕ) (part : Part) : Type 0 where
   pub is : part_of reply ≡ part
 
 reply_at : (replies : List Reply) (k : ℕ) (part : Part) → slice_get (map part_of replies) k ≡ Some part → ReplyAt replies k part
-reply_at [] k part found = absurd (none_some part found)
-reply_at (r ∷ replies) zero part found = record { reply = r; at = refl; is = some_is (part_of r) part found }
+reply_at [] k part found = absurd (none-some part found)
+reply_at (r ∷ replies) zero part found = record { reply = r; at = refl; is = same_Some (part_of r) part found }
 reply_at (r ∷ replies) (suc k) part found =
     let more = reply_at replies k part found in
     record { reply = more.reply; at = more.at; is = more.is }

@@ -1,4 +1,4 @@
-// Laws of the definitions, which no code needs.
+//! Laws of the definitions, which no code needs.
 ghost use Rattle.batch_answer.specs.Laws.{AnswersAreLines, BatchesAreReadBack, ListsAreDetermined};
 
 /// Bytes are one list, or have one first bad line, and not both.

@@ -53,7 +53,7 @@ pub fn read_list(alloc: Global, bytes: &[u8]) -> Result<Vec<FileName>, ListFault
     Ok(names)
 }
 
-// The name with which the bytes behind so many lines go on, if they go on with a line of a list.
+/// The name with which the bytes behind so many lines go on, if they go on with a line of a list.
 fn next_name(rest: &[u8], count: usize) -> Option<&str>
     requires left { 0 < length rest.now }
     requires few { count ≤ most_lines }
@@ -67,7 +67,7 @@ fn next_name(rest: &[u8], count: usize) -> Option<&str>
     name_in(line)
 }
 
-// The bytes before the first line end.
+/// The bytes before the first line end.
 fn first_line(bytes: &[u8]) -> Option<&[u8]>
     ensures line { IfSome result (λ line. IsFirstLine bytes.now line.now) }
     ensures not_ended { IfNone result (IsOneLine bytes.now) }
@@ -76,7 +76,7 @@ fn first_line(bytes: &[u8]) -> Option<&[u8]>
     Some(&bytes[..end])
 }
 
-// The name of a file that a line is, if it is one.
+/// The name of a file that a line is, if it is one.
 fn name_in(line: &[u8]) -> Option<&str>
     requires one_line { IsOneLine line.now }
     ensures name { IfSome result (λ name. (name.now ≡ line.now) × IsName line.now) }
@@ -88,7 +88,7 @@ fn name_in(line: &[u8]) -> Option<&str>
     str::from_utf8(line).ok()
 }
 
-// Whether there is a first byte, which isn't `-`.
+/// Whether there is a first byte, which isn't `-`.
 fn begins_name(line: &[u8]) -> bool
     ensures { MatchBool result (BeginsName line.now) (BeginsName line.now → ⊥) }
 {

@@ -8,7 +8,7 @@ use std::alloc::{AllocError, Global};
 use text_base::push_number;
 
 /// A part for each reply, under the name of its text, and the last line.
-pub fn batch_text(
+pub(crate) fn batch_text(
     alloc: Global,
     names: &[FileName],
     replies: &[Reply],
@@ -24,7 +24,7 @@ pub fn batch_text(
     Ok(bytes)
 }
 
-// `text NAME`, `status S` and `lines L`, and the L lines of the reply.
+/// `text NAME`, `status S` and `lines L`, and the L lines of the reply.
 fn push_part(bytes: &mut Vec<u8>, name: &FileName, reply: &Reply) -> Result<(), AllocError>
     ensures { OnOk result (bytes.new.items ≡ bytes.old.items ++ part_text name.now (part_of reply.now)) }
 {

@@ -1,26 +1,17 @@
 -- Answers and slots as they are added and filled.
 use Rattle.std.proofs.Common.{◌≡◌, ℕ, zero, suc, ◌+◌, ◌<◌, ◌⊎◌, inl, inr, List, [], ◌∷◌, ◌++◌, All, length, drop, replicate, set, refl, sym, ◌∙◌, ap, subst, arith}
-use Rattle.std.specs.Prelude.{Vec, Option, Some, None, Result, Ok, slice_get}
+use Rattle.std.specs.Prelude.{Vec, Option, Some, None, slice_get}
 use Rattle.std.specs.Vec.{with_items}
 use Rattle.std.proofs.lemmas.List.{length-replicate, with_items_is}
-use Rattle.std.proofs.lemmas.Option.{slice_get_cases}
+use Rattle.std.proofs.lemmas.Option.{slice_get_cases, same_Some, none-some}
 use Rattle.batch_run.specs.declared.placed.Placed.{Placed}
 use Rattle.batch_run.specs.Answers.{AreKept, EachAnswers, IsPlacedAnswer}
-
-some_is : {X : Type 0} (x y : X) → Some x ≡ Some y → x ≡ y
-some_is x y h = cc
 
 nil_cons : {X : Type 0} (x : X) (xs : List X) → [] ≡ x ∷ xs → ⊥
 nil_cons x xs h = cc
 
-none_some : {X : Type 0} (x : X) → None ≡ Some x → ⊥
-none_some x h = cc
-
 head_is : {X : Type 0} (x y : X) (xs ys : List X) → x ∷ xs ≡ y ∷ ys → Some x ≡ Some y
 head_is x y xs ys h = ap (λ l. slice_get l 0) h
-
-pub ok_is : {X E : Type 0} (x y : X) (r : Result X E) → r ≡ Ok x → r ≡ Ok y → x ≡ y
-ok_is x y r here there = cc
 
 -- the first of some elements that all have a fact
 pub all-first : {X : Type 0} (P : X → Type 0) (xs : List X) (x : X) (rest : List X) → xs ≡ x ∷ rest → All P xs → P x
@@ -32,7 +23,7 @@ all-first {X} P xs x rest is all =
 
 -- an element of a list with one more at its end
 pub get-push : {X : Type 0} (xs : List X) (y : X) (k : ℕ) (x : X) → slice_get (xs ++ y ∷ []) k ≡ Some x → (slice_get xs k ≡ Some x) ⊎ ((k ≡ length xs) × (y ≡ x))
-get-push [] y zero x h = inr (refl, some_is y x h)
+get-push [] y zero x h = inr (refl, same_Some y x h)
 get-push [] y (suc k) x h = inl h
 get-push (z ∷ zs) y zero x h = inl h
 get-push (z ∷ zs) y (suc k) x h = elim (get-push zs y k x h) [ inl old ↦ inl old | inr last ↦ inr (ap suc last.0, last.1) ]
@@ -40,7 +31,7 @@ get-push (z ∷ zs) y (suc k) x h = elim (get-push zs y k x h) [ inl old ↦ inl
 -- an element of a list in which one was set
 pub get-set : {X : Type 0} (xs : List X) (i : ℕ) (y : X) (k : ℕ) (x : X) → slice_get (set xs i y) k ≡ Some x → (slice_get xs k ≡ Some x) ⊎ ((k ≡ i) × (y ≡ x))
 get-set [] i y k x h = inl h
-get-set (z ∷ zs) zero y zero x h = inr (refl, some_is y x h)
+get-set (z ∷ zs) zero y zero x h = inr (refl, same_Some y x h)
 get-set (z ∷ zs) zero y (suc k) x h = inl h
 get-set (z ∷ zs) (suc i) y zero x h = inl h
 get-set (z ∷ zs) (suc i) y (suc k) x h = elim (get-set zs i y k x h) [ inl old ↦ inl old | inr new ↦ inr (ap suc new.0, new.1) ]
@@ -84,7 +75,7 @@ module _ {Task Answer : Type 0} (relation : Task → Answer → Type 0) (tasks :
       | inl old ↦ kept.each k task answer at old
       | inr new ↦
           let P : Answer → Type 0 = relation task in
-          subst P (some_is p.answer answer new.1) (placed.answered task (ap (slice_get tasks) (sym new.0) ∙ at))
+          subst P (same_Some p.answer answer new.1) (placed.answered task (ap (slice_get tasks) (sym new.0) ∙ at))
     ];
   }
 
@@ -130,8 +121,8 @@ module _ {Task Answer : Type 0} (relation : Task → Answer → Type 0) (tasks :
 
 -- no place has an answer
 none_kept : {Answer : Type 0} (n k : ℕ) (answer : Answer) → slice_get (replicate n None) k ≡ Some (Some answer) → ⊥
-none_kept {Answer} zero k answer found = none_some (Some answer) found
-none_kept {Answer} (suc n) zero answer found = none_some answer (some_is None (Some answer) found)
+none_kept {Answer} zero k answer found = none-some (Some answer) found
+none_kept {Answer} (suc n) zero answer found = none-some answer (same_Some None (Some answer) found)
 none_kept {Answer} (suc n) (suc k) answer found = none_kept n k answer found
 
 pub kept-none : {Task Answer : Type 0} (relation : Task → Answer → Type 0) (tasks : List Task) (slots : List (Option Answer)) → slots ≡ replicate (length tasks) None → AreKept relation tasks slots

@@ -45,7 +45,7 @@ pub fn bench_answer<R: Threads + Wait + Sync, G: Gate + Sync>(
     })
 }
 
-// The three lines.
+/// The three lines.
 fn lines(alloc: Global, clients: u32, verdict: Verdict) -> Result<Vec<u8>, AllocError>
     ensures { IfOk result (λ bytes. bytes.items ≡ lines_of clients verdict) }
 {

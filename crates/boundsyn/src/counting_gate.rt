@@ -68,7 +68,7 @@ impl<'a, R: Clock + Eprint> CountingGate<'a, R> {
     }
 
     /// Whether a worker passed.
-    pub fn is_passed(&self) -> bool {
+    pub(crate) fn is_passed(&self) -> bool {
         self.is_passed.load(Ordering::SeqCst)
     }
 
@@ -111,7 +111,7 @@ impl<'a, R: Clock + Eprint> CountingGate<'a, R> {
     }
 }
 
-// The side of a log.
+/// The side of a log.
 fn side_of(log: usize) -> Side {
     if log % 2 == 0 {
         Side::System

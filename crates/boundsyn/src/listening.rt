@@ -40,7 +40,7 @@ impl<H: Shelf> Shelf for KeepingShelf<H> {
     }
 }
 
-// Keeps what came of taking a file.
+/// Keeps what came of taking a file.
 fn keep(kept: &mut KeptFiles, name: &str, outcome: Result<(), ShelfFault>, taken: &[u8]) {
     match outcome {
         Ok(()) => kept.keep(name, taken),
@@ -50,7 +50,7 @@ fn keep(kept: &mut KeptFiles, name: &str, outcome: Result<(), ShelfFault>, taken
     }
 }
 
-// Keeps what came of taking a part of a file from a place on.
+/// Keeps what came of taking a part of a file from a place on.
 fn keep_part(
     kept: &mut KeptFiles,
     name: &str,
@@ -84,7 +84,7 @@ impl<K: Sink> Sink for HearingSink<K> {
     }
 }
 
-// Hears bytes, if they were written.
+/// Hears bytes, if they were written.
 fn hear(heard: &mut Heard, outcome: Result<(), SinkFault>, bytes: &[u8]) {
     if outcome.is_ok() {
         heard.hear(bytes);

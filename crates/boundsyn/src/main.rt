@@ -19,7 +19,7 @@ use std::rt::{Clock, Files};
 use std::sync::Wait;
 use std::thread::Threads;
 
-// The status where memory runs out before there are words.
+/// The status where memory runs out before there are words.
 const NO_MEMORY: u8 = 5;
 
 const WANTED_AT_START: &str = "boundsyn: error: memory ran out before a text was read\n";

@@ -24,7 +24,7 @@ fn bytes_of<R: Files>(rt: &R, alloc: Global, name: &str) -> Result<Vec<u8>, Faul
 }
 
 /// What is shown of a document.
-pub fn machine_answer<R: Files>(
+pub(crate) fn machine_answer<R: Files>(
     rt: &R,
     alloc: Global,
     task: MachineTask<'_>,

@@ -89,7 +89,7 @@ impl Fault {
     }
 
     /// Writes the line that `boundsyn` writes at such a fault, and a sentence for a person.
-    pub fn report(&self, rt: &(impl Print + Eprint)) -> io::Result<()> {
+    pub(crate) fn report(&self, rt: &(impl Print + Eprint)) -> io::Result<()> {
         match self {
             Fault::NoMemory => eprintln!(rt; "boundsyn-show: out of memory"),
             Fault::CannotWrite => eprintln!(rt; "boundsyn-show: the output can't be written"),

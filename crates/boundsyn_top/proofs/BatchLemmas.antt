@@ -6,10 +6,10 @@ use Rattle.std.proofs.lemmas.List.{take_more}
 use Rattle.std.proofs.lemmas.List.Elements.{Contains-get_or}
 use Rattle.outside_edge.specs.Faults.{Rose}
 use Rattle.outside_edge.specs.Files.{Files, bytes_under}
+use Rattle.outside_edge.proofs.EdgeLemmas.{Rose-earlier}
 use Rattle.batch_answer.specs.Taken.{AreTexts}
 use Rattle.batch_answer.specs.declared.texts.TakenText.{TakenText}
 use Rattle.boundsyn_top.specs.Batch.{AreFilesOf, IsTakenAs, OneRose}
-use Rattle.boundsyn_top.proofs.FileLemmas.{rose_later}
 
 -- the bytes of the files whose texts were taken
 pub record FilesTaken (told : Option Files) (names : List (List ℕ)) (texts : List TakenText) : Type 0 where
@@ -104,5 +104,5 @@ pub one_rose : (told mid : Option Files) (before between now : List ℕ → ℕ)
 one_rose told mid before between now names done texts name so_far among rose = record {
   name = name;
   among = among;
-  rose = rose_later (before name) (between name) (now name) (so_far.rises name) rose;
+  rose = Rose-earlier (before name) (between name) (now name) (so_far.rises name) rose;
 }

@@ -1,17 +1,9 @@
 -- Files that are taken, and files that couldn't be.
 use Rattle.std.specs.Prelude.{IfSome}
-use Rattle.std.proofs.Common.{◌<◌, ◌≤◌, ℕ, suc, List, [], length, replicate, refl, ◌∙◌, subst, arith, inl, inr, Option, Some, None}
-use Rattle.std.proofs.Math.Nat.{eq-or-lt_of_le}
+use Rattle.std.proofs.Common.{◌<◌, ℕ, suc, List, [], length, replicate, refl, subst, arith, Option, Some, None}
 use Rattle.std.proofs.lemmas.List.{length-replicate}
-use Rattle.outside_edge.specs.Faults.{Rose}
 use Rattle.outside_edge.specs.Files.{Files, bytes_under}
 use Rattle.boundsyn_top.specs.Files.{AreOfFile, HoldsOfFile}
-
--- a count rose that rose after it had stayed or risen
-pub rose_later : (a b c : ℕ) → a ≤ b → Rose b c → Rose a c
-rose_later a b c more (inl less) = inl (omega arith)
-rose_later a b c more (inr at_most) =
-    elim (eq-or-lt_of_le more) [ inl same ↦ inr (same ∙ at_most.0, at_most.1) | inr less ↦ inl (omega (arith, at_most.0, at_most.1, less)) ]
 
 -- a text of one byte too many
 long_text : (n : ℕ) → (text : List ℕ) × (n < length text)

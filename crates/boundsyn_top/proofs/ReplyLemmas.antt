@@ -5,15 +5,15 @@ use Rattle.letter_word.specs.declared.kinds.Kind.{Kind}
 use Rattle.letter_word.specs.declared.kinds.Kind.TheVariants.{Mealy}
 use Rattle.outside_edge.specs.Faults.{Rose}
 use Rattle.outside_edge.specs.Files.{Files}
+use Rattle.outside_edge.proofs.EdgeLemmas.{Rose-earlier}
 use Rattle.program_replies.specs.declared.replies.Reply.{Reply}
 use Rattle.program_replies.specs.declared.replies.Status.{Status}
 use Rattle.program_replies.specs.declared.replies.Status.TheVariants.{CannotRead, Done, WordsRefused}
 use Rattle.program_replies.specs.Statuses.{status_number}
 use Rattle.program_replies.specs.Lines.{refusal_line}
-use Rattle.program_words.specs.Settings.{Asked, settings_of, batch, bench, check, core, expand, gen, lasso, synth, verify}
+use Rattle.program_words.specs.Settings.{Asked, settings_of, batch, bench, check, core, expand, lasso, synth, verify}
 use Rattle.cert_text.specs.declared.documents.Verdict.{Verdict}
 use Rattle.cert_text.specs.declared.documents.Verdict.TheVariants as verdict
-use Rattle.arbiter_text.specs.Arbiter.{generated_text}
 use Rattle.bench_answer.specs.Bench.{BenchAnswer, HasStatus}
 use Rattle.spec_faults.specs.declared.code.SpecCode.TheVariants.{TooLong}
 use Rattle.tlsf_reader.specs.Faults.{IsReadingFault, most_bytes, too_long}
@@ -55,7 +55,7 @@ use Rattle.boundsyn_top.specs.Faults.{HasNone}
 use Rattle.boundsyn_top.specs.Takes.{GoesOn, TakesBehind, TakesFile, behind, first, first_file}
 use Rattle.boundsyn_top.specs.Steps.{ShelfStep}
 use Rattle.boundsyn_top.specs.Run.{Asks, IsForeign, IsOutputFor, IsOutputOf, IsReply, RepliesTo, answers, answered, cannot_read, unread, words_refused}
-use Rattle.boundsyn_top.proofs.FileLemmas.{rose_later, some_bytes, too_long_text}
+use Rattle.boundsyn_top.proofs.FileLemmas.{some_bytes, too_long_text}
 
 -- == the words ==
 
@@ -271,7 +271,7 @@ module _ (step : ShelfStep) where
         ((any : List ℕ) → step.before any ≤ middle any) → RepliesByFile (rest_from step.files middle) other Due (λ lines. A text lines bytes status) bytes status →
         RepliesTo step asked bytes status
     by_file_here Due middle text bytes status are taken more (file.count_rose due rose ended is) =
-        unread other (taken due) (rose_later (step.before other) (middle other) (step.after other) (more other) rose) ended is
+        unread other (taken due) (Rose-earlier (step.before other) (middle other) (step.after other) (more other) rose) ended is
     by_file_here Due middle text bytes status are taken more (file.of_file h) = both_answered text h.bytes bytes status are h.are_told h.holds
 
     by_file : (Due : Type 0) (told : Option Files) (middle : List ℕ → ℕ) (text bytes : List ℕ) (status : ℕ) → told ≡ step.files → AreOfFile step.files spec text →
@@ -333,10 +333,6 @@ module _ (step : ShelfStep) where
 
   -- == gen and bench ==
 
-  pub generated : (clients : ℕ) (bytes : List ℕ) (status : Status) → bytes ≡ generated_text clients → status ≡ Done →
-      RepliesTo step (gen clients) bytes (status_number status)
-  generated clients bytes status is done = rw done (replies (gen clients) bytes 0 (0, omega arith, refl) (is, refl))
-
   pub bench_answered : (clients workers : ℕ) (bytes : List ℕ) (status : ℕ) → BenchAnswer clients workers bytes status →
       RepliesTo step (bench clients workers) bytes status
   bench_answered clients workers bytes status answer =
@@ -387,7 +383,7 @@ module _ (step : ShelfStep) where
       RepliesTo step (batch list wanted) bytes status
   by_lines_here middle list wanted lines bytes status are more (batches.text_rose name listed good rose ended is) =
       unread name (behind (listed_taken step.files list wanted lines name are listed good))
-      (rose_later (step.before name) (middle name) (step.after name) (more name) rose) ended is
+      (Rose-earlier (step.before name) (middle name) (step.after name) (more name) rose) ended is
   by_lines_here middle list wanted lines bytes status are more (batches.of_lines answer) =
       replies (batch list wanted) bytes status (list_status step.files lines wanted bytes status answer)
       (record { bytes = lines; are_told = are; holds = answer })

@@ -8,6 +8,7 @@ use Rattle.outside_edge.specs.Files.{Files}
 use Rattle.outside_edge.specs.Bytes.{Gains, GainsFront}
 use Rattle.outside_edge.specs.declared.sink.SinkFault.{SinkFault}
 use Rattle.outside_edge.specs.declared.sink.SinkFault.TheVariants.{Failed, NoMemory}
+use Rattle.outside_edge.proofs.GainLemmas.{gains_nothing}
 use Rattle.spec_faults.specs.declared.code.SpecCode.{SpecCode}
 use Rattle.program_replies.specs.Lines.{line_refusal, refusal_line}
 use Rattle.program_words.specs.Settings.{Asked, synth, check, expand, lasso, gen, bench, verify, core, batch}
@@ -16,7 +17,6 @@ use Rattle.boundsyn_top.specs.Faults.{RefusalsAreDetermined}
 use Rattle.boundsyn_top.specs.Run.{AnswersWords, AskForNothing, Asks, EndsWith, Gained, GainedPart, IsEnding, IsForeign, IsReply, IsStopped, LineFails, ReadFailed, ReadsWell, TextFails, answered, answering, cannot_read, prevented, says, words_refused}
 use Rattle.boundsyn_top.specs.Steps.{ShelfStep}
 use Rattle.boundsyn_top.specs.Takes.{Stops, TakesBehind, TakesFile, behind, first, first_file}
-use Rattle.boundsyn_top.proofs.SinkLemmas.{gains_nothing}
 
 -- the clauses of `run` that speak of its result, at plain values
 pub record Promise (words : List (List ℕ)) (step : ShelfStep)

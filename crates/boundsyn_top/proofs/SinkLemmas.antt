@@ -1,40 +1,7 @@
 -- What a sink gained by several pieces.
-use Rattle.std.specs.Prelude.{Err, IsErrOf}
-use Rattle.std.specs.Option.{option_map}
-use Rattle.std.proofs.Common.{◌≡◌, ℕ, List, [], ◌++◌, refl, sym, ◌∙◌, ap, Option, Some, None, append_assoc, append-nil, take, drop}
+use Rattle.std.proofs.Common.{◌≡◌, ℕ, List, ◌++◌, take, drop}
 use Rattle.std.proofs.lemmas.Grind.{common_steps}
 use Rattle.std.proofs.Common.{arith}
-use Rattle.outside_edge.specs.declared.sink.SinkFault.{SinkFault}
-use Rattle.outside_edge.specs.declared.sink.SinkFault.TheVariants.{Failed, NoMemory}
-use Rattle.outside_edge.specs.Bytes.{Gains, GainsFront}
-
-pub gains_more : (a b c : Option (List ℕ)) (x y : List ℕ) → Gains a b x → Gains b c y → Gains a c (x ++ y)
-gains_more None b c x y one two = two ∙ ap (λ o. option_map (λ s. s ++ y) o) one
-gains_more (Some s) b c x y one two =
-    two ∙ (ap (λ o. option_map (λ so_far. so_far ++ y) o) one ∙ ap Some (append_assoc s x y))
-
-pub gains_nothing : (a b : Option (List ℕ)) → b ≡ a → Gains a b []
-gains_nothing None b same = same
-gains_nothing (Some s) b same = same ∙ ap Some (sym (append-nil s))
-
--- the lines so far and a front of the next one
-pub front_more : (a b c : Option (List ℕ)) (x line later rest bytes : List ℕ) → Gains a b x → GainsFront b c line →
-    line ++ later ≡ rest → x ++ rest ≡ bytes → GainsFront a c bytes
-front_more a b c x line later rest bytes one two cut whole = record {
-  front = x ++ two.front;
-  rest = two.rest ++ later;
-  whole = append_assoc x two.front (two.rest ++ later)
-      ∙ ap (λ t. x ++ t) (sym (append_assoc two.front two.rest later) ∙ ap (λ t. t ++ later) two.whole ∙ cut) ∙ whole;
-  gained = gains_more a b c x two.front one two.gained;
-}
-
--- a fault leaves a front, which is nothing where memory was wanted
-pub front_of_fault : (fault : SinkFault) (a b : Option (List ℕ)) (bytes : List ℕ) →
-    (IsErrOf {T = Unit {0}} (Err fault) Failed → GainsFront a b bytes) → (IsErrOf {T = Unit {0}} (Err fault) NoMemory → b ≡ a) →
-    GainsFront a b bytes
-front_of_fault Failed a b bytes failed wanted = failed refl
-front_of_fault NoMemory a b bytes failed wanted =
-    record { front = []; rest = bytes; whole = refl; gained = gains_nothing a b (wanted refl) }
 
 pub cut_joins : (n : ℕ) (rest front back : List ℕ) → front ≡ take n rest → back ≡ drop n rest → front ++ back ≡ rest
 cut_joins n rest front back front_is back_is = rw (front_is, back_is) (grind (arith, common_steps))

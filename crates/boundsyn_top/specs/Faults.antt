@@ -6,7 +6,7 @@ use Rattle.flat_text.specs.FlatOf.{IsFlatFault, IsFlatOf}
 use Rattle.spec_problems.specs.OfText.{IsFirstFault}
 use Rattle.document_check.specs.FirstBad.{IsFirstBadFor}
 use Rattle.check_answer.specs.Answer.{GivenToCheck, facts_to_check}
-use Rattle.lasso_word.specs.WordText.{IsFirstBadLine}
+use Rattle.lasso_word.specs.WordText.{IsFirstBadWordLine}
 use Rattle.verify_answer.specs.Answer.{GivenToVerify, facts_to_verify}
 use Rattle.verify_answer.specs.FirstBad.{IsFirstBadOfCircuit}
 use Rattle.core_answer.specs.Core.{IsCoreFault}
@@ -44,7 +44,7 @@ pub record IsBadCertificate (text certificate : List ℕ) (line : ℕ) : Type 0 
 pub record IsBadWord (text word : List ℕ) (line : ℕ) : Type 0 where
   pub flat : FlatText
   pub is_flat : IsFlatOf text None flat
-  pub bad : IsFirstBadLine word (all_names flat.expanded) line
+  pub bad : IsFirstBadWordLine word (all_names flat.expanded) line
 
 -- the text has no fault, and this is the first bad line of the circuit's file for it
 pub record IsBadCircuit (text circuit : List ℕ) (line : ℕ) : Type 0 where

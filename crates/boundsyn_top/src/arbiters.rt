@@ -26,7 +26,7 @@ pub fn generate(alloc: Global, clients: u32) -> Result<Output, AllocError>
 }
 
 /// Searches for a machine of an arbiter's text, and tells what was found.
-pub fn search_arbiter<R, G>(
+pub(crate) fn search_arbiter<R, G>(
     rt: &R,
     alloc: Global,
     clients: u32,

@@ -22,7 +22,7 @@ use std::thread::Threads;
 use synth_engine::Settings;
 
 /// Answers the texts that a list names. They are taken only where the list has no bad line, and all before the first is answered.
-pub fn answer_list<R, H, G>(
+pub(crate) fn answer_list<R, H, G>(
     rt: &R,
     alloc: Global,
     shelf: &mut H,
@@ -45,7 +45,7 @@ where
     }
 }
 
-// Answers the texts that these lines name, unless a line is bad.
+/// Answers the texts that these lines name, unless a line is bad.
 fn answer_lines<R, H, G>(
     rt: &R,
     alloc: Global,
@@ -71,7 +71,7 @@ where
     }
 }
 
-// The reply to a list with this fault.
+/// The reply to a list with this fault.
 fn list_refusal(alloc: Global, fault: ListFault) -> Result<Reply, AllocError>
     ensures { IfOk result (λ r. IsListRefusal fault r.bytes.items r.status) }
 {
@@ -81,7 +81,7 @@ fn list_refusal(alloc: Global, fault: ListFault) -> Result<Reply, AllocError>
     }
 }
 
-// Takes the texts of these names, and answers them.
+/// Takes the texts of these names, and answers them.
 fn answer_texts<R, H, G>(
     rt: &R,
     alloc: Global,
@@ -107,7 +107,7 @@ where
     }
 }
 
-// Takes the texts of these names in turn. None where one can't be read.
+/// Takes the texts of these names in turn. None where one can't be read.
 fn take_texts<H: Shelf>(
     alloc: Global,
     shelf: &mut H,
@@ -128,7 +128,7 @@ fn take_texts<H: Shelf>(
     Ok(Some(texts))
 }
 
-// Takes a text. None where it can't be read.
+/// Takes a text. None where it can't be read.
 fn take_one<H: Shelf>(
     alloc: Global,
     shelf: &mut H,

@@ -26,7 +26,7 @@ use std::thread::Threads;
 use synth_answer::Problems;
 
 /// Checks a document against a text. The document is taken only where the text has no fault.
-pub fn check_certificate<R, H>(
+pub(crate) fn check_certificate<R, H>(
     rt: &R,
     alloc: Global,
     shelf: &mut H,
@@ -46,7 +46,7 @@ where
     }
 }
 
-// Takes a document, and checks it against a text, unless the text has a fault.
+/// Takes a document, and checks it against a text, unless the text has a fault.
 fn check_by<R, H>(
     rt: &R,
     alloc: Global,
@@ -69,7 +69,7 @@ where
     }
 }
 
-// Takes a document, and checks it against a text that has problems.
+/// Takes a document, and checks it against a text that has problems.
 fn checked<R, H>(
     rt: &R,
     alloc: Global,

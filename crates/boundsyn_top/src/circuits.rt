@@ -24,7 +24,7 @@ use synth_answer::Problems;
 use verify_answer::{problems_for_verify, verify_answer};
 
 /// Verifies a circuit against a text. The circuit is taken only where the text has no fault.
-pub fn verify_circuit<H: Shelf>(
+pub(crate) fn verify_circuit<H: Shelf>(
     alloc: Global,
     shelf: &mut H,
     spec: &str,
@@ -40,7 +40,7 @@ pub fn verify_circuit<H: Shelf>(
     }
 }
 
-// Takes a circuit, and verifies it against a text, unless the text has a fault.
+/// Takes a circuit, and verifies it against a text, unless the text has a fault.
 fn verify_by<H: Shelf>(
     alloc: Global,
     shelf: &mut H,
@@ -59,7 +59,7 @@ fn verify_by<H: Shelf>(
     }
 }
 
-// Takes a circuit, and verifies it against a text that has problems.
+/// Takes a circuit, and verifies it against a text that has problems.
 fn verified<H: Shelf>(
     alloc: Global,
     shelf: &mut H,

@@ -15,7 +15,7 @@ use std::thread::Threads;
 use synth_engine::Settings;
 
 /// Searches for guarantees of a text that can't be met together.
-pub fn find_core<R, H, G>(
+pub(crate) fn find_core<R, H, G>(
     rt: &R,
     alloc: Global,
     shelf: &mut H,

@@ -26,7 +26,11 @@ pub enum Taken {
 }
 
 /// Takes a text.
-pub fn take_text<H: Shelf>(alloc: Global, shelf: &mut H, name: &str) -> Result<Taken, AllocError>
+pub(crate) fn take_text<H: Shelf>(
+    alloc: Global,
+    shelf: &mut H,
+    name: &str,
+) -> Result<Taken, AllocError>
     ensures taken { IfOk result (IsTakenText (step_of H.files H.faults shelf.old shelf.new) name.now) }
     ensures files { H.files shelf.new ≡ H.files shelf.old }
     ensures others { (other : List ℕ) → other ≢ name.now → H.faults shelf.new other ≡ H.faults shelf.old other }
@@ -42,7 +46,7 @@ pub fn take_text<H: Shelf>(alloc: Global, shelf: &mut H, name: &str) -> Result<T
 }
 
 /// Takes a file of any length at once. None where it can't be read.
-pub fn take_whole<H: Shelf>(
+pub(crate) fn take_whole<H: Shelf>(
     alloc: Global,
     shelf: &mut H,
     name: &str,
@@ -63,7 +67,7 @@ pub fn take_whole<H: Shelf>(
 }
 
 /// Takes a file of any length by parts, until a part gives none. None where it can't be read.
-pub fn take_parts<H: Shelf>(
+pub(crate) fn take_parts<H: Shelf>(
     alloc: Global,
     shelf: &mut H,
     name: &str,
@@ -87,13 +91,13 @@ pub fn take_parts<H: Shelf>(
 }
 
 /// The reply where a file can't be read.
-pub fn cannot_read(alloc: Global) -> Result<Reply, AllocError>
+pub(crate) fn cannot_read(alloc: Global) -> Result<Reply, AllocError>
     ensures { IfOk result (λ r. (r.bytes.items ≡ codes "cannot read\n") × (r.status ≡ Status.CannotRead)) }
 {
     whole(alloc, b"cannot read\n", Status::CannotRead)
 }
 
-// The reply to a text that is too long.
+/// The reply to a text that is too long.
 fn too_long(alloc: Global) -> Result<Reply, AllocError>
     ensures { IfOk result (λ r. (r.bytes.items ≡ refusal_line SpecCode.TooLong 1048576) × (r.status ≡ Status.Refused)) }
 {

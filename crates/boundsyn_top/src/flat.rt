@@ -24,7 +24,11 @@ use std::alloc::{AllocError, Global};
 use tlsf_expand::Spec;
 
 /// The flat form of a text.
-pub fn expand_spec<H: Shelf>(alloc: Global, shelf: &mut H, spec: &str) -> Result<Output, AllocError>
+pub(crate) fn expand_spec<H: Shelf>(
+    alloc: Global,
+    shelf: &mut H,
+    spec: &str,
+) -> Result<Output, AllocError>
     ensures output { IfOk result (IsOutputOf (step_of H.files H.faults shelf.old shelf.new) (expand spec.now)) }
     ensures files { H.files shelf.new ≡ H.files shelf.old }
     ensures other_files { (name : List ℕ) → name ≢ spec.now → H.faults shelf.new name ≡ H.faults shelf.old name }
@@ -45,7 +49,7 @@ fn flat_output(alloc: Global, text: &[u8]) -> Result<Output, AllocError>
 }
 
 /// Whether a text holds on a lasso. The lasso's file is taken only where the text has no fault.
-pub fn tell_truth<H: Shelf>(
+pub(crate) fn tell_truth<H: Shelf>(
     alloc: Global,
     shelf: &mut H,
     spec: &str,
@@ -61,7 +65,7 @@ pub fn tell_truth<H: Shelf>(
     }
 }
 
-// Takes the file of a lasso, and tells whether a text holds on it, unless the text has a fault.
+/// Takes the file of a lasso, and tells whether a text holds on it, unless the text has a fault.
 fn tell_by<H: Shelf>(
     alloc: Global,
     shelf: &mut H,
@@ -80,7 +84,7 @@ fn tell_by<H: Shelf>(
     }
 }
 
-// Takes the file of a lasso, and tells whether a flat text holds on it.
+/// Takes the file of a lasso, and tells whether a flat text holds on it.
 fn told<H: Shelf>(
     alloc: Global,
     shelf: &mut H,

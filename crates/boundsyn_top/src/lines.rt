@@ -22,7 +22,7 @@ pub fn put_lines<K: Sink>(out: &mut K, bytes: &[u8]) -> Result<(), SinkFault>
     Ok(())
 }
 
-// The length of the first line, its end included.
+/// The length of the first line, its end included.
 fn line_len(bytes: &[u8]) -> usize
     requires { 0 < length bytes.now }
     ensures some { 0 < result }

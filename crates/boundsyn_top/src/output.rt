@@ -36,7 +36,7 @@ impl Output {
 }
 
 /// The output of a reply.
-pub fn whole_output(reply: Result<Reply, AllocError>) -> Result<Output, AllocError>
+pub(crate) fn whole_output(reply: Result<Reply, AllocError>) -> Result<Output, AllocError>
     ensures { IsWholeOf reply result }
 {
     match reply {
@@ -46,7 +46,11 @@ pub fn whole_output(reply: Result<Reply, AllocError>) -> Result<Output, AllocErr
 }
 
 /// Writes it, each line with its end by one call.
-pub fn put_output<K: Sink>(alloc: Global, output: &Output, out: &mut K) -> Result<(), SinkFault>
+pub(crate) fn put_output<K: Sink>(
+    alloc: Global,
+    output: &Output,
+    out: &mut K,
+) -> Result<(), SinkFault>
     requires { IsWritable output.now }
     ensures ok { OnOk result (Gains (K.written out.old) (K.written out.new) (bytes_of output.now)) }
     ensures front { OnErr result (GainsFront (K.written out.old) (K.written out.new) (bytes_of output.now)) }

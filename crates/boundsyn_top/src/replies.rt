@@ -43,7 +43,7 @@ where
     }
 }
 
-// What is written for a command.
+/// What is written for a command.
 fn obey<R, H, G>(
     rt: &R,
     alloc: Global,
@@ -90,7 +90,7 @@ where
     }
 }
 
-// The reply to words that ask for nothing.
+/// The reply to words that ask for nothing.
 fn words_refused(alloc: Global) -> Result<Reply, AllocError>
     ensures { IfOk result (λ r. (r.bytes.items ≡ codes "words refused\n") × (r.status ≡ Status.WordsRefused)) }
 {

@@ -15,7 +15,7 @@ use synth_answer::answer;
 use synth_engine::Settings;
 
 /// Searches for a machine of a text, and prints what it finds.
-pub fn synthesize<R, H, G>(
+pub(crate) fn synthesize<R, H, G>(
     rt: &R,
     alloc: Global,
     shelf: &mut H,

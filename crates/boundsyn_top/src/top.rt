@@ -76,7 +76,7 @@ where
     status_after(put_output(alloc, &output, out), status)
 }
 
-// The status to end with, once what has this status was written or not.
+/// The status to end with, once what has this status was written or not.
 fn status_after(written: Result<(), SinkFault>, status: Status) -> u8
     ensures { IsEnding written (status_number status) result }
 {

@@ -7,7 +7,7 @@ use Rattle.std.proofs.lemmas.List.{length-append, length-drop}
 use Rattle.std.proofs.lemmas.List.Splits.{join_with_byte-slice_split}
 use Rattle.aiger_text.specs.declared.faults.CircuitFault.{CircuitFault}
 use Rattle.aiger_text.specs.declared.faults.CircuitFault.TheVariants.{BadHeader, BadLine}
-use Rattle.aiger_text.specs.CircuitFile.{File, States, Draft, Body, Names, Ending, Parts, lines_of, and_then, on_line, is_whole, is_nil, with_line, body_from, ending_from, with_symbol, symbol_in, no_names, no_lines, parts_behind, parts_of_lines, parts_of, counts_in, header_of}
+use Rattle.aiger_text.specs.CircuitFile.{File, States, Draft, Body, Names, Ending, Parts, lines_of, and_then, on_line, is_whole, is_nil, with_line, body_from, ending_from, with_symbol, symbol_in, no_names, no_lines, parts_behind, parts_of_lines, circuit_parts, counts_in, header_of}
 use Rattle.aiger_text.proofs.Scanning.{HasPiece, has_piece}
 use Rattle.cert_text.specs.Reading.{begins_without_circuit}
 use Rattle.cert_text.proofs.LineRead.{behind_is}
@@ -146,24 +146,17 @@ comment_fits bytes file at states is =
     comment_by bytes states.parts.ending.line at states.parts.ending.comment (ap (λ (f : File). f.comment_at) (sym states.file_is) ∙ is) fits in
     subst (λ (n : ℕ). n + length (drop at bytes) ≤ length bytes + 1) (ap (λ (f : File). f.comment_line) (sym states.file_is)) le
 
-at_by : (bytes : List ℕ) (at : ℕ) (comment : Option (List ℕ)) → option_map (λ (c : List ℕ). length bytes - length c) comment ≡ Some at → at ≤ length bytes
-at_by bytes at None is = absurd (cc)
-at_by bytes at (Some comment) is = let n : length bytes - length comment ≡ at = ap (λ (o : Option ℕ). unwrap_or o 0) is in omega (arith, n)
-
-pub comment_within : (bytes : List ℕ) (file : File) (at : ℕ) → States bytes file → file.comment_at ≡ Some at → at ≤ length bytes
-comment_within bytes file at states is = at_by bytes at states.parts.ending.comment (ap (λ (f : File). f.comment_at) (sym states.file_is) ∙ is)
-
 -- ---- a circuit doesn't begin as a document without one
 
-no_circuit : (tail : List ℕ) → HasPiece (lines_of tail) → parts_of (codes "boundsyn " ++ tail) ≡ Err (BadHeader 1)
+no_circuit : (tail : List ℕ) → HasPiece (lines_of tail) → circuit_parts (codes "boundsyn " ++ tail) ≡ Err (BadHeader 1)
 no_circuit tail has =
     ap (λ (ps : List (List ℕ)). parts_of_lines (length (codes "boundsyn " ++ tail) + 1)
     (onto_first 98 (onto_first 111 (onto_first 117 (onto_first 110 (onto_first 100 (onto_first 115 (onto_first 121 (onto_first 110 (onto_first 32 ps)))))))))) has.are
 
-begins_by : (bytes : List ℕ) (parts : Parts) (b : Bool) → begins_without_circuit bytes ≡ b → parts_of bytes ≡ Ok parts → b ≡ false
+begins_by : (bytes : List ℕ) (parts : Parts) (b : Bool) → begins_without_circuit bytes ≡ b → circuit_parts bytes ≡ Ok parts → b ≡ false
 begins_by bytes parts true e is =
     let words : bytes ≡ codes "boundsyn " ++ drop 9 bytes = behind_is (codes "boundsyn ") bytes (drop 9 bytes) (ap (λ b. cond b (Some (drop 9 bytes)) None) e) in
-    let never : Err (BadHeader 1) ≡ Ok parts = sym (no_circuit (drop 9 bytes) (has_piece (drop 9 bytes))) ∙ ap parts_of (sym words) ∙ is in
+    let never : Err (BadHeader 1) ≡ Ok parts = sym (no_circuit (drop 9 bytes) (has_piece (drop 9 bytes))) ∙ ap circuit_parts (sym words) ∙ is in
     absurd (cc)
 begins_by bytes parts false e is = refl
 

@@ -4,7 +4,7 @@ use Rattle.std.proofs.lemmas.List.{append-nil, length-append, length-drop, take_
 use Rattle.std.proofs.Math.Seq.{drop-append_seam}
 use Rattle.refutation_log.specs.declared.entries.Entry.{Entry}
 use Rattle.refutation_log.specs.Text.{entry_line, log_text}
-use Rattle.refutation_log.specs.Read.{StatesEntry, StatesEntries, IsReadAs, IsBadLine, IsTooShort}
+use Rattle.refutation_log.specs.Read.{StatesEntry, StatesEntries, IsReadAs, IsBadLine}
 use Rattle.refutation_log.proofs.Words.{entry_same}
 use Rattle.cert_text.specs.Logs.{NoEntry, AreFirstEntries}
 
@@ -13,12 +13,6 @@ use Rattle.cert_text.specs.Logs.{NoEntry, AreFirstEntries}
 -- a line isn't empty
 pub line_length : (e : Entry) → 0 < length (entry_line e)
 line_length e = rw length-append (omega arith)
-
-no_line : (vars : ℕ) (e : Entry) (rest : List ℕ) → StatesEntry vars [] e rest → ⊥
-no_line vars e rest h =
-    let n : 0 ≡ length (entry_line e) + length rest = ap length h.text ∙ length-append (entry_line e) rest in
-    let k = line_length e in
-    omega (arith, n, k)
 
 one_by : (vars : ℕ) (bytes : List ℕ) (xs : List Entry) (e : Entry) (rest : List ℕ) → StatesEntries vars bytes (xs ++ e ∷ []) rest → length (xs ++ e ∷ []) ≡ 1
     → StatesEntry vars bytes e rest
@@ -46,13 +40,6 @@ none_at_bad vars n bytes bad = by bad.before bad.stated (omega (arith, bad.numbe
     by : (before : List Entry) → StatesEntries vars bytes before bad.left → length before ≡ 0 → NoEntry vars bad.left → NoEntry vars bytes
     by [] stated none never = subst (λ (b : List ℕ). NoEntry vars b) (sym stated.text) never
     by (x ∷ xs) stated none never = absurd (omega arith)
-
-pub none_at_end : (vars : ℕ) (bytes : List ℕ) → IsTooShort vars 1 bytes → NoEntry vars bytes
-none_at_end vars bytes short = by short.entries short.stated short.fewer
-  where
-    by : (entries : List Entry) → StatesEntries vars bytes entries [] → length entries < 1 → NoEntry vars bytes
-    by [] stated few = subst (λ (b : List ℕ). NoEntry vars b) (sym stated.text) (no_line vars)
-    by (x ∷ xs) stated few = absurd (omega arith)
 
 -- ---- the first entries are one list
 

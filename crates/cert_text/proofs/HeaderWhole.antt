@@ -1,17 +1,17 @@
 -- A header as a whole: it has no bad line exactly where its text stands there.
-use Rattle.std.proofs.Common.{◌≡◌, ℕ, zero, suc, ◌+◌, ◌^◌, ◌<◌, ◌≤◌, ◌==◌, Bool, true, false, ◌&&◌, cond, Option, Some, None, List, [], ◌∷◌, ◌++◌, refl, sym, ap, subst, ◌∙◌, arith, decimal, append_assoc, inl, inr}
+use Rattle.std.proofs.Common.{◌≡◌, ℕ, zero, suc, ◌+◌, ◌^◌, ◌<◌, ◌≤◌, ◌==◌, Bool, true, false, cond, Option, Some, None, List, [], ◌∷◌, ◌++◌, refl, sym, ap, subst, ◌∙◌, arith, decimal, append_assoc, inl, inr}
 use Rattle.std.specs.Prelude.{option_map, option_and_then, codes, unwrap_or, nat_le, IfSome}
 use Rattle.std.specs.List.{list_all}
 use Rattle.std.specs.Str.{bytes_eq}
 use Rattle.std.specs.Char.{is_ascii_digit}
 use Rattle.std.specs.Cmp.Lexicographic.{bytes_decides}
-use Rattle.std.proofs.lemmas.Bool.{eqb-true, le-leb, leb-true, or_cases}
+use Rattle.std.proofs.lemmas.Bool.{eqb-true, le-leb, leb-true, or_cases, and_parts, and_from}
 use Rattle.std.proofs.lemmas.List.{append_cancel_left}
 use Rattle.letter_word.specs.declared.kinds.Kind.{Kind}
 use Rattle.letter_word.specs.declared.kinds.Kind.TheVariants.{Mealy, Moore}
 use Rattle.aiger_text.specs.Words.{number_within}
 use Rattle.aiger_text.specs.CircuitText.{text_of_lines}
-use Rattle.aiger_text.proofs.Numbers.{Lacks, both, all_digits, number_within-decimal}
+use Rattle.aiger_text.proofs.Numbers.{Lacks, all_digits, number_within-decimal}
 use Rattle.cert_text.specs.declared.documents.Verdict.{Verdict}
 use Rattle.cert_text.specs.declared.documents.Verdict.TheVariants.{Realizable, Unrealizable, Bounded, UnknownSizes, UnknownEntries}
 use Rattle.cert_text.specs.declared.header.Header.{Header}
@@ -106,14 +106,11 @@ kind_is line kind is = kind_by line kind (bytes_eq line (codes "kind Mealy")) re
 
 -- ---- ranges as tests
 
-pub both_true : (a b : Bool) → a ≡ true → b ≡ true → (a && b) ≡ true
-both_true a b x y = ap (λ c. c && b) x ∙ y
-
 pub in_range_true : (least most n : ℕ) → least ≤ n → n ≤ most → is_in_range least most n ≡ true
-in_range_true least most n low high = both_true (nat_le least n) (nat_le n most) (le-leb least n low) (le-leb n most high)
+in_range_true least most n low high = and_from (nat_le least n) (nat_le n most) (le-leb least n low) (le-leb n most high)
 
 pub in_range_bounds : (least most n : ℕ) → is_in_range least most n ≡ true → (least ≤ n) × (n ≤ most)
-in_range_bounds least most n is = let k = both (nat_le least n) (nat_le n most) is in (leb-true least n k.0, leb-true n most k.1)
+in_range_bounds least most n is = let k = and_parts (nat_le least n) (nat_le n most) is in (leb-true least n k.0, leb-true n most k.1)
 
 -- a version is a small number, which its line alone states
 pub version_bounds : (v : ℕ) → is_version v ≡ true → (1 ≤ v) × (v ≤ 5)

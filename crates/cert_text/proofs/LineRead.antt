@@ -3,24 +3,19 @@ use Rattle.std.proofs.Common.{◌≡◌, ℕ, ◌+◌, ◌-◌, ◌^◌, ◌<◌
 use Rattle.std.specs.Prelude.{option_map, option_and_then, nat_le, unwrap_or, min}
 use Rattle.std.specs.List.{list_all, slice_split, join_with_byte, count_by}
 use Rattle.std.specs.Char.{is_ascii_digit}
-use Rattle.std.specs.Str.{all_ascii_digits}
 use Rattle.std.specs.Cmp.Lexicographic.{pointwise, bytes_decides}
-use Rattle.std.proofs.lemmas.Bool.{eq-eqb, le-leb, leb-true}
+use Rattle.std.proofs.lemmas.Bool.{eq-eqb, le-leb, leb-true, and_parts}
 use Rattle.std.proofs.lemmas.List.{take-append-drop}
 use Rattle.std.proofs.lemmas.List.Elements.{All-append, All-cons}
 use Rattle.std.proofs.lemmas.List.Splits.{join_with_byte-slice_split, length-slice_split}
 use Rattle.std.proofs.Math.Seq.{take-append_seam, drop-append_seam}
 use Rattle.text_base.specs.Numerals.{decimal_value}
-use Rattle.text_base.proofs.NumeralLemmas.{numeral_is_decimal, decimal_is_numeral}
+use Rattle.text_base.proofs.NumeralLemmas.{numeral_is_decimal, decimal_is_numeral, digits_are}
 use Rattle.aiger_text.specs.Words.{is_byte, cut_at, leads_well, is_numeral, number_within}
 use Rattle.aiger_text.proofs.WordLemmas.{none-of_other}
-use Rattle.aiger_text.proofs.Numbers.{both, is_numeral-decimal, number_within-decimal, decimal-lacks, Lacks, cut_at-seam}
+use Rattle.aiger_text.proofs.Numbers.{is_numeral-decimal, number_within-decimal, decimal-lacks, Lacks, cut_at-seam}
 use Rattle.aiger_text.proofs.Scanning.{cuts, HasPiece}
 use Rattle.cert_text.specs.Header.{behind, in_range, capped, number_behind, front}
-
--- a choice that is made by a test's value
-pub chosen : {X : Type 0} (b c : Bool) (x y : X) → b ≡ c → cond b x y ≡ cond c x y
-chosen b c x y e = ap (λ b. cond b x y) e
 
 -- ---- what stands behind words
 
@@ -43,10 +38,6 @@ behind_words words tail =
 
 -- ---- numbers
 
-digits_are : (word : List ℕ) → list_all is_ascii_digit word ≡ all_ascii_digits word
-digits_are [] = refl
-digits_are (c ∷ cs) = ap (λ b. is_ascii_digit c && b) (digits_are cs)
-
 no_zero : (word : List ℕ) → leads_well word ≡ true → slice_get word 0 ≡ Some 48 → length word ≡ 1
 no_zero [] leads is = absurd (cc)
 no_zero (d ∷ []) leads is = refl
@@ -63,7 +54,7 @@ not_empty (d ∷ ds) leads = omega arith
 -- a numeral is the one of its value
 pub numeral_is : (word : List ℕ) → is_numeral word ≡ true → decimal_value word < 2 ^ 64 → word ≡ decimal (decimal_value word)
 numeral_is word is small =
-    let parts = both (leads_well word) (list_all is_ascii_digit word) is in
+    let parts = and_parts (leads_well word) (list_all is_ascii_digit word) is in
     numeral_is_decimal (decimal_value word) word small (record {
       digits = sym (digits_are word) ∙ parts.1;
       nonempty = not_empty word parts.0;
@@ -172,9 +163,6 @@ pub number_behind_is : (words line : List ℕ) (n : ℕ) → n < 2 ^ 32 - 1 → 
 number_behind_is words line n less is =
     let k = follows_words words line capped n is in
     k.1 ∙ ap (λ (t : List ℕ). words ++ t) (capped_is n k.0 less k.2)
-
-pub number_behind_read : (words : List ℕ) (n : ℕ) → n < 2 ^ 32 → number_behind words (words ++ decimal n) ≡ Some n
-number_behind_read words n small = words_read words (decimal n) capped n (capped_read n small)
 
 -- ---- the first line
 

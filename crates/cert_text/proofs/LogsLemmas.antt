@@ -25,9 +25,6 @@ some_same o x y a b = ap (λ o. unwrap_or o x) (sym a ∙ b)
 pub record Goes (order : Order) (first : ℕ) (bytes : List ℕ) (done : List LogPart) (last : Place) (n : ℕ) (rest : List ℕ) : Type 0 where
   pub on : (more : LogsRead) → ReadsLogs order last n rest more → ReadsLogs order (start_of order) first bytes (record { logs = done ++ more.logs; bad = more.bad })
 
-pub goes_start : (order : Order) (first : ℕ) (bytes : List ℕ) → Goes order first bytes [] (start_of order) first bytes
-goes_start order first bytes = record { on = λ more reads. reads }
-
 module _ (order : Order) (first : ℕ) (bytes : List ℕ) (done : List LogPart) (last : Place) (n : ℕ) (rest : List ℕ) (goes : Goes order first bytes done last n rest) where
   at_end : (bad : Option ℕ) → ReadsLogs order last n rest (record { logs = []; bad = bad }) → ReadsLogs order (start_of order) first bytes (record { logs = done; bad = bad })
   at_end bad reads =

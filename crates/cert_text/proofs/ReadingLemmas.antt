@@ -1,5 +1,5 @@
 -- A document's bytes are read in one way.
-use Rattle.std.proofs.Common.{◌≡◌, ℕ, ◌+◌, Bool, true, false, Some, None, List, [], drop, refl, sym, ap, subst, ◌∙◌}
+use Rattle.std.proofs.Common.{◌≡◌, ℕ, ◌+◌, Bool, true, false, Some, None, List, [], drop, refl, sym, ap, subst, ◌∙◌, true≢false}
 use Rattle.aiger_text.specs.declared.faults.CircuitFault.{CircuitFault}
 use Rattle.aiger_text.specs.CircuitFile.{File}
 use Rattle.aiger_text.proofs.FileFacts.{files_state_one_thing, faults_state_nothing, files_have_one_fault}
@@ -7,16 +7,10 @@ use Rattle.cert_text.specs.declared.reading.CircuitPart.TheVariants.{Absent, Fau
 use Rattle.cert_text.specs.Order.{start_of}
 use Rattle.cert_text.specs.Header.{HeaderRead, no_header, header_of}
 use Rattle.cert_text.specs.Logs.{LogsRead, ReadsLogs}
-use Rattle.cert_text.specs.Reading.{DocumentLines, BodyRead, ReadsBody, of_header, of_logs, ReadsBehind, unnamed, named, Reads, without_circuit, of_fault, uncommented, commented, order_in, line_count, all_named, begins_without_circuit, fault_line}
+use Rattle.cert_text.specs.Reading.{DocumentLines, BodyRead, ReadsBody, of_header, of_logs, ReadsBehind, unnamed, named, Reads, without_circuit, of_fault, uncommented, commented, order_in, line_count, fault_line}
 use Rattle.cert_text.proofs.LogsLemmas.{some_none, some_same, logs_same}
 
-never_both : (b : Bool) → b ≡ true → b ≡ false → ⊥
-never_both b t f = let never : ◌≡◌ {A = Bool} true false = sym t ∙ f in absurd (cc)
-
 module _ (circuit : Bool) (first : ℕ) (bytes : List ℕ) where
-  abbrev h : HeaderRead
-  h = header_of circuit first bytes
-
   pub body_same : (a b : BodyRead) → ReadsBody circuit first bytes a → ReadsBody circuit first bytes b → a ≡ b
   body_same a b (of_header n e) (of_header m f) =
       ap (λ n. record { header = (header_of circuit first bytes).header; logs = []; bad = Some n }) (some_same (header_of circuit first bytes).header.bad n m e f)
@@ -38,8 +32,8 @@ module _ (circuit : Bool) (first : ℕ) (bytes : List ℕ) where
 module _ (file : File) (comment : List ℕ) where
   pub behind_same : (a b : DocumentLines) → ReadsBehind file comment a → ReadsBehind file comment b → a ≡ b
   behind_same a b (unnamed e) (unnamed f) = refl
-  behind_same a b (unnamed e) (named body f reads) = absurd (never_both (all_named file.circuit) f e)
-  behind_same a b (named body e reads) (unnamed f) = absurd (never_both (all_named file.circuit) e f)
+  behind_same a b (unnamed e) (named body f reads) = absurd (true≢false (sym f ∙ e))
+  behind_same a b (named body e reads) (unnamed f) = absurd (true≢false (sym e ∙ f))
   behind_same a b (named body e reads) (named other f reads') =
       ap (λ (b : BodyRead). record { circuit = Stated file; header = b.header; verdict_line = file.comment_line + 2; logs = b.logs; bad = b.bad })
       (body_same true (file.comment_line + 1) comment body other reads reads')
@@ -55,22 +49,22 @@ module _ (bytes : List ℕ) where
   pub reads_same : (a b : DocumentLines) → Reads bytes a → Reads bytes b → a ≡ b
   reads_same a b (without_circuit body e r) (without_circuit other f r') =
       ap (λ (b : BodyRead). record { circuit = Absent; header = b.header; verdict_line = 2; logs = b.logs; bad = b.bad }) (body_same false 1 bytes body other r r')
-  reads_same a b (without_circuit body e r) (of_fault fault f x) = absurd (never_both (begins_without_circuit bytes) e f)
-  reads_same a b (without_circuit body e r) (uncommented file f x y) = absurd (never_both (begins_without_circuit bytes) e f)
-  reads_same a b (without_circuit body e r) (commented file at lines f x y z) = absurd (never_both (begins_without_circuit bytes) e f)
-  reads_same a b (of_fault fault e x) (without_circuit body f r) = absurd (never_both (begins_without_circuit bytes) f e)
+  reads_same a b (without_circuit body e r) (of_fault fault f x) = absurd (true≢false (sym e ∙ f))
+  reads_same a b (without_circuit body e r) (uncommented file f x y) = absurd (true≢false (sym e ∙ f))
+  reads_same a b (without_circuit body e r) (commented file at lines f x y z) = absurd (true≢false (sym e ∙ f))
+  reads_same a b (of_fault fault e x) (without_circuit body f r) = absurd (true≢false (sym f ∙ e))
   reads_same a b (of_fault fault e x) (of_fault other f y) =
       ap (λ (c : CircuitFault). record { circuit = Faulty; header = no_header; verdict_line = 0; logs = []; bad = Some (fault_line c) }) (files_have_one_fault bytes fault other x y)
   reads_same a b (of_fault fault e x) (uncommented file f s n) = absurd (faults_state_nothing bytes file fault s x)
   reads_same a b (of_fault fault e x) (commented file at lines f s n r) = absurd (faults_state_nothing bytes file fault s x)
-  reads_same a b (uncommented file e s n) (without_circuit body f r) = absurd (never_both (begins_without_circuit bytes) f e)
+  reads_same a b (uncommented file e s n) (without_circuit body f r) = absurd (true≢false (sym f ∙ e))
   reads_same a b (uncommented file e s n) (of_fault fault f x) = absurd (faults_state_nothing bytes file fault s x)
   reads_same a b (uncommented file e s n) (uncommented other f t m) =
       ap (λ (x : File). record { circuit = Stated x; header = no_header; verdict_line = 0; logs = []; bad = Some x.comment_line }) (files_state_one_thing bytes file other s t)
   reads_same a b (uncommented file e s n) (commented other at lines f t m r) =
       let same = files_state_one_thing bytes file other s t in
       absurd (some_none other.comment_at at m (ap (λ (x : File). x.comment_at) (sym same) ∙ n))
-  reads_same a b (commented file at lines e s n r) (without_circuit body f r') = absurd (never_both (begins_without_circuit bytes) f e)
+  reads_same a b (commented file at lines e s n r) (without_circuit body f r') = absurd (true≢false (sym f ∙ e))
   reads_same a b (commented file at lines e s n r) (of_fault fault f x) = absurd (faults_state_nothing bytes file fault s x)
   reads_same a b (commented file at lines e s n r) (uncommented other f t m) =
       let same = files_state_one_thing bytes other file t s in

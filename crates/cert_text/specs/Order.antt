@@ -1,5 +1,6 @@
 -- Which logs stand in a document, and in which order, as far as that needs no text (this project's own).
 use Rattle.std.specs.Prelude.{◌==◌, ℕ, zero, suc, ◌+◌, ◌-◌, Bool, true, false, not, ◌&&◌, ◌||◌, List, [], ◌∷◌, IsTrue, nat_le, nat_lt, if◌then◌else◌}
+use Rattle.letter_word.specs.contracts.kinds.SidePartialEq.TheImpl.{ghosts as side_ghosts}
 use Rattle.letter_word.specs.declared.kinds.Side.{Side}
 use Rattle.letter_word.specs.declared.kinds.Side.TheVariants.{System, Environment}
 use Rattle.cert_text.specs.declared.documents.Verdict.{Verdict}
@@ -70,12 +71,6 @@ order_of version (Bounded side n) max found = UpTo side (n - 1)
 order_of version UnknownSizes max found = AnyUpTo max
 order_of version (UnknownEntries side n) max found = order_found max found
 
-abbrev pub same_side : Side → Side → Bool
-same_side System System = true
-same_side System Environment = false
-same_side Environment System = false
-same_side Environment Environment = true
-
 abbrev pub place : Side → ℕ → Place
 place side size = record { side = side; size = size }
 
@@ -86,11 +81,11 @@ start_of (AnyUpTo max) = place System 0
 
 -- the next size of the same side
 abbrev pub is_next_size : Place → Place → Bool
-is_next_size last next = same_side last.side next.side && (next.size == last.size + 1)
+is_next_size last next = side_ghosts.eq last.side next.side && (next.size == last.size + 1)
 
 -- the first size of the environment, behind the system's
 abbrev pub is_first_other : Place → Place → Bool
-is_first_other last next = same_side last.side System && (same_side next.side Environment && (next.size == 1))
+is_first_other last next = side_ghosts.eq last.side System && (side_ghosts.eq next.side Environment && (next.size == 1))
 
 -- the log that comes next may be this one
 abbrev pub may_follow : Order → Place → Place → Bool

@@ -1,4 +1,4 @@
-// The lines of a document before its logs.
+//! The lines of a document before its logs.
 ghost use Rattle.std.specs.Prelude.{◌≡◌, ◌+◌, ◌<◌, ◌^◌, option_map, option_and_then};
 ghost use Rattle.cert_text.specs.Header.{any_verdict_in as verdict_of_line, behind, bad_at as with_bad, capped, entries_in, found_at as with_found, found_in, front, header_of, kind_in, max_in, no_header, number_behind as number_after, on_entries, on_kind, on_max, on_verdict, verdict_in, version_in, version_number as version_number_of};
 ghost use Rattle.cert_text.specs.Shown.{shown_header};
@@ -49,7 +49,7 @@ impl Header {
         }
     }
 
-    // Line n is the first bad one.
+    /// Line n is the first bad one.
     fn bad_at<'a>(self, n: u64) -> HeaderRead<'a>
         ensures { shown_header result ≡ with_bad self n }
     {
@@ -183,8 +183,7 @@ fn read_found(header: Header, may_tell: bool, max: u32, bytes: &[u8]) -> HeaderR
     }
 }
 
-// What the first line states, with the bytes behind it, where it is of its form.
-
+/// What the first line states, with the bytes behind it, where it is of its form.
 fn version_at(bytes: &[u8]) -> Option<(u32, &[u8])>
     ensures { option_map (λ p. (p.0, p.1.now)) result ≡ front version_in bytes.now }
 {

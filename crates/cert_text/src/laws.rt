@@ -18,7 +18,7 @@ pub fn written_is_read(document: &Document)
     circuits_are_read(&document.circuit);
 }
 
-// A circuit that a comment follows is read with it.
+/// A circuit that a comment follows is read with it.
 fn circuits_are_read(circuit: &Option<Circuit>)
     ensures { IfSome circuit.now CommentsAreRead }
 {

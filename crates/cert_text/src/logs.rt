@@ -1,4 +1,4 @@
-// The logs of a document.
+//! The logs of a document.
 ghost use Rattle.std.specs.Prelude.{◌≡◌, ◌+◌, ◌<◌, ◌≤◌, ◌^◌, IfOk, Some, length, option_map};
 ghost use Rattle.std.specs.Option.{option_copied};
 ghost use Rattle.refutation_log.specs.Read.{StatesEntry, IsReadBy};
@@ -32,7 +32,7 @@ pub struct LogsRead {
     pub bad: Option<u64>,
 }
 
-// The first entries of a text, and the bytes behind them.
+/// The first entries of a text, and the bytes behind them.
 #[derive(Drop)]
 struct FirstEntries<'a> {
     entries: Vec<Entry>,
@@ -49,7 +49,7 @@ impl Head {
         }
     }
 
-    // The log with this head in that line.
+    /// The log with this head in that line.
     fn part(self, entries: Vec<Entry>, line: u64) -> LogPart
         ensures { result ≡ part_of self entries.items line }
     {
@@ -65,7 +65,7 @@ impl Head {
 }
 
 /// Reads the logs from line `first` on, and the line that ends a document.
-pub fn read_logs(
+pub(crate) fn read_logs(
     alloc: Global,
     order: Order,
     first: u64,
@@ -100,14 +100,14 @@ pub fn read_logs(
     }
 }
 
-// Line n is the first bad one.
+/// Line n is the first bad one.
 fn stopped(logs: Vec<LogPart>, n: u64) -> LogsRead
     ensures { shown_logs result ≡ record { logs = logs.items; bad = Some n } }
 {
     LogsRead { logs, bad: Some(n) }
 }
 
-// The document ends in line n; what stands behind that is a bad line.
+/// The document ends in line n; what stands behind that is a bad line.
 fn ended(logs: Vec<LogPart>, n: u64, behind: &[u8]) -> LogsRead
     requires { n + 1 < 2 ^ 64 }
     ensures { shown_logs result ≡ record { logs = logs.items; bad = bad_behind n behind.now } }
@@ -166,7 +166,7 @@ fn head_behind(side: Side, text: &[u8]) -> Option<Head>
     })
 }
 
-// The first entries of a text, at most so many.
+/// The first entries of a text, at most so many.
 fn first_entries(
     alloc: Global,
     vars: u32,
@@ -187,7 +187,7 @@ fn first_entries(
     Ok(FirstEntries { entries, rest })
 }
 
-// The entry whose line comes first, and the bytes behind it.
+/// The entry whose line comes first, and the bytes behind it.
 fn take_entry(alloc: Global, vars: u32, bytes: &[u8]) -> Result<Option<(Entry, &[u8])>, AllocError>
     ensures { IfOk result (IsReadBy (λ entry. entry) (StatesEntry vars bytes.now)) }
 {

@@ -1,6 +1,6 @@
-// Which logs a document has, and in which order.
+//! Which logs a document has, and in which order.
 ghost use Rattle.std.specs.Prelude.{◌≡◌, ◌<◌, ◌^◌};
-ghost use Rattle.cert_text.specs.Order.{has_its_place, fits_max, fits_version, is_version, may_end, may_follow, may_tell_found, order_found as order_with, order_of as order_wanted, place as place_at, same_side, start_of, tells_bounds};
+ghost use Rattle.cert_text.specs.Order.{has_its_place, fits_max, fits_version, is_version, may_end, may_follow, may_tell_found, order_found as order_with, order_of as order_wanted, place as place_at, start_of, tells_bounds};
 
 use crate::documents::Verdict;
 use letter_word::Side;
@@ -106,16 +106,6 @@ fn order_found(max: u32, found: u32) -> Order
     }
 }
 
-fn same_side(a: Side, b: Side) -> bool
-    ensures { result ≡ same_side a b }
-{
-    match (a, b) {
-        (Side::System, Side::System) => true,
-        (Side::Environment, Side::Environment) => true,
-        _ => false,
-    }
-}
-
 impl Order {
     ghost use Rattle.cert_text.specs.Order.{is_next_size, is_first_other};
 
@@ -145,7 +135,7 @@ impl Order {
     }
 
     /// Whether no log is wanted behind `last`.
-    pub fn may_end(self, last: Place) -> bool
+    pub(crate) fn may_end(self, last: Place) -> bool
         ensures { result ≡ may_end self last }
     {
         match self {
@@ -161,13 +151,12 @@ impl Place {
     fn is_before(self, next: Place) -> bool
         ensures { result ≡ is_next_size self next }
     {
-        same_side(self.side, next.side) && u64::from(next.size) == u64::from(self.size) + 1
+        self.side == next.side && u64::from(next.size) == u64::from(self.size) + 1
     }
 
     fn is_behind_all(self, next: Place) -> bool
         ensures { result ≡ is_first_other self next }
     {
-        same_side(self.side, Side::System)
-            && (same_side(next.side, Side::Environment) && next.size == 1)
+        self.side == Side::System && (next.side == Side::Environment && next.size == 1)
     }
 }

@@ -1,4 +1,4 @@
-// Documents as a whole, from bytes at once or in pieces.
+//! Documents as a whole, from bytes at once or in pieces.
 ghost use Rattle.std.specs.Prelude.{◌≡◌, ℕ, ◌++◌, [], false, OnOk, OnErr, IfOk, IsErrOf, IsTrue};
 ghost use Rattle.cert_text.specs.declared.documents.DocumentFault.TheVariants.{BadLine};
 ghost use Rattle.cert_text.specs.Reading.{IsFirstBadLine};

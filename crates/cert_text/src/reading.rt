@@ -1,4 +1,4 @@
-// A document's bytes, line by line.
+//! A document's bytes, line by line.
 ghost use Rattle.std.specs.Prelude.{◌≡◌, ◌+◌, ◌<◌, ◌≤◌, ◌^◌, [], IfOk, IfSome, Some, None, length, is_some};
 ghost use Rattle.std.specs.List.{list_all};
 ghost use Rattle.aiger_text.specs.declared.faults.CircuitFault.TheVariants.{NoMemory};
@@ -45,7 +45,7 @@ impl Model for DocumentLines {
     ghost view = { λ d. record { circuit = d.circuit; header = d.header; verdict_line = d.verdict_line; logs = d.logs.items; bad = d.bad } };
 }
 
-// What was read of the lines behind a circuit, or without one.
+/// What was read of the lines behind a circuit, or without one.
 #[derive(Drop)]
 struct BodyRead {
     header: Header,
@@ -54,7 +54,7 @@ struct BodyRead {
 }
 
 impl BodyRead {
-    // With its verdict in that line.
+    /// With its verdict in that line.
     fn behind(self, circuit: CircuitPart, verdict_line: u64) -> DocumentLines
         ensures { result ≡ record { circuit = circuit; header = self.header; verdict_line = verdict_line; logs = self.logs.items; bad = self.bad } }
     {
@@ -94,7 +94,7 @@ pub fn read_lines(alloc: Global, bytes: &[u8]) -> Result<DocumentLines, AllocErr
     read_behind(alloc, file, &bytes[at..])
 }
 
-// A document of which nothing but the circuit was read, with its first bad line.
+/// A document of which nothing but the circuit was read, with its first bad line.
 fn bad_at(alloc: Global, circuit: CircuitPart, line: u64) -> DocumentLines
     ensures { result ≡ record { circuit = circuit; header = no_header; verdict_line = 0; logs = []; bad = Some line } }
 {
@@ -107,7 +107,7 @@ fn bad_at(alloc: Global, circuit: CircuitPart, line: u64) -> DocumentLines
     }
 }
 
-// Reads the lines behind a circuit and the line `c`.
+/// Reads the lines behind a circuit and the line `c`.
 fn read_behind(
     alloc: Global,
     file: CircuitFile,
@@ -131,7 +131,7 @@ fn read_behind(
     }
 }
 
-// Reads the lines from line `first` on, behind a circuit or without one.
+/// Reads the lines from line `first` on, behind a circuit or without one.
 fn read_body(alloc: Global, circuit: bool, first: u64, bytes: &[u8]) -> Result<BodyRead, AllocError>
     requires { first + length bytes.now + 10 < 2 ^ 64 }
     ensures { IfOk result (λ body. ReadsBody circuit first bytes.now (shown_body body)) }
@@ -155,7 +155,7 @@ fn read_body(alloc: Global, circuit: bool, first: u64, bytes: &[u8]) -> Result<B
 }
 
 impl Header {
-    // The order of the logs that a whole header wants.
+    /// The order of the logs that a whole header wants.
     fn order(&self) -> Order
         ensures { result ≡ order_in self.now }
     {
@@ -164,7 +164,7 @@ impl Header {
         order_of(version, verdict, self.max.unwrap_or(0), self.found)
     }
 
-    // The number of lines of a whole header.
+    /// The number of lines of a whole header.
     fn lines(&self) -> u64
         ensures count { result ≡ line_count self.now }
         ensures few { result ≤ 6 }
@@ -185,7 +185,7 @@ fn are_named(names: &[Option<Name>]) -> bool
     names.iter().all(|name| name.is_some())
 }
 
-// The line of a fault, but for want of memory.
+/// The line of a fault, but for want of memory.
 fn fault_line(fault: CircuitFault) -> Option<u64>
     ensures line { IfSome result (λ line. line ≡ line_of_fault fault) }
     ensures no_memory { fault ≡ NoMemory → result ≡ None }
@@ -202,7 +202,7 @@ fn fault_line(fault: CircuitFault) -> Option<u64>
     }
 }
 
-// The circuit of a document, with the lines of its names and the line `c`.
+/// The circuit of a document, with the lines of its names and the line `c`.
 #[derive(Drop)]
 struct Stated {
     circuit: Option<Circuit>,

@@ -1,4 +1,4 @@
-// What stands behind words, and the numbers of lines.
+//! What stands behind words, and the numbers of lines.
 ghost use Rattle.std.specs.Prelude.{◌≡◌};
 ghost use Rattle.std.specs.Option.{option_copied};
 ghost use Rattle.cert_text.specs.Header.{behind as behind_front, capped as capped_number, in_range as number_in_range};

@@ -1,4 +1,4 @@
-// A document's lines as they are written.
+//! A document's lines as they are written.
 ghost use Rattle.std.specs.Prelude.{◌≡◌, ◌++◌, ◌∷◌, [], OnOk, OnErr, IfOk, IfSome, decimal, length};
 ghost use Rattle.std.specs.List.{flat_map};
 ghost use Rattle.aiger_text.specs.CircuitText.{numbers_line, text_of_lines};
@@ -40,7 +40,7 @@ fn text_of(alloc: Global, document: &Document) -> Result<Vec<u8>, AllocError>
     Ok(text)
 }
 
-// Appends the lines behind the circuit.
+/// Appends the lines behind the circuit.
 fn push_body(text: &mut Vec<u8>, document: &Document) -> Result<(), AllocError>
     ensures { OnOk result (text.new.items ≡ text.old.items ++ body_text document.now) }
 {
@@ -80,7 +80,7 @@ fn push_line(text: &mut Vec<u8>, line: &[u8]) -> Result<(), AllocError>
     Ok(())
 }
 
-// Appends a line of words, with the space behind them, and a number.
+/// Appends a line of words, with the space behind them, and a number.
 fn push_numbered(text: &mut Vec<u8>, words: &[u8], number: u64) -> Result<(), AllocError>
     ensures { OnOk result (text.new.items ≡ text.old.items ++ text_of_lines ((words.now ++ decimal number) ∷ [])) }
 {
@@ -186,7 +186,7 @@ fn push_head(text: &mut Vec<u8>, log: &LogPart) -> Result<(), AllocError>
     Ok(())
 }
 
-// Appends numbers, of which there is at least one, with a space between them.
+/// Appends numbers, of which there is at least one, with a space between them.
 fn push_numbers(text: &mut Vec<u8>, first: u64, others: &[u64]) -> Result<(), AllocError>
     ensures { OnOk result (text.new.items ≡ text.old.items ++ numbers_line (first ∷ others.now)) }
 {

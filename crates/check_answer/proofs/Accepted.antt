@@ -3,7 +3,7 @@ use Rattle.std.proofs.Common.{◌≡◌, ◌==◌, ℕ, zero, suc, ◌-◌, ◌�
 use Rattle.std.specs.Prelude.{min, nat_le, option_map}
 use Rattle.std.specs.Option.{option_map_or}
 use Rattle.std.proofs.Math.Nat.{min-le_right}
-use Rattle.std.proofs.lemmas.Bool.{leb-true}
+use Rattle.std.proofs.lemmas.Bool.{leb-true, and_parts}
 use Rattle.std.proofs.lemmas.List.Elements.{All-append, All-cons, All-head, All-nil, All-same, All-tail}
 use Rattle.letter_word.specs.declared.kinds.Kind.{Kind}
 use Rattle.letter_word.specs.declared.kinds.Kind.TheVariants.{Mealy}
@@ -17,7 +17,6 @@ use Rattle.machine_model.specs.Automaton.{IsAutomaton}
 use Rattle.machine_model.specs.Problem.{IsProblem, automaton_of}
 use Rattle.annotation_encode.specs.Count.{allowed_sizes}
 use Rattle.annotation_encode.specs.Laws.{HasNoAccepted}
-use Rattle.aiger_text.proofs.Numbers.{both}
 use Rattle.refutation_log.specs.Log.{is_ended}
 use Rattle.dual_search.specs.Sides.{AcceptsWhere}
 use Rattle.tlsf_expand.specs.FlatText.{FlatText, spec_seen}
@@ -202,7 +201,7 @@ module _ (text : List ℕ) (t : TextProblems) (k : Context text t) where
     few_allowed side = by (problem_at given d.kind d.version side 1)
       where
         few : d.max ≤ 8
-        few = leb-true d.max 8 (both (nat_le 1 d.max) (nat_le d.max 8) states.well_formed.max).1
+        few = leb-true d.max 8 (and_parts (nat_le 1 d.max) (nat_le d.max 8) states.well_formed.max).1
 
         by : (o : Option Problem) → option_map_or (λ (p : Problem). allowed_sizes p d.max) o 0 ≤ 8
         by None = omega arith

@@ -1,7 +1,8 @@
 -- The answer of `check` to a text and a certificate (this project's own).
 use Rattle.std.specs.Prelude.{◌≡◌, ℕ, ◌<◌, ◌≤◌, ⊤, true, List, ◌++◌, Some, All, IsTrue, codes, decimal}
 use Rattle.letter_word.specs.declared.kinds.Kind.{Kind}
-use Rattle.letter_word.specs.declared.kinds.Kind.TheVariants.{Mealy, Moore}
+use Rattle.letter_word.specs.declared.kinds.Kind.TheVariants.{Mealy}
+use Rattle.letter_word.specs.Kinds.{kind_word}
 use Rattle.letter_word.specs.declared.kinds.Side.{Side}
 use Rattle.letter_word.specs.declared.kinds.Side.TheVariants.{System, Environment}
 use Rattle.refutation_log.specs.Log.{is_ended}
@@ -29,10 +30,6 @@ use Rattle.synth_answer.specs.Printed.{given_by}
 abbrev pub bounded_words : Side → List ℕ
 bounded_words System = codes "bounded system "
 bounded_words Environment = codes "bounded environment "
-
-abbrev pub kind_word : Kind → List ℕ
-kind_word Mealy = codes "Mealy"
-kind_word Moore = codes "Moore"
 
 -- what is told of a verdict: the same of both without a machine
 abbrev pub verdict_words : Verdict → List ℕ

@@ -46,7 +46,7 @@ pub fn check_answer<R: Threads + Sync>(
     }
 }
 
-// The reply to a certificate with this fault.
+/// The reply to a certificate with this fault.
 fn line_refusal(alloc: Global, fault: DocumentFault) -> Result<Reply, AllocError>
     ensures { IfOk result (λ r. IsLineRefusal fault r.bytes.items r.status) }
 {

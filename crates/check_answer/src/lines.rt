@@ -1,6 +1,6 @@
 //! The line of a document that is accepted.
 ghost use Rattle.std.specs.Prelude.{◌≡◌, ◌++◌, decimal, IfOk, OnOk};
-ghost use Rattle.check_answer.specs.Answer.{bounded_words as words_of_bounded, kind_word as word_of_kind, verdict_words};
+ghost use Rattle.check_answer.specs.Answer.{bounded_words as words_of_bounded, verdict_words};
 ghost use Rattle.check_answer.specs.Reply.{IsAcceptance};
 
 use cert_text::Verdict;
@@ -10,14 +10,14 @@ use std::alloc::{AllocError, Global};
 use text_base::push_number;
 
 /// The reply to a document that holds, with this verdict and kind.
-pub fn acceptance(alloc: Global, verdict: Verdict, kind: Kind) -> Result<Reply, AllocError>
+pub(crate) fn acceptance(alloc: Global, verdict: Verdict, kind: Kind) -> Result<Reply, AllocError>
     ensures { IfOk result (λ r. IsAcceptance verdict kind r.bytes.items r.status) }
 {
     let mut bytes = Vec::new(alloc);
     bytes.extend_from_slice(b"accepted ")?;
     push_verdict(&mut bytes, verdict)?;
     bytes.extend_from_slice(b" as ")?;
-    bytes.extend_from_slice(kind_word(kind))?;
+    bytes.extend_from_slice(kind.word().as_bytes())?;
     bytes.extend_from_slice(b"\n")?;
     Ok(Reply {
         bytes,
@@ -37,7 +37,7 @@ fn push_verdict(bytes: &mut Vec<u8>, verdict: Verdict) -> Result<(), AllocError>
     }
 }
 
-// Appends words, with the space behind them, and a number.
+/// Appends words, with the space behind them, and a number.
 fn push_numbered(bytes: &mut Vec<u8>, words: &[u8], number: u32) -> Result<(), AllocError>
     ensures { OnOk result (bytes.new.items ≡ bytes.old.items ++ (words.now ++ decimal number)) }
 {
@@ -52,14 +52,5 @@ fn bounded_words(side: Side) -> &'static [u8]
     match side {
         Side::System => b"bounded system ",
         Side::Environment => b"bounded environment ",
-    }
-}
-
-fn kind_word(kind: Kind) -> &'static [u8]
-    ensures { result.now ≡ word_of_kind kind }
-{
-    match kind {
-        Kind::Mealy => b"Mealy",
-        Kind::Moore => b"Moore",
     }
 }

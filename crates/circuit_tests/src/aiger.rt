@@ -6,7 +6,7 @@ use std::alloc::{AllocError, Global};
 use std::test::Fail;
 use text_base::push_number;
 
-// The fault of a file, or none.
+/// The fault of a file, or none.
 fn fault_of(alloc: Global, text: &[u8]) -> Option<CircuitFault> {
     match read_circuit(alloc, text) {
         Ok(_) => None,
@@ -14,7 +14,7 @@ fn fault_of(alloc: Global, text: &[u8]) -> Option<CircuitFault> {
     }
 }
 
-// The first output in each step, where the first input has these values in turn.
+/// The first output in each step, where the first input has these values in turn.
 fn outputs_of(alloc: Global, text: &[u8], inputs: &[bool]) -> Result<Vec<bool>, AllocError> {
     match read_circuit(alloc, text) {
         Ok(file) => {
@@ -49,7 +49,7 @@ fn has_input(circuit: &Circuit) -> bool
     !circuit.inputs.is_empty()
 }
 
-// Gives the first input this value, where there is one.
+/// Gives the first input this value, where there is one.
 fn give_input(circuit: &Circuit, state: &mut CircuitState, value: bool)
     requires { IsStateOf circuit.now state.old }
     ensures { IsStateOf circuit.now state.new }
@@ -59,7 +59,7 @@ fn give_input(circuit: &Circuit, state: &mut CircuitState, value: bool)
     }
 }
 
-// The first output after a step.
+/// The first output after a step.
 fn step_once(circuit: &Circuit, state: &mut CircuitState) -> bool
     requires fits { IsStateOf circuit.now state.old }
     requires output { 0 < length circuit.now.outputs }
@@ -75,7 +75,7 @@ fn has_latch(circuit: &Circuit) -> bool
     !circuit.latches.is_empty()
 }
 
-// Sets the first latch, and says its value, the first output of a step, and the latch's value behind it.
+/// Sets the first latch, and says its value, the first output of a step, and the latch's value behind it.
 fn set_and_step(circuit: &Circuit, state: &mut CircuitState, value: bool) -> (bool, bool, bool)
     requires fits { IsStateOf circuit.now state.old }
     requires output { 0 < length circuit.now.outputs }
@@ -88,7 +88,7 @@ fn set_and_step(circuit: &Circuit, state: &mut CircuitState, value: bool) -> (bo
     (before, output, state.latch(0))
 }
 
-// The same in a new state of a file's circuit, with the first latch set to this value.
+/// The same in a new state of a file's circuit, with the first latch set to this value.
 fn set_in_new_state(
     alloc: Global,
     text: &[u8],
@@ -108,8 +108,8 @@ fn set_in_new_state(
     }
 }
 
-// A chain of 99,999 gates from the last one to the first, each of which has the value of the next, and the last one that
-// of a literal.
+/// A chain of 99,999 gates from the last one to the first, each of which has the value of the next, and the last one that
+/// of a literal.
 fn chain(alloc: Global, last: &[u8]) -> Result<Vec<u8>, AllocError> {
     let mut text = Vec::new(alloc);
     text.extend_from_slice(b"aag 100000 1 0 1 99999\n2\n200000\n")?;
@@ -150,7 +150,7 @@ fn a_long_chain(rt: HostRuntime) -> Result<(), Fail> {
     Ok(())
 }
 
-// Each gate but the last one leads to a cycle and is on none: to follow each of them on its own would take hours.
+/// Each gate but the last one leads to a cycle and is on none: to follow each of them on its own would take hours.
 #[test]
 fn a_cycle_behind_a_long_chain(rt: HostRuntime) -> Result<(), Fail> {
     let text = chain(rt.alloc(), b"4 4 2\n")?;

@@ -10,7 +10,7 @@ use std::alloc::{AllocError, Global};
 use std::test::Fail;
 use text_base::Name;
 
-// A machine of at most 8 states that writes one signal, of such rows (next, writes).
+/// A machine of at most 8 states that writes one signal, of such rows (next, writes).
 fn machine(alloc: Global, kind: Kind, reads: u32, rows: &[(u32, u32)]) -> Result<Machine, Fail>
     requires reads { reads ≤ 8 }
     requires rows { length rows.now < 2 ^ 32 }
@@ -29,7 +29,7 @@ fn machine(alloc: Global, kind: Kind, reads: u32, rows: &[(u32, u32)]) -> Result
     Ok(machine)
 }
 
-// The circuit of such a machine, whose output is `g`.
+/// The circuit of such a machine, whose output is `g`.
 fn circuit(alloc: Global, machine: &Machine, reads: &[Name]) -> Result<Circuit, Fail>
     requires few { size_of machine.now ≤ 8 }
     requires reads { length reads.now ≡ machine.now.reads }
@@ -40,7 +40,7 @@ fn circuit(alloc: Global, machine: &Machine, reads: &[Name]) -> Result<Circuit, 
     Ok(circuit)
 }
 
-// The text of the circuit of such a machine.
+/// The text of the circuit of such a machine.
 fn text(alloc: Global, machine: &Machine, reads: &[Name]) -> Result<Vec<u8>, Fail>
     requires few { size_of machine.now ≤ 8 }
     requires reads { length reads.now ≡ machine.now.reads }
@@ -52,7 +52,7 @@ fn text(alloc: Global, machine: &Machine, reads: &[Name]) -> Result<Vec<u8>, Fai
     Ok(text)
 }
 
-// The same of a machine that reads the signal `r` alone.
+/// The same of a machine that reads the signal `r` alone.
 fn text_over_r(alloc: Global, kind: Kind, rows: &[(u32, u32)]) -> Result<Vec<u8>, Fail>
     requires rows { length rows.now < 2 ^ 32 }
 {
@@ -60,10 +60,10 @@ fn text_over_r(alloc: Global, kind: Kind, rows: &[(u32, u32)]) -> Result<Vec<u8>
     text(alloc, &machine, &[Name::new(alloc, b"r")?])
 }
 
-// The rows of the machine that counts `r` from 0 to 2 and writes in state 2.
+/// The rows of the machine that counts `r` from 0 to 2 and writes in state 2.
 const COUNTER: [(u32, u32); 6] = [(0, 0), (1, 0), (1, 0), (2, 0), (2, 1), (0, 1)];
 
-// Whether a circuit has one input, two latches and one output.
+/// Whether a circuit has one input, two latches and one output.
 fn has_two_latches(circuit: &Circuit) -> bool
     ensures inputs { IsTrue result → length circuit.now.inputs ≡ 1 }
     ensures latches { IsTrue result → length circuit.now.latches ≡ 2 }
@@ -78,7 +78,7 @@ fn has_two_latches(circuit: &Circuit) -> bool
     circuit.outputs.len() == 1
 }
 
-// What such a circuit does from a code of its latches on a letter: the next code, and what it writes.
+/// What such a circuit does from a code of its latches on a letter: the next code, and what it writes.
 fn step_from(circuit: &Circuit, state: &mut CircuitState, code: u32, letter: u32) -> (u32, u32)
     requires fits { IsStateOf circuit.now state.old }
     requires inputs { length circuit.now.inputs ≡ 1 }
@@ -94,7 +94,7 @@ fn step_from(circuit: &Circuit, state: &mut CircuitState, code: u32, letter: u32
     (next, u32::from(state.output(0)))
 }
 
-// What it does from each code on each letter.
+/// What it does from each code on each letter.
 fn steps(alloc: Global, circuit: &Circuit) -> Result<Vec<(u32, u32)>, AllocError> {
     let mut steps = Vec::new(alloc);
     let mut state = CircuitState::new(alloc, circuit)?;
@@ -106,7 +106,7 @@ fn steps(alloc: Global, circuit: &Circuit) -> Result<Vec<(u32, u32)>, AllocError
     Ok(steps)
 }
 
-// The machine of one state that writes whether both signals are set is one gate.
+/// The machine of one state that writes whether both signals are set is one gate.
 #[test]
 fn both_signals_are_a_gate(rt: HostRuntime) -> Result<(), Fail> {
     let rows = [(0, 0), (0, 0), (0, 0), (0, 1)];
@@ -120,7 +120,7 @@ fn both_signals_are_a_gate(rt: HostRuntime) -> Result<(), Fail> {
     Ok(())
 }
 
-// The machine of two states that writes what it read last is one latch.
+/// The machine of two states that writes what it read last is one latch.
 #[test]
 fn what_was_read_last_is_a_latch(rt: HostRuntime) -> Result<(), Fail> {
     let text = text_over_r(rt.alloc(), Kind::Moore, &[(0, 0), (1, 0), (0, 1), (1, 1)])?;
@@ -131,7 +131,7 @@ fn what_was_read_last_is_a_latch(rt: HostRuntime) -> Result<(), Fail> {
     Ok(())
 }
 
-// The machine that turns its state with each `r`, and writes the state after it: the gates are made once.
+/// The machine that turns its state with each `r`, and writes the state after it: the gates are made once.
 #[test]
 fn a_toggle_has_three_gates(rt: HostRuntime) -> Result<(), Fail> {
     let text = text_over_r(rt.alloc(), Kind::Mealy, &[(0, 0), (1, 1), (1, 1), (0, 0)])?;
@@ -152,7 +152,7 @@ fn a_counter_of_three_states(rt: HostRuntime) -> Result<(), Fail> {
     Ok(())
 }
 
-// The machine that goes round five states and writes in the last one.
+/// The machine that goes round five states and writes in the last one.
 #[test]
 fn a_ring_of_five_states(rt: HostRuntime) -> Result<(), Fail> {
     let rows = [(1, 0), (2, 0), (3, 0), (4, 0), (0, 1)];
@@ -165,7 +165,7 @@ fn a_ring_of_five_states(rt: HostRuntime) -> Result<(), Fail> {
     Ok(())
 }
 
-// Each step is the machine's, and from the code that is no state the circuit goes to state 0 and writes nothing.
+/// Each step is the machine's, and from the code that is no state the circuit goes to state 0 and writes nothing.
 #[test]
 fn every_step_is_the_machines(rt: HostRuntime) -> Result<(), Fail> {
     let counter = machine(rt.alloc(), Kind::Moore, 1, &COUNTER)?;

@@ -5,6 +5,7 @@ use Rattle.std.proofs.lemmas.List.Sorted.{Contains-permutation, IsPermutation-sy
 use Rattle.std.proofs.lemmas.List.{take_more, get_or-take, get_or_default, length-take-le}
 use Rattle.std.proofs.lemmas.List.Elements.{Contains-append_left, Contains-push, Contains-get_or, All-contains}
 use Rattle.std.proofs.lemmas.Option.{slice_get_within, slice_get-get_or, get_or_from_slice_get}
+use Rattle.std.proofs.lemmas.Bool.{not-false}
 use Rattle.clause_base.specs.Literal.{Literal, negated, literal_eq}
 use Rattle.clause_base.specs.Equality.{Decides-literal_eq}
 use Rattle.clause_base.specs.Clause.{IsRisingFrom, IsClause, IsClauseOf, IsWithin, IsTautology}
@@ -119,11 +120,7 @@ pub differs : (l m : Literal) → not (literal_eq l m) ≡ true → l ≢ m
 differs l m h s = true≢false (sym h ∙ ap not ((Decides-literal_eq l m).1 s))
 
 pub agrees : (l m : Literal) → not (literal_eq l m) ≡ false → l ≡ m
-agrees l m h = (Decides-literal_eq l m).0 (yes (literal_eq l m) h)
-  where
-    yes : (b : Bool) → not b ≡ false → b ≡ true
-    yes true h = refl
-    yes false h = sym h
+agrees l m h = (Decides-literal_eq l m).0 (not-false (literal_eq l m) h)
 
 -- ---- what holds of the clause of sorted literals holds of the literals as they were given
 

@@ -6,6 +6,8 @@ use Rattle.std.specs.Cmp.{first_so, second_so}
 use Rattle.std.specs.List.{list_any, list_all}
 use Rattle.std.proofs.lemmas.List.Elements.{All-cons, All-head, All-tail, All-nil, All-contains}
 use Rattle.std.proofs.lemmas.Map.Views.{list_any-from_Contains, Contains-from_any}
+use Rattle.std.proofs.lemmas.Bool.{or_cases, not-true}
+use mathlib.Core.Bool.{or-false}
 use Rattle.clause_base.specs.Literal.{Literal, negated, literal_eq, sign_eq}
 use Rattle.clause_base.specs.Clause.{IsRisingFrom, IsClause}
 use Rattle.clause_base.specs.Truth.{value_of, is_true_literal, is_true_clause}
@@ -23,18 +25,13 @@ pub fails : {P : Type 0} (b : Bool) → Decides b P → (P → ⊥) → b ≡ fa
 fails true d n = absurd (n (d.0 refl))
 fails false d n = refl
 
--- `any` and `all` of a test that decides
-either : (a b : Bool) → (a || b) ≡ true → (a ≡ true) ⊎ (b ≡ true)
-either true b h = inl refl
-either false b h = inr h
-
 pub Any-member : {X : Type 0} (P : X → Type 0) (xs : List X) (x : X) → Contains xs x → P x → Any P xs
 Any-member P xs x m p = (m.0, x, m.1, m.2, p)
 
 any_found : {X : Type 0} (p : X → Bool) (P : X → Type 0) → ((x : X) → Decides (p x) (P x)) → (xs : List X) → list_any p xs ≡ true → Any P xs
 any_found p P d [] h = absurd (true≢false (sym h))
 any_found p P d (x ∷ xs) h =
-    elim (either (p x) (list_any p xs) h) [
+    elim (or_cases (p x) (list_any p xs) h) [
       | inl e ↦ Any-member P (x ∷ xs) x (Contains-head x xs) ((d x).0 e)
       | inr e ↦ let k = any_found p P d xs e in Any-member P (x ∷ xs) k.1 (Contains-later x xs k.1 (k.0, k.2, k.3)) k.4
     ]
@@ -72,10 +69,6 @@ Decides-is_falsified trues clause =
 
 -- ---- unit clauses
 
-not_true : (b : Bool) → not b ≡ true → b ≡ false
-not_true true h = sym h
-not_true false h = refl
-
 -- the one literal that is left, where a clause is unit
 pub lone_is : (trues left : List Literal) (l : Literal) → lone_of trues left ≡ Some l → (left ≡ l ∷ []) × (is_true_in trues l ≡ false)
 lone_is trues [] l h = absurd (cc)
@@ -93,7 +86,7 @@ unit_is trues clause l h =
     record {
       member = there.0;
       not_true = λ c. true≢false (sym ((Decides-is_true_in trues l).1 c) ∙ k.1);
-      not_false = λ c. true≢false (sym ((Decides-is_true_in trues (negated l)).1 c) ∙ not_true _ there.1);
+      not_false = λ c. true≢false (sym ((Decides-is_true_in trues (negated l)).1 c) ∙ not-true _ there.1);
       others_false = λ m c n. by m c n (is_false_in trues m) refl k.0;
     }
   where
@@ -152,7 +145,7 @@ pub true_in_is_true : (values : List Bool) (trues : List Literal) (l : Literal) 
 true_in_is_true values trues l a h = All-contains (λ m. is_true_literal values m ≡ true) trues l a ((Decides-is_true_in trues l).0 h)
 
 pub false_in_is_false : (values : List Bool) (trues : List Literal) (l : Literal) → AgreesWith values trues → is_false_in trues l ≡ true → is_true_literal values l ≡ false
-false_in_is_false values trues l a h = not_true _ (sym (is_true_literal-negated values l) ∙ true_in_is_true values trues (negated l) a h)
+false_in_is_false values trues l a h = not-true _ (sym (is_true_literal-negated values l) ∙ true_in_is_true values trues (negated l) a h)
 
 pub satisfied_is_true : (values : List Bool) (trues clause : List Literal) → AgreesWith values trues → is_satisfied trues clause ≡ true → is_true_clause values clause ≡ true
 satisfied_is_true values trues clause a h =
@@ -174,14 +167,10 @@ true_by_left values trues (x ∷ xs) a = by (is_false_in trues x) refl (true_by_
     by true e rest = rest ∙ ap (λ b. b || is_true_clause values xs) (sym (false_in_is_false values trues x a e))
     by false e rest = ap (λ b. is_true_literal values x || b) rest
 
-or_false : (b : Bool) → (b || false) ≡ b
-or_false true = refl
-or_false false = refl
-
 pub unit_is_true : (values : List Bool) (trues clause : List Literal) (l : Literal) → AgreesWith values trues → unit_of trues clause ≡ Some l
     → is_true_clause values clause ≡ true → AgreesWith values (l ∷ trues)
 unit_is_true values trues clause l a h t =
     let k = lone_is trues (unfalsified trues clause) l h in
     let yes : is_true_literal values l ≡ true =
-    sym (or_false _) ∙ ap (is_true_clause values) (sym k.0) ∙ true_by_left values trues clause a ∙ t in
+    sym (or-false _) ∙ ap (is_true_clause values) (sym k.0) ∙ true_by_left values trues clause a ∙ t in
     All-cons (λ m. is_true_literal values m ≡ true) l trues yes a

@@ -15,7 +15,7 @@ use Rattle.clause_exchange.specs.declared.views.Terms.{Terms}
 use Rattle.clause_exchange.specs.declared.views.Setup.{Setup}
 use Rattle.clause_exchange.specs.declared.views.View.{View}
 use Rattle.clause_exchange.specs.SharedLog.{PassView, IsLogOn, HoldsAllOf, new_pass}
-use Rattle.clause_exchange.specs.Rule.{parts_of, in_turn, count_of, IsPartOf, Keeps}
+use Rattle.clause_exchange.specs.Rule.{view_parts, in_turn, count_of, IsPartOf, Keeps}
 use Rattle.clause_exchange.specs.Opening.{IsDealt, exchange_of, part_seen}
 use Rattle.clause_exchange.proofs.Totals.{at_one, count_self}
 use Rattle.clause_exchange.proofs.Seats.{closes}
@@ -51,7 +51,7 @@ pub record IsClosedLog (terms : Terms) (passes : List PassView) (log : Log) : Ty
   pub limit : log.limit ≡ terms.limit
   pub holds : All (HoldsAllOf log.entries) passes
 
-pub closed : (terms : Terms) (id : ℕ) (v : View) (ws : List ℕ) (values : List Log) (passes : List PassView) (log : Log) → in_turn v ≡ 0 → parts_of v ≡ map part_seen passes
+pub closed : (terms : Terms) (id : ℕ) (v : View) (ws : List ℕ) (values : List Log) (passes : List PassView) (log : Log) → in_turn v ≡ 0 → view_parts v ≡ map part_seen passes
     → ((n : ℕ) → n < terms.seats → Contains (map (λ p. p.number) passes) n) → Final (table.Seen (Keeps terms) id v) ws values → get_elem? values 0 ≡ some log
     → IsClosedLog terms passes log
 closed terms id v ws values passes log rests parts each final at =

@@ -13,12 +13,13 @@ use Rattle.clause_exchange.specs.declared.views.Part.{Part}
 use Rattle.clause_exchange.specs.declared.views.View.{View}
 use Rattle.clause_exchange.specs.declared.views.View.TheVariants.{Resting, Begun}
 use Rattle.text_base.specs.Prefix.{IsPrefix}
+use Rattle.text_base.proofs.PrefixLemmas.{IsPrefix-refl}
 use Rattle.clause_exchange.specs.SharedLog.{IsLogOn}
-use Rattle.clause_exchange.specs.Rule.{parts_of, in_turn, count_of, total, HasRoom, IsPartOf, IsKnown, IsHome, IsOut, Keeps}
+use Rattle.clause_exchange.specs.Rule.{view_parts, in_turn, count_of, total, HasRoom, IsPartOf, IsKnown, IsHome, IsOut, Keeps}
 use Rattle.clause_exchange.specs.Steps.{Place, idle, begun, IsOpenTo, Begins, IsMoved, moved, taken, given}
 use Rattle.clause_exchange.specs.Passes.{part_of}
 use Rattle.clause_exchange.proofs.Totals.{each_set, total-set, term_le, terms_le, counted}
-use Rattle.clause_exchange.proofs.Knowing.{prefix_self, all_one, known_moved}
+use Rattle.clause_exchange.proofs.Knowing.{all_one, known_moved}
 
 abbrev St : Type 0
 St = State Log View
@@ -46,7 +47,7 @@ module _ (terms : Terms) where
       let w : View = Begun h.value.entries part in
       record {
         log = k.log;
-        once = λ m. omega (arith, total-set (λ u. count_of m (parts_of u)) s.views id v w at, k.once m);
+        once = λ m. omega (arith, total-set (λ u. count_of m (view_parts u)) s.views id v w at, k.once m);
         known = each_set (IsKnown terms k.log) (IsKnown terms k.log) s.views id w ((k.known id v at).0, h.entries_are) (λ j u other there known. known) k.known;
         slot = inr record {
           taken = ap (λ ws. set ws 0 1) h.free;
@@ -113,14 +114,14 @@ module _ (terms : Terms) where
       subst (λ l. (n : ℕ) → n ≢ part.number → entries_by n value.entries ≡ entries_by n l) list m.others in
       record {
         log = value.entries;
-        once = λ n. omega (arith, total-set (λ u. count_of n (parts_of u)) s.views id v w at, k.once n);
+        once = λ n. omega (arith, total-set (λ u. count_of n (view_parts u)) s.views id v w at, k.once n);
         known = each_set (IsKnown terms k.log) (IsKnown terms value.entries) s.views id w
-            (all_one (IsPartOf terms value.entries) (moved part value.entries) record { terms_are = to_terms; number_below = mine.number_below; seen = prefix_self value.entries; own = refl }, tt)
+            (all_one (IsPartOf terms value.entries) (moved part value.entries) record { terms_are = to_terms; number_below = mine.number_below; seen = IsPrefix-refl value.entries; own = refl }, tt)
             (λ j u other there known.
             let one = counted part.number (part ∷ []) 0 part (omega arith) refl in
             known_moved terms k.log value.entries part.number grows others u
             (omega (arith, terms_le in_turn s.views id j v u other at there, out.one))
-            (omega (arith, terms_le (λ x. count_of part.number (parts_of x)) s.views id j v u other at there, k.once part.number, one))
+            (omega (arith, terms_le (λ x. count_of part.number (view_parts x)) s.views id j v u other at there, k.once part.number, one))
             known)
             k.known;
         slot = inl record {

@@ -1,7 +1,6 @@
 -- What a view says of the log, as the log grows.
-use Rattle.std.proofs.Common.{◌≡◌, ℕ, ◌≢◌, List, [], ◌∷◌, ◌++◌, get_or, sym, ap, ◌∙◌, arith, All, append_assoc}
+use Rattle.std.proofs.Common.{◌≡◌, ℕ, ◌≢◌, List, [], ◌∷◌, get_or, sym, ◌∙◌, arith, All}
 use Rattle.std.proofs.lemmas.List.Elements.{All-nil, All-push}
-use Rattle.std.proofs.lemmas.List.{append-nil}
 use Rattle.refutation_log.specs.declared.entries.Entry.{Entry}
 use Rattle.refutation_log.specs.Teaches.{entries_by}
 use Rattle.clause_exchange.specs.declared.views.Terms.{Terms}
@@ -9,14 +8,9 @@ use Rattle.clause_exchange.specs.declared.views.Part.{Part}
 use Rattle.clause_exchange.specs.declared.views.View.{View}
 use Rattle.clause_exchange.specs.declared.views.View.TheVariants.{Resting, Begun}
 use Rattle.text_base.specs.Prefix.{IsPrefix}
-use Rattle.clause_exchange.specs.Rule.{parts_of, in_turn, count_of, IsPartOf, IsKnown}
+use Rattle.text_base.proofs.PrefixLemmas.{IsPrefix-trans}
+use Rattle.clause_exchange.specs.Rule.{view_parts, in_turn, count_of, IsPartOf, IsKnown}
 use Rattle.clause_exchange.proofs.Totals.{counted}
-
-pub prefix_self : {X : Type 0} (l : List X) → IsPrefix l l
-prefix_self l = ([], sym (append-nil l))
-
-pub prefix_through : {X : Type 0} (a b c : List X) → IsPrefix a b → IsPrefix b c → IsPrefix a c
-prefix_through a b c p q = (p.0 ++ q.0, q.1 ∙ ap (λ l. l ++ q.0) p.1 ∙ append_assoc a p.0 q.0)
 
 pub all_one : {X : Type 0} (P : X → Type 0) (x : X) → P x → All P (x ∷ [])
 all_one P x = All-push P [] x (All-nil P)
@@ -27,11 +21,11 @@ module _ (terms : Terms) (log log' : List Entry) (number : ℕ) (grows : IsPrefi
   part_moved part other k = record {
     terms_are = k.terms_are;
     number_below = k.number_below;
-    seen = prefix_through part.seen log log' k.seen grows;
+    seen = IsPrefix-trans part.seen log log' k.seen grows;
     own = k.own ∙ sym (others part.number other);
   }
 
-  pub known_moved : (v : View) → in_turn v ≡ 0 → count_of number (parts_of v) ≡ 0 → IsKnown terms log v → IsKnown terms log' v
+  pub known_moved : (v : View) → in_turn v ≡ 0 → count_of number (view_parts v) ≡ 0 → IsKnown terms log v → IsKnown terms log' v
   known_moved (Resting parts) rests none k =
       (λ i d lt. part_moved (get_or parts i d) (λ e. let one = counted number parts i d lt e in absurd (omega arith)) (k.0 i d lt), tt)
   known_moved (Begun begun part) rests none k = absurd (omega arith)

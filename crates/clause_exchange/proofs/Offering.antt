@@ -22,13 +22,13 @@ use Rattle.refutation_log.proofs.Lists.{take-append_all, take_drop}
 use Rattle.clause_exchange.specs.declared.exchange.Refused.{Refused}
 use Rattle.clause_exchange.specs.declared.views.Part.{Part}
 use Rattle.text_base.specs.Prefix.{IsPrefix}
+use Rattle.text_base.proofs.PrefixLemmas.{IsPrefix-refl, IsPrefix-trans}
 use Rattle.clause_exchange.specs.SharedLog.{PassView, IsLogOn, IsAfterTurn, IsOffered}
 use Rattle.clause_exchange.specs.Rule.{HasRoom}
 use Rattle.clause_exchange.specs.Steps.{Place, idle, begun, Begins, IsOpenTo, IsMoved, moved}
 use Rattle.clause_exchange.specs.Offers.{IsOfferedTo, IsCopiedOf}
 use Rattle.clause_exchange.specs.Opening.{part_seen}
 use Rattle.clause_exchange.specs.Passes.{part_of, pass_view, IsPass}
-use Rattle.clause_exchange.proofs.Knowing.{prefix_self, prefix_through}
 
 -- ---- entries of one number
 
@@ -44,7 +44,7 @@ pub moved_same : (part : Part) (value left : Log) → IsOpenTo part value → le
 moved_same part value left opens same room = record {
   is_log = subst (λ l. IsLogOn part.terms l) (sym same) opens.is_log;
   room = room;
-  grows = subst (λ l. IsPrefix value.entries l) (sym same) (prefix_self value.entries);
+  grows = subst (λ l. IsPrefix value.entries l) (sym same) (IsPrefix-refl value.entries);
   others = λ n other. ap (entries_by n) same;
 }
 
@@ -111,7 +111,7 @@ pub turn_after : (p : PassView) (id : TableId) (me : Place) (value left : Log) �
 turn_after p id me value left is same opens m = subst (IsAfterTurn p) (sym (view_after p id me left.entries is)) record {
   exchange = λ i. record { id = same i; terms = p.exchange.terms };
   number = refl;
-  seen = prefix_through p.seen value.entries left.entries opens.part_of.seen m.grows;
+  seen = IsPrefix-trans p.seen value.entries left.entries opens.part_of.seen m.grows;
   log = m.is_log;
   own_stand = refl;
 }

@@ -16,7 +16,7 @@ use Rattle.clause_exchange.specs.declared.views.Part.{Part}
 use Rattle.clause_exchange.specs.declared.views.View.{View}
 use Rattle.clause_exchange.specs.declared.views.View.TheVariants.{Resting, Begun}
 use Rattle.clause_exchange.specs.SharedLog.{IsLogOn}
-use Rattle.clause_exchange.specs.Rule.{parts_of, in_turn, count_of, total, fresh_parts, dealer, HasRoom, IsPartOf, IsKnown, IsHome, IsOut, IsSlot, Keeps}
+use Rattle.clause_exchange.specs.Rule.{view_parts, in_turn, count_of, total, fresh_parts, dealer, HasRoom, IsPartOf, IsKnown, IsHome, IsOut, IsSlot, Keeps}
 use Rattle.clause_exchange.specs.Steps.{gathered, spent}
 use Rattle.clause_exchange.proofs.Knowing.{all_one}
 use Rattle.clause_exchange.proofs.Totals.{at_one, each_set, total-append, total-set, terms_le, total_zero, count-append, counted, count-fresh_parts}
@@ -25,7 +25,7 @@ abbrev St : Type 0
 St = State Log View
 
 abbrev counting : ℕ → View → ℕ
-counting n v = count_of n (parts_of v)
+counting n v = count_of n (view_parts v)
 
 pub all_cons : {X : Type 0} (P : X → Type 0) (x : X) (xs : List X) → P x → All P xs → All P (x ∷ xs)
 all_cons P x xs first others zero d lt = first
@@ -71,10 +71,10 @@ module _ (terms : Terms) where
       let vs : List View = set s.views id b in
       let before : get_elem? s.views other ≡ some w = sym (set_else s.views id other b apart) ∙ there in
       let known-once = each_set (IsKnown terms k.log) (IsKnown terms k.log) s.views id b
-      (All-append (IsPartOf terms k.log) (parts_of w) (parts_of v) (k.known other w before).0 (k.known id v at).0, tt) (λ i x else here known. known) k.known in
+      (All-append (IsPartOf terms k.log) (view_parts w) (view_parts v) (k.known other w before).0 (k.known id v at).0, tt) (λ i x else here known. known) k.known in
       record {
         log = k.log;
-        once = λ m. omega (arith, total-set (counting m) vs other w spent there, total-set (counting m) s.views id v b at, k.once m, count-append m (parts_of w) (parts_of v));
+        once = λ m. omega (arith, total-set (counting m) vs other w spent there, total-set (counting m) s.views id v b at, k.once m, count-append m (view_parts w) (view_parts v));
         known = each_set (IsKnown terms k.log) (IsKnown terms k.log) vs other spent
             (All-nil (IsPartOf terms k.log), tt) (λ i x else here known. known) known-once;
         slot = subst (λ turns. IsSlot s.words s.homes turns terms k.log)
@@ -111,8 +111,8 @@ module _ (terms : Terms) where
     pub is_log : IsLogOn terms value.entries
     pub fits : All (IsPartOf terms value.entries) parts
 
-  pub closes : (id : ℕ) (v : View) (ws : List ℕ) (values : List Log) → in_turn v ≡ 0 → ((n : ℕ) → n < terms.seats → 1 ≤ count_of n (parts_of v))
-      → Final (table.Seen Rule id v) ws values → IsLast (parts_of v) values
+  pub closes : (id : ℕ) (v : View) (ws : List ℕ) (values : List Log) → in_turn v ≡ 0 → ((n : ℕ) → n < terms.seats → 1 ≤ count_of n (view_parts v))
+      → Final (table.Seen Rule id v) ws values → IsLast (view_parts v) values
   closes id v ws values rests all (s, (k, at), words, same, homes) = ⊎_elim
       (λ (h : IsHome s.words s.homes (total in_turn s.views) terms k.log).
       let back : k.log ≡ h.value.entries = sym h.entries_are in
@@ -121,7 +121,7 @@ module _ (terms : Terms) where
         at_home = homes 0 h.value (ap (λ hs. get_elem? hs 0) h.at_home);
         room = h.fits;
         is_log = subst (IsLogOn terms) back k.is_log;
-        fits = subst (λ l. All (IsPartOf terms l) (parts_of v)) back (k.known id v at).0;
+        fits = subst (λ l. All (IsPartOf terms l) (view_parts v)) back (k.known id v at).0;
       })
       (λ (o : IsOut s.words s.homes (total in_turn s.views)). absurd (omega (arith, total_zero in_turn s.views each_rests, o.one)))
       k.slot
@@ -129,5 +129,5 @@ module _ (terms : Terms) where
       each_rests : (j : ℕ) (u : View) → get_elem? s.views j ≡ some u → in_turn u ≡ 0
       each_rests j u there = dite (ℕ_discrete j id)
           (λ (e : j ≡ id). ap in_turn (at_one s.views id u v (subst (λ i. get_elem? s.views i ≡ some u) e there) at) ∙ rests)
-          (λ (ne : j ≢ id). rests_beside terms k.log (parts_of v) u all
+          (λ (ne : j ≢ id). rests_beside terms k.log (view_parts v) u all
           (λ n. omega (arith, terms_le (counting n) s.views id j v u ne at there, k.once n)) (k.known j u there))

@@ -7,7 +7,7 @@ use Rattle.clause_exchange.specs.declared.views.Part.{Part}
 use Rattle.clause_exchange.specs.declared.views.View.{View}
 use Rattle.clause_exchange.specs.declared.views.View.TheVariants.{Resting}
 use Rattle.clause_exchange.specs.SharedLog.{SharedLog, PassView, new_pass}
-use Rattle.clause_exchange.specs.Rule.{terms_of, fresh_parts, in_turn, parts_of}
+use Rattle.clause_exchange.specs.Rule.{terms_of, fresh_parts, in_turn, view_parts}
 use Rattle.clause_exchange.specs.Steps.{Place}
 
 -- The exchange of a table.
@@ -39,4 +39,4 @@ pub record IsGathered (id : TableId) (seat : Seat Log View) (passes : List PassV
   pub table : seat.table_id ≡ id
   pub no_slot : seat.me.1 ≡ []
   pub rests : in_turn seat.me.0 ≡ 0
-  pub parts : parts_of seat.me.0 ≡ map part_seen passes
+  pub parts : view_parts seat.me.0 ≡ map part_seen passes

@@ -28,9 +28,9 @@ fresh_parts terms number (suc count) = record { terms = terms; number = number; 
 abbrev pub dealer : Terms → View
 dealer terms = Resting (fresh_parts terms 0 terms.seats)
 
-abbrev pub parts_of : View → List Part
-parts_of (Resting parts) = parts
-parts_of (Begun log part) = part ∷ []
+abbrev pub view_parts : View → List Part
+view_parts (Resting parts) = parts
+view_parts (Begun log part) = part ∷ []
 
 -- How often a number stands among parts: once at most, over all views.
 abbrev pub count_of : ℕ → List Part → ℕ
@@ -65,7 +65,7 @@ BeganAt log (Resting parts) = ⊤
 BeganAt log (Begun begun part) = begun ≡ log
 
 abbrev pub IsKnown : Terms → List Entry → View → Type 0
-IsKnown terms log v = All (IsPartOf terms log) (parts_of v) × BeganAt log v
+IsKnown terms log v = All (IsPartOf terms log) (view_parts v) × BeganAt log v
 
 module _ (words : List ℕ) (homes : List (maybe.Option Log)) (turns : ℕ) where
   -- No seat has the slot: it is at home, and its list is the log.
@@ -89,7 +89,7 @@ module _ (words : List ℕ) (homes : List (maybe.Option Log)) (turns : ℕ) wher
 -- The rule between any two steps: at most one seat has the log, and the word tells whether one has.
 pub record Keeps (terms : Terms) (s : State Log View) : Type 0 where
   pub log : List Entry
-  pub once : (number : ℕ) → total (λ v. count_of number (parts_of v)) s.views ≤ 1
+  pub once : (number : ℕ) → total (λ v. count_of number (view_parts v)) s.views ≤ 1
   pub known : (seat : ℕ) (v : View) → get_elem? s.views seat ≡ some v → IsKnown terms log v
   pub slot : IsSlot s.words s.homes (total in_turn s.views) terms log
   pub is_log : IsLogOn terms log

@@ -8,7 +8,7 @@ use Rattle.clause_exchange.specs.declared.views.View.{View}
 use Rattle.clause_exchange.specs.declared.views.View.TheVariants.{Resting, Begun}
 use Rattle.text_base.specs.Prefix.{IsPrefix}
 use Rattle.clause_exchange.specs.SharedLog.{IsLogOn}
-use Rattle.clause_exchange.specs.Rule.{HasRoom, IsPartOf, parts_of}
+use Rattle.clause_exchange.specs.Rule.{HasRoom, IsPartOf, view_parts}
 
 abbrev pub Place : Type 0
 Place = Me Log View
@@ -62,7 +62,7 @@ dealt (Begun log part) = Resting []
 
 -- The parts of the other seat come first.
 abbrev pub gathered : View → View → View
-gathered v w = Resting (parts_of w ++ parts_of v)
+gathered v w = Resting (view_parts w ++ view_parts v)
 
 abbrev pub spent : View
 spent = Resting []

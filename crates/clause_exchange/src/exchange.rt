@@ -7,7 +7,7 @@ ghost use Rattle.refutation_log.specs.Follows.{Follows};
 ghost use Rattle.refutation_log.specs.Teaches.{Teaches};
 ghost use Rattle.text_base.specs.Prefix.{IsPrefix};
 ghost use Rattle.clause_exchange.specs.SharedLog.{IsLogOn, IsAfterTurn, IsOffered, HoldsAllOf, new_pass};
-ghost use Rattle.clause_exchange.specs.Rule.{HasRoom, in_turn, parts_of};
+ghost use Rattle.clause_exchange.specs.Rule.{HasRoom, in_turn, view_parts};
 ghost use Rattle.clause_exchange.specs.Opening.{exchange_of, holding, part_seen, IsDealer, IsDealt, IsGathered};
 
 use crate::turns::{Place, Words, begin, copy, end, offer};
@@ -236,7 +236,7 @@ fn gather_one(words: &Words, place: &mut Place, pass: Pass)
     requires table { (place.old.table_id ≡ words.now.table_id) × (pass.exchange.id ≡ words.now.table_id) × (words.now.table_id.words ≡ 1) }
     requires rests { in_turn place.old.me.0 ≡ 0 }
     ensures same { place.new.table_id ≡ place.old.table_id }
-    ensures gathered { (place.new.me.1 ≡ place.old.me.1) × (in_turn place.new.me.0 ≡ 0) × (parts_of place.new.me.0 ≡ part_seen pass ∷ parts_of place.old.me.0) }
+    ensures gathered { (place.new.me.1 ≡ place.old.me.1) × (in_turn place.new.me.0 ≡ 0) × (view_parts place.new.me.0 ≡ part_seen pass ∷ view_parts place.old.me.0) }
 {
     let Pass { place: other } = pass;
     words.join_seat::<Gather>(place, other);

@@ -30,7 +30,7 @@ const FREE: u64 = 0;
 
 /// Waits until no other seat has the log, and takes it. Nobody stands in line: a seat that isn't running holds up the others only
 /// while it has the log.
-pub fn begin<R: Wait>(rt: &R, words: &Words, place: &mut Place)
+pub(crate) fn begin<R: Wait>(rt: &R, words: &Words, place: &mut Place)
     requires table { (place.old.table_id ≡ words.now.table_id) × (words.now.table_id.words ≡ 1) × (words.now.table_id.slots ≡ 1) }
     requires idle { (part : PartView) × (place.old.me ≡ idle part) }
     ensures same { (place.new.table_id ≡ place.old.table_id) × (place.new.id ≡ place.old.id) }
@@ -47,7 +47,7 @@ pub fn begin<R: Wait>(rt: &R, words: &Words, place: &mut Place)
 }
 
 /// Gives the log back.
-pub fn end(words: &Words, place: &mut Place)
+pub(crate) fn end(words: &Words, place: &mut Place)
     requires table { (place.old.table_id ≡ words.now.table_id) × (words.now.table_id.words ≡ 1) × (words.now.table_id.slots ≡ 1) }
     requires moved { (log : List EntryView) × (value : Log) × (part : PartView) × (place.old.me ≡ begun log value part) × IsMoved part log value }
     ensures same { (place.new.table_id ≡ place.old.table_id) × (place.new.id ≡ place.old.id) }
@@ -57,7 +57,7 @@ pub fn end(words: &Words, place: &mut Place)
 }
 
 /// Offers an entry to the log that the seat has.
-pub fn offer(
+pub(crate) fn offer(
     words: &Words,
     place: &mut Place,
     limit: Option<u64>,
@@ -72,7 +72,11 @@ pub fn offer(
 }
 
 /// Copies what the list lacks of the log that the seat has.
-pub fn copy(words: &Words, place: &mut Place, into: &mut Vec<Entry>) -> Result<(), AllocError>
+pub(crate) fn copy(
+    words: &Words,
+    place: &mut Place,
+    into: &mut Vec<Entry>,
+) -> Result<(), AllocError>
     requires table { place.old.table_id ≡ words.now.table_id }
     requires begun { (log : List EntryView) × (value : Log) × (part : PartView) × (place.old.me ≡ begun log value part) × IsPrefix into.old.items value.entries }
     ensures same { (place.new.table_id ≡ place.old.table_id) × (place.new.id ≡ place.old.id) }

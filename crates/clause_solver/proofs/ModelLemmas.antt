@@ -25,9 +25,6 @@ pub record AreValues (marks : List Mark) (n : ℕ) (values : List Bool) : Type 0
   pub count : length values ≡ n
   pub agree : (var : ℕ) → 0 < var → var ≤ n → Contains (literals_of marks) (record { var = var; positive = value_of values var })
 
-pub no_values : (marks : List Mark) → AreValues marks 0 []
-no_values marks = record { count = refl; agree = λ var low high. absurd (omega arith) }
-
 valued : (marks : List Mark) (vars var : ℕ) (o : Option Bool) → IsTotal vars marks → 0 < var → var ≤ vars
     → IfSome o (λ sign. Contains (literals_of marks) (record { var = var; positive = sign })) → IfNone o (IsFree marks var)
     → Contains (literals_of marks) (record { var = var; positive = unwrap_or o false })

@@ -8,7 +8,7 @@ use clause_base::Lit;
 use unit_propagate::Trail;
 
 /// The literal to be assumed next, of a variable without a value; none where each has one.
-pub fn decision(order: &mut Order, trail: &Trail, vars: u32) -> Option<Lit>
+pub(crate) fn decision(order: &mut Order, trail: &Trail, vars: u32) -> Option<Lit>
     requires { vars ≤ 2 ^ 30 }
     ensures some { IfSome result (λ l. (l.var ≤ vars) × IsFree trail.now.marks l.var) }
     ensures positive { IfSome result (λ l. 0 < l.var) }

@@ -42,7 +42,7 @@ pub fn lesson(
 }
 
 /// Makes the variables of the clauses more active from which an entry was learnt.
-pub fn reward(order: &mut Order, base: &Cnf, seen: &[Entry], entry: &Entry) {
+pub(crate) fn reward(order: &mut Order, base: &Cnf, seen: &[Entry], entry: &Entry) {
     for number in entry.hints.numbers() {
         if let Some(clause) = clause_of(base, seen, *number) {
             order.reward(clause.lits());

@@ -55,7 +55,7 @@ fn idle_level(trail: &Trail, clause: &Clause) -> u32
 }
 
 /// A level below which the clauses of all entries are idle. Costs their literals.
-pub fn settled_level(trail: &Trail, entries: &[Entry]) -> u32
+pub(crate) fn settled_level(trail: &Trail, entries: &[Entry]) -> u32
     ensures { All (λ e. IsIdleBelow result trail.now.marks e.clause) entries.now }
 {
     let mut least = u32::MAX;

@@ -25,7 +25,7 @@ fn values_of(alloc: Global, trail: &Trail, vars: u32) -> Result<Vec<bool>, Alloc
 }
 
 /// The model that a quiet trail gives, on which each variable has a value. Costs the variables and the clauses.
-pub fn model_of(alloc: Global, trail: &Trail, base: &Cnf) -> Result<Assignment, AllocError>
+pub(crate) fn model_of(alloc: Global, trail: &Trail, base: &Cnf) -> Result<Assignment, AllocError>
     requires formula { IsFormula base.now.vars base.now.clauses.items }
     requires total { IsTotal base.now.vars trail.now.marks }
     requires quiet { IsQuiet base.now.clauses.items (literals_of trail.now.marks) }

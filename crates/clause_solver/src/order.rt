@@ -77,7 +77,7 @@ impl Order {
     }
 
     /// Makes the variables of a clause more active.
-    pub fn reward(&mut self, lits: &[Lit]) {
+    pub(crate) fn reward(&mut self, lits: &[Lit]) {
         for lit in lits {
             self.reward_one(lit.var());
         }
@@ -96,7 +96,7 @@ impl Order {
     }
 
     /// Makes later rewards count more than those until now.
-    pub fn decay(&mut self) {
+    pub(crate) fn decay(&mut self) {
         self.step = self.step.saturating_add((self.step >> 4).max(1));
     }
 }

@@ -25,7 +25,7 @@ pub struct Restarts {
 }
 
 /// The number of levels of a clause's literals, of which those that are the same modulo 512 aren't told apart.
-pub fn levels_in(trail: &Trail, entry: &Entry) -> u32 {
+pub(crate) fn levels_in(trail: &Trail, entry: &Entry) -> u32 {
     let mut seen: [u64; 8] = [0; 8];
     let mut count: u32 = 0;
     for lit in entry.clause.lits() {

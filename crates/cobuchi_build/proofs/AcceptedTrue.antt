@@ -1,7 +1,6 @@
 use Rattle.std.proofs.Common.{◌≡◌, ◌⊎◌, inl, inr, ℕ, zero, suc, ◌<◌, ◌≤◌, Bool, true, false, not, ◌&&◌, List, [], ◌∷◌, length, refl, sym, ◌∙◌, ap, subst, arith}
-use Rattle.std.specs.Prelude.{Contains, IsTrue}
+use Rattle.std.specs.Prelude.{Contains}
 use Rattle.std.proofs.lemmas.Bool.{and_from, both_ways, false_from_ne_true, not-true, not_from_false, or_left, or_right}
-use Rattle.letter_word.specs.Signals.{has}
 use Rattle.letter_word.specs.Word.{Word, HasRing, after, lasso_len, letter_at, next}
 use Rattle.letter_word.proofs.Positions.{next_within}
 use Rattle.ltl_formula.specs.Laws.{Comes}
@@ -13,12 +12,13 @@ use Rattle.ltl_formula.specs.Truth.{holds, release_at, until_at}
 use Rattle.ltl_formula.proofs.Ahead.{until_at-gives, until_at-unfold}
 use Rattle.ltl_formula.proofs.Trees.{tree_at-node}
 use Rattle.obligation_sets.specs.Ids.{has_id}
-use Rattle.obligation_sets.proofs.BackedLeaves.{Backed, InNext, InPostponed, Opposed, Seen}
+use Rattle.obligation_sets.proofs.BackedLeaves.{Backed, InNext, InPostponed, Seen}
 use Rattle.obligation_sets.proofs.Flags.{has_id-within}
 use Rattle.obligation_sets.proofs.Lists.{Contains-here, Contains-there}
+use Rattle.obligation_sets.proofs.NextStep.{opposed_value}
 use Rattle.obligation_sets.proofs.OneStep.{one_step, value}
 use Rattle.cobuchi_build.specs.declared.exploring.State.{State}
-use Rattle.cobuchi_build.specs.Occurring.{OccursIn, parts_of}
+use Rattle.cobuchi_build.specs.Occurring.{OccursIn, operands_of}
 use Rattle.cobuchi_build.specs.Occurring.OccursIn.{part}
 use Rattle.cobuchi_build.proofs.Moves.{AllPut, Move, Walk, all_held, begin_at_end, done_in, left_in, seen_done}
 
@@ -167,32 +167,13 @@ module _ (ns : List Node) (list : IsNodeList ns) (untils : List FormulaId) (w : 
 
     -- the truth of the formula by its node
     module _ (i : ℕ) (s : State) (l : Live i s) (done : taken i s l f) (stands : Stands ns f) where
-      lacks : (k : ℕ) → IsTrue (has l.move.leaf.cube.not k) → has (letter_at w i).0 k ≡ false
-      lacks k h = false_from_ne_true (has (letter_at w i).0 k) (l.move.fits.none_of k h)
-
-      opposed_value : (g : FormulaId) (node : Node) → Opposed l.move.leaf.cube node → value (letter_at w i) (now i) (now (next w i)) g node ≡ false
-      opposed_value g (Signal k) h = lacks k h
-      opposed_value g True h = absurd h
-      opposed_value g False h = absurd h
-      opposed_value g (Not x) h = absurd h
-      opposed_value g (Next x) h = absurd h
-      opposed_value g (Finally x) h = absurd h
-      opposed_value g (Globally x) h = absurd h
-      opposed_value g (And x y) h = absurd h
-      opposed_value g (Or x y) h = absurd h
-      opposed_value g (Implies x y) h = absurd h
-      opposed_value g (Equiv x y) h = absurd h
-      opposed_value g (Until x y) h = absurd h
-      opposed_value g (Release x y) h = absurd h
-      opposed_value g (WeakUntil x y) h = absurd h
-
-      abbrev occurs_part : (node : Node) → node_at ns f.0 ≡ node → (g : FormulaId) → Contains (parts_of node) g → OccursIn ns root g
-      occurs_part node is g c = part f g occurs (subst (λ (n : Node). Contains (parts_of n) g) (sym is) c)
+      abbrev occurs_part : (node : Node) → node_at ns f.0 ≡ node → (g : FormulaId) → Contains (operands_of node) g → OccursIn ns root g
+      occurs_part node is g c = part f g occurs (subst (λ (n : Node). Contains (operands_of n) g) (sym is) c)
 
       one : (g : FormulaId) → Stands ns g → now i g ≡ value (letter_at w i) (now i) (now (next w i)) g (node_at ns g.0)
       one = (one_step ns w ring i l.within list).means
 
-      seen_holds : (node : Node) → node_at ns f.0 ≡ node → (g : FormulaId) → g.0 < f.0 → Contains (parts_of node) g → Seen l.move.leaf g → now i g ≡ true
+      seen_holds : (node : Node) → node_at ns f.0 ≡ node → (g : FormulaId) → g.0 < f.0 → Contains (operands_of node) g → Seen l.move.leaf g → now i g ≡ true
       seen_holds node is g less c seen = part_holds f.0 below g less (occurs_part node is g c) i s l seen
 
       tree_is : (node : Node) → node_at ns f.0 ≡ node → tree_at ns f ≡ tree_of (trees_of ns) node
@@ -204,7 +185,7 @@ module _ (ns : List Node) (list : IsNodeList ns) (untils : List FormulaId) (w : 
       holds_by (Signal k) is parts b = ap (λ t. holds w t i) (tree_is (Signal k) is) ∙ l.move.fits.must k b
       holds_by (Not g) is parts b =
           let less : g.0 < f.0 = parts in
-          ap (λ t. holds w t i) (tree_is (Not g) is) ∙ not_from_false (now i g) (one g (omega arith) ∙ opposed_value g (node_at ns g.0) b)
+          ap (λ t. holds w t i) (tree_is (Not g) is) ∙ not_from_false (now i g) (one g (omega arith) ∙ opposed_value (letter_at w i) (now i) (now (next w i)) l.move.leaf.cube l.move.fits g (node_at ns g.0) b)
       holds_by (Next g) is parts b =
           ap (λ t. holds w t i) (tree_is (Next g) is)
           ∙ below g parts (occurs_part (Next g) is g (Contains-here g [])) (next w i) l.target (live_next i s l)

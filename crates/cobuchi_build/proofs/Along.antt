@@ -20,11 +20,12 @@ use Rattle.cobuchi_build.specs.declared.building.BuildFault.{BuildFault}
 use Rattle.cobuchi_build.specs.declared.exploring.State.{State}
 use Rattle.cobuchi_build.specs.Built.{IsAutomatonOf, IsFinished, IsTooLarge, PassesLimit, fault_of}
 use Rattle.cobuchi_build.specs.Explored.{Explored, expanding, explored, meeting, next_round, start_of, state_after}
-use Rattle.cobuchi_build.specs.Occurring.{is_until, marked_down, occurring, parts_of, untils_of, with_parts}
+use Rattle.cobuchi_build.specs.Occurring.{is_until, marked_down, occurring, operands_of, untils_of, with_parts}
 use Rattle.cobuchi_build.specs.Sizes.{HasRoom, HasTooMany}
 use Rattle.cobuchi_build.proofs.Growth.{IsPrefix-at, IsPrefix-before, IsPrefix-length}
 use Rattle.cobuchi_build.proofs.Rounds.{GrowsTo, GrowsTo-refl, closed_upto, explored_upto, fold_grows}
 use Rattle.cobuchi_build.proofs.Sound.{FromCover, IsGood, IsSound, contains_at, explored_sound}
+use Rattle.cobuchi_build.proofs.Occurs.{fold_length}
 
 pub start_normal : (ns : List Node) (f : FormulaId) → Stands ns f → IsNormal (tree_at ns f) → AreNormal ns (f ∷ [])
 start_normal ns f stands normal = All-cons (λ g. Stands ns g × IsNormal (tree_at ns g)) f [] (stands, normal) (All-nil (λ g. Stands ns g × IsNormal (tree_at ns g)))
@@ -133,11 +134,6 @@ module _ (ns : List Node) (list : IsNodeList ns) (f : FormulaId) (stands : Stand
             let few : length (set_leaves ns s.set) ≤ 100000 = along.leaves k s (omega (arith, left_none)) there in
             omega arith
 
--- there are at most as many untils as formulas
-fold_length : (flags : List Bool) (gs : List FormulaId) → length (fold with_id flags gs) ≡ length flags
-fold_length flags [] = refl
-fold_length flags (g ∷ gs) = fold_length (with_id flags g) gs ∙ length-set flags g.0 true
-
 either_length : (flags more : List Bool) (b : Bool) → length more ≡ length flags → length (cond b more flags) ≡ length flags
 either_length flags more true e = e
 either_length flags more false e = refl
@@ -146,7 +142,7 @@ length-marked_down : (ns : List Node) (n : ℕ) (flags : List Bool) → length (
 length-marked_down ns zero flags = refl
 length-marked_down ns (suc n) flags =
     length-marked_down ns n (cond (get_or flags n false) (with_parts flags (node_at ns n)) flags)
-    ∙ either_length flags (with_parts flags (node_at ns n)) (get_or flags n false) (fold_length flags (parts_of (node_at ns n)))
+    ∙ either_length flags (with_parts flags (node_at ns n)) (get_or flags n false) (fold_length flags (operands_of (node_at ns n)))
 
 ids_short : (k : ℕ) (flags : List Bool) → length (ids_from k flags) ≤ length flags
 ids_short k [] = omega arith

@@ -1,18 +1,13 @@
-use Rattle.std.proofs.Common.{◌≡◌, inl, inr, ℕ, zero, suc, ◌+◌, ◌<◌, ◌≤◌, Bool, true, false, not, cond, ◌||◌, List, [], ◌∷◌, ◌++◌, Some, get_or, length, slice_get, refl, sym, ◌∙◌, ap, subst, arith}
+use Rattle.std.proofs.Common.{◌≡◌, inl, inr, ℕ, suc, ◌+◌, ◌<◌, ◌≤◌, Bool, true, false, not, cond, ◌||◌, List, [], ◌∷◌, ◌++◌, Some, get_or, length, slice_get, refl, sym, ◌∙◌, ap, subst, arith}
 use Rattle.std.specs.Prelude.{Contains}
 use Rattle.std.specs.List.{list_any, position_or_len}
 use Rattle.std.proofs.lemmas.Bool.{cases_Bool, cond-true, cond-false, false≢true, or_cases}
-use Rattle.std.proofs.lemmas.List.{append-nil, append_assoc, length-append}
+use Rattle.std.proofs.lemmas.List.{append-nil, length-append}
 use Rattle.std.proofs.lemmas.List.Elements.{Contains-append_left}
 use Rattle.std.proofs.lemmas.Option.{slice_get-get_or}
 use Rattle.text_base.specs.Prefix.{IsPrefix}
+use Rattle.text_base.proofs.PrefixLemmas.{slice_get-append}
 use Rattle.indexmap.specs.IndexSet.{insert_key}
-
-pub IsPrefix-refl : {X : Type 0} (xs : List X) → IsPrefix xs xs
-IsPrefix-refl xs = ([], sym (append-nil xs))
-
-pub IsPrefix-trans : {X : Type 0} (xs ys zs : List X) → IsPrefix xs ys → IsPrefix ys zs → IsPrefix xs zs
-IsPrefix-trans xs ys zs a b = (a.0 ++ b.0, b.1 ∙ ap (λ l. l ++ b.0) a.1 ∙ append_assoc xs a.0 b.0)
 
 pub IsPrefix-length : {X : Type 0} (xs ys : List X) → IsPrefix xs ys → length xs ≤ length ys
 IsPrefix-length xs ys a = let e : length ys ≡ length (xs ++ a.0) = ap length a.1 in omega (arith, length-append xs a.0)
@@ -20,13 +15,8 @@ IsPrefix-length xs ys a = let e : length ys ≡ length (xs ++ a.0) = ap length a
 pub IsPrefix-contains : {X : Type 0} (xs ys : List X) (x : X) → IsPrefix xs ys → Contains xs x → Contains ys x
 IsPrefix-contains xs ys x a c = subst (λ l. Contains l x) (sym a.1) (Contains-append_left xs a.0 x c)
 
-kept_at : {X : Type 0} (xs more : List X) (k : ℕ) (x : X) → slice_get xs k ≡ Some x → slice_get (xs ++ more) k ≡ Some x
-kept_at [] more k x h = absurd (let contra : ⊥ = cc in contra)
-kept_at (y ∷ xs) more zero x h = h
-kept_at (y ∷ xs) more (suc k) x h = kept_at xs more k x h
-
 pub IsPrefix-at : {X : Type 0} (xs ys : List X) (k : ℕ) (x : X) → IsPrefix xs ys → slice_get xs k ≡ Some x → slice_get ys k ≡ Some x
-IsPrefix-at xs ys k x a h = subst (λ l. slice_get l k ≡ Some x) (sym a.1) (kept_at xs a.0 k x h)
+IsPrefix-at xs ys k x a h = subst (λ l. slice_get l k ≡ Some x) (sym a.1) (slice_get-append xs a.0 k x h)
 
 -- what stands at a place that was there stood there before
 pub IsPrefix-before : {X : Type 0} (xs ys : List X) (k : ℕ) (x : X) → IsPrefix xs ys → k < length xs → slice_get ys k ≡ Some x → slice_get xs k ≡ Some x

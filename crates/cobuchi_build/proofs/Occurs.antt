@@ -12,7 +12,7 @@ use Rattle.obligation_sets.proofs.Flags.{has_id-none, with_id-cases, with_id-her
 use Rattle.obligation_sets.proofs.IdLists.{flag_of_id, id, id_of_flag}
 use Rattle.obligation_sets.proofs.Lists.{Contains-cons_cases, Contains-here, Contains-none, Contains-there}
 use Rattle.cobuchi_build.specs.Laws.{UntilsAreThoseThatOccur}
-use Rattle.cobuchi_build.specs.Occurring.{OccursIn, is_until, marked_down, occurring, parts_of, untils_of, with_parts}
+use Rattle.cobuchi_build.specs.Occurring.{OccursIn, is_until, marked_down, occurring, operands_of, untils_of, with_parts}
 use Rattle.cobuchi_build.specs.Occurring.OccursIn.{itself, part}
 
 -- the flags of some more formulas
@@ -51,7 +51,7 @@ one_below n g x h c = elim (Contains-cons_cases g [] x c) [ inl same ↦ subst (
 two_below : (n : ℕ) (g h x : FormulaId) → g.0 < n → h.0 < n → Contains (g ∷ h ∷ []) x → x.0 < n
 two_below n g h x a b c = elim (Contains-cons_cases g (h ∷ []) x c) [ inl same ↦ subst (λ (y : FormulaId). y.0 < n) same a | inr later ↦ one_below n h x b later ]
 
-part_below : (n : ℕ) (node : Node) → PartsBelow n node → (x : FormulaId) → Contains (parts_of node) x → x.0 < n
+part_below : (n : ℕ) (node : Node) → PartsBelow n node → (x : FormulaId) → Contains (operands_of node) x → x.0 < n
 part_below n True p x c = absurd (Contains-none x c)
 part_below n False p x c = absurd (Contains-none x c)
 part_below n (Signal k) p x c = absurd (Contains-none x c)
@@ -73,7 +73,7 @@ module _ (ns : List Node) (list : IsNodeList ns) (f : FormulaId) where
     places : length flags ≡ length ns
     start : has_id flags f ≡ true
     occur : (g : FormulaId) → has_id flags g ≡ true → OccursIn ns f g
-    closed : (g h : FormulaId) → n ≤ g.0 → has_id flags g ≡ true → Contains (parts_of (node_at ns g.0)) h → has_id flags h ≡ true
+    closed : (g h : FormulaId) → n ≤ g.0 → has_id flags g ≡ true → Contains (operands_of (node_at ns g.0)) h → has_id flags h ≡ true
 
   marked_by : (n : ℕ) (flags : List Bool) → n < length ns → IsMarked (suc n) flags → (b : Bool) → get_or flags n false ≡ b → IsMarked n (cond b (with_parts flags (node_at ns n)) flags)
   marked_by n flags within m false e = record {
@@ -87,22 +87,22 @@ module _ (ns : List Node) (list : IsNodeList ns) (f : FormulaId) where
         ];
   }
   marked_by n flags within m true e = record {
-    places = fold_length flags (parts_of (node_at ns n)) ∙ m.places;
-    start = all-keeps flags (parts_of (node_at ns n)) f m.start;
+    places = fold_length flags (operands_of (node_at ns n)) ∙ m.places;
+    start = all-keeps flags (operands_of (node_at ns n)) f m.start;
     occur = λ g flag.
-        elim (all-cases flags (parts_of (node_at ns n)) g flag) [
+        elim (all-cases flags (operands_of (node_at ns n)) g flag) [
           | inl there ↦ part (id n) g (m.occur (id n) e) there
           | inr before ↦ m.occur g before
         ];
     closed = λ g h from flag there.
-        elim (all-cases flags (parts_of (node_at ns n)) g flag) [
+        elim (all-cases flags (operands_of (node_at ns n)) g flag) [
           | inl late ↦ absurd (let less : g.0 < n = part_below n (node_at ns n) (list.parts_first n) g late in omega arith)
           | inr before ↦ elim (cases_eq g.0 n) [
             | inl same ↦
                 let less : h.0 < g.0 = part_below g.0 (node_at ns g.0) (list.parts_first g.0) h there in
                 let len : length flags ≡ length ns = m.places in
-                all-here flags (parts_of (node_at ns n)) h (omega arith) (subst (λ (k : ℕ). Contains (parts_of (node_at ns k)) h) same there)
-            | inr other ↦ all-keeps flags (parts_of (node_at ns n)) h (m.closed g h (let apart : g.0 ≡ n → ⊥ = other in omega arith) before there)
+                all-here flags (operands_of (node_at ns n)) h (omega arith) (subst (λ (k : ℕ). Contains (operands_of (node_at ns k)) h) same there)
+            | inr other ↦ all-keeps flags (operands_of (node_at ns n)) h (m.closed g h (let apart : g.0 ≡ n → ⊥ = other in omega arith) before there)
           ]
         ];
   }
@@ -126,8 +126,8 @@ module _ (ns : List Node) (list : IsNodeList ns) (f : FormulaId) where
           closed = λ g h from flag there. absurd (beyond g h from there);
         })
       where
-        beyond : (g h : FormulaId) → length ns ≤ g.0 → Contains (parts_of (node_at ns g.0)) h → ⊥
-        beyond g h from c = Contains-none h (subst (λ (node : Node). Contains (parts_of node) h) (get_or_past ns g.0 False from) c)
+        beyond : (g h : FormulaId) → length ns ≤ g.0 → Contains (operands_of (node_at ns g.0)) h → ⊥
+        beyond g h from c = Contains-none h (subst (λ (node : Node). Contains (operands_of node) h) (get_or_past ns g.0 False from) c)
 
     flag_of : {g : FormulaId} → OccursIn ns f g → has_id (occurring ns f) g ≡ true
     flag_of itself = all_marked.start

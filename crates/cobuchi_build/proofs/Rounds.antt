@@ -12,7 +12,8 @@ use Rattle.cobuchi_build.specs.Explored.{Explored, expanding, explored, meeting,
 use Rattle.cobuchi_build.specs.Laws.{OneAutomatonPerFormula}
 use Rattle.cobuchi_build.specs.Occurring.{untils_of}
 use Rattle.text_base.specs.Prefix.{IsPrefix}
-use Rattle.cobuchi_build.proofs.Growth.{IsPrefix-refl, IsPrefix-trans, insert_key-more}
+use Rattle.text_base.proofs.PrefixLemmas.{IsPrefix-refl, IsPrefix-trans}
+use Rattle.cobuchi_build.proofs.Growth.{insert_key-more}
 
 -- what was found has grown
 pub record GrowsTo (old new : Explored) : Type 0 where

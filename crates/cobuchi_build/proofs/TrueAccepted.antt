@@ -17,9 +17,9 @@ use Rattle.ltl_formula.specs.Tree.{Tree}
 use Rattle.ltl_formula.specs.Tree.Tree.{truth, falsity, signal, negation, next_time, finally, globally, conjunction, disjunction, implication, equivalence, until, release, weak_until}
 use Rattle.ltl_formula.specs.Truth.{holds, until_at}
 use Rattle.ltl_formula.proofs.Ahead.{until_at-gives}
+use Rattle.ltl_formula.proofs.NodeEquality.{same_id_of}
 use Rattle.obligation_sets.specs.Ids.{same_id}
 use Rattle.obligation_sets.specs.NextStep.{HasFittingCover, SecondPartFails, SetHolds}
-use Rattle.obligation_sets.proofs.Flags.{same_id_of}
 use Rattle.obligation_sets.proofs.NextStep.{covers_are_the_next_step}
 use Rattle.machine_model.specs.Accepts.{Accepts, Path}
 use Rattle.machine_model.specs.Automaton.{AutomatonModel}

@@ -6,30 +6,30 @@ use Rattle.ltl_formula.specs.Nodes.{node_at}
 use Rattle.obligation_sets.specs.Ids.{IdsRise, ids_of, with_id}
 
 -- the parts of a formula
-abbrev pub parts_of : Node → List FormulaId
-parts_of True = []
-parts_of False = []
-parts_of (Signal k) = []
-parts_of (Not g) = g ∷ []
-parts_of (Next g) = g ∷ []
-parts_of (Finally g) = g ∷ []
-parts_of (Globally g) = g ∷ []
-parts_of (And g h) = g ∷ h ∷ []
-parts_of (Or g h) = g ∷ h ∷ []
-parts_of (Implies g h) = g ∷ h ∷ []
-parts_of (Equiv g h) = g ∷ h ∷ []
-parts_of (Until g h) = g ∷ h ∷ []
-parts_of (Release g h) = g ∷ h ∷ []
-parts_of (WeakUntil g h) = g ∷ h ∷ []
+abbrev pub operands_of : Node → List FormulaId
+operands_of True = []
+operands_of False = []
+operands_of (Signal k) = []
+operands_of (Not g) = g ∷ []
+operands_of (Next g) = g ∷ []
+operands_of (Finally g) = g ∷ []
+operands_of (Globally g) = g ∷ []
+operands_of (And g h) = g ∷ h ∷ []
+operands_of (Or g h) = g ∷ h ∷ []
+operands_of (Implies g h) = g ∷ h ∷ []
+operands_of (Equiv g h) = g ∷ h ∷ []
+operands_of (Until g h) = g ∷ h ∷ []
+operands_of (Release g h) = g ∷ h ∷ []
+operands_of (WeakUntil g h) = g ∷ h ∷ []
 
 -- a formula occurs in f: it is f, or a part of one that does
 pub data OccursIn (ns : List Node) (f : FormulaId) : FormulaId → Type 0 where
   itself : OccursIn ns f f
-  part : (g h : FormulaId) → OccursIn ns f g → Contains (parts_of (node_at ns g.0)) h → OccursIn ns f h
+  part : (g h : FormulaId) → OccursIn ns f g → Contains (operands_of (node_at ns g.0)) h → OccursIn ns f h
 
 -- the flags with those of a formula's parts
 abbrev pub with_parts : List Bool → Node → List Bool
-with_parts flags node = fold with_id flags (parts_of node)
+with_parts flags node = fold with_id flags (operands_of node)
 
 -- the flags with those of the parts of each formula below n that has one, from n down: parts stand before wholes
 abbrev pub marked_down : List Node → ℕ → List Bool → List Bool

@@ -21,7 +21,7 @@ pub const MAX_STATES: usize = 2_000;
 pub const MAX_EDGES: usize = 200_000;
 
 /// Why an automaton wasn't given.
-#[derive(Clone, Copy, Debug, PartialEq, Eq, Hash)]
+#[derive(Clone, Copy, Debug, PartialEq, Eq)]
 pub enum BuildFault {
     /// 1: the automaton passes a limit on its states, its edges or the leaves of a set.
     TooLarge,

@@ -19,7 +19,7 @@ pub(crate) struct CoverTable {
     sets: IndexSet<ObligationSet>,
     covers: Vec<Vec<Cover>>,
 
-    // How many covers there are in all.
+    /// How many covers there are in all.
     held: usize,
 }
 

@@ -13,7 +13,7 @@ use std::alloc::{AllocError, Global};
 use std::marker::Model;
 
 /// A state of the automaton: what is to hold from here on, and the number of the until that is waited for.
-#[derive(Debug, Drop, PartialEq, Eq, Hash)]
+#[derive(Drop, PartialEq, Eq, Hash)]
 pub(crate) struct State {
     pub(crate) set: ObligationSet,
     pub(crate) counter: u32,

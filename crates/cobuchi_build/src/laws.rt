@@ -1,4 +1,5 @@
-// Laws of the automaton of a formula. Each is the contract of a function that does nothing.
+//! Laws of the automaton of a formula. Each is the contract of a function that does nothing.
+
 ghost use Rattle.cobuchi_build.specs.Limits.{AutomataKeepLimits};
 ghost use Rattle.cobuchi_build.specs.Laws.{OneAutomatonPerFormula, TheAutomatonAcceptsExactly, UntilsAreThoseThatOccur};
 

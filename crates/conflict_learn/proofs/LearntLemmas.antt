@@ -3,7 +3,7 @@ use Rattle.std.proofs.Common.{◌≡◌, ℕ, ◌<◌, ◌≤◌, nat_eq, List, 
 use Rattle.std.proofs.lemmas.Bool.Decides.{Decides-eqb}
 use Rattle.std.proofs.lemmas.List.Elements.{All-contains}
 use Rattle.clause_base.specs.Literal.{Literal, negated}
-use Rattle.clause_base.specs.Clause.{IsClauseOf, IsWithin, HasBadVariable, IsTautology}
+use Rattle.clause_base.specs.Clause.{IsClauseOf, IsWithin, IsTautology}
 use Rattle.clause_base.proofs.Members.{Contains-head, Contains-later, Contains-none, Contains-cases}
 use Rattle.clause_base.proofs.Tests.{Decides-is_falsified, fails}
 use Rattle.refutation_log.specs.Follows.{Follows}
@@ -33,12 +33,6 @@ Contains-map f (x ∷ xs) y h = elim (Contains-cases (f x) (map f xs) y h) [
 none_in : (c : List Literal) → ((l : Literal) → Contains c l → ⊥) → c ≡ []
 none_in [] h = refl
 none_in (x ∷ xs) h = absurd (h x (Contains-head x xs))
-
-pub none_passes : (vars : ℕ) (lits : List Literal) → IsWithin vars lits → HasBadVariable vars lits → ⊥
-none_passes vars lits within bad =
-    let low : bad.1.var ≤ vars = All-contains (λ (l : Literal). l.var ≤ vars) lits bad.1 within (bad.0, bad.2, bad.3) in
-    let high : vars < bad.1.var = bad.4 in
-    omega arith
 
 -- the literals kept are the opposites of some that stand on the trail
 module _ (clauses : List (List Literal)) (vars : ℕ) (marks : List Mark) (trail : IsTrail vars marks) (top bound : ℕ) (lits : List Literal) (hints : List ℕ)

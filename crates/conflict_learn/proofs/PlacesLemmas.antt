@@ -43,9 +43,6 @@ flag_within [] q e = absurd (false≢true e)
 flag_within (b ∷ flags) zero e = omega arith
 flag_within (b ∷ flags) (suc q) e = let h : q < length flags = flag_within flags q e in omega arith
 
-pub none_past : (flags : List Bool) (q : ℕ) → length flags ≤ q → get_or flags q false ≡ false
-none_past flags q h = elim (cases_Bool (get_or flags q false)) [ inl set ↦ absurd (let w : q < length flags = flag_within flags q set in omega arith) | inr off ↦ off ]
-
 none_set : (k : ℕ) (flags : List Bool) → ((i : ℕ) → get_or flags i false ≡ false) → places_from k flags ≡ []
 none_set k [] unset = refl
 none_set k (true ∷ flags) unset = absurd (false≢true (sym (unset 0)))
@@ -65,9 +62,6 @@ cut k (false ∷ flags) (suc i) e unset =
 -- no place from there on is set
 abbrev pub NoneFrom : List Bool → ℕ → Type 0
 NoneFrom flags end = (q : ℕ) → end ≤ q → get_or flags q false ≡ false
-
-pub none_from-less : (flags : List Bool) (end less : ℕ) → end ≡ less + 1 → get_or flags less false ≡ false → NoneFrom flags end → NoneFrom flags less
-none_from-less flags end less e here none q h = elim (cases_eq q less) [ inl same ↦ ap (λ n. get_or flags n false) same ∙ here | inr other ↦ none q (let apart : q ≡ less → ⊥ = other in omega arith) ]
 
 pub no_places : (flags : List Bool) (end : ℕ) → end ≡ 0 → NoneFrom flags end → places_of flags ≡ []
 no_places flags end e none = none_set 0 flags (λ i. none i (omega arith))

@@ -1,31 +1,19 @@
 -- Places that make literals false, and what is resolved.
-use Rattle.std.proofs.Common.{◌≡◌, ◌≢◌, ℕ, suc, zero, ◌+◌, ◌-◌, ◌<◌, ◌≤◌, max, not, nat_eq, Bool, true, false, cond, List, [], ◌∷◌, ◌++◌, ◌⊎◌, inl, inr, Option, Some, None, take, drop, get_or, slice_get, length, Contains, All, refl, sym, subst, ap, ◌∙◌, true≢false, arith}
+use Rattle.std.proofs.Common.{◌≡◌, ◌≢◌, ℕ, suc, zero, ◌+◌, ◌-◌, ◌<◌, ◌≤◌, nat_eq, Bool, true, false, cond, List, [], ◌∷◌, ◌++◌, ◌⊎◌, inl, inr, Option, Some, None, take, get_or, slice_get, length, Contains, All, refl, sym, subst, ap, ◌∙◌, true≢false, arith}
 use Rattle.std.specs.Prelude.{IfNone}
 use Rattle.std.proofs.lemmas.Bool.Decides.{Decides-eqb}
-use Rattle.std.proofs.lemmas.List.{take_more, drop_more, drop_all}
+use Rattle.std.proofs.lemmas.List.{take_more}
 use Rattle.std.proofs.lemmas.List.Elements.{All-contains, Contains-push_cases}
 use Rattle.std.proofs.lemmas.Option.{slice_get_within}
 use Rattle.clause_base.specs.Literal.{Literal, negated}
-use Rattle.clause_base.proofs.Members.{Contains-none}
 use Rattle.refutation_log.specs.Follows.{clause_named}
 use Rattle.unit_propagate.specs.declared.marks.Mark.{Mark}
 use Rattle.unit_propagate.specs.Trail.{IsTrail, literals_of}
 use Rattle.unit_propagate.specs.Sound.{IsSound}
 use Rattle.unit_propagate.proofs.Places.{Contains-slice_get}
-use Rattle.conflict_learn.specs.Learnt.{clause_level, level_in}
 use Rattle.conflict_learn.specs.Places.{Gains}
 use Rattle.conflict_learn.specs.Analysis.{HasFalsifier, FalsifiesOne, AreUpTo, IsResolved, IsLeft, AddsFalsifier}
 use Rattle.conflict_learn.proofs.LevelLemmas.{level_up}
-
--- a literal of the same variable that isn't this one is its opposite
-pub other_sign : (a b : Literal) → a.var ≡ b.var → a ≢ b → a ≡ negated b
-other_sign a b e n = by a.positive b.positive refl refl
-  where
-    by : (p q : Bool) → a.positive ≡ p → b.positive ≡ q → a ≡ negated b
-    by true true s t = absurd (n (λ i. record { var = e i; positive = (s ∙ sym t) i }))
-    by true false s t = let o = s ∙ sym (ap not t) in λ i. record { var = e i; positive = o i }
-    by false true s t = let o = s ∙ sym (ap not t) in λ i. record { var = e i; positive = o i }
-    by false false s t = absurd (n (λ i. record { var = e i; positive = (s ∙ sym t) i }))
 
 -- ---- adding places
 
@@ -34,37 +22,9 @@ taken_cases xs i x y lt is h = Contains-push_cases (take i xs) x y (subst (λ ys
 
 -- ---- the highest level
 
-pub more_level : (marks : List Mark) (lits : List Literal) (i : ℕ) (x : Literal) (top next : ℕ) (whole : ℕ) → i < length lits → x ≡ get_or lits i x → next ≡ max top (level_in marks x.var)
-    → max top (clause_level marks (drop i lits)) ≡ whole → max next (clause_level marks (drop (i + 1) lits)) ≡ whole
-more_level marks lits i x top next whole lt is e inv =
-    let d : drop i lits ≡ x ∷ drop (i + 1) lits = drop_more lits i x lt ∙ ap (λ y. y ∷ drop (i + 1) lits) (sym is) in
-    let c : clause_level marks (drop i lits) ≡ max (level_in marks x.var) (clause_level marks (drop (i + 1) lits)) = ap (clause_level marks) d in
-    omega arith
-
-pub all_level : (marks : List Mark) (lits : List Literal) (i top : ℕ) → length lits ≤ i → max top (clause_level marks (drop i lits)) ≡ clause_level marks lits → top ≡ clause_level marks lits
-all_level marks lits i top le inv = let d : clause_level marks (drop i lits) ≡ 0 = ap (clause_level marks) (drop_all i lits le) in omega arith
-
 -- ---- what is resolved, and what is kept
 
 module _ (vars : ℕ) (marks : List Mark) (trail : IsTrail vars marks) (places : List ℕ) (place top : ℕ) (m : Mark) (at : slice_get marks place ≡ Some m) (low : All (λ q. q < place) places) (levels : AreUpTo marks top places) where
-  -- on level 0
-  pub resolved_zero : (reason : ℕ) → m.level ≡ 0 → m.reason ≡ Some reason → IsResolved marks places place top reason
-  resolved_zero reason z r = record { mark = m; there = at; by_reason = r; level = inl z }
-
-  pub unresolved_zero : (clauses : List (List Literal)) → m.level ≡ 0 → m.reason ≡ None → IsSound clauses marks → IsLeft marks places place top
-  unresolved_zero clauses z r s = absurd (let a = s.assumed place m at r in let b : 0 < m.level = a.0 in omega arith)
-
-  -- below the highest level
-  pub resolved_below : (reason : ℕ) → m.level < top → m.reason ≡ Some reason → IsResolved marks places place top reason
-  resolved_below reason lt r = record { mark = m; there = at; by_reason = r; level = inr (inl lt) }
-
-  -- there, or the last one on it
-  pub left_below : 0 < m.level → m.level ≢ top → IsLeft marks places place top
-  left_below p n = record { mark = m; there = at; above = p; alone = λ e. absurd (n e) }
-
-  pub left_last : 0 < m.level → places ≡ [] → IsLeft marks places place top
-  left_last p e = record { mark = m; there = at; above = p; alone = λ _ q n h. absurd (Contains-none q (subst (λ xs. Contains xs q) e h)) }
-
   -- the last place to come
   module _ (next : ℕ) (n : Mark) (to_come : Contains places next) (last : All (λ q. q ≤ next) places) (there : slice_get marks next ≡ Some n) where
     pub left_other : 0 < m.level → n.level ≢ top → IsLeft marks places place top
@@ -124,9 +84,6 @@ more_only marks lits i x first old new lt is g inv q h = elim (g.only q h) [
   | inl o ↦ inv q o
   | inr m ↦ inr (m.0, x, m.1, (i, lt, sym is), m.2)
 ]
-
-pub AddsFalsifier-none : (marks : List Mark) (old : List ℕ) (l : Literal) → (Contains (literals_of marks) (negated l) → ⊥) → AddsFalsifier marks old old l
-AddsFalsifier-none marks old l n = record { keeps = λ q h. h; all = λ h. absurd (n h); only = λ q h. inl h }
 
 pub AddsFalsifier-gains : (marks : List Mark) (old new : List ℕ) (l : Literal) (place : ℕ) (m : Mark) → slice_get marks place ≡ Some m → m.lit ≡ negated l → Gains old new place → AddsFalsifier marks old new l
 AddsFalsifier-gains marks old new l place m at e g = record {

@@ -78,7 +78,7 @@ impl Places {
     }
 
     /// Takes the last place.
-    pub fn take_last(&mut self) -> Option<usize>
+    pub(crate) fn take_last(&mut self) -> Option<usize>
         ensures some { IfSome result (λ place. (self.old ≡ self.new ++ place ∷ []) × All (λ q. q < place) self.new) }
         ensures none { IfNone result (self.old ≡ []) }
     {

@@ -7,7 +7,7 @@ use Rattle.synth_engine.specs.declared.settings.Settings.{Settings}
 use Rattle.unreal_core.specs.declared.shrink.Standing.{Standing}
 use Rattle.unreal_core.specs.declared.shrink.Standing.TheVariants.{Open, Needed, Dropped}
 use Rattle.unreal_core.specs.Laws.{is_kept, kept_in}
-use Rattle.unreal_core.specs.Shrink.{IsFirstOpen, IsKept, IsNeeded, answered, asked, told, told_about}
+use Rattle.unreal_core.specs.Shrink.{IsFirstOpenGuarantee, IsKeptGuarantee, IsNeeded, answered, asked, told, told_about}
 use Rattle.core_answer.specs.Core.{AreSpared, EachHas, IsToldOver, Tells, numbers, without}
 use Rattle.core_answer.specs.Known.{IsShrunk, IsTextIn, needed_from}
 use Rattle.core_answer.specs.Over.{are_all}
@@ -25,7 +25,7 @@ module _ (text : List ℕ) (kind : Option Kind) (settings : Settings) where
     spared = subst (λ ns. EachHas (Spared (kept_in (replicate count Open))) ns []) (sym (fresh_needed 1 count)) tt;
   }
 
-  module _ (s : List Standing) (document : List ℕ) (others : List (List ℕ)) (so_far : IsShrunk text kind settings s document others) (n : ℕ) (first : IsFirstOpen s n) (bytes : List ℕ) where
+  module _ (s : List Standing) (document : List ℕ) (others : List (List ℕ)) (so_far : IsShrunk text kind settings s document others) (n : ℕ) (first : IsFirstOpenGuarantee s n) (bytes : List ℕ) where
     dropped : Tells text (without n (kept_in s)) kind settings true bytes → IsShrunk text kind settings (answered true n s) bytes []
     dropped tells = record {
       defeated = subst (λ keep. Tells text keep kind settings true bytes) (sym (dropped_kept s (n - 1))) tells;
@@ -59,7 +59,7 @@ module _ (text : List ℕ) (kind : Option Kind) (settings : Settings) where
     one_more true tells = dropped tells
     one_more false tells = found_needed tells
 
-  pub told_more : (s : List Standing) (document : List ℕ) (others : List (List ℕ)) → IsShrunk text kind settings s document others → (n : ℕ) → asked s ≡ Some n → IsFirstOpen s n
+  pub told_more : (s : List Standing) (document : List ℕ) (others : List (List ℕ)) → IsShrunk text kind settings s document others → (n : ℕ) → asked s ≡ Some n → IsFirstOpenGuarantee s n
       → (bytes : List ℕ) (defeat : Bool) → Tells text (without n (kept_in s)) kind settings defeat bytes
       → IsShrunk text kind settings (told defeat s) (document_taken defeat bytes document) (others_taken defeat bytes others)
   told_more s document others so_far n is first bytes defeat tells =
@@ -67,7 +67,7 @@ module _ (text : List ℕ) (kind : Option Kind) (settings : Settings) where
       (one_more s document others so_far n first bytes defeat tells)
 
   -- in the end each guarantee that is kept is needed
-  pub at_last : (s : List Standing) (document : List ℕ) (others : List (List ℕ)) → IsShrunk text kind settings s document others → ((n : ℕ) → IsKept s n → IsNeeded s n)
+  pub at_last : (s : List Standing) (document : List ℕ) (others : List (List ℕ)) → IsShrunk text kind settings s document others → ((n : ℕ) → IsKeptGuarantee s n → IsNeeded s n)
       → AreSpared text (kept_in s) kind settings (numbers (kept_in s)) others
   at_last s document others shrunk all =
       subst (λ ns. EachHas (Spared (kept_in s)) ns others)
@@ -91,7 +91,7 @@ at_start spec settings count whole = record {
 }
 
 module _ (spec : FlatText) (settings : Settings) (count : ℕ) (whole : List ℕ) (s : List Standing) (document : List ℕ) (others : List (Vec ℕ Global))
-    (so_far : IsSoFar spec settings count whole s document others) (n : ℕ) (is : asked s ≡ Some n) (first : IsFirstOpen s n) where
+    (so_far : IsSoFar spec settings count whole s document others) (n : ℕ) (is : asked s ≡ Some n) (first : IsFirstOpenGuarantee s n) where
   pub fewer : are_all (without n (kept_in s)) ≡ false
   fewer =
       let some : 1 ≤ n = first.is_open.first in

@@ -1,6 +1,5 @@
 -- What is told of a whole text.
-use Rattle.std.proofs.Common.{◌≡◌, ℕ, ◌<◌, ◌≤◌, Bool, true, false, List, Option, Some, Result, Ok, Err, IfOk, length, replicate, refl, sym, ap, subst, ◌∙◌}
-use Rattle.std.specs.Prelude.{not}
+use Rattle.std.proofs.Common.{◌≡◌, ℕ, ◌<◌, ◌≤◌, Bool, true, false, List, Option, Some, Result, Ok, Err, IfOk, length, replicate, sym, ap, subst, ◌∙◌}
 use Rattle.letter_word.specs.declared.kinds.Kind.{Kind}
 use Rattle.ltl_formula.proofs.Lists.{signals_are_below}
 use Rattle.std.proofs.lemmas.Result.{IfOk-weaker}
@@ -111,11 +110,3 @@ pub core_replied : (text : List ℕ) (kind : Option Kind) (settings : Settings) 
 core_replied text kind settings count r ended told made =
     IfOk-weaker r (λ r. (r.status ≡ Unrealizable) × IsToldCore text kind settings count r.bytes.items) (λ r. CoreAnswers text kind settings r.bytes.items (status_number r.status))
     (λ r h. core (ap status_number h.0) (made r.bytes.items h.1)) (both_ok (λ r. r.status ≡ Unrealizable) (λ r. IsToldCore text kind settings count r.bytes.items) r ended told)
-
-pub is_not : (b : Bool) → not b ≡ true → b ≡ false
-is_not true h = sym h
-is_not false h = refl
-
-pub not_false : (b : Bool) → not b ≡ false → b ≡ true
-not_false true e = refl
-not_false false e = absurd (let never : ⊥ = cc in never)

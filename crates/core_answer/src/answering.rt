@@ -55,7 +55,7 @@ pub fn core_answer<R: Threads + Wait + Sync, G: Gate + Sync>(
     }
 }
 
-// The reply to a text that has problems.
+/// The reply to a text that has problems.
 fn text_answer<R: Threads + Wait + Sync, G: Gate + Sync>(
     rt: &R,
     alloc: Global,
@@ -92,7 +92,7 @@ fn text_answer<R: Threads + Wait + Sync, G: Gate + Sync>(
     )
 }
 
-// The guarantees that can't be met together of a text whose document has a counter-machine.
+/// The guarantees that can't be met together of a text whose document has a counter-machine.
 fn core_of<R: Threads + Wait + Sync, G: Gate + Sync>(
     rt: &R,
     alloc: Global,

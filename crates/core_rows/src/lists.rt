@@ -1,4 +1,4 @@
-// Lists of formulas, and the whole over some of their guarantees.
+//! Lists of formulas, and the whole over some of their guarantees.
 
 ghost use Rattle.std.specs.Prelude.{All, IsTrue};
 ghost use Rattle.ltl_formula.specs.Nodes.{Stands};

@@ -1,4 +1,4 @@
-// Questions about numbers and their answers.
+//! Questions about numbers and their answers.
 
 ghost use Rattle.std.specs.Prelude.{◌≤◌};
 

@@ -34,7 +34,7 @@ pub(crate) fn push_answer(
     }
 }
 
-// Appends a number of states that is the least.
+/// Appends a number of states that is the least.
 fn push_smallest(states: u64, out: &mut String) -> Result<(), AllocError> {
     Count(states).push_to("state", out)?;
     out.push_str(if states == 1 {

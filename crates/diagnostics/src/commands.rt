@@ -208,7 +208,7 @@ impl Values {
     }
 }
 
-// Whether a word is a number without leading zeros in that range.
+/// Whether a word is a number without leading zeros in that range.
 fn is_number(word: &str, least: u32, most: u32) -> bool {
     let is_numeral = word.bytes().all(|byte| byte.is_ascii_digit())
         && (word.len() == 1 || !word.starts_with('0'));

@@ -62,7 +62,7 @@ impl Answer {
         own.filter(|log| log.side == side).collect(alloc)
     }
 
-    // Hears a line without its end.
+    /// Hears a line without its end.
     fn hear(&mut self, line: &[u8]) -> Result<(), AllocError> {
         let (word, rest) = cut_word(line);
         match word {
@@ -86,7 +86,7 @@ impl Answer {
         }
     }
 
-    // Hears a line behind a document's head.
+    /// Hears a line behind a document's head.
     fn hear_body(&mut self, word: &[u8], rest: &[u8]) -> Result<(), AllocError> {
         match word {
             b"verdict" => self.verdict = verdict_of(rest),
@@ -108,7 +108,7 @@ impl Answer {
         Ok(())
     }
 
-    // Hears an entry of the last log, behind the worker's number.
+    /// Hears an entry of the last log, behind the worker's number.
     fn hear_entry(&mut self, rest: &[u8]) {
         if let Some(log) = self.logs.last_mut() {
             log.is_closed = cut_word(rest).0 == b"0".as_slice();
@@ -159,7 +159,7 @@ impl Heard {
     }
 
     /// Whether memory lacked for what was heard.
-    pub fn is_lost(&self) -> bool {
+    pub(crate) fn is_lost(&self) -> bool {
         self.is_lost
     }
 
@@ -198,7 +198,7 @@ impl Heard {
     }
 }
 
-// The number that a word is.
+/// The number that a word is.
 fn parsed(word: &[u8]) -> Option<u64> {
     str::from_utf8(word).ok()?.parse::<u64>().ok()
 }
@@ -207,7 +207,7 @@ fn number(word: &[u8]) -> u64 {
     parsed(word).unwrap_or(0)
 }
 
-// The number that stands behind so many words.
+/// The number that stands behind so many words.
 fn numbers_at(line: &[u8], place: usize) -> Option<u64> {
     parsed(line.split(|byte| *byte == b' ').nth(place)?)
 }
@@ -234,7 +234,7 @@ fn verdict_of(words: &[u8]) -> Option<Verdict> {
     }
 }
 
-// The codes of the faults, by their numbers.
+/// The codes of the faults, by their numbers.
 const CODES: [SpecCode; 20] = [
     SpecCode::TooLong,
     SpecCode::BadByte,

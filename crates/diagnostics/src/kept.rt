@@ -1,6 +1,6 @@
 use std::alloc::{AllocError, Global};
 
-// The most bytes that are kept of a file.
+/// The most bytes that are kept of a file.
 const MOST_KEPT: usize = 16_777_216;
 
 /// A file that a run took, and what was kept of it.
@@ -45,7 +45,7 @@ impl KeptFiles {
     }
 
     /// Whether memory lacked for a copy.
-    pub fn is_lost(&self) -> bool {
+    pub(crate) fn is_lost(&self) -> bool {
         self.is_lost
     }
 
@@ -111,7 +111,7 @@ impl KeptFile {
     }
 }
 
-// At most so many of the first bytes.
+/// At most so many of the first bytes.
 fn front(bytes: &[u8], most: usize) -> &[u8] {
     bytes.get(..most).unwrap_or(bytes)
 }

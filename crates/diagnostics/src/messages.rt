@@ -123,7 +123,7 @@ fn push_refused(alloc: Global, seen: Seen<'_>, out: &mut String) -> Result<(), A
     }
 }
 
-// What a refused line is of, by the command.
+/// What a refused line is of, by the command.
 fn line_of(seen: Seen<'_>) -> Option<LineOf> {
     match seen.words.get(1)?.as_str() {
         "check" => Some(LineOf::Document),
@@ -158,7 +158,7 @@ fn push_found(alloc: Global, seen: Seen<'_>, out: &mut String) -> Result<(), All
     }
 }
 
-// Appends a message for each refused text of a list, and what was found of the others where that is wanted.
+/// Appends a message for each refused text of a list, and what was found of the others where that is wanted.
 fn push_texts(
     alloc: Global,
     seen: Seen<'_>,

@@ -21,7 +21,7 @@ impl OwnWords {
         usize::from(self.progress) + usize::from(self.quiet) + usize::from(self.verbose)
     }
 
-    // These with one word more. None where it is none of them, or stands already.
+    /// These with one word more. None where it is none of them, or stands already.
     fn with(self, word: &str) -> Option<OwnWords> {
         match word {
             "--progress" if !self.progress => Some(OwnWords {

@@ -60,7 +60,7 @@ pub fn progress_line(
     Ok(line)
 }
 
-// Appends a size as far as it fits in the line.
+/// Appends a size as far as it fits in the line.
 fn push_size(
     alloc: Global,
     size: SizeTurns,
@@ -74,7 +74,7 @@ fn push_size(
     Ok(())
 }
 
-// What is told of one size: ` system 2: turns 810 (+95), entries 812;`.
+/// What is told of one size: ` system 2: turns 810 (+95), entries 812;`.
 fn piece(alloc: Global, turns: SizeTurns, limit: Option<u64>) -> Result<String, AllocError> {
     let side = match turns.side {
         Side::System => "system",

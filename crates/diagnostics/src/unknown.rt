@@ -74,7 +74,7 @@ fn push_bounded(side: Side, states: u64, out: &mut String) -> Result<(), AllocEr
     out.push_str(", and whether with fewer isn't known\n")
 }
 
-// Appends that there is no verdict.
+/// Appends that there is no verdict.
 fn push_open(system: &Sizes, environment: &Sizes, out: &mut String) -> Result<(), AllocError> {
     out.push_str(if system.count == 0 && environment.count == 0 {
         "unknown: no size was searched at all\n"
@@ -83,7 +83,7 @@ fn push_open(system: &Sizes, environment: &Sizes, out: &mut String) -> Result<()
     })
 }
 
-// Appends what became of the sizes of a side, and why no greater one was searched.
+/// Appends what became of the sizes of a side, and why no greater one was searched.
 fn push_side(
     side: Side,
     sizes: &Sizes,
@@ -147,7 +147,7 @@ fn push_sizes(
     Ok(())
 }
 
-// Appends numbers behind a noun: `sizes 1, 2 and 3`.
+/// Appends numbers behind a noun: `sizes 1, 2 and 3`.
 fn push_list(noun: &str, numbers: &[u64], out: &mut String) -> Result<(), AllocError> {
     out.push_str(noun)?;
     if numbers.len() > 1 {
@@ -220,7 +220,7 @@ impl Advice {
     }
 }
 
-// Which side reached the greatest size that was asked for, where there are greater ones.
+/// Which side reached the greatest size that was asked for, where there are greater ones.
 fn reaching(system: &Sizes, environment: &Sizes, answer: &Answer) -> Option<&'static str> {
     if answer.max >= GREATEST_SIZE {
         return None;

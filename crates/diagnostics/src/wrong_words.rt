@@ -86,7 +86,7 @@ fn push_values(part: Part, out: &mut String) -> Result<(), AllocError> {
     part.values.push_to(out)
 }
 
-// Appends a word in quotes behind a text.
+/// Appends a word in quotes behind a text.
 fn push_about(alloc: Global, before: &str, word: &str, out: &mut String) -> Result<(), AllocError> {
     out.push_str(before)?;
     out.push('`')?;
@@ -114,7 +114,7 @@ fn wrong_in<'a>(command: Option<Command>, words: &'a [String]) -> Wrong<'a> {
     }
 }
 
-// What is wrong behind a command.
+/// What is wrong behind a command.
 fn wrong_behind<'a>(command: Command, words: &'a [String]) -> Wrong<'a> {
     let mut reading = Reading {
         is_open: false,
@@ -130,7 +130,7 @@ fn wrong_behind<'a>(command: Command, words: &'a [String]) -> Wrong<'a> {
     reading.end(command, words)
 }
 
-// What is known of the words so far.
+/// What is known of the words so far.
 #[derive(Clone, Copy)]
 struct Reading {
     /// Whether the last word is an option whose value comes next.
@@ -142,7 +142,7 @@ struct Reading {
 }
 
 impl Reading {
-    // Reads a word; it is wrong where one is given. The words before it are those behind the command.
+    /// Reads a word; it is wrong where one is given. The words before it are those behind the command.
     fn wrong<'a>(
         &mut self,
         command: Command,
@@ -197,7 +197,7 @@ impl Reading {
         wrong_value(option, value?)
     }
 
-    // What is wrong where no word comes any more.
+    /// What is wrong where no word comes any more.
     fn end<'a>(self, command: Command, words: &[String]) -> Wrong<'a> {
         let open = if self.is_open {
             last_option(command, words)
@@ -212,7 +212,7 @@ impl Reading {
     }
 }
 
-// The option that the last word names.
+/// The option that the last word names.
 fn last_option(command: Command, words: &[String]) -> Option<Part> {
     command.option(words.last()?.as_str())
 }
@@ -225,7 +225,7 @@ fn wrong_value<'a>(part: Part, word: &'a str) -> Option<Wrong<'a>> {
     }
 }
 
-// Whether a word names that option, alone or with its value.
+/// Whether a word names that option, alone or with its value.
 fn names_option(word: &str, name: &str) -> bool {
     match word.strip_prefix(name) {
         Some(rest) => rest.is_empty() || rest.starts_with('='),

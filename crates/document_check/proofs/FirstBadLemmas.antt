@@ -1,5 +1,5 @@
 -- At most one line is the first bad one.
-use Rattle.std.proofs.Common.{◌≡◌, ℕ, ◌+◌, Bool, true, false, Option, Some, None, List, [], ◌∷◌, refl, sym, ap, subst, ◌∙◌}
+use Rattle.std.proofs.Common.{◌≡◌, ℕ, ◌+◌, Bool, true, false, Option, Some, None, List, [], ◌∷◌, refl, sym, ap, subst, ◌∙◌, true≢false}
 use Rattle.std.specs.Prelude.{MatchOption, unwrap_or}
 use Rattle.letter_word.specs.declared.kinds.Kind.{Kind}
 use Rattle.machine_model.specs.declared.problems.Problem.{Problem}
@@ -15,29 +15,26 @@ use Rattle.document_check.specs.declared.facts.Asked.{Asked}
 use Rattle.document_check.specs.declared.facts.Size.{Size}
 use Rattle.document_check.specs.Facts.{Facts, problem_at}
 use Rattle.document_check.specs.Holds.{may_be_full}
-use Rattle.document_check.specs.FirstBad.{asked_in, circuit_line, earliest, end_line, entry_of, environment_sizes, Fails, FailsBehind, has_numbers, IsFirstBadFor, is_size_of, last_line, LogFails, other_numbers, bad_entry, left_open, is_good, LogsFail, all_there, one_missing, one_more, another, no_problem, one_fails, one_good, number_line, suffices, system_sizes, wanted_in}
+use Rattle.document_check.specs.FirstBad.{asked_in, circuit_line, earliest, end_line, entry_of, environment_sizes, Fails, FailsBehind, IsFirstBadFor, last_line, LogFails, other_numbers, bad_entry, left_open, is_good, LogsFail, all_there, one_missing, one_more, another, no_problem, one_fails, one_good, number_line, system_sizes, wanted_in}
 use Rattle.std.specs.Option.{option_or}
-
-never_both : (b : Bool) → b ≡ true → b ≡ false → ⊥
-never_both b t f = let never : ◌≡◌ {A = Bool} true false = sym t ∙ f in absurd (cc)
 
 module _ (full : Bool) (limit : Option ℕ) (l : LogPart) (p : Problem) where
   pub fails_same : (a b : Option ℕ) → LogFails full limit l p a → LogFails full limit l p b → a ≡ b
   fails_same a b (other_numbers e) (other_numbers e') = refl
-  fails_same a b (other_numbers e) (bad_entry f' n' x') = absurd (never_both (has_numbers l p) n' e)
-  fails_same a b (other_numbers e) (left_open n' g' s') = absurd (never_both (has_numbers l p) n' e)
-  fails_same a b (other_numbers e) (is_good n' g' s') = absurd (never_both (has_numbers l p) n' e)
-  fails_same a b (bad_entry f n x) (other_numbers e') = absurd (never_both (has_numbers l p) n e')
+  fails_same a b (other_numbers e) (bad_entry f' n' x') = absurd (true≢false (sym n' ∙ e))
+  fails_same a b (other_numbers e) (left_open n' g' s') = absurd (true≢false (sym n' ∙ e))
+  fails_same a b (other_numbers e) (is_good n' g' s') = absurd (true≢false (sym n' ∙ e))
+  fails_same a b (bad_entry f n x) (other_numbers e') = absurd (true≢false (sym n ∙ e'))
   fails_same a b (bad_entry f n x) (bad_entry f' n' x') = ap (λ (x : LogFault). Some (l.line + 1 + entry_of x)) (one_fault (base_clauses p) limit l.entries f f' x x')
   fails_same a b (bad_entry f n x) (left_open n' g' s') = absurd (legal_has_none (variables_of p) (base_clauses p) limit l.entries f g' x)
   fails_same a b (bad_entry f n x) (is_good n' g' s') = absurd (legal_has_none (variables_of p) (base_clauses p) limit l.entries f g' x)
-  fails_same a b (left_open n g s) (other_numbers e') = absurd (never_both (has_numbers l p) n e')
+  fails_same a b (left_open n g s) (other_numbers e') = absurd (true≢false (sym n ∙ e'))
   fails_same a b (left_open n g s) (bad_entry f' n' x') = absurd (legal_has_none (variables_of p) (base_clauses p) limit l.entries f' g x')
   fails_same a b (left_open n g s) (left_open n' g' s') = refl
-  fails_same a b (left_open n g s) (is_good n' g' s') = absurd (never_both (suffices full limit l.entries) s' s)
-  fails_same a b (is_good n g s) (other_numbers e') = absurd (never_both (has_numbers l p) n e')
+  fails_same a b (left_open n g s) (is_good n' g' s') = absurd (true≢false (sym s' ∙ s))
+  fails_same a b (is_good n g s) (other_numbers e') = absurd (true≢false (sym n ∙ e'))
   fails_same a b (is_good n g s) (bad_entry f' n' x') = absurd (legal_has_none (variables_of p) (base_clauses p) limit l.entries f' g x')
-  fails_same a b (is_good n g s) (left_open n' g' s') = absurd (never_both (suffices full limit l.entries) s s')
+  fails_same a b (is_good n g s) (left_open n' g' s') = absurd (true≢false (sym s ∙ s'))
   fails_same a b (is_good n g s) (is_good n' g' s') = refl
 
 module _ (facts : Facts) (kind : Kind) (version : ℕ) (full : Bool) (limit : Option ℕ) (end : ℕ) where
@@ -51,18 +48,18 @@ module _ (facts : Facts) (kind : Kind) (version : ℕ) (full : Bool) (limit : Op
   logs_same (s ∷ ss) [] a b (one_missing z zs) (one_missing y ys) = refl
   logs_same [] (l ∷ ls) a b (one_more z zs) (one_more y ys) = refl
   logs_same (s ∷ ss) (l ∷ ls) a b (another z zs m ms e) (another z' zs' m' ms' e') = refl
-  logs_same (s ∷ ss) (l ∷ ls) a b (another z zs m ms e) (no_problem z' zs' m' ms' e' q') = absurd (never_both (is_size_of s l) e' e)
-  logs_same (s ∷ ss) (l ∷ ls) a b (another z zs m ms e) (one_fails z' zs' m' ms' p' n' e' q' f') = absurd (never_both (is_size_of s l) e' e)
-  logs_same (s ∷ ss) (l ∷ ls) a b (another z zs m ms e) (one_good z' zs' m' ms' p' o' e' q' f' more') = absurd (never_both (is_size_of s l) e' e)
-  logs_same (s ∷ ss) (l ∷ ls) a b (no_problem z zs m ms e q) (another z' zs' m' ms' e') = absurd (never_both (is_size_of s l) e e')
+  logs_same (s ∷ ss) (l ∷ ls) a b (another z zs m ms e) (no_problem z' zs' m' ms' e' q') = absurd (true≢false (sym e' ∙ e))
+  logs_same (s ∷ ss) (l ∷ ls) a b (another z zs m ms e) (one_fails z' zs' m' ms' p' n' e' q' f') = absurd (true≢false (sym e' ∙ e))
+  logs_same (s ∷ ss) (l ∷ ls) a b (another z zs m ms e) (one_good z' zs' m' ms' p' o' e' q' f' more') = absurd (true≢false (sym e' ∙ e))
+  logs_same (s ∷ ss) (l ∷ ls) a b (no_problem z zs m ms e q) (another z' zs' m' ms' e') = absurd (true≢false (sym e ∙ e'))
   logs_same (s ∷ ss) (l ∷ ls) a b (no_problem z zs m ms e q) (no_problem z' zs' m' ms' e' q') = refl
   logs_same (s ∷ ss) (l ∷ ls) a b (no_problem z zs m ms e q) (one_fails z' zs' m' ms' p' n' e' q' f') = absurd (some_none (problem_at facts kind version l.side l.size) p' q' q)
   logs_same (s ∷ ss) (l ∷ ls) a b (no_problem z zs m ms e q) (one_good z' zs' m' ms' p' o' e' q' f' more') = absurd (some_none (problem_at facts kind version l.side l.size) p' q' q)
-  logs_same (s ∷ ss) (l ∷ ls) a b (one_fails z zs m ms p n e q f) (another z' zs' m' ms' e') = absurd (never_both (is_size_of s l) e e')
+  logs_same (s ∷ ss) (l ∷ ls) a b (one_fails z zs m ms p n e q f) (another z' zs' m' ms' e') = absurd (true≢false (sym e ∙ e'))
   logs_same (s ∷ ss) (l ∷ ls) a b (one_fails z zs m ms p n e q f) (no_problem z' zs' m' ms' e' q') = absurd (some_none (problem_at facts kind version l.side l.size) p q q')
   logs_same (s ∷ ss) (l ∷ ls) a b (one_fails z zs m ms p n e q f) (one_fails z' zs' m' ms' p' n' e' q' f') = its_same s l p p' (Some n) (Some n') q q' f f'
   logs_same (s ∷ ss) (l ∷ ls) a b (one_fails z zs m ms p n e q f) (one_good z' zs' m' ms' p' o' e' q' f' more') = absurd (some_none (Some n) n refl (its_same s l p p' (Some n) None q q' f f'))
-  logs_same (s ∷ ss) (l ∷ ls) a b (one_good z zs m ms p o e q f more) (another z' zs' m' ms' e') = absurd (never_both (is_size_of s l) e e')
+  logs_same (s ∷ ss) (l ∷ ls) a b (one_good z zs m ms p o e q f more) (another z' zs' m' ms' e') = absurd (true≢false (sym e ∙ e'))
   logs_same (s ∷ ss) (l ∷ ls) a b (one_good z zs m ms p o e q f more) (no_problem z' zs' m' ms' e' q') = absurd (some_none (problem_at facts kind version l.side l.size) p q q')
   logs_same (s ∷ ss) (l ∷ ls) a b (one_good z zs m ms p o e q f more) (one_fails z' zs' m' ms' p' n' e' q' f') = absurd (some_none (Some n') n' refl (sym (its_same s l p p' None (Some n') q q' f f')))
   logs_same (s ∷ ss) (l ∷ ls) a b (one_good z zs m ms p o e q f more) (one_good z' zs' m' ms' p' o' e' q' f' more') = logs_same ss ls a b more more'

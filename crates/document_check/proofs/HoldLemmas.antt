@@ -1,11 +1,11 @@
 -- A document holds for a text exactly where no line fails.
-use Rattle.std.proofs.Common.{◌≡◌, ℕ, suc, ◌+◌, ◌≤◌, ◌==◌, Bool, true, false, ◌&&◌, ◌||◌, cond, eqb, Option, Some, None, List, [], ◌∷◌, length, refl, sym, ap, subst, ◌∙◌, arith, inl, inr, ◌⊎◌}
+use Rattle.std.proofs.Common.{◌≡◌, ℕ, suc, ◌+◌, ◌≤◌, ◌==◌, Bool, true, false, ◌&&◌, ◌||◌, cond, eqb, Option, Some, None, List, [], ◌∷◌, length, refl, sym, ap, subst, ◌∙◌, arith, inl, inr, ◌⊎◌, true≢false}
 use Rattle.std.specs.Prelude.{map, MatchOption, IfSome, nat_le, is_some, slice_index}
 use Rattle.std.specs.Option.{option_or, option_map_or}
 use Rattle.std.specs.List.{list_all}
 use Rattle.std.specs.Str.{bytes_eq}
 use Rattle.std.specs.Cmp.Lexicographic.{bytes_decides}
-use Rattle.std.proofs.lemmas.Bool.{eqb-true, eq-eqb, le-leb, leb-true}
+use Rattle.std.proofs.lemmas.Bool.{eqb-true, eq-eqb, le-leb, leb-true, and_parts, and_from}
 use Rattle.letter_word.specs.declared.kinds.Kind.{Kind}
 use Rattle.letter_word.specs.declared.kinds.Side.{Side}
 use Rattle.letter_word.specs.declared.kinds.Side.TheVariants.{System, Environment}
@@ -19,15 +19,13 @@ use Rattle.refutation_log.specs.Turn.{is_at_limit}
 use Rattle.log_checker.proofs.FaultLemmas.{legal_has_none}
 use Rattle.aiger_text.specs.Circuit.{Circuit}
 use Rattle.aiger_text.specs.CircuitFile.{File}
-use Rattle.aiger_text.proofs.Numbers.{both}
 use Rattle.cert_text.specs.declared.documents.Verdict.{Verdict}
 use Rattle.cert_text.specs.declared.reading.CircuitPart.{CircuitPart}
 use Rattle.cert_text.specs.declared.reading.CircuitPart.TheVariants.{Absent, Faulty, Stated}
 use Rattle.cert_text.specs.Parts.{LogPart, Document}
-use Rattle.cert_text.specs.Order.{same_side}
+use Rattle.letter_word.specs.contracts.kinds.SidePartialEq.TheImpl.{ghosts as side_ghosts}
 use Rattle.cert_text.specs.Reading.{DocumentLines, Reads, all_named, circuit_in}
 use Rattle.cert_text.specs.States.{States}
-use Rattle.cert_text.proofs.HeaderWhole.{both_true}
 use Rattle.cert_text.proofs.LogsLemmas.{some_none}
 use Rattle.cert_text.proofs.Whole.{all_good}
 use Rattle.document_check.specs.declared.facts.Asked.{Asked}
@@ -36,9 +34,6 @@ use Rattle.document_check.specs.Facts.{Facts, problem_at, wanted_sizes, read_nam
 use Rattle.document_check.specs.Holds.{AllHold, first_open, HasNames, HoldsAt, HoldsFor, is_allowed, IsAsWanted, IsLogOf, IsLogOfSome, may_be_full, names_open, size_of}
 use Rattle.document_check.specs.FirstBad.{circuit_line, earliest, end_line, environment_sizes, Fails, FailsBehind, foreign_from, foreign_name, has_numbers, IsFirstBadFor, is_size_of, last_line, LogFails, other_numbers, bad_entry, left_open, is_good, LogsFail, all_there, one_missing, one_more, another, no_problem, one_fails, one_good, LogsFailIn, number_line, same_length, side_in, stated_line, suffices, system_sizes, wanted_in}
 use Rattle.document_check.proofs.DocumentLemmas.{IsDocumentOf, document_is, asked_by, asked_of_document, not_faulty}
-
-never_both : (b : Bool) → b ≡ true → b ≡ false → ⊥
-never_both b t f = let never : ◌≡◌ {A = Bool} true false = sym t ∙ f in absurd (cc)
 
 earliest_none : (a b : Option ℕ) → earliest a b ≡ None → (a ≡ None) × (b ≡ None)
 earliest_none None b e = (refl, e)
@@ -78,7 +73,7 @@ module _ (limit : Option ℕ) (l : LogPart) (p : Problem) where
   wanted_by true legal (inl e) = inl (record { legal = legal; refutes = e })
   wanted_by true legal (inr f) = inr (record { legal = legal; at_limit = at_limit_is limit l.entries legal.limited f.1; not_closed = f.0 })
   wanted_by false legal (inl e) = record { legal = legal; refutes = e }
-  wanted_by false legal (inr f) = absurd (never_both false f.1 refl)
+  wanted_by false legal (inr f) = absurd (true≢false (sym f.1))
 
   legal_of : (full : Bool) → IsAsWanted full (variables_of p) (base_clauses p) limit l.entries → IsLegal (variables_of p) (base_clauses p) limit l.entries
   legal_of true (inl closed) = closed.legal
@@ -101,12 +96,12 @@ module _ (limit : Option ℕ) (l : LogPart) (p : Problem) where
 
   its_numbers : has_numbers l p ≡ true → (l.vars ≡ variables_of p) × (count_of p ≡ Some l.base)
   its_numbers e =
-      let k = both (eqb l.vars (variables_of p)) (option_map_or (λ n. l.base == n) (count_of p) false) e in
+      let k = and_parts (eqb l.vars (variables_of p)) (option_map_or (λ n. l.base == n) (count_of p) false) e in
       (eqb-true l.vars (variables_of p) k.0, count_by (count_of p) k.1)
 
   numbers_are : l.vars ≡ variables_of p → count_of p ≡ Some l.base → has_numbers l p ≡ true
   numbers_are v b =
-      both_true (eqb l.vars (variables_of p)) (option_map_or (λ n. l.base == n) (count_of p) false) (eq-eqb l.vars (variables_of p) v)
+      and_from (eqb l.vars (variables_of p)) (option_map_or (λ n. l.base == n) (count_of p) false) (eq-eqb l.vars (variables_of p) v)
       (ap (λ (o : Option ℕ). option_map_or (λ n. l.base == n) o false) b ∙ eq-eqb l.base l.base refl)
 
   log_holds : (full : Bool) (o : Option ℕ) → LogFails full limit l p o → o ≡ None → IsLogOf full limit l p
@@ -118,30 +113,30 @@ module _ (limit : Option ℕ) (l : LogPart) (p : Problem) where
       record { vars = k.0; base = k.1; wanted = wanted_by full g (either (is_ended l.entries) (full && is_at_limit limit l.entries) s) }
 
   log_passes : (full : Bool) (o : Option ℕ) → IsLogOf full limit l p → LogFails full limit l p o → o ≡ None
-  log_passes full o is (other_numbers e) = absurd (never_both (has_numbers l p) (numbers_are is.vars is.base) e)
+  log_passes full o is (other_numbers e) = absurd (true≢false (sym (numbers_are is.vars is.base) ∙ e))
   log_passes full o is (bad_entry f n x) = absurd (legal_has_none (variables_of p) (base_clauses p) limit l.entries f (legal_of full is.wanted) x)
-  log_passes full o is (left_open n g s) = absurd (never_both (suffices full limit l.entries) (suffices_by full is.wanted) s)
+  log_passes full o is (left_open n g s) = absurd (true≢false (sym (suffices_by full is.wanted) ∙ s))
   log_passes full o is (is_good n g s) = refl
 
 -- ---- the logs
 
-side_is : (a b : Side) → same_side a b ≡ true → a ≡ b
+side_is : (a b : Side) → side_ghosts.eq a b ≡ true → a ≡ b
 side_is System System e = refl
 side_is System Environment e = absurd (cc)
 side_is Environment System e = absurd (cc)
 side_is Environment Environment e = refl
 
-same_as_itself : (a : Side) → same_side a a ≡ true
+pub same_as_itself : (a : Side) → side_ghosts.eq a a ≡ true
 same_as_itself System = refl
 same_as_itself Environment = refl
 
 size_is : (s : Size) (l : LogPart) → is_size_of s l ≡ true → size_of l ≡ s
 size_is s l e =
-    let k = both (same_side s.side l.side) (eqb s.size l.size) e in
+    let k = and_parts (side_ghosts.eq s.side l.side) (eqb s.size l.size) e in
     λ i. record { side = sym (side_is s.side l.side k.0) i; size = sym (eqb-true s.size l.size k.1) i }
 
 is_its_size : (s : Size) (l : LogPart) → size_of l ≡ s → is_size_of s l ≡ true
-is_its_size s l e = subst (λ (s : Size). is_size_of s l ≡ true) e (both_true (same_side l.side l.side) (eqb l.size l.size) (same_as_itself l.side) (eq-eqb l.size l.size refl))
+is_its_size s l e = subst (λ (s : Size). is_size_of s l ≡ true) e (and_from (side_ghosts.eq l.side l.side) (eqb l.size l.size) (same_as_itself l.side) (eq-eqb l.size l.size refl))
 
 module _ (facts : Facts) (kind : Kind) (version : ℕ) (full : Bool) (limit : Option ℕ) (end : ℕ) where
   pub record AreGood (sizes : List Size) (logs : List LogPart) : Type 0 where
@@ -184,7 +179,7 @@ module _ (facts : Facts) (kind : Kind) (version : ℕ) (full : Bool) (limit : Op
   logs_pass [] [] o same hold all_there = refl
   logs_pass (s ∷ ss) [] o same hold (one_missing z zs) = absurd (cc)
   logs_pass [] (l ∷ ls) o same hold (one_more z zs) = absurd (cc)
-  logs_pass (s ∷ ss) (l ∷ ls) o same hold (another z zs m ms e) = absurd (never_both (is_size_of s l) (is_its_size s l (head_is s ss l ls same).0) e)
+  logs_pass (s ∷ ss) (l ∷ ls) o same hold (another z zs m ms e) = absurd (true≢false (sym (is_its_size s l (head_is s ss l ls same).0) ∙ e))
   logs_pass (s ∷ ss) (l ∷ ls) o same hold (no_problem z zs m ms e q) = absurd (subst (λ (o : Option Problem). IsLogOfSome full limit l o) q hold.0)
   logs_pass (s ∷ ss) (l ∷ ls) o same hold (one_fails z zs m ms p k e q f) = log_passes limit l p full (Some k) (its_problem l p q hold.0) f
   logs_pass (s ∷ ss) (l ∷ ls) o same hold (one_good z zs m ms p first e q f more) = logs_pass ss ls o (head_is s ss l ls same).1 hold.1 more
@@ -224,8 +219,8 @@ module _ (facts : Facts) (side : Side) (file : File) where
       (foreign_from (length file.circuit.input_names) file.circuit.output_names (written_names facts side) file.name_lines)) (Some 1) ≡ None
       → all_named file.circuit ≡ true → HasNames facts side file.circuit
   stated_by true e none all =
-      let lengths = both (same_length file.circuit.input_names (read_names facts side)) (same_length file.circuit.output_names (written_names facts side)) e in
-      let named = both (list_all is_some file.circuit.input_names) (list_all is_some file.circuit.output_names) all in
+      let lengths = and_parts (same_length file.circuit.input_names (read_names facts side)) (same_length file.circuit.output_names (written_names facts side)) e in
+      let named = and_parts (list_all is_some file.circuit.input_names) (list_all is_some file.circuit.output_names) all in
       let k = earliest_none (foreign_from 0 file.circuit.input_names (read_names facts side) file.name_lines)
       (foreign_from (length file.circuit.input_names) file.circuit.output_names (written_names facts side) file.name_lines) none in
       record {
@@ -247,7 +242,7 @@ module _ (facts : Facts) (side : Side) (file : File) where
   pub names_pass : HasNames facts side file.circuit → stated_line facts side file ≡ None
   names_pass has =
       let lengths : (same_length file.circuit.input_names (read_names facts side) && same_length file.circuit.output_names (written_names facts side)) ≡ true =
-      both_true (same_length file.circuit.input_names (read_names facts side)) (same_length file.circuit.output_names (written_names facts side))
+      and_from (same_length file.circuit.input_names (read_names facts side)) (same_length file.circuit.output_names (written_names facts side))
       (length_is file.circuit.input_names (read_names facts side) has.inputs) (length_is file.circuit.output_names (written_names facts side) has.outputs) in
       ap (λ b. cond b (earliest (foreign_from 0 file.circuit.input_names (read_names facts side) file.name_lines)
       (foreign_from (length file.circuit.input_names) file.circuit.output_names (written_names facts side) file.name_lines)) (Some 1)) lengths

@@ -1,12 +1,11 @@
 -- The first line at which logs fail, one log after the other.
 use Rattle.std.proofs.Common.{◌≡◌, ℕ, suc, ◌≤◌, ◌==◌, Bool, true, false, Option, Some, None, List, [], ◌∷◌, refl, sym, ap, subst, arith}
 use Rattle.std.specs.Prelude.{All, unwrap_or}
-use Rattle.std.proofs.lemmas.Bool.{eqb-true}
-use Rattle.aiger_text.proofs.Numbers.{both}
+use Rattle.std.proofs.lemmas.Bool.{eqb-true, and_parts}
+use Rattle.letter_word.specs.contracts.kinds.SidePartialEq.TheImpl.{ghosts as side_ghosts}
 use Rattle.letter_word.specs.declared.kinds.Kind.{Kind}
 use Rattle.machine_model.specs.declared.problems.Problem.{Problem}
 use Rattle.cert_text.specs.Parts.{LogPart}
-use Rattle.cert_text.specs.Order.{same_side}
 use Rattle.document_check.specs.declared.facts.Size.{Size}
 use Rattle.document_check.specs.Facts.{Facts, problem_at}
 use Rattle.document_check.specs.FirstBad.{is_size_of, LogFails, LogsFail, all_there, one_missing, one_more, another, no_problem, one_fails, one_good}
@@ -31,7 +30,7 @@ first_of {X = X} P xs x rest is all =
 -- a log of a wanted size has a number of states that a problem may have
 pub size_fits : (s : Size) (l : LogPart) → is_size_of s l ≡ true → IsSize s → (1 ≤ l.size) × (l.size ≤ 8)
 size_fits s l is size =
-    let k : s.size ≡ l.size = eqb-true s.size l.size (both (same_side s.side l.side) (s.size == l.size) is).1 in
+    let k : s.size ≡ l.size = eqb-true s.size l.size (and_parts (side_ghosts.eq s.side l.side) (s.size == l.size) is).1 in
     let low = size.some in
     let high = size.few in
     (omega (arith, k, low), omega (arith, k, high))

@@ -23,7 +23,7 @@ use Rattle.cert_text.specs.declared.header.Header.{Header}
 use Rattle.cert_text.specs.declared.reading.CircuitPart.{CircuitPart}
 use Rattle.cert_text.specs.declared.reading.CircuitPart.TheVariants.{Absent, Faulty, Stated}
 use Rattle.cert_text.specs.Parts.{LogPart}
-use Rattle.cert_text.specs.Order.{same_side}
+use Rattle.letter_word.specs.contracts.kinds.SidePartialEq.TheImpl.{ghosts as side_ghosts}
 use Rattle.cert_text.specs.Header.{behind}
 use Rattle.cert_text.specs.Reading.{DocumentLines, Reads}
 use Rattle.document_check.specs.declared.facts.Asked.{Asked}
@@ -164,7 +164,7 @@ pub data LogFails (full : Bool) (limit : Option ℕ) (l : LogPart) (p : Problem)
       → LogFails full limit l p None
 
 abbrev pub is_size_of : Size → LogPart → Bool
-is_size_of s l = same_side s.side l.side && (s.size == l.size)
+is_size_of s l = side_ghosts.eq s.side l.side && (s.size == l.size)
 
 -- The first line at which the logs fail, of which these sizes are wanted: a further log, a log of another size or of a side without
 -- a problem, one that fails itself, and at `end` a log that is missing.

@@ -14,7 +14,7 @@ use Rattle.aiger_text.specs.Circuit.{Circuit}
 use Rattle.cert_text.specs.declared.documents.Verdict.{Verdict}
 use Rattle.cert_text.specs.declared.documents.Verdict.TheVariants.{Realizable, Unrealizable, Bounded, UnknownSizes, UnknownEntries}
 use Rattle.cert_text.specs.Parts.{LogPart, Document}
-use Rattle.cert_text.specs.Order.{same_side}
+use Rattle.letter_word.specs.contracts.kinds.SidePartialEq.TheImpl.{ghosts as side_ghosts}
 use Rattle.document_check.specs.declared.facts.Size.{Size}
 use Rattle.document_check.specs.Facts.{Facts, problem_at, allowed_at, wanted_sizes, read_names, written_names, circuit_side}
 
@@ -47,7 +47,7 @@ first_open (l ∷ logs) = if is_ended l.entries then first_open logs else Some (
 
 abbrev pub is_size : Side → ℕ → Option Size → Bool
 is_size side size None = false
-is_size side size (Some s) = same_side s.side side && (s.size == size)
+is_size side size (Some s) = side_ghosts.eq s.side side && (s.size == size)
 
 -- A bounded verdict has a log that isn't closed, and one by entries names the first.
 abbrev pub names_open : Verdict → Option Size → Bool

@@ -1,4 +1,4 @@
-// A document against a text, as a whole.
+//! A document against a text, as a whole.
 ghost use Rattle.std.specs.Prelude.{◌≡◌, ◌+◌, ◌<◌, ◌≤◌, ◌^◌, ℕ, All, IfOk, IsErrOf};
 ghost use Rattle.cert_text.specs.declared.documents.DocumentFault.TheVariants.{BadLine};
 ghost use Rattle.cert_text.specs.Reading.{Reads};
@@ -42,7 +42,7 @@ pub fn check_document<R: Threads + Sync>(
     }
 }
 
-// The first line at which the lines fail that were read of the bytes.
+/// The first line at which the lines fail that were read of the bytes.
 fn first_line<R: Threads + Sync>(
     rt: &R,
     alloc: Global,
@@ -60,7 +60,7 @@ fn first_line<R: Threads + Sync>(
     Ok(first.or(last_line(lines)))
 }
 
-// The first line that fails of those that are tested once the line `max` is good, if it is.
+/// The first line that fails of those that are tested once the line `max` is good, if it is.
 fn behind_max<R: Threads + Sync>(
     rt: &R,
     alloc: Global,
@@ -90,7 +90,7 @@ fn behind_max<R: Threads + Sync>(
     Ok(earliest(number, logs))
 }
 
-// The first line at which the logs fail; without a whole header there are none.
+/// The first line at which the logs fail; without a whole header there are none.
 fn logs_in<R: Threads + Sync>(
     rt: &R,
     alloc: Global,
@@ -124,7 +124,7 @@ fn logs_in<R: Threads + Sync>(
     Ok(line)
 }
 
-// The line of a verdict whose number passes the allowed sizes, else that of a machine that was found and has more states.
+/// The line of a verdict whose number passes the allowed sizes, else that of a machine that was found and has more states.
 fn number_line(
     verdict: Verdict,
     found: u32,
@@ -159,7 +159,7 @@ fn is_allowed(verdict: Verdict, system: u32, environment: u32) -> bool
     }
 }
 
-// The line behind the logs that were read.
+/// The line behind the logs that were read.
 fn end_line(lines: &DocumentLines) -> u64
     requires verdict { lines.now.verdict_line + 5 < 2 ^ 64 }
     requires logs { All IsReadable lines.now.logs }
@@ -169,7 +169,7 @@ fn end_line(lines: &DocumentLines) -> u64
     line_behind(first, &lines.logs)
 }
 
-// The line behind logs from a line on.
+/// The line behind logs from a line on.
 fn line_behind(first: u64, logs: &[LogPart]) -> u64
     requires { All IsReadable logs.now }
     ensures { result ≡ line_behind_logs first logs.now }
@@ -181,7 +181,7 @@ fn line_behind(first: u64, logs: &[LogPart]) -> u64
     line
 }
 
-// The verdict's line, where it names another log than the first that isn't closed.
+/// The verdict's line, where it names another log than the first that isn't closed.
 fn last_line(lines: &DocumentLines) -> Option<u64>
     ensures { result ≡ line_of_last lines.now }
 {

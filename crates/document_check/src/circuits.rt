@@ -1,4 +1,4 @@
-// What is tested of a document's circuit.
+//! What is tested of a document's circuit.
 ghost use Rattle.std.specs.Prelude.{◌≡◌, ◌+◌, ◌<◌, ◌^◌, length, option_map, codes};
 ghost use Rattle.std.specs.Option.{option_copied};
 ghost use Rattle.cert_text.specs.Header.{behind};
@@ -40,7 +40,7 @@ pub fn circuit_line(
     }
 }
 
-// The side of the circuit, where a verdict is reached.
+/// The side of the circuit, where a verdict is reached.
 fn side_in(header: &Header) -> Side
     ensures { result ≡ side_of_header header.now }
 {
@@ -83,7 +83,7 @@ pub fn stated_line(facts: TextFacts<'_>, side: Side, file: &CircuitFile) -> Opti
     }
 }
 
-// The first line of names that aren't the wanted ones; the first of their lines stands at this place.
+/// The first line of names that aren't the wanted ones; the first of their lines stands at this place.
 fn foreign_from(place: usize, names: &[Option<Name>], wanted: &[Name], lines: &[u64]) -> Option<u64>
     requires { place + length names.now < 2 ^ 64 }
     ensures { result ≡ foreign_names place names.now wanted.now lines.now }
@@ -99,7 +99,7 @@ fn foreign_from(place: usize, names: &[Option<Name>], wanted: &[Name], lines: &[
     }
 }
 
-// The line of a name that isn't the wanted one.
+/// The line of a name that isn't the wanted one.
 fn foreign_name(name: &Option<Name>, wanted: &Name, line: u64) -> Option<u64>
     ensures { result ≡ line_of_name name.now wanted.now line }
 {
@@ -126,7 +126,7 @@ pub fn faulty_line(facts: TextFacts<'_>, bytes: &[u8]) -> Option<u64>
     earliest(counts_line(facts, line), foreign_line(facts, rest))
 }
 
-// Line 1 where it doesn't count the text's inputs and outputs.
+/// Line 1 where it doesn't count the text's inputs and outputs.
 fn counts_line(facts: TextFacts<'_>, line: &[u8]) -> Option<u64>
     ensures { result ≡ line_of_counts (facts_of facts.entry) line.now }
 {
@@ -140,7 +140,7 @@ fn counts_line(facts: TextFacts<'_>, line: &[u8]) -> Option<u64>
     }
 }
 
-// The words of a header for the numbers of inputs and of outputs.
+/// The words of a header for the numbers of inputs and of outputs.
 fn count_words(line: &[u8]) -> Option<(&[u8], &[u8])>
     ensures { option_map (λ p. (p.0.now, p.1.now)) result ≡ words_of_counts line.now }
 {
@@ -162,7 +162,7 @@ fn behind_mark(line: &[u8]) -> Option<&[u8]>
     }
 }
 
-// Whether a word writes this number.
+/// Whether a word writes this number.
 fn writes(n: u64, word: &[u8]) -> bool
     ensures { result ≡ writes_number n word.now }
 {
@@ -172,7 +172,7 @@ fn writes(n: u64, word: &[u8]) -> bool
     }
 }
 
-// The first line before the line `c` that names an input or an output, and not as the text does. The bytes begin at line 2.
+/// The first line before the line `c` that names an input or an output, and not as the text does. The bytes begin at line 2.
 fn foreign_line(facts: TextFacts<'_>, bytes: &[u8]) -> Option<u64>
     ensures { result ≡ line_of_foreign (facts_of facts.entry) 2 (lines_of bytes.now) }
 {

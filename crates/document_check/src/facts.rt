@@ -1,4 +1,4 @@
-// What a text gives for a check, and the sizes that a document wants.
+//! What a text gives for a check, and the sizes that a document wants.
 ghost use Rattle.std.specs.Prelude.{◌≡◌, ◌++◌, ◌≤◌, ◌^◌, All, IfOk, OnOk, option_map};
 ghost use Rattle.machine_model.specs.Problem.{IsProblem, parts_of};
 ghost use Rattle.document_check.specs.Facts.{allowed_at, clause_version, problem_at, read_names, sizes_to, wanted_sizes, written_names};
@@ -122,7 +122,7 @@ impl<'a> TextFacts<'a> {
     }
 }
 
-// The same problem for another kind, size and version.
+/// The same problem for another kind, size and version.
 fn problem_for(
     problem: &Problem,
     kind: Kind,
@@ -144,7 +144,7 @@ fn problem_for(
     })
 }
 
-// The version of the base clauses of a document's version.
+/// The version of the base clauses of a document's version.
 fn clause_version(version: u32) -> u32
     ensures { result ≡ clause_version version }
 {
@@ -208,7 +208,7 @@ pub fn wanted_sizes(
     Ok(sizes)
 }
 
-// Appends the sizes of a side from 1 up to a number.
+/// Appends the sizes of a side from 1 up to a number.
 fn push_sizes(sizes: &mut Vec<Size>, side: Side, count: u32) -> Result<(), AllocError>
     requires { count ≤ 8 }
     ensures sizes { OnOk result (sizes.new.items ≡ sizes.old.items ++ sizes_to side count) }

@@ -1,8 +1,7 @@
-// What is tested of a document's logs.
+//! What is tested of a document's logs.
 ghost use Rattle.std.specs.Prelude.{◌≡◌, ◌+◌, ◌<◌, ◌≤◌, ◌^◌, All, IfOk, IfSome, None, length, option_map};
 ghost use Rattle.refutation_log.specs.Log.{is_ended};
 ghost use Rattle.refutation_log.specs.Turn.{is_at_limit};
-ghost use Rattle.cert_text.specs.Order.{same_side};
 ghost use Rattle.machine_model.specs.Problem.{IsProblem};
 ghost use Rattle.log_checker.specs.declared.faults.LogFault.TheVariants.{NoMemory, NotClosed};
 ghost use Rattle.document_check.specs.FirstBad.{LogFails, LogsFail, entry_of as entry_named, has_numbers as has_its_numbers, is_size_of as is_size_of_log, suffices as is_enough};
@@ -65,7 +64,7 @@ pub fn logs_line<R: Threads + Sync>(
     Ok(line)
 }
 
-// The first size, and those behind it.
+/// The first size, and those behind it.
 fn first_size(sizes: &[Size]) -> Option<(Size, &[Size])>
     ensures { option_map (λ p. (p.0, p.1.now)) result ≡ uncons sizes.now }
 {
@@ -75,7 +74,7 @@ fn first_size(sizes: &[Size]) -> Option<(Size, &[Size])>
     }
 }
 
-// The first log, and those behind it.
+/// The first log, and those behind it.
 fn first_log(logs: &[LogPart]) -> Option<(&LogPart, &[LogPart])>
     ensures { option_map (λ p. (p.0.now, p.1.now)) result ≡ uncons logs.now }
 {
@@ -85,7 +84,7 @@ fn first_log(logs: &[LogPart]) -> Option<(&LogPart, &[LogPart])>
     }
 }
 
-// The line of the first log.
+/// The line of the first log.
 fn first_line(logs: &[LogPart]) -> Option<u64>
     ensures { result ≡ line_of_first logs.now }
 {
@@ -98,20 +97,10 @@ fn first_line(logs: &[LogPart]) -> Option<u64>
 fn is_size_of(size: Size, log: &LogPart) -> bool
     ensures { result ≡ is_size_of_log size log.now }
 {
-    same_side(size.side, log.side) && size.size == log.size
+    size.side == log.side && size.size == log.size
 }
 
-fn same_side(a: Side, b: Side) -> bool
-    ensures { result ≡ same_side a b }
-{
-    match (a, b) {
-        (Side::System, Side::System) => true,
-        (Side::Environment, Side::Environment) => true,
-        _ => false,
-    }
-}
-
-// The line at which a log fails over a problem.
+/// The line at which a log fails over a problem.
 fn log_line<R: Threads + Sync>(
     rt: &R,
     alloc: Global,
@@ -157,7 +146,7 @@ fn has_numbers(log: &LogPart, problem: &Problem) -> bool
     }
 }
 
-// Whether a legal log is closed, or has as many entries as the limit where that suffices.
+/// Whether a legal log is closed, or has as many entries as the limit where that suffices.
 fn suffices(full: bool, limit: Option<u64>, entries: &[Entry]) -> bool
     ensures { result ≡ is_enough full limit entries.now }
 {
@@ -182,7 +171,7 @@ fn is_at_limit(limit: Option<u64>, entries: &[Entry]) -> bool
     }
 }
 
-// The entry that a fault names, but for want of memory.
+/// The entry that a fault names, but for want of memory.
 fn entry_of(fault: LogFault) -> Option<u64>
     ensures entry { IfSome result (λ entry. entry ≡ entry_named fault) }
     ensures no_memory { fault ≡ NoMemory → result ≡ None }
@@ -207,14 +196,14 @@ pub fn names_open(verdict: Verdict, logs: &[LogPart]) -> bool
     match verdict {
         Verdict::Bounded(_, _) => open.is_some(),
         Verdict::UnknownEntries(side, size) => match open {
-            Some(open) => same_side(open.side, side) && open.size == size,
+            Some(open) => open.side == side && open.size == size,
             None => false,
         },
         _ => true,
     }
 }
 
-// The first log that isn't closed.
+/// The first log that isn't closed.
 fn first_open(logs: &[LogPart]) -> Option<Size>
     ensures { result ≡ first_open_log logs.now }
 {

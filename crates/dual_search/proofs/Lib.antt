@@ -5,4 +5,3 @@ pub mod Playing
 pub mod Sides
 pub mod Repeats
 pub mod Defeats
-pub mod Fitting

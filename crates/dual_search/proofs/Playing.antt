@@ -1,17 +1,16 @@
-use Rattle.std.proofs.Common.{◌≡◌, ℕ, ◌+◌, ◌*◌, ◌<◌, List, [], ◌∷◌, ◌++◌, Option, Some, None, length, get_or, set, replicate, sym, ap, ◌∙◌, arith, inl, inr}
-use Rattle.std.proofs.lemmas.Bool.{cases_eq, cases_lt}
+use Rattle.std.proofs.Common.{◌≡◌, ℕ, ◌+◌, ◌*◌, ◌<◌, List, [], ◌∷◌, ◌++◌, Option, Some, None, length, get_or, set, sym, ap, ◌∙◌, arith, inl, inr}
+use Rattle.std.proofs.lemmas.Bool.{cases_eq}
 use Rattle.std.proofs.lemmas.Nat.{mul-add-lt}
 use Rattle.std.proofs.Math.Nat.{mul_comm}
-use Rattle.std.proofs.lemmas.List.{get_or-set_same, get_or-set_other, length-set, length-replicate, get_or-replicate, get_or_past, length_push}
+use Rattle.std.proofs.lemmas.List.{get_or-set_same, get_or-set_other, length-set, length_push}
 use Rattle.letter_word.specs.declared.letters.Letter.{Letter}
 use Rattle.machine_model.specs.Machine.{MachineModel, IsMachine, size_of}
 use Rattle.machine_model.specs.Run.{ArePartners, IsPlay}
-use Rattle.machine_model.proofs.Tables.{size_pos}
 use Rattle.machine_model.proofs.Closing.{cut}
 use Rattle.dual_search.specs.declared.plays.States.{States}
 use Rattle.dual_search.specs.Rounds.{AreRounds, AreStates, next_states, round_letter, states_after}
 use Rattle.dual_search.proofs.Rounds.{next_within, after_within}
-use Rattle.dual_search.proofs.PlayLaws.{closed_play, rounds_more, rounds_start, same_states}
+use Rattle.dual_search.proofs.PlayLaws.{closed_play, rounds_more, same_states}
 
 -- the place of both states in the table
 abbrev pub place_of : MachineModel → States → ℕ
@@ -30,23 +29,6 @@ pub record IsPlaying (system environment : MachineModel) (letters : List Letter)
   pub known : (place k : ℕ) → get_or met place None ≡ Some k → IsMet system environment letters place k
 
 module _ (system environment : MachineModel) (is_system : IsMachine system) (is_environment : IsMachine environment) (partners : ArePartners system environment) where
-  pub playing_start : (p : States) (met : List (Option ℕ)) → p.system ≡ 0 → p.environment ≡ 0 → met ≡ replicate (size_of system * size_of environment) None
-      → IsPlaying system environment [] p met
-  playing_start p met s e none =
-      let start : p ≡ states_after system environment 0 = λ i. record { system = s i; environment = e i } in
-      record {
-        rounds = rounds_start system environment is_system is_environment partners p start;
-        states = record { of_system = rw s (size_pos system is_system.shape); of_environment = rw e (size_pos environment is_environment.shape) };
-        places = ap length none ∙ length-replicate (size_of system * size_of environment) None;
-        known = λ place k is. absurd (nothing place k (sym (ap (λ (xs : List (Option ℕ)). get_or xs place None) none) ∙ is));
-      }
-    where
-      nothing : (place k : ℕ) → get_or (replicate (size_of system * size_of environment) None) place None ≡ Some k → ⊥
-      nothing place k is = elim (cases_lt place (size_of system * size_of environment)) [
-        | inl within ↦ let never : None ≡ Some k = sym (get_or-replicate (size_of system * size_of environment) place None None within) ∙ is in cc
-        | inr past ↦ let never : None ≡ Some k = sym (get_or_past (replicate (size_of system * size_of environment) None) place None (rw length-replicate past)) ∙ is in cc
-      ]
-
   -- the place of the states is in the table
   pub place_within : (p : States) → AreStates system environment p → place_of environment p < size_of system * size_of environment
   place_within p are = rw (mul_comm (size_of system) (size_of environment)) (mul-add-lt p.system (size_of environment) p.environment (size_of system) are.of_system are.of_environment)

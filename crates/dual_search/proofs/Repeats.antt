@@ -9,13 +9,10 @@ use Rattle.letter_word.specs.declared.kinds.Kind.TheVariants.{Mealy, Moore}
 use Rattle.letter_word.specs.declared.kinds.Side.TheVariants.{System, Environment}
 use Rattle.letter_word.specs.Word.{Word, lasso_len, letter_at, next}
 use Rattle.letter_word.proofs.Positions.{next_within}
+use Rattle.letter_word.specs.Kinds.{other_kind}
 use Rattle.machine_model.specs.declared.machines.Row.{Row}
 use Rattle.machine_model.specs.Machine.{MachineModel, IsMachine, size_of, row_of}
 use Rattle.machine_model.specs.Run.{ArePartners, IsPlay, IsRunLasso, read_part}
-
-abbrev pub other_kind : Kind → Kind
-other_kind Mealy = Moore
-other_kind Moore = Mealy
 
 other-differs : (k : Kind) → other_kind k ≢ k
 other-differs Mealy e = absurd (let d : Moore ≡ Mealy = e in cc)

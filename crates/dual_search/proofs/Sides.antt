@@ -1,5 +1,5 @@
-use Rattle.std.proofs.Common.{◌≡◌, ◌<◌, Bool, true, false, not, List, Option, Some, None, Result, Err, refl, sym, ◌∙◌, ap, subst, arith}
-use Rattle.letter_word.specs.Word.{Word, HasRing, lasso_len}
+use Rattle.std.proofs.Common.{◌≡◌, Bool, true, false, not, List, Option, Some, None, Result, Err, refl, sym, ◌∙◌, ap, subst}
+use Rattle.letter_word.proofs.Positions.{first_position}
 use Rattle.ltl_formula.specs.declared.faults.AddFault.{AddFault}
 use Rattle.ltl_formula.specs.declared.nodes.FormulaId.{FormulaId}
 use Rattle.ltl_formula.specs.declared.nodes.Node.{Node}
@@ -12,14 +12,14 @@ use Rattle.ltl_formula.proofs.Lists.{Grows-stands}
 use Rattle.ltl_formula.proofs.Trees.{tree_at-grown}
 use Rattle.ltl_normal.specs.NormalNodes.{form_in}
 use Rattle.ltl_normal.specs.Truths.{HasTruthOf, OpposesTruthOf}
-use Rattle.ltl_normal.proofs.Building.{go_on-None, go_on-Some}
+use Rattle.ltl_normal.proofs.Building.{go_on-Some}
 use Rattle.machine_model.specs.Automaton.{AutomatonModel}
 use Rattle.cobuchi_build.specs.declared.building.BuildFault.{BuildFault}
-use Rattle.cobuchi_build.specs.Built.{AcceptsExactly, IsAutomatonOf, PassesLimit}
+use Rattle.cobuchi_build.specs.Built.{IsAutomatonOf, PassesLimit}
 use Rattle.cobuchi_build.proofs.Rounds.{one_automaton_per_formula}
 use Rattle.dual_search.specs.BothForms.{AreForms, IsFormWhere, both_forms, fault_of}
 use Rattle.dual_search.specs.Laws.{AnswersAreApart}
-use Rattle.dual_search.specs.Sides.{AcceptsWhere, IsWithinLimits}
+use Rattle.dual_search.specs.Sides.{IsWithinLimits}
 
 -- both forms, made one after the other
 module _ (f : Tree) (old between : List Node) where
@@ -38,14 +38,6 @@ module _ (f : Tree) (old between : List Node) where
     pub no_normal : (new : List Node) (g : Tree) → g ≡ f → form_in true g between ≡ record { nodes = new; made = None } → both_forms f old ≡ record { nodes = new; made = None }
     no_normal new g same second = then_normal ∙ ap (λ h. form_in true h between) (sym same) ∙ second
 
-  pub no_negated : form_in false f old ≡ record { nodes = between; made = None } → both_forms f old ≡ record { nodes = between; made = None }
-  no_negated first =
-      go_on-None (form_in false f old) (λ _ later. form_in true f later) (ap (λ (b : Built). b.made) first)
-      ∙ ap (λ (b : Built). let r : Built = record { nodes = b.nodes; made = None } in r) first
-
-begins : (w : Word) → HasRing w → 0 < lasso_len w
-begins w ring = omega arith
-
 opposed : (b c : Bool) → b ≡ not c → (b ≡ true → c ≡ false) × (c ≡ false → b ≡ true)
 opposed b true e = (λ d. absurd (let x : true ≡ false = sym d ∙ e in cc), λ d. absurd (let x : true ≡ false = d in cc))
 opposed b false e = (λ d. refl, λ d. e)
@@ -57,20 +49,14 @@ negated_form f between new id grows stands normal opposes =
     record {
       stands = Grows-stands between new id grows stands;
       normal = subst IsNormal (sym same) normal;
-      same = λ w ring. opposed (holds w (tree_at new id) 0) (holds w f 0) (ap (λ t. holds w t 0) same ∙ opposes.opposite w 0 ring (begins w ring));
+      same = λ w ring. opposed (holds w (tree_at new id) 0) (holds w f 0) (ap (λ t. holds w t 0) same ∙ opposes.opposite w 0 ring (first_position w ring));
     }
 
 pub normal_form : (f g : Tree) (new : List Node) (id : FormulaId) → g ≡ f → Stands new id → IsNormal (tree_at new id) → HasTruthOf g (tree_at new id) → IsFormWhere true f new id
 normal_form f g new id is stands normal keeps = record {
   stands = stands;
   normal = normal;
-  same = λ w ring. let e : holds w (tree_at new id) 0 ≡ holds w f 0 = keeps.same w 0 ring (begins w ring) ∙ ap (λ t. holds w t 0) is in (λ d. sym e ∙ d, λ d. e ∙ d);
-}
-
--- the automaton of a form accepts where the formula has the form's truth
-pub accepts_where : (truth : Bool) (f : Tree) (ns : List Node) (id : FormulaId) (a : AutomatonModel) → IsFormWhere truth f ns id → AcceptsExactly ns id a → AcceptsWhere truth f a
-accepts_where truth f ns id a form exact = record {
-  lassos = λ w ring. (λ accepted. (form.same w ring).0 ((exact.lassos w ring).0 accepted), λ e. (exact.lassos w ring).1 ((form.same w ring).1 e));
+  same = λ w ring. let e : holds w (tree_at new id) 0 ≡ holds w f 0 = keeps.same w 0 ring (first_position w ring) ∙ ap (λ t. holds w t 0) is in (λ d. sym e ∙ d, λ d. e ∙ d);
 }
 
 same_id : (a b : FormulaId) → Some a ≡ Some b → a ≡ b

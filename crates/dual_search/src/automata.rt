@@ -51,14 +51,14 @@ pub fn problems(
     })
 }
 
-// The ids of a formula's two forms.
+/// The ids of a formula's two forms.
 #[derive(Clone, Copy)]
 struct FormIds {
     negated: FormulaId,
     normal: FormulaId,
 }
 
-// Both forms, the negated one first.
+/// Both forms, the negated one first.
 fn both_forms(formulas: &mut Formulas, whole: FormulaId) -> Result<FormIds, BuildFault>
     requires { Stands formulas.old whole }
     ensures made { IfOk result (λ ids. AreForms (tree_at formulas.old whole) formulas.old formulas.new ids.negated ids.normal) }
@@ -81,7 +81,7 @@ fn both_forms(formulas: &mut Formulas, whole: FormulaId) -> Result<FormIds, Buil
     Ok(FormIds { negated, normal })
 }
 
-// The fault of `problems` where a node wasn't added.
+/// The fault of `problems` where a node wasn't added.
 fn fault_of(fault: AddFault) -> BuildFault
     ensures { result ≡ fault_of fault }
 {
@@ -91,7 +91,7 @@ fn fault_of(fault: AddFault) -> BuildFault
     }
 }
 
-// The automaton of a formula in normal form, if it passes no limit.
+/// The automaton of a formula in normal form, if it passes no limit.
 fn build_within(
     alloc: Global,
     formulas: &Formulas,

@@ -1,4 +1,5 @@
-// Laws of plays, and of what accepted machines mean. Each is the contract of a function that does nothing.
+//! Laws of plays, and of what accepted machines mean. Each is the contract of a function that does nothing.
+
 ghost use Rattle.dual_search.specs.Laws.{AcceptedCounterMachinesDefeat, AcceptedMachinesMake, AnswersAreApart, EveryPairHasAPlay, PlaysAreOneWord, TheDefeatedDoNotSatisfy};
 
 /// Two plays of the same machines are the same word.

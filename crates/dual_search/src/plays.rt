@@ -27,7 +27,7 @@ pub fn play(alloc: Global, machine: &Machine, counter: &Machine) -> Result<Lasso
     Ok(Lasso::new(letters, ring).unwrap())
 }
 
-// The states of both machines.
+/// The states of both machines.
 #[derive(Clone, Copy)]
 struct States {
     system: u32,
@@ -47,7 +47,7 @@ impl States {
         }
     }
 
-    // The place in a table that has `width` places for each state of the system.
+    /// The place in a table that has `width` places for each state of the system.
     fn place(self, width: usize) -> usize
         requires width { width < 2 ^ 32 }
         requires within { self.environment < width }
@@ -56,7 +56,7 @@ impl States {
         self.system as usize * width + self.environment as usize
     }
 
-    // What the environment writes in this round.
+    /// What the environment writes in this round.
     fn input(self, machine: &Machine, counter: &Machine) -> u32
         requires partners { ArePartners machine.now counter.now }
         requires states { AreStates machine.now counter.now self }
@@ -70,7 +70,7 @@ impl States {
         counter.writes_at(self.environment, heard)
     }
 
-    // The whole letter of this round.
+    /// The whole letter of this round.
     fn letter(self, machine: &Machine, counter: &Machine) -> Letter
         requires partners { ArePartners machine.now counter.now }
         requires states { AreStates machine.now counter.now self }
@@ -84,7 +84,7 @@ impl States {
         )
     }
 
-    // The states after this round.
+    /// The states after this round.
     fn next(self, machine: &Machine, counter: &Machine) -> States
         requires partners { ArePartners machine.now counter.now }
         requires states { AreStates machine.now counter.now self }

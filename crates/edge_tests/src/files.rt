@@ -12,7 +12,7 @@ fn take<H: Shelf>(
     shelf.take(name, limit, into)
 }
 
-// The file has more bytes than one read takes.
+/// The file has more bytes than one read takes.
 #[test]
 fn takes_a_real_file(rt: HostRuntime) -> Result<(), Fail> {
     let name = "edge_tests_takes_a_real_file.txt";
@@ -35,7 +35,7 @@ fn takes_a_real_file(rt: HostRuntime) -> Result<(), Fail> {
     Ok(())
 }
 
-// The file is replaced after its first part, and grows after its last.
+/// The file is replaced after its first part, and grows after its last.
 #[test]
 fn parts_of_one_file_follow_one_another(rt: HostRuntime) -> Result<(), Fail> {
     let name = "edge_tests_parts_of_one_file.txt";

@@ -1,5 +1,5 @@
-// Tests of the crates at the bottom: shelves over files and over memory, sinks, and a gate that holds workers back; names and numbers;
-// lassos. What they call is the public surface of outside_edge, text_base and letter_word.
+//! Tests of the crates at the bottom: shelves over files and over memory, sinks, and a gate that holds workers back; names and numbers;
+//! lassos. What they call is the public surface of outside_edge, text_base and letter_word.
 #![tactic(auto)]
 
 #[cfg(test)]

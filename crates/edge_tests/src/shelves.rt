@@ -4,14 +4,14 @@ use std::alloc::{AllocError, Global};
 use std::test::Fail;
 use text_base::Name;
 
-// One file of this name, with the bytes `abc`.
+/// One file of this name, with the bytes `abc`.
 fn files(alloc: Global, name: &[u8]) -> Result<Vec<(Name, FileBytes)>, AllocError> {
     let mut files = Vec::new(alloc);
     files.push((Name::new(alloc, name)?, FileBytes::new(alloc, b"abc")?))?;
     Ok(files)
 }
 
-// Takes the name through the bound, and gives the answer with how many bytes came.
+/// Takes the name through the bound, and gives the answer with how many bytes came.
 fn take<H: Shelf>(
     alloc: Global,
     shelf: &mut H,
@@ -23,7 +23,7 @@ fn take<H: Shelf>(
     (answer, into.len())
 }
 
-// Takes a part through the bound, and gives the answer with how many bytes came.
+/// Takes a part through the bound, and gives the answer with how many bytes came.
 fn part<H: Shelf>(
     alloc: Global,
     shelf: &mut H,

@@ -34,10 +34,10 @@ fn writes_to_standard_output(rt: HostRuntime) {
     assert!(rt; sink.last_error().is_none());
 }
 
-// What writes nowhere.
+/// What writes nowhere.
 struct FullDisk;
 
-// The number that the system has for a device without space.
+/// The number that the system has for a device without space.
 const NO_SPACE: i32 = 28;
 
 impl Print for FullDisk {

@@ -23,7 +23,7 @@ fn names_are_their_bytes(rt: HostRuntime) -> Result<(), Fail> {
     Ok(())
 }
 
-// Reads a number of at most `most`, and says where the cursor stands afterwards.
+/// Reads a number of at most `most`, and says where the cursor stands afterwards.
 fn read(text: &[u8], most: u64) -> (Result<u64, NumberFault>, usize) {
     let mut cursor = Cursor::new(text);
     let answer = read_number(&mut cursor, most);

@@ -12,7 +12,7 @@ use std::sync::Arc;
 
 const ANY: Cube = Cube { must: 0, not: 0 };
 
-// Of one input r and one output g.
+/// Of one input r and one output g.
 const R: Cube = Cube { must: 1, not: 0 };
 
 const NOT_R: Cube = Cube { must: 0, not: 1 };
@@ -89,7 +89,7 @@ pub fn delay(alloc: Global) -> anyhow::Result<Problem>
 }
 
 /// The other side of the same: it wants the input not to be delayed.
-pub fn delay_spoiled(alloc: Global) -> anyhow::Result<Problem>
+pub(crate) fn delay_spoiled(alloc: Global) -> anyhow::Result<Problem>
     ensures { IfOk result (IsSearched 2 Environment) }
 {
     let edges = [
@@ -104,7 +104,7 @@ pub fn delay_spoiled(alloc: Global) -> anyhow::Result<Problem>
 }
 
 /// G (g <-> X r): the system says before what the input will be.
-pub fn foresight(alloc: Global) -> anyhow::Result<Problem>
+pub(crate) fn foresight(alloc: Global) -> anyhow::Result<Problem>
     ensures { IfOk result (IsSearched 2 System) }
 {
     let edges = [
@@ -120,7 +120,7 @@ pub fn foresight(alloc: Global) -> anyhow::Result<Problem>
 }
 
 /// The other side of the same: its input is once not what the system said.
-pub fn foresight_spoiled(alloc: Global) -> anyhow::Result<Problem>
+pub(crate) fn foresight_spoiled(alloc: Global) -> anyhow::Result<Problem>
     ensures { IfOk result (IsSearched 2 Environment) }
 {
     let edges = [

@@ -9,7 +9,7 @@ use Rattle.tlsf_expand.specs.FlatText.{FlatText}
 use Rattle.flat_text.specs.FlatOf.{IsFlatFault, IsFlatOf}
 use Rattle.flat_text.specs.Laws.{FlatFaultsAreDetermined, FlatTextsAreDetermined, FlatTextsHaveNoFault}
 use Rattle.flat_lines.specs.FlatLines.{all_names}
-use Rattle.lasso_word.specs.WordText.{IsFirstBadLine, StatesWord}
+use Rattle.lasso_word.specs.WordText.{IsFirstBadWordLine, StatesWord}
 use Rattle.lasso_word.specs.Stated.{ReadingsAreApart}
 use Rattle.program_replies.specs.Lines.{line_refusal, refusal_line}
 use Rattle.program_replies.proofs.RefusalLemmas.{one_refusal}
@@ -43,10 +43,10 @@ module _ (one_fault : FlatFaultsAreDetermined) (one_flat : FlatTextsAreDetermine
   at_names text flat flat' P is is' h = subst (λ x. P (all_names x.expanded)) (one_flat text None flat flat' is is') h
 
   of_bad_line : (text word bytes : List ℕ) (status : ℕ) (flat : FlatText) (line : ℕ) → LassoAnswers text word bytes status
-      → IsFlatOf text None flat → IsFirstBadLine word (all_names flat.expanded) line → (status ≡ 40) × (bytes ≡ line_refusal line)
+      → IsFlatOf text None flat → IsFirstBadWordLine word (all_names flat.expanded) line → (status ≡ 40) × (bytes ≡ line_refusal line)
   of_bad_line text word bytes status flat line (refused code place is fault at) is_due due = absurd (apart text None flat code place is_due fault)
   of_bad_line text word bytes status flat line (bad_line other n is is_flat first at) is_due due =
-      (is, at ∙ ap line_refusal (readings.one_line word (all_names flat.expanded) n line (at_names text other flat (λ names. IsFirstBadLine word names n) is_flat is_due first) due))
+      (is, at ∙ ap line_refusal (readings.one_line word (all_names flat.expanded) n line (at_names text other flat (λ names. IsFirstBadWordLine word names n) is_flat is_due first) due))
   of_bad_line text word bytes status flat line (told truth is on at) is_due due =
       absurd (readings.apart word (all_names flat.expanded) on.lasso line (at_names text on.flat flat (λ names. StatesWord word names on.lasso) on.is_flat is_due on.states) due)
 
@@ -54,7 +54,7 @@ module _ (one_fault : FlatFaultsAreDetermined) (one_flat : FlatTextsAreDetermine
       → Reads text tree → IsFlatOf text None flat → StatesWord word (all_names flat.expanded) lasso → (status ≡ 0) × (bytes ≡ truth_line (means lasso tree))
   of_lasso text word bytes status tree flat lasso (refused code place is fault at) reads is_due due = absurd (apart text None flat code place is_due fault)
   of_lasso text word bytes status tree flat lasso (bad_line other n is is_flat first at) reads is_due due =
-      absurd (readings.apart word (all_names flat.expanded) lasso n due (at_names text other flat (λ names. IsFirstBadLine word names n) is_flat is_due first))
+      absurd (readings.apart word (all_names flat.expanded) lasso n due (at_names text other flat (λ names. IsFirstBadWordLine word names n) is_flat is_due first))
   of_lasso text word bytes status tree flat lasso (told truth is on at) reads is_due due =
       let states : StatesWord word (all_names flat.expanded) on.lasso = at_names text on.flat flat (λ names. StatesWord word names on.lasso) on.is_flat is_due on.states in
       let same_lasso : on.lasso ≡ lasso = readings.one_word word (all_names flat.expanded) on.lasso lasso states due in

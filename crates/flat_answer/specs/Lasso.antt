@@ -8,7 +8,7 @@ use Rattle.tlsf_expand.specs.Meaning.{means}
 use Rattle.tlsf_expand.specs.FlatText.{FlatText}
 use Rattle.flat_text.specs.FlatOf.{IsFlatFault, IsFlatOf}
 use Rattle.flat_lines.specs.FlatLines.{all_names}
-use Rattle.lasso_word.specs.WordText.{IsFirstBadLine, StatesWord}
+use Rattle.lasso_word.specs.WordText.{IsFirstBadWordLine, StatesWord}
 use Rattle.program_replies.specs.Lines.{line_refusal, refusal_line}
 
 abbrev pub truth_line : Bool → List ℕ
@@ -30,7 +30,7 @@ pub record IsTruthOn (text word : List ℕ) (truth : Bool) : Type 0 where
 pub data LassoAnswers (text word bytes : List ℕ) (status : ℕ) : Type 0 where
   refused : (code : SpecCode) (place : ℕ) → status ≡ 1 → IsFlatFault text None code place → bytes ≡ refusal_line code place
       → LassoAnswers text word bytes status
-  bad_line : (flat : FlatText) (line : ℕ) → status ≡ 40 → IsFlatOf text None flat → IsFirstBadLine word (all_names flat.expanded) line
+  bad_line : (flat : FlatText) (line : ℕ) → status ≡ 40 → IsFlatOf text None flat → IsFirstBadWordLine word (all_names flat.expanded) line
       → bytes ≡ line_refusal line → LassoAnswers text word bytes status
   told : (truth : Bool) → status ≡ 0 → IsTruthOn text word truth → bytes ≡ truth_line truth
       → LassoAnswers text word bytes status

@@ -8,7 +8,7 @@ use Rattle.tlsf_expand.specs.Meaning.{means}
 use Rattle.tlsf_expand.specs.FlatText.{FlatText}
 use Rattle.flat_text.specs.FlatOf.{IsFlatFault, IsFlatOf}
 use Rattle.flat_lines.specs.FlatLines.{all_names, flat_bytes}
-use Rattle.lasso_word.specs.WordText.{IsFirstBadLine, StatesWord}
+use Rattle.lasso_word.specs.WordText.{IsFirstBadWordLine, StatesWord}
 use Rattle.program_replies.specs.Lines.{line_refusal, refusal_line}
 use Rattle.flat_answer.specs.Expand.{ExpandAnswers}
 use Rattle.flat_answer.specs.Lasso.{LassoAnswers, truth_line}
@@ -24,7 +24,7 @@ pub record HasBadWordLine (text word : List ℕ) : Type 0 where
   pub flat : FlatText
   pub is_flat : IsFlatOf text None flat
   pub line : ℕ
-  pub first : IsFirstBadLine word (all_names flat.expanded) line
+  pub first : IsFirstBadWordLine word (all_names flat.expanded) line
 
 -- An answer to `expand` has status 0 or 1. It has status 1 exactly where the text has a fault, and is that fault's line; and else it
 -- is the flat text.
@@ -46,7 +46,7 @@ pub record LassoAnswersAreDue : Type 0 where
   pub of_fault : (text word bytes : List ℕ) (status : ℕ) (code : SpecCode) (place : ℕ) → LassoAnswers text word bytes status
       → IsFlatFault text None code place → (status ≡ 1) × (bytes ≡ refusal_line code place)
   pub of_bad_line : (text word bytes : List ℕ) (status : ℕ) (flat : FlatText) (line : ℕ) → LassoAnswers text word bytes status
-      → IsFlatOf text None flat → IsFirstBadLine word (all_names flat.expanded) line → (status ≡ 40) × (bytes ≡ line_refusal line)
+      → IsFlatOf text None flat → IsFirstBadWordLine word (all_names flat.expanded) line → (status ≡ 40) × (bytes ≡ line_refusal line)
   pub of_lasso : (text word bytes : List ℕ) (status : ℕ) (tree : Text) (flat : FlatText) (lasso : Word) → LassoAnswers text word bytes status
       → Reads text tree → IsFlatOf text None flat → StatesWord word (all_names flat.expanded) lasso
       → (status ≡ 0) × (bytes ≡ truth_line (means lasso tree))

@@ -1,4 +1,4 @@
-// Laws of the answers, by which each comes exactly where it is due.
+//! Laws of the answers, by which each comes exactly where it is due.
 ghost use Rattle.flat_answer.specs.Laws.{ExpandAnswersAreDue, LassoAnswersAreDue};
 
 use flat_text::laws::{

@@ -1,8 +1,8 @@
 -- What a sink gained by the pieces of a list, one after another.
-use Rattle.std.proofs.Common.{◌≡◌, ℕ, ◌+◌, ◌<◌, List, [], ◌∷◌, ◌++◌, length, take, drop, flat_map, Option, Result, Ok, Err, OnErr, arith, refl, sym, subst, ap, ◌∙◌, append-nil, take-append-drop, slice_index_or}
+use Rattle.std.proofs.Common.{◌≡◌, ℕ, ◌+◌, ◌<◌, List, [], ◌∷◌, ◌++◌, length, take, drop, flat_map, Option, Result, Ok, Err, OnErr, arith, refl, sym, ap, ◌∙◌, take-append-drop, slice_index_or}
 use Rattle.std.proofs.lemmas.Grind.{common_steps, flat_map-append}
 use Rattle.outside_edge.specs.Bytes.{Gains, GainsFront}
-use Rattle.outside_edge.proofs.GainLemmas.{front_more, gains_more, gains_nothing}
+use Rattle.outside_edge.proofs.GainLemmas.{front_more, gains_nothing}
 
 -- nothing is a front of what is to be written
 pub nothing_yet : {T E : Type 0} (r : Result T E) (a : Option (List ℕ)) (bytes : List ℕ) → OnErr r (GainsFront a a bytes)
@@ -14,19 +14,8 @@ on_err (Ok x) p = tt
 on_err (Err e) p = p
 
 module _ {X : Type 0} (f : X → List ℕ) (xs : List X) where
-  next_piece : (i : ℕ) (d : X) → i < length xs → take (i + 1) xs ≡ take i xs ++ slice_index_or xs i d ∷ []
-  next_piece i d l = grind (arith, common_steps)
-
   rest_piece : (i : ℕ) (d : X) → i < length xs → drop i xs ≡ slice_index_or xs i d ∷ drop (i + 1) xs
   rest_piece i d l = grind (arith, common_steps)
-
-  pub pieces_more : (a b c : Option (List ℕ)) (i : ℕ) (d : X) → i < length xs → Gains a b (flat_map f (take i xs)) → Gains b c (f (slice_index_or xs i d)) →
-      Gains a c (flat_map f (take (i + 1) xs))
-  pieces_more a b c i d l before piece =
-      let x = slice_index_or xs i d in
-      let all : flat_map f (take (i + 1) xs) ≡ flat_map f (take i xs) ++ f x =
-      ap (flat_map f) (next_piece i d l) ∙ flat_map-append f (take i xs) (x ∷ []) ∙ ap (λ ys. flat_map f (take i xs) ++ ys) (append-nil (f x)) in
-      subst (Gains a c) (sym all) (gains_more a b c (flat_map f (take i xs)) (f x) before piece)
 
   pub pieces_front : (a b c : Option (List ℕ)) (i : ℕ) (d : X) → i < length xs → Gains a b (flat_map f (take i xs)) → GainsFront b c (f (slice_index_or xs i d)) →
       GainsFront a c (flat_map f xs)

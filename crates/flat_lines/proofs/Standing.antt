@@ -9,8 +9,9 @@ use Rattle.tlsf_tokens.specs.declared.symbol.Section.{Section}
 use Rattle.tlsf_tokens.specs.declared.symbol.Section.TheVariants.{Initially, Preset, Require, Assert, Assume, Guarantee}
 use Rattle.tlsf_expand.specs.Expansion.{Expanded}
 use Rattle.tlsf_expand.specs.Standing.{SectionsStand}
-use Rattle.tlsf_expand.proofs.Expanded.{any_word, is_made}
+use Rattle.tlsf_expand.proofs.Expanded.{is_made}
 use Rattle.tlsf_expand.proofs.Sectioned.{sections_stand}
+use Rattle.tlsf_expand.proofs.Laid.{any_word}
 use Rattle.flat_lines.specs.declared.lines.Line.{Line}
 use Rattle.flat_lines.specs.declared.lines.Line.TheVariants.{Kinds, Inputs, Outputs, Formula}
 use Rattle.flat_lines.specs.FlatLines.{LineStands, lines_in}

@@ -2,7 +2,7 @@
 -- section.
 use Rattle.std.specs.Prelude.{ℕ, Bool, List, [], ◌∷◌, ◌++◌, All, codes, flat_map, length, map, if◌then◌else◌}
 use Rattle.letter_word.specs.declared.kinds.Kind.{Kind}
-use Rattle.letter_word.specs.declared.kinds.Kind.TheVariants.{Mealy, Moore}
+use Rattle.letter_word.specs.Kinds.{kind_word}
 use Rattle.ltl_formula.specs.declared.nodes.Node.{Node}
 use Rattle.ltl_formula.specs.Nodes.{IsNodeList, Stands, tree_at}
 use Rattle.ltl_formula.specs.ListSignals.{HasSignalsBelow}
@@ -13,10 +13,6 @@ use Rattle.tlsf_tokens.specs.declared.symbol.Section.{Section}
 use Rattle.tlsf_tokens.specs.declared.symbol.Section.TheVariants.{Initially, Preset, Require, Assert, Assume, Guarantee}
 use Rattle.flat_lines.specs.declared.lines.Line.{Line}
 use Rattle.flat_lines.specs.declared.lines.Line.TheVariants.{Kinds, Inputs, Outputs, Formula}
-
-abbrev pub kind_word : Kind → List ℕ
-kind_word Mealy = codes "Mealy"
-kind_word Moore = codes "Moore"
 
 abbrev pub section_word : Section → List ℕ
 section_word Initially = codes "initially"

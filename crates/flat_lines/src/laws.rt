@@ -1,4 +1,5 @@
-// Laws of the definitions, which no code needs.
+//! Laws of the definitions, which no code needs.
+
 ghost use Rattle.flat_lines.specs.Laws.{ExpandedCanBeWritten};
 
 /// What comes of a text can be written.

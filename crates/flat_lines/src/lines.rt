@@ -1,4 +1,5 @@
-// The lines of a flat text, before they are written.
+//! The lines of a flat text, before they are written.
+
 ghost use Rattle.std.specs.Prelude.{◌≡◌, ◌++◌, map, IfOk};
 ghost use Rattle.flat_lines.specs.FlatLines.{lines_in, section_word};
 ghost use Rattle.tlsf_expand.specs.FlatText.{spec_seen};
@@ -31,7 +32,7 @@ pub(crate) enum Line {
     Formula(Section, FormulaId),
 }
 
-// The lines in their order.
+/// The lines in their order.
 pub(crate) fn lines_in(alloc: Global, spec: &Spec) -> Result<Vec<Line>, AllocError>
     ensures { IfOk result (λ lines. lines.items ≡ lines_in (spec_seen spec.now).expanded) }
 {

@@ -1,4 +1,5 @@
-// The names of the signals of a flat text.
+//! The names of the signals of a flat text.
+
 ghost use Rattle.std.specs.Prelude.{◌≡◌, ◌++◌, ◌∷◌, flat_map, IfOk};
 ghost use Rattle.flat_lines.specs.FlatLines.{all_names, names_line};
 ghost use Rattle.tlsf_expand.specs.FlatText.{spec_seen};
@@ -26,7 +27,7 @@ fn add_names(names: &mut Vec<Name>, more: &[Name]) -> Result<(), AllocError>
     Ok(())
 }
 
-// Appends a word, and each name with a blank before it.
+/// Appends a word, and each name with a blank before it.
 pub(crate) fn write_names(word: &[u8], names: &[Name], line: &mut Vec<u8>) -> Result<(), AllocError>
     ensures { IfOk result (λ _. line.new.items ≡ line.old.items ++ names_line word.now names.now) }
 {

@@ -67,7 +67,7 @@ fn put_line<K: Sink>(
     out.put(&text)
 }
 
-// A line with its end.
+/// A line with its end.
 fn line_text(alloc: Global, spec: &Spec, names: &[Name], line: Line) -> Result<Vec<u8>, AllocError>
     requires names { names.now ≡ all_names (spec_seen spec.now).expanded }
     requires writable { CanBeWritten (spec_seen spec.now) }
@@ -80,7 +80,7 @@ fn line_text(alloc: Global, spec: &Spec, names: &[Name], line: Line) -> Result<V
     Ok(text)
 }
 
-// Appends the line without its end.
+/// Appends the line without its end.
 fn write_line(spec: &Spec, names: &[Name], line: Line, text: &mut Vec<u8>) -> Result<(), AllocError>
     requires names { names.now ≡ all_names (spec_seen spec.now).expanded }
     requires writable { CanBeWritten (spec_seen spec.now) }

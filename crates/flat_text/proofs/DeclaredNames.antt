@@ -1,6 +1,5 @@
 -- Each word that a text declares is a name among its lexemes, and its last lexeme closes MAIN.
-use Rattle.std.proofs.Common.{◌≡◌, ℕ, zero, suc, ◌+◌, List, [], ◌∷◌, ◌++◌, length, map, slice_get, Some, refl, sym, ◌∙◌, ap, subst, arith}
-use Rattle.std.proofs.lemmas.List.{append_assoc}
+use Rattle.std.proofs.Common.{◌≡◌, ℕ, zero, suc, ◌+◌, List, [], ◌∷◌, ◌++◌, length, map, slice_get, Some, sym, ap, subst, arith}
 use Rattle.tlsf_tokens.specs.declared.symbol.Symbol.{Symbol}
 use Rattle.tlsf_tokens.specs.declared.symbol.Symbol.TheVariants as symbol
 use Rattle.tlsf_syntax.specs.Tree.{Named, Member, Definition, Declaration, Block, Part, Written}
@@ -8,6 +7,7 @@ use Rattle.tlsf_syntax.specs.Lexemes.{Lexeme, Is}
 use Rattle.tlsf_syntax.specs.Texts.{DerivesMembers, of_one_member, of_members, DerivesDefinition, of_constant, of_function, of_enumeration, of_ended_enumeration, DerivesDefinitions, of_no_definition, of_definition, DerivesParameters, of_no_parameter, of_parameter, DerivesBlocks, of_no_block, of_parameters, of_definitions, DerivesDeclarations, of_no_declaration, of_single, of_bus, of_typed, DerivesParts, of_no_part, of_inputs, of_outputs, of_section, DerivesGlobal, of_no_global, of_global, DerivesMain, of_main, DerivesText, of_text}
 use Rattle.tlsf_reader.specs.Faults.{symbols_of}
 use Rattle.tlsf_reader.specs.Parts.{definition_words, words_of_definitions, words_of_parts, definitions_of, declared_words}
+use Rattle.tlsf_reader.proofs.Repeats.{words_append}
 use Rattle.flat_text.proofs.Starts.{StandsAt, stands_first, stands_later, stands_behind, stands_before}
 
 abbrev NameAt : List Lexeme → ℕ → Type 0
@@ -73,10 +73,6 @@ parameters_named _ _ (of_parameter l sign semicolon ls ms t ds i s d e rest) = (
       (λ place a. later_by_2 l sign (ls ++ semicolon ∷ ms) place (stands_behind symbol.Ident ls (semicolon ∷ ms) place (stands_later symbol.Ident semicolon ms place a))) (parameters_named ms ds rest),
 )
 
-words-append : (ds es : List Definition) → words_of_definitions (ds ++ es) ≡ words_of_definitions ds ++ words_of_definitions es
-words-append [] es = refl
-words-append (d ∷ ds) es = ap (λ ws. definition_words d ++ ws) (words-append ds es) ∙ sym (append_assoc (definition_words d) (words_of_definitions ds) (words_of_definitions es))
-
 -- a part with its head and braces, before others
 part_named : (l before after : Lexeme) (ls ms : List Lexeme) (ws vs : List Named) → AreNames ws ls → AreNames vs ms → AreNames (ws ++ vs) (l ∷ before ∷ ls ++ after ∷ ms)
 part_named l before after ls ms ws vs h g =
@@ -88,10 +84,10 @@ part_named l before after ls ms ws vs h g =
 blocks_named : (ls : List Lexeme) (bs : List Block) → DerivesBlocks ls bs → AreNames (words_of_definitions (definitions_of bs)) ls
 blocks_named _ _ of_no_block = tt
 blocks_named _ _ (of_parameters l before after ls ms ds bs i o d c rest) =
-    subst (λ ws. AreNames ws (l ∷ before ∷ ls ++ after ∷ ms)) (sym (words-append ds (definitions_of bs)))
+    subst (λ ws. AreNames ws (l ∷ before ∷ ls ++ after ∷ ms)) (sym (words_append ds (definitions_of bs)))
     (part_named l before after ls ms (words_of_definitions ds) (words_of_definitions (definitions_of bs)) (parameters_named ls ds d) (blocks_named ms bs rest))
 blocks_named _ _ (of_definitions l before after ls ms ds bs i o d c rest) =
-    subst (λ ws. AreNames ws (l ∷ before ∷ ls ++ after ∷ ms)) (sym (words-append ds (definitions_of bs)))
+    subst (λ ws. AreNames ws (l ∷ before ∷ ls ++ after ∷ ms)) (sym (words_append ds (definitions_of bs)))
     (part_named l before after ls ms (words_of_definitions ds) (words_of_definitions (definitions_of bs)) (definitions_named ls ds d) (blocks_named ms bs rest))
 
 declarations_named : (ls : List Lexeme) (ds : List Declaration) → DerivesDeclarations ls ds → AreNames (map (λ (d : Declaration). d.word) ds) ls

@@ -1,5 +1,6 @@
 -- A text is one thing, flat, and then it has no fault.
 use Rattle.std.proofs.Common.{◌≡◌, ℕ, List, Option, Some, sym, ap, ◌∙◌}
+use Rattle.std.proofs.lemmas.Option.{same_Some}
 use Rattle.letter_word.specs.declared.kinds.Kind.{Kind}
 use Rattle.spec_faults.specs.declared.code.SpecCode.{SpecCode}
 use Rattle.tlsf_reader.specs.Reads.{TreesAreDetermined, TreesHaveNoFault}
@@ -8,9 +9,6 @@ use Rattle.tlsf_expand.specs.Expansion.{Expanded, Fault, expanded, fault_in}
 use Rattle.tlsf_expand.specs.FlatText.{FlatText, flat_in}
 use Rattle.flat_text.specs.FlatOf.{IsFlatOf, IsFlatFault, of_reading, of_expansion}
 
-some_same : {A : Type 0} (a b : A) → Some a ≡ Some b → a ≡ b
-some_same a b h = cc
-
 one_outcome : (o : Outcome Expanded) (flat : FlatText) (f : Fault) → flat_in o ≡ Some flat → fault_in o ≡ Some f → ⊥
 one_outcome (gives x w) flat f is fault = absurd cc
 one_outcome (fails code place) flat f is fault = absurd cc
@@ -18,7 +16,7 @@ one_outcome (fails code place) flat f is fault = absurd cc
 module _ (determined : TreesAreDetermined) where
   pub one_flat : (text : List ℕ) (kind : Option Kind) (flat flat' : FlatText) → IsFlatOf text kind flat → IsFlatOf text kind flat' → flat ≡ flat'
   one_flat text kind flat flat' a b =
-      some_same flat flat' (sym a.expanded ∙ ap (λ t. flat_in (expanded t kind)) (determined text a.tree b.tree a.read b.read) ∙ b.expanded)
+      same_Some flat flat' (sym a.expanded ∙ ap (λ t. flat_in (expanded t kind)) (determined text a.tree b.tree a.read b.read) ∙ b.expanded)
 
   pub no_flat_fault : TreesHaveNoFault → (text : List ℕ) (kind : Option Kind) (flat : FlatText) (code : SpecCode) (place : ℕ) → IsFlatOf text kind flat → IsFlatFault text kind code place → ⊥
   no_flat_fault sound text kind flat code place a (of_reading _ _ f) = sound text a.tree code place a.read f

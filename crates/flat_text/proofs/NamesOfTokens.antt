@@ -4,7 +4,7 @@ use Rattle.std.specs.Prelude.{◌≢◌, ◌==◌, ◌&&◌, ◌||◌, not, nat_
 use Rattle.std.specs.Char.{is_ascii_digit}
 use Rattle.std.specs.List.{list_all, starts_with}
 use Rattle.std.specs.Str.{bytes_eq}
-use Rattle.std.proofs.lemmas.Bool.{and_from, and_parts, eqb-true, false≢true, or_cases}
+use Rattle.std.proofs.lemmas.Bool.{and_from, and_parts, eqb-true, false≢true, or_cases, not-true}
 use Rattle.std.proofs.lemmas.List.Elements.{All-weaker}
 use Rattle.std.proofs.lemmas.List.Sums.{AllPass-from_list_all, list_all-from_AllPass}
 use Rattle.tlsf_tokens.specs.Words.{is_blank, is_name_start, is_name_part, is_among, symbol_in, signs, unsupported_signs}
@@ -14,6 +14,7 @@ use Rattle.tlsf_tokens.specs.declared.token.Token.{Token}
 use Rattle.tlsf_tokens.specs.declared.token.Piece.{Piece}
 use Rattle.tlsf_tokens.specs.declared.token.Piece.TheVariants as piece
 use Rattle.tlsf_tokens.specs.declared.symbol.Symbol.{Symbol}
+use Rattle.tlsf_tokens.proofs.Longest.{name_part}
 use Rattle.tlsf_tokens.specs.declared.symbol.Symbol.TheVariants as symbol
 use Rattle.tlsf_syntax.specs.Lexemes.{Lexeme, Is}
 use Rattle.tlsf_reader.specs.Lexed.{lexeme_from}
@@ -53,14 +54,11 @@ all_weaker p q f w h = list_all-from_AllPass q w (All-weaker (λ b. p b ≡ true
 pub one_word : (w : List ℕ) → (w ≢ []) → list_all (λ b. not (is_blank b)) w ≡ true → IsOneWord w
 one_word w some h = record { nonempty = some; one_line = all_weaker (λ b. not (is_blank b)) (λ b. not (b == 10)) not_line w h; no_blank = h }
 
-start_part : (b : ℕ) → is_name_start b ≡ true → is_name_part b ≡ true
-start_part b h = ap (λ x. x || is_ascii_digit b || b == 39) h
-
 cons_some : (b : ℕ) (w : List ℕ) → (b ∷ w) ≢ []
 cons_some b w e = cc
 
 name_word : (b : ℕ) (w : List ℕ) → is_name_start b ≡ true → list_all is_name_part w ≡ true → IsOneWord (b ∷ w)
-name_word b w start parts = one_word (b ∷ w) (cons_some b w) (all_weaker is_name_part (λ b. not (is_blank b)) not_blank (b ∷ w) (and_from _ _ (start_part b start) parts))
+name_word b w start parts = one_word (b ∷ w) (cons_some b w) (all_weaker is_name_part (λ b. not (is_blank b)) not_blank (b ∷ w) (and_from _ _ (name_part b start) parts))
 
 -- ---- what is a name
 
@@ -91,13 +89,9 @@ no_comment (suc n) (b ∷ c ∷ w) =
 abbrev is_no_name : List ℕ × Symbol → Bool
 is_no_name p = not (is_name (Some (piece.Token p.1)))
 
-is_false : (b : Bool) → not b ≡ true → b ≡ false
-is_false true h = sym h
-is_false false h = refl
-
 no_sign : (w : List ℕ) (table : List (List ℕ × Symbol)) → list_all is_no_name table ≡ true → is_name (sign_or (symbol_in table w) w) ≡ false
 no_sign w [] h = either (is_among unsupported_signs w) _ _ refl refl
-no_sign w (p ∷ table) h = let both = and_parts (is_no_name p) (list_all is_no_name table) h in by (bytes_eq w p.0) (is_false _ both.0) (no_sign w table both.1)
+no_sign w (p ∷ table) h = let both = and_parts (is_no_name p) (list_all is_no_name table) h in by (bytes_eq w p.0) (not-true _ both.0) (no_sign w table both.1)
   where
     by : (b : Bool) → is_name (Some (piece.Token p.1)) ≡ false → is_name (sign_or (symbol_in table w) w) ≡ false
         → is_name (sign_or (if b then Some p.1 else symbol_in table w) w) ≡ false

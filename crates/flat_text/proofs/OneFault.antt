@@ -1,38 +1,25 @@
 -- A text has at most one first fault.
-use Rattle.std.proofs.Common.{◌≡◌, ◌<◌, ◌≤◌, ℕ, List, [], ◌∷◌, ◌++◌, length, Option, None, Some, refl, sym, ◌∙◌, ap, subst, arith}
+use Rattle.std.proofs.Common.{◌≡◌, ◌<◌, ◌≤◌, ℕ, List, [], length, Option, None, Some, refl, sym, ◌∙◌, ap, subst, arith}
 use Rattle.letter_word.specs.declared.kinds.Kind.{Kind}
 use Rattle.spec_faults.specs.declared.code.SpecCode.{SpecCode}
 use Rattle.tlsf_syntax.specs.Nesting.{first_deep}
 use Rattle.tlsf_syntax.specs.Tree.{Written}
-use Rattle.tlsf_syntax.specs.Lexemes.{Lexeme}
 use Rattle.tlsf_syntax.specs.Texts.{DerivesText, IsFirstUnexpected}
 use Rattle.tlsf_syntax.proofs.Texts.{one_text}
 use Rattle.tlsf_syntax.proofs.Unexpected.{determined}
-use Rattle.tlsf_syntax.proofs.SemanticsWords.{never_finite}
 use Rattle.tlsf_reader.specs.Lexed.{Lexed}
-use Rattle.tlsf_reader.specs.Faults.{most_nesting, symbols_of, start_at, IsFinite, first_word, second_word, HasEarlyFault, of_tokens, of_nesting, of_finite, of_lexeme, of_end, HasLateFault, IsFirstOf, IsReadingFault, too_long, early, late}
-use Rattle.tlsf_reader.proofs.OneTree.{one_list, determined as one_tree}
-use Rattle.tlsf_reader.proofs.NoFault.{no_fault}
+use Rattle.tlsf_reader.specs.Faults.{most_nesting, symbols_of, start_at, IsFinite, HasEarlyFault, of_tokens, of_nesting, of_finite, of_lexeme, of_end, HasLateFault, IsFirstOf, IsReadingFault, too_long, early, late}
+use Rattle.tlsf_reader.proofs.OneTree.{determined as one_tree}
+use Rattle.tlsf_reader.proofs.NoFault.{no_fault, never_in_text, IsSameLexed, same_lexed}
 use Rattle.tlsf_expand.specs.Expansion.{Fault, flat_fault}
 use Rattle.flat_text.proofs.OneCode.{early_code, late_code}
 use Rattle.flat_text.specs.FlatOf.{IsFlatFault, of_reading, of_expansion}
 
--- the tokens of a text are determined
-record Same (text : List ℕ) (a b : Lexed text) : Type 0 where
-  lexemes : a.lexemes ≡ b.lexemes
-  stop : a.stop ≡ b.stop
-  stop_at : a.stop_at ≡ b.stop_at
-
-same : (text : List ℕ) (a b : Lexed text) → Same text a b
-same text a b =
-    let all : (a.lexemes ≡ b.lexemes) × (a.stop ≡ b.stop) × (a.stop_at ≡ b.stop_at) = one_list text a.stop b.stop a.stop_at b.stop_at a.lexemes b.lexemes a.is b.is in
-    record { lexemes = all.0; stop = all.1; stop_at = all.2 }
-
 early_too : (text : List ℕ) (a b : Lexed text) (code : SpecCode) (place : ℕ) → HasEarlyFault text a code place → HasEarlyFault text b code place
 early_too text a b code place f = by code place f
   where
-    s : Same text a b
-    s = same text a b
+    s : IsSameLexed text a b
+    s = same_lexed text a b
 
     by : (code : SpecCode) (place : ℕ) → HasEarlyFault text a code place → HasEarlyFault text b code place
     by _ _ (of_tokens c e) = subst (HasEarlyFault text b c) (sym s.stop_at) (of_tokens c (sym s.stop ∙ e))
@@ -43,23 +30,19 @@ early_too text a b code place f = by code place f
         subst (λ ls. HasEarlyFault text b _ (start_at ls k)) (sym s.lexemes) (of_lexeme k (subst (λ ls. IsFirstUnexpected ls k) s.lexemes u) (subst (λ ls. k < length ls) s.lexemes h))
     by _ _ (of_end e u) = of_end (sym s.stop ∙ e) (subst (λ ls. IsFirstUnexpected ls (length ls)) s.lexemes u)
 
-never_finite_in : (ls : List Lexeme) (l : Lexeme) (w : Written) → IsFinite ls l → DerivesText ls w → ⊥
-never_finite_in _ l w (first_word before after s colon x i j k t) d = never_finite.first (before ++ s ∷ colon ∷ x ∷ after) w d before after s colon x refl i t
-never_finite_in _ l w (second_word before after s colon word comma x i j k m t) d = never_finite.second (before ++ s ∷ colon ∷ word ∷ comma ∷ x ∷ after) w d before after s colon word comma x refl i k t
-
 -- a text of the grammar has no early fault
 never_early : (text : List ℕ) (lexed : Lexed text) (w : Written) (code : SpecCode) (place : ℕ) → lexed.stop ≡ None → DerivesText lexed.lexemes w
     → first_deep most_nesting [] (symbols_of lexed.lexemes) ≡ None → HasEarlyFault text lexed code place → ⊥
 never_early text lexed w _ _ stop d shallow (of_tokens c e) = let no : ◌≡◌ {A = Option SpecCode} None (Some c) = sym stop ∙ e in cc
 never_early text lexed w _ _ stop d shallow (of_nesting k e) = let no : ◌≡◌ {A = Option ℕ} None (Some k) = sym shallow ∙ e in cc
-never_early text lexed w _ _ stop d shallow (of_finite l h) = never_finite_in lexed.lexemes l w h d
+never_early text lexed w _ _ stop d shallow (of_finite l h) = never_in_text lexed.lexemes l w h d
 never_early text lexed w _ _ stop d shallow (of_lexeme k u h) = determined.never_a_text lexed.lexemes k w u d
 never_early text lexed w _ _ stop d shallow (of_end e u) = determined.never_a_text lexed.lexemes (length lexed.lexemes) w u d
 
 late_too : (text : List ℕ) (a b : Lexed text) (v w : Written) (code : SpecCode) (place : ℕ) → DerivesText a.lexemes v → DerivesText b.lexemes w
     → HasLateFault a.lexemes v code place → HasLateFault b.lexemes w code place
 late_too text a b v w code place dv dw f =
-    let s : Same text a b = same text a b in
+    let s : IsSameLexed text a b = same_lexed text a b in
     let written : v ≡ w = one_text b.lexemes v w (subst (λ ls. DerivesText ls v) s.lexemes dv) dw in
     subst (λ ls. HasLateFault ls w code place) s.lexemes (subst (λ u. HasLateFault a.lexemes u code place) written f)
 

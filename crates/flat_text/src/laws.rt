@@ -1,4 +1,4 @@
-// Laws of the definitions, which no code needs.
+//! Laws of the definitions, which no code needs.
 
 ghost use Rattle.flat_text.specs.FlatNames.{FlatNamesAreWords};
 ghost use Rattle.flat_text.specs.Laws.{FlatFaultsAreDetermined, FlatTextsAreDetermined, FlatTextsHaveNoFault};

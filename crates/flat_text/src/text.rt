@@ -1,4 +1,4 @@
-// From the bytes of a text to its flat sections.
+//! From the bytes of a text to its flat sections.
 
 ghost use Rattle.std.specs.Prelude.{◌≡◌, ℕ, Err, IfOk, length};
 ghost use Rattle.flat_text.specs.FlatNames.{HasPlainNames};

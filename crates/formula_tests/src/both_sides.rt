@@ -15,7 +15,7 @@ fn write_edge(text: &mut String, edge: Edge) -> Result<(), Fail> {
     Ok(())
 }
 
-// For each edge where it comes from, what its cube wants and forbids as sets of signals, and where it leads. Then the rejecting states.
+/// For each edge where it comes from, what its cube wants and forbids as sets of signals, and where it leads. Then the rejecting states.
 fn write_automaton(text: &mut String, automaton: &Automaton) -> Result<(), Fail> {
     for edge in automaton.edges() {
         write_edge(text, *edge)?;
@@ -29,7 +29,7 @@ fn write_automaton(text: &mut String, automaton: &Automaton) -> Result<(), Fail>
     Ok(())
 }
 
-// The environment's automaton, if there is one, and then the system's.
+/// The environment's automaton, if there is one, and then the system's.
 fn told(alloc: Global, automata: &Automata) -> Result<String, Fail> {
     let mut text = String::new(alloc);
     if let Some(environment) = &automata.environment {

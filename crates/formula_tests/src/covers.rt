@@ -23,7 +23,7 @@ fn covers_of(alloc: Global, text: &[u8]) -> Result<Result<Vec<Cover>, CoverFault
     Ok(covers(alloc, &formulas, &set))
 }
 
-// What each cover wants and forbids, how many formulas it leaves to the next position, and how many untils it puts off.
+/// What each cover wants and forbids, how many formulas it leaves to the next position, and how many untils it puts off.
 fn told(alloc: Global, text: &[u8]) -> Result<String, Fail> {
     let mut told = String::new(alloc);
     for cover in &covers_of(alloc, text)?? {
@@ -53,7 +53,7 @@ fn small_sets(rt: HostRuntime) -> Result<(), Fail> {
     Ok(())
 }
 
-// The conjunction of `(X^j a) || (X^j b)` for each j from 1 to `count`.
+/// The conjunction of `(X^j a) || (X^j b)` for each j from 1 to `count`.
 fn pairs(alloc: Global, count: u32) -> Result<Vec<u8>, AllocError> {
     let mut text = b"1".to_vec(alloc)?;
     for j in 0..count {

@@ -14,7 +14,7 @@ fn add(formulas: &mut Formulas, node: Node) -> Result<FormulaId, Fail> {
     Ok(formulas.add(node)?)
 }
 
-// The node of an operator with one part.
+/// The node of an operator with one part.
 fn unary(operator: u8, a: FormulaId) -> Option<Node> {
     match operator {
         b'!' => Some(Node::Not(a)),
@@ -25,7 +25,7 @@ fn unary(operator: u8, a: FormulaId) -> Option<Node> {
     }
 }
 
-// The node of an operator with two parts.
+/// The node of an operator with two parts.
 fn binary(operator: u8, a: FormulaId, b: FormulaId) -> Node {
     match operator {
         b'&' => Node::And(a, b),
@@ -38,7 +38,7 @@ fn binary(operator: u8, a: FormulaId, b: FormulaId) -> Node {
     }
 }
 
-// The node of a byte, whose parts are taken off.
+/// The node of a byte, whose parts are taken off.
 fn node_of(byte: u8, parts: &mut Vec<FormulaId>) -> Node {
     if byte == b'1' {
         return Node::True;

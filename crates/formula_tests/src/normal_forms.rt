@@ -8,7 +8,7 @@ use std::alloc::{AllocError, Global};
 use std::test::Fail;
 use text_base::Name;
 
-// The names a, b, .., p of 16 signals.
+/// The names a, b, .., p of 16 signals.
 fn names(alloc: Global) -> Result<Vec<Name>, AllocError>
     ensures { IfOk result (λ names. vec_len names ≡ 16) }
 {
@@ -29,7 +29,7 @@ fn text_of(alloc: Global, formulas: &Formulas, f: FormulaId) -> Result<Vec<u8>, 
     Ok(out)
 }
 
-// The text of a formula's normal form, or of its negated form.
+/// The text of a formula's normal form, or of its negated form.
 fn form_of(alloc: Global, text: &[u8], keep: bool) -> Result<Vec<u8>, Fail> {
     let mut formulas = Formulas::new(alloc);
     let f = formula(alloc, &mut formulas, text)?;
@@ -41,7 +41,7 @@ fn form_of(alloc: Global, text: &[u8], keep: bool) -> Result<Vec<u8>, Fail> {
     Ok(text_of(alloc, &formulas, form)?)
 }
 
-// The forms of several formulas, each with a semicolon behind it.
+/// The forms of several formulas, each with a semicolon behind it.
 fn forms_of(alloc: Global, texts: &[u8], keep: bool) -> Result<Vec<u8>, Fail> {
     let mut forms = Vec::new(alloc);
     for text in texts.split(|byte| *byte == b' ') {
@@ -80,7 +80,7 @@ fn each_operator_has_its_forms(rt: HostRuntime) -> Result<(), Fail> {
     Ok(())
 }
 
-// So many nodes of shared parts, each twice in the one above: without a table of what was built this would never end.
+/// So many nodes of shared parts, each twice in the one above: without a table of what was built this would never end.
 fn tower(alloc: Global, level: &[u8], levels: u32) -> Result<(), Fail> {
     let mut text = b"a".to_vec(alloc)?;
     push_times(&mut text, level, levels)?;

@@ -7,7 +7,7 @@ use machine_model::{Machine, Row};
 use std::alloc::Global;
 use std::test::Fail;
 
-// A machine of these rows: a digit for the next state, and one for what is written.
+/// A machine of these rows: a digit for the next state, and one for what is written.
 fn machine(alloc: Global, kind: Kind, digits: &[u8]) -> Result<Machine, Fail>
     ensures kind { IfOk result (λ m. m.kind ≡ kind) }
     ensures reads { IfOk result (λ m. m.reads ≡ 1) }
@@ -28,7 +28,7 @@ fn machine(alloc: Global, kind: Kind, digits: &[u8]) -> Result<Machine, Fail>
     Ok(Machine::new(kind, 1, 1, rows)?)
 }
 
-// A digit for each letter.
+/// A digit for each letter.
 fn push_letters(text: &mut Vec<u8>, letters: &[Letter]) -> Result<(), Fail> {
     for letter in letters {
         text.push(b'0' + (letter.0 % 10) as u8)?;
@@ -37,7 +37,7 @@ fn push_letters(text: &mut Vec<u8>, letters: &[Letter]) -> Result<(), Fail> {
     Ok(())
 }
 
-// The stem and the ring of a lasso.
+/// The stem and the ring of a lasso.
 fn told(alloc: Global, word: &Lasso) -> Result<Vec<u8>, Fail> {
     let mut text = Vec::new(alloc);
     push_letters(&mut text, word.stem())?;
@@ -45,7 +45,7 @@ fn told(alloc: Global, word: &Lasso) -> Result<Vec<u8>, Fail> {
     Ok(text)
 }
 
-// What a Moore machine and a Mealy machine play, where the former is the system or the environment.
+/// What a Moore machine and a Mealy machine play, where the former is the system or the environment.
 fn played(alloc: Global, moore: &[u8], mealy: &[u8], is_system: bool) -> Result<Vec<u8>, Fail> {
     let moore = machine(alloc, Kind::Moore, moore)?;
     let mealy = machine(alloc, Kind::Mealy, mealy)?;

@@ -21,7 +21,7 @@ fn word(alloc: Global, stem: &[u8], ring: &[u8]) -> Result<Lasso, Fail> {
     Ok(Lasso::new(stem, letters(alloc, ring)?)?)
 }
 
-// A digit for the truth at each position.
+/// A digit for the truth at each position.
 fn push_truths(
     alloc: Global,
     truths: &mut Vec<u8>,
@@ -39,7 +39,7 @@ fn push_truths(
     Ok(())
 }
 
-// The truths of several formulas.
+/// The truths of several formulas.
 fn truths_of(alloc: Global, lasso: &Lasso, texts: &[u8]) -> Result<Vec<u8>, Fail> {
     let mut truths = Vec::new(alloc);
     for text in texts.split(|byte| *byte == b' ') {
@@ -75,7 +75,7 @@ fn each_operator_has_its_truth_at_each_position(rt: HostRuntime) -> Result<(), F
     Ok(())
 }
 
-// The text of the longest list: `a U X (a U X (.. b))`.
+/// The text of the longest list: `a U X (a U X (.. b))`.
 fn longest(alloc: Global) -> Result<Vec<u8>, AllocError> {
     let mut text = Vec::new(alloc);
     push_times(&mut text, b"a", 511)?;
@@ -84,14 +84,14 @@ fn longest(alloc: Global) -> Result<Vec<u8>, AllocError> {
     Ok(text)
 }
 
-// One b, and then a for ever: ten thousand letters.
+/// One b, and then a for ever: ten thousand letters.
 fn long_word(alloc: Global) -> Result<Lasso, Fail> {
     let ring = vec![in alloc; Letter(1); 9999]?;
     let stem = vec![in alloc; Letter(2); 1]?;
     Ok(Lasso::new(stem, ring)?)
 }
 
-// The truth at position 1, if there is one.
+/// The truth at position 1, if there is one.
 fn truth_at_1(
     alloc: Global,
     formulas: &Formulas,
@@ -106,7 +106,7 @@ fn truth_at_1(
     Ok(Some(holds_at(alloc, formulas, f, lasso, 1)?))
 }
 
-// How long the longest list is, and whether its last formula is true on the long word.
+/// How long the longest list is, and whether its last formula is true on the long word.
 fn at_length(alloc: Global) -> Result<(usize, Option<bool>), Fail> {
     let mut formulas = Formulas::new(alloc);
     let top = formula(alloc, &mut formulas, &longest(alloc)?)?;
@@ -114,7 +114,7 @@ fn at_length(alloc: Global) -> Result<(usize, Option<bool>), Fail> {
     Ok((formulas.len(), truth))
 }
 
-// The longest list on the longest word: one row for each node, and no search at each position.
+/// The longest list on the longest word: one row for each node, and no search at each position.
 #[test]
 fn a_full_list_on_ten_thousand_letters_answers(rt: HostRuntime) -> Result<(), Fail> {
     assert_eq!(rt; at_length(rt.alloc())?, (1024, Some(false)));

@@ -2,7 +2,7 @@
 use Rattle.std.proofs.Common.{◌≡◌, ℕ, ◌+◌, ◌*◌, ◌^◌, ◌≤◌, List, length, arith}
 use Rattle.std.proofs.Math.Nat.{mul-le-mul}
 use Rattle.std.proofs.Math.Pow.{pow_mono}
-use Rattle.machine_model.specs.Machine.{MachineModel, IsKept, size_of}
+use Rattle.machine_model.specs.Machine.{MachineModel, IsKeptMachine, size_of}
 use Rattle.gate_build.specs.Table.{circuit_of, latches_of, nexts_of, outputs_of, split_literals}
 use Rattle.gate_build.proofs.Splits.{most_gates}
 use Rattle.gate_build.proofs.Whole.{few_latches, length-split, nexts_good, outputs_good}
@@ -12,7 +12,7 @@ most_each : (n : ℕ) → n ≤ 11 → most_gates n ≤ 6141
 most_each n few = let most : 2 ^ n ≤ 2 ^ 11 = pow_mono few in omega (arith, most)
 
 module _ (m : MachineModel) (read_names write_names : List (List ℕ)) (reads : length read_names ≡ m.reads) (writes : length write_names ≡ m.writes) where
-  pub few_variables : IsKept m → (circuit_of m read_names write_names).variables ≤ 67562
+  pub few_variables : IsKeptMachine m → (circuit_of m read_names write_names).variables ≤ 67562
   few_variables kept =
       let read : m.reads ≤ 8 = kept.reads in
       let written : m.writes ≤ 8 = kept.writes in

@@ -4,6 +4,7 @@ use Rattle.std.specs.Prelude.{max, min}
 use Rattle.std.proofs.lemmas.Bool.{cond-true, cond-false, cases_eq, cases_lt, eq-eqb, ne_eqb}
 use Rattle.std.proofs.lemmas.List.{length_push, length-append, get_or_append_left, get_or_push, append-nil}
 use Rattle.std.proofs.Common.{append_assoc, below_more}
+use mathlib.Core.Bool.{and_comm}
 use Rattle.aiger_text.specs.Circuit.{Valuation, variable_value, literal_value}
 use Rattle.gate_build.specs.declared.gates.Operands.{Operands}
 use Rattle.gate_build.specs.Gates.{Built, and_of, ite_of, negated, opposite}
@@ -164,13 +165,6 @@ good_gate first gates pair b new ordered greater lesser = record {
       ∙ ap (λ (o : Operands). literal_value v o.greater && literal_value v o.lesser) (get_or_push gates pair no_operands (length gates) refl);
 }
 
--- truths of two and three values
-and-comm : (a b : Bool) → (a && b) ≡ (b && a)
-and-comm true true = refl
-and-comm true false = refl
-and-comm false true = refl
-and-comm false false = refl
-
 never_both : (b : Bool) → false ≡ (not b && b)
 never_both true = refl
 never_both false = refl
@@ -228,7 +222,7 @@ max_min v x y = elim (cases_lt x y) [
   | inl less ↦
       let a : max x y ≡ y = omega (arith, less) in
       let b : min x y ≡ x = omega (arith, less) in
-      ap (λ n. literal_value v n && literal_value v (min x y)) a ∙ ap (λ n. literal_value v y && literal_value v n) b ∙ and-comm (literal_value v y) (literal_value v x)
+      ap (λ n. literal_value v n && literal_value v (min x y)) a ∙ ap (λ n. literal_value v y && literal_value v n) b ∙ and_comm (literal_value v y) (literal_value v x)
   | inr not_less ↦
       let above : y ≤ x = not_less in
       let a : max x y ≡ x = omega (arith, above) in

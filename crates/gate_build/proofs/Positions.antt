@@ -1,17 +1,17 @@
 -- One position of a run of the circuit is one of the machine's.
-use Rattle.std.proofs.Common.{◌≡◌, ℕ, ◌+◌, ◌-◌, ◌*◌, ◌/◌, ◌%◌, ◌^◌, ◌<◌, ◌≤◌, ◌&&◌, Bool, false, cond, eqb, leb, ltb, List, length, get_or, sym, ap, subst, ◌∙◌, arith, inl, inr}
+use Rattle.std.proofs.Common.{◌≡◌, ℕ, ◌+◌, ◌-◌, ◌*◌, ◌/◌, ◌%◌, ◌^◌, ◌<◌, ◌≤◌, ◌&&◌, Bool, false, cond, leb, ltb, List, length, get_or, sym, ap, subst, ◌∙◌, arith, inl, inr}
 use Rattle.std.specs.Prelude.{map}
-use Rattle.std.specs.Int.{bit_at}
-use Rattle.std.proofs.lemmas.Bool.{cases_eq, cases_lt, cond-true, cond_both, eq-eqb, eqb-true, leb-true, lt-ltb}
+use Rattle.std.proofs.lemmas.Bool.{cases_lt, cond-true, cond_both, leb-true, lt-ltb}
 use Rattle.std.proofs.lemmas.Nat.{div-mul-add, mod-mul-add, mul-add-lt, pow-add}
-use Rattle.std.proofs.lemmas.Nat.Bits.{bit_at-lt, same_from_bits_below}
 use Rattle.std.proofs.lemmas.List.{length-map, get_or-map, get_or_append_left, get_or-append_right}
 use Rattle.letter_word.specs.Signals.{has}
+use Rattle.letter_word.proofs.Bits.{number_of-lt, has-number_of, same_number}
 use Rattle.machine_model.specs.Machine.{MachineModel, next_of, size_of, writes_of}
 use Rattle.aiger_text.specs.declared.circuits.Latch.{Latch}
 use Rattle.aiger_text.specs.declared.circuits.Gate.{Gate}
 use Rattle.aiger_text.specs.Circuit.{Circuit, GatesAgree, Valuation, literal_value}
-use Rattle.aiger_text.proofs.Bits.{has-div, has-mod, has-number_of, number_of, number_of-lt}
+use Rattle.aiger_text.proofs.Bits.{has-div, has-mod}
+use Rattle.letter_word.specs.Bits.{number_of}
 use Rattle.aiger_text.proofs.Gates.{no_gate}
 use Rattle.aiger_text.proofs.Putting.{no_latch}
 use Rattle.gate_build.specs.declared.gates.Operands.{Operands}
@@ -26,22 +26,6 @@ codes_enough n few =
     cond_both (leb n 1) _ _ (λ l. n ≤ 2 ^ l) (λ one. leb-true n 1 one)
     (λ _. cond_both (leb n 2) _ _ (λ l. n ≤ 2 ^ l) (λ two. leb-true n 2 two)
     (λ _. cond_both (leb n 4) _ _ (λ l. n ≤ 2 ^ l) (λ four. leb-true n 4 four) (λ _. few)))
-
-digit : Bool → ℕ
-digit b = cond b 1 0
-
-digit_of : (n : ℕ) → n < 2 → n ≡ digit (eqb n 1)
-unfolding digit
-digit_of n small = elim (cases_eq n 1) [
-  | inl one ↦ one ∙ ap (λ b. cond b 1 0) (sym (eq-eqb n 1 one))
-  | inr other ↦ cond_both (eqb n 1) 1 0 (λ m. n ≡ m) (λ e. eqb-true n 1 e) (λ _. let apart : n ≡ 1 → ⊥ = other in omega arith)
-]
-
--- numbers with the same bits are the same
-pub same_number : (w a b : ℕ) → a < 2 ^ w → b < 2 ^ w → ((k : ℕ) → k < w → has a k ≡ has b k) → a ≡ b
-same_number w a b small_a small_b same =
-    same_from_bits_below w a b small_a small_b
-    (λ k h. digit_of (bit_at a k) (bit_at-lt a k) ∙ ap digit (same k h) ∙ sym (digit_of (bit_at b k) (bit_at-lt b k)))
 
 -- The valuation shows the machine in this state as it reads this letter: latches and inputs have the bits of the two.
 pub record Shows (m : MachineModel) (c : Circuit) (state letter : ℕ) (v : Valuation) : Type 0 where

@@ -12,6 +12,7 @@ use Rattle.letter_word.specs.declared.letters.Letter.{Letter}
 use Rattle.letter_word.specs.Signals.{has}
 use Rattle.letter_word.specs.Word.{Word, IsLassoOver, after, lasso_len, letter_at, next}
 use Rattle.letter_word.proofs.Positions.{after-own, after-suc, after_within, letter_below, next_within}
+use Rattle.letter_word.proofs.Bits.{number_of-lt, has-number_of, has-none, same_number}
 use Rattle.machine_model.specs.Machine.{MachineModel, IsMachine, next_of, size_of, writes_of}
 use Rattle.machine_model.specs.Run.{IsRunLasso, read_part, written_part}
 use Rattle.machine_model.specs.Laws.{StaysWithin}
@@ -20,13 +21,14 @@ use Rattle.machine_model.proofs.Tables.{size_pos}
 use Rattle.aiger_text.specs.declared.circuits.Latch.{Latch}
 use Rattle.aiger_text.specs.Circuit.{Circuit, IsCircuitRun, Valuation, first_read, first_written, latch_values, literal_value}
 use Rattle.aiger_text.specs.CircuitType.{IsOrder}
-use Rattle.aiger_text.proofs.Bits.{bits_of, get_or-bits_of, has-div, has-mod, has-none, has-number_of, length-bits_of, number_of, number_of-lt}
+use Rattle.aiger_text.proofs.Bits.{bits_of, get_or-bits_of, has-div, has-mod, length-bits_of}
+use Rattle.letter_word.specs.Bits.{number_of}
 use Rattle.aiger_text.proofs.Orders.{order_of_sorted}
 use Rattle.aiger_text.proofs.Putting.{no_latch}
 use Rattle.aiger_text.proofs.Valuations.{HasValuation, valuation_of}
 use Rattle.gate_build.specs.Laws.{HasTheRunsOf}
 use Rattle.gate_build.specs.Table.{circuit_of, latches_of}
-use Rattle.gate_build.proofs.Positions.{Shows, codes_enough, next_is, output_is, same_number}
+use Rattle.gate_build.proofs.Positions.{Shows, codes_enough, next_is, output_is}
 use Rattle.gate_build.proofs.Whole.{is_circuit, latch-at, length-inputs, length-latches, outputs_good, sorted}
 
 -- what is read and written of a letter of both is a letter of its own signals

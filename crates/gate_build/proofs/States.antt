@@ -7,17 +7,19 @@ use Rattle.letter_word.specs.declared.kinds.Kind.TheVariants.{Mealy, Moore}
 use Rattle.letter_word.specs.declared.kinds.Side.TheVariants.{System}
 use Rattle.letter_word.specs.Signals.{has}
 use Rattle.letter_word.specs.Word.{Word, lasso_len, letter_at}
+use Rattle.letter_word.proofs.Bits.{number_of-lt, has-number_of, same_number}
 use Rattle.machine_model.specs.Machine.{MachineModel, IsMachine, size_of, writes_of}
 use Rattle.machine_model.specs.Run.{read_part}
 use Rattle.machine_model.proofs.Determined.{stays_within}
 use Rattle.aiger_text.specs.declared.circuits.Latch.{Latch}
 use Rattle.aiger_text.specs.Circuit.{Circuit, HasStates, IsCircuitOfKind, IsCircuitRun, IsMooreCircuit, Occurs, Valuation, latch_values, literal_value}
-use Rattle.aiger_text.proofs.Bits.{get_or-bits_of, has-number_of, length-bits_of, number_of, number_of-lt}
+use Rattle.aiger_text.proofs.Bits.{get_or-bits_of, length-bits_of}
+use Rattle.letter_word.specs.Bits.{number_of}
 use Rattle.aiger_text.proofs.Putting.{no_latch}
 use Rattle.gate_build.specs.Laws.{HasTheStatesOf, IsMet, MeetsStates, code_of}
 use Rattle.gate_build.specs.Table.{circuit_of, latches_of}
 use Rattle.gate_build.proofs.Listing.{meets_some}
-use Rattle.gate_build.proofs.Positions.{codes_enough, output_is, same_number}
+use Rattle.gate_build.proofs.Positions.{codes_enough, output_is}
 use Rattle.gate_build.proofs.Runs.{chosen, circuit_run, code_bits, inside_at, latches_len, machine_run, outputs_len, shown_by, state_is, states, values, values_len}
 
 -- a function of an element is in the list of its values

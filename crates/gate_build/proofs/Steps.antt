@@ -1,23 +1,16 @@
 -- What each path of the code computes.
-use Rattle.std.proofs.Common.{◌≡◌, ◌≢◌, ℕ, ◌+◌, ◌*◌, ◌≤◌, ◌++◌, ◌∷◌, [], true, false, cond, List, length, refl, sym, ap, ◌∙◌, arith}
+use Rattle.std.proofs.Common.{◌≡◌, ◌≢◌, ℕ, ◌+◌, ◌*◌, ◌++◌, ◌∷◌, [], true, false, cond, List, refl, sym, ap, ◌∙◌}
 use Rattle.std.specs.Prelude.{max, min}
 use Rattle.std.specs.List.{list_any, position_or_len}
 use Rattle.std.proofs.lemmas.Bool.{ne_eqb, eq-eqb}
-use Rattle.std.proofs.lemmas.List.{length_push}
 use Rattle.gate_build.specs.declared.gates.Operands.{Operands}
 use Rattle.gate_build.specs.Gates.{Built, and_of, exclude, gate_of, ite_of, negated, opposite, same_operands}
-use Rattle.gate_build.proofs.Cases.{GateCase, known, new}
 
 -- the keys and the place that inserting gives
 pub gate-is : (first : ℕ) (gates after : List Operands) (pair : Operands) (place : ℕ) → after ≡ cond (list_any (same_operands pair) gates) gates (gates ++ pair ∷ [])
     → place ≡ position_or_len (same_operands pair) gates → gate_of first gates pair ≡ record { gates = after; literal = 2 * (first + place) }
 unfolding gate_of
 gate-is first gates after pair place keys at = λ i. record { gates = sym keys i; literal = 2 * (first + sym at i) }
-
--- a gate makes at most one gate more
-pub gate-grows : (first : ℕ) (gates : List Operands) (pair : Operands) (b : Built) → GateCase first gates pair b → length b.gates ≤ length gates + 1
-gate-grows first gates pair b (known k within is) = omega arith
-gate-grows first gates pair b new = omega (arith, length_push gates pair)
 
 module _ (first : ℕ) (gates : List Operands) (x y : ℕ) where
   pub and-none : exclude x y ≡ true → and_of first gates x y ≡ record { gates = gates; literal = 0 }

@@ -1,6 +1,6 @@
 ghost use Rattle.std.specs.Prelude.{◌≡◌, ℕ, ◌+◌, ◌*◌, ◌^◌, ◌<◌, ◌≤◌, ◌++◌, Some, IfOk, OnOk, All, length, map};
 ghost use Rattle.std.specs.List.{range_with_len};
-ghost use Rattle.machine_model.specs.Machine.{IsKept, size_of};
+ghost use Rattle.machine_model.specs.Machine.{IsKeptMachine, size_of};
 ghost use Rattle.aiger_text.specs.Circuit.{IsCircuitOfKind};
 ghost use Rattle.gate_build.specs.Laws.{HasTheRunsOf, HasTheStatesOf};
 ghost use Rattle.gate_build.specs.Table.{all_of, first_gate, gates_from, latches_with, literals_from};
@@ -38,11 +38,11 @@ pub fn circuit_of(
     put_together(alloc, machine, functions, read_names, write_names)
 }
 
-// The literals on which functions are split: those of the latches, and of the inputs behind them.
+/// The literals on which functions are split: those of the latches, and of the inputs behind them.
 fn split_literals(alloc: Global, machine: &Machine) -> Result<Vec<u32>, AllocError>
     requires few { size_of machine.now ≤ 8 }
     ensures split { IfOk result (λ v. IsSplit machine.now v.items) }
-    ensures kept { IsKept machine.now }
+    ensures kept { IsKeptMachine machine.now }
 {
     let reads = machine.reads();
     let latches = latches_for(machine.size());
@@ -52,7 +52,7 @@ fn split_literals(alloc: Global, machine: &Machine) -> Result<Vec<u32>, AllocErr
     Ok(split_on)
 }
 
-// The literals of the bits of next states and of those that are written, and the gates that build them.
+/// The literals of the bits of next states and of those that are written, and the gates that build them.
 #[derive(Drop)]
 struct Functions {
     nexts: Vec<u32>,
@@ -95,7 +95,7 @@ fn functions_of(alloc: Global, machine: &Machine, split_on: &[u32]) -> Result<Fu
     })
 }
 
-// The circuit of a machine's functions.
+/// The circuit of a machine's functions.
 fn put_together(
     alloc: Global,
     machine: &Machine,
@@ -128,7 +128,7 @@ fn put_together(
     )
 }
 
-// A part of a machine's table.
+/// A part of a machine's table.
 #[derive(Clone, Copy)]
 enum Part {
     AllNexts,
@@ -146,7 +146,7 @@ impl Part {
     }
 }
 
-// The literals of `count` variables behind `from` others.
+/// The literals of `count` variables behind `from` others.
 fn literals(alloc: Global, from: u32, count: u32) -> Result<Vec<u32>, AllocError>
     requires { from + count ≤ 2 ^ 20 }
     ensures { IfOk result (λ v. v.items ≡ literals_from from count) }
@@ -158,7 +158,7 @@ fn literals(alloc: Global, from: u32, count: u32) -> Result<Vec<u32>, AllocError
     Ok(literals)
 }
 
-// The literals of the first bits of a part of the table, in order.
+/// The literals of the first bits of a part of the table, in order.
 fn all(
     first: u32,
     gates: &mut IndexSet<Operands>,
@@ -183,7 +183,7 @@ fn all(
     Ok(literals)
 }
 
-// The gates of these operands, the first one having the variable `first`.
+/// The gates of these operands, the first one having the variable `first`.
 fn gate_list(alloc: Global, first: u32, operands: &[Operands]) -> Result<Vec<Gate>, AllocError>
     requires { first + length operands.now ≤ 2 ^ 30 }
     ensures { IfOk result (λ v. v.items ≡ gates_from first operands.now) }
@@ -199,7 +199,7 @@ fn gate_list(alloc: Global, first: u32, operands: &[Operands]) -> Result<Vec<Gat
     Ok(gates)
 }
 
-// The latches behind `from` variables, with these next literals.
+/// The latches behind `from` variables, with these next literals.
 fn latch_list(alloc: Global, from: u32, nexts: &[u32]) -> Result<Vec<Latch>, AllocError>
     requires { from + length nexts.now ≤ 2 ^ 20 }
     ensures { IfOk result (λ v. v.items ≡ latches_with from nexts.now) }
@@ -215,7 +215,7 @@ fn latch_list(alloc: Global, from: u32, nexts: &[u32]) -> Result<Vec<Latch>, All
     Ok(latches)
 }
 
-// Each name at its place.
+/// Each name at its place.
 fn names(alloc: Global, names: &[Name]) -> Result<Vec<Option<Name>>, AllocError>
     ensures { IfOk result (λ v. v.items ≡ map (λ name. Some name) names.now) }
 {

@@ -4,14 +4,14 @@ ghost use Rattle.gate_build.specs.Gates.{and_of, exclude, gate_of, ite_of, oppos
 use indexmap::IndexSet;
 use std::alloc::AllocError;
 
-// The operands of a gate, the greater literal first.
-#[derive(Clone, Copy, Debug, PartialEq, Eq, Hash)]
+/// The operands of a gate, the greater literal first.
+#[derive(Clone, Copy, PartialEq, Eq, Hash)]
 pub(crate) struct Operands {
     pub(crate) greater: u32,
     pub(crate) lesser: u32,
 }
 
-// The literal of the opposite value.
+/// The literal of the opposite value.
 pub(crate) fn opposite(literal: u32) -> u32
     requires { literal < 2 ^ 31 }
     ensures value { result ≡ opposite literal }
@@ -24,7 +24,7 @@ pub(crate) fn opposite(literal: u32) -> u32
     }
 }
 
-// The literal of the gate of these operands, which is made once. It takes time that doesn't grow with the gates.
+/// The literal of the gate of these operands, which is made once. It takes time that doesn't grow with the gates.
 fn gate(first: u32, gates: &mut IndexSet<Operands>, operands: Operands) -> Result<u32, AllocError>
     requires { first + length gates.old.keys < 2 ^ 30 }
     ensures value { IfOk result (λ l. gate_of first gates.old.keys operands ≡ record { gates = gates.new.keys; literal = l }) }
@@ -35,7 +35,7 @@ fn gate(first: u32, gates: &mut IndexSet<Operands>, operands: Operands) -> Resul
     Ok(2 * (first + place as u32))
 }
 
-// Whether two literals are never both set, as one sees at once.
+/// Whether two literals are never both set, as one sees at once.
 fn exclude(x: u32, y: u32) -> bool
     requires { y < 2 ^ 31 }
     ensures { result ≡ exclude x y }
@@ -43,7 +43,7 @@ fn exclude(x: u32, y: u32) -> bool
     x == 0 || y == 0 || x == opposite(y)
 }
 
-// Both literals.
+/// Both literals.
 fn and(first: u32, gates: &mut IndexSet<Operands>, x: u32, y: u32) -> Result<u32, AllocError>
     requires room { first + length gates.old.keys < 2 ^ 30 }
     requires x { x < 2 ^ 31 }
@@ -72,7 +72,7 @@ fn and(first: u32, gates: &mut IndexSet<Operands>, x: u32, y: u32) -> Result<u32
     Ok(both)
 }
 
-// The literal of p where x is set, else of q.
+/// The literal of p where x is set, else of q.
 pub(crate) fn ite(
     first: u32,
     gates: &mut IndexSet<Operands>,

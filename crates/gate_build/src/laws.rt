@@ -1,4 +1,5 @@
-// Laws of machines and their circuits. Each is the contract of a function that does nothing.
+//! Laws of machines and their circuits. Each is the contract of a function that does nothing.
+
 ghost use Rattle.gate_build.specs.Laws.{EitherSideMeetsTheStates, MachinesCanBeCut, SmallestMeetsAllStates};
 
 /// Each machine can be cut to the states that it meets, so one whose circuit has fewer states than it has isn't smallest.

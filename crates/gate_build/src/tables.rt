@@ -10,16 +10,16 @@ use letter_word::Letter;
 use machine_model::Machine;
 use std::alloc::AllocError;
 
-// A bit of a machine's table.
+/// A bit of a machine's table.
 #[derive(Clone, Copy)]
 pub(crate) enum Bit {
-    // This bit of the next state.
+    /// This bit of the next state.
     Next(u32),
-    // This written signal.
+    /// This written signal.
     Written(u32),
 }
 
-// The number of binary digits of `states - 1`.
+/// The number of binary digits of `states - 1`.
 pub(crate) fn latches_for(states: u32) -> u32
     requires { states ≤ 8 }
     ensures value { result ≡ latches_for states }
@@ -36,7 +36,7 @@ pub(crate) fn latches_for(states: u32) -> u32
     }
 }
 
-// The number of codes of some latches.
+/// The number of codes of some latches.
 fn codes_for(latches: u32) -> u32
     requires { latches ≤ 3 }
     ensures value { result ≡ 2 ^ latches }
@@ -45,7 +45,7 @@ fn codes_for(latches: u32) -> u32
     1 << latches
 }
 
-// A bit of a machine's table at a number, which stands for a state's code and a read letter above it.
+/// A bit of a machine's table at a number, which stands for a state's code and a read letter above it.
 fn bit_at(machine: &Machine, bit: Bit, number: u32) -> bool
     requires few { size_of machine.now ≤ 8 }
     requires within { number < 2 ^ latches_of machine.now * 2 ^ machine.now.reads }
@@ -63,8 +63,8 @@ fn bit_at(machine: &Machine, bit: Bit, number: u32) -> bool
     }
 }
 
-// The literal of a bit of a machine's table, split on the literals from number `depth` on, where those before it make
-// `value`. It takes time linear in the numbers that are left.
+/// The literal of a bit of a machine's table, split on the literals from number `depth` on, where those before it make
+/// `value`. It takes time linear in the numbers that are left.
 pub(crate) fn split(
     first: u32,
     gates: &mut IndexSet<Operands>,
@@ -103,7 +103,7 @@ pub(crate) fn split(
     Ok(chosen)
 }
 
-// The literal of a truth.
+/// The literal of a truth.
 fn constant(value: bool) -> u32
     ensures value { result ≡ (if value then 1 else 0) }
     ensures fits { result < 2 ^ 31 }
@@ -111,7 +111,7 @@ fn constant(value: bool) -> u32
     if value { 1 } else { 0 }
 }
 
-// What the bit at a depth counts.
+/// What the bit at a depth counts.
 fn weight_of(depth: u32) -> u32
     requires { depth < 12 }
     ensures value { result ≡ 2 ^ depth }

@@ -1,7 +1,5 @@
-use Rattle.std.proofs.Common.{◌≡◌, ℕ, suc, ◌+◌, ◌-◌, ◌<◌, ◌≤◌, Bool, false, eqb, ◌&&◌, ◌||◌, inl, inr, List, [], ◌∷◌, ◌++◌, length, get_or, refl, sym, ap, subst, ◌∙◌, arith}
-use Rattle.std.proofs.lemmas.Bool.{cond-false, cases_eq, cases_lt, ne_eqb}
-use Rattle.std.proofs.lemmas.List.{length-append, get_or_append_left}
-use Rattle.std.proofs.Math.Seq.{get_or-append_seam}
+use Rattle.std.proofs.Common.{◌≡◌, ℕ, suc, ◌+◌, ◌-◌, ◌<◌, ◌≤◌, Bool, false, eqb, ◌&&◌, ◌||◌, inl, inr, List, [], length, refl, sym, ap, subst, ◌∙◌, arith}
+use Rattle.std.proofs.lemmas.Bool.{cond-false, cases_eq, ne_eqb}
 use Rattle.letter_word.specs.Word.{Word, HasRing, lasso_len, next, after}
 use Rattle.letter_word.proofs.Positions.{after_within, next-inner}
 use Rattle.ltl_formula.specs.Truth.{until_at, until_within, release_at}
@@ -15,26 +13,6 @@ use Rattle.ltl_formula.specs.Nodes.{tree_at}
 use Rattle.ltl_formula.specs.Truth.{holds}
 use Rattle.lasso_eval.specs.Rows.{IsRow, IsTable, row_truth}
 use Rattle.lasso_eval.specs.Passes.{HasPassed, position_of}
-
-pub IsRow-empty : (f : ℕ → Bool) → IsRow 0 f []
-IsRow-empty f = record { len = refl; each = λ i h. absurd (omega arith) }
-
--- one more position
-pub IsRow-push : (n : ℕ) (f : ℕ → Bool) (row : List Bool) (value : Bool) → IsRow n f row → value ≡ f n → IsRow (n + 1) f (row ++ value ∷ [])
-IsRow-push n f row value is e =
-    let len : length row ≡ n = is.len in
-    let long : length (row ++ value ∷ []) ≡ length row + 1 = length-append row (value ∷ []) in
-    record {
-      len = omega arith;
-      each = λ i h.
-          elim (cases_lt i n) [
-            | inl before ↦ get_or_append_left row (value ∷ []) false i (omega arith) ∙ is.each i before
-            | inr from ↦
-                let at : i ≡ length row = omega arith in
-                let last : i ≡ n = omega arith in
-                ap (λ k. get_or (row ++ value ∷ []) k false) at ∙ get_or-append_seam row value [] false ∙ e ∙ ap f (sym last)
-          ];
-    }
 
 -- the truth of equal functions
 pub IsRow-like : (n : ℕ) (f g : ℕ → Bool) (row : List Bool) → IsRow n f row → ((i : ℕ) → i < n → f i ≡ g i) → IsRow n g row
@@ -61,9 +39,6 @@ module _ (w : Word) (ring : HasRing w) (f g : ℕ → Bool) (b : List Bool) (is_
 
 -- the first pass: from the ring's end to its beginning
 module _ (w : Word) (a b : ℕ → Bool) where
-  pub ring_pass-start : false ≡ until_within w a b (lasso_len w - lasso_len w) (lasso_len w)
-  ring_pass-start = let none : lasso_len w - lasso_len w ≡ 0 = omega arith in ap (λ n. until_within w a b n (lasso_len w)) (sym none)
-
   pub ring_pass-more : (i high : ℕ) (carry : Bool) → i + 1 ≡ high → high ≤ lasso_len w → carry ≡ until_within w a b (lasso_len w - high) high
       → (b i || (a i && carry)) ≡ until_within w a b (lasso_len w - i) i
   ring_pass-more i high carry e small is =
@@ -118,21 +93,3 @@ IsRow-self n row e = record { len = e; each = λ i h. refl }
 pub row-of-part : (w : Word) (nodes : List Node) (rows : List (List Bool)) (f a : FormulaId) (part : List Bool) → IsTable w nodes rows → length rows ≡ f.0 → a.0 < f.0
     → part ≡ slice_index_or rows a.0 [] → IsRow (lasso_len w) (holds w (tree_at nodes a)) part
 row-of-part w nodes rows f a part table long below is = subst (IsRow (lasso_len w) (holds w (tree_at nodes a))) (sym is) (table.each a.0 (omega arith))
-
--- a table with one row more
-pub IsTable-push : (w : Word) (nodes : List Node) (rows : List (List Bool)) (row : List Bool) (k : ℕ) → IsTable w nodes rows → length rows ≡ k
-    → IsRow (lasso_len w) (holds w (tree_at nodes (record { 0 = k }))) row → IsTable w nodes (rows ++ row ∷ [])
-IsTable-push w nodes rows row k table long is = record { lens = λ i h. (each i h).len; each = each }
-  where
-    each : (i : ℕ) → i < length (rows ++ row ∷ []) → IsRow (lasso_len w) (holds w (tree_at nodes (record { 0 = i }))) (slice_index_or (rows ++ row ∷ []) i [])
-    each i h =
-        let longer : length (rows ++ row ∷ []) ≡ length rows + 1 = length-append rows (row ∷ []) in
-        elim (cases_lt i (length rows)) [
-          | inl before ↦ rw (get_or_append_left rows (row ∷ []) [] i before) (table.each i before)
-          | inr from ↦
-              let at : i ≡ k = omega arith in
-              let last : slice_index_or (rows ++ row ∷ []) (length rows) [] ≡ row = get_or-append_seam rows row [] [] in
-              let place : length rows ≡ i = omega arith in
-              subst (λ n. IsRow (lasso_len w) (holds w (tree_at nodes (record { 0 = i }))) (slice_index_or (rows ++ row ∷ []) n [])) place
-              (rw last (subst (λ n. IsRow (lasso_len w) (holds w (tree_at nodes (record { 0 = n }))) row) (sym at) is))
-        ]

@@ -31,7 +31,7 @@ pub fn holds_at(
     Ok(row.at(i))
 }
 
-// The row of a node, from those of the nodes before it.
+/// The row of a node, from those of the nodes before it.
 fn row_of(
     alloc: Global,
     formulas: &Formulas,
@@ -63,7 +63,7 @@ fn row_of(
     }
 }
 
-// The row of a part.
+/// The row of a part.
 fn part(rows: &[Row], id: FormulaId) -> &Row
     requires { id.0 < length rows.now }
     ensures { result.now ≡ slice_index_or rows.now id.0 [] }

@@ -97,7 +97,12 @@ impl Row {
     }
 
     /// The truth of a connective, position by position.
-    pub fn paired(&self, alloc: Global, pairing: Pairing, other: &Row) -> Result<Row, AllocError>
+    pub(crate) fn paired(
+        &self,
+        alloc: Global,
+        pairing: Pairing,
+        other: &Row,
+    ) -> Result<Row, AllocError>
         requires { length self.now ≡ length other.now }
         ensures { IfOk result (λ row. IsRow (length self.now) (λ k. paired_truth pairing (row_truth self.now k) (row_truth other.now k)) row) }
     {
@@ -164,7 +169,7 @@ impl Row {
     }
 
     /// The truth of `G self`: `false R self`.
-    pub fn globally(&self, alloc: Global, lasso: &Lasso) -> Result<Row, AllocError>
+    pub(crate) fn globally(&self, alloc: Global, lasso: &Lasso) -> Result<Row, AllocError>
         requires { length self.now ≡ lasso_len lasso.now }
         ensures { IfOk result (λ row. IsRow (lasso_len lasso.now) (release_at lasso.now (λ k. false) (row_truth self.now)) row) }
     {
@@ -183,7 +188,7 @@ impl Row {
         until.paired(alloc, Pairing::Or, &globally)
     }
 
-    // The truth of `self U other` where the ring begins: one pass over the ring from its end.
+    /// The truth of `self U other` where the ring begins: one pass over the ring from its end.
     fn until_in_ring(&self, lasso: &Lasso, other: &Row) -> bool
         requires first { length self.now ≡ lasso_len lasso.now }
         requires second { length other.now ≡ lasso_len lasso.now }
@@ -200,7 +205,7 @@ impl Row {
     }
 }
 
-// Until at a position: its second part holds here, or its first part does and until holds at the next position.
+/// Until at a position: its second part holds here, or its first part does and until holds at the next position.
 fn until_step(comes: bool, held: bool, later: bool) -> bool
     ensures { result ≡ (comes || (held && later)) }
 {

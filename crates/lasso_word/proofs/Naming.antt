@@ -6,25 +6,15 @@ use Rattle.std.specs.List.{list_any}
 use Rattle.std.specs.Option.{option_map_or}
 use Rattle.std.specs.Str.{bytes_eq}
 use Rattle.std.proofs.lemmas.Bool.{eqb-true, eqb-false}
-use Rattle.std.proofs.lemmas.Nat.Bits.{bit_at_or, bit_at-lt, bit_at-pow_other, bit_at-pow_same, bit_at-zero}
+use Rattle.std.proofs.lemmas.Nat.Bits.{bit_at_or, bit_at-lt, bit_at-pow_other, bit_at-pow_same}
+use mathlib.Core.Bool.{or-true, or-false, or_assoc}
 use Rattle.letter_word.specs.declared.letters.Letter.{Letter}
 use Rattle.letter_word.specs.Signals.{has}
 use Rattle.letter_word.specs.Word.{no_signals}
+use Rattle.letter_word.proofs.Bits.{has-none}
 use Rattle.lasso_word.specs.Lines.{parts_at}
 use Rattle.lasso_word.specs.WordText.{with_all_named, with_signal}
 use Rattle.lasso_word.specs.Stated.{LettersHaveTheirNames, names_signal}
-
-or_true : (b : Bool) → (b || true) ≡ true
-or_true true = refl
-or_true false = refl
-
-or_false : (b : Bool) → (b || false) ≡ b
-or_false true = refl
-or_false false = refl
-
-or_regroup : (a b c : Bool) → ((a || b) || c) ≡ (a || (b || c))
-or_regroup true b c = refl
-or_regroup false b c = refl
 
 -- one signal more
 has_more : (a s k : ℕ) → has (bit_or a (2 ^ s)) k ≡ (has a k || (s == k))
@@ -36,15 +26,15 @@ has_more a s k = by (s == k) refl
         let one : bit_at (2 ^ s) k ≡ 1 = ap (bit_at (2 ^ s)) (sym there) ∙ bit_at-pow_same s in
         let small : bit_at a k < 2 = bit_at-lt a k in
         let most : max (bit_at a k) (bit_at (2 ^ s) k) ≡ 1 = rw one (omega (arith, small)) in
-        ap (λ n. n == 1) (bit_at_or a (2 ^ s) k ∙ most) ∙ sym (or_true (has a k))
+        ap (λ n. n == 1) (bit_at_or a (2 ^ s) k ∙ most) ∙ sym (or-true (has a k))
     by false other =
         let none : bit_at (2 ^ s) k ≡ 0 = bit_at-pow_other s k (λ e. eqb-false s k other (sym e)) in
         let same : max (bit_at a k) (bit_at (2 ^ s) k) ≡ bit_at a k = rw none (omega arith) in
-        ap (λ n. n == 1) (bit_at_or a (2 ^ s) k ∙ same) ∙ sym (or_false (has a k))
+        ap (λ n. n == 1) (bit_at_or a (2 ^ s) k ∙ same) ∙ sym (or-false (has a k))
 
 module _ (names : List (List ℕ)) (k : ℕ) where
   named : (parts : List (List ℕ)) (start letter : Letter) → with_all_named names parts start ≡ Some letter → has letter.0 k ≡ (has start.0 k || list_any (names_signal names k) parts)
-  named [] start letter e = let same : start ≡ letter = cc in ap (λ (l : Letter). has l.0 k) (sym same) ∙ sym (or_false (has start.0 k))
+  named [] start letter e = let same : start ≡ letter = cc in ap (λ (l : Letter). has l.0 k) (sym same) ∙ sym (or-false (has start.0 k))
   named (part ∷ more) start letter e = by (position (bytes_eq part) names) e (λ s. named more (with_signal start s) letter)
     where
       by : (o : Option ℕ) → option_and_then (with_all_named names more) (option_and_then (λ s. if has start.0 s then None else Some (with_signal start s)) o) ≡ Some letter
@@ -56,15 +46,12 @@ module _ (names : List (List ℕ)) (k : ℕ) where
           twice : (b : Bool) → option_and_then (with_all_named names more) (if b then None else Some (with_signal start s)) ≡ Some letter
               → has letter.0 k ≡ (has start.0 k || ((s == k) || list_any (names_signal names k) more))
           twice true none = cc
-          twice false is = later s is ∙ ap (λ b. b || list_any (names_signal names k) more) (has_more start.0 s k) ∙ or_regroup (has start.0 k) (s == k) (list_any (names_signal names k) more)
-
-nothing_has : (k : ℕ) → has 0 k ≡ false
-nothing_has k = ap (λ n. n == 1) (bit_at-zero k)
+          twice false is = later s is ∙ ap (λ b. b || list_any (names_signal names k) more) (has_more start.0 s k) ∙ or_assoc (has start.0 k) (s == k) (list_any (names_signal names k) more)
 
 pub letters_have_their_names : LettersHaveTheirNames
 letters_have_their_names names line letter k e = by (bytes_eq line (codes "-")) e
   where
     by : (b : Bool) → (if b then Some no_signals else with_all_named names (parts_at 32 line) no_signals) ≡ Some letter
         → has letter.0 k ≡ (if b then false else list_any (names_signal names k) (parts_at 32 line))
-    by true is = let same : no_signals ≡ letter = cc in ap (λ (l : Letter). has l.0 k) (sym same) ∙ nothing_has k
-    by false is = named names k (parts_at 32 line) no_signals letter is ∙ ap (λ b. b || list_any (names_signal names k) (parts_at 32 line)) (nothing_has k)
+    by true is = let same : no_signals ≡ letter = cc in ap (λ (l : Letter). has l.0 k) (sym same) ∙ has-none k
+    by false is = named names k (parts_at 32 line) no_signals letter is ∙ ap (λ b. b || list_any (names_signal names k) (parts_at 32 line)) (has-none k)

@@ -49,10 +49,6 @@ module _ (names : List (List ℕ)) where
   abbrev ring_part : List Letter → ℕ → SoFar
   ring_part letters at = record { letters = letters; ring_at = Some at }
 
-  -- the step of a line that is a letter
-  abbrev by_room : SoFar → List ℕ → Bool → Option SoFar
-  by_room so_far line room = if room then option_map (with_letter so_far) (letter_of names line) else None
-
   abbrev on : List (List ℕ) → ℕ → Option SoFar → WordReading
   on parts n longer = option_map_or (λ longer. read_from names parts longer (n + 1)) longer (bad_line n)
 
@@ -253,9 +249,6 @@ module _ (names : List (List ℕ)) where
           by false e = e
 
   -- ---- the whole text
-
-  behind_stem : (rest : List ℕ) → parts_at 10 (first_line ++ rest) ≡ codes "stem" ∷ parts_at 10 rest
-  behind_stem rest = refl
 
   to_text : (bytes : List ℕ) (w : Word) → StatesWord bytes names w → IsTextOfWord bytes names w
   to_text bytes w states = by (bytes_eq (take (length first_line) bytes) first_line) refl states

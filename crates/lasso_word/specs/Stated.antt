@@ -7,7 +7,7 @@ use Rattle.letter_word.specs.declared.letters.Letter.{Letter}
 use Rattle.letter_word.specs.Signals.{has}
 use Rattle.letter_word.specs.Word.{Word, lasso_len}
 use Rattle.lasso_word.specs.Lines.{parts_at}
-use Rattle.lasso_word.specs.WordText.{StatesWord, IsFirstBadLine, letter_of, most_letters}
+use Rattle.lasso_word.specs.WordText.{StatesWord, IsFirstBadWordLine, letter_of, most_letters}
 
 -- The text is the line `stem`, the lines of the stem's letters, the line `ring` and the lines of the ring's letters, with
 -- nothing behind the last line end. The first line `ring` ends the stem.
@@ -37,5 +37,5 @@ WordsAreStated = (bytes : List ℕ) (names : List (List ℕ)) (w : Word) → Sta
 -- a text states at most one word, has at most one first bad line, and not both
 pub record ReadingsAreApart : Type 0 where
   pub one_word : (bytes : List ℕ) (names : List (List ℕ)) (v w : Word) → StatesWord bytes names v → StatesWord bytes names w → v ≡ w
-  pub one_line : (bytes : List ℕ) (names : List (List ℕ)) (m n : ℕ) → IsFirstBadLine bytes names m → IsFirstBadLine bytes names n → m ≡ n
-  pub apart : (bytes : List ℕ) (names : List (List ℕ)) (w : Word) (n : ℕ) → StatesWord bytes names w → IsFirstBadLine bytes names n → ⊥
+  pub one_line : (bytes : List ℕ) (names : List (List ℕ)) (m n : ℕ) → IsFirstBadWordLine bytes names m → IsFirstBadWordLine bytes names n → m ≡ n
+  pub apart : (bytes : List ℕ) (names : List (List ℕ)) (w : Word) (n : ℕ) → StatesWord bytes names w → IsFirstBadWordLine bytes names n → ⊥

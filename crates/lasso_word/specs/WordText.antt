@@ -89,5 +89,5 @@ abbrev pub StatesWord : List ℕ → List (List ℕ) → Word → Type 0
 StatesWord bytes names w = reading_of names bytes ≡ word w
 
 -- the text states no word, and this line is the first that is refused
-abbrev pub IsFirstBadLine : List ℕ → List (List ℕ) → ℕ → Type 0
-IsFirstBadLine bytes names n = reading_of names bytes ≡ bad_line n
+abbrev pub IsFirstBadWordLine : List ℕ → List (List ℕ) → ℕ → Type 0
+IsFirstBadWordLine bytes names n = reading_of names bytes ≡ bad_line n

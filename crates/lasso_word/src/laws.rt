@@ -1,4 +1,5 @@
-// Laws of the definitions, which no code needs.
+//! Laws of the definitions, which no code needs.
+
 ghost use Rattle.lasso_word.specs.Stated.{LettersHaveTheirNames, ReadingsAreApart, WordsAreStated};
 
 /// What is read line by line is what the text states as a whole.

@@ -1,4 +1,5 @@
-// One letter, from the names of its signals.
+//! One letter, from the names of its signals.
+
 ghost use Rattle.std.specs.Prelude.{◌≡◌, ◌≤◌, ◌<◌, ◌^◌, length, position, IfSome};
 ghost use Rattle.std.specs.Str.{bytes_eq};
 ghost use Rattle.letter_word.specs.Word.{no_signals};
@@ -9,7 +10,7 @@ use crate::lines::cut_at;
 use letter_word::Letter;
 use text_base::Name;
 
-// The letter that a line states, if it states one.
+/// The letter that a line states, if it states one.
 pub(crate) fn letter_of(line: &[u8], names: &[Name]) -> Option<Letter>
     requires { length names.now ≤ 16 }
     ensures { result ≡ letter_of names.now line.now }
@@ -20,7 +21,7 @@ pub(crate) fn letter_of(line: &[u8], names: &[Name]) -> Option<Letter>
     all_named(line, names)
 }
 
-// The letter with the signals of the names in a line.
+/// The letter with the signals of the names in a line.
 fn all_named(line: &[u8], names: &[Name]) -> Option<Letter>
     requires { length names.now ≤ 16 }
     ensures { result ≡ with_all_named names.now (parts_at 32 line.now) no_signals }
@@ -34,7 +35,7 @@ fn all_named(line: &[u8], names: &[Name]) -> Option<Letter>
     with_named(letter, rest, names)
 }
 
-// The letter with the signal of that name, which it must not have yet.
+/// The letter with the signal of that name, which it must not have yet.
 fn with_named(letter: Letter, name: &[u8], names: &[Name]) -> Option<Letter>
     requires { length names.now ≤ 16 }
     ensures { result ≡ with_named names.now letter name.now }
@@ -46,7 +47,7 @@ fn with_named(letter: Letter, name: &[u8], names: &[Name]) -> Option<Letter>
     Some(with_signal(letter, signal))
 }
 
-// The first signal of that name.
+/// The first signal of that name.
 fn signal_of(name: &[u8], names: &[Name]) -> Option<u32>
     requires { length names.now ≤ 16 }
     ensures place { result ≡ position (bytes_eq name.now) names.now }

@@ -1,7 +1,7 @@
 ghost use Rattle.std.specs.Prelude.{◌≡◌, ◌≤◌, ◌<◌, ◌-◌, ◌^◌, ℕ, Some, None, Err, length, IfOk};
 ghost use Rattle.std.specs.Bool.{MatchBool};
 ghost use Rattle.lasso_word.specs.declared.word.WordFault.TheVariants.{BadLine, NoMemory};
-ghost use Rattle.lasso_word.specs.WordText.{IsFirstBadLine, StatesWord, bad_line, continued, nothing_read, read_lines, word, word_of};
+ghost use Rattle.lasso_word.specs.WordText.{IsFirstBadWordLine, StatesWord, bad_line, continued, nothing_read, read_lines, word, word_of};
 
 use crate::letters::letter_of;
 use crate::lines::cut_at;
@@ -42,7 +42,7 @@ impl<T: Drop> From<AllocFailed<T>> for WordFault {
 pub fn read_word(alloc: Global, bytes: &[u8], names: &[Name]) -> Result<Lasso, WordFault>
     requires { length names.now ≤ 16 }
     ensures word { IfOk result (λ lasso. StatesWord bytes.now names.now lasso) }
-    ensures bad { (n : ℕ) → result ≡ Err (BadLine n) → IsFirstBadLine bytes.now names.now n }
+    ensures bad { (n : ℕ) → result ≡ Err (BadLine n) → IsFirstBadWordLine bytes.now names.now n }
 {
     match bytes.strip_prefix(b"stem\n") {
         Some(rest) => read_lines(alloc, rest, names),
@@ -50,7 +50,7 @@ pub fn read_word(alloc: Global, bytes: &[u8], names: &[Name]) -> Result<Lasso, W
     }
 }
 
-// What the lines behind the first one state.
+/// What the lines behind the first one state.
 fn read_lines(alloc: Global, bytes: &[u8], names: &[Name]) -> Result<Lasso, WordFault>
     requires named { length names.now ≤ 16 }
     requires short { length bytes.now < 2 ^ 64 - 2 }
@@ -73,10 +73,10 @@ fn read_lines(alloc: Global, bytes: &[u8], names: &[Name]) -> Result<Lasso, Word
     so_far.into_word()?.ok_or(WordFault::BadLine(line))
 }
 
-// The most letters of a word.
+/// The most letters of a word.
 const MOST_LETTERS: usize = 10_000;
 
-// The letters that the lines stated, and how many of them are the stem's once the line `ring` has come.
+/// The letters that the lines stated, and how many of them are the stem's once the line `ring` has come.
 #[derive(Drop)]
 struct SoFar {
     letters: Vec<Letter>,
@@ -101,7 +101,7 @@ impl SoFar {
         }
     }
 
-    // Takes one more line, if it may stand here.
+    /// Takes one more line, if it may stand here.
     fn add_line(&mut self, line: &[u8], names: &[Name]) -> Result<bool, AllocError>
         requires { length names.now ≤ 16 }
         ensures { IfOk result (λ fits. MatchBool fits (continued names.now self.old line.now ≡ Some self.new) (continued names.now self.old line.now ≡ None)) }
@@ -120,7 +120,7 @@ impl SoFar {
         Ok(true)
     }
 
-    // The word, where its ring has a letter.
+    /// The word, where its ring has a letter.
     fn into_word(self) -> Result<Option<Lasso>, AllocError>
         ensures { IfOk result (λ found. found ≡ word_of self) }
     {

@@ -1,5 +1,6 @@
 pub mod Positions
-pub mod Words
 pub mod Unrolled
 pub mod Sets
 pub mod Meets
+pub mod Below
+pub mod Bits

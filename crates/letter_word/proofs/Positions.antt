@@ -115,3 +115,7 @@ letters_stay_over = record {
     ring_letters = over.ring_letters;
   };
 }
+
+-- a lasso has a first position
+pub first_position : (w : Word) → HasRing w → 0 < lasso_len w
+first_position w ring = omega arith

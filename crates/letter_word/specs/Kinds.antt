@@ -1,3 +1,4 @@
+use Rattle.std.specs.Prelude.{ℕ, List, codes}
 use Rattle.letter_word.specs.declared.kinds.Kind.{Kind}
 use Rattle.letter_word.specs.declared.kinds.Kind.TheVariants.{Mealy, Moore}
 
@@ -6,3 +7,8 @@ use Rattle.letter_word.specs.declared.kinds.Kind.TheVariants.{Mealy, Moore}
 abbrev pub other_kind : Kind → Kind
 other_kind Mealy = Moore
 other_kind Moore = Mealy
+
+-- the word of a kind in texts and documents
+abbrev pub kind_word : Kind → List ℕ
+kind_word Mealy = codes "Mealy"
+kind_word Moore = codes "Moore"

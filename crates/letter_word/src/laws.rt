@@ -1,4 +1,5 @@
-// Laws of the positions of a lasso and of its infinite word. Each is the contract of a function that does nothing.
+//! Laws of the positions of a lasso and of its infinite word. Each is the contract of a function that does nothing.
+
 ghost use Rattle.letter_word.specs.Laws.{FuturesShift, LettersStayOver, StepsAddUp, StepsStayWithin, UnrollingKeepsTheWord};
 
 /// Steps stay among the positions.

@@ -2,7 +2,7 @@ ghost use Rattle.std.specs.Prelude.{◌≡◌};
 ghost use Rattle.letter_word.specs.Signals.{has};
 
 /// A set of signals: signal k is in it where bit k is 1. Inputs come first, then outputs.
-#[derive(Clone, Copy, Debug, PartialEq, Eq, Hash)]
+#[derive(Clone, Copy, Debug, PartialEq, Eq)]
 pub struct Letter(pub u32);
 
 impl Letter {

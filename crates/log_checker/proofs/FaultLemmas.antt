@@ -1,15 +1,15 @@
 -- The first fault of a log, and legal logs.
-use Rattle.std.proofs.Common.{◌≡◌, ◌≢◌, ℕ, zero, suc, ◌<◌, ◌≤◌, Bool, true, false, nat_le, nat_lt, ◌||◌, List, [], ◌∷◌, ◌++◌, ◌⊎◌, inl, inr, Option, Some, None, map, length, take, get_or, slice_get, refl, sym, subst, ap, ◌∙◌, true≢false, arith}
+use Rattle.std.proofs.Common.{◌≡◌, ◌≢◌, ℕ, zero, suc, ◌<◌, ◌≤◌, Bool, true, false, nat_le, ◌||◌, List, [], ◌∷◌, ◌++◌, inl, inr, Option, Some, None, map, length, take, get_or, slice_get, refl, sym, subst, ap, ◌∙◌, true≢false, arith}
 use Rattle.std.specs.Prelude.{if◌then◌else◌}
 use Rattle.std.specs.List.{list_any}
 use Rattle.std.specs.Option.{option_and_then, option_map_or}
-use borrow.Author.Tests.{ltb-true, ltb-false, leb-true}
+use borrow.Author.Tests.{leb-true}
 use Rattle.std.proofs.lemmas.List.Quantifiers.{position-Some}
-use Rattle.log_checker.proofs.MarkLemmas.{get_or_any}
-use Rattle.std.proofs.lemmas.List.{length-map, length-take-le, get_or-take}
+use Rattle.std.proofs.lemmas.List.{length-map, length-take-le, get_or-take, get_or_default}
 use Rattle.std.proofs.lemmas.List.Folds.{list_any_none, list_any-from_Any}
 use Rattle.std.proofs.lemmas.Option.{slice_get_cases}
 use Rattle.std.proofs.Math.Seq.{take-suc, take-length}
+use Rattle.std.proofs.lemmas.Bool.{cases_lt, false_from_ne_true}
 use Rattle.clause_base.specs.Literal.{Literal, negated}
 use Rattle.clause_base.specs.Clause.{IsWithin, clause_eq}
 use Rattle.clause_base.specs.Partial.{is_falsified}
@@ -19,7 +19,7 @@ use Rattle.refutation_log.specs.Entry.{clauses_of}
 use Rattle.refutation_log.specs.Follows.{Follows, leads_to_conflict, clause_named, unit_named}
 use Rattle.refutation_log.specs.Log.{is_empty_clause, is_ended, IsWithinLimit, IsLegal}
 use Rattle.refutation_log.specs.Turn.{place_of, is_at_limit}
-use Rattle.refutation_log.proofs.LegalLemmas.{legal_empty, legal_push}
+use Rattle.refutation_log.proofs.LegalLemmas.{legal_empty, legal_push, get_or-clauses}
 use Rattle.log_checker.specs.declared.faults.LogFault.{LogFault}
 use Rattle.log_checker.specs.declared.faults.LogFault.TheVariants.{BadHint, NotFalsified, Repeated, NotClosed, AfterEnd, OverLimit, NoMemory}
 use Rattle.log_checker.specs.Faults.{has_end, has_clause, last_hint_fault, hints_fault, follow_fault, entry_fault, answer_at, FindsNone, IsLogFault}
@@ -93,15 +93,8 @@ closed_fault vars base limit log (Repeated e) h = h
 closed_fault vars base limit log (AfterEnd e) h = h
 closed_fault vars base limit log (OverLimit e) h = h
 
-le_cases : (a b : ℕ) → (a < b) ⊎ (b ≤ a)
-le_cases a b = by (nat_lt a b) refl
-  where
-    by : (c : Bool) → nat_lt a b ≡ c → (a < b) ⊎ (b ≤ a)
-    by true e = inl (ltb-true a b e)
-    by false e = inr (ltb-false a b e)
-
 pub one_fault : (base : List (List Literal)) (limit : Option ℕ) (log : List Entry) (f g : LogFault) → IsLogFault base limit log f → IsLogFault base limit log g → f ≡ g
-one_fault base limit log f g p q = elim (le_cases p.0 q.0) [ inl lt ↦ absurd (early f g p q lt) | inr le ↦ elim (le_cases q.0 p.0) [ inl lt ↦ absurd (early g f q p lt) | inr ge ↦ same (omega arith) ] ]
+one_fault base limit log f g p q = elim (cases_lt p.0 q.0) [ inl lt ↦ absurd (early f g p q lt) | inr le ↦ elim (cases_lt q.0 p.0) [ inl lt ↦ absurd (early g f q p lt) | inr ge ↦ same (omega arith) ] ]
   where
     early : (f g : LogFault) (p : IsLogFault base limit log f) (q : IsLogFault base limit log g) → p.0 < q.0 → ⊥
     early f g p q lt = let a = p.1.found in let b = q.1.none_before p.0 p.1.low lt in let k : Some f ≡ None = sym a ∙ b in absurd (cc)
@@ -196,7 +189,7 @@ unknown_of clause log h = by (place_of clause log) refl
         absurd (true≢false (sym (list_any-from_Any (clause_eq clause) (clauses_of log) (i, get_or (clauses_of log) i clause, k.0, same i k.0, k.1)) ∙ h))
       where
         same : (i : ℕ) → i < length (clauses_of log) → get_or (clauses_of log) i (get_or (clauses_of log) i clause) ≡ get_or (clauses_of log) i clause
-        same i lt = get_or_any (clauses_of log) i (get_or (clauses_of log) i clause) clause lt
+        same i lt = get_or_default (clauses_of log) i (get_or (clauses_of log) i clause) clause lt
 
 legal_first : (vars : ℕ) (base : List (List Literal)) (limit : Option ℕ) (log : List Entry) → AreWithin vars log → FindsNone (entry_fault base limit) log 0 (length log)
     → (n : ℕ) → n ≤ length log → IsLegal vars base limit (take n log)
@@ -220,27 +213,18 @@ legal_of_none vars base limit log within none = subst (λ es. IsLegal vars base 
 
 -- ---- and a legal log has no faults
 
-get_clause : (log : List Entry) (k : ℕ) (d : Entry) (c : List Literal) → k < length log → get_or (clauses_of log) k c ≡ (get_or log k d).clause
-get_clause [] k d c lt = absurd (omega arith)
-get_clause (e ∷ log) zero d c lt = refl
-get_clause (e ∷ log) (suc k) d c lt = get_clause log k d c (omega arith)
-
 no_clause_of : (p : List Literal → Bool) (log : List Entry) (d : Entry) → ((k : ℕ) → k < length log → p (get_or log k d).clause ≡ false) → list_any p (clauses_of log) ≡ false
 no_clause_of p log d h = list_any_none p (clauses_of log) (λ k c lt.
     let len : length (clauses_of log) ≡ length log = length-map log (λ (x : Entry). x.clause) in
-    ap p (get_clause log k d c (omega arith)) ∙ h k (omega arith))
+    ap p (get_or-clauses log k d c (omega arith)) ∙ h k (omega arith))
 
 empty_of : (c : List Literal) → is_empty_clause c ≡ true → c ≡ []
 empty_of [] h = refl
 empty_of (l ∷ c) h = absurd (true≢false (sym h))
 
-false_unless : (b : Bool) → (b ≡ true → ⊥) → b ≡ false
-false_unless true n = absurd (n refl)
-false_unless false n = refl
-
 limit_passes : (limit : Option ℕ) (log before : List Entry) → IsWithinLimit limit log → length before < length log → is_at_limit limit before ≡ false
 limit_passes None log before h lt = refl
-limit_passes (Some most) log before h lt = false_unless (nat_le most (length before)) (λ e. let le = leb-true most (length before) e in omega arith)
+limit_passes (Some most) log before h lt = false_from_ne_true (nat_le most (length before)) (λ e. let le = leb-true most (length before) e in omega arith)
 
 pub none_of_legal : (vars : ℕ) (base : List (List Literal)) (limit : Option ℕ) (log : List Entry) → IsLegal vars base limit log → FindsNone (entry_fault base limit) log 0 (length log)
 none_of_legal vars base limit log h = record { none = λ j low lt. at j lt }
@@ -255,11 +239,11 @@ none_of_legal vars base limit log h = record { none = λ j low lt. at j lt }
               ∙ passed base limit (take j log) e (record {
                 below = limit_passes limit log (take j log) h.limited (omega arith);
                 not_ended = no_clause_of is_empty_clause (take j log) e (λ k below.
-                    false_unless (is_empty_clause (get_or (take j log) k e).clause) (λ t.
+                    false_from_ne_true (is_empty_clause (get_or (take j log) k e).clause) (λ t.
                     let before : k < j = omega arith in
                     h.ended k j e before lt (ap (λ (d : Entry). d.clause) (sym (get_or-take j log k e before)) ∙ empty_of (get_or (take j log) k e).clause t)));
                 new = no_clause_of (clause_eq e.clause) (take j log) e (λ k below.
-                    false_unless (clause_eq e.clause (get_or (take j log) k e).clause) (λ t.
+                    false_from_ne_true (clause_eq e.clause (get_or (take j log) k e).clause) (λ t.
                     let before : k < j = omega arith in
                     h.different k j e before lt
                     (ap (λ (d : Entry). d.clause) (sym (get_or-take j log k e before)) ∙ sym ((Decides-clause_eq e.clause (get_or (take j log) k e).clause).0 t) ∙ ap (λ (d : Entry). d.clause) (sym p.3))));

@@ -1,24 +1,18 @@
 -- A table of marks, and the literals that it marks.
-use Rattle.std.proofs.Common.{◌≡◌, ◌≢◌, ℕ, zero, suc, ◌+◌, ◌*◌, ◌<◌, ◌≤◌, Bool, true, false, not, ◌&&◌, ◌||◌, cond, nat_eq, List, [], ◌∷◌, ◌++◌, Some, None, length, map, reverse, set, get_or, refl, sym, subst, ap, ◌∙◌, true≢false, arith, length-set}
+use Rattle.std.proofs.Common.{◌≡◌, ◌≢◌, ℕ, ◌+◌, ◌*◌, ◌<◌, ◌≤◌, Bool, true, false, not, ◌&&◌, ◌||◌, cond, nat_eq, List, [], ◌∷◌, ◌++◌, Some, None, length, map, reverse, set, get_or, refl, sym, subst, ap, ◌∙◌, true≢false, arith, length-set}
 use Rattle.std.specs.Prelude.{All, if◌then◌else◌}
 use Rattle.std.specs.List.{list_any}
 use Rattle.std.specs.Cmp.{both_ways, first_so, second_so}
 use Rattle.std.proofs.lemmas.Bool.Decides.{Decides-eqb}
-use Rattle.std.proofs.lemmas.List.{reverse-append, get_or-set_same, get_or-set_other}
+use Rattle.std.proofs.lemmas.List.{reverse-append, get_or-set_same, get_or-set_other, get_or_default}
 use Rattle.std.proofs.lemmas.List.Elements.{All-head, All-tail}
+use mathlib.Core.Bool.{and-true, and-false}
 use Rattle.clause_base.specs.Literal.{Literal, sign_eq, literal_eq}
 use Rattle.clause_base.specs.Partial.{is_true_in, is_false_in, unfalsified, is_falsified, lone_of, unit_of}
-use Rattle.log_checker.specs.Marked.{place_of_literal, IsMarked}
+use Rattle.log_checker.specs.Marked.{IsMarked}
+use Rattle.clause_base.specs.Codes.{code_of}
 
 -- ---- places of literals
-
-and_true : (x : Bool) → (x && true) ≡ x
-and_true true = refl
-and_true false = refl
-
-and_false : (x : Bool) → (x && false) ≡ false
-and_false true = refl
-and_false false = refl
 
 eq_by : (a b c d : ℕ) → (a ≡ b → c ≡ d) → (c ≡ d → a ≡ b) → nat_eq a b ≡ nat_eq c d
 eq_by a b c d f g = both_ways (nat_eq a b) (nat_eq c d) (λ h. (Decides-eqb c d).1 (f ((Decides-eqb a b).0 h))) (λ h. (Decides-eqb a b).1 (g ((Decides-eqb c d).0 h)))
@@ -31,35 +25,30 @@ ne_false a b n = by (nat_eq a b) refl
     by false e = refl
 
 -- two literals have one place exactly where they are the same
-place_same : (l m : Literal) → nat_eq (place_of_literal l) (place_of_literal m) ≡ literal_eq l m
+place_same : (l m : Literal) → nat_eq (code_of l) (code_of m) ≡ literal_eq l m
 place_same l m = by l.positive m.positive
   where
     by : (b c : Bool) → nat_eq (2 * l.var + (if b then 1 else 0)) (2 * m.var + (if c then 1 else 0)) ≡ (nat_eq l.var m.var && sign_eq b c)
-    by true true = eq_by (2 * l.var + 1) (2 * m.var + 1) l.var m.var (λ e. omega arith) (λ e. omega arith) ∙ sym (and_true (nat_eq l.var m.var))
-    by false false = eq_by (2 * l.var + 0) (2 * m.var + 0) l.var m.var (λ e. omega arith) (λ e. omega arith) ∙ sym (and_true (nat_eq l.var m.var))
-    by true false = ne_false (2 * l.var + 1) (2 * m.var + 0) (λ e. omega arith) ∙ sym (and_false (nat_eq l.var m.var))
-    by false true = ne_false (2 * l.var + 0) (2 * m.var + 1) (λ e. omega arith) ∙ sym (and_false (nat_eq l.var m.var))
+    by true true = eq_by (2 * l.var + 1) (2 * m.var + 1) l.var m.var (λ e. omega arith) (λ e. omega arith) ∙ sym (and-true (nat_eq l.var m.var))
+    by false false = eq_by (2 * l.var + 0) (2 * m.var + 0) l.var m.var (λ e. omega arith) (λ e. omega arith) ∙ sym (and-true (nat_eq l.var m.var))
+    by true false = ne_false (2 * l.var + 1) (2 * m.var + 0) (λ e. omega arith) ∙ sym (and-false (nat_eq l.var m.var))
+    by false true = ne_false (2 * l.var + 0) (2 * m.var + 1) (λ e. omega arith) ∙ sym (and-false (nat_eq l.var m.var))
 
-true_by_place : (l : Literal) (trues : List Literal) → list_any (nat_eq (place_of_literal l)) (map place_of_literal trues) ≡ is_true_in trues l
+true_by_place : (l : Literal) (trues : List Literal) → list_any (nat_eq (code_of l)) (map code_of trues) ≡ is_true_in trues l
 true_by_place l [] = refl
 true_by_place l (m ∷ trues) = λ i. place_same l m i || true_by_place l trues i
 
-pub place_within : (l : Literal) (vars n : ℕ) → l.var ≤ vars → n ≡ 2 * vars + 2 → place_of_literal l < n
+pub place_within : (l : Literal) (vars n : ℕ) → l.var ≤ vars → n ≡ 2 * vars + 2 → code_of l < n
 place_within l vars n le e = by l.positive
   where
     by : (b : Bool) → 2 * l.var + (if b then 1 else 0) < n
     by true = omega arith
     by false = omega arith
 
-pub get_or_any : {X : Type 0} (xs : List X) (i : ℕ) (d e : X) → i < length xs → get_or xs i d ≡ get_or xs i e
-get_or_any [] i d e lt = absurd (omega arith)
-get_or_any (x ∷ xs) zero d e lt = refl
-get_or_any (x ∷ xs) (suc i) d e lt = get_or_any xs i d e (omega arith)
-
 -- what the table says of a literal
-pub looked_up : (vars : ℕ) (table : List Bool) (trues : List Literal) (l : Literal) (d : Bool) → IsMarked vars table trues → l.var ≤ vars → get_or table (place_of_literal l) d ≡ is_true_in trues l
+pub looked_up : (vars : ℕ) (table : List Bool) (trues : List Literal) (l : Literal) (d : Bool) → IsMarked vars table trues → l.var ≤ vars → get_or table (code_of l) d ≡ is_true_in trues l
 looked_up vars table trues l d h le =
-    get_or_any table (place_of_literal l) d false (place_within l vars (length table) le h.size) ∙ h.marked (place_of_literal l) ∙ true_by_place l trues
+    get_or_default table (code_of l) d false (place_within l vars (length table) le h.size) ∙ h.marked (code_of l) ∙ true_by_place l trues
 
 -- ---- taking marks back
 
@@ -67,13 +56,13 @@ looked_up vars table trues l d h le =
 pub record IsLeft (vars : ℕ) (table : List Bool) (trail : List Literal) : Type 0 where
   pub size : length table ≡ 2 * vars + 2
   pub within : All (λ (l : Literal). l.var ≤ vars) (reverse trail)
-  pub only : (k : ℕ) → get_or table k false ≡ true → list_any (nat_eq k) (map place_of_literal (reverse trail)) ≡ true
+  pub only : (k : ℕ) → get_or table k false ≡ true → list_any (nat_eq k) (map code_of (reverse trail)) ≡ true
 
-pub left_of_popped : (vars : ℕ) (table : List Bool) (trail : List Literal) (l : Literal) → IsLeft vars table (trail ++ l ∷ []) → IsLeft vars (set table (place_of_literal l) false) trail
+pub left_of_popped : (vars : ℕ) (table : List Bool) (trail : List Literal) (l : Literal) → IsLeft vars table (trail ++ l ∷ []) → IsLeft vars (set table (code_of l) false) trail
 left_of_popped vars table trail l h = record {
-  size = length-set table (place_of_literal l) false ∙ h.size;
+  size = length-set table (code_of l) false ∙ h.size;
   within = All-tail (λ (m : Literal). m.var ≤ vars) l (reverse trail) within;
-  only = λ k e. by k (nat_eq k (place_of_literal l)) refl e;
+  only = λ k e. by k (nat_eq k (code_of l)) refl e;
 }
   where
     turned : reverse (trail ++ l ∷ []) ≡ l ∷ reverse trail
@@ -82,23 +71,23 @@ left_of_popped vars table trail l h = record {
     within : All (λ (m : Literal). m.var ≤ vars) (l ∷ reverse trail)
     within = subst (λ ls. All (λ (m : Literal). m.var ≤ vars) ls) turned h.within
 
-    lt : place_of_literal l < length table
+    lt : code_of l < length table
     lt = place_within l vars (length table) (All-head (λ (m : Literal). m.var ≤ vars) l (reverse trail) within) h.size
 
     or_rest : (b c : Bool) → b ≡ false → (b || c) ≡ true → c ≡ true
     or_rest true c e h = absurd (true≢false e)
     or_rest false c e h = h
 
-    by : (k : ℕ) (b : Bool) → nat_eq k (place_of_literal l) ≡ b → get_or (set table (place_of_literal l) false) k false ≡ true
-        → list_any (nat_eq k) (map place_of_literal (reverse trail)) ≡ true
+    by : (k : ℕ) (b : Bool) → nat_eq k (code_of l) ≡ b → get_or (set table (code_of l) false) k false ≡ true
+        → list_any (nat_eq k) (map code_of (reverse trail)) ≡ true
     by k true same e =
-        let at : k ≡ place_of_literal l = (Decides-eqb k (place_of_literal l)).0 same in
-        absurd (true≢false (sym e ∙ ap (λ j. get_or (set table (place_of_literal l) false) j false) at ∙ get_or-set_same table (place_of_literal l) false false lt))
+        let at : k ≡ code_of l = (Decides-eqb k (code_of l)).0 same in
+        absurd (true≢false (sym e ∙ ap (λ j. get_or (set table (code_of l) false) j false) at ∙ get_or-set_same table (code_of l) false false lt))
     by k false differs e =
-        let ne : k ≢ place_of_literal l = λ same. true≢false (sym ((Decides-eqb k (place_of_literal l)).1 same) ∙ differs) in
-        let old = h.only k (sym (get_or-set_other table (place_of_literal l) k false false ne) ∙ e) in
-        or_rest (nat_eq k (place_of_literal l)) (list_any (nat_eq k) (map place_of_literal (reverse trail))) differs
-        (sym (ap (λ ls. list_any (nat_eq k) (map place_of_literal ls)) turned) ∙ old)
+        let ne : k ≢ code_of l = λ same. true≢false (sym ((Decides-eqb k (code_of l)).1 same) ∙ differs) in
+        let old = h.only k (sym (get_or-set_other table (code_of l) k false false ne) ∙ e) in
+        or_rest (nat_eq k (code_of l)) (list_any (nat_eq k) (map code_of (reverse trail))) differs
+        (sym (ap (λ ls. list_any (nat_eq k) (map code_of ls)) turned) ∙ old)
 
 -- ---- clauses under a partial assignment
 

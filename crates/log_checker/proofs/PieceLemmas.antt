@@ -1,25 +1,18 @@
 -- The first fault of a log from those of its pieces.
-use Rattle.std.proofs.Common.{◌≡◌, ℕ, zero, suc, ◌+◌, ◌*◌, ◌<◌, ◌≤◌, List, [], ◌∷◌, ◌⊎◌, inl, inr, Bool, true, false, nat_lt, Option, Some, None, Result, Ok, Err, refl, sym, subst, ap, arith}
+use Rattle.std.proofs.Common.{◌≡◌, ℕ, zero, suc, ◌+◌, ◌*◌, ◌≤◌, List, [], ◌∷◌, inl, inr, Option, Some, None, Result, Ok, Err, sym, subst, ap, arith}
 use Rattle.std.specs.Prelude.{IfOk}
 use Rattle.std.specs.List.{AllZip, range_with_len}
 use Rattle.std.specs.declared.alloc.AllocError.{AllocError}
-use borrow.Author.Tests.{ltb-true, ltb-false}
 use Rattle.std.proofs.Math.Nat.{mul-le-mul_right}
+use Rattle.std.proofs.lemmas.Bool.{cases_lt}
 use Rattle.clause_base.specs.Literal.{Literal}
 use Rattle.refutation_log.specs.declared.entries.Entry.{Entry}
 use Rattle.log_checker.specs.declared.faults.LogFault.{LogFault}
 use Rattle.log_checker.specs.Faults.{follow_fault, FindsNone, IsFoundAt, IsFirstOf}
 use Rattle.log_checker.specs.Pieces.{start_of, IsOfPiece, AreOfPieces, first_answer}
 
-lt_cases : (a b : ℕ) → (a < b) ⊎ (b ≤ a)
-lt_cases a b = by (nat_lt a b) refl
-  where
-    by : (c : Bool) → nat_lt a b ≡ c → (a < b) ⊎ (b ≤ a)
-    by true e = inl (ltb-true a b e)
-    by false e = inr (ltb-false a b e)
-
 none_along : (test : List Entry → Entry → Option LogFault) (log : List Entry) (b d : ℕ) → FindsNone test log 0 b → FindsNone test log b d → FindsNone test log 0 d
-none_along test log b d h k = record { none = λ j low lt. elim (lt_cases j b) [ inl l ↦ h.none j low l | inr g ↦ k.none j g lt ] }
+none_along test log b d h k = record { none = λ j low lt. elim (cases_lt j b) [ inl l ↦ h.none j low l | inr g ↦ k.none j g lt ] }
 
 found_along : (test : List Entry → Entry → Option LogFault) (log : List Entry) (b d n place : ℕ) (f : LogFault) → FindsNone test log 0 b → d ≤ n → IsFoundAt test log b d f place → IsFoundAt test log 0 n f place
 found_along test log b d n place f h le k =
@@ -28,7 +21,7 @@ found_along test log b d n place f h le k =
       low = omega arith;
       high = omega arith;
       found = k.found;
-      none_before = λ j low lt. elim (lt_cases j b) [ inl l ↦ h.none j low l | inr g ↦ k.none_before j g lt ];
+      none_before = λ j low lt. elim (cases_lt j b) [ inl l ↦ h.none j low l | inr g ↦ k.none_before j g lt ];
     }
 
 pub start_rises : (size to p q : ℕ) → p ≤ q → start_of size to p ≤ start_of size to q

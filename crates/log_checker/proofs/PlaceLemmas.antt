@@ -4,9 +4,10 @@ use Rattle.std.specs.Prelude.{if◌then◌else◌}
 use Rattle.std.specs.Borrow.{Bor}
 use Rattle.std.specs.List.{list_any}
 use Rattle.std.specs.Option.{option_and_then, option_map_or}
-use Rattle.std.proofs.lemmas.List.{length-take-le, take_more}
+use Rattle.std.proofs.lemmas.List.{length-take-le, take_more, map-append}
 use Rattle.std.proofs.lemmas.List.Folds.{list_any-append}
 use Rattle.std.proofs.lemmas.Option.{slice_get-get_or}
+use mathlib.Core.Bool.{or-false}
 use borrow.Author.Count.{below_more}
 use Rattle.clause_base.specs.Literal.{Literal}
 use Rattle.clause_base.specs.Clause.{clause_eq}
@@ -14,7 +15,6 @@ use Rattle.refutation_log.specs.declared.entries.Entry.{Entry}
 use Rattle.refutation_log.specs.Entry.{clauses_of}
 use Rattle.refutation_log.specs.Log.{is_empty_clause}
 use Rattle.refutation_log.specs.Turn.{is_at_limit}
-use Rattle.refutation_log.proofs.Lists.{map-append}
 use Rattle.refutation_log.proofs.StateLemmas.{is_empty_clause-length}
 use Rattle.log_checker.specs.declared.faults.LogFault.TheVariants.{Repeated, AfterEnd, OverLimit}
 use Rattle.log_checker.specs.Faults.{has_end, has_clause, place_fault, answer_at, IsFoundAt}
@@ -78,11 +78,7 @@ module _ (limit : Option ℕ) (log : List Entry) (i : ℕ) (e : Entry) (lt : i <
   end_more b h =
       ap has_end more ∙ ap (list_any is_empty_clause) (map-append (λ (d : Entry). d.clause) (take i log) (e ∷ []))
       ∙ list_any-append is_empty_clause (clauses_of (take i log)) (e.clause ∷ []) ∙ ap (λ a. a || (is_empty_clause e.clause || false)) open_end
-      ∙ or_false (is_empty_clause e.clause) ∙ is_empty_clause-length e.clause ∙ sym h
-    where
-      or_false : (a : Bool) → (a || false) ≡ a
-      or_false true = refl
-      or_false false = refl
+      ∙ or-false (is_empty_clause e.clause) ∙ is_empty_clause-length e.clause ∙ sym h
 
   pub none_more : (ks : List (Bor (List Literal))) → map (λ k. k.now) ks ≡ clauses_of (take i log) → not (list_any (λ k. clause_eq e.clause k.now) ks) ≡ true
       → ((j : ℕ) → 0 ≤ j → j < i → answer_at (place_fault limit) log j ≡ None) → (j : ℕ) → 0 ≤ j → j < i + 1 → answer_at (place_fault limit) log j ≡ None

@@ -1,18 +1,15 @@
-use Rattle.std.specs.Prelude.{◌≡◌, ℕ, ◌+◌, ◌*◌, ◌≤◌, Bool, false, nat_eq, if◌then◌else◌, List, All, map, length, slice_index_or}
+use Rattle.std.specs.Prelude.{◌≡◌, ℕ, ◌+◌, ◌*◌, ◌≤◌, Bool, false, nat_eq, List, All, map, length, slice_index_or}
 use Rattle.std.specs.List.{list_any}
 use Rattle.clause_base.specs.Literal.{Literal}
+use Rattle.clause_base.specs.Codes.{code_of}
 
 -- The literals that are true, over the variables 1 to vars: a partial assignment as the checker keeps it, the latest first.
 pub record Trues : Type 0 where
   pub vars : ℕ
   pub trues : List Literal
 
--- The place of a literal in the checker's table: each variable has two.
-abbrev pub place_of_literal : Literal → ℕ
-place_of_literal l = 2 * l.var + (if l.positive then 1 else 0)
-
 -- A table has a place for each literal over the variables 1 to vars, and exactly those of the true literals are marked.
 pub record IsMarked (vars : ℕ) (table : List Bool) (trues : List Literal) : Type 0 where
   pub size : length table ≡ 2 * vars + 2
   pub within : All (λ l. l.var ≤ vars) trues
-  pub marked : (k : ℕ) → slice_index_or table k false ≡ list_any (nat_eq k) (map place_of_literal trues)
+  pub marked : (k : ℕ) → slice_index_or table k false ≡ list_any (nat_eq k) (map code_of trues)

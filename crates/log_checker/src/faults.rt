@@ -4,7 +4,7 @@ ghost use Rattle.log_checker.specs.declared.faults.LogFault.TheVariants.{NoMemor
 use std::alloc::AllocError;
 
 /// Why a log was refused. Places count from 0.
-#[derive(Clone, Copy, Debug, PartialEq, Eq, Hash)]
+#[derive(Clone, Copy, Debug, PartialEq, Eq)]
 pub enum LogFault {
     /// A hint of that entry names no clause before it, or one before the last hint isn't unit.
     BadHint(usize),

@@ -2,7 +2,8 @@ ghost use Rattle.std.specs.Prelude.{◌≡◌, ℕ, ◌≤◌, ◌<◌, ◌+◌,
 ghost use Rattle.clause_base.specs.Literal.{Literal, negated};
 ghost use Rattle.clause_base.specs.Clause.{IsWithin};
 ghost use Rattle.clause_base.specs.Partial.{is_true_in, is_falsified, unit_of, unfalsified};
-ghost use Rattle.log_checker.specs.Marked.{Trues, place_of_literal, IsMarked};
+ghost use Rattle.log_checker.specs.Marked.{Trues, IsMarked};
+ghost use Rattle.clause_base.specs.Codes.{code_of};
 
 use clause_base::{Clause, Lit};
 use std::alloc::{AllocError, Global};
@@ -11,7 +12,7 @@ use std::marker::Model;
 /// A partial assignment that is looked up in a table, and taken back at the cost of what it set.
 ///
 /// Seen by contracts as the number of variables and the literals that are true, the latest first.
-#[derive(Debug, Drop)]
+#[derive(Drop)]
 pub(crate) struct Marks {
     /// Whether the literal with that place is true.
     table: Vec<bool>,
@@ -145,7 +146,7 @@ impl Marks {
 
 /// The place of a literal in a table.
 fn place_of(lit: Lit) -> usize
-    ensures { result ≡ place_of_literal lit }
+    ensures { result ≡ code_of lit }
 {
     let sign = if lit.is_positive() { 1 } else { 0 };
     2 * lit.var() as usize + sign

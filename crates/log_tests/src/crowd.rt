@@ -154,7 +154,7 @@ fn shared(alloc: Global, log: &LogState) -> Result<Option<Vec<u32>>, Fail> {
     Ok(Some(all))
 }
 
-// All clauses are different, or each is added eight times.
+/// All clauses are different, or each is added eight times.
 #[test]
 fn eight_threads_add_clauses(rt: HostRuntime) -> Result<(), Fail> {
     let different = crowd(&rt, rt.alloc(), 1000)?;

@@ -1,5 +1,5 @@
-// Tests of refutation logs, over the public surface of refutation_log, log_checker and clause_exchange; they stand on clause_base too.
-// What a clause of those contracts says of every log isn't tested again: the reply to each turn, and what a turn leaves.
+//! Tests of refutation logs, over the public surface of refutation_log, log_checker and clause_exchange; they stand on clause_base too.
+//! What a clause of those contracts says of every log isn't tested again: the reply to each turn, and what a turn leaves.
 #![tactic(auto)]
 
 #[cfg(test)]

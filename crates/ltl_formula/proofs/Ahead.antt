@@ -1,11 +1,14 @@
 use Rattle.std.proofs.Common.{◌≡◌, ℕ, zero, suc, ◌+◌, ◌-◌, ◌<◌, ◌≤◌, Bool, true, ◌&&◌, ◌||◌, inl, inr, length, sym, ap, subst, ◌∙◌, arith}
 use Rattle.std.specs.Prelude.{not}
 use Rattle.std.proofs.lemmas.Bool.{and_parts, and_from, or_cases, or_left, or_right, cases_eq, cases_lt}
+use Rattle.std.specs.Cmp.{both_ways}
 use Rattle.letter_word.specs.Word.{Word, HasRing, lasso_len, next, after}
 use Rattle.letter_word.proofs.Positions.{next-last, next-inner, next_within, after_within, after-add, after_forward, after_round}
-use Rattle.ltl_formula.specs.Truth.{all_below, until_within, until_at, release_at}
+use Rattle.ltl_formula.specs.Truth.{until_within, until_at, release_at}
+use Rattle.letter_word.specs.Below.{all_below}
+use Rattle.letter_word.proofs.Below.{all_below-from, all_below-gives}
 use Rattle.ltl_formula.specs.Laws.{ComesAt, Comes}
-use Rattle.ltl_formula.proofs.Tests.{same_test, some_below-from, some_below-gives, all_below-from, all_below-gives, not-or-not}
+use Rattle.ltl_formula.proofs.Tests.{some_below-from, some_below-gives, not-or-not}
 
 module _ (w : Word) (a b : ℕ → Bool) where
   pub until_within-gives : (n i : ℕ) → until_within w a b n i ≡ true → (j : ℕ) × ((j < n) × ComesAt w a b i j)
@@ -22,7 +25,7 @@ module _ (w : Word) (a b : ℕ → Bool) where
 
   -- one step: it comes here, or a holds here and it comes from the next position on
   pub until_within-suc : (n i : ℕ) → until_within w a b (suc n) i ≡ (b i || (a i && until_within w a b n (next w i)))
-  until_within-suc n i = same_test _ _ to from
+  until_within-suc n i = both_ways _ _ to from
     where
       to : until_within w a b (suc n) i ≡ true → (b i || (a i && until_within w a b n (next w i))) ≡ true
       to h =
@@ -124,7 +127,7 @@ until_at-gives w a b i h =
 
 -- from the ring's first position one trip round decides
 pub until_at-ring : (w : Word) (a b : ℕ → Bool) → HasRing w → until_within w a b (length w.ring) (length w.stem) ≡ until_at w a b (length w.stem)
-until_at-ring w a b ring = same_test _ _ to from
+until_at-ring w a b ring = both_ways _ _ to from
   where
     s : ℕ
     s = length w.stem
@@ -142,7 +145,7 @@ until_at-ring w a b ring = same_test _ _ to from
 
 -- until and release at a position unfold into the position and the next
 pub until_at-unfold : (w : Word) (a b : ℕ → Bool) (i : ℕ) → HasRing w → i < lasso_len w → until_at w a b i ≡ (b i || (a i && until_at w a b (next w i)))
-until_at-unfold w a b i ring within = same_test _ _ to from
+until_at-unfold w a b i ring within = both_ways _ _ to from
   where
     to : until_at w a b i ≡ true → (b i || (a i && until_at w a b (next w i))) ≡ true
     to h = step (until_at-gives w a b i h)

@@ -1,15 +1,15 @@
-use Rattle.std.proofs.Common.{◌≡◌, ℕ, zero, suc, ◌<◌, Bool, true, false, inl, inr, refl, sym, ap, ◌∙◌, arith}
+use Rattle.std.proofs.Common.{◌≡◌, ℕ, zero, suc, ◌<◌, Bool, true, false, inl, inr, refl, sym, ap, ◌∙◌}
 use Rattle.std.specs.Prelude.{not, IsTrue, ◌↔◌}
 use Rattle.std.proofs.lemmas.Bool.{not-true, cases_Bool, true≢false}
+use Rattle.std.specs.Cmp.{both_ways}
 use Rattle.letter_word.specs.Word.{Word, HasRing, SameWord, SameFuture, lasso_len, next, after, unrolled_of, unrolled_times}
 use Rattle.letter_word.specs.Signals.{has}
-use Rattle.letter_word.proofs.Positions.{next_within, after_within, SameFuture-after}
+use Rattle.letter_word.proofs.Positions.{next_within, after_within, SameFuture-after, first_position}
 use Rattle.letter_word.proofs.Unrolled.{unrolling_keeps_the_word}
 use Rattle.ltl_formula.specs.Tree.{Tree}
 use Rattle.ltl_formula.specs.Tree.Tree.{truth, falsity, signal, negation, next_time, finally, globally, conjunction, disjunction, implication, equivalence, until, release, weak_until}
 use Rattle.ltl_formula.specs.Truth.{until_at, release_at, holds}
 use Rattle.ltl_formula.specs.Laws.{Comes, OperatorsMean, OperatorsUnfold, TruthIsOfTheFuture}
-use Rattle.ltl_formula.proofs.Tests.{same_test}
 use Rattle.ltl_formula.proofs.Ahead.{until_at-from, until_at-gives, until_at-unfold, release_at-unfold}
 
 -- two positions whose parts agree along the way agree on until and release
@@ -17,7 +17,7 @@ module _ (v w : Word) (i k : ℕ) (ring_v : HasRing v) (ring_w : HasRing w) (wit
   pub until_at-agree : (a b a' b' : ℕ → Bool)
       → ((j : ℕ) → a (after v i j) ≡ a' (after w k j)) → ((j : ℕ) → b (after v i j) ≡ b' (after w k j))
       → until_at v a b i ≡ until_at w a' b' k
-  until_at-agree a b a' b' same_a same_b = same_test _ _ to from
+  until_at-agree a b a' b' same_a same_b = both_ways _ _ to from
     where
       to : until_at v a b i ≡ true → until_at w a' b' k ≡ true
       to h =
@@ -91,11 +91,8 @@ holds-future v w rv rw (weak_until a b) i k hi hk same =
     release_at-agree v w i k rv rw hi hk (λ p. false) (holds v a) (λ p. false) (holds w a) (λ j. refl)
     (holds-along v w rv rw i k hi hk same a (holds-future v w rv rw a)) in cc
 
-first_within : (w : Word) → HasRing w → 0 < lasso_len w
-first_within w ring = omega arith
-
 pub holds-word : (v w : Word) → HasRing v → HasRing w → SameWord v w → (f : Tree) → holds v f 0 ≡ holds w f 0
-holds-word v w rv rw same f = holds-future v w rv rw f 0 0 (first_within v rv) (first_within w rw) (record { letters = same.letters })
+holds-word v w rv rw same f = holds-future v w rv rw f 0 0 (first_position v rv) (first_position w rw) (record { letters = same.letters })
 
 ring_unrolled_times : (n : ℕ) (w : Word) → HasRing w → HasRing (unrolled_times n w)
 ring_unrolled_times zero w ring = ring

@@ -78,9 +78,5 @@ signals_of_lists_are_kept = record {
   of_added = HasSignalsBelow-added;
 }
 
--- keeping signals is an order
-pub KeepsSignals-same : (nodes : List Node) → KeepsSignals nodes nodes
-KeepsSignals-same nodes = record { kept = λ n h. h }
-
 pub KeepsSignals-trans : (a b c : List Node) → KeepsSignals a b → KeepsSignals b c → KeepsSignals a c
 KeepsSignals-trans a b c ab bc = record { kept = λ n h. bc.kept n (ab.kept n h) }

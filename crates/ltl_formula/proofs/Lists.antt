@@ -16,7 +16,7 @@ use Rattle.ltl_formula.specs.Nodes.{tree_of, trees_of, tree_at, pick, node_at, P
 use Rattle.ltl_formula.specs.Added.{node_eq, Built, built_at, added}
 use Rattle.ltl_formula.specs.Laws.{OneIdPerFormula, SignalsAreBelow}
 use Rattle.ltl_formula.specs.Tree.{Tree, SignalsBelow}
-use Rattle.ltl_formula.proofs.NodeEquality.{same_id, node_eq-true, node_eq-self, node_from_tree}
+use Rattle.ltl_formula.proofs.NodeEquality.{node_eq-true, node_eq-self, node_from_tree, same_id_of}
 use Rattle.ltl_formula.proofs.Trees.{tree_at-last, tree_at-node}
 
 -- growing is an order
@@ -169,7 +169,7 @@ one_id_below nodes list (suc fuel) a b small ha hb e =
     node_from_tree (trees_of nodes) a.0 b.0
     (λ x y hx hy trees. one_id_below nodes list fuel x y (omega arith) (omega arith) (omega arith) trees)
     (node_at nodes a.0) (node_at nodes b.0) (list.parts_first a.0) (list.parts_first b.0) (sym of_a ∙ e ∙ of_b) in
-    same_id a b (list.different a.0 b.0 ha hb same)
+    same_id_of a b (list.different a.0 b.0 ha hb same)
 
 pub one_id_per_formula : OneIdPerFormula
 one_id_per_formula nodes a b list ha hb e = one_id_below nodes list (suc a.0) a b (omega arith) ha hb e

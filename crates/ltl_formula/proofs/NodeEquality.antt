@@ -8,23 +8,23 @@ use Rattle.ltl_formula.specs.Nodes.{pick, tree_of, PartsBelow}
 use Rattle.ltl_formula.specs.Added.{node_eq}
 
 -- ids with one number are one
-pub same_id : (a b : FormulaId) → a.0 ≡ b.0 → a ≡ b
-same_id a b e = ap (λ n. let id : FormulaId = record { 0 = n } in id) e
+pub same_id_of : (a b : FormulaId) → a.0 ≡ b.0 → a ≡ b
+same_id_of a b e = ap (λ n. let id : FormulaId = record { 0 = n } in id) e
 
 both_same : (f : FormulaId → FormulaId → Node) (a b c d : FormulaId) → (eqb a.0 c.0 && eqb b.0 d.0) ≡ true → f a b ≡ f c d
 both_same f a b c d h =
     let parts : (eqb a.0 c.0 ≡ true) × (eqb b.0 d.0 ≡ true) = and_parts (eqb a.0 c.0) (eqb b.0 d.0) h in
-    ap (λ x. f x b) (same_id a c (eqb-true a.0 c.0 parts.0)) ∙ ap (f c) (same_id b d (eqb-true b.0 d.0 parts.1))
+    ap (λ x. f x b) (same_id_of a c (eqb-true a.0 c.0 parts.0)) ∙ ap (f c) (same_id_of b d (eqb-true b.0 d.0 parts.1))
 
 -- nodes that the derived `==` finds equal are equal
 pub node_eq-true : (m n : Node) → node_eq m n ≡ true → m ≡ n
 node_eq-true True True h = refl
 node_eq-true False False h = refl
 node_eq-true (Signal s) (Signal t) h = ap Signal (eqb-true s t h)
-node_eq-true (Not a) (Not b) h = ap Not (same_id a b (eqb-true a.0 b.0 h))
-node_eq-true (Next a) (Next b) h = ap Next (same_id a b (eqb-true a.0 b.0 h))
-node_eq-true (Finally a) (Finally b) h = ap Finally (same_id a b (eqb-true a.0 b.0 h))
-node_eq-true (Globally a) (Globally b) h = ap Globally (same_id a b (eqb-true a.0 b.0 h))
+node_eq-true (Not a) (Not b) h = ap Not (same_id_of a b (eqb-true a.0 b.0 h))
+node_eq-true (Next a) (Next b) h = ap Next (same_id_of a b (eqb-true a.0 b.0 h))
+node_eq-true (Finally a) (Finally b) h = ap Finally (same_id_of a b (eqb-true a.0 b.0 h))
+node_eq-true (Globally a) (Globally b) h = ap Globally (same_id_of a b (eqb-true a.0 b.0 h))
 node_eq-true (And a b) (And c d) h = both_same And a b c d h
 node_eq-true (Or a b) (Or c d) h = both_same Or a b c d h
 node_eq-true (Implies a b) (Implies c d) h = both_same Implies a b c d h

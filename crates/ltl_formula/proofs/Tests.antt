@@ -1,13 +1,7 @@
-use Rattle.std.proofs.Common.{◌≡◌, ℕ, zero, suc, ◌<◌, Bool, true, false, ◌&&◌, ◌||◌, inl, inr, refl, sym, subst, arith}
+use Rattle.std.proofs.Common.{◌≡◌, ℕ, zero, suc, ◌<◌, Bool, true, false, ◌&&◌, ◌||◌, inl, inr, refl, subst, arith}
 use Rattle.std.specs.Prelude.{not}
-use Rattle.std.proofs.lemmas.Bool.{and_parts, and_from, or_cases, or_left, or_right, false≢true, cases_eq}
-use Rattle.ltl_formula.specs.Truth.{some_below, all_below}
-
--- two tests that pass together are equal
-pub same_test : (x y : Bool) → (x ≡ true → y ≡ true) → (y ≡ true → x ≡ true) → x ≡ y
-same_test true y to from = sym (to refl)
-same_test false true to from = from refl
-same_test false false to from = refl
+use Rattle.std.proofs.lemmas.Bool.{or_cases, or_left, or_right, false≢true, cases_eq}
+use Rattle.ltl_formula.specs.Truth.{some_below}
 
 pub some_below-from : (n : ℕ) (test : ℕ → Bool) (j : ℕ) → j < n → test j ≡ true → some_below n test ≡ true
 some_below-from zero test j within passes = absurd (omega arith)
@@ -26,19 +20,6 @@ some_below-gives (suc n) test h =
           let within : found.0 < n = found.1.0 in
           (found.0, (omega arith, found.1.1))
       | inr here ↦ (n, (omega arith, here))
-    ]
-
-pub all_below-from : (n : ℕ) (test : ℕ → Bool) → ((j : ℕ) → j < n → test j ≡ true) → all_below n test ≡ true
-all_below-from zero test each = refl
-all_below-from (suc n) test each =
-    and_from (all_below n test) (test n) (all_below-from n test (λ j h. each j (omega arith))) (each n (omega arith))
-
-pub all_below-gives : (n : ℕ) (test : ℕ → Bool) → all_below n test ≡ true → (j : ℕ) → j < n → test j ≡ true
-all_below-gives zero test h j within = absurd (omega arith)
-all_below-gives (suc n) test h j within =
-    elim (cases_eq j n) [
-      | inl e ↦ subst (λ i. test i ≡ true) (sym e) (and_parts (all_below n test) (test n) h).1
-      | inr ne ↦ all_below-gives n test (and_parts (all_below n test) (test n) h).0 j (omega (arith, ne))
     ]
 
 -- the opposite of an `or` of opposites

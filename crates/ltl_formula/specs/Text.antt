@@ -7,8 +7,8 @@ abbrev pub prefixed : List ℕ → List ℕ → List ℕ
 prefixed word part = codes "(" ++ word ++ codes " " ++ part ++ codes ")"
 
 -- an operator between its parts
-abbrev pub joined : List ℕ → List ℕ → List ℕ → List ℕ
-joined left word right = codes "(" ++ left ++ codes " " ++ word ++ codes " " ++ right ++ codes ")"
+abbrev pub infix_text : List ℕ → List ℕ → List ℕ → List ℕ
+infix_text left word right = codes "(" ++ left ++ codes " " ++ word ++ codes " " ++ right ++ codes ")"
 
 -- the text of a formula, with the names of the signals: every operator but `!` has its brackets (this project's own)
 abbrev pub formula_text : List (List ℕ) → Tree → List ℕ
@@ -19,10 +19,10 @@ formula_text names (negation a) = codes "!" ++ formula_text names a
 formula_text names (next_time a) = prefixed (codes "X") (formula_text names a)
 formula_text names (finally a) = prefixed (codes "F") (formula_text names a)
 formula_text names (globally a) = prefixed (codes "G") (formula_text names a)
-formula_text names (conjunction a b) = joined (formula_text names a) (codes "&&") (formula_text names b)
-formula_text names (disjunction a b) = joined (formula_text names a) (codes "||") (formula_text names b)
-formula_text names (implication a b) = joined (formula_text names a) (codes "->") (formula_text names b)
-formula_text names (equivalence a b) = joined (formula_text names a) (codes "<->") (formula_text names b)
-formula_text names (until a b) = joined (formula_text names a) (codes "U") (formula_text names b)
-formula_text names (release a b) = joined (formula_text names a) (codes "R") (formula_text names b)
-formula_text names (weak_until a b) = joined (formula_text names a) (codes "W") (formula_text names b)
+formula_text names (conjunction a b) = infix_text (formula_text names a) (codes "&&") (formula_text names b)
+formula_text names (disjunction a b) = infix_text (formula_text names a) (codes "||") (formula_text names b)
+formula_text names (implication a b) = infix_text (formula_text names a) (codes "->") (formula_text names b)
+formula_text names (equivalence a b) = infix_text (formula_text names a) (codes "<->") (formula_text names b)
+formula_text names (until a b) = infix_text (formula_text names a) (codes "U") (formula_text names b)
+formula_text names (release a b) = infix_text (formula_text names a) (codes "R") (formula_text names b)
+formula_text names (weak_until a b) = infix_text (formula_text names a) (codes "W") (formula_text names b)

@@ -2,6 +2,7 @@ use Rattle.std.specs.Prelude.{ℕ, zero, suc, Bool, true, false, not, ◌&&◌, 
 use Rattle.std.specs.Bool.{beq}
 use Rattle.letter_word.specs.Signals.{has}
 use Rattle.letter_word.specs.Word.{Word, lasso_len, next, after, letter_at}
+use Rattle.letter_word.specs.Below.{all_below}
 use Rattle.ltl_formula.specs.Tree.{Tree}
 use Rattle.ltl_formula.specs.Tree.Tree.{truth, falsity, signal, negation, next_time, finally, globally, conjunction, disjunction, implication, equivalence, until, release, weak_until}
 
@@ -9,11 +10,6 @@ use Rattle.ltl_formula.specs.Tree.Tree.{truth, falsity, signal, negation, next_t
 abbrev pub some_below : ℕ → (ℕ → Bool) → Bool
 some_below zero test = false
 some_below (suc n) test = some_below n test || test n
-
--- the test passes at each number below n
-abbrev pub all_below : ℕ → (ℕ → Bool) → Bool
-all_below zero test = true
-all_below (suc n) test = all_below n test && test n
 
 -- within n steps after position i comes a position where b holds, and a holds at each position from i on before it
 abbrev pub until_within : Word → (ℕ → Bool) → (ℕ → Bool) → ℕ → ℕ → Bool

@@ -1,4 +1,5 @@
-// Laws of truth and of lists of formulas. Each is the contract of a function that does nothing.
+//! Laws of truth and of lists of formulas. Each is the contract of a function that does nothing.
+
 ghost use Rattle.ltl_formula.specs.Laws.{GrowingKeepsFormulas, OneIdPerFormula, OperatorsMean, OperatorsUnfold, SignalsAreBelow, TruthIsOfTheFuture};
 ghost use Rattle.ltl_formula.specs.ListSignals.{SignalsOfListsAreKept};
 

@@ -39,7 +39,7 @@ pub fn write_formula(
     written
 }
 
-// The length of the formula's text, or the greatest number where it is longer. One pass over the nodes.
+/// The length of the formula's text, or the greatest number where it is longer. One pass over the nodes.
 fn text_len(formulas: &Formulas, f: FormulaId, names: &[Name]) -> usize
     requires { Stands formulas.now f }
 {
@@ -51,7 +51,7 @@ fn text_len(formulas: &Formulas, f: FormulaId, names: &[Name]) -> usize
     lengths[f.0 as usize]
 }
 
-// The length of the text of one node, given those of its parts.
+/// The length of the text of one node, given those of its parts.
 fn node_text_len(node: Node, lengths: &[usize], names: &[Name]) -> usize
     requires { PartsBelow (length lengths.now) node }
 {
@@ -78,7 +78,7 @@ fn node_text_len(node: Node, lengths: &[usize], names: &[Name]) -> usize
     }
 }
 
-// The length of an operator's text between its parts, with brackets and blanks.
+/// The length of an operator's text between its parts, with brackets and blanks.
 fn joined_len(left: usize, operator: usize, right: usize) -> usize {
     left.saturating_add(operator)
         .saturating_add(right)

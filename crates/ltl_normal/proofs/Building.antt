@@ -13,16 +13,16 @@ use Rattle.ltl_formula.specs.Nodes.{Grows, IsNodeList, PartsBelow, SignalBelow, 
 use Rattle.ltl_formula.specs.Added.{Built, added, built_at, node_eq}
 use Rattle.ltl_formula.proofs.Trees.{tree_at-grown, tree_at-node, tree_of-parts}
 use Rattle.ltl_formula.proofs.Lists.{Grows-refl, Grows-trans, Grows-stands, Grows-node_at, Grows-added, IsNodeList-append, added-again, added-stands, tree_at-slice_get, one_id_per_formula}
-use Rattle.ltl_formula.proofs.NodeEquality.{same_id}
 use Rattle.ltl_normal.specs.declared.simplify.Joint.{Joint}
 use Rattle.ltl_normal.specs.declared.simplify.Joint.TheVariants.{And, Or, Until, Release}
 use Rattle.ltl_normal.specs.declared.simplify.Outcome.{Outcome}
 use Rattle.ltl_normal.specs.declared.simplify.Outcome.TheVariants.{First, Second, Whole}
 use Rattle.ltl_normal.specs.Simplify.{constant_of, facing_of, outcome_of}
 use Rattle.ltl_normal.specs.Table.{table}
-use Rattle.ltl_normal.specs.NormalTrees.{tree_eq, constant_tree, whole_tree, chosen, joined, next_of, trees}
+use Rattle.ltl_normal.specs.NormalTrees.{tree_eq, constant_tree, whole_tree, chosen, joint_tree, next_of, trees}
 use Rattle.ltl_normal.specs.NormalNodes.{Step, go_on, gives, whole_node, constant_at, chosen_step, join_ids, next_step, next_id, nodes_to, form_in}
 use Rattle.ltl_normal.proofs.TreeEquality.{tree_eq-true, tree_eq-self}
+use Rattle.ltl_formula.proofs.NodeEquality.{same_id_of}
 
 -- what a step made in a list: the id names the formula there, and the same step makes it again, with no node more, in
 -- every longer list
@@ -100,7 +100,7 @@ same-tree_eq nodes a b list ha hb =
           eq-eqb a.0 b.0 (ap (λ id. id.0) (one_id_per_formula nodes a b list ha hb (tree_eq-true (tree_at nodes a) (tree_at nodes b) is))) ∙ sym is
       | inr isnt ↦
           false_from_ne_true (eqb a.0 b.0) (λ same.
-          true≢false (sym (tree_eq-self (tree_at nodes a)) ∙ ap (λ id. tree_eq (tree_at nodes a) (tree_at nodes id)) (same_id a b (eqb-true a.0 b.0 same)) ∙ isnt)) ∙ sym isnt
+          true≢false (sym (tree_eq-self (tree_at nodes a)) ∙ ap (λ id. tree_eq (tree_at nodes a) (tree_at nodes id)) (same_id_of a b (eqb-true a.0 b.0 same)) ∙ isnt)) ∙ sym isnt
     ]
 
 pub parts-whole_node : (joint : Joint) (a b : FormulaId) (n : ℕ) → a.0 < n → b.0 < n → PartsBelow n (whole_node joint a b)
@@ -156,7 +156,7 @@ module _ (joint : Joint) (a b : FormulaId) (nodes : List Node) (list : IsNodeLis
       ap (λ n. outcome_of joint (constant_of n) (constant_at longer b) (eqb a.0 b.0)) (Grows-node_at nodes longer a.0 grows ha)
       ∙ ap (λ n. outcome_of joint (constant_at nodes a) (constant_of n) (eqb a.0 b.0)) (Grows-node_at nodes longer b.0 grows hb)
 
-  pub BuildsIn-join_ids : BuildsIn (joined joint (tree_at nodes a) (tree_at nodes b)) (join_ids joint a b) nodes
+  pub BuildsIn-join_ids : BuildsIn (joint_tree joint (tree_at nodes a) (tree_at nodes b)) (join_ids joint a b) nodes
   unfolding outcome_at
   BuildsIn-join_ids =
       let chosen_here = BuildsIn-chosen (outcome_at nodes) in
@@ -271,12 +271,12 @@ Builds-next f step builds nodes list =
 
 Builds-join : (joint : Joint) (f g : Tree) (a b : Step) → Builds f a → Builds g b → Builds (trees.join joint f g) (nodes_to.join joint a b)
 Builds-join joint f g a b builds_a builds_b nodes list =
-    BuildsIn-go_on f (joined joint f g) a (λ x later. go_on (b later) (join_ids joint x)) nodes list (builds_a nodes list)
+    BuildsIn-go_on f (joint_tree joint f g) a (λ x later. go_on (b later) (join_ids joint x)) nodes list (builds_a nodes list)
     (λ x ns fits grows sx tx.
-    BuildsIn-go_on g (joined joint f g) b (join_ids joint x) ns fits (builds_b ns fits)
+    BuildsIn-go_on g (joint_tree joint f g) b (join_ids joint x) ns fits (builds_b ns fits)
     (λ y ms fits_ms grows_ms sy ty.
-    subst (λ t. BuildsIn (joined joint f t) (join_ids joint x y) ms) ty
-    (subst (λ t. BuildsIn (joined joint t (tree_at ms y)) (join_ids joint x y) ms) (tree_at-grown ns ms x grows_ms sx ∙ tx)
+    subst (λ t. BuildsIn (joint_tree joint f t) (join_ids joint x y) ms) ty
+    (subst (λ t. BuildsIn (joint_tree joint t (tree_at ms y)) (join_ids joint x y) ms) (tree_at-grown ns ms x grows_ms sx ∙ tx)
     (BuildsIn-join_ids joint x y ms fits_ms (Grows-stands ns ms x grows_ms sx) sy))))
 
 -- the table builds in lists what it builds of trees
@@ -292,13 +292,13 @@ Builds-form_in keep (conjunction a b) s = Builds-join (facing_of keep And) (tabl
 Builds-form_in keep (disjunction a b) s = Builds-join (facing_of keep Or) (table trees keep a) (table trees keep b) (form_in keep a) (form_in keep b) (Builds-form_in keep a s.0) (Builds-form_in keep b s.1)
 Builds-form_in keep (implication a b) s = Builds-join (facing_of keep Or) (table trees (not keep) a) (table trees keep b) (form_in (not keep) a) (form_in keep b) (Builds-form_in (not keep) a s.0) (Builds-form_in keep b s.1)
 Builds-form_in keep (equivalence a b) s =
-    Builds-join Or (joined And (table trees true a) (table trees keep b)) (joined And (table trees false a) (table trees (not keep) b))
+    Builds-join Or (joint_tree And (table trees true a) (table trees keep b)) (joint_tree And (table trees false a) (table trees (not keep) b))
     (nodes_to.join And (form_in true a) (form_in keep b)) (nodes_to.join And (form_in false a) (form_in (not keep) b))
     (Builds-join And (table trees true a) (table trees keep b) (form_in true a) (form_in keep b) (Builds-form_in true a s.0) (Builds-form_in keep b s.1))
     (Builds-join And (table trees false a) (table trees (not keep) b) (form_in false a) (form_in (not keep) b) (Builds-form_in false a s.0) (Builds-form_in (not keep) b s.1))
 Builds-form_in keep (until a b) s = Builds-join (facing_of keep Until) (table trees keep a) (table trees keep b) (form_in keep a) (form_in keep b) (Builds-form_in keep a s.0) (Builds-form_in keep b s.1)
 Builds-form_in keep (release a b) s = Builds-join (facing_of keep Release) (table trees keep a) (table trees keep b) (form_in keep a) (form_in keep b) (Builds-form_in keep a s.0) (Builds-form_in keep b s.1)
 Builds-form_in keep (weak_until a b) s =
-    Builds-join (facing_of keep Release) (table trees keep b) (joined (facing_of keep Or) (table trees keep a) (table trees keep b))
+    Builds-join (facing_of keep Release) (table trees keep b) (joint_tree (facing_of keep Or) (table trees keep a) (table trees keep b))
     (form_in keep b) (nodes_to.join (facing_of keep Or) (form_in keep a) (form_in keep b)) (Builds-form_in keep b s.1)
     (Builds-join (facing_of keep Or) (table trees keep a) (table trees keep b) (form_in keep a) (form_in keep b) (Builds-form_in keep a s.0) (Builds-form_in keep b s.1))

@@ -20,10 +20,10 @@ use Rattle.ltl_normal.specs.Table.{table}
 use Rattle.ltl_normal.specs.NormalTrees.{trees}
 use Rattle.ltl_normal.specs.NormalNodes.{Step, go_on, form_in, join_ids, nodes_to}
 use Rattle.ltl_normal.specs.declared.simplify.Joint.{Joint}
-use Rattle.ltl_formula.proofs.NodeEquality.{same_id}
 use Rattle.std.proofs.Common.{get_or-set_same, get_or-set_other, ◌⊎◌}
 use Rattle.ltl_normal.specs.Performs.{Performs, IsMemo, recorded, part_bound}
 use Rattle.ltl_normal.proofs.Building.{IsMade, BuildsIn, Builds-form_in}
+use Rattle.ltl_formula.proofs.NodeEquality.{same_id_of}
 
 -- a part stands below any greater bound, and below its node's bound
 pub PartsBelow-mono : (m n : ℕ) (x : Node) → m ≤ n → PartsBelow m x → PartsBelow n x
@@ -232,7 +232,7 @@ IsMemo-with forms place form put old nodes list h fits is memo within e e_is = r
                   let now_there : Stands nodes place = Grows-stands old nodes place grown h in
                   let again : form_in put (tree_at nodes place) nodes ≡ record { nodes = nodes; made = Some form } = form-again put place form old nodes nodes list h is fits (Grows-refl nodes) in
                   let P : FormulaId → Bool → FormulaId → Type 0 = λ p k i. Stands nodes p × (form_in k (tree_at nodes p) nodes ≡ record { nodes = nodes; made = Some i }) in
-                  subst (λ p. P p keep id) (same_id place at (sym same)) (subst (λ k. P place k id) (sym one_way) (subst (λ i. P place put i) one_form (now_there, again)))
+                  subst (λ p. P p keep id) (same_id_of place at (sym same)) (subst (λ k. P place k id) (sym one_way) (subst (λ i. P place put i) one_form (now_there, again)))
               | inr before ↦ memo.found keep at id (subst (λ n. recorded forms keep n ≡ Some id) (sym same) before)
             ]
       ];

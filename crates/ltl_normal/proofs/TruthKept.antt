@@ -3,6 +3,8 @@ use Rattle.std.specs.Prelude.{not}
 use Rattle.std.specs.Bool.{beq}
 use Rattle.std.proofs.lemmas.Bool.{cases_Bool, cases_order, true≢false, false≢true, or_cases, or_left, or_right, not-true}
 use Rattle.std.proofs.lemmas.Option.{none-some, same_Some}
+use Rattle.std.specs.Cmp.{both_ways}
+use mathlib.Core.Bool.{not-not}
 use Rattle.letter_word.specs.Word.{Word, HasRing, lasso_len, next, after}
 use Rattle.letter_word.proofs.Positions.{next_within, after_within}
 use Rattle.ltl_formula.specs.Tree.{Tree}
@@ -11,21 +13,16 @@ use Rattle.ltl_formula.specs.Truth.{until_at, release_at, holds}
 use Rattle.ltl_formula.specs.Laws.{Comes}
 use Rattle.ltl_formula.proofs.Ahead.{until_at-from, until_at-gives}
 use Rattle.ltl_formula.proofs.Futures.{until_at-agree}
-use Rattle.ltl_formula.proofs.Tests.{same_test}
 use Rattle.ltl_normal.specs.declared.simplify.Joint.{Joint}
 use Rattle.ltl_normal.specs.declared.simplify.Joint.TheVariants.{And, Or, Until, Release}
 use Rattle.ltl_normal.specs.declared.simplify.Outcome.{Outcome}
 use Rattle.ltl_normal.specs.declared.simplify.Outcome.TheVariants.{First, Second, Whole}
 use Rattle.ltl_normal.specs.Simplify.{facing_of, junction_of, outcome_of}
 use Rattle.ltl_normal.specs.Table.{table}
-use Rattle.ltl_normal.specs.NormalTrees.{tree_eq, constant_tree, whole_tree, chosen, joined, next_of, trees, normal_of, negated_of}
+use Rattle.ltl_normal.specs.NormalTrees.{tree_eq, constant_tree, whole_tree, chosen, joint_tree, next_of, trees, normal_of, negated_of}
 use Rattle.ltl_formula.specs.NormalForm.{IsNormal}
 use Rattle.ltl_normal.specs.Truths.{HasTruthOf, OpposesTruthOf}
 use Rattle.ltl_normal.proofs.TreeEquality.{tree_eq-true}
-
-not-not : (b : Bool) → not (not b) ≡ b
-not-not true = refl
-not-not false = refl
 
 -- a truth value, or its opposite
 abbrev turned : Bool → Bool → Bool
@@ -42,12 +39,6 @@ joint_at w And a b i = a i && b i
 joint_at w Or a b i = a i || b i
 joint_at w Until a b i = until_at w a b i
 joint_at w Release a b i = release_at w a b i
-
-holds-whole_tree : (w : Word) (joint : Joint) (a b : Tree) (i : ℕ) → holds w (whole_tree joint a b) i ≡ joint_at w joint (holds w a) (holds w b) i
-holds-whole_tree w And a b i = refl
-holds-whole_tree w Or a b i = refl
-holds-whole_tree w Until a b i = refl
-holds-whole_tree w Release a b i = refl
 
 holds-chosen : (w : Word) (o : Outcome) (a b whole : Tree) (i : ℕ) → holds w (chosen o a b whole) i ≡ chosen o (holds w a i) (holds w b i) (holds w whole i)
 holds-chosen w First a b whole i = refl
@@ -109,7 +100,7 @@ module _ (w : Word) (ring : HasRing w) where
   -- until and release of a constant second part are the constant
   until_at-constant : (a b : ℕ → Bool) (value : Bool) (i : ℕ) → i < lasso_len w → ((k : ℕ) → b k ≡ value) → value ≡ until_at w a b i
   until_at-constant a b true i within is = sym (until_at-from w a b i ring within (0, record { comes = is i; before = λ k none. absurd (omega arith) }))
-  until_at-constant a b false i within is = same_test false (until_at w a b i) (λ h. absurd (false≢true h))
+  until_at-constant a b false i within is = both_ways false (until_at w a b i) (λ h. absurd (false≢true h))
       (λ h. let found : Comes w a b i = until_at-gives w a b i h in absurd (false≢true (sym (is (after w i found.0)) ∙ found.1.comes)))
 
   release_at-constant : (a b : ℕ → Bool) (value : Bool) (i : ℕ) → i < lasso_len w → ((k : ℕ) → b k ≡ value) → value ≡ release_at w a b i
@@ -146,7 +137,7 @@ module _ (w : Word) (ring : HasRing w) where
   joint_at-facing false Release a b i within = sym (not-not (until_at w (λ k. not (a k)) (λ k. not (b k)) i))
 
   -- simplified operators have the truth of the operator
-  holds-joined : (joint : Joint) (a b : Tree) (i : ℕ) → i < lasso_len w → holds w (joined joint a b) i ≡ joint_at w joint (holds w a) (holds w b) i
+  holds-joined : (joint : Joint) (a b : Tree) (i : ℕ) → i < lasso_len w → holds w (joint_tree joint a b) i ≡ joint_at w joint (holds w a) (holds w b) i
   holds-joined And a b i within =
       holds-chosen w (outcome_of And (constant_tree a) (constant_tree b) (tree_eq a b)) a b (conjunction a b) i
       ∙ junction-simplified true (constant_tree a) (constant_tree b) (tree_eq a b) (holds w a i) (holds w b i)
@@ -176,7 +167,7 @@ module _ (w : Word) (ring : HasRing w) where
   -- weak until is release with the parts in the other order
   weak-as-release : (a b : ℕ → Bool) (i : ℕ) → i < lasso_len w
       → release_at w b (λ k. a k || b k) i ≡ (until_at w a b i || release_at w (λ k. false) a i)
-  weak-as-release a b i within = same_test _ _ to from
+  weak-as-release a b i within = both_ways _ _ to from
     where
       bad : (j : ℕ) → until_at w (λ k. not (b k)) (λ k. not (a k || b k)) i ≡ false → ((k : ℕ) → k < j → b (after w i k) ≡ false) → (a (after w i j) || b (after w i j)) ≡ true
       bad j never before =
@@ -255,7 +246,7 @@ module _ (w : Word) (ring : HasRing w) where
   -- two parts, each told by its truth
   holds-row : (keep : Bool) (joint : Joint) (x y : Tree) (a b : ℕ → Bool) (i : ℕ) → i < lasso_len w
       → ((k : ℕ) → k < lasso_len w → holds w x k ≡ turned keep (a k)) → ((k : ℕ) → k < lasso_len w → holds w y k ≡ turned keep (b k))
-      → holds w (joined (facing_of keep joint) x y) i ≡ turned keep (joint_at w joint a b i)
+      → holds w (joint_tree (facing_of keep joint) x y) i ≡ turned keep (joint_at w joint a b i)
   holds-row keep joint x y a b i within of_x of_y =
       holds-joined (facing_of keep joint) x y i within
       ∙ joint_at-agree (facing_of keep joint) (holds w x) (holds w y) (λ k. turned keep (a k)) (λ k. turned keep (b k)) i within of_x of_y
@@ -287,8 +278,8 @@ module _ (w : Word) (ring : HasRing w) where
       holds-row keep Or (table trees (not keep) a) (table trees keep b) (λ k. not (holds w a k)) (holds w b) i within
       (λ k h. holds-table (not keep) a k h ∙ turned-not keep (holds w a k)) (holds-table keep b)
   holds-table keep (equivalence a b) i within =
-      holds-joined Or (joined And (table trees true a) (table trees keep b)) (joined And (table trees false a) (table trees (not keep) b)) i within
-      ∙ ap (λ x. x || holds w (joined And (table trees false a) (table trees (not keep) b)) i)
+      holds-joined Or (joint_tree And (table trees true a) (table trees keep b)) (joint_tree And (table trees false a) (table trees (not keep) b)) i within
+      ∙ ap (λ x. x || holds w (joint_tree And (table trees false a) (table trees (not keep) b)) i)
       (holds-joined And (table trees true a) (table trees keep b) i within ∙ pair (holds-table true a i within) (holds-table keep b i within))
       ∙ ap (λ y. (holds w a i && turned keep (holds w b i)) || y)
       (holds-joined And (table trees false a) (table trees (not keep) b) i within ∙ pair (holds-table false a i within) (holds-table (not keep) b i within))
@@ -309,7 +300,7 @@ module _ (w : Word) (ring : HasRing w) where
   holds-table keep (until a b) i within = holds-row keep Until (table trees keep a) (table trees keep b) (holds w a) (holds w b) i within (holds-table keep a) (holds-table keep b)
   holds-table keep (release a b) i within = holds-row keep Release (table trees keep a) (table trees keep b) (holds w a) (holds w b) i within (holds-table keep a) (holds-table keep b)
   holds-table keep (weak_until a b) i within =
-      holds-row keep Release (table trees keep b) (joined (facing_of keep Or) (table trees keep a) (table trees keep b)) (holds w b) (λ k. holds w a k || holds w b k) i within
+      holds-row keep Release (table trees keep b) (joint_tree (facing_of keep Or) (table trees keep a) (table trees keep b)) (holds w b) (λ k. holds w a k || holds w b k) i within
       (holds-table keep b)
       (λ k h. holds-row keep Or (table trees keep a) (table trees keep b) (holds w a) (holds w b) k h (holds-table keep a) (holds-table keep b))
       ∙ ap (turned keep) (weak-as-release (holds w a) (holds w b) i within)
@@ -326,7 +317,7 @@ IsNormal-chosen First a b whole x y z = x
 IsNormal-chosen Second a b whole x y z = y
 IsNormal-chosen Whole a b whole x y z = z
 
-IsNormal-joined : (joint : Joint) (a b : Tree) → IsNormal a → IsNormal b → IsNormal (joined joint a b)
+IsNormal-joined : (joint : Joint) (a b : Tree) → IsNormal a → IsNormal b → IsNormal (joint_tree joint a b)
 IsNormal-joined joint a b x y = IsNormal-chosen (outcome_of joint (constant_tree a) (constant_tree b) (tree_eq a b)) a b (whole_tree joint a b) x y (by joint)
   where
     by : (joint : Joint) → IsNormal (whole_tree joint a b)
@@ -356,11 +347,11 @@ IsNormal-table keep (conjunction a b) = IsNormal-joined (facing_of keep And) (ta
 IsNormal-table keep (disjunction a b) = IsNormal-joined (facing_of keep Or) (table trees keep a) (table trees keep b) (IsNormal-table keep a) (IsNormal-table keep b)
 IsNormal-table keep (implication a b) = IsNormal-joined (facing_of keep Or) (table trees (not keep) a) (table trees keep b) (IsNormal-table (not keep) a) (IsNormal-table keep b)
 IsNormal-table keep (equivalence a b) =
-    IsNormal-joined Or (joined And (table trees true a) (table trees keep b)) (joined And (table trees false a) (table trees (not keep) b))
+    IsNormal-joined Or (joint_tree And (table trees true a) (table trees keep b)) (joint_tree And (table trees false a) (table trees (not keep) b))
     (IsNormal-joined And (table trees true a) (table trees keep b) (IsNormal-table true a) (IsNormal-table keep b))
     (IsNormal-joined And (table trees false a) (table trees (not keep) b) (IsNormal-table false a) (IsNormal-table (not keep) b))
 IsNormal-table keep (until a b) = IsNormal-joined (facing_of keep Until) (table trees keep a) (table trees keep b) (IsNormal-table keep a) (IsNormal-table keep b)
 IsNormal-table keep (release a b) = IsNormal-joined (facing_of keep Release) (table trees keep a) (table trees keep b) (IsNormal-table keep a) (IsNormal-table keep b)
 IsNormal-table keep (weak_until a b) =
-    IsNormal-joined (facing_of keep Release) (table trees keep b) (joined (facing_of keep Or) (table trees keep a) (table trees keep b)) (IsNormal-table keep b)
+    IsNormal-joined (facing_of keep Release) (table trees keep b) (joint_tree (facing_of keep Or) (table trees keep a) (table trees keep b)) (IsNormal-table keep b)
     (IsNormal-joined (facing_of keep Or) (table trees keep a) (table trees keep b) (IsNormal-table keep a) (IsNormal-table keep b))

@@ -46,8 +46,8 @@ chosen Second a b whole = b
 chosen Whole a b whole = whole
 
 -- an operator and its parts, simplified
-abbrev pub joined : Joint → Tree → Tree → Tree
-joined joint a b = chosen (outcome_of joint (constant_tree a) (constant_tree b) (tree_eq a b)) a b (whole_tree joint a b)
+abbrev pub joint_tree : Joint → Tree → Tree → Tree
+joint_tree joint a b = chosen (outcome_of joint (constant_tree a) (constant_tree b) (tree_eq a b)) a b (whole_tree joint a b)
 
 -- Next of a constant is the constant
 abbrev pub next_of : Option Bool → Tree → Tree
@@ -59,7 +59,7 @@ trees = record {
   constant = λ value. if value then truth else falsity;
   literal = λ keep s. if keep then signal s else negation (signal s);
   next = λ a. next_of (constant_tree a) a;
-  join = joined;
+  join = joint_tree;
 }
 
 -- the normal form of a formula, and that of its opposite

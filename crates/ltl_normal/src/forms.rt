@@ -48,14 +48,14 @@ pub fn negated(formulas: &mut Formulas, f: FormulaId) -> Result<FormulaId, AddFa
     form_of(formulas, Part { id: f, keep: false })
 }
 
-// A node of which a form is wanted: the normal one, or the negated one.
+/// A node of which a form is wanted: the normal one, or the negated one.
 #[derive(Clone, Copy)]
 struct Part {
     id: FormulaId,
     keep: bool,
 }
 
-// The form of a node, with an empty table of what was built.
+/// The form of a node, with an empty table of what was built.
 fn form_of(formulas: &mut Formulas, part: Part) -> Result<FormulaId, AddFault>
     requires { Stands formulas.old part.id }
     ensures performs { Performs (form_in part.keep (tree_at formulas.old part.id)) formulas.old formulas.new result }
@@ -74,7 +74,7 @@ fn nothing_built() -> [Forms; MAX_NODES]
     [Forms::NONE; MAX_NODES]
 }
 
-// The form of a node, from the table where it was built before.
+/// The form of a node, from the table where it was built before.
 #[cycle(forms)]
 fn form(formulas: &mut Formulas, forms: &mut [Forms], part: Part) -> Result<FormulaId, AddFault>
     requires stands { Stands formulas.old part.id }
@@ -93,7 +93,7 @@ fn form(formulas: &mut Formulas, forms: &mut [Forms], part: Part) -> Result<Form
     Ok(made)
 }
 
-// The form of a node, by the table's row.
+/// The form of a node, by the table's row.
 #[cycle(forms)]
 fn build(
     formulas: &mut Formulas,
@@ -159,7 +159,7 @@ fn build(
     }
 }
 
-// The forms of two parts, joined.
+/// The forms of two parts, joined.
 #[cycle(forms)]
 fn both(
     formulas: &mut Formulas,
@@ -181,7 +181,7 @@ fn both(
     join(formulas, joint, first, second)
 }
 
-// A constant and the form of a part, joined.
+/// A constant and the form of a part, joined.
 #[cycle(forms)]
 fn from_constant(
     formulas: &mut Formulas,
@@ -202,7 +202,7 @@ fn from_constant(
     join(formulas, joint, first, second)
 }
 
-// Next of the form of a part.
+/// Next of the form of a part.
 #[cycle(forms)]
 fn next_of(formulas: &mut Formulas, forms: &mut [Forms], a: Part) -> Result<FormulaId, AddFault>
     requires stands { Stands formulas.old a.id }
@@ -216,7 +216,7 @@ fn next_of(formulas: &mut Formulas, forms: &mut [Forms], a: Part) -> Result<Form
     next(formulas, part)
 }
 
-// Both parts true or both false; for the negated form, one alone.
+/// Both parts true or both false; for the negated form, one alone.
 #[cycle(forms)]
 fn equivalence(
     formulas: &mut Formulas,
@@ -247,7 +247,7 @@ fn equivalence(
     join(formulas, Joint::Or, first, second)
 }
 
-// `a W b` as `b R (a || b)`; for the negated form with the opposite operators.
+/// `a W b` as `b R (a || b)`; for the negated form with the opposite operators.
 #[cycle(forms)]
 fn weak_until(
     formulas: &mut Formulas,
@@ -287,7 +287,7 @@ fn add_constant(formulas: &mut Formulas, value: bool) -> Result<FormulaId, AddFa
     }
 }
 
-// The signal, or the signal and its Not.
+/// The signal, or the signal and its Not.
 fn add_literal(formulas: &mut Formulas, keep: bool, signal: u32) -> Result<FormulaId, AddFault>
     requires { SignalBelow MAX_SIGNALS (Node.Signal signal) }
     ensures { Performs (literal_step keep signal) formulas.old formulas.new result }
@@ -299,7 +299,7 @@ fn add_literal(formulas: &mut Formulas, keep: bool, signal: u32) -> Result<Formu
     formulas.add(Node::Not(id))
 }
 
-// Next of a form, simplified.
+/// Next of a form, simplified.
 fn next(formulas: &mut Formulas, a: FormulaId) -> Result<FormulaId, AddFault>
     requires { Stands formulas.old a }
     ensures { Performs (next_id a) formulas.old formulas.new result }
@@ -310,7 +310,7 @@ fn next(formulas: &mut Formulas, a: FormulaId) -> Result<FormulaId, AddFault>
     }
 }
 
-// Two forms, joined and simplified.
+/// Two forms, joined and simplified.
 fn join(
     formulas: &mut Formulas,
     joint: Joint,

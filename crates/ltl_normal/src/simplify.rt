@@ -4,7 +4,7 @@ ghost use Rattle.ltl_normal.specs.Simplify.{constant_of, facing_of, junction_of,
 use ltl_formula::Node;
 
 /// The operators of two parts that a normal form has.
-#[derive(Clone, Copy, Debug, PartialEq, Eq)]
+#[derive(Clone, Copy, PartialEq, Eq)]
 pub enum Joint {
     And,
     Or,
@@ -13,7 +13,7 @@ pub enum Joint {
 }
 
 /// What is left of an operator and its two parts.
-#[derive(Clone, Copy, Debug, PartialEq, Eq)]
+#[derive(Clone, Copy, PartialEq, Eq)]
 pub enum Outcome {
     First,
     Second,
@@ -21,7 +21,7 @@ pub enum Outcome {
 }
 
 /// The operator itself, or for the negated form its opposite.
-pub fn facing(keep: bool, joint: Joint) -> Joint
+pub(crate) fn facing(keep: bool, joint: Joint) -> Joint
     ensures { result ≡ facing_of keep joint }
 {
     match joint {
@@ -34,7 +34,7 @@ pub fn facing(keep: bool, joint: Joint) -> Joint
 }
 
 /// The truth value that the node is, if it is one.
-pub fn constant(node: Node) -> Option<bool>
+pub(crate) fn constant(node: Node) -> Option<bool>
     ensures { result ≡ constant_of node }
 {
     match node {
@@ -45,7 +45,12 @@ pub fn constant(node: Node) -> Option<bool>
 }
 
 /// What is left of the operator where its parts are these constants, or none, and are the same formula or not.
-pub fn simplified(joint: Joint, first: Option<bool>, second: Option<bool>, same: bool) -> Outcome
+pub(crate) fn simplified(
+    joint: Joint,
+    first: Option<bool>,
+    second: Option<bool>,
+    same: bool,
+) -> Outcome
     ensures { result ≡ outcome_of joint first second same }
 {
     match joint {
@@ -58,7 +63,7 @@ pub fn simplified(joint: Joint, first: Option<bool>, second: Option<bool>, same:
     }
 }
 
-// The same for And, whose neutral part is `true`, and for Or, whose neutral part is `false`.
+/// The same for And, whose neutral part is `true`, and for Or, whose neutral part is `false`.
 fn junction(neutral: bool, first: Option<bool>, second: Option<bool>, same: bool) -> Outcome
     ensures { result ≡ junction_of neutral first second same }
 {

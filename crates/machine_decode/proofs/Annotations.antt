@@ -2,7 +2,7 @@
 use Rattle.std.proofs.Common.{◌≡◌, ℕ, zero, suc, ◌+◌, ◌^◌, ◌<◌, ◌≤◌, inl, inr, Bool, true, false, not, List, [], ◌∷◌, ◌++◌, Option, Some, None, refl, sym, ap, ◌∙◌, subst, arith, cond}
 use Rattle.std.specs.Prelude.{Contains, ◌==◌, ◌||◌, ◌&&◌, nat_le, nat_lt}
 use Rattle.std.specs.List.{list_any}
-use Rattle.std.proofs.lemmas.Bool.{and_parts, cases_lt, cond-false, cond-true, cond_both}
+use Rattle.std.proofs.lemmas.Bool.{and_parts, cases_lt, cond-false, cond-true, cond_both, leb-true}
 use Rattle.std.proofs.lemmas.Bool.Decides.{Decides-eqb}
 use Rattle.std.proofs.lemmas.List.Elements.{All-contains}
 use Rattle.std.proofs.lemmas.List.Folds.{list_any-append}
@@ -11,6 +11,7 @@ use Rattle.clause_base.specs.Truth.{is_true_clause, is_true_literal, meets, valu
 use Rattle.clause_base.proofs.Tests.{Decides-all}
 use Rattle.letter_word.specs.Cube.{Fits}
 use Rattle.letter_word.specs.Signals.{has}
+use Rattle.letter_word.proofs.Below.{all_below-from}
 use Rattle.machine_model.specs.Accepts.{SideAccepts}
 use Rattle.machine_model.specs.Automaton.{IsAutomaton, JoinsStates, rejects, states_of}
 use Rattle.machine_model.specs.Course.{letter_of}
@@ -26,7 +27,7 @@ use Rattle.annotation_encode.specs.Variables.{letter_count, number_count, row_pl
 use Rattle.annotation_encode.proofs.BaseClausesAll.{HoldsOfKinds, kinds_hold}
 use Rattle.annotation_encode.proofs.ClauseOrder.{start_small}
 use Rattle.annotation_encode.proofs.Letters.{joined_at, read_kept, reads_at, writes_at, written_kept}
-use Rattle.annotation_encode.proofs.Lists.{all_below-from, at_most, none-from}
+use Rattle.annotation_encode.proofs.Lists.{none-from}
 use Rattle.annotation_encode.proofs.Meets.{joined_same, reads_same, writes_same}
 use Rattle.machine_decode.specs.Decoded.{IsDecoded, IsGreatestCount, IsLeastMove}
 use Rattle.machine_model.specs.declared.machines.Row.{Row}
@@ -178,7 +179,7 @@ module _ (p : Problem) (values : List Bool) (problem : IsProblem p) (made : IsAu
           let right : (nat_le (number_after p e.from e.to d) (bound_at p e.to) ≡ true) × (is_true_literal values (is (var_count p to e.to (number_after p e.from e.to d))) ≡ true)
           = second (is_true_literal values) (nat_le (number_after p e.from e.to d) (bound_at p e.to)) (nat_lt (var_count p t e.from d) (var_count p to e.to (number_after p e.from e.to d)))
           (isnt (var_count p t e.from d)) (is (var_count p to e.to (number_after p e.from e.to d))) (ap not reached_here) counts in
-          reached to e.to (number_after p e.from e.to d) move.within joins.to (at_most (number_after p e.from e.to d) (bound_at p e.to) right.0) right.1
+          reached to e.to (number_after p e.from e.to d) move.within joins.to (leb-true (number_after p e.from e.to d) (bound_at p e.to) right.0) right.1
 
       pub rises : HasNumber p numbers to e.to (number_after p e.from e.to c)
       rises = by_idle (is_idle p e t to) refl

@@ -10,7 +10,7 @@ ghost use Rattle.annotation_encode.specs.Variables.{letter_count, var_write, var
 ghost use Rattle.machine_decode.specs.Decoded.{IsDecoded, IsLeastMove};
 ghost use Rattle.machine_decode.specs.Written.{AreRows, HasMoves, IsRow, greatest_from, letter_from, numbers_of, pair_number, written_of};
 
-use annotation_encode::{Numbering, var_move, var_write};
+use annotation_encode::{Numbering, letter_count, row_count, var_move, var_write};
 use clause_base::Assignment;
 use machine_model::laws::joined_is_reached;
 use machine_model::{Machine, Problem, Row};
@@ -71,25 +71,6 @@ fn decoded_table(alloc: Global, problem: &Problem, values: &[bool]) -> Result<Ve
         table.push(row)?;
     }
     Ok(table)
-}
-
-/// The number of rows.
-fn row_count(problem: &Problem) -> u32
-    requires { IsProblem problem.now }
-    ensures value { result ≡ row_count problem.now }
-    ensures small { result ≤ 2048 }
-{
-    problem.size * letter_count(problem)
-}
-
-/// The number of letters that the machine reads.
-fn letter_count(problem: &Problem) -> u32
-    requires { IsProblem problem.now }
-    ensures value { result ≡ letter_count problem.now }
-    ensures some { 0 < result }
-    ensures small { result ≤ 256 }
-{
-    1 << problem.reads()
 }
 
 /// The row at a place.

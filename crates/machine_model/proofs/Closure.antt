@@ -5,6 +5,7 @@ use Rattle.std.proofs.lemmas.Bool.{and_from, and_parts, cases_eq, eq-eqb, eqb-tr
 use Rattle.std.proofs.lemmas.Bool.Decides.{same_from_decides}
 use Rattle.std.proofs.lemmas.List.Elements.{All-contains}
 use Rattle.std.proofs.lemmas.List.Folds.{list_any_more}
+use mathlib.Core.Bool.{or_assoc}
 use Rattle.machine_model.specs.Automaton.{AutomatonModel, IsAutomaton, JoinsStates, states_of}
 use Rattle.machine_model.specs.Components.{is_reached}
 use Rattle.machine_model.specs.Reached.{ArePassedOn, AreReached, HasAlso, HasEdges, IsPassed, is_edge, is_in, leads}
@@ -36,13 +37,9 @@ pub record IsClosedBelow (a : AutomatonModel) (k : ℕ) (sets : List StateSet) :
   pub through : (q m r : ℕ) → m < k → q < states_of a → r < states_of a → leads sets q m ≡ true → leads sets m r ≡ true → leads sets q r ≡ true
 
 -- one more edge
-no_more : (x y : Bool) → y ≡ false → x ≡ (x || y)
+pub no_more : (x y : Bool) → y ≡ false → x ≡ (x || y)
 no_more true y out = refl
 no_more false y out = sym out
-
-or_assoc : (x y z : Bool) → ((x || y) || z) ≡ (x || (y || z))
-or_assoc true y z = refl
-or_assoc false y z = refl
 
 abbrev leads_between : ℕ → ℕ → Edge → Bool
 leads_between q r e = (q == e.from) && (r == e.to)

@@ -5,18 +5,14 @@ use Rattle.std.proofs.Math.Nat.{mul_comm}
 use Rattle.letter_word.specs.declared.letters.Letter.{Letter}
 use Rattle.letter_word.specs.declared.kinds.Side.{Side}
 use Rattle.letter_word.specs.declared.kinds.Side.TheVariants.{System, Environment}
-use Rattle.letter_word.specs.Word.{Word, HasRing, IsLassoOver, lasso_len, after, letter_at, nth_letter, no_signals}
-use Rattle.letter_word.proofs.Positions.{after-own, after-suc, after_within}
+use Rattle.letter_word.specs.Word.{Word, IsLassoOver, lasso_len, after, letter_at, nth_letter, no_signals}
+use Rattle.letter_word.proofs.Positions.{after-own, after-suc, after_within, first_position}
 use Rattle.machine_model.specs.Machine.{MachineModel, IsMachine, size_of, next_of, writes_of}
 use Rattle.machine_model.specs.Run.{IsRunLasso, joined, read_part, written_part, read_lasso}
 use Rattle.machine_model.specs.Course.{read_at, state_after}
 use Rattle.machine_model.specs.Laws.{RunsAreDetermined, MooreWritesBeforeReading, StaysWithin}
 use Rattle.machine_model.proofs.Readings.{joined-parts, nth_letter-read}
 use Rattle.machine_model.proofs.Closing.{read_within, state_within}
-
--- a lasso has a first position
-pub first_position : (w : Word) → HasRing w → 0 < lasso_len w
-first_position w ring = omega arith
 
 module _ (m : MachineModel) (side : Side) (w : Word) (states : List ℕ) (run : IsRunLasso m side w states) where
   -- what is read at step j

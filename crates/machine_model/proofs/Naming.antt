@@ -1,12 +1,11 @@
 -- Names of components, and what is counted by them.
-use Rattle.std.proofs.Common.{◌≡◌, ◌≢◌, ◌==◌, ℕ, zero, suc, ◌+◌, ◌<◌, ◌≤◌, inl, inr, Bool, true, false, refl, sym, ◌∙◌, ap, subst, List, [], length, get_or, take, arith, get_or-set_same, get_or-set_other, length-set}
-use Rattle.std.specs.Prelude.{◌&&◌, ◌||◌, slice_set, sum, if◌then◌else◌}
+use Rattle.std.proofs.Common.{◌≡◌, ◌==◌, ℕ, zero, suc, ◌+◌, ◌<◌, ◌≤◌, inl, inr, Bool, true, false, refl, sym, ◌∙◌, ap, subst, List, length, get_or, take, arith}
+use Rattle.std.specs.Prelude.{◌&&◌, sum, if◌then◌else◌}
 use Rattle.std.specs.List.{list_any}
-use Rattle.std.proofs.lemmas.Bool.{and_from, and_left, and_parts, both_ways, cases_eq, cases_lt, cond-false, cond-true, eq-eqb, eqb-true, false_from_ne_true, ne_eqb, or_right}
+use Rattle.std.proofs.lemmas.Bool.{both_ways, cases_lt, cond-false, cond-true, eq-eqb, eqb-true}
 use Rattle.std.proofs.lemmas.Bool.Decides.{same_from_decides}
 use Rattle.std.proofs.lemmas.Grind.{same_number_lists}
 use Rattle.std.proofs.lemmas.List.{get_or_default}
-use Rattle.std.proofs.lemmas.List.Folds.{list_any_more}
 use Rattle.std.proofs.lemmas.List.Sums.{sum_by_more}
 use Rattle.machine_model.specs.Automaton.{AutomatonModel, IsAutomaton, JoinsStates, rejects, states_of}
 use Rattle.machine_model.specs.Components.{AreComponentsOf, ComponentsModel, are_joined, is_reached, local_before, local_count, rejecting_below, turns}
@@ -93,52 +92,6 @@ names_both names m e = (name_in names e.from == m) && (name_in names e.to == m)
 pub record AreMarked (names : List ℕ) (edges : List Edge) (marks : List Bool) : Type 0 where
   pub places : length marks ≡ length names
   pub at : (m : ℕ) → m < length marks → get_or marks m false ≡ list_any (names_both names m) edges
-
-no_more : (x y : Bool) → y ≡ false → x ≡ (x || y)
-no_more true y out = refl
-no_more false y out = sym out
-
-module _ (names : List ℕ) (edges : List Edge) (i : ℕ) (e : Edge) (marks : List Bool) (within : i < length edges) (is : get_or edges i e ≡ e) (so_far : AreMarked names (take i edges) marks) where
-  one_more : (m : ℕ) → list_any (names_both names m) (take (i + 1) edges) ≡ (list_any (names_both names m) (take i edges) || names_both names m e)
-  one_more m =
-      list_any_more (names_both names m) edges i e within
-      ∙ ap (λ d. list_any (names_both names m) (take i edges) || names_both names m d) is
-
-  pub marked_more : name_in names e.from ≡ name_in names e.to → AreMarked names (take (i + 1) edges) (slice_set marks (name_in names e.from) true)
-  marked_more same = record {
-    places = length-set marks (name_in names e.from) true ∙ so_far.places;
-    at = λ m h.
-        let room : m < length marks = omega (arith, h, length-set marks (name_in names e.from) true) in
-        elim (cases_eq m (name_in names e.from)) [
-          | inl here ↦
-              ap (λ j. get_or (slice_set marks (name_in names e.from) true) j false) here
-              ∙ get_or-set_same marks (name_in names e.from) true false (omega (arith, here))
-              ∙ sym (or_right (list_any (names_both names m) (take i edges)) (names_both names m e)
-              (and_from (name_in names e.from == m) (name_in names e.to == m) (eq-eqb (name_in names e.from) m (sym here)) (eq-eqb (name_in names e.to) m (sym same ∙ sym here))))
-              ∙ sym (one_more m)
-          | inr other ↦
-              let out : names_both names m e ≡ false =
-              and_left (name_in names e.from == m) (name_in names e.to == m) (ne_eqb (name_in names e.from) m (λ back. other (sym back))) in
-              get_or-set_other marks (name_in names e.from) m true false other
-              ∙ so_far.at m room
-              ∙ no_more (list_any (names_both names m) (take i edges)) (names_both names m e) out
-              ∙ sym (one_more m)
-        ];
-  }
-
-  pub not_marked : name_in names e.from ≢ name_in names e.to → AreMarked names (take (i + 1) edges) marks
-  not_marked apart = record {
-    places = so_far.places;
-    at = λ m h.
-        let out : names_both names m e ≡ false =
-        false_from_ne_true (names_both names m e) (λ both.
-        let parts : ((name_in names e.from == m) ≡ true) × ((name_in names e.to == m) ≡ true) = and_parts (name_in names e.from == m) (name_in names e.to == m) both in
-        apart (eqb-true (name_in names e.from) m parts.0 ∙ sym (eqb-true (name_in names e.to) m parts.1))) in
-        so_far.at m h ∙ no_more (list_any (names_both names m) (take i edges)) (names_both names m e) out ∙ sym (one_more m);
-  }
-
-pub marked_none : (names : List ℕ) (marks : List Bool) → length marks ≡ length names → ((m : ℕ) → get_or marks m false ≡ false) → AreMarked names [] marks
-marked_none names marks places none = record { places = places; at = λ m h. none m }
 
 pub turning_all : (a : AutomatonModel) (names : List ℕ) (marks : List Bool) → AreNamed a names → AreMarked names a.edges marks → AreTurning a names marks
 turning_all a names marks named marked = record {

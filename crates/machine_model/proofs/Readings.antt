@@ -35,9 +35,6 @@ module _ (side : Side) (m : MachineModel) (w : Word) where
       let b : length (map f w.ring) ≡ length w.ring = length-map w.ring f in
       omega (arith, a, b)
 
-  pub ring-read : HasRing w → HasRing (read_lasso side m w)
-  ring-read ring = rw length-map ring
-
   pub next-read : (i : ℕ) → next (read_lasso side m w) i ≡ next w i
   next-read i =
       let f : Letter → Letter = λ letter. record { 0 = read_part side m letter } in

@@ -124,10 +124,3 @@ passed place k other old new few there all = record {
     or_not true y z none = refl
     or_not false true z none = sym none
     or_not false false z none = refl
-
-pub not_passed : (k : ℕ) (other old : List ℕ) → is_in old k ≡ false → IsPassed k other old old
-not_passed k other old out = record { at = λ r. or_not (is_in old r) (is_in old k) (is_in other r) out }
-  where
-    or_not : (x y z : Bool) → y ≡ false → x ≡ (x || (y && z))
-    or_not true y z none = refl
-    or_not false y z none = ap (λ b. b && z) (sym none)

@@ -59,7 +59,7 @@ pub record IsMachine (m : MachineModel) : Type 0 where
 
 -- a machine that the program keeps: one of at most 8 read and 8 written signals and fewer than 2 ^ 32 rows
 -- (limits of this project)
-pub record IsKept (m : MachineModel) : Type 0 where
+pub record IsKeptMachine (m : MachineModel) : Type 0 where
   pub machine : IsMachine m
   pub reads : m.reads ≤ 8
   pub writes : m.writes ≤ 8

@@ -14,7 +14,7 @@ pub struct Edge {
 }
 
 /// Why edges and states are no automaton.
-#[derive(Clone, Copy, Debug, PartialEq, Eq, Hash)]
+#[derive(Clone, Copy, Debug, PartialEq, Eq)]
 pub enum AutomatonFault {
     /// 1: there is no state.
     Empty,
@@ -92,7 +92,7 @@ impl Automaton {
     }
 }
 
-// Whether an edge names a state that isn't among the first `states`.
+/// Whether an edge names a state that isn't among the first `states`.
 fn has_bad_edge(edges: &[Edge], states: usize) -> bool
     ensures some { OnTrue result (Any (λ e. (states ≤ e.from) ⊎ (states ≤ e.to)) edges.now) }
     ensures none { OnFalse result (All (JoinsStates states) edges.now) }

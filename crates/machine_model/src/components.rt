@@ -72,7 +72,7 @@ impl Components {
     }
 }
 
-// A name of each state's component: the least of its states.
+/// A name of each state's component: the least of its states.
 fn names(alloc: Global, automaton: &Automaton) -> Result<Vec<u32>, AllocError>
     requires { states_of automaton.now ≤ 2000 }
     ensures { IfOk result (λ names. AreNamed automaton.now names.items) }
@@ -85,7 +85,7 @@ fn names(alloc: Global, automaton: &Automaton) -> Result<Vec<u32>, AllocError>
     Ok(names)
 }
 
-// The least state that leads to state `q` and is led to by it, or `q` itself.
+/// The least state that leads to state `q` and is led to by it, or `q` itself.
 fn least_joined(sets: &[StateSet], q: u32) -> u32
     requires few { length sets.now ≤ 2000 }
     requires place { q < length sets.now }
@@ -108,7 +108,7 @@ fn are_joined(sets: &[StateSet], q: u32, r: u32) -> bool
     sets[q as usize].has(r) && sets[r as usize].has(q)
 }
 
-// For each state that is a name, whether an edge leads from its component into itself.
+/// For each state that is a name, whether an edge leads from its component into itself.
 fn turning(alloc: Global, automaton: &Automaton, names: &[u32]) -> Result<Vec<bool>, AllocError>
     requires { AreNamed automaton.now names.now }
     ensures { IfOk result (λ marks. AreTurning automaton.now names.now marks.items) }
@@ -123,7 +123,7 @@ fn turning(alloc: Global, automaton: &Automaton, names: &[u32]) -> Result<Vec<bo
     Ok(marks)
 }
 
-// How many rejecting states a run that stays in a state's component can meet, for each state.
+/// How many rejecting states a run that stays in a state's component can meet, for each state.
 fn counts(
     alloc: Global,
     automaton: &Automaton,
@@ -154,7 +154,7 @@ fn count(automaton: &Automaton, names: &[u32], turning: &[bool], q: u32) -> u32
     }
 }
 
-// How many rejecting states are in the component of state `q`.
+/// How many rejecting states are in the component of state `q`.
 fn rejecting(automaton: &Automaton, names: &[u32], q: u32) -> u32
     requires named { AreNamed automaton.now names.now }
     requires place { q < states_of automaton.now }
@@ -169,7 +169,7 @@ fn rejecting(automaton: &Automaton, names: &[u32], q: u32) -> u32
     count
 }
 
-// Whether state `r` is rejecting and in the component of state `q`.
+/// Whether state `r` is rejecting and in the component of state `q`.
 fn rejects_beside(automaton: &Automaton, names: &[u32], q: u32, r: u32) -> bool
     requires named { AreNamed automaton.now names.now }
     requires first { q < states_of automaton.now }
@@ -179,7 +179,7 @@ fn rejects_beside(automaton: &Automaton, names: &[u32], q: u32, r: u32) -> bool
     automaton.is_rejecting(r) && names[q as usize] == names[r as usize]
 }
 
-// For each number of counts, from 0 on, the sum of so many.
+/// For each number of counts, from 0 on, the sum of so many.
 fn sums(alloc: Global, counts: &[u32]) -> Result<Vec<u32>, AllocError>
     requires few { length counts.now ≤ 2000 }
     requires small { All (λ count. count ≤ 2000) counts.now }

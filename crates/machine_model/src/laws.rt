@@ -1,4 +1,5 @@
-// Laws of run lassos, of accepted words and of problems. Each is the contract of a function that does nothing.
+//! Laws of run lassos, of accepted words and of problems. Each is the contract of a function that does nothing.
+
 ghost use Rattle.machine_model.specs.Laws.{EveryReadLassoHasARun, RunsAreDetermined, MooreWritesBeforeReading, RunsStayWithin, RunsUnroll, AcceptanceIsOfTheWord, AcceptanceIsOfTheReadWord};
 ghost use Rattle.machine_model.specs.Components.{ComponentsAreDetermined, ComponentsClass, JoinedIsReached};
 ghost use Rattle.machine_model.specs.Example.{ExampleAccepts};

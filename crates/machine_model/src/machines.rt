@@ -8,14 +8,14 @@ use std::alloc::AllocError;
 use std::marker::Model;
 
 /// What a machine does in one state on one read letter.
-#[derive(Clone, Copy, Debug, PartialEq, Eq, Hash)]
+#[derive(Clone, Copy, Debug, PartialEq, Eq)]
 pub struct Row {
     pub next: u32,
     pub writes: u32,
 }
 
 /// Why a table is no machine: the first of these that applies.
-#[derive(Clone, Copy, Debug, PartialEq, Eq, Hash)]
+#[derive(Clone, Copy, Debug, PartialEq, Eq)]
 pub enum MachineFault {
     /// 1: the table is empty, or ends within a state's rows.
     WrongShape,
@@ -37,13 +37,13 @@ pub struct Machine {
 }
 
 impl Model for Machine {
-    ghost use Rattle.machine_model.specs.Machine.{MachineModel, IsKept};
+    ghost use Rattle.machine_model.specs.Machine.{MachineModel, IsKeptMachine};
 
     ghost Value = { MachineModel };
 
     ghost view = { λ m. record { kind = m.kind; reads = m.reads; writes = m.writes; table = m.table.items } };
 
-    ghost invariant = { λ m. IsKept (record { kind = m.kind; reads = m.reads; writes = m.writes; table = m.table.items }) };
+    ghost invariant = { λ m. IsKeptMachine (record { kind = m.kind; reads = m.reads; writes = m.writes; table = m.table.items }) };
 }
 
 impl Clone for Machine {
@@ -60,7 +60,7 @@ impl Clone for Machine {
 }
 
 impl Machine {
-    ghost use Rattle.machine_model.specs.Machine.{MachineModel, IsKept, IsRefused, size_of, row_of, next_of, writes_of};
+    ghost use Rattle.machine_model.specs.Machine.{MachineModel, IsKeptMachine, IsRefused, size_of, row_of, next_of, writes_of};
 
     /// The machine of a table, whose place `t * 2^reads + i` is state `t` on read letter `i`. It takes no memory.
     pub fn new(
@@ -73,7 +73,7 @@ impl Machine {
         requires writes { writes ≤ 8 }
         requires rows { vec_len table < 2 ^ 32 }
         ensures parts { IfOk result (λ m. m ≡ record { kind = kind; reads = reads; writes = writes; table = table.items }) }
-        ensures made { IfOk result IsKept }
+        ensures made { IfOk result IsKeptMachine }
         ensures refused { let m : MachineModel = record { kind = kind; reads = reads; writes = writes; table = table.items } in
             (fault : MachineFault) → (result ≡ Err fault) ↔ IsRefused m fault }
     {
@@ -101,7 +101,7 @@ impl Machine {
     /// The number of states.
     pub fn size(&self) -> u32
         ensures value { result ≡ size_of self.now }
-        ensures kept { IsKept self.now }
+        ensures kept { IsKeptMachine self.now }
     {
         (self.table.len() >> self.reads) as u32
     }
@@ -109,7 +109,7 @@ impl Machine {
     /// Whether it writes by the letter that it reads now, or by its state alone.
     pub fn kind(&self) -> Kind
         ensures value { result ≡ self.now.kind }
-        ensures kept { IsKept self.now }
+        ensures kept { IsKeptMachine self.now }
     {
         self.kind
     }
@@ -117,7 +117,7 @@ impl Machine {
     /// The number of signals that it reads.
     pub fn reads(&self) -> u32
         ensures value { result ≡ self.now.reads }
-        ensures kept { IsKept self.now }
+        ensures kept { IsKeptMachine self.now }
     {
         self.reads
     }
@@ -125,7 +125,7 @@ impl Machine {
     /// The number of signals that it writes.
     pub fn writes(&self) -> u32
         ensures value { result ≡ self.now.writes }
-        ensures kept { IsKept self.now }
+        ensures kept { IsKeptMachine self.now }
     {
         self.writes
     }
@@ -151,7 +151,7 @@ impl Machine {
     }
 }
 
-// The number of letters of some signals.
+/// The number of letters of some signals.
 pub(crate) fn letter_count(signals: u32) -> u32
     requires { signals ≤ 8 }
     ensures value { result ≡ 2 ^ signals }
@@ -160,7 +160,7 @@ pub(crate) fn letter_count(signals: u32) -> u32
     1 << signals
 }
 
-// The first fault of a table.
+/// The first fault of a table.
 fn table_fault(kind: Kind, reads: u32, writes: u32, table: &[Row]) -> Option<MachineFault>
     requires reads { reads ≤ 8 }
     requires writes { writes ≤ 8 }
@@ -192,7 +192,7 @@ fn table_fault(kind: Kind, reads: u32, writes: u32, table: &[Row]) -> Option<Mac
     }
 }
 
-// Whether a row leads to a state that isn't among the first `size`.
+/// Whether a row leads to a state that isn't among the first `size`.
 fn has_next_out(table: &[Row], size: u32) -> bool
     ensures some { OnTrue result (Any (λ row. size ≤ row.next) table.now) }
     ensures none { OnFalse result (All (λ row. row.next < size) table.now) }
@@ -200,7 +200,7 @@ fn has_next_out(table: &[Row], size: u32) -> bool
     table.iter().any(|row| row.next >= size)
 }
 
-// Whether a row writes something that isn't among the first `letters` letters.
+/// Whether a row writes something that isn't among the first `letters` letters.
 fn has_write_out(table: &[Row], letters: u32) -> bool
     ensures some { OnTrue result (Any (λ row. letters ≤ row.writes) table.now) }
     ensures none { OnFalse result (All (λ row. row.writes < letters) table.now) }
@@ -208,7 +208,7 @@ fn has_write_out(table: &[Row], letters: u32) -> bool
     table.iter().any(|row| row.writes >= letters)
 }
 
-// Whether a row writes otherwise than the first row of its state, each state having `letters` rows.
+/// Whether a row writes otherwise than the first row of its state, each state having `letters` rows.
 fn writes_by_letter(table: &[Row], letters: usize) -> bool
     requires { 0 < letters }
     ensures some { OnTrue result ((k : ℕ) × (k < length table.now) × (writes_in table.now k ≢ writes_in table.now (k / letters * letters))) }

@@ -14,7 +14,7 @@ pub struct StateSet {
 }
 
 impl StateSet {
-    // The set of one state.
+    /// The set of one state.
     fn of(q: u32) -> StateSet
         requires { q < 2048 }
         ensures { HasOnly q result.words }
@@ -40,7 +40,7 @@ impl StateSet {
         self.words[q as usize / 64] |= 1 << (q % 64);
     }
 
-    // Adds the states of the other set, where state `k` is in this one.
+    /// Adds the states of the other set, where state `k` is in this one.
     fn pass(&mut self, k: u32, other: &StateSet)
         requires { k < 2048 }
         ensures { IsPassed k other.now.words self.old.words self.new.words }
@@ -57,7 +57,10 @@ impl StateSet {
 /// For each state of an automaton of at most 2,000 states the set of those that a path leads to.
 ///
 /// What leads from one state to the next is closed one middle state after the other.
-pub fn reached_from(alloc: Global, automaton: &Automaton) -> Result<Vec<StateSet>, AllocError>
+pub(crate) fn reached_from(
+    alloc: Global,
+    automaton: &Automaton,
+) -> Result<Vec<StateSet>, AllocError>
     requires { states_of automaton.now ≤ 2000 }
     ensures { IfOk result (λ sets. AreReached automaton.now sets.items) }
 {
@@ -69,7 +72,7 @@ pub fn reached_from(alloc: Global, automaton: &Automaton) -> Result<Vec<StateSet
     Ok(sets)
 }
 
-// The first `states` states, each alone in its set.
+/// The first `states` states, each alone in its set.
 fn alone(alloc: Global, states: u32) -> Result<Vec<StateSet>, AllocError>
     requires { states ≤ 2000 }
     ensures { IfOk result (λ sets. AreAlone states sets.items) }
@@ -81,7 +84,7 @@ fn alone(alloc: Global, states: u32) -> Result<Vec<StateSet>, AllocError>
     Ok(sets)
 }
 
-// Adds to the set of each state those that an edge leads to.
+/// Adds to the set of each state those that an edge leads to.
 fn add_edges(sets: &mut [StateSet], automaton: &Automaton)
     requires few { states_of automaton.now ≤ 2000 }
     requires alone { AreAlone (states_of automaton.now) sets.old }
@@ -92,7 +95,7 @@ fn add_edges(sets: &mut [StateSet], automaton: &Automaton)
     }
 }
 
-// Adds what the set of state `k` has to each set that has `k`.
+/// Adds what the set of state `k` has to each set that has `k`.
 fn pass_on(sets: &mut [StateSet], k: u32)
     requires few { k < 2048 }
     requires place { k < length sets.old }

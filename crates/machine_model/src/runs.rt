@@ -59,7 +59,7 @@ pub fn run_lasso(
     })
 }
 
-// A run as far as it was followed: the whole letters so far, the states before them, and the state after them.
+/// A run as far as it was followed: the whole letters so far, the states before them, and the state after them.
 #[derive(Drop)]
 struct Course {
     letters: Vec<Letter>,
@@ -80,7 +80,7 @@ impl Course {
         }
     }
 
-    // Follows the run over the letters at the positions from `from` up to `to`, which come next.
+    /// Follows the run over the letters at the positions from `from` up to `to`, which come next.
     fn follow(
         &mut self,
         machine: &Machine,

@@ -1,8 +1,9 @@
-// Values of JSON within a page.
+//! Values of JSON within a page.
+
 use std::alloc::AllocError;
 use std::fmt::Write;
 
-// Appends a text. A `<` could end the script in which the value stands.
+/// Appends a text. A `<` could end the script in which the value stands.
 pub(crate) fn push_text(text: &str, out: &mut String) -> Result<(), AllocError> {
     out.push('"')?;
     for character in text.chars() {
@@ -17,7 +18,7 @@ pub(crate) fn push_text(text: &str, out: &mut String) -> Result<(), AllocError> 
     out.push('"')
 }
 
-// Appends texts as a list.
+/// Appends texts as a list.
 pub(crate) fn push_texts(texts: &[String], out: &mut String) -> Result<(), AllocError> {
     out.push('[')?;
     for (place, text) in texts.iter().enumerate() {
@@ -29,7 +30,7 @@ pub(crate) fn push_texts(texts: &[String], out: &mut String) -> Result<(), Alloc
     out.push(']')
 }
 
-// Appends the name of a field, which isn't the first one.
+/// Appends the name of a field, which isn't the first one.
 pub(crate) fn push_field(name: &str, out: &mut String) -> Result<(), AllocError> {
     write!(out, ",\n \"{name}\": ")
 }

@@ -1,10 +1,11 @@
-// What a document says in sentences: its verdict, and what is known of other sizes.
+//! What a document says in sentences: its verdict, and what is known of other sizes.
+
 use cert_text::{Document, LogPart, Verdict};
 use letter_word::Side;
 use machine_source::Shown;
 use std::alloc::{AllocError, Global};
 
-// What is known of the machine.
+/// What is known of the machine.
 pub(crate) fn verdict_of(alloc: Global, shown: &Shown) -> Result<String, AllocError> {
     match shown {
         Shown::Circuit(_) => String::from_str(
@@ -31,7 +32,7 @@ pub(crate) fn verdict_of(alloc: Global, shown: &Shown) -> Result<String, AllocEr
     }
 }
 
-// A sentence for each log.
+/// A sentence for each log.
 pub(crate) fn sizes_of(alloc: Global, shown: &Shown) -> Result<Vec<String>, AllocError> {
     let mut sentences = Vec::new(alloc);
     let Shown::Document(document) = shown else {

@@ -1,7 +1,8 @@
-// A machine as JSON: for each state the edges, each with a pattern of inputs, one of outputs, and the state behind it.
+//! A machine as JSON: for each state the edges, each with a pattern of inputs, one of outputs, and the state behind it.
+
 use crate::json::{push_field, push_text, push_texts};
-use letter_word::{Kind, Letter, Side};
-use machine_table::{Cube, Machine, Row, edges_of, label_of};
+use letter_word::{Letter, Side};
+use machine_table::{Cube, Machine, Row, edges_of, labels_of};
 use std::alloc::{AllocError, Global};
 use std::fmt::Write;
 use text_base::Name;
@@ -13,7 +14,7 @@ pub(crate) fn push_machine(
     out: &mut String,
 ) -> Result<(), AllocError> {
     out.push_str("{\"kind\": ")?;
-    push_text(kind_word(machine.kind), out)?;
+    push_text(machine.kind.word(), out)?;
     push_field("side", out)?;
     push_text(side_word(side), out)?;
     push_field("inputs", out)?;
@@ -24,27 +25,12 @@ pub(crate) fn push_machine(
     push_states(alloc, machine, out)
 }
 
-fn kind_word(kind: Kind) -> &'static str {
-    match kind {
-        Kind::Mealy => "Mealy",
-        Kind::Moore => "Moore",
-    }
-}
-
 fn side_word(side: Option<Side>) -> &'static str {
     match side {
         Some(Side::System) => "system",
         Some(Side::Environment) => "environment",
         None => "unknown",
     }
-}
-
-fn labels_of(alloc: Global, names: &[Name]) -> Result<Vec<String>, AllocError> {
-    let mut labels = Vec::new(alloc);
-    for name in names {
-        labels.push(label_of(alloc, name)?)?;
-    }
-    Ok(labels)
 }
 
 fn push_states(alloc: Global, machine: &Machine, out: &mut String) -> Result<(), AllocError> {
@@ -79,7 +65,7 @@ fn push_edges(
     out.push(']')
 }
 
-// A digit for each input, or `-` where it may be either.
+/// A digit for each input, or `-` where it may be either.
 fn push_cube(cube: Cube, inputs: &[Name], out: &mut String) -> Result<(), AllocError> {
     for (signal, _name) in (0u32..32).zip(inputs) {
         out.push(match cube.asks(signal) {

@@ -1,4 +1,4 @@
-// The text of the page, around its machine. Made from tools/page.html by tools/page-text: a change belongs there.
+//! The text of the page, around its machine. Made from tools/page.html by tools/page-text: a change belongs there.
 
 fn front_0() -> &'static str {
     "<!DOCTYPE html>\n\
@@ -102,7 +102,7 @@ fn front_2() -> &'static str {
 <script id=\"machine\" type=\"application/json\">\n"
 }
 
-// What stands before the machine.
+/// What stands before the machine.
 pub(crate) fn front() -> [&'static str; 3] {
     [front_0(), front_1(), front_2()]
 }
@@ -451,7 +451,7 @@ build();\n\
 </html>\n"
 }
 
-// What stands behind the machine.
+/// What stands behind the machine.
 pub(crate) fn back() -> [&'static str; 8] {
     [
         back_0(),

@@ -1,4 +1,5 @@
-// The page of a machine.
+//! The page of a machine.
+
 use crate::json::{push_field, push_text, push_texts};
 use crate::knowledge::{sizes_of, verdict_of};
 use crate::machine_data::push_machine;
@@ -7,7 +8,7 @@ use machine_source::Shown;
 use machine_table::ShowFault;
 use std::alloc::{AllocError, Global};
 
-// The most bytes of a page.
+/// The most bytes of a page.
 const LONGEST: usize = 100_000;
 
 /// The page of the machine that is shown, and of some lines of the text that it is for. It is written in HTML, CSS and JavaScript, and

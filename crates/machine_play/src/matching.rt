@@ -1,18 +1,19 @@
-// Which signals of two machines are the same.
+//! Which signals of two machines are the same.
+
 use letter_word::Letter;
 use machine_table::{ShowFault, signal_bit};
 use std::alloc::Global;
 use text_base::Name;
 
-// For each signal of a list its place in another list.
+/// For each signal of a list its place in another list.
 #[derive(Drop)]
 pub(crate) struct Matching {
     places: Vec<u32>,
 }
 
 impl Matching {
-    // A signal with a name is the one with the same name, and one without a name the one at the same place. The lists must have
-    // the same signals.
+    /// A signal with a name is the one with the same name, and one without a name the one at the same place. The lists must have
+    /// the same signals.
     pub(crate) fn of(
         alloc: Global,
         signals: &[Option<Name>],
@@ -35,7 +36,7 @@ impl Matching {
         Ok(Matching { places })
     }
 
-    // The letter of the signals, from one of the other list.
+    /// The letter of the signals, from one of the other list.
     pub(crate) fn of_other(&self, letter: Letter) -> Letter {
         let mut own = 0u32;
         for (signal, place) in (0u32..32).zip(&self.places) {
@@ -46,7 +47,7 @@ impl Matching {
         Letter(own)
     }
 
-    // The letter of the other list, from one of the signals.
+    /// The letter of the other list, from one of the signals.
     pub(crate) fn to_other(&self, letter: Letter) -> Letter {
         let mut other = 0u32;
         for (signal, place) in (0u32..32).zip(&self.places) {

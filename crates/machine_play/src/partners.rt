@@ -1,4 +1,5 @@
-// Two machines as partners of a play.
+//! Two machines as partners of a play.
+
 ghost use Rattle.std.specs.Prelude.{◌≤◌};
 
 use crate::matching::Matching;
@@ -8,13 +9,13 @@ use machine_model::Row;
 use machine_table::{Machine, ShowFault};
 use std::alloc::Global;
 
-// The most signals that a machine of a play reads or writes.
+/// The most signals that a machine of a play reads or writes.
 const MOST_SIGNALS: usize = 8;
 
-// The most rows of a table.
+/// The most rows of a table.
 const MOST_ROWS: usize = 1 << 16;
 
-// The lasso that both make, over the inputs and then the outputs of the first machine. The other one has that circuit.
+/// The lasso that both make, over the inputs and then the outputs of the first machine. The other one has that circuit.
 pub(crate) fn lasso_of(
     alloc: Global,
     machine: &Machine,
@@ -73,7 +74,7 @@ fn rows_of_machine(alloc: Global, machine: &Machine) -> Result<Vec<Row>, ShowFau
     Ok(rows)
 }
 
-// The rows of the other machine, by the signals of the first one.
+/// The rows of the other machine, by the signals of the first one.
 fn rows_of_other(
     alloc: Global,
     machine: &Machine,
@@ -104,7 +105,7 @@ fn row_of(next: usize, written: Letter) -> Row {
     }
 }
 
-// The number of letters of some signals, of which there are 8 at most.
+/// The number of letters of some signals, of which there are 8 at most.
 fn letter_count(signals: usize) -> u32 {
     if signals <= MOST_SIGNALS {
         1u32 << signals

@@ -1,4 +1,5 @@
-// A play as text.
+//! A play as text.
+
 use crate::partners::lasso_of;
 use letter_word::{Kind, Lasso, Letter};
 use machine_source::Shown;
@@ -48,7 +49,7 @@ pub fn against(
     Ok(out)
 }
 
-// The machine's run on what the other one writes.
+/// The machine's run on what the other one writes.
 fn run_of(alloc: Global, machine: &Machine, lasso: &Lasso, rounds: u32) -> Result<Run, ShowFault> {
     let stem = inputs_in(alloc, machine, lasso.stem())?;
     let ring = inputs_in(alloc, machine, lasso.ring())?;
@@ -58,7 +59,7 @@ fn run_of(alloc: Global, machine: &Machine, lasso: &Lasso, rounds: u32) -> Resul
     }
 }
 
-// The letters of the inputs alone, which come first.
+/// The letters of the inputs alone, which come first.
 fn inputs_in(
     alloc: Global,
     machine: &Machine,
@@ -75,7 +76,7 @@ fn inputs_in(
     Ok(found)
 }
 
-// The lasso as the file of a word has it.
+/// The lasso as the file of a word has it.
 fn push_word(
     alloc: Global,
     machine: &Machine,

@@ -1,10 +1,11 @@
-// What a machine does, as conditions on its state and its inputs.
+//! What a machine does, as conditions on its state and its inputs.
+
 use letter_word::{Kind, Letter};
 use machine_table::{Cube, Edge, Machine, edges_of};
 use std::alloc::{AllocError, Global};
 use std::fmt::Write;
 
-// Appends a line for each edge: where it is taken, the state that follows.
+/// Appends a line for each edge: where it is taken, the state that follows.
 pub(crate) fn push_steps(
     alloc: Global,
     machine: &Machine,
@@ -22,7 +23,7 @@ pub(crate) fn push_steps(
     Ok(())
 }
 
-// Appends the condition under which an output is true.
+/// Appends the condition under which an output is true.
 pub(crate) fn push_output(
     alloc: Global,
     machine: &Machine,

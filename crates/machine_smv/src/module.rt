@@ -1,7 +1,8 @@
-// The module of a machine.
+//! The module of a machine.
+
 use crate::conditions::{push_output, push_steps};
 use letter_word::Side;
-use machine_table::{Machine, label_of};
+use machine_table::{Machine, label_of, labels_of};
 use spec_texts::{SmvNames, TextFault, smv_formula};
 use std::alloc::{AllocError, Global};
 use std::fmt::Write;
@@ -29,15 +30,7 @@ pub fn smv_of(
     Ok(bytes)
 }
 
-fn labels_of(alloc: Global, names: &[Name]) -> Result<Vec<String>, AllocError> {
-    let mut labels = Vec::new(alloc);
-    for name in names {
-        labels.push(label_of(alloc, name)?)?;
-    }
-    Ok(labels)
-}
-
-// A comment for each replaced name.
+/// A comment for each replaced name.
 fn push_replaced(
     names: &[Name],
     labels: &[String],
@@ -90,7 +83,7 @@ fn push_outputs(
     Ok(())
 }
 
-// The property; a counter-machine makes the formula false.
+/// The property; a counter-machine makes the formula false.
 fn push_property(
     alloc: Global,
     text: &[u8],

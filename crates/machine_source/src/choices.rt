@@ -1,4 +1,4 @@
-// Which of several documents is meant.
+//! Which of several documents is meant.
 
 /// Which of the documents that `core` or `batch` wrote is meant.
 #[derive(Clone, Copy)]

@@ -1,7 +1,8 @@
-// A text taken line by line.
+//! A text taken line by line.
+
 use aiger_text::{cut_at, number_within};
 
-// The lines that are left, and the number of the first of them, from 1.
+/// The lines that are left, and the number of the first of them, from 1.
 #[derive(Clone, Copy)]
 pub(crate) struct Lines<'a> {
     pub(crate) rest: &'a [u8],
@@ -16,7 +17,7 @@ impl<'a> Lines<'a> {
         }
     }
 
-    // The next line without its end; none where there is no whole line left.
+    /// The next line without its end; none where there is no whole line left.
     pub(crate) fn take(&mut self) -> Option<&'a [u8]> {
         let (line, rest) = cut_at(self.rest, b'\n')?;
         self.rest = rest;
@@ -24,7 +25,7 @@ impl<'a> Lines<'a> {
         Some(line)
     }
 
-    // Takes the lines up to the line `c`, and that too. Where there is none it takes all.
+    /// Takes the lines up to the line `c`, and that too. Where there is none it takes all.
     pub(crate) fn skip_to_comment(&mut self) {
         for _ in 0..self.rest.len() {
             match self.take() {
@@ -34,7 +35,7 @@ impl<'a> Lines<'a> {
         }
     }
 
-    // What a line has behind a word, where the next line begins with that.
+    /// What a line has behind a word, where the next line begins with that.
     pub(crate) fn take_behind(&mut self, word: &[u8]) -> Option<&'a [u8]> {
         let (line, _) = cut_at(self.rest, b'\n')?;
         let behind = line.strip_prefix(word)?;
@@ -42,12 +43,12 @@ impl<'a> Lines<'a> {
         Some(behind)
     }
 
-    // The number that the next line has behind a word.
+    /// The number that the next line has behind a word.
     pub(crate) fn take_number(&mut self, word: &[u8]) -> Option<u64> {
         number_within(self.take_behind(word)?, u64::MAX)
     }
 
-    // So many lines with their ends.
+    /// So many lines with their ends.
     pub(crate) fn take_block(&mut self, count: u64) -> Option<&'a [u8]> {
         let whole = self.rest;
         for _ in 0..count {

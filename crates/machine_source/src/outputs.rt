@@ -1,9 +1,10 @@
-// The documents within what `core` and `batch` write.
+//! The documents within what `core` and `batch` write.
+
 use crate::choices::{Choice, Owner};
 use crate::lines::Lines;
 use machine_table::ShowFault;
 
-// A document within a longer output, and the number of lines before it.
+/// A document within a longer output, and the number of lines before it.
 #[derive(Clone, Copy)]
 pub(crate) struct Found<'a> {
     pub(crate) bytes: &'a [u8],
@@ -14,7 +15,7 @@ pub(crate) fn is_output(bytes: &[u8]) -> bool {
     bytes.starts_with(b"core ") || bytes.starts_with(b"text ") || bytes.starts_with(b"end batch\n")
 }
 
-// The first document that is chosen.
+/// The first document that is chosen.
 pub(crate) fn find<'a>(bytes: &'a [u8], choice: Choice<'_>) -> Result<Found<'a>, ShowFault> {
     let mut lines = Lines::of(bytes);
     for _ in 0..bytes.len() {
@@ -36,7 +37,7 @@ pub(crate) fn find<'a>(bytes: &'a [u8], choice: Choice<'_>) -> Result<Found<'a>,
     Err(ShowFault::NoSuchDocument)
 }
 
-// Whose document comes next.
+/// Whose document comes next.
 fn next_owner<'a>(lines: &mut Lines<'a>) -> Option<Owner<'a>> {
     if let Some(name) = lines.take_behind(b"text ") {
         lines.take_number(b"status ")?;
@@ -58,7 +59,7 @@ fn skip_guarantees(lines: &mut Lines<'_>) {
     }
 }
 
-// The lines of a document, whose number stands before them.
+/// The lines of a document, whose number stands before them.
 fn next_document<'a>(lines: &mut Lines<'a>) -> Option<Found<'a>> {
     let count = match lines.take_number(b"document ") {
         Some(count) => count,

@@ -1,4 +1,5 @@
-// A document, or a circuit alone.
+//! A document, or a circuit alone.
+
 use crate::choices::Choice;
 use crate::lines::Lines;
 use crate::outputs::{Found, find, is_output};
@@ -126,7 +127,7 @@ fn fault_of(fault: CircuitFault) -> ShowFault {
     }
 }
 
-// A circuit is bare where its comment doesn't begin as a document does.
+/// A circuit is bare where its comment doesn't begin as a document does.
 fn is_bare_circuit(bytes: &[u8]) -> bool {
     if !bytes.starts_with(b"aag ") {
         return false;

@@ -1,11 +1,12 @@
-// Input letters with the same answer, as few cubes.
+//! Input letters with the same answer, as few cubes.
+
 use crate::machines::{Answer, Row};
 use crate::signals::push_label;
 use letter_word::Letter;
 use std::alloc::{AllocError, Global};
 use text_base::Name;
 
-// A letter has at most 8 inputs, so there are so many letters at most.
+/// A letter has at most 8 inputs, so there are so many letters at most.
 const MOST_INPUTS: u32 = 8;
 
 const MOST_LETTERS: u32 = 256;
@@ -25,7 +26,7 @@ pub struct Edge {
 }
 
 impl Cube {
-    // The cube of one letter.
+    /// The cube of one letter.
     fn of_letter(letter: Letter) -> Cube {
         Cube {
             wanted: letter,
@@ -37,7 +38,7 @@ impl Cube {
         letter.0 & self.cared.0 == self.wanted.0 & self.cared.0
     }
 
-    // This cube and the one that differs from it in that signal.
+    /// This cube and the one that differs from it in that signal.
     fn without(self, signal: u32) -> Cube {
         Cube {
             wanted: self.wanted,
@@ -98,7 +99,7 @@ fn has_answer(edges: &[Edge], answer: Answer) -> bool {
     edges.iter().any(|edge| edge.answer.is(answer))
 }
 
-// Cubes for the letters with that answer.
+/// Cubes for the letters with that answer.
 fn push_cubes(row: &Row, answer: Answer, edges: &mut Vec<Edge>) -> Result<(), AllocError> {
     for (number, own) in (0..MOST_LETTERS).zip(&row.answers) {
         let letter = Letter(number);
@@ -110,8 +111,8 @@ fn push_cubes(row: &Row, answer: Answer, edges: &mut Vec<Edge>) -> Result<(), Al
     Ok(())
 }
 
-// The cube of a letter, merged with its neighbour in one signal after the other where that has the same answer. A signal that
-// is no input has no letters, and so it is merged too.
+/// The cube of a letter, merged with its neighbour in one signal after the other where that has the same answer. A signal that
+/// is no input has no letters, and so it is merged too.
 fn widest_cube(row: &Row, letter: Letter, answer: Answer) -> Cube {
     let mut cube = Cube::of_letter(letter);
     for signal in 0..MOST_INPUTS {

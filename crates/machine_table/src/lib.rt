@@ -14,4 +14,4 @@ mod signals;
 pub use cubes::{Cube, Edge, edges_of, signal_bit};
 pub use faults::ShowFault;
 pub use machines::{Answer, Machine, Row};
-pub use signals::{label_of, push_label, push_labels, push_letter};
+pub use signals::{label_of, labels_of, push_label, push_labels, push_letter};

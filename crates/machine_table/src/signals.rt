@@ -1,10 +1,11 @@
-// The names of a machine's signals, and letters of them as text.
+//! The names of a machine's signals, and letters of them as text.
+
 use letter_word::Letter;
 use std::alloc::{AllocError, Global};
 use std::fmt::Write;
 use text_base::Name;
 
-// The names of the signals of one sort; one without a name is called by the letter of its sort and its place.
+/// The names of the signals of one sort; one without a name is called by the letter of its sort and its place.
 pub(crate) fn names_of(
     alloc: Global,
     sort: char,
@@ -38,6 +39,15 @@ pub fn label_of(alloc: Global, name: &Name) -> Result<String, AllocError> {
     let mut label = String::new(alloc);
     push_label(name, &mut label)?;
     Ok(label)
+}
+
+/// The names as printable text.
+pub fn labels_of(alloc: Global, names: &[Name]) -> Result<Vec<String>, AllocError> {
+    let mut labels = Vec::new(alloc);
+    for name in names {
+        labels.push(label_of(alloc, name)?)?;
+    }
+    Ok(labels)
 }
 
 /// Appends all the names with a blank between them, or `-`.

@@ -10,7 +10,7 @@ use machine_model::Problem;
 use std::fmt::Write;
 use std::test::Fail;
 
-// The problem of a delay. That of version 3 counts by component.
+/// The problem of a delay. That of version 3 counts by component.
 fn problem(rt: &HostRuntime, size: u32, version: u32) -> Result<Problem, Fail>
     ensures { IfOk result IsProblem }
 {
@@ -21,7 +21,7 @@ fn problem(rt: &HostRuntime, size: u32, version: u32) -> Result<Problem, Fail>
     Ok(problem.by_component(rt.alloc())?)
 }
 
-// The number of each literal's variable, negative where it is negated.
+/// The number of each literal's variable, negative where it is negated.
 fn push_clause(text: &mut String, clause: &Clause) -> Result<(), Fail> {
     for lit in clause.lits() {
         let sign = if lit.is_positive() { "" } else { "-" };
@@ -31,7 +31,7 @@ fn push_clause(text: &mut String, clause: &Clause) -> Result<(), Fail> {
     Ok(())
 }
 
-// The numbers of variables and of clauses, and the clauses of these numbers, counted from 0.
+/// The numbers of variables and of clauses, and the clauses of these numbers, counted from 0.
 fn clauses_at(rt: &HostRuntime, problem: &Problem, places: &[usize]) -> Result<String, Fail>
     requires { IsProblem problem.now }
 {

@@ -7,7 +7,7 @@ use crate::fixtures::{ANY, digit, edge};
 use machine_model::{Automaton, Components};
 use std::test::Fail;
 
-// For each state how many rejecting states its component counts, and how many those before it do: a digit for each.
+/// For each state how many rejecting states its component counts, and how many those before it do: a digit for each.
 fn counts(rt: &HostRuntime, edges: &[(u32, u32)], rejecting: &[bool]) -> Result<Vec<u8>, Fail>
     requires { length rejecting.now ≤ 2000 }
 {

@@ -28,7 +28,7 @@ fn is_met(values: &[bool], clauses: &[Clause]) -> bool
     clauses.iter().all(|clause| is_true_clause(values, clause))
 }
 
-// The bits of a text.
+/// The bits of a text.
 fn bits(rt: &HostRuntime, digits: &[u8]) -> Result<Vec<bool>, Fail> {
     let mut bits = Vec::new(rt.alloc());
     for digit in digits {
@@ -37,7 +37,7 @@ fn bits(rt: &HostRuntime, digits: &[u8]) -> Result<Vec<bool>, Fail> {
     Ok(bits)
 }
 
-// A digit for each number, `-` where there is none.
+/// A digit for each number, `-` where there is none.
 fn push_numbers(text: &mut Vec<u8>, numbers: &[Option<u32>]) -> Result<(), Fail> {
     for number in numbers {
         text.push(number.map_or(b'-', digit))?;
@@ -45,7 +45,7 @@ fn push_numbers(text: &mut Vec<u8>, numbers: &[Option<u32>]) -> Result<(), Fail>
     Ok(())
 }
 
-// The machine's rows, the number of each pair, and what the values of that machine and annotation are.
+/// The machine's rows, the number of each pair, and what the values of that machine and annotation are.
 fn told(rt: &HostRuntime, decoded: &Decoded, again: &Assignment) -> Result<Vec<u8>, Fail> {
     let machine = decoded.machine.clone()?;
     let mut text = rows_of(rt, &machine)?;
@@ -58,7 +58,7 @@ fn told(rt: &HostRuntime, decoded: &Decoded, again: &Assignment) -> Result<Vec<u
     Ok(text)
 }
 
-// What an assignment of the wire decodes to; nothing, if it doesn't meet the clauses.
+/// What an assignment of the wire decodes to; nothing, if it doesn't meet the clauses.
 fn decoded(rt: &HostRuntime, digits: &[u8]) -> Result<Vec<u8>, Fail> {
     let problem = checked(wire(rt)?).ok_or("a problem within the limits")?;
     let assignment = Assignment {

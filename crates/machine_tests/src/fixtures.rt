@@ -10,7 +10,7 @@ use std::test::Fail;
 
 pub(crate) const ANY: Cube = Cube { must: 0, not: 0 };
 
-// Signal 0 is r and signal 1 is g.
+/// Signal 0 is r and signal 1 is g.
 pub(crate) const R: Cube = Cube { must: 1, not: 0 };
 
 pub(crate) const NOT_R: Cube = Cube { must: 0, not: 1 };
@@ -46,7 +46,7 @@ fn letters_of(signals: u32) -> u32
     1 << signals
 }
 
-// The problem, if it is within the limits.
+/// The problem, if it is within the limits.
 pub(crate) fn checked(problem: Problem) -> Option<Problem>
     ensures { IfSome result IsProblem }
 {
@@ -69,7 +69,7 @@ pub(crate) fn checked(problem: Problem) -> Option<Problem>
     Some(problem)
 }
 
-// The system's problem for the specification G ((r -> X g) && (!r -> X !g)).
+/// The system's problem for the specification G ((r -> X g) && (!r -> X !g)).
 pub(crate) fn delay(rt: &HostRuntime, size: u32, version: u32) -> Result<Problem, Fail> {
     let edges = [
         edge(0, R, 1),
@@ -104,7 +104,7 @@ pub(crate) fn automaton(
     Ok(Arc::new(rt.alloc(), automaton)?)
 }
 
-// The system's problem for the specification G (g <-> r), of size 1.
+/// The system's problem for the specification G (g <-> r), of size 1.
 pub(crate) fn wire(rt: &HostRuntime) -> Result<Problem, Fail> {
     let edges = [
         edge(0, G_NOT_R, 1),
@@ -125,7 +125,7 @@ pub(crate) fn wire(rt: &HostRuntime) -> Result<Problem, Fail> {
     })
 }
 
-// What a machine does in each state on each letter: a digit for the next state and one for what it writes.
+/// What a machine does in each state on each letter: a digit for the next state and one for what it writes.
 pub(crate) fn rows_of(rt: &HostRuntime, machine: &Machine) -> Result<Vec<u8>, Fail> {
     let mut digits = Vec::new(rt.alloc());
     for t in 0..machine.size() {

@@ -12,7 +12,7 @@ use product_bound::laws::{ProductStep, lasso_of_cycle, numbered};
 use product_bound::{Annotation, is_valid};
 use std::test::Fail;
 
-// The rows of a machine without inputs after numbering.
+/// The rows of a machine without inputs after numbering.
 fn numbered_rows(rt: &HostRuntime, nexts: &[u8], writes: &[u8]) -> Result<Vec<u8>, Fail> {
     let mut rows = Vec::new(rt.alloc());
     for (next, writes) in nexts.iter().zip(writes) {
@@ -42,7 +42,7 @@ fn names_states_as_the_rows_do(rt: HostRuntime) -> Result<(), Fail> {
     Ok(())
 }
 
-// The machine, if it is one of the problem.
+/// The machine, if it is one of the problem.
 fn fitting(problem: &Problem, machine: Machine) -> Option<Machine>
     ensures { IfSome result (IsMachineOf problem.now) }
 {
@@ -59,7 +59,7 @@ fn fitting(problem: &Problem, machine: Machine) -> Option<Machine>
     }
 }
 
-// Whether an edge fits the letter and leads from one state to the other.
+/// Whether an edge fits the letter and leads from one state to the other.
 fn has_edge(automaton: &Automaton, letter: Letter, from: u32, to: u32) -> bool
     ensures { OnTrue result (HasEdge automaton.now letter from to) }
 {
@@ -72,7 +72,7 @@ fn has_edge(automaton: &Automaton, letter: Letter, from: u32, to: u32) -> bool
     false
 }
 
-// Whether a step leads to the other.
+/// Whether a step leads to the other.
 fn leads(problem: &Problem, machine: &Machine, step: ProductStep, after: ProductStep) -> bool
     ensures { OnTrue result (Leads problem.now machine.now step after) }
 {
@@ -86,7 +86,7 @@ fn leads(problem: &Problem, machine: &Machine, step: ProductStep, after: Product
     has_edge(&problem.automaton, letter, step.q, after.q)
 }
 
-// Whether each step leads to the one after it.
+/// Whether each step leads to the one after it.
 fn all_lead(problem: &Problem, machine: &Machine, path: &[ProductStep]) -> bool
     ensures { OnTrue result ((k : ℕ) → k + 1 < length path.now → Leads problem.now machine.now (step_at path.now k) (step_at path.now (k + 1))) }
 {
@@ -98,7 +98,7 @@ fn all_lead(problem: &Problem, machine: &Machine, path: &[ProductStep]) -> bool
     true
 }
 
-// Whether a path begins at the start and comes back from its end to the pair at a place, whose state is rejecting.
+/// Whether a path begins at the start and comes back from its end to the pair at a place, whose state is rejecting.
 fn is_cycle(problem: &Problem, machine: &Machine, path: &[ProductStep], from: usize) -> bool
     requires { IsProblem problem.now }
     ensures { OnTrue result (IsRejectingCycle problem.now machine.now path.now from) }
@@ -119,13 +119,13 @@ fn is_cycle(problem: &Problem, machine: &Machine, path: &[ProductStep], from: us
     all_lead(problem, machine, path)
 }
 
-// The machine that always writes this.
+/// The machine that always writes this.
 fn constant(rt: &HostRuntime, writes: u32) -> Result<Machine, Fail> {
     let rows = [Row { next: 0, writes }, Row { next: 0, writes }];
     Ok(Machine::new(Kind::Mealy, 1, 1, Vec::from_slice(rt.alloc(), &rows)?)?)
 }
 
-// The word of a path that reads r at each step, if the path is a cycle through a rejecting state.
+/// The word of a path that reads r at each step, if the path is a cycle through a rejecting state.
 fn cycle(rt: &HostRuntime, states: &[u32], from: usize) -> Result<Option<RunLasso>, Fail> {
     let problem = checked(delay(rt, 1, 1)?).ok_or("a problem within the limits")?;
     let machine = fitting(&problem, constant(rt, 0)?).ok_or("a machine of the problem")?;
@@ -143,7 +143,7 @@ fn cycle(rt: &HostRuntime, states: &[u32], from: usize) -> Result<Option<RunLass
     Ok(Some(lasso_of_cycle(rt.alloc(), &problem, &machine, &path, from)?))
 }
 
-// The machine that never writes g leaves r unanswered: the path 0, 1, 3, 3 gives a word that says so.
+/// The machine that never writes g leaves r unanswered: the path 0, 1, 3, 3 gives a word that says so.
 #[test]
 fn a_cycle_gives_a_word(rt: HostRuntime) -> Result<(), Fail> {
     let run = cycle(&rt, &[0, 1, 3, 3], 2)?.ok_or("a cycle")?;
@@ -154,7 +154,7 @@ fn a_cycle_gives_a_word(rt: HostRuntime) -> Result<(), Fail> {
     Ok(())
 }
 
-// The number of a digit; `-` stands for none.
+/// The number of a digit; `-` stands for none.
 fn number_of(digit: u8) -> Option<u32> {
     if digit == b'-' {
         return None;
@@ -162,7 +162,7 @@ fn number_of(digit: u8) -> Option<u32> {
     Some(u32::from(digit & 7))
 }
 
-// Whether numbers are a valid annotation of the machine of two states that writes what it read last.
+/// Whether numbers are a valid annotation of the machine of two states that writes what it read last.
 fn validity(rt: &HostRuntime, digits: &[u8]) -> Result<Option<bool>, Fail> {
     let rows = [(0, 0), (1, 0), (0, 1), (1, 1)].map(|(next, writes)| Row { next, writes });
     let machine = Machine::new(Kind::Mealy, 1, 1, Vec::from_slice(rt.alloc(), &rows)?)?;
@@ -179,7 +179,7 @@ fn validity(rt: &HostRuntime, digits: &[u8]) -> Result<Option<bool>, Fail> {
     Ok(Some(is_valid(&problem, &machine, &annotation)))
 }
 
-// What is owed in each state: 0 in the start, and 1 where the last r or its absence has to be answered, which it is.
+/// What is owed in each state: 0 in the start, and 1 where the last r or its absence has to be answered, which it is.
 #[test]
 fn annotations_of_a_delay(rt: HostRuntime) -> Result<(), Fail> {
     for (digits, want) in [

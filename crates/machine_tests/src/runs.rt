@@ -6,7 +6,7 @@ use letter_word::{Kind, Lasso, Letter, Side};
 use machine_model::{Machine, Row, RunLasso, run_lasso};
 use std::test::Fail;
 
-// Letters of one signal.
+/// Letters of one signal.
 fn letters(rt: &HostRuntime, digits: &[u8]) -> Result<Vec<Letter>, Fail>
     ensures { IfOk result (λ letters. All (λ letter. letter.0 < 2) letters.items) }
 {
@@ -17,7 +17,7 @@ fn letters(rt: &HostRuntime, digits: &[u8]) -> Result<Vec<Letter>, Fail>
     Ok(letters)
 }
 
-// A digit for each letter.
+/// A digit for each letter.
 fn push_letters(text: &mut Vec<u8>, letters: &[Letter]) -> Result<(), Fail> {
     for letter in letters {
         text.push(digit(letter.0))?;
@@ -26,7 +26,7 @@ fn push_letters(text: &mut Vec<u8>, letters: &[Letter]) -> Result<(), Fail> {
     Ok(())
 }
 
-// The letters of the stem, those of the ring, and the states.
+/// The letters of the stem, those of the ring, and the states.
 fn told(rt: &HostRuntime, run: &RunLasso) -> Result<Vec<u8>, Fail> {
     let mut text = Vec::new(rt.alloc());
     push_letters(&mut text, run.word.stem())?;
@@ -37,7 +37,7 @@ fn told(rt: &HostRuntime, run: &RunLasso) -> Result<Vec<u8>, Fail> {
     Ok(text)
 }
 
-// The run of the two-state machine that writes what it read last.
+/// The run of the two-state machine that writes what it read last.
 fn delayed(rt: &HostRuntime, side: Side, stem: &[u8], ring: &[u8]) -> Result<Vec<u8>, Fail> {
     let rows = [(0, 0), (1, 0), (0, 1), (1, 1)].map(|(next, writes)| Row { next, writes });
     let machine = Machine::new(Kind::Moore, 1, 1, Vec::from_slice(rt.alloc(), &rows)?)?;

@@ -1,9 +1,10 @@
-// Names as identifiers of Verilog.
+//! Names as identifiers of Verilog.
+
 use crate::keywords::is_keyword;
 use std::alloc::{AllocError, Global};
 
-// Appends a name of graphic characters as an identifier: one that the language forbids is escaped by a backslash before it and a
-// blank behind it.
+/// Appends a name of graphic characters as an identifier: one that the language forbids is escaped by a backslash before it and a
+/// blank behind it.
 pub(crate) fn push_identifier(name: &str, out: &mut String) -> Result<(), AllocError> {
     if is_plain(name) {
         return out.push_str(name);
@@ -25,7 +26,7 @@ fn is_word_byte(byte: u8) -> bool {
     byte == b'_' || byte == b'$' || byte.is_ascii_alphanumeric()
 }
 
-// A name of our own, with as many `_` behind it as it takes to be none of those that are taken.
+/// A name of our own, with as many `_` behind it as it takes to be none of those that are taken.
 pub(crate) fn free_name(alloc: Global, wanted: &str, taken: &[&str]) -> Result<String, AllocError> {
     let mut name = String::from_str(alloc, wanted)?;
     for _ in taken {
@@ -37,7 +38,7 @@ pub(crate) fn free_name(alloc: Global, wanted: &str, taken: &[&str]) -> Result<S
     Ok(name)
 }
 
-// The same for the front of names of our own.
+/// The same for the front of names of our own.
 pub(crate) fn free_front(
     alloc: Global,
     wanted: &str,

@@ -1,4 +1,4 @@
-// The words of IEEE 1364-2005 that are no identifiers.
+/// The words of IEEE 1364-2005 that are no identifiers.
 const KEYWORDS: [&str; 124] = [
     "always",
     "and",

@@ -1,4 +1,5 @@
-// The module of a machine.
+//! The module of a machine.
+
 use crate::identifiers::{free_front, free_name, push_identifier};
 use crate::ports::{Labels, Ports};
 use crate::states::push_state;
@@ -6,14 +7,14 @@ use machine_table::{Machine, ShowFault};
 use std::alloc::{AllocError, Global};
 use std::fmt::Write;
 
-// The module's own names, which no port has.
+/// The module's own names, which no port has.
 #[derive(Drop)]
 pub(crate) struct Names {
     clk: String,
     rst: String,
     state: String,
     pub(crate) next_state: String,
-    // What stands before a state's number.
+    /// What stands before a state's number.
     pub(crate) front: String,
 }
 
@@ -66,7 +67,7 @@ fn push_head(
     out.push_str("\n);\n")
 }
 
-// The state register, and a name for each state.
+/// The state register, and a name for each state.
 fn push_register(states: usize, names: &Names, out: &mut String) -> Result<(), AllocError> {
     let width = width_of(states);
     let last = width.saturating_sub(1);
@@ -92,13 +93,13 @@ fn push_register(states: usize, names: &Names, out: &mut String) -> Result<(), A
     writeln!(out, "        else\n            {state} <= {next_state};\n")
 }
 
-// The number of bits of a state's number, at least one.
+/// The number of bits of a state's number, at least one.
 fn width_of(states: usize) -> u32 {
     let last = states.saturating_sub(1);
     usize::BITS.saturating_sub(last.leading_zeros()).max(1)
 }
 
-// The outputs and the next state, by the state and the inputs.
+/// The outputs and the next state, by the state and the inputs.
 fn push_logic(
     alloc: Global,
     machine: &Machine,

@@ -1,25 +1,25 @@
-// The signals of a machine as ports of a module.
+//! The signals of a machine as ports of a module.
+
 use crate::identifiers::push_identifier;
-use machine_table::{Machine, ShowFault, label_of};
+use machine_table::{Machine, ShowFault, labels_of};
 use std::alloc::{AllocError, Global};
 use std::fmt::Write;
-use text_base::Name;
 
-// What a port is called, and the number of its bits where it is a bus.
+/// What a port is called, and the number of its bits where it is a bus.
 #[derive(Clone, Copy)]
 pub(crate) struct Port<'a> {
     pub(crate) name: &'a str,
     width: Option<usize>,
 }
 
-// The names of the signals of one sort as printable text.
+/// The names of the signals of one sort as printable text.
 #[derive(Drop)]
 pub(crate) struct Labels {
     inputs: Vec<String>,
     outputs: Vec<String>,
 }
 
-// The ports of the signals, and the signals as expressions.
+/// The ports of the signals, and the signals as expressions.
 #[derive(Drop)]
 pub(crate) struct Ports<'a> {
     pub(crate) inputs: Vec<Port<'a>>,
@@ -29,7 +29,7 @@ pub(crate) struct Ports<'a> {
 }
 
 impl Labels {
-    // The labels of a machine's signals; two that are the same are refused.
+    /// The labels of a machine's signals; two that are the same are refused.
     pub(crate) fn of_machine(alloc: Global, machine: &Machine) -> Result<Labels, ShowFault> {
         let inputs = labels_of(alloc, &machine.inputs)?;
         let outputs = labels_of(alloc, &machine.outputs)?;
@@ -52,14 +52,6 @@ impl Labels {
     }
 }
 
-fn labels_of(alloc: Global, names: &[Name]) -> Result<Vec<String>, AllocError> {
-    let mut labels = Vec::new(alloc);
-    for name in names {
-        labels.push(label_of(alloc, name)?)?;
-    }
-    Ok(labels)
-}
-
 fn has_twice(labels: &[String]) -> bool {
     labels.iter().any(|label| labels
         .iter()
@@ -72,7 +64,7 @@ fn is_among(label: &str, labels: &[String]) -> bool {
     labels.iter().any(|other| other.as_str() == label)
 }
 
-// A name `base[i]` as its base and its place.
+/// A name `base[i]` as its base and its place.
 fn bit_of(label: &str) -> Option<(&str, usize)> {
     let (base, place) = label.strip_suffix(']')?.rsplit_once('[')?;
     if base.is_empty() || (place.len() > 1 && place.starts_with('0')) || place.starts_with('+') {
@@ -89,7 +81,7 @@ fn is_bit_of(label: &str, base: &str) -> bool {
     bit_of(label).is_some_and(|bit| bit.0 == base)
 }
 
-// The width of the bus of that base, where all its bits are there and no other signal is called so.
+/// The width of the bus of that base, where all its bits are there and no other signal is called so.
 fn width_of(base: &str, labels: &[String], others: &[String]) -> Option<usize> {
     let width = labels.iter().filter(|label| is_bit_of(label, base)).count();
     let has_all = (0..width).all(|place| labels.iter().any(|label| is_bit(label, base, place)));
@@ -104,7 +96,7 @@ fn width_of(base: &str, labels: &[String], others: &[String]) -> Option<usize> {
     }
 }
 
-// The bus to which a signal belongs, its width, and the signal's place in it.
+/// The bus to which a signal belongs, its width, and the signal's place in it.
 fn bus_of<'a>(
     label: &'a str,
     labels: &[String],
@@ -160,7 +152,7 @@ fn expressions_of(
 }
 
 impl Port<'_> {
-    // Appends its declaration behind the word for its sort.
+    /// Appends its declaration behind the word for its sort.
     pub(crate) fn push_declared(self, sort: &str, out: &mut String) -> Result<(), AllocError> {
         write!(out, "    {sort} ")?;
         if let Some(width) = self.width {
@@ -172,7 +164,7 @@ impl Port<'_> {
 }
 
 impl<'a> Ports<'a> {
-    // The names of all ports.
+    /// The names of all ports.
     pub(crate) fn names(&self, alloc: Global) -> Result<Vec<&'a str>, AllocError> {
         let mut names = Vec::new(alloc);
         for port in self.inputs.iter().chain(self.outputs.iter()) {

@@ -1,4 +1,5 @@
-// What a machine does in one state, as a branch of a `case`.
+//! What a machine does in one state, as a branch of a `case`.
+
 use crate::module::Names;
 use crate::ports::Ports;
 use letter_word::Letter;
@@ -6,14 +7,14 @@ use machine_table::{Answer, Cube, Edge, Row, edges_of};
 use std::alloc::{AllocError, Global};
 use std::fmt::Write;
 
-// Cubes of letters with the same answer.
+/// Cubes of letters with the same answer.
 #[derive(Drop)]
 struct Branch {
     cubes: Vec<Cube>,
     answer: Answer,
 }
 
-// Appends the branch of a state. Outputs are false where nothing sets them.
+/// Appends the branch of a state. Outputs are false where nothing sets them.
 pub(crate) fn push_state(
     alloc: Global,
     state: usize,
@@ -48,7 +49,7 @@ pub(crate) fn push_state(
     out.push_str("            end\n")
 }
 
-// The outputs that are true whatever is read.
+/// The outputs that are true whatever is read.
 fn written_always(row: &Row) -> Letter {
     let mut written = u32::MAX;
     for answer in &row.answers {
@@ -95,7 +96,7 @@ fn push_edge(alloc: Global, edge: Edge, branches: &mut Vec<Branch>) -> Result<()
     Ok(())
 }
 
-// The line that a branch begins with; a branch alone has none, and the last one holds for what is left.
+/// The line that a branch begins with; a branch alone has none, and the last one holds for what is left.
 fn push_head(
     place: usize,
     is_last: bool,

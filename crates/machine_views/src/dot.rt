@@ -1,11 +1,12 @@
-// A machine as a graph for Graphviz.
+//! A machine as a graph for Graphviz.
+
 use letter_word::{Kind, Letter};
 use machine_table::{Edge, Machine, Row, edges_of, push_letter};
 use std::alloc::{AllocError, Global};
 use std::fmt::Write;
 
-// States are nodes, and an arrow from a point marks the start. An edge has its cube of input letters, and what is written stands
-// behind that, or in the state where it is of the state alone.
+/// States are nodes, and an arrow from a point marks the start. An edge has its cube of input letters, and what is written stands
+/// behind that, or in the state where it is of the state alone.
 pub(crate) fn push_dot(
     alloc: Global,
     machine: &Machine,
@@ -67,7 +68,7 @@ fn push_written(
     push_quoted(&writes, out)
 }
 
-// A text as Graphviz reads it between quotes, where `&` could begin the name of a character.
+/// A text as Graphviz reads it between quotes, where `&` could begin the name of a character.
 fn push_quoted(text: &str, out: &mut String) -> Result<(), AllocError> {
     for character in text.chars() {
         match character {

@@ -1,10 +1,11 @@
-// Cells in columns.
+//! Cells in columns.
+
 use std::alloc::{AllocError, Global};
 
-// Two blanks stand between columns.
+/// Two blanks stand between columns.
 const GAP: usize = 2;
 
-// Rows of cells, one after the other, all of so many columns.
+/// Rows of cells, one after the other, all of so many columns.
 #[derive(Drop)]
 pub(crate) struct Grid {
     alloc: Global,
@@ -39,7 +40,7 @@ impl Grid {
         self.push(format!(in self.alloc; "{number}")?)
     }
 
-    // The rows as lines, with each column as wide as its widest cell.
+    /// The rows as lines, with each column as wide as its widest cell.
     pub(crate) fn push_to(&self, out: &mut String) -> Result<(), AllocError> {
         let widths = self.widths()?;
         for row in self.cells.chunks(self.columns.max(1)) {
@@ -59,7 +60,7 @@ impl Grid {
     }
 }
 
-// The last cell isn't filled up.
+/// The last cell isn't filled up.
 fn push_row(row: &[String], widths: &[usize], out: &mut String) -> Result<(), AllocError> {
     let mut missing = 0;
     for (cell, width) in row.iter().zip(widths) {

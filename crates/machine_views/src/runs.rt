@@ -1,4 +1,5 @@
-// What a machine does on a word, signal by signal.
+//! What a machine does on a word, signal by signal.
+
 use letter_word::{Lasso, Letter};
 use machine_table::{Machine, label_of};
 use std::alloc::{AllocError, Global};
@@ -20,7 +21,7 @@ enum Sort {
     Output,
 }
 
-// A signal with its name as printable text.
+/// A signal with its name as printable text.
 #[derive(Drop)]
 pub(crate) struct Signal {
     pub(crate) label: String,
@@ -46,7 +47,7 @@ impl Step {
 
 impl Run {
     /// These steps of a machine with inputs and outputs of these names.
-    pub fn of_steps(
+    pub(crate) fn of_steps(
         alloc: Global,
         inputs: &[Name],
         outputs: &[Name],
@@ -87,7 +88,7 @@ fn push_signals(
     Ok(())
 }
 
-// Adds the steps on some letters from a state on, and gives the state behind them.
+/// Adds the steps on some letters from a state on, and gives the state behind them.
 fn take_letters(
     machine: &Machine,
     from: usize,

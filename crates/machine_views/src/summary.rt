@@ -1,4 +1,5 @@
-// What a document says, for a person.
+//! What a document says, for a person.
+
 use aiger_text::Circuit;
 use cert_text::{Document, LogPart, Verdict};
 use letter_word::{Kind, Side};
@@ -31,7 +32,7 @@ fn push_document(
 ) -> Result<(), AllocError> {
     out.push_str("verdict: ")?;
     push_verdict(document.verdict, out)?;
-    let kind_word = kind_word(document.kind);
+    let kind_word = document.kind.word();
     writeln!(out, "kind of the system: {kind_word}")?;
     match &document.circuit {
         Some(circuit) => push_machine(alloc, circuit, kind, out)?,
@@ -50,13 +51,6 @@ fn push_limits(document: &Document, out: &mut String) -> Result<(), AllocError> 
     match document.entries {
         Some(most) => writeln!(out, "most entries of a log: {most}"),
         None => out.push_str("most entries of a log: any number\n"),
-    }
-}
-
-fn kind_word(kind: Kind) -> &'static str {
-    match kind {
-        Kind::Mealy => "Mealy",
-        Kind::Moore => "Moore",
     }
 }
 
@@ -98,7 +92,7 @@ fn side_name(side: Side) -> &'static str {
     }
 }
 
-// The states that are reached, and the names of what is read and written.
+/// The states that are reached, and the names of what is read and written.
 fn push_machine(
     alloc: Global,
     circuit: &Circuit,
@@ -124,7 +118,7 @@ fn push_signals(machine: &Machine, out: &mut String) -> Result<(), AllocError> {
     out.push('\n')
 }
 
-// The size of a log's problem, its entries, and how it ends.
+/// The size of a log's problem, its entries, and how it ends.
 fn push_log(
     alloc: Global,
     log: &LogPart,
@@ -154,7 +148,7 @@ fn push_log(
     writeln!(out, "    literals of the longest clause: {longest}")
 }
 
-// The number of literals of the longest clause.
+/// The number of literals of the longest clause.
 fn longest_clause(entries: &[Entry]) -> usize {
     let mut longest = 0;
     for entry in entries {
@@ -163,7 +157,7 @@ fn longest_clause(entries: &[Entry]) -> usize {
     longest
 }
 
-// A log is closed by the empty clause, and full where it has the most entries without that.
+/// A log is closed by the empty clause, and full where it has the most entries without that.
 fn ending(entries: &[Entry], most: Option<u64>) -> &'static str {
     if let Some(last) = entries.last() {
         if last.clause.lits().is_empty() {

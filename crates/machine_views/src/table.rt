@@ -1,10 +1,11 @@
-// A machine as a table: a line for each cube of input letters of each state.
+//! A machine as a table: a line for each cube of input letters of each state.
+
 use crate::grid::Grid;
 use letter_word::{Kind, Letter};
 use machine_table::{Edge, Machine, edges_of, push_letter};
 use std::alloc::{AllocError, Global};
 
-// What is written stands behind what is read, or behind the state where it is of the state alone.
+/// What is written stands behind what is read, or behind the state where it is of the state alone.
 pub(crate) fn push_table(
     alloc: Global,
     machine: &Machine,

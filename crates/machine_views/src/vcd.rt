@@ -1,9 +1,10 @@
-// A run as a value change dump (IEEE 1364), which waveform viewers open.
+//! A run as a value change dump (IEEE 1364), which waveform viewers open.
+
 use crate::runs::{Run, Signal, Step};
 use std::alloc::{AllocError, Global};
 use std::fmt::Write;
 
-// The first of the characters that stand for signals, and the one that stands for the state.
+/// The first of the characters that stand for signals, and the one that stands for the state.
 const FIRST_CODE: u8 = b'!';
 
 const STATE_CODE: char = '~';
@@ -21,7 +22,7 @@ pub fn push_vcd(run: &Run, out: &mut String) -> Result<(), AllocError> {
     writeln!(out, "#{end}")
 }
 
-// The state and the signals by name.
+/// The state and the signals by name.
 fn push_head(run: &Run, out: &mut String) -> Result<(), AllocError> {
     out.push_str("$version boundsyn-show $end\n$timescale 1 ns $end\n")?;
     out.push_str("$scope module machine $end\n")?;
@@ -36,7 +37,7 @@ fn push_head(run: &Run, out: &mut String) -> Result<(), AllocError> {
     out.push_str("$upscope $end\n$upscope $end\n$enddefinitions $end\n")
 }
 
-// A `$` could begin a word of the format.
+/// A `$` could begin a word of the format.
 fn push_identifier(label: &str, out: &mut String) -> Result<(), AllocError> {
     for character in label.chars() {
         out.push(if character == '$' { '_' } else { character })?;
@@ -44,7 +45,7 @@ fn push_identifier(label: &str, out: &mut String) -> Result<(), AllocError> {
     Ok(())
 }
 
-// The values of a step that differ from those of the step before, or all of the first step.
+/// The values of a step that differ from those of the step before, or all of the first step.
 fn push_changes(
     run: &Run,
     before: Option<Step>,

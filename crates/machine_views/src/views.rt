@@ -11,7 +11,7 @@ use machine_table::ShowFault;
 use std::alloc::Global;
 use text_base::Name;
 
-// The most names of which a word may be.
+/// The most names of which a word may be.
 const MOST_NAMES: usize = 16;
 
 /// What is shown of a document or of a circuit.

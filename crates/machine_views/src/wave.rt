@@ -1,9 +1,10 @@
-// A run as lines of text, one for each signal.
+//! A run as lines of text, one for each signal.
+
 use crate::grid::push_blanks;
 use crate::runs::{Run, Step};
 use std::alloc::{AllocError, Global};
 
-// What stands before the states.
+/// What stands before the states.
 const STATES: &str = "(state)";
 
 /// Appends a line for each input and each output, and one for the states in which the steps begin. `#` is true and `_` false, and `|`
@@ -35,7 +36,7 @@ fn label_width(run: &Run) -> usize {
     width
 }
 
-// How wide a step is drawn: as its state's number, with a blank more where it has several digits.
+/// How wide a step is drawn: as its state's number, with a blank more where it has several digits.
 fn cell_width(run: &Run) -> usize {
     let mut greatest = 0;
     for step in &run.steps {

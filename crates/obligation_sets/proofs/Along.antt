@@ -11,7 +11,7 @@ use Rattle.obligation_sets.specs.declared.branches.Step.TheVariants.{Leaf, Dead,
 use Rattle.obligation_sets.specs.declared.sets.Cover.{Cover}
 use Rattle.obligation_sets.specs.Branch.{Branch}
 use Rattle.obligation_sets.specs.Steps.{HasPlaces, step, undone}
-use Rattle.obligation_sets.specs.Covers.{alive, cover_of, covers_of, leaves_below, leaves_of, same_cover, set_leaves, start_of}
+use Rattle.obligation_sets.specs.Covers.{alive, cover_of, leaves_below, leaves_of, same_cover, set_leaves, start_of}
 use Rattle.obligation_sets.specs.Search.{AfterStep, FitsIds}
 use Rattle.obligation_sets.proofs.Walks.{Stepped, leaves_of-step, step_stepped}
 
@@ -120,17 +120,6 @@ module _ (ns : List Node) (list : IsNodeList ns) (set : List FormulaId) where
   pub along-step : (rest new : List Branch) (b : Branch) (found after : List Cover) (leaves met : ℕ) → HasPlaces (length ns) b → All (HasPlaces (length ns)) rest → IsAlong ns set (rest ++ b ∷ []) found leaves → AfterStep (step ns b) rest new found after met → IsAlong ns set new after (leaves + met)
   along-step rest new b found after leaves met here places along h =
       along-after rest new b found after leaves met (step ns b) (step_stepped ns list b here) (leaves_of-step ns list b here) places along h
-
-  pub along-done : (found : List Cover) (leaves : ℕ) → IsAlong ns set [] found leaves → (found ≡ covers_of ns set) × (leaves ≡ length (set_leaves ns set))
-  along-done found leaves along =
-      let e : set_leaves ns set ≡ along.seen = along.all ∙ append-nil along.seen in
-      (along.covers ∙ ap (λ ls. insert_all same_cover [] (alive ls)) (sym e), along.count ∙ ap length (sym e))
-
-  pub along-most : (stack : List Branch) (found : List Cover) (leaves : ℕ) → IsAlong ns set stack found leaves → leaves ≤ length (set_leaves ns set)
-  along-most stack found leaves along =
-      let e : length (set_leaves ns set) ≡ length (along.seen ++ pending ns (reverse stack)) = ap length along.all in
-      let c : leaves ≡ length along.seen = along.count in
-      omega (arith, length-append along.seen (pending ns (reverse stack)))
 
   pub weight-falls : (rest new : List Branch) (b : Branch) (found after : List Cover) (met : ℕ) (s : Step) → Stepped (length ns) b s → AfterStep s rest new found after met → weight new < weight (rest ++ b ∷ [])
   weight-falls rest new b found after met (Leaf leaf) goes h =

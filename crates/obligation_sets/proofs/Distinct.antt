@@ -6,11 +6,11 @@ use Rattle.std.proofs.lemmas.Bool.{and_parts, cases_Bool, cond-true, cond-false,
 use Rattle.std.proofs.lemmas.List.Elements.{Contains-append_left, Contains-push, Contains-push_cases}
 use Rattle.indexmap.specs.IndexSet.{insert_all, insert_key}
 use Rattle.ltl_formula.specs.declared.nodes.FormulaId.{FormulaId}
+use Rattle.ltl_formula.proofs.NodeEquality.{same_id_of}
 use Rattle.obligation_sets.specs.declared.sets.Cover.{Cover}
 use Rattle.obligation_sets.specs.Covers.{same_cover}
 use Rattle.obligation_sets.specs.Ids.{same_id, same_ids}
 use Rattle.obligation_sets.proofs.Cubes.{same_cube}
-use Rattle.obligation_sets.proofs.Flags.{same_id_of}
 use Rattle.obligation_sets.proofs.Lists.{Contains-cons_cases, Contains-here, Contains-none, Contains-there}
 
 any_of : {X : Type 0} (p : X → Bool) (xs : List X) → list_any p xs ≡ true → (y : X) × Contains xs y × (p y ≡ true)

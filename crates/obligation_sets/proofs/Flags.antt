@@ -1,10 +1,8 @@
-use Rattle.std.proofs.Common.{◌≡◌, ℕ, zero, suc, ◌<◌, ◌⊎◌, inl, inr, Bool, true, false, List, [], ◌∷◌, get_or, set, replicate, length, refl, sym, ◌∙◌, ap, arith, get_or-set_other, get_or-set_same}
+use Rattle.std.proofs.Common.{◌≡◌, ℕ, zero, suc, ◌<◌, ◌⊎◌, inl, inr, Bool, true, false, List, [], ◌∷◌, get_or, set, replicate, length, refl, sym, ◌∙◌, arith, get_or-set_other, get_or-set_same}
 use Rattle.std.proofs.lemmas.Bool.{cases_eq, false≢true}
 use Rattle.ltl_formula.specs.declared.nodes.FormulaId.{FormulaId}
+use Rattle.ltl_formula.proofs.NodeEquality.{same_id_of}
 use Rattle.obligation_sets.specs.Ids.{has_id, with_id}
-
-pub same_id_of : (f g : FormulaId) → f.0 ≡ g.0 → f ≡ g
-same_id_of f g e = let made : ℕ → FormulaId = λ n. record { 0 = n } in ap made e
 
 -- a set with one formula more has what it had, and that formula
 pub with_id-cases : (flags : List Bool) (f g : FormulaId) → has_id (with_id flags f) g ≡ true → (g ≡ f) ⊎ (has_id flags g ≡ true)

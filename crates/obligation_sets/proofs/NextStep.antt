@@ -3,6 +3,7 @@ use Rattle.std.specs.Prelude.{Contains, IsTrue}
 use Rattle.std.proofs.lemmas.Bool.{and_from, false_from_ne_true, not_from_false, or_left, or_right}
 use Rattle.std.proofs.lemmas.List.Elements.{All-contains, Contains-get_or}
 use Rattle.letter_word.specs.Cube.{Fits}
+use Rattle.letter_word.specs.declared.cubes.Cube.{Cube}
 use Rattle.letter_word.specs.Signals.{has}
 use Rattle.letter_word.specs.Word.{Word, HasRing, lasso_len, letter_at, next}
 use Rattle.letter_word.specs.declared.letters.Letter.{Letter}
@@ -83,13 +84,10 @@ module _ (ns : List Node) (list : IsNodeList ns) (set : List FormulaId) (stand :
       seen_done (inl done) = done
       seen_done (inr work) = absurd (Contains-none f (subst (λ (fs : List FormulaId). Contains fs f) below.empty work))
 
--- what was taken off the work list of a leaf holds, where its cube fits and what it leaves holds next
-module _ (ns : List Node) (list : IsNodeList ns) (letter : Letter) (now later : FormulaId → Bool) (one : IsOneStep ns letter now later) (leaf : Branch) (fits : Fits leaf.cube letter) (left : (f : FormulaId) → has_id leaf.next f ≡ true → later f ≡ true) where
-  lacks : (k : ℕ) → IsTrue (has leaf.cube.not k) → has letter.0 k ≡ false
-  lacks k h = false_from_ne_true (has letter.0 k) (fits.none_of k h)
-
-  opposed_value : (g : FormulaId) (node : Node) → Opposed leaf.cube node → value letter now later g node ≡ false
-  opposed_value g (Signal k) h = lacks k h
+-- what is opposed to a cube is false on a letter that the cube fits
+module _ (letter : Letter) (now later : FormulaId → Bool) (cube : Cube) (fits : Fits cube letter) where
+  pub opposed_value : (g : FormulaId) (node : Node) → Opposed cube node → value letter now later g node ≡ false
+  opposed_value g (Signal k) h = false_from_ne_true (has letter.0 k) (fits.none_of k h)
   opposed_value g True h = absurd h
   opposed_value g False h = absurd h
   opposed_value g (Not x) h = absurd h
@@ -104,12 +102,14 @@ module _ (ns : List Node) (list : IsNodeList ns) (letter : Letter) (now later : 
   opposed_value g (Release x y) h = absurd h
   opposed_value g (WeakUntil x y) h = absurd h
 
+-- what was taken off the work list of a leaf holds, where its cube fits and what it leaves holds next
+module _ (ns : List Node) (list : IsNodeList ns) (letter : Letter) (now later : FormulaId → Bool) (one : IsOneStep ns letter now later) (leaf : Branch) (fits : Fits leaf.cube letter) (left : (f : FormulaId) → has_id leaf.next f ≡ true → later f ≡ true) where
   module _ (f : FormulaId) (stands : Stands ns f) (below : (g : FormulaId) → g.0 < f.0 → Seen leaf g → now g ≡ true) where
     backed_value : (node : Node) → PartsBelow f.0 node → Backed ns (Seen leaf) leaf.cube (InNext leaf) (InPostponed leaf) f node → value letter now later f node ≡ true
     backed_value True parts h = refl
     backed_value False parts h = absurd h
     backed_value (Signal k) parts h = fits.must k h
-    backed_value (Not g) parts h = not_from_false (now g) (one.means g (let p : g.0 < f.0 = parts in omega arith) ∙ opposed_value g (node_at ns g.0) h)
+    backed_value (Not g) parts h = not_from_false (now g) (one.means g (let p : g.0 < f.0 = parts in omega arith) ∙ opposed_value letter now later leaf.cube fits g (node_at ns g.0) h)
     backed_value (Next g) parts h = left g h
     backed_value (Finally g) parts h = absurd h
     backed_value (Globally g) parts h = absurd h

@@ -14,11 +14,11 @@ use std::marker::Model;
 /// What a branch has done with one formula.
 #[derive(Clone, Copy)]
 struct Mark {
-    // Whether it was taken off the work list.
+    /// Whether it was taken off the work list.
     done: bool,
-    // Whether it is left to the next position.
+    /// Whether it is left to the next position.
     next: bool,
-    // Whether it is an until that is put off.
+    /// Whether it is an until that is put off.
     postponed: bool,
 }
 

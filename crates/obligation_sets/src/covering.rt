@@ -14,7 +14,7 @@ use std::alloc::{AllocError, AllocFailed, Global};
 pub const MAX_LEAVES: usize = 100_000;
 
 /// Why the covers of a set weren't given.
-#[derive(Clone, Copy, Debug, PartialEq, Eq, Hash)]
+#[derive(Clone, Copy, Debug, PartialEq, Eq)]
 pub enum CoverFault {
     /// 1: the set has more leaves than `MAX_LEAVES`.
     TooManyLeaves,

@@ -1,4 +1,5 @@
-// Laws of covers. Each is the contract of a function that does nothing.
+//! Laws of covers. Each is the contract of a function that does nothing.
+
 ghost use Rattle.obligation_sets.specs.CoverSignals.{CoversNameSignals};
 ghost use Rattle.obligation_sets.specs.NextStep.{CoversAreTheNextStep, CoversStayNormal, LeavesGoOn};
 

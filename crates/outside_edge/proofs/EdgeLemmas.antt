@@ -1,34 +1,18 @@
 -- Counts that rise, bytes that a sink gained, names in a list.
-use Rattle.std.proofs.Common.{◌≡◌, ◌≢◌, ℕ, ◌+◌, ◌-◌, ◌^◌, ◌<◌, ◌≤◌, Bool, true, false, cond, List, [], ◌∷◌, ◌++◌, Option, None, Some, refl, ap, sym, ◌∙◌, inl, arith, append_assoc, add-zero, nat_eq}
+use Rattle.std.proofs.Common.{◌≡◌, ◌≢◌, ℕ, ◌+◌, ◌-◌, ◌≤◌, true, false, cond, List, [], ◌∷◌, ◌++◌, Option, None, Some, refl, ap, ◌∙◌, inl, arith, append_assoc, add-zero, nat_eq}
 use Rattle.std.specs.Cmp.Lexicographic.{pointwise, bytes_decides}
-use Rattle.std.proofs.lemmas.List.{append-nil}
 use Rattle.std.proofs.lemmas.List.Sums.{sum_by_push}
+use Rattle.std.proofs.lemmas.Bool.{false_from_ne_true}
 use Rattle.outside_edge.specs.Bytes.{Gains}
 use Rattle.outside_edge.specs.Faults.{Rose, count_of}
 
--- what rose stays risen
-pub Rose-later : (a b c : ℕ) → Rose a b → b ≤ c → Rose a c
-Rose-later a b c rose later = grind arith
-
 pub Rose-earlier : (a b c : ℕ) → a ≤ b → Rose b c → Rose a c
 Rose-earlier a b c earlier rose = grind arith
-
--- a count that never rises
-pub Rose-stays : (a : ℕ) → a < 2 ^ 64 - 1 → Rose a a → ⊥
-Rose-stays a below rose = grind arith
 
 -- a piece after another
 pub Gains-append : (a b c : Option (List ℕ)) (x y : List ℕ) → Gains a b x → Gains b c y → Gains a c (x ++ y)
 Gains-append None b c x y first second = rw first at second
 Gains-append (Some bytes) b c x y first second = (rw first at second) ∙ ap Some (append_assoc bytes x y)
-
-pub Gains-none : (a : Option (List ℕ)) → Gains a a []
-Gains-none None = refl
-Gains-none (Some bytes) = ap Some (sym (append-nil bytes))
-
-false_unless : (b : Bool) → (b ≡ true → ⊥) → b ≡ false
-false_unless true never = absurd (never refl)
-false_unless false never = refl
 
 -- a name that is added is counted once more
 pub Rose-push : (old new : List (List ℕ)) (name : List ℕ) → new ≡ old ++ name ∷ [] → Rose (count_of old name) (count_of new name)
@@ -41,7 +25,7 @@ Rose-push old new name pushed =
 -- and no other name is
 pub count_of-push_other : (old new : List (List ℕ)) (name other : List ℕ) → new ≡ old ++ name ∷ [] → other ≢ name → count_of new other ≡ count_of old other
 count_of-push_other old new name other pushed differ =
-    let test : pointwise nat_eq other name ≡ false = false_unless _ (λ same. differ ((bytes_decides other name).0 same)) in
+    let test : pointwise nat_eq other name ≡ false = false_from_ne_true _ (λ same. differ ((bytes_decides other name).0 same)) in
     ap (λ names. count_of names other) pushed
     ∙ (sum_by_push (λ x. cond (pointwise nat_eq other x) 1 0) old name
     ∙ (ap (λ b. count_of old other + cond b 1 0) test ∙ add-zero _))

@@ -1,16 +1,10 @@
 -- What a sink gained by several pieces.
 use Rattle.std.specs.Prelude.{Err, IsErrOf}
-use Rattle.std.specs.Option.{option_map}
 use Rattle.std.proofs.Common.{◌≡◌, ℕ, List, [], ◌++◌, refl, sym, ◌∙◌, ap, Option, Some, None, append_assoc, append-nil}
 use Rattle.outside_edge.specs.declared.sink.SinkFault.{SinkFault}
 use Rattle.outside_edge.specs.declared.sink.SinkFault.TheVariants.{Failed, NoMemory}
 use Rattle.outside_edge.specs.Bytes.{Gains, GainsFront}
-
--- one piece and then another
-pub gains_more : (a b c : Option (List ℕ)) (x y : List ℕ) → Gains a b x → Gains b c y → Gains a c (x ++ y)
-gains_more None b c x y one two = two ∙ ap (λ o. option_map (λ s. s ++ y) o) one
-gains_more (Some s) b c x y one two =
-    two ∙ (ap (λ o. option_map (λ so_far. so_far ++ y) o) one ∙ ap Some (append_assoc s x y))
+use Rattle.outside_edge.proofs.EdgeLemmas.{Gains-append}
 
 pub gains_nothing : (a b : Option (List ℕ)) → b ≡ a → Gains a b []
 gains_nothing None b same = same
@@ -24,7 +18,7 @@ front_more a b c x piece later rest bytes one two cut whole = record {
   rest = two.rest ++ later;
   whole = append_assoc x two.front (two.rest ++ later)
       ∙ ap (λ t. x ++ t) (sym (append_assoc two.front two.rest later) ∙ ap (λ t. t ++ later) two.whole ∙ cut) ∙ whole;
-  gained = gains_more a b c x two.front one two.gained;
+  gained = Gains-append a b c x two.front one two.gained;
 }
 
 -- a fault leaves a front, which is nothing where memory was wanted

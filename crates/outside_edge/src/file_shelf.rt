@@ -63,7 +63,7 @@ impl<'a, R: Files> Shelf for FileShelf<'a, R> {
 
     ghost faults = { λ shelf name. count_of shelf name };
 
-    // The whole is a part from the start, with one byte more than the limit where there is one.
+    /// The whole is a part from the start, with one byte more than the limit where there is one.
     fn take(&mut self, name: &str, limit: u64, into: &mut Vec<u8>) -> Result<(), ShelfFault> {
         let before = into.len();
         let count = self.part(name, 0, limit.saturating_add(1), into)?;

@@ -1,5 +1,5 @@
 /// When a worker passes the gate: before it appends to a log, after it appended, after it read.
-#[derive(Clone, Copy, Debug, PartialEq, Eq, Hash)]
+#[derive(Clone, Copy, Debug, PartialEq, Eq)]
 pub enum Moment {
     BeforeAppend,
     AfterAppend,
@@ -15,7 +15,7 @@ pub trait Gate {
 }
 
 /// A gate that holds nobody back.
-#[derive(Clone, Copy, Debug, PartialEq, Eq, Hash)]
+#[derive(Clone, Copy, Debug, PartialEq, Eq)]
 pub struct OpenGate;
 
 impl Gate for OpenGate {

@@ -7,7 +7,7 @@ use crate::FileBytes;
 use text_base::Name;
 
 /// The bytes of the first file of that name.
-pub fn find<'a>(files: &'a [(Name, FileBytes)], name: &str) -> Option<&'a [u8]>
+pub(crate) fn find<'a>(files: &'a [(Name, FileBytes)], name: &str) -> Option<&'a [u8]>
     ensures first { option_copied result ≡ files_of files.now name.now }
 {
     for (file, bytes) in files {
@@ -19,7 +19,7 @@ pub fn find<'a>(files: &'a [(Name, FileBytes)], name: &str) -> Option<&'a [u8]>
 }
 
 /// As many as there are, up to `most`, of the bytes from a place on.
-pub fn part_of(bytes: &[u8], from: u64, most: u64) -> &[u8]
+pub(crate) fn part_of(bytes: &[u8], from: u64, most: u64) -> &[u8]
     ensures { result.now ≡ part_from bytes.now from most }
 {
     let rest = &bytes[bytes.len().min(from as usize)..];

@@ -44,7 +44,7 @@ impl MemoryShelf {
         }
     }
 
-    // The bytes of the file that the next call takes, or none if it fails.
+    /// The bytes of the file that the next call takes, or none if it fails.
     fn found(&self, name: &str) -> Option<&[u8]>
         ensures found { option_copied result ≡ (if take_fails self.now name.now then None else files_of self.now.files name.now) }
     {

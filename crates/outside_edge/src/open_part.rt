@@ -43,7 +43,7 @@ pub struct OpenPart<F: Drop> {
 /// Appends at most `most` bytes of a file from the place `from` on, and says how many; after a refusal some of them.
 ///
 /// The part that is open is read on where it stands there. What is open after it is the file that gave some bytes.
-pub fn read_part<R: Files>(
+pub(crate) fn read_part<R: Files>(
     rt: &R,
     alloc: Global,
     open: &mut Option<OpenPart<R::File>>,
@@ -66,7 +66,7 @@ pub fn read_part<R: Files>(
     Ok(count)
 }
 
-// Opens a file at a place. For its start nothing is sought, which a pipe would refuse.
+/// Opens a file at a place. For its start nothing is sought, which a pipe would refuse.
 fn open_at<R: Files>(
     rt: &R,
     alloc: Global,
@@ -84,7 +84,7 @@ fn open_at<R: Files>(
     })
 }
 
-// Appends what a file has next, at most `most` bytes, and after a refusal a part of it.
+/// Appends what a file has next, at most `most` bytes, and after a refusal a part of it.
 fn append_next<F: Read>(file: &mut F, most: u64, into: &mut Vec<u8>) -> Result<u64, ReadFault>
     ensures gained { Appends most into.old.items into.new.items result }
 {

@@ -10,10 +10,10 @@ use std::sync::atomic::{AtomicBool, AtomicU32, Ordering};
 pub struct ShareGate {
     log: u32,
     waits: Waits,
-    // The number of the worker that came first, 0 before.
+    /// The number of the worker that came first, 0 before.
     leader: AtomicU32,
     leader_appended: AtomicBool,
-    // Whether each worker but the first, from 1 to 8, has appended.
+    /// Whether each worker but the first, from 1 to 8, has appended.
     appended: [AtomicBool; 8],
     shared: AtomicBool,
 }
@@ -50,7 +50,7 @@ impl ShareGate {
         self.waits.looks()
     }
 
-    // The first worker that comes leads.
+    /// The first worker that comes leads.
     fn leads(&self, worker: u32) -> bool {
         match self
             .leader

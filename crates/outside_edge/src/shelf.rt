@@ -6,7 +6,7 @@ ghost use Rattle.outside_edge.specs.Files.{Files, bytes_under, Takes, TakesPart}
 use std::alloc::{AllocError, AllocFailed};
 
 /// Why a file was not taken.
-#[derive(Clone, Copy, Debug, PartialEq, Eq, Hash)]
+#[derive(Clone, Copy, Debug, PartialEq, Eq)]
 pub enum ShelfFault {
     /// The shelf failed.
     Failed,

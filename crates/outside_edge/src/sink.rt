@@ -6,7 +6,7 @@ ghost use Rattle.outside_edge.specs.Bytes.{Gains, GainsFront};
 use std::alloc::AllocError;
 
 /// Why bytes were not written.
-#[derive(Clone, Copy, Debug, PartialEq, Eq, Hash)]
+#[derive(Clone, Copy, Debug, PartialEq, Eq)]
 pub enum SinkFault {
     /// The sink failed. A part of the bytes may have been written.
     Failed,

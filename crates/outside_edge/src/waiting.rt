@@ -1,9 +1,9 @@
 use crossbeam_utils::Backoff;
 use std::sync::atomic::{AtomicBool, AtomicU64, Ordering};
 
-// A wait looks so often at most, so that a gate never keeps a run from its end.
+/// A wait looks so often at most, so that a gate never keeps a run from its end.
 const MOST_LOOKS: u32 = 10_000;
-// What a wait does between two looks takes about as long on each machine.
+/// What a wait does between two looks takes about as long on each machine.
 const ADDS_BETWEEN: u32 = 100_000;
 
 /// The waits of a gate: how many there were, how often they looked, and whether one of them gave up.
@@ -26,7 +26,7 @@ impl Waits {
     }
 
     /// Waits until the sign is given, or for the most looks.
-    pub fn wait_for(&self, sign: &AtomicBool) {
+    pub(crate) fn wait_for(&self, sign: &AtomicBool) {
         self.begun.fetch_add(1, Ordering::SeqCst);
         let backoff = Backoff::new();
         for _ in 0..MOST_LOOKS {
@@ -57,7 +57,7 @@ impl Waits {
     }
 
     /// Whether a wait had its most looks without the sign.
-    pub fn gave_up(&self) -> bool {
+    pub(crate) fn gave_up(&self) -> bool {
         self.gave_up.load(Ordering::SeqCst)
     }
 }

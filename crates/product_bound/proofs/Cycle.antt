@@ -38,9 +38,6 @@ module _ (p : Problem) (m : MachineModel) (path : List ProductStep) (from : ℕ)
   leads : (i : ℕ) → i < last → Leads p m (step_at path i) (step_at path (i + 1))
   leads i h = let e : last ≡ length path - 1 = is_last in cycle.steps.leads i (omega arith)
 
-  whole : ProductStep → Letter
-  whole step = letter_of p.side m step.t step.letter
-
   joined-word : w.stem ++ w.ring ≡ map (λ step. letter_of p.side m step.t step.letter) (take (length path - 1) path)
   joined-word =
       let b : from < last = below in
@@ -236,12 +233,6 @@ module _ (p : Problem) (m : MachineModel) (path : List ProductStep) (from : ℕ)
       let b : from < last = below in
       let e : last ≡ length path - 1 = is_last in
       take-take from (length path - 1) path (omega arith)
-
-  pub ring_some : 0 < length (drop from (take (length path - 1) path))
-  ring_some =
-      let b : from < last = below in
-      let e : last ≡ length path - 1 = is_last in
-      simp (length-drop, length-take) (omega arith)
 
   pub run : IsRunLasso m p.side (word_of_cycle p m path from) (states_of_cycle path)
   run = subst (λ v. IsRunLasso m p.side v (states_of_cycle path)) is_w run_here

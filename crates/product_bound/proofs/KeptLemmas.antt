@@ -1,5 +1,5 @@
 -- The rule of a valid annotation, part by part, and whole.
-use Rattle.std.proofs.Common.{◌≡◌, ℕ, ◌≤◌, List, sym, ◌∙◌, subst, arith, Option, Some, None, get_or}
+use Rattle.std.proofs.Common.{◌≡◌, ℕ, List, sym, ◌∙◌, Option, Some, None, get_or}
 use Rattle.std.specs.Prelude.{Contains}
 use Rattle.std.proofs.lemmas.List.Elements.{All-contains, Contains-get_or}
 use Rattle.machine_model.specs.Automaton.{IsAutomaton, JoinsStates, states_of}
@@ -16,22 +16,6 @@ module _ (p : Problem) (numbers : List (Option ℕ)) (t q s r : ℕ) where
       let has : HasNumber p numbers s r (number_after p q r a) = kept.number a from in
       let both : Some has.number ≡ None = sym has.stands ∙ to in
       cc
-
-  pub kept_by : (a b : ℕ) → number_at p numbers t q ≡ Some a → number_at p numbers s r ≡ Some b → number_after p q r a ≤ b → KeepsNumber p numbers t q s r
-  kept_by a b from to enough = record {
-    number = λ c e.
-        let same : Some a ≡ Some c = sym from ∙ e in
-        let equal : a ≡ c = cc in
-        record { number = b; stands = to; enough = subst (λ n. number_after p q r n ≤ b) equal enough };
-  }
-
-  pub kept_says : (a b : ℕ) → number_at p numbers t q ≡ Some a → number_at p numbers s r ≡ Some b → KeepsNumber p numbers t q s r → number_after p q r a ≤ b
-  kept_says a b from to kept =
-      let has : HasNumber p numbers s r (number_after p q r a) = kept.number a from in
-      let same : Some has.number ≡ Some b = sym has.stands ∙ to in
-      let equal : has.number ≡ b = cc in
-      let enough : number_after p q r a ≤ has.number = has.enough in
-      omega (arith, equal, enough)
 
 module _ (p : Problem) (m : MachineModel) (numbers : List (Option ℕ)) (made : IsAutomaton (automaton_of p)) where
   pub valid_of : AreWithin p numbers → HasNumber p numbers 0 0 (start_number p) → KeepsStates p m numbers → IsValidAnnotation p m numbers

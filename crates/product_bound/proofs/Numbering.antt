@@ -1,9 +1,9 @@
 -- The numbered form of a machine.
-use Rattle.std.proofs.Common.{◌≡◌, ℕ, zero, suc, ◌+◌, ◌-◌, ◌*◌, ◌/◌, ◌%◌, ◌^◌, ◌<◌, ◌≤◌, inl, inr, max, Bool, true, false, List, [], ◌∷◌, ◌++◌, length, map, take, get_or, refl, sym, ap, ◌∙◌, subst, arith, slice_index}
+use Rattle.std.proofs.Common.{◌≡◌, ℕ, zero, suc, ◌+◌, ◌-◌, ◌*◌, ◌/◌, ◌%◌, ◌^◌, ◌<◌, ◌≤◌, inl, inr, max, List, [], ◌∷◌, ◌++◌, length, map, take, get_or, refl, sym, ap, ◌∙◌, subst, arith, slice_index}
 use Rattle.std.specs.Prelude.{nat_lt}
 use Rattle.std.specs.List.{range_with_len}
 use Rattle.std.proofs.Math.Nat.{mod-lt, div-lt_iff_lt-mul, mul_comm}
-use Rattle.std.proofs.lemmas.Bool.{cases_eq, cases_lt, cond-true, cond-false}
+use Rattle.std.proofs.lemmas.Bool.{cases_eq, cases_lt, cond-true, cond-false, le-ltb}
 use Rattle.std.proofs.lemmas.Bool.Decides.{Decides-ltb}
 use Rattle.std.proofs.lemmas.List.{get_or-map, get_or_default, length-map, nil_from_length}
 use Rattle.std.proofs.lemmas.List.FromFn.{get_or-map-range_with_len, length-map-range_with_len, map-range_with_len_more, take-map-range_with_len}
@@ -29,22 +29,15 @@ row-named : (m : MachineModel) (place : ℕ) → place / 2 ^ m.reads < length (n
     }
 row-named m place h = cond-true (nat_lt (place / 2 ^ m.reads) (length (named_before m place))) _ _ ((Decides-ltb (place / 2 ^ m.reads) (length (named_before m place))).1 h)
 
-not_less : (a b : ℕ) → b ≤ a → nat_lt a b ≡ false
-not_less a b h = go (nat_lt a b) refl
-  where
-    go : (less : Bool) → nat_lt a b ≡ less → less ≡ false
-    go true e = absurd (let l : a < b = (Decides-ltb a b).0 e in omega (arith, l, h))
-    go false e = refl
-
 row-unnamed : (m : MachineModel) (place : ℕ) → length (named_before m place) ≤ place / 2 ^ m.reads → numbered_row m place ≡ record { next = 0; writes = 0 }
-row-unnamed m place h = cond-false (nat_lt (place / 2 ^ m.reads) (length (named_before m place))) _ _ (not_less (place / 2 ^ m.reads) (length (named_before m place)) h)
+row-unnamed m place h = cond-false (nat_lt (place / 2 ^ m.reads) (length (named_before m place))) _ _ (le-ltb (place / 2 ^ m.reads) (length (named_before m place)) h)
 
 named-more : (m : MachineModel) (place : ℕ) → place / 2 ^ m.reads < length (named_before m place)
     → named_before m (suc place) ≡ with_state (named_before m place) (next_of m (slice_index (named_before m place) (place / 2 ^ m.reads)) (place % 2 ^ m.reads))
 named-more m place h = cond-true (nat_lt (place / 2 ^ m.reads) (length (named_before m place))) _ _ ((Decides-ltb (place / 2 ^ m.reads) (length (named_before m place))).1 h)
 
 named-same : (m : MachineModel) (place : ℕ) → length (named_before m place) ≤ place / 2 ^ m.reads → named_before m (suc place) ≡ named_before m place
-named-same m place h = cond-false (nat_lt (place / 2 ^ m.reads) (length (named_before m place))) _ _ (not_less (place / 2 ^ m.reads) (length (named_before m place)) h)
+named-same m place h = cond-false (nat_lt (place / 2 ^ m.reads) (length (named_before m place))) _ _ (le-ltb (place / 2 ^ m.reads) (length (named_before m place)) h)
 
 -- the same at a place whose state and letter are known
 row-at : (m : MachineModel) (place t i : ℕ) → place / 2 ^ m.reads ≡ t → place % 2 ^ m.reads ≡ i → t < length (named_before m place)

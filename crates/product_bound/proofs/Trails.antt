@@ -97,10 +97,6 @@ trail-path p m (step ∷ steps) e trail =
     let lead : Leads p m step (at_pair e.t e.q) = trail.1.1.0 in
     path-push p m (front steps) step e (trail-path p m steps step trail.1.1.1) (record { letter = lead.letter; moves = lead.moves; edge = lead.edge })
 
-length-front : (steps : List ProductStep) → length (front steps) ≡ length steps
-length-front [] = refl
-length-front (step ∷ steps) = length_push (front steps) step ∙ (let e : length (front steps) ≡ length steps = length-front steps in omega arith)
-
 -- where a trail's steps were at a pair before
 record WasAt (steps : List ProductStep) (t q : ℕ) : Type 0 where
   at : ℕ

@@ -11,12 +11,12 @@ use Rattle.product_bound.specs.Annotation.{HasNumber, bound_at, number_after, nu
 -- The rule of a valid annotation, part by part (this project's own).
 
 -- a number, if there is one, is at most the bound
-pub record IsWithin (bound : ℕ) (number : Option ℕ) : Type 0 where
+pub record IsWithinBound (bound : ℕ) (number : Option ℕ) : Type 0 where
   pub small : (c : ℕ) → number ≡ Some c → c ≤ bound
 
 -- so it is with each number of the automaton's state q
 pub record IsStateWithin (p : Problem) (numbers : List (Option ℕ)) (q : ℕ) : Type 0 where
-  pub each : (t : ℕ) → t < p.size → IsWithin (bound_at p q) (number_at p numbers t q)
+  pub each : (t : ℕ) → t < p.size → IsWithinBound (bound_at p q) (number_at p numbers t q)
 
 -- and of each state
 pub record AreWithin (p : Problem) (numbers : List (Option ℕ)) : Type 0 where

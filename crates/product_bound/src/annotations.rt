@@ -3,7 +3,7 @@ ghost use Rattle.machine_model.specs.Accepts.{SideAccepts};
 ghost use Rattle.machine_model.specs.Automaton.{states_of};
 ghost use Rattle.machine_model.specs.Problem.{IsMachineOf, IsProblem, automaton_of};
 ghost use Rattle.product_bound.specs.Annotation.{HasNumber, IsCountedBy, IsValidAnnotation, bound_at, bound_of, leaves, number_after, number_at, places_of, rejecting_at, rise_at, start_number};
-ghost use Rattle.product_bound.specs.Kept.{AreWithin, IsStateWithin, IsWithin, KeepsEdges, KeepsLetters, KeepsNumber, KeepsStates};
+ghost use Rattle.product_bound.specs.Kept.{AreWithin, IsStateWithin, IsWithinBound, KeepsEdges, KeepsLetters, KeepsNumber, KeepsStates};
 
 use machine_model::laws::{components_are_classes, joined_is_reached};
 use machine_model::{Automaton, Components, Machine, Problem, whole_letter};
@@ -142,7 +142,7 @@ fn is_state_within(problem: &Problem, numbers: &[Option<u32>], q: u32) -> bool
 
 /// Whether the number, if there is one, is at most the bound.
 fn is_within(number: Option<u32>, bound: u32) -> bool
-    ensures { IsTrue result ↔ IsWithin bound number }
+    ensures { IsTrue result ↔ IsWithinBound bound number }
 {
     match number {
         Some(number) => number <= bound,

@@ -15,7 +15,7 @@ use std::alloc::{AllocError, Global};
 
 /// A step of a path in the product of a machine and an automaton: the pair of their states, and the letter that the
 /// machine reads when the pair is left.
-#[derive(Clone, Copy, Debug, PartialEq, Eq, Hash)]
+#[derive(Clone, Copy, Debug, PartialEq, Eq)]
 pub struct ProductStep {
     pub t: u32,
     pub q: u32,

@@ -236,10 +236,6 @@ synth_spec_settles : (name : Text) → Settles (leaf (line.searching name)) (cod
 unfolding clap_on_literals
 synth_spec_settles name = record { rows = λ text rows. refl; fault = λ text rows waiting position. refl }
 
-check_spec_settles : Settles (leaf line.check) (codes "spec")
-unfolding clap_on_literals
-check_spec_settles = record { rows = λ text rows. refl; fault = λ text rows waiting position. refl }
-
 check_certificate_settles : Settles (leaf line.check) (codes "certificate")
 unfolding clap_on_literals
 check_certificate_settles = record { rows = λ text rows. refl; fault = λ text rows waiting position. refl }
@@ -247,10 +243,6 @@ check_certificate_settles = record { rows = λ text rows. refl; fault = λ text 
 expand_spec_settles : Settles (leaf line.expand) (codes "spec")
 unfolding clap_on_literals
 expand_spec_settles = record { rows = λ text rows. refl; fault = λ text rows waiting position. refl }
-
-lasso_spec_settles : Settles (leaf line.lasso) (codes "spec")
-unfolding clap_on_literals
-lasso_spec_settles = record { rows = λ text rows. refl; fault = λ text rows waiting position. refl }
 
 lasso_word_settles : Settles (leaf line.lasso) (codes "word")
 unfolding clap_on_literals
@@ -263,10 +255,6 @@ gen_clients_settles = record { rows = λ text rows. refl; fault = λ text rows w
 bench_clients_settles : Settles (leaf line.bench) (codes "clients")
 unfolding clap_on_literals
 bench_clients_settles = record { rows = λ text rows. refl; fault = λ text rows waiting position. refl }
-
-verify_spec_settles : Settles (leaf line.verify) (codes "spec")
-unfolding clap_on_literals
-verify_spec_settles = record { rows = λ text rows. refl; fault = λ text rows waiting position. refl }
 
 verify_circuit_settles : Settles (leaf line.verify) (codes "circuit")
 unfolding clap_on_literals

@@ -1,23 +1,18 @@
 -- Numerals as they are read.
-use Rattle.std.proofs.Common.{◌≡◌, ◌==◌, ◌↔◌, ℕ, ◌<◌, ◌≤◌, Bool, true, false, List, [], ◌∷◌, length, slice_index, Ok, Err, Result, nat_le, nat_lt, IfOk, IsErrOf, arith, sym, ap, ◌∙◌, refl, append-nil, not, ◌&&◌, ◌||◌}
+use Rattle.std.proofs.Common.{◌≡◌, ◌==◌, ◌↔◌, ℕ, ◌<◌, ◌≤◌, Bool, true, false, List, [], length, slice_index, Ok, Err, Result, nat_le, nat_lt, IfOk, IsErrOf, arith, sym, ap, ◌∙◌, refl, append-nil, not, ◌&&◌, ◌||◌}
 use Rattle.std.proofs.lemmas.Grind.{common_steps}
 use Rattle.std.specs.Char.{is_ascii_digit}
 use Rattle.std.specs.List.{list_all}
 use Rattle.std.specs.Result.{result_ok}
-use Rattle.std.specs.Str.{all_ascii_digits}
 use Rattle.text_base.specs.Numerals.{decimal_value, digit_run}
 use Rattle.text_base.specs.declared.number.NumberFault.{NumberFault}
 use Rattle.text_base.specs.declared.number.NumberFault.TheVariants.{NoDigits, Range}
-use Rattle.text_base.proofs.NumeralLemmas.{digit_run-append}
+use Rattle.text_base.proofs.NumeralLemmas.{digit_run-append, digits_are}
 use Rattle.program_words.specs.Numbers.{is_numeral, value_within}
-
-all_digits_by : (text : List ℕ) → list_all is_ascii_digit text ≡ all_ascii_digits text
-all_digits_by [] = refl
-all_digits_by (c ∷ cs) = ap (λ b. is_ascii_digit c && b) (all_digits_by cs)
 
 -- digits are the whole run
 run_is_whole : (text : List ℕ) → list_all is_ascii_digit text ≡ true → digit_run text ≡ text
-run_is_whole text digits = ap digit_run (sym (append-nil text)) ∙ digit_run-append text [] (sym (all_digits_by text) ∙ digits) refl
+run_is_whole text digits = ap digit_run (sym (append-nil text)) ∙ digit_run-append text [] (sym (digits_are text) ∙ digits) refl
 
 last_test : (some start digits : Bool) → (some && (start && digits)) ≡ true → (some ≡ true) × (digits ≡ true)
 last_test true true true h = (refl, refl)

@@ -1,4 +1,4 @@
-// The command line, as `clap` is set up.
+//! The command line, as `clap` is set up.
 ghost use Rattle.std.specs.Prelude.{◌≡◌, [], ◌∷◌, false, IfOk};
 ghost use Rattle.clap.specs.Words.{app_of, rule_of};
 ghost use Rattle.program_words.specs.CommandLine.{IsSetUpAs, batch, bench, check, expand, gen, lasso, option, program, required, searching, verify};
@@ -6,7 +6,7 @@ ghost use Rattle.program_words.specs.CommandLine.{IsSetUpAs, batch, bench, check
 use clap::{Arg, Command};
 use std::alloc::{AllocError, Global};
 
-// The whole command line. It has no help.
+/// The whole command line. It has no help.
 pub(crate) fn program<'a>(alloc: Global) -> Result<Command<'a>, AllocError>
     ensures { IfOk result (λ c. app_of c ≡ program) }
 {
@@ -26,7 +26,7 @@ pub(crate) fn program<'a>(alloc: Global) -> Result<Command<'a>, AllocError>
         .subcommand(batch(alloc)?)
 }
 
-// A command that searches for a machine of one text.
+/// A command that searches for a machine of one text.
 fn searching<'a>(alloc: Global, name: &'a str) -> Result<Command<'a>, AllocError>
     ensures { IfOk result (IsSetUpAs (searching name.entry.now)) }
 {
@@ -94,7 +94,7 @@ fn batch<'a>(alloc: Global) -> Result<Command<'a>, AllocError>
         .arg(option(alloc, "counts"))
 }
 
-// What must be given, by its place.
+/// What must be given, by its place.
 fn required<'a>(alloc: Global, id: &'a str) -> Arg<'a>
     ensures rule { rule_of result ≡ required id.entry.now }
     ensures own { result.global ≡ false }
@@ -102,7 +102,7 @@ fn required<'a>(alloc: Global, id: &'a str) -> Arg<'a>
     Arg::new(alloc, id).required(true)
 }
 
-// An option `--name value`.
+/// An option `--name value`.
 fn option<'a>(alloc: Global, name: &'a str) -> Arg<'a>
     ensures rule { rule_of result ≡ option name.entry.now }
     ensures own { result.global ≡ false }

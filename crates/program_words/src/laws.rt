@@ -1,4 +1,4 @@
-// Laws of the definitions, which no code needs.
+//! Laws of the definitions, which no code needs.
 ghost use Rattle.program_words.specs.Plain.{PlainWordsAreRead};
 
 /// Words of the plain form ask for what they say.

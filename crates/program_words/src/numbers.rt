@@ -1,4 +1,4 @@
-// Numbers among the words.
+//! Numbers among the words.
 ghost use Rattle.std.specs.Prelude.{◌≡◌, ◌≤◌, true, IfSome};
 ghost use Rattle.std.specs.Char.{is_ascii_digit};
 ghost use Rattle.std.specs.List.{list_all};
@@ -6,7 +6,7 @@ ghost use Rattle.program_words.specs.Numbers.{is_numeral, number_in, value_withi
 
 use text_base::{Cursor, read_number};
 
-// The number that a word is, if it is one from the least to the most.
+/// The number that a word is, if it is one from the least to the most.
 pub(crate) fn number_in(text: &str, least: u32, most: u32) -> Option<u32>
     ensures number { result ≡ number_in least most text.now }
     ensures within { IfSome result (λ n. (least ≤ n) × (n ≤ most)) }
@@ -19,7 +19,7 @@ pub(crate) fn number_in(text: &str, least: u32, most: u32) -> Option<u32>
     if least <= value { Some(value) } else { None }
 }
 
-// The value of digits, if it is at most `most`.
+/// The value of digits, if it is at most `most`.
 fn value_within(digits: &[u8], most: u64) -> Option<u64>
     requires { is_numeral digits.now ≡ true }
     ensures value { result ≡ value_within most digits.now }

@@ -12,10 +12,10 @@ use letter_word::Kind;
 use std::alloc::{AllocError, Global};
 use synth_engine::Settings as Search;
 
-// The most states and workers of a search for one text.
+/// The most states and workers of a search for one text.
 const MOST_ALONE: u32 = 8;
 
-// The same where many texts are searched at once.
+/// The same where many texts are searched at once.
 const MOST_IN_BATCH: u32 = 4;
 
 /// Why words ask for nothing.
@@ -59,7 +59,7 @@ fn fault_by(kind: ErrorKind) -> WordsFault
     }
 }
 
-// What the matches ask for. A `match`, since `ok_or` would take names and a search by value together.
+/// What the matches ask for. A `match`, since `ok_or` would take names and a search by value together.
 fn found_settings<'a>(matches: &ArgMatches<'a>) -> Result<Settings<'a>, WordsFault>
     ensures settings { IfOk result (λ s. asked_of (subcommand_rows_of matches.now) ≡ Some (asked_by s)) }
     ensures refused { IsErrOf result WordsFault.Refused → asked_of (subcommand_rows_of matches.now) ≡ None }
@@ -177,7 +177,7 @@ fn batch_in<'a>(own: &ArgMatches<'a>) -> Option<Settings<'a>>
     })
 }
 
-// How a search is bounded, by at most so many states and workers.
+/// How a search is bounded, by at most so many states and workers.
 fn search_in(own: &ArgMatches<'_>, most: u32) -> Option<Search>
     requires default { 4 ≤ most }
     requires most { most ≤ 8 }
@@ -191,7 +191,7 @@ fn search_in(own: &ArgMatches<'_>, most: u32) -> Option<Search>
     Some(Search::new(max, entries, workers, counts))
 }
 
-// The number that an option has, or its default.
+/// The number that an option has, or its default.
 fn number_or(own: &ArgMatches<'_>, id: &str, default: u32, least: u32, most: u32) -> Option<u32>
     requires default { (least ≤ default) × (default ≤ most) }
     ensures number { result ≡ number_or id.now default least most (given_in (rows_of (found_of own.now))) }
@@ -262,7 +262,7 @@ fn kind_in(text: &str) -> Option<Option<Kind>>
     }
 }
 
-// The text that was given for an argument.
+/// The text that was given for an argument.
 fn text_of<'a>(own: &ArgMatches<'a>, id: &str) -> Option<&'a str>
     ensures { option_map (λ s. s.now) result ≡ first_of id.now (rows_of (found_of own.now)) }
 {

@@ -1,10 +1,11 @@
-// The entries of a log in LRAT, and their clauses in DRAT.
+//! The entries of a log in LRAT, and their clauses in DRAT.
+
 use crate::dimacs::{push_clause, push_literal};
 use refutation_log::Entry;
 use std::alloc::AllocError;
 use text_base::push_number;
 
-// Each entry with its number, which comes behind those of the base clauses, and its hints.
+/// Each entry with its number, which comes behind those of the base clauses, and its hints.
 pub(crate) fn push_lrat(base: u64, entries: &[Entry], out: &mut Vec<u8>) -> Result<(), AllocError> {
     let mut number = base;
     for entry in entries {
@@ -21,7 +22,7 @@ pub(crate) fn push_lrat(base: u64, entries: &[Entry], out: &mut Vec<u8>) -> Resu
     Ok(())
 }
 
-// The literals of an entry, and a 0.
+/// The literals of an entry, and a 0.
 fn push_literals(entry: &Entry, out: &mut Vec<u8>) -> Result<(), AllocError> {
     for lit in entry.clause.lits() {
         push_literal(*lit, out)?;
@@ -29,7 +30,7 @@ fn push_literals(entry: &Entry, out: &mut Vec<u8>) -> Result<(), AllocError> {
     out.extend_from_slice(b"0 ")
 }
 
-// A line for each entry's clause.
+/// A line for each entry's clause.
 pub(crate) fn push_drat(entries: &[Entry], out: &mut Vec<u8>) -> Result<(), AllocError> {
     for entry in entries {
         push_clause(entry.clause.as_clause(), out)?;

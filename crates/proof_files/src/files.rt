@@ -1,4 +1,5 @@
-// The files of a document's logs.
+//! The files of a document's logs.
+
 ghost use Rattle.machine_model.specs.Problem.{IsVersion};
 ghost use Rattle.spec_problems.specs.OfFormula.{AreProblems};
 
@@ -13,7 +14,7 @@ use spec_faults::SpecFault;
 use spec_problems::{SideProblems, text_problems};
 use std::alloc::{AllocError, AllocFailed, Global};
 
-// The greatest size of a log.
+/// The greatest size of a log.
 const MOST_STATES: u32 = 8;
 
 /// A file, and what stands behind a prefix in its name.
@@ -63,7 +64,7 @@ pub fn proof_files(
     files_of(alloc, &text.problems, &document.logs)
 }
 
-// The version of the base clauses that a document's logs are over.
+/// The version of the base clauses that a document's logs are over.
 fn clause_version(version: u32) -> u32
     ensures { IsVersion result }
 {

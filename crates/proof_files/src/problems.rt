@@ -1,4 +1,5 @@
-// The base clauses of one side and size of a text.
+//! The base clauses of one side and size of a text.
+
 ghost use Rattle.std.specs.Prelude.{◌≤◌, IfOk};
 ghost use Rattle.machine_model.specs.Problem.{IsProblem};
 ghost use Rattle.spec_problems.specs.OfFormula.{AreProblems};
@@ -10,7 +11,7 @@ use machine_model::Problem;
 use spec_problems::SideProblems;
 use std::alloc::{AllocError, Global};
 
-// The same problem for another number of states.
+/// The same problem for another number of states.
 fn of_size(problem: &Problem, size: u32) -> Result<Problem, AllocError>
     requires problem { IsProblem problem.now }
     requires some { 1 ≤ size }

@@ -1,4 +1,4 @@
-// Numbers of written nesting, counted by hand.
+//! Numbers of written nesting, counted by hand.
 
 use std::alloc::Global;
 use std::process::Abort;

@@ -1,4 +1,4 @@
-// Spans, and the longest text.
+//! Spans, and the longest text.
 
 use spec_faults::{SpecCode, SpecFault};
 use std::alloc::Global;

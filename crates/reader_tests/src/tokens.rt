@@ -1,4 +1,4 @@
-// Texts and their whole lists of tokens, read off the rules by hand: where signs end, and bytes of which no stored run can tell.
+//! Texts and their whole lists of tokens, read off the rules by hand: where signs end, and bytes of which no stored run can tell.
 
 use spec_faults::SpecCode;
 use std::alloc::Global;

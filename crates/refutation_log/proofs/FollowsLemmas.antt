@@ -1,10 +1,11 @@
 -- What follows stays so in a longer list, and is implied.
-use Rattle.std.proofs.Common.{◌≡◌, ℕ, suc, zero, ◌-◌, ◌<◌, ◌≤◌, ◌≢◌, Bool, true, false, not, ◌||◌, nat_eq, cond, List, [], ◌∷◌, ◌++◌, Option, Some, None, map, slice_get, length, All, refl, sym, ap, ◌∙◌, true≢false, arith}
+use Rattle.std.proofs.Common.{◌≡◌, ℕ, suc, zero, ◌-◌, ◌<◌, ◌≤◌, ◌≢◌, Bool, true, false, not, nat_eq, cond, List, [], ◌∷◌, ◌++◌, Option, Some, None, map, slice_get, length, All, refl, sym, ap, ◌∙◌, true≢false, arith}
 use Rattle.std.specs.Cmp.{first_so, second_so}
 use Rattle.std.specs.Option.{option_map_or, option_and_then}
 use Rattle.std.proofs.lemmas.List.Elements.{All-nil, All-cons}
 use Rattle.std.proofs.lemmas.Option.{slice_get_within}
 use Rattle.std.proofs.lemmas.Bool.Decides.{Decides-eqb}
+use Rattle.std.proofs.lemmas.Bool.{or_parts}
 use Rattle.clause_base.specs.Literal.{Literal, negated}
 use Rattle.clause_base.specs.Truth.{is_true_literal, is_true_clause, meets}
 use Rattle.clause_base.specs.Partial.{is_falsified, unit_of, AgreesWith}
@@ -73,15 +74,11 @@ no_conflict values clauses trues (n ∷ o ∷ hints) m a h =
     let u = behind_chain (unit_of trues) (clause_named clauses n) k.0 k.1 in
     no_conflict values clauses (k.0 ∷ trues) (o ∷ hints) m (unit_is_true values trues u.0 k.0 a u.2 (met_named values clauses n u.0 m u.1)) k.2
 
-neither_so : (a b : Bool) → (a || b) ≡ false → (a ≡ false) × (b ≡ false)
-neither_so true b h = absurd (true≢false h)
-neither_so false b h = (refl, h)
-
 -- where a clause is false, the opposites of its literals are true
 false_agrees : (values : List Bool) (clause : List Literal) → is_true_clause values clause ≡ false → AgreesWith values (map negated clause)
 false_agrees values [] h = All-nil (λ l. is_true_literal values l ≡ true)
 false_agrees values (l ∷ clause) h =
-    let k = neither_so (is_true_literal values l) (is_true_clause values clause) h in
+    let k = or_parts (is_true_literal values l) (is_true_clause values clause) h in
     All-cons (λ l. is_true_literal values l ≡ true) (negated l) (map negated clause) (is_true_literal-negated values l ∙ ap not k.0) (false_agrees values clause k.1)
 
 pub Follows-implied : (values : List Bool) (clauses : List (List Literal)) (clause : List Literal) (hints : List ℕ)

@@ -4,14 +4,15 @@ use Rattle.std.specs.Prelude.{AllPairs, position}
 use Rattle.std.specs.List.{position_or_len}
 use Rattle.std.specs.Cmp.{first_so, second_so}
 use Rattle.std.specs.Option.{option_map_or}
-use Rattle.std.proofs.lemmas.List.{get_or_append_left, append-nil, length-map}
+use Rattle.std.proofs.lemmas.List.{get_or_append_left, append-nil, length-map, map-append}
 use Rattle.std.proofs.lemmas.List.Elements.{All-nil, All-push}
 use Rattle.std.proofs.lemmas.List.Folds.{list_all-append}
 use Rattle.std.proofs.lemmas.List.Quantifiers.{all_pairs_push}
 use Rattle.std.proofs.lemmas.List.Sums.{fails_before_first}
 use Rattle.std.proofs.lemmas.Option.{slice_get_cases, slice_get_within, slice_get-get_or}
 use Rattle.std.proofs.Math.Seq.{take-suc, take-length}
-use borrow.Author.Tests.{ltb-true, ltb-false, leb-false}
+use Rattle.std.proofs.lemmas.Bool.{cases_lt}
+use borrow.Author.Tests.{ltb-false, leb-false}
 use Rattle.clause_base.specs.Literal.{Literal}
 use Rattle.clause_base.specs.Clause.{clause_eq, IsWithin}
 use Rattle.clause_base.specs.Truth.{is_true_clause, meets}
@@ -24,7 +25,7 @@ use Rattle.refutation_log.specs.Entry.{clauses_of}
 use Rattle.refutation_log.specs.Follows.{Follows}
 use Rattle.refutation_log.specs.Log.{is_empty_clause, is_ended, IsWithinLimit, IsLegal, IsClosed}
 use Rattle.refutation_log.specs.Turn.{place_of, is_at_limit, reply_to_new, log_replied, log_after, run_of, IsSoundTurn, IsSoundRun}
-use Rattle.refutation_log.proofs.Lists.{slice_get-append, slice_get-push, take-append, take-append_all, map-append, take_drop}
+use Rattle.refutation_log.proofs.Lists.{slice_get-append, slice_get-push, take-append, take-append_all, take_drop}
 use Rattle.refutation_log.proofs.FollowsLemmas.{Follows-append, Follows-implied}
 use Rattle.refutation_log.proofs.StateLemmas.{is_ended-last}
 
@@ -78,7 +79,7 @@ no_position p xs h = by (nat_lt (position_or_len p xs) (length xs)) refl h
     by true e k = absurd (cc)
     by false e k = ltb-false (position_or_len p xs) (length xs) e
 
-get_or-clauses : (log : List Entry) (k : ℕ) (d : Entry) (c : List Literal) → k < length log → get_or (clauses_of log) k c ≡ (get_or log k d).clause
+pub get_or-clauses : (log : List Entry) (k : ℕ) (d : Entry) (c : List Literal) → k < length log → get_or (clauses_of log) k c ≡ (get_or log k d).clause
 get_or-clauses [] k d c lt = absurd (omega arith)
 get_or-clauses (e ∷ log) zero d c lt = refl
 get_or-clauses (e ∷ log) (suc k) d c lt = get_or-clauses log k d c (omega arith)
@@ -91,16 +92,9 @@ unknown_before log c h k d lt e =
     let there : get_or (clauses_of log) k c ≡ (get_or log k d).clause = get_or-clauses log k d c lt in
     true≢false (sym ((Decides-clause_eq c (get_or (clauses_of log) k c)).1 (sym (there ∙ e))) ∙ miss)
 
-le_cases : (a b : ℕ) → (a < b) ⊎ (b ≤ a)
-le_cases a b = by (nat_lt a b) refl
-  where
-    by : (c : Bool) → nat_lt a b ≡ c → (a < b) ⊎ (b ≤ a)
-    by true e = inl (ltb-true a b e)
-    by false e = inr (ltb-false a b e)
-
 pub unended_before : (log : List Entry) → AllPairs (λ (d e : Entry). d.clause ≢ []) log → is_ended log ≡ false → (k : ℕ) (d : Entry) → k < length log → (get_or log k d).clause ≢ []
 unended_before log pairs open' k d lt e =
-    elim (le_cases (k + 1) (length log)) [
+    elim (cases_lt (k + 1) (length log)) [
       | inl p ↦ pairs k (k + 1) d (omega arith) p e
       | inr p ↦
           let last : slice_get log k ≡ Some (get_or log k d) = slice_get-get_or log k d lt in

@@ -1,5 +1,5 @@
 -- How the parts of an entry line are read.
-use Rattle.std.proofs.Common.{◌≡◌, ◌≢◌, ℕ, ◌-◌, ◌<◌, ◌≤◌, ◌^◌, Bool, true, false, List, [], ◌∷◌, ◌++◌, decimal, append_assoc, refl, sym, subst, ap, ◌∙◌, true≢false, arith}
+use Rattle.std.proofs.Common.{◌≡◌, ◌≢◌, ℕ, ◌-◌, ◌^◌, Bool, true, false, List, [], ◌∷◌, ◌++◌, decimal, append_assoc, refl, sym, subst, ap, ◌∙◌, true≢false, arith}
 use Rattle.std.specs.Prelude.{All, if◌then◌else◌}
 use Rattle.std.specs.Bool.{OnTrue}
 use Rattle.std.specs.List.{flat_map}
@@ -13,12 +13,9 @@ use Rattle.clause_base.proofs.Rising.{rising_one}
 use Rattle.refutation_log.specs.declared.entries.Entry.{Entry}
 use Rattle.refutation_log.specs.Text.{literal_word, hint_word, entry_line, IsWritable}
 use Rattle.refutation_log.specs.Read.{StatesEntry, StatesEntries, StatesNumber, IsLiteral, StatesLiteral, StatesLiterals, IsHint, StatesHint, StatesHints}
-use Rattle.refutation_log.proofs.Words.{no_number, literal_bytes, hint_bytes, words_only, literals_same, literal_not_end, hints_same, hint_not_end, Parts, cut, joined, number_parts_same, literal_parts_same}
+use Rattle.refutation_log.proofs.Words.{no_number, literal_bytes, hint_bytes, words_only, literals_same, literal_not_end, hints_same, hint_not_end, Parts, cut, joined, number_parts_same, literal_parts_same, small_var}
 
 -- ---- a literal, a hint
-
-small_var : (n : ℕ) → n ≤ 2 ^ 30 → n < 2 ^ 64
-small_var n h = omega arith
 
 -- a literal is stated exactly where its number is, after its sign
 pub number_of_literal : (bytes digits : List ℕ) (positive : Bool) → bytes ≡ (if positive then [] else 45 ∷ []) ++ digits → OnTrue positive ((rest : List ℕ) → bytes ≢ 45 ∷ rest)

@@ -1,8 +1,8 @@
 -- A log as it stands in its map.
-use Rattle.std.proofs.Common.{◌≡◌, ℕ, suc, ◌-◌, Bool, true, false, List, [], ◌∷◌, ◌++◌, Option, Some, None, map, slice_get, length, is_some, ◌==◌, refl, sym, ap, ◌∙◌, true≢false, arith}
-use Rattle.std.specs.Option.{option_map_or, option_map}
+use Rattle.std.proofs.Common.{◌≡◌, suc, ◌-◌, Bool, true, false, List, [], ◌∷◌, ◌++◌, Option, Some, None, map, slice_get, length, is_some, ◌==◌, refl, sym, ap, ◌∙◌, true≢false, arith}
+use Rattle.std.specs.Option.{option_map}
 use Rattle.std.proofs.lemmas.Option.{slice_get-map}
-use Rattle.std.proofs.lemmas.List.{length-map}
+use Rattle.std.proofs.lemmas.List.{length-map, map-append}
 use Rattle.std.specs.Prelude.{position}
 use Rattle.std.proofs.lemmas.Bool.Decides.{Decides-eqb}
 use Rattle.indexmap.specs.IndexMap.{IndexMap, get, insert_entry}
@@ -12,12 +12,10 @@ use Rattle.clause_base.specs.Literal.{Literal}
 use Rattle.clause_base.specs.Clause.{clause_eq}
 use Rattle.refutation_log.specs.declared.entries.Entry.{Entry}
 use Rattle.refutation_log.specs.declared.entries.Derivation.{Derivation}
-use Rattle.refutation_log.specs.declared.turns.Reply.TheVariants.{Known, At}
 use Rattle.refutation_log.specs.Entry.{clauses_of}
 use Rattle.refutation_log.specs.Log.{is_empty_clause, is_ended}
-use Rattle.refutation_log.specs.Turn.{place_of, reply_to, reply_to_new}
+use Rattle.refutation_log.specs.Turn.{place_of}
 use Rattle.refutation_log.specs.State.{entry_of}
-use Rattle.refutation_log.proofs.Lists.{map-append}
 
 -- the map's keys are the clauses of the entries
 pub keys_are_clauses : (es : List ((List Literal) × Derivation)) → map (λ e. e.0) es ≡ clauses_of (map entry_of es)
@@ -42,14 +40,6 @@ pub insert_entry-unknown : {S : Type 0} (m : IndexMap (List Literal) Derivation 
 insert_entry-unknown m k v h =
     let none : position (clause_eq k) (map (λ e. e.0) m.entries) ≡ None = ap (position (clause_eq k)) (keys_are_clauses m.entries) ∙ h in
     insert_entry-new clause_eq m k v (is_none_of (get clause_eq m k) (sym (some_index (clause_eq k) m.entries) ∙ ap is_some none))
-
--- an entry is taken only where its clause isn't in the log
-pub unknown_from_At : (log : List Entry) (limit : Option ℕ) (clause : List Literal) (n : ℕ) → reply_to log limit clause ≡ At n → place_of clause log ≡ None
-unknown_from_At log limit clause n h = by (place_of clause log) h
-  where
-    by : (o : Option ℕ) → option_map_or (λ place. Known place) o (reply_to_new log limit) ≡ At n → o ≡ None
-    by None k = refl
-    by (Some p) k = absurd (cc)
 
 pub entries_after_insert : {S : Type 0} (m : IndexMap (List Literal) Derivation S) (e : Entry) → place_of e.clause (map entry_of m.entries) ≡ None
     → map entry_of (insert_entry clause_eq m.entries e.clause (record { by = e.by; hints = e.hints })) ≡ map entry_of m.entries ++ e ∷ []

@@ -51,7 +51,7 @@ literal_bytes l rest = by (if l.positive then [] else 45 ∷ []) (decimal l.var)
 pub hint_bytes : (h : ℕ) (rest : List ℕ) → hint_word h ++ rest ≡ decimal h ++ 32 ∷ rest
 hint_bytes h rest = append_assoc (decimal h) (32 ∷ []) rest
 
-small_var : (n : ℕ) → n ≤ 2 ^ 30 → n < 2 ^ 64
+pub small_var : (n : ℕ) → n ≤ 2 ^ 30 → n < 2 ^ 64
 small_var n h = omega arith
 
 pub literals_same : (l m : Literal) (r s : List ℕ) → IsLiteral l → IsLiteral m → literal_word l ++ r ≡ literal_word m ++ s → (l ≡ m) × (r ≡ s)

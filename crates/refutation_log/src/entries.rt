@@ -168,7 +168,7 @@ impl Clone for Entry {
 impl Entry {
     ghost use Rattle.refutation_log.specs.Shown.{shown};
 
-    // The entry as a log shows it.
+    /// The entry as a log shows it.
     pub(crate) fn view(&self) -> EntryRef<'_>
         ensures { shown result ≡ self.now }
     {

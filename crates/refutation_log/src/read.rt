@@ -17,7 +17,7 @@ pub struct LogText {
 }
 
 /// Why `read_log` refused its bytes.
-#[derive(Clone, Copy, Debug, PartialEq, Eq, Hash)]
+#[derive(Clone, Copy, Debug, PartialEq, Eq)]
 pub enum LogTextFault {
     /// The line of that number, from 1, isn't an entry line.
     BadLine(u64),

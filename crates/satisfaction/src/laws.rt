@@ -1,4 +1,5 @@
-// Laws of what machines and circuits owe. Each is the contract of a function that does nothing.
+//! Laws of what machines and circuits owe. Each is the contract of a function that does nothing.
+
 ghost use Rattle.satisfaction.specs.Laws.{AcceptedEnvironmentsDefeat, AcceptedSystemsSatisfy, CircuitsDefeat, CircuitsSatisfy, DefeatingCannotLose, RejectedEnvironmentsCanLose};
 
 /// The system's side accepts exactly the machines that satisfy.

@@ -49,7 +49,7 @@ pub fn push_text(made: Result<Vec<u8>, TextFault>, out: &mut String) -> Result<(
 }
 
 /// Whether the basic TLSF of a text says what the text says.
-pub fn push_again(alloc: Global, text: &[u8], out: &mut String) -> Result<(), AllocError> {
+pub(crate) fn push_again(alloc: Global, text: &[u8], out: &mut String) -> Result<(), AllocError> {
     let Ok(written) = spec_text(alloc, text, Form::Tlsf) else {
         return push_line("refused", out);
     };

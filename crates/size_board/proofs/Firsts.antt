@@ -6,7 +6,7 @@ use Rattle.letter_word.specs.declared.kinds.Side.{Side}
 use Rattle.letter_word.specs.declared.kinds.Side.TheVariants.{System, Environment}
 use Rattle.size_board.specs.declared.events.Claim.{Claim}
 use Rattle.size_board.specs.Names.{Named, sizes_of}
-use Rattle.size_board.specs.Board.{BoardModel, IsFirstOpen, is_open, state_of}
+use Rattle.size_board.specs.Board.{BoardModel, IsFirstOpenSize, is_open, state_of}
 use Rattle.size_board.specs.Kept.{earlier}
 
 abbrev pub side_number : Side → ℕ
@@ -62,13 +62,6 @@ open_parts names b side n is =
     (ltb-true 0 n two.0, leb-true n (sizes_of names side) two.1)
 
 module _ (names : Named) (b : BoardModel) where
-  -- nothing is open below size 1
-  pub IsSearched-start : IsSearched names b 2 None
-  IsSearched-start = record {
-    none = λ e d h is. let some : 0 < d.size = (open_parts names b d.side d.size is).0 in absurd (omega (arith, h, some));
-    some = λ c e. absurd (cc);
-  }
-
   module _ (r : ℕ) (next : Claim) (here : rank next ≡ r) where
     -- a claim of a rank up to r has a lower rank, or is the next one
     split : (d : Claim) → rank d < r + 1 → (rank d < r) ⊎ (d ≡ next)
@@ -164,7 +157,7 @@ module _ (names : Named) (b : BoardModel) where
         let d : Claim = record { side = side; size = n } in
         old.none refl (record { side = side; size = n }) (open_below (record { side = side; size = n }) is) is
 
-    pub searched_some : (c : Claim) → IsFirstBelow names b r c → IsFirstOpen names b c
+    pub searched_some : (c : Claim) → IsFirstBelow names b r c → IsFirstOpenSize names b c
     searched_some c old = record {
       open_size = old.open_size;
       first = λ d is. elim (old.first d (open_below d is) is) [
@@ -201,7 +194,7 @@ searched_all_none names b size system_sizes environment_sizes (Some c) old s e p
 
 pub searched_all_some : (names : Named) (b : BoardModel) (size system_sizes environment_sizes : ℕ) (first : Option Claim) → IsSearched names b (2 * size) first
     → names.system_sizes ≡ system_sizes → names.environment_sizes ≡ environment_sizes → system_sizes + 1 ≤ size → environment_sizes + 1 ≤ size
-    → IfSome first (IsFirstOpen names b)
+    → IfSome first (IsFirstOpenSize names b)
 searched_all_some names b size system_sizes environment_sizes None old s e past_s past_e = tt
 searched_all_some names b size system_sizes environment_sizes (Some c) old s e past_s past_e =
     searched_some names b (2 * size) (past_all names size system_sizes environment_sizes s e past_s past_e) c (old.some c refl)

@@ -4,5 +4,4 @@ pub mod Sounds
 pub mod Firsts
 pub mod Updates
 pub mod LawProofs
-pub mod Fixtures
 pub mod Problems

@@ -1,25 +1,26 @@
 use Rattle.std.proofs.Common.{◌≡◌, ℕ, ◌+◌, ◌≤◌, true, false, cond, List, [], ◌∷◌, ◌++◌, length, refl, arith}
 use Rattle.std.proofs.lemmas.List.Sums.{fold-append}
 use Rattle.std.specs.List.{fold}
+use Rattle.letter_word.specs.contracts.kinds.SidePartialEq.TheImpl.{ghosts as side_ghosts}
 use Rattle.letter_word.specs.declared.kinds.Side.{Side}
 use Rattle.letter_word.specs.declared.kinds.Side.TheVariants.{System, Environment}
 use Rattle.size_board.specs.declared.events.SizeState.{SizeState}
 use Rattle.size_board.specs.declared.events.Event.{Event}
 use Rattle.size_board.specs.declared.events.Event.TheVariants.{Claimed, Left, Found, Refuted, Full}
-use Rattle.size_board.specs.States.{after_event, changed, fresh, is_at, place_of, replay, same_side}
+use Rattle.size_board.specs.States.{after_event, changed, fresh, is_at, place_of, replay}
 
 -- one event more is replayed last
 pub replay-push : (journal : List Event) (e : Event) (side : Side) (n : ℕ) → replay (journal ++ e ∷ []) side n ≡ after_event side n (replay journal side n) e
 replay-push journal e side n = fold-append (after_event side n) fresh journal (e ∷ [])
 
 -- a claim of the same side and size is meant
-pub same_side-true : (a b : Side) → same_side a b ≡ true → a ≡ b
+pub same_side-true : (a b : Side) → side_ghosts.eq a b ≡ true → a ≡ b
 same_side-true System System e = refl
 same_side-true System Environment e = absurd (cc)
 same_side-true Environment System e = absurd (cc)
 same_side-true Environment Environment e = refl
 
-pub same_side-self : (a : Side) → same_side a a ≡ true
+pub same_side-self : (a : Side) → side_ghosts.eq a a ≡ true
 same_side-self System = refl
 same_side-self Environment = refl
 

@@ -1,8 +1,8 @@
-use Rattle.std.proofs.Common.{◌≡◌, ℕ, ◌+◌, ◌-◌, ◌<◌, ◌≤◌, true, false, List, [], ◌∷◌, ◌++◌, Option, Some, None, refl, sym, ap, subst, ◌∙◌, arith, inl, inr, ◌⊎◌}
-use Rattle.std.proofs.lemmas.Bool.{cond_both, ltb-true, ltb-false, false_from_ne_true, cases_lt}
+use Rattle.std.proofs.Common.{◌≡◌, ℕ, ◌+◌, ◌-◌, ◌<◌, ◌≤◌, List, [], ◌∷◌, ◌++◌, Option, Some, None, refl, sym, ap, subst, ◌∙◌, arith, inl, inr, ◌⊎◌}
+use Rattle.std.proofs.lemmas.Bool.{cond_both, ltb-true, ltb-false}
 use Rattle.std.specs.Bool.{IsTrue}
 use Rattle.std.specs.Option.{option_map_or}
-use Rattle.std.specs.Prelude.{nat_lt, length, slice_index_or}
+use Rattle.std.specs.Prelude.{nat_lt}
 use Rattle.letter_word.specs.declared.kinds.Side.{Side}
 use Rattle.letter_word.specs.declared.kinds.Side.TheVariants.{System, Environment}
 use Rattle.machine_model.specs.Machine.{MachineModel, size_of}
@@ -10,29 +10,15 @@ use Rattle.size_board.specs.declared.events.SizeState.{SizeState}
 use Rattle.size_board.specs.declared.events.Event.{Event}
 use Rattle.size_board.specs.declared.events.Event.TheVariants.{Claimed, Left, Found, Refuted, Full}
 use Rattle.size_board.specs.Names.{Named, SideHas, sizes_of, sought_by}
-use Rattle.size_board.specs.States.{after_event, fresh, replay}
-use Rattle.size_board.specs.Board.{BoardModel, IsKeptBy, IsLow, IsSound, empty_board, high_of, machine_of, smaller, state_of, with_event, with_machine}
-use Rattle.size_board.specs.Kept.{Allows, AreStates}
+use Rattle.size_board.specs.States.{after_event, replay}
+use Rattle.size_board.specs.Board.{BoardModel, IsKeptBy, IsSound, high_of, machine_of, smaller, state_of, with_event, with_machine}
+use Rattle.size_board.specs.Kept.{Allows}
 use Rattle.size_board.proofs.Replays.{replay-push}
 use Rattle.size_board.proofs.Marks.{Refutes, Finds, IsOf, refuted_by, found_by, found_stays, found_here}
 
 -- each marked size of a side is an allowed one
 abbrev pub RefutedAllowed : Named → BoardModel → Type 0
 RefutedAllowed names b = (side : Side) (n : ℕ) → IsTrue (state_of b side n).is_refuted → n ≤ sizes_of names side
-
--- nothing is marked at first
-pub IsSound-empty : (names : Named) → IsSound names empty_board
-IsSound-empty names = record {
-  refuted = λ side n is m has. let never : false ≡ true = is in absurd (cc);
-  kept = λ side m is. absurd (none side m is);
-  smallest = λ side n is. let never : false ≡ true = is in absurd (cc);
-} where
-  none : (side : Side) (m : MachineModel) → machine_of empty_board side ≡ Some m → ⊥
-  none System m is = cc
-  none Environment m is = cc
-
-pub RefutedAllowed-empty : (names : Named) → RefutedAllowed names empty_board
-RefutedAllowed-empty names side n is = let never : false ≡ true = is in absurd (cc)
 
 -- an event that refutes an allowed size without an accepted machine
 refuted_now : (names : Named) (e : Event) (side : Side) (n : ℕ) → Allows names e → Refutes e → IsOf e side n
@@ -189,24 +175,6 @@ module _ (names : Named) (b : BoardModel) (side : Side) (m : MachineModel) where
 
   pub RefutedAllowed-found : RefutedAllowed names b → RefutedAllowed names (with_machine b side m)
   RefutedAllowed-found old t n is = old t n (refuted_old t n is)
-
--- the least size that isn't marked, from the states in order
-pub IsLow-from : (b : BoardModel) (side : Side) (states : List SizeState) (n : ℕ) → AreStates b.journal side states
-    → ((k : ℕ) → IsTrue (state_of b side k).is_refuted → k ≤ 8) → n ≤ length states
-    → ((k : ℕ) → k < n → IsTrue (slice_index_or states k fresh).is_refuted)
-    → (n < length states → (slice_index_or states n fresh).is_refuted ≡ false) → IsLow b side (n + 1)
-IsLow-from b side states n are few within before stops = record {
-  some = omega arith;
-  unmarked = elim (cases_lt n 8) [
-    | inl inner ↦ sym (ap (λ (s : SizeState). s.is_refuted) (are.each n inner)) ∙ stops (rw are.places inner)
-    | inr past ↦ let over : 8 ≤ n = past in false_from_ne_true (state_of b side (n + 1)).is_refuted (λ is. let bound : n + 1 ≤ 8 = few (n + 1) is in omega (arith, bound, over))
-  ];
-  below = λ k some less.
-      let places : length states ≡ 8 = are.places in
-      let back : k ≡ k - 1 + 1 = omega (arith, some) in
-      subst (λ (x : ℕ). IsTrue (state_of b side x).is_refuted) (sym back)
-      (sym (ap (λ (s : SizeState). s.is_refuted) (are.each (k - 1) (omega (arith, some, less, within, places)))) ∙ before (k - 1) (omega (arith, some, less)));
-}
 
 -- what a board's machines and marks keep
 pub record Holds (names : Named) (b : BoardModel) : Type 0 where

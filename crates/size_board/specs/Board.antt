@@ -58,7 +58,7 @@ ComesBefore b c d =
     × ((c.size < d.size) ⊎ ((c.size ≡ d.size) × ((c.side ≡ System) ⊎ (d.side ≡ Environment)))))
 
 -- the claim that is to be given: it is open, and comes before each open one
-pub record IsFirstOpen (names : Named) (b : BoardModel) (c : Claim) : Type 0 where
+pub record IsFirstOpenSize (names : Named) (b : BoardModel) (c : Claim) : Type 0 where
   pub open_size : IsTrue (is_open names b c.side c.size)
   pub first : (d : Claim) → IsTrue (is_open names b d.side d.size) → ComesBefore b c d
 

@@ -4,7 +4,7 @@ use Rattle.machine_model.specs.Machine.{MachineModel, IsMachine, size_of}
 use Rattle.machine_model.specs.Accepts.{SideAccepts}
 use Rattle.machine_model.specs.Problem.{IsMachineOf, IsProblem, automaton_of, parts_of, sized}
 use Rattle.machine_model.specs.declared.problems.Problem.{Problem}
-use Rattle.size_board.specs.Names.{Named, IsAccepted, IsSearchable, SideHas, sizes_of, sought_by, sought_of}
+use Rattle.size_board.specs.Names.{Named, IsSoughtMachine, IsSearchable, SideHas, sizes_of, sought_by, sought_of}
 use Rattle.size_board.specs.Board.{BoardModel, IsLow, IsSound, high_of, machine_of}
 
 -- a kept machine of `high` states, which its side accepts
@@ -27,7 +27,7 @@ BoundsAreTrue = (names : Named) (b : BoardModel) (side : Side) (low : ℕ) → I
 -- what a problem's side has of the problem's size are the machines of the problem that its side accepts
 abbrev pub SoughtOfProblem : Type 0
 SoughtOfProblem =
-    (p : Problem) (m : MachineModel) → IsAccepted (sought_of p) p.size m ↔ (IsMachine m × IsMachineOf p m × SideAccepts (automaton_of p) p.side m)
+    (p : Problem) (m : MachineModel) → IsSoughtMachine (sought_of p) p.size m ↔ (IsMachine m × IsMachineOf p m × SideAccepts (automaton_of p) p.side m)
 
 -- what is sought with a number of states is the whole problem: a problem is within the limits where what it looks for and
 -- its size are, and two that look for the same and have the same size say the same

@@ -3,4 +3,3 @@ pub mod States
 pub mod Board
 pub mod Kept
 pub mod Laws
-pub mod Fixtures

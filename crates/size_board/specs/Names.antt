@@ -94,7 +94,7 @@ pub record AreNamed (names : Named) (system : Problem) (environment : Option Pro
   pub searchable : AreSearchable names
 
 -- an accepted machine of n states: one of the kind and the signals that are sought, which the side accepts
-pub record IsAccepted (sought : Sought) (n : ℕ) (m : MachineModel) : Type 0 where
+pub record IsSoughtMachine (sought : Sought) (n : ℕ) (m : MachineModel) : Type 0 where
   pub machine : IsMachine m
   pub kind : m.kind ≡ sought.kind
   pub size : size_of m ≡ n
@@ -105,7 +105,7 @@ pub record IsAccepted (sought : Sought) (n : ℕ) (m : MachineModel) : Type 0 wh
 -- the same of a side, which accepts no machine where it looks for none
 abbrev pub SideHas : Option Sought → ℕ → MachineModel → Type 0
 SideHas None n m = ⊥
-SideHas (Some sought) n m = IsAccepted sought n m
+SideHas (Some sought) n m = IsSoughtMachine sought n m
 
 -- a side's problem on a board: of that side, it looks for what is named, and with any number of states from 1 to 8 it is
 -- a problem

@@ -1,7 +1,7 @@
 use Rattle.std.specs.Prelude.{ℕ, ◌+◌, ◌-◌, ◌==◌, ◌&&◌, Bool, true, false, List, if◌then◌else◌}
 use Rattle.std.specs.List.{fold}
 use Rattle.letter_word.specs.declared.kinds.Side.{Side}
-use Rattle.letter_word.specs.declared.kinds.Side.TheVariants.{System, Environment}
+use Rattle.letter_word.specs.contracts.kinds.SidePartialEq.TheImpl.{ghosts as side_ghosts}
 use Rattle.size_board.specs.declared.events.Claim.{Claim}
 use Rattle.size_board.specs.declared.events.SizeState.{SizeState}
 use Rattle.size_board.specs.declared.events.Event.{Event}
@@ -29,15 +29,9 @@ changed s (Found at) = record s { is_found = true }
 changed s (Refuted at) = record s { is_refuted = true }
 changed s (Full at) = record s { is_full = true }
 
-abbrev pub same_side : Side → Side → Bool
-same_side System System = true
-same_side System Environment = false
-same_side Environment System = false
-same_side Environment Environment = true
-
 -- whether the claim is of this side and size
 abbrev pub is_at : Claim → Side → ℕ → Bool
-is_at claim side size = same_side claim.side side && (claim.size == size)
+is_at claim side size = side_ghosts.eq claim.side side && (claim.size == size)
 
 -- a size after any event
 abbrev pub after_event : Side → ℕ → SizeState → Event → SizeState

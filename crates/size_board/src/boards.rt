@@ -13,7 +13,7 @@ use machine_model::{Machine, Problem};
 use std::alloc::{AllocError, Global};
 use std::marker::{Model, PhantomData};
 
-// A side has at most this many allowed sizes.
+/// A side has at most this many allowed sizes.
 const MOST_SIZES: usize = 8;
 
 /// The board of the sizes of both sides, each allowed from 1 up to its side's number of them.
@@ -24,10 +24,10 @@ pub struct Board<P: ProblemNames> {
     system_sizes: u32,
     environment_sizes: u32,
     journal: Vec<Event>,
-    // What the journal tells of sizes 1 to 8.
+    /// What the journal tells of sizes 1 to 8.
     system_states: [SizeState; MOST_SIZES],
     environment_states: [SizeState; MOST_SIZES],
-    // The smallest machines that were found.
+    /// The smallest machines that were found.
     system_machine: Option<Machine>,
     environment_machine: Option<Machine>,
     names: PhantomData<P>,
@@ -46,7 +46,7 @@ impl<P: ProblemNames> Model for Board<P> {
 
 impl<P: ProblemNames> Board<P> {
     ghost use Rattle.size_board.specs.Names.{AreNamed, IsProblemAt, IsProblemOn, SideHas, sizes_of, sought_by, sought_of};
-    ghost use Rattle.size_board.specs.Board.{BoardModel, IsFirstOpen, IsLow, IsSound, empty_board, high_of, is_open, machine_of, state_of, with_event, with_machine};
+    ghost use Rattle.size_board.specs.Board.{BoardModel, IsFirstOpenSize, IsLow, IsSound, empty_board, high_of, is_open, machine_of, state_of, with_event, with_machine};
     ghost use Rattle.size_board.specs.Kept.{Allows, earlier};
     ghost use Rattle.machine_model.specs.Machine.{MachineModel};
     ghost use Rattle.size_board.specs.declared.events.Event.TheVariants.{Claimed, Left, Refuted, Full};
@@ -135,7 +135,7 @@ impl<P: ProblemNames> Board<P> {
         self.states(side)[size as usize - 1]
     }
 
-    // The states of a side's first 8 sizes.
+    /// The states of a side's first 8 sizes.
     fn states(&self, side: Side) -> &[SizeState]
         ensures states { AreStates self.now.journal side result.now }
         ensures refuted_allowed { (n : ℕ) → IsTrue (state_of self.now side n).is_refuted → n ≤ 8 }
@@ -159,7 +159,7 @@ impl<P: ProblemNames> Board<P> {
         (refuted + 1, self.high(side))
     }
 
-    // The size of the smallest kept machine, or the number of allowed sizes plus 1.
+    /// The size of the smallest kept machine, or the number of allowed sizes plus 1.
     fn high(&self, side: Side) -> u32
         ensures { result ≡ high_of P.named self.now side }
     {
@@ -214,7 +214,7 @@ impl<P: ProblemNames> Board<P> {
     pub fn claim(&mut self, worker: u32) -> Result<Option<Claim>, AllocError>
         ensures none { result ≡ Ok None ↔ ((side : Side) (size : ℕ) → IsTrue (is_open P.named self.old side size) → ⊥) }
         ensures unchanged { IfOk result (λ given. IfNone given (self.new ≡ self.old)) }
-        ensures first { IfOk result (λ given. IfSome given (IsFirstOpen P.named self.old)) }
+        ensures first { IfOk result (λ given. IfSome given (IsFirstOpenSize P.named self.old)) }
         ensures allowed { IfOk result (λ given. IfSome given (λ c. (0 < c.size) × (c.size ≤ sizes_of P.named c.side))) }
         ensures event { IfOk result (λ given. IfSome given (λ c. self.new ≡ with_event self.old (Claimed worker c))) }
         ensures err { OnErr result (self.new ≡ self.old) }
@@ -282,7 +282,7 @@ impl<P: ProblemNames> Board<P> {
         self.tell(Event::Left(claim))
     }
 
-    // Adds an event that leaves the kept machines as they are.
+    /// Adds an event that leaves the kept machines as they are.
     fn tell(&mut self, event: Event) -> Result<(), AllocError>
         requires { Allows P.named event }
         ensures ok { OnOk result (self.new ≡ with_event self.old event) }
@@ -298,10 +298,10 @@ impl<P: ProblemNames> Board<P> {
         Ok(())
     }
 
-    // The open size that is to be claimed next.
+    /// The open size that is to be claimed next.
     fn first_open(&self) -> Option<Claim>
         ensures none { IfNone result ((side : Side) (size : ℕ) → IsTrue (is_open P.named self.now side size) → ⊥) }
-        ensures first { IfSome result (IsFirstOpen P.named self.now) }
+        ensures first { IfSome result (IsFirstOpenSize P.named self.now) }
         ensures sound { IsSound P.named self.now }
     {
         let most = self.system_sizes.max(self.environment_sizes);
@@ -321,7 +321,7 @@ impl<P: ProblemNames> Board<P> {
         first
     }
 
-    // The first of some open sizes, or the next one where it is open and has fewer claims.
+    /// The first of some open sizes, or the next one where it is open and has fewer claims.
     fn earlier(&self, first: Option<Claim>, next: Claim) -> Option<Claim>
         requires { ForSome first (λ c. IsTrue (is_open P.named self.now c.side c.size)) }
         ensures { result ≡ earlier P.named self.now first next }
@@ -341,7 +341,7 @@ impl<P: ProblemNames> Board<P> {
         }
     }
 
-    // How many claims of an open size stand.
+    /// How many claims of an open size stand.
     fn claims(&self, claim: Claim) -> u64
         requires { IsTrue (is_open P.named self.now claim.side claim.size) }
         ensures { result ≡ (state_of self.now claim.side claim.size).claims }
@@ -350,7 +350,7 @@ impl<P: ProblemNames> Board<P> {
     }
 }
 
-// The states of sizes of which nothing is known yet.
+/// The states of sizes of which nothing is known yet.
 fn fresh_states() -> [SizeState; MOST_SIZES]
     ensures { (k : ℕ) → slice_index_or result k fresh ≡ fresh }
 {
@@ -362,7 +362,7 @@ fn fresh_states() -> [SizeState; MOST_SIZES]
     }; MOST_SIZES]
 }
 
-// How many states from the first one on are marked refuted.
+/// How many states from the first one on are marked refuted.
 fn refuted_len(states: &[SizeState]) -> usize
     ensures within { result ≤ length states.now }
     ensures before { (k : ℕ) → k < result → IsTrue (slice_index_or states.now k fresh).is_refuted }
@@ -376,7 +376,7 @@ fn refuted_len(states: &[SizeState]) -> usize
     states.len()
 }
 
-// Adds an event to the journal and to the states of both sides' sizes.
+/// Adds an event to the journal and to the states of both sides' sizes.
 fn record(
     journal: &mut Vec<Event>,
     system: &mut [SizeState],
@@ -396,7 +396,7 @@ fn record(
     Ok(())
 }
 
-// Adds an event to the states of a side's sizes, that of size 1 being first.
+/// Adds an event to the states of a side's sizes, that of size 1 being first.
 fn update(states: &mut [SizeState], side: Side, event: Event)
     requires few { length states.old < 2 ^ 32 - 1 }
     requires claims { (k : ℕ) → k < length states.old → (slice_index_or states.old k fresh).claims + 1 < 2 ^ 64 }
@@ -407,7 +407,7 @@ fn update(states: &mut [SizeState], side: Side, event: Event)
     }
 }
 
-// Keeps the machine where none is kept or a larger one.
+/// Keeps the machine where none is kept or a larger one.
 fn keep_smaller(kept: &mut Option<Machine>, machine: Machine)
     ensures { kept.new ≡ Some (smaller kept.old machine) }
 {

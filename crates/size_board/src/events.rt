@@ -1,17 +1,17 @@
 ghost use Rattle.std.specs.Prelude.{◌≡◌, ℕ, ◌+◌, ◌^◌, ◌<◌};
-ghost use Rattle.size_board.specs.States.{after_event, changed, is_at, place_of, same_side};
+ghost use Rattle.size_board.specs.States.{after_event, changed, is_at, place_of};
 
 use letter_word::Side;
 
 /// A size of a side, as a worker claims it.
-#[derive(Clone, Copy, Debug, PartialEq, Eq, Hash)]
+#[derive(Clone, Copy, Debug, PartialEq, Eq)]
 pub struct Claim {
     pub side: Side,
     pub size: u32,
 }
 
 /// What happened to a size.
-#[derive(Clone, Copy, Debug, PartialEq, Eq, Hash)]
+#[derive(Clone, Copy, Debug, PartialEq, Eq)]
 pub enum Event {
     /// The worker with this number claimed it.
     Claimed(u32, Claim),
@@ -26,7 +26,7 @@ pub enum Event {
 }
 
 /// What a board knows of a size.
-#[derive(Clone, Copy, Debug, PartialEq, Eq, Hash)]
+#[derive(Clone, Copy, Debug, PartialEq, Eq)]
 pub struct SizeState {
     /// How many claims of it stand.
     pub claims: u64,
@@ -35,24 +35,8 @@ pub struct SizeState {
     pub is_full: bool,
 }
 
-// Whether two sides are the same.
-pub(crate) fn are_same(a: Side, b: Side) -> bool
-    ensures { result ≡ same_side a b }
-{
-    match a {
-        Side::System => match b {
-            Side::System => true,
-            Side::Environment => false,
-        },
-        Side::Environment => match b {
-            Side::System => false,
-            Side::Environment => true,
-        },
-    }
-}
-
 impl Event {
-    // The size that it concerns.
+    /// The size that it concerns.
     fn place(self) -> Claim
         ensures { result ≡ place_of self }
     {
@@ -67,7 +51,7 @@ impl Event {
 }
 
 impl SizeState {
-    // The state after an event that concerns its size.
+    /// The state after an event that concerns its size.
     fn changed(self, event: Event) -> SizeState
         requires { self.claims + 1 < 2 ^ 64 }
         ensures { result ≡ changed self event }
@@ -83,13 +67,13 @@ impl SizeState {
         state
     }
 
-    // The state of a side's size after any event.
+    /// The state of a side's size after any event.
     pub(crate) fn after(self, side: Side, size: u32, event: Event) -> SizeState
         requires { self.claims + 1 < 2 ^ 64 }
         ensures { result ≡ after_event side size self event }
     {
         let place = event.place();
-        if are_same(place.side, side) && place.size == size {
+        if place.side == side && place.size == size {
             self.changed(event)
         } else {
             self

@@ -1,4 +1,5 @@
-// Laws of boards. Each is the contract of a function that does nothing.
+//! Laws of boards. Each is the contract of a function that does nothing.
+
 ghost use Rattle.size_board.specs.Laws.{BoundsAreTrue, SoughtIsProblem, SoughtOfProblem};
 
 /// No size below a side's `low` has an accepted machine, and where its `high` is an allowed size a machine of

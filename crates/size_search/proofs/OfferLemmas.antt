@@ -1,12 +1,12 @@
 -- What a turn on a log tells of it.
-use Rattle.std.proofs.Common.{◌≡◌, ◌≢◌, ℕ, suc, zero, ◌+◌, ◌-◌, ◌<◌, ◌≤◌, Bool, true, false, nat_lt, nat_eq, cond, ◌==◌, List, [], ◌∷◌, ◌++◌, ◌⊎◌, inl, inr, Option, Some, None, filter, get_or, slice_get, length, length-append, Contains, refl, sym, subst, ap, ◌∙◌, true≢false, arith}
+use Rattle.std.proofs.Common.{◌≡◌, ◌≢◌, ℕ, ◌+◌, ◌-◌, ◌<◌, ◌≤◌, Bool, true, false, nat_lt, nat_eq, cond, ◌==◌, List, [], ◌∷◌, ◌++◌, ◌⊎◌, inl, inr, Option, Some, None, filter, get_or, slice_get, length, length-append, Contains, refl, sym, subst, ap, ◌∙◌, true≢false, arith}
 use Rattle.std.specs.Prelude.{AllPairs}
 use Rattle.std.specs.Option.{option_map_or}
 use Rattle.std.proofs.lemmas.List.{get_or_append_left, length-map, map-append}
 use Rattle.std.proofs.lemmas.List.Elements.{Contains-get_or, Contains-append_left, Contains-append_right, Contains-append_cases}
 use Rattle.std.proofs.lemmas.List.Quantifiers.{position-Some}
 use Rattle.std.proofs.lemmas.Option.{slice_get-get_or}
-use borrow.Author.Tests.{ltb-true, ltb-false, leb-true}
+use borrow.Author.Tests.{ltb-true, ltb-false}
 use Rattle.clause_base.specs.Literal.{Literal}
 use Rattle.clause_base.specs.Clause.{clause_eq, IsClause}
 use Rattle.clause_base.specs.Equality.{Decides-clause_eq}
@@ -16,10 +16,11 @@ use Rattle.refutation_log.specs.declared.turns.Turn.TheVariants.{Append}
 use Rattle.refutation_log.specs.declared.turns.Reply.{Reply}
 use Rattle.refutation_log.specs.declared.turns.Reply.TheVariants.{Known, Closed, Full, At, Seen}
 use Rattle.refutation_log.specs.Entry.{clauses_of}
-use Rattle.refutation_log.specs.Log.{is_empty_clause, is_ended, IsFull, IsLegal, IsWithinLimit}
+use Rattle.refutation_log.specs.Log.{is_empty_clause, is_ended, IsLegal}
 use Rattle.refutation_log.specs.Teaches.{IsQuietBut, Teaches, entries_by}
 use Rattle.refutation_log.specs.Turn.{place_of, is_at_limit, reply_to_new, reply_of, log_after, log_replied}
 use Rattle.refutation_log.proofs.StateLemmas.{is_ended-last, is_empty_clause-length}
+use Rattle.refutation_log.proofs.LegalLemmas.{get_or-clauses}
 use Rattle.text_base.specs.Prefix.{IsPrefix}
 use Rattle.clause_solver.proofs.NewLemmas.{teaching_clauses_are_new}
 
@@ -73,25 +74,6 @@ closed_ends limit log e new r n = by (offer limit log e new Closed r n)
     by (inr (inr (inl p))) = absurd (let s = p.says in cc)
     by (inr (inr (inr p))) = absurd (let s = p.says in cc)
 
-at_limit : (limit : Option ℕ) (log : List Entry) → is_at_limit limit log ≡ true → IsWithinLimit limit log → limit ≡ Some (length log)
-at_limit None log h w = absurd (true≢false (sym h))
-at_limit (Some most) log h w = let le = leb-true most (length log) h in let same : most ≡ length log = omega arith in ap Some same
-
--- the reply Full comes of a full log
-pub full_is : (vars : ℕ) (base : List (List Literal)) (limit : Option ℕ) (log : List Entry) (e : Entry) (new : List Entry)
-    → Full ≡ reply_of log limit (Append e) → new ≡ log_after log limit (Append e) → IsLegal vars base limit new → IsFull vars base limit new
-full_is vars base limit log e new r n legal = by (offer limit log e new Full r n)
-  where
-    by : Offer limit log e new Full → IsFull vars base limit new
-    by (inl k) = absurd (let s = k.says in cc)
-    by (inr (inl p)) = absurd (let s = p.says in cc)
-    by (inr (inr (inl p))) = record {
-      legal = legal;
-      at_limit = at_limit limit new (ap (is_at_limit limit) p.same ∙ p.limited) legal.limited;
-      not_closed = ap is_ended p.same ∙ p.open';
-    }
-    by (inr (inr (inr p))) = absurd (let s = p.says in cc)
-
 -- ---- a clause that is known
 
 pub record IsThere (log : List Entry) (clause : List Literal) (place : ℕ) : Type 0 where
@@ -104,17 +86,12 @@ there log clause place h =
     let n : length (clauses_of log) ≡ length log = length-map log (λ (x : Entry). x.clause) in
     record { within = omega (arith, k.0); same = sym ((Decides-clause_eq clause (get_or (clauses_of log) place [])).0 k.1) }
 
-clause_at : (log : List Entry) (k : ℕ) (d : Entry) (c : List Literal) → k < length log → get_or (clauses_of log) k c ≡ (get_or log k d).clause
-clause_at [] k d c lt = absurd (omega arith)
-clause_at (e ∷ log) zero d c lt = refl
-clause_at (e ∷ log) (suc k) d c lt = clause_at log k d c (omega arith)
-
 -- a legal log that has the empty clause ends with it
 known_ends : (log : List Entry) (e : Entry) (place : ℕ) → AllPairs (λ (d c : Entry). d.clause ≢ []) log → IsThere log [] place → is_ended log ≡ true
 known_ends log e place pairs t = by (nat_lt (place + 1) (length log)) refl
   where
     empty : (get_or log place e).clause ≡ []
-    empty = sym (clause_at log place e [] t.within) ∙ t.same
+    empty = sym (get_or-clauses log place e [] t.within) ∙ t.same
 
     by : (b : Bool) → nat_lt (place + 1) (length log) ≡ b → is_ended log ≡ true
     by true h = absurd (pairs place (place + 1) e (omega arith) (ltb-true (place + 1) (length log) h) empty)

@@ -1,32 +1,16 @@
 -- What a seat keeps from turn to turn.
-use Rattle.std.proofs.Common.{◌≡◌, ℕ, List, [], ◌∷◌, ◌++◌, Option, Some, None, slice_get, length, append_assoc, ◌<◌, refl, sym, subst, ap, ◌∙◌, arith}
+use Rattle.std.proofs.Common.{◌≡◌, ℕ, List, [], ◌∷◌, ◌++◌, Option, Some, None, slice_get, length, ◌<◌, refl, sym, subst, ap, ◌∙◌, arith}
 use Rattle.std.proofs.lemmas.Option.{slice_get_within}
-use Rattle.std.proofs.lemmas.List.{append-nil}
 use Rattle.std.specs.Prelude.{IfSome}
 use Rattle.clause_base.specs.Literal.{Literal}
 use Rattle.refutation_log.specs.declared.entries.Entry.{Entry}
 use Rattle.text_base.specs.Prefix.{IsPrefix}
+use Rattle.text_base.proofs.PrefixLemmas.{IsPrefix-refl, IsPrefix-trans}
 use Rattle.clause_exchange.specs.SharedLog.{IsAfterTurn, PassView, SharedLog, new_pass}
 use Rattle.clause_solver.specs.Worker.{WorkerModel, IsWorkingOn}
 use Rattle.clause_solver.proofs.WorkLemmas.{work_goes_on}
 use Rattle.size_search.specs.declared.seats.Work.{Work}
 use Rattle.size_search.specs.Seat.{GoesOn, IsWorkOf}
-
-pub prefix_self : {X : Type 0} (l : List X) → IsPrefix l l
-prefix_self l = ([], sym (append-nil l))
-
-pub prefix_through : {X : Type 0} (a b c : List X) → IsPrefix a b → IsPrefix b c → IsPrefix a c
-prefix_through a b c p q = (p.0 ++ q.0, q.1 ∙ ap (λ l. l ++ q.0) p.1 ∙ append_assoc a p.0 q.0)
-
-pub goes_self : (p : PassView) → GoesOn p p
-goes_self p = record { exchange = refl; number = refl; seen = prefix_self p.seen }
-
-pub goes_through : (p q r : PassView) → GoesOn p q → GoesOn q r → GoesOn p r
-goes_through p q r g h = record {
-  exchange = h.exchange ∙ g.exchange;
-  number = h.number ∙ g.number;
-  seen = prefix_through p.seen q.seen r.seen g.seen h.seen;
-}
 
 pub goes_turn : (p q : PassView) → IsAfterTurn p q → GoesOn p q
 goes_turn p q t = record { exchange = t.exchange; number = t.number; seen = t.seen }
@@ -36,7 +20,7 @@ pub work_stays : (p q : PassView) (worker : WorkerModel) (entries : List Entry) 
 work_stays p q worker entries g w = record {
   number = w.number ∙ sym g.number;
   vars = w.vars ∙ ap (λ x. x.terms.vars) (sym g.exchange);
-  begins = prefix_through entries p.seen q.seen w.begins g.seen;
+  begins = IsPrefix-trans entries p.seen q.seen w.begins g.seen;
   working = subst (λ x. IsWorkingOn x.terms.base entries worker) (sym g.exchange) w.working;
 }
 
@@ -52,7 +36,7 @@ work_reads p q worker entries read t e w =
     record {
       number = s.number;
       vars = s.vars;
-      begins = subst (λ l. IsPrefix l q.seen) (sym e) (prefix_self q.seen);
+      begins = subst (λ l. IsPrefix l q.seen) (sym e) (IsPrefix-refl q.seen);
       working = subst (λ l. IsWorkingOn q.exchange.terms.base l worker) (sym s.begins.1 ∙ sym e) (work_goes_on.longer q.exchange.terms.base entries s.begins.0 worker s.working);
     }
 

@@ -52,7 +52,7 @@ pub fn formula(alloc: Global, text: &[u8]) -> Result<Cnf, Fail>
 }
 
 /// The first of the variables 1 to 6 without a value.
-pub fn free_var(trail: &Trail) -> Option<u32>
+pub(crate) fn free_var(trail: &Trail) -> Option<u32>
     ensures { IfSome result (λ v. (0 < v) × (v ≤ 6) × IsFree trail.now.marks v) }
 {
     for var in 1..7 {

@@ -76,7 +76,7 @@ fn end_of(alloc: Global, text: &[u8], most: usize) -> Result<End, Fail> {
 /// Each of four pigeons sits in one of three holes, and no two of them in one.
 const PIGEONS: &[u8] = b"abc def ghi jkl AD AG AJ DG DJ GJ BE BH BK EH EK HK CF CI CL FI FL IL";
 
-// How many turns are needed no contract says.
+/// How many turns are needed no contract says.
 #[test]
 fn few_turns_end(rt: HostRuntime) -> Result<(), Fail> {
     for (text, most, want) in [

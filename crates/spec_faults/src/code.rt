@@ -1,4 +1,4 @@
-// The numbered refusals of a text.
+//! The numbered refusals of a text.
 
 ghost use Rattle.std.specs.Prelude.{◌≡◌};
 ghost use Rattle.spec_faults.specs.Codes.{number_of, name_of};
@@ -95,4 +95,11 @@ impl<T: Drop> From<AllocFailed<T>> for SpecFault {
     fn from(_error: AllocFailed<T>) -> SpecFault {
         SpecFault::NoMemory
     }
+}
+
+/// The refusal of a text with this fault at this byte.
+pub fn fault(code: SpecCode, place: u64) -> SpecFault
+    ensures { result ≡ SpecFault.At code place }
+{
+    SpecFault::At { code, place }
 }

@@ -1,4 +1,4 @@
-// The problems of both sides of a formula.
+//! The problems of both sides of a formula.
 
 ghost use Rattle.std.specs.Prelude.{◌≡◌, ℕ, ◌≤◌, None, Err, IfOk, IfSome, IsSome, OnOk};
 ghost use Rattle.std.specs.Arc.{arc_value};

@@ -1,4 +1,4 @@
-// The problems of both sides of a text.
+//! The problems of both sides of a text.
 
 ghost use Rattle.std.specs.Prelude.{◌≡◌, ℕ, Err, IfOk, length};
 ghost use Rattle.ltl_formula.specs.Nodes.{IsNodeList, tree_at};

@@ -1,4 +1,5 @@
-// What is written of a text.
+//! What is written of a text.
+
 ghost use Rattle.flat_lines.specs.FlatLines.{CanBeWritten};
 ghost use Rattle.ltl_formula.specs.Nodes.{Stands};
 ghost use Rattle.tlsf_expand.specs.FlatText.{spec_seen};

@@ -1,4 +1,5 @@
-// The formula of a text in infix LTL.
+//! The formula of a text in infix LTL.
+
 ghost use Rattle.std.specs.Prelude.{◌≡◌, OnOk, length};
 ghost use Rattle.flat_lines.specs.FlatLines.{CanBeWritten};
 ghost use Rattle.ltl_formula.specs.ListSignals.{HasSignalsBelow};
@@ -14,8 +15,8 @@ use std::alloc::{AllocError, Global};
 use text_base::Name;
 use tlsf_expand::Spec;
 
-// Lines that begin with `#`, and the formula of the whole on the last line. The first ones name the kind, the replaced names and
-// the lists of the signals.
+/// Lines that begin with `#`, and the formula of the whole on the last line. The first ones name the kind, the replaced names and
+/// the lists of the signals.
 pub(crate) fn ltl_text(alloc: Global, spec: &Spec) -> Result<Vec<u8>, AllocError>
     requires writable { CanBeWritten (spec_seen spec.now) }
     requires stands { Stands spec.now.formulas spec.now.whole }
@@ -58,7 +59,7 @@ fn push_replaced(names: &[Name], plain: &[Name], out: &mut Vec<u8>) -> Result<()
     Ok(())
 }
 
-// The names from a place on, up to another, with commas between them.
+/// The names from a place on, up to another, with commas between them.
 fn push_list(
     word: &[u8],
     names: &[Name],
@@ -80,7 +81,7 @@ fn push_list(
     Ok(())
 }
 
-// Appends the formula of the whole, with these names for its signals.
+/// Appends the formula of the whole, with these names for its signals.
 pub(crate) fn write_whole(spec: &Spec, names: &[Name], out: &mut Vec<u8>) -> Result<(), AllocError>
     requires stands { Stands spec.now.formulas spec.now.whole }
     requires named { HasSignalsBelow (length names.now) spec.now.formulas }

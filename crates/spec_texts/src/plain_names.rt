@@ -1,10 +1,11 @@
-// Names that the readers of infix LTL and of SMV take: a small letter, and then letters, digits and `_`.
+//! Names that the readers of infix LTL and of SMV take: a small letter, and then letters, digits and `_`.
+
 ghost use Rattle.std.specs.Prelude.{◌≡◌, IfOk, length};
 
 use std::alloc::{AllocError, Global};
 use text_base::Name;
 
-// Words that are no names in infix LTL.
+/// Words that are no names in infix LTL.
 pub(crate) const LTL_WORDS: [&[u8]; 8] = [
     b"true",
     b"false",
@@ -16,7 +17,7 @@ pub(crate) const LTL_WORDS: [&[u8]; 8] = [
     b"strong",
 ];
 
-// Words that are no names in SMV, and the one that its module has for the state.
+/// Words that are no names in SMV, and the one that its module has for the state.
 pub(crate) const SMV_WORDS: [&[u8]; 29] = [
     b"state",
     b"array",
@@ -49,8 +50,8 @@ pub(crate) const SMV_WORDS: [&[u8]; 29] = [
     b"min",
 ];
 
-// A name for each of these names, no two of them the same where no two of these are: the name itself where it is plain, else one
-// like it.
+/// A name for each of these names, no two of them the same where no two of these are: the name itself where it is plain, else one
+/// like it.
 pub(crate) fn plain_names(
     alloc: Global,
     names: &[Name],
@@ -104,7 +105,7 @@ fn is_among(bytes: &[u8], names: &[Name]) -> bool {
     names.iter().any(|name| name.bytes() == bytes)
 }
 
-// A plain name like that one: `r_0` for `r[0]`, and `v_F1` for `F1`.
+/// A plain name like that one: `r_0` for `r[0]`, and `v_F1` for `F1`.
 fn likeness(alloc: Global, name: &[u8], words: &[&[u8]]) -> Result<Vec<u8>, AllocError> {
     let mut bytes = Vec::new(alloc);
     if !name.first().is_some_and(|byte| byte.is_ascii_lowercase()) || is_word(name, words) {

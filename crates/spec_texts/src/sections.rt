@@ -1,4 +1,5 @@
-// The formulas of a flat text, section by section, as text.
+//! The formulas of a flat text, section by section, as text.
+
 ghost use Rattle.flat_lines.specs.FlatLines.{CanBeWritten};
 ghost use Rattle.tlsf_expand.specs.FlatText.{spec_seen};
 
@@ -8,10 +9,10 @@ use std::alloc::{AllocError, Global};
 use tlsf_expand::Spec;
 use tlsf_tokens::Section;
 
-// The lines of a flat text that stand before its formulas.
+/// The lines of a flat text that stand before its formulas.
 const LINES_BEFORE: usize = 3;
 
-// The lines of a flat text.
+/// The lines of a flat text.
 #[derive(Drop)]
 pub(crate) struct FlatLines {
     sink: PlainSink,
@@ -28,7 +29,7 @@ impl FlatLines {
         }
     }
 
-    // A line for each formula, behind the word of its section.
+    /// A line for each formula, behind the word of its section.
     pub(crate) fn lines(&self, alloc: Global) -> Result<Vec<String>, AllocError> {
         let mut lines = Vec::new(alloc);
         for line in self
@@ -44,7 +45,7 @@ impl FlatLines {
         Ok(lines)
     }
 
-    // The formulas of a section.
+    /// The formulas of a section.
     pub(crate) fn formulas(
         &self,
         alloc: Global,
@@ -68,7 +69,7 @@ fn string_of(alloc: Global, bytes: &[u8]) -> Result<String, AllocError> {
     Ok(text)
 }
 
-// What stands before a formula of a section. No other line begins so.
+/// What stands before a formula of a section. No other line begins so.
 fn front_of(section: Section) -> &'static [u8] {
     match section {
         Section::Initially => b"initially ",
@@ -80,7 +81,7 @@ fn front_of(section: Section) -> &'static [u8] {
     }
 }
 
-// The word of a section in TLSF.
+/// The word of a section in TLSF.
 pub(crate) fn word_of(section: Section) -> &'static [u8] {
     match section {
         Section::Initially => b"INITIALLY",

@@ -1,4 +1,5 @@
-// The formula of a text in the syntax of SMV.
+//! The formula of a text in the syntax of SMV.
+
 ghost use Rattle.std.specs.Prelude.{◌≡◌};
 ghost use Rattle.ltl_formula.specs.Nodes.{Stands};
 
@@ -6,10 +7,10 @@ use ltl_formula::{FormulaId, Formulas, Node};
 use std::alloc::AllocError;
 use text_base::Name;
 
-// The most bytes of a formula's text.
+/// The most bytes of a formula's text.
 const LONGEST: usize = 1 << 24;
 
-// Appends a formula, with these names for its signals; one that is too long is want of memory.
+/// Appends a formula, with these names for its signals; one that is too long is want of memory.
 #[cycle(smv)]
 pub(crate) fn write_smv(
     formulas: &Formulas,
@@ -80,7 +81,7 @@ fn write_two(
     write_one(formulas, b"", right, names, out)
 }
 
-// `a W b` is `b V (a | b)`, since SMV has no W.
+/// `a W b` is `b V (a | b)`, since SMV has no W.
 #[cycle(smv)]
 fn write_weak(
     formulas: &Formulas,

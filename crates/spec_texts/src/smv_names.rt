@@ -1,4 +1,5 @@
-// The signals of a module of SMV, and a text's formula over them.
+//! The signals of a module of SMV, and a text's formula over them.
+
 ghost use Rattle.ltl_formula.specs.Nodes.{Stands};
 
 use crate::forms::TextFault;
@@ -39,7 +40,7 @@ impl SmvNames {
         Ok(found)
     }
 
-    // The name for a signal of a machine that has those inputs and outputs.
+    /// The name for a signal of a machine that has those inputs and outputs.
     fn name_for(&self, signal: &Name, inputs: &[Name], outputs: &[Name]) -> Option<&Name> {
         let own = inputs.iter().zip(&self.inputs);
         for (name, plain) in own.chain(outputs.iter().zip(&self.outputs)) {

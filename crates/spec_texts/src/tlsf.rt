@@ -1,4 +1,5 @@
-// Texts in basic TLSF.
+//! Texts in basic TLSF.
+
 ghost use Rattle.flat_lines.specs.FlatLines.{CanBeWritten};
 ghost use Rattle.ltl_formula.specs.Nodes.{Stands};
 ghost use Rattle.tlsf_expand.specs.FlatText.{spec_seen};
@@ -27,7 +28,7 @@ const NO_APART: &str =
 
 const PRESET_STAYS: &str = "PRESET stays as it is, since it binds the system whatever is assumed";
 
-// The expanded text.
+/// The expanded text.
 pub(crate) fn same_text(alloc: Global, spec: &Spec) -> Result<Vec<u8>, AllocError>
     requires { CanBeWritten (spec_seen spec.now) }
 {
@@ -47,7 +48,7 @@ pub(crate) fn same_text(alloc: Global, spec: &Spec) -> Result<Vec<u8>, AllocErro
     Ok(out)
 }
 
-// The text with a guarantee for each formula of ASSERT, and of PRESET where nothing is assumed.
+/// The text with a guarantee for each formula of ASSERT, and of PRESET where nothing is assumed.
 pub(crate) fn apart_text(alloc: Global, spec: &Spec) -> Result<SpecText, TextFault>
     requires { CanBeWritten (spec_seen spec.now) }
 {
@@ -102,7 +103,7 @@ pub(crate) fn apart_text(alloc: Global, spec: &Spec) -> Result<SpecText, TextFau
     })
 }
 
-// The task of the environment, whose machines a counter-machine is one of.
+/// The task of the environment, whose machines a counter-machine is one of.
 pub(crate) fn dual_text(alloc: Global, spec: &Spec) -> Result<Vec<u8>, AllocError>
     requires writable { CanBeWritten (spec_seen spec.now) }
     requires stands { Stands spec.now.formulas spec.now.whole }
@@ -123,14 +124,7 @@ pub(crate) fn dual_text(alloc: Global, spec: &Spec) -> Result<Vec<u8>, AllocErro
     Ok(out)
 }
 
-fn kind_word(kind: Kind) -> &'static [u8] {
-    match kind {
-        Kind::Mealy => b"Mealy",
-        Kind::Moore => b"Moore",
-    }
-}
-
-// The text up to its sections.
+/// The text up to its sections.
 fn push_head(
     kind: Kind,
     is_strict: bool,
@@ -141,18 +135,18 @@ fn push_head(
     out.extend_from_slice(
         b"INFO {\n  TITLE: \"a text, expanded\"\n  DESCRIPTION: \"written by boundsyn-show\"\n  SEMANTICS: ",
     )?;
-    out.extend_from_slice(kind_word(kind))?;
+    out.extend_from_slice(kind.word().as_bytes())?;
     if is_strict {
         out.extend_from_slice(b",Strict")?;
     }
     out.extend_from_slice(b"\n  TARGET: ")?;
-    out.extend_from_slice(kind_word(kind))?;
+    out.extend_from_slice(kind.word().as_bytes())?;
     out.extend_from_slice(b"\n}\nMAIN {\n")?;
     push_signals(b"INPUTS", inputs, out)?;
     push_signals(b"OUTPUTS", outputs, out)
 }
 
-// Declares signals; those of a bus, which stand together and in order, by its width.
+/// Declares signals; those of a bus, which stand together and in order, by its width.
 fn push_signals(word: &[u8], names: &[Name], out: &mut Vec<u8>) -> Result<(), AllocError> {
     out.extend_from_slice(b"  ")?;
     out.extend_from_slice(word)?;
@@ -171,7 +165,7 @@ fn push_signals(word: &[u8], names: &[Name], out: &mut Vec<u8>) -> Result<(), Al
     out.extend_from_slice(b"  }\n")
 }
 
-// The bus to which a signal belongs.
+/// The bus to which a signal belongs.
 fn bus_of(name: &[u8]) -> Option<&[u8]> {
     let place = name.iter().position(|byte| *byte == b'[')?;
     name.get(..place)
@@ -193,7 +187,7 @@ fn push_bus(base: &[u8], names: &[Name], out: &mut Vec<u8>) -> Result<(), AllocE
     out.extend_from_slice(b"];\n")
 }
 
-// A section, where it has formulas.
+/// A section, where it has formulas.
 fn push_section(section: Section, formulas: &[&[u8]], out: &mut Vec<u8>) -> Result<(), AllocError> {
     if formulas.is_empty() {
         return Ok(());
@@ -209,7 +203,7 @@ fn push_opened(section: Section, out: &mut Vec<u8>) -> Result<(), AllocError> {
     out.extend_from_slice(b" {\n")
 }
 
-// A line for each formula, between these.
+/// A line for each formula, between these.
 fn push_formulas(
     before: &[u8],
     formulas: &[&[u8]],

@@ -1,10 +1,10 @@
 -- From a document over a ground to an answer to what has that ground.
-use Rattle.std.proofs.Common.{◌≡◌, ℕ, Bool, false, List, Option, Some, None, refl, sym, ap, ◌∙◌, subst}
+use Rattle.std.proofs.Common.{◌≡◌, ℕ, Bool, List, Option, Some, refl, sym, ap, ◌∙◌, subst}
 use Rattle.letter_word.specs.declared.kinds.Kind.{Kind}
 use Rattle.spec_faults.specs.declared.code.SpecCode.{SpecCode}
 use Rattle.annotation_encode.specs.Counts.{counts_version}
 use Rattle.synth_engine.specs.declared.settings.Settings.{Settings}
-use Rattle.synth_answer.specs.Answer.{AnswersFor, IsAnswerFor, IsAnswerOn, IsToldFor, IsToldOn, refused, realizable, unrealizable, bounded, no_size, no_entries, defeats, verdict_defeats, verdict_of}
+use Rattle.synth_answer.specs.Answer.{AnswersFor, IsAnswerFor, IsAnswerOn, IsToldFor, IsToldOn, refused, realizable, unrealizable, bounded, no_size, no_entries, defeats, told_defeats, verdict_defeats, verdict_of}
 use Rattle.cert_text.specs.declared.documents.Verdict.{Verdict}
 use Rattle.tlsf_expand.specs.FlatText.{FlatText}
 use Rattle.spec_problems.specs.OfText.{AreProblemsOf}
@@ -48,12 +48,7 @@ module _ (IsFault : SpecCode → ℕ → Type 0) (IsGround : Option Kind → Gro
   told_for status verdict on = subst (IsToldFor IsFault IsGround kind settings bytes status) on.told (told_by status on.answers)
 
   by_answer : (status : ℕ) (a : AnswersFor (λ code position. ⊥) (λ kind other. other ≡ g) (Some g.wanted.kind) settings bytes status) → IsAnswerFor IsFault IsGround kind settings bytes status (defeats a)
-  by_answer status (refused code position is fault line) = absurd fault
-  by_answer status (realizable p n c is holds) = record { answers = realizable (printed_for p) n c is holds; told = refl }
-  by_answer status (unrealizable p n c is holds) = record { answers = unrealizable (printed_for p) n c is holds; told = refl }
-  by_answer status (bounded p side n c is holds) = record { answers = bounded (printed_for p) side n c is holds; told = refl }
-  by_answer status (no_size p is holds) = record { answers = no_size (printed_for p) is holds; told = refl }
-  by_answer status (no_entries p side n is holds) = record { answers = no_entries (printed_for p) side n is holds; told = refl }
+  by_answer status a = let t = told_by status a in record { answers = t.answers; told = ap told_defeats t.told }
 
   pub answer_for : (status : ℕ) (defeat : Bool) → IsAnswerOn g settings bytes status defeat → IsAnswerFor IsFault IsGround kind settings bytes status defeat
   answer_for status defeat on = subst (IsAnswerFor IsFault IsGround kind settings bytes status) on.told (by_answer status on.answers)
@@ -61,20 +56,8 @@ module _ (IsFault : SpecCode → ℕ → Type 0) (IsGround : Option Kind → Gro
 -- == whether a document defeats ==
 
 module _ (g : Ground) (settings : Settings) (bytes : List ℕ) (status : ℕ) where
-  abbrev option_defeats : Option Verdict → Bool
-  option_defeats None = false
-  option_defeats (Some verdict) = verdict_defeats verdict
-
-  defeats_by : (a : AnswersFor (λ code position. ⊥) (λ kind other. other ≡ g) (Some g.wanted.kind) settings bytes status) → defeats a ≡ option_defeats (verdict_of a)
-  defeats_by (refused code position is fault line) = refl
-  defeats_by (realizable p n c is holds) = refl
-  defeats_by (unrealizable p n c is holds) = refl
-  defeats_by (bounded p side n c is holds) = refl
-  defeats_by (no_size p is holds) = refl
-  defeats_by (no_entries p side n is holds) = refl
-
   pub answered_on : (verdict : Verdict) → IsToldOn g settings bytes status (Some verdict) → IsAnswerOn g settings bytes status (verdict_defeats verdict)
-  answered_on verdict on = record { answers = on.answers; told = defeats_by on.answers ∙ ap option_defeats on.told }
+  answered_on verdict on = record { answers = on.answers; told = ap told_defeats on.told }
 
 -- == what is printed for a text ==
 

@@ -10,7 +10,8 @@ use Rattle.synth_engine.specs.Logs as engine
 use Rattle.cert_text.specs.declared.order.Order.{Order}
 use Rattle.cert_text.specs.declared.order.Order.TheVariants.{UpTo, AnyUpTo}
 use Rattle.cert_text.specs.declared.order.Place.{Place}
-use Rattle.cert_text.specs.Order.{AreInOrder, may_follow, place, same_side}
+use Rattle.cert_text.specs.Order.{AreInOrder, may_follow, place}
+use Rattle.document_check.proofs.HoldLemmas.{same_as_itself}
 use Rattle.cert_text.specs.Parts.{LogPart}
 use Rattle.synth_answer.specs.Holds.{place_of}
 use Rattle.synth_answer.proofs.Held.{places_to}
@@ -92,10 +93,6 @@ from_start side (suc n) =
     let e : 0 + n ≡ n = omega arith in
     ap (λ ps. ps ++ place side (suc n) ∷ []) (from_start side n)
     ∙ ap (λ j. places_from side 0 n ++ place side (suc j) ∷ []) (sym e) ∙ sym (push_place side 0 n)
-
-same_as_itself : (side : Side) → same_side side side ≡ true
-same_as_itself System = refl
-same_as_itself Environment = refl
 
 tail_of : {A : Type 0} → List A → List A
 tail_of [] = []

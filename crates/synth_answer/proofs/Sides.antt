@@ -8,10 +8,6 @@ use Rattle.synth_engine.specs.Outcomes.{OfSide}
 pub some_of : {A : Type 0} (P : A → Type 0) (o : Option A) (x : A) → IfSome o P → o ≡ Some x → P x
 some_of P o x h e = let Q : Option _ → Type 0 = λ v. IfSome v P in subst Q e h
 
-pub if_some : {A : Type 0} (P : A → Type 0) (o : Option A) → ((x : A) → o ≡ Some x → P x) → IfSome o P
-if_some P None h = tt
-if_some P (Some x) h = h x refl
-
 -- the problem of a side
 abbrev pub IsOf : Problem → Option Problem → Side → Problem → Type 0
 IsOf s e System p = s ≡ p

@@ -141,15 +141,18 @@ abbrev pub is_environment : Side → Bool
 is_environment System = false
 is_environment Environment = true
 
--- an answer defeats where its document has a counter-machine
-abbrev pub defeats : {IsFault : SpecCode → ℕ → Type 0} {IsGround : Option Kind → Ground → Type 0} {kind : Option Kind} {settings : Settings}
-    {bytes : List ℕ} {status : ℕ} → AnswersFor IsFault IsGround kind settings bytes status → Bool
-defeats (refused code position is fault line) = false
-defeats (realizable p n c is holds) = false
-defeats (unrealizable p n c is holds) = true
-defeats (bounded p side n c is holds) = is_environment side
-defeats (no_size p is holds) = false
-defeats (no_entries p side n is holds) = false
+-- whether a document of this verdict has a counter-machine
+abbrev pub verdict_defeats : Verdict → Bool
+verdict_defeats (Realizable n) = false
+verdict_defeats (Unrealizable n) = true
+verdict_defeats (Bounded side n) = is_environment side
+verdict_defeats UnknownSizes = false
+verdict_defeats (UnknownEntries side n) = false
+
+-- whether there is a document, and it has one
+abbrev pub told_defeats : Option Verdict → Bool
+told_defeats None = false
+told_defeats (Some verdict) = verdict_defeats verdict
 
 -- the verdict of an answer's document, if it has one
 abbrev pub verdict_of : {IsFault : SpecCode → ℕ → Type 0} {IsGround : Option Kind → Ground → Type 0} {kind : Option Kind} {settings : Settings}
@@ -160,6 +163,11 @@ verdict_of (unrealizable p n c is holds) = Some (Unrealizable n)
 verdict_of (bounded p side n c is holds) = Some (Bounded side n)
 verdict_of (no_size p is holds) = Some UnknownSizes
 verdict_of (no_entries p side n is holds) = Some (UnknownEntries side n)
+
+-- an answer defeats where its document has a counter-machine
+abbrev pub defeats : {IsFault : SpecCode → ℕ → Type 0} {IsGround : Option Kind → Ground → Type 0} {kind : Option Kind} {settings : Settings}
+    {bytes : List ℕ} {status : ℕ} → AnswersFor IsFault IsGround kind settings bytes status → Bool
+defeats answers = told_defeats (verdict_of answers)
 
 -- an answer, and the verdict of its document
 pub record IsToldFor (IsFault : SpecCode → ℕ → Type 0) (IsGround : Option Kind → Ground → Type 0) (kind : Option Kind) (settings : Settings)
@@ -174,14 +182,6 @@ IsTold text kind settings bytes status verdict = IsToldFor (IsFirstFault text ki
 -- and of a document that answers over this ground, whatever has it
 abbrev pub IsToldOn : Ground → Settings → List ℕ → ℕ → Option Verdict → Type 0
 IsToldOn g settings bytes status verdict = IsToldFor (λ code position. ⊥) (λ kind other. other ≡ g) (Some g.wanted.kind) settings bytes status verdict
-
--- whether a document of this verdict has a counter-machine
-abbrev pub verdict_defeats : Verdict → Bool
-verdict_defeats (Realizable n) = false
-verdict_defeats (Unrealizable n) = true
-verdict_defeats (Bounded side n) = is_environment side
-verdict_defeats UnknownSizes = false
-verdict_defeats (UnknownEntries side n) = false
 
 -- an answer, and whether it defeats
 pub record IsAnswerFor (IsFault : SpecCode → ℕ → Type 0) (IsGround : Option Kind → Ground → Type 0) (kind : Option Kind) (settings : Settings)

@@ -102,7 +102,7 @@ pub fn answer_on<R: Threads + Wait + Sync, G: Gate + Sync>(
     })
 }
 
-// The document for a text.
+/// The document for a text.
 fn document<R: Threads + Wait + Sync, G: Gate + Sync>(
     rt: &R,
     alloc: Global,
@@ -123,7 +123,7 @@ fn document<R: Threads + Wait + Sync, G: Gate + Sync>(
     })
 }
 
-// The document for problems that stand on some ground, and what it says.
+/// The document for problems that stand on some ground, and what it says.
 fn document_on<R: Threads + Wait + Sync, G: Gate + Sync>(
     rt: &R,
     alloc: Global,
@@ -141,7 +141,7 @@ fn document_on<R: Threads + Wait + Sync, G: Gate + Sync>(
     searched(rt, alloc, spec, problems, settings, gate)
 }
 
-// The document for these problems, by the outcome of their search.
+/// The document for these problems, by the outcome of their search.
 fn searched<R: Threads + Wait + Sync, G: Gate + Sync>(
     rt: &R,
     alloc: Global,
@@ -166,7 +166,7 @@ fn searched<R: Threads + Wait + Sync, G: Gate + Sync>(
     Ok((reply, verdict))
 }
 
-// What is said of an outcome.
+/// What is said of an outcome.
 fn outcome_verdict(outcome: &Outcome) -> Verdict
     ensures { result ≡ outcome_verdict outcome.now }
 {
@@ -179,7 +179,7 @@ fn outcome_verdict(outcome: &Outcome) -> Verdict
     }
 }
 
-// Whether a document of this verdict has a machine of the environment.
+/// Whether a document of this verdict has a machine of the environment.
 fn verdict_defeats(verdict: Verdict) -> bool
     ensures { result ≡ verdict_defeats verdict }
 {

@@ -90,7 +90,7 @@ pub fn reply_to(
     }
 }
 
-// The document of a machine of a side.
+/// The document of a machine of a side.
 fn machine_text(
     alloc: Global,
     spec: &Spec,
@@ -110,7 +110,7 @@ fn machine_text(
     document_text(alloc, spec.kind, settings, verdict, Some(circuit), logs)
 }
 
-// The circuit of a machine, with names of what it reads and of what it writes.
+/// The circuit of a machine, with names of what it reads and of what it writes.
 fn named_circuit(
     alloc: Global,
     machine: &Machine,

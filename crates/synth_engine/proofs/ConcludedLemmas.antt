@@ -5,6 +5,7 @@ use Rattle.std.proofs.lemmas.List.{get_or_append_left, length-map, map-append}
 use Rattle.std.proofs.lemmas.List.Elements.{All-append, All-cons, All-nil}
 use Rattle.std.proofs.Math.ListN.{get_or-map}
 use Rattle.std.proofs.Math.Seq.{get_or-append_seam}
+use Rattle.std.proofs.lemmas.Option.{same_Some, none-some}
 use Rattle.letter_word.specs.declared.kinds.Side.{Side}
 use Rattle.letter_word.specs.declared.kinds.Side.TheVariants.{System, Environment}
 use Rattle.machine_model.specs.Machine.{MachineModel, size_of}
@@ -17,10 +18,10 @@ use Rattle.refutation_log.proofs.CodeLemmas.{never_full}
 use Rattle.size_board.specs.declared.events.Claim.{Claim}
 use Rattle.size_search.specs.declared.size_log.SizeLog.{SizeLog}
 use Rattle.synth_engine.specs.declared.settings.Settings.{Settings}
-use Rattle.synth_engine.specs.declared.outcomes.Outcome.TheVariants.{Real, Unreal, Bounded, NoSize, NoEntries}
+use Rattle.synth_engine.specs.declared.outcomes.Outcome.TheVariants.{Bounded, NoEntries}
 use Rattle.synth_engine.specs.Searched.{allowed_of}
 use Rattle.synth_engine.specs.Logs.{HasNone, IsClosedLog, IsFullLog, IsLogOf, base_at, place_of, sizes_to}
-use Rattle.synth_engine.specs.Outcomes.{CannotFill, ClosedRefute, IsBounded, IsFound, IsOutOfReach, IsSmallest, OfSide}
+use Rattle.synth_engine.specs.Outcomes.{CannotFill, ClosedRefute, IsBounded, IsFound, IsOutOfReach, OfSide}
 use Rattle.synth_engine.specs.Settled.{AreSettled, FoundOrNot, IsFoundBelow, IsSettled}
 use Rattle.synth_engine.specs.Concluded.{AreAllSettled, IsFirstOpen, IsOutcomeOf, IsSettledBelow}
 
@@ -30,12 +31,6 @@ pub problem_by : Problem → Option Problem → Side → Option Problem
 problem_by s e System = Some s
 problem_by s e Environment = e
 
-some_same : {X : Type 0} (a b : X) → Some a ≡ Some b → a ≡ b
-some_same a b e = cc
-
-no_some : {X : Type 0} (a : X) → None ≡ Some a → ⊥
-no_some a e = cc
-
 pub pick : (s : Problem) (e : Option Problem) (P : Problem → Type 0) (side : Side) → OfSide s e P side → (p : Problem) × (problem_by s e side ≡ Some p) × P p
 unfolding problem_by
 pick s e P System h = (s, refl, h)
@@ -44,15 +39,15 @@ pick s (Some p) P Environment h = (p, refl, h)
 
 pub put : (s : Problem) (e : Option Problem) (P : Problem → Type 0) (side : Side) (p : Problem) → problem_by s e side ≡ Some p → P p → OfSide s e P side
 unfolding problem_by
-put s e P System p by h = subst P (sym (some_same s p by)) h
-put s None P Environment p by h = no_some p by
-put s (Some q) P Environment p by h = subst P (sym (some_same q p by)) h
+put s e P System p by h = subst P (sym (same_Some s p by)) h
+put s None P Environment p by h = none-some p by
+put s (Some q) P Environment p by h = subst P (sym (same_Some q p by)) h
 
 pub at_side : (s : Problem) (e : Option Problem) (P : Problem → Type 0) (side : Side) (p : Problem) → problem_by s e side ≡ Some p → OfSide s e P side → P p
 unfolding problem_by
-at_side s e P System p by h = subst P (some_same s p by) h
+at_side s e P System p by h = subst P (same_Some s p by) h
 at_side s None P Environment p by h = absurd h
-at_side s (Some q) P Environment p by h = subst P (some_same q p by) h
+at_side s (Some q) P Environment p by h = subst P (same_Some q p by) h
 
 pub of_side_map : (s : Problem) (e : Option Problem) (P Q : Problem → Type 0) (side : Side) → ((p : Problem) → P p → Q p) → OfSide s e P side → OfSide s e Q side
 of_side_map s e P Q System f h = f s h
@@ -70,14 +65,6 @@ closed_here p settings l settled ended = record { legal = settled.log.legal; ref
 full_here : (p : Problem) (settings : Settings) (l : SizeLog) → IsSettled p settings l → is_ended l.log.entries ≡ false → IsFullLog p settings l
 full_here p settings l settled open_log =
     elim settled.ended [ inl closed ↦ absurd (true_false (is_ended l.log.entries) closed.refutes open_log) | inr full ↦ full ]
-
-pub smallest_of : (side : Side) (settings : Settings) (m : MachineModel) (logs : List SizeLog) (p : Problem) → IsSettledBelow side settings m logs p
-    → All (λ l. is_ended l.log.entries ≡ true) logs → IsSmallest p settings m logs
-smallest_of side settings m logs p below ended = record {
-  found = below.found;
-  smaller = record { places = below.smaller.places; each = λ k d h. (below.smaller.each k d h).log };
-  closed = λ k d h. closed_here p settings (get_or logs k d) (below.smaller.each k d h) (ended k d h);
-}
 
 -- the first log that isn't closed stands in the list
 open_at : (logs : List SizeLog) (l : SizeLog) (first : IsFirstOpen logs l) → (length first.before < length logs) × ((d : SizeLog) → get_or logs (length first.before) d ≡ l)
@@ -144,9 +131,9 @@ never_filled limit max p settings l is reach log full some most =
 cannot_be_full : (s : Problem) (e : Option Problem) (settings : Settings) (side : Side) (p : Problem) (l : SizeLog) → CannotFill s e settings → problem_by s e side ≡ Some p → IsLogOf p settings l
     → IsFullLog p settings l → 0 < l.size → l.size ≤ allowed_sizes p settings.max → ⊥
 unfolding problem_by
-cannot_be_full s e settings side p l (inl none) by log full some most = no_some (length l.log.entries) (sym none ∙ full.at_limit)
+cannot_be_full s e settings side p l (inl none) by log full some most = none-some (length l.log.entries) (sym none ∙ full.at_limit)
 cannot_be_full s e settings System p l (inr r) by log full some most =
-    never_filled r.0 settings.max p settings l r.1 (subst (IsOutOfReach settings.max r.0) (some_same s p by) r.2) log full some most
+    never_filled r.0 settings.max p settings l r.1 (subst (IsOutOfReach settings.max r.0) (same_Some s p by) r.2) log full some most
 cannot_be_full s e settings Environment p l (inr r) by log full some most = never_filled r.0 settings.max p settings l r.1 (r.3 p by) log full some most
 
 -- OUTCOMES WITH A MACHINE
@@ -160,30 +147,6 @@ module _ (s : Problem) (e : Option Problem) (settings : Settings) (m : MachineMo
       let here : l.side ≡ side = settled.log.side ∙ one.2.of_side in
       let Q : Problem → Type 0 = λ (p : Problem). IsClosedLog p settings l → HasNone p l.size in
       subst (OfSide s e Q) (sym here) (put s e Q side one.0 one.1 settled.refutes)
-
-  pub real_outcome : (logs : Vec SizeLog Global) → OfSide s e (IsSettledBelow System settings m logs.items) System → All (λ l. is_ended l.log.entries ≡ true) logs.items
-      → IsOutcomeOf s e settings (Real m logs)
-  real_outcome logs h ended = record {
-    real = smallest_of System settings m logs.items s h ended;
-    unreal = tt;
-    bounded = tt;
-    no_size = tt;
-    no_entries = tt;
-    refuted = refuted System logs.items h;
-    decisive = λ _. tt;
-  }
-
-  pub unreal_outcome : (logs : Vec SizeLog Global) → OfSide s e (IsSettledBelow Environment settings m logs.items) Environment → All (λ l. is_ended l.log.entries ≡ true) logs.items
-      → IsOutcomeOf s e settings (Unreal m logs)
-  unreal_outcome logs h ended = record {
-    real = tt;
-    unreal = of_side_map s e (IsSettledBelow Environment settings m logs.items) (λ (p : Problem). IsSmallest p settings m logs.items) Environment (λ p below. smallest_of Environment settings m logs.items p below ended) h;
-    bounded = tt;
-    no_size = tt;
-    no_entries = tt;
-    refuted = refuted Environment logs.items h;
-    decisive = λ _. tt;
-  }
 
   pub bounded_outcome : (side : Side) (logs : Vec SizeLog Global) (l : SizeLog) → OfSide s e (IsSettledBelow side settings m logs.items) side → IsFirstOpen logs.items l
       → IsOutcomeOf s e settings (Bounded side m logs)
@@ -235,24 +198,6 @@ module _ (s : Problem) (e : Option Problem) (settings : Settings) where
   logs_refuted : (logs : List SizeLog) → AreAllSettled s e settings logs → ClosedRefute s e settings logs
   logs_refuted logs all k d h =
       of_side_map s e (λ (p : Problem). IsSettled p settings (get_or logs k d)) (λ (p : Problem). IsClosedLog p settings (get_or logs k d) → HasNone p (get_or logs k d).size) (get_or logs k d).side (λ p x. x.refutes) (all.each k d h)
-
-  pub no_size_outcome : (logs : Vec SizeLog Global) → AreAllSettled s e settings logs.items → All (λ l. is_ended l.log.entries ≡ true) logs.items → IsOutcomeOf s e settings (NoSize logs)
-  no_size_outcome logs all ended = record {
-    real = tt;
-    unreal = tt;
-    bounded = tt;
-    no_size = record {
-      all = record {
-        places = all.places;
-        each = λ k d h. of_side_map s e (λ (p : Problem). IsSettled p settings (get_or logs.items k d)) (λ (p : Problem). IsLogOf p settings (get_or logs.items k d)) (get_or logs.items k d).side (λ p x. x.log) (all.each k d h);
-      };
-      closed = λ k d h. of_side_map s e (λ (p : Problem). IsSettled p settings (get_or logs.items k d)) (λ (p : Problem). IsClosedLog p settings (get_or logs.items k d)) (get_or logs.items k d).side
-          (λ p x. closed_here p settings (get_or logs.items k d) x (ended k d h)) (all.each k d h);
-    };
-    no_entries = tt;
-    refuted = logs_refuted logs.items all;
-    decisive = λ _. tt;
-  }
 
   -- closed or full, for a side
   either_of : (l : SizeLog) (side : Side) → OfSide s e (λ p. IsSettled p settings l) side → OfSide s e (λ p. IsClosedLog p settings l) side ⊎ OfSide s e (λ p. IsFullLog p settings l) side

@@ -124,10 +124,3 @@ crews_some {Z} top tasks (v ∷ vs) some are =
     let n : length v.items ≡ length tasks = as_many v.items tasks are.0.exchanges in
     let len : v.len ≡ length v.items = v.ok.0 in
     All-cons (λ (v : Vec PassView Z). 0 < vec_len v) v vs (omega arith) (crews_some (top - 1) tasks vs some are.1)
-
--- a worker more, whose number comes next
-pub crews_more : {Z : Type 0} (top : ℕ) (tasks : List SizeTaskModel) (crews : List (Vec PassView Z)) (v : Vec PassView Z) → AreCrewsFrom top tasks crews → AreSeats (top - length crews) tasks v.items
-    → AreCrewsFrom top tasks (crews ++ v ∷ [])
-crews_more top tasks [] v are at = (rw (sym (let e : top - 0 ≡ top = omega arith in e)) at, tt)
-crews_more top tasks (w ∷ ws) v are at =
-    (are.0, crews_more (top - 1) tasks ws v are.1 (rw (let e : top - 1 - length ws ≡ top - suc (length ws) = omega arith in e) at))

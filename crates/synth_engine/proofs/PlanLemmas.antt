@@ -12,7 +12,6 @@ use Rattle.machine_model.specs.declared.problems.Problem.{Problem}
 use Rattle.annotation_encode.specs.BaseClauses.{base_clauses}
 use Rattle.annotation_encode.specs.Variables.{variables_of}
 use Rattle.annotation_encode.proofs.Further.{equal_clauses}
-use Rattle.refutation_log.proofs.Lists.{slice_get-push}
 use Rattle.clause_exchange.specs.SharedLog.{PassView, SharedLog, new_pass}
 use Rattle.size_search.specs.Task.{SizeTaskModel, terms_of}
 use Rattle.size_search.specs.declared.tasks.Opened.{Opened}
@@ -37,17 +36,6 @@ task_opened p q settings n t parts is terms =
       terms = terms ∙ ap (λ (x : Problem). terms_of x settings.entries (settings.workers + 1)) (sym is);
     }
 
-pub tasks_push : (p : Problem) (settings : Settings) (top : ℕ) (tasks later : List SizeTaskModel) (t : SizeTaskModel) → AreTasks p settings top tasks → later ≡ tasks ++ t ∷ []
-    → length tasks < top → IsTaskOf p settings (top - length tasks) t → AreTasks p settings top later
-tasks_push p settings top tasks later t are is small task =
-    rw is (record {
-      few = let n = length-append tasks (t ∷ []) in omega arith;
-      each = λ k u at. elim (slice_get-push tasks t k u at) [
-        | inl old ↦ are.each k u old
-        | inr new ↦ subst (IsTaskOf p settings (top - k)) new.1 (subst (λ j. IsTaskOf p settings (top - j) t) (sym new.0) task)
-      ];
-    })
-
 pub no_tasks : (p : Problem) (settings : Settings) (top : ℕ) → AreTasks p settings top []
 no_tasks p settings top = record { few = omega arith; each = λ k u at. absurd (never k u at) }
   where
@@ -57,16 +45,6 @@ no_tasks p settings top = record { few = omega arith; each = λ k u at. absurd (
 pub tasks_of_none : (p : Problem) (settings : Settings) (tasks : List SizeTaskModel) → length tasks ≡ 0 → AreTasks p settings (length tasks) tasks
 tasks_of_none p settings [] none = no_tasks p settings 0
 tasks_of_none p settings (t ∷ ts) none = absurd (omega arith)
-
-pub racks_push : {Z : Type 0} (n : ℕ) (tasks later_tasks : List SizeTaskModel) (racks later : List (Vec PassView Z)) (t : SizeTaskModel) (v : Vec PassView Z) → AreRacks n tasks racks
-    → later_tasks ≡ tasks ++ t ∷ [] → later ≡ racks ++ v ∷ [] → v.items ≡ new_seats t.exchange n → AreRacks n later_tasks later
-racks_push {Z} n tasks later_tasks racks later t v are tasks_are racks_are is = rw (tasks_are, racks_are) (go tasks racks are)
-  where
-    go : (ts : List SizeTaskModel) (vs : List (Vec PassView Z)) → AreRacks n ts vs → AreRacks n (ts ++ t ∷ []) (vs ++ v ∷ [])
-    go [] [] here = (is, tt)
-    go [] (w ∷ ws) here = absurd here
-    go (u ∷ us) [] here = absurd here
-    go (u ∷ us) (w ∷ ws) here = (here.0, go us ws here.1)
 
 -- there are as many new seats as numbers
 pub new_seats-length : (log : SharedLog) (n : ℕ) → length (new_seats log n) ≡ n
@@ -136,9 +114,6 @@ workers_push sizes top crews later c are is at n =
         | inr above ↦ let e : length crews ≡ i = omega arith in ap (λ (x : Crew). x.number) (get_or_push crews c d i e) ∙ n ∙ ap (λ k. top - k) e
       ];
     })
-
-pub no_workers : (sizes : Sizes) (top : ℕ) → AreWorkersOf sizes top []
-no_workers sizes top = record { seats = All-nil (IsCrewOf sizes); numbers = λ i d h. absurd (omega arith) }
 
 -- the seats of workers at the sizes of one side
 crews_at : {Z : Type 0} (top : ℕ) (tasks : List SizeTaskModel) (crews : List Crew) (side : Crew → Vec PassView Z) → ((i : ℕ) (d : Crew) → i < length crews → AreSeats (top - i) tasks (side (get_or crews i d)).items)
@@ -212,15 +187,6 @@ problems_are p count ps problem few down k d h =
       components = λ third. let has : HasComponents p = problem.components third in record { components = has.components; made = has.made; right = has.right };
     } in
     (alike (sized p (count - k)) q (sym same)).problem here
-
-pub problems_push : (p : Problem) (count : ℕ) (ps later : List Problem) (q : Problem) → ((k : ℕ) (x : Problem) → slice_get ps k ≡ Some x → parts_of x ≡ parts_of (sized p (count - k))) → later ≡ ps ++ q ∷ []
-    → parts_of q ≡ parts_of (sized p (count - length ps)) → (k : ℕ) (x : Problem) → slice_get later k ≡ Some x → parts_of x ≡ parts_of (sized p (count - k))
-problems_push p count ps later q each is here k x at =
-    let at' : slice_get (ps ++ q ∷ []) k ≡ Some x = subst (λ l. slice_get l k ≡ Some x) is at in
-    elim (slice_get-push ps q k x at') [
-      | inl old ↦ each k x old
-      | inr new ↦ subst (λ y. parts_of y ≡ parts_of (sized p (count - k))) new.1 (here ∙ ap (λ j. parts_of (sized p (count - j))) (sym new.0))
-    ]
 
 abbrev pub task_of : Opened → SizeTaskModel
 task_of o = o.task

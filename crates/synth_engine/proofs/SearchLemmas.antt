@@ -3,7 +3,7 @@ use Rattle.std.proofs.Common.{◌≡◌, ℕ, ◌+◌, ◌-◌, ◌<◌, ◌≤�
 use Rattle.std.specs.Prelude.{Option, Some, None, Result, Ok, Err, IfOk, IfSome, slice_get}
 use Rattle.std.specs.Option.{ForSome, option_map}
 use Rattle.std.proofs.lemmas.List.{get_or_append_left, length-map}
-use Rattle.std.proofs.lemmas.Option.{slice_get-get_or}
+use Rattle.std.proofs.lemmas.Option.{slice_get-get_or, same_Some, none-some}
 use Rattle.letter_word.specs.declared.kinds.Side.{Side}
 use Rattle.letter_word.specs.declared.kinds.Side.TheVariants.{System, Environment}
 use Rattle.machine_model.specs.Machine.{MachineModel, size_of}
@@ -12,7 +12,7 @@ use Rattle.machine_model.specs.declared.problems.Problem.{Problem}
 use Rattle.machine_model.proofs.Tables.{size_pos}
 use Rattle.annotation_encode.specs.Count.{allowed_sizes}
 use Rattle.size_board.proofs.LawProofs.{sought_is_problem}
-use Rattle.size_board.specs.Names.{AreNamed, IsAccepted, IsSearchable, Named, SideHas, Sought, sizes_of, sought_by, sought_of}
+use Rattle.size_board.specs.Names.{AreNamed, IsSoughtMachine, IsSearchable, Named, SideHas, Sought, sizes_of, sought_by, sought_of}
 use Rattle.size_search.specs.Task.{SizeTaskModel}
 use Rattle.synth_engine.specs.declared.settings.Settings.{Settings}
 use Rattle.synth_engine.specs.declared.plans.Plan.{Plan}
@@ -47,18 +47,12 @@ plan_is s e max plan is = λ i. record { system = is.system_is i; environment = 
 searchable : (p : Problem) → IsProblem p → IsSearchable (sought_of p)
 searchable p is = sought_is_problem.searchable p is
 
-some_same : {X : Type 0} (a b : X) → Some a ≡ Some b → a ≡ b
-some_same a b e = cc
-
-none_some : {X : Type 0} (a : X) → None ≡ Some a → ⊥
-none_some a e = cc
-
 environment_searchable : {v : ℕ} (e : Option Problem) → ForSome e (IsSearched v Environment) → (x : Sought) → option_map sought_of e ≡ Some x → IsSearchable x × (x.side ≡ Environment)
-environment_searchable None is x at = absurd (none_some x at)
+environment_searchable None is x at = absurd (none-some x at)
 environment_searchable (Some p) is x at =
     let P : Sought → Type 0 = λ (y : Sought). IsSearchable y × (y.side ≡ Environment) in
     let here = is p refl in
-    subst P (some_same (sought_of p) x at) (searchable p here.within, here.of_side)
+    subst P (same_Some (sought_of p) x at) (searchable p here.within, here.of_side)
 
 -- a board of the plan may be made
 pub plan_named : {v : ℕ} (s : Problem) (e : Option Problem) (max : ℕ) (plan : Plan) → IsPlanOf s e max plan → IsSearched v System s → ForSome e (IsSearched v Environment)
@@ -103,7 +97,7 @@ fit_side names side p settings count tasks sought sizes are = record {
 }
 
 nothing_at : (tasks : List SizeTaskModel) (k : ℕ) (t : SizeTaskModel) → length tasks ≡ 0 → slice_get tasks k ≡ Some t → ⊥
-nothing_at [] k t none at = none_some t at
+nothing_at [] k t none at = none-some t at
 nothing_at (u ∷ us) k t none at = absurd (omega arith)
 
 fit_environment : (s : Problem) (e : Option Problem) (max : ℕ) (settings : Settings) (tasks : List SizeTaskModel) → AreTasksOfAny e settings (allowed_of max e) tasks
@@ -209,7 +203,7 @@ winner_within s e max settings plan sizes w is are winner = (
       omega arith,
 )
 
-found_of : (p : Problem) (settings : Settings) (m : MachineModel) → IsAccepted (sought_of p) (size_of m) m → size_of m ≤ allowed_sizes p settings.max → IsFound p settings m
+found_of : (p : Problem) (settings : Settings) (m : MachineModel) → IsSoughtMachine (sought_of p) (size_of m) m → size_of m ≤ allowed_sizes p settings.max → IsFound p settings m
 found_of p settings m is most = record {
   accepted = record { machine = is.machine; looked_for = record { kind = is.kind; size = refl; reads = is.reads; writes = is.writes }; accepted = is.accepted };
   some = size_pos m is.machine.shape;
@@ -233,10 +227,10 @@ winner_is s e settings plan (Some w) is h =
 
 environment_left : {v : ℕ} (s : Problem) (e : Option Problem) (settings : Settings) (u : Unsettled) → ForSome e (IsSearched v Environment) → AreTasksOfAny e settings (allowed_of settings.max e) u.tasks.items
     → ((p : Problem) → e ≡ Some p → IsLeft Environment settings u p) × (e ≡ None → length u.tasks.items ≡ 0)
-environment_left s None settings u is are = (λ p at. absurd (none_some p at), λ none. are)
+environment_left s None settings u is are = (λ p at. absurd (none-some p at), λ none. are)
 environment_left s (Some q) settings u is are =
     let here : IsLeft Environment settings u q = record { of_side = (is q refl).of_side; tasks = are } in
-    (λ p at. subst (IsLeft Environment settings u) (some_same q p at) here, λ none. absurd (none_some q (sym none)))
+    (λ p at. subst (IsLeft Environment settings u) (same_Some q p at) here, λ none. absurd (none-some q (sym none)))
 
 pub all_left : {v : ℕ} (s : Problem) (e : Option Problem) (settings : Settings) (plan : Plan) (sizes : Sizes) (us ue : Unsettled) → IsPlanOf s e settings.max plan → AreSizesOf plan settings sizes → IsSearched v System s
     → ForSome e (IsSearched v Environment) → us.tasks ≡ sizes.system → ue.tasks ≡ sizes.environment → AreLeft s e settings us ue

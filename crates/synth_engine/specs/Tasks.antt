@@ -33,11 +33,6 @@ pub record AreSeats (number : ℕ) (tasks : List SizeTaskModel) (seats : List Pa
   pub exchanges : map (λ s. s.exchange) seats ≡ map (λ t. t.exchange) tasks
   pub numbers : All (λ s. s.number ≡ number) seats
 
--- the tasks of a side
-abbrev pub tasks_of : Sizes → Side → List SizeTaskModel
-tasks_of sizes System = sizes.system.items
-tasks_of sizes Environment = sizes.environment.items
-
 -- A worker with a seat at each size of both sides.
 pub record IsCrewOf (sizes : Sizes) (crew : Crew) : Type 0 where
   pub system : AreSeats crew.number sizes.system.items crew.system.items

@@ -20,7 +20,7 @@ use std::alloc::{AllocError, Global};
 use std::sync::Wait;
 
 /// Settles what the answer needs: the sizes below that of a machine that was found, or all of them.
-pub fn conclude<R: Wait>(
+pub(crate) fn conclude<R: Wait>(
     rt: &R,
     alloc: Global,
     winner: Option<Winner>,

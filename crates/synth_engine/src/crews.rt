@@ -25,7 +25,7 @@ pub struct Crew {
 
 impl Field {
     /// Gives each worker its seats. The worker with the greatest number comes first, and the caller last.
-    pub fn hand_out(
+    pub(crate) fn hand_out(
         self,
         alloc: Global,
         settings: Settings,
@@ -58,7 +58,7 @@ impl Field {
 }
 
 /// The seats of all workers at the system's sizes, and at the environment's.
-pub fn seats_by_side(
+pub(crate) fn seats_by_side(
     alloc: Global,
     crews: Vec<Crew>,
 ) -> Result<(Vec<Vec<Seat>>, Vec<Vec<Seat>>), AllocError>
@@ -75,7 +75,7 @@ pub fn seats_by_side(
 }
 
 /// One turn on the task of a size, by the seat at that task. The tasks stand from the largest size down.
-pub fn turn_on<R: Wait, G: Gate>(
+pub(crate) fn turn_on<R: Wait, G: Gate>(
     rt: &R,
     alloc: Global,
     tasks: &[SizeTask],

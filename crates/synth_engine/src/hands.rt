@@ -6,7 +6,10 @@ use size_search::Seat;
 use std::alloc::{AllocError, Global};
 
 /// Takes the last seat from each list. Gives these seats, and what is left of the lists.
-pub fn draw(alloc: Global, lists: Vec<Vec<Seat>>) -> Result<(Vec<Seat>, Vec<Vec<Seat>>), AllocError>
+pub(crate) fn draw(
+    alloc: Global,
+    lists: Vec<Vec<Seat>>,
+) -> Result<(Vec<Seat>, Vec<Vec<Seat>>), AllocError>
     requires { All (λ v. 0 < vec_len v) lists.items }
     ensures { IfOk result (λ r. AreDrawn lists.items r.1.items r.0.items) }
 {

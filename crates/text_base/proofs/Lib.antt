@@ -1,2 +1,3 @@
 pub mod NumeralLemmas
 pub mod ReadingLemmas
+pub mod PrefixLemmas

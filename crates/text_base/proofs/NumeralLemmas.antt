@@ -1,5 +1,5 @@
 -- Runs of digits and their values.
-use Rattle.std.proofs.Common.{◌≡◌, ℕ, ◌+◌, ◌-◌, ◌*◌, ◌^◌, ◌<◌, ◌≤◌, Bool, true, false, cond, List, [], ◌∷◌, ◌++◌, length, get_or, take, refl, ap, sym, arith, Some, slice_get, decimal, subst, ⊎_elim}
+use Rattle.std.proofs.Common.{◌≡◌, ℕ, ◌+◌, ◌-◌, ◌*◌, ◌^◌, ◌<◌, ◌≤◌, Bool, true, false, cond, List, [], ◌∷◌, ◌++◌, length, get_or, take, refl, ap, sym, arith, Some, slice_get, decimal, subst, ⊎_elim, ◌&&◌}
 use Rattle.std.proofs.lemmas.Bool.{cases_lt}
 use Rattle.std.specs.Char.{is_ascii_digit}
 use Rattle.std.specs.Int.{IsInRange}
@@ -12,10 +12,16 @@ use Rattle.std.proofs.lemmas.Int.Digits.{digits_value_more}
 use Rattle.std.proofs.lemmas.List.Sums.{take_while-cons}
 use Rattle.std.proofs.lemmas.Str.{digit_value_digit}
 use Rattle.std.proofs.lemmas.Str.Parse.{digits_value-take-le, tells_by_index, IsNumeralModel, numerals_by_weight, numerals_by_value, tells_all_ascii_digits, digit_at}
+use Rattle.std.specs.List.{list_all}
 use Rattle.text_base.specs.Numerals.{digit_run, decimal_value, NoDigitNext, IsNumeralOf}
 
 own : IsNumeralModel (λ ds. all_ascii_digits ds ≡ true) decimal_value
 own = numerals_by_weight _ tells_all_ascii_digits decimal_value (record { empty = refl; more = λ c cs r. refl })
+
+-- the two tests for digits are one
+pub digits_are : (word : List ℕ) → list_all is_ascii_digit word ≡ all_ascii_digits word
+digits_are [] = refl
+digits_are (c ∷ cs) = ap (λ b. is_ascii_digit c && b) (digits_are cs)
 
 digits-cond : (d : Bool) (b : ℕ) (run : List ℕ) → is_ascii_digit b ≡ d → all_ascii_digits run ≡ true → all_ascii_digits (cond d (b ∷ run) []) ≡ true
 digits-cond true b run e h = grind (arith)

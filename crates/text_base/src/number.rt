@@ -10,7 +10,7 @@ use itoa::Buffer;
 use std::alloc::AllocError;
 
 /// Why no number was read.
-#[derive(Clone, Copy, Debug, PartialEq, Eq, Hash)]
+#[derive(Clone, Copy, Debug, PartialEq, Eq)]
 pub enum NumberFault {
     /// The next byte is no digit.
     NoDigits = 1,
@@ -47,7 +47,7 @@ pub fn push_number(out: &mut Vec<u8>, value: u64) -> Result<(), AllocError>
     out.extend_from_slice(buffer.format(value).as_bytes())
 }
 
-// The longest run of digits that the bytes begin with.
+/// The longest run of digits that the bytes begin with.
 fn digits_at_front(bytes: &[u8]) -> &[u8]
     ensures run { result.now ≡ digit_run bytes.now }
 {
@@ -59,7 +59,7 @@ fn digits_at_front(bytes: &[u8]) -> &[u8]
     bytes
 }
 
-// The value of digits, if it is at most `most`.
+/// The value of digits, if it is at most `most`.
 fn value_within(digits: &[u8], most: u64) -> Option<u64>
     requires { IsTrue (all_ascii_digits digits.now) }
     ensures { SomeIff result (decimal_value digits.now ≤ most) (decimal_value digits.now) }

@@ -128,7 +128,7 @@ fn ends_operand(symbol: Symbol) -> bool {
     )
 }
 
-// The words before the braces that are open behind the first tokens.
+/// The words before the braces that are open behind the first tokens.
 fn open_blocks(alloc: Global, tokens: &[Token], count: usize) -> Result<Vec<Symbol>, AllocError> {
     let mut blocks = Vec::new(alloc);
     let mut last = Symbol::OpenBrace;

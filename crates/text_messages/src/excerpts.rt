@@ -8,7 +8,7 @@ const MOST_COLUMNS: usize = 120;
 /// What stands where a part of a line is left out.
 const CUT: &str = "..";
 
-// What is shown of a line is this wide where a part of it is left out on both sides.
+/// What is shown of a line is this wide where a part of it is left out on both sides.
 const WINDOW: usize = MOST_COLUMNS - 4;
 
 /// Appends the line of a place behind its number, and below it a mark at the place.
@@ -45,7 +45,7 @@ pub(crate) fn push_line(
     Ok(from)
 }
 
-// The first column that is shown, from 0, of a line of so many that has this one.
+/// The first column that is shown, from 0, of a line of so many that has this one.
 fn first_column(column: usize, columns: usize) -> usize {
     if columns <= MOST_COLUMNS || column < WINDOW {
         0
@@ -54,7 +54,7 @@ fn first_column(column: usize, columns: usize) -> usize {
     }
 }
 
-// Appends what is shown of a line from that column on.
+/// Appends what is shown of a line from that column on.
 fn push_window(line: &str, from: usize, out: &mut String) -> Result<(), AllocError> {
     if from > 0 {
         out.push_str(CUT)?;

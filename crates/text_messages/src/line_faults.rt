@@ -53,7 +53,7 @@ pub fn push_line_fault(
     Ok(())
 }
 
-// Appends what is wanted behind the last line that was kept.
+/// Appends what is wanted behind the last line that was kept.
 fn push_missing(source: Source<'_>, fault: LineFault, out: &mut String) -> Result<(), AllocError> {
     out.push_str(if !source.is_whole {
         "this line can't be shown, since the file is too long\n"
@@ -67,7 +67,7 @@ fn push_missing(source: Source<'_>, fault: LineFault, out: &mut String) -> Resul
     })
 }
 
-// The line of that number, from 1, with its line end.
+/// The line of that number, from 1, with its line end.
 fn line_at(bytes: &[u8], number: u64) -> Option<&[u8]> {
     let skipped = number.checked_sub(1)?;
     bytes

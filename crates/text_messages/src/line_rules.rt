@@ -63,7 +63,7 @@ fn entry_rule(line: &[u8]) -> &'static str {
     }
 }
 
-// Whether a line has the form of an entry: a number, literals up to `0`, hints up to `0`.
+/// Whether a line has the form of an entry: a number, literals up to `0`, hints up to `0`.
 fn is_entry(line: &[u8]) -> bool {
     let mut zeros = 0u32;
     for (place, word) in line.split(|byte| *byte == b' ').enumerate() {
@@ -80,7 +80,7 @@ fn is_entry(line: &[u8]) -> bool {
     zeros == 2
 }
 
-// Whether the bytes are so many numbers with a blank between them.
+/// Whether the bytes are so many numbers with a blank between them.
 fn are_numbers(bytes: &[u8], count: usize) -> bool {
     bytes.split(|byte| *byte == b' ').count() == count
         && bytes.split(|byte| *byte == b' ').all(is_number)
@@ -108,7 +108,7 @@ fn circuit_rule(bytes: &[u8], number: u64, line: &[u8]) -> &'static str {
     }
 }
 
-// Whether a word may be the values of latches.
+/// Whether a word may be the values of latches.
 fn is_code(word: &[u8]) -> bool {
     word == b"-".as_slice() || word.iter().all(|byte| matches!(byte, b'0' | b'1'))
 }
@@ -120,7 +120,7 @@ pub fn cut_word(line: &[u8]) -> (&[u8], &[u8]) {
     (word, rest)
 }
 
-// Whether the line `c` stands before the line of that number.
+/// Whether the line `c` stands before the line of that number.
 fn is_in_comment(bytes: &[u8], number: u64) -> bool {
     let before = number.saturating_sub(1);
     bytes
@@ -129,7 +129,7 @@ fn is_in_comment(bytes: &[u8], number: u64) -> bool {
         .any(|line| line == b"c".as_slice())
 }
 
-// What the line of that number is for, in a circuit with this header.
+/// What the line of that number is for, in a circuit with this header.
 fn gates_rule(bytes: &[u8], number: u64) -> &'static str {
     let header = bytes.split(|byte| *byte == b'\n').next().unwrap_or(b"");
     let mut counts = header.split(|byte| *byte == b' ').skip(2).map(value);
@@ -152,7 +152,7 @@ fn gates_rule(bytes: &[u8], number: u64) -> &'static str {
     }
 }
 
-// The number that a word is, or 0.
+/// The number that a word is, or 0.
 fn value(word: &[u8]) -> u64 {
     str::from_utf8(word)
         .ok()

@@ -74,7 +74,7 @@ fn unknown_name<'a>(around: &Around<'a>) -> Option<Note<'a>> {
     operator_like(around.word_found())
 }
 
-// What a word may stand for that looks like operators.
+/// What a word may stand for that looks like operators.
 fn operator_like(word: &str) -> Option<Note<'_>> {
     if matches!(word, "O" | "S" | "H" | "Y") {
         Some(Note::Past)
@@ -108,7 +108,7 @@ fn unexpected<'a>(alloc: Global, around: &Around<'a>) -> Result<Option<Note<'a>>
     }
 }
 
-// The note on a name that stands where a block may begin.
+/// The note on a name that stands where a block may begin.
 fn section_note<'a>(alloc: Global, around: &Around<'a>) -> Result<Option<Note<'a>>, AllocError> {
     let names = if around.is_at_name() {
         names_in(around.block())
@@ -122,7 +122,7 @@ fn section_note<'a>(alloc: Global, around: &Around<'a>) -> Result<Option<Note<'a
     }
 }
 
-// The note on what can't stand in a block that has no blocks of its own.
+/// The note on what can't stand in a block that has no blocks of its own.
 fn block_note<'a>(around: &Around<'a>) -> Option<Note<'a>> {
     match around.block() {
         Some(Symbol::Info) => Some(field_note(around)),
@@ -176,7 +176,7 @@ fn formula_note<'a>(around: &Around<'a>) -> Option<Note<'a>> {
     }
 }
 
-// The note that the word at the place is a keyword, if it is one.
+/// The note that the word at the place is a keyword, if it is one.
 fn reserved<'a>(around: &Around<'a>, symbol: Symbol) -> Option<Note<'a>> {
     let word = around.word_found();
     let is_keyword = symbol != Symbol::Ident && word.bytes().all(|byte| byte.is_ascii_alphabetic());
@@ -187,7 +187,7 @@ fn reserved<'a>(around: &Around<'a>, symbol: Symbol) -> Option<Note<'a>> {
     }
 }
 
-// The names of the blocks that may stand in a block.
+/// The names of the blocks that may stand in a block.
 fn names_in(block: Option<Symbol>) -> &'static [&'static str] {
     match block {
         None => &TOP_NAMES,
@@ -197,7 +197,7 @@ fn names_in(block: Option<Symbol>) -> &'static [&'static str] {
     }
 }
 
-// The name nearest to a word, if it is near.
+/// The name nearest to a word, if it is near.
 fn nearest_section(
     alloc: Global,
     names: &'static [&'static str],
@@ -279,7 +279,7 @@ fn text(note: Note<'_>) -> &'static str {
     }
 }
 
-// Appends that the letters of a word are operators, with blanks between them.
+/// Appends that the letters of a word are operators, with blanks between them.
 fn push_apart(word: &str, out: &mut String) -> Result<(), AllocError> {
     out.push_str("each operator is a word of its own: `")?;
     for (place, letter) in word.chars().enumerate() {

@@ -30,19 +30,19 @@ impl<'a> Place<'a> {
     }
 }
 
-// The number of the line behind these bytes, from 1.
+/// The number of the line behind these bytes, from 1.
 fn line_number(before: &[u8]) -> usize
     ensures { result ≡ line_ends before.now + 1 }
 {
     line_count(before) + 1
 }
 
-// What stands behind the last line end.
+/// What stands behind the last line end.
 fn last_line(bytes: &[u8]) -> &[u8] {
     bytes.rsplit(|byte| *byte == b'\n').next().unwrap_or(b"")
 }
 
-// What stands before the first line end.
+/// What stands before the first line end.
 fn first_line(bytes: &[u8]) -> &[u8] {
     let line = bytes.split(|byte| *byte == b'\n').next().unwrap_or(b"");
     line.strip_suffix(b"\r").unwrap_or(line)

@@ -25,7 +25,7 @@ pub(crate) fn role_of<'a>(around: &Around<'a>, name: &str) -> Role<'a> {
     Role::Other
 }
 
-// The two tokens before the one that is looked at, the last block's word, and whether an enumeration is open.
+/// The two tokens before the one that is looked at, the last block's word, and whether an enumeration is open.
 #[derive(Clone, Copy)]
 struct Behind {
     last: Option<Token>,
@@ -57,7 +57,7 @@ impl Behind {
         self.last = Some(token);
     }
 
-    // What the name is if this token, with those before it, declares it.
+    /// What the name is if this token, with those before it, declares it.
     fn role<'a>(&self, around: &Around<'a>, token: Token, name: &str) -> Role<'a> {
         let Some(last) = self.last else {
             return Role::Other;
@@ -74,7 +74,7 @@ impl Behind {
         self.signal_role(around, token)
     }
 
-    // What the last name is as a signal, if it is declared here.
+    /// What the last name is as a signal, if it is declared here.
     fn signal_role<'a>(&self, around: &Around<'a>, token: Token) -> Role<'a> {
         let Some(before) = self.one_before else {
             return Role::Other;

@@ -74,7 +74,7 @@ pub(crate) fn fixed_sentence(code: SpecCode) -> &'static str {
     }
 }
 
-// Appends the word at the place in a sentence.
+/// Appends the word at the place in a sentence.
 fn push_about(
     alloc: Global,
     around: &Around<'_>,
@@ -87,7 +87,7 @@ fn push_about(
     out.push_str(behind)
 }
 
-// Appends the word at the place in quotes.
+/// Appends the word at the place in quotes.
 fn push_word(alloc: Global, around: &Around<'_>, out: &mut String) -> Result<(), AllocError> {
     let word = around.word_found();
     if word.is_empty() {
@@ -104,7 +104,7 @@ fn push_word(alloc: Global, around: &Around<'_>, out: &mut String) -> Result<(),
     out.push('`')
 }
 
-// Appends which byte no token begins with.
+/// Appends which byte no token begins with.
 fn push_bad_byte(around: &Around<'_>, out: &mut String) -> Result<(), AllocError> {
     let rest = around.rest();
     let Some(chunk) = rest.utf8_chunks().next() else {
@@ -149,7 +149,7 @@ fn push_unsupported(
     push_about(alloc, around, "", " isn't supported", out)
 }
 
-// Appends what the block that is closed at the place lacks.
+/// Appends what the block that is closed at the place lacks.
 fn push_missing(around: &Around<'_>, out: &mut String) -> Result<(), AllocError> {
     let (block, parts): (&str, &[(Symbol, &str)]) = match around.block() {
         Some(Symbol::Info) => ("INFO", &FIELDS),

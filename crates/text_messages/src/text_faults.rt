@@ -91,7 +91,7 @@ pub fn push_formula(
     out.push('\n')
 }
 
-// Where the formula of that number, from 1, of the section GUARANTEE begins and ends.
+/// Where the formula of that number, from 1, of the section GUARANTEE begins and ends.
 fn guarantee(tokens: &[Token], number: u64) -> Option<(u64, u64)> {
     let behind = tokens
         .iter()

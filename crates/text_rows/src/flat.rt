@@ -1,4 +1,4 @@
-// What comes of a text that is expanded.
+//! What comes of a text that is expanded.
 
 ghost use Rattle.std.specs.Prelude.{◌≡◌, IfOk, length, vec_len};
 

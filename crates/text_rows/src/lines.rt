@@ -1,4 +1,4 @@
-// What is printed.
+//! What is printed.
 
 use std::alloc::{AllocError, Global};
 use text_base::Name;

@@ -1,4 +1,4 @@
-// Trees as text: square brackets round a pair, and angle brackets round any other node with operators.
+//! Trees as text: square brackets round a pair, and angle brackets round any other node with operators.
 
 use crate::lines::Lines;
 use std::alloc::AllocError;

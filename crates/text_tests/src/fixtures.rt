@@ -1,4 +1,4 @@
-// Whole texts that guarantee what is true.
+//! Whole texts that guarantee what is true.
 
 use flat_text::expand_text;
 use ltl_formula::Node;

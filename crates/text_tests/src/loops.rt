@@ -1,5 +1,5 @@
-// Texts that wouldn't end within a test's time if a visit scanned what is declared, or that would exhaust the stack if calls were as
-// deep as there are ranges.
+//! Texts that wouldn't end within a test's time if a visit scanned what is declared, or that would exhaust the stack if calls were as
+//! deep as there are ranges.
 
 use crate::fixtures::assert_true;
 use std::alloc::{AllocError, Global};

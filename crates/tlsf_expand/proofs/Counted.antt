@@ -2,11 +2,13 @@
 use Rattle.std.proofs.Common.{◌≡◌, ℕ, zero, suc, ◌+◌, ◌-◌, ◌<◌, ◌≤◌, Bool, true, false, List, sym, ap, ◌∙◌, arith}
 use Rattle.std.specs.Prelude.{◌&&◌, ◌||◌, nat_le}
 use Rattle.std.proofs.lemmas.Bool.{leb-true, leb-false}
+use mathlib.Core.Bool.{or_assoc, and-true, or-false}
 use Rattle.letter_word.specs.Word.{Word, next, after}
 use Rattle.letter_word.proofs.Positions.{after-suc}
 use Rattle.ltl_formula.specs.declared.nodes.FormulaId.{FormulaId}
 use Rattle.ltl_formula.specs.declared.nodes.Node.{Node}
-use Rattle.ltl_formula.specs.Truth.{some_below, all_below}
+use Rattle.ltl_formula.specs.Truth.{some_below}
+use Rattle.letter_word.specs.Below.{all_below}
 use Rattle.ltl_formula.proofs.Lists.{Grows-refl}
 use Rattle.tlsf_values.specs.declared.work.TheConstants.{MOST_EVALUATIONS}
 use Rattle.tlsf_values.specs.declared.work.Work.{Work}
@@ -22,7 +24,7 @@ use Rattle.tlsf_expand.proofs.Alike.{HasTruths, Alike, alike_formula, AlikeFormu
 use Rattle.tlsf_expand.proofs.Made.{keeps_truth_node, keeps_next, keeps_and, keeps_or}
 use Rattle.tlsf_expand.proofs.Connected.{keeps_node_of}
 use Rattle.tlsf_expand.proofs.Valued.{keeps_truths, with_truths}
-use Rattle.tlsf_expand.proofs.Bools.{and_once, or_once, and_regroup, or_regroup, same_function, all_below-first, some_below-first}
+use Rattle.tlsf_expand.proofs.Bools.{and_regroup, same_function, all_below-first, some_below-first}
 
 module _ (w : Word) where
   -- so many positions, from the one j steps on, taken from the front
@@ -62,7 +64,7 @@ module _ {top : ℕ} (w : Word) where
   keeps_all_more : (place : ℕ) (id : FormulaId) (f : ℕ → Bool) (j more : ℕ) (so_far : FormulaId) (g : ℕ → Bool) (work : Work) → IsGood top work.formulas
       → HasTruths w f id work.formulas → HasTruths w g so_far work.formulas
       → Keeps top work.formulas (HasTruths w (λ i. g i && all_below more (λ d. f (after w i (j + d))))) (window_more place pairing.And id j more so_far work)
-  keeps_all_more place id f j zero so_far g work list h hg = keeps_given _ so_far work list (with_truths w (same_function _ _ (λ i. sym (and_once (g i)))) hg)
+  keeps_all_more place id f j zero so_far g work list h hg = keeps_given _ so_far work list (with_truths w (same_function _ _ (λ i. sym (and-true (g i)))) hg)
   keeps_all_more place id f j (suc more) so_far g work list h hg =
       keeps_go_on _ _ (keeps_nexts place j id f work list h) (λ following work1 list1 grows1 t.
       keeps_go_on _ _ (keeps_and w place work1 so_far following g (λ i. f (after w i j)) list1 (grown_truths grows1 hg) t) (λ both work2 list2 grows2 t2.
@@ -73,12 +75,12 @@ module _ {top : ℕ} (w : Word) where
   keeps_some_more : (place : ℕ) (id : FormulaId) (f : ℕ → Bool) (j more : ℕ) (so_far : FormulaId) (g : ℕ → Bool) (work : Work) → IsGood top work.formulas
       → HasTruths w f id work.formulas → HasTruths w g so_far work.formulas
       → Keeps top work.formulas (HasTruths w (λ i. g i || some_below more (λ d. f (after w i (j + d))))) (window_more place pairing.Or id j more so_far work)
-  keeps_some_more place id f j zero so_far g work list h hg = keeps_given _ so_far work list (with_truths w (same_function _ _ (λ i. sym (or_once (g i)))) hg)
+  keeps_some_more place id f j zero so_far g work list h hg = keeps_given _ so_far work list (with_truths w (same_function _ _ (λ i. sym (or-false (g i)))) hg)
   keeps_some_more place id f j (suc more) so_far g work list h hg =
       keeps_go_on _ _ (keeps_nexts place j id f work list h) (λ following work1 list1 grows1 t.
       keeps_go_on _ _ (keeps_or w place work1 so_far following g (λ i. f (after w i j)) list1 (grown_truths grows1 hg) t) (λ either work2 list2 grows2 t2.
       keeps_truths w (λ i. (g i || f (after w i j)) || some_below more (λ d. f (after w i (j + 1 + d)))) _
-      (same_function _ _ (λ i. or_regroup (g i) (f (after w i j)) (some_below more (λ d. f (after w i (j + 1 + d)))) ∙ ap (λ b. g i || b) (sym (some_from-first w f j more i))))
+      (same_function _ _ (λ i. or_assoc (g i) (f (after w i j)) (some_below more (λ d. f (after w i (j + 1 + d)))) ∙ ap (λ b. g i || b) (sym (some_from-first w f j more i))))
       (keeps_some_more place id f (j + 1) more either (λ i. g i || f (after w i j)) work2 list2 (grown_truths grows2 (grown_truths grows1 h)) t2)))
 
   pub keeps_all_window : (place m n : ℕ) (x : Formula) (s : Sense) (work : Work) → IsGood top work.formulas → AlikeFormula w work.formulas x s

@@ -23,7 +23,7 @@ use Rattle.tlsf_expand.specs.Standing.{SectionsStand, StandsAs, formulas_at, sec
 use Rattle.tlsf_expand.proofs.EachSection.{each_of, each_weaker, same_where}
 use Rattle.tlsf_expand.proofs.Filling.{keeps_filled}
 use Rattle.tlsf_expand.proofs.Kept.{IsGood, Gives, Anyhow, gives_go_on, gives_go_on_is, gives_such, given, refuses}
-use Rattle.tlsf_expand.proofs.Laid.{gives_signals}
+use Rattle.tlsf_expand.proofs.Laid.{gives_signals, any_word}
 use Rattle.tlsf_expand.proofs.Sectioned.{HaveTruths, all_lists, keeps_sections, sections_stand, truths_are, truths_later}
 use Rattle.tlsf_expand.proofs.WholeTree.{AllStandAs, SectionsStandAs, fills_whole, none_stand, one_stands, whole_holds, whole_tree}
 
@@ -94,10 +94,6 @@ module _ (w : Word) (text : Text) (kind : Option Kind) where
       by (gives x work) e some =
           let same : (let f : FlatText = record { expanded = x; formulas = work.formulas } in f) ≡ flat = cc in
           subst (λ (f : FlatText). IsMade w text f.expanded f.formulas) same (made_of x work e)
-
--- what doesn't speak of the word holds by any
-pub any_word : Word
-any_word = record { stem = []; ring = [] }
 
 pub expansion_keeps_meaning : ExpansionKeepsMeaning
 expansion_keeps_meaning = record {

@@ -2,6 +2,7 @@
 use Rattle.std.proofs.Common.{◌≡◌, ℕ, Bool, true, false, List, [], ◌∷◌, map, ℤ, None, Some, refl, sym, ap, subst, ◌∙◌}
 use Rattle.std.specs.Prelude.{◌&&◌, ◌||◌, if◌then◌else◌}
 use Rattle.std.specs.List.{list_all, list_any}
+use mathlib.Core.Bool.{or_assoc, and-true, or-false}
 use Rattle.letter_word.specs.Word.{Word}
 use Rattle.ltl_formula.specs.declared.nodes.Node.{Node}
 use Rattle.ltl_formula.specs.Nodes.{Grows}
@@ -18,7 +19,7 @@ use Rattle.tlsf_expand.specs.Senses.{Sense, a_truth, a_formula, true_in, is_trut
 use Rattle.tlsf_expand.proofs.Kept.{IsGood, Keeps, keeps_go_on, keeps_given, keeps_map}
 use Rattle.tlsf_expand.proofs.Alike.{AlikeFormula, alike_sure, alike_flat, grown_formula}
 use Rattle.tlsf_expand.proofs.Connected.{connective_truth, keeps_connected}
-use Rattle.tlsf_expand.proofs.Bools.{and_once, or_once, and_regroup, or_regroup, same_function}
+use Rattle.tlsf_expand.proofs.Bools.{and_regroup, same_function}
 
 -- joined to the left
 abbrev fold : (Bool → Bool → Bool) → Sense → List Sense → Sense
@@ -55,17 +56,17 @@ each_or s t ts =
     let truths : list_all is_truth (connected (λ x y. x || y) s t ∷ ts) ≡ list_all is_truth (s ∷ t ∷ ts) =
     ap (λ b. b && list_all is_truth ts) (connected-is_truth (λ x y. x || y) s t) ∙ and_regroup (is_truth s) (is_truth t) (list_all is_truth ts) in
     let at : (i : ℕ) → list_any (λ u. true_in u i) (connected (λ x y. x || y) s t ∷ ts) ≡ list_any (λ u. true_in u i) (s ∷ t ∷ ts) =
-    λ i. ap (λ b. b || list_any (λ u. true_in u i) ts) (connected-true_in (λ x y. x || y) s t i) ∙ or_regroup (true_in s i) (true_in t i) (list_any (λ u. true_in u i) ts) in
+    λ i. ap (λ b. b || list_any (λ u. true_in u i) ts) (connected-true_in (λ x y. x || y) s t i) ∙ or_assoc (true_in s i) (true_in t i) (list_any (λ u. true_in u i) ts) in
     λ k. if truths k then a_truth (at 0 k) else a_formula (λ i. at i k)
 
 fold_and : (s : Sense) (ts : List Sense) → IsFormulaSense s → fold (λ x y. x && y) s ts ≡ for_members op.And (s ∷ ts)
-fold_and _ [] (of_truth b) = ap a_truth (sym (and_once b))
-fold_and _ [] (of_formula f) = ap a_formula (same_function _ _ (λ i. sym (and_once (f i))))
+fold_and _ [] (of_truth b) = ap a_truth (sym (and-true b))
+fold_and _ [] (of_formula f) = ap a_formula (same_function _ _ (λ i. sym (and-true (f i))))
 fold_and s (t ∷ ts) h = fold_and (connected (λ x y. x && y) s t) ts (connected-formula (λ x y. x && y) s t) ∙ each_and s t ts
 
 fold_or : (s : Sense) (ts : List Sense) → IsFormulaSense s → fold (λ x y. x || y) s ts ≡ for_members op.Or (s ∷ ts)
-fold_or _ [] (of_truth b) = ap a_truth (sym (or_once b))
-fold_or _ [] (of_formula f) = ap a_formula (same_function _ _ (λ i. sym (or_once (f i))))
+fold_or _ [] (of_truth b) = ap a_truth (sym (or-false b))
+fold_or _ [] (of_formula f) = ap a_formula (same_function _ _ (λ i. sym (or-false (f i))))
 fold_or s (t ∷ ts) h = fold_or (connected (λ x y. x || y) s t) ts (connected-formula (λ x y. x || y) s t) ∙ each_or s t ts
 
 -- what is made for each member has its sense, in every longer list

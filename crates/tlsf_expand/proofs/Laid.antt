@@ -122,8 +122,8 @@ pub record AreSignals (s : Signals) (nodes : List Node) : Type 0 where
   pub outputs_fit : TypedFit (length s.inputs + length s.outputs) s.typed_outputs
 
 -- any word will do: what is kept here doesn't speak of it
-some_word : Word
-some_word = record { stem = []; ring = [] }
+pub any_word : Word
+any_word = record { stem = []; ring = [] }
 
 module _ (text : Text) (even : uneven_value text.definitions ≡ None) where
   type_even : (word : Named) (x : Meaning) → IsEvenChecked (type_in text word x)
@@ -142,7 +142,7 @@ module _ (text : Text) (even : uneven_value text.definitions ≡ None) where
       → Keeps top work.formulas (λ extent nodes. IsEven extent) (extent_value text names shape work)
   keeps_extent names plain single work good = keeps_given _ alone work good tt
   keeps_extent names plain (bus t) work good =
-      keeps_go_on _ _ (keeps_value_at some_word names plain t 0 work good) (λ v work1 good1 grows1 h. keeps_checked_extent (width_in (start_of t) v) work1 good1 (width_even (start_of t) v))
+      keeps_go_on _ _ (keeps_value_at any_word names plain t 0 work good) (λ v work1 good1 grows1 h. keeps_checked_extent (width_in (start_of t) v) work1 good1 (width_even (start_of t) v))
   keeps_extent names plain (typed word) work good = keeps_checked_extent (type_in text word (names.means word.name)) work good (type_even word (names.means word.name))
 
   plain_declared : (m : ℕ) (word : Named) (extent : Extent) (d : Declared) → HasPlainNames m d.names → HasPlainNames (m + bits_in extent) (declared word m extent d).names

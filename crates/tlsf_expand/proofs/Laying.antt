@@ -7,14 +7,11 @@ use Rattle.spec_faults.specs.declared.code.SpecFault.{SpecFault}
 use Rattle.spec_faults.specs.declared.code.SpecFault.TheVariants.{NoMemory, At}
 use Rattle.spec_faults.specs.declared.code.SpecCode.{SpecCode}
 use Rattle.spec_faults.specs.declared.code.SpecCode.TheVariants.{TooManySignals}
-use Rattle.tlsf_syntax.specs.declared.spec.Member.{Member}
 use Rattle.tlsf_syntax.specs.declared.spec.Declaration.{Declaration as CodeDeclaration}
 use Rattle.tlsf_syntax.specs.Tree.{Named, Pattern, Declaration}
 use Rattle.tlsf_values.specs.declared.work.Work.{Work}
 use Rattle.tlsf_values.specs.Outcomes.{Outcome, gives, fails, go_on, choose}
-use Rattle.tlsf_values.specs.Patterns.{all_values}
 use Rattle.tlsf_values.specs.Results.{IsFault, IsOutcomeAs}
-use Rattle.tlsf_syntax.specs.Seen.{pattern_seen, member_seen}
 use Rattle.tlsf_expand.specs.Signals.{first_of, other_width, width_of, bit_name, bit_names, bits_in, most_signals, Extent, alone, wide, of_type, extent_value, Declared, declared, declaration_value, declarations_value}
 use Rattle.tlsf_syntax.specs.Text.{Text}
 use Rattle.tlsf_syntax.specs.Seen.{declaration_seen}
@@ -29,12 +26,6 @@ other_width_append width (p ∷ ps) qs = by (length p.bits == width) (other_widt
         → (if b then other_width width (ps ++ qs) else Some p.span.start) ≡ first_of (if b then other_width width ps else Some p.span.start) (other_width width qs)
     by true h = h
     by false h = refl
-
--- the values of the member at this place come first, and then those of the members after it
-pub members_from : (members : List Member) (i : ℕ) (m : Member) → i < length members → m ≡ get_or members i m →
-    all_values (map member_seen (drop i members)) ≡ map pattern_seen m.values.items ++ all_values (map member_seen (drop (i + 1) members))
-members_from members i m below is =
-    at_drop_more (λ ms. all_values (map member_seen ms)) members i m below ∙ ap (λ x. all_values (map member_seen (x ∷ drop (i + 1) members))) (sym is)
 
 -- ---- bits
 

@@ -3,6 +3,7 @@ use Rattle.std.proofs.Common.{◌≡◌, ℕ, suc, ◌+◌, ◌<◌, ◌≤◌, 
 use Rattle.std.proofs.lemmas.Bool.{and_parts, eqb-true}
 use Rattle.std.specs.Prelude.{not, ◌&&◌, ◌||◌, ◌==◌}
 use Rattle.std.specs.Bool.{beq}
+use mathlib.Core.Bool.{or_assoc, and-true, or-false}
 use Rattle.letter_word.specs.Word.{Word, letter_at}
 use Rattle.letter_word.specs.Signals.{has}
 use Rattle.ltl_formula.specs.declared.nodes.FormulaId.{FormulaId}
@@ -17,7 +18,7 @@ use Rattle.tlsf_expand.specs.Senses.{has_bits, has_value}
 use Rattle.tlsf_expand.proofs.Kept.{IsGood, Keeps, keeps_go_on, keeps_given, keeps_map}
 use Rattle.tlsf_expand.proofs.Alike.{HasTruths, grown_truths}
 use Rattle.tlsf_expand.proofs.Made.{keeps_truth_node, keeps_signal, keeps_not, keeps_and, keeps_or}
-use Rattle.tlsf_expand.proofs.Bools.{and_once, or_once, and_regroup, or_regroup, beq_true, beq_false, same_function}
+use Rattle.tlsf_expand.proofs.Bools.{and_regroup, beq_true, beq_false, same_function}
 
 -- each value fits between this signal and the last of all
 abbrev pub FitFrom : ℕ → ℕ → List Pattern → Type 0
@@ -73,7 +74,7 @@ module _ {top : ℕ} (w : Word) where
   keeps_bits : (place signal : ℕ) (bits : List (Option Bool)) (f : ℕ → Bool) (o : Option FormulaId) (work : Work) → IsGood top work.formulas → signal + length bits ≤ top → SoFar w true f work.formulas o
       → Keeps top work.formulas (HasTruths w (λ i. f i && has_bits (letter_at w i).0 signal bits)) (bits_made place signal bits o work)
   keeps_bits place signal [] f o work list small h =
-      keeps_truths f (λ i. f i && true) (same_function _ _ (λ i. sym (and_once (f i)))) (keeps_or_truth place true f o work list h)
+      keeps_truths f (λ i. f i && true) (same_function _ _ (λ i. sym (and-true (f i)))) (keeps_or_truth place true f o work list h)
   keeps_bits place signal (None ∷ bits) f o work list small h =
       let fit : signal + suc (length bits) ≤ top = small in keeps_bits place (signal + 1) bits f o work list (omega arith) h
   keeps_bits place signal (Some b ∷ bits) f o work list small h =
@@ -87,12 +88,12 @@ module _ {top : ℕ} (w : Word) where
   keeps_values : (place first : ℕ) (ps : List Pattern) (f : ℕ → Bool) (o : Option FormulaId) (work : Work) → IsGood top work.formulas → FitFrom top first ps → SoFar w false f work.formulas o
       → Keeps top work.formulas (HasTruths w (λ i. f i || has_value w first ps i)) (values_made place first ps o work)
   keeps_values place first [] f o work list fit h =
-      keeps_truths f (λ i. f i || false) (same_function _ _ (λ i. sym (or_once (f i)))) (keeps_or_truth place false f o work list h)
+      keeps_truths f (λ i. f i || false) (same_function _ _ (λ i. sym (or-false (f i)))) (keeps_or_truth place false f o work list h)
   keeps_values place first (p ∷ ps) f o work list fit h =
       keeps_go_on _ _ (keeps_bits place first p.bits (λ i. true) None work list fit.0 (none_yet refl)) (λ id work1 list1 grows1 t.
       keeps_go_on _ _ (keeps_joined_or place f (λ i. has_bits (letter_at w i).0 first p.bits) o id work1 list1 (grown_so_far grows1 h) t) (λ either work2 list2 grows2 t2.
       keeps_truths (λ i. (f i || has_bits (letter_at w i).0 first p.bits) || has_value w first ps i) _
-      (same_function _ _ (λ i. or_regroup (f i) (has_bits (letter_at w i).0 first p.bits) (has_value w first ps i)))
+      (same_function _ _ (λ i. or_assoc (f i) (has_bits (letter_at w i).0 first p.bits) (has_value w first ps i)))
       (keeps_values place first ps (λ i. f i || has_bits (letter_at w i).0 first p.bits) (Some either) work2 list2 fit.1 (some_yet either t2))))
 
   -- one of these values stands there

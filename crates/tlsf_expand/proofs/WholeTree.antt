@@ -1,6 +1,7 @@
 -- The nodes that join the sections make the formula of the whole, which is true as the standard or the strict formula is.
 use Rattle.std.proofs.Common.{◌≡◌, ℕ, Bool, true, false, List, [], ◌∷◌, refl, sym, ap, ◌∙◌}
 use Rattle.std.specs.Prelude.{◌&&◌}
+use mathlib.Core.Bool.{and-true}
 use Rattle.letter_word.specs.Word.{Word}
 use Rattle.ltl_formula.specs.declared.nodes.FormulaId.{FormulaId}
 use Rattle.ltl_formula.specs.declared.nodes.Node.{Node}
@@ -13,9 +14,9 @@ use Rattle.tlsf_syntax.specs.Text.{each_section}
 use Rattle.tlsf_values.specs.declared.work.Work.{Work}
 use Rattle.tlsf_values.specs.Outcomes.{Outcome, go_on}
 use Rattle.tlsf_expand.specs.Meaning.{by_semantics}
-use Rattle.tlsf_expand.specs.Sections.{joined_more, joined, standard_value, strict_value, whole_value}
+use Rattle.tlsf_expand.specs.Sections.{joined_more, conjoined, standard_value, strict_value, whole_value}
 use Rattle.tlsf_expand.specs.Standing.{OfEach, StandsAs, all_hold, truths_of}
-use Rattle.tlsf_expand.proofs.Bools.{and_once, and_regroup, same_function}
+use Rattle.tlsf_expand.proofs.Bools.{and_regroup, same_function}
 use Rattle.tlsf_expand.proofs.EachSection.{both, each_weaker, same_each}
 use Rattle.tlsf_expand.proofs.Kept.{IsGood, keeps_given, keeps_go_on}
 use Rattle.tlsf_expand.proofs.Filling.{Fills, fills_and, fills_globally, fills_implies, fills_not, fills_true, fills_weakly, stands_later}
@@ -47,7 +48,7 @@ whole_tree true s = strict_tree s
 -- ---- its truth
 
 joined_more_holds : (w : Word) (t : Tree) (ts : List Tree) (i : ℕ) → holds w (joined_tree_more t ts) i ≡ (holds w t i && all_hold w ts i)
-joined_more_holds w t [] i = sym (and_once (holds w t i))
+joined_more_holds w t [] i = sym (and-true (holds w t i))
 joined_more_holds w t (u ∷ us) i = joined_more_holds w (conjunction t u) us i ∙ and_regroup (holds w t i) (holds w u i) (all_hold w us i)
 
 joined_holds : (w : Word) (ts : List Tree) → holds w (joined_tree ts) ≡ all_hold w ts
@@ -110,7 +111,7 @@ module _ {top : ℕ} where
       fills_joined_more (conjunction t u) made_here us js later good_later there (all_later grows more))
 
   fills_joined : (ts : List Tree) (ids : List FormulaId) (work : Work) → IsGood top work.formulas → AllStandAs work.formulas ts ids
-      → Fills top work.formulas (λ id nodes. StandsAs nodes (joined_tree ts) id) (joined ids work)
+      → Fills top work.formulas (λ id nodes. StandsAs nodes (joined_tree ts) id) (conjoined ids work)
   fills_joined _ _ work good none_stand = fills_true work good
   fills_joined _ _ work good (one_stands t id ts ids at more) = fills_joined_more t id ts ids work good at more
 

@@ -1,6 +1,6 @@
 -- The meaning of a written text on a lasso: the standard or the strict formula of TLSF 1.1 at position 0, of the truths of its
 -- sections on the written tree.
-use Rattle.std.specs.Prelude.{ℕ, Bool, true, false, not, ◌&&◌, List, [], IsTrue}
+use Rattle.std.specs.Prelude.{ℕ, Bool, true, false, not, ◌&&◌, List, []}
 use Rattle.std.specs.List.{list_all}
 use Rattle.letter_word.specs.Word.{Word}
 use Rattle.tlsf_syntax.specs.Tree.{Tree}
@@ -50,6 +50,3 @@ means_with w text (fails code place) = false
 -- what the text says of a lasso; a text whose signals have a fault says nothing
 abbrev pub means : Word → Text → Bool
 means w text = means_with w text (signals_of text)
-
-abbrev pub Means : Word → Text → Type 0
-Means w text = IsTrue (means w text)

@@ -1,38 +1,24 @@
 -- Worked rows: texts with their flat sections, their first faults or their meaning, written out by hand.
-use Rattle.std.specs.Prelude.{◌≡◌, ℕ, ◌+◌, ◌-◌, ◌^◌, Bool, true, false, List, [], ◌∷◌, Option, None, Some, pos, negsuc, codes}
+use Rattle.std.specs.Prelude.{◌≡◌, ℕ, ◌-◌, ◌^◌, Bool, true, false, List, [], ◌∷◌, Option, None, Some, pos, negsuc, codes}
 use Rattle.letter_word.specs.Word.{Word}
 use Rattle.letter_word.specs.declared.kinds.Kind.TheVariants.{Mealy, Moore}
 use Rattle.ltl_formula.specs.declared.nodes.Node.{Node}
 use Rattle.ltl_formula.specs.declared.nodes.Node.TheVariants as node
-use Rattle.ltl_formula.specs.declared.nodes.FormulaId.{FormulaId}
 use Rattle.spec_faults.specs.declared.code.SpecCode.{SpecCode}
 use Rattle.spec_faults.specs.declared.code.SpecCode.TheVariants as code
 use Rattle.tlsf_syntax.specs.declared.expr.Op.TheVariants as op
-use Rattle.tlsf_syntax.specs.declared.expr.Span.{Span}
-use Rattle.tlsf_syntax.specs.Tree.{Tree, Named, number, named, pair, prefix, truth, Definition, enumeration, Pattern, Declaration, single, bus, typed}
+use Rattle.tlsf_syntax.specs.Tree.{Tree, number, named, pair, prefix, truth, Definition, enumeration, Pattern, Declaration, single, bus, typed}
 use Rattle.tlsf_values.specs.Outcomes.{gives}
-use Rattle.tlsf_syntax.specs.declared.sections.Sections.{Sections}
+use Rattle.tlsf_values.specs.Rows.{from, word, id}
 use Rattle.tlsf_syntax.specs.Text.{Info, Text}
 use Rattle.tlsf_expand.specs.Signals.{bit_name}
 use Rattle.tlsf_expand.specs.Expansion.{expanded, Fault, flat_fault}
 use Rattle.tlsf_expand.specs.Meaning.{means}
 
-abbrev pub from : ℕ → Span
-from k = record { start = k; end = k + 1 }
-
-abbrev pub word : List ℕ → ℕ → Named
-word text k = record { name = text; span = from k }
-
-abbrev pub id : ℕ → FormulaId
-id n = record { 0 = n }
-
 abbrev pub fault : SpecCode → ℕ → Option Fault
 fault c k = Some (record { code = c; place = k })
 
 -- ---- texts
-
-abbrev pub no_formulas : Sections (List Tree)
-no_formulas = record { initially = []; preset = []; require = []; assert = []; assume = []; guarantee = [] }
 
 -- of kind Mealy
 abbrev pub info_of : Bool → Info

@@ -46,30 +46,30 @@ joined_more so_far [] w = gives so_far w
 joined_more so_far (id ∷ ids) w = go_on (made 0 (node.And so_far id) w) (λ both w. joined_more both ids w)
 
 -- the formulas of a section joined to the left; without any it is true
-abbrev pub joined : List FormulaId → Work → Outcome FormulaId
-joined [] w = made 0 node.True w
-joined (id ∷ ids) w = joined_more id ids w
+abbrev pub conjoined : List FormulaId → Work → Outcome FormulaId
+conjoined [] w = made 0 node.True w
+conjoined (id ∷ ids) w = joined_more id ids w
 
 -- `e -> (s && ((G E && A) -> (G S && H)))`, the parts from left to right before the whole
 abbrev pub standard_value : Sections (List FormulaId) → Work → Outcome FormulaId
 standard_value x w =
-    go_on (joined x.initially w) (λ e w. go_on (joined x.preset w) (λ s w.
-    go_on (joined x.require w) (λ E w. go_on (made 0 (node.Globally E) w) (λ always_E w.
-    go_on (joined x.assume w) (λ A w. go_on (made 0 (node.And always_E A) w) (λ given w.
-    go_on (joined x.assert w) (λ S w. go_on (made 0 (node.Globally S) w) (λ always_S w.
-    go_on (joined x.guarantee w) (λ H w. go_on (made 0 (node.And always_S H) w) (λ owed w.
+    go_on (conjoined x.initially w) (λ e w. go_on (conjoined x.preset w) (λ s w.
+    go_on (conjoined x.require w) (λ E w. go_on (made 0 (node.Globally E) w) (λ always_E w.
+    go_on (conjoined x.assume w) (λ A w. go_on (made 0 (node.And always_E A) w) (λ given w.
+    go_on (conjoined x.assert w) (λ S w. go_on (made 0 (node.Globally S) w) (λ always_S w.
+    go_on (conjoined x.guarantee w) (λ H w. go_on (made 0 (node.And always_S H) w) (λ owed w.
     go_on (made 0 (node.Implies given owed) w) (λ kept w. go_on (made 0 (node.And s kept) w) (λ all w.
     made 0 (node.Implies e all) w))))))))))))
 
 -- `e -> (s && (S W !E) && ((G E && A) -> H))`
 abbrev pub strict_value : Sections (List FormulaId) → Work → Outcome FormulaId
 strict_value x w =
-    go_on (joined x.initially w) (λ e w. go_on (joined x.preset w) (λ s w.
-    go_on (joined x.assert w) (λ S w. go_on (joined x.require w) (λ E w.
+    go_on (conjoined x.initially w) (λ e w. go_on (conjoined x.preset w) (λ s w.
+    go_on (conjoined x.assert w) (λ S w. go_on (conjoined x.require w) (λ E w.
     go_on (made 0 (node.Not E) w) (λ broken w. go_on (made 0 (node.WeakUntil S broken) w) (λ until_broken w.
     go_on (made 0 (node.And s until_broken) w) (λ both w. go_on (made 0 (node.Globally E) w) (λ always_E w.
-    go_on (joined x.assume w) (λ A w. go_on (made 0 (node.And always_E A) w) (λ given w.
-    go_on (joined x.guarantee w) (λ H w. go_on (made 0 (node.Implies given H) w) (λ kept w.
+    go_on (conjoined x.assume w) (λ A w. go_on (made 0 (node.And always_E A) w) (λ given w.
+    go_on (conjoined x.guarantee w) (λ H w. go_on (made 0 (node.Implies given H) w) (λ kept w.
     go_on (made 0 (node.And both kept) w) (λ all w. made 0 (node.Implies e all) w)))))))))))))
 
 abbrev pub whole_value : Bool → Sections (List FormulaId) → Work → Outcome FormulaId

@@ -1,4 +1,4 @@
-// The values of enumerations, and their widths.
+//! The values of enumerations, and their widths.
 
 ghost use Rattle.std.specs.Prelude.{◌≡◌, map};
 ghost use Rattle.std.specs.Option.{option_map};

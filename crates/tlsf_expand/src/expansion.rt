@@ -1,4 +1,4 @@
-// A whole text, expanded.
+//! A whole text, expanded.
 
 ghost use Rattle.std.specs.Prelude.{◌≡◌, IfOk, length};
 ghost use Rattle.tlsf_expand.specs.Expansion.{expanded, kind_of};
@@ -7,12 +7,12 @@ ghost use Rattle.tlsf_expand.specs.Results.{IsExpansion, KeepsMeaning};
 ghost use Rattle.tlsf_syntax.specs.Seen.{text_seen};
 
 use crate::sections::flat_sections;
-use crate::signals::{declared_signals, fault};
+use crate::signals::declared_signals;
 use crate::spec::Spec;
 use crate::whole::whole_formula;
 use letter_word::Kind;
 use ltl_formula::Formulas;
-use spec_faults::{SpecCode, SpecFault};
+use spec_faults::{SpecCode, SpecFault, fault};
 use std::alloc::Global;
 use tlsf_syntax::SpecTree;
 use tlsf_values::Work;

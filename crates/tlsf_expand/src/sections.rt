@@ -1,4 +1,4 @@
-// The flat formulas of the sections, with those that are added for signals of a type.
+//! The flat formulas of the sections, with those that are added for signals of a type.
 
 ghost use Rattle.std.specs.Prelude.{◌≡◌, ◌++◌, map};
 ghost use Rattle.tlsf_expand.specs.Sections.{added_value, sections_value, written_sections};

@@ -1,4 +1,4 @@
-// The signals that a text declares, with their numbers and flat names.
+//! The signals that a text declares, with their numbers and flat names.
 
 ghost use Rattle.std.specs.Prelude.{◌≡◌, ◌+◌, ◌≤◌, ◌++◌, IfOk, OnOk, map};
 ghost use Rattle.tlsf_expand.specs.Signals.{bit_name, bit_names, bits_in, declaration_value, declarations_value, declared, declares, even_first, extent_value, none_yet, signals_value, type_in, uneven_value, width_in};
@@ -9,7 +9,7 @@ ghost use Rattle.tlsf_values.specs.Results.{IsCheckedAs, IsOutcomeAs};
 ghost use Rattle.tlsf_syntax.specs.Seen.{word_seen};
 
 use crate::enumerations::{members_named, uneven_value, width};
-use spec_faults::{SpecCode, SpecFault};
+use spec_faults::{SpecCode, SpecFault, fault};
 use std::alloc::{AllocError, Global};
 use text_base::{Name, push_number};
 use tlsf_syntax::{Declaration, Member, Shape, SpecTree, Word};
@@ -75,13 +75,6 @@ fn extent_of<'t>(place: u64, value: &Value) -> Result<Extent<'t>, SpecFault>
         },
         _ => Err(fault(SpecCode::WrongSort, place)),
     }
-}
-
-/// The refusal of a text with this fault at this byte.
-pub(crate) fn fault(code: SpecCode, place: u64) -> SpecFault
-    ensures { result ≡ SpecFault.At code place }
-{
-    SpecFault::At { code, place }
 }
 
 /// Whether a signal of this name is declared.

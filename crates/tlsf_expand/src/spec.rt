@@ -1,4 +1,4 @@
-// The flat form of a text.
+//! The flat form of a text.
 
 use letter_word::Kind;
 use ltl_formula::{FormulaId, Formulas};

@@ -1,7 +1,7 @@
-// The formula of a whole text. Its faults have place 0.
+//! The formula of a whole text. Its faults have place 0.
 
 ghost use Rattle.std.specs.Prelude.{◌≡◌};
-ghost use Rattle.tlsf_expand.specs.Sections.{joined, standard_value, strict_value, whole_value};
+ghost use Rattle.tlsf_expand.specs.Sections.{conjoined, standard_value, strict_value, whole_value};
 ghost use Rattle.tlsf_syntax.specs.Text.{section_lists};
 ghost use Rattle.tlsf_values.specs.Results.{IsOutcome};
 
@@ -12,7 +12,7 @@ use tlsf_values::Work;
 
 /// The formulas of a section, joined to the left; without any it is true.
 fn joined(ids: &[FormulaId], work: &mut Work) -> Result<FormulaId, SpecFault>
-    ensures { IsOutcome result work.new (joined ids.now work.old) }
+    ensures { IsOutcome result work.new (conjoined ids.now work.old) }
 {
     let [first, more @ ..] = ids else {
         return work.made(0, Node::True);

@@ -3,9 +3,9 @@ use Rattle.std.proofs.Common.{◌≡◌, List, [], ◌∷◌, ◌++◌, refl, sy
 use Rattle.std.proofs.lemmas.List.{append-nil, map-append}
 use Rattle.tlsf_tokens.specs.declared.symbol.Section.TheVariants.{Initially, Preset, Require, Assert, Assume, Guarantee}
 use Rattle.tlsf_syntax.specs.Tree.{Definition, Field, title, description, semantics, target, tags, Block, parameters, definitions, Part, inputs, outputs, section, Written}
-use Rattle.tlsf_syntax.specs.Text.{Info, Text}
+use Rattle.tlsf_syntax.specs.Text.{Info, Text, no_sections}
 use Rattle.tlsf_reader.specs.Parts.{info_of, definitions_of, text_of}
-use Rattle.tlsf_reader.specs.Assembly.{put_field, put_fields, block_definitions, put_part, put_parts, no_sections}
+use Rattle.tlsf_reader.specs.Assembly.{put_field, put_fields, block_definitions, put_part, put_parts}
 
 -- fields
 

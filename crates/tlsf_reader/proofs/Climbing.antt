@@ -6,14 +6,15 @@ use Rattle.tlsf_syntax.specs.declared.expr.Op.{Op}
 use Rattle.tlsf_syntax.specs.Tree.{Tree, tree_span, pair}
 use Rattle.tlsf_syntax.specs.Lexemes.{Lexeme}
 use Rattle.tlsf_syntax.specs.Expressions.{Level, Joins, memberships, prefixes, tighter_of, joins_of}
-use Rattle.tlsf_syntax.specs.Reading.{Answer, taken, go_on, level_number, operator_here, joined, chain_of, from_to, readers}
+use Rattle.tlsf_syntax.specs.Reading.{Answer, taken, go_on, level_number, operator_here, joined_by, chain_of, from_to, readers}
 use Rattle.tlsf_reader.specs.declared.rest.Refusal.{Refusal}
 use Rattle.tlsf_reader.specs.declared.ahead.Sign.{Sign}
 use Rattle.tlsf_reader.specs.declared.ahead.SignKind.{SignKind}
 use Rattle.tlsf_reader.specs.Seen.{seen}
 use Rattle.tlsf_reader.specs.Descent.{Eventually, IsRead, IsBuilt, SignedFront, Unsigned, signed_by, extended_by, Builds, put_link}
-use Rattle.tlsf_reader.proofs.Descending.{stops, climb_up, joins_some, joins_somehow, no_sign_at, one_number, read_error, read_same, read_stop, read_go, read_built, read_made, read_here, read_level, read_joined, read_alone, chain_ends, link_refused}
+use Rattle.tlsf_reader.proofs.Descending.{stops, climb_up, joins_some, joins_somehow, no_sign_at, read_error, read_same, read_stop, read_go, read_built, read_made, read_here, read_level, read_joined, read_alone, chain_ends, link_refused}
 use Rattle.tlsf_syntax.specs.Seen.{link_list_seen}
+use Rattle.tlsf_syntax.proofs.Starts.{same_level}
 
 -- the exit of a `?`
 pub read_exit : {X A : Type 0} {view : X → A} {f : ℕ → Answer A} {after : List Lexeme} {e : Refusal} (r : Result X Refusal) → IsErrAnd r (λ x. x ≡ e) → IsRead view f after (Err e) → IsRead view f after r
@@ -42,7 +43,7 @@ climbed {rest = rest} {t = t} ends to m n ls e above within s operand on = recor
 pub climbed_to : {X : Type 0} {view : X → Tree} {after : List Lexeme} {x : X} (ends : Bool) (to m : Level) (ls : List Lexeme) → level_number m ≤ level_number to → level_number to ≤ level_number m
     → Eventually (λ d. (readers d).level ends m ls) (taken (view x) after) → IsRead view (λ d. (readers d).level ends to ls) after (Ok x)
 climbed_to {view = view} {after = after} {x = x} ends to m ls low high h =
-    read_taken (subst (λ (l : Level). Eventually (λ d. (readers d).level ends l ls) (taken (view x) after)) (one_number m to (omega arith)) h)
+    read_taken (subst (λ (l : Level). Eventually (λ d. (readers d).level ends l ls) (taken (view x) after)) (same_level m to (omega arith)) h)
 
 pub read_extended : {X : Type 0} {view : X → Tree} {after : List Lexeme} {r : Result X Refusal} (ends : Bool) (m n : Level) (t : Tree) (rest : List Lexeme) (j : Joins) → joins_of m ≡ j
     → IsRead view (λ d. extended_by (readers d) ends m n j t rest) after r → IsRead view (λ d. extended_by (readers d) ends m n (joins_of m) t rest) after r
@@ -67,18 +68,18 @@ read_chain {view = view} {r = r} ends m n first ls after t done e f g b built =
 -- one operator
 
 pub read_none : {X : Type 0} {view : X → Tree} {x : X} (m : Option Op) (t : Tree) (rest after : List Lexeme) (f : ℕ → List Lexeme → Answer Tree) → None ≡ m → after ≡ rest → view x ≡ t
-    → IsRead view (λ d. joined m t rest (f d)) after (Ok x)
+    → IsRead view (λ d. joined_by m t rest (f d)) after (Ok x)
 read_none {view = view} {x = x} m t rest after f e g is = read_alone m t rest f (sym e) (subst (λ (ls : List Lexeme). IsRead view (λ d. taken t ls) after (Ok x)) g (read_here is))
 
 pub pair_refused : {X Y : Type 0} {view : Y → Tree} {seen_as : X → Tree} {last after : List Lexeme} {e : Refusal} (ends : Bool) (n : Level) (m : Option Op) (o : Op) (t : Tree) (rest before : List Lexeme) → Some o ≡ m
-    → before ≡ drop 1 rest → IsRead view (λ d. (readers d).level ends n before) last (Err e) → IsRead seen_as (λ d. joined m t rest ((readers d).level ends n)) after (Err e)
+    → before ≡ drop 1 rest → IsRead view (λ d. (readers d).level ends n before) last (Err e) → IsRead seen_as (λ d. joined_by m t rest ((readers d).level ends n)) after (Err e)
 pair_refused {view = view} {last = last} {e = e} ends n m o t rest before is g h =
     read_joined m o t rest (λ d. (readers d).level ends n) (sym is) (read_stop (λ d u end. taken (pair (from_to (tree_span t).start (tree_span u).end) o t u) end)
     (subst (λ (ls : List Lexeme). IsRead view (λ d. (readers d).level ends n ls) last (Err e)) g h))
 
 pub pair_read : {X Y : Type 0} {view : Y → Tree} {seen_as : X → Tree} {after : List Lexeme} {u : Y} {r : Result X Refusal} (ends : Bool) (n : Level) (m : Option Op) (o : Op) (t : Tree) (rest before : List Lexeme) → Some o ≡ m
     → before ≡ drop 1 rest → IsRead view (λ d. (readers d).level ends n before) after (Ok u) → IsBuilt seen_as (pair (from_to (tree_span t).start (tree_span (view u)).end) o t (view u)) r
-    → IsRead seen_as (λ d. joined m t rest ((readers d).level ends n)) after r
+    → IsRead seen_as (λ d. joined_by m t rest ((readers d).level ends n)) after r
 pair_read {view = view} {after = after} {u = u} ends n m o t rest before is g h b =
     read_joined m o t rest (λ d. (readers d).level ends n) (sym is) (read_go (λ d v end. taken (pair (from_to (tree_span t).start (tree_span v).end) o t v) end)
     (subst (λ (ls : List Lexeme). IsRead view (λ d. (readers d).level ends n ls) after (Ok u)) g h) (read_built b))

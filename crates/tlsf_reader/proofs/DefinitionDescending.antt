@@ -12,9 +12,8 @@ use Rattle.tlsf_reader.specs.declared.written.Block.{Block}
 use Rattle.tlsf_reader.specs.TextView.{block_view}
 use Rattle.tlsf_reader.specs.Descent.{Eventually, IsRead, Passes, Lacks, Builds}
 use Rattle.tlsf_reader.specs.TextDescent.{enumeration_read, parameter_read, in_front, IsBlockRead}
-use Rattle.tlsf_reader.proofs.Descending.{at_once, same_answers, goes, stops, read_same, next_passes, next_other}
-use Rattle.tlsf_reader.proofs.Climbing.{read_taken}
-use Rattle.tlsf_reader.proofs.TextDescending.{deeper, expect_passed, go_expect, go_go, expect_same, go_same, Until, read_deeper}
+use Rattle.tlsf_reader.proofs.Descending.{at_once, same_answers, goes, stops, read_same, next_passes, next_other, expect_passes}
+use Rattle.tlsf_reader.proofs.TextDescending.{deeper, go_expect, go_go, expect_same, go_same, Until, read_deeper}
 
 -- guards and alternatives
 
@@ -50,7 +49,7 @@ pub record AlternativeRead (g : Option plain.Tree) (before rest : List Lexeme) (
 pub alternative_read : {Y : Type 0} {view : Y → plain.Tree} {before inner rest : List Lexeme} {colon : Lexeme} {u : Y} (g : Option plain.Tree) (x : plain.Alternative) → Passes symbol.Colon before colon inner
     → IsRead view (λ d. expression_read true d inner) rest (Ok u) → x ≡ alternative_of g (view u) → AlternativeRead g before rest x
 alternative_read {before = before} {inner = inner} {rest = rest} {u = u} g x p h is = record {
-  goes = λ a on. deeper (λ d. alternatives_read d g before) (λ d. go_on (expression_read true d inner) (value_of_guard d g)) a (λ d. expect_passed (alternative_value d g) p)
+  goes = λ a on. deeper (λ d. alternatives_read d g before) (λ d. go_on (expression_read true d inner) (value_of_guard d g)) a (λ d. expect_passes (alternative_value d g) p)
       (goes (λ d. value_of_guard d g) (h.ok u refl) (subst (λ (y : plain.Alternative). Eventually (λ d. after_value d y rest) a) is on));
 }
 
@@ -103,9 +102,6 @@ pub read_guarded : {Y : Type 0} {view : Y → plain.Body} {after : List Lexeme} 
     → IsRead view (λ d. go_on (alternatives_read d (Some t) rest) guarded_body) after r → IsRead view (λ d. body_rest d t rest) after r
 read_guarded t rest e h = read_same _ (λ d. ap (λ b. cond b (go_on (alternatives_read d (Some t) rest) guarded_body) (taken (plain.plain t) rest)) e) h
 
-pub read_plain : {Y : Type 0} {view : Y → plain.Body} {y : Y} (t : plain.Tree) (rest : List Lexeme) → begins symbol.Colon rest ≡ false → view y ≡ plain.plain t → IsRead view (λ d. body_rest d t rest) rest (Ok y)
-read_plain t rest e is = read_taken (at_once _ _ (λ d. ap (λ b. cond b (go_on (alternatives_read d (Some t) rest) guarded_body) (taken (plain.plain t) rest)) e ∙ ap (λ x. taken x rest) (sym is)))
-
 -- blocks
 
 abbrev pub more_blocks : ℕ → plain.Block → List Lexeme → Answer (List plain.Block)
@@ -132,9 +128,9 @@ pub parameters_are_block : {Y : Type 0} {view : Y → List plain.Definition} {be
     → Passes symbol.OpenBrace inner opener start → IsRead view (λ d. parameters_read d start) rest (Ok ds) → Passes symbol.CloseBrace rest closer after → b ≡ plain.parameters (view ds) → BlockRead before after b
 parameters_are_block {view = view} {before = before} {inner = inner} {start = start} {rest = rest} {after = after} {ds = ds} b p o h q is = record {
   goes = λ a on. deeper (λ d. blocks_read d before) (λ d. go_on (parameters_read d start) (λ xs r. expect symbol.CloseBrace r (λ _ e. more_blocks d (plain.parameters xs) e))) a
-      (λ d. next_passes (parameters_block d) (other_block d before) p ∙ expect_passed (λ _ i. go_on (parameters_read d i) (λ xs r. expect symbol.CloseBrace r (λ _ e. more_blocks d (plain.parameters xs) e))) o)
+      (λ d. next_passes (parameters_block d) (other_block d before) p ∙ expect_passes (λ _ i. go_on (parameters_read d i) (λ xs r. expect symbol.CloseBrace r (λ _ e. more_blocks d (plain.parameters xs) e))) o)
       (goes (λ d xs r. expect symbol.CloseBrace r (λ _ e. more_blocks d (plain.parameters xs) e)) (h.ok ds refl)
-      (same_answers _ (λ d. expect_passed (λ _ e. more_blocks d (plain.parameters (view ds)) e) q) (subst (λ (x : plain.Block). Eventually (λ d. more_blocks d x after) a) is on)));
+      (same_answers _ (λ d. expect_passes (λ _ e. more_blocks d (plain.parameters (view ds)) e) q) (subst (λ (x : plain.Block). Eventually (λ d. more_blocks d x after) a) is on)));
 }
 
 pub definitions_are_block : {Y : Type 0} {view : Y → List plain.Definition} {before lacking inner start rest after : List Lexeme} {l opener closer : Lexeme} {ds : Y} (b : plain.Block) → Lacks symbol.Parameters before lacking
@@ -143,9 +139,9 @@ pub definitions_are_block : {Y : Type 0} {view : Y → List plain.Definition} {b
 definitions_are_block {view = view} {before = before} {lacking = lacking} {inner = inner} {start = start} {rest = rest} {after = after} {ds = ds} b other p o h q is = record {
   goes = λ a on. deeper (λ d. blocks_read d before) (λ d. go_on (definitions_read d start) (λ xs r. expect symbol.CloseBrace r (λ _ e. more_blocks d (plain.definitions xs) e))) a
       (λ d. next_other (parameters_block d) (λ ls. other_block d ls) other ∙ next_passes (definitions_block d) (taken [] lacking) p
-      ∙ expect_passed (λ _ i. go_on (definitions_read d i) (λ xs r. expect symbol.CloseBrace r (λ _ e. more_blocks d (plain.definitions xs) e))) o)
+      ∙ expect_passes (λ _ i. go_on (definitions_read d i) (λ xs r. expect symbol.CloseBrace r (λ _ e. more_blocks d (plain.definitions xs) e))) o)
       (goes (λ d xs r. expect symbol.CloseBrace r (λ _ e. more_blocks d (plain.definitions xs) e)) (h.ok ds refl)
-      (same_answers _ (λ d. expect_passed (λ _ e. more_blocks d (plain.definitions (view ds)) e) q) (subst (λ (x : plain.Block). Eventually (λ d. more_blocks d x after) a) is on)));
+      (same_answers _ (λ d. expect_passes (λ _ e. more_blocks d (plain.definitions (view ds)) e) q) (subst (λ (x : plain.Block). Eventually (λ d. more_blocks d x after) a) is on)));
 }
 
 pub block_is : {before after : List Lexeme} {b : Block} → BlockRead before after (block_view b) → IsBlockRead before after (Ok (Some b))

@@ -9,10 +9,12 @@ use Rattle.tlsf_tokens.specs.declared.symbol.Symbol.TheVariants as symbol
 use Rattle.tlsf_syntax.specs.Tree.{Tree, Trees, Links, Ranges, tree_span, pair, tree, no_trees, link, no_links, no_ranges, members, between}
 use Rattle.tlsf_syntax.specs.Lexemes.{Lexeme, word_of}
 use Rattle.tlsf_syntax.specs.Expressions.{Level, Joins, primary, products, quotients, sums, differences, meets, unions, comparisons, memberships, prefixes, conjunctions, disjunctions, implications, weak_untils, untils, releases, left, once, right, none, tighter_of, joins_of}
-use Rattle.tlsf_syntax.specs.Reading.{Answer, taken, refused, go_on, begins, expect, if_next, level_number, operator_here, joined, chain_of, links_end, Readers, readers, level_with, level_by, list_with, links_with, linked, ranges_with, more_ranges, bounded, bound, between_with, from_to, primary_with, primary_by}
+use Rattle.tlsf_syntax.specs.Reading.{Answer, taken, refused, go_on, begins, expect, if_next, level_number, operator_here, joined_by, chain_of, links_end, Readers, readers, level_with, level_by, list_with, links_with, linked, ranges_with, more_ranges, bounded, bound, between_with, from_to, primary_with, primary_by}
 use Rattle.tlsf_reader.specs.declared.rest.Refusal.{Refusal}
 use Rattle.tlsf_reader.specs.declared.rest.Refusal.TheVariants.{NoMemory, At}
 use Rattle.tlsf_syntax.specs.Seen.{expr_seen, trees_seen, link_list_seen, range_list_seen, range_seen}
+use Rattle.tlsf_syntax.proofs.Texts.{not_next}
+use Rattle.tlsf_syntax.proofs.Starts.{same_level}
 use Rattle.tlsf_reader.specs.Descent.{Eventually, IsRead, IsBuilt, Passes, Lacks, Unexpected, Bounds, Unbounded, bound_here, extended_by, onto, Builds, put_tree, put_link, IsRangeRead, NamesMembers, NamesNone, begins_members}
 
 -- answers of the readers themselves
@@ -98,17 +100,13 @@ read_next {s = s} {before = before} {rest = rest} {l = l} {r = r} k other p n = 
     same : (d : ℕ) → if_next s before (k d) (other d) ≡ k d l rest
     same d = ap (λ ls. if_next s ls (k d) (other d)) p.front ∙ ap (λ b. cond b (k d l rest) (other d)) p.symbol
 
-if_other : {X : Type 0} (s : Symbol) (ls : List Lexeme) (f : Lexeme → List Lexeme → X) (x : X) → begins s ls ≡ false → if_next s ls f x ≡ x
-if_other s [] f x e = refl
-if_other s (l ∷ ls) f x e = ap (λ b. cond b (f l ls) x) e
-
 -- The lexemes were not passed, so what stands behind is the same list.
 pub read_other : {X B : Type 0} {seen_as : X → B} {s : Symbol} {before rest after : List Lexeme} {r : Result X Refusal} (k : ℕ → Lexeme → List Lexeme → Answer B) (other : ℕ → List Lexeme → Answer B)
     → Lacks s before rest → IsRead seen_as (λ d. other d rest) after r → IsRead seen_as (λ d. if_next s before (k d) (other d before)) after r
 read_other {s = s} {before = before} {rest = rest} {r = r} k other p n = record { ok = λ y is. same_answers _ same (n.ok y is); err = λ j is. same_answers _ same (n.err j is) }
   where
     same : (d : ℕ) → if_next s before (k d) (other d before) ≡ other d rest
-    same d = if_other s before (k d) (other d before) p.other ∙ ap (other d) (sym p.same)
+    same d = not_next s before (k d) (other d before) p.other ∙ ap (other d) (sym p.same)
 
 pub read_same : {X B : Type 0} {seen_as : X → B} {f : ℕ → Answer B} {after : List Lexeme} {r : Result X Refusal} (g : ℕ → Answer B) → ((d : ℕ) → g d ≡ f d) → IsRead seen_as f after r → IsRead seen_as g after r
 read_same g e n = record { ok = λ y is. same_answers g e (n.ok y is); err = λ j is. same_answers g e (n.err j is) }
@@ -225,45 +223,6 @@ read_error r is h = record { ok = λ x o. h.ok x (sym is ∙ o); err = λ k o. h
 
 -- numbers of levels
 
-abbrev level_at : ℕ → Level
-level_at zero = primary
-level_at (suc zero) = products
-level_at (suc (suc zero)) = quotients
-level_at (suc (suc (suc zero))) = sums
-level_at (suc (suc (suc (suc zero)))) = differences
-level_at (suc (suc (suc (suc (suc zero))))) = meets
-level_at (suc (suc (suc (suc (suc (suc zero)))))) = unions
-level_at (suc (suc (suc (suc (suc (suc (suc zero))))))) = comparisons
-level_at (suc (suc (suc (suc (suc (suc (suc (suc zero)))))))) = memberships
-level_at (suc (suc (suc (suc (suc (suc (suc (suc (suc zero))))))))) = prefixes
-level_at (suc (suc (suc (suc (suc (suc (suc (suc (suc (suc zero)))))))))) = conjunctions
-level_at (suc (suc (suc (suc (suc (suc (suc (suc (suc (suc (suc zero))))))))))) = disjunctions
-level_at (suc (suc (suc (suc (suc (suc (suc (suc (suc (suc (suc (suc zero)))))))))))) = implications
-level_at (suc (suc (suc (suc (suc (suc (suc (suc (suc (suc (suc (suc (suc zero))))))))))))) = weak_untils
-level_at (suc (suc (suc (suc (suc (suc (suc (suc (suc (suc (suc (suc (suc (suc zero)))))))))))))) = untils
-level_at (suc (suc (suc (suc (suc (suc (suc (suc (suc (suc (suc (suc (suc (suc (suc n))))))))))))))) = releases
-
-numbered_level : (m : Level) → level_at (level_number m) ≡ m
-numbered_level primary = refl
-numbered_level products = refl
-numbered_level quotients = refl
-numbered_level sums = refl
-numbered_level differences = refl
-numbered_level meets = refl
-numbered_level unions = refl
-numbered_level comparisons = refl
-numbered_level memberships = refl
-numbered_level prefixes = refl
-numbered_level conjunctions = refl
-numbered_level disjunctions = refl
-numbered_level implications = refl
-numbered_level weak_untils = refl
-numbered_level untils = refl
-numbered_level releases = refl
-
-pub one_number : (m n : Level) → level_number m ≡ level_number n → m ≡ n
-one_number m n e = sym (numbered_level m) ∙ ap level_at e ∙ numbered_level n
-
 record Tighter (m : Level) : Type 0 where
   level : Level
   is : tighter_of m ≡ Some level
@@ -307,7 +266,7 @@ refused_step ends m n ls k e h operand =
 
 refused_by : (steps : ℕ) (ends : Bool) (m n : Level) (ls : List Lexeme) (k : ℕ) → level_number m ≡ level_number n + steps → (level_number m < 9) ⊎ (9 ≤ level_number n)
     → Eventually (λ d. (readers d).level ends n ls) (refused k) → Eventually (λ d. (readers d).level ends m ls) (refused k)
-refused_by zero ends m n ls k e s h = subst (λ (l : Level). Eventually (λ d. (readers d).level ends l ls) (refused k)) (sym (one_number m n (omega (arith, e)))) h
+refused_by zero ends m n ls k e s h = subst (λ (l : Level). Eventually (λ d. (readers d).level ends l ls) (refused k)) (sym (same_level m n (omega (arith, e)))) h
 refused_by (suc steps) ends m n ls k e s h =
     let t : Tighter m = tighter m (omega (arith, e)) in
     refused_step ends m t.level ls k t.is (joins_somehow m (omega (arith, e)) (no_sign_at (level_number m) (level_number n) (level_number m) s (omega (arith, e)) (omega arith)))
@@ -325,12 +284,12 @@ read_refused ends m n ls up s h = record { ok = λ y is. absurd (cc); err = λ k
 -- operators of one level
 
 pub read_joined : {X : Type 0} {seen_as : X → Tree} {after : List Lexeme} {r : Result X Refusal} (m : Option Op) (o : Op) (t : Tree) (rest : List Lexeme) (f : ℕ → List Lexeme → Answer Tree) → m ≡ Some o
-    → IsRead seen_as (λ d. go_on (f d (drop 1 rest)) (λ u last. taken (pair (from_to (tree_span t).start (tree_span u).end) o t u) last)) after r → IsRead seen_as (λ d. joined m t rest (f d)) after r
-read_joined m o t rest f e h = read_same _ (λ d. ap (λ p. joined p t rest (f d)) e) h
+    → IsRead seen_as (λ d. go_on (f d (drop 1 rest)) (λ u last. taken (pair (from_to (tree_span t).start (tree_span u).end) o t u) last)) after r → IsRead seen_as (λ d. joined_by m t rest (f d)) after r
+read_joined m o t rest f e h = read_same _ (λ d. ap (λ p. joined_by p t rest (f d)) e) h
 
 pub read_alone : {X : Type 0} {seen_as : X → Tree} {after : List Lexeme} {r : Result X Refusal} (m : Option Op) (t : Tree) (rest : List Lexeme) (f : ℕ → List Lexeme → Answer Tree) → m ≡ None
-    → IsRead seen_as (λ d. taken t rest) after r → IsRead seen_as (λ d. joined m t rest (f d)) after r
-read_alone m t rest f e h = read_same _ (λ d. ap (λ p. joined p t rest (f d)) e) h
+    → IsRead seen_as (λ d. taken t rest) after r → IsRead seen_as (λ d. joined_by m t rest (f d)) after r
+read_alone m t rest f e h = read_same _ (λ d. ap (λ p. joined_by p t rest (f d)) e) h
 
 -- one more operator of a chain, and the end of the chain
 pub link_more : (ends : Bool) (m n : Level) (ls before after : List Lexeme) (o : Op) (l : Link) (t : Tree) → tighter_of m ≡ Some n → operator_here ends m ls ≡ Some o → before ≡ drop 1 ls → l.op ≡ o → expr_seen l.right ≡ t
@@ -383,9 +342,9 @@ pub next_passes : {X : Type 0} {s : Symbol} {before rest : List Lexeme} {l : Lex
 next_passes {s = s} {rest = rest} {l = l} f x p = ap (λ ls. if_next s ls f x) p.front ∙ ap (λ b. cond b (f l rest) x) p.symbol
 
 pub next_other : {X : Type 0} {s : Symbol} {before rest : List Lexeme} (f : Lexeme → List Lexeme → X) (x : List Lexeme → X) → Lacks s before rest → if_next s before f (x before) ≡ x rest
-next_other {s = s} {before = before} f x p = if_other s before f (x before) p.other ∙ ap x (sym p.same)
+next_other {s = s} {before = before} f x p = not_next s before f (x before) p.other ∙ ap x (sym p.same)
 
-expect_passes : {X : Type 0} {s : Symbol} {before rest : List Lexeme} {l : Lexeme} (f : Lexeme → List Lexeme → Answer X) → Passes s before l rest → expect s before f ≡ f l rest
+pub expect_passes : {X : Type 0} {s : Symbol} {before rest : List Lexeme} {l : Lexeme} (f : Lexeme → List Lexeme → Answer X) → Passes s before l rest → expect s before f ≡ f l rest
 expect_passes {s = s} {rest = rest} {l = l} f p = ap (λ ls. expect s ls f) p.front ∙ ap (λ b. cond b (f l rest) (refused (suc (length rest)))) p.symbol
 
 bound_passes : {X : Type 0} {before rest : List Lexeme} {strict : Bool} (f : Bool → List Lexeme → Answer X) → Bounds before strict rest → bound before f ≡ f strict rest
@@ -504,16 +463,6 @@ between_read before start low_at named_at sign_at high_at rest low high low_stri
 pub read_primary : {X : Type 0} {seen_as : X → Tree} {after : List Lexeme} {r : Result X Refusal} (before rest : List Lexeme) (l : Lexeme) (s : Symbol) → before ≡ l ∷ rest → l.symbol ≡ s
     → IsRead seen_as (λ d. primary_by (readers d) s l rest) after r → IsRead seen_as (λ d. primary_with (readers d) before) after r
 read_primary before rest l s e i h = read_same _ (λ d. ap (primary_with (readers d)) e ∙ ap (λ x. primary_by (readers d) x l rest) i) h
-
-abbrev pub begins_primary : Symbol → Bool
-begins_primary symbol.Number = true
-begins_primary symbol.True = true
-begins_primary symbol.False = true
-begins_primary symbol.Ident = true
-begins_primary symbol.SizeOf = true
-begins_primary symbol.OpenParen = true
-begins_primary symbol.OpenBrace = true
-begins_primary _ = false
 
 primary_other : (r : Readers) (s : Symbol) (l : Lexeme) (ls : List Lexeme) → (s ≡ symbol.Number → ⊥) → (s ≡ symbol.True → ⊥) → (s ≡ symbol.False → ⊥) → (s ≡ symbol.Ident → ⊥) → (s ≡ symbol.SizeOf → ⊥)
     → (s ≡ symbol.OpenParen → ⊥) → (s ≡ symbol.OpenBrace → ⊥) → primary_by r s l ls ≡ refused (suc (length ls))

@@ -4,19 +4,18 @@ use Rattle.std.specs.Prelude.{if◌then◌else◌}
 use Rattle.std.specs.Option.{is_some}
 use Rattle.std.proofs.lemmas.Bool.{eqb-true}
 use Rattle.std.proofs.lemmas.List.{append-nil, drop_all}
-use Rattle.tlsf_tokens.specs.declared.symbol.Symbol.{Symbol}
 use Rattle.tlsf_tokens.specs.declared.symbol.Symbol.TheVariants as symbol
 use Rattle.tlsf_syntax.specs.Tree as plain
 use Rattle.tlsf_syntax.specs.Lexemes.{Lexeme, word_of}
-use Rattle.tlsf_syntax.specs.Texts.{bits_of, digits_bits}
+use Rattle.tlsf_syntax.specs.Texts.{digits_bits}
 use Rattle.tlsf_syntax.specs.Reading.{Answer, taken, refused, lost, go_on, expect, if_next, from_to}
 use Rattle.tlsf_syntax.specs.TextReading.{Value, value_read, valued, goes_on_value, pattern_read, patterns_read, begins_member, members_read}
 use Rattle.tlsf_reader.specs.declared.rest.Refusal.{Refusal}
 use Rattle.tlsf_reader.specs.Descent.{Eventually, IsRead, Passes, Lacks, Builds}
 use Rattle.tlsf_reader.specs.TextDescent.{bits_at, bits_here, AreAppended, LacksBits, GoesOn, value_from, in_front}
-use Rattle.tlsf_reader.proofs.Descending.{at_once, same_answers, goes, stops, next_passes, next_other}
+use Rattle.tlsf_reader.proofs.Descending.{at_once, same_answers, goes, stops, next_passes, next_other, expect_passes}
 use Rattle.tlsf_reader.proofs.Climbing.{read_taken}
-use Rattle.tlsf_reader.proofs.TextDescending.{deeper, expect_passed, read_deeper}
+use Rattle.tlsf_reader.proofs.TextDescending.{deeper, read_deeper}
 
 -- values
 
@@ -156,7 +155,7 @@ pub member_read : {Y : Type 0} {view : Y → List plain.Pattern} {before colon_a
     → IsRead view (λ d. patterns_read d values_at) rest (Ok ps) → m ≡ member_of l (view ps) → MemberRead before rest m
 member_read {view = view} {before = before} {colon_at = colon_at} {values_at = values_at} {rest = rest} {l = l} {ps = ps} m p q h is = record {
   goes = λ a on. deeper (λ d. members_read d before) (λ d. go_on (patterns_read d values_at) (after_member d l)) a
-      (λ d. expect_passed (member_colon d) p ∙ expect_passed (member_values d l) q)
+      (λ d. expect_passes (member_colon d) p ∙ expect_passes (member_values d l) q)
       (goes (λ d. after_member d l) (h.ok ps refl) (subst (λ (x : plain.Member). Eventually (λ d. if begins_member rest then more_members d x rest else taken (x ∷ []) rest) a) is on));
 }
 
@@ -247,9 +246,3 @@ digits_push ds i before bits all h e a =
 
 pub digits_appended : (ds : List ℕ) (i : ℕ) (before bits : List (Option Bool)) → length ds ≤ i → Appending ds i before bits → AreAppended (digits_bits ds) before bits
 digits_appended ds i before bits h a = subst (AreAppended (digits_bits ds) before) (append-nil bits) (a.appended [] (ap digits_bits (none_left ds i h)))
-
--- a lexeme of a value that is no `*` has digits
-pub number_bits : (s : Symbol) (text : List ℕ) → is_some (bits_of s text) ≡ true → (s ≡ symbol.Star → ⊥) → bits_of s text ≡ digits_bits text
-number_bits symbol.Number text h star = refl
-number_bits symbol.Star text h star = absurd (star refl)
-number_bits _ text h star = absurd (cc)

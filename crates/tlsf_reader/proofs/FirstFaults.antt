@@ -1,7 +1,7 @@
 -- The first fault of a text.
-use Rattle.std.proofs.Common.{◌≡◌, ◌<◌, ◌≤◌, ◌+◌, ◌⊎◌, ℕ, zero, suc, Bool, true, false, cond, List, [], ◌∷◌, ◌++◌, length, take, drop, Option, None, Some, Result, Ok, Err, nat_le, refl, sym, ◌∙◌, ap, subst, arith, inl, inr, append_assoc}
+use Rattle.std.proofs.Common.{◌≡◌, ◌<◌, ◌≤◌, ◌+◌, ◌⊎◌, ℕ, zero, suc, Bool, true, false, cond, List, [], ◌∷◌, length, take, Option, None, Some, Result, Ok, Err, nat_le, refl, sym, ◌∙◌, ap, subst, arith, inl, inr}
 use Rattle.std.proofs.lemmas.Bool.{leb-true, leb-false}
-use Rattle.std.proofs.lemmas.List.{append-nil, take-append-drop, take-take, take_all}
+use Rattle.std.proofs.lemmas.List.{take-take, take_all}
 use Rattle.spec_faults.specs.declared.code.SpecCode.{SpecCode}
 use Rattle.spec_faults.specs.declared.code.SpecCode.TheVariants.{Unexpected, TooDeep, Unsupported}
 use Rattle.spec_faults.specs.declared.code.SpecFault.{SpecFault}
@@ -11,12 +11,12 @@ use Rattle.tlsf_syntax.specs.Nesting.{first_deep}
 use Rattle.tlsf_syntax.specs.Tree.{Written}
 use Rattle.tlsf_syntax.specs.Lexemes.{Lexeme}
 use Rattle.tlsf_syntax.specs.Texts.{DerivesText, Begins, IsFirstUnexpected, at_lexeme, at_end}
-use Rattle.tlsf_syntax.proofs.Unexpected.{determined}
+use Rattle.tlsf_syntax.proofs.Unexpected.{determined, begins_before, text_begins}
 use Rattle.tlsf_reader.specs.Lexed.{Lexed, IsLexed}
 use Rattle.tlsf_reader.specs.Faults.{most_bytes, most_nesting, symbols_of, start_at, HasEarlyFault, of_tokens, of_nesting, of_finite, of_lexeme, of_end, IsReadingFault, early, late}
 use Rattle.tlsf_reader.specs.Known.{place_in, IsKnown, stopped, deepened, finite, IsEarliest, refused_fault}
 use Rattle.tlsf_reader.specs.Least.{Reaches}
-use Rattle.tlsf_reader.specs.Places.{IsAccepted}
+use Rattle.tlsf_reader.specs.Places.{IsReadResult}
 use Rattle.tlsf_reader.specs.Reads.{Reads}
 use Rattle.tlsf_syntax.specs.Seen.{text_seen}
 use Rattle.tlsf_reader.specs.declared.fault.Fault.{Fault}
@@ -91,15 +91,6 @@ ended_so text s z u = of_end z u
 
 -- fronts
 
-front_begins : (xs ys : List Lexeme) → Begins (xs ++ ys) → Begins xs
-front_begins xs ys b = (ys ++ b.0, b.1, subst (λ ls. DerivesText ls b.1) (append_assoc xs ys b.0) b.2)
-
-begins_sooner : (ls : List Lexeme) (j : ℕ) → Begins ls → Begins (take j ls)
-begins_sooner ls j b = front_begins (take j ls) (drop j ls) (subst Begins (sym (take-append-drop j ls)) b)
-
-text_begins : (ls : List Lexeme) (w : Written) → DerivesText ls w → Begins ls
-text_begins ls w d = ([], w, subst (λ xs. DerivesText xs w) (sym (append-nil ls)) d)
-
 -- what the first unexpected lexeme is
 data Parts (ls : List Lexeme) (k : ℕ) : Type 0 where
   inside : k < length ls → Begins (take k ls) → ¬ Begins (take (k + 1) ls) → Parts ls k
@@ -114,7 +105,7 @@ not_before : (ls : List Lexeme) (d k : ℕ) → Begins (take d ls) → IsFirstUn
 not_before ls d k b u h g = by (parts ls k u)
   where
     by : Parts ls k → ⊥
-    by (inside i c n) = n (subst Begins (take-take (k + 1) d ls (omega (arith, g))) (begins_sooner (take d ls) (k + 1) b))
+    by (inside i c n) = n (subst Begins (take-take (k + 1) d ls (omega (arith, g))) (begins_before (take d ls) (k + 1) b))
     by (beyond e c n) = omega (arith, e, h)
 
 -- Let the descent see so many lexemes: a lexeme that is unexpected among them is unexpected among all.
@@ -301,7 +292,7 @@ nothing_stops text s e = by s.stop refl
 whole_text : (text : List ℕ) (s : Scene text) (w : Written) → s.known ≡ None → DerivesText (take (cut_of s.deep (length s.lexemes)) s.lexemes) w → DerivesText s.lexemes w
 whole_text text s w e d = subst (λ ls. DerivesText ls w) (ap (λ x. take (cut_of x (length s.lexemes)) s.lexemes) (nothing_deep text s e) ∙ take_all (length s.lexemes) s.lexemes (omega arith)) d
 
-pub text_read : (text : List ℕ) (s : Scene text) (w : Written) (result : Result SpecTree SpecFault) → s.known ≡ None → DerivesText (take (cut_of s.deep (length s.lexemes)) s.lexemes) w → IsAccepted s.lexemes w result
+pub text_read : (text : List ℕ) (s : Scene text) (w : Written) (result : Result SpecTree SpecFault) → s.known ≡ None → DerivesText (take (cut_of s.deep (length s.lexemes)) s.lexemes) w → IsReadResult s.lexemes w result
     → (tree : SpecTree) → result ≡ Ok tree → Reads text (text_seen tree)
 unfolding lexed_of
 text_read text s w result e d a tree f = record {
@@ -315,7 +306,7 @@ text_read text s w result e d a tree f = record {
   is = a.tree tree f;
 }
 
-pub text_faulty : (text : List ℕ) (s : Scene text) (w : Written) (result : Result SpecTree SpecFault) → s.known ≡ None → DerivesText (take (cut_of s.deep (length s.lexemes)) s.lexemes) w → IsAccepted s.lexemes w result
+pub text_faulty : (text : List ℕ) (s : Scene text) (w : Written) (result : Result SpecTree SpecFault) → s.known ≡ None → DerivesText (take (cut_of s.deep (length s.lexemes)) s.lexemes) w → IsReadResult s.lexemes w result
     → (code : SpecCode) (place : ℕ) → result ≡ Err (At code place) → IsReadingFault text code place
 unfolding lexed_of
 text_faulty text s w result e d a code place f =

@@ -4,6 +4,7 @@ use Rattle.std.specs.Prelude.{codes}
 use Rattle.std.specs.Str.{bytes_eq}
 use Rattle.std.proofs.lemmas.List.{take_all}
 use Rattle.std.proofs.lemmas.Slice.Eq.{bytes_eq-Decides}
+use Rattle.std.proofs.lemmas.Bool.{and_from, and_parts}
 use Rattle.tlsf_tokens.specs.declared.symbol.Symbol.TheVariants as symbol
 use Rattle.tlsf_syntax.specs.Lexemes.{Lexeme, Is}
 use Rattle.tlsf_syntax.specs.Symbols.{symbol_eq}
@@ -57,14 +58,6 @@ record SecondAt (ls : List Lexeme) (place : ℕ) : Type 0 where
   text : l.text ≡ codes "Finite"
   place_is : l.start ≡ place
 
--- two tests, and three
-two_tests : (a b : Bool) → a ≡ true → b ≡ true → (a && b) ≡ true
-two_tests a b e f = ap (λ x. x && b) e ∙ f
-
-both_tests : (a b : Bool) → (a && b) ≡ true → (a ≡ true) × (b ≡ true)
-both_tests true b e = (refl, e)
-both_tests false b e = absurd cc
-
 first_least : (ls : List Lexeme) → begins symbol.Semantics ls ≡ true → IsLeast (FirstAt ls) (first_finite_word ls)
 first_least [] b = none_is_least (FirstAt []) (λ q h. absurd (let e : [] ≡ h.s ∷ h.colon ∷ h.l ∷ h.after = h.is in cc))
 first_least (s ∷ []) b = none_is_least (FirstAt (s ∷ [])) (λ q h. absurd (let e : s ∷ [] ≡ h.s ∷ h.colon ∷ h.l ∷ h.after = h.is in cc))
@@ -75,14 +68,14 @@ first_least (s ∷ colon ∷ l ∷ ls) b = by (symbol_eq colon.symbol symbol.Col
     holds q h =
         let e : s ∷ colon ∷ l ∷ ls ≡ h.s ∷ h.colon ∷ h.l ∷ h.after = h.is in
         let one : colon ≡ h.colon = cc in let other : l ≡ h.l = cc in (
-          two_tests (symbol_eq colon.symbol symbol.Colon) (is_finite l) (is_symbol colon.symbol symbol.Colon (ap (λ (x : Lexeme). x.symbol) one ∙ h.sign))
+          and_from (symbol_eq colon.symbol symbol.Colon) (is_finite l) (is_symbol colon.symbol symbol.Colon (ap (λ (x : Lexeme). x.symbol) one ∙ h.sign))
               (is_finite_so l (ap (λ (x : Lexeme). x.symbol) other ∙ h.name) (ap (λ (x : Lexeme). x.text) other ∙ h.text)),
           ap (λ (x : Lexeme). x.start) other ∙ h.place_is,
         )
 
     by : (c : Bool) → (symbol_eq colon.symbol symbol.Colon && is_finite l) ≡ c → IsLeast (FirstAt (s ∷ colon ∷ l ∷ ls)) (cond c (Some l.start) None)
     by true c =
-        let t : (symbol_eq colon.symbol symbol.Colon ≡ true) × (is_finite l ≡ true) = both_tests (symbol_eq colon.symbol symbol.Colon) (is_finite l) c in
+        let t : (symbol_eq colon.symbol symbol.Colon ≡ true) × (is_finite l ≡ true) = and_parts (symbol_eq colon.symbol symbol.Colon) (is_finite l) c in
         let f : Is symbol.Ident l × (l.text ≡ codes "Finite") = finite_is l t.1 in
         record {
           at = λ p e. record { s = s; colon = colon; l = l; after = ls; is = refl; semantics = same_symbol s.symbol symbol.Semantics b; sign = same_symbol colon.symbol symbol.Colon t.0; name = f.0; text = f.1; place_is = cc };
@@ -102,16 +95,16 @@ second_least (s ∷ colon ∷ word ∷ comma ∷ l ∷ ls) b = by (symbol_eq col
     holds q h =
         let e : s ∷ colon ∷ word ∷ comma ∷ l ∷ ls ≡ h.s ∷ h.colon ∷ h.word ∷ h.comma ∷ h.l ∷ h.after = h.is in
         let one : colon ≡ h.colon = cc in let two : comma ≡ h.comma = cc in let other : l ≡ h.l = cc in (
-          two_tests (symbol_eq colon.symbol symbol.Colon) (symbol_eq comma.symbol symbol.Comma && is_finite l) (is_symbol colon.symbol symbol.Colon (ap (λ (x : Lexeme). x.symbol) one ∙ h.sign))
-              (two_tests (symbol_eq comma.symbol symbol.Comma) (is_finite l) (is_symbol comma.symbol symbol.Comma (ap (λ (x : Lexeme). x.symbol) two ∙ h.separator))
+          and_from (symbol_eq colon.symbol symbol.Colon) (symbol_eq comma.symbol symbol.Comma && is_finite l) (is_symbol colon.symbol symbol.Colon (ap (λ (x : Lexeme). x.symbol) one ∙ h.sign))
+              (and_from (symbol_eq comma.symbol symbol.Comma) (is_finite l) (is_symbol comma.symbol symbol.Comma (ap (λ (x : Lexeme). x.symbol) two ∙ h.separator))
               (is_finite_so l (ap (λ (x : Lexeme). x.symbol) other ∙ h.name) (ap (λ (x : Lexeme). x.text) other ∙ h.text))),
           ap (λ (x : Lexeme). x.start) other ∙ h.place_is,
         )
 
     by : (c : Bool) → (symbol_eq colon.symbol symbol.Colon && (symbol_eq comma.symbol symbol.Comma && is_finite l)) ≡ c → IsLeast (SecondAt (s ∷ colon ∷ word ∷ comma ∷ l ∷ ls)) (cond c (Some l.start) None)
     by true c =
-        let t : (symbol_eq colon.symbol symbol.Colon ≡ true) × ((symbol_eq comma.symbol symbol.Comma && is_finite l) ≡ true) = both_tests (symbol_eq colon.symbol symbol.Colon) (symbol_eq comma.symbol symbol.Comma && is_finite l) c in
-        let u : (symbol_eq comma.symbol symbol.Comma ≡ true) × (is_finite l ≡ true) = both_tests (symbol_eq comma.symbol symbol.Comma) (is_finite l) t.1 in
+        let t : (symbol_eq colon.symbol symbol.Colon ≡ true) × ((symbol_eq comma.symbol symbol.Comma && is_finite l) ≡ true) = and_parts (symbol_eq colon.symbol symbol.Colon) (symbol_eq comma.symbol symbol.Comma && is_finite l) c in
+        let u : (symbol_eq comma.symbol symbol.Comma ≡ true) × (is_finite l ≡ true) = and_parts (symbol_eq comma.symbol symbol.Comma) (is_finite l) t.1 in
         let f : Is symbol.Ident l × (l.text ≡ codes "Finite") = finite_is l u.1 in
         record {
           at = λ p e. record { s = s; colon = colon; word = word; comma = comma; l = l; after = ls; is = refl; semantics = same_symbol s.symbol symbol.Semantics b; sign = same_symbol colon.symbol symbol.Colon t.0; separator = same_symbol comma.symbol symbol.Comma u.0; name = f.0; text = f.1; place_is = cc };

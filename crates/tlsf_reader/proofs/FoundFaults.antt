@@ -13,7 +13,7 @@ use Rattle.tlsf_reader.specs.Parts.{declared_words, text_of}
 use Rattle.tlsf_reader.specs.Faults.{HasLateFault, part_twice, name_twice, field_missing, part_missing, start_at, IsFirstOf}
 use Rattle.tlsf_reader.specs.Known.{place_in, IsKnown, stopped, deepened, finite, IsEarliest, fault_at, stop_fault, deep_fault}
 use Rattle.tlsf_reader.specs.Least.{IsLeast, Reaches, least}
-use Rattle.tlsf_reader.specs.Places.{FiniteAt, RepeatedAt, PartTwiceAt, NameTwiceAt, FieldMissingAt, PartMissingAt, earlier, IsAccepted}
+use Rattle.tlsf_reader.specs.Places.{FiniteAt, RepeatedAt, PartTwiceAt, NameTwiceAt, FieldMissingAt, PartMissingAt, earlier, IsReadResult}
 use Rattle.tlsf_reader.specs.declared.fault.Fault.{Fault}
 use Rattle.tlsf_reader.proofs.LeastPlaces.{earliest_of_both, least_of_both}
 
@@ -142,7 +142,7 @@ late_first ls w f h = record {
 }
 
 -- a text of the grammar is refused by its earliest late fault
-pub accepted_fault : (ls : List Lexeme) (w : Written) (found : Option Fault) (f : Fault) (g : SpecFault) → IsEarliest (HasLateFault ls w) found → found ≡ Some f → g ≡ At f.code f.place → IsAccepted ls w (Err g)
+pub accepted_fault : (ls : List Lexeme) (w : Written) (found : Option Fault) (f : Fault) (g : SpecFault) → IsEarliest (HasLateFault ls w) found → found ≡ Some f → g ≡ At f.code f.place → IsReadResult ls w (Err g)
 accepted_fault ls w found f g h e i = record {
   sound = λ tree n. absurd cc;
   tree = λ tree n. absurd cc;
@@ -155,7 +155,7 @@ accepted_fault ls w found f g h e i = record {
 }
 
 -- a text of the grammar without a late fault is the tree of its parts
-pub accepted_tree : (ls : List Lexeme) (w : Written) (found : Option Fault) (tree : SpecTree) → IsEarliest (HasLateFault ls w) found → found ≡ None → text_seen tree ≡ text_of w → IsAccepted ls w (Ok tree)
+pub accepted_tree : (ls : List Lexeme) (w : Written) (found : Option Fault) (tree : SpecTree) → IsEarliest (HasLateFault ls w) found → found ≡ None → text_seen tree ≡ text_of w → IsReadResult ls w (Ok tree)
 accepted_tree ls w found tree h e i = record {
   sound = λ t n code place r. subst (λ x. Reaches (λ (f : Fault). f.place) x place) e (h.below (record { code = code; place = place }) r);
   tree = λ t n. let same : tree ≡ t = cc in subst (λ (u : SpecTree). text_seen u ≡ text_of w) same i;

@@ -5,7 +5,9 @@ use Rattle.std.specs.Str.{bytes_eq}
 use Rattle.std.proofs.lemmas.List.{take_all, map-append}
 use Rattle.std.proofs.lemmas.List.Folds.{list_any-append}
 use Rattle.std.proofs.lemmas.Slice.Eq.{bytes_eq-Decides}
+use Rattle.std.proofs.lemmas.Bool.{or_left, or_right, or_cases}
 use Rattle.tlsf_syntax.specs.Tree.{Named}
+use Rattle.tlsf_syntax.proofs.TextSound.{same_bytes}
 use Rattle.tlsf_reader.specs.Least.{IsLeast, least}
 use Rattle.tlsf_reader.specs.Places.{NameTwiceAt}
 use Rattle.tlsf_reader.proofs.LeastPlaces.{least_of_both, least_assoc, least_none, none_is_least, least_of_same, one_place}
@@ -35,25 +37,11 @@ pub record TwiceAfter (ns : List (List ℕ)) (ws : List Named) (place : ℕ) : T
   before : (among word.name ns ≡ true) ⊎ EarlierIn ws at word.name
   place_is : word.span.start ≡ place
 
-same_name : (a b : List ℕ) → bytes_eq a b ≡ true → a ≡ b
-same_name a b e = (bytes_eq-Decides a b).0 e
-
 names_equal : (a : List ℕ) → bytes_eq a a ≡ true
 names_equal a = (bytes_eq-Decides a a).1 refl
 
 any_append : (n : List ℕ) (xs ys : List (List ℕ)) → among n (xs ++ ys) ≡ (among n xs || among n ys)
 any_append n xs ys = list_any-append (bytes_eq n) xs ys
-
-or_left : (a b : Bool) → a ≡ true → (a || b) ≡ true
-or_left a b e = ap (λ x. x || b) e
-
-or_right : (a b : Bool) → b ≡ true → (a || b) ≡ true
-or_right true b e = refl
-or_right false b e = e
-
-either_of : (a b : Bool) → (a || b) ≡ true → (a ≡ true) ⊎ (b ≡ true)
-either_of true b e = inl refl
-either_of false b e = inr e
 
 -- what is among the names with one more
 still_among : (m n : List ℕ) (ns : List (List ℕ)) → among m ns ≡ true → among m (with_name ns n) ≡ true
@@ -75,9 +63,9 @@ among_so m n ns e = by (among n ns) e
   where
     by : (b : Bool) → among m (cond b ns (ns ++ n ∷ [])) ≡ true → (among m ns ≡ true) ⊎ (n ≡ m)
     by true f = inl f
-    by false f = elim (either_of (among m ns) (among m (n ∷ [])) (sym (any_append m ns (n ∷ [])) ∙ f)) [
+    by false f = elim (or_cases (among m ns) (among m (n ∷ [])) (sym (any_append m ns (n ∷ [])) ∙ f)) [
       | inl g ↦ inl g
-      | inr g ↦ elim (either_of (bytes_eq m n) false g) [ inl h ↦ inr (sym (same_name m n h)) | inr h ↦ absurd cc ]
+      | inr g ↦ elim (or_cases (bytes_eq m n) false g) [ inl h ↦ inr (sym (same_bytes m n h)) | inr h ↦ absurd cc ]
     ]
 
 -- the word in front has one of the names

@@ -14,24 +14,26 @@ use Rattle.tlsf_reader.specs.Faults.{most_bytes, most_nesting, symbols_of, IsFin
 use Rattle.tlsf_reader.specs.Reads.{Reads, TreesHaveNoFault}
 use Rattle.tlsf_reader.proofs.OneTree.{one_list}
 
-never_in_text : (ls : List Lexeme) (l : Lexeme) (w : Written) → IsFinite ls l → DerivesText ls w → ⊥
+pub never_in_text : (ls : List Lexeme) (l : Lexeme) (w : Written) → IsFinite ls l → DerivesText ls w → ⊥
 never_in_text ls l w (first_word before after s colon x i j k t) d = never_finite.first (before ++ s ∷ colon ∷ x ∷ after) w d before after s colon x refl i t
 never_in_text ls l w (second_word before after s colon word comma x i j k m t) d = never_finite.second (before ++ s ∷ colon ∷ word ∷ comma ∷ x ∷ after) w d before after s colon word comma x refl i k t
 
--- the same lexemes, and the same reason to stop
-record Same (text : List ℕ) (a b : Lexed text) : Type 0 where
-  lexemes : a.lexemes ≡ b.lexemes
-  stop : a.stop ≡ b.stop
+-- the tokens of a text are determined
+pub record IsSameLexed (text : List ℕ) (a b : Lexed text) : Type 0 where
+  pub lexemes : a.lexemes ≡ b.lexemes
+  pub stop : a.stop ≡ b.stop
+  pub stop_at : a.stop_at ≡ b.stop_at
 
-same : (text : List ℕ) (a b : Lexed text) → Same text a b
-same text a b =
-    let all : (a.lexemes ≡ b.lexemes) × (a.stop ≡ b.stop) × (a.stop_at ≡ b.stop_at) = one_list text a.stop b.stop a.stop_at b.stop_at a.lexemes b.lexemes a.is b.is in record { lexemes = all.0; stop = all.1 }
+pub same_lexed : (text : List ℕ) (a b : Lexed text) → IsSameLexed text a b
+same_lexed text a b =
+    let all : (a.lexemes ≡ b.lexemes) × (a.stop ≡ b.stop) × (a.stop_at ≡ b.stop_at) = one_list text a.stop b.stop a.stop_at b.stop_at a.lexemes b.lexemes a.is b.is in
+    record { lexemes = all.0; stop = all.1; stop_at = all.2 }
 
 no_early : (text : List ℕ) (tree : Text) (lexed : Lexed text) (code : SpecCode) (place : ℕ) → Reads text tree → HasEarlyFault text lexed code place → ⊥
 no_early text tree lexed code place r f = by code place f
   where
-    s : Same text lexed r.lexed
-    s = same text lexed r.lexed
+    s : IsSameLexed text lexed r.lexed
+    s = same_lexed text lexed r.lexed
 
     derived : DerivesText lexed.lexemes r.written
     derived = subst (λ ls. DerivesText ls r.written) (sym s.lexemes) r.derived
@@ -45,7 +47,7 @@ no_early text tree lexed code place r f = by code place f
 
 no_late : (text : List ℕ) (tree : Text) (lexed : Lexed text) (w : Written) (code : SpecCode) (place : ℕ) → Reads text tree → DerivesText lexed.lexemes w → HasLateFault lexed.lexemes w code place → ⊥
 no_late text tree lexed w code place r d f =
-    let s : Same text lexed r.lexed = same text lexed r.lexed in
+    let s : IsSameLexed text lexed r.lexed = same_lexed text lexed r.lexed in
     let written : w ≡ r.written = one_text r.lexed.lexemes w r.written (subst (λ ls. DerivesText ls w) s.lexemes d) r.derived in
     r.sound code place (subst (λ ls. HasLateFault ls r.written code place) s.lexemes (subst (λ v. HasLateFault lexed.lexemes v code place) written f))
 

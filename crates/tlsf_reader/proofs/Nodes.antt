@@ -3,11 +3,10 @@ use Rattle.std.proofs.Common.{◌≡◌, ℕ, ◌+◌, ◌*◌, ◌-◌, ◌<◌
 use Rattle.std.proofs.lemmas.Bool.{le-ltb, cond-false}
 use Rattle.tlsf_syntax.specs.declared.expr.Form as form
 use Rattle.tlsf_syntax.specs.declared.expr.Link.{Link}
-use Rattle.tlsf_syntax.specs.declared.expr.Span.{Span}
 use Rattle.tlsf_syntax.specs.Tree.{Tree, tree_span, chain}
 use Rattle.tlsf_syntax.specs.Lexemes.{decimal_from, literal_of}
 use Rattle.tlsf_syntax.specs.Reading.{chain_of, links_end, from_to}
-use Rattle.tlsf_syntax.specs.Seen.{form_seen, link_list_seen}
+use Rattle.tlsf_syntax.specs.Seen.{link_list_seen}
 
 decimal_grows : (n : ℕ) (digits : List ℕ) → n ≤ decimal_from n digits
 decimal_grows n [] = omega arith
@@ -25,21 +24,3 @@ pub chain_of_some : (t : Tree) (rest : List Link) (end : ℕ) → 0 < length res
     → chain (from_to (tree_span t).start end) t (link_list_seen rest) ≡ chain_of t (link_list_seen rest)
 chain_of_some t [] end some e = absurd (omega arith)
 chain_of_some t (l ∷ rest) end some e = ap (λ (n : ℕ). chain (from_to (tree_span t).start n) t (link_list_seen (l ∷ rest))) e
-
--- where an expression stands
-pub span_seen : (s : Span) (f : form.Form) → tree_span (form_seen s f) ≡ s
-span_seen s (form.Number n) = refl
-span_seen s (form.Truth b) = refl
-span_seen s (form.Named name) = refl
-span_seen s (form.Call' w shape row) = refl
-span_seen s (form.Index' w p t f) = refl
-span_seen s (form.SizeOf' p t f) = refl
-span_seen s (form.Paren' p t f) = refl
-span_seen s (form.Set' shape row) = refl
-span_seen s (form.Steps' p t f q u g r v h) = refl
-span_seen s (form.Chain' p t f shape row) = refl
-span_seen s (form.Pair' o p t f q u g) = refl
-span_seen s (form.Prefix' o p t f) = refl
-span_seen s (form.Count' p t f q u g) = refl
-span_seen s (form.Window' o p t f q u g r v h) = refl
-span_seen s (form.Big' o shape row p t f) = refl

@@ -1,12 +1,11 @@
 -- Reading a whole text.
-use Rattle.std.proofs.Common.{◌≡◌, ◌<◌, ◌≤◌, ◌+◌, ◌-◌, ℕ, zero, suc, List, [], ◌∷◌, ◌++◌, length, map, take, slice_index_or, Option, None, Some, unwrap_or, Result, Ok, Err, IfOk, refl, sym, ◌∙◌, ap, subst, arith}
-use Rattle.std.proofs.lemmas.List.{map-append, take-map, length-map, length-take-le}
+use Rattle.std.proofs.Common.{◌≡◌, ◌<◌, ◌≤◌, ◌+◌, ◌-◌, ℕ, zero, suc, List, [], ◌∷◌, length, map, take, slice_index_or, Option, None, Some, unwrap_or, Result, Ok, Err, IfOk, refl, sym, ◌∙◌, ap, subst, arith}
+use Rattle.std.proofs.lemmas.List.{take-map, length-map, length-take-le}
 use Rattle.spec_faults.specs.declared.code.SpecCode.{SpecCode}
 use Rattle.spec_faults.specs.declared.code.SpecCode.TheVariants.{TooLong}
 use Rattle.spec_faults.specs.declared.code.SpecFault.{SpecFault}
 use Rattle.spec_faults.specs.declared.code.SpecFault.TheVariants.{At}
 use Rattle.tlsf_syntax.specs.declared.spec.SpecTree.{SpecTree}
-use Rattle.tlsf_tokens.specs.declared.symbol.Symbol.{Symbol}
 use Rattle.tlsf_syntax.specs.Nesting.{first_deep}
 use Rattle.tlsf_syntax.specs.Tree.{Written}
 use Rattle.tlsf_syntax.specs.Lexemes.{Lexeme}
@@ -15,12 +14,11 @@ use Rattle.tlsf_reader.specs.Seen.{seen}
 use Rattle.tlsf_reader.specs.Lexed.{IsLexed}
 use Rattle.tlsf_reader.specs.Known.{place_in, IsKnown, IsEarliest, refused_fault}
 use Rattle.tlsf_reader.specs.Faults.{most_bytes, most_nesting, symbols_of, IsReadingFault, too_long}
-use Rattle.tlsf_reader.specs.Places.{IsAccepted}
+use Rattle.tlsf_reader.specs.Places.{IsReadResult}
 use Rattle.tlsf_reader.specs.Reads.{Reads}
 use Rattle.tlsf_syntax.specs.Seen.{text_seen}
 use Rattle.tlsf_reader.specs.declared.fault.Fault.{Fault}
 use Rattle.tlsf_reader.specs.declared.lexeme.Lexeme.{Lexeme as CodeLexeme}
-use Rattle.tlsf_reader.proofs.Repeats.{next_taken}
 use Rattle.tlsf_reader.proofs.StopCodes.{deep_within}
 use Rattle.tlsf_reader.proofs.FirstFaults.{Scene, cut_of, text_refused, front_refused, text_read, text_faulty}
 
@@ -33,10 +31,6 @@ pub place_gone : (ls : List CodeLexeme) (to k : ℕ) → length ls ≤ k → to 
 place_gone [] to k h = refl
 place_gone (m ∷ ls) to zero h = absurd (omega (arith, h))
 place_gone (m ∷ ls) to (suc k) h = place_gone ls to k (omega (arith, h))
-
-pub more_symbols : (xs : List CodeLexeme) (k : ℕ) (x d : CodeLexeme) (old new : List Symbol) → new ≡ old ++ x.symbol ∷ [] → x ≡ slice_index_or xs k d → k < length xs → old ≡ symbols_of (map seen (take k xs)) → new ≡ symbols_of (map seen (take (k + 1) xs))
-more_symbols xs k x d old new e i h j =
-    e ∙ ap (λ ys. ys ++ x.symbol ∷ []) j ∙ sym (map-append (λ (l : Lexeme). l.symbol) (map seen (take k xs)) (seen x ∷ [])) ∙ ap symbols_of (sym (next_taken seen xs k x d i h))
 
 -- what is found of a text before its descent
 pub record Found (text : List ℕ) (stop : Option SpecCode) (stop_at : ℕ) (items : List CodeLexeme) (deep : Option ℕ) (known : Option Fault) (cut : ℕ) : Type 0 where
@@ -81,14 +75,14 @@ module _ {text : List ℕ} {stop : Option SpecCode} {stop_at : ℕ} {items : Lis
       same : number ≡ n
       same = omega (arith, s, whole, g)
 
-  pub tree_read : (w : Written) (r : Result SpecTree SpecFault) → DerivesText (map seen (take cut items)) w → known ≡ None → IsAccepted (map seen items) w r → IfOk r (λ tree. Reads text (text_seen tree))
+  pub tree_read : (w : Written) (r : Result SpecTree SpecFault) → DerivesText (map seen (take cut items)) w → known ≡ None → IsReadResult (map seen items) w r → IfOk r (λ tree. Reads text (text_seen tree))
   tree_read w r d e a = by r (text_read text scene w r e (front_derived w d) a)
     where
       by : (r : Result SpecTree SpecFault) → ((tree : SpecTree) → r ≡ Ok tree → Reads text (text_seen tree)) → IfOk r (λ tree. Reads text (text_seen tree))
       by (Ok tree) i = i tree refl
       by (Err g) i = tt
 
-  pub fault_read : (w : Written) (r : Result SpecTree SpecFault) → DerivesText (map seen (take cut items)) w → known ≡ None → IsAccepted (map seen items) w r → (code : SpecCode) (place : ℕ) → r ≡ Err (At code place)
+  pub fault_read : (w : Written) (r : Result SpecTree SpecFault) → DerivesText (map seen (take cut items)) w → known ≡ None → IsReadResult (map seen items) w r → (code : SpecCode) (place : ℕ) → r ≡ Err (At code place)
       → IsReadingFault text code place
   fault_read w r d e a code place i = text_faulty text scene w r e (front_derived w d) a code place i
 

@@ -63,9 +63,6 @@ occurs_nowhere s = none_is_least (OccursAt s []) (λ q o. by o.at o.here)
 abbrev pub Keeps : (ℕ → Type 0) → (ℕ → Type 0) → Option ℕ → Type 0
 Keeps All Rest found = (later : Option ℕ) → IsLeast Rest later → IsLeast All (least found later)
 
-pub keeps_first : (All : ℕ → Type 0) → Keeps All All None
-keeps_first All later h = h
-
 pub occurs_passing : (s : Symbol) (all : List Lexeme) (l : Lexeme) (ls : List Lexeme) (found : Option ℕ) → Keeps (OccursAt s all) (OccursAt s (l ∷ ls)) found → Keeps (OccursAt s all) (OccursAt s ls) (least found (here s l))
 occurs_passing s all l ls found k later h = subst (IsLeast (OccursAt s all)) (least_assoc found (here s l) later) (k (least (here s l) later) (occurs_more s l ls later h))
 
@@ -169,12 +166,6 @@ occurs_here s l ls e = ap (λ b. cond b true (occurs s ls)) e
 pub occurs_not_here : (s : Symbol) (l : Lexeme) (ls : List Lexeme) → symbol_eq l.symbol s ≡ false → occurs s (l ∷ ls) ≡ occurs s ls
 occurs_not_here s l ls e = ap (λ b. cond b true (occurs s ls)) e
 
-pub brace_here : (l : Lexeme) (ls : List Lexeme) → symbol_eq l.symbol symbol.CloseBrace ≡ true → first_brace (l ∷ ls) ≡ Some l.start
-brace_here l ls e = ap (λ b. cond b (Some l.start) (first_brace ls)) e
-
-pub brace_not_here : (l : Lexeme) (ls : List Lexeme) → symbol_eq l.symbol symbol.CloseBrace ≡ false → first_brace (l ∷ ls) ≡ first_brace ls
-brace_not_here l ls e = ap (λ b. cond b (Some l.start) (first_brace ls)) e
-
 not_lacking : (s : Symbol) (ls : List Lexeme) → occurs s ls ≡ true → ¬ Lacks s ls
 not_lacking s [] e n = absurd cc
 not_lacking s (l ∷ ls) e n = by (λ f m. not_lacking s ls f m) (symbol_eq l.symbol s) refl
@@ -272,9 +263,6 @@ part_lacking ls l s n e =
     one_place (PartMissingAt (ls ++ l ∷ [])) l.start
     (record { part = s; needed = n; absent = lacking s (ls ++ l ∷ []) e; brace = length ls; last = omega (arith, long); place_is = start_of_last ls l (length ls) refl })
     (λ q h. let last : h.brace + 1 ≡ length (ls ++ l ∷ []) = h.last in let same : h.brace ≡ length ls = omega (arith, long, last) in sym (start_of_last ls l h.brace same) ∙ h.place_is)
-
-pub no_part_lacking : IsLeast (PartMissingAt []) None
-no_part_lacking = none_is_least (PartMissingAt []) (λ q h. let e : h.brace + 1 ≡ 0 = h.last in omega (arith, e))
 
 -- over the code's lexemes, of which the first is passed
 
@@ -391,7 +379,7 @@ more_definition_words view old words new xs k x d e i h j =
     e ∙ ap (λ ys. ys ++ definition_words (view x)) j ∙ append_assoc old (words_of_definitions (map view (take k xs))) (definition_words (view x))
     ∙ ap (λ ys. old ++ ys) (sym (last_definition (map view (take k xs)) (view x)) ∙ ap words_of_definitions (sym (next_taken view xs k x d i h)))
 
-words_append : (ds es : List Definition) → words_of_definitions (ds ++ es) ≡ words_of_definitions ds ++ words_of_definitions es
+pub words_append : (ds es : List Definition) → words_of_definitions (ds ++ es) ≡ words_of_definitions ds ++ words_of_definitions es
 words_append [] es = refl
 words_append (d ∷ ds) es = ap (λ ys. definition_words d ++ ys) (words_append ds es) ∙ sym (append_assoc (definition_words d) (words_of_definitions ds) (words_of_definitions es))
 

@@ -1,42 +1,20 @@
 -- What the descent for MAIN reads, step by step.
-use Rattle.std.proofs.Common.{◌≡◌, ℕ, suc, true, false, cond, List, [], ◌∷◌, length, Result, Err, refl, sym, ap, ◌∙◌, arith}
-use Rattle.tlsf_tokens.specs.declared.symbol.Section.{Section}
+use Rattle.std.proofs.Common.{◌≡◌, ℕ, suc, true, false, cond, List, [], ◌∷◌, Result, refl, sym, ap, ◌∙◌}
 use Rattle.tlsf_tokens.specs.declared.symbol.Symbol.{Symbol}
 use Rattle.tlsf_tokens.specs.declared.symbol.Symbol.TheVariants as symbol
 use Rattle.tlsf_syntax.specs.Tree as plain
 use Rattle.tlsf_syntax.specs.Lexemes.{Lexeme, word_of}
-use Rattle.tlsf_syntax.specs.Reading.{Answer, taken, refused, go_on, begins, expect, if_next}
+use Rattle.tlsf_syntax.specs.Reading.{Answer, taken, go_on, begins, expect, if_next}
 use Rattle.tlsf_syntax.specs.TextReading.{expression_read, declaration_read, declarations_read, formulas_read, part_by, parts_read}
 use Rattle.tlsf_reader.specs.declared.rest.Refusal.{Refusal}
-use Rattle.tlsf_reader.specs.declared.rest.Refusal.TheVariants.{At}
 use Rattle.tlsf_reader.specs.Descent.{IsRead}
 use Rattle.tlsf_reader.specs.TextDescent.{part_at, formula_read}
-use Rattle.tlsf_reader.proofs.Descending.{at_once, read_same}
+use Rattle.tlsf_reader.proofs.Descending.{read_same}
 use Rattle.tlsf_reader.proofs.TextDescending.{go_expect, go_go, go_same, Until}
 
 pub read_part : {Y : Type 0} {view : Y → plain.Part} {after : List Lexeme} {r : Result Y Refusal} (before rest : List Lexeme) (l : Lexeme) (s : Symbol) → before ≡ l ∷ rest → l.symbol ≡ s
     → IsRead view (λ d. part_by d s rest) after r → IsRead view (λ d. part_at d before) after r
 read_part before rest l s e i h = read_same _ (λ d. ap (part_at d) e ∙ ap (λ x. part_by d x rest) i) h
-
-part_other : (d : ℕ) (s : Symbol) (ls : List Lexeme) → (s ≡ symbol.Inputs → ⊥) → (s ≡ symbol.Outputs → ⊥) → ((n : Section) → s ≡ symbol.Section n → ⊥) → part_by d s ls ≡ refused (suc (length ls))
-part_other d symbol.Inputs ls n1 n2 n3 = absurd (n1 refl)
-part_other d symbol.Outputs ls n1 n2 n3 = absurd (n2 refl)
-part_other d (symbol.Section s) ls n1 n2 n3 = absurd (n3 s refl)
-part_other d _ ls n1 n2 n3 = refl
-
-pub read_no_part : {Y : Type 0} {view : Y → plain.Part} {after : List Lexeme} {e : Refusal} (before rest : List Lexeme) (l : Lexeme) → before ≡ l ∷ rest → e ≡ At (length before)
-    → (l.symbol ≡ symbol.Inputs → ⊥) → (l.symbol ≡ symbol.Outputs → ⊥) → ((n : Section) → l.symbol ≡ symbol.Section n → ⊥) → IsRead view (λ d. part_at d before) after (Err e)
-read_no_part {e = e} before rest l is gone n1 n2 n3 = record {
-  ok = λ y is_ok. absurd (cc);
-  err = λ k at. let here : length before ≡ k = cc (gone) in
-      at_once _ _ (λ d. ap (part_at d) is ∙ part_other d l.symbol rest n1 n2 n3 ∙ ap refused (omega (arith, ap length is, here)));
-}
-
-pub read_part_end : {Y : Type 0} {view : Y → plain.Part} {after : List Lexeme} {e : Refusal} (before : List Lexeme) → before ≡ [] → e ≡ At (length before) → IsRead view (λ d. part_at d before) after (Err e)
-read_part_end {e = e} before is gone = record {
-  ok = λ y is_ok. absurd (cc);
-  err = λ k at. let here : length before ≡ k = cc (gone) in at_once _ _ (λ d. ap (part_at d) is ∙ ap refused (omega (arith, ap length is, here)));
-}
 
 pub parts_until : Until parts_read part_at
 parts_until = record { ends = ends; goes = goes_on }

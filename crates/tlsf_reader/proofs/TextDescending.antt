@@ -1,17 +1,16 @@
 -- How answers of readers of whole texts that go deep enough are put together.
-use Rattle.std.proofs.Common.{◌≡◌, ℕ, zero, suc, ◌≤◌, Bool, true, false, cond, List, [], ◌∷◌, ◌++◌, length, map, Option, Some, None, Result, Ok, Err, refl, sym, ap, ◌∙◌, subst, arith}
+use Rattle.std.proofs.Common.{◌≡◌, ℕ, zero, suc, ◌≤◌, Bool, true, false, cond, List, [], ◌∷◌, ◌++◌, length, map, Result, Ok, Err, refl, ap, ◌∙◌, subst, arith}
 use Rattle.std.specs.declared.alloc.Global.{Global}
 use Rattle.std.specs.declared.vec.Vec.{Vec}
 use Rattle.tlsf_tokens.specs.declared.symbol.Symbol.{Symbol}
 use Rattle.tlsf_tokens.specs.declared.symbol.Symbol.TheVariants as symbol
 use Rattle.tlsf_syntax.specs.Lexemes.{Lexeme}
 use Rattle.tlsf_syntax.specs.Symbols.{symbol_eq}
-use Rattle.tlsf_syntax.specs.Reading.{Answer, taken, refused, lost, go_on, begins, expect, if_next}
-use Rattle.tlsf_reader.specs.declared.lexeme.Lexeme.{Lexeme as CodeLexeme}
+use Rattle.tlsf_syntax.specs.Reading.{Answer, taken, refused, lost, go_on, begins, expect}
 use Rattle.tlsf_reader.specs.declared.rest.Refusal.{Refusal}
-use Rattle.tlsf_reader.specs.Descent.{Eventually, IsRead, Passes, IsNextIf, onto, Builds}
+use Rattle.tlsf_reader.specs.Descent.{Eventually, IsRead, onto, Builds}
 use Rattle.tlsf_reader.specs.TextDescent.{in_front}
-use Rattle.tlsf_reader.proofs.Descending.{at_once, goes, stops, next_passes, next_other, built_last}
+use Rattle.tlsf_reader.proofs.Descending.{at_once, goes, stops, built_last}
 use Rattle.tlsf_reader.proofs.Climbing.{read_taken}
 
 -- what is read with a depth less
@@ -21,9 +20,6 @@ deeper g f a e h = record { from = suc h.from; reads = by }
     by : (depth : ℕ) → suc h.from ≤ depth → g depth ≡ a
     by zero low = absurd (omega arith)
     by (suc depth) low = e depth ∙ h.reads depth (omega arith)
-
-pub expect_passed : {X : Type 0} {s : Symbol} {before rest : List Lexeme} {l : Lexeme} (f : Lexeme → List Lexeme → Answer X) → Passes s before l rest → expect s before f ≡ f l rest
-expect_passed {s = s} {rest = rest} {l = l} f p = ap (λ ls. expect s ls f) p.front ∙ ap (λ b. cond b (f l rest) (refused (suc (length rest)))) p.symbol
 
 -- what is done with an answer is done with its parts
 
@@ -101,8 +97,3 @@ until_stopped {X = X} {list = list} {one = one} {ls = ls} u other b h = record {
 -- a reader that goes one deeper
 pub read_deeper : {Y A : Type 0} {view : Y → A} {f : ℕ → Answer A} {after : List Lexeme} {r : Result Y Refusal} (g : ℕ → Answer A) → ((d : ℕ) → g (suc d) ≡ f d) → IsRead view f after r → IsRead view g after r
 read_deeper {f = f} g e h = record { ok = λ y is. deeper g f _ e (h.ok y is); err = λ k is. deeper g f _ e (h.err k is) }
-
--- a sign that may be absent
-pub read_optional : {Y A : Type 0} {view : Y → A} {y : Y} (s : Symbol) (rest after : List Lexeme) (o : Option CodeLexeme) (t : A) → IsNextIf s rest after o → view y ≡ t → IsRead view (λ d. if_next s rest (λ _ end. taken t end) (taken t rest)) after (Ok y)
-read_optional s rest after None t p is = read_taken (at_once _ _ (λ d. next_other (λ _ end. taken t end) (λ ls. taken t ls) p ∙ ap (λ x. taken x after) (sym is)))
-read_optional s rest after (Some l) t p is = read_taken (at_once _ _ (λ d. next_passes (λ _ end. taken t end) (taken t rest) p ∙ ap (λ x. taken x after) (sym is)))

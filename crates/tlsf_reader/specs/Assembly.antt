@@ -54,10 +54,6 @@ abbrev pub put_parts : Text → List Part → Text
 put_parts t [] = t
 put_parts t (p ∷ ps) = put_part p (put_parts t ps)
 
--- no formula in any section
-abbrev pub no_sections : Sections (List Tree)
-no_sections = record { initially = []; preset = []; require = []; assert = []; assume = []; guarantee = [] }
-
 -- the formulas of each section
 abbrev pub sections_seen : Sections (Vec Expr Global) → Sections (List Tree)
 sections_seen s = each_section (each expr_seen) s

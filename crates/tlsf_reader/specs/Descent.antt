@@ -10,7 +10,7 @@ use Rattle.tlsf_syntax.specs.Tree.{Tree, Trees, Links, Ranges, paren, tree, link
 use Rattle.tlsf_syntax.specs.Lexemes.{Lexeme}
 use Rattle.tlsf_syntax.specs.Symbols.{symbol_eq}
 use Rattle.tlsf_syntax.specs.Expressions.{Level, releases, bound_of, Joins, left, once, right, none}
-use Rattle.tlsf_syntax.specs.Reading.{Answer, taken, refused, go_on, begins, expect, from_to, operator_here, chain_of, joined, Readers, readers, prefix_with, prefixed, counted, windowed, big_with, ranges_with, more_ranges}
+use Rattle.tlsf_syntax.specs.Reading.{Answer, taken, refused, go_on, begins, expect, from_to, operator_here, chain_of, joined_by, Readers, readers, prefix_with, prefixed, counted, windowed, big_with, ranges_with, more_ranges}
 use Rattle.tlsf_reader.specs.declared.lexeme.Lexeme.{Lexeme as CodeLexeme}
 use Rattle.tlsf_reader.specs.declared.rest.Refusal.{Refusal}
 use Rattle.tlsf_reader.specs.declared.rest.Refusal.TheVariants.{NoMemory, At}
@@ -58,9 +58,9 @@ abbrev pub IsExpected : Symbol → List Lexeme → List Lexeme → Result CodeLe
 IsExpected s before after (Ok l) = Passes s before (seen l) after
 IsExpected s before after (Err e) = Unexpected s before e
 
-abbrev pub IsTaken : List Lexeme → List Lexeme → Option CodeLexeme → Type 0
-IsTaken before after None = before ≡ []
-IsTaken before after (Some l) = before ≡ seen l ∷ after
+abbrev pub IsLexemeTaken : List Lexeme → List Lexeme → Option CodeLexeme → Type 0
+IsLexemeTaken before after None = before ≡ []
+IsLexemeTaken before after (Some l) = before ≡ seen l ∷ after
 
 -- what a sign before an operand begins
 abbrev pub signed_by : Readers → Bool → SignKind → Lexeme → List Lexeme → Answer Tree
@@ -147,8 +147,8 @@ ranges_seen v = range_list_seen v.items
 -- how an operand of a level goes on to the level m that is built of it
 abbrev pub extended_by : Readers → Bool → Level → Level → Joins → Tree → List Lexeme → Answer Tree
 extended_by r ends m n left t rest = go_on (r.links ends m rest) (λ more after. taken (chain_of t more) after)
-extended_by r ends m n once t rest = joined (operator_here ends m rest) t rest (r.level ends n)
-extended_by r ends m n right t rest = joined (operator_here ends m rest) t rest (r.level ends m)
+extended_by r ends m n once t rest = joined_by (operator_here ends m rest) t rest (r.level ends n)
+extended_by r ends m n right t rest = joined_by (operator_here ends m rest) t rest (r.level ends m)
 extended_by r ends m n none t rest = taken t rest
 
 -- elements in front of what was read after them

@@ -99,7 +99,7 @@ earlier a b = earlier_by (λ (f : Fault). f.place) a b
 
 -- A text of the grammar is the tree of these parts, or has this fault first of those that a text of the grammar has. Where
 -- memory is wanting, nothing is said.
-pub record IsAccepted (ls : List Lexeme) (w : Written) (result : Result SpecTree SpecFault) : Type 0 where
+pub record IsReadResult (ls : List Lexeme) (w : Written) (result : Result SpecTree SpecFault) : Type 0 where
   pub sound : (tree : SpecTree) → result ≡ Ok tree → (code : SpecCode) (place : ℕ) → HasLateFault ls w code place → ⊥
   pub tree : (tree : SpecTree) → result ≡ Ok tree → text_seen tree ≡ text_of w
   pub fault : (code : SpecCode) (place : ℕ) → result ≡ Err (At code place) → IsFirstOf (HasLateFault ls w) code place

@@ -1,11 +1,11 @@
-// The lexemes that are left to read.
+//! The lexemes that are left to read.
 
 ghost use Rattle.std.specs.Prelude.{◌≡◌, ◌<◌, if◌then◌else◌, length, map, drop, IfSome, IfNone, OnOk};
 ghost use Rattle.tlsf_syntax.specs.Reading.{begins, operator_here};
 ghost use Rattle.tlsf_reader.specs.declared.rest.Refusal.TheVariants.{At};
 ghost use Rattle.tlsf_reader.specs.Levels.{level_of};
 ghost use Rattle.tlsf_reader.specs.Seen.{seen};
-ghost use Rattle.tlsf_reader.specs.Descent.{IsNextIf, IsExpected, IsTaken, IsSign, IsSignKind, IsBound, IsNameIn, after_sign};
+ghost use Rattle.tlsf_reader.specs.Descent.{IsNextIf, IsExpected, IsLexemeTaken, IsSign, IsSignKind, IsBound, IsNameIn, after_sign};
 
 use crate::level::{Level, bound};
 use crate::lexeme::Lexeme;
@@ -80,7 +80,7 @@ impl<'a> Ahead<'a> {
 
     /// Passes the next lexeme.
     pub(crate) fn take(&mut self) -> Option<Lexeme<'a>>
-        ensures taken { IsTaken self.old self.new result }
+        ensures taken { IsLexemeTaken self.old self.new result }
         ensures shorter { IfSome result (λ _. length self.new < length self.old) }
     {
         match self.left {

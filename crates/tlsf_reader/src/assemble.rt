@@ -1,7 +1,8 @@
-// The tree of a text, each part of it in one place.
+//! The tree of a text, each part of it in one place.
 
 ghost use Rattle.std.specs.Prelude.{◌≡◌, [], map, IfOk};
-ghost use Rattle.tlsf_reader.specs.Assembly.{put_field, put_section, put_part, put_parts, sections_seen, no_sections};
+ghost use Rattle.tlsf_reader.specs.Assembly.{put_field, put_section, put_part, put_parts, sections_seen};
+ghost use Rattle.tlsf_syntax.specs.Text.{no_sections};
 ghost use Rattle.tlsf_reader.specs.Parts.{info_of, definitions_of, text_of};
 ghost use Rattle.tlsf_reader.specs.TextView.{each, block_view, field_view, part_view, written_view};
 ghost use Rattle.tlsf_syntax.specs.Seen.{expr_seen, definition_seen, info_seen, text_seen};

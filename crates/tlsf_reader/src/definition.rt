@@ -1,4 +1,4 @@
-// The descent for GLOBAL.
+//! The descent for GLOBAL.
 
 ghost use Rattle.std.specs.Prelude.{◌≡◌, ◌<◌, ◌≤◌, length, OnOk, IfOk, IfSome, option_map};
 ghost use Rattle.tlsf_syntax.specs.Lexemes.{word_of};

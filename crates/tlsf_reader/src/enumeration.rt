@@ -1,4 +1,4 @@
-// The descent for enumerations.
+//! The descent for enumerations.
 
 ghost use Rattle.std.specs.Prelude.{◌≡◌, ◌==◌, ◌&&◌, ◌||◌, ◌<◌, ◌≤◌, length, map, true, OnOk, IfSome};
 ghost use Rattle.std.specs.Option.{is_some};

@@ -1,9 +1,9 @@
-// The descent for expressions: one token of look-ahead, a call for each nested form, a loop over levels and chains.
+//! The descent for expressions: one token of look-ahead, a call for each nested form, a loop over levels and chains.
 
 ghost use Rattle.std.specs.Prelude.{◌≡◌, ◌<◌, ◌≤◌, ◌⊎◌, List, [], ◌∷◌, length, map, Some, OnOk};
 ghost use Rattle.tlsf_syntax.specs.Lexemes.{Lexeme as GrammarLexeme};
 ghost use Rattle.tlsf_syntax.specs.Expressions.{prefixes, tighter_of, joins_of};
-ghost use Rattle.tlsf_syntax.specs.Reading.{taken, go_on, joined, level_number, operator_here, readers, chain_of, word_with, set_with, set_third, close_set, prefixed, primary_with, counted, windowed, big_with};
+ghost use Rattle.tlsf_syntax.specs.Reading.{taken, go_on, joined_by, level_number, operator_here, readers, chain_of, word_with, set_with, set_third, close_set, prefixed, primary_with, counted, windowed, big_with};
 ghost use Rattle.tlsf_reader.specs.Levels.{level_of};
 ghost use Rattle.tlsf_reader.specs.Seen.{seen};
 ghost use Rattle.tlsf_syntax.specs.Seen.{expr_seen, trees_seen};
@@ -118,7 +118,7 @@ fn pair(
     operand: Level,
     left: Expr,
 ) -> Result<Expr, Refusal>
-    ensures read { IsRead expr_seen (λ d. joined (operator_here ends (level_of level) ahead.old) (expr_seen left) ahead.old ((readers d).level ends (level_of operand))) ahead.new result }
+    ensures read { IsRead expr_seen (λ d. joined_by (operator_here ends (level_of level) ahead.old) (expr_seen left) ahead.old ((readers d).level ends (level_of operand))) ahead.new result }
     ensures shorter { OnOk result (length ahead.new ≤ length ahead.old) }
 {
     let Some(op) = ahead.operator(ends, level) else {

@@ -1,4 +1,4 @@
-// Faults with their places, and the one that comes first.
+//! Faults with their places, and the one that comes first.
 
 ghost use Rattle.std.specs.Prelude.{◌≡◌};
 ghost use Rattle.tlsf_reader.specs.Places.{earlier};

@@ -1,4 +1,4 @@
-// The word `Finite` where a word of the value of SEMANTICS is wanted.
+//! The word `Finite` where a word of the value of SEMANTICS is wanted.
 
 ghost use Rattle.std.specs.Prelude.{◌≡◌, map};
 ghost use Rattle.tlsf_reader.specs.Seen.{seen};

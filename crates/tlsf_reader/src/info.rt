@@ -1,4 +1,4 @@
-// The descent for INFO.
+//! The descent for INFO.
 
 ghost use Rattle.std.specs.Prelude.{◌≡◌, ◌<◌, ◌≤◌, length, OnOk};
 ghost use Rattle.tlsf_syntax.specs.Texts.{unquoted};

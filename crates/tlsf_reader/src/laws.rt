@@ -1,4 +1,4 @@
-// Laws of the definitions, which no code needs.
+//! Laws of the definitions, which no code needs.
 
 ghost use Rattle.tlsf_reader.specs.Reads.{TreesAreDetermined, TreesHaveNoFault};
 

@@ -1,4 +1,4 @@
-// The least of some places.
+//! The least of some places.
 
 ghost use Rattle.std.specs.Prelude.{◌≡◌};
 ghost use Rattle.tlsf_reader.specs.Least.{least};

@@ -1,4 +1,4 @@
-// How tightly operators bind.
+//! How tightly operators bind.
 
 ghost use Rattle.std.specs.Prelude.{◌≡◌, ◌≤◌, ◌+◌, option_map, Some, IfSome, IfNone};
 ghost use Rattle.tlsf_reader.specs.declared.level.Level.TheVariants.{Releases};

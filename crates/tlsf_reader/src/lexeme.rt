@@ -1,4 +1,4 @@
-// A text as the grammar sees it.
+//! A text as the grammar sees it.
 
 ghost use Rattle.std.specs.Prelude.{◌≡◌, All, map, IfOk};
 ghost use Rattle.tlsf_reader.specs.Seen.{seen};

@@ -1,4 +1,4 @@
-// Nodes of the written tree, made of their parts.
+//! Nodes of the written tree, made of their parts.
 
 ghost use Rattle.std.specs.Prelude.{◌≡◌, ◌∷◌, [], ◌++◌, map, IfOk};
 ghost use Rattle.tlsf_syntax.specs.Tree.{tree_span, truth as truth_tree, named as named_tree, number as number_tree, call as call_tree, index as index_tree, size_of as size_tree, paren as paren_tree, set as set_tree, steps as steps_tree, pair as pair_tree, prefix as prefix_tree, count as count_tree, window as window_tree, big as big_tree, members as members_range, between as between_range};

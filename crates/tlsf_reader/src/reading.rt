@@ -1,4 +1,4 @@
-// Reading a whole text: its one tree, or its first fault.
+//! Reading a whole text: its one tree, or its first fault.
 
 ghost use Rattle.std.specs.Prelude.{◌≡◌, ℕ, [], map, IfOk, Err};
 ghost use Rattle.spec_faults.specs.declared.code.SpecCode.{SpecCode};
@@ -7,7 +7,7 @@ ghost use Rattle.tlsf_syntax.specs.Nesting.{first_deep};
 ghost use Rattle.tlsf_reader.specs.Seen.{seen};
 ghost use Rattle.tlsf_reader.specs.TextView.{written_view};
 ghost use Rattle.tlsf_syntax.specs.Seen.{text_seen};
-ghost use Rattle.tlsf_reader.specs.Places.{IsAccepted};
+ghost use Rattle.tlsf_reader.specs.Places.{IsReadResult};
 ghost use Rattle.tlsf_reader.specs.Known.{place_in, stop_fault, deep_fault, IsKnown, IsEarliest, refused_fault};
 ghost use Rattle.tlsf_reader.specs.Faults.{IsReadingFault, HasLateFault, most_nesting, symbols_of};
 ghost use Rattle.tlsf_reader.specs.Reads.{Reads};
@@ -114,7 +114,7 @@ fn late_fault(
 
 /// The tree of a text of the grammar, or its first fault.
 fn accepted(alloc: Global, lexemes: &[Lexeme<'_>], written: Written) -> Result<SpecTree, SpecFault>
-    ensures { IsAccepted (map seen lexemes.now) (written_view written) result }
+    ensures { IsReadResult (map seen lexemes.now) (written_view written) result }
 {
     if let Some(fault) = late_fault(alloc, lexemes, &written)? {
         return Err(SpecFault::from(fault));

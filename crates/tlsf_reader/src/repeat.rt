@@ -1,4 +1,4 @@
-// What is given twice, and what is missing.
+//! What is given twice, and what is missing.
 
 ghost use Rattle.std.specs.Prelude.{◌≡◌, ◌∷◌, [], ◌++◌, map, IfOk, OnOk};
 ghost use Rattle.tlsf_reader.specs.Seen.{seen};

@@ -1,4 +1,4 @@
-// Looking at the front of the lexemes that are left.
+//! Looking at the front of the lexemes that are left.
 
 ghost use Rattle.std.specs.Prelude.{◌≡◌, map, option_map};
 ghost use Rattle.tlsf_syntax.specs.Reading.{begins, begins_big, at_level, operator_here};

@@ -1,4 +1,4 @@
-// The descent for MAIN.
+//! The descent for MAIN.
 
 ghost use Rattle.std.specs.Prelude.{◌≡◌, ◌<◌, ◌≤◌, length, OnOk};
 ghost use Rattle.tlsf_syntax.specs.TextReading.{declaration_read, declarations_read, formulas_read, parts_read};

@@ -1,4 +1,4 @@
-// The descent for a whole text.
+//! The descent for a whole text.
 
 ghost use Rattle.std.specs.Prelude.{◌≡◌, ◌<◌, ◌≤◌, length, map, OnOk};
 ghost use Rattle.tlsf_syntax.specs.TextReading.{main_read, after_info, text_read};

@@ -1,4 +1,4 @@
-// A text as it is written: its parts one after another, whether or not one is given twice.
+//! A text as it is written: its parts one after another, whether or not one is given twice.
 
 use letter_word::Kind;
 use text_base::Name;

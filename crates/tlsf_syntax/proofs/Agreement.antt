@@ -1,6 +1,7 @@
 -- A reader that refuses a lexeme has looked at nothing after it: what two inputs with the same front give, as far as that front goes.
 use Rattle.std.proofs.Common.{◌≡◌, ◌≤◌, ℕ, zero, suc, Bool, true, false, ◌&&◌, cond, List, [], ◌∷◌, ◌++◌, length, drop, Option, None, Some, refl, sym, ap, subst, arith}
 use Rattle.std.specs.Option.{is_some}
+use Rattle.std.proofs.lemmas.Bool.{and_parts}
 use Rattle.tlsf_syntax.specs.declared.expr.Op.{Op}
 use Rattle.tlsf_syntax.specs.declared.expr.Op.TheVariants as op
 use Rattle.tlsf_tokens.specs.declared.symbol.Symbol.{Symbol}
@@ -10,7 +11,7 @@ use Rattle.tlsf_syntax.specs.Lexemes.{Lexeme, Is, word_of}
 use Rattle.tlsf_syntax.specs.Symbols.{symbol_eq}
 use Rattle.tlsf_syntax.specs.Expressions.{Level, primary, sums, prefixes, memberships, releases, Joins, left, once, right, none, tighter_of, joins_of, operator_of, big_of, bound_of, conjunctions, disjunctions, implications, weak_untils, untils}
 use Rattle.tlsf_syntax.proofs.Symbols.{same_symbol}
-use Rattle.tlsf_syntax.specs.Reading.{Answer, taken, refused, lost, go_on, begins, expect, if_next, level_number, at_level, begins_big, operator_at, operator_here, Readers, chain_of, joined, from_to, word_with, set_with, set_second, set_third, close_set, primary_by, primary_with, prefix_by, prefix_with, prefixed, counted, windowed, big_with, level_by, level_with, list_with, linked, links_with, more_ranges, bounded, bound, between_with, ranges_with, readers}
+use Rattle.tlsf_syntax.specs.Reading.{Answer, taken, refused, lost, go_on, begins, expect, if_next, level_number, at_level, begins_big, operator_at, operator_here, Readers, chain_of, joined_by, from_to, word_with, set_with, set_second, set_third, close_set, primary_by, primary_with, prefix_by, prefix_with, prefixed, counted, windowed, big_with, level_by, level_with, list_with, linked, links_with, more_ranges, bounded, bound, between_with, ranges_with, readers}
 
 -- the last lexeme of a front, and two ways in which the lexemes go on after it
 pub record Fork : Type 0 where
@@ -265,10 +266,6 @@ prefix_steady e r h ends n =
 
 -- operators between operands
 
-both_true : (a b : Bool) → (a && b) ≡ true → (a ≡ true) × (b ≡ true)
-both_true true b e = (refl, e)
-both_true false b e = absurd cc
-
 -- the sign of a big operator isn't at the front where the first lexeme is none
 not_big : (ends : Bool) (l : Lexeme) (ls : List Lexeme) → (ends && is_some (big_of l.symbol)) ≡ false → (ends && begins_big (l ∷ ls)) ≡ false
 not_big false l ls e = refl
@@ -310,7 +307,7 @@ chosen_steady e ends m G c = record { same = by_front; leaves = λ ls. less (ope
 
     here : (b : Bool) → (ends && is_some (big_of e.last.symbol)) ≡ b → Agrees (Stop e.last ends) e (G (operator_here ends m (e.last ∷ e.one)) (e.last ∷ e.one)) (G (operator_here ends m (e.last ∷ e.other)) (e.last ∷ e.other))
     here true b =
-        let s : Stop e.last ends = both_true ends (is_some (big_of e.last.symbol)) b in
+        let s : Stop e.last ends = and_parts ends (is_some (big_of e.last.symbol)) b in
         both_pass (G (operator_here ends m (e.last ∷ e.one)) (e.last ∷ e.one)) (G (operator_here ends m (e.last ∷ e.other)) (e.last ∷ e.other)) (chosen_stops e ends m G c s e.one) (chosen_stops e ends m G c s e.other)
     here false b =
         rewritten (Stop e.last ends) e (G (at_level m (operator_of e.last.symbol)) (e.last ∷ e.one)) (G (at_level m (operator_of e.last.symbol)) (e.last ∷ e.other))
@@ -377,7 +374,7 @@ links_stop e r h ends m after s = by (tighter_of m)
     by None = subst (Passes (Stop e.last ends) e.last after) (sym (no_tighter_links r ends m (operator_here ends m (e.last ∷ after)) (e.last ∷ after))) (stopping no_links s)
     by (Some n) = chosen_stops e ends m (λ o ls. linked r ends m (Some n) o ls) (links_choose e r h ends m n) s after
 
-joined_chooses : (e : Fork) (r : Readers) → Agreeing e r → (ends : Bool) (k : Level) (t : Tree) → Chooses (Stop e.last ends) e (λ o ls. joined o t ls (r.level ends k))
+joined_chooses : (e : Fork) (r : Readers) → Agreeing e r → (ends : Bool) (k : Level) (t : Tree) → Chooses (Stop e.last ends) e (λ o ls. joined_by o t ls (r.level ends k))
 joined_chooses e r h ends k t = record {
   value = t;
   nothing = λ ls. refl;
@@ -388,10 +385,10 @@ joined_chooses e r h ends k t = record {
 
 -- an operand, and at most one operator with another one
 pair_steady : (e : Fork) (r : Readers) → Agreeing e r → (ends : Bool) (m n k : Level)
-    → Steady (Stop e.last ends) e (λ ls. go_on (r.level ends n ls) (λ t rest. joined (operator_here ends m rest) t rest (r.level ends k)))
+    → Steady (Stop e.last ends) e (λ ls. go_on (r.level ends n ls) (λ t rest. joined_by (operator_here ends m rest) t rest (r.level ends k)))
 pair_steady e r h ends m n k =
-    level_of_ends e r h ends n (λ t rest. joined (operator_here ends m rest) t rest (r.level ends k)) (λ t. chosen_steady e ends m (λ o ls. joined o t ls (r.level ends k)) (joined_chooses e r h ends k t))
-    (λ s t after. chosen_stops e ends m (λ o ls. joined o t ls (r.level ends k)) (joined_chooses e r h ends k t) s after)
+    level_of_ends e r h ends n (λ t rest. joined_by (operator_here ends m rest) t rest (r.level ends k)) (λ t. chosen_steady e ends m (λ o ls. joined_by o t ls (r.level ends k)) (joined_chooses e r h ends k t))
+    (λ s t after. chosen_stops e ends m (λ o ls. joined_by o t ls (r.level ends k)) (joined_chooses e r h ends k t) s after)
 
 level_steady : (e : Fork) (r : Readers) → Agreeing e r → (ends : Bool) (m : Level) → Steady (Stop e.last ends) e (level_with r ends m)
 level_steady e r h ends m = by (tighter_of m) (joins_of m)
@@ -504,11 +501,11 @@ front_climbs e r h m n left after p q =
     left_after e.last after (r.level false n (e.last ∷ after)) (λ t rest. go_on (r.links false m rest) (λ more rest'. taken (chain_of t more) rest')) p
     (λ t rest. let s : Steady (Stop e.last false) e (λ ls. go_on (r.links false m ls) (λ more rest'. taken (chain_of t more) rest')) = linked_steady e r h false m (λ more. chain_of t more) in s.leaves rest)
 front_climbs e r h m n once after p q =
-    left_after e.last after (r.level false n (e.last ∷ after)) (λ t rest. joined (operator_here false m rest) t rest (r.level false n)) p
-    (λ t rest. let s : Steady (Stop e.last false) e (λ ls. joined (operator_here false m ls) t ls (r.level false n)) = chosen_steady e false m (λ o ls. joined o t ls (r.level false n)) (joined_chooses e r h false n t) in s.leaves rest)
+    left_after e.last after (r.level false n (e.last ∷ after)) (λ t rest. joined_by (operator_here false m rest) t rest (r.level false n)) p
+    (λ t rest. let s : Steady (Stop e.last false) e (λ ls. joined_by (operator_here false m ls) t ls (r.level false n)) = chosen_steady e false m (λ o ls. joined_by o t ls (r.level false n)) (joined_chooses e r h false n t) in s.leaves rest)
 front_climbs e r h m n right after p q =
-    left_after e.last after (r.level false n (e.last ∷ after)) (λ t rest. joined (operator_here false m rest) t rest (r.level false m)) p
-    (λ t rest. let s : Steady (Stop e.last false) e (λ ls. joined (operator_here false m ls) t ls (r.level false m)) = chosen_steady e false m (λ o ls. joined o t ls (r.level false m)) (joined_chooses e r h false m t) in s.leaves rest)
+    left_after e.last after (r.level false n (e.last ∷ after)) (λ t rest. joined_by (operator_here false m rest) t rest (r.level false m)) p
+    (λ t rest. let s : Steady (Stop e.last false) e (λ ls. joined_by (operator_here false m ls) t ls (r.level false m)) = chosen_steady e false m (λ o ls. joined_by o t ls (r.level false m)) (joined_chooses e r h false m t) in s.leaves rest)
 front_climbs e r h m n none after p q = q
 
 named_level : (e : Fork) (r : Readers) → Agreeing e r → Is symbol.Ident e.last → (m : Level) (after : List Lexeme) → Passes ⊥ e.last after (level_with r false m (e.last ∷ after))

@@ -13,6 +13,7 @@ use Rattle.tlsf_syntax.specs.Reading.{Answer, taken, go_on, begins, if_next, lev
 use Rattle.tlsf_syntax.proofs.Symbols.{same_symbol}
 use Rattle.std.specs.Option.{is_some}
 use Rattle.std.proofs.lemmas.List.{append-nil}
+use mathlib.Core.Bool.{and-false}
 use Rattle.tlsf_syntax.proofs.Starts.{begins_primary, begins_any, StartsWith, starts_any, starts_primary, tighter_number, prefix_level, not_symbol, end_append, derived_end, links_ends, span_join, span_closed, ends-append, Follows, follows_part, operator_follows, operator_found, Ends, ends_of, ends_follow}
 
 -- readers that go deep enough read this
@@ -297,10 +298,6 @@ left_alike e = cc
 is_bound : Symbol → Bool
 is_bound s = is_some (bound_of s)
 
-pub no_and : (b : Bool) → (b && false) ≡ false
-no_and true = refl
-no_and false = refl
-
 -- the lower bound of a range doesn't begin with a name and `IN`
 no_member : (ls : List Lexeme) (low_sign : Lexeme) (more : List Lexeme) (t : Tree) (low : Bool) → StartsWith begins_any ls → bound_of low_sign.symbol ≡ Some low → LevelReads false sums (ls ++ low_sign ∷ more) t (low_sign ∷ more)
     → (r : Readers) → ranges_with r (ls ++ low_sign ∷ more) ≡ between_with r (ls ++ low_sign ∷ more)
@@ -309,7 +306,7 @@ no_member [] low_sign more t low s e a r = absurd s
 no_member (x ∷ []) low_sign more t low s e a r =
     ap (λ b. cond (symbol_eq x.symbol symbol.Ident && b) (go_on (r.level false releases more) (λ u after. more_ranges r after (λ others. members (word_of x) u others))) (between_with r (x ∷ low_sign ∷ more)))
     (not_symbol is_bound low_sign.symbol symbol.In (ap is_some e) refl)
-    ∙ ap (λ b. cond b (go_on (r.level false releases more) (λ u after. more_ranges r after (λ others. members (word_of x) u others))) (between_with r (x ∷ low_sign ∷ more))) (no_and (symbol_eq x.symbol symbol.Ident))
+    ∙ ap (λ b. cond b (go_on (r.level false releases more) (λ u after. more_ranges r after (λ others. members (word_of x) u others))) (between_with r (x ∷ low_sign ∷ more))) (and-false (symbol_eq x.symbol symbol.Ident))
 no_member (x ∷ y ∷ zs) low_sign more t low s e a r = by (symbol_eq x.symbol symbol.Ident) refl (symbol_eq y.symbol symbol.In) refl
   where
     by : (b : Bool) → symbol_eq x.symbol symbol.Ident ≡ b → (c : Bool) → symbol_eq y.symbol symbol.In ≡ c
@@ -327,7 +324,7 @@ no_member (x ∷ y ∷ zs) low_sign more t low s e a r = by (symbol_eq x.symbol 
         let sum : length (zs ++ low_sign ∷ more) ≡ length zs + suc (length more) = length-append zs (low_sign ∷ more) in
         absurd (omega arith)
 
-abbrev HasTree : Trees → Type 0
+abbrev pub HasTree : Trees → Type 0
 HasTree no_trees = ⊥
 HasTree (tree t more) = Unit {0}
 

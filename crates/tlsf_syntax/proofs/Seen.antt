@@ -11,6 +11,7 @@ use Rattle.tlsf_syntax.specs.declared.expr.Span.{Span}
 use Rattle.tlsf_syntax.specs.declared.expr.Word.{Word}
 use Rattle.tlsf_syntax.specs.Tree as plain
 use Rattle.tlsf_syntax.specs.Seen.{form_seen, expr_seen, word_seen, row_seen, links_seen, range_seen, ranges_seen, trees_seen, link_list_seen, range_list_seen}
+use Rattle.tlsf_syntax.specs.Tree.{tree_span}
 
 -- ---- rows as they lie in memory
 
@@ -61,29 +62,21 @@ big_seen s o v b =
     let row = ranges_of (form.Big o v b) in
     ap (λ rs. plain.big s o rs (expr_seen b.value)) (range_rows row.0 row.1 ∙ ap range_list_seen (form.items_hidden-the_row-Range-2 v))
 
-pub index_seen : (s : Span) (w : Word) (b : Box Expr Global) → form_seen s (form.Index w b) ≡ plain.index s (word_seen w) (expr_seen b.value)
-index_seen s w b = refl
+-- ---- where an expression stands
 
-pub size_seen : (s : Span) (b : Box Expr Global) → form_seen s (form.SizeOf b) ≡ plain.size_of s (expr_seen b.value)
-size_seen s b = refl
-
-pub paren_seen : (s : Span) (b : Box Expr Global) → form_seen s (form.Paren b) ≡ plain.paren s (expr_seen b.value)
-paren_seen s b = refl
-
-pub steps_seen : (s : Span) (a b c : Box Expr Global) → form_seen s (form.Steps a b c) ≡ plain.steps s (expr_seen a.value) (expr_seen b.value) (expr_seen c.value)
-steps_seen s a b c = refl
-
-pub pair_seen : (s : Span) (o : Op) (a b : Box Expr Global) → form_seen s (form.Pair o a b) ≡ plain.pair s o (expr_seen a.value) (expr_seen b.value)
-pair_seen s o a b = refl
-
-pub prefix_seen : (s : Span) (o : Op) (b : Box Expr Global) → form_seen s (form.Prefix o b) ≡ plain.prefix s o (expr_seen b.value)
-prefix_seen s o b = refl
-
-pub count_seen : (s : Span) (a b : Box Expr Global) → form_seen s (form.Count a b) ≡ plain.count s (expr_seen a.value) (expr_seen b.value)
-count_seen s a b = refl
-
-pub window_seen : (s : Span) (o : Op) (a b c : Box Expr Global) → form_seen s (form.Window o a b c) ≡ plain.window s o (expr_seen a.value) (expr_seen b.value) (expr_seen c.value)
-window_seen s o a b c = refl
-
-pub members_seen : (w : Word) (e : Expr) (more : plain.Ranges) → range_seen (range.Members w e) more ≡ plain.members (word_seen w) (expr_seen e) more
-members_seen w e more = refl
+pub span_seen : (s : Span) (f : form.Form) → tree_span (form_seen s f) ≡ s
+span_seen s (form.Number n) = refl
+span_seen s (form.Truth b) = refl
+span_seen s (form.Named name) = refl
+span_seen s (form.Call' w shape row) = refl
+span_seen s (form.Index' w p t f) = refl
+span_seen s (form.SizeOf' p t f) = refl
+span_seen s (form.Paren' p t f) = refl
+span_seen s (form.Set' shape row) = refl
+span_seen s (form.Steps' p t f q u g r v h) = refl
+span_seen s (form.Chain' p t f shape row) = refl
+span_seen s (form.Pair' o p t f q u g) = refl
+span_seen s (form.Prefix' o p t f) = refl
+span_seen s (form.Count' p t f q u g) = refl
+span_seen s (form.Window' o p t f q u g r v h) = refl
+span_seen s (form.Big' o shape row p t f) = refl

@@ -10,9 +10,9 @@ use Rattle.tlsf_syntax.specs.Tree.{Tree, Trees, Links, Ranges, tree_span, named,
 use Rattle.tlsf_syntax.specs.Lexemes.{Lexeme, Is, word_of, span_of, lexeme_span}
 use Rattle.tlsf_syntax.specs.Symbols.{symbol_eq}
 use Rattle.tlsf_syntax.specs.Expressions.{Level, primary, sums, memberships, prefixes, releases, Joins, left, once, right, none, tighter_of, joins_of, operator_of, prefix_of, window_of, big_of, bound_of, Derives, of_number, of_true, of_false, of_name, of_call, of_index, of_size, of_paren, of_set, of_steps, of_tighter, of_chain, of_once, of_right, of_prefix, of_count, of_window, of_big, DerivesList, of_none, of_last, of_more, DerivesLinks, of_no_link, of_link, DerivesRanges, of_members, of_between, DerivesMoreRanges, of_no_range, of_range}
-use Rattle.tlsf_syntax.specs.Reading.{Answer, taken, refused, lost, go_on, begins, expect, if_next, level_number, at_level, begins_big, operator_at, operator_here, Readers, chain_of, joined, links_end, from_to, word_with, set_with, set_third, close_set, primary_by, primary_with, prefix_by, prefix_with, prefixed, counted, windowed, big_with, level_by, level_with, list_with, linked, links_with, more_ranges, bounded, bound, between_with, ranges_with, readers, IsFrontOf, ExpressionsAreReadExactly}
+use Rattle.tlsf_syntax.specs.Reading.{Answer, taken, refused, lost, go_on, begins, expect, if_next, level_number, at_level, begins_big, operator_at, operator_here, Readers, chain_of, joined_by, links_end, from_to, word_with, set_with, set_third, close_set, primary_by, primary_with, prefix_by, prefix_with, prefixed, counted, windowed, big_with, level_by, level_with, list_with, linked, links_with, more_ranges, bounded, bound, between_with, ranges_with, readers, IsFrontOf, ExpressionsAreReadExactly}
 use Rattle.tlsf_syntax.proofs.Symbols.{same_symbol, is_symbol}
-use Rattle.tlsf_syntax.proofs.Reading.{LevelReads, level_reads, nothing_follows}
+use Rattle.tlsf_syntax.proofs.Reading.{LevelReads, level_reads, nothing_follows, HasTree}
 use Rattle.tlsf_syntax.specs.Texts.{EndsWithName}
 use Rattle.tlsf_syntax.proofs.Starts.{begins_any, StartsWith, starts_any, no_tighter, same_level, end_append, derived_end, links_ends, span_join, span_closed}
 use Rattle.tlsf_syntax.proofs.Completes.{Completes, completes, full, cut, Opens, opens_here, lift, sign, ex, example, nothing_begins}
@@ -59,10 +59,6 @@ joined_ends : (p k after rest : List Lexeme) → rest ≡ k ++ after → (EndsWi
     → begins symbol.OpenParen after ≡ false
 joined_ends p [] after rest is f g e = ap (begins symbol.OpenParen) (sym is) ∙ f (subst EndsWithName (append-nil p) e)
 joined_ends p (l ∷ k) after rest is f g e = g (ends_part p l k e)
-
-abbrev pub HasTree : Trees → Type 0
-HasTree no_trees = ⊥
-HasTree (tree t more) = Unit {0}
 
 -- some expressions with commas between
 pub record IsList (ls : List Lexeme) (ts : Trees) : Type 0 where
@@ -371,11 +367,11 @@ links_right r h ends m ls = by (tighter_of m) refl (operator_here ends m ls) ref
 -- an operator with one operand after it
 pair_right : (r : Readers) → Right r → (ends : Bool) (n m k : Level) (ls : List Lexeme) → tighter_of m ≡ Some n
     → ((l : Lexeme) (p q : List Lexeme) (t u : Tree) (o : Op) → Derives n p t → operator_of l.symbol ≡ Some (m, o) → Derives k q u → Derives m (p ++ l ∷ q) (pair (span_of (p ++ l ∷ q)) o t u))
-    → Answers (Derives m) ls (go_on (r.level ends n ls) (λ t rest. joined (operator_here ends m rest) t rest (r.level ends k)))
+    → Answers (Derives m) ls (go_on (r.level ends n ls) (λ t rest. joined_by (operator_here ends m rest) t rest (r.level ends k)))
 pair_right r h ends n m k ls e make =
     part [] refl (h.level ends n ls) (λ q t d. full (Derives m) q t (of_tighter n m q t e d)) (λ t rest q d u e1 is. by t rest q d u is (operator_here ends m rest) refl)
   where
-    by : (t : Tree) (rest q : List Lexeme) → Derives n q t → Uncalled q rest → ls ≡ q ++ rest → (o : Option Op) → operator_here ends m rest ≡ o → Answers (Derives m) ls (joined o t rest (r.level ends k))
+    by : (t : Tree) (rest q : List Lexeme) → Derives n q t → Uncalled q rest → ls ≡ q ++ rest → (o : Option Op) → operator_here ends m rest ≡ o → Answers (Derives m) ls (joined_by o t rest (r.level ends k))
     by t rest q d u is None g = answers_taken t rest q is (of_tighter n m q t e d) u
     by t rest q d u is (Some o) g =
         let f : Found m o rest = found ends m o rest g in

@@ -4,6 +4,7 @@ use Rattle.std.proofs.lemmas.Bool.{ne_eqb, eq-eqb}
 use Rattle.std.specs.Prelude.{IfSome}
 use Rattle.std.specs.Option.{is_some}
 use Rattle.std.proofs.lemmas.List.{append-nil}
+use mathlib.Core.Bool.{or-true}
 use Rattle.tlsf_syntax.specs.declared.expr.Op.TheVariants as op
 use Rattle.tlsf_syntax.specs.declared.expr.Op.{Op}
 use Rattle.tlsf_syntax.specs.declared.expr.Span.{Span}
@@ -109,18 +110,14 @@ head n ls t (of_count l before after ms ns u v a b c d e) rest = by_prefix l _ o
 head n ls t (of_window l before colon after ms ns ps u v w o a b c d e f g) rest = by_prefix l _ o (window_prefix l.symbol o a) (omega arith)
 head n ls t (of_big l before after ms ns rs u o a b c d e) rest = by_big l before _ o a b (omega arith)
 
-or_true : (a : Bool) → (a || true) ≡ true
-or_true true = refl
-or_true false = refl
-
 pub starts_any : (n : Level) (ls : List Lexeme) (t : Tree) → Derives n ls t → StartsWith begins_any ls
 starts_any n ls t d = subst (StartsWith begins_any) (append-nil ls) (by (ls ++ []) (head n ls t d []))
   where
     by : (input : List Lexeme) → Head n input → StartsWith begins_any input
     by input (by_primary l ms a) = rw a refl
-    by input (by_prefix l ms o a low) = rw a (or_true (begins_primary l.symbol))
+    by input (by_prefix l ms o a low) = rw a (or-true (begins_primary l.symbol))
     by input (by_big l before ms o a b low) =
-        ap (λ x. begins_primary l.symbol || (is_some (prefix_of l.symbol) || is_some x)) a ∙ ap (λ x. begins_primary l.symbol || x) (or_true (is_some (prefix_of l.symbol))) ∙ or_true (begins_primary l.symbol)
+        ap (λ x. begins_primary l.symbol || (is_some (prefix_of l.symbol) || is_some x)) a ∙ ap (λ x. begins_primary l.symbol || x) (or-true (is_some (prefix_of l.symbol))) ∙ or-true (begins_primary l.symbol)
 
 pub starts_primary : (n : Level) (ls : List Lexeme) (t : Tree) → Derives n ls t → level_number n ≤ 8 → StartsWith begins_primary ls
 starts_primary n ls t d low = subst (StartsWith begins_primary) (append-nil ls) (by (ls ++ []) (head n ls t d []))

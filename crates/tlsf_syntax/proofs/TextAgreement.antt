@@ -4,7 +4,7 @@ use Rattle.std.specs.Option.{is_some}
 use Rattle.letter_word.specs.declared.kinds.Kind.{Kind}
 use Rattle.tlsf_tokens.specs.declared.symbol.Symbol.{Symbol}
 use Rattle.tlsf_tokens.specs.declared.symbol.Symbol.TheVariants as symbol
-use Rattle.tlsf_syntax.specs.Tree.{Named, Tree, Alternative, plain, guarded, Pattern, Member, Definition, parameter, function, enumeration, single, bus, typed, Field, title, description, semantics, target, tags, Block, parameters, definitions, inputs, outputs, section, Written}
+use Rattle.tlsf_syntax.specs.Tree.{Named, Tree, plain, guarded, Pattern, Member, Definition, parameter, function, enumeration, single, bus, typed, Field, title, description, semantics, target, tags, Block, parameters, definitions, inputs, outputs, section, Written}
 use Rattle.tlsf_syntax.specs.Lexemes.{Lexeme, Is, word_of}
 use Rattle.tlsf_syntax.specs.Symbols.{symbol_eq}
 use Rattle.tlsf_syntax.specs.Expressions.{releases, big_of}
@@ -117,9 +117,6 @@ patterns_steady e (suc depth) =
 abbrev NameStop : Fork → Type 0
 NameStop e = Is symbol.Ident e.last
 
-more_members : ℕ → Member → List Lexeme → Answer (List Member)
-more_members depth m rest = cond (begins_member rest) (go_on (members_read depth rest) (λ ms after. taken (m ∷ ms) after)) (taken (m ∷ []) rest)
-
 -- a form that begins with a name passes one
 names_pass : {B : Type 0} (S : Type 0) (e : Fork) (f : Lexeme → List Lexeme → Answer B) → Is symbol.Ident e.last → Steady S e (f e.last) → (after : List Lexeme) → Passes S e.last after (expect symbol.Ident (e.last ∷ after) f)
 names_pass S e f i s after =
@@ -219,11 +216,6 @@ guard_passes e depth b after =
     let h : Agreeing e (readers depth) = readers_agree e depth in
     subst (λ c. Passes ⊥ e.last after (cond c (taken None after) (go_on (expression_read false depth (e.last ∷ after)) (λ t rest. taken (Some t) rest)))) (sym (big_is_no_otherwise e.last.symbol b))
     (mapped ⊥ e.last after (expression_read false depth (e.last ∷ after)) (λ t. Some t) (h.big_front b releases (omega arith) after))
-
-after_value : ℕ → Option Tree → Tree → List Lexeme → Answer (List Alternative)
-after_value depth g u rest =
-    cond (begins symbol.Semicolon rest) (taken (alternative_of g u ∷ []) rest)
-    (go_on (guard_read depth rest) (λ h colon_at. go_on (alternatives_read depth h colon_at) (λ others after. taken (alternative_of g u ∷ others) after)))
 
 pub record AlternativesAgree (e : Fork) (depth : ℕ) : Type 0 where
   steady : (g : Option Tree) → Steady ⊥ e (alternatives_read depth g)

@@ -100,7 +100,7 @@ names_reads (suc depth) ls =
 
 -- fields
 
-same_bytes : (xs ys : List ℕ) → bytes_eq xs ys ≡ true → xs ≡ ys
+pub same_bytes : (xs ys : List ℕ) → bytes_eq xs ys ≡ true → xs ≡ ys
 same_bytes xs ys e = (bytes_eq-Decides xs ys).0 e
 
 kind_found : (l : Lexeme) (k : Kind) → kind_of l ≡ Some k → IsKind l k
@@ -359,9 +359,6 @@ pub data IsGuard : List Lexeme → Option Tree → Type 0 where
   guard_is : (q : List Lexeme) (t : Tree) → Derives releases q t → IsGuard q (Some t)
   otherwise_is : (l : Lexeme) → Is symbol.Otherwise l → IsGuard (l ∷ []) None
 
-guard_begins : Completes IsGuard []
-guard_begins = completes (sign symbol.True ∷ []) (Some ex) (guard_is (sign symbol.True ∷ []) ex (example releases))
-
 guard_reads : (depth : ℕ) (ls : List Lexeme) → Reads IsGuard ls (guard_read depth ls)
 guard_reads depth ls =
     reads_if_next IsGuard ls symbol.Otherwise ls _ _ (λ l rest e i. reads_taken None rest (l ∷ []) e (otherwise_is l i))
@@ -441,9 +438,6 @@ alternatives_reads (suc depth) g p h ls =
 
     two : (colon : Lexeme) (q : List Lexeme) (u : Tree) → Is symbol.Colon colon → Derives releases q u → (o : List Lexeme) (k : Option Tree) → NextGuard q o k → Completes (AfterGuard p) (colon ∷ q ++ o)
     two colon q u i d o k c = completes (sign symbol.Colon ∷ sign symbol.True ∷ []) (alternative_of g u ∷ alternative_of k ex ∷ []) (joined colon q u i d o k c (sign symbol.Colon ∷ sign symbol.True ∷ []) (alternative_of k ex ∷ []) (of_one_alternative (o ++ sign symbol.Colon ∷ sign symbol.True ∷ []) (alternative_of k ex) (alternative_derived o k (sign symbol.Colon) (sign symbol.True ∷ []) ex c.guard refl (example releases))))
-
-body_begins : Completes DerivesBody []
-body_begins = completes (sign symbol.True ∷ []) (plain ex) (of_plain (sign symbol.True ∷ []) ex (example releases))
 
 guarded_reads : (depth : ℕ) (g : Option Tree) (p : List Lexeme) → IsGuard p g → (input ls : List Lexeme) → input ≡ p ++ ls → Reads DerivesBody input (go_on (alternatives_read depth g ls) (λ others after. taken (guarded others) after))
 guarded_reads depth g p h input ls is =

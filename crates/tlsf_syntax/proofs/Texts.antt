@@ -4,6 +4,7 @@ use Rattle.std.specs.Prelude.{codes}
 use Rattle.std.specs.Option.{is_some}
 use Rattle.std.specs.Str.{bytes_eq}
 use Rattle.std.proofs.lemmas.Bool.{eq-eqb}
+use mathlib.Core.Bool.{and-false}
 use Rattle.letter_word.specs.declared.kinds.Kind.{Kind}
 use Rattle.tlsf_syntax.specs.declared.expr.Op.{Op}
 use Rattle.tlsf_tokens.specs.declared.symbol.Symbol.{Symbol}
@@ -17,7 +18,7 @@ use Rattle.tlsf_syntax.specs.Reading.{taken, go_on, begins, if_next, at_level, b
 use Rattle.tlsf_syntax.specs.TextReading.{names_read, named_kind, kind_of, is_strict, semantics_read, is_field, field_by, fields_read, goes_on_value, value_read, pattern_read, patterns_read, begins_member, members_read, expression_read, guard_read, alternative_of, alternatives_read, body_read, function_read, definition_read, definitions_read, parameters_read, braced, blocks_read, declarations_read, formulas_read, parts_read, main_read, after_info, text_read}
 use Rattle.tlsf_syntax.proofs.Symbols.{same_symbol}
 use Rattle.tlsf_syntax.proofs.Starts.{Head, by_primary, by_prefix, by_big, head, begins_primary, begins_any, StartsWith, starts_any, not_symbol, unless, Follows, Ends, ends_of, ends_follow, ends-append}
-use Rattle.tlsf_syntax.proofs.Reading.{Eventually, eventually, same_input, level_reads, test, no_and, StartsWith-append}
+use Rattle.tlsf_syntax.proofs.Reading.{Eventually, eventually, same_input, level_reads, test, StartsWith-append}
 
 -- an expression before a sign that ends it
 expression_before : (ls : List Lexeme) (t : Tree) (l : Lexeme) (rest : List Lexeme) → Derives releases ls t → Ends l → Eventually (expression_read false) (ls ++ l ∷ rest) t (l ∷ rest)
@@ -40,8 +41,8 @@ kind_is l k (is_mealy m e t) = ap (λ b. cond b (named_kind m.text) None) (test 
 kind_is l k (is_moore m e t) = ap (λ b. cond b (named_kind m.text) None) (test m.symbol symbol.Ident symbol.Ident e) ∙ ap named_kind t
 
 kind_is_not_strict : (l : Lexeme) (k : Kind) → IsKind l k → is_strict l ≡ false
-kind_is_not_strict l k (is_mealy m e t) = ap (λ x. symbol_eq m.symbol symbol.Ident && bytes_eq x (codes "Strict")) t ∙ no_and (symbol_eq m.symbol symbol.Ident)
-kind_is_not_strict l k (is_moore m e t) = ap (λ x. symbol_eq m.symbol symbol.Ident && bytes_eq x (codes "Strict")) t ∙ no_and (symbol_eq m.symbol symbol.Ident)
+kind_is_not_strict l k (is_mealy m e t) = ap (λ x. symbol_eq m.symbol symbol.Ident && bytes_eq x (codes "Strict")) t ∙ and-false (symbol_eq m.symbol symbol.Ident)
+kind_is_not_strict l k (is_moore m e t) = ap (λ x. symbol_eq m.symbol symbol.Ident && bytes_eq x (codes "Strict")) t ∙ and-false (symbol_eq m.symbol symbol.Ident)
 
 strict_is : (l : Lexeme) → IsStrict l → is_strict l ≡ true
 strict_is l s = ap (λ x. symbol_eq l.symbol symbol.Ident && bytes_eq x (codes "Strict")) s.1 ∙ ap (λ b. b && true) (test l.symbol symbol.Ident symbol.Ident s.0)
@@ -142,7 +143,7 @@ fields_are_read ls fs (of_field ms ns f others d ds) last rest e =
 -- values and members
 
 no_value : (end : ℕ) (x : Lexeme) (rest : List Lexeme) → bits_of x.symbol x.text ≡ None → goes_on_value end (x ∷ rest) ≡ false
-no_value end x rest e = ap (λ o. (end == x.start) && is_some o) e ∙ no_and (end == x.start)
+no_value end x rest e = ap (λ o. (end == x.start) && is_some o) e ∙ and-false (end == x.start)
 
 value_first : (l : Lexeme) (ls : List Lexeme) (bs : List (Option Bool)) → DerivesBits (l ∷ ls) bs → is_some (bits_of l.symbol l.text) ≡ true
 value_first l ls bs (of_bits m cs e) = ap is_some e
@@ -262,7 +263,7 @@ data First : List Lexeme → Option Tree → List Lexeme → Type 0 where
   by_otherwise : (l : Lexeme) (rest : List Lexeme) → Is symbol.Otherwise l → First (l ∷ rest) None rest
   by_guard : (input : List Lexeme) (t : Tree) (rest : List Lexeme) → begins symbol.Otherwise input ≡ false → Eventually (expression_read false) input t rest → First input (Some t) rest
 
-not_next : {X : Type 0} (s : Symbol) (ls : List Lexeme) (f : Lexeme → List Lexeme → X) (x : X) → begins s ls ≡ false → if_next s ls f x ≡ x
+pub not_next : {X : Type 0} (s : Symbol) (ls : List Lexeme) (f : Lexeme → List Lexeme → X) (x : X) → begins s ls ≡ false → if_next s ls f x ≡ x
 not_next s [] f x e = refl
 not_next s (l ∷ ls) f x e = ap (λ b. cond b (f l ls) x) e
 

@@ -1,9 +1,8 @@
 -- The frames give each number of written nesting.
-use Rattle.std.proofs.Common.{◌≡◌, ◌<◌, ◌≤◌, ℕ, zero, suc, ◌+◌, Bool, true, false, cond, nat_lt, List, [], ◌∷◌, length, take, drop, get_or, inl, inr, IsTrue, ◌-◌, Option, None, Some, refl, sym, ◌∙◌, ap, subst, arith}
+use Rattle.std.proofs.Common.{◌≡◌, ◌<◌, ◌≤◌, ℕ, zero, suc, ◌+◌, Bool, true, false, cond, nat_lt, List, [], ◌∷◌, length, take, drop, get_or, inl, inr, IsTrue, ◌-◌, Option, Some, sym, ◌∙◌, ap, subst, arith}
 use Rattle.std.proofs.Math.Seq.{drop-cons}
-use Rattle.std.proofs.lemmas.List.{drop_all, take_all, length-drop}
-use Rattle.std.proofs.lemmas.Bool.{cases_lt}
-use Rattle.std.proofs.lemmas.Bool.Decides.{nat_tests}
+use Rattle.std.proofs.lemmas.List.{take_all, length-drop}
+use Rattle.std.proofs.lemmas.Bool.{cases_lt, le-ltb}
 use Rattle.tlsf_syntax.specs.Nesting.{role_of, first_of, number_of, first_deep}
 use Rattle.tlsf_syntax.specs.Frames.{frame_number, frames_after}
 use Rattle.tlsf_syntax.specs.declared.nesting.Frame.{Frame}
@@ -16,13 +15,6 @@ abbrev value : List Frame → ℕ → Bool → Bool → ℕ
 value [] closed right prefix = 0
 value (f ∷ fs) zero right prefix = cond right f.right 0 + cond prefix f.prefix 0 + f.outside
 value (f ∷ fs) (suc closed) right prefix = value fs closed right prefix
-
-nothing_same : (closed : ℕ) (right prefix : Bool) → 0 ≡ value (record { right = 0; prefix = 0; outside = 0 } ∷ []) closed right prefix
-nothing_same zero true true = refl
-nothing_same zero true false = refl
-nothing_same zero false true = refl
-nothing_same zero false false = refl
-nothing_same (suc c) r p = refl
 
 step_same : (role : Role) (before : List Role) (f : Frame) (fs : List Frame) → ((closed : ℕ) (right prefix : Bool) → number_of before closed right prefix ≡ value (f ∷ fs) closed right prefix)
     → (closed : ℕ) (right prefix : Bool) → number_of (role ∷ before) closed right prefix ≡ value (frames_after role (f ∷ fs)) closed right prefix
@@ -67,20 +59,11 @@ pub record Follows (symbols : List Symbol) (i : ℕ) (stack : List Frame) : Type
   pub same : (closed : ℕ) (right prefix : Bool) → number_of before closed right prefix ≡ value stack closed right prefix
   pub rest : first_deep 128 [] symbols ≡ first_deep 128 before (drop i symbols)
 
-pub begun : (symbols : List Symbol) → Follows symbols 0 (record { right = 0; prefix = 0; outside = 0 } ∷ [])
-begun symbols = record { before = []; count = refl; same = nothing_same; rest = refl }
-
 rest_is : (symbols : List Symbol) (i : ℕ) → take (length symbols - i) (drop i symbols) ≡ drop i symbols
 rest_is symbols i = let l : length (drop i symbols) ≤ length symbols - i = simp length-drop (omega arith) in take_all (length symbols - i) (drop i symbols) l
 
 pub not_deep : (r : Bool) (n : ℕ) → ((IsTrue r → 128 < n) × (128 < n → IsTrue r)) → r ≡ false → n ≤ 128
 not_deep r n h e = elim (cases_lt 128 n) [ inl l ↦ let t : IsTrue false = subst IsTrue e (h.1 l) in absurd (cc) | inr l ↦ l ]
-
-above : (a b : ℕ) → a < b → nat_lt a b ≡ true
-above a b l = grind (arith, nat_tests)
-
-not_above : (a b : ℕ) → b ≤ a → nat_lt a b ≡ false
-not_above a b l = grind (arith, nat_tests)
 
 -- one symbol further
 module _ (symbols : List Symbol) (i : ℕ) (d : Symbol) (next : Option Symbol) (f : Frame) (fs : List Frame)
@@ -96,23 +79,13 @@ module _ (symbols : List Symbol) (i : ℕ) (d : Symbol) (next : Option Symbol) (
       follows.rest ∙ ap (first_deep 128 follows.before) e ∙ ap (λ (n : Option Symbol). cond (nat_lt 128 (number_of (role_of (get_or symbols i d) n ∷ follows.before) zero true true)) (Some (length follows.before))
       (first_deep 128 (role_of (get_or symbols i d) n ∷ follows.before) (drop (i + 1) symbols))) g
 
-  pub deep_here : (g : Frame) (gs : List Frame) → g ∷ gs ≡ frames_after (role_of (get_or symbols i d) next) (f ∷ fs) → 128 < frame_number g → Some i ≡ first_deep 128 [] symbols
-  deep_here g gs e l =
-      let n : number_of (role_of (get_or symbols i d) next ∷ follows.before) zero true true ≡ frame_number g = number_is ∙ ap (λ (x : List Frame). value x zero true true) (sym e) in
-      let b : nat_lt 128 (number_of (role_of (get_or symbols i d) next ∷ follows.before) zero true true) ≡ true = rw n (above 128 (frame_number g) l) in
-      sym (unfolds ∙ ap (λ (v : Bool). cond v (Some (length follows.before)) (first_deep 128 (role_of (get_or symbols i d) next ∷ follows.before) (drop (i + 1) symbols))) b
-      ∙ ap (λ (k : ℕ). Some k) follows.count)
-
   pub goes_on : (g : Frame) (gs : List Frame) → g ∷ gs ≡ frames_after (role_of (get_or symbols i d) next) (f ∷ fs) → frame_number g ≤ 128 → Follows symbols (i + 1) (g ∷ gs)
   goes_on g gs e l =
       let n : number_of (role_of (get_or symbols i d) next ∷ follows.before) zero true true ≡ frame_number g = number_is ∙ ap (λ (x : List Frame). value x zero true true) (sym e) in
-      let b : nat_lt 128 (number_of (role_of (get_or symbols i d) next ∷ follows.before) zero true true) ≡ false = rw n (not_above 128 (frame_number g) l) in
+      let b : nat_lt 128 (number_of (role_of (get_or symbols i d) next ∷ follows.before) zero true true) ≡ false = rw n (le-ltb 128 (frame_number g) l) in
       record {
         before = role_of (get_or symbols i d) next ∷ follows.before;
         count = let k : length follows.before ≡ i = follows.count in omega arith;
         same = λ closed right prefix. rw e (step_same (role_of (get_or symbols i d) next) follows.before f fs follows.same closed right prefix);
         rest = unfolds ∙ ap (λ (v : Bool). cond v (Some (length follows.before)) (first_deep 128 (role_of (get_or symbols i d) next ∷ follows.before) (drop (i + 1) symbols))) b;
       }
-
-pub none_deep : (symbols : List Symbol) (i : ℕ) (stack : List Frame) → Follows symbols i stack → length symbols ≤ i → None ≡ first_deep 128 [] symbols
-none_deep symbols i stack h l = sym (h.rest ∙ ap (first_deep 128 h.before) (drop_all i symbols l))

@@ -6,7 +6,7 @@ use Rattle.tlsf_syntax.specs.Tree.{Written}
 use Rattle.tlsf_syntax.specs.Lexemes.{Lexeme}
 use Rattle.tlsf_syntax.specs.Texts.{DerivesText, Begins, IsFirstUnexpected, at_lexeme, at_end, UnexpectedIsDetermined}
 
-front_begins : (xs ys : List Lexeme) → Begins (xs ++ ys) → Begins xs
+pub front_begins : (xs ys : List Lexeme) → Begins (xs ++ ys) → Begins xs
 front_begins xs ys b = (ys ++ b.0, b.1, subst (λ ls. DerivesText ls b.1) (append_assoc xs ys b.0) b.2)
 
 take-take_le : (j k : ℕ) (ls : List Lexeme) → j ≤ k → take j (take k ls) ≡ take j ls
@@ -22,10 +22,10 @@ earlier ls j k h = ap (λ xs. xs ++ drop j (take k ls)) (sym (take-take_le j k l
 begins_earlier : (ls : List Lexeme) (j k : ℕ) → j ≤ k → Begins (take k ls) → Begins (take j ls)
 begins_earlier ls j k h b = front_begins (take j ls) (drop j (take k ls)) (subst Begins (sym (earlier ls j k h)) b)
 
-begins_before : (ls : List Lexeme) (j : ℕ) → Begins ls → Begins (take j ls)
+pub begins_before : (ls : List Lexeme) (j : ℕ) → Begins ls → Begins (take j ls)
 begins_before ls j b = front_begins (take j ls) (drop j ls) (subst Begins (sym (take-append-drop j ls)) b)
 
-text_begins : (ls : List Lexeme) (w : Written) → DerivesText ls w → Begins ls
+pub text_begins : (ls : List Lexeme) (w : Written) → DerivesText ls w → Begins ls
 text_begins ls w d = ([], w, subst (λ xs. DerivesText xs w) (sym (append-nil ls)) d)
 
 one : (ls : List Lexeme) (k k' : ℕ) → IsFirstUnexpected ls k → IsFirstUnexpected ls k' → k ≡ k'

@@ -99,9 +99,9 @@ abbrev pub chain_of : Tree → Links → Tree
 chain_of t no_links = t
 chain_of t (link o u more) = chain (from_to (tree_span t).start (links_end (tree_span u).end more)) t (link o u more)
 
-abbrev pub joined : Option Op → Tree → List Lexeme → (List Lexeme → Answer Tree) → Answer Tree
-joined None t rest f = taken t rest
-joined (Some o) t rest f = go_on (f (drop 1 rest)) (λ u after. taken (pair (from_to (tree_span t).start (tree_span u).end) o t u) after)
+abbrev pub joined_by : Option Op → Tree → List Lexeme → (List Lexeme → Answer Tree) → Answer Tree
+joined_by None t rest f = taken t rest
+joined_by (Some o) t rest f = go_on (f (drop 1 rest)) (λ u after. taken (pair (from_to (tree_span t).start (tree_span u).end) o t u) after)
 
 abbrev pub word_with : Readers → Lexeme → List Lexeme → Answer Tree
 word_with r l ls =
@@ -171,8 +171,8 @@ prefix_with r ends n (l ∷ ls) = prefix_by r ends n l.symbol l ls
 abbrev pub level_by : Readers → Bool → Level → Option Level → Joins → List Lexeme → Answer Tree
 level_by r ends m None joins ls = primary_with r ls
 level_by r ends m (Some n) left ls = go_on (r.level ends n ls) (λ t rest. go_on (r.links ends m rest) (λ more after. taken (chain_of t more) after))
-level_by r ends m (Some n) once ls = go_on (r.level ends n ls) (λ t rest. joined (operator_here ends m rest) t rest (r.level ends n))
-level_by r ends m (Some n) right ls = go_on (r.level ends n ls) (λ t rest. joined (operator_here ends m rest) t rest (r.level ends m))
+level_by r ends m (Some n) once ls = go_on (r.level ends n ls) (λ t rest. joined_by (operator_here ends m rest) t rest (r.level ends n))
+level_by r ends m (Some n) right ls = go_on (r.level ends n ls) (λ t rest. joined_by (operator_here ends m rest) t rest (r.level ends m))
 level_by r ends m (Some n) none ls = prefix_with r ends n ls
 
 abbrev pub level_with : Readers → Bool → Level → List Lexeme → Answer Tree

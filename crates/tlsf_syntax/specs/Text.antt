@@ -1,5 +1,5 @@
 -- A whole text as a plain value: its parts, each in one place, and one thing for each of the six sections.
-use Rattle.std.specs.Prelude.{ℕ, Bool, List}
+use Rattle.std.specs.Prelude.{ℕ, Bool, List, []}
 use Rattle.std.specs.declared.alloc.Global.{Global}
 use Rattle.std.specs.declared.vec.Vec.{Vec}
 use Rattle.letter_word.specs.declared.kinds.Kind.{Kind}
@@ -33,3 +33,7 @@ each_section f s =
 -- the list of each section
 abbrev pub section_lists : {A : Type 0} → Sections (Vec A Global) → Sections (List A)
 section_lists s = each_section (λ v. v.items) s
+
+-- no formula in any section
+abbrev pub no_sections : Sections (List Tree)
+no_sections = record { initially = []; preset = []; require = []; assert = []; assume = []; guarantee = [] }

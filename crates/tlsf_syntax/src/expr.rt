@@ -1,4 +1,4 @@
-// Written expressions.
+//! Written expressions.
 
 use text_base::Name;
 

@@ -1,4 +1,4 @@
-// Laws of the grammar, which no code needs.
+//! Laws of the grammar, which no code needs.
 
 ghost use Rattle.tlsf_syntax.specs.Expressions.{SpansAreWhole};
 ghost use Rattle.tlsf_syntax.specs.Reading.{ExpressionsAreReadExactly, ExpressionsHaveOneTree};

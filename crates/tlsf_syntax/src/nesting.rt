@@ -1,4 +1,4 @@
-// Written nesting: how deep a symbol stands, whatever tree it may belong to.
+//! Written nesting: how deep a symbol stands, whatever tree it may belong to.
 
 ghost use Rattle.std.specs.Prelude.{◌≡◌, ◌+◌, ◌<◌, ◌≤◌, ◌↔◌, [], ◌∷◌, reverse, IfOk, IsTrue};
 ghost use Rattle.tlsf_syntax.specs.Nesting.{first_of, first_deep, role_of};
@@ -11,7 +11,7 @@ use tlsf_tokens::Symbol;
 pub const LIMIT: u64 = 128;
 
 /// What a symbol is to written nesting.
-#[derive(Clone, Copy, Debug, PartialEq, Eq)]
+#[derive(Clone, Copy, PartialEq, Eq)]
 pub enum Role {
     Open,
     Close,
@@ -52,7 +52,7 @@ fn role_of(symbol: Symbol, next: Option<Symbol>) -> Role
 }
 
 /// What was counted directly in one bracket, and the number of its opener.
-#[derive(Clone, Copy, Debug, PartialEq, Eq)]
+#[derive(Clone, Copy, PartialEq, Eq)]
 struct Frame {
     /// Operators that bind to the right, since the bracket opened or the last separator in it.
     right: u64,

@@ -1,4 +1,4 @@
-// The six sections of a text.
+//! The six sections of a text.
 
 /// One thing for each section.
 #[derive(Debug, Drop)]

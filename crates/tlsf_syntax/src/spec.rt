@@ -1,4 +1,4 @@
-// A written specification: its parts in the order written.
+//! A written specification: its parts in the order written.
 
 use crate::expr::{Expr, Span, Word};
 use crate::sections::Sections;

@@ -4,7 +4,7 @@ use Rattle.std.proofs.lemmas.List.{drop-drop, length-drop}
 use Rattle.std.proofs.Math.Seq.{drop-cons}
 use Rattle.std.proofs.lemmas.List.Sums.{prefix_len-le-length}
 use Rattle.std.proofs.lemmas.Slice.Eq.{starts_is}
-use Rattle.std.proofs.lemmas.Bool.{eqb-true}
+use Rattle.std.proofs.lemmas.Bool.{eqb-true, and_parts}
 use Rattle.std.proofs.lemmas.Bool.Decides.{Decides-eqb}
 use Rattle.std.specs.List.{prefix_len, list_all, starts_with}
 use Rattle.tlsf_tokens.specs.Pieces.{piece_of, comment_piece}
@@ -12,10 +12,6 @@ use Rattle.tlsf_tokens.specs.Cuts.{longest}
 use Rattle.spec_faults.specs.declared.code.SpecCode.TheVariants.{Unclosed}
 use Rattle.tlsf_tokens.specs.declared.token.Piece.TheVariants.{Gap, Fault}
 use Rattle.tlsf_tokens.proofs.Longest.{longest_is, all-prefix_len, not_all-longer}
-
-and_parts : (x y : Bool) → (x && y) ≡ true → (x ≡ true) × (y ≡ true)
-and_parts true y e = (refl, e)
-and_parts false y e = absurd (cc)
 
 -- a text that begins so is those bytes and what is left
 begins : (text p : List ℕ) → starts_with nat_eq text p ≡ true → text ≡ p ++ drop (length p) text

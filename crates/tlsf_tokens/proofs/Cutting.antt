@@ -18,9 +18,6 @@ pub record HasCut (text : List ℕ) (done : List Token) (at : ℕ) : Type 0 wher
   pub on : (stop : Option SpecCode) (stop_at : ℕ) (rest : List Token) → Cuts text stop stop_at at rest → Cuts text stop stop_at 0 (done ++ rest)
   pub within : at ≤ length text
 
-pub nothing_cut : (text : List ℕ) → HasCut text [] 0
-nothing_cut text = record { on = λ stop stop_at rest cut. cut; within = omega arith }
-
 pub bound : (text : List ℕ) (at : ℕ) (front : Front) → at < length text → longest (drop at text) ≡ Some front → at + front.len ≤ length text
 bound text at front l e = let b : (0 < front.len) × (front.len ≤ length (drop at text)) = longest_bounds (drop at text) front e in omega (arith, length-drop at text)
 
@@ -82,10 +79,6 @@ token_found text done at front symbol h l e p =
 earlier : (from nearer to : ℕ) (tokens : List Token) → from ≤ nearer → IsInOrder nearer tokens to → IsInOrder from tokens to
 earlier from nearer to [] l h = omega arith
 earlier from nearer to (t ∷ ts) l h = let a : from ≤ t.start = omega (arith, h.0) in (a, h.1, h.2)
-
-first_low : (from to : ℕ) (tokens : List Token) → IsInOrder from tokens to → from ≤ to
-first_low from to [] h = h
-first_low from to (t ∷ ts) h = let l : t.end ≤ to = first_low t.end to ts h.2 in omega (arith, h.0, h.1)
 
 pub in_order : (text : List ℕ) (stop : Option SpecCode) (stop_at at : ℕ) (tokens : List Token) → Cuts text stop stop_at at tokens → IsInOrder at tokens stop_at
 in_order text stop stop_at at tokens (ends from e s) = omega arith

@@ -31,18 +31,6 @@ pub longest_is : (text : List ℕ) (n : ℕ) (p : Piece) → 0 < n → n ≤ len
 unfolding longest
 longest_is text n p pos low is none = within_is text n p pos is (length text) low none
 
-within_none : (text : List ℕ) (k : ℕ) → ((m : ℕ) → 0 < m → m ≤ k → piece_of (take m text) ≡ None) → longest_within k text ≡ None
-within_none text zero none = refl
-within_none text (suc k) none =
-    let pos : 0 < suc k = omega arith in
-    let end : suc k ≤ suc k = omega arith in
-    ap (λ (o : Option Piece). longest_or o (suc k) (longest_within k text)) (none (suc k) pos end)
-    ∙ within_none text k (λ m a b. let c : m ≤ suc k = omega arith in none m a c)
-
-pub longest_none : (text : List ℕ) → ((m : ℕ) → 0 < m → m ≤ length text → piece_of (take m text) ≡ None) → longest text ≡ None
-unfolding longest
-longest_none text none = within_none text (length text) none
-
 bounds_or : (o : Option Piece) (k : ℕ) (shorter : Option Front) (f : Front) → ((e : shorter ≡ Some f) → (0 < f.len) × (f.len ≤ k)) → longest_or o (suc k) shorter ≡ Some f
     → (0 < f.len) × (f.len ≤ suc k)
 bounds_or None k shorter f b e = let c : (0 < f.len) × (f.len ≤ k) = b e in (c.0, omega arith)
@@ -114,7 +102,7 @@ run_longest p made b w form =
 first_passes : (p : ℕ → Bool) (b : ℕ) (w : List ℕ) → p b ≡ true → prefix_len p (b ∷ w) ≡ suc (prefix_len p w)
 first_passes p b w e = rw e (omega arith)
 
-name_part : (b : ℕ) → is_name_start b ≡ true → is_name_part b ≡ true
+pub name_part : (b : ℕ) → is_name_start b ≡ true → is_name_part b ≡ true
 name_part b e = rw e refl
 
 pub longest_word : (text : List ℕ) → is_name_start (get_or text 0 0) ≡ true

@@ -1,11 +1,12 @@
 -- Signs: the longest one at the front of a text that begins with nothing else.
-use Rattle.std.proofs.Common.{subst, ◌≡◌, ◌<◌, ◌≤◌, ℕ, zero, suc, ◌+◌, ◌==◌, Bool, true, false, ◌&&◌, nat_le, List, [], ◌∷◌, length, take, get_or, codes, nat_eq, Option, None, Some, refl, sym, ◌∙◌, ap, arith, cond}
+use Rattle.std.proofs.Common.{subst, ◌≡◌, ◌<◌, ◌≤◌, ℕ, zero, suc, ◌+◌, ◌==◌, Bool, true, false, nat_le, List, [], ◌∷◌, length, take, get_or, codes, nat_eq, Option, None, Some, refl, sym, ◌∙◌, ap, arith, cond}
 use Rattle.std.proofs.lemmas.Slice.Eq.{bytes_eq-Decides}
-use Rattle.std.proofs.lemmas.Bool.{leb-true, le-leb, ne_eqb}
+use Rattle.std.proofs.lemmas.Bool.{leb-true, le-leb, ne_eqb, and_parts, false_from_ne_true}
 use Rattle.std.proofs.lemmas.List.{length-take-le}
 use Rattle.std.specs.List.{list_all, starts_with}
 use Rattle.std.specs.Option.{option_or, option_map}
 use Rattle.std.specs.Str.{bytes_eq}
+use mathlib.Core.Bool.{and-false}
 use Rattle.tlsf_tokens.specs.Words.{symbol_in, signs, unsupported_signs}
 use Rattle.tlsf_tokens.specs.Pieces.{piece_of, sign_piece, sign_or, BeginsSign}
 use Rattle.tlsf_tokens.specs.Cuts.{longest, longest_within, longest_or, sign_front}
@@ -15,16 +16,12 @@ use Rattle.tlsf_tokens.specs.declared.token.Piece.TheVariants.{Token, Fault}
 use Rattle.spec_faults.specs.declared.code.SpecCode.TheVariants.{Unsupported}
 use Rattle.tlsf_tokens.proofs.Longest.{longest_is}
 
-and_fails : (x : Bool) → (x && false) ≡ false
-and_fails true = refl
-and_fails false = refl
-
 shorter : (text : List ℕ) (x y : ℕ) (m : ℕ) → starts_with nat_eq text (x ∷ y ∷ []) ≡ false → starts_with nat_eq (take m text) (x ∷ y ∷ []) ≡ false
 shorter text x y zero f = refl
 shorter [] x y (suc m) f = refl
 shorter (b ∷ []) x y (suc zero) f = f
 shorter (b ∷ []) x y (suc (suc m)) f = f
-shorter (b ∷ c ∷ w) x y (suc zero) f = and_fails (nat_eq x b)
+shorter (b ∷ c ∷ w) x y (suc zero) f = and-false (nat_eq x b)
 shorter (b ∷ c ∷ w) x y (suc (suc m)) f = f
 
 sign_form : (x : ℕ) (w : List ℕ) → BeginsSign (x ∷ w) → (m : ℕ) → piece_of (x ∷ take m w) ≡ sign_piece (x ∷ take m w)
@@ -59,20 +56,12 @@ longest_tilde (x ∷ w) b e = let f : x ≡ 126 = e in subst (λ y. BeginsSign (
 
 -- ---- the signs
 
-and_parts : (x y : Bool) → (x && y) ≡ true → (x ≡ true) × (y ≡ true)
-and_parts true y e = (refl, e)
-and_parts false y e = absurd (cc)
-
-not_same : (x : Bool) → (x ≡ true → ⊥) → x ≡ false
-not_same true h = absurd (h refl)
-not_same false h = refl
-
 -- a word that is longer than each of the table isn't in it
 long_word : (n : ℕ) (table : List (List ℕ × Symbol)) (w : List ℕ) → list_all (λ entry. nat_le (length entry.0) n) table ≡ true → n < length w → symbol_in table w ≡ None
 long_word n [] w e l = refl
 long_word n (entry ∷ table) w e l =
     let both : (nat_le (length entry.0) n ≡ true) × (list_all (λ entry. nat_le (length entry.0) n) table ≡ true) = and_parts (nat_le (length entry.0) n) (list_all (λ entry. nat_le (length entry.0) n) table) e in
-    let other : bytes_eq w entry.0 ≡ false = not_same (bytes_eq w entry.0) (λ same. let f : length w ≡ length entry.0 = ap length ((bytes_eq-Decides w entry.0).0 same) in let g : length entry.0 ≤ n = leb-true (length entry.0) n both.0 in omega arith) in
+    let other : bytes_eq w entry.0 ≡ false = false_from_ne_true (bytes_eq w entry.0) (λ same. let f : length w ≡ length entry.0 = ap length ((bytes_eq-Decides w entry.0).0 same) in let g : length entry.0 ≤ n = leb-true (length entry.0) n both.0 in omega arith) in
     rw other (long_word n table w both.1 l)
 
 short_signs : list_all (λ entry. nat_le (length entry.0) 3) signs ≡ true
@@ -97,7 +86,7 @@ long_front text n l = by (nat_le n (length text)) refl
     by false f = refl
 
 past_front : (text : List ℕ) (n : ℕ) → length text < n → sign_front n text ≡ None
-past_front text n l = let e : nat_le n (length text) ≡ false = not_same (nat_le n (length text)) (λ fits. let g : n ≤ length text = leb-true n (length text) fits in omega arith) in rw e refl
+past_front text n l = let e : nat_le n (length text) ≡ false = false_from_ne_true (nat_le n (length text)) (λ fits. let g : n ≤ length text = leb-true n (length text) fits in omega arith) in rw e refl
 
 still : (text : List ℕ) (n : ℕ) → ((m : ℕ) → n < m → sign_front m text ≡ None) → (k : ℕ) → signs_within (k + n) text ≡ signs_within n text
 still text n none zero = let e : 0 + n ≡ n = omega arith in ap (λ m. signs_within m text) e

@@ -1,4 +1,4 @@
-// Cutting a text: one pass, in which the longest piece at each place is taken.
+//! Cutting a text: one pass, in which the longest piece at each place is taken.
 
 ghost use Rattle.std.specs.Prelude.{◌≡◌, ◌<◌, ◌+◌, ◌==◌, ◌&&◌, true, not, length, slice_index, codes, IfOk, IsNone, ◌↔◌, nat_eq, Some};
 ghost use Rattle.std.specs.Char.{is_ascii_digit};

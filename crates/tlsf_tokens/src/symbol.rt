@@ -1,4 +1,4 @@
-// What a token is.
+//! What a token is.
 
 /// One of the six sections, whatever its spelling.
 #[derive(Clone, Copy, Debug, PartialEq, Eq)]

@@ -1,4 +1,4 @@
-// What a text is cut into.
+//! What a text is cut into.
 
 use crate::symbol::Symbol;
 use spec_faults::SpecCode;

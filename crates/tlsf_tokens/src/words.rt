@@ -1,4 +1,4 @@
-// The words and signs of TLSF, and the classes of bytes that they are made of.
+//! The words and signs of TLSF, and the classes of bytes that they are made of.
 
 ghost use Rattle.std.specs.Prelude.{◌≡◌, map};
 ghost use Rattle.std.specs.List.{find, list_any};

@@ -8,6 +8,7 @@ use Rattle.std.specs.Ordering.{int_cmp, int_eq, is_eq}
 use Rattle.std.proofs.lemmas.Int.{ints}
 use Rattle.std.proofs.lemmas.Grind.{common_steps}
 use Rattle.std.proofs.lemmas.List.{append_assoc}
+use Rattle.std.proofs.lemmas.Bool.{or_right}
 use Rattle.tlsf_values.specs.declared.set_operation.SetOperation.{SetOperation}
 use Rattle.tlsf_values.specs.declared.set_operation.SetOperation.TheVariants.{Join, Meet, Difference}
 use Rattle.tlsf_values.specs.SetOperations.{behind, combined, first_of, is_first, keeps}
@@ -80,11 +81,7 @@ keeps-first o a b true p q f g = rw (f refl, g refl) (by o a b)
 
 above-all : (z : ℤ) (ys : List ℤ) → ((w : ℤ) → is_in ys w ≡ true → int_cmp z w ≡ Less) → Above z ys
 above-all z [] f = tt
-above-all z (y ∷ ys) f = (f y (ap (λ b. b || is_in ys y) (eq-self y)), above-all z ys (λ w h. f w (later (int_eq w y) (is_in ys w) h)))
-  where
-    later : (b c : Bool) → c ≡ true → (b || c) ≡ true
-    later true c h = refl
-    later false c h = h
+above-all z (y ∷ ys) f = (f y (ap (λ b. b || is_in ys y) (eq-self y)), above-all z ys (λ w h. f w (or_right (int_eq w y) (is_in ys w) h)))
 
 above-combined : (o : SetOperation) (z : ℤ) (xs ys : List ℤ) → Above z xs → Above z ys → Above z (combined o xs ys)
 above-combined o z xs ys a b = above-all z (combined o xs ys) (λ w h. by w o (is_in xs w) (is_in ys w) refl refl (sym (is_in-combined o xs ys w) ∙ h))

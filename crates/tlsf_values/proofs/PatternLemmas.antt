@@ -39,7 +39,7 @@ values_fault place first ps qs so_far w e h = subst (λ o. IsFault o e) (sym (va
 
 -- ---- members in their order
 
-seen_from : (members : List Member) (i : ℕ) (m : Member) → i < length members → m ≡ get_or members i m →
+pub seen_from : (members : List Member) (i : ℕ) (m : Member) → i < length members → m ≡ get_or members i m →
     all_values (map member_seen (drop i members)) ≡ map pattern_seen m.values.items ++ all_values (map member_seen (drop (i + 1) members))
 seen_from members i m below is = at_drop_more (λ ms. all_values (map member_seen ms)) members i m below ∙ ap (λ x. all_values (map member_seen (x ∷ drop (i + 1) members))) (sym is)
 

@@ -1,6 +1,5 @@
 -- Where an expression begins, its forms that have a list of parts, and how many parts there are.
 use Rattle.std.proofs.Common.{◌≡◌, suc, List, [], ◌∷◌, length, refl, ap, ◌∙◌, Vec, Box, Global}
-use Rattle.tlsf_syntax.specs.declared.expr.Span.{Span}
 use Rattle.tlsf_syntax.specs.declared.expr.Word.{Word}
 use Rattle.tlsf_syntax.specs.declared.expr.Expr.{Expr}
 use Rattle.tlsf_syntax.specs.declared.expr.Link.{Link}
@@ -10,25 +9,8 @@ use Rattle.tlsf_syntax.specs.declared.expr.Form as form
 use Rattle.tlsf_syntax.specs.Tree as plain
 use Rattle.tlsf_syntax.specs.Tree.{tree_span}
 use Rattle.tlsf_syntax.specs.Seen.{form_seen, expr_seen, word_seen, trees_seen, link_list_seen, range_list_seen}
-use Rattle.tlsf_syntax.proofs.Seen.{call_seen, set_seen, chain_seen, big_seen}
+use Rattle.tlsf_syntax.proofs.Seen.{call_seen, set_seen, chain_seen, big_seen, span_seen}
 use Rattle.tlsf_values.specs.Values.{tree_count}
-
-pub span_seen : (s : Span) (f : form.Form) → tree_span (form_seen s f) ≡ s
-span_seen s (form.Number n) = refl
-span_seen s (form.Truth b) = refl
-span_seen s (form.Named name) = refl
-span_seen s (form.Call' w shape row) = refl
-span_seen s (form.Index' w p t f) = refl
-span_seen s (form.SizeOf' p t f) = refl
-span_seen s (form.Paren' p t f) = refl
-span_seen s (form.Set' shape row) = refl
-span_seen s (form.Steps' p t f q u g r v h) = refl
-span_seen s (form.Chain' p t f shape row) = refl
-span_seen s (form.Pair' o p t f q u g) = refl
-span_seen s (form.Prefix' o p t f) = refl
-span_seen s (form.Count' p t f q u g) = refl
-span_seen s (form.Window' o p t f q u g r v h) = refl
-span_seen s (form.Big' o shape row p t f) = refl
 
 -- where an expression begins
 pub start_seen : (e : Expr) → (tree_span (form_seen e.span e.form)).start ≡ e.span.start

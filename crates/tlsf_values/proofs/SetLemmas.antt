@@ -13,6 +13,7 @@ use Rattle.std.proofs.lemmas.List.Kept.{Contains-dedup, Contains-from_dedup, IsS
 use Rattle.std.proofs.lemmas.List.Sorted.{list_any-IsPermutation}
 use Rattle.std.proofs.lemmas.Map.Keys.{Less-from_sorted}
 use Rattle.std.proofs.lemmas.Map.Views.{Contains-from_any, list_any-from_Contains}
+use Rattle.std.specs.Cmp.{both_ways}
 use Rattle.tlsf_values.specs.Sets.{is_in, set_of}
 use Rattle.tlsf_values.proofs.RisingLemmas.{Rises, rises-set_of, same_number, set_of_same}
 
@@ -22,11 +23,6 @@ rises_from xs is = subst Rises is (rises-set_of xs)
 
 pub is_set_of : (xs : List ℤ) → Rises xs → set_of xs ≡ xs
 is_set_of xs rises = set_of_same xs xs rises (λ z. refl)
-
-both_ways : (a b : Bool) → (a ≡ true → b ≡ true) → (b ≡ true → a ≡ true) → a ≡ b
-both_ways true b f g = sym (f refl)
-both_ways false true f g = g refl
-both_ways false false f g = refl
 
 pub is_in-dedup : (xs : List ℤ) (z : ℤ) → is_in (dedup int_eq xs) z ≡ is_in xs z
 is_in-dedup xs z =

@@ -1,4 +1,4 @@
-// Operators whose operands may be buses and members of enumerations, and all operators with two operands.
+//! Operators whose operands may be buses and members of enumerations, and all operators with two operands.
 
 ghost use Rattle.ltl_formula.specs.Nodes.{Grows};
 ghost use Rattle.tlsf_values.specs.NamesSeen.{names_seen};
@@ -11,9 +11,9 @@ use crate::names::Names;
 use crate::numbers::{Arithmetic, Comparison, Places};
 use crate::set_operation::SetOperation;
 use crate::value::Value;
-use crate::work::{Work, fault};
+use crate::work::Work;
 use ltl_formula::FormulaId;
-use spec_faults::{SpecCode, SpecFault};
+use spec_faults::{SpecCode, SpecFault, fault};
 use tlsf_syntax::Op;
 
 impl<'t> Names<'t> {

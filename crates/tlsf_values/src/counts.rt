@@ -1,4 +1,4 @@
-// Counted forms: an X that is repeated, and windows.
+//! Counted forms: an X that is repeated, and windows.
 
 ghost use Rattle.std.specs.Prelude.{◌≡◌, ◌≤◌, ◌-◌, IsTrue};
 ghost use Rattle.ltl_formula.specs.Nodes.{Grows};
@@ -9,9 +9,9 @@ ghost use Rattle.tlsf_values.specs.Sorts.{formula_in, number_in};
 
 use crate::formula::{Connective, Formula, Pairing, truth_as_node};
 use crate::value::{Operand, Value};
-use crate::work::{Work, fault};
+use crate::work::Work;
 use ltl_formula::{FormulaId, Node};
-use spec_faults::{SpecCode, SpecFault};
+use spec_faults::{SpecCode, SpecFault, fault};
 use tlsf_syntax::Op;
 
 /// A count, which isn't negative, at this byte.

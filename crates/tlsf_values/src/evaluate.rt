@@ -1,4 +1,4 @@
-// The value of an expression, form by form: numbers, truths, names, calls, and what stands for its one part.
+//! The value of an expression, form by form: numbers, truths, names, calls, and what stands for its one part.
 
 ghost use Rattle.std.specs.Prelude.{◌≡◌, OnOk, length, map, []};
 ghost use Rattle.ltl_formula.specs.Nodes.{Grows};
@@ -15,8 +15,8 @@ use crate::number_set::NumberSet;
 use crate::patterns::BusRange;
 use crate::scope::{BodyOf, Meaning, Scope};
 use crate::value::Value;
-use crate::work::{Work, fault};
-use spec_faults::{SpecCode, SpecFault};
+use crate::work::Work;
+use spec_faults::{SpecCode, SpecFault, fault};
 use tlsf_syntax::{Alternative, Expr, Form, Word};
 
 impl<'t> Names<'t> {

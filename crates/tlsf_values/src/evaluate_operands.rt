@@ -1,4 +1,4 @@
-// The value of an expression with several operands, which are evaluated from left to right before any is tested.
+//! The value of an expression with several operands, which are evaluated from left to right before any is tested.
 
 ghost use Rattle.std.specs.Prelude.{◌≡◌, ◌+◌, List, IfErr, IfOk, OnOk, drop, length, map, reverse, []};
 ghost use Rattle.tlsf_syntax.specs.declared.expr.Range.{Range as TreeRange};
@@ -22,8 +22,8 @@ use crate::numbers::Places;
 use crate::scope::Scope;
 use crate::steps::add_part;
 use crate::value::{Operand, Value};
-use crate::work::{Work, fault};
-use spec_faults::{SpecCode, SpecFault};
+use crate::work::Work;
+use spec_faults::{SpecCode, SpecFault, fault};
 use tlsf_syntax::{Expr, Link, Op, Range};
 
 impl<'t> Names<'t> {

@@ -1,4 +1,4 @@
-// What may stand where a formula is needed, and operators over it.
+//! What may stand where a formula is needed, and operators over it.
 
 ghost use Rattle.std.specs.Prelude.{◌≡◌};
 ghost use Rattle.ltl_formula.specs.Nodes.{Grows};

@@ -1,5 +1,5 @@
-// The ranges of a big operator that are gone over, one inside the other. What is left of each stands in a list, so that the depth of
-// calls doesn't grow with the number of ranges.
+//! The ranges of a big operator that are gone over, one inside the other. What is left of each stands in a list, so that the depth of
+//! calls doesn't grow with the number of ranges.
 
 ghost use Rattle.std.specs.Prelude.{◌≡◌, ◌+◌, ◌≤◌, ◌^◌, ◌∷◌, [], List, Some, None, IfErr, IfOk, IfSome, OnOk, drop, length, reverse};
 ghost use Rattle.ltl_formula.specs.Nodes.{Grows};

@@ -1,4 +1,4 @@
-// What a big operator goes over.
+//! What a big operator goes over.
 
 ghost use Rattle.std.specs.Prelude.{◌≡◌, ◌≤◌, ◌^◌, IfOk, length};
 ghost use Rattle.tlsf_values.specs.MembersSeen.{IsNext, listed_seen, members_seen, run_seen};

@@ -1,4 +1,4 @@
-// What the names of a text mean, found through a map that is made once.
+//! What the names of a text mean, found through a map that is made once.
 
 ghost use Rattle.std.specs.Prelude.{◌≡◌, IfOk, OnOk, Some, map};
 ghost use Rattle.tlsf_syntax.specs.Seen.{definition_seen, member_seen, pattern_seen};

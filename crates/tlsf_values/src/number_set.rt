@@ -1,4 +1,4 @@
-// Sets of numbers.
+//! Sets of numbers.
 
 ghost use Rattle.std.specs.Prelude.{◌≡◌, IfOk};
 ghost use Rattle.tlsf_values.specs.SetOperations.{combined};

@@ -1,12 +1,11 @@
-// Operations and comparisons of numbers.
+//! Operations and comparisons of numbers.
 
 ghost use Rattle.std.specs.Prelude.{◌≡◌, ◌+ℤ◌, ◌-ℤ◌, ◌*ℤ◌, ℤ, FitsSigned, SomeIff};
 ghost use Rattle.std.specs.Int.{w64};
 ghost use Rattle.tlsf_values.specs.Numbers.{computed, divided, holds_of, in_range};
 ghost use Rattle.tlsf_values.specs.Results.{IsChecked};
 
-use crate::work::fault;
-use spec_faults::{SpecCode, SpecFault};
+use spec_faults::{SpecCode, SpecFault, fault};
 
 /// An operation on two numbers.
 #[derive(Clone, Copy, Debug, PartialEq, Eq)]

@@ -1,4 +1,4 @@
-// Operators on values, each once its operands are evaluated.
+//! Operators on values, each once its operands are evaluated.
 
 ghost use Rattle.ltl_formula.specs.Nodes.{Grows};
 ghost use Rattle.tlsf_values.specs.Operators.{arithmetic, compared, denied, element, on_connective, on_pairing, on_sets, prefixed, signed};
@@ -8,8 +8,8 @@ use crate::formula::{Connective, Pairing, Sign};
 use crate::numbers::{Arithmetic, Comparison, Places};
 use crate::set_operation::SetOperation;
 use crate::value::Value;
-use crate::work::{Work, fault};
-use spec_faults::{SpecCode, SpecFault};
+use crate::work::Work;
+use spec_faults::{SpecCode, SpecFault, fault};
 use std::alloc::Global;
 use tlsf_syntax::Op;
 

@@ -1,4 +1,4 @@
-// A bus compared with a member of an enumeration.
+//! A bus compared with a member of an enumeration.
 
 ghost use Rattle.std.specs.Prelude.{◌≡◌, map};
 ghost use Rattle.ltl_formula.specs.Nodes.{Grows};
@@ -9,13 +9,13 @@ ghost use Rattle.tlsf_values.specs.declared.formula.Formula.TheVariants.{Flat};
 
 use crate::formula::{Pairing, truth_as_node};
 use crate::numbers::Places;
-use crate::work::{Work, fault};
+use crate::work::Work;
 use ltl_formula::{FormulaId, Node};
-use spec_faults::{SpecCode, SpecFault};
+use spec_faults::{SpecCode, SpecFault, fault};
 use tlsf_syntax::{Member, Pattern};
 
 /// A bus, by its first signal and its width.
-#[derive(Clone, Copy, Debug, PartialEq, Eq)]
+#[derive(Clone, Copy, PartialEq, Eq)]
 pub(crate) struct BusRange {
     pub(crate) first: u32,
     pub(crate) width: u32,

@@ -1,4 +1,4 @@
-// Bound names, and what a name means where they hide others.
+//! Bound names, and what a name means where they hide others.
 
 ghost use Rattle.std.specs.Prelude.{◌≡◌, ◌∷◌, [], IfOk, OnOk, drop, find};
 ghost use Rattle.std.specs.Option.{option_map};

@@ -1,4 +1,4 @@
-// The formulas of a section of a text, in one evaluation.
+//! The formulas of a section of a text, in one evaluation.
 
 ghost use Rattle.std.specs.Prelude.{◌≡◌, [], map};
 ghost use Rattle.ltl_formula.specs.Nodes.{Grows};

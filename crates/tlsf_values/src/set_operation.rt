@@ -1,4 +1,4 @@
-// The operators of sets.
+//! The operators of sets.
 
 ghost use Rattle.std.specs.Prelude.{◌≡◌, IfOk};
 ghost use Rattle.tlsf_values.specs.SetOperations.{behind, combined, first_of, is_first, keeps};

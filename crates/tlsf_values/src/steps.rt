@@ -1,4 +1,4 @@
-// Sets as they are written, once their parts are evaluated.
+//! Sets as they are written, once their parts are evaluated.
 
 ghost use Rattle.std.specs.Prelude.{◌≡◌, ◌+ℤ◌, ◌-ℤ◌, ◌<◌, ◌^◌, false, pos, unsigned_abs, FitsSigned, IfOk};
 ghost use Rattle.std.proofs.Common.{w64};
@@ -13,8 +13,8 @@ ghost use Rattle.tlsf_values.specs.PartsSeen.{parts_seen, with_part};
 
 use crate::number_set::NumberSet;
 use crate::value::{Operand, Value};
-use crate::work::{Work, fault};
-use spec_faults::{SpecCode, SpecFault};
+use crate::work::Work;
+use spec_faults::{SpecCode, SpecFault, fault};
 use std::alloc::{AllocError, Global};
 
 /// Adds the value of a written set's part to the numbers of those before it; or gives the first byte of the first part that isn't a

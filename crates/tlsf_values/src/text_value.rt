@@ -1,4 +1,4 @@
-// The public call: the value of an expression of a text.
+//! The public call: the value of an expression of a text.
 
 ghost use Rattle.std.specs.Prelude.{◌≡◌, ◌+◌, IfOk, OnErr, OnOk, [], map, reverse, take};
 ghost use Rattle.ltl_formula.specs.Nodes.{Grows, Stands};

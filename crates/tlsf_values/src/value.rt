@@ -1,4 +1,4 @@
-// What an expression evaluates to.
+//! What an expression evaluates to.
 
 ghost use Rattle.std.specs.Prelude.{◌≡◌};
 ghost use Rattle.tlsf_values.specs.Results.{IsChecked, IsCheckedSeen};
@@ -6,9 +6,8 @@ ghost use Rattle.tlsf_values.specs.Sorts.{bus_in, formula_in, formula_value, num
 
 use crate::formula::Formula;
 use crate::number_set::NumberSet;
-use crate::work::fault;
 use ltl_formula::FormulaId;
-use spec_faults::{SpecCode, SpecFault};
+use spec_faults::{SpecCode, SpecFault, fault};
 use std::alloc::AllocError;
 
 /// The value of an expression, by its sort.

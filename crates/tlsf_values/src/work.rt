@@ -1,12 +1,11 @@
-// What an evaluation adds to, and how much of it there may be.
+//! What an evaluation adds to, and how much of it there may be.
 
-ghost use Rattle.std.specs.Prelude.{◌≡◌};
 ghost use Rattle.ltl_formula.specs.Nodes.{Grows};
 ghost use Rattle.tlsf_values.specs.Outcomes.{counted, made};
 ghost use Rattle.tlsf_values.specs.Results.{IsOutcome};
 
 use ltl_formula::{AddFault, FormulaId, Formulas, Node};
-use spec_faults::{SpecCode, SpecFault};
+use spec_faults::{SpecCode, SpecFault, fault};
 
 /// How many evaluations there are at most.
 pub const MOST_EVALUATIONS: u64 = 1_000_000;
@@ -60,11 +59,4 @@ impl Work {
             Err(_) => Err(fault(SpecCode::WrongSort, place)),
         }
     }
-}
-
-/// The refusal of a text with this fault at this byte.
-pub(crate) fn fault(code: SpecCode, place: u64) -> SpecFault
-    ensures { result ≡ SpecFault.At code place }
-{
-    SpecFault::At { code, place }
 }

@@ -25,7 +25,7 @@ fn push_changed<R: Threads + Wait + Sync>(
 }
 
 /// What comes of a run with each front of whole lines of a file.
-pub fn push_fronts<R: Threads + Wait + Sync>(
+pub(crate) fn push_fronts<R: Threads + Wait + Sync>(
     rt: &R,
     alloc: Global,
     files: &mut Vec<File>,
@@ -62,7 +62,7 @@ pub fn push_cut<R: Threads + Wait + Sync>(
 }
 
 /// What comes of a run with a file that has blanks at its end, up to so many bytes.
-pub fn push_padded<R: Threads + Wait + Sync>(
+pub(crate) fn push_padded<R: Threads + Wait + Sync>(
     rt: &R,
     alloc: Global,
     files: &mut Vec<File>,

@@ -8,7 +8,7 @@ use std::sync::Wait;
 use std::thread::Threads;
 
 /// Keeps the documents within what is written as files of this name and their numbers from 1, and tells what stands around them.
-pub fn push_outline<R: Threads + Wait + Sync>(
+pub(crate) fn push_outline<R: Threads + Wait + Sync>(
     rt: &R,
     alloc: Global,
     files: &mut Vec<File>,
@@ -98,7 +98,7 @@ pub fn push_shown(
 }
 
 /// The lines of a file that have a letter, so not those of latches, outputs, gates and entries.
-pub fn push_frame(
+pub(crate) fn push_frame(
     alloc: Global,
     files: &[File],
     name: &str,

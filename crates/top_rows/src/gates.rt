@@ -49,7 +49,7 @@ fn run_gated<R: Threads + Wait + Sync>(
 }
 
 /// The verdict of a run whose workers pass a gate that holds one of them back, and whether they met there.
-pub fn push_met<R: Threads + Wait + Sync>(
+pub(crate) fn push_met<R: Threads + Wait + Sync>(
     rt: &R,
     alloc: Global,
     files: &[File],
@@ -66,7 +66,7 @@ pub fn push_met<R: Threads + Wait + Sync>(
 }
 
 /// What comes of a run whose workers pass a gate that holds one of them back.
-pub fn push_held<R: Threads + Wait + Sync>(
+pub(crate) fn push_held<R: Threads + Wait + Sync>(
     rt: &R,
     alloc: Global,
     files: &[File],
@@ -103,7 +103,7 @@ fn is_shared(written: &[u8]) -> bool {
 }
 
 /// The verdict of a run whose workers pass a gate on one log, with whether its entries are of two workers.
-pub fn push_shared<R: Threads + Wait + Sync>(
+pub(crate) fn push_shared<R: Threads + Wait + Sync>(
     rt: &R,
     alloc: Global,
     files: &[File],

@@ -23,7 +23,7 @@ impl File {
         })
     }
 
-    pub fn has_name(&self, name: &str) -> bool {
+    pub(crate) fn has_name(&self, name: &str) -> bool {
         self.name.as_str() == name
     }
 
@@ -53,7 +53,7 @@ pub struct Ended {
 }
 
 /// Runs the program on words, with a blank between them, over the files. Of files of one name the last counts.
-pub fn run_on<R: Threads + Wait + Sync>(
+pub(crate) fn run_on<R: Threads + Wait + Sync>(
     rt: &R,
     alloc: Global,
     words: &str,
@@ -64,7 +64,7 @@ pub fn run_on<R: Threads + Wait + Sync>(
 }
 
 /// The same, with a gate that workers pass.
-pub fn run_through<R: Threads + Wait + Sync>(
+pub(crate) fn run_through<R: Threads + Wait + Sync>(
     rt: &R,
     alloc: Global,
     words: &str,

@@ -11,13 +11,17 @@ pub fn numbered(text: &str) -> anyhow::Result<(u64, &str)> {
 }
 
 /// The status of a run.
-pub fn push_status(alloc: Global, status: u8, out: &mut Vec<u8>) -> Result<(), AllocError> {
+pub(crate) fn push_status(alloc: Global, status: u8, out: &mut Vec<u8>) -> Result<(), AllocError> {
     let line = format!(in alloc; "status {status}\n")?;
     out.extend_from_slice(line.as_bytes())
 }
 
 /// The status of a run, and what was written.
-pub fn push_ended(alloc: Global, ended: &Ended, out: &mut Vec<u8>) -> Result<(), AllocError> {
+pub(crate) fn push_ended(
+    alloc: Global,
+    ended: &Ended,
+    out: &mut Vec<u8>,
+) -> Result<(), AllocError> {
     push_status(alloc, ended.status, out)?;
     out.extend_from_slice(&ended.written)
 }

@@ -197,9 +197,6 @@ module _ (lits : List Literal) (spans : List Span) (k : ℕ) (s : Span) (at : sl
   here : get_or spans k s ≡ s
   here = get_or_from_slice_get spans k s s at
 
-  part_there : (d : List Literal) → get_or (parts_at lits spans) k d ≡ part_at lits s
-  part_there d = get_or-map (part_at lits) spans k s d low ∙ ap (part_at lits) here
-
   pub parts_set : (i : ℕ) (y : Literal) → i < s.end - s.start → AreSpans (length lits) spans → parts_at (set lits (s.start + i) y) spans ≡ set (parts_at lits spans) k (set (part_at lits s) i y)
   parts_set i y lt h =
       same_lists (parts_at (set lits (s.start + i) y) spans) (set (parts_at lits spans) k (set (part_at lits s) i y))

@@ -1,5 +1,5 @@
 -- Going back to a level.
-use Rattle.std.proofs.Common.{◌≡◌, ℕ, ◌<◌, ◌≤◌, min, Bool, true, false, List, [], ◌++◌, Some, filter, nat_le, slice_get, length, Contains, refl, sym, subst, ap, ◌∙◌, arith}
+use Rattle.std.proofs.Common.{◌≡◌, ℕ, ◌<◌, ◌≤◌, min, Bool, true, false, List, ◌++◌, Some, filter, nat_le, slice_get, length, Contains, refl, sym, subst, ap, ◌∙◌, arith}
 use borrow.Author.Tests.{leb-true, leb-false}
 use Rattle.clause_base.specs.Literal.{Literal}
 use Rattle.clause_base.proofs.Members.{Contains-filter, filter-Contains}
@@ -42,13 +42,3 @@ IsKept-back s after level kept vars is prefix low k = record {
         let lm : m.level ≤ level = leb-true m.level level in_after.1 in
         let ln : n.0.level ≤ m.level = n.3 small in
         (n.0, stays n.0 n.1 (omega arith), n.2, λ _. ln)
-
-pub IsKept-clear : (s : Propagator) (after : MarkList) → after.vars ≡ s.marks.vars → after.marks ≡ [] → IsKept s → IsKept (record s { marks = after; place = 0; kept = 0; done = 0 })
-IsKept-clear s after vars is k = record {
-  listed = rw vars k.listed;
-  guarded = λ j c l at is i m lt. absurd (omega arith);
-  done = λ j u l lt. absurd (omega arith);
-  place = omega arith;
-  kept = omega arith;
-  forced = omega arith;
-}

@@ -14,7 +14,7 @@ use Rattle.unit_propagate.specs.Watched.{IsWatching, IsWatchOf}
 use Rattle.unit_propagate.specs.Watches.{WatchList, IsDone}
 use Rattle.unit_propagate.specs.Propagator.{IsKept, Goes, AreForced, AreUnitsTrue}
 use Rattle.unit_propagate.proofs.Places.{All-slice_get, slice_get-Contains, All-from_contains}
-use Rattle.unit_propagate.proofs.TrailLemmas.{highest_above, mark-of, literal-of}
+use Rattle.unit_propagate.proofs.TrailLemmas.{highest_above, mark-of}
 use Rattle.unit_propagate.proofs.PropagatorLemmas.{falsified_at, reason_at}
 
 -- a clause whose literals are all the same has one
@@ -52,12 +52,6 @@ module _ (clauses : List (List Literal)) (s : Propagator) (k : ℕ) (l : Literal
       let c = w k (l ∷ []) at in
       reason_at clauses (literals_of s.marks.marks) k c.0 l c.1 (one_there c.0 l c.2)
       (All-from_contains (λ x. x ≢ l → Contains (literals_of s.marks.marks) (negated x)) c.0 (λ x there n. absurd (n (one_only c.0 l x c.2 there))))
-
--- those that were true on level 0 are true
-pub forced_before : (s : Propagator) → IsKept s → AreForced s s.done
-forced_before s k j u l lt at there =
-    let m = k.done j u l lt at there in
-    subst (Contains (literals_of s.marks.marks)) m.2 (literal-of s.marks.marks m.0 m.1)
 
 -- all are true, so each clause of one literal is
 pub forced_all : (s : Propagator) (i : ℕ) → IsKept s → AreForced s i → length s.watches.units ≤ i → AreUnitsTrue s

@@ -1,6 +1,6 @@
 -- Elements of lists by their places.
 use Rattle.std.proofs.Common.{◌≡◌, ◌≢◌, ℕ, suc, zero, ◌+◌, ◌-◌, ◌<◌, ◌≤◌, ◌⊎◌, inl, inr, List, [], ◌∷◌, ◌++◌, Some, take, drop, set, get_or, slice_get, replicate, length, length-append, Contains, All, refl, subst, ap, ◌∙◌, arith}
-use Rattle.std.specs.Prelude.{AllPairs, Result, Ok, Err, OnOk, OnErr}
+use Rattle.std.specs.Prelude.{AllPairs, Result, Ok, Err, OnErr}
 use Rattle.std.proofs.lemmas.List.{get_or_append_left, get_or-set_same, length-set, length_push, get_or_push, take_all}
 use Rattle.std.proofs.lemmas.List.Elements.{Contains-get_or, Contains-append_left, Contains-append_right}
 use Rattle.std.proofs.lemmas.Option.{slice_get_within, slice_get-get_or, get_or_from_slice_get}
@@ -77,10 +77,6 @@ slice_get-replicate (suc n) y (suc i) x h = slice_get-replicate n y i x h
 pub on_err : {T E Q : Type 0} (r : Result T E) → Q → OnErr r Q
 on_err (Ok x) q = tt
 on_err (Err e) q = q
-
-pub on_ok : {T E Q : Type 0} (r : Result T E) → Q → OnOk r Q
-on_ok (Ok x) q = q
-on_ok (Err e) q = tt
 
 -- what holds of each contained element holds of all
 pub All-from_contains : {X : Type 0} (P : X → Type 0) (xs : List X) → ((x : X) → Contains xs x → P x) → All P xs

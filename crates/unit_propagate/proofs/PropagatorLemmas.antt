@@ -99,9 +99,6 @@ IsKept-push s m after e k = subst (λ ms. IsKept (record s { marks = ms })) (sym
         let h = g i x l (sym (slice_get-front s.marks.marks (m ∷ []) i (let p : s.place ≤ length s.marks.marks = k.place in omega arith)) ∙ at) is in
         (h.0, Contains-append_left s.marks.marks (m ∷ []) h.0 h.1, h.2, h.3)
 
-pub Goes-same : (clauses : List (List Literal)) (s : Propagator) → IsKept s → IsWatching clauses s.watches.watched → Goes clauses s s
-Goes-same clauses s k w = record { kept = k; watching = w; vars = refl; extends = λ first x. x; size = omega arith }
-
 pub Goes-trans : (clauses : List (List Literal)) (a b c : Propagator) → Goes clauses a b → Goes clauses b c → Goes clauses a c
 Goes-trans clauses a b c p q = record {
   kept = q.kept;

@@ -64,9 +64,6 @@ cut_out xs ys zs from to end behind le lt e b copied cut =
     ∙ take-paste xs from (drop to xs) behind (omega arith) (omega arith) ∙ ap (λ ds. take from xs ++ ds) (take_all behind (drop to xs) (omega arith))
 
 -- ---- lists that only grow
-pub RowsGrow-same : (rows : List (List Watcher)) → RowsGrow rows rows
-RowsGrow-same rows = record { size = refl; stays = λ row k h. h }
-
 pub RowsGrow-trans : (a b c : List (List Watcher)) → RowsGrow a b → RowsGrow b c → RowsGrow a c
 RowsGrow-trans a b c p q = record { size = q.size ∙ p.size; stays = λ row k h. q.stays row k (p.stays row k h) }
 

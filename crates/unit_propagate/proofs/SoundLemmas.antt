@@ -1,5 +1,5 @@
 -- A sound trail stays sound when propagation extends it.
-use Rattle.std.proofs.Common.{◌≡◌, ◌≢◌, ℕ, ◌+◌, ◌-◌, ◌<◌, ◌≤◌, List, [], ◌++◌, ◌⊎◌, inl, inr, Some, take, get_or, slice_get, length, length-append, Contains, All, refl, sym, subst, ap, ◌∙◌, arith}
+use Rattle.std.proofs.Common.{◌≡◌, ◌≢◌, ℕ, ◌+◌, ◌-◌, ◌<◌, ◌≤◌, List, [], ◌++◌, inl, inr, Some, take, get_or, slice_get, length, length-append, Contains, All, refl, sym, subst, ap, ◌∙◌, arith}
 use Rattle.std.specs.Prelude.{AllPairs}
 use Rattle.std.proofs.lemmas.List.{append-nil, get_or_append_left, get_or-append_right}
 use Rattle.std.proofs.lemmas.List.Elements.{All-nil, All-append, All-map}
@@ -27,19 +27,16 @@ Extends-same clauses marks = record {
   reasons = λ i m low at. absurd (let lt : i < length marks = slice_get_within marks i m at in omega arith);
 }
 
-old_or_new : (i n : ℕ) → (i < n) ⊎ (n ≤ i)
-old_or_new i n = cases_lt i n
-
 rising : (old added : List Mark) → AllPairs (λ m n. m.level ≤ n.level) old → All (λ m. m.level ≡ highest_level old) added → AllPairs (λ m n. m.level ≤ n.level) (old ++ added)
 rising old added up level i j d lt high =
-    elim (old_or_new j (length old)) [
+    elim (cases_lt j (length old)) [
       | inl low ↦
           let a = get_or_append_left old added d i (omega arith) in
           let b = get_or_append_left old added d j low in
           subst (λ (x : Mark). x.level ≤ (get_or (old ++ added) j d).level) (sym a) (subst (λ (y : Mark). (get_or old i d).level ≤ y.level) (sym b) (up i j d lt low))
       | inr past ↦
           let e : (get_or (old ++ added) j d).level ≡ highest_level old = at_new j past high in
-          let f : (get_or (old ++ added) i d).level ≤ highest_level old = elim (old_or_new i (length old)) [
+          let f : (get_or (old ++ added) i d).level ≤ highest_level old = elim (cases_lt i (length old)) [
             | inl low ↦ subst (λ (x : Mark). x.level ≤ highest_level old) (sym (get_or_append_left old added d i low)) (highest_above old i d low)
             | inr p ↦ let g : (get_or (old ++ added) i d).level ≡ highest_level old = at_new i p (omega arith) in omega arith
           ] in
@@ -54,13 +51,13 @@ rising old added up level i j d lt high =
 pub IsSound-extends : (clauses : List (List Literal)) (old new : List Mark) → Extends clauses old new → IsSound clauses old → IsSound clauses new
 IsSound-extends clauses old new x s = subst (IsSound clauses) (sym x.grown) (record {
   rising = rising old x.added s.rising x.level;
-  assumed = λ i m at none. elim (old_or_new i (length old)) [
+  assumed = λ i m at none. elim (cases_lt i (length old)) [
     | inl low ↦
         let a = s.assumed i m (sym (slice_get-front old x.added i low) ∙ at) none in
         (a.0, subst (All (λ n. n.level ≢ m.level)) (sym (take-append i old x.added (omega arith))) a.1)
     | inr past ↦ absurd (let r = x.reasons i m past (ap (λ ms. slice_get ms i) x.grown ∙ at) in let e = r.1 in cc)
   ];
-  reasons = λ i m number at is. elim (old_or_new i (length old)) [
+  reasons = λ i m number at is. elim (cases_lt i (length old)) [
     | inl low ↦ subst (λ ms. IsReason clauses number (literals_of ms) m.lit) (sym (take-append i old x.added (omega arith))) (s.reasons i m number (sym (slice_get-front old x.added i low) ∙ at) is)
     | inr past ↦
         let r = x.reasons i m past (ap (λ ms. slice_get ms i) x.grown ∙ at) in

@@ -1,5 +1,5 @@
 -- Looking at one clause that watches a false literal.
-use Rattle.std.proofs.Common.{◌≡◌, ◌≢◌, ℕ, suc, zero, ◌+◌, ◌*◌, ◌^◌, ◌<◌, ◌≤◌, true, List, [], ◌∷◌, ◌++◌, ◌⊎◌, inl, inr, Some, slice_get, length, Contains, All, refl, sym, subst, ap, arith}
+use Rattle.std.proofs.Common.{◌≡◌, ◌≢◌, ℕ, suc, zero, ◌+◌, ◌*◌, ◌^◌, ◌<◌, ◌≤◌, true, List, [], ◌∷◌, ◌++◌, inl, inr, Some, slice_get, length, Contains, All, sym, subst, arith}
 use Rattle.std.proofs.lemmas.List.Elements.{All-contains, All-weaker}
 use Rattle.std.proofs.lemmas.Option.{slice_get_within}
 use Rattle.clause_base.specs.Literal.{Literal, negated}
@@ -19,20 +19,6 @@ use Rattle.unit_propagate.specs.Propagator.{IsKept, IsVisiting}
 use Rattle.unit_propagate.proofs.Places.{All-slice_get, All-from_contains, slice_get-Contains, Contains-slice_get}
 use Rattle.unit_propagate.proofs.CodeLemmas.{code_fits}
 use Rattle.unit_propagate.proofs.PropagatorLemmas.{same_literal, passed, last_there, falsified_at, reason_at}
-
--- the literals from the third on are false, up to a place
-pub false_more : (marks : List Mark) (lits : List Literal) (i : ℕ) (x : Literal) → slice_get lits i ≡ Some x → Contains (literals_of marks) (negated x)
-    → ((j : ℕ) (y : Literal) → 2 ≤ j → j < i → slice_get lits j ≡ Some y → Contains (literals_of marks) (negated y)) → (j : ℕ) (y : Literal) → 2 ≤ j → j < i + 1 → slice_get lits j ≡ Some y → Contains (literals_of marks) (negated y)
-false_more marks lits i x at h before j y low high there = elim (split j i high) [
-  | inl lt ↦ before j y low lt there
-  | inr e ↦ let a : slice_get lits i ≡ Some y = subst (λ q. slice_get lits q ≡ Some y) e there in let s : x ≡ y = cc in subst (λ z. Contains (literals_of marks) (negated z)) s h
-]
-  where
-    split : (j i : ℕ) → j < i + 1 → (j < i) ⊎ (j ≡ i)
-    split zero zero l = inr refl
-    split zero (suc i) l = inl (omega arith)
-    split (suc j) zero l = absurd (omega arith)
-    split (suc j) (suc i) l = elim (split j i (omega arith)) [ inl x ↦ inl (omega arith) | inr e ↦ inr (ap suc e) ]
 
 pub false_all : (marks : List Mark) (lits : List Literal) (i : ℕ) → length lits ≤ i → ((j : ℕ) (y : Literal) → 2 ≤ j → j < i → slice_get lits j ≡ Some y → Contains (literals_of marks) (negated y))
     → (j : ℕ) (y : Literal) → 2 ≤ j → slice_get lits j ≡ Some y → Contains (literals_of marks) (negated y)

@@ -1,8 +1,6 @@
 -- Trails: their highest level, their variables, their literals.
 use Rattle.std.proofs.Common.{◌≡◌, ◌≢◌, ℕ, suc, zero, ◌<◌, ◌≤◌, max, Bool, true, false, not, List, [], ◌∷◌, ◌++◌, ◌⊎◌, inl, inr, Option, Some, None, get_or, slice_get, filter, nat_le, cond, Contains, All, refl, sym, subst, ap, ◌∙◌, arith}
 use Rattle.std.specs.Prelude.{AllPairs, IfSome, IfNone}
-use Rattle.std.specs.Bool.{OnTrue, OnFalse}
-use mathlib.Core.Bool.{beq}
 use Rattle.std.proofs.lemmas.List.{append-nil, append_assoc}
 use Rattle.std.proofs.lemmas.List.Elements.{All-nil, All-head, All-tail, All-cons, All-push, All-contains, All-weaker, filter-append}
 use Rattle.std.proofs.lemmas.List.Quantifiers.{all_pairs_push}
@@ -140,19 +138,6 @@ popped level first old new (Some m) some none up l p =
       sym (filter-popped level new m (omega arith)) ∙ ap (filter (λ m. nat_le m.level level)) (sym some),
       (m ∷ p.0, p.1 ∙ ap (λ xs. xs ++ p.0) some ∙ append_assoc new (m ∷ []) p.0),
     )
-
--- a comparison of signs
-pub on_same : (p q : Bool) (P : Type 0) → (p ≡ q → P) → OnTrue (beq p q) P
-on_same true true P f = f refl
-on_same true false P f = tt
-on_same false true P f = tt
-on_same false false P f = f refl
-
-pub on_other : (p q : Bool) (P : Type 0) → (p ≡ not q → P) → OnFalse (beq p q) P
-on_other true true P f = tt
-on_other true false P f = f refl
-on_other false true P f = f refl
-on_other false false P f = tt
 
 -- a literal at a place is on the trail
 pub at_place : (marks : List Mark) (i : ℕ) (m : Mark) (l : Literal) → slice_get marks i ≡ Some m → m.lit ≡ l → Contains (literals_of marks) l

@@ -1,8 +1,8 @@
 -- Copies that are known, and the steps of the calls that put formulas.
-use Rattle.std.proofs.Common.{◌≡◌, ℕ, ◌+◌, ◌<◌, inl, inr, List, [], ◌∷◌, ◌++◌, length, get_or, set, replicate, Option, None, Some, refl, sym, ap, subst, ◌∙◌, append_assoc, arith}
-use Rattle.std.proofs.lemmas.Bool.{cases_eq, cases_lt}
-use Rattle.std.proofs.lemmas.List.{append-nil, get_or-replicate, get_or-set_other, get_or-set_same, get_or_past, length-replicate}
-use Rattle.std.proofs.lemmas.Option.{none-some, same_Some}
+use Rattle.std.proofs.Common.{◌≡◌, ℕ, ◌+◌, ◌<◌, inl, inr, List, [], ◌++◌, length, get_or, set, Option, None, Some, refl, sym, ap, subst, ◌∙◌, arith}
+use Rattle.std.proofs.lemmas.Bool.{cases_eq}
+use Rattle.std.proofs.lemmas.List.{get_or-set_other, get_or-set_same}
+use Rattle.std.proofs.lemmas.Option.{same_Some}
 use Rattle.ltl_formula.specs.declared.nodes.FormulaId.{FormulaId}
 use Rattle.ltl_formula.specs.declared.nodes.Node.{Node}
 use Rattle.ltl_formula.specs.declared.nodes.Node.TheVariants as node
@@ -21,7 +21,7 @@ use Rattle.tlsf_expand.specs.Standing.{StandsAs}
 use Rattle.tlsf_expand.proofs.Kept.{IsGood, IsKept, given}
 use Rattle.tlsf_expand.proofs.Filling.{stands_later}
 use Rattle.unreal_core.specs.Copies.{AreCopies, over, over_both, parts_put}
-use Rattle.unreal_core.specs.Put.{put, put_over, put_over_both, put_all}
+use Rattle.unreal_core.specs.Put.{put, put_over, put_over_both}
 use Rattle.unreal_core.proofs.Putting.{fills_put, put_again}
 
 -- ---- the copies that are known
@@ -43,16 +43,6 @@ copies_with from known nodes place id h within at = record {
         | inr other ↦ h.copies p j (sym (get_or-set_other known place p (Some id) None other) ∙ e)
       ];
 }
-
-blank : (n place : ℕ) → get_or (replicate {A = Option FormulaId} n None) place None ≡ None
-blank n place =
-    elim (cases_lt place n) [
-      | inl within ↦ get_or-replicate n place None None within
-      | inr past ↦ let long : length (replicate {A = Option FormulaId} n None) ≡ n = length-replicate n None in get_or_past (replicate {A = Option FormulaId} n None) place None (omega arith)
-    ]
-
-pub none_copied : (from : List Node) (n : ℕ) (nodes : List Node) → IsNodeList from → IsNodeList nodes → AreCopies from (replicate n None) nodes
-none_copied from n nodes from_list list = record { from_list = from_list; list = list; copies = λ place id e. absurd (none-some id (sym (blank n place) ∙ e)) }
 
 -- ---- one formula
 
@@ -103,10 +93,6 @@ module _ (t : Tree) (old mid : Work) (x : Node) where
   put_fault NoMemory parts h = tt
   put_fault (At code place) parts h = put_by_parts t old ∙ ap (λ o. go_on o (λ y w. made 0 y w)) parts ∙ h
 
-pub parts_fault : (t : Tree) (old : Work) (e : SpecFault) → IsFault (parts_put t old) e → IsFault (put t old) e
-parts_fault t old NoMemory h = tt
-parts_fault t old (At code place) h = put_by_parts t old ∙ ap (λ o. go_on o (λ y w. made 0 y w)) h
-
 -- the copies that are known after a formula was put by its parts
 pub copies_after : (from : List Node) (known : List (Option FormulaId)) (id : FormulaId) (old mid new : Work) (x : Node) (copy : FormulaId) → IsNodeList old.formulas → Stands from id → length known ≡ length from
     → AreCopies from known mid.formulas → Grows mid.formulas new.formulas → parts_put (tree_at from id) old ≡ gives x mid → made 0 x mid ≡ gives copy new → AreCopies from (set known id.0 (Some copy)) new.formulas
@@ -125,24 +111,3 @@ module _ {A : Type 0} where
   -- those that were put so far stand before
   abbrev pub behind : List A → Outcome (List A) → Outcome (List A)
   behind xs o = go_on o (λ more w. gives (xs ++ more) w)
-
-  behind_none : (o : Outcome (List A)) → behind [] o ≡ o
-  behind_none (gives xs w) = refl
-  behind_none (fails code place) = refl
-
-  pub all_put : (o : Outcome (List A)) (xs : List A) (w : Work) → behind [] o ≡ behind xs (gives [] w) → o ≡ gives xs w
-  all_put o xs w e = sym (behind_none o) ∙ e ∙ ap (λ ys. gives ys w) (append-nil xs)
-
-  behind_more : (xs : List A) (x : A) (o : Outcome (List A)) → behind xs (go_on o (λ more w. gives (x ∷ more) w)) ≡ behind (xs ++ x ∷ []) o
-  behind_more xs x (gives more w) = ap (λ ys. gives ys w) (sym (append_assoc xs (x ∷ []) more))
-  behind_more xs x (fails code place) = refl
-
-module _ (ts : List Tree) (w : Work) (rest : List Tree) (t : Tree) (now : Work) (xs : List FormulaId) (so_far : behind [] (put_all ts w) ≡ behind xs (put_all (t ∷ rest) now)) where
-  pub one_more_put : (copy : FormulaId) (next : Work) → put t now ≡ gives copy next → behind [] (put_all ts w) ≡ behind (xs ++ copy ∷ []) (put_all rest next)
-  one_more_put copy next e =
-      so_far ∙ ap (λ o. behind xs (go_on o (λ id w. go_on (put_all rest w) (λ ids w. gives (id ∷ ids) w)))) e ∙ behind_more xs copy (put_all rest next)
-
-  pub one_refused : (e : SpecFault) → IsFault (put t now) e → IsFault (put_all ts w) e
-  one_refused NoMemory h = tt
-  one_refused (At code place) h =
-      sym (behind_none (put_all ts w)) ∙ so_far ∙ ap (λ o. behind xs (go_on o (λ id w. go_on (put_all rest w) (λ ids w. gives (id ∷ ids) w)))) h

@@ -1,5 +1,5 @@
 -- What is needed was answered false over the numbers that are kept now, so in the end over those that are kept then.
-use Rattle.std.proofs.Common.{◌≡◌, ℕ, ◌+◌, ◌-◌, ◌<◌, ◌≤◌, Bool, true, false, inl, inr, List, [], ◌∷◌, ◌++◌, length, get_or, set, Option, None, Some, refl, sym, ap, subst, ◌∙◌, append_assoc, arith}
+use Rattle.std.proofs.Common.{◌≡◌, ℕ, ◌+◌, ◌-◌, ◌≤◌, Bool, true, false, inl, inr, List, [], ◌∷◌, ◌++◌, length, get_or, set, Option, None, Some, refl, sym, ap, subst, ◌∙◌, append_assoc, arith}
 use Rattle.std.specs.Prelude.{Contains, option_map, position}
 use Rattle.std.proofs.Math.Seq.{map-set_same}
 use Rattle.std.proofs.lemmas.Bool.{cases_eq}
@@ -22,9 +22,6 @@ record AreAnswered (s : List Standing) (answers : List Answer) : Type 0 where
 module _ (s : List Standing) (place : ℕ) (found : position is_open s ≡ Some place) (answers : List Answer) (so_far : AreAnswered s answers) where
   abbrev one_needed : List Standing
   one_needed = set s place Needed
-
-  within : place < length s
-  within = (position-Some is_open s place Dropped found).0
 
   here : get_or s place Dropped ≡ Open
   here = opened (get_or s place Dropped) (position-Some is_open s place Dropped found).1

@@ -1,6 +1,5 @@
 -- The list of some guarantees holds the formula of the whole, and is refused for want of room alone.
-use Rattle.std.proofs.Common.{◌≡◌, ℕ, zero, suc, ◌+◌, ◌<◌, ◌≤◌, Bool, true, false, List, [], ◌∷◌, ◌++◌, All, length, map, get_or, drop, Some, Result, Err, refl, ap, subst, ◌∙◌, arith}
-use Rattle.std.specs.Prelude.{slice_index_or, if◌then◌else◌}
+use Rattle.std.proofs.Common.{◌≡◌, ℕ, ◌≤◌, Bool, true, false, List, [], ◌∷◌, All, length, map, drop, Some, Result, Err, refl, ap, subst, ◌∙◌, arith}
 use Rattle.std.proofs.lemmas.List.{drop_all}
 use Rattle.std.proofs.lemmas.List.Elements.{All-cons, All-head, All-tail}
 use Rattle.std.proofs.lemmas.Option.{same_Some}
@@ -44,16 +43,6 @@ kept_all P [] xs h = λ k d less. absurd (omega arith)
 kept_all P (b ∷ keep) [] h = λ k d less. absurd (omega arith)
 kept_all P (true ∷ keep) (x ∷ xs) h = All-cons P x (kept keep xs) (All-head P x xs h) (kept_all P keep xs (All-tail P x xs h))
 kept_all P (false ∷ keep) (x ∷ xs) h = kept_all P keep xs (All-tail P x xs h)
-
--- a loop over the formulas with the truths beside them
-pub kept_step : {A : Type 0} (keep : List Bool) (xs : List A) (place : ℕ) (d : A) → place < length xs
-    → kept (drop place keep) (drop place xs) ≡ (if slice_index_or keep place false then get_or xs place d ∷ [] else []) ++ kept (drop (suc place) keep) (drop (suc place) xs)
-kept_step keep [] place d h = absurd (omega arith)
-kept_step [] (x ∷ xs) zero d h = refl
-kept_step (true ∷ keep) (x ∷ xs) zero d h = refl
-kept_step (false ∷ keep) (x ∷ xs) zero d h = refl
-kept_step [] (x ∷ xs) (suc place) d h = refl
-kept_step (b ∷ keep) (x ∷ xs) (suc place) d h = kept_step keep xs place d (omega arith)
 
 pub kept_none : {A : Type 0} (keep : List Bool) → kept {A = A} keep [] ≡ []
 kept_none [] = refl

@@ -10,7 +10,7 @@ use Rattle.std.proofs.lemmas.List.Sums.{fails_before_first}
 use Rattle.std.proofs.lemmas.Option.{none-some}
 use Rattle.unreal_core.specs.declared.shrink.Standing.{Standing}
 use Rattle.unreal_core.specs.declared.shrink.Standing.TheVariants.{Open, Needed, Dropped}
-use Rattle.unreal_core.specs.Shrink.{IsFirstOpen, IsInTurn, IsKept, IsNeeded, IsOpen, all_kept, answered, asked, is_open, reopened, standing_of}
+use Rattle.unreal_core.specs.Shrink.{IsFirstOpenGuarantee, IsInTurn, IsKeptGuarantee, IsNeeded, IsOpen, all_kept, answered, asked, is_open, reopened, standing_of}
 
 pub opened : (x : Standing) → is_open x ≡ true → x ≡ Open
 opened Open h = refl
@@ -47,17 +47,17 @@ module _ (s : List Standing) (place : ℕ) (found : position is_open s ≡ Some 
         | inr past ↦ omega arith
       ]
 
-  pub first_open : IsInTurn s → IsFirstOpen s (place + 1)
+  pub first_open : IsInTurn s → IsFirstOpenGuarantee s (place + 1)
   first_open turns = record { is_open = first_is_open; least = none_before; above = λ m is. turns.in_turn m (place + 1) is first_is_open }
 
-  pub not_all_needed : ((n : ℕ) → IsKept s n → IsNeeded s n) → ⊥
+  pub not_all_needed : ((n : ℕ) → IsKeptGuarantee s n → IsNeeded s n) → ⊥
   not_all_needed all =
       let here = first_is_open in
       let is_needed = all (place + 1) (record { first = here.first; last = here.last; kept = λ dropped. let e : ◌≡◌ {A = Standing} Open Dropped = sym here.opened ∙ dropped in cc }) in
       let e : ◌≡◌ {A = Standing} Open Needed = sym here.opened ∙ is_needed.needed in
       cc
 
-pub all_needed : (s : List Standing) → position is_open s ≡ None → (n : ℕ) → IsKept s n → IsNeeded s n
+pub all_needed : (s : List Standing) → position is_open s ≡ None → (n : ℕ) → IsKeptGuarantee s n → IsNeeded s n
 all_needed s none n is =
     let some : 1 ≤ n = is.first in
     let last : n ≤ length s = is.last in
@@ -82,7 +82,7 @@ never_needed Dropped e = cc
 pub reopened_needs_none : (s : List Standing) (n : ℕ) → IsNeeded (map reopened s) n → ⊥
 reopened_needs_none s n is = never_needed (get_or s (n - 1) Dropped) (sym (get_or-map reopened s (n - 1) Dropped) ∙ is.needed)
 
-module _ (s : List Standing) (n : ℕ) (first : IsFirstOpen s n) where
+module _ (s : List Standing) (n : ℕ) (first : IsFirstOpenGuarantee s n) where
   abbrev dropped_there : List Standing
   dropped_there = map reopened (set s (n - 1) Dropped)
 

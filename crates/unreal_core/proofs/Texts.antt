@@ -7,9 +7,10 @@ use Rattle.tlsf_syntax.specs.Text.{Text}
 use Rattle.tlsf_expand.specs.Expansion.{expanded}
 use Rattle.tlsf_expand.specs.FlatText.{FlatText, flat_in}
 use Rattle.tlsf_expand.specs.Standing.{formulas_at, section_trees}
-use Rattle.tlsf_expand.proofs.Expanded.{any_word, is_made}
+use Rattle.tlsf_expand.proofs.Expanded.{is_made}
 use Rattle.tlsf_expand.proofs.Sectioned.{sections_stand}
 use Rattle.tlsf_expand.proofs.WholeTree.{whole_tree}
+use Rattle.tlsf_expand.proofs.Laid.{any_word}
 use Rattle.unreal_core.specs.WholeLaws.{AllKeptIsTheWhole, SectionsOfTextsStand}
 use Rattle.unreal_core.specs.Reduced.{kept, kept_sections}
 use Rattle.unreal_core.proofs.Reducing.{whole_stands}

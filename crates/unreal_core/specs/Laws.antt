@@ -2,7 +2,7 @@
 use Rattle.std.specs.Prelude.{◌≡◌, ℕ, ◌+◌, ◌*◌, ◌/◌, ◌≤◌, Bool, true, false, List, [], ◌∷◌, length, map, Contains, Option, None, Some}
 use Rattle.unreal_core.specs.declared.shrink.Standing.{Standing}
 use Rattle.unreal_core.specs.declared.shrink.Standing.TheVariants.{Open, Needed, Dropped}
-use Rattle.unreal_core.specs.Shrink.{IsKept, all_kept, asked, told}
+use Rattle.unreal_core.specs.Shrink.{IsKeptGuarantee, all_kept, asked, told}
 
 -- which numbers are kept
 abbrev pub is_kept : Standing → Bool
@@ -40,5 +40,5 @@ QuestionsAreFew = (count : ℕ) (answers : List Bool) → length (answers_from (
 -- where no question is left, each number that is kept was answered false when just those that are kept in the end were kept
 abbrev pub KeptAreNeeded : Type 0
 KeptAreNeeded =
-    (count : ℕ) (answers : List Bool) (n : ℕ) → asked (after (all_kept count) answers) ≡ None → IsKept (after (all_kept count) answers) n
+    (count : ℕ) (answers : List Bool) (n : ℕ) → asked (after (all_kept count) answers) ≡ None → IsKeptGuarantee (after (all_kept count) answers) n
     → Contains (answers_from (all_kept count) answers) (record { kept = kept_in (after (all_kept count) answers); number = n; defeat = false })

@@ -9,7 +9,7 @@ abbrev pub standing_of : List Standing → ℕ → Standing
 standing_of s n = slice_index_or s (n - 1) Dropped
 
 -- it is one of the numbers, and wasn't dropped
-pub record IsKept (s : List Standing) (n : ℕ) : Type 0 where
+pub record IsKeptGuarantee (s : List Standing) (n : ℕ) : Type 0 where
   pub first : 1 ≤ n
   pub last : n ≤ length s
   pub kept : standing_of s n ≢ Dropped
@@ -27,7 +27,7 @@ pub record IsOpen (s : List Standing) (n : ℕ) : Type 0 where
   pub opened : standing_of s n ≡ Open
 
 -- it is the least of those, and above each that was answered false since the last drop
-pub record IsFirstOpen (s : List Standing) (n : ℕ) : Type 0 where
+pub record IsFirstOpenGuarantee (s : List Standing) (n : ℕ) : Type 0 where
   pub is_open : IsOpen s n
   pub least : (m : ℕ) → IsOpen s m → n ≤ m
   pub above : (m : ℕ) → IsNeeded s m → m < n

@@ -1,4 +1,4 @@
-// Formulas of one list put into another, each with its parts from left to right before it.
+//! Formulas of one list put into another, each with its parts from left to right before it.
 
 ghost use Rattle.std.specs.Prelude.{◌≡◌, All, IfOk, OnOk, length, map};
 ghost use Rattle.ltl_formula.specs.Nodes.{Stands, tree_at};

@@ -1,4 +1,4 @@
-// Laws of the definitions, which no code needs.
+//! Laws of the definitions, which no code needs.
 
 ghost use Rattle.unreal_core.specs.Cut.{CutTextsMean};
 ghost use Rattle.unreal_core.specs.Laws.{KeptAreNeeded, QuestionsAreFew};

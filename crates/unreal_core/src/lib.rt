@@ -1,8 +1,8 @@
-// What the search for guarantees that can't be met together needs besides syntheses: a text's formulas with some of its
-// guarantees in a list of their own (`whole_of`), and which guarantee is left out next (`Shrink`). The contract above this layer:
-// the formula of the whole is true exactly where the text's is with those guarantees, and each guarantee that is kept at the
-// end was found needed beside the others. It stands on tlsf_expand for what joins the sections of a text, and on ltl_formula
-// for lists of formulas.
+//! What the search for guarantees that can't be met together needs besides syntheses: a text's formulas with some of its
+//! guarantees in a list of their own (`whole_of`), and which guarantee is left out next (`Shrink`). The contract above this layer:
+//! the formula of the whole is true exactly where the text's is with those guarantees, and each guarantee that is kept at the
+//! end was found needed beside the others. It stands on tlsf_expand for what joins the sections of a text, and on ltl_formula
+//! for lists of formulas.
 #![tactic(auto)]
 
 mod copies;

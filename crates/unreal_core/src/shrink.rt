@@ -1,7 +1,7 @@
-// Which guarantees are left out next, and which are needed.
+//! Which guarantees are left out next, and which are needed.
 
 ghost use Rattle.std.specs.Prelude.{◌≡◌, ◌↔◌, ℕ, ◌+◌, ◌<◌, ◌≤◌, IfOk, IsSome, IsTrue, None, Some, length, map, position, vec_len};
-ghost use Rattle.unreal_core.specs.Shrink.{IsFirstOpen, IsKept, IsNeeded, all_kept, answered, asked, is_open, reopened, told};
+ghost use Rattle.unreal_core.specs.Shrink.{IsFirstOpenGuarantee, IsKeptGuarantee, IsNeeded, all_kept, answered, asked, is_open, reopened, told};
 
 use std::alloc::{AllocError, Global};
 use std::marker::Model;
@@ -69,8 +69,8 @@ impl Shrink {
     /// drop; there is none exactly where every kept number has.
     pub fn ask(&self) -> Option<u32>
         ensures value { result ≡ asked self.now }
-        ensures least { (n : ℕ) → result ≡ Some n → IsFirstOpen self.now n }
-        ensures none { (result ≡ None) ↔ ((n : ℕ) → IsKept self.now n → IsNeeded self.now n) }
+        ensures least { (n : ℕ) → result ≡ Some n → IsFirstOpenGuarantee self.now n }
+        ensures none { (result ≡ None) ↔ ((n : ℕ) → IsKeptGuarantee self.now n → IsNeeded self.now n) }
     {
         match first_open(&self.standings) {
             Some(place) => Some(place as u32 + 1),
@@ -95,7 +95,7 @@ impl Shrink {
     pub fn keeps(&self, number: u32) -> bool
         requires first { 1 ≤ number }
         requires last { number ≤ length self.now }
-        ensures { IsTrue result ↔ IsKept self.now number }
+        ensures { IsTrue result ↔ IsKeptGuarantee self.now number }
     {
         !matches!(self.standings[number as usize - 1], Standing::Dropped)
     }

@@ -1,4 +1,4 @@
-// The formula of a whole text with some of its guarantees.
+//! The formula of a whole text with some of its guarantees.
 
 ghost use Rattle.std.specs.Prelude.{◌≡◌, [], ◌∷◌, ◌++◌, All, Err, IfErr, IfOk, None, Some, false, if◌then◌else◌, length, map, replicate, slice_index_or};
 ghost use Rattle.ltl_formula.specs.ListSignals.{KeepsSignals};

@@ -1,4 +1,4 @@
-// A set of numbers that are given in any order.
+//! A set of numbers that are given in any order.
 
 use std::alloc::AllocError;
 use std::process::Abort;

@@ -1,4 +1,4 @@
-// The value of an expression over a tree that is built by hand.
+//! The value of an expression over a tree that is built by hand.
 
 use letter_word::Kind;
 use ltl_formula::{FormulaId, Formulas};
@@ -48,7 +48,7 @@ fn big(alloc: Global, start: u64, op: Op, range: Range, part: Expr) -> Made {
     Ok(expr(start, Form::Big { op, ranges, part }))
 }
 
-// `low <= name < high`
+/// `low <= name < high`
 fn below(alloc: Global, name: &[u8], low: i64, high: i64) -> Result<Range, SpecFault> {
     Ok(Range::Between {
         low: number(3, low),
@@ -99,8 +99,8 @@ fn env(alloc: Global) -> Result<Env, SpecFault> {
     })
 }
 
-// The value of an expression takes seven evaluations: the operator's node, its two bounds, and for each of two members the index and its
-// number.
+/// The value of an expression takes seven evaluations: the operator's node, its two bounds, and for each of two members the index and its
+/// number.
 #[test]
 fn bits_are_joined(rt: HostRuntime) -> Result<(), Fail> {
     let alloc = rt.alloc();

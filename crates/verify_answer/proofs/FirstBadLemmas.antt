@@ -11,11 +11,10 @@ use Rattle.aiger_text.specs.CircuitFile.{File, States}
 use Rattle.aiger_text.specs.FileLaws.{FaultsStateNothing, FilesHaveOneFault, FilesStateOneThing}
 use Rattle.annot_check.specs.declared.faults.AnnotFault.{AnnotFault}
 use Rattle.annot_check.specs.declared.faults.AnnotFault.TheVariants.{NoMemory}
-use Rattle.annot_check.specs.AnnotationText.{IsFirstBadLine, StatesPairs}
+use Rattle.annot_check.specs.AnnotationText.{IsFirstBadAnnotationLine, StatesPairs}
 use Rattle.annot_check.specs.Causes.{IsCause}
 use Rattle.annot_check.specs.Pairs.{Listed}
 use Rattle.annot_check.specs.Stated.{ReadingsAreApart}
-use Rattle.annot_check.specs.Valid.{IsValidPairList}
 use Rattle.annot_check.proofs.Apart.{causes_are_apart}
 use Rattle.cert_text.specs.Reading.{fault_line}
 use Rattle.document_check.specs.Facts.{Facts}
@@ -50,10 +49,10 @@ module _ (one_thing : FilesStateOneThing) (one_fault : FilesHaveOneFault) (nothi
 
     -- the other's comment and latches are this one's
     line_moved : (f g : File) (c d : List ℕ) (n : ℕ) → HasComment facts bytes f c → HasComment facts bytes g d
-        → IsFirstBadLine d (length g.circuit.latches) (states_of (over facts)) n → IsFirstBadLine c (length f.circuit.latches) (states_of (over facts)) n
+        → IsFirstBadAnnotationLine d (length g.circuit.latches) (states_of (over facts)) n → IsFirstBadAnnotationLine c (length f.circuit.latches) (states_of (over facts)) n
     line_moved f g c d n has_c has_d bad =
-        subst (λ (x : List ℕ). IsFirstBadLine x (length f.circuit.latches) (states_of (over facts)) n) (sym (one_comment f g c d has_c has_d))
-        (subst (λ (x : File). IsFirstBadLine d (length x.circuit.latches) (states_of (over facts)) n) (sym (same_file f g c d has_c has_d)) bad)
+        subst (λ (x : List ℕ). IsFirstBadAnnotationLine x (length f.circuit.latches) (states_of (over facts)) n) (sym (one_comment f g c d has_c has_d))
+        (subst (λ (x : File). IsFirstBadAnnotationLine d (length x.circuit.latches) (states_of (over facts)) n) (sym (same_file f g c d has_c has_d)) bad)
 
     pairs_moved : (f g : File) (c d : List ℕ) (list : Listed) → HasComment facts bytes f c → HasComment facts bytes g d
         → StatesPairs d (length g.circuit.latches) (states_of (over facts)) list → StatesPairs c (length f.circuit.latches) (states_of (over facts)) list
@@ -62,7 +61,7 @@ module _ (one_thing : FilesStateOneThing) (one_fault : FilesHaveOneFault) (nothi
         (subst (λ (x : File). StatesPairs d (length x.circuit.latches) (states_of (over facts)) list) (sym (same_file f g c d has_c has_d)) states)
 
     not_both : (f g : File) (c : List ℕ) (list : Listed) (n : ℕ) → HasComment facts bytes f c
-        → IsFirstBadLine c (length f.circuit.latches) (states_of (over facts)) n → Annotates facts bytes g list → ⊥
+        → IsFirstBadAnnotationLine c (length f.circuit.latches) (states_of (over facts)) n → Annotates facts bytes g list → ⊥
     not_both f g c list n has bad a =
         readings.apart c (length f.circuit.latches) (states_of (over facts)) list n
         (pairs_moved f g c a.comment list has a.commented a.pairs) bad
@@ -150,11 +149,6 @@ module _ (inputs outputs : List (List ℕ)) (s t : Problem) (e f : Option Proble
     pairs = subst (λ (x : AutomatonModel). StatesPairs a.comment (length file.circuit.latches) (states_of x) list) same_automaton a.pairs;
   }
 
-  pub valid_moved : (file : File) (list : Listed) → IsValidFor one file list → IsValidFor other file list
-  valid_moved file list valid =
-      subst (λ (k : Kind). IsValidPairList file.circuit k (automaton_of t) list.pairs) same_kind
-      (subst (λ (x : AutomatonModel). IsValidPairList file.circuit s.kind x list.pairs) same_automaton valid)
-
   pub first_moved : (n : ℕ) → IsFirstBadOfCircuit one bytes n → IsFirstBadOfCircuit other bytes n
   first_moved _ (of_fault fault n first is) =
       of_fault fault n first (ap (λ (o : Option ℕ). earliest (Some (fault_line fault)) o) (sym (faulty_same inputs outputs s t e f bytes)) ∙ is)
@@ -162,7 +156,7 @@ module _ (inputs outputs : List (List ℕ)) (s t : Problem) (e f : Option Proble
   first_moved _ (no_comment file fits none) = no_comment file (fits_moved file fits) none
   first_moved _ (of_line file comment n has bad) =
       of_line file comment n (comment_moved file comment has)
-      (subst (λ (x : AutomatonModel). IsFirstBadLine comment (length file.circuit.latches) (states_of x) n) same_automaton bad)
+      (subst (λ (x : AutomatonModel). IsFirstBadAnnotationLine comment (length file.circuit.latches) (states_of x) n) same_automaton bad)
   first_moved _ (of_pairs file list fault a some cause) =
       of_pairs file list fault (annotates_moved file list a) some
       (subst (λ (k : Kind). IsCause file.circuit k (automaton_of t) list.pairs fault) same_kind

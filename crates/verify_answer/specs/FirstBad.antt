@@ -12,7 +12,7 @@ use Rattle.document_check.specs.Facts.{Facts}
 use Rattle.document_check.specs.FirstBad.{earliest, faulty_line, stated_line}
 use Rattle.annot_check.specs.declared.faults.AnnotFault.{AnnotFault}
 use Rattle.annot_check.specs.declared.faults.AnnotFault.TheVariants.{NoMemory, BadLine, NoStart, NotMoore, Broken}
-use Rattle.annot_check.specs.AnnotationText.{IsFirstBadLine, StatesPairs}
+use Rattle.annot_check.specs.AnnotationText.{IsFirstBadAnnotationLine, StatesPairs}
 use Rattle.annot_check.specs.Causes.{IsCause}
 use Rattle.annot_check.specs.Pairs.{Listed}
 use Rattle.annot_check.specs.Valid.{IsValidPairList}
@@ -67,6 +67,6 @@ pub data IsFirstBadOfCircuit (facts : Facts) (bytes : List ℕ) : ℕ → Type 0
   of_names : (file : File) (n : ℕ) → States bytes file → stated_line facts System file ≡ Some n → IsFirstBadOfCircuit facts bytes n
   no_comment : (file : File) → FitsText facts bytes file → file.comment_at ≡ None → IsFirstBadOfCircuit facts bytes file.comment_line
   of_line : (file : File) (comment : List ℕ) (n : ℕ) → HasComment facts bytes file comment
-      → IsFirstBadLine comment (length file.circuit.latches) (states_of (over facts)) n → IsFirstBadOfCircuit facts bytes (file.comment_line + n)
+      → IsFirstBadAnnotationLine comment (length file.circuit.latches) (states_of (over facts)) n → IsFirstBadOfCircuit facts bytes (file.comment_line + n)
   of_pairs : (file : File) (list : Listed) (fault : AnnotFault) → Annotates facts bytes file list → (fault ≡ NoMemory → ⊥)
       → IsCause file.circuit facts.system.kind (over facts) list.pairs fault → IsFirstBadOfCircuit facts bytes (cause_line file list fault)

@@ -39,7 +39,7 @@ pub fn verify_answer(
     }
 }
 
-// The reply to a circuit that is verified.
+/// The reply to a circuit that is verified.
 fn verified(alloc: Global, kind: Kind) -> Result<Reply, AllocError>
     ensures { IfOk result (λ r. (r.bytes.items ≡ verified_line kind) × (r.status ≡ ended.Done)) }
 {

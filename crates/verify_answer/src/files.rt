@@ -19,7 +19,7 @@ use letter_word::Side;
 use std::alloc::{AllocError, Global};
 
 /// The first line at which a circuit's file fails for a text, or none, where its annotation is valid for its circuit.
-pub fn first_bad_line(
+pub(crate) fn first_bad_line(
     alloc: Global,
     facts: TextFacts<'_>,
     bytes: &[u8],
@@ -33,7 +33,7 @@ pub fn first_bad_line(
     }
 }
 
-// The line of a circuit with this fault: its own, or an earlier one at which its counts or its names fail.
+/// The line of a circuit with this fault: its own, or an earlier one at which its counts or its names fail.
 fn fault_line(
     facts: TextFacts<'_>,
     bytes: &[u8],
@@ -46,7 +46,7 @@ fn fault_line(
     Ok(earliest(Some(line), faulty_line(facts, bytes)))
 }
 
-// The line of a fault, but for want of memory.
+/// The line of a fault, but for want of memory.
 fn own_line(fault: CircuitFault) -> Result<u64, AllocError>
     ensures line { IfOk result (λ line. line ≡ line_of_fault fault) }
     ensures some { IfOk result (λ _. fault ≢ NoMemory) }
@@ -63,7 +63,7 @@ fn own_line(fault: CircuitFault) -> Result<u64, AllocError>
     }
 }
 
-// The first line at which a file whose circuit has no fault fails.
+/// The first line at which a file whose circuit has no fault fails.
 fn file_line(
     alloc: Global,
     facts: TextFacts<'_>,
@@ -83,7 +83,7 @@ fn file_line(
     comment_line(alloc, facts, bytes, file, comment)
 }
 
-// What stands behind the line `c`.
+/// What stands behind the line `c`.
 fn comment_of<'a>(file: &CircuitFile, bytes: &'a [u8]) -> Option<&'a [u8]>
     requires { States bytes.now file.now }
     ensures { option_copied result ≡ comment_in file.now bytes.now }
@@ -92,7 +92,7 @@ fn comment_of<'a>(file: &CircuitFile, bytes: &'a [u8]) -> Option<&'a [u8]>
     Some(&bytes[at..])
 }
 
-// The first line at which the annotation in a file's comment fails.
+/// The first line at which the annotation in a file's comment fails.
 fn comment_line(
     alloc: Global,
     facts: TextFacts<'_>,
@@ -116,7 +116,7 @@ fn comment_line(
     }
 }
 
-// The number of a circuit's latches.
+/// The number of a circuit's latches.
 fn latch_count(circuit: &Circuit) -> u32
     ensures { result ≡ length circuit.now.latches }
 {
@@ -124,14 +124,14 @@ fn latch_count(circuit: &Circuit) -> u32
     circuit.latches.len() as u32
 }
 
-// What the type of a circuit keeps.
+/// What the type of a circuit keeps.
 fn circuit_is_kept(circuit: &Circuit)
     ensures { IsCircuit circuit.now }
 {
     let _latches = &circuit.latches;
 }
 
-// The line of a comment at which its text is refused, from 1.
+/// The line of a comment at which its text is refused, from 1.
 fn line_in_comment(fault: AnnotFault) -> Result<u64, AllocError>
     ensures { IfOk result (λ line. fault ≡ BadLine line) }
 {
@@ -141,7 +141,7 @@ fn line_in_comment(fault: AnnotFault) -> Result<u64, AllocError>
     }
 }
 
-// The line at which a list of pairs fails for the circuit of its file, or none where it is valid.
+/// The line at which a list of pairs fails for the circuit of its file, or none where it is valid.
 fn pairs_line(
     alloc: Global,
     facts: TextFacts<'_>,
@@ -167,7 +167,7 @@ fn pairs_line(
     }
 }
 
-// The line at which a list of pairs fails by this cause.
+/// The line at which a list of pairs fails by this cause.
 fn cause_line(file: &CircuitFile, list: &PairList, fault: AnnotFault) -> Result<u64, AllocError>
     requires within { IsWithin file.now list.now fault }
     requires few { (length file.now.circuit.inputs < 9) × (length file.now.circuit.outputs < 9) }
@@ -185,7 +185,7 @@ fn cause_line(file: &CircuitFile, list: &PairList, fault: AnnotFault) -> Result<
     }
 }
 
-// The line of an output of a circuit.
+/// The line of an output of a circuit.
 fn output_line(circuit: &Circuit, output: usize) -> u64
     requires { (length circuit.now.inputs < 9) × (output < 9) }
     ensures { result ≡ line_of_output circuit.now output }

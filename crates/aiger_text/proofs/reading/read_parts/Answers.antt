@@ -1,6 +1,6 @@
 use Rattle.std.proofs.Common.{◌≡◌, sym, ap, ◌∙◌, inr}
 use Rattle.std.specs.Prelude.{Ok}
-use Rattle.aiger_text.specs.CircuitFile.{body_from, ending_from, lines_of, no_lines, no_names, and_then, parts_of}
+use Rattle.aiger_text.specs.CircuitFile.{body_from, ending_from, lines_of, no_lines, no_names, and_then, circuit_parts}
 use Rattle.aiger_text.specs.Statements.{stated}
 use Rattle.aiger_text.specs.Labels.{shown_ending}
 use Rattle.aiger_text.proofs.Scanning.{passes_fault}
@@ -19,7 +19,7 @@ returns-in-Err-read_header-clause-err c =
 
 pub returns-in-Err-read_body-clause-err : goal.returns-in-Err-read_body-clause-err
 returns-in-Err-read_body-clause-err c =
-    passes_fault behind_body (body_from (no_lines c.in-Ok-read_header.counts) 2 (lines_of c.in-Some.text.now)) (parts_of c.args.bytes.now) c.in-Err-read_body.fault
+    passes_fault behind_body (body_from (no_lines c.in-Ok-read_header.counts) 2 (lines_of c.in-Some.text.now)) (circuit_parts c.args.bytes.now) c.in-Err-read_body.fault
     (parts_ended c.args.bytes.now c.in-Some.line.now c.in-Some.text.now (sym c.in-Some.ensures) c.in-Ok-read_header.counts c.in-Ok-read_header.ensures.ok)
     c.in-Err-read_body.ensures.err
 
@@ -42,7 +42,7 @@ returns-in-Ok-read_ending-clause-ok c =
 pub returns-clause-err : goal.returns-clause-err
 returns-clause-err c =
     passes_fault (with_ending (stated c.in-Ok-read_body.body.statements))
-    (ending_from (no_names (stated c.in-Ok-read_body.body.statements)) c.in-Ok-read_body.body.number (lines_of c.in-Ok-read_body.body.rest.now)) (parts_of c.args.bytes.now) c.in-Err-read_ending.fault
+    (ending_from (no_names (stated c.in-Ok-read_body.body.statements)) c.in-Ok-read_body.body.number (lines_of c.in-Ok-read_body.body.rest.now)) (circuit_parts c.args.bytes.now) c.in-Err-read_ending.fault
     (parts_ended c.args.bytes.now c.in-Some.line.now c.in-Some.text.now (sym c.in-Some.ensures) c.in-Ok-read_header.counts c.in-Ok-read_header.ensures.ok
     ∙ ap (and_then behind_body) c.in-Ok-read_body.ensures.ok)
     (rw c.in-Ok-blank_labels.ensures.none at c.in-Err-read_ending.ensures.err)

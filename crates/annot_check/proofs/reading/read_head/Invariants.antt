@@ -1,10 +1,10 @@
 use Rattle.std.proofs.Common.{◌≡◌, ◌≤◌, ◌+◌, ℕ, length}
-use Rattle.annot_check.specs.AnnotationText.{parts_of, reading_from, reading_of}
+use Rattle.annot_check.specs.AnnotationText.{pieces_of, reading_from, reading_of}
 use Rattle.annot_check.proofs.reading.read_head.Given as goal
 
 abbrev pub invariant-loop-line : goal.invariant-loop-line
 invariant-loop-line l = record {
-  reading : (latches states : ℕ) → reading_from latches states (parts_of l.rest) l.number ≡ reading_of latches states l.lines;
+  reading : (latches states : ℕ) → reading_from latches states (pieces_of l.rest) l.number ≡ reading_of latches states l.lines;
   counted : l.number + length l.rest ≤ length l.lines + 1;
 }
 

@@ -1,6 +1,6 @@
 use Rattle.std.proofs.Common.{◌≡◌, ◌+◌, ◌<◌, Bool, true, false, Err, None, Some, [], length, sym, ap, ◌∙◌, arith, rules}
 use Rattle.std.specs.Prelude.{if◌then◌else◌}
-use Rattle.annot_check.specs.AnnotationText.{pairs_in, parts_of}
+use Rattle.annot_check.specs.AnnotationText.{pairs_in, pieces_of}
 use Rattle.annot_check.specs.Readings.{next_of}
 use Rattle.annot_check.proofs.ReadLemmas.{cut_is, next_longer, pair_bad, pair_good, pairs_ended, pairs_open, pairs_short, whole_is}
 use Rattle.annot_check.proofs.reading.read_pairs.Goals as goal
@@ -9,20 +9,20 @@ pub returns-then-eq-clause-ok : goal.returns-then-eq-clause-ok
 returns-then-eq-clause-ok c =
     let cut = cut_is c.loop-line.rest.now c.in-Some.line.now c.in-Some.behind.now (sym c.in-Some.ensures) in
     pairs_ended c.args.latches c.args.states c.args.head.now.count c.loop-line.taken.pairs.items c.loop-line.rest.now c.in-Some.line.now c.in-Some.behind.now c.loop-line.number
-    (pairs_in c.args.latches c.args.states c.args.head.now.count [] (parts_of c.args.head.now.rest.now) (c.args.head.now.line + 1)) cut.0 c.loop-line.invariant.reading
+    (pairs_in c.args.latches c.args.states c.args.head.now.count [] (pieces_of c.args.head.now.rest.now) (c.args.head.now.line + 1)) cut.0 c.loop-line.invariant.reading
     (search rules) (search rules)
 
 pub returns-then-len-head-clause-bad : goal.returns-then-len-head-clause-bad
 returns-then-len-head-clause-bad c = λ n same.
     let cut = cut_is c.loop-line.rest.now c.in-Some.line.now c.in-Some.behind.now (sym c.in-Some.ensures) in
     pairs_open c.args.latches c.args.states c.args.head.now.count c.loop-line.taken.pairs.items c.loop-line.rest.now c.in-Some.line.now c.in-Some.behind.now c.loop-line.number
-    (pairs_in c.args.latches c.args.states c.args.head.now.count [] (parts_of c.args.head.now.rest.now) (c.args.head.now.line + 1)) cut.0 c.loop-line.invariant.reading
+    (pairs_in c.args.latches c.args.states c.args.head.now.count [] (pieces_of c.args.head.now.rest.now) (c.args.head.now.line + 1)) cut.0 c.loop-line.invariant.reading
     (search rules) (search rules) ∙ ap Err (let e : c.loop-line.number ≡ n = cc in e)
 
 pub returns-clause-bad : goal.returns-clause-bad
 returns-clause-bad c = λ n same.
     pairs_short c.args.latches c.args.states c.args.head.now.count c.loop-line.taken.pairs.items c.loop-line.rest.now c.loop-line.number
-    (pairs_in c.args.latches c.args.states c.args.head.now.count [] (parts_of c.args.head.now.rest.now) (c.args.head.now.line + 1)) (whole_is c.loop-line.rest.now (sym c.in_default.ensures))
+    (pairs_in c.args.latches c.args.states c.args.head.now.count [] (pieces_of c.args.head.now.rest.now) (c.args.head.now.line + 1)) (whole_is c.loop-line.rest.now (sym c.in_default.ensures))
     c.loop-line.invariant.reading ∙ ap Err (let e : c.loop-line.number ≡ n = cc in e)
 
 pub returns-then-not-branch-clause-bad : goal.returns-then-not-branch-clause-bad
@@ -31,7 +31,7 @@ returns-then-not-branch-clause-bad c = λ n same.
     let none : next_of c.args.latches c.args.states c.loop-line.taken.pairs.items c.in-Some.line.now ≡ None =
     c.in_ok-take.ensures.next ∙ ap (λ (b : Bool). if b then Some c.take.new.self.pairs.items else None) (let no : c.in_ok-take.field-0 ≡ false = search rules in no) in
     pair_bad c.args.latches c.args.states c.args.head.now.count c.loop-line.taken.pairs.items c.loop-line.rest.now c.in-Some.line.now c.in-Some.behind.now c.loop-line.number
-    (pairs_in c.args.latches c.args.states c.args.head.now.count [] (parts_of c.args.head.now.rest.now) (c.args.head.now.line + 1)) cut.0 c.loop-line.invariant.reading
+    (pairs_in c.args.latches c.args.states c.args.head.now.count [] (pieces_of c.args.head.now.rest.now) (c.args.head.now.line + 1)) cut.0 c.loop-line.invariant.reading
     (search rules) none ∙ ap Err (let e : c.loop-line.number ≡ n = cc in e)
 
 pub loop-line-preserved : goal.loop-line-preserved
@@ -46,7 +46,7 @@ loop-line-preserved c =
     next_longer c.args.latches c.args.states c.in-Some.line.now c.loop-line.taken.pairs.items c.take.new.self.pairs.items some in
     record {
       reading = pair_good c.args.latches c.args.states c.args.head.now.count c.loop-line.taken.pairs.items c.loop-line.rest.now c.in-Some.line.now c.in-Some.behind.now
-          c.loop-line.number (pairs_in c.args.latches c.args.states c.args.head.now.count [] (parts_of c.args.head.now.rest.now) (c.args.head.now.line + 1)) cut.0
+          c.loop-line.number (pairs_in c.args.latches c.args.states c.args.head.now.count [] (pieces_of c.args.head.now.rest.now) (c.args.head.now.line + 1)) cut.0
           c.loop-line.invariant.reading c.take.new.self.pairs.items (search rules) some;
       counted = omega (arith, shorter, counted);
       numbered = omega (arith, one, numbered);

@@ -1,5 +1,5 @@
 use Rattle.std.proofs.Common.{◌≡◌, drop}
-use Rattle.annot_check.specs.Steps.{number_of}
+use Rattle.letter_word.specs.Bits.{number_of}
 use Rattle.annot_check.proofs.steps.written_number.Given as goal
 
 abbrev pub invariant-loop-k : goal.invariant-loop-k

@@ -1,5 +1,7 @@
 use Rattle.std.proofs.Common.{◌≡◌, ◌++◌, ◌∙◌, ap, append_assoc}
-use Rattle.boundsyn_top.proofs.SinkLemmas.{gains_more, front_more, front_of_fault, cut_joins}
+use Rattle.outside_edge.proofs.EdgeLemmas.{Gains-append}
+use Rattle.outside_edge.proofs.GainLemmas.{front_more, front_of_fault}
+use Rattle.boundsyn_top.proofs.SinkLemmas.{cut_joins}
 use Rattle.boundsyn_top.proofs.lines.put_lines.Goals as goal
 
 pub returns-in-Err-clause-front : goal.returns-in-Err-clause-front
@@ -18,7 +20,7 @@ loop-rest-preserved g c =
       (
         before.0 ++ c.split_at.result.0.now,
         append_assoc before.0 c.split_at.result.0.now c.split_at.result.1.now ∙ ap (λ t. before.0 ++ t) cut ∙ before.1,
-        gains_more _ _ _ before.0 c.split_at.result.0.now before.2 c.in-Ok.ensures.ok,
+        Gains-append _ _ _ before.0 c.split_at.result.0.now before.2 c.in-Ok.ensures.ok,
       ),
       c.in-Ok.ensures.not_failed (λ e. cc) ∙ c.loop-rest.invariant.1,
     )

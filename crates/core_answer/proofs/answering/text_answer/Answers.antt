@@ -1,5 +1,6 @@
 use Rattle.std.proofs.Common.{◌≡◌, ◌<◌, ◌≤◌, true, false, IfOk, length, ap, subst}
 use Rattle.std.proofs.lemmas.Result.{IfOk-weaker}
+use Rattle.std.proofs.lemmas.Bool.{not-true, not-false}
 use Rattle.spec_faults.specs.declared.code.SpecCode.TheVariants.{TooManyGuarantees}
 use Rattle.tlsf_expand.specs.FlatText.{spec_seen}
 use Rattle.program_replies.specs.declared.replies.Status.TheVariants as ended
@@ -8,7 +9,7 @@ use Rattle.program_replies.specs.Statuses.{status_number}
 use Rattle.synth_answer.specs.Answer.{IsAnswerOn}
 use Rattle.synth_answer.proofs.Meaning.{truth_of_text}
 use Rattle.core_answer.specs.Core.{CoreAnswers, refused}
-use Rattle.core_answer.proofs.Wholes.{core_replied, core_text, given_here, is_not, not_false, own_ground, spared_text, tells_all, text_in, the_flat, too_many_here}
+use Rattle.core_answer.proofs.Wholes.{core_replied, core_text, given_here, own_ground, spared_text, tells_all, text_in, the_flat, too_many_here}
 use Rattle.core_answer.proofs.answering.text_answer.Goals as goal
 
 pub returns-then-count-gt-MOST_GUARANTEES : goal.returns-then-count-gt-MOST_GUARANTEES
@@ -30,7 +31,7 @@ returns-then-not-whole g c = λ text kind t.
     let few : length spec.expanded.sections.guarantee ≤ 64 = subst (λ n. n ≤ 64) c.guarantee_count-count.ensures c.if-count-gt-MOST_GUARANTEES.false in
     let on = subst (λ r. IfOk r (λ b. IsAnswerOn (own_ground text kind spec problems t) c.args.settings b.reply.bytes.items (status_number b.reply.status) b.defeats)) c.in_ok-whole.was
     (c.answer_on.ensures (truth_of_text t.says) flat.formulas flat.expanded.whole (given_here text kind spec problems t)) in
-    let not_defeated : a.defeats ≡ false = is_not a.defeats c.if-not-whole.true in
+    let not_defeated : a.defeats ≡ false = not-true a.defeats c.if-not-whole.true in
     spared_text text kind spec problems t c.args.settings a.reply.bytes.items (status_number a.reply.status) a.defeats on few not_defeated
 
 pub returns : goal.returns
@@ -43,7 +44,7 @@ returns g c = λ text kind t.
     let few : length spec.expanded.sections.guarantee ≤ 64 = subst (λ n. n ≤ 64) c.guarantee_count-count.ensures c.if-count-gt-MOST_GUARANTEES.false in
     let on = subst (λ r. IfOk r (λ b. IsAnswerOn (own_ground text kind spec problems t) c.args.settings b.reply.bytes.items (status_number b.reply.status) b.defeats)) c.in_ok-whole.was
     (c.answer_on.ensures (truth_of_text t.says) flat.formulas flat.expanded.whole (given_here text kind spec problems t)) in
-    let defeated : a.defeats ≡ true = not_false a.defeats c.if-not-whole.false in
+    let defeated : a.defeats ≡ true = not-false a.defeats c.if-not-whole.false in
     core_replied text kind c.args.settings count c.core_of.result c.core_of.ensures.status
     (c.core_of.ensures.told text kind (text_in text kind spec problems t c.sections_of_texts_stand.ensures)
     (tells_all text kind spec problems t c.args.settings a.reply.bytes.items (status_number a.reply.status) a.defeats on defeated count))

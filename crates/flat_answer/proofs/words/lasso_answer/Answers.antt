@@ -2,7 +2,7 @@ use Rattle.std.proofs.Common.{◌≡◌, Err, ap, ◌∙◌, subst}
 use Rattle.std.proofs.lemmas.Result.{IfOk-weaker}
 use Rattle.tlsf_expand.specs.FlatText.{spec_seen}
 use Rattle.flat_lines.specs.FlatLines.{all_names}
-use Rattle.lasso_word.specs.WordText.{IsFirstBadLine, StatesWord}
+use Rattle.lasso_word.specs.WordText.{IsFirstBadWordLine, StatesWord}
 use Rattle.program_replies.specs.declared.replies.Status.TheVariants.{Done, LineRefused}
 use Rattle.program_replies.specs.Lines.{line_refusal}
 use Rattle.program_replies.specs.Statuses.{status_number}
@@ -15,8 +15,8 @@ returns-in-Err-BadLine c =
     let flat = spec_seen c.args.spec.now in
     let line = c.in-Err-BadLine.line in
     let names : c.deref.result.now ≡ all_names flat.expanded = c.deref.ensures.value ∙ c.in_ok-names.ensures in
-    let first : IsFirstBadLine c.args.word.now (all_names flat.expanded) line =
-    subst (λ ns. IsFirstBadLine c.args.word.now ns line) names (c.in-Err-BadLine.ensures.bad line (ap Err c.in-Err-BadLine.field-0-is)) in
+    let first : IsFirstBadWordLine c.args.word.now (all_names flat.expanded) line =
+    subst (λ ns. IsFirstBadWordLine c.args.word.now ns line) names (c.in-Err-BadLine.ensures.bad line (ap Err c.in-Err-BadLine.field-0-is)) in
     λ text is_flat. IfOk-weaker c.refused_at_line.result
     (λ r. (r.bytes.items ≡ line_refusal line) × (r.status ≡ LineRefused))
     (λ r. LassoAnswers text c.args.word.now r.bytes.items (status_number r.status))

@@ -1,5 +1,5 @@
 use Rattle.std.proofs.Common.{sym}
-use Rattle.tlsf_reader.proofs.Nodes.{span_seen}
+use Rattle.tlsf_syntax.proofs.Seen.{span_seen}
 use Rattle.tlsf_reader.proofs.node.span.Goals as goal
 
 pub returns : goal.returns

@@ -5,7 +5,7 @@ use Rattle.aiger_text.specs.CircuitFile.{File}
 use Rattle.aiger_text.specs.CircuitType.{IsCircuit}
 use Rattle.annot_check.specs.declared.pairs.Pair.{Pair}
 use Rattle.machine_model.specs.Automaton.{states_of}
-use Rattle.annot_check.specs.AnnotationText.{IsFirstBadLine, StatesPairs}
+use Rattle.annot_check.specs.AnnotationText.{IsFirstBadAnnotationLine, StatesPairs}
 use Rattle.document_check.specs.Shown.{facts_of}
 use Rattle.verify_answer.specs.FirstBad.{IsFirstBadOfCircuit, of_line, over}
 use Rattle.verify_answer.specs.Reply.{IsFoundOf, IsToldOf}
@@ -54,5 +54,5 @@ returns-in_ok-line-in-Err c =
     let bad = c.in-Err.ensures.bad c.in_ok-line-in-Err.line (ap Err c.in_ok-line-in-Err.ensures) in
     subst (λ (f : File). IsFirstBadOfCircuit (facts_of c.args.facts) c.args.bytes.now (f.comment_line + c.in_ok-line-in-Err.line)) (sym c.file.view_is)
     (of_line c.args.file.now c.args.comment.now c.in_ok-line-in-Err.line c.requires.commented
-    (subst (λ (n : ℕ). IsFirstBadLine c.args.comment.now n (states_of (over (facts_of c.args.facts))) c.in_ok-line-in-Err.line) latches
-    (subst (λ (n : ℕ). IsFirstBadLine c.args.comment.now c.latch_count-latches.result n c.in_ok-line-in-Err.line) states bad)))
+    (subst (λ (n : ℕ). IsFirstBadAnnotationLine c.args.comment.now n (states_of (over (facts_of c.args.facts))) c.in_ok-line-in-Err.line) latches
+    (subst (λ (n : ℕ). IsFirstBadAnnotationLine c.args.comment.now c.latch_count-latches.result n c.in_ok-line-in-Err.line) states bad)))

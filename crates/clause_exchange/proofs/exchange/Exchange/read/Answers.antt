@@ -1,10 +1,10 @@
 use Rattle.std.proofs.Common.{◌≡◌, List, OnOk, OnErr, sym, refl, ap, ◌∙◌, subst}
 use Rattle.refutation_log.specs.declared.entries.Entry.{Entry}
 use Rattle.text_base.specs.Prefix.{IsPrefix}
+use Rattle.text_base.proofs.PrefixLemmas.{IsPrefix-trans}
 use Rattle.clause_exchange.specs.SharedLog.{PassView}
 use Rattle.clause_exchange.specs.Steps.{Begins, idle, moved}
 use Rattle.clause_exchange.specs.Opening.{part_seen}
-use Rattle.clause_exchange.proofs.Knowing.{prefix_through}
 use Rattle.clause_exchange.proofs.Offering.{seat_of, moved_same, turn_after, own_kept, seen_after, copied_ok, copied_part}
 use Rattle.clause_exchange.proofs.exchange.Exchange.read.Given.{Over}
 use Rattle.clause_exchange.proofs.exchange.Exchange.read.Goals as goal
@@ -23,7 +23,7 @@ same_table g c = c.end.ensures.same.0 ∙ c.copy-copied.ensures.same.0 ∙ c.beg
 
 pub copy-copied-requires-clause-begun : goal.copy-copied-requires-clause-begun
 copy-copied-requires-clause-begun g c = let b = begins g (goal.at.copy-copied-requires-clause-begun g c).After-begin in
-    (b.0.entries, b.0, part_seen c.args.pass.now, b.1, prefix_through c.args.into.now.items c.args.pass.now.seen b.0.entries c.requires.begins b.2.part_of.seen)
+    (b.0.entries, b.0, part_seen c.args.pass.now, b.1, IsPrefix-trans c.args.into.now.items c.args.pass.now.seen b.0.entries c.requires.begins b.2.part_of.seen)
 
 pub end-requires-clause-moved : goal.end-requires-clause-moved
 end-requires-clause-moved g c = let b = begins g (goal.at.end-requires-clause-moved g c).After-begin in

@@ -1,7 +1,7 @@
 use Rattle.std.proofs.Common.{◌≡◌, ◌+◌, Some, ap, refl, subst, sym, ◌∙◌}
 use Rattle.std.specs.Prelude.{position}
 use Rattle.std.proofs.lemmas.Option.{none-some, same_Some}
-use Rattle.unreal_core.specs.Shrink.{IsFirstOpen, is_open}
+use Rattle.unreal_core.specs.Shrink.{IsFirstOpenGuarantee, is_open}
 use Rattle.unreal_core.proofs.Standings.{all_needed, first_open, not_all_needed}
 use Rattle.unreal_core.proofs.shrink.Shrink.ask.Goals as goal
 
@@ -9,7 +9,7 @@ pub returns-in-Some-clause-least : goal.returns-in-Some-clause-least
 returns-in-Some-clause-least c =
     let s = c.self.inside.standings.items in
     let found : position is_open s ≡ Some c.in-Some.place = ap (position is_open) (sym c.deref.ensures.value) ∙ sym c.in-Some.ensures in
-    rw (← c.self.view_is) (λ n e. subst (IsFirstOpen s) (same_Some (c.in-Some.place + 1) n e) (first_open s c.in-Some.place found c.self.invariant.1))
+    rw (← c.self.view_is) (λ n e. subst (IsFirstOpenGuarantee s) (same_Some (c.in-Some.place + 1) n e) (first_open s c.in-Some.place found c.self.invariant.1))
 
 pub returns-in-Some-clause-none : goal.returns-in-Some-clause-none
 returns-in-Some-clause-none c =
