@@ -2,7 +2,7 @@
 
 ghost use Rattle.std.specs.Prelude.{◌<◌, IsTrue, length};
 ghost use Rattle.tlsf_expand.specs.FlatText.{spec_seen};
-ghost use Rattle.synth_answer.specs.Printed.{given_by};
+ghost use Rattle.text_ground.specs.Ground.{given_by};
 ghost use Rattle.verify_answer.specs.Reply.{AreReady};
 
 use crate::components::{components, numbers};
@@ -13,7 +13,7 @@ use machine_model::Automaton;
 use program_replies::{Reply, Status, refused_at_line};
 use spec_problems::TextProblems;
 use std::alloc::{AllocError, Global};
-use synth_answer::Problems;
+use text_ground::Problems;
 use text_base::push_number;
 use verify_answer::{problems_for_verify, verify_answer};
 

@@ -23,7 +23,7 @@ use spec_problems::laws::problems_of_texts_are_determined;
 use std::alloc::{AllocError, Global};
 use std::sync::Wait;
 use std::thread::Threads;
-use synth_answer::Problems;
+use text_ground::Problems;
 
 /// Checks a document against a text. The document is taken only where the text has no fault.
 pub(crate) fn check_certificate<R, H>(

@@ -2,7 +2,7 @@
 ghost use Rattle.std.specs.Prelude.{◌≡◌, ◌≢◌, ℕ, List, None, IfOk};
 ghost use Rattle.tlsf_expand.specs.FlatText.{spec_seen};
 ghost use Rattle.spec_problems.specs.OfText.{IsFirstFault};
-ghost use Rattle.synth_answer.specs.Printed.{given_by};
+ghost use Rattle.text_ground.specs.Ground.{given_by};
 ghost use Rattle.verify_answer.specs.Answer.{VerifyAnswers};
 ghost use Rattle.verify_answer.specs.Reply.{AreReady, IsForVerify};
 ghost use Rattle.program_replies.specs.Statuses.{status_number};
@@ -20,7 +20,7 @@ use program_replies::Reply;
 use spec_problems::TextProblems;
 use spec_problems::laws::problems_of_texts_are_determined;
 use std::alloc::{AllocError, Global};
-use synth_answer::Problems;
+use text_ground::Problems;
 use verify_answer::{problems_for_verify, verify_answer};
 
 /// Verifies a circuit against a text. The circuit is taken only where the text has no fault.

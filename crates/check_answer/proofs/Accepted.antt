@@ -15,7 +15,7 @@ use Rattle.ltl_formula.specs.Nodes.{tree_at}
 use Rattle.machine_model.specs.declared.problems.Problem.{Problem}
 use Rattle.machine_model.specs.Automaton.{IsAutomaton}
 use Rattle.machine_model.specs.Problem.{IsProblem, automaton_of}
-use Rattle.annotation_encode.specs.Count.{allowed_sizes}
+use Rattle.annotation_encode.specs.Count.{SizesRise, allowed_sizes}
 use Rattle.annotation_encode.specs.Laws.{HasNoAccepted}
 use Rattle.refutation_log.specs.Log.{is_ended}
 use Rattle.dual_search.specs.Sides.{AcceptsWhere}
@@ -34,11 +34,12 @@ use Rattle.document_check.specs.Holds.{AllHold, HoldsAt, HoldsFor, IsLogOfSome, 
 use Rattle.document_check.specs.Laws.{AllRefute, ClosedLogsRefuteSizes}
 use Rattle.document_check.specs.Shown.{AreFacts, IsProblemAt, IsSize}
 use Rattle.document_check.proofs.ProblemLemmas.{is_problem}
-use Rattle.synth_answer.specs.Ground.{IsWantedBy}
-use Rattle.synth_answer.specs.Printed.{given_by}
-use Rattle.synth_answer.specs.Reply.{AreProblemsFor, HaveAutomata, LawsHold}
-use Rattle.synth_answer.proofs.Meaning.{IsSideOf, are_problems_for, each_can_lose, none_satisfies, wanted_of}
-use Rattle.synth_answer.proofs.Sides.{all_three, some_of}
+use Rattle.text_ground.specs.Ground.{IsWantedBy}
+use Rattle.text_ground.specs.Ground.{given_by}
+use Rattle.text_ground.specs.Laws.{SidesMean}
+use Rattle.text_ground.specs.Problems.{AreProblemsFor, HaveAutomata}
+use Rattle.text_ground.proofs.Meaning.{IsSideOf, are_problems_for, each_can_lose, none_satisfies, wanted_of}
+use Rattle.text_ground.proofs.Lists.{all_three, some_of}
 use Rattle.check_answer.specs.Answer.{HasNoMachine, IsAcceptedDocument}
 use Rattle.check_answer.specs.Reply.{IsForCheck}
 use Rattle.check_answer.proofs.OfKind.{flat_of_kind, of_kind}
@@ -101,7 +102,8 @@ each_refutes facts kind version (l ∷ logs) all =
 
 -- what is known of a text and of its problems
 pub record Context (text : List ℕ) (t : TextProblems) : Type 0 where
-  pub laws : LawsHold
+  pub sides : SidesMean
+  pub sizes : SizesRise
   pub refute : ClosedLogsRefuteSizes
   pub taken : IsForCheck text t
   pub automata : HaveAutomata t.problems
@@ -180,12 +182,12 @@ module _ (text : List ℕ) (t : TextProblems) (k : Context text t) where
       each_loses None is holds refuted = absurd holds
       each_loses (Some p) is holds refuted =
           let known = environment_known p is in
-          each_can_lose k.laws (wanted_with kind) formula (says kind) (environments p) n known (refuted known.within known.automaton)
+          each_can_lose k.sides (wanted_with kind) formula (says kind) (environments p) n known (refuted known.within known.automaton)
 
       no_machine : (side : Side) → IsLogOfSome full limit l (problem_at given kind version side n) → Refuted (problem_at given kind version side n)
           → HasNoMachine (wanted_with kind) side n
       no_machine System holds refuted =
-          none_satisfies k.laws (wanted_with kind) formula (says kind) systems n system_known (refuted system_known.within system_known.automaton)
+          none_satisfies k.sides (wanted_with kind) formula (says kind) systems n system_known (refuted system_known.within system_known.automaton)
       no_machine Environment holds refuted = each_loses s.environment refl holds refuted
 
   -- == a document that holds ==
@@ -205,7 +207,7 @@ module _ (text : List ℕ) (t : TextProblems) (k : Context text t) where
 
         by : (o : Option Problem) → option_map_or (λ (p : Problem). allowed_sizes p d.max) o 0 ≤ 8
         by None = omega arith
-        by (Some p) = let within = (k.laws.sizes.allowed p d.max).within in omega (arith, within, few)
+        by (Some p) = let within = (k.sizes.allowed p d.max).within in omega (arith, within, few)
 
     logs_refuted : All (λ l. is_ended l.entries ≡ true → HasNoMachine (wanted_with d.kind) l.side l.size) d.logs
     logs_refuted =

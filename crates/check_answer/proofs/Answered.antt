@@ -13,11 +13,11 @@ use Rattle.document_check.specs.FirstBad.{IsFirstBadFor}
 use Rattle.document_check.specs.Holds.{HoldsFor}
 use Rattle.program_replies.specs.declared.replies.Status.{Status}
 use Rattle.program_replies.specs.Statuses.{status_number}
-use Rattle.synth_answer.specs.Printed.{given_by}
-use Rattle.synth_answer.specs.Texts.{AreOfText, IfProblems}
-use Rattle.synth_answer.proofs.TextFacts.{facts_are}
-use Rattle.synth_answer.specs.declared.texts.Problems.{Problems}
-use Rattle.synth_answer.specs.declared.texts.Problems.TheVariants.{Of, Refused}
+use Rattle.text_ground.specs.Ground.{given_by}
+use Rattle.text_ground.specs.Texts.{AreOfText, IfProblems}
+use Rattle.text_ground.proofs.TextFacts.{facts_are}
+use Rattle.text_ground.specs.declared.texts.Problems.{Problems}
+use Rattle.text_ground.specs.declared.texts.Problems.TheVariants.{Of, Refused}
 use Rattle.check_answer.specs.Answer.{CheckAnswers, GivenToCheck}
 use Rattle.check_answer.specs.Answer as answer
 use Rattle.check_answer.specs.Reply.{AreForCheck, IsAcceptance, IsLineRefusal}

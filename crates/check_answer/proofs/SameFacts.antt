@@ -28,7 +28,7 @@ use Rattle.document_check.proofs.ProblemLemmas.{allowed_is}
 use Rattle.spec_problems.specs.declared.sides.SideProblems.{SideProblems}
 use Rattle.spec_problems.specs.Laws.{AreSameProblems, IsSameIfAny, IsSameProblem}
 use Rattle.tlsf_expand.specs.FlatText.{FlatText}
-use Rattle.synth_answer.specs.Printed.{given_by}
+use Rattle.text_ground.specs.Ground.{given_by}
 
 environment_at : (kind : Kind) (version size : ℕ) (e f : Option Problem) → IsProblemAt f e
     → IsProblemAt (option_map (λ (p : Problem). record p { kind = kind; size = size; version = clause_version version }) f)

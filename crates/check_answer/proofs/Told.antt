@@ -16,8 +16,8 @@ use Rattle.cert_text.specs.Parts.{LogPart}
 use Rattle.document_check.specs.declared.facts.Size.{Size}
 use Rattle.document_check.specs.Facts.{Facts, problem_at, sizes_to, wanted_sizes}
 use Rattle.document_check.specs.Holds.{HoldsAt, IsLogOfSome, is_allowed, may_be_full, size_of}
-use Rattle.synth_answer.proofs.Places.{le_cases}
-use Rattle.synth_answer.proofs.Sides.{all_both}
+use Rattle.text_ground.proofs.Lists.{le_cases}
+use Rattle.text_ground.proofs.Lists.{all_both}
 use Rattle.check_answer.specs.Answer.{HasNoMachine, SaysOfSizes}
 
 abbrev size_at : Side → ℕ → Size

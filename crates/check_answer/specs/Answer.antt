@@ -21,8 +21,8 @@ use Rattle.document_check.specs.Facts.{Facts, allowed_at}
 use Rattle.document_check.specs.Holds.{HoldsFor}
 use Rattle.document_check.specs.FirstBad.{IsFirstBadFor}
 use Rattle.program_replies.specs.Lines.{line_refusal, refusal_line}
-use Rattle.synth_answer.specs.Ground.{IsWantedBy}
-use Rattle.synth_answer.specs.Printed.{given_by}
+use Rattle.text_ground.specs.Ground.{IsWantedBy}
+use Rattle.text_ground.specs.Ground.{given_by}
 
 -- == the line of a document that is accepted ==
 

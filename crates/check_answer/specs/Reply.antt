@@ -10,10 +10,10 @@ use Rattle.cert_text.specs.declared.documents.DocumentFault.TheVariants as fault
 use Rattle.cert_text.specs.declared.documents.Verdict.{Verdict}
 use Rattle.document_check.specs.Facts.{Facts}
 use Rattle.document_check.specs.Shown.{AreFacts}
-use Rattle.synth_answer.specs.declared.texts.Problems.{Problems}
-use Rattle.synth_answer.specs.declared.texts.Problems.TheVariants.{Of, Refused}
-use Rattle.synth_answer.specs.Printed.{given_by}
-use Rattle.synth_answer.specs.Texts.{IsTextWith}
+use Rattle.text_ground.specs.declared.texts.Problems.{Problems}
+use Rattle.text_ground.specs.declared.texts.Problems.TheVariants.{Of, Refused}
+use Rattle.text_ground.specs.Ground.{given_by}
+use Rattle.text_ground.specs.Texts.{IsTextWith}
 use Rattle.program_replies.specs.Lines.{line_refusal}
 use Rattle.program_replies.specs.Statuses.{status_number}
 use Rattle.program_replies.specs.declared.replies.Status.{Status}

@@ -6,6 +6,7 @@ ghost use Rattle.check_answer.specs.Answer.{CheckAnswers};
 ghost use Rattle.check_answer.specs.Reply.{AreForCheck, IsForCheck, IsLineRefusal, facts_for_check};
 
 use crate::lines::acceptance;
+use annotation_encode::laws::sizes_rise;
 use cert_text::DocumentFault;
 use document_check::check_document;
 use document_check::laws::closed_logs_refute_sizes;
@@ -14,7 +15,8 @@ use program_replies::{Reply, refused_at_line};
 use spec_problems::TextProblems;
 use std::alloc::{AllocError, Global};
 use std::thread::Threads;
-use synth_answer::{Problems, automata_are_kept, facts_of, laws_hold, problems_or_refusal};
+use text_ground::laws::sides_mean;
+use text_ground::{Problems, automata_are_kept, facts_of, problems_or_refusal};
 
 /// The problems of a text that documents are checked against, or the line of its first fault with status 1. Kinds of the text's own that
 /// differ are no fault here.
@@ -37,7 +39,8 @@ pub fn check_answer<R: Threads + Sync>(
     requires { AreFacts (facts_for_check text.now) }
     ensures { (bytes : List ℕ) → IsForCheck bytes text.now → IfOk result (λ r. CheckAnswers bytes certificate.now r.bytes.items (status_number r.status)) }
 {
-    laws_hold();
+    sides_mean();
+    sizes_rise();
     closed_logs_refute_sizes();
     automata_are_kept(&text.problems);
     match check_document(rt, alloc, facts_of(text), certificate) {

@@ -11,7 +11,7 @@ use Rattle.satisfaction.specs.Wanted.{Wanted}
 use Rattle.spec_problems.proofs.OneAnswer.{texts_are_determined}
 use Rattle.synth_engine.specs.declared.settings.Settings.{Settings}
 use Rattle.synth_answer.specs.Answer.{AnswersFor, DoesItsPart, bounded, defeats, is_environment, no_entries, no_size, realizable, refused, unrealizable}
-use Rattle.synth_answer.specs.Ground.{Ground}
+use Rattle.text_ground.specs.Ground.{Ground}
 use Rattle.core_answer.specs.Core.{IsCoreFault, of_text, too_many}
 use Rattle.core_answer.specs.Laws.{CoreFaultsAreDetermined, CoresCannotBeMet}
 use Rattle.core_answer.specs.Over.{IsFaultOver, IsGroundOver}

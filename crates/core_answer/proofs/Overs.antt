@@ -15,7 +15,7 @@ use Rattle.program_replies.specs.declared.replies.Status.{Status}
 use Rattle.program_replies.specs.Statuses.{status_number}
 use Rattle.synth_engine.specs.declared.settings.Settings.{Settings}
 use Rattle.synth_answer.specs.Answer.{refused}
-use Rattle.synth_answer.specs.Ground.{Ground, ground_with}
+use Rattle.text_ground.specs.Ground.{Ground, ground_with}
 use Rattle.synth_answer.proofs.Grounds.{answer_for}
 use Rattle.unreal_core.specs.declared.whole.Reduced.{Reduced}
 use Rattle.unreal_core.specs.Reduced.{kept_sections, reduced, reduced_in}

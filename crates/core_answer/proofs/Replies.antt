@@ -13,7 +13,7 @@ use Rattle.spec_problems.specs.OfText.{interface_of}
 use Rattle.synth_engine.specs.declared.settings.Settings.{Settings}
 use Rattle.synth_answer.specs.declared.answering.Answered.{Answered}
 use Rattle.synth_answer.specs.Answer.{IsAnswerOn}
-use Rattle.synth_answer.specs.Ground.{AreGivenOn, ground_with}
+use Rattle.text_ground.specs.Ground.{AreGivenOn, ground_with}
 use Rattle.unreal_core.specs.declared.whole.Reduced.{Reduced}
 use Rattle.core_answer.specs.Reply.{IsReducedReply, reduced_answered}
 

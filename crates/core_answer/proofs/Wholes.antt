@@ -16,10 +16,10 @@ use Rattle.spec_problems.specs.OfText.{IsFirstFault}
 use Rattle.ltl_formula.specs.Nodes.{tree_at}
 use Rattle.synth_engine.specs.declared.settings.Settings.{Settings}
 use Rattle.synth_answer.specs.Answer.{IsAnswerFor, IsAnswerOn}
-use Rattle.synth_answer.specs.Ground.{AreGivenOn, Ground, IsGroundOf}
-use Rattle.synth_answer.specs.Texts.{IsTextWith}
+use Rattle.text_ground.specs.Ground.{AreGivenOn, Ground, IsGroundOf}
+use Rattle.text_ground.specs.Texts.{IsTextWith}
 use Rattle.synth_answer.proofs.Grounds.{answer_for}
-use Rattle.synth_answer.proofs.Meaning.{flat_by_its_kind, given_on, ground_by_its_kind, is_ground, text_ground}
+use Rattle.text_ground.proofs.Meaning.{flat_by_its_kind, given_on, ground_by_its_kind, is_ground, text_ground}
 use Rattle.unreal_core.specs.WholeLaws.{SectionsOfTextsStand}
 use Rattle.tlsf_expand.specs.Standing.{SectionsStand}
 use Rattle.tlsf_expand.proofs.Expanded.{sections_stand_later}

@@ -7,7 +7,7 @@ use Rattle.satisfaction.specs.Satisfaction.{Satisfies}
 use Rattle.synth_engine.specs.declared.settings.Settings.{Settings}
 use Rattle.core_answer.specs.Core.{IsCore, IsCoreFault}
 use Rattle.core_answer.specs.Over.{IsGroundOver}
-use Rattle.synth_answer.specs.Ground.{Ground}
+use Rattle.text_ground.specs.Ground.{Ground}
 
 -- a text has at most one fault for `core`
 abbrev pub CoreFaultsAreDetermined : Type 0

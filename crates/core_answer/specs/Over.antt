@@ -16,7 +16,7 @@ use Rattle.flat_text.specs.FlatOf.{IsFlatOf}
 use Rattle.spec_problems.specs.OfFormula.{IsFormFault}
 use Rattle.spec_problems.specs.OfText.{IsFirstFault}
 use Rattle.satisfaction.specs.Wanted.{Wanted}
-use Rattle.synth_answer.specs.Ground.{Ground, IsGroundOf, formula_on}
+use Rattle.text_ground.specs.Ground.{Ground, IsGroundOf, formula_on}
 use Rattle.unreal_core.specs.Cut.{cut}
 use Rattle.unreal_core.specs.Reduced.{kept_sections, reduced, reduced_in}
 

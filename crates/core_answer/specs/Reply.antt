@@ -13,7 +13,7 @@ use Rattle.spec_problems.specs.OfFormula.{IsFormFault}
 use Rattle.satisfaction.specs.Wanted.{Says}
 use Rattle.synth_engine.specs.declared.settings.Settings.{Settings}
 use Rattle.synth_answer.specs.Answer.{IsAnswerOn}
-use Rattle.synth_answer.specs.Ground.{ground_with}
+use Rattle.text_ground.specs.Ground.{ground_with}
 use Rattle.program_replies.specs.Refusals.{IsRefusal}
 use Rattle.unreal_core.specs.declared.whole.Reduced.{Reduced}
 

@@ -14,8 +14,9 @@ use Rattle.synth_engine.specs.declared.outcomes.Outcome.TheVariants.{Real, Unrea
 use Rattle.synth_engine.specs.Outcomes.{HasNoEntries, HasNoSize, IsFound, IsSmallest, OfSide, OnBounded, OnReal, OnUnreal}
 use Rattle.synth_engine.specs.Outcomes as outcomes
 use Rattle.synth_answer.specs.Holds.{read_by, written_by}
-use Rattle.synth_answer.specs.Reply.{AreProblemsFor, FitsNames, HasFittingMachine, IsProblemFor}
-use Rattle.synth_answer.proofs.Meaning.{kind_for, reads_environment, reads_system, writes_environment, writes_system}
+use Rattle.synth_answer.specs.Reply.{FitsNames, HasFittingMachine}
+use Rattle.text_ground.specs.Problems.{AreProblemsFor, IsProblemFor}
+use Rattle.text_ground.proofs.Meaning.{kind_for, reads_environment, reads_system, writes_environment, writes_system}
 use Rattle.synth_answer.proofs.Sides.{IsOf, find}
 
 module _ (v : ℕ) (x : Expanded) (s : SideProblems) (problems : AreProblemsFor v x s) (settings : Settings) (most : settings.max ≤ 8) (sizes : SizesRise) where

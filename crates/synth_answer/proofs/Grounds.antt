@@ -8,7 +8,7 @@ use Rattle.synth_answer.specs.Answer.{AnswersFor, IsAnswerFor, IsAnswerOn, IsTol
 use Rattle.cert_text.specs.declared.documents.Verdict.{Verdict}
 use Rattle.tlsf_expand.specs.FlatText.{FlatText}
 use Rattle.spec_problems.specs.OfText.{AreProblemsOf}
-use Rattle.synth_answer.specs.Ground.{AreProblemsOn, Ground, ground_with}
+use Rattle.text_ground.specs.Ground.{AreProblemsOn, Ground, ground_with}
 use Rattle.synth_answer.specs.Printed.{Printed, PrintedFor}
 
 module _ (IsFault : SpecCode → ℕ → Type 0) (IsGround : Option Kind → Ground → Type 0) (kind : Option Kind) (settings : Settings) (g : Ground) (here : IsGround kind g)

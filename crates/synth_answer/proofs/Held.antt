@@ -28,7 +28,8 @@ use Rattle.synth_engine.specs.Logs.{base_at}
 use Rattle.synth_engine.specs.Outcomes.{OfSide}
 use Rattle.synth_answer.proofs.AsThree.{same_clauses, same_sizes}
 use Rattle.synth_answer.specs.Holds.{ForLog, IsClosedFor, IsClosedLog, IsEndedLog, IsFirstOpen, IsFullFor, IsFullLog, document_version, place_of, read_by, sizes_of, written_by}
-use Rattle.synth_answer.proofs.Sides.{IsOf, all_map, all_three, on_both_of, out_of}
+use Rattle.synth_answer.proofs.Sides.{IsOf, on_both_of, out_of}
+use Rattle.text_ground.proofs.Lists.{all_map, all_three}
 
 -- a circuit of the side has the text's names, in their order
 pub record HasNames (x : Facts) (side : Side) (c : Circuit) : Type 0 where

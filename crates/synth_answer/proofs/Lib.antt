@@ -10,4 +10,3 @@ pub mod Held
 pub mod Grounds
 pub mod AsThree
 pub mod Numbers
-pub mod TextFacts

@@ -6,7 +6,7 @@ use Rattle.std.specs.List.{list_all}
 use Rattle.aiger_text.specs.RoundTrip.{IsLineName}
 use Rattle.flat_text.specs.FlatNames.{IsOneWord}
 use Rattle.cert_text.specs.Order.{is_in_range}
-use Rattle.synth_answer.proofs.Sides.{all_map}
+use Rattle.text_ground.proofs.Lists.{all_map}
 
 pub in_range : (least most n : ℕ) → least ≤ n → n ≤ most → IsTrue (is_in_range least most n)
 in_range least most n l m = let a = le-leb least n l in let b = le-leb n most m in rw (a, b) refl

@@ -15,7 +15,7 @@ use Rattle.satisfaction.specs.Wanted.{Wanted}
 use Rattle.satisfaction.specs.Satisfaction.{EachCanLose, NoneSatisfies}
 use Rattle.satisfaction.specs.Laws.{DefeatingCannotLose}
 use Rattle.synth_answer.specs.Answer.{Answers, SomeDefeats, SomeSatisfies, refused, realizable, unrealizable, bounded, no_size, no_entries}
-use Rattle.synth_answer.specs.Ground.{IsWantedBy}
+use Rattle.text_ground.specs.Ground.{IsWantedBy}
 use Rattle.synth_answer.specs.Numbers.{NumbersAreDetermined, number_of}
 
 -- == what a text wants is one thing ==

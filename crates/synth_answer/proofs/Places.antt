@@ -48,9 +48,6 @@ parts_at_both side other n m logs e =
 
 -- == which places there are ==
 
-pub le_cases : (k n : ℕ) → k ≤ suc n → (k ≤ n) ⊎ (k ≡ suc n)
-le_cases k n h = grind (arith, h)
-
 pub has_place : (side : Side) (n k : ℕ) → 0 < k → k ≤ n → Contains (places_to side n) (place side k)
 has_place side zero k some most = absurd (omega (arith, some, most))
 has_place side (suc n) k some most = placed (le_cases k n most) (has_place side n k some)

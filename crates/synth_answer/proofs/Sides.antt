@@ -5,9 +5,6 @@ use Rattle.letter_word.specs.declared.kinds.Side.TheVariants.{System, Environmen
 use Rattle.machine_model.specs.declared.problems.Problem.{Problem}
 use Rattle.synth_engine.specs.Outcomes.{OfSide}
 
-pub some_of : {A : Type 0} (P : A → Type 0) (o : Option A) (x : A) → IfSome o P → o ≡ Some x → P x
-some_of P o x h e = let Q : Option _ → Type 0 = λ v. IfSome v P in subst Q e h
-
 -- the problem of a side
 abbrev pub IsOf : Problem → Option Problem → Side → Problem → Type 0
 IsOf s e System p = s ≡ p
@@ -41,15 +38,6 @@ pub out_of : (s : Problem) (e : Option Problem) (side : Side) (P : Problem → T
 out_of s e System P X f h = f s refl h
 out_of s None Environment P X f h = absurd h
 out_of s (Some p) Environment P X f h = f p refl h
-
-pub all_map : {A : Type 0} (P Q : A → Type 0) → ((x : A) → P x → Q x) → (xs : List A) → All P xs → All Q xs
-all_map P Q f xs all = λ k d h. f _ (all k d h)
-
-pub all_both : {A : Type 0} (P Q R : A → Type 0) → ((x : A) → P x → Q x → R x) → (xs : List A) → All P xs → All Q xs → All R xs
-all_both P Q R f xs a b = λ k d h. f _ (a k d h) (b k d h)
-
-pub all_three : {A : Type 0} (P Q R S : A → Type 0) → ((x : A) → P x → Q x → R x → S x) → (xs : List A) → All P xs → All Q xs → All R xs → All S xs
-all_three P Q R S f xs a b c = λ k d h. f _ (a k d h) (b k d h) (c k d h)
 
 pub at_side : (s : Problem) (e : Option Problem) (side : Side) (P : Problem → Type 0) (p : Problem) → IsOf s e side p → OfSide s e P side → P p
 at_side s e System P p of h = subst P of h

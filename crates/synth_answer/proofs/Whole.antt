@@ -55,15 +55,18 @@ use Rattle.document_check.specs.Facts.{Facts}
 use Rattle.document_check.specs.Holds as check
 use Rattle.synth_answer.specs.Holds.{ForLog, IsClosedFor, IsClosedLog, IsEndedLog, IsFirstOpen, IsFullFor, IsFullLog, place_of, read_by, sizes_of, written_by}
 use Rattle.synth_answer.proofs.Held.{AreAsWanted, AreOfKind, HasHeadOf, HasNames, IsAllowedLog, held, machine_of, named_of, places_to, wanted_places}
-use Rattle.synth_answer.specs.Ground.{AreGivenOn, Ground, facts_on, ground_with}
+use Rattle.text_ground.specs.Ground.{AreGivenOn, Ground, facts_on, ground_with}
 use Rattle.synth_answer.specs.Printed.{IsPrinted, PrintedFor}
-use Rattle.synth_answer.specs.Reply.{AreProblemsFor, HaveAutomata, IsCircuitWith, IsMachineText, IsShort, IsReplyTo, IsSearchedReply, IsTextOf, LawsHold, document_of, outcome_verdict, part_of}
+use Rattle.synth_answer.specs.Reply.{IsCircuitWith, IsMachineText, IsShort, IsReplyTo, IsSearchedReply, IsTextOf, LawsHold, document_of, outcome_verdict, part_of}
+use Rattle.text_ground.specs.Problems.{AreProblemsFor, HaveAutomata}
 use Rattle.synth_answer.proofs.ListLemmas.{all_back, all_front, all_some, in_range, line_names}
 use Rattle.synth_answer.proofs.LogLemmas.{IsOfNoLine, all_parts_at, any_at, places_at, split_at}
-use Rattle.synth_answer.proofs.Meaning.{IsSideOf, does_its_part, each_can_lose, none_satisfies, sized_within, some_defeats, some_satisfies}
+use Rattle.synth_answer.proofs.Meaning.{does_its_part, some_defeats, some_satisfies}
+use Rattle.text_ground.proofs.Meaning.{IsSideOf, each_can_lose, none_satisfies, sized_within}
 use Rattle.synth_answer.proofs.AsThree.{is_a_version, same_fits, same_found, same_order}
 use Rattle.synth_answer.proofs.Places.{IsClaimTo, claims_to, has_place, in_order_all, in_order_side, log_at, parts_at, parts_at_both, unmap}
-use Rattle.synth_answer.proofs.Sides.{IsOf, all_both, all_map, all_three, at_side, find, of_side, on_both, on_side, out_of, some_of}
+use Rattle.synth_answer.proofs.Sides.{IsOf, at_side, find, of_side, on_both, on_side, out_of}
+use Rattle.text_ground.proofs.Lists.{all_both, all_map, all_three, some_of}
 use Rattle.synth_answer.proofs.Sizes.{few_clauses, few_variables}
 
 -- what is known of a ground, with the names and the kind of a flat text, and of its problems
@@ -314,7 +317,7 @@ module _ (x : Expanded) (truth : Word → Bool) (nodes : List Node) (whole : For
       → FitsSize given settings.max System n → IsRefuted the_text given (doc v c logs) n
   is_refuted v c logs n log fits = record {
     log = log;
-    none = none_satisfies k.laws the_text formula says s.system n (side_known System s.system refl) (closed_refutes log.log System n log.is_at log.holds fits);
+    none = none_satisfies k.laws.sides the_text formula says s.system n (side_known System s.system refl) (closed_refutes log.log System n log.is_at log.holds fits);
   }
 
   pub can_be_beaten : (v : Verdict) (c : Option Circuit) (logs : List SizeLog) (n : ℕ) → HasLog (doc v c logs) Environment n (IsClosedLog given settings.entries)
@@ -323,7 +326,7 @@ module _ (x : Expanded) (truth : Word → Bool) (nodes : List Node) (whole : For
       let there = find s.system s.environment Environment (λ p. HasNoAccepted (sized p n)) (closed_refutes log.log Environment n log.is_at log.holds fits) in
       record {
         log = log;
-        each = each_can_lose k.laws the_text formula says there.problem n (side_known Environment there.problem there.of) there.holds;
+        each = each_can_lose k.laws.sides the_text formula says there.problem n (side_known Environment there.problem there.of) there.holds;
       }
 
   -- == documents of machines ==

@@ -18,7 +18,7 @@ use Rattle.document_check.specs.Facts.{Facts}
 use Rattle.cert_text.specs.Parts.{Document, LogPart}
 use Rattle.program_replies.specs.Lines.{refusal_line}
 use Rattle.synth_answer.specs.Holds.{IsClosedLog, IsEndedLog, IsFirstOpen, IsFullLog, place_of, sizes_of}
-use Rattle.synth_answer.specs.Ground.{Ground, IsGroundOf, facts_on}
+use Rattle.text_ground.specs.Ground.{Ground, IsGroundOf, facts_on}
 use Rattle.synth_answer.specs.Printed.{PrintedFor}
 
 -- == sizes without a machine ==

@@ -1,7 +1,5 @@
-pub mod Ground
 pub mod Holds
 pub mod Printed
 pub mod Answer
 pub mod Reply
 pub mod Numbers
-pub mod Texts

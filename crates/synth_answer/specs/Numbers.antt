@@ -4,7 +4,7 @@ use Rattle.letter_word.specs.declared.kinds.Kind.{Kind}
 use Rattle.spec_faults.specs.declared.code.SpecCode.{SpecCode}
 use Rattle.synth_engine.specs.declared.settings.Settings.{Settings}
 use Rattle.synth_answer.specs.Answer.{Answers, AnswersFor, refused, realizable, unrealizable, bounded, no_size, no_entries}
-use Rattle.synth_answer.specs.Ground.{Ground}
+use Rattle.text_ground.specs.Ground.{Ground}
 
 -- the number of states that an answer tells, and 0 where it tells none
 abbrev pub number_of : {IsFault : SpecCode → ℕ → Type 0} {IsGround : Option Kind → Ground → Type 0} {kind : Option Kind} {settings : Settings}

@@ -2,7 +2,6 @@
 use Rattle.std.specs.Prelude.{◌≡◌, ℕ, ◌≤◌, List, Option, Some, All}
 use Rattle.letter_word.specs.declared.kinds.Kind.{Kind}
 use Rattle.ltl_formula.specs.declared.nodes.Node.{Node}
-use Rattle.tlsf_expand.specs.FlatText.{FlatText}
 use Rattle.annotation_encode.specs.Counts.{counts_version}
 use Rattle.refutation_log.specs.Teaches.{IsTaught}
 use Rattle.spec_problems.specs.declared.sides.SideProblems.{SideProblems}
@@ -13,16 +12,8 @@ use Rattle.cert_text.specs.States.{States}
 use Rattle.document_check.specs.Facts.{Facts}
 use Rattle.document_check.specs.Holds.{HoldsFor}
 use Rattle.document_check.specs.FirstBad.{IsFirstBadFor}
-use Rattle.synth_answer.specs.Ground.{AreProblemsOn, Ground, IsGroundOf, facts_on}
+use Rattle.text_ground.specs.Ground.{AreProblemsOn, Ground, IsGroundOf, facts_on}
 use Rattle.synth_answer.specs.Holds.{ForLog, document_version}
-
-abbrev pub given_by : FlatText → SideProblems → Facts
-given_by spec problems = record {
-  inputs = spec.expanded.inputs;
-  outputs = spec.expanded.outputs;
-  system = problems.system;
-  environment = problems.environment;
-}
 
 -- The bytes are a document of the settings' version with the kind of the system's machines and the settings' numbers, which holds for the text: the
 -- test of documents finds no bad line. Each log is taught, and each entry is of a worker that was asked for, or of the caller, whose

@@ -3,12 +3,8 @@ use Rattle.std.specs.Prelude.{◌≡◌, ℕ, ◌≤◌, ◌<◌, ◌^◌, ⊤, 
 use Rattle.letter_word.specs.declared.kinds.Kind.{Kind}
 use Rattle.letter_word.specs.declared.kinds.Side.{Side}
 use Rattle.letter_word.specs.declared.kinds.Side.TheVariants.{System, Environment}
-use Rattle.letter_word.specs.Kinds.{other_kind}
-use Rattle.std.specs.Option.{ForSome}
 use Rattle.machine_model.specs.Machine.{MachineModel, size_of}
-use Rattle.machine_model.specs.Automaton.{IsAutomaton}
 use Rattle.machine_model.specs.Components.{ComponentsClass}
-use Rattle.machine_model.specs.Problem.{IsProblem, automaton_of}
 use Rattle.machine_model.specs.declared.problems.Problem.{Problem}
 use Rattle.aiger_text.specs.Circuit.{Circuit, IsCircuitOfKind, RunsOnEveryInput}
 use Rattle.aiger_text.specs.RoundTrip.{IsWritable}
@@ -17,7 +13,7 @@ use Rattle.annotation_encode.specs.Count.{SizesRise}
 use Rattle.refutation_log.specs.Laws.{LegalLogsAreWritable}
 use Rattle.size_laws.specs.Refuted.{ClosedLogsRefute}
 use Rattle.document_check.specs.Laws.{BadLinesAreDetermined}
-use Rattle.satisfaction.specs.Laws.{AcceptedEnvironmentsDefeat, AcceptedSystemsSatisfy, CircuitsDefeat, CircuitsSatisfy, RejectedEnvironmentsCanLose}
+use Rattle.satisfaction.specs.Laws.{CircuitsDefeat, CircuitsSatisfy}
 use Rattle.spec_problems.specs.declared.sides.SideProblems.{SideProblems}
 use Rattle.tlsf_expand.specs.Expansion.{Expanded}
 use Rattle.size_search.specs.declared.size_log.SizeLog.{SizeLog}
@@ -33,6 +29,8 @@ use Rattle.cert_text.specs.WellFormed.{IsWellFormed}
 use Rattle.cert_text.specs.States.{States, numbered}
 use Rattle.program_replies.specs.declared.replies.Status.{Status}
 use Rattle.program_replies.specs.declared.replies.Status.TheVariants as status
+use Rattle.text_ground.specs.Laws.{SidesMean}
+use Rattle.text_ground.specs.Problems.{HaveAutomata}
 use Rattle.synth_answer.specs.Holds.{document_version, read_by, written_by}
 
 -- a log as a document has it
@@ -113,25 +111,6 @@ IsReplyTo x settings (NoEntries side size logs) bytes ended =
 
 -- == what is searched ==
 
--- the problem of a side of a text, over base clauses of this version, whose machines are of this kind
-pub record IsProblemFor (version : ℕ) (x : Expanded) (side : Side) (kind : Kind) (p : Problem) : Type 0 where
-  pub within : IsProblem p
-  pub inputs : p.inputs ≡ length x.inputs
-  pub outputs : p.outputs ≡ length x.outputs
-  pub of_side : p.side ≡ side
-  pub kind_is : p.kind ≡ kind
-  pub size : p.size ≡ 1
-  pub version_is : p.version ≡ version
-
-pub record AreProblemsFor (version : ℕ) (x : Expanded) (s : SideProblems) : Type 0 where
-  pub of_system : IsProblemFor version x System x.kind s.system
-  pub of_environment : ForSome s.environment (IsProblemFor version x Environment (other_kind x.kind))
-
--- the problems' automata are such
-pub record HaveAutomata (s : SideProblems) : Type 0 where
-  pub of_system : IsAutomaton (automaton_of s.system)
-  pub of_environment : ForSome s.environment (λ p. IsAutomaton (automaton_of p))
-
 -- what is said of an outcome
 abbrev pub outcome_verdict : Outcome → Verdict
 outcome_verdict (Real machine logs) = verdict.Realizable (size_of machine)
@@ -162,9 +141,7 @@ pub record LawsHold : Type 0 where
   pub all_states : SmallestMeetsAllStates
   pub writable : LegalLogsAreWritable
   pub refute : ClosedLogsRefute
-  pub systems : AcceptedSystemsSatisfy
-  pub environments : AcceptedEnvironmentsDefeat
-  pub can_lose : RejectedEnvironmentsCanLose
+  pub sides : SidesMean
   pub circuits : CircuitsSatisfy
   pub counters : CircuitsDefeat
   pub bad_lines : BadLinesAreDetermined

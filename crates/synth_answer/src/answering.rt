@@ -8,12 +8,12 @@ ghost use Rattle.flat_text.specs.FlatNames.{HasPlainNames};
 ghost use Rattle.program_replies.specs.Statuses.{status_number};
 ghost use Rattle.tlsf_expand.specs.FlatText.{spec_seen};
 ghost use Rattle.synth_answer.specs.Answer.{Answers, IsAnswerOn, IsTold, IsToldOn, is_environment, verdict_defeats};
-ghost use Rattle.synth_answer.specs.Ground.{AreGivenOn, ground_with};
-ghost use Rattle.synth_answer.specs.Reply.{AreProblemsFor, IsSearchedReply, outcome_verdict};
+ghost use Rattle.text_ground.specs.Ground.{AreGivenOn, ground_with};
+ghost use Rattle.synth_answer.specs.Reply.{IsSearchedReply, outcome_verdict};
+ghost use Rattle.text_ground.specs.Problems.{AreProblemsFor};
 
 use crate::facts::laws_hold;
 use crate::outcomes::reply_to;
-use crate::texts::{Problems, automata_are_kept, problems_or_refusal};
 use annotation_encode::laws::sizes_rise;
 use cert_text::Verdict;
 use letter_word::{Kind, Side};
@@ -24,6 +24,7 @@ use std::alloc::{AllocError, Global};
 use std::sync::Wait;
 use std::thread::Threads;
 use synth_engine::{Outcome, Settings, search};
+use text_ground::{Problems, automata_are_kept, problems_or_refusal};
 use tlsf_expand::Spec;
 
 /// A document with its status.

@@ -18,11 +18,11 @@ use Rattle.program_replies.specs.Lines.{line_refusal}
 use Rattle.program_replies.specs.declared.replies.Status.{Status}
 use Rattle.program_replies.specs.declared.replies.Status.TheVariants as ended
 use Rattle.program_replies.specs.Statuses.{status_number}
-use Rattle.synth_answer.specs.Ground.{IsWantedBy}
-use Rattle.synth_answer.specs.Printed.{given_by}
-use Rattle.synth_answer.specs.Texts.{AreOfText, IfProblems}
-use Rattle.synth_answer.specs.declared.texts.Problems.{Problems}
-use Rattle.synth_answer.specs.declared.texts.Problems.TheVariants.{Of, Refused}
+use Rattle.text_ground.specs.Ground.{IsWantedBy}
+use Rattle.text_ground.specs.Ground.{given_by}
+use Rattle.text_ground.specs.Texts.{AreOfText, IfProblems}
+use Rattle.text_ground.specs.declared.texts.Problems.{Problems}
+use Rattle.text_ground.specs.declared.texts.Problems.TheVariants.{Of, Refused}
 use Rattle.verify_answer.specs.Answer.{GivenToVerify, VerifyAnswers, bad_line, refused, verified, verified_line}
 use Rattle.verify_answer.specs.FirstBad.{IsFirstBadOfCircuit, over}
 use Rattle.verify_answer.specs.Reply.{AreForVerify, AreReady, IsForVerify, IsShown}

@@ -9,7 +9,7 @@ use Rattle.aiger_text.specs.FileLaws.{FaultsStateNothing, FilesHaveOneFault, Fil
 use Rattle.annot_check.specs.Pairs.{Listed}
 use Rattle.annot_check.specs.Stated.{ReadingsAreApart}
 use Rattle.program_replies.specs.Lines.{line_refusal, refusal_line}
-use Rattle.synth_answer.specs.Printed.{given_by}
+use Rattle.text_ground.specs.Ground.{given_by}
 use Rattle.verify_answer.specs.Answer.{GivenToVerify, VerifyAnswers, bad_line, facts_to_verify, refused, verified, verified_line}
 use Rattle.verify_answer.specs.FirstBad.{Annotates, IsFirstBadOfCircuit, IsValidFor}
 use Rattle.verify_answer.specs.Laws.{VerificationsAreDetermined}

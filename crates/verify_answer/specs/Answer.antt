@@ -8,7 +8,7 @@ use Rattle.spec_problems.specs.declared.sides.SideProblems.{SideProblems}
 use Rattle.spec_problems.specs.OfText.{AreProblemsOf, IsFirstFault}
 use Rattle.document_check.specs.Facts.{Facts}
 use Rattle.program_replies.specs.Lines.{line_refusal, refusal_line}
-use Rattle.synth_answer.specs.Printed.{given_by}
+use Rattle.text_ground.specs.Ground.{given_by}
 use Rattle.verify_answer.specs.FirstBad.{IsFirstBadOfCircuit}
 use Rattle.verify_answer.specs.Verified.{IsVerified}
 

@@ -15,10 +15,10 @@ use Rattle.annot_check.specs.Causes.{IsCause}
 use Rattle.annot_check.specs.Laws.{AcceptsFalse, SatisfiesAs}
 use Rattle.annot_check.specs.Pairs.{Listed}
 use Rattle.program_replies.specs.Statuses.{status_number}
-use Rattle.synth_answer.specs.declared.texts.Problems.{Problems}
-use Rattle.synth_answer.specs.declared.texts.Problems.TheVariants.{Of, Refused}
-use Rattle.synth_answer.specs.Printed.{given_by}
-use Rattle.synth_answer.specs.Texts.{IsTextWith}
+use Rattle.text_ground.specs.declared.texts.Problems.{Problems}
+use Rattle.text_ground.specs.declared.texts.Problems.TheVariants.{Of, Refused}
+use Rattle.text_ground.specs.Ground.{given_by}
+use Rattle.text_ground.specs.Texts.{IsTextWith}
 use Rattle.verify_answer.specs.FirstBad.{Annotates, IsFirstBadOfCircuit, IsValidFor, cause_line, over}
 use Rattle.verify_answer.specs.Answer.{VerifyAnswers}
 

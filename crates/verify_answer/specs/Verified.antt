@@ -8,7 +8,7 @@ use Rattle.satisfaction.specs.Wanted.{Wanted}
 use Rattle.satisfaction.specs.Satisfaction.{CircuitSatisfies}
 use Rattle.document_check.specs.Facts.{Facts}
 use Rattle.annot_check.specs.Pairs.{Listed}
-use Rattle.synth_answer.specs.Ground.{IsWantedBy}
+use Rattle.text_ground.specs.Ground.{IsWantedBy}
 use Rattle.verify_answer.specs.FirstBad.{Annotates, IsValidFor}
 
 -- a name is the wanted one where it isn't missing

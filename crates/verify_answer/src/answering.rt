@@ -3,7 +3,7 @@ ghost use Rattle.std.specs.Prelude.{◌≡◌, ℕ, List, IfOk};
 ghost use Rattle.tlsf_expand.specs.FlatText.{spec_seen};
 ghost use Rattle.program_replies.specs.declared.replies.Status.TheVariants as ended;
 ghost use Rattle.program_replies.specs.Statuses.{status_number};
-ghost use Rattle.synth_answer.specs.Printed.{given_by};
+ghost use Rattle.text_ground.specs.Ground.{given_by};
 ghost use Rattle.verify_answer.specs.Answer.{VerifyAnswers, verified_line};
 ghost use Rattle.verify_answer.specs.Reply.{AreForVerify, AreReady, IsForVerify};
 
@@ -12,7 +12,7 @@ use letter_word::Kind;
 use program_replies::{Reply, Status, refused_at_line, whole};
 use spec_problems::TextProblems;
 use std::alloc::{AllocError, Global};
-use synth_answer::{Problems, facts_of, problems_or_refusal};
+use text_ground::{Problems, facts_of, problems_or_refusal};
 
 /// The problems of a text that circuits are verified against, of the kind that it names, or the line of its first fault with status 1.
 pub fn problems_for_verify(alloc: Global, text: &[u8]) -> Result<Problems, AllocError>

@@ -1,4 +1,4 @@
-use Rattle.synth_answer.proofs.TextFacts.{facts_are}
+use Rattle.text_ground.proofs.TextFacts.{facts_are}
 use Rattle.document_rows.proofs.push_row.Goals as goal
 
 pub push_checked-requires-clause-environment : goal.push_checked-requires-clause-environment

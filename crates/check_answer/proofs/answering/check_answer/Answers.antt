@@ -18,7 +18,7 @@ returns-in-Ok g c = λ bytes taken.
     (λ r. IsAcceptance c.document.inside.verdict c.document.inside.kind r.bytes.items r.status)
     (λ r. CheckAnswers bytes c.args.certificate.now r.bytes.items (status_number r.status))
     (λ r is. document_answers bytes c.args.certificate.now c.args.text.now
-    (record { laws = c.laws_hold.ensures; refute = c.closed_logs_refute_sizes.ensures; taken = taken; automata = c.automata_are_kept.ensures })
+    (record { sides = c.sides_mean.ensures; sizes = c.sizes_rise.ensures; refute = c.closed_logs_refute_sizes.ensures; taken = taken; automata = c.automata_are_kept.ensures })
     (facts_of c.facts_of.result) c.facts_of.ensures c.in-Ok.document r.bytes.items r.status c.in-Ok.ensures.stated c.in-Ok.ensures.holds
     (subst (λ (d : Document). IsAcceptance d.verdict d.kind r.bytes.items r.status) c.document.view_is is))
     c.acceptance.ensures
@@ -29,6 +29,6 @@ returns-in-Err g c = λ bytes taken.
     (λ r. IsLineRefusal c.in-Err.fault r.bytes.items r.status)
     (λ r. CheckAnswers bytes c.args.certificate.now r.bytes.items (status_number r.status))
     (λ r is. line_answers bytes c.args.certificate.now c.args.text.now
-    (record { laws = c.laws_hold.ensures; refute = c.closed_logs_refute_sizes.ensures; taken = taken; automata = c.automata_are_kept.ensures })
+    (record { sides = c.sides_mean.ensures; sizes = c.sizes_rise.ensures; refute = c.closed_logs_refute_sizes.ensures; taken = taken; automata = c.automata_are_kept.ensures })
     (facts_of c.facts_of.result) c.facts_of.ensures c.in-Err.fault r.bytes.items r.status (λ n same. c.in-Err.ensures.bad_line n (ap Err same)) is)
     c.line_refusal.ensures

@@ -1,6 +1,6 @@
 use Rattle.annotation_encode.specs.Counts.{counts_version}
 use Rattle.tlsf_expand.specs.FlatText.{spec_seen}
-use Rattle.synth_answer.proofs.Meaning.{are_problems_for}
+use Rattle.text_ground.proofs.Meaning.{are_problems_for}
 use Rattle.core_answer.specs.Core.{of_text, refused}
 use Rattle.core_answer.proofs.Wholes.{stand_here, text_in}
 use Rattle.core_answer.proofs.answering.core_answer.Goals as goal

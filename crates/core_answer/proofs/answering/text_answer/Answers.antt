@@ -7,7 +7,7 @@ use Rattle.program_replies.specs.declared.replies.Status.TheVariants as ended
 use Rattle.program_replies.specs.Lines.{refusal_line}
 use Rattle.program_replies.specs.Statuses.{status_number}
 use Rattle.synth_answer.specs.Answer.{IsAnswerOn}
-use Rattle.synth_answer.proofs.Meaning.{truth_of_text}
+use Rattle.text_ground.proofs.Meaning.{truth_of_text}
 use Rattle.core_answer.specs.Core.{CoreAnswers, refused}
 use Rattle.core_answer.proofs.Wholes.{core_replied, core_text, given_here, own_ground, spared_text, tells_all, text_in, the_flat, too_many_here}
 use Rattle.core_answer.proofs.answering.text_answer.Goals as goal

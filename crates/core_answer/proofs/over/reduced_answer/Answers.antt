@@ -4,7 +4,7 @@ use Rattle.ltl_formula.specs.Nodes.{tree_at}
 use Rattle.annotation_encode.specs.Counts.{counts_version}
 use Rattle.tlsf_expand.specs.FlatText.{spec_seen}
 use Rattle.spec_problems.specs.OfFormula.{AreProblemsIn, AreProblemsOver}
-use Rattle.synth_answer.proofs.Meaning.{problems_for}
+use Rattle.text_ground.proofs.Meaning.{problems_for}
 use Rattle.core_answer.specs.Reply.{IsReducedReply, IsRefusedReply, reduced_refused}
 use Rattle.core_answer.proofs.Replies.{answered_on}
 use Rattle.core_answer.proofs.over.reduced_answer.Goals as goal

@@ -2,7 +2,7 @@ use Rattle.std.proofs.Common.{Some, IfOk, subst}
 use Rattle.tlsf_expand.specs.FlatText.{spec_seen}
 use Rattle.program_replies.specs.Statuses.{status_number}
 use Rattle.synth_answer.specs.Answer.{IsToldOn}
-use Rattle.synth_answer.specs.Ground.{ground_with}
+use Rattle.text_ground.specs.Ground.{ground_with}
 use Rattle.synth_answer.proofs.Grounds.{answered_on}
 use Rattle.synth_answer.proofs.answering.answer_on.Goals as goal
 

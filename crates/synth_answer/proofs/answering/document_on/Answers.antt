@@ -3,7 +3,7 @@ use Rattle.std.proofs.lemmas.Result.{IfOk-weaker}
 use Rattle.tlsf_expand.specs.FlatText.{spec_seen}
 use Rattle.program_replies.specs.Statuses.{status_number}
 use Rattle.synth_answer.specs.Answer.{IsToldOn}
-use Rattle.synth_answer.specs.Ground.{ground_with}
+use Rattle.text_ground.specs.Ground.{ground_with}
 use Rattle.synth_answer.specs.Reply.{IsSearchedReply}
 use Rattle.synth_answer.proofs.Whole.{told}
 use Rattle.synth_answer.proofs.answering.document_on.Goals as goal

@@ -6,9 +6,9 @@ use Rattle.tlsf_expand.specs.FlatText.{spec_seen}
 use Rattle.program_replies.specs.Statuses.{status_number}
 use Rattle.synth_answer.specs.Answer.{IsTold, IsToldOn}
 use Rattle.synth_answer.specs.Answer as answer
-use Rattle.synth_answer.specs.Ground.{IsGroundOf}
+use Rattle.text_ground.specs.Ground.{IsGroundOf}
 use Rattle.synth_answer.proofs.Grounds.{told_for}
-use Rattle.synth_answer.proofs.Meaning.{are_problems_for, given_on, ground_by_its_kind, is_ground, text_ground, truth_of_text}
+use Rattle.text_ground.proofs.Meaning.{are_problems_for, given_on, ground_by_its_kind, is_ground, text_ground, truth_of_text}
 use Rattle.synth_answer.proofs.answering.told_answer.Goals as goal
 
 pub document-requires-clause-problems : goal.document-requires-clause-problems

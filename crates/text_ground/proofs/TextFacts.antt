@@ -10,7 +10,7 @@ use Rattle.spec_problems.specs.declared.sides.SideProblems.{SideProblems}
 use Rattle.spec_problems.specs.OfFormula.{AreProblems, IsEnvironmentOver}
 use Rattle.spec_problems.specs.OfText.{AreProblemsOf, interface_of}
 use Rattle.document_check.specs.Shown.{AreFacts, IsInEachVersion}
-use Rattle.synth_answer.specs.Printed.{given_by}
+use Rattle.text_ground.specs.Ground.{given_by}
 
 of_environment : (x : Interface) → x.version ≡ 3 → (a : Option AutomatonModel) (o : Option Problem) → IsEnvironmentOver x a o → IfSome o IsProblem → IfSome o IsInEachVersion
 of_environment x third a None over is = tt

@@ -63,6 +63,16 @@ pub record AreGivenOn (version : ℕ) (g : Ground) (s : SideProblems) : Type 0 w
 
 -- == the ground of a text ==
 
+-- what a flat text and its problems give to the tests of documents and of circuits
+abbrev pub given_by : FlatText → SideProblems → Facts
+given_by spec problems = record {
+  inputs = spec.expanded.inputs;
+  outputs = spec.expanded.outputs;
+  system = problems.system;
+  environment = problems.environment;
+}
+
+
 -- What a text wants: the names of its signals and its kind are those of its flat form, and on a lasso the text's written tree says
 -- what is true. A kind that is given stands for those that the text names.
 pub record IsWantedBy (text : List ℕ) (kind : Option Kind) (x : Wanted) : Type 0 where

@@ -1,7 +1,7 @@
 use Rattle.std.proofs.Common.{Err, ap}
 use Rattle.spec_problems.specs.OfText.{IsFirstFault}
 use Rattle.program_replies.proofs.RefusalLemmas.{refused_by}
-use Rattle.synth_answer.proofs.texts.problems_or_refusal.Goals as goal
+use Rattle.text_ground.proofs.texts.problems_or_refusal.Goals as goal
 
 pub returns-in-Ok-clause-text : goal.returns-in-Ok-clause-text
 returns-in-Ok-clause-text c =

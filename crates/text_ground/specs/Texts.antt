@@ -9,8 +9,8 @@ use Rattle.spec_problems.specs.OfFormula.{AcceptBySide}
 use Rattle.spec_problems.specs.OfText.{AreProblemsOf, IsFirstFault, SaysWhat}
 use Rattle.program_replies.specs.Refusals.{RefusedBy}
 use Rattle.program_replies.specs.Statuses.{status_number}
-use Rattle.synth_answer.specs.declared.texts.Problems.{Problems}
-use Rattle.synth_answer.specs.declared.texts.Problems.TheVariants.{Of, Refused}
+use Rattle.text_ground.specs.declared.texts.Problems.{Problems}
+use Rattle.text_ground.specs.declared.texts.Problems.TheVariants.{Of, Refused}
 
 -- a text's flat form with the problems of its two sides over base clauses of this version, what their automata accept, and what the text
 -- says

@@ -7,9 +7,9 @@ ghost use Rattle.tlsf_expand.specs.FlatText.{spec_seen};
 ghost use Rattle.flat_text.specs.FlatNames.{HasPlainNames};
 ghost use Rattle.spec_problems.specs.OfFormula.{AreProblems};
 ghost use Rattle.document_check.specs.Shown.{facts_of as facts_seen};
-ghost use Rattle.synth_answer.specs.Printed.{given_by};
-ghost use Rattle.synth_answer.specs.Reply.{HaveAutomata};
-ghost use Rattle.synth_answer.specs.Texts.{AreOfText, IfProblems};
+ghost use Rattle.text_ground.specs.Ground.{given_by};
+ghost use Rattle.text_ground.specs.Problems.{HaveAutomata};
+ghost use Rattle.text_ground.specs.Texts.{AreOfText, IfProblems};
 
 use document_check::TextFacts;
 use letter_word::Kind;

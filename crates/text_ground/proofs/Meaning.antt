@@ -1,0 +1,249 @@
+-- What a text's problems say of machines.
+use Rattle.std.proofs.Common.{◌≡◌, ℕ, ◌≤◌, Bool, true, false, List, Option, Some, None, IfSome, refl, sym, ap, ◌∙◌, subst}
+use Rattle.letter_word.specs.declared.kinds.Kind.{Kind}
+use Rattle.letter_word.specs.declared.kinds.Side.{Side}
+use Rattle.letter_word.specs.declared.kinds.Side.TheVariants.{System, Environment}
+use Rattle.letter_word.specs.Kinds.{other_kind}
+use Rattle.ltl_formula.specs.declared.nodes.FormulaId.{FormulaId}
+use Rattle.ltl_formula.specs.declared.nodes.Node.{Node}
+use Rattle.ltl_formula.specs.Nodes.{tree_at}
+use Rattle.ltl_formula.specs.Tree.{Tree}
+use Rattle.letter_word.specs.Word.{Word}
+use Rattle.machine_model.specs.Accepts.{SideAccepts}
+use Rattle.machine_model.specs.Automaton.{AutomatonModel, IsAutomaton}
+use Rattle.machine_model.specs.Machine.{IsMachine, MachineModel, size_of}
+use Rattle.machine_model.specs.Problem.{HasComponents, IsMachineOf, IsProblem, automaton_of, reads_of, sized, writes_of}
+use Rattle.machine_model.specs.Run.{IsRunLasso}
+use Rattle.machine_model.specs.declared.problems.Problem.{Problem}
+use Rattle.annotation_encode.specs.Laws.{HasNoAccepted}
+use Rattle.dual_search.specs.declared.automata.Automata.{Automata}
+use Rattle.dual_search.specs.Sides.{AcceptsWhere}
+use Rattle.tlsf_expand.specs.Expansion.{Expanded, expanded_as, kind_of}
+use Rattle.tlsf_expand.specs.Meaning.{means}
+use Rattle.tlsf_expand.specs.FlatText.{FlatText, flat_in}
+use Rattle.tlsf_syntax.specs.Text.{Text}
+use Rattle.tlsf_expand.specs.Signals.{signals_of}
+use Rattle.tlsf_expand.specs.Sections.{sections_value, whole_value}
+use Rattle.tlsf_values.specs.declared.work.Work.{Work}
+use Rattle.tlsf_values.specs.Outcomes.{Outcome, fails, gives, go_on}
+use Rattle.flat_text.specs.FlatOf.{IsFlatOf}
+use Rattle.std.specs.Option.{option_map_or}
+use Rattle.spec_problems.specs.declared.sides.SideProblems.{SideProblems}
+use Rattle.spec_problems.specs.OfFormula.{AcceptBySide, AreProblems, AreProblemsIn, AreProblemsOver, IsEnvironmentOver, IsProblemOver}
+use Rattle.spec_problems.specs.OfText.{AreProblemsOf, SaysWhat, interface_of}
+use Rattle.satisfaction.specs.Wanted.{Says, Wanted}
+use Rattle.satisfaction.specs.Satisfaction.{EachCanLose, IsEnvironmentFor, IsSystemFor, NoneSatisfies}
+use Rattle.text_ground.specs.Ground.{AreGivenOn, Ground, IsGroundOf, ground_with}
+use Rattle.text_ground.specs.Problems.{AreProblemsFor, IsProblemFor}
+use Rattle.text_ground.specs.Laws.{SidesMean}
+use Rattle.text_ground.proofs.Lists.{some_of}
+
+-- == what a text wants ==
+
+abbrev pub wanted_of : Expanded → Text → Wanted
+wanted_of x tree = record { inputs = x.inputs; outputs = x.outputs; kind = x.kind; means = λ w. means w tree }
+
+-- == its problems ==
+
+one_for : (v : ℕ) (x : Expanded) (side : Side) (machines : Kind) (a : AutomatonModel) (p : Problem) → IsProblem p → IsProblemOver (interface_of v x) side machines a p → IsProblemFor v x side machines p
+one_for v x side machines a p within over = record {
+  within = within;
+  inputs = over.inputs;
+  outputs = over.outputs;
+  of_side = over.side;
+  kind_is = over.kind;
+  size = over.size;
+  version_is = over.version;
+}
+
+environment_for : (v : ℕ) (x : Expanded) (a : Option AutomatonModel) (e : Option Problem) → IsEnvironmentOver (interface_of v x) a e → IfSome e IsProblem
+    → (p : Problem) → e ≡ Some p → IsProblemFor v x Environment (other_kind x.kind) p
+environment_for v x None None over within p is = absurd (cc)
+environment_for v x None (Some q) over within p is = absurd over
+environment_for v x (Some a) None over within p is = absurd over
+environment_for v x (Some a) (Some q) over within p is =
+    some_of (IsProblemFor v x Environment (other_kind x.kind)) (Some q) p (one_for v x Environment (other_kind x.kind) a q within over) is
+
+-- the problems of a formula, with the numbers of names and the kind of a flat text
+pub problems_for : (v : ℕ) (x : Expanded) (a : Automata) (s : SideProblems) → AreProblems s → AreProblemsOver (interface_of v x) a s → AreProblemsFor v x s
+problems_for v x a s meet over = record {
+  of_system = one_for v x System x.kind a.system s.system meet.is_system over.of_system;
+  of_environment = environment_for v x a.environment s.environment over.of_environment meet.is_environment;
+}
+
+pub are_problems_for : (v : ℕ) (text : List ℕ) (kind : Option Kind) (spec : FlatText) (s : SideProblems) → AreProblems s → AreProblemsOf text kind v spec s → AreProblemsFor v spec.expanded s
+are_problems_for v text kind spec s meet are =
+    subst (λ x. AreProblemsFor v x s) (sym are.same) (problems_for v are.flat.expanded are.problems.automata s meet are.problems.problems)
+
+-- == the kind that a text is taken with ==
+
+through : {A : Type 0} (o : Outcome A) (f : A → Work → Outcome Expanded) (kind : Kind) → ((a : A) (w : Work) (flat : FlatText) → flat_in (f a w) ≡ Some flat → flat.expanded.kind ≡ kind)
+    → (flat : FlatText) → flat_in (go_on o f) ≡ Some flat → flat.expanded.kind ≡ kind
+through (gives a w) f kind h flat e = h a w flat e
+through (fails code position) f kind h flat e = absurd (cc)
+
+kind_of_flat : (o : Option Kind) (t : Text) (flat : FlatText) → flat_in (expanded_as o t) ≡ Some flat → o ≡ Some flat.expanded.kind
+kind_of_flat None t flat e = absurd (cc)
+kind_of_flat (Some kind) t flat e =
+    let is = through (signals_of t) (λ signals w. go_on (sections_value signals t.sections w) (λ sections w. go_on (whole_value t.info.strict sections w) (λ whole w.
+    gives (record { inputs = signals.inputs; outputs = signals.outputs; kind = kind; strict = t.info.strict; sections = sections; whole = whole }) w))) kind
+    (λ signals w. through (sections_value signals t.sections w) (λ sections w. go_on (whole_value t.info.strict sections w) (λ whole w.
+    gives (record { inputs = signals.inputs; outputs = signals.outputs; kind = kind; strict = t.info.strict; sections = sections; whole = whole }) w)) kind
+    (λ sections w. through (whole_value t.info.strict sections w) (λ whole w.
+    gives (record { inputs = signals.inputs; outputs = signals.outputs; kind = kind; strict = t.info.strict; sections = sections; whole = whole }) w) kind
+    (λ whole w flat e. sym (ap (λ o. option_map_or (λ (x : FlatText). x.expanded.kind) o kind) e)))) flat e in
+    ap (λ y. Some y) (sym is)
+
+pub flat_by_its_kind : (text : List ℕ) (kind : Option Kind) (flat : FlatText) → IsFlatOf text kind flat → IsFlatOf text (Some flat.expanded.kind) flat
+flat_by_its_kind text kind flat is = record {
+  tree = is.tree;
+  read = is.read;
+  expanded = subst (λ o. flat_in (expanded_as o is.tree) ≡ Some flat) (kind_of_flat (kind_of kind is.tree) is.tree flat is.expanded) is.expanded;
+  meaning = is.meaning;
+}
+
+-- == its ground ==
+
+abbrev pub truth_of_text : {text : List ℕ} {nodes : List Node} {whole : FormulaId} → SaysWhat text nodes whole → Word → Bool
+truth_of_text says w = means w says.tree
+
+-- the ground of a text, with the names of a text that says the same
+abbrev pub text_ground : {text : List ℕ} (spec flat : FlatText) → SaysWhat text spec.formulas spec.expanded.whole → Ground
+text_ground spec flat says = ground_with spec.expanded (truth_of_text says) flat.formulas flat.expanded.whole
+
+ground_at : (text : List ℕ) (kind : Option Kind) (spec flat : FlatText) (says : SaysWhat text spec.formulas spec.expanded.whole) → IsFlatOf text kind flat
+    → spec.expanded ≡ flat.expanded → IsGroundOf text kind (text_ground spec flat says)
+ground_at text kind spec flat says is same = record {
+  is_wanted = record {
+    flat = flat;
+    is_flat = is;
+    inputs = ap (λ x. x.inputs) same;
+    outputs = ap (λ x. x.outputs) same;
+    kind_is = ap (λ x. x.kind) same;
+    tree = says.tree;
+    read = says.read;
+    meaning = λ w. refl;
+  };
+  formulas = refl;
+  whole = refl;
+}
+
+pub is_ground : (v : ℕ) (text : List ℕ) (kind : Option Kind) (spec : FlatText) (s : SideProblems) (says : SaysWhat text spec.formulas spec.expanded.whole)
+    (are : AreProblemsOf text kind v spec s) → IsGroundOf text kind (text_ground spec are.flat says)
+is_ground v text kind spec s says are = ground_at text kind spec are.flat says are.is_flat are.same
+
+-- it is the same where the text is taken with the kind that it has
+pub ground_by_its_kind : (v : ℕ) (text : List ℕ) (kind : Option Kind) (spec : FlatText) (s : SideProblems) (says : SaysWhat text spec.formulas spec.expanded.whole)
+    (are : AreProblemsOf text kind v spec s) → IsGroundOf text (Some spec.expanded.kind) (text_ground spec are.flat says)
+ground_by_its_kind v text kind spec s says are =
+    ground_at text (Some spec.expanded.kind) spec are.flat says
+    (subst (λ (x : Expanded). IsFlatOf text (Some x.kind) are.flat) (sym are.same) (flat_by_its_kind text kind are.flat are.is_flat)) are.same
+
+-- the problems of the text stand on it
+pub given_on : (v : ℕ) (text : List ℕ) (kind : Option Kind) (spec : FlatText) (s : SideProblems) (says : SaysWhat text spec.formulas spec.expanded.whole)
+    (are : AreProblemsOf text kind v spec s) → AcceptBySide (tree_at spec.formulas spec.expanded.whole) s → AreGivenOn v (text_ground spec are.flat says) s
+given_on v text kind spec s says are accept = record {
+  later = spec.formulas;
+  are_problems = subst (λ (x : Expanded). AreProblemsIn (interface_of v x) (tree_at are.flat.formulas are.flat.expanded.whole) are.flat.formulas spec.formulas s) (sym are.same) are.problems;
+  formula = tree_at spec.formulas spec.expanded.whole;
+  accept = accept;
+  says = record { same = says.meaning.same };
+}
+
+-- == machines ==
+
+abbrev pub truth_of : Side → Bool
+truth_of System = false
+truth_of Environment = true
+
+abbrev pub kind_for : Side → Kind → Kind
+kind_for System kind = kind
+kind_for Environment kind = other_kind kind
+
+-- what is known of the problem of a side of a text
+pub record IsSideOf (x : Wanted) (f : Tree) (side : Side) (p : Problem) : Type 0 where
+  pub within : IsProblem p
+  pub of_side : p.side ≡ side
+  pub kind_is : p.kind ≡ kind_for side x.kind
+  pub inputs : p.inputs ≡ length x.inputs
+  pub outputs : p.outputs ≡ length x.outputs
+  pub automaton : IsAutomaton (automaton_of p)
+  pub accepts : AcceptsWhere (truth_of side) f (automaton_of p)
+
+pub reads_system : (p : Problem) → p.side ≡ System → reads_of p ≡ p.inputs
+reads_system p e = rw e refl
+
+pub writes_system : (p : Problem) → p.side ≡ System → writes_of p ≡ p.outputs
+writes_system p e = rw e refl
+
+pub reads_environment : (p : Problem) → p.side ≡ Environment → reads_of p ≡ p.outputs
+reads_environment p e = rw e refl
+
+pub writes_environment : (p : Problem) → p.side ≡ Environment → writes_of p ≡ p.inputs
+writes_environment p e = rw e refl
+
+pub sized_within : (p : Problem) (n : ℕ) → IsProblem p → 1 ≤ n → n ≤ 8 → IsProblem (sized p n)
+sized_within p n within some most = record {
+  inputs = within.inputs;
+  outputs = within.outputs;
+  some = some;
+  size = most;
+  states = within.states;
+  signals = within.signals;
+  version = within.version;
+  components = λ third. let has : HasComponents p = within.components third in record { components = has.components; made = has.made; right = has.right };
+}
+
+module _ (laws : SidesMean) (x : Wanted) (f : Tree) (says : Says f x) where
+  pub system_for : (p : Problem) (n : ℕ) (m : MachineModel) → IsSideOf x f System p → IsMachine m → IsMachineOf (sized p n) m → IsSystemFor x m
+  system_for p n m known made sought = record {
+    machine = made;
+    kind = sought.kind ∙ known.kind_is;
+    reads = sought.reads ∙ reads_system (sized p n) known.of_side ∙ known.inputs;
+    writes = sought.writes ∙ writes_system (sized p n) known.of_side ∙ known.outputs;
+  }
+
+  system_sought : (p : Problem) (m : MachineModel) → IsSideOf x f System p → IsSystemFor x m → IsMachineOf (sized p (size_of m)) m
+  system_sought p m known system = record {
+    kind = system.kind ∙ sym known.kind_is;
+    size = refl;
+    reads = system.reads ∙ sym known.inputs ∙ sym (reads_system (sized p (size_of m)) known.of_side);
+    writes = system.writes ∙ sym known.outputs ∙ sym (writes_system (sized p (size_of m)) known.of_side);
+  }
+
+  pub environment_for_text : (p : Problem) (n : ℕ) (m : MachineModel) → IsSideOf x f Environment p → IsMachine m → IsMachineOf (sized p n) m → IsEnvironmentFor x m
+  environment_for_text p n m known made sought = record {
+    machine = made;
+    kind = sought.kind ∙ known.kind_is;
+    reads = sought.reads ∙ reads_environment (sized p n) known.of_side ∙ known.outputs;
+    writes = sought.writes ∙ writes_environment (sized p n) known.of_side ∙ known.inputs;
+  }
+
+  environment_sought : (p : Problem) (m : MachineModel) → IsSideOf x f Environment p → IsEnvironmentFor x m → IsMachineOf (sized p (size_of m)) m
+  environment_sought p m known environment = record {
+    kind = environment.kind ∙ sym known.kind_is;
+    size = refl;
+    reads = environment.reads ∙ sym known.outputs ∙ sym (reads_environment (sized p (size_of m)) known.of_side);
+    writes = environment.writes ∙ sym known.inputs ∙ sym (writes_environment (sized p (size_of m)) known.of_side);
+  }
+
+  -- no machine of a refuted size satisfies
+  pub none_satisfies : (p : Problem) (n : ℕ) → IsSideOf x f System p → HasNoAccepted (sized p n) → NoneSatisfies x n
+  none_satisfies p n known none m size satisfies =
+      let system = satisfies.system in
+      let sought = subst (λ k. IsMachineOf (sized p k) m) size (system_sought p m known system) in
+      let accepted = (laws.systems x f (automaton_of p) m says known.accepts system).1 satisfies in
+      none.none (record {
+        machine = m;
+        made = system.machine;
+        looked_for = sought;
+        accepted = subst (λ side. SideAccepts (automaton_of p) side m) (sym known.of_side) accepted;
+      })
+
+  -- each machine of the environment of a refuted size can lose
+  pub each_can_lose : (p : Problem) (n : ℕ) → IsSideOf x f Environment p → HasNoAccepted (sized p n) → EachCanLose x n
+  each_can_lose p n known none e size environment =
+      let sought = subst (λ k. IsMachineOf (sized p k) e) size (environment_sought p e known environment) in
+      let rejected = none.each_rejected e environment.machine sought in
+      laws.can_lose x f (automaton_of p) e rejected.word says known.accepts
+      (rejected.states, subst (λ side. IsRunLasso e side rejected.word rejected.states) known.of_side rejected.run) rejected.accepted

@@ -1,0 +1,4 @@
+pub mod Ground
+pub mod Problems
+pub mod Texts
+pub mod Laws
