@@ -13,13 +13,13 @@ class Refused(Exception):
 
 
 class Tests:
-    """The programs with which to test, the options of the search, and a folder for passing files."""
+    """The programs with which to test, the options of the search, and the folder in which they run: it has the texts by their numbers."""
 
     def __init__(self, programs, options, room):
         self.programs, self.options, self.room = programs, options, room
 
     def run(self, name, *words):
-        done = subprocess.run([self.programs[name], *words], stdin=subprocess.DEVNULL, stdout=subprocess.PIPE, stderr=subprocess.DEVNULL)
+        done = subprocess.run([self.programs[name], *words], cwd=self.room, stdin=subprocess.DEVNULL, stdout=subprocess.PIPE, stderr=subprocess.DEVNULL)
         return done.returncode, done.stdout
 
     def option(self, name, otherwise):
@@ -29,14 +29,14 @@ class Tests:
         return otherwise
 
     def passing_file(self, name, text):
-        path = os.path.join(self.room, name)
-        with open(path, "wb") as file:
+        with open(os.path.join(self.room, name), "wb") as file:
             file.write(text)
-        return path
+        return name
 
     def of_refusal(self, spec, printed):
-        """The text is refused here in the same words, whatever the certificate."""
-        if self.run("boundsyn", "check", spec, os.devnull) != (1, printed):
+        """The text is refused here in the same words: by `expand`, which wants one kind as `synth` without --kind does, or by `check`."""
+        by_expand = (0, b"") if self.option("--kind", None) else self.run("boundsyn", "expand", spec)
+        if (by_expand if by_expand[0] else self.run("boundsyn", "check", spec, os.devnull)) != (1, printed):
             raise Refused("the text isn't refused so here")
         return printed.decode().strip(), "-", "text"
 
@@ -47,7 +47,8 @@ class Tests:
         said = ACCEPTED.fullmatch(line.decode()) if accepted == 0 else None
         if not said or STATUS.get(said[1]) != status:
             raise Refused(f"check: {line.decode().strip()}")
-        own_kind = re.search(rb"^kind (\w+)", self.run("boundsyn", "expand", spec)[1], re.M)[1].decode().lower()
+        expanded = re.search(rb"^kind (\w+)", self.run("boundsyn", "expand", spec)[1], re.M)
+        own_kind = expanded and expanded[1].decode().lower()
         wanted = self.option("--kind", own_kind)
         limits = (self.option("--max", "4"), self.option("--entries", "50000"))
         if said[4].lower() != wanted or not re.search(rf"^max {limits[0]}\nentries {limits[1]}$".encode(), printed, re.M):
@@ -56,7 +57,7 @@ class Tests:
         if said[1] == "unknown":
             return verdict, "-", "logs"
         if wanted != own_kind:
-            return verdict, said[3], "logs; not the circuit, since the text is of the other kind"
+            return verdict, said[3], "logs; not the circuit, since the text isn't of this kind alone"
         is_dual = "environment" in verdict or said[1] == "unrealizable"
         return verdict, said[3], self.of_circuit(number, spec, document, is_dual)
 
@@ -74,9 +75,9 @@ class Tests:
             raise Refused("annotate: " + annotated.decode(errors="replace").partition("\n")[0])
         return "logs and circuit"
 
-    def of_answer(self, number, spec, status, printed):
+    def of_answer(self, number, status, printed):
         if status == 1:
-            return self.of_refusal(spec, printed)
+            return self.of_refusal(f"{number}.tlsf", printed)
         if status in STATUS.values():
-            return self.of_document(number, spec, status, printed)
+            return self.of_document(number, f"{number}.tlsf", status, printed)
         raise Refused(f"status {status}")

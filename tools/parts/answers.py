@@ -1,44 +1,41 @@
 """The answers of tools/synth-all: a table, and a file for each document."""
 
+import contextlib
 import os
-import subprocess
-import sys
 import threading
 
 from answer_tests import Refused
-from synth_jobs import name_of
+from texts import name_of
 
-COLUMNS = ("text", "status", "verdict", "states", "seconds", "megabytes", "tested")
-
-
-def with_counts(program, options):
-    """The options with the way to count, or None where the program refuses them."""
-    if not any(it.startswith("--counts") for it in options):
-        options = [*options, "--counts", "local"]
-    done = subprocess.run([program, "synth", os.devnull, *options], stdin=subprocess.DEVNULL, stdout=subprocess.DEVNULL, stderr=subprocess.DEVNULL)
-    return options if done.returncode == 1 else None
+COLUMNS = ("text", "status", "verdict", "states", "seconds", "megabytes", "tested", "checksum")
 
 
 class Answers:
     """A folder of answers. Several threads may add to it."""
 
-    def __init__(self, out, is_resumed):
+    def __init__(self, out):
         self.out, self.table, self.lock = out, os.path.join(out, "answers.tsv"), threading.Lock()
-        os.makedirs(out, exist_ok=True)
-        rows = self.rows()
-        if rows and not is_resumed:
-            sys.exit(f"synth-all: {out} has answers: take another folder, or --resume")
-        kept = [row for row in rows if row[-1] != "nothing"]
-        self.done = {name_of(row[0]) for row in kept}
-        self.write(self.table, "".join("\t".join(row) + "\n" for row in [COLUMNS, *kept]).encode())
+        self.rows = {name_of(row[0]): row for row in self.whole_rows()}
 
-    def rows(self):
+    def whole_rows(self):
         """The rows that are whole: the last one may have been cut."""
         if not os.path.exists(self.table):
             return []
-        with open(self.table, encoding="utf-8") as file:
+        with open(self.table, encoding="utf-8", errors="replace") as file:
             rows = [line[:-1].split("\t") for line in file if line.endswith("\n")]
         return [row for row in rows[1:] if len(row) == len(COLUMNS)]
+
+    def begin(self, texts):
+        """The texts that have no answer, or had other bytes or options. Their rows and files are taken away."""
+        os.makedirs(self.out, exist_ok=True)
+        todo = [it for it in texts if it.name not in self.rows or self.rows[it.name][6] == "nothing" or self.rows[it.name][7] != it.checksum]
+        for text in todo:
+            self.rows.pop(text.name, None)
+            for ending in (".aag", ".refused"):
+                with contextlib.suppress(FileNotFoundError):
+                    os.remove(os.path.join(self.out, text.name + ending))
+        self.write(self.table, "".join("\t".join(row) + "\n" for row in [COLUMNS, *self.rows.values()]).encode())
+        return todo
 
     def write(self, path, text):
         """Writes a file at once: it is there whole or not."""
@@ -46,18 +43,26 @@ class Answers:
             file.write(text)
         os.replace(path + ".new", path)
 
-    def add(self, tests, number, spec, status, seconds, kilobytes, printed):
-        """Tests an answer and keeps it; says whether it counts."""
-        path, counts = os.path.join(self.out, name_of(spec)), True
+    def add(self, tests, number, text, status, seconds, kilobytes, printed):
+        """Tests an answer and keeps it."""
+        path = os.path.join(self.out, text.name)
         try:
-            verdict, states, tested = tests.of_answer(number, spec, status, printed)
+            verdict, states, tested = tests.of_answer(number, status, printed)
         except Refused as why:
-            verdict, states, tested, counts = f"none: {why}", "-", "nothing", False
-        if not counts:
-            self.write(path + ".refused", printed)
-        elif states != "-" or verdict == "unknown":
+            verdict, states, tested = "no verdict in time" if status == 124 else f"none: {why}", "-", "nothing"
+            if printed:
+                self.write(path + ".refused", printed)
+        if states != "-" or verdict == "unknown":
             self.write(path + ".aag", printed)
-        row = [spec, status, " ".join(verdict.split()), states, f"{seconds:.2f}", kilobytes // 1024, tested]
+        self.add_row(text, status, " ".join(verdict.split()), states, f"{seconds:.2f}", kilobytes // 1024, tested)
+
+    def add_row(self, text, *columns):
+        row = [*map(str, (text.shown, *columns)), text.checksum]
         with self.lock, open(self.table, "a", encoding="utf-8") as file:
-            file.write("\t".join(map(str, row)) + "\n")
-        return counts
+            self.rows[text.name] = row
+            file.write("\t".join(row) + "\n")
+
+    def lacking(self, texts):
+        """The texts that were refused or have no answer, each with what its row says of that."""
+        rows = [self.rows[it.name] for it in texts]
+        return [(row[0], row[2]) for row in rows if row[1] == "1" or row[6] == "nothing"]

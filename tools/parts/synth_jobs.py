@@ -6,56 +6,49 @@ import shutil
 import subprocess
 import sys
 import tempfile
+from concurrent.futures import ThreadPoolExecutor
+
+from answer_tests import Tests
 
 ANSWER = os.path.join(os.path.dirname(os.path.realpath(__file__)), "answer_of_one.py")
 
 
-def name_of(spec):
-    return os.path.splitext(os.path.basename(spec))[0]
+def answer(texts, answers, programs, own, options):
+    """Has the texts answered, and tests and keeps what comes back."""
+    with tempfile.TemporaryDirectory(prefix=".synth-all-", dir=own.out) as room, ThreadPoolExecutor(os.cpu_count()) as pool:
+        stage(room, texts, programs["boundsyn"])
+        tests, tested = Tests(programs, options, room), []
+        for number, (*frame, said) in frames(room, len(texts), own, options):
+            texts[number].tell(said, f"{os.path.basename(room)}/{number}.tlsf")
+            tested.append(pool.submit(answers.add, tests, number, texts[number], *frame))
+        for it in tested:
+            it.result()
 
 
-def programs_of(tools):
-    """The three programs: those in the folder that is named, or those of the checkout that are built from its sources."""
-    folder = os.environ.get("BOUNDSYN_BIN")
-    found = {}
-    for name in ("boundsyn", "annotate", "boundsyn-show"):
-        if folder:
-            found[name] = os.path.realpath(os.path.join(folder, name))
-        else:
-            place = subprocess.run([os.path.join(tools, "prebuilt"), "place", name], stdout=subprocess.PIPE)
-            if place.returncode:
-                sys.exit(2)
-            found[name] = place.stdout.decode().removesuffix("\n")
-    return found
-
-
-def stage(out, specs, program):
-    """A new folder in `out` with the program, the script that runs it, and the texts, by names that need no quotes."""
-    files = tempfile.mkdtemp(prefix=".synth-all-", dir=out)
-    shutil.copy(program, os.path.join(files, "boundsyn"))
-    shutil.copyfile(ANSWER, os.path.join(files, "answer.py"))
-    for number, spec in enumerate(specs):
-        shutil.copyfile(spec, os.path.join(files, f"{number}.tlsf"))
-    return files
+def stage(room, texts, program):
+    """Puts the program, the script that runs it, and the texts into a folder, by names that need no quotes."""
+    shutil.copy(program, os.path.join(room, "boundsyn"))
+    shutil.copyfile(ANSWER, os.path.join(room, "answer.py"))
+    for number, text in enumerate(texts):
+        with open(os.path.join(room, f"{number}.tlsf"), "wb") as file:
+            file.write(text.content)
 
 
 def words_of(folder, own, options):
     """The words of `parallel` for these jobs."""
-    words = ["parallel", "--will-cite", "--retries", "3", "--quote", "--tagstring", "{#}"]
-    if own.jobs:
-        words += ["--jobs", own.jobs]
+    words = ["parallel", "--will-cite", "--retries", "3", "--quote", "--tagstring", "{#}", "--jobs", own.jobs]
     if own.sshloginfile:
         words += ["--sshloginfile", os.path.abspath(own.sshloginfile), "--transferfile", f"{folder}/{{}}", "--cleanup"]
         words += ["--basefile", f"{folder}/boundsyn", "--basefile", f"{folder}/answer.py"]
     if sys.stderr.isatty():
         words.append("--bar")
-    return [*words, "python3", f"{folder}/answer.py", f"{folder}/boundsyn", f"{folder}/{{}}", *options]
+    return [*words, "python3", f"{folder}/answer.py", str(own.timeout), f"{folder}/boundsyn", f"{folder}/{{}}", *options]
 
 
-def frames(files, count, own, options):
-    """For each text that comes back its number, status, seconds, kilobytes and what was printed, as soon as it comes."""
-    out, folder = os.path.split(files)
-    started = subprocess.Popen(words_of(folder, own, options), cwd=out, stdin=subprocess.PIPE, stdout=subprocess.PIPE)
+def frames(room, count, own, options):
+    """For each text that comes back its number, and its status, seconds, kilobytes, what was printed and what was said, as soon as it comes."""
+    above, folder = os.path.split(room)
+    started = subprocess.Popen(words_of(folder, own, options), cwd=above, stdin=subprocess.PIPE, stdout=subprocess.PIPE)
     try:
         started.stdin.write("".join(f"{number}.tlsf\n" for number in range(count)).encode())
         started.stdin.close()
@@ -74,7 +67,8 @@ def frames(files, count, own, options):
 def frame_of(line):
     """The frame of a line, or None where it is none: nothing is trusted of what another machine prints."""
     try:
-        number, status, seconds, kilobytes, printed = line.split()
-        return int(number) - 1, (int(status), float(seconds), int(kilobytes), base64.b64decode(printed))
+        number, status, seconds, kilobytes, *texts = line.split()
+        printed, said = map(base64.b64decode, texts)
+        return int(number) - 1, (int(status), float(seconds), int(kilobytes), printed, said)
     except ValueError:
         return None

@@ -1,5 +1,6 @@
 """Rows on tools/synth-all. A stand-in for boundsyn plays the machine that nobody trusts: what it prints for `synth` is changed on the way."""
 
+import itertools
 import os
 import shutil
 import signal
@@ -19,7 +20,7 @@ def needs_parallel(it):
 def table_of(it):
     """The rows of the table by the names of their texts, without times and memory."""
     rows = [line.split("\t") for line in it.read("out/answers.tsv").splitlines()]
-    assert rows[0] == ["text", "status", "verdict", "states", "seconds", "megabytes", "tested"]
+    assert rows[0] == ["text", "status", "verdict", "states", "seconds", "megabytes", "tested", "checksum"]
     return {os.path.basename(row[0]): (row[1], row[2], row[3], row[6]) for row in rows[1:]}
 
 
@@ -34,7 +35,9 @@ def many_texts_are_answered(it):
     shutil.copy(it.path("examples/delay.tlsf"), it.path("a late delay.tlsf"))
     it.write("broken.tlsf", "INFO {")
     texts = ["examples/wire.tlsf", "a late delay.tlsf", "examples/prophecy.tlsf", "broken.tlsf", "examples/inverter.tlsf"]
-    assert it.run("synth-all", "--jobs", "2", "out", *texts, "--", "--max", "2")[0] == 0
+    status, said, lacking = it.run("synth-all", "--jobs", "2", "out", *texts, "--", "--max", "2")
+    assert status == 1 and said == "synth-all: 4 of 5 texts have an answer that was tested, in out/answers.tsv\n"
+    assert lacking.splitlines()[-1] == "synth-all: broken.tlsf: refused 3 Unexpected at 6"
     table = table_of(it)
     assert table["wire.tlsf"] == ("10", "realizable", "1", "logs and circuit")
     assert table["a late delay.tlsf"] == ("10", "realizable", "2", "logs and circuit")
@@ -42,9 +45,109 @@ def many_texts_are_answered(it):
     assert table["prophecy.tlsf"][:3] == ("20", "unrealizable", "2") and table["prophecy.tlsf"][3] in ("logs and circuit", "logs; not the circuit, since boundsyn-show has no --dual")
     assert sorted(os.listdir(it.path("out"))) == ["a late delay.aag", "answers.tsv", "inverter.aag", "prophecy.aag", "wire.aag"]
     assert it.run("boundsyn", "check", "examples/wire.tlsf", "out/wire.aag")[0] == 0 and "\nboundsyn 5\n" in it.read("out/wire.aag")
-    assert it.run("synth-all", "out", *texts)[0] == 1
+    assert it.run("synth-all", "out", *texts, "--", "--max", "2")[0] == 2
     before = it.read("out/answers.tsv")
-    assert it.run("synth-all", "--resume", "out", *texts)[0] == 0 and it.read("out/answers.tsv") == before
+    assert it.run("synth-all", "--resume", "out", *texts, "--", "--max", "2")[0] == 1 and it.read("out/answers.tsv") == before
+    assert it.run("synth-all", "--resume", "out", *texts[:3], "--", "--max", "2")[0] == 0 and it.read("out/answers.tsv") == before
+
+
+def a_text_of_two_kinds_is_refused_unless_one_is_given(it):
+    needs_parallel(it)
+    text = it.read("examples/delay.tlsf").replace("TARGET: Mealy", "TARGET: Moore")
+    refusal = f"refused 16 TargetDiffers at {text.index('Moore')}"
+    it.write("both.tlsf", text)
+    assert it.run("synth-all", "out", "both.tlsf")[0] == 1
+    assert table_of(it)["both.tlsf"] == ("1", refusal, "-", "text")
+    for kind in ("mealy", "moore"):
+        assert it.run("synth-all", "--resume", "out", "both.tlsf", "--", "--kind", kind)[0] == 0
+        assert table_of(it)["both.tlsf"] == ("10", "realizable", "2", "logs; not the circuit, since the text isn't of this kind alone")
+    it.replace("boundsyn", f'[ "$1" = synth ] && [ "$2" != /dev/null ] || exec "$real" "$@"\necho "{refusal}"; exit 1\n')
+    assert it.run("synth-all", "--resume", "out", "both.tlsf", "--", "--kind", "mealy", "--max", "3")[0] == 1
+    assert table_of(it)["both.tlsf"][1] == "none: the text isn't refused so here" and sorted(os.listdir(it.path("out"))) == ["answers.tsv", "both.refused"]
+
+
+def what_cannot_be_read_has_a_row(it):
+    needs_parallel(it)
+    os.mkdir(it.path("folder.tlsf"))
+    os.symlink("/dev/zero", it.path("endless.tlsf"))
+    for name in (b"latin-\xe9.tlsf", b"title-\x1b]0;x.tlsf"):
+        shutil.copy(it.path("examples/wire.tlsf"), os.path.join(os.fsencode(it.room), name))
+    texts = [b"nothing.tlsf", b"folder.tlsf", b"endless.tlsf", b"latin-\xe9.tlsf", b"title-\x1b]0;x.tlsf", b"examples/wire.tlsf"]
+    status, said, lacking = it.run("synth-all", "out", *texts)
+    assert status == 1 and said.startswith("synth-all: 1 of 6 texts have ") and "Traceback" not in lacking and "\x1b" not in lacking
+    why = "its name isn't in UTF-8, or has characters that can't be printed"
+    rows = {name: row[1] for name, row in table_of(it).items() if row[0] != "10"}
+    assert rows == {"nothing.tlsf": "can't be read: No such file or directory", "folder.tlsf": "can't be read: Is a directory",
+                    "endless.tlsf": "refused 1 TooLong at 1048576", "latin-\\xe9.tlsf": why, "title-\\x1b]0;x.tlsf": why}
+    assert all(f"/{name}: {row}\n" in lacking or f"synth-all: {name}: {row}\n" in lacking for name, row in rows.items())
+
+
+def messages_name_the_text_that_was_given(it):
+    needs_parallel(it)
+    it.write("broken.tlsf", "INFO {\n\tTITLE: x\n")
+    status, _, said = it.run("synth-all", "out", "broken.tlsf", "examples/prophecy.tlsf", "--", "--max", "1")
+    assert status == 1 and "broken.tlsf:2:" in said and "examples/prophecy.tlsf: unknown" in said and "0.tlsf" not in said and "1.tlsf" not in said
+
+
+def what_has_changed_is_tried_again(it):
+    needs_parallel(it)
+    shutil.copy(it.path("examples/wire.tlsf"), it.path("changes.tlsf"))
+    texts = ("changes.tlsf", "examples/delay.tlsf", "later.tlsf")
+    assert it.run("synth-all", "out", *texts)[0] == 1 and table_of(it)["later.tlsf"][1].startswith("can't be read: ")
+    it.replace("boundsyn", f'[ "$1" = synth ] && [ "$2" != /dev/null ] && echo "$*" >>{it.path("words")}\nexec "$real" "$@"\n')
+    it.write("out/changes.refused", "old")
+    shutil.copy(it.path("examples/prophecy.tlsf"), it.path("changes.tlsf"))
+    shutil.copy(it.path("examples/inverter.tlsf"), it.path("later.tlsf"))
+    assert it.run("synth-all", "--resume", "out", *texts)[0] == 0
+    table = table_of(it)
+    assert len(it.read("words").splitlines()) == 2 and sorted(table) == ["changes.tlsf", "delay.tlsf", "later.tlsf"]
+    assert table["changes.tlsf"][:3] == ("20", "unrealizable", "2") and "changes.refused" not in os.listdir(it.path("out"))
+    assert it.run("synth-all", "--resume", "out", "examples/delay.tlsf", "--", "--max", "3")[0] == 0
+    assert len(it.read("words").splitlines()) == 3 and len(table_of(it)) == 3 and "\nmax 3\n" in it.read("out/delay.aag")
+
+
+def a_text_that_takes_too_long_is_left(it):
+    needs_parallel(it)
+    slow = '[ "$1" = synth ] && grep -q delay "$2" && exec sleep 60\nexec "$real" "$@"\n'
+    it.replace("boundsyn", slow)
+    begun = time.monotonic()
+    texts = ("examples/delay.tlsf", "examples/wire.tlsf")
+    assert it.run("synth-all", "--timeout", "0.5", "out", *texts)[0] == 1 and time.monotonic() - begun < 30
+    table = table_of(it)
+    assert table["delay.tlsf"] == ("124", "no verdict in time", "-", "nothing") and table["wire.tlsf"][0] == "10"
+    assert sorted(os.listdir(it.path("out"))) == ["answers.tsv", "wire.aag"]
+    it.replace("boundsyn", 'exec "$real" "$@"\n')
+    assert it.run("synth-all", "--timeout", "60", "--resume", "out", *texts)[0] == 0 and table_of(it)["delay.tlsf"][0] == "10"
+
+
+def each_processor_has_a_job_of_one_worker(it):
+    needs_parallel(it)
+    count = int(subprocess.run(["parallel", "--number-of-threads"], stdout=subprocess.PIPE, check=True).stdout)
+    for number in range(count + 1):
+        shutil.copy(it.path("examples/wire.tlsf"), it.path(f"wire{number}.tlsf"))
+    # Each job waits until as many have begun as there are processors, and one more had time to.
+    it.replace("boundsyn", f"""[ "$1" = synth ] && [ "$2" != /dev/null ] || exec "$real" "$@"
+echo "$*" >>{it.path("jobs")}
+for turn in $(seq 100); do [ "$(grep -c tlsf {it.path("jobs")})" -lt {count} ] || break; sleep 0.1; done
+sleep 0.5
+echo end >>{it.path("jobs")}
+exec "$real" "$@"
+""")
+    assert it.run("synth-all", "out", *(f"wire{number}.tlsf" for number in range(count + 1)))[0] == 0
+    lines = it.read("jobs").splitlines()
+    running = itertools.accumulate(-1 if line == "end" else 1 for line in lines)
+    assert max(running) == count and all(line == "end" or line.endswith(" --counts local --workers 1") for line in lines)
+    assert it.run("synth-all", "--resume", "out", "wire0.tlsf", "--", "--workers=2", "--counts=whole")[0] == 0
+    assert it.read("jobs").splitlines()[-2].endswith(".tlsf --workers=2 --counts=whole")
+
+
+def a_folder_or_program_that_is_lacking_is_named(it):
+    needs_parallel(it)
+    it.write("file", "")
+    assert it.run("synth-all", "file", "examples/wire.tlsf") == (4, "", "synth-all: file: File exists\n")
+    os.remove(os.path.join(it.bin, "annotate"))
+    status, printed, said = it.run("synth-all", "out", "examples/wire.tlsf")
+    assert (status, printed) == (2, "") and said.startswith("synth-all: needs the program annotate, ") and said.count("\n") == 1
 
 
 def nothing_untested_counts(it):
