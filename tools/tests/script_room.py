@@ -47,10 +47,10 @@ class Room:
         with open(self.path(name), encoding="utf-8") as file:
             return file.read()
 
-    def start(self, script, *words, stdin=subprocess.DEVNULL):
+    def start(self, script, *words, stdin=subprocess.DEVNULL, stdout=subprocess.PIPE):
         program = os.path.join(self.bin if script in PROGRAMS else TOOLS, script)
         return subprocess.Popen([program, *words], cwd=self.room, env={**os.environ, "BOUNDSYN_BIN": self.bin, **self.variables}, text=True, stdin=stdin,
-                                stdout=subprocess.PIPE, stderr=subprocess.PIPE)
+                                stdout=stdout, stderr=subprocess.PIPE)
 
     def run(self, script, *words, given=None):
         """The status, standard output and standard error of a script or program."""

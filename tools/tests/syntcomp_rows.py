@@ -18,8 +18,7 @@ def a_realizable_text_has_its_circuit_alone(it):
     assert it.read("circuit.aag") == circuit
     assert it.run("syntcomp", "examples/door.tlsf")[:2] == (20, "UNREALIZABLE\n")
     assert it.run("syntcomp", "-", given="not a text")[:2] == (1, "")
-    with open(it.path("examples/wire.tlsf"), encoding="utf-8") as file:
-        assert it.run("syntcomp", "-", given=file.read())[:2] == (10, "REALIZABLE\naag 1 1 0 1 0\n2\n2\ni0 request\no0 grant\n")
+    assert it.run("syntcomp", "-", given=it.read("examples/wire.tlsf"))[:2] == (10, "REALIZABLE\naag 1 1 0 1 0\n2\n2\ni0 request\no0 grant\n")
 
 
 def counts_are_local_unless_another_way_is_asked_for(it):
@@ -51,3 +50,34 @@ def faults_keep_their_status_and_print_nothing(it):
     assert it.run("syntcomp", "nothing.tlsf")[:2] == (3, "")
     assert it.run("syntcomp", "-o", "no/folder/file", "examples/wire.tlsf")[0] == 4
     assert it.run("syntcomp", "--help")[0] == 0
+
+
+def a_name_may_begin_with_a_hyphen(it):
+    it.write("-o.tlsf", it.read("examples/wire.tlsf"))
+    circuit = "aag 1 1 0 1 0\n2\n2\ni0 request\no0 grant\n"
+    assert it.run("syntcomp", "--", "-o.tlsf")[:2] == (10, "REALIZABLE\n" + circuit)
+    assert it.run("syntcomp", "-o", "-circuit.aag", "--max", "2", "--", "-o.tlsf")[:2] == (10, "REALIZABLE\n") and it.read("-circuit.aag") == circuit
+    assert it.run("syntcomp", "--", "-", given=it.read("-o.tlsf"))[:2] == (10, "REALIZABLE\n" + circuit)
+
+
+def what_cannot_be_written_is_told_once(it):
+    assert it.run("syntcomp", "-o", "no/such\x1bfile", "examples/wire.tlsf") == (4, "", "syntcomp: $'no/such\\Efile' can't be written\n")
+    assert it.run("syntcomp", "-o", "/dev/full", "examples/wire.tlsf") == (4, "REALIZABLE\n", "syntcomp: /dev/full can't be written\n")
+    for text in ("wire", "prophecy"):
+        with open("/dev/full", "w", encoding="utf-8") as full:
+            started = it.start("syntcomp", f"examples/{text}.tlsf", stdout=full)
+            assert started.communicate(timeout=60)[1] == "syntcomp: standard output can't be written\n" and started.returncode == 4
+
+
+def signals_of_buses_have_the_names_of_the_competition(it):
+    names = [f"{kind}{number} {name}_{number}" for kind, name in (("i", "request"), ("o", "grant")) for number in range(3)]
+    status, printed, said = it.run("syntcomp", "examples/arbiter_of_three.tlsf")
+    assert (status, said) == (10, "") and printed.splitlines()[-6:] == names
+    text = """INFO {{ TITLE: "t" DESCRIPTION: "d" SEMANTICS: Mealy TARGET: Mealy }}
+MAIN {{ INPUTS {{ a[2]; {0} }} OUTPUTS {{ b[1]; c_0; }} GUARANTEE {{ G (b[0] <-> a[1]); G c_0; }} }}"""
+    for others, underscores in ([], "_"), (["a_2"], "_"), (["a_0"], "__"), (["a_1", "a__0"], "___"), (["b__0"], "_"):
+        it.write("names.tlsf", text.format("".join(f"{name}; " for name in others)))
+        status, printed, said = it.run("syntcomp", "names.tlsf")
+        inputs = [f"a{underscores}0", f"a{underscores}1", *others]
+        assert printed.splitlines()[-len(inputs) - 2 :] == [*(f"i{at} {name}" for at, name in enumerate(inputs)), f"o0 b{underscores}0", "o1 c_0"]
+        assert said.count("\n") == (underscores != "_") and (underscores == "_" or f" have {underscores} before their number" in said)
