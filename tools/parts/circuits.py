@@ -1,8 +1,7 @@
 """Circuits in AIGER, read and written as ASCII and as binary. A latch that begins as 1 is kept as its opposite, which begins as 0."""
 
 
-class Unreadable(Exception):
-    """A text that is no circuit of this kind."""
+from circuit_lines import FORMS, Unreadable, define, names_of, reset_of, row_of, sizes_of
 
 
 class Circuit:
@@ -14,29 +13,27 @@ class Circuit:
     @staticmethod
     def of_text(text):
         """The circuit of an ASCII text, whatever the numbers of its variables and the order of its gates."""
-        lines = text.split("\n")
-        try:
-            format_name, _, *sizes = lines[0].split()
-            inputs, latches, outputs, gates = map(int, sizes)
-            rows = [list(map(int, line.split())) for line in lines[1 : 1 + inputs + latches + outputs + gates]]
-        except ValueError as why:
-            raise Unreadable("no circuit in ASCII AIGER with inputs, latches, outputs and gates alone") from why
-        if format_name != "aag" or len(rows) != inputs + latches + outputs + gates:
-            raise Unreadable("no circuit in ASCII AIGER")
-        rest = lines[1 + len(rows) :]
-        names = [line for line in rest[: rest.index("c") if "c" in rest else len(rest)] if line]
-        latch_rows, gate_rows = rows[inputs : inputs + latches], {row[0] // 2: row[1:] for row in rows[len(rows) - gates :]}
-        if any(len(row) > 2 and row[2] > 1 for row in latch_rows):
-            raise Unreadable("a latch that begins as anything")
+        lines = text.removesuffix("\n").split("\n")
+        most, *counts = sizes_of(lines[0])
+        sections, at = [], 1
+        for count, form in zip(counts, FORMS):
+            sections.append([row_of(lines, place, form, 2 * most + 1) for place in range(at, at + count)])
+            at += count
+        input_rows, latch_rows, output_rows, gate_rows = sections
         known = {0: 0}
-        for at, row in enumerate(rows[: inputs + latches]):
-            known[row[0] // 2] = 2 * (at + 1) ^ (len(row) > 2 and row[2])
+        for number, row in enumerate([*input_rows, *latch_rows], 1):
+            define(row[0], known)
+            known[row[0] // 2] = 2 * number ^ reset_of(row)
+        gates = {}
+        for row in gate_rows:
+            define(row[0], known, gates)
+            gates[row[0] // 2] = row[1:]
         made = []
-        for variable in gate_rows:
-            number_gates(variable, gate_rows, known, made, inputs + latches)
+        for literal in [*(row[0] for row in gate_rows), *(row[1] for row in latch_rows), *(row[0] for row in output_rows)]:
+            number_gates(literal // 2, gates, known, made, counts[0] + counts[1])
         new = lambda literal: known[literal // 2] ^ literal & 1
-        nexts = [new(row[1]) ^ (len(row) > 2 and row[2]) for row in latch_rows]
-        return Circuit(inputs, nexts, [new(row[0]) for row in rows[inputs + latches : inputs + latches + outputs]], made, names)
+        nexts = [new(row[1]) ^ reset_of(row) for row in latch_rows]
+        return Circuit(counts[0], nexts, [new(row[0]) for row in output_rows], made, names_of(lines, at, counts))
 
     @staticmethod
     def of_binary(data):

@@ -63,9 +63,56 @@ def a_smaller_circuit_is_verified(it):
         assert it.run("boundsyn", "verify", f"examples/{name}.tlsf", "annotated")[:2] == (0, "verified as Mealy\n")
 
 
+BROKEN = {
+    "": "line 1 isn't the first line of a circuit in ASCII AIGER",
+    "boundsyn 3\n": "line 1 isn't the first line of a circuit in ASCII AIGER",
+    "aig 2 1 0 1 1\n4\n\2\0": "line 1 isn't the first line of a circuit in ASCII AIGER",
+    "aag -2 1 0 1 1\n2\n4\n4 2 2\n": "line 1 isn't the first line of a circuit in ASCII AIGER",
+    "aag 2 1 0 1 1 0 1\n2\n4\n4 2 2\n": "line 1: a circuit with more than inputs, latches, outputs and gates",
+    "aag 2 1 0 1 0\n2\n4\n": "nothing gives literal 4 a value",
+    "aag 3 1 1 0 0\n2\n4 7\n": "nothing gives literal 6 a value",
+    "aag 3 1 0 1 1\n2\n4\n4 2 6\n": "nothing gives literal 6 a value",
+    "aag 2 1 0 1 1\n2\n4\n4 4 2\n": "a gate that depends on itself",
+    "aag 3 1 0 1 2\n2\n4\n4 6 2\n6 2 5\n": "a gate that depends on itself",
+    "aag 2 1 1 1 0\n2\n4 2 4\n4\n": "latch 4 begins as anything",
+    "aag 2 1 1 1 0\n2\n4\n4\n": "line 3 isn't that of a latch",
+    "aag 2 1 0 1 1\n2\n4\n4 2\n": "line 4 isn't that of a gate",
+    "aag 2 1 0 1 1\n2\n4\n": "line 4 isn't that of a gate",
+    "aag 2 1 0 1 1\n2\n\n4 2 2\n": "line 3 isn't that of an output",
+    "aag 2 1 0 1 1\n2 \n4\n4 2 2\n": "line 2 isn't that of an input",
+    "aag 2 1 0 1 1\n2\n6\n4 2 2\n": "line 3: a literal above 5, the greatest by line 1",
+    "aag 2 1 0 1 1\n2\n4\n2 2 2\n": "literal 2 has a value already",
+    "aag 2 2 0 0 0\n4\n4\n": "literal 4 has a value already",
+    "aag 2 1 0 1 1\n0\n4\n4 2 2\n": "literal 0 has a value already",
+    "aag 3 1 0 1 2\n2\n4\n4 2 2\n4 3 3\n": "literal 4 has a value already",
+    "aag 2 1 0 1 1\n3\n4\n4 2 2\n": "literal 3 is odd, and so none of an input, latch or gate",
+    "aag 2 1 0 1 1\n2\n4\n4 2 2\ni1 a\n": "line 5 isn't a name of an input, latch or output, or names one again",
+    "aag 2 1 0 1 1\n2\n4\n4 2 2\ni0 a\ni0 b\n": "line 6 isn't a name of an input, latch or output, or names one again",
+    "aag 2 1 0 1 1\n2\n4\n4 2 2\nc\r\n": "line 5 isn't a name of an input, latch or output, or names one again",
+}
+
+
 def what_is_no_circuit_is_refused(it):
     needs_abc(it)
-    for text in ("", "boundsyn 3\n", "aag 2 1 0 1 1\n2\n4\n4 4 2\n", "aag 2 1 0 1 0\n2\n4\n", "aag 2 1 1 1 0\n2\n4 2 4\n4\n"):
+    for text, why in BROKEN.items():
         it.write("broken.aag", text)
-        assert it.run("abc-optimise", "broken.aag")[:2] == (1, "")
-    assert it.run("abc-optimise", "nothing.aag")[0] == 1 and it.run("abc-optimise")[0] == 2
+        assert it.run("abc-optimise", "broken.aag") == (1, "", f"abc-optimise: broken.aag: {why}\n"), text
+    assert it.run("abc-optimise", "nothing.aag") == (1, "", "abc-optimise: nothing.aag: No such file or directory\n") and it.run("abc-optimise")[0] == 2
+
+
+def names_are_kept_byte_for_byte(it):
+    needs_abc(it)
+    circuit = b"aag 4 2 0 1 2\n2\n4\n8\n6 2 4\n8 6 4\ni0 in\r\ni1 \xff \x1b\xc3\xa9\x85b\no0 c\n"
+    with open(it.path("names.aag"), "wb") as file:
+        file.write(circuit + b"c\na comment\n")
+    with open(it.path("smaller.aag"), "wb") as file:
+        assert it.start("abc-optimise", "names.aag", stdout=file).wait(timeout=60) == 0
+    with open(it.path("smaller.aag"), "rb") as file:
+        assert file.read() == b"aag 3 2 0 1 1\n2\n4\n6\n6 4 2\n" + circuit[circuit.index(b"i0") :]
+
+
+def an_output_that_cannot_be_written_is_said(it):
+    needs_abc(it)
+    with open("/dev/full", "w", encoding="utf-8") as full:
+        started = it.start("abc-optimise", "examples/delay_by_hand.aag", stdout=full)
+        assert started.communicate(timeout=60)[1] == "abc-optimise: standard output: No space left on device\n" and started.returncode == 1
