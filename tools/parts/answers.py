@@ -29,11 +29,10 @@ class Answers:
         """The texts that have no answer, or had other bytes or options. Their rows and files are taken away."""
         os.makedirs(self.out, exist_ok=True)
         todo = [it for it in texts if it.name not in self.rows or self.rows[it.name][6] == "nothing" or self.rows[it.name][7] != it.checksum]
-        for text in todo:
-            self.rows.pop(text.name, None)
+        for name in (it.name for it in todo if self.rows.pop(it.name, None)):
             for ending in (".aag", ".refused"):
                 with contextlib.suppress(FileNotFoundError):
-                    os.remove(os.path.join(self.out, text.name + ending))
+                    os.remove(os.path.join(self.out, name + ending))
         self.write(self.table, "".join("\t".join(row) + "\n" for row in [COLUMNS, *self.rows.values()]).encode())
         return todo
 

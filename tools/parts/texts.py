@@ -6,6 +6,7 @@ import sys
 
 # A text with more bytes is refused for its length, whatever they are.
 MOST_BYTES = 2**20 + 1
+MOST_BYTES_SAID = 2**16
 
 
 def shown(name):
@@ -45,5 +46,5 @@ class Text:
 
     def tell(self, said, place):
         """Writes what a program said of this text on standard error, with its own name instead of the place at which the program found it."""
-        lines = said.decode("utf-8", "replace").replace(place, self.shown).splitlines()
+        lines = said[:MOST_BYTES_SAID].decode("utf-8", "replace").replace(place, self.shown).splitlines()
         print("".join("\t".join(map(shown, line.split("\t"))) + "\n" for line in lines), end="", file=sys.stderr, flush=True)
