@@ -12,19 +12,19 @@ def stop(why):
 
 
 def programs_of(tools):
-    """The three programs: those in the folder that is named, or those of the checkout that are built from its sources."""
-    folder = os.environ.get("BOUNDSYN_BIN")
-    found = {}
+    """The three programs: those in the folder that is named, else those of the checkout that are built from its sources or, outside of one, on the PATH."""
+    folder, prebuilt, found = os.environ.get("BOUNDSYN_BIN"), os.path.join(tools, "prebuilt"), {}
     for name in ("boundsyn", "annotate", "boundsyn-show"):
-        if folder:
-            found[name] = os.path.realpath(os.path.join(folder, name))
-        else:
-            place = subprocess.run([os.path.join(tools, "prebuilt"), "place", name], stdout=subprocess.PIPE, check=False)
-            if place.returncode:
+        place = os.path.join(folder, name) if folder else name
+        if not folder and os.path.exists(prebuilt):
+            asked = subprocess.run([prebuilt, "place", name], stdout=subprocess.PIPE, check=False)
+            if asked.returncode:
                 sys.exit(2)
-            found[name] = place.stdout.decode().removesuffix("\n")
-        if not shutil.which(found[name]):
-            stop(f"needs the program {name}, which isn't at {found[name]}")
+            place = asked.stdout.decode().removesuffix("\n")
+        program = shutil.which(place)
+        if not program:
+            stop(f"needs {name}, which isn't there: {place}")
+        found[name] = os.path.realpath(program)
     return found
 
 

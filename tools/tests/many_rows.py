@@ -145,7 +145,7 @@ def a_folder_or_program_that_is_lacking_is_named(it):
     assert it.run("synth-all", "file", "examples/wire.tlsf") == (4, "", "synth-all: file: File exists\n")
     os.remove(os.path.join(it.bin, "annotate"))
     status, printed, said = it.run("synth-all", "out", "examples/wire.tlsf")
-    assert (status, printed) == (2, "") and said.startswith("synth-all: needs the program annotate, ") and said.count("\n") == 1
+    assert (status, printed) == (2, "") and said.startswith("synth-all: needs annotate, which isn't there: ") and said.count("\n") == 1
 
 
 def nothing_untested_counts(it):

@@ -1,5 +1,10 @@
 """Rows on tools/syntcomp."""
 
+import os
+import shutil
+
+from script_room import TOOLS
+
 ANSWERS = {"wire": 10, "delay": 10, "arbiter_of_two": 10, "inverter": 10, "traffic_light": 10, "prophecy": 20, "door": 20}
 LINES = {10: "REALIZABLE\n", 20: "UNREALIZABLE\n"}
 
@@ -81,3 +86,11 @@ MAIN {{ INPUTS {{ a[2]; {0} }} OUTPUTS {{ b[1]; c_0; }} GUARANTEE {{ G (b[0] <->
         inputs = [f"a{underscores}0", f"a{underscores}1", *others]
         assert printed.splitlines()[-len(inputs) - 2 :] == [*(f"i{at} {name}" for at, name in enumerate(inputs)), f"o0 b{underscores}0", "o1 c_0"]
         assert said.count("\n") == (underscores != "_") and (underscores == "_" or f" have {underscores} before their number" in said)
+
+
+def the_program_is_on_the_path_outside_of_a_checkout(it):
+    os.mkdir(it.path("elsewhere"))
+    shutil.copy(os.path.join(TOOLS, "syntcomp"), it.path("elsewhere/syntcomp"))
+    for path, status in ((it.bin + ":" + os.environ["PATH"], 10), ("/usr/bin:/bin", 2)):
+        it.variables.update(BOUNDSYN_BIN="", PATH=path)
+        assert it.run(it.path("elsewhere/syntcomp"), "--realizability", "examples/wire.tlsf")[:2] == (status, "REALIZABLE\n" if status == 10 else "")
