@@ -173,11 +173,10 @@ def what_was_done_is_kept_when_it_is_ended(it):
     needs_parallel(it)
     it.replace("boundsyn", '[ "$1" = synth ] && [ "$(wc -c <"$2")" -gt 400 ] && exec sleep 60\nexec "$real" "$@"\n')
     started = it.start("synth-all", "--jobs", "2", "out", "examples/wire.tlsf", "examples/lift.tlsf")
-    while not os.path.exists(it.path("out/wire.aag")) and started.poll() is None:
+    while not (os.path.exists(it.path("out/wire.aag")) and "wire" in it.read("out/answers.tsv")) and started.poll() is None:
         time.sleep(0.05)
-    time.sleep(0.2)
     started.send_signal(signal.SIGINT)
-    assert started.wait(timeout=30) == 130
+    assert started.wait(timeout=300) == 130
     assert list(table_of(it)) == ["wire.tlsf"] and sorted(os.listdir(it.path("out"))) == ["answers.tsv", "wire.aag"]
 
 

@@ -55,5 +55,5 @@ class Room:
     def run(self, script, *words, given=None):
         """The status, standard output and standard error of a script or program."""
         started = self.start(script, *words, stdin=subprocess.DEVNULL if given is None else subprocess.PIPE)
-        out, err = started.communicate(given, timeout=120)
+        out, err = started.communicate(given, timeout=900)
         return started.returncode, out, err

@@ -81,8 +81,8 @@ class Checkout:
         return read(f"{self.kit}/calls").split().count(word) if os.path.exists(f"{self.kit}/calls") else 0
 
     def is_rt_running(self):
-        """Whether some process still has the stand-in among its words two seconds later."""
-        end = time.monotonic() + 2
+        """Whether some process still has the stand-in among its words half a minute later."""
+        end = time.monotonic() + 30
         while found := any(f"{self.kit}/rt" in words_of(path) for path in glob.glob("/proc/[0-9]*/cmdline")):
             if time.monotonic() > end:
                 break
