@@ -1,5 +1,0 @@
-use Rattle.aiger_text.specs.Step.{IsStateOf}
-use Rattle.circuit_rows.proofs.push_outputs.Given as goal
-
-abbrev pub invariant-loop-digit : goal.invariant-loop-digit
-invariant-loop-digit l = IsStateOf l.circuit l.state

@@ -1,5 +1,0 @@
-use Rattle.std.proofs.Common.{◌≡◌, vec_len}
-use Rattle.formula_tests.proofs.normal_forms.names.Given as goal
-
-abbrev pub invariant-loop-letter : goal.invariant-loop-letter
-invariant-loop-letter l = vec_len l.names ≡ l.letter

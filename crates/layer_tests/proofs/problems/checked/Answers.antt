@@ -1,0 +1,31 @@
+use Rattle.std.proofs.Common.{◌≡◌, ℕ, ◌+◌, ◌^◌, ◌<◌, ◌≤◌, ◌⊎◌, List, inl, inr, ap, ◌∙◌, arith, subst}
+use Rattle.std.specs.Prelude.{All}
+use Rattle.std.proofs.lemmas.Bool.{cases_eq}
+use Rattle.machine_model.specs.Automaton.{AutomatonModel, states_of}
+use Rattle.machine_model.specs.Problem.{IsVersion, automaton_of}
+use Rattle.machine_model.specs.declared.automata.Edge.{Edge}
+use Rattle.machine_model.specs.declared.problems.Problem.{Problem}
+use Rattle.layer_tests.proofs.problems.checked.Goals as goal
+
+version_is : (v : ℕ) → 1 ≤ v → v ≤ 2 → IsVersion v
+version_is v least most = elim (cases_eq v 1) [ inl e ↦ inl e | inr ne ↦ inr (inl (omega arith)) ]
+
+pub returns : goal.returns
+returns c =
+    let p : Problem = c.args.problem in
+    let musts : All (λ (e : Edge). e.cube.must < 2 ^ (c.args.problem.inputs + c.args.problem.outputs)) (automaton_of c.args.problem).edges
+    = subst (λ (es : List Edge). All (λ (e : Edge). e.cube.must < 2 ^ (c.args.problem.inputs + c.args.problem.outputs)) es) (c.edges.ensures.value ∙ ap (λ (a : AutomatonModel). a.edges) c.deref-2.ensures)
+    (subst (λ n. All (λ (e : Edge). e.cube.must < n) c.edges.result.now) c.letters_of-letters.ensures c.if-has_far_must.ensures) in
+    let nots : All (λ (e : Edge). e.cube.not < 2 ^ (c.args.problem.inputs + c.args.problem.outputs)) (automaton_of c.args.problem).edges
+    = subst (λ (es : List Edge). All (λ (e : Edge). e.cube.not < 2 ^ (c.args.problem.inputs + c.args.problem.outputs)) es) (c.edges-2.ensures.value ∙ ap (λ (a : AutomatonModel). a.edges) c.deref-3.ensures)
+    (subst (λ n. All (λ (e : Edge). e.cube.not < n) c.edges-2.result.now) c.letters_of-letters.ensures c.if-has_far_not.ensures) in
+    record {
+      inputs = omega arith;
+      outputs = omega arith;
+      some = omega arith;
+      size = omega arith;
+      states = subst (λ (a : AutomatonModel). states_of a ≤ 2000) c.deref.ensures (omega (arith, c.states.ensures.value, c.if-states-gt2000.false));
+      signals = λ k d h. record { must = musts k d h; none_of = nots k d h };
+      version = version_is c.args.problem.version (omega arith) (omega arith);
+      components = λ third. absurd (omega arith);
+    }

@@ -1,0 +1,43 @@
+//! The covers of a set of one formula.
+ghost use Rattle.std.specs.Prelude.{◌≡◌, [], ◌∷◌, IfOk};
+
+use crate::formula_texts::{formula, push_times};
+use ltl_formula::{FormulaId, Formulas};
+use obligation_sets::{Cover, CoverFault, ObligationSet, covers};
+use std::alloc::{AllocError, Global};
+use std::test::Fail;
+
+fn set_of_one(alloc: Global, id: FormulaId) -> Result<ObligationSet, AllocError>
+    ensures { IfOk result (λ set. set ≡ id ∷ []) }
+{
+    let mut ids = Vec::new(alloc);
+    ids.push(id)?;
+    Ok(ObligationSet::new(ids))
+}
+
+fn covers_of(alloc: Global, text: &[u8]) -> Result<Result<Vec<Cover>, CoverFault>, Fail> {
+    let mut formulas = Formulas::new(alloc);
+    let f = formula(alloc, &mut formulas, text)?;
+    let set = set_of_one(alloc, f)?;
+    Ok(covers(alloc, &formulas, &set))
+}
+
+/// The conjunction of `(X^j a) || (X^j b)` for each j from 1 to `count`.
+fn pairs(alloc: Global, count: u32) -> Result<Vec<u8>, AllocError> {
+    let mut text = b"1".to_vec(alloc)?;
+    for j in 0..count {
+        text.extend_from_slice(b"aX")?;
+        push_times(&mut text, b"X", j)?;
+        text.extend_from_slice(b"bX")?;
+        push_times(&mut text, b"X", j)?;
+        text.extend_from_slice(b"|&")?;
+    }
+    Ok(text)
+}
+
+#[test]
+fn sixteen_pairs_have_65536_covers(rt: HostRuntime) -> Result<(), Fail> {
+    let all = covers_of(rt.alloc(), &pairs(rt.alloc(), 16)?)??;
+    assert_eq!(rt; all.len(), 65_536);
+    Ok(())
+}

@@ -1,3 +1,0 @@
-mod SmallClauses
-mod EitherWay
-mod Passes
