@@ -109,7 +109,12 @@ where
         heard: Heard::new(alloc, is_batch),
     };
     let status = run(rt, alloc, words, &mut shelf, &mut out, &gate);
-    if !own.quiet {
+    // Whoever closed the pipe wants no more of the output, and no word about it.
+    let is_closed = out
+        .inner
+        .last_error()
+        .is_some_and(|error| error.kind() == ErrorKind::BrokenPipe);
+    if !own.quiet && !is_closed {
         let end = End {
             status,
             read_error: reason(alloc, shelf.inner.last_error()).unwrap_or(None),

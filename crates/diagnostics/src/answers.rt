@@ -1,8 +1,8 @@
 use crate::heard::{Answer, Verdict};
+use crate::text_faults::{Source, push_formula};
 use crate::unknown::{Count, push_numbers};
 use std::alloc::{AllocError, Global};
 use std::fmt::Write;
-use text_messages::{Source, push_formula};
 
 /// Appends what was found, in one line; a core's guarantees as they are written come below.
 pub(crate) fn push_answer(

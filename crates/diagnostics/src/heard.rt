@@ -1,7 +1,8 @@
+use crate::line_rules::cut_word;
+use crate::text_faults::TextFault;
 use letter_word::{Kind, Side};
 use spec_faults::SpecCode;
 use std::alloc::{AllocError, Global};
-use text_messages::{TextFault, cut_word};
 
 /// The verdict of a document.
 #[derive(Clone, Copy)]

@@ -1,3 +1,4 @@
+use shown_text::push_shown;
 use std::alloc::{AllocError, Global};
 
 /// The most bytes that are kept of a file.
@@ -6,6 +7,7 @@ const MOST_KEPT: usize = 16_777_216;
 /// A file that a run took, and what was kept of it.
 #[derive(Drop)]
 pub struct KeptFile {
+    /// Its name as it may be shown.
     pub name: String,
     pub bytes: Vec<u8>,
     /// Whether that is all that was taken.
@@ -77,7 +79,7 @@ impl KeptFiles {
 
     /// Keeps the name of a file that couldn't be taken.
     pub fn keep_failed(&mut self, name: &str) {
-        match String::from_str(self.alloc, name) {
+        match shown(self.alloc, name) {
             Ok(name) => self.failed = Some(name),
             Err(_) => self.is_lost = true,
         }
@@ -86,7 +88,7 @@ impl KeptFiles {
     fn push(&mut self, name: &str, bytes: &[u8], is_taken: bool) -> Result<(), AllocError> {
         let front = front(bytes, MOST_KEPT);
         self.files.push(KeptFile {
-            name: String::from_str(self.alloc, name)?,
+            name: shown(self.alloc, name)?,
             bytes: Vec::from_slice(self.alloc, front)?,
             is_whole: is_taken && front.len() == bytes.len(),
         })?;
@@ -114,4 +116,10 @@ impl KeptFile {
 /// At most so many of the first bytes.
 fn front(bytes: &[u8], most: usize) -> &[u8] {
     bytes.get(..most).unwrap_or(bytes)
+}
+
+fn shown(alloc: Global, name: &str) -> Result<String, AllocError> {
+    let mut out = String::new(alloc);
+    push_shown(alloc, name.as_bytes(), &mut out)?;
+    Ok(out)
 }

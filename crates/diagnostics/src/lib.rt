@@ -2,17 +2,29 @@
 //! read or written, and, where that is wanted, what was found.
 //!
 //! `message` makes it from what was seen of a run from around it: its words, its status, copies of its files (`KeptFiles`) and what it
-//! wrote (`Heard`). It promises safety alone, and what it says changes nothing of a run. Stands on text_messages for texts and lines.
+//! wrote (`Heard`). It promises safety, and that a place's line is the one that it stands in; what it says changes nothing of a run. Stands on
+//! tlsf_tokens for the tokens around a place, on shown_text for what a terminal may be given, and on strsim for the nearest name.
 #![tactic(auto)]
 
 mod answers;
+mod around;
 mod commands;
+mod declared;
+mod excerpts;
 mod heard;
 mod help;
 mod kept;
+mod line_faults;
+mod line_rules;
 mod messages;
+mod nearest;
+mod notes;
 mod own_words;
+mod places;
 mod progress;
+mod sentences;
+mod slips;
+mod text_faults;
 mod unknown;
 mod wrong_words;
 

@@ -1,12 +1,15 @@
 use crate::answers::push_answer;
-use crate::heard::{Answer, Heard};
+use crate::heard::{Answer, Heard, Verdict};
 use crate::kept::{KeptFile, KeptFiles};
+use crate::line_faults::{LineFault, LineOf, push_line_fault};
+use crate::text_faults::{Source, push_text_fault};
 use crate::unknown::push_unknown;
 use crate::wrong_words::push_wrong_words;
 use program_replies::Status;
+use shown_text::first_messages;
 use std::alloc::{AllocError, Global};
 use std::fmt::Write;
-use text_messages::{LineFault, LineOf, Source, push_line_fault, push_text_fault};
+use text_lint::lint_of;
 
 const DONE: u8 = Status::Done as u8;
 
@@ -43,11 +46,11 @@ pub struct Seen<'a> {
 }
 
 /// What is said of the run on standard error: why its status is no success, and, where that is wanted, what was found. Nothing is said
-/// where memory lacked for what was to be remembered.
+/// where memory lacked for what was to be remembered. It has 64 KB at most.
 pub fn message(alloc: Global, seen: Seen<'_>, is_verbose: bool) -> Result<String, AllocError> {
     let mut out = String::new(alloc);
     push_message(alloc, seen, is_verbose, &mut out)?;
-    Ok(out)
+    first_messages(alloc, &out)
 }
 
 fn push_message(
@@ -65,7 +68,7 @@ fn push_message(
         _ if is_lost => Ok(()),
         DONE => push_texts(alloc, seen, is_verbose, out),
         REFUSED => push_refused(alloc, seen, out),
-        BOUNDED | UNKNOWN => push_open(alloc, seen, out),
+        BOUNDED | UNKNOWN => push_open(alloc, seen, is_verbose, out),
         LINE_REFUSED => push_refused_line(alloc, seen, out),
         _ if is_verbose => push_found(alloc, seen, out),
         _ => Ok(()),
@@ -89,7 +92,21 @@ fn first_file(seen: Seen<'_>) -> Option<Source<'_>> {
 fn push_unread(seen: Seen<'_>, out: &mut String) -> Result<(), AllocError> {
     let name = seen.files.failed().unwrap_or("a file");
     let reason = seen.read_error.unwrap_or("the system gave no reason");
-    writeln!(out, "{name}: error: can't be read: {reason}")
+    writeln!(out, "{name}: error: can't be read: {reason}")?;
+    if name == "-" {
+        out.push_str("  note: standard input is read by its name: `/dev/stdin`\n")?;
+    }
+    if name.ends_with('?')
+        && seen
+            .words
+            .get(1)
+            .is_some_and(|word| word.as_str() == "batch")
+    {
+        out.push_str(
+            "  note: a line of the list may end with a carriage return: it ends with a line feed alone\n",
+        )?;
+    }
+    Ok(())
 }
 
 fn push_unwritten(seen: Seen<'_>, out: &mut String) -> Result<(), AllocError> {
@@ -144,21 +161,53 @@ fn push_refused_line(alloc: Global, seen: Seen<'_>, out: &mut String) -> Result<
     }
 }
 
-fn push_open(alloc: Global, seen: Seen<'_>, out: &mut String) -> Result<(), AllocError> {
+fn push_open(
+    alloc: Global,
+    seen: Seen<'_>,
+    is_verbose: bool,
+    out: &mut String,
+) -> Result<(), AllocError> {
     match (first_file(seen), seen.heard.answer().verdict) {
-        (Some(file), Some(_)) => push_unknown(alloc, file.name, seen.heard.answer(), out),
+        (Some(file), Some(_)) => {
+            let words = seen.words.iter().map(|word| word.as_str());
+            let command: Vec<&str> = words.collect(alloc)?;
+            push_unknown(alloc, file.name, seen.heard.answer(), &command, out)?;
+            push_lint(alloc, file, is_verbose, out)
+        },
         _ => Ok(()),
     }
 }
 
 fn push_found(alloc: Global, seen: Seen<'_>, out: &mut String) -> Result<(), AllocError> {
     match first_file(seen) {
-        Some(file) => push_answer(alloc, file, seen.heard.answer(), out),
+        Some(file) => {
+            push_answer(alloc, file, seen.heard.answer(), out)?;
+            push_lint(alloc, file, true, out)
+        },
         None => Ok(()),
     }
 }
 
-/// Appends a message for each refused text of a list, and what was found of the others where that is wanted.
+/// Appends what an answered text says that is seldom meant, where that is wanted.
+fn push_lint(
+    alloc: Global,
+    file: Source<'_>,
+    is_verbose: bool,
+    out: &mut String,
+) -> Result<(), AllocError> {
+    if !is_verbose {
+        return Ok(());
+    }
+    let name = file.name;
+    for lint in &lint_of(alloc, file.bytes)? {
+        let line = lint.line;
+        let text = lint.text.as_str();
+        writeln!(out, "{name}:{line}: note: {text}")?;
+    }
+    Ok(())
+}
+
+/// Appends a message for each text of a list that is refused or has no verdict, and what was found of the others where that is wanted.
 fn push_texts(
     alloc: Global,
     seen: Seen<'_>,
@@ -179,9 +228,14 @@ fn push_text(
     is_verbose: bool,
     out: &mut String,
 ) -> Result<(), AllocError> {
-    match answer.fault {
-        Some(fault) => push_text_fault(alloc, file, fault, out),
-        None if is_verbose => push_answer(alloc, file, answer, out),
-        None => Ok(()),
+    match (answer.fault, answer.verdict) {
+        (Some(fault), _) => return push_text_fault(alloc, file, fault, out),
+        (None, Some(Verdict::Unknown | Verdict::Bounded(..))) => {
+            let command = ["boundsyn", "synth", file.name];
+            push_unknown(alloc, file.name, answer, &command, out)?;
+        },
+        _ if is_verbose => push_answer(alloc, file, answer, out)?,
+        _ => {},
     }
+    push_lint(alloc, file, is_verbose, out)
 }

@@ -31,11 +31,12 @@ impl Sizes {
 }
 
 /// Appends why an answer has no verdict, or a machine that may not be the smallest: what became of the sizes of each side, why no
-/// greater ones were searched, and what may help.
+/// greater ones were searched, what may help, and a command that tries it, made from the words of one.
 pub(crate) fn push_unknown(
     alloc: Global,
     name: &str,
     answer: &Answer,
+    command: &[&str],
     out: &mut String,
 ) -> Result<(), AllocError> {
     let system = Sizes::of(alloc, &answer.logs_of(alloc, Side::System)?)?;
@@ -51,13 +52,17 @@ pub(crate) fn push_unknown(
             };
             push_sizes(side, sizes, answer, out)?;
             out.push_str("\n")?;
-            push_advice(Advice::bounded(answer), answer, out)
+            let advice = Advice::bounded(answer);
+            push_advice(advice, answer, out)?;
+            push_next(command, advice, out)
         },
         _ => {
             push_open(&system, &environment, out)?;
             push_side(Side::System, &system, answer, out)?;
             push_side(Side::Environment, &environment, answer, out)?;
-            push_advice(Advice::unknown(&system, &environment, answer), answer, out)
+            let advice = Advice::unknown(&system, &environment, answer);
+            push_advice(advice, answer, out)?;
+            push_next(command, advice, out)
         },
     }
 }
@@ -191,6 +196,7 @@ struct Advice {
     max: Option<&'static str>,
     /// Where a log is full.
     entries: bool,
+    /// Where the other kind may be answered: a Moore machine is a Mealy machine too, so none has a size that is refuted for Mealy machines.
     kind: bool,
     /// Where a size has too many base clauses.
     is_cut: bool,
@@ -207,6 +213,17 @@ impl Advice {
         }
     }
 
+    /// Whether a word is an option to which another value is given.
+    fn replaces(self, word: &str) -> bool {
+        let (name, _) = word.split_once('=').unwrap_or((word, ""));
+        match name {
+            "--max" => self.max.is_some(),
+            "--counts" => self.counts,
+            "--entries" => self.entries,
+            _ => false,
+        }
+    }
+
     fn unknown(system: &Sizes, environment: &Sizes, answer: &Answer) -> Advice {
         let is_cut = system.count < answer.max || environment.count < answer.max;
         let is_full = !system.full.is_empty() || !environment.full.is_empty();
@@ -214,7 +231,7 @@ impl Advice {
             counts: (is_cut || is_full) && answer.version != Some(LOCAL_VERSION),
             max: reaching(system, environment, answer),
             entries: is_full,
-            kind: true,
+            kind: answer.kind == Kind::Moore || !system.full.is_empty() || system.count == 0,
             is_cut,
         }
     }
@@ -261,5 +278,41 @@ fn push_advice(advice: Advice, answer: &Answer, out: &mut String) -> Result<(), 
             "  no {other}option allows a size with over {most} base clauses"
         )?;
     }
-    out.push_str("  fewer or simpler guarantees with F and U make the search easier\n")
+    out.push_str(
+        "  fewer or simpler guarantees with F and U make the search easier: see docs/WRITING.md, and `tools/text-size` for how large a text is\n",
+    )
+}
+
+/// Appends the words of a command with what may help, where a shell reads them as they are.
+fn push_next(command: &[&str], advice: Advice, out: &mut String) -> Result<(), AllocError> {
+    let is_nothing = !advice.counts && advice.max.is_none() && !advice.entries;
+    if is_nothing || !command.iter().skip(1).all(|word| is_plain(word)) {
+        return Ok(());
+    }
+    out.push_str("  for instance: boundsyn")?;
+    let mut is_value = false;
+    for word in command.iter().skip(1) {
+        let is_replaced = !is_value && advice.replaces(word);
+        if !is_value && !is_replaced {
+            out.push(' ')?;
+            out.push_str(word)?;
+        }
+        is_value = is_replaced && !word.contains('=');
+    }
+    if advice.max.is_some() {
+        out.push_str(" --max 8")?;
+    }
+    if advice.counts {
+        out.push_str(" --counts local")?;
+    }
+    if advice.entries {
+        out.push_str(" --entries none")?;
+    }
+    out.push('\n')
+}
+
+/// Whether a shell takes a word as it is.
+fn is_plain(word: &str) -> bool {
+    !word.is_empty()
+        && word.bytes().all(|byte| byte.is_ascii_alphanumeric() || b"_./=,:+@-".contains(&byte))
 }

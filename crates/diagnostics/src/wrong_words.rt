@@ -1,9 +1,10 @@
 use crate::VERSION;
-use crate::commands::{Command, Part, Values, command_of};
+use crate::commands::{COMMANDS, Command, Part, Values, command_of};
 use crate::help::{push_forms, push_help};
+use crate::nearest::Nearest;
+use shown_text::push_shown;
 use std::alloc::{AllocError, Global};
 use std::fmt::Write;
-use text_messages::push_line_start;
 
 /// What is wrong with words, the first of them from the left.
 #[derive(Clone, Copy)]
@@ -37,6 +38,7 @@ pub(crate) fn push_wrong_words(
             out.push_str("boundsyn: error: ")?;
             push_wrong(alloc, wrong, out)?;
             out.push('\n')?;
+            push_hint(alloc, wrong, command, out)?;
         },
     }
     match command {
@@ -68,6 +70,71 @@ fn push_wrong(alloc: Global, wrong: Wrong<'_>, out: &mut String) -> Result<(), A
     }
 }
 
+/// Appends what may have been meant by a word that isn't known.
+fn push_hint(
+    alloc: Global,
+    wrong: Wrong<'_>,
+    command: Option<Command>,
+    out: &mut String,
+) -> Result<(), AllocError> {
+    match wrong {
+        Wrong::UnknownOption(word) if OWN.contains(&word) => writeln!(
+            out,
+            "  note: `{word}` stands before the command, as in `boundsyn {word} synth SPEC`"
+        ),
+        Wrong::UnknownOption(word) => push_nearest_option(alloc, word, command, out),
+        Wrong::UnknownCommand(word) if word.contains(['.', '/']) => out.push_str(
+            "  note: a command stands before the names of files, as in `boundsyn synth SPEC`\n",
+        ),
+        Wrong::UnknownCommand(word) => {
+            let mut nearest = Nearest::new(word);
+            for command in COMMANDS {
+                nearest.compare(alloc, command.name)?;
+            }
+            push_nearest("command", nearest.found, out)
+        },
+        _ => Ok(()),
+    }
+}
+
+/// The words of the program itself.
+const OWN: [&str; 3] = ["--progress", "--quiet", "--verbose"];
+
+fn push_nearest_option(
+    alloc: Global,
+    word: &str,
+    command: Option<Command>,
+    out: &mut String,
+) -> Result<(), AllocError> {
+    let (name, _) = word.split_once('=').unwrap_or((word, ""));
+    let mut nearest = Nearest::new(name);
+    let Some(command) = command else {
+        for own in OWN {
+            nearest.compare(alloc, own)?;
+        }
+        let is_known = COMMANDS
+            .iter()
+            .any(|command| command.option(name).is_some());
+        if is_known {
+            return out.push_str(
+                "  note: options stand behind the command and the names of its files\n",
+            );
+        }
+        return push_nearest("word before the command", nearest.found, out);
+    };
+    for option in command.options {
+        nearest.compare(alloc, option.name)?;
+    }
+    push_nearest("option", nearest.found, out)
+}
+
+fn push_nearest(what: &str, found: Option<&str>, out: &mut String) -> Result<(), AllocError> {
+    match found {
+        Some(name) => writeln!(out, "  note: the nearest {what} is `{name}`"),
+        None => Ok(()),
+    }
+}
+
 fn push_part(part: Part, what: &str, out: &mut String) -> Result<(), AllocError> {
     let name = part.name;
     write!(out, "{name} {what}")?;
@@ -90,7 +157,7 @@ fn push_values(part: Part, out: &mut String) -> Result<(), AllocError> {
 fn push_about(alloc: Global, before: &str, word: &str, out: &mut String) -> Result<(), AllocError> {
     out.push_str(before)?;
     out.push('`')?;
-    push_line_start(alloc, word.as_bytes(), out)?;
+    push_shown(alloc, word.as_bytes(), out)?;
     out.push('`')
 }
 

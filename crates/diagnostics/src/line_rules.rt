@@ -2,19 +2,33 @@ use crate::line_faults::{LineFault, LineOf};
 
 /// What a refused line should be, as far as the line and those before it tell.
 pub(crate) fn rule(bytes: &[u8], fault: LineFault, line: &[u8]) -> &'static str {
+    if line.ends_with(b"\r") {
+        return "the line ends with a carriage return, as in files of Windows: a line ends with a line feed alone";
+    }
     match fault.of {
         LineOf::Document => document_rule(bytes, fault.line, line),
         LineOf::Circuit => circuit_rule(bytes, fault.line, line),
-        LineOf::Word => word_rule(fault.line, line),
+        LineOf::Word => word_rule(bytes, fault.line, line),
         LineOf::List => {
             "a line of the list is the name of a file: UTF-8, not empty, and not beginning with `-`; there are at most 64"
         },
     }
 }
 
-fn word_rule(number: u64, line: &[u8]) -> &'static str {
+/// The most letters of a word.
+const MOST_LETTERS: usize = 10_000;
+
+fn word_rule(bytes: &[u8], number: u64, line: &[u8]) -> &'static str {
+    let before = number.saturating_sub(1) as usize;
+    let letters = bytes
+        .split(|byte| *byte == b'\n')
+        .take(before)
+        .filter(|line| *line != b"stem".as_slice() && *line != b"ring".as_slice())
+        .count();
     if number == 1 {
         "a word begins with the line `stem`"
+    } else if letters >= MOST_LETTERS {
+        "a word has at most 10,000 letters"
     } else if line == b"ring".as_slice() {
         "the line `ring` stands once, behind the letters of the stem"
     } else {
@@ -28,7 +42,7 @@ fn document_rule(bytes: &[u8], number: u64, line: &[u8]) -> &'static str {
     }
     let (word, _) = cut_word(line);
     match word {
-        b"boundsyn" => "a document's head is `boundsyn` and its version",
+        b"boundsyn" => "a document's head is `boundsyn` and its version, which is 1, 2, 3 or 5",
         b"verdict" => {
             "the verdict is none that a document has, its size isn't allowed, or it names another log than the first that isn't closed"
         },
@@ -38,7 +52,9 @@ fn document_rule(bytes: &[u8], number: u64, line: &[u8]) -> &'static str {
         b"found" => "`found` has a size, in old documents with unknown entries alone",
         b"log" => log_rule(line),
         b"end" => "a log or an entry is missing before the end, or the last log isn't ended",
-        _ if word.first().is_some_and(|byte| byte.is_ascii_digit()) => entry_rule(line),
+        _ if word.first().is_some_and(|byte| byte.is_ascii_digit()) => entry_rule(
+            bytes, number, line,
+        ),
         _ => "no line of a document begins like this here",
     }
 }
@@ -55,12 +71,89 @@ fn log_rule(line: &[u8]) -> &'static str {
     }
 }
 
-fn entry_rule(line: &[u8]) -> &'static str {
-    if is_entry(line) {
-        "this entry has the form of one, but its clause doesn't follow from the clauses that its hints name, for this text"
-    } else {
-        "an entry is a worker's number, literals, `0`, hints and `0`"
+fn entry_rule(bytes: &[u8], number: u64, line: &[u8]) -> &'static str {
+    if !is_entry(line) {
+        return "an entry is a worker's number, literals, `0`, hints and `0`";
     }
+    let log = LogBefore::of(bytes, number, clause_of(line));
+    if log.count >= log.limit {
+        "this log has more entries than the line `entries` allows"
+    } else if log.is_closed {
+        "an entry stands behind the empty clause, with which a log ends"
+    } else if log.is_known {
+        "an earlier entry of this log has the same clause"
+    } else {
+        "this entry has the form of one, but its clause doesn't follow from the clauses that its hints name, for this text"
+    }
+}
+
+/// What stands of a log before one of its entries.
+#[derive(Clone, Copy)]
+struct LogBefore {
+    /// The most entries that it may have.
+    limit: u64,
+    count: u64,
+    /// Whether the empty clause is among them.
+    is_closed: bool,
+    /// Whether the clause of that entry is.
+    is_known: bool,
+}
+
+impl LogBefore {
+    fn of(bytes: &[u8], number: u64, clause: &[u8]) -> LogBefore {
+        let mut log = LogBefore {
+            limit: u64::MAX,
+            count: 0,
+            is_closed: false,
+            is_known: false,
+        };
+        let before = number.saturating_sub(1) as usize;
+        for line in bytes.split(|byte| *byte == b'\n').take(before) {
+            log.pass(line, clause);
+        }
+        log
+    }
+
+    fn pass(&mut self, line: &[u8], clause: &[u8]) {
+        let (word, rest) = cut_word(line);
+        if word == b"entries".as_slice() {
+            self.limit = if is_number(rest) {
+                value(rest)
+            } else {
+                u64::MAX
+            };
+        } else if word == b"log".as_slice() {
+            self.count = 0;
+            self.is_closed = false;
+            self.is_known = false;
+        } else if is_entry(line) {
+            let earlier = clause_of(line);
+            self.count = self.count.saturating_add(1);
+            self.is_closed = self.is_closed || earlier.is_empty();
+            self.is_known = self.is_known || are_alike(earlier, clause);
+        }
+    }
+}
+
+/// The literals of an entry.
+fn clause_of(line: &[u8]) -> &[u8] {
+    let (_, literals) = cut_word(line);
+    let mut len = 0usize;
+    for word in literals.split(|byte| *byte == b' ') {
+        if word == b"0".as_slice() {
+            break;
+        }
+        len = len.saturating_add(word.len()).saturating_add(1);
+    }
+    literals.get(..len).unwrap_or(literals)
+}
+
+/// Whether two lists of literals are the same clause.
+fn are_alike(one: &[u8], other: &[u8]) -> bool {
+    one.len() == other.len()
+        && one.split(|byte| *byte == b' ').all(|literal| other
+            .split(|byte| *byte == b' ')
+            .any(|word| word == literal))
 }
 
 /// Whether a line has the form of an entry: a number, literals up to `0`, hints up to `0`.

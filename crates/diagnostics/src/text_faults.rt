@@ -1,14 +1,15 @@
 use crate::around::Around;
-use crate::excerpts::{push_line_start, push_marked};
+use crate::excerpts::push_marked;
 use crate::notes::push_note;
 use crate::places::Place;
 use crate::sentences::{fixed_sentence, push_sentence};
+use shown_text::push_shown;
 use spec_faults::SpecCode;
 use std::alloc::{AllocError, Global};
 use std::fmt::Write;
 use tlsf_tokens::{Section, Symbol, Token, tokens};
 
-/// A file by its name, and what was kept of it.
+/// A file by its name as it may be shown, and what was kept of it.
 #[derive(Clone, Copy)]
 pub struct Source<'a> {
     pub name: &'a str,
@@ -87,7 +88,7 @@ pub fn push_formula(
         .unwrap_or(b"");
     let first = formula.split(|byte| *byte == b'\n').next().unwrap_or(b"");
     write!(out, "{name}:{line}: ")?;
-    push_line_start(alloc, first, out)?;
+    push_shown(alloc, first, out)?;
     out.push('\n')
 }
 

@@ -1,12 +1,7 @@
 use crate::places::{Place, char_count};
+use shown_text::{CUT, MOST_COLUMNS, masked, push_masked};
 use std::alloc::{AllocError, Global};
 use std::fmt::Write;
-
-/// The most columns of a line that are shown.
-const MOST_COLUMNS: usize = 120;
-
-/// What stands where a part of a line is left out.
-const CUT: &str = "..";
 
 /// What is shown of a line is this wide where a part of it is left out on both sides.
 const WINDOW: usize = MOST_COLUMNS - 4;
@@ -22,7 +17,7 @@ pub(crate) fn push_marked(
     if from > 0 {
         out.push_str("  ")?;
     }
-    let before = shown(alloc, place.before)?;
+    let before = masked(alloc, place.before)?;
     for character in before.chars().skip(from) {
         out.push(if character == '\t' { '\t' } else { ' ' })?;
     }
@@ -35,8 +30,8 @@ pub(crate) fn push_line(
     place: Place<'_>,
     out: &mut String,
 ) -> Result<usize, AllocError> {
-    let mut line = shown(alloc, place.before)?;
-    push_shown(place.behind, &mut line)?;
+    let mut line = masked(alloc, place.before)?;
+    push_masked(place.behind, &mut line)?;
     let number = place.line;
     write!(out, "{number:>5} | ")?;
     let from = first_column(char_count(place.before), line.chars().count());
@@ -66,37 +61,6 @@ fn push_window(line: &str, from: usize, out: &mut String) -> Result<(), AllocErr
     }
     if most < rest {
         out.push_str(CUT)?;
-    }
-    Ok(())
-}
-
-/// Appends a line as it may be shown, at most 120 columns of it.
-pub fn push_line_start(alloc: Global, line: &[u8], out: &mut String) -> Result<(), AllocError> {
-    let line = shown(alloc, line)?;
-    push_window(&line, 0, out)
-}
-
-fn shown(alloc: Global, bytes: &[u8]) -> Result<String, AllocError> {
-    let mut out = String::new(alloc);
-    push_shown(bytes, &mut out)?;
-    Ok(out)
-}
-
-/// Appends bytes as they may be shown: each character is one, with `?` for a byte that is none and for one that a terminal would obey.
-pub(crate) fn push_shown(bytes: &[u8], out: &mut String) -> Result<(), AllocError> {
-    for chunk in bytes.utf8_chunks() {
-        push_plain(chunk.valid(), out)?;
-        for _ in chunk.invalid() {
-            out.push('?')?;
-        }
-    }
-    Ok(())
-}
-
-fn push_plain(text: &str, out: &mut String) -> Result<(), AllocError> {
-    for character in text.chars() {
-        let is_obeyed = character.is_control() && character != '\t';
-        out.push(if is_obeyed { '?' } else { character })?;
     }
     Ok(())
 }

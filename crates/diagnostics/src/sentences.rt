@@ -1,5 +1,5 @@
 use crate::around::Around;
-use crate::excerpts::{push_line_start, push_shown};
+use shown_text::push_shown;
 use spec_faults::SpecCode;
 use std::alloc::{AllocError, Global};
 use std::fmt::Write;
@@ -13,7 +13,7 @@ pub(crate) fn push_sentence(
     out: &mut String,
 ) -> Result<(), AllocError> {
     match code {
-        SpecCode::BadByte => push_bad_byte(around, out),
+        SpecCode::BadByte => push_bad_byte(alloc, around, out),
         SpecCode::Unexpected => push_unexpected(alloc, around, out),
         SpecCode::Unclosed if around.rest().starts_with(b"/*") => {
             out.push_str("this comment isn't closed")
@@ -100,27 +100,30 @@ fn push_word(alloc: Global, around: &Around<'_>, out: &mut String) -> Result<(),
         out.push_str("what begins with ")?;
     }
     out.push('`')?;
-    push_line_start(alloc, word.as_bytes(), out)?;
+    push_shown(alloc, word.as_bytes(), out)?;
     out.push('`')
 }
 
 /// Appends which byte no token begins with.
-fn push_bad_byte(around: &Around<'_>, out: &mut String) -> Result<(), AllocError> {
+fn push_bad_byte(alloc: Global, around: &Around<'_>, out: &mut String) -> Result<(), AllocError> {
     let rest = around.rest();
-    let Some(chunk) = rest.utf8_chunks().next() else {
-        return out.push_str(fixed_sentence(SpecCode::BadByte));
+    let valid = match rest.utf8_chunks().next() {
+        Some(chunk) => chunk.valid(),
+        None => "",
     };
-    match chunk.valid().chars().next() {
+    match valid.chars().next() {
+        None => out.push_str("a byte that isn't ASCII stands in no comment and no text in quotes"),
+        Some('\u{feff}') => out.push_str("a byte order mark stands here"),
         Some(character) if character.is_ascii() => {
             out.push_str("no token of TLSF begins with `")?;
-            push_shown(rest.get(..1).unwrap_or(b""), out)?;
+            push_shown(alloc, rest.get(..1).unwrap_or(b""), out)?;
             out.push('`')
         },
-        Some(character) => write!(
-            out,
-            "`{character}` isn't ASCII, and stands in no comment and no text in quotes"
-        ),
-        None => out.push_str("a byte that isn't ASCII stands in no comment and no text in quotes"),
+        Some(character) => {
+            out.push('`')?;
+            push_shown(alloc, rest.get(..character.len_utf8()).unwrap_or(b""), out)?;
+            out.push_str("` isn't ASCII, and stands in no comment and no text in quotes")
+        },
     }
 }
 
@@ -143,7 +146,7 @@ fn push_unsupported(
             .take_while(|byte| byte.is_ascii_alphabetic())
             .count();
         out.push('`')?;
-        push_shown(rest.get(..len.max(1)).unwrap_or(b""), out)?;
+        push_shown(alloc, rest.get(..len.max(1)).unwrap_or(b""), out)?;
         return out.push_str("` isn't supported");
     }
     push_about(alloc, around, "", " isn't supported", out)
@@ -151,7 +154,7 @@ fn push_unsupported(
 
 /// Appends what the block that is closed at the place lacks.
 fn push_missing(around: &Around<'_>, out: &mut String) -> Result<(), AllocError> {
-    let (block, parts): (&str, &[(Symbol, &str)]) = match around.block() {
+    let (block, parts): (&str, &[(Symbol, &str)]) = match around.block().map(|token| token.symbol) {
         Some(Symbol::Info) => ("INFO", &FIELDS),
         _ => ("MAIN", &PARTS),
     };
