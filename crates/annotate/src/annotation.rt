@@ -13,8 +13,8 @@ use machine_model::Automaton;
 use program_replies::{Reply, Status, refused_at_line};
 use spec_problems::TextProblems;
 use std::alloc::{AllocError, Global};
-use text_ground::Problems;
 use text_base::push_number;
+use text_ground::Problems;
 use verify_answer::{problems_for_verify, verify_answer};
 
 /// What comes of a text and a circuit.

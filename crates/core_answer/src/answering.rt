@@ -25,8 +25,8 @@ use std::alloc::{AllocError, Global};
 use std::sync::Wait;
 use std::thread::Threads;
 use synth_answer::answer_on;
-use text_ground::{Problems, problems_or_refusal};
 use synth_engine::Settings;
+use text_ground::{Problems, problems_or_refusal};
 use tlsf_expand::Spec;
 use unreal_core::laws::sections_of_texts_stand;
 

@@ -14,6 +14,7 @@ use Rattle.cert_text.specs.Order.{AreInOrder, may_follow, place}
 use Rattle.document_check.proofs.HoldLemmas.{same_as_itself}
 use Rattle.cert_text.specs.Parts.{LogPart}
 use Rattle.synth_answer.specs.Holds.{place_of}
+use Rattle.text_ground.proofs.Lists.{le_cases}
 use Rattle.synth_answer.proofs.Held.{places_to}
 use Rattle.synth_answer.specs.Reply.{part_of}
 

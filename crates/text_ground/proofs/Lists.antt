@@ -1,5 +1,5 @@
 -- Lists and options, of which something holds.
-use Rattle.std.proofs.Common.{◌≡◌, ℕ, suc, ◌≤◌, ◌⊎◌, inl, inr, List, All, Option, IfSome, subst, arith}
+use Rattle.std.proofs.Common.{◌≡◌, ℕ, suc, ◌≤◌, ◌⊎◌, inl, inr, List, All, Option, Some, IfSome, subst, arith}
 
 pub some_of : {A : Type 0} (P : A → Type 0) (o : Option A) (x : A) → IfSome o P → o ≡ Some x → P x
 some_of P o x h e = let Q : Option _ → Type 0 = λ v. IfSome v P in subst Q e h

@@ -72,7 +72,6 @@ given_by spec problems = record {
   environment = problems.environment;
 }
 
-
 -- What a text wants: the names of its signals and its kind are those of its flat form, and on a lasso the text's written tree says
 -- what is true. A kind that is given stands for those that the text names.
 pub record IsWantedBy (text : List ℕ) (kind : Option Kind) (x : Wanted) : Type 0 where
