@@ -1,0 +1,4 @@
+pub mod ShiftedLetters
+pub mod ShiftedTruth
+pub mod ListsMade
+pub mod FormsPut
