@@ -20,6 +20,7 @@ use letter_word::Kind;
 use spec_faults::SpecFault;
 use std::alloc::AllocError;
 use std::io::{BufRead, Write};
+use text_limits::SMALL_LIMITS;
 use tlsf_reader::read;
 
 /// What a line begins with that is a heading.
@@ -45,7 +46,7 @@ fn push_expanded(
     kind: Option<Kind>,
     only_nodes: bool,
 ) -> Result<(), AllocError> {
-    match expand_text(lines.alloc, text, kind) {
+    match expand_text(lines.alloc, text, kind, SMALL_LIMITS) {
         Ok(spec) if only_nodes => push_nodes(lines, &spec.formulas),
         Ok(spec) => push_spec(lines, &spec),
         Err(fault) => push_fault(lines, fault),

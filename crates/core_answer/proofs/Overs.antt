@@ -1,5 +1,6 @@
 -- What is told over some of a text's guarantees.
 use Rattle.std.proofs.Common.{◌≡◌, ℕ, Bool, false, List, Option, Some, refl, sym, ap, subst, ◌∙◌}
+use Rattle.text_limits.specs.declared.TheConstants.{SMALL_LIMITS}
 use Rattle.letter_word.specs.declared.kinds.Kind.{Kind}
 use Rattle.letter_word.specs.Word.{Word}
 use Rattle.ltl_formula.specs.declared.faults.AddFault.{AddFault}
@@ -43,7 +44,7 @@ module _ (text : List ℕ) (kind : Option Kind) (spec : FlatText) (t : IsTextIn 
   abbrev pub ground_over : Reduced → Ground
   ground_over r = ground_with spec.expanded truth_with r.formulas r.whole
 
-  cut_ground : (taken : Option Kind) → IsFlatOf text taken t.flat → (r : Reduced) → reduced_in (whole_with keep spec) ≡ Some r → IsCutGround text keep taken (ground_over r)
+  cut_ground : (taken : Option Kind) → IsFlatOf SMALL_LIMITS text taken t.flat → (r : Reduced) → reduced_in (whole_with keep spec) ≡ Some r → IsCutGround text keep taken (ground_over r)
   cut_ground taken is r made = record {
     is_wanted = record {
       flat = t.flat;

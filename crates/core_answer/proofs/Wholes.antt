@@ -1,5 +1,6 @@
 -- What is told of a whole text.
 use Rattle.std.proofs.Common.{◌≡◌, ℕ, ◌<◌, ◌≤◌, Bool, true, false, List, Option, Some, Result, Ok, Err, IfOk, length, replicate, sym, ap, subst, ◌∙◌}
+use Rattle.text_limits.specs.declared.TheConstants.{SMALL_LIMITS}
 use Rattle.letter_word.specs.declared.kinds.Kind.{Kind}
 use Rattle.ltl_formula.proofs.Lists.{signals_are_below}
 use Rattle.std.proofs.lemmas.Result.{IfOk-weaker}
@@ -42,7 +43,7 @@ module _ {version : ℕ} (text : List ℕ) (kind : Option Kind) (spec : FlatText
       record {
         flat = the_flat;
         is_flat = is;
-        by_its_kind = subst (λ (x : Expanded). IsFlatOf text (Some x.kind) the_flat) (sym t.are.same) (flat_by_its_kind text kind the_flat is);
+        by_its_kind = subst (λ (x : Expanded). IsFlatOf SMALL_LIMITS text (Some x.kind) the_flat) (sym t.are.same) (flat_by_its_kind text kind the_flat is);
         same = t.are.same;
         grows = forms_grow (tree_at the_flat.formulas the_flat.expanded.whole) the_flat.formulas spec.formulas
             t.are.problems.are_automata.negated t.are.problems.are_automata.normal list

@@ -1,5 +1,6 @@
 -- The answers of `core`: guarantees of a text that can't be met together, none of which may be left out (this project's own).
 use Rattle.std.specs.Prelude.{◌≡◌, ℕ, ◌+◌, ◌-◌, ◌<◌, ◌≤◌, Bool, true, false, List, [], ◌∷◌, ◌++◌, Option, codes, decimal, length, slice_set}
+use Rattle.text_limits.specs.declared.TheConstants.{SMALL_LIMITS}
 use Rattle.letter_word.specs.declared.kinds.Kind.{Kind}
 use Rattle.spec_faults.specs.declared.code.SpecCode.{SpecCode}
 use Rattle.spec_faults.specs.declared.code.SpecCode.TheVariants.{TooManyGuarantees}
@@ -91,7 +92,7 @@ pub record IsToldCore (text : List ℕ) (kind : Option Kind) (settings : Setting
 -- they are told of a text that has a document with a counter-machine itself
 pub record IsCore (text : List ℕ) (kind : Option Kind) (settings : Settings) (bytes : List ℕ) : Type 0 where
   pub flat : FlatText
-  pub is_flat : IsFlatOf text kind flat
+  pub is_flat : IsFlatOf SMALL_LIMITS text kind flat
   pub few : guarantees_in flat ≤ 64
   pub whole_bytes : List ℕ
   pub whole_status : ℕ
@@ -104,7 +105,7 @@ pub record IsCore (text : List ℕ) (kind : Option Kind) (settings : Settings) (
 -- the first fault, and where a text has none, that it has more guarantees than `core` takes
 pub data IsCoreFault (text : List ℕ) (kind : Option Kind) : SpecCode → ℕ → Type 0 where
   of_text : (code : SpecCode) (place : ℕ) → IsFirstFault text kind code place → IsCoreFault text kind code place
-  too_many : (flat : FlatText) → IsFlatOf text kind flat → ((code : SpecCode) (place : ℕ) → IsFirstFault text kind code place → ⊥) → 64 < guarantees_in flat
+  too_many : (flat : FlatText) → IsFlatOf SMALL_LIMITS text kind flat → ((code : SpecCode) (place : ℕ) → IsFirstFault text kind code place → ⊥) → 64 < guarantees_in flat
       → IsCoreFault text kind TooManyGuarantees 0
 
 -- The bytes and the status of `core`: the line of its first fault; the answer of `synth`, where that has no counter-machine; or guarantees
@@ -112,6 +113,6 @@ pub data IsCoreFault (text : List ℕ) (kind : Option Kind) : SpecCode → ℕ �
 pub data CoreAnswers (text : List ℕ) (kind : Option Kind) (settings : Settings) (bytes : List ℕ) (status : ℕ) : Type 0 where
   refused : (code : SpecCode) (position : ℕ) → status ≡ 1 → IsCoreFault text kind code position → bytes ≡ refusal_line code position
       → CoreAnswers text kind settings bytes status
-  spared : (flat : FlatText) → IsFlatOf text kind flat → guarantees_in flat ≤ 64 → (a : Answers text kind settings bytes status) → defeats a ≡ false
+  spared : (flat : FlatText) → IsFlatOf SMALL_LIMITS text kind flat → guarantees_in flat ≤ 64 → (a : Answers text kind settings bytes status) → defeats a ≡ false
       → CoreAnswers text kind settings bytes status
   core : status ≡ 20 → IsCore text kind settings bytes → CoreAnswers text kind settings bytes status

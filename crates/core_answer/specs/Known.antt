@@ -1,5 +1,6 @@
 -- What is known of a text while its guarantees are left out one at a time (this project's own).
 use Rattle.std.specs.Prelude.{◌≡◌, ℕ, ◌+◌, true, List, [], ◌∷◌, Option, Some}
+use Rattle.text_limits.specs.declared.TheConstants.{SMALL_LIMITS}
 use Rattle.letter_word.specs.declared.kinds.Kind.{Kind}
 use Rattle.ltl_formula.specs.Nodes.{Grows}
 use Rattle.tlsf_expand.specs.FlatText.{FlatText}
@@ -14,8 +15,8 @@ use Rattle.core_answer.specs.Core.{AreSpared, Tells}
 -- a text, in whose list the normal forms stand too; it is the same where it is taken with the kind that it has
 pub record IsTextIn (text : List ℕ) (kind : Option Kind) (spec : FlatText) : Type 0 where
   pub flat : FlatText
-  pub is_flat : IsFlatOf text kind flat
-  pub by_its_kind : IsFlatOf text (Some spec.expanded.kind) flat
+  pub is_flat : IsFlatOf SMALL_LIMITS text kind flat
+  pub by_its_kind : IsFlatOf SMALL_LIMITS text (Some spec.expanded.kind) flat
   pub same : spec.expanded ≡ flat.expanded
   pub grows : Grows flat.formulas spec.formulas
   pub stand : SectionsStand flat.formulas flat.expanded.sections

@@ -2,6 +2,7 @@
 -- Guarantees are the formulas of the flat section; a list of truth values tells which are kept.
 use Rattle.std.specs.Prelude.{◌≡◌, ℕ, Bool, true, false, List, Option, Some}
 use Rattle.std.specs.List.{list_all}
+use Rattle.text_limits.specs.declared.TheConstants.{SMALL_LIMITS}
 use Rattle.letter_word.specs.declared.kinds.Kind.{Kind}
 use Rattle.letter_word.specs.Word.{Word}
 use Rattle.ltl_formula.specs.declared.nodes.FormulaId.{FormulaId}
@@ -27,13 +28,13 @@ are_all keep = list_all (λ k. k) keep
 -- guarantees cut to them.
 pub record IsWantedWith (text : List ℕ) (keep : List Bool) (kind : Option Kind) (x : Wanted) : Type 0 where
   pub flat : FlatText
-  pub is_flat : IsFlatOf text kind flat
+  pub is_flat : IsFlatOf SMALL_LIMITS text kind flat
   pub inputs : x.inputs ≡ flat.expanded.inputs
   pub outputs : x.outputs ≡ flat.expanded.outputs
   pub kind_is : x.kind ≡ flat.expanded.kind
   pub tree : Text
   pub read : Reads text tree
-  pub meaning : (w : Word) → x.means w ≡ means w (cut keep tree)
+  pub meaning : (w : Word) → x.means w ≡ means SMALL_LIMITS w (cut keep tree)
 
 -- the formula of the whole in the list of its own
 abbrev pub whole_with : List Bool → FlatText → Outcome FormulaId
@@ -52,7 +53,7 @@ pub data IsGroundOver (text : List ℕ) (keep : List Bool) (kind : Option Kind) 
 -- at byte 0.
 pub data IsFaultOver (text : List ℕ) (keep : List Bool) (kind : Option Kind) : SpecCode → ℕ → Type 0 where
   of_all : (code : SpecCode) (place : ℕ) → are_all keep ≡ true → IsFirstFault text kind code place → IsFaultOver text keep kind code place
-  of_list : (flat : FlatText) → are_all keep ≡ false → IsFlatOf text kind flat → whole_with keep flat ≡ fails TooManyNodes 0
+  of_list : (flat : FlatText) → are_all keep ≡ false → IsFlatOf SMALL_LIMITS text kind flat → whole_with keep flat ≡ fails TooManyNodes 0
       → IsFaultOver text keep kind TooManyNodes 0
   of_problems : (g : Ground) (code : SpecCode) (place : ℕ) → are_all keep ≡ false → IsCutGround text keep kind g
       → IsFormFault (formula_on g) g.formulas code place → IsFaultOver text keep kind code place

@@ -1,5 +1,6 @@
 //! The answer to a text.
 ghost use Rattle.std.specs.Prelude.{◌≡◌, ◌≤◌, ℕ, List, Option, true, false, IfOk, length, replicate};
+ghost use Rattle.text_limits.specs.declared.TheConstants.{SMALL_LIMITS};
 ghost use Rattle.letter_word.specs.declared.kinds.Kind.{Kind as AKind};
 ghost use Rattle.tlsf_expand.specs.FewSignals.{HasFewSignals};
 ghost use Rattle.tlsf_expand.specs.FlatText.{spec_seen};
@@ -66,7 +67,7 @@ fn text_answer<R: Threads + Wait + Sync, G: Gate + Sync>(
 ) -> Result<Reply, AllocError>
     requires problems { AreProblemsFor (counts_version settings.counts) (spec_seen found.spec).expanded found.problems }
     requires stand { SectionsStand (spec_seen found.spec).formulas (spec_seen found.spec).expanded.sections }
-    requires few { HasFewSignals (length found.spec.inputs.items) (length found.spec.outputs.items) found.spec.formulas }
+    requires few { HasFewSignals SMALL_LIMITS (length found.spec.inputs.items) (length found.spec.outputs.items) found.spec.formulas }
     requires names { HasPlainNames (spec_seen found.spec).expanded }
     ensures { (text : List ℕ) (kind : Option AKind) → IsTextWith (counts_version settings.counts) text kind (spec_seen found.spec) found.problems
         → IfOk result (λ r. CoreAnswers text kind settings r.bytes.items (status_number r.status)) }
@@ -106,7 +107,7 @@ fn core_of<R: Threads + Wait + Sync, G: Gate + Sync>(
     requires count { count ≡ length (spec_seen spec.now).expanded.sections.guarantee }
     requires most { count ≤ 64 }
     requires stand { SectionsStand (spec_seen spec.now).formulas (spec_seen spec.now).expanded.sections }
-    requires few { HasFewSignals (length spec.now.inputs.items) (length spec.now.outputs.items) spec.now.formulas }
+    requires few { HasFewSignals SMALL_LIMITS (length spec.now.inputs.items) (length spec.now.outputs.items) spec.now.formulas }
     requires names { HasPlainNames (spec_seen spec.now).expanded }
     ensures status { IfOk result (λ r. r.status ≡ ended.Unrealizable) }
     ensures told { (text : List ℕ) (kind : Option AKind) → IsTextIn text kind (spec_seen spec.now) → Tells text (replicate count true) kind settings true whole.items

@@ -1,5 +1,6 @@
 //! A text with some of its guarantees, answered.
 ghost use Rattle.std.specs.Prelude.{◌≡◌, ◌≤◌, ℕ, List, Option, false, IfOk, length};
+ghost use Rattle.text_limits.specs.declared.TheConstants.{SMALL_LIMITS};
 ghost use Rattle.letter_word.specs.declared.kinds.Kind.{Kind as AKind};
 ghost use Rattle.annotation_encode.specs.Counts.{counts_version};
 ghost use Rattle.ltl_formula.specs.Nodes.{Stands};
@@ -38,7 +39,7 @@ pub(crate) fn answer_over<R: Threads + Wait + Sync, G: Gate + Sync>(
 ) -> Result<Answered, AllocError>
     requires stand { SectionsStand (spec_seen spec.now).formulas (spec_seen spec.now).expanded.sections }
     requires each { length keep.now ≡ length (spec_seen spec.now).expanded.sections.guarantee }
-    requires few { HasFewSignals (length spec.now.inputs.items) (length spec.now.outputs.items) spec.now.formulas }
+    requires few { HasFewSignals SMALL_LIMITS (length spec.now.inputs.items) (length spec.now.outputs.items) spec.now.formulas }
     requires names { HasPlainNames (spec_seen spec.now).expanded }
     ensures { (text : List ℕ) (kind : Option AKind) → IsTextIn text kind (spec_seen spec.now) → are_all keep.now ≡ false
         → IfOk result (λ a. IsToldOver text keep.now kind settings a.reply.bytes.items (status_number a.reply.status) a.defeats) }
@@ -59,7 +60,7 @@ fn reduced_answer<R: Threads + Wait + Sync, G: Gate + Sync>(
     gate: &G,
 ) -> Result<Answered, AllocError>
     requires stands { Stands reduced.formulas reduced.whole }
-    requires few { HasFewSignals (length spec.now.inputs.items) (length spec.now.outputs.items) reduced.formulas }
+    requires few { HasFewSignals SMALL_LIMITS (length spec.now.inputs.items) (length spec.now.outputs.items) reduced.formulas }
     requires names { HasPlainNames (spec_seen spec.now).expanded }
     ensures { IfOk result (λ a. IsReducedReply (spec_seen spec.now).expanded reduced settings a.reply.bytes.items a.reply.status a.defeats) }
 {

@@ -1,5 +1,6 @@
 //! Guarantees of a text left out one at a time, until those that are kept can't be met together.
 ghost use Rattle.std.specs.Prelude.{◌≡◌, ◌<◌, ◌≤◌, ℕ, List, [], None, Option, false, true, IfOk, IsSome, OnOk, length, map, replicate, slice_index_or};
+ghost use Rattle.text_limits.specs.declared.TheConstants.{SMALL_LIMITS};
 ghost use Rattle.letter_word.specs.declared.kinds.Kind.{Kind as AKind};
 ghost use Rattle.tlsf_expand.specs.FewSignals.{HasFewSignals};
 ghost use Rattle.tlsf_expand.specs.FlatText.{spec_seen};
@@ -84,7 +85,7 @@ pub(crate) fn shrunk<R: Threads + Wait + Sync, G: Gate + Sync>(
     requires stand { SectionsStand (spec_seen spec.now).formulas (spec_seen spec.now).expanded.sections }
     requires count { count ≡ length (spec_seen spec.now).expanded.sections.guarantee }
     requires most { count ≤ 64 }
-    requires few { HasFewSignals (length spec.now.inputs.items) (length spec.now.outputs.items) spec.now.formulas }
+    requires few { HasFewSignals SMALL_LIMITS (length spec.now.inputs.items) (length spec.now.outputs.items) spec.now.formulas }
     requires names { HasPlainNames (spec_seen spec.now).expanded }
     ensures length { IfOk result (λ core. length core.shrink ≡ count) }
     ensures none_open { IfOk result (λ core. asked core.shrink ≡ None) }

@@ -1,5 +1,6 @@
 -- A text and a word have one answer to `lasso`.
 use Rattle.std.proofs.Common.{◌≡◌, ℕ, List, [], ◌∷◌, None, Contains, sym, ap, ◌∙◌, subst, arith}
+use Rattle.text_limits.specs.declared.TheConstants.{SMALL_LIMITS}
 use Rattle.letter_word.specs.Word.{Word}
 use Rattle.spec_faults.specs.declared.code.SpecCode.{SpecCode}
 use Rattle.tlsf_syntax.specs.Text.{Text}
@@ -32,34 +33,34 @@ has_bad_line text word bytes status (bad_line flat n is is_flat first line) fort
 has_bad_line text word bytes status (told truth is on line) forty = absurd (omega (arith, is, forty))
 
 module _ (one_fault : FlatFaultsAreDetermined) (one_flat : FlatTextsAreDetermined) (apart : FlatTextsHaveNoFault) (readings : ReadingsAreApart) (one_tree : TreesAreDetermined) where
-  of_fault : (text word bytes : List ℕ) (status : ℕ) (code : SpecCode) (place : ℕ) → LassoAnswers text word bytes status → IsFlatFault text None code place → (status ≡ 1) × (bytes ≡ refusal_line code place)
+  of_fault : (text word bytes : List ℕ) (status : ℕ) (code : SpecCode) (place : ℕ) → LassoAnswers text word bytes status → IsFlatFault SMALL_LIMITS text None code place → (status ≡ 1) × (bytes ≡ refusal_line code place)
   of_fault text word bytes status code place (refused c p is fault line) due =
-      let same = one_fault text None c code p place fault due in (is, line ∙ one_refusal c code p place same.0 same.1)
-  of_fault text word bytes status code place (bad_line flat n is is_flat first line) due = absurd (apart text None flat code place is_flat due)
-  of_fault text word bytes status code place (told truth is on line) due = absurd (apart text None on.flat code place on.is_flat due)
+      let same = one_fault SMALL_LIMITS text None c code p place fault due in (is, line ∙ one_refusal c code p place same.0 same.1)
+  of_fault text word bytes status code place (bad_line flat n is is_flat first line) due = absurd (apart SMALL_LIMITS text None flat code place is_flat due)
+  of_fault text word bytes status code place (told truth is on line) due = absurd (apart SMALL_LIMITS text None on.flat code place on.is_flat due)
 
   -- what is said of the word over the names of one flat text, at another one of the same text
-  at_names : (text : List ℕ) (flat flat' : FlatText) (P : List (List ℕ) → Type 0) → IsFlatOf text None flat → IsFlatOf text None flat' → P (all_names flat.expanded) → P (all_names flat'.expanded)
-  at_names text flat flat' P is is' h = subst (λ x. P (all_names x.expanded)) (one_flat text None flat flat' is is') h
+  at_names : (text : List ℕ) (flat flat' : FlatText) (P : List (List ℕ) → Type 0) → IsFlatOf SMALL_LIMITS text None flat → IsFlatOf SMALL_LIMITS text None flat' → P (all_names flat.expanded) → P (all_names flat'.expanded)
+  at_names text flat flat' P is is' h = subst (λ x. P (all_names x.expanded)) (one_flat SMALL_LIMITS text None flat flat' is is') h
 
   of_bad_line : (text word bytes : List ℕ) (status : ℕ) (flat : FlatText) (line : ℕ) → LassoAnswers text word bytes status
-      → IsFlatOf text None flat → IsFirstBadWordLine word (all_names flat.expanded) line → (status ≡ 40) × (bytes ≡ line_refusal line)
-  of_bad_line text word bytes status flat line (refused code place is fault at) is_due due = absurd (apart text None flat code place is_due fault)
+      → IsFlatOf SMALL_LIMITS text None flat → IsFirstBadWordLine word (all_names flat.expanded) line → (status ≡ 40) × (bytes ≡ line_refusal line)
+  of_bad_line text word bytes status flat line (refused code place is fault at) is_due due = absurd (apart SMALL_LIMITS text None flat code place is_due fault)
   of_bad_line text word bytes status flat line (bad_line other n is is_flat first at) is_due due =
       (is, at ∙ ap line_refusal (readings.one_line word (all_names flat.expanded) n line (at_names text other flat (λ names. IsFirstBadWordLine word names n) is_flat is_due first) due))
   of_bad_line text word bytes status flat line (told truth is on at) is_due due =
       absurd (readings.apart word (all_names flat.expanded) on.lasso line (at_names text on.flat flat (λ names. StatesWord word names on.lasso) on.is_flat is_due on.states) due)
 
   of_lasso : (text word bytes : List ℕ) (status : ℕ) (tree : Text) (flat : FlatText) (lasso : Word) → LassoAnswers text word bytes status
-      → Reads text tree → IsFlatOf text None flat → StatesWord word (all_names flat.expanded) lasso → (status ≡ 0) × (bytes ≡ truth_line (means lasso tree))
-  of_lasso text word bytes status tree flat lasso (refused code place is fault at) reads is_due due = absurd (apart text None flat code place is_due fault)
+      → Reads text tree → IsFlatOf SMALL_LIMITS text None flat → StatesWord word (all_names flat.expanded) lasso → (status ≡ 0) × (bytes ≡ truth_line (means SMALL_LIMITS lasso tree))
+  of_lasso text word bytes status tree flat lasso (refused code place is fault at) reads is_due due = absurd (apart SMALL_LIMITS text None flat code place is_due fault)
   of_lasso text word bytes status tree flat lasso (bad_line other n is is_flat first at) reads is_due due =
       absurd (readings.apart word (all_names flat.expanded) lasso n due (at_names text other flat (λ names. IsFirstBadWordLine word names n) is_flat is_due first))
   of_lasso text word bytes status tree flat lasso (told truth is on at) reads is_due due =
       let states : StatesWord word (all_names flat.expanded) on.lasso = at_names text on.flat flat (λ names. StatesWord word names on.lasso) on.is_flat is_due on.states in
       let same_lasso : on.lasso ≡ lasso = readings.one_word word (all_names flat.expanded) on.lasso lasso states due in
       let same_tree : on.tree ≡ tree = one_tree text on.tree tree on.reads reads in
-      (is, at ∙ ap truth_line (on.exactly ∙ ap (λ w. means w on.tree) same_lasso ∙ ap (λ t. means lasso t) same_tree))
+      (is, at ∙ ap truth_line (on.exactly ∙ ap (λ w. means SMALL_LIMITS w on.tree) same_lasso ∙ ap (λ t. means SMALL_LIMITS lasso t) same_tree))
 
   pub are_due : LassoAnswersAreDue
   are_due = record { statuses = statuses; refused = has_fault; line_refused = has_bad_line; of_fault = of_fault; of_bad_line = of_bad_line; of_lasso = of_lasso }

@@ -1,5 +1,6 @@
 -- What a reply answers.
 use Rattle.std.proofs.Common.{◌≡◌, ℕ, Bool, List, None, ◌∙◌}
+use Rattle.text_limits.specs.declared.TheConstants.{SMALL_LIMITS}
 use Rattle.letter_word.specs.Word.{Word}
 use Rattle.ltl_formula.specs.Nodes.{tree_at}
 use Rattle.ltl_formula.specs.Truth.{holds}
@@ -14,14 +15,14 @@ use Rattle.flat_answer.specs.Lasso.{IsTruthOn, LassoAnswers}
 use Rattle.flat_answer.specs.Lasso as lasso
 
 module _ (text : List ℕ) where
-  pub refused_expand : (bytes : List ℕ) (status : ℕ) → RefusedBy (IsFlatFault text None) bytes status → ExpandAnswers text bytes status
+  pub refused_expand : (bytes : List ℕ) (status : ℕ) → RefusedBy (IsFlatFault SMALL_LIMITS text None) bytes status → ExpandAnswers text bytes status
   refused_expand bytes status r = expand.refused r.code r.place r.status_is r.fault r.line
 
-  pub refused_lasso : (bytes : List ℕ) (status : ℕ) → RefusedBy (IsFlatFault text None) bytes status → (word : List ℕ) → LassoAnswers text word bytes status
+  pub refused_lasso : (bytes : List ℕ) (status : ℕ) → RefusedBy (IsFlatFault SMALL_LIMITS text None) bytes status → (word : List ℕ) → LassoAnswers text word bytes status
   refused_lasso bytes status r word = lasso.refused r.code r.place r.status_is r.fault r.line
 
   -- the truth of the whole flat formula is whether the text means so
-  pub truth_on : (word : List ℕ) (flat : FlatText) (lasso : Word) (truth : Bool) → IsFlatOf text None flat → StatesWord word (all_names flat.expanded) lasso
+  pub truth_on : (word : List ℕ) (flat : FlatText) (lasso : Word) (truth : Bool) → IsFlatOf SMALL_LIMITS text None flat → StatesWord word (all_names flat.expanded) lasso
       → truth ≡ holds lasso (tree_at flat.formulas flat.expanded.whole) 0 → IsTruthOn text word truth
   truth_on word flat lasso truth is_flat states is = record {
     tree = is_flat.tree;

@@ -1,5 +1,6 @@
 -- The answer of `lasso` to a text and a word (this project's own). No kind is given, so those that the text names count.
 use Rattle.std.specs.Prelude.{◌≡◌, ℕ, Bool, true, false, List, None, codes}
+use Rattle.text_limits.specs.declared.TheConstants.{SMALL_LIMITS}
 use Rattle.letter_word.specs.Word.{Word}
 use Rattle.spec_faults.specs.declared.code.SpecCode.{SpecCode}
 use Rattle.tlsf_syntax.specs.Text.{Text}
@@ -20,17 +21,17 @@ pub record IsTruthOn (text word : List ℕ) (truth : Bool) : Type 0 where
   pub tree : Text
   pub reads : Reads text tree
   pub flat : FlatText
-  pub is_flat : IsFlatOf text None flat
+  pub is_flat : IsFlatOf SMALL_LIMITS text None flat
   pub lasso : Word
   pub states : StatesWord word (all_names flat.expanded) lasso
-  pub exactly : truth ≡ means lasso tree
+  pub exactly : truth ≡ means SMALL_LIMITS lasso tree
 
 -- The bytes and the status: the line of the text's first fault of those before normal forms, that of the word's first bad line over
 -- the signals of the text, or whether the text means so on the lasso.
 pub data LassoAnswers (text word bytes : List ℕ) (status : ℕ) : Type 0 where
-  refused : (code : SpecCode) (place : ℕ) → status ≡ 1 → IsFlatFault text None code place → bytes ≡ refusal_line code place
+  refused : (code : SpecCode) (place : ℕ) → status ≡ 1 → IsFlatFault SMALL_LIMITS text None code place → bytes ≡ refusal_line code place
       → LassoAnswers text word bytes status
-  bad_line : (flat : FlatText) (line : ℕ) → status ≡ 40 → IsFlatOf text None flat → IsFirstBadWordLine word (all_names flat.expanded) line
+  bad_line : (flat : FlatText) (line : ℕ) → status ≡ 40 → IsFlatOf SMALL_LIMITS text None flat → IsFirstBadWordLine word (all_names flat.expanded) line
       → bytes ≡ line_refusal line → LassoAnswers text word bytes status
   told : (truth : Bool) → status ≡ 0 → IsTruthOn text word truth → bytes ≡ truth_line truth
       → LassoAnswers text word bytes status

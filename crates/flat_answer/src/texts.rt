@@ -1,5 +1,6 @@
 //! A text that is expanded first, before anything else is read.
 ghost use Rattle.std.specs.Prelude.{ℕ, List, None, IfOk, length};
+ghost use Rattle.text_limits.specs.declared.TheConstants.{SMALL_LIMITS};
 ghost use Rattle.ltl_formula.specs.Nodes.{Stands};
 ghost use Rattle.tlsf_expand.specs.FewSignals.{HasFewSignals};
 ghost use Rattle.tlsf_expand.specs.FlatText.{spec_seen};
@@ -15,6 +16,7 @@ use flat_lines::laws::expanded_can_be_written;
 use flat_text::expand_text;
 use program_replies::{Reply, refusal};
 use std::alloc::{AllocError, Global};
+use text_limits::SMALL_LIMITS;
 use tlsf_expand::Spec;
 
 /// What came of expanding a text.
@@ -28,8 +30,8 @@ pub enum Expansion {
 
 /// A text, flat, or the reply with the line of its first fault, which answers it whatever else was asked.
 pub fn expanded(alloc: Global, text: &[u8]) -> Result<Expansion, AllocError>
-    ensures flat { IfOk result (IfFlat (λ spec. IsFlatOf text.now None (spec_seen spec))) }
-    ensures few { IfOk result (IfFlat (λ spec. HasFewSignals (length spec.inputs.items) (length spec.outputs.items) spec.formulas)) }
+    ensures flat { IfOk result (IfFlat (λ spec. IsFlatOf SMALL_LIMITS text.now None (spec_seen spec))) }
+    ensures few { IfOk result (IfFlat (λ spec. HasFewSignals SMALL_LIMITS (length spec.inputs.items) (length spec.outputs.items) spec.formulas)) }
     ensures names { IfOk result (IfFlat (λ spec. HasPlainNames (spec_seen spec).expanded)) }
     ensures stands { IfOk result (IfFlat (λ spec. Stands spec.formulas spec.whole)) }
     ensures writable { IfOk result (IfFlat (λ spec. CanBeWritten (spec_seen spec))) }
@@ -37,7 +39,7 @@ pub fn expanded(alloc: Global, text: &[u8]) -> Result<Expansion, AllocError>
     ensures refused_to_words { IfOk result (IfRefused (λ r. (word : List ℕ) → LassoAnswers text.now word r.bytes.items (status_number r.status))) }
 {
     expanded_can_be_written();
-    match expand_text(alloc, text, None) {
+    match expand_text(alloc, text, None, SMALL_LIMITS) {
         Ok(spec) => Ok(Expansion::Flat(spec)),
         Err(fault) => Ok(Expansion::Refused(refusal(alloc, fault)?)),
     }

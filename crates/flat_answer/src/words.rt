@@ -1,5 +1,6 @@
 //! What a text says of a word.
 ghost use Rattle.std.specs.Prelude.{◌≡◌, ℕ, List, None, IfOk, length};
+ghost use Rattle.text_limits.specs.declared.TheConstants.{SMALL_LIMITS};
 ghost use Rattle.ltl_formula.specs.Nodes.{Stands};
 ghost use Rattle.tlsf_expand.specs.FewSignals.{HasFewSignals};
 ghost use Rattle.tlsf_expand.specs.FlatText.{spec_seen};
@@ -17,9 +18,9 @@ use tlsf_expand::Spec;
 /// Whether a text means so on the lasso that a word states over the text's signals: the line `true` or `false`, or the line
 /// with the number of the word's first bad line. It takes the flat text that `expanded` gave.
 pub fn lasso_answer(alloc: Global, spec: &Spec, word: &[u8]) -> Result<Reply, AllocError>
-    requires few { HasFewSignals (length spec.now.inputs.items) (length spec.now.outputs.items) spec.now.formulas }
+    requires few { HasFewSignals SMALL_LIMITS (length spec.now.inputs.items) (length spec.now.outputs.items) spec.now.formulas }
     requires stands { Stands spec.now.formulas spec.now.whole }
-    ensures { (text : List ℕ) → IsFlatOf text None (spec_seen spec.now) → IfOk result (λ r. LassoAnswers text word.now r.bytes.items (status_number r.status)) }
+    ensures { (text : List ℕ) → IsFlatOf SMALL_LIMITS text None (spec_seen spec.now) → IfOk result (λ r. LassoAnswers text word.now r.bytes.items (status_number r.status)) }
 {
     let names = all_names(alloc, spec)?;
     let lasso = match read_word(alloc, word, &names) {

@@ -46,8 +46,8 @@ module _ (nodes : List Node) where
       and_section five Guarantee s.guarantee (and_section four Assume s.assume h4 h.assume) h.guarantee
 
 pub expanded_can_be_written : ExpandedCanBeWritten
-expanded_can_be_written text kind flat is =
-    let m = is_made any_word text kind flat is in
+expanded_can_be_written limits text kind flat is =
+    let m = is_made limits any_word text kind flat is in
     let x = flat.expanded in
     record {
       list = m.good.list;

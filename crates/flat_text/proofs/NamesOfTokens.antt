@@ -48,7 +48,7 @@ not_line b h = last (b == 32 || b == 9 || b == 13) (b == 10) h
     last true y h = absurd (false≢true h)
     last false y h = h
 
-all_weaker : (p q : ℕ → Bool) → ((b : ℕ) → p b ≡ true → q b ≡ true) → (w : List ℕ) → list_all p w ≡ true → list_all q w ≡ true
+pub all_weaker : (p q : ℕ → Bool) → ((b : ℕ) → p b ≡ true → q b ≡ true) → (w : List ℕ) → list_all p w ≡ true → list_all q w ≡ true
 all_weaker p q f w h = list_all-from_AllPass q w (All-weaker (λ b. p b ≡ true) (λ b. q b ≡ true) f w (AllPass-from_list_all p w h))
 
 pub one_word : (w : List ℕ) → (w ≢ []) → list_all (λ b. not (is_blank b)) w ≡ true → IsOneWord w

@@ -1,5 +1,6 @@
 -- A text has at most one first fault.
 use Rattle.std.proofs.Common.{◌≡◌, ◌<◌, ◌≤◌, ℕ, List, [], length, Option, None, Some, refl, sym, ◌∙◌, ap, subst, arith}
+use Rattle.text_limits.specs.declared.Limits.{Limits}
 use Rattle.letter_word.specs.declared.kinds.Kind.{Kind}
 use Rattle.spec_faults.specs.declared.code.SpecCode.{SpecCode}
 use Rattle.tlsf_syntax.specs.Nesting.{first_deep}
@@ -82,9 +83,9 @@ expansion_fault f g code code' place place' same a b =
     let x : Fault = record { code = code; place = place } in let y : Fault = record { code = code'; place = place' } in
     let both : Some x ≡ Some y = sym a ∙ same ∙ b in let one : x ≡ y = cc in (ap (λ z. z.code) one, ap (λ z. z.place) one)
 
-pub one_fault : (text : List ℕ) (kind : Option Kind) (code code' : SpecCode) (place place' : ℕ) → IsFlatFault text kind code place → IsFlatFault text kind code' place' → (code ≡ code') × (place ≡ place')
-one_fault text kind _ _ _ _ (of_reading c p f) (of_reading c' p' f') = reading_fault text c c' p p' f f'
-one_fault text kind _ _ _ _ (of_reading c p f) (of_expansion tree c' p' reads f') = absurd (no_fault text tree c p reads f)
-one_fault text kind _ _ _ _ (of_expansion tree c p reads f) (of_reading c' p' f') = absurd (no_fault text tree c' p' reads f')
-one_fault text kind _ _ _ _ (of_expansion tree c p reads f) (of_expansion tree' c' p' reads' f') =
-    expansion_fault (flat_fault tree kind) (flat_fault tree' kind) c c' p p' (ap (λ t. flat_fault t kind) (one_tree text tree tree' reads reads')) f f'
+pub one_fault : (limits : Limits) (text : List ℕ) (kind : Option Kind) (code code' : SpecCode) (place place' : ℕ) → IsFlatFault limits text kind code place → IsFlatFault limits text kind code' place' → (code ≡ code') × (place ≡ place')
+one_fault limits text kind _ _ _ _ (of_reading c p f) (of_reading c' p' f') = reading_fault text c c' p p' f f'
+one_fault limits text kind _ _ _ _ (of_reading c p f) (of_expansion tree c' p' reads f') = absurd (no_fault text tree c p reads f)
+one_fault limits text kind _ _ _ _ (of_expansion tree c p reads f) (of_reading c' p' f') = absurd (no_fault text tree c' p' reads f')
+one_fault limits text kind _ _ _ _ (of_expansion tree c p reads f) (of_expansion tree' c' p' reads' f') =
+    expansion_fault (flat_fault limits tree kind) (flat_fault limits tree' kind) c c' p p' (ap (λ t. flat_fault limits t kind) (one_tree text tree tree' reads reads')) f f'

@@ -1,6 +1,7 @@
 -- The names of signals in a flat text: TLSF 1.1, with the rule for the bits of a bus.
-use Rattle.std.specs.Prelude.{◌≡◌, ◌≢◌, ◌==◌, not, ℕ, List, [], IsTrue, All, Option, Some}
+use Rattle.std.specs.Prelude.{◌≡◌, ◌≢◌, ◌<◌, ◌^◌, ◌==◌, not, ℕ, List, [], IsTrue, All, Option, Some}
 use Rattle.std.specs.List.{list_all}
+use Rattle.text_limits.specs.declared.Limits.{Limits}
 use Rattle.letter_word.specs.declared.kinds.Kind.{Kind}
 use Rattle.tlsf_tokens.specs.Words.{is_blank}
 use Rattle.tlsf_syntax.specs.Text.{Text}
@@ -21,4 +22,4 @@ pub record HasPlainNames (x : Expanded) : Type 0 where
 
 -- a text that is read and expanded has such names
 abbrev pub FlatNamesAreWords : Type 0
-FlatNamesAreWords = (text : List ℕ) (kind : Option Kind) (tree : Text) (flat : FlatText) → Reads text tree → flat_in (expanded tree kind) ≡ Some flat → HasPlainNames flat.expanded
+FlatNamesAreWords = (limits : Limits) (text : List ℕ) (kind : Option Kind) (tree : Text) (flat : FlatText) → limits.signals < 2 ^ 64 → Reads text tree → flat_in (expanded limits tree kind) ≡ Some flat → HasPlainNames flat.expanded

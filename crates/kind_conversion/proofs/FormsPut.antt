@@ -15,27 +15,27 @@ use Rattle.kind_conversion.proofs.ListsMade.{parts-over}
 pub over-stands : (forms : List FormulaId) (node : Node) (nodes : List Node) → PartsBelow (length forms) node → All (λ id. Stands nodes id) forms → PartsBelow (length nodes) (over_forms forms node)
 over-stands forms node nodes parts stand = parts-over forms (length nodes) (length forms) node parts (λ p h. stand p.0 (record { 0 = 0 }) h)
 
-module _ (shift : Shift) (inputs : ℕ) (forms : List FormulaId) (node : Node) (nodes : List Node) (whole : Node) (is : whole ≡ over_forms forms node) where
+module _ (most : ℕ) (shift : Shift) (inputs : ℕ) (forms : List FormulaId) (node : Node) (nodes : List Node) (whole : Node) (is : whole ≡ over_forms forms node) where
   -- what is put, where it is known whether the node is a shifted signal
-  by_test : (b : Bool) → is_shifted_node shift inputs node ≡ b → put_form shift inputs forms node nodes ≡ cond b (then_next (added nodes whole)) (added nodes whole)
-  by_test b e = ap (λ x. cond (is_shifted_node shift inputs node) (then_next (added nodes x)) (added nodes x)) (sym is) ∙ ap (λ t. cond t (then_next (added nodes whole)) (added nodes whole)) e
+  by_test : (b : Bool) → is_shifted_node shift inputs node ≡ b → put_form most shift inputs forms node nodes ≡ cond b (then_next most (added most nodes whole)) (added most nodes whole)
+  by_test b e = ap (λ x. cond (is_shifted_node shift inputs node) (then_next most (added most nodes x)) (added most nodes x)) (sym is) ∙ ap (λ t. cond t (then_next most (added most nodes whole)) (added most nodes whole)) e
 
-  pub put-kept : is_shifted_node shift inputs node ≡ false → put_form shift inputs forms node nodes ≡ added nodes whole
+  pub put-kept : is_shifted_node shift inputs node ≡ false → put_form most shift inputs forms node nodes ≡ added most nodes whole
   put-kept e = by_test false e
 
-  pub put-next : (new : List Node) (mid : FormulaId) → is_shifted_node shift inputs node ≡ true → added nodes whole ≡ record { nodes = new; made = Some mid }
-      → put_form shift inputs forms node nodes ≡ added new (Next mid)
-  put-next new mid e put = by_test true e ∙ ap then_next put
+  pub put-next : (new : List Node) (mid : FormulaId) → is_shifted_node shift inputs node ≡ true → added most nodes whole ≡ record { nodes = new; made = Some mid }
+      → put_form most shift inputs forms node nodes ≡ added most new (Next mid)
+  put-next new mid e put = by_test true e ∙ ap (then_next most) put
 
-  pub put-none : (added nodes whole).made ≡ None → (put_form shift inputs forms node nodes).made ≡ None
+  pub put-none : (added most nodes whole).made ≡ None → (put_form most shift inputs forms node nodes).made ≡ None
   put-none none = ap (λ b. b.made) (by_test (is_shifted_node shift inputs node) refl) ∙ by (is_shifted_node shift inputs node)
     where
-      next-none : (o : Option FormulaId) → o ≡ None → (then_next (record { nodes = (added nodes whole).nodes; made = o })).made ≡ None
+      next-none : (o : Option FormulaId) → o ≡ None → (then_next most (record { nodes = (added most nodes whole).nodes; made = o })).made ≡ None
       next-none None e = refl
       next-none (Some id) e = absurd (none-some id (sym e))
 
-      by : (b : Bool) → (cond b (then_next (added nodes whole)) (added nodes whole)).made ≡ None
-      by true = next-none (added nodes whole).made none
+      by : (b : Bool) → (cond b (then_next most (added most nodes whole)) (added most nodes whole)).made ≡ None
+      by true = next-none (added most nodes whole).made none
       by false = none
 
 -- the fault of a result

@@ -1,6 +1,6 @@
 -- The list that is made anew, node by node.
 use Rattle.std.proofs.Common.{◌≡◌, ℕ, suc, ◌+◌, ◌<◌, ◌≤◌, Bool, true, false, cond, ltb, inl, inr, List, [], ◌∷◌, ◌++◌, length, get_or, drop, Option, None, Some, All, refl, sym, ap, subst, ◌∙◌, arith, drop-cons, length-drop}
-use Rattle.std.specs.Prelude.{option_and_then, option_map, position, slice_get}
+use Rattle.std.specs.Prelude.{min, option_and_then, option_map, position, slice_get}
 use Rattle.std.proofs.lemmas.Bool.{cases_lt, false≢true, ltb-true}
 use Rattle.std.proofs.lemmas.List.{append-nil, drop_all, length_push, get_or_append_left, get_or_push}
 use Rattle.std.proofs.lemmas.List.Elements.{All-nil, All-push}
@@ -15,7 +15,7 @@ use Rattle.ltl_formula.specs.Nodes.{Grows, IsNodeList, PartsBelow, SignalBelow, 
 use Rattle.ltl_formula.specs.Added.{Built, added, built_at, node_eq}
 use Rattle.ltl_formula.specs.ListSignals.{HasSignalsBelow, KeepsSignals}
 use Rattle.ltl_formula.proofs.Trees.{tree_at-grown, tree_at-node, tree_of-parts}
-use Rattle.ltl_formula.proofs.Lists.{Grows-trans, Grows-stands, Grows-added, IsNodeList-append, added-stands, tree_at-slice_get}
+use Rattle.ltl_formula.proofs.Lists.{Grows-trans, Grows-stands, Grows-added, room_below, IsNodeList-append, added-stands, tree_at-slice_get}
 use Rattle.ltl_formula.proofs.ListSignals.{HasSignalsBelow-none, HasSignalsBelow-added}
 use Rattle.kind_conversion.specs.declared.shifts.Shift.{Shift}
 use Rattle.kind_conversion.specs.declared.conversion.ConvertedList.{ConvertedList}
@@ -92,47 +92,47 @@ pub record IsMade (old : List Node) (f : Tree) (built : Built) (id : FormulaId) 
   pub stands : Stands built.nodes id
   pub tree : tree_at built.nodes id ≡ f
 
-module _ (nodes : List Node) (new : Node) (list : IsNodeList nodes) (parts : PartsBelow (length nodes) new) (below : SignalBelow MAX_SIGNALS new) where
-  added-list : IsNodeList (added nodes new).nodes
+module _ (most : ℕ) (nodes : List Node) (new : Node) (list : IsNodeList nodes) (parts : PartsBelow (length nodes) new) (below : SignalBelow MAX_SIGNALS new) where
+  added-list : IsNodeList (added most nodes new).nodes
   added-list = by (position (node_eq new) nodes) refl
     where
-      by : (o : Option ℕ) → position (node_eq new) nodes ≡ o → IsNodeList (built_at o nodes new).nodes
+      by : (o : Option ℕ) → position (node_eq new) nodes ≡ o → IsNodeList (built_at most o nodes new).nodes
       by (Some i) found = list
-      by None none = room (ltb (length nodes) MAX_NODES) refl
+      by None none = room (ltb (length nodes) (min most MAX_NODES)) refl
         where
-          room : (b : Bool) → ltb (length nodes) MAX_NODES ≡ b
+          room : (b : Bool) → ltb (length nodes) (min most MAX_NODES) ≡ b
               → IsNodeList (cond b (let x : Built = record { nodes = nodes ++ new ∷ []; made = Some (record { 0 = length nodes }) } in x) (let x : Built = record { nodes = nodes; made = None } in x)).nodes
-          room true e = IsNodeList-append nodes new list parts below none (ltb-true (length nodes) MAX_NODES e)
+          room true e = IsNodeList-append nodes new list parts below none (room_below most (length nodes) (ltb-true (length nodes) (min most MAX_NODES) e))
           room false e = list
 
-  added-made : (id : FormulaId) → (added nodes new).made ≡ Some id → IsMade nodes (tree_of (trees_of nodes) new) (added nodes new) id
+  added-made : (id : FormulaId) → (added most nodes new).made ≡ Some id → IsMade nodes (tree_of (trees_of nodes) new) (added most nodes new) id
   added-made id made =
-      let at : slice_get (added nodes new).nodes id.0 ≡ Some new = ap (λ ns. slice_get ns id.0) (sym (append-nil (added nodes new).nodes)) ∙ added-stands nodes new [] id made in
+      let at : slice_get (added most nodes new).nodes id.0 ≡ Some new = ap (λ ns. slice_get ns id.0) (sym (append-nil (added most nodes new).nodes)) ∙ added-stands most nodes new [] id made in
       record {
-        grows = Grows-added nodes new;
+        grows = Grows-added most nodes new;
         list = added-list;
-        stands = slice_get_within (added nodes new).nodes id.0 new at;
-        tree = tree_at-slice_get (added nodes new).nodes new id.0 added-list at
-            ∙ sym (tree_of-parts (length nodes) (trees_of nodes) (trees_of (added nodes new).nodes) new parts (λ p h. sym (tree_at-grown nodes (added nodes new).nodes p (Grows-added nodes new) h)));
+        stands = slice_get_within (added most nodes new).nodes id.0 new at;
+        tree = tree_at-slice_get (added most nodes new).nodes new id.0 added-list at
+            ∙ sym (tree_of-parts (length nodes) (trees_of nodes) (trees_of (added most nodes new).nodes) new parts (λ p h. sym (tree_at-grown nodes (added most nodes new).nodes p (Grows-added most nodes new) h)));
       }
 
 -- X of what was made
-module _ (old : List Node) (f : Tree) (built : Built) (made_before : (mid : FormulaId) → built.made ≡ Some mid → IsMade old f built mid) where
-  pub next-is : (mid : FormulaId) → built.made ≡ Some mid → then_next built ≡ added built.nodes (Next mid)
-  next-is mid e = ap (λ o. then_next (record { nodes = built.nodes; made = o })) e
+module _ (most : ℕ) (old : List Node) (f : Tree) (built : Built) (made_before : (mid : FormulaId) → built.made ≡ Some mid → IsMade old f built mid) where
+  pub next-is : (mid : FormulaId) → built.made ≡ Some mid → then_next most built ≡ added most built.nodes (Next mid)
+  next-is mid e = ap (λ o. then_next most (record { nodes = built.nodes; made = o })) e
 
-  next-made : (id : FormulaId) → (then_next built).made ≡ Some id → IsMade old (next_time f) (then_next built) id
+  next-made : (id : FormulaId) → (then_next most built).made ≡ Some id → IsMade old (next_time f) (then_next most built) id
   next-made id made = by built.made refl
     where
-      by : (o : Option FormulaId) → built.made ≡ o → IsMade old (next_time f) (then_next built) id
-      by None none = absurd (none-some id (sym none ∙ sym (ap (λ o. (then_next (record { nodes = built.nodes; made = o })).made) none ∙ sym none) ∙ made))
+      by : (o : Option FormulaId) → built.made ≡ o → IsMade old (next_time f) (then_next most built) id
+      by None none = absurd (none-some id (sym none ∙ sym (ap (λ o. (then_next most (record { nodes = built.nodes; made = o })).made) none ∙ sym none) ∙ made))
       by (Some mid) some =
           let m : IsMade old f built mid = made_before mid some in
-          let is : then_next built ≡ added built.nodes (Next mid) = next-is mid some in
-          let n : IsMade built.nodes (next_time (tree_at built.nodes mid)) (added built.nodes (Next mid)) id =
-          added-made built.nodes (Next mid) m.list m.stands tt id (ap (λ b. b.made) (sym is) ∙ made) in
+          let is : then_next most built ≡ added most built.nodes (Next mid) = next-is mid some in
+          let n : IsMade built.nodes (next_time (tree_at built.nodes mid)) (added most built.nodes (Next mid)) id =
+          added-made most built.nodes (Next mid) m.list m.stands tt id (ap (λ b. b.made) (sym is) ∙ made) in
           subst (λ b. IsMade old (next_time f) b id) (sym is) (record {
-            grows = Grows-trans old built.nodes (added built.nodes (Next mid)).nodes m.grows n.grows;
+            grows = Grows-trans old built.nodes (added most built.nodes (Next mid)).nodes m.grows n.grows;
             list = n.list;
             stands = n.stands;
             tree = n.tree ∙ ap next_time m.tree;
@@ -154,7 +154,7 @@ no_forms shift inputs written = record {
   signals = record { kept = λ n h. HasSignalsBelow-none n };
 }
 
-module _ (shift : Shift) (inputs : ℕ) (written : List Node) (from : IsNodeList written) (nodes : List Node) (forms : List FormulaId)
+module _ (most : ℕ) (shift : Shift) (inputs : ℕ) (written : List Node) (from : IsNodeList written) (nodes : List Node) (forms : List FormulaId)
     (made : AreForms shift inputs written nodes forms) (node : Node) (within : length forms < length written) (is : node_at written (length forms) ≡ node) where
   parts_here : PartsBelow (length forms) node
   parts_here = subst (PartsBelow (length forms)) is (from.parts_first (length forms))
@@ -163,50 +163,50 @@ module _ (shift : Shift) (inputs : ℕ) (written : List Node) (from : IsNodeList
   form-stands p h = made.stand p.0 (record { 0 = 0 }) h
 
   first : Built
-  first = added nodes (over_forms forms node)
+  first = added most nodes (over_forms forms node)
 
   first-made : (id : FormulaId) → first.made ≡ Some id → IsMade nodes (tree_of (trees_of nodes) (over_forms forms node)) first id
   unfolding first
   first-made =
-      added-made nodes (over_forms forms node) made.list (parts-over forms (length nodes) (length forms) node parts_here form-stands)
+      added-made most nodes (over_forms forms node) made.list (parts-over forms (length nodes) (length forms) node parts_here form-stands)
       (signal-over forms MAX_SIGNALS node (subst (SignalBelow MAX_SIGNALS) is (from.signals (length forms))))
 
   tree_here : tree_at written (record { 0 = length forms }) ≡ tree_of (trees_of written) node
   tree_here = tree_at-node written (length forms) within (from.parts_first (length forms)) ∙ ap (tree_of (trees_of written)) is
 
-  put-made : (id : FormulaId) → (put_form shift inputs forms node nodes).made ≡ Some id
-      → IsMade nodes (shifted_form shift inputs (tree_at written (record { 0 = length forms }))) (put_form shift inputs forms node nodes) id
+  put-made : (id : FormulaId) → (put_form most shift inputs forms node nodes).made ≡ Some id
+      → IsMade nodes (shifted_form shift inputs (tree_at written (record { 0 = length forms }))) (put_form most shift inputs forms node nodes) id
   unfolding first
-  put-made id e = subst (λ f. IsMade nodes (shifted_form shift inputs f) (put_form shift inputs forms node nodes) id) (sym tree_here) (by (is_shifted_node shift inputs node) refl e)
+  put-made id e = subst (λ f. IsMade nodes (shifted_form shift inputs f) (put_form most shift inputs forms node nodes) id) (sym tree_here) (by (is_shifted_node shift inputs node) refl e)
     where
-      by : (b : Bool) → is_shifted_node shift inputs node ≡ b → (cond b (then_next first) first).made ≡ Some id
-          → IsMade nodes (shifted_form shift inputs (tree_of (trees_of written) node)) (cond b (then_next first) first) id
+      by : (b : Bool) → is_shifted_node shift inputs node ≡ b → (cond b (then_next most first) first).made ≡ Some id
+          → IsMade nodes (shifted_form shift inputs (tree_of (trees_of written) node)) (cond b (then_next most first) first) id
       by true shifted put =
-          subst (λ f. IsMade nodes f (then_next first) id) (tree-next shift inputs forms (trees_of nodes) (trees_of written) node shifted)
-          (next-made nodes (tree_of (trees_of nodes) (over_forms forms node)) first first-made id put)
+          subst (λ f. IsMade nodes f (then_next most first) id) (tree-next shift inputs forms (trees_of nodes) (trees_of written) node shifted)
+          (next-made most nodes (tree_of (trees_of nodes) (over_forms forms node)) first first-made id put)
       by false kept put =
           subst (λ f. IsMade nodes f first id) (tree-over shift inputs forms (trees_of nodes) (trees_of written) (length forms) node kept parts_here (λ p h. made.trees p.0 h))
           (first-made id put)
 
-  put-signals : KeepsSignals written (put_form shift inputs forms node nodes).nodes
+  put-signals : KeepsSignals written (put_form most shift inputs forms node nodes).nodes
   unfolding first
   put-signals = record { kept = λ n h. by n h (is_shifted_node shift inputs node) }
     where
       first-signals : (n : ℕ) → HasSignalsBelow n written → HasSignalsBelow n first.nodes
-      first-signals n h = HasSignalsBelow-added n nodes (over_forms forms node) (made.signals.kept n h) (signal-over forms n node (subst (SignalBelow n) is (h.nodes_below (length forms))))
+      first-signals n h = HasSignalsBelow-added most n nodes (over_forms forms node) (made.signals.kept n h) (signal-over forms n node (subst (SignalBelow n) is (h.nodes_below (length forms))))
 
-      next-signals : (n : ℕ) → HasSignalsBelow n first.nodes → (o : Option FormulaId) → HasSignalsBelow n (then_next (record { nodes = first.nodes; made = o })).nodes
+      next-signals : (n : ℕ) → HasSignalsBelow n first.nodes → (o : Option FormulaId) → HasSignalsBelow n (then_next most (record { nodes = first.nodes; made = o })).nodes
       next-signals n h None = h
-      next-signals n h (Some id) = HasSignalsBelow-added n first.nodes (Next id) h tt
+      next-signals n h (Some id) = HasSignalsBelow-added most n first.nodes (Next id) h tt
 
-      by : (n : ℕ) → HasSignalsBelow n written → (b : Bool) → HasSignalsBelow n (cond b (then_next first) first).nodes
+      by : (n : ℕ) → HasSignalsBelow n written → (b : Bool) → HasSignalsBelow n (cond b (then_next most first) first).nodes
       by n h true = next-signals n (first-signals n h) first.made
       by n h false = first-signals n h
 
-  pub AreForms-more : (id : FormulaId) → (put_form shift inputs forms node nodes).made ≡ Some id → AreForms shift inputs written (put_form shift inputs forms node nodes).nodes (forms ++ id ∷ [])
+  pub AreForms-more : (id : FormulaId) → (put_form most shift inputs forms node nodes).made ≡ Some id → AreForms shift inputs written (put_form most shift inputs forms node nodes).nodes (forms ++ id ∷ [])
   AreForms-more id e =
-      let new : List Node = (put_form shift inputs forms node nodes).nodes in
-      let m : IsMade nodes (shifted_form shift inputs (tree_at written (record { 0 = length forms }))) (put_form shift inputs forms node nodes) id = put-made id e in
+      let new : List Node = (put_form most shift inputs forms node nodes).nodes in
+      let m : IsMade nodes (shifted_form shift inputs (tree_at written (record { 0 = length forms }))) (put_form most shift inputs forms node nodes) id = put-made id e in
       record {
         list = m.list;
         stand = All-push (λ f. Stands new f) forms id (λ k d lt. Grows-stands nodes new (get_or forms k d) m.grows (made.stand k d lt)) m.stands;
@@ -227,25 +227,25 @@ module _ (shift : Shift) (inputs : ℕ) (written : List Node) (from : IsNodeList
 
 -- ---- the whole list
 
-module _ (shift : Shift) (inputs : ℕ) (written : List Node) (from : IsNodeList written) where
+module _ (most : ℕ) (shift : Shift) (inputs : ℕ) (written : List Node) (from : IsNodeList written) where
   put_forms-made : (left : List Node) (so_far end : ShiftedList) → AreForms shift inputs written so_far.nodes so_far.forms → drop (length so_far.forms) written ≡ left
-      → put_forms shift inputs left so_far ≡ Some end → AreForms shift inputs written end.nodes end.forms × (length written ≤ length end.forms)
+      → put_forms most shift inputs left so_far ≡ Some end → AreForms shift inputs written end.nodes end.forms × (length written ≤ length end.forms)
   put_forms-made [] so_far end made none e =
       let same : so_far ≡ end = same_Some so_far end e in
       let few : length (drop (length so_far.forms) written) ≡ 0 = ap length none in
       let long = length-drop (length so_far.forms) written in
       subst (λ s. AreForms shift inputs written s.nodes s.forms × (length written ≤ length s.forms)) same (made, omega arith)
   put_forms-made (node ∷ left) so_far end made more e =
-      let here : Built = put_form shift inputs so_far.forms node so_far.nodes in
+      let here : Built = put_form most shift inputs so_far.forms node so_far.nodes in
       let many : length (drop (length so_far.forms) written) ≡ suc (length left) = ap length more in
       let long = length-drop (length so_far.forms) written in
       let within : length so_far.forms < length written = omega arith in
       let split : node_at written (length so_far.forms) ∷ drop (suc (length so_far.forms)) written ≡ node ∷ left = sym (drop-cons written (length so_far.forms) False within) ∙ more in
-      option_and_then_some (λ id. put_forms shift inputs left (record { nodes = here.nodes; forms = so_far.forms ++ id ∷ [] })) here.made end e
+      option_and_then_some (λ id. put_forms most shift inputs left (record { nodes = here.nodes; forms = so_far.forms ++ id ∷ [] })) here.made end e
       (λ id some rest.
       let pushed : length (so_far.forms ++ id ∷ []) ≡ suc (length so_far.forms) = length_push so_far.forms id ∙ omega arith in
       put_forms-made left (record { nodes = here.nodes; forms = so_far.forms ++ id ∷ [] }) end
-      (AreForms-more shift inputs written from so_far.nodes so_far.forms made node within (ap (λ xs. get_or xs 0 False) split) id some)
+      (AreForms-more most shift inputs written from so_far.nodes so_far.forms made node within (ap (λ xs. get_or xs 0 False) split) id some)
       (ap (λ n. drop n written) pushed ∙ ap (drop 1) split) rest)
 
   module _ (whole : FormulaId) (stands : Stands written whole) where
@@ -269,19 +269,19 @@ module _ (shift : Shift) (inputs : ℕ) (written : List Node) (from : IsNodeList
     ended_by None each c e = absurd (none-some c e)
     ended_by (Some made) each c e = subst (IsConversion shift inputs written whole) (same_Some (ending made) c e) (each made refl)
 
-    pub converted_says : (c : ConvertedList) → converted_of shift inputs written whole ≡ Some c → IsConversion shift inputs written whole c
+    pub converted_says : (c : ConvertedList) → converted_of most shift inputs written whole ≡ Some c → IsConversion shift inputs written whole c
     converted_says =
-        ended_by (put_forms shift inputs written (record { nodes = []; forms = [] }))
+        ended_by (put_forms most shift inputs written (record { nodes = []; forms = [] }))
         (λ made e.
         let all = put_forms-made written (record { nodes = []; forms = [] }) made (no_forms shift inputs written) refl e in
         ended made all.0 all.1)
 
 pub converted_lists_say : ConvertedListsSay
-converted_lists_say shift inputs nodes whole c list stands = converted_says shift inputs nodes list whole stands c
+converted_lists_say most shift inputs nodes whole c list stands = converted_says most shift inputs nodes list whole stands c
 
 -- ---- one turn of the loop
 
-module _ (shift : Shift) (inputs : ℕ) (written nodes : List Node) (forms : List FormulaId) (node : Node) (i : ℕ) (there : slice_get written i ≡ Some node) where
+module _ (most : ℕ) (shift : Shift) (inputs : ℕ) (written nodes : List Node) (forms : List FormulaId) (node : Node) (i : ℕ) (there : slice_get written i ≡ Some node) where
   node-at : node_at written i ≡ node
   node-at = get_or_from_slice_get written i node False there
 
@@ -291,29 +291,29 @@ module _ (shift : Shift) (inputs : ℕ) (written nodes : List Node) (forms : Lis
       drop-cons written i False (slice_get_within written i node there) ∙ ap (λ x. x ∷ drop (suc i) written) node-at ∙ ap (λ n. node ∷ drop n written) e
 
   turn : Built → Option ShiftedList
-  turn b = option_and_then (λ id. put_forms shift inputs (drop (i + 1) written) (record { nodes = b.nodes; forms = forms ++ id ∷ [] })) b.made
+  turn b = option_and_then (λ id. put_forms most shift inputs (drop (i + 1) written) (record { nodes = b.nodes; forms = forms ++ id ∷ [] })) b.made
 
-  turn-is : put_forms shift inputs (drop i written) (record { nodes = nodes; forms = forms }) ≡ turn (put_form shift inputs forms node nodes)
+  turn-is : put_forms most shift inputs (drop i written) (record { nodes = nodes; forms = forms }) ≡ turn (put_form most shift inputs forms node nodes)
   unfolding turn
-  turn-is = ap (λ left. put_forms shift inputs left (record { nodes = nodes; forms = forms })) rest-is
+  turn-is = ap (λ left. put_forms most shift inputs left (record { nodes = nodes; forms = forms })) rest-is
 
-  pub turn-same : (new : List Node) (id : FormulaId) (pushed : List FormulaId) → put_form shift inputs forms node nodes ≡ record { nodes = new; made = Some id } → pushed ≡ forms ++ id ∷ []
-      → put_forms shift inputs (drop i written) (record { nodes = nodes; forms = forms }) ≡ put_forms shift inputs (drop (i + 1) written) (record { nodes = new; forms = pushed })
+  pub turn-same : (new : List Node) (id : FormulaId) (pushed : List FormulaId) → put_form most shift inputs forms node nodes ≡ record { nodes = new; made = Some id } → pushed ≡ forms ++ id ∷ []
+      → put_forms most shift inputs (drop i written) (record { nodes = nodes; forms = forms }) ≡ put_forms most shift inputs (drop (i + 1) written) (record { nodes = new; forms = pushed })
   unfolding turn
   turn-same new id pushed put is =
-      turn-is ∙ ap turn put ∙ ap (λ fs. put_forms shift inputs (drop (i + 1) written) (record { nodes = new; forms = fs })) (sym is)
+      turn-is ∙ ap turn put ∙ ap (λ fs. put_forms most shift inputs (drop (i + 1) written) (record { nodes = new; forms = fs })) (sym is)
 
-  pub turn-none : (put_form shift inputs forms node nodes).made ≡ None → put_forms shift inputs (drop i written) (record { nodes = nodes; forms = forms }) ≡ None
+  pub turn-none : (put_form most shift inputs forms node nodes).made ≡ None → put_forms most shift inputs (drop i written) (record { nodes = nodes; forms = forms }) ≡ None
   unfolding turn
-  turn-none none = turn-is ∙ ap (λ o. turn (record { nodes = (put_form shift inputs forms node nodes).nodes; made = o })) none
+  turn-none none = turn-is ∙ ap (λ o. turn (record { nodes = (put_form most shift inputs forms node nodes).nodes; made = o })) none
 
   pub turn-known : IsNodeList written → AreForms shift inputs written nodes forms → length forms ≡ i → (new : List Node) (id : FormulaId) (pushed : List FormulaId)
-      → put_form shift inputs forms node nodes ≡ record { nodes = new; made = Some id } → pushed ≡ forms ++ id ∷ [] → AreForms shift inputs written new pushed
+      → put_form most shift inputs forms node nodes ≡ record { nodes = new; made = Some id } → pushed ≡ forms ++ id ∷ [] → AreForms shift inputs written new pushed
   turn-known from made many new id pushed put is =
       let within : length forms < length written = let w = slice_get_within written i node there in omega arith in
       let here : node_at written (length forms) ≡ node = ap (node_at written) many ∙ node-at in
-      let known : AreForms shift inputs written (put_form shift inputs forms node nodes).nodes (forms ++ id ∷ []) =
-      AreForms-more shift inputs written from nodes forms made node within here id (ap (λ b. b.made) put) in
+      let known : AreForms shift inputs written (put_form most shift inputs forms node nodes).nodes (forms ++ id ∷ []) =
+      AreForms-more most shift inputs written from nodes forms made node within here id (ap (λ b. b.made) put) in
       subst (λ fs. AreForms shift inputs written new fs) (sym is) (subst (λ b. AreForms shift inputs written b.nodes (forms ++ id ∷ [])) put known)
 
 -- a node that stands has a signal that a list may have
@@ -321,13 +321,13 @@ pub signal-there : (written : List Node) (i : ℕ) (node : Node) → IsNodeList 
 signal-there written i node from there = subst (SignalBelow MAX_SIGNALS) (get_or_from_slice_get written i node False there) (from.signals i)
 
 -- the list that is made anew, where it is known what comes of it
-module _ (shift : Shift) (inputs : ℕ) (written : List Node) (whole : FormulaId) where
-  pub converted-none : (rest : Option ShiftedList) → put_forms shift inputs written (record { nodes = []; forms = [] }) ≡ rest → rest ≡ None → converted_of shift inputs written whole ≡ None
+module _ (most : ℕ) (shift : Shift) (inputs : ℕ) (written : List Node) (whole : FormulaId) where
+  pub converted-none : (rest : Option ShiftedList) → put_forms most shift inputs written (record { nodes = []; forms = [] }) ≡ rest → rest ≡ None → converted_of most shift inputs written whole ≡ None
   converted-none rest e none = ap (option_map (λ made. let c : ConvertedList = record { formulas = made.nodes; whole = form_at made.forms whole } in c)) (e ∙ none)
 
   pub converted-some : (i : ℕ) (nodes : List Node) (forms : List FormulaId)
-      → put_forms shift inputs written (record { nodes = []; forms = [] }) ≡ put_forms shift inputs (drop i written) (record { nodes = nodes; forms = forms }) → length written ≤ i
-      → converted_of shift inputs written whole ≡ Some (let c : ConvertedList = record { formulas = nodes; whole = form_at forms whole } in c)
+      → put_forms most shift inputs written (record { nodes = []; forms = [] }) ≡ put_forms most shift inputs (drop i written) (record { nodes = nodes; forms = forms }) → length written ≤ i
+      → converted_of most shift inputs written whole ≡ Some (let c : ConvertedList = record { formulas = nodes; whole = form_at forms whole } in c)
   converted-some i nodes forms e all =
       ap (option_map (λ made. let c : ConvertedList = record { formulas = made.nodes; whole = form_at made.forms whole } in c))
-      (e ∙ ap (λ left. put_forms shift inputs left (record { nodes = nodes; forms = forms })) (drop_all i written all))
+      (e ∙ ap (λ left. put_forms most shift inputs left (record { nodes = nodes; forms = forms })) (drop_all i written all))

@@ -42,5 +42,5 @@ pub record IsConversion (shift : Shift) (inputs : ℕ) (nodes : List Node) (whol
 
 -- the list that is made anew is one such
 abbrev pub ConvertedListsSay : Type 0
-ConvertedListsSay = (shift : Shift) (inputs : ℕ) (nodes : List Node) (whole : FormulaId) (c : ConvertedList)
-    → IsNodeList nodes → Stands nodes whole → converted_of shift inputs nodes whole ≡ Some c → IsConversion shift inputs nodes whole c
+ConvertedListsSay = (most : ℕ) (shift : Shift) (inputs : ℕ) (nodes : List Node) (whole : FormulaId) (c : ConvertedList)
+    → IsNodeList nodes → Stands nodes whole → converted_of most shift inputs nodes whole ≡ Some c → IsConversion shift inputs nodes whole c

@@ -39,27 +39,27 @@ is_shifted_node shift inputs (Signal s) = is_shifted shift inputs s
 is_shifted_node shift inputs _ = false
 
 -- X of what was made, if it was
-abbrev pub then_next : Built → Built
-then_next built = on_made built.made
+abbrev pub then_next : ℕ → Built → Built
+then_next most built = on_made built.made
   where
     on_made : Option FormulaId → Built
-    on_made (Some id) = added built.nodes (Next id)
+    on_made (Some id) = added most built.nodes (Next id)
     on_made None = built
 
 -- the shifted form of one node, put into the list: of a shifted signal the signal and then its X
-abbrev pub put_form : Shift → ℕ → List FormulaId → Node → List Node → Built
-put_form shift inputs forms node nodes =
-    if is_shifted_node shift inputs node then then_next (added nodes (over_forms forms node)) else added nodes (over_forms forms node)
+abbrev pub put_form : ℕ → Shift → ℕ → List FormulaId → Node → List Node → Built
+put_form most shift inputs forms node nodes =
+    if is_shifted_node shift inputs node then then_next most (added most nodes (over_forms forms node)) else added most nodes (over_forms forms node)
 
 -- the shifted forms of more nodes, in their order; none where the list has no room
-abbrev pub put_forms : Shift → ℕ → List Node → ShiftedList → Option ShiftedList
-put_forms shift inputs [] made = Some made
-put_forms shift inputs (node ∷ nodes) made =
-    let built : Built = put_form shift inputs made.forms node made.nodes in
-    option_and_then (λ id. put_forms shift inputs nodes (record { nodes = built.nodes; forms = made.forms ++ id ∷ [] })) built.made
+abbrev pub put_forms : ℕ → Shift → ℕ → List Node → ShiftedList → Option ShiftedList
+put_forms most shift inputs [] made = Some made
+put_forms most shift inputs (node ∷ nodes) made =
+    let built : Built = put_form most shift inputs made.forms node made.nodes in
+    option_and_then (λ id. put_forms most shift inputs nodes (record { nodes = built.nodes; forms = made.forms ++ id ∷ [] })) built.made
 
 -- the list of a converted text and the id of its whole; none where the list has no room (this project's own)
-abbrev pub converted_of : Shift → ℕ → List Node → FormulaId → Option ConvertedList
-converted_of shift inputs nodes whole =
+abbrev pub converted_of : ℕ → Shift → ℕ → List Node → FormulaId → Option ConvertedList
+converted_of most shift inputs nodes whole =
     option_map (λ made. let c : ConvertedList = record { formulas = made.nodes; whole = form_at made.forms whole } in c)
-    (put_forms shift inputs nodes (record { nodes = []; forms = [] }))
+    (put_forms most shift inputs nodes (record { nodes = []; forms = [] }))

@@ -16,24 +16,26 @@ pub struct ConvertedList {
 }
 
 /// The shifted form of the whole, where so many signals are inputs: X stands before each shifted signal. The list is made
-/// anew from all its nodes, so that what it holds goes by the list as written alone. It takes time linear in the list.
+/// anew from all its nodes, so that what it holds goes by the list as written alone, and takes no new node once `most` stand.
+/// It takes time linear in the list.
 pub fn converted(
     alloc: Global,
     formulas: &Formulas,
+    most: usize,
     whole: FormulaId,
     shift: Shift,
     inputs: u32,
 ) -> Result<ConvertedList, AddFault>
     requires { Stands formulas.now whole }
-    ensures ok { IfOk result (λ c. converted_of shift inputs formulas.now whole ≡ Some c) }
-    ensures too_many { result ≡ Err AddFault.TooManyNodes → converted_of shift inputs formulas.now whole ≡ None }
+    ensures ok { IfOk result (λ c. converted_of most shift inputs formulas.now whole ≡ Some c) }
+    ensures too_many { result ≡ Err AddFault.TooManyNodes → converted_of most shift inputs formulas.now whole ≡ None }
     ensures says { IfOk result (λ c. IsConversion shift inputs formulas.now whole c) }
 {
     let mut made = Formulas::new(alloc);
     let mut forms = Vec::new(alloc);
     for place in 0..formulas.len() as u32 {
         let node = formulas.node(FormulaId(place));
-        let form = put_form(&mut made, &forms, node, shift, inputs)?;
+        let form = put_form(&mut made, most, &forms, node, shift, inputs)?;
         push_form(&mut forms, form)?;
     }
     Ok(ConvertedList {
@@ -45,6 +47,7 @@ pub fn converted(
 /// The shifted form of a node, where its parts have these.
 fn put_form(
     made: &mut Formulas,
+    most: usize,
     forms: &[FormulaId],
     node: Node,
     shift: Shift,
@@ -53,12 +56,12 @@ fn put_form(
     requires parts { PartsBelow (length forms.now) node }
     requires signal { SignalBelow MAX_SIGNALS node }
     requires stand { All (Stands made.old) forms.now }
-    ensures ok { IfOk result (λ id. put_form shift inputs forms.now node made.old ≡ record { nodes = made.new; made = Some id }) }
-    ensures too_many { result ≡ Err AddFault.TooManyNodes → (put_form shift inputs forms.now node made.old).made ≡ None }
+    ensures ok { IfOk result (λ id. put_form most shift inputs forms.now node made.old ≡ record { nodes = made.new; made = Some id }) }
+    ensures too_many { result ≡ Err AddFault.TooManyNodes → (put_form most shift inputs forms.now node made.old).made ≡ None }
 {
-    let form = made.add(over_forms(node, forms))?;
+    let form = made.add(most, over_forms(node, forms))?;
     if is_shifted_node(node, shift, inputs) {
-        return made.add(Node::Next(form));
+        return made.add(most, Node::Next(form));
     }
     Ok(form)
 }

@@ -4,7 +4,7 @@ use crate::conversion::{ConvertedList, converted};
 use crate::shifts::{Shift, shift_of};
 use lasso_eval::holds_at;
 use letter_word::{Kind, Lasso, Letter};
-use ltl_formula::{FormulaId, Formulas, Node};
+use ltl_formula::{FormulaId, Formulas, MAX_NODES, Node};
 use std::alloc::{AllocError, Global};
 use std::test::Fail;
 
@@ -12,7 +12,7 @@ fn add(formulas: &mut Formulas, node: Node) -> Result<FormulaId, Fail> {
     if !formulas.can_add(node) {
         return Err(Fail::from("a part is missing"));
     }
-    Ok(formulas.add(node)?)
+    Ok(formulas.add(MAX_NODES, node)?)
 }
 
 /// The list with X before r, or before g.
@@ -25,7 +25,7 @@ fn shifted(alloc: Global, shift: Shift) -> Result<ConvertedList, Fail> {
     if whole.0 as usize >= formulas.len() {
         return Err(Fail::from("the whole is missing"));
     }
-    Ok(converted(alloc, &formulas, whole, shift, 1)?)
+    Ok(converted(alloc, &formulas, MAX_NODES, whole, shift, 1)?)
 }
 
 fn letters(alloc: Global, digits: &[u8]) -> Result<Vec<Letter>, AllocError> {

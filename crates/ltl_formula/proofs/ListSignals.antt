@@ -1,6 +1,6 @@
 -- The signals of a list's nodes.
 use Rattle.std.proofs.Common.{◌≡◌, ℕ, zero, suc, ◌+◌, ◌<◌, ◌≤◌, true, false, cond, ltb, inl, inr, List, [], ◌∷◌, ◌++◌, length, Option, None, Some, subst, sym, arith}
-use Rattle.std.specs.Prelude.{position}
+use Rattle.std.specs.Prelude.{min, position}
 use Rattle.std.proofs.lemmas.Bool.{cases_eq, cases_lt}
 use Rattle.std.proofs.lemmas.List.{length-append, get_or_append_left, get_or_past}
 use Rattle.std.proofs.Math.Seq.{get_or-append_seam}
@@ -54,13 +54,13 @@ HasSignalsBelow-append n nodes node h new = record { nodes_below = each }
               ]
         ]
 
-pub HasSignalsBelow-added : (n : ℕ) (nodes : List Node) (node : Node) → HasSignalsBelow n nodes → SignalBelow n node → HasSignalsBelow n (added nodes node).nodes
-HasSignalsBelow-added n nodes node h new = by (position (node_eq node) nodes)
+pub HasSignalsBelow-added : (most n : ℕ) (nodes : List Node) (node : Node) → HasSignalsBelow n nodes → SignalBelow n node → HasSignalsBelow n (added most nodes node).nodes
+HasSignalsBelow-added most n nodes node h new = by (position (node_eq node) nodes)
   where
-    by : (o : Option ℕ) → HasSignalsBelow n (built_at o nodes node).nodes
+    by : (o : Option ℕ) → HasSignalsBelow n (built_at most o nodes node).nodes
     by (Some i) = h
     by None =
-        elim (ltb (length nodes) MAX_NODES) as (λ b. HasSignalsBelow n (cond b (let x : Built = record { nodes = nodes ++ node ∷ []; made = Some (record { 0 = length nodes }) } in x) (let x : Built = record { nodes = nodes; made = None } in x)).nodes) [
+        elim (ltb (length nodes) (min most MAX_NODES)) as (λ b. HasSignalsBelow n (cond b (let x : Built = record { nodes = nodes ++ node ∷ []; made = Some (record { 0 = length nodes }) } in x) (let x : Built = record { nodes = nodes; made = None } in x)).nodes) [
           | true ↦ HasSignalsBelow-append n nodes node h new
           | false ↦ h
         ]

@@ -1,11 +1,12 @@
 use Rattle.std.proofs.Common.{◌≡◌, ℕ, zero, suc, ◌+◌, ◌<◌, Bool, true, false, cond, ltb, inl, inr, List, [], ◌∷◌, ◌++◌, length, Option, None, Some, Result, Ok, Err, refl, sym, ap, subst, ◌∙◌, arith, append_assoc}
-use Rattle.std.specs.Prelude.{position, slice_get, IfOk, OnOk}
+use Rattle.std.specs.Prelude.{min, position, slice_get, IfOk, OnOk}
 use Rattle.std.specs.List.{position_or_len}
 use Rattle.std.proofs.lemmas.Bool.{lt-ltb, cases_eq, cases_lt, true≢false}
 use Rattle.std.proofs.lemmas.List.{length-append, get_or_append_left, get_or_past, append-nil}
 use Rattle.std.proofs.lemmas.List.Quantifiers.{position-Some}
 use Rattle.std.proofs.lemmas.List.Sums.{position_or_len_is, fails_before_first}
 use Rattle.std.proofs.lemmas.Option.{none-some, same_Some, slice_get-get_or, get_or_from_slice_get, slice_get_within}
+use Rattle.std.proofs.Math.Nat.{min-le_right}
 use Rattle.std.proofs.Math.Seq.{get_or-append_seam}
 use Rattle.ltl_formula.specs.declared.faults.AddFault.{AddFault}
 use Rattle.ltl_formula.specs.declared.nodes.FormulaId.{FormulaId}
@@ -18,6 +19,10 @@ use Rattle.ltl_formula.specs.Laws.{OneIdPerFormula, SignalsAreBelow}
 use Rattle.ltl_formula.specs.Tree.{Tree, SignalsBelow}
 use Rattle.ltl_formula.proofs.NodeEquality.{node_eq-true, node_eq-self, node_from_tree, same_id_of}
 use Rattle.ltl_formula.proofs.Trees.{tree_at-last, tree_at-node}
+
+-- a list that takes a node isn't full
+pub room_below : (most n : ℕ) → n < min most MAX_NODES → n < MAX_NODES
+room_below most n h = let least = min-le_right most MAX_NODES in omega (arith, least, h)
 
 -- growing is an order
 pub Grows-refl : (nodes : List Node) → Grows nodes nodes
@@ -55,9 +60,9 @@ module _ (p : Node → Bool) where
       ap (λ n. cond (ltb n (length xs)) (Some n) None) e ∙ ap (λ b. cond b (Some i) None) (lt-ltb i (length xs) h)
 
 -- a node that was added stands at its id in every longer list, and is found there
-module _ (nodes : List Node) (node : Node) (more : List Node) (id : FormulaId) where
-  again : (o : Option ℕ) → position (node_eq node) nodes ≡ o → (built_at o nodes node).made ≡ Some id
-      → (position (node_eq node) ((built_at o nodes node).nodes ++ more) ≡ Some id.0) × (slice_get ((built_at o nodes node).nodes ++ more) id.0 ≡ Some node)
+module _ (most : ℕ) (nodes : List Node) (node : Node) (more : List Node) (id : FormulaId) where
+  again : (o : Option ℕ) → position (node_eq node) nodes ≡ o → (built_at most o nodes node).made ≡ Some id
+      → (position (node_eq node) ((built_at most o nodes node).nodes ++ more) ≡ Some id.0) × (slice_get ((built_at most o nodes node).nodes ++ more) id.0 ≡ Some node)
   again (Some i) found made =
       let same : i ≡ id.0 = let e : ◌≡◌ {A = FormulaId} (record { 0 = i }) id = same_Some (record { 0 = i }) id made in ap (λ x. x.0) e in
       let at = position-Some (node_eq node) nodes i False found in
@@ -70,9 +75,9 @@ module _ (nodes : List Node) (node : Node) (more : List Node) (id : FormulaId) w
             (λ k h. ap (node_eq node) (kept k (omega arith)) ∙ at.2 k h) ∙ ap Some same,
         ap (slice_get (nodes ++ more)) (sym same) ∙ slice_get-get_or (nodes ++ more) i False longer ∙ ap Some (kept i within ∙ sym is),
       )
-  again None none made = by (ltb (length nodes) MAX_NODES) refl made
+  again None none made = by (ltb (length nodes) (min most MAX_NODES)) refl made
     where
-      by : (b : Bool) → ltb (length nodes) MAX_NODES ≡ b
+      by : (b : Bool) → ltb (length nodes) (min most MAX_NODES) ≡ b
           → (cond b (let x : Built = record { nodes = nodes ++ node ∷ []; made = Some (record { 0 = length nodes }) } in x) (let x : Built = record { nodes = nodes; made = None } in x)).made ≡ Some id
           → (position (node_eq node) ((cond b (let x : Built = record { nodes = nodes ++ node ∷ []; made = Some (record { 0 = length nodes }) } in x) (let x : Built = record { nodes = nodes; made = None } in x)).nodes ++ more) ≡ Some id.0)
           × (slice_get ((cond b (let x : Built = record { nodes = nodes ++ node ∷ []; made = Some (record { 0 = length nodes }) } in x) (let x : Built = record { nodes = nodes; made = None } in x)).nodes ++ more) id.0 ≡ Some node)
@@ -91,21 +96,21 @@ module _ (nodes : List Node) (node : Node) (more : List Node) (id : FormulaId) w
                 ∙ slice_get-get_or (nodes ++ node ∷ more) (length nodes) False within ∙ ap Some here,
           )
 
-  pub added-again : (added nodes node).made ≡ Some id → added ((added nodes node).nodes ++ more) node ≡ record { nodes = (added nodes node).nodes ++ more; made = Some id }
+  pub added-again : (added most nodes node).made ≡ Some id → added most ((added most nodes node).nodes ++ more) node ≡ record { nodes = (added most nodes node).nodes ++ more; made = Some id }
   added-again made =
-      ap (λ o. built_at o ((added nodes node).nodes ++ more) node) (again (position (node_eq node) nodes) refl made).0
+      ap (λ o. built_at most o ((added most nodes node).nodes ++ more) node) (again (position (node_eq node) nodes) refl made).0
 
-  pub added-stands : (added nodes node).made ≡ Some id → slice_get ((added nodes node).nodes ++ more) id.0 ≡ Some node
+  pub added-stands : (added most nodes node).made ≡ Some id → slice_get ((added most nodes node).nodes ++ more) id.0 ≡ Some node
   added-stands made = (again (position (node_eq node) nodes) refl made).1
 
 -- adding only ever grows the list
-pub Grows-added : (nodes : List Node) (node : Node) → Grows nodes (added nodes node).nodes
-Grows-added nodes node = by (position (node_eq node) nodes)
+pub Grows-added : (most : ℕ) (nodes : List Node) (node : Node) → Grows nodes (added most nodes node).nodes
+Grows-added most nodes node = by (position (node_eq node) nodes)
   where
-    by : (o : Option ℕ) → Grows nodes (built_at o nodes node).nodes
+    by : (o : Option ℕ) → Grows nodes (built_at most o nodes node).nodes
     by (Some i) = Grows-refl nodes
     by None =
-        elim (ltb (length nodes) MAX_NODES) as (λ b. Grows nodes (cond b (let x : Built = record { nodes = nodes ++ node ∷ []; made = Some (record { 0 = length nodes }) } in x) (let x : Built = record { nodes = nodes; made = None } in x)).nodes) [
+        elim (ltb (length nodes) (min most MAX_NODES)) as (λ b. Grows nodes (cond b (let x : Built = record { nodes = nodes ++ node ∷ []; made = Some (record { 0 = length nodes }) } in x) (let x : Built = record { nodes = nodes; made = None } in x)).nodes) [
           | true ↦ Grows-append nodes (node ∷ [])
           | false ↦ Grows-refl nodes
         ]
@@ -186,8 +191,8 @@ tree_at-slice_get nodes node i list at =
     tree_at-node nodes i (slice_get_within nodes i node at) (list.parts_first i) ∙ ap (tree_of (trees_of nodes)) is
 
 -- the same of a node that went last
-module _ (old new : List Node) (node : Node) where
-  pub last-stands : (r : Result FormulaId AddFault) → IfOk r (λ id. (id ≡ record { 0 = length old }) × (length old < MAX_NODES)) → OnOk r (new ≡ old ++ node ∷ [])
+module _ (most : ℕ) (old new : List Node) (node : Node) where
+  pub last-stands : (r : Result FormulaId AddFault) → IfOk r (λ id. (id ≡ record { 0 = length old }) × (length old < min most MAX_NODES)) → OnOk r (new ≡ old ++ node ∷ [])
       → IfOk r (λ id. slice_get new id.0 ≡ Some node)
   last-stands (Err fault) last grown = tt
   last-stands (Ok id) last grown =
@@ -195,7 +200,7 @@ module _ (old new : List Node) (node : Node) where
       ap (λ n. slice_get new n) (ap (λ x. x.0) last.0) ∙ ap (λ xs. slice_get xs (length old)) grown
       ∙ slice_get-get_or (old ++ node ∷ []) (length old) False (omega arith) ∙ ap Some (get_or-append_seam old node [] False)
 
-  pub last-tree : (r : Result FormulaId AddFault) → IfOk r (λ id. (id ≡ record { 0 = length old }) × (length old < MAX_NODES)) → OnOk r (new ≡ old ++ node ∷ [])
+  pub last-tree : (r : Result FormulaId AddFault) → IfOk r (λ id. (id ≡ record { 0 = length old }) × (length old < min most MAX_NODES)) → OnOk r (new ≡ old ++ node ∷ [])
       → IfOk r (λ id. tree_at new id ≡ tree_of (trees_of old) node)
   last-tree (Err fault) last grown = tt
   last-tree (Ok id) last grown = ap (tree_at new) last.0 ∙ ap (λ xs. tree_at xs (record { 0 = length old })) grown ∙ tree_at-last old node

@@ -42,6 +42,6 @@ GrowingKeepsFormulas = (old new : List Node) (id : FormulaId) → Grows old new 
 abbrev pub OneIdPerFormula : Type 0
 OneIdPerFormula = (nodes : List Node) (a b : FormulaId) → IsNodeList nodes → Stands nodes a → Stands nodes b → tree_at nodes a ≡ tree_at nodes b → a ≡ b
 
--- the formulas of a list speak of signals below 16 alone
+-- the formulas of a list speak of signals below 32 alone
 abbrev pub SignalsAreBelow : Type 0
 SignalsAreBelow = (nodes : List Node) (id : FormulaId) → IsNodeList nodes → Stands nodes id → SignalsBelow MAX_SIGNALS (tree_at nodes id)

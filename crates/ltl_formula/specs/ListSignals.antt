@@ -16,4 +16,4 @@ pub record KeepsSignals (old new : List Node) : Type 0 where
 -- the signals of a list are those of its formulas, and adding a node adds no signal but the node's
 pub record SignalsOfListsAreKept : Type 0 where
   pub of_formulas : (n : ℕ) (nodes : List Node) (id : FormulaId) → IsNodeList nodes → HasSignalsBelow n nodes → Stands nodes id → SignalsBelow n (tree_at nodes id)
-  pub of_added : (n : ℕ) (nodes : List Node) (node : Node) → HasSignalsBelow n nodes → SignalBelow n node → HasSignalsBelow n (added nodes node).nodes
+  pub of_added : (most n : ℕ) (nodes : List Node) (node : Node) → HasSignalsBelow n nodes → SignalBelow n node → HasSignalsBelow n (added most nodes node).nodes

@@ -66,7 +66,7 @@ abbrev pub SignalBelow : ℕ → Node → Type 0
 SignalBelow n (Signal s) = s < n
 SignalBelow n _ = Unit {0}
 
--- a list of formulas: parts stand before wholes, signals are below 16, nodes are different and at most 1,024
+-- a list of formulas: parts stand before wholes, signals are below 32, nodes are different and at most 4,096
 pub record IsNodeList (nodes : List Node) : Type 0 where
   pub parts_first : (i : ℕ) → PartsBelow i (node_at nodes i)
   pub signals : (i : ℕ) → SignalBelow MAX_SIGNALS (node_at nodes i)

@@ -1,7 +1,7 @@
 /// Why a node wasn't added.
 #[derive(Clone, Copy, Debug, PartialEq, Eq)]
 pub enum AddFault {
-    /// 1: the list is full and the node isn't in it.
+    /// As many nodes stand as there may be, and the node isn't among them.
     TooManyNodes,
     /// There was no memory.
     NoMemory,

@@ -1,7 +1,7 @@
-ghost use Rattle.std.specs.Prelude.{◌≡◌, ℕ, ◌↔◌, ◌<◌, ◌≤◌, IsTrue, [], ◌∷◌, ◌++◌, Ok, Err, Some, None, IfOk, IfErr, OnOk, OnErr, length, position, slice_get};
+ghost use Rattle.std.specs.Prelude.{◌≡◌, ℕ, min, ◌↔◌, ◌<◌, ◌≤◌, IsTrue, [], ◌∷◌, ◌++◌, Ok, Err, Some, None, IfOk, IfErr, OnOk, OnErr, length, position, slice_get};
 ghost use Rattle.ltl_formula.specs.Nodes.{Grows, IsNodeList, PartsBelow, SignalBelow, Stands, tree_at, tree_of, trees_of};
 ghost use Rattle.ltl_formula.specs.Added.{added, node_eq};
-ghost use Rattle.ltl_formula.specs.declared.nodes.TheConstants.{MAX_SIGNALS};
+ghost use Rattle.ltl_formula.specs.declared.nodes.TheConstants.{MAX_NODES, MAX_SIGNALS};
 
 use crate::faults::AddFault;
 use crate::nodes::{FormulaId, MAX_NODES, MAX_SIGNALS, Node};
@@ -37,7 +37,7 @@ impl Formulas {
         }
     }
 
-    /// The number of nodes, which is at most 1,024.
+    /// The number of nodes, which is at most 4,096.
     pub fn len(&self) -> usize
         ensures value { result ≡ length self.now }
         ensures list { IsNodeList self.now }
@@ -56,7 +56,7 @@ impl Formulas {
         self.nodes.as_slice()[id.0 as usize]
     }
 
-    /// Whether `add` may be called at the node: its parts stand, and its signal is below 16.
+    /// Whether `add` may be called at the node: its parts stand, and its signal is below 32.
     pub fn can_add(&self, node: Node) -> bool
         ensures { IsTrue result ↔ (PartsBelow (length self.now) node × SignalBelow MAX_SIGNALS node) }
     {
@@ -76,14 +76,15 @@ impl Formulas {
     }
 
     /// The id of an equal node that stands, which takes no memory, else the new last one. Its parts must stand,
-    /// and its signal be below 16. It is refused where 1,024 nodes stand and this one is new; the list is then as before.
-    pub fn add(&mut self, node: Node) -> Result<FormulaId, AddFault>
+    /// and its signal be below 32. It is refused where `most` nodes stand, or as many as any list holds, and this one is new; the list
+    /// is then as before.
+    pub fn add(&mut self, most: usize, node: Node) -> Result<FormulaId, AddFault>
         requires parts { PartsBelow (length self.old) node }
         requires signal { SignalBelow MAX_SIGNALS node }
-        ensures ok { IfOk result (λ id. added self.old node ≡ record { nodes = self.new; made = Some id }) }
+        ensures ok { IfOk result (λ id. added most self.old node ≡ record { nodes = self.new; made = Some id }) }
         ensures known { (place : ℕ) → position (node_eq node) self.old ≡ Some place → result ≡ Ok (record { 0 = place }) }
-        ensures too_many { result ≡ Err AddFault.TooManyNodes → (added self.old node).made ≡ None }
-        ensures full { (added self.old node).made ≡ None → result ≡ Err AddFault.TooManyNodes }
+        ensures too_many { result ≡ Err AddFault.TooManyNodes → (added most self.old node).made ≡ None }
+        ensures full { (added most self.old node).made ≡ None → result ≡ Err AddFault.TooManyNodes }
         ensures err { OnErr result (self.new ≡ self.old) }
 
         // What a caller needs of the new list.
@@ -94,22 +95,22 @@ impl Formulas {
     {
         match self.nodes.get_index_of(&node) {
             Some(place) => Ok(FormulaId(place as u32)),
-            None => self.add_new(node),
+            None => self.add_new(most, node),
         }
     }
 
-    fn add_new(&mut self, node: Node) -> Result<FormulaId, AddFault>
+    fn add_new(&mut self, most: usize, node: Node) -> Result<FormulaId, AddFault>
         requires parts { PartsBelow (length self.old) node }
         requires signal { SignalBelow MAX_SIGNALS node }
         requires absent { position (node_eq node) self.old ≡ None }
-        ensures last { IfOk result (λ id. (id ≡ record { 0 = length self.old }) × (length self.old < MAX_NODES)) }
+        ensures last { IfOk result (λ id. (id ≡ record { 0 = length self.old }) × (length self.old < min most MAX_NODES)) }
         ensures grown { OnOk result (self.new ≡ self.old ++ node ∷ []) }
-        ensures full { (result ≡ Err AddFault.TooManyNodes) ↔ (MAX_NODES ≤ length self.old) }
+        ensures full { (result ≡ Err AddFault.TooManyNodes) ↔ (min most MAX_NODES ≤ length self.old) }
         ensures err { OnErr result (self.new ≡ self.old) }
         ensures list { IsNodeList self.new }
     {
         let place = self.nodes.len();
-        if place >= MAX_NODES {
+        if place >= most.min(MAX_NODES) {
             return Err(AddFault::TooManyNodes);
         }
         insert_absent(&mut self.nodes, node)?;

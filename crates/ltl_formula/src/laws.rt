@@ -28,7 +28,7 @@ pub fn one_id_per_formula()
     ensures { OneIdPerFormula }
 {}
 
-/// The formulas of a list speak of signals below 16 alone.
+/// The formulas of a list speak of signals below 32 alone.
 pub fn signals_are_below()
     ensures { SignalsAreBelow }
 {}

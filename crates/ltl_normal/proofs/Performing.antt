@@ -1,5 +1,5 @@
 use Rattle.std.proofs.Common.{◌≡◌, ℕ, ◌<◌, ◌≤◌, Bool, true, false, cond, ltb, inl, inr, List, [], ◌∷◌, ◌++◌, length, get_or, Option, None, Some, Result, Ok, Err, refl, sym, ap, subst, ◌∙◌, arith}
-use Rattle.std.specs.Prelude.{position, slice_get, slice_set, IfOk, OnErr, OnOk, if◌then◌else◌}
+use Rattle.std.specs.Prelude.{min, position, slice_get, slice_set, IfOk, OnErr, OnOk, if◌then◌else◌}
 use Rattle.std.proofs.lemmas.Bool.{cases_eq, cases_lt}
 use Rattle.std.proofs.lemmas.List.{get_or-replicate, length-replicate, get_or_past}
 use Rattle.std.specs.Prelude.{replicate}
@@ -58,37 +58,38 @@ part_bound-le n (node.Until a b) p = let g : a.0 < n = p.0 in let h : b.0 < n = 
 part_bound-le n (node.Release a b) p = let g : a.0 < n = p.0 in let h : b.0 < n = p.1 in omega arith
 part_bound-le n (node.WeakUntil a b) p = let g : a.0 < n = p.0 in let h : b.0 < n = p.1 in omega arith
 
--- where adding has no room the list stays
-added-none : (nodes : List Node) (x : Node) → (added nodes x).made ≡ None → added nodes x ≡ record { nodes = nodes; made = None }
-added-none nodes x none = by (position (node_eq x) nodes) none
-  where
-    by : (o : Option ℕ) → (built_at o nodes x).made ≡ None → built_at o nodes x ≡ record { nodes = nodes; made = None }
-    by (Some i) e = absurd (none-some (let id : FormulaId = record { 0 = i } in id) (sym e))
-    by None e = room (ltb (length nodes) MAX_NODES) e
-      where
-        room : (b : Bool) → (cond b (let r : Built = record { nodes = nodes ++ x ∷ []; made = Some (record { 0 = length nodes }) } in r) (let r : Built = record { nodes = nodes; made = None } in r)).made ≡ None
-            → cond b (let r : Built = record { nodes = nodes ++ x ∷ []; made = Some (record { 0 = length nodes }) } in r) (let r : Built = record { nodes = nodes; made = None } in r) ≡ record { nodes = nodes; made = None }
-        room true e = absurd (none-some (let id : FormulaId = record { 0 = length nodes } in id) (sym e))
-        room false e = refl
+module _ (most : ℕ) where
+  -- where adding has no room the list stays
+  added-none : (nodes : List Node) (x : Node) → (added most nodes x).made ≡ None → added most nodes x ≡ record { nodes = nodes; made = None }
+  added-none nodes x none = by (position (node_eq x) nodes) none
+    where
+      by : (o : Option ℕ) → (built_at most o nodes x).made ≡ None → built_at most o nodes x ≡ record { nodes = nodes; made = None }
+      by (Some i) e = absurd (none-some (let id : FormulaId = record { 0 = i } in id) (sym e))
+      by None e = room (ltb (length nodes) (min most MAX_NODES)) e
+        where
+          room : (b : Bool) → (cond b (let r : Built = record { nodes = nodes ++ x ∷ []; made = Some (record { 0 = length nodes }) } in r) (let r : Built = record { nodes = nodes; made = None } in r)).made ≡ None
+              → cond b (let r : Built = record { nodes = nodes ++ x ∷ []; made = Some (record { 0 = length nodes }) } in r) (let r : Built = record { nodes = nodes; made = None } in r) ≡ record { nodes = nodes; made = None }
+          room true e = absurd (none-some (let id : FormulaId = record { 0 = length nodes } in id) (sym e))
+          room false e = refl
 
--- what `add` says
-pub Performs-add : (x : Node) (old new : List Node) (r : Result FormulaId AddFault)
-    → IfOk r (λ id. added old x ≡ record { nodes = new; made = Some id }) → (r ≡ Err TooManyNodes → (added old x).made ≡ None) → OnErr r (new ≡ old)
-    → IfOk r (λ id. slice_get new id.0 ≡ Some x) → Grows old new → IsNodeList new → Performs (λ ns. added ns x) old new r
-Performs-add x old new (Ok id) ok too_many err at grows list = record {
-  ok = ok;
-  too_many = λ e. absurd (let never : ⊥ = cc in never);
-  stands = slice_get_within new id.0 x at;
-  grows = grows;
-  list = list;
-}
-Performs-add x old new (Err fault) ok too_many err at grows list = record {
-  ok = tt;
-  too_many = λ e. added-none old x (too_many e) ∙ ap (λ ns. let b : Built = record { nodes = ns; made = None } in b) (sym err);
-  stands = tt;
-  grows = grows;
-  list = list;
-}
+  -- what `add` says
+  pub Performs-add : (x : Node) (old new : List Node) (r : Result FormulaId AddFault)
+      → IfOk r (λ id. added most old x ≡ record { nodes = new; made = Some id }) → (r ≡ Err TooManyNodes → (added most old x).made ≡ None) → OnErr r (new ≡ old)
+      → IfOk r (λ id. slice_get new id.0 ≡ Some x) → Grows old new → IsNodeList new → Performs (λ ns. added most ns x) old new r
+  Performs-add x old new (Ok id) ok too_many err at grows list = record {
+    ok = ok;
+    too_many = λ e. absurd (let never : ⊥ = cc in never);
+    stands = slice_get_within new id.0 x at;
+    grows = grows;
+    list = list;
+  }
+  Performs-add x old new (Err fault) ok too_many err at grows list = record {
+    ok = tt;
+    too_many = λ e. added-none old x (too_many e) ∙ ap (λ ns. let b : Built = record { nodes = ns; made = None } in b) (sym err);
+    stands = tt;
+    grows = grows;
+    list = list;
+  }
 
 -- a call took a step where it took one that is the same in this list
 pub Performs-like : (step like : Step) (old new : List Node) (r : Result FormulaId AddFault) → step old ≡ like old → Performs like old new r → Performs step old new r
@@ -119,60 +120,61 @@ Performs-stops a b old new fault first = record {
   list = first.list;
 }
 
--- a form that was built is found again in every longer list
-pub form-again : (keep : Bool) (place id : FormulaId) (old mid new : List Node) → IsNodeList old → Stands old place → form_in keep (tree_at old place) old ≡ record { nodes = mid; made = Some id }
-    → IsNodeList new → Grows mid new → form_in keep (tree_at new place) new ≡ record { nodes = new; made = Some id }
-form-again keep place id old mid new list h is fits grows =
-    let builds : BuildsIn (table trees keep (tree_at old place)) (form_in keep (tree_at old place)) old =
-    Builds-form_in keep (tree_at old place) (signals_are_below old place list h) old list in
-    let made : IsMade (table trees keep (tree_at old place)) (form_in keep (tree_at old place)) (form_in keep (tree_at old place) old).nodes id = builds.made id (ap (λ b. b.made) is) in
-    let to_mid : Grows old mid = subst (λ b. Grows old b.nodes) is builds.grows in
-    ap (λ t. form_in keep t new) (tree_at-grown old new place (Grows-trans old mid new to_mid grows) h)
-    ∙ made.again new fits (subst (λ b. Grows b.nodes new) (sym is) grows)
+module _ (most : ℕ) where
+  -- a form that was built is found again in every longer list
+  pub form-again : (keep : Bool) (place id : FormulaId) (old mid new : List Node) → IsNodeList old → Stands old place → form_in most keep (tree_at old place) old ≡ record { nodes = mid; made = Some id }
+      → IsNodeList new → Grows mid new → form_in most keep (tree_at new place) new ≡ record { nodes = new; made = Some id }
+  form-again keep place id old mid new list h is fits grows =
+      let builds : BuildsIn (table trees keep (tree_at old place)) (form_in most keep (tree_at old place)) old =
+      Builds-form_in most keep (tree_at old place) (signals_are_below old place list h) old list in
+      let made : IsMade (table trees keep (tree_at old place)) (form_in most keep (tree_at old place)) (form_in most keep (tree_at old place) old).nodes id = builds.made id (ap (λ b. b.made) is) in
+      let to_mid : Grows old mid = subst (λ b. Grows old b.nodes) is builds.grows in
+      ap (λ t. form_in most keep t new) (tree_at-grown old new place (Grows-trans old mid new to_mid grows) h)
+      ∙ made.again new fits (subst (λ b. Grows b.nodes new) (sym is) grows)
 
-pub IsMemo-grows : (forms : List Forms) (old new : List Node) → IsNodeList old → IsNodeList new → Grows old new → IsMemo forms old → IsMemo forms new
-IsMemo-grows forms old new list fits grows memo = record {
-  found = λ keep place id e.
-      let f = memo.found keep place id e in
-      (Grows-stands old new place grows f.0, form-again keep place id old old new list f.0 f.1 fits grows);
-}
+  pub IsMemo-grows : (forms : List Forms) (old new : List Node) → IsNodeList old → IsNodeList new → Grows old new → IsMemo most forms old → IsMemo most forms new
+  IsMemo-grows forms old new list fits grows memo = record {
+    found = λ keep place id e.
+        let f = memo.found keep place id e in
+        (Grows-stands old new place grows f.0, form-again keep place id old old new list f.0 f.1 fits grows);
+  }
 
--- what the table of an empty memo has
-pub IsMemo-none : (forms : List Forms) (nodes : List Node) → ((keep : Bool) (i : ℕ) → recorded forms keep i ≡ None) → IsMemo forms nodes
-IsMemo-none forms nodes none = record { found = λ keep place id e. absurd (none-some id (sym (none keep place.0) ∙ e)) }
+  -- what the table of an empty memo has
+  pub IsMemo-none : (forms : List Forms) (nodes : List Node) → ((keep : Bool) (i : ℕ) → recorded forms keep i ≡ None) → IsMemo most forms nodes
+  IsMemo-none forms nodes none = record { found = λ keep place id e. absurd (none-some id (sym (none keep place.0) ∙ e)) }
 
--- the tree that a form's id has
-pub form-tree : (keep : Bool) (place id : FormulaId) (old new : List Node) → IsNodeList old → Stands old place → form_in keep (tree_at old place) old ≡ record { nodes = new; made = Some id }
-    → tree_at new id ≡ table trees keep (tree_at old place)
-form-tree keep place id old new list h is =
-    let builds : BuildsIn (table trees keep (tree_at old place)) (form_in keep (tree_at old place)) old =
-    Builds-form_in keep (tree_at old place) (signals_are_below old place list h) old list in
-    let made : IsMade (table trees keep (tree_at old place)) (form_in keep (tree_at old place)) (form_in keep (tree_at old place) old).nodes id = builds.made id (ap (λ b. b.made) is) in
-    ap (λ b. tree_at b.nodes id) (sym is) ∙ made.tree
+  -- the tree that a form's id has
+  pub form-tree : (keep : Bool) (place id : FormulaId) (old new : List Node) → IsNodeList old → Stands old place → form_in most keep (tree_at old place) old ≡ record { nodes = new; made = Some id }
+      → tree_at new id ≡ table trees keep (tree_at old place)
+  form-tree keep place id old new list h is =
+      let builds : BuildsIn (table trees keep (tree_at old place)) (form_in most keep (tree_at old place)) old =
+      Builds-form_in most keep (tree_at old place) (signals_are_below old place list h) old list in
+      let made : IsMade (table trees keep (tree_at old place)) (form_in most keep (tree_at old place)) (form_in most keep (tree_at old place) old).nodes id = builds.made id (ap (λ b. b.made) is) in
+      ap (λ b. tree_at b.nodes id) (sym is) ∙ made.tree
 
-pub form-stands : (keep : Bool) (place id : FormulaId) (old new : List Node) → IsNodeList old → Stands old place → form_in keep (tree_at old place) old ≡ record { nodes = new; made = Some id }
-    → Stands new id
-form-stands keep place id old new list h is =
-    let builds : BuildsIn (table trees keep (tree_at old place)) (form_in keep (tree_at old place)) old =
-    Builds-form_in keep (tree_at old place) (signals_are_below old place list h) old list in
-    let made : IsMade (table trees keep (tree_at old place)) (form_in keep (tree_at old place)) (form_in keep (tree_at old place) old).nodes id = builds.made id (ap (λ b. b.made) is) in
-    subst (λ b. Stands b.nodes id) is made.stands
+  pub form-stands : (keep : Bool) (place id : FormulaId) (old new : List Node) → IsNodeList old → Stands old place → form_in most keep (tree_at old place) old ≡ record { nodes = new; made = Some id }
+      → Stands new id
+  form-stands keep place id old new list h is =
+      let builds : BuildsIn (table trees keep (tree_at old place)) (form_in most keep (tree_at old place)) old =
+      Builds-form_in most keep (tree_at old place) (signals_are_below old place list h) old list in
+      let made : IsMade (table trees keep (tree_at old place)) (form_in most keep (tree_at old place)) (form_in most keep (tree_at old place) old).nodes id = builds.made id (ap (λ b. b.made) is) in
+      subst (λ b. Stands b.nodes id) is made.stands
 
--- a memo serves after a call that doesn't touch it
-pub memo-kept : (forms : List Forms) (step : Step) (old new : List Node) (r : Result FormulaId AddFault) → IsNodeList old → IsMemo forms old → Performs step old new r → OnOk r (IsMemo forms new)
-memo-kept forms step old new (Ok id) list memo p = IsMemo-grows forms old new list p.list p.grows memo
-memo-kept forms step old new (Err fault) list memo p = tt
+  -- a memo serves after a call that doesn't touch it
+  pub memo-kept : (forms : List Forms) (step : Step) (old new : List Node) (r : Result FormulaId AddFault) → IsNodeList old → IsMemo most forms old → Performs step old new r → OnOk r (IsMemo most forms new)
+  memo-kept forms step old new (Ok id) list memo p = IsMemo-grows forms old new list p.list p.grows memo
+  memo-kept forms step old new (Err fault) list memo p = tt
 
--- two steps and a join, and the exit where the second fails
-pub Performs-join : (joint : Joint) (a b : Step) (old m1 m2 new : List Node) (x y : FormulaId) (r : Result FormulaId AddFault)
-    → Performs a old m1 (Ok x) → Performs b m1 m2 (Ok y) → Performs (join_ids joint x y) m2 new r → Performs (nodes_to.join joint a b) old new r
-Performs-join joint a b old m1 m2 new x y r first second join =
-    Performs-go_on a (λ x later. go_on (b later) (join_ids joint x)) old m1 new x r first (Performs-go_on b (join_ids joint x) m1 m2 new y r second join)
+  -- two steps and a join, and the exit where the second fails
+  pub Performs-join : (joint : Joint) (a b : Step) (old m1 m2 new : List Node) (x y : FormulaId) (r : Result FormulaId AddFault)
+      → Performs a old m1 (Ok x) → Performs b m1 m2 (Ok y) → Performs (join_ids most joint x y) m2 new r → Performs ((nodes_to most).join joint a b) old new r
+  Performs-join joint a b old m1 m2 new x y r first second join =
+      Performs-go_on a (λ x later. go_on (b later) (join_ids most joint x)) old m1 new x r first (Performs-go_on b (join_ids most joint x) m1 m2 new y r second join)
 
-pub Performs-join-fails : (joint : Joint) (a b : Step) (old m1 new : List Node) (x : FormulaId) (fault : AddFault)
-    → Performs a old m1 (Ok x) → Performs b m1 new (Err fault) → Performs (nodes_to.join joint a b) old new (Err fault)
-Performs-join-fails joint a b old m1 new x fault first second =
-    Performs-go_on a (λ x later. go_on (b later) (join_ids joint x)) old m1 new x (Err fault) first (Performs-stops b (join_ids joint x) m1 new fault second)
+  pub Performs-join-fails : (joint : Joint) (a b : Step) (old m1 new : List Node) (x : FormulaId) (fault : AddFault)
+      → Performs a old m1 (Ok x) → Performs b m1 new (Err fault) → Performs ((nodes_to most).join joint a b) old new (Err fault)
+  Performs-join-fails joint a b old m1 new x fault first second =
+      Performs-go_on a (λ x later. go_on (b later) (join_ids most joint x)) old m1 new x (Err fault) first (Performs-stops b (join_ids most joint x) m1 new fault second)
 
 -- a later step speaks of the formulas that the ids had before
 pub moved : (step : Tree → Tree → Step) (p q : FormulaId) (old mid new : List Node) (r : Result FormulaId AddFault) → Grows old mid → Stands old p → Stands old q
@@ -181,22 +183,23 @@ moved step p q old mid new r grows hp hq performs =
     subst (λ t. Performs (step t (tree_at old q)) mid new r) (tree_at-grown old mid p grows hp)
     (subst (λ t. Performs (step (tree_at mid p) t) mid new r) (tree_at-grown old mid q grows hq) performs)
 
--- a form that is kept is what the step gives
-pub Performs-found : (forms : List Forms) (keep : Bool) (place id : FormulaId) (nodes : List Node) → IsNodeList nodes → IsMemo forms nodes → recorded forms keep place.0 ≡ Some id
-    → Performs (form_in keep (tree_at nodes place)) nodes nodes (Ok id)
-Performs-found forms keep place id nodes list memo e =
-    let f = memo.found keep place id e in
-    Performs-gives (form_in keep (tree_at nodes place)) nodes id list (form-stands keep place id nodes nodes list f.0 f.1) f.1
+module _ (most : ℕ) where
+  -- a form that is kept is what the step gives
+  pub Performs-found : (forms : List Forms) (keep : Bool) (place id : FormulaId) (nodes : List Node) → IsNodeList nodes → IsMemo most forms nodes → recorded forms keep place.0 ≡ Some id
+      → Performs (form_in most keep (tree_at nodes place)) nodes nodes (Ok id)
+  Performs-found forms keep place id nodes list memo e =
+      let f = memo.found keep place id e in
+      Performs-gives (form_in most keep (tree_at nodes place)) nodes id list (form-stands most keep place id nodes nodes list f.0 f.1) f.1
 
--- what the result is
-module _ (keep : Bool) (f : FormulaId) (old new : List Node) (list : IsNodeList old) (h : Stands old f) where
-  pub result-tree : (r : Result FormulaId AddFault) → Performs (form_in keep (tree_at old f)) old new r → IfOk r (λ id. tree_at new id ≡ table trees keep (tree_at old f))
-  result-tree (Ok id) p = form-tree keep f id old new list h p.ok
-  result-tree (Err fault) p = tt
+  -- what the result is
+  module _ (keep : Bool) (f : FormulaId) (old new : List Node) (list : IsNodeList old) (h : Stands old f) where
+    pub result-tree : (r : Result FormulaId AddFault) → Performs (form_in most keep (tree_at old f)) old new r → IfOk r (λ id. tree_at new id ≡ table trees keep (tree_at old f))
+    result-tree (Ok id) p = form-tree most keep f id old new list h p.ok
+    result-tree (Err fault) p = tt
 
-  pub result-is : (P : Tree → Type 0) → P (table trees keep (tree_at old f)) → (r : Result FormulaId AddFault) → Performs (form_in keep (tree_at old f)) old new r → IfOk r (λ id. P (tree_at new id))
-  result-is P holds_there (Ok id) p = subst P (sym (form-tree keep f id old new list h p.ok)) holds_there
-  result-is P holds_there (Err fault) p = tt
+    pub result-is : (P : Tree → Type 0) → P (table trees keep (tree_at old f)) → (r : Result FormulaId AddFault) → Performs (form_in most keep (tree_at old f)) old new r → IfOk r (λ id. P (tree_at new id))
+    result-is P holds_there (Ok id) p = subst P (sym (form-tree most keep f id old new list h p.ok)) holds_there
+    result-is P holds_there (Err fault) p = tt
 
 -- a memo with one more form
 recorded-set : (forms : List Forms) (i : ℕ) (e : Forms) (keep : Bool) (k : ℕ) → i < length forms
@@ -216,30 +219,31 @@ kept-with old true false form id e = inr e
 kept-with old false true form id e = inr e
 kept-with old false false form id e = inl (refl, same_Some form id e)
 
-pub IsMemo-with : (forms : List Forms) (place form : FormulaId) (put : Bool) (old nodes : List Node) → IsNodeList old → Stands old place → IsNodeList nodes
-    → form_in put (tree_at old place) old ≡ record { nodes = nodes; made = Some form } → IsMemo forms nodes → place.0 < length forms
-    → (e : Forms) → e ≡ (let was : Forms = get_or forms place.0 (record { kept = None; opposed = None }) in if put then record was { kept = Some form } else record was { opposed = Some form })
-    → IsMemo (slice_set forms place.0 e) nodes
-IsMemo-with forms place form put old nodes list h fits is memo within e e_is = record {
-  found = λ keep at id recorded_is.
-      elim (recorded-set forms place.0 e keep at.0 within) [
-        | inr before ↦ memo.found keep at id (sym before ∙ recorded_is)
-        | inl (same, here) ↦
-            let was : Forms = get_or forms place.0 (record { kept = None; opposed = None }) in
-            elim (kept-with was put keep form id (ap (λ x. if keep then x.kept else x.opposed) (sym e_is) ∙ sym here ∙ recorded_is)) [
-              | inl (one_way, one_form) ↦
-                  let grown : Grows old nodes = performs_grows is in
-                  let now_there : Stands nodes place = Grows-stands old nodes place grown h in
-                  let again : form_in put (tree_at nodes place) nodes ≡ record { nodes = nodes; made = Some form } = form-again put place form old nodes nodes list h is fits (Grows-refl nodes) in
-                  let P : FormulaId → Bool → FormulaId → Type 0 = λ p k i. Stands nodes p × (form_in k (tree_at nodes p) nodes ≡ record { nodes = nodes; made = Some i }) in
-                  subst (λ p. P p keep id) (same_id_of place at (sym same)) (subst (λ k. P place k id) (sym one_way) (subst (λ i. P place put i) one_form (now_there, again)))
-              | inr before ↦ memo.found keep at id (subst (λ n. recorded forms keep n ≡ Some id) (sym same) before)
-            ]
-      ];
-}
-  where
-    performs_grows : form_in put (tree_at old place) old ≡ record { nodes = nodes; made = Some form } → Grows old nodes
-    performs_grows is = subst (λ b. Grows old b.nodes) is (Builds-form_in put (tree_at old place) (signals_are_below old place list h) old list).grows
+module _ (most : ℕ) where
+  pub IsMemo-with : (forms : List Forms) (place form : FormulaId) (put : Bool) (old nodes : List Node) → IsNodeList old → Stands old place → IsNodeList nodes
+      → form_in most put (tree_at old place) old ≡ record { nodes = nodes; made = Some form } → IsMemo most forms nodes → place.0 < length forms
+      → (e : Forms) → e ≡ (let was : Forms = get_or forms place.0 (record { kept = None; opposed = None }) in if put then record was { kept = Some form } else record was { opposed = Some form })
+      → IsMemo most (slice_set forms place.0 e) nodes
+  IsMemo-with forms place form put old nodes list h fits is memo within e e_is = record {
+    found = λ keep at id recorded_is.
+        elim (recorded-set forms place.0 e keep at.0 within) [
+          | inr before ↦ memo.found keep at id (sym before ∙ recorded_is)
+          | inl (same, here) ↦
+              let was : Forms = get_or forms place.0 (record { kept = None; opposed = None }) in
+              elim (kept-with was put keep form id (ap (λ x. if keep then x.kept else x.opposed) (sym e_is) ∙ sym here ∙ recorded_is)) [
+                | inl (one_way, one_form) ↦
+                    let grown : Grows old nodes = performs_grows is in
+                    let now_there : Stands nodes place = Grows-stands old nodes place grown h in
+                    let again : form_in most put (tree_at nodes place) nodes ≡ record { nodes = nodes; made = Some form } = form-again most put place form old nodes nodes list h is fits (Grows-refl nodes) in
+                    let P : FormulaId → Bool → FormulaId → Type 0 = λ p k i. Stands nodes p × (form_in most k (tree_at nodes p) nodes ≡ record { nodes = nodes; made = Some i }) in
+                    subst (λ p. P p keep id) (same_id_of place at (sym same)) (subst (λ k. P place k id) (sym one_way) (subst (λ i. P place put i) one_form (now_there, again)))
+                | inr before ↦ memo.found keep at id (subst (λ n. recorded forms keep n ≡ Some id) (sym same) before)
+              ]
+        ];
+  }
+    where
+      performs_grows : form_in most put (tree_at old place) old ≡ record { nodes = nodes; made = Some form } → Grows old nodes
+      performs_grows is = subst (λ b. Grows old b.nodes) is (Builds-form_in most put (tree_at old place) (signals_are_below old place list h) old list).grows
 
 -- a table of copies of one entry without forms has none
 pub recorded-none : (n : ℕ) (keep : Bool) (i : ℕ) → recorded (replicate n (record { kept = None; opposed = None })) keep i ≡ None

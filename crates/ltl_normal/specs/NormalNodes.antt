@@ -41,41 +41,41 @@ abbrev pub constant_at : List Node → FormulaId → Option Bool
 constant_at nodes id = constant_of (node_at nodes id.0)
 
 -- one of the parts, or the whole added
-abbrev pub chosen_step : Outcome → FormulaId → FormulaId → Node → Step
-chosen_step First a b whole nodes = gives a nodes
-chosen_step Second a b whole nodes = gives b nodes
-chosen_step Whole a b whole nodes = added nodes whole
+abbrev pub chosen_step : ℕ → Outcome → FormulaId → FormulaId → Node → Step
+chosen_step most First a b whole nodes = gives a nodes
+chosen_step most Second a b whole nodes = gives b nodes
+chosen_step most Whole a b whole nodes = added most nodes whole
 
 -- two parts that stand are joined, simplified
-abbrev pub join_ids : Joint → FormulaId → FormulaId → Step
-join_ids joint a b nodes = chosen_step (outcome_of joint (constant_at nodes a) (constant_at nodes b) (a.0 == b.0)) a b (whole_node joint a b) nodes
+abbrev pub join_ids : ℕ → Joint → FormulaId → FormulaId → Step
+join_ids most joint a b nodes = chosen_step most (outcome_of joint (constant_at nodes a) (constant_at nodes b) (a.0 == b.0)) a b (whole_node joint a b) nodes
 
 -- Next of a part that stands, simplified
-abbrev pub next_step : Option Bool → FormulaId → Step
-next_step (Some value) a nodes = gives a nodes
-next_step None a nodes = added nodes (node.Next a)
+abbrev pub next_step : ℕ → Option Bool → FormulaId → Step
+next_step most (Some value) a nodes = gives a nodes
+next_step most None a nodes = added most nodes (node.Next a)
 
-abbrev pub next_id : FormulaId → Step
-next_id a nodes = next_step (constant_at nodes a) a nodes
+abbrev pub next_id : ℕ → FormulaId → Step
+next_id most a nodes = next_step most (constant_at nodes a) a nodes
 
 -- the constant's node
 abbrev pub constant_node : Bool → Node
 constant_node value = if value then node.True else node.False
 
 -- the signal's node, and for its opposite then that of Not
-abbrev pub literal_step : Bool → ℕ → Step
-literal_step true s nodes = added nodes (node.Signal s)
-literal_step false s nodes = go_on (added nodes (node.Signal s)) (λ id later. added later (node.Not id))
+abbrev pub literal_step : ℕ → Bool → ℕ → Step
+literal_step most true s nodes = added most nodes (node.Signal s)
+literal_step most false s nodes = go_on (added most nodes (node.Signal s)) (λ id later. added most later (node.Not id))
 
--- the table builds nodes: parts from left to right before the whole, and parts that it has twice are looked up again
-abbrev pub nodes_to : Target Step
-nodes_to = record {
-  constant = λ value nodes. added nodes (constant_node value);
-  literal = literal_step;
-  next = λ a nodes. go_on (a nodes) next_id;
-  join = λ joint a b nodes. go_on (a nodes) (λ x later. go_on (b later) (join_ids joint x));
+-- the table builds nodes, while fewer than `most` stand: parts from left to right before the whole, and parts that it has twice are looked up again
+abbrev pub nodes_to : ℕ → Target Step
+nodes_to most = record {
+  constant = λ value nodes. added most nodes (constant_node value);
+  literal = literal_step most;
+  next = λ a nodes. go_on (a nodes) (next_id most);
+  join = λ joint a b nodes. go_on (a nodes) (λ x later. go_on (b later) (join_ids most joint x));
 }
 
 -- the normal (`true`) or negated (`false`) form of a formula, built in a list
-abbrev pub form_in : Bool → Tree → Step
-form_in keep f = table nodes_to keep f
+abbrev pub form_in : ℕ → Bool → Tree → Step
+form_in most keep f = table (nodes_to most) keep f

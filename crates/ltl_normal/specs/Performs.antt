@@ -22,8 +22,8 @@ abbrev pub recorded : List Forms → Bool → ℕ → Option FormulaId
 recorded forms keep i = let e : Forms = slice_index_or forms i (record { kept = None; opposed = None }) in if keep then e.kept else e.opposed
 
 -- each form that is kept is one that building it again in this list would give, with no node more
-pub record IsMemo (forms : List Forms) (nodes : List Node) : Type 0 where
-  pub found : (keep : Bool) (place id : FormulaId) → recorded forms keep place.0 ≡ Some id → Stands nodes place × (form_in keep (tree_at nodes place) nodes ≡ record { nodes = nodes; made = Some id })
+pub record IsMemo (most : ℕ) (forms : List Forms) (nodes : List Node) : Type 0 where
+  pub found : (keep : Bool) (place id : FormulaId) → recorded forms keep place.0 ≡ Some id → Stands nodes place × (form_in most keep (tree_at nodes place) nodes ≡ record { nodes = nodes; made = Some id })
 
 -- one more than the greatest id among the node's parts, or 0 where it has none
 abbrev pub part_bound : Node → ℕ

@@ -1,5 +1,6 @@
 -- A formula and a text have one answer.
 use Rattle.std.proofs.Common.{◌≡◌, ◌⊎◌, inl, inr, ℕ, List, Option, Some, None, refl, sym, ap, subst, ◌∙◌}
+use Rattle.text_limits.specs.declared.TheConstants.{SMALL_LIMITS}
 use Rattle.letter_word.specs.declared.kinds.Kind.{Kind}
 use Rattle.letter_word.specs.declared.kinds.Side.{Side}
 use Rattle.letter_word.specs.declared.kinds.Side.TheVariants.{System, Environment}
@@ -87,8 +88,8 @@ formulas_are_determined = record { one = one_pair; no_fault = form_apart; one_fa
 
 -- ---- texts
 
-same_flat : (text : List ℕ) (kind : Option Kind) (flat flat' : FlatText) → IsFlatOf text kind flat → IsFlatOf text kind flat' → flat ≡ flat'
-same_flat text kind flat flat' a b = one_flat determined text kind flat flat' a b
+same_flat : (text : List ℕ) (kind : Option Kind) (flat flat' : FlatText) → IsFlatOf SMALL_LIMITS text kind flat → IsFlatOf SMALL_LIMITS text kind flat' → flat ≡ flat'
+same_flat text kind flat flat' a b = one_flat determined SMALL_LIMITS text kind flat flat' a b
 
 -- the problems of one flat text, at an equal one
 moved : (version : ℕ) (flat flat' : FlatText) (new : List Node) (s : SideProblems) → flat' ≡ flat → AreProblemsIn (interface_of version flat'.expanded) (tree_at flat'.formulas flat'.expanded.whole) flat'.formulas new s
@@ -117,14 +118,14 @@ fault_moved : (flat flat' : FlatText) (code : SpecCode) (place : ℕ) → flat' 
 fault_moved flat flat' code place e h = subst (λ (x : FlatText). IsFormFault (tree_at x.formulas x.expanded.whole) x.formulas code place) e h
 
 text_apart : (text : List ℕ) (kind : Option Kind) (version : ℕ) (spec : FlatText) (s : SideProblems) (code : SpecCode) (place : ℕ) → AreProblemsOf text kind version spec s → IsFirstFault text kind code place → ⊥
-text_apart text kind version spec s _ _ h (of_text code place fault) = no_flat_fault determined no_reading_fault text kind h.flat code place h.is_flat fault
+text_apart text kind version spec s _ _ h (of_text code place fault) = no_flat_fault determined no_reading_fault SMALL_LIMITS text kind h.flat code place h.is_flat fault
 text_apart text kind version spec s _ _ h (of_problems flat code place is fault) =
     form_apart _ _ h.flat.formulas spec.formulas s code place h.problems (fault_moved h.flat flat code place (same_flat text kind flat h.flat is h.is_flat) fault)
 
 one_first_fault : (text : List ℕ) (kind : Option Kind) (code code' : SpecCode) (place place' : ℕ) → IsFirstFault text kind code place → IsFirstFault text kind code' place' → (code ≡ code') × (place ≡ place')
-one_first_fault text kind _ _ _ _ (of_text c k a) (of_text d l b) = one_flat_fault text kind c d k l a b
-one_first_fault text kind _ _ _ _ (of_text c k a) (of_problems flat d l is b) = absurd (no_flat_fault determined no_reading_fault text kind flat c k is a)
-one_first_fault text kind _ _ _ _ (of_problems flat c k is a) (of_text d l b) = absurd (no_flat_fault determined no_reading_fault text kind flat d l is b)
+one_first_fault text kind _ _ _ _ (of_text c k a) (of_text d l b) = one_flat_fault SMALL_LIMITS text kind c d k l a b
+one_first_fault text kind _ _ _ _ (of_text c k a) (of_problems flat d l is b) = absurd (no_flat_fault determined no_reading_fault SMALL_LIMITS text kind flat c k is a)
+one_first_fault text kind _ _ _ _ (of_problems flat c k is a) (of_text d l b) = absurd (no_flat_fault determined no_reading_fault SMALL_LIMITS text kind flat d l is b)
 one_first_fault text kind _ _ _ _ (of_problems flat c k is a) (of_problems flat' d l is' b) =
     one_form_fault (tree_at flat.formulas flat.expanded.whole) flat.formulas c d k l a (fault_moved flat flat' d l (same_flat text kind flat' flat is' is) b)
 

@@ -1,5 +1,6 @@
 -- The whole of a text says the same once its normal forms stand in the list too.
 use Rattle.std.proofs.Common.{◌≡◌, ℕ, List, Option, sym, ap, subst, ◌∙◌}
+use Rattle.text_limits.specs.declared.TheConstants.{SMALL_LIMITS}
 use Rattle.letter_word.specs.declared.kinds.Kind.{Kind}
 use Rattle.ltl_formula.specs.declared.nodes.FormulaId.{FormulaId}
 use Rattle.ltl_formula.specs.declared.nodes.Node.{Node}
@@ -14,7 +15,7 @@ use Rattle.spec_problems.specs.declared.sides.SideProblems.{SideProblems}
 use Rattle.spec_problems.specs.OfFormula.{AcceptBySide}
 use Rattle.spec_problems.specs.OfText.{SaysWhat}
 
-module _ (text : List ℕ) (kind : Option Kind) (flat : FlatText) (is : IsFlatOf text kind flat) (later : List Node) (grows : Grows flat.formulas later) where
+module _ (text : List ℕ) (kind : Option Kind) (flat : FlatText) (is : IsFlatOf SMALL_LIMITS text kind flat) (later : List Node) (grows : Grows flat.formulas later) where
   abbrev whole : FormulaId
   whole = flat.expanded.whole
 

@@ -1,6 +1,7 @@
 -- Problems over automata within the limits can be given to each call that takes one.
 use Rattle.std.proofs.Common.{◌≡◌, ◌≤◌, ◌+◌, ℕ, Option, Some, None, All, sym, subst, ◌∙◌, arith}
 use Rattle.std.specs.Prelude.{IfSome}
+use Rattle.text_limits.specs.declared.TheConstants.{SMALL_LIMITS}
 use Rattle.letter_word.specs.declared.kinds.Kind.{Kind}
 use Rattle.letter_word.specs.declared.kinds.Side.{Side}
 use Rattle.ltl_formula.specs.declared.nodes.Node.{Node}
@@ -36,7 +37,7 @@ module _ (x : Interface) (inputs : x.inputs ≤ 8) (outputs : x.outputs ≤ 8) (
   environment_within (Some a) None fits over = absurd over
   environment_within (Some a) (Some p) fits over = problem_within _ _ a p fits over
 
-pub problems_within : (x : Interface) (nodes : List Node) (a : Automata) (s : SideProblems) → HasFewSignals x.inputs x.outputs nodes → IsVersion x.version → FitProblemsOf nodes a → AreProblemsOver x a s → AreProblems s
+pub problems_within : (x : Interface) (nodes : List Node) (a : Automata) (s : SideProblems) → HasFewSignals SMALL_LIMITS x.inputs x.outputs nodes → IsVersion x.version → FitProblemsOf nodes a → AreProblemsOver x a s → AreProblems s
 problems_within x nodes a s few version fit over =
     let fits = fit.fit (x.inputs + x.outputs) few.below in
     record {

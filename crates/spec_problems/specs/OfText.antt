@@ -1,6 +1,7 @@
 -- The problems of both sides of a text, or its first fault of all: this project's profile of TLSF 1.1 and its order of refusals, in
 -- which the faults of normal forms and automata come last.
 use Rattle.std.specs.Prelude.{◌≡◌, ℕ, List, Option, length}
+use Rattle.text_limits.specs.declared.TheConstants.{SMALL_LIMITS}
 use Rattle.letter_word.specs.declared.kinds.Kind.{Kind}
 use Rattle.ltl_formula.specs.declared.nodes.FormulaId.{FormulaId}
 use Rattle.ltl_formula.specs.declared.nodes.Node.{Node}
@@ -24,18 +25,18 @@ interface_of version x = record { inputs = length x.inputs; outputs = length x.o
 -- that is given stands for those that the text names.
 pub record AreProblemsOf (text : List ℕ) (kind : Option Kind) (version : ℕ) (spec : FlatText) (s : SideProblems) : Type 0 where
   pub flat : FlatText
-  pub is_flat : IsFlatOf text kind flat
+  pub is_flat : IsFlatOf SMALL_LIMITS text kind flat
   pub same : spec.expanded ≡ flat.expanded
   pub problems : AreProblemsIn (interface_of version flat.expanded) (tree_at flat.formulas flat.expanded.whole) flat.formulas spec.formulas s
 
 -- the text's first fault: that of reading or expansion, and where it has a flat text, that of normal forms and automata
 pub data IsFirstFault (text : List ℕ) (kind : Option Kind) : SpecCode → ℕ → Type 0 where
-  of_text : (code : SpecCode) (place : ℕ) → IsFlatFault text kind code place → IsFirstFault text kind code place
-  of_problems : (flat : FlatText) (code : SpecCode) (place : ℕ) → IsFlatOf text kind flat
+  of_text : (code : SpecCode) (place : ℕ) → IsFlatFault SMALL_LIMITS text kind code place → IsFirstFault text kind code place
+  of_problems : (flat : FlatText) (code : SpecCode) (place : ℕ) → IsFlatOf SMALL_LIMITS text kind flat
       → IsFormFault (tree_at flat.formulas flat.expanded.whole) flat.formulas code place → IsFirstFault text kind code place
 
 -- the text has a tree, and a formula of a list holds on a lasso exactly where the tree means so
 pub record SaysWhat (text : List ℕ) (nodes : List Node) (whole : FormulaId) : Type 0 where
   pub tree : Text
   pub read : Reads text tree
-  pub meaning : KeepsMeaning tree nodes whole
+  pub meaning : KeepsMeaning SMALL_LIMITS tree nodes whole

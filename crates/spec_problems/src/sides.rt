@@ -2,6 +2,7 @@
 
 ghost use Rattle.std.specs.Prelude.{◌≡◌, ℕ, ◌≤◌, None, Err, IfOk, IfSome, IsSome, OnOk};
 ghost use Rattle.std.specs.Arc.{arc_value};
+ghost use Rattle.text_limits.specs.declared.TheConstants.{SMALL_LIMITS};
 ghost use Rattle.ltl_formula.specs.ListSignals.{KeepsSignals};
 ghost use Rattle.ltl_formula.specs.Nodes.{Grows, IsNodeList, Stands, tree_at};
 ghost use Rattle.machine_model.specs.Automaton.{states_of};
@@ -53,7 +54,7 @@ pub fn problems_of(
     interface: Interface,
 ) -> Result<SideProblems, SpecFault>
     requires stands { Stands formulas.old whole }
-    requires few { HasFewSignals interface.inputs interface.outputs formulas.old }
+    requires few { HasFewSignals SMALL_LIMITS interface.inputs interface.outputs formulas.old }
     requires version { IsVersion interface.version }
     ensures problems { IfOk result (AreProblemsIn interface (tree_at formulas.old whole) formulas.old formulas.new) }
     ensures meet { IfOk result AreProblems }

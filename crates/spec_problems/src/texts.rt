@@ -1,6 +1,7 @@
 //! The problems of both sides of a text.
 
 ghost use Rattle.std.specs.Prelude.{◌≡◌, ℕ, Err, IfOk, length};
+ghost use Rattle.text_limits.specs.declared.TheConstants.{SMALL_LIMITS};
 ghost use Rattle.ltl_formula.specs.Nodes.{IsNodeList, tree_at};
 ghost use Rattle.machine_model.specs.Problem.{IsVersion};
 ghost use Rattle.spec_faults.specs.declared.code.SpecCode.{SpecCode as Code};
@@ -16,6 +17,7 @@ use flat_text::expand_text;
 use letter_word::Kind;
 use spec_faults::SpecFault;
 use std::alloc::Global;
+use text_limits::SMALL_LIMITS;
 use tlsf_expand::Spec;
 
 /// A text with the problems of both sides.
@@ -39,12 +41,12 @@ pub fn text_problems(
     ensures meet { IfOk result (λ t. AreProblems t.problems) }
     ensures accept { IfOk result (λ t. AcceptBySide (tree_at t.spec.formulas t.spec.whole) t.problems) }
     ensures means { IfOk result (λ t. SaysWhat text.now t.spec.formulas t.spec.whole) }
-    ensures few { IfOk result (λ t. HasFewSignals (length t.spec.inputs.items) (length t.spec.outputs.items) t.spec.formulas) }
+    ensures few { IfOk result (λ t. HasFewSignals SMALL_LIMITS (length t.spec.inputs.items) (length t.spec.outputs.items) t.spec.formulas) }
     ensures names { IfOk result (λ t. HasPlainNames (spec_seen t.spec).expanded) }
     ensures list { IfOk result (λ t. IsNodeList t.spec.formulas) }
     ensures fault { (code : Code) (place : ℕ) → result ≡ Err (At code place) → IsFirstFault text.now kind code place }
 {
-    let mut spec = match expand_text(alloc, text, kind) {
+    let mut spec = match expand_text(alloc, text, kind, SMALL_LIMITS) {
         Ok(spec) => spec,
         Err(fault) => return Err(fault),
     };

@@ -42,7 +42,7 @@ module _ (w : Word) where
 
 module _ {top : ℕ} (w : Word) where
   pub keeps_counted : (place n : ℕ) (work : Work) → IsGood top work.formulas → Keeps top work.formulas (λ u nodes. Unit {0}) (counted place n work)
-  keeps_counted place n work list = keeps_choose (nat_le n (MOST_EVALUATIONS - work.done)) _ _ work _ (λ _. keeps tt (record { done = work.done + n; formulas = work.formulas }) list (Grows-refl work.formulas) tt) (λ _. refuses _ _)
+  keeps_counted place n work list = keeps_choose (nat_le n (MOST_EVALUATIONS - work.done)) _ _ work _ (λ _. keeps tt (record work { done = work.done + n }) list (Grows-refl work.formulas) tt) (λ _. refuses _ _)
 
   pub keeps_nexts : (place n : ℕ) (id : FormulaId) (f : ℕ → Bool) (work : Work) → IsGood top work.formulas → HasTruths w f id work.formulas
       → Keeps top work.formulas (HasTruths w (λ i. f (after w i n))) (nexts place n id work)

@@ -1,6 +1,7 @@
 -- What comes of a text that is expanded: its sections with their truths, and the formula of the whole that they make.
 use Rattle.std.proofs.Common.{◌≡◌, ◌+◌, ◌≤◌, List, [], ◌∷◌, All, length, get_or, Option, None, Some, refl, sym, ap, subst, ◌∙◌}
 use Rattle.std.proofs.lemmas.List.Elements.{All-head, All-tail}
+use Rattle.text_limits.specs.declared.Limits.{Limits}
 use Rattle.letter_word.specs.Word.{Word}
 use Rattle.letter_word.specs.declared.kinds.Kind.{Kind}
 use Rattle.ltl_formula.specs.declared.nodes.FormulaId.{FormulaId}
@@ -52,24 +53,24 @@ sections_stand_later old new ids grows h = each_weaker _ (All (Stands new)) (λ 
 -- ---- the text
 
 -- the sections have the truths of the written ones, and the whole is what they make
-pub record IsMade (w : Word) (text : Text) (x : Expanded) (nodes : List Node) : Type 0 where
+pub record IsMade (limits : Limits) (w : Word) (text : Text) (x : Expanded) (nodes : List Node) : Type 0 where
   pub signals : Signals
   pub work : Work
-  pub is : signals_of text ≡ gives signals work
+  pub is : signals_of limits text ≡ gives signals work
   pub strict : x.strict ≡ text.info.strict
-  pub few_inputs : length x.inputs ≤ 8
-  pub few_outputs : length x.outputs ≤ 8
+  pub few_inputs : length x.inputs ≤ limits.signals
+  pub few_outputs : length x.outputs ≤ limits.signals
   pub good : IsGood (length x.inputs + length x.outputs) nodes
   pub have : HaveTruths w (all_lists w signals text.sections) x.sections nodes
   pub whole : StandsAs nodes (whole_tree x.strict (section_trees nodes x.sections)) x.whole
 
-gives_made_text : (w : Word) (kind : Option Kind) (text : Text) → Gives Anyhow (IsMade w text) (expanded_as kind text)
-gives_made_text w None text = refuses _ _
-gives_made_text w (Some kind) text =
-    gives_go_on_is (signals_of text) _ (IsMade w text) (gives_signals text) (λ signals w1 is s.
-    gives_go_on _ (IsMade w text) (keeps_sections w signals s.plain s.inputs_fit s.outputs_fit text.sections w1 s.good) (λ ids w2 k.
+gives_made_text : (limits : Limits) (w : Word) (kind : Option Kind) (text : Text) → Gives Anyhow (IsMade limits w text) (expanded_as limits kind text)
+gives_made_text limits w None text = refuses _ _
+gives_made_text limits w (Some kind) text =
+    gives_go_on_is (signals_of limits text) _ (IsMade limits w text) (gives_signals limits text) (λ signals w1 is s.
+    gives_go_on _ (IsMade limits w text) (keeps_sections w signals s.plain s.inputs_fit s.outputs_fit text.sections w1 s.good) (λ ids w2 k.
     let stand : SectionsStand w2.formulas ids = sections_stand k.is in
-    gives_go_on _ (IsMade w text) (keeps_filled (fills_whole (section_trees w2.formulas ids) ids text.info.strict w2 k.good (as_trees w2.formulas ids stand))) (λ whole w3 l.
+    gives_go_on _ (IsMade limits w text) (keeps_filled (fills_whole (section_trees w2.formulas ids) ids text.info.strict w2 k.good (as_trees w2.formulas ids stand))) (λ whole w3 l.
     gives_such _ w3 (record {
       signals = signals;
       work = w1;
@@ -82,29 +83,29 @@ gives_made_text w (Some kind) text =
       whole = subst (λ ts. StandsAs w3.formulas (whole_tree text.info.strict ts) whole) (sym (same_trees w2.formulas w3.formulas ids l.grows stand)) l.is;
     }))))
 
-module _ (w : Word) (text : Text) (kind : Option Kind) where
-  made_of : (x : Expanded) (work : Work) → expanded text kind ≡ gives x work → IsMade w text x work.formulas
-  made_of x work e = given (IsMade w text) (expanded text kind) x work (gives_made_text w (kind_of kind text) text) e
+module _ (limits : Limits) (w : Word) (text : Text) (kind : Option Kind) where
+  made_of : (x : Expanded) (work : Work) → expanded limits text kind ≡ gives x work → IsMade limits w text x work.formulas
+  made_of x work e = given (IsMade limits w text) (expanded limits text kind) x work (gives_made_text limits w (kind_of kind text) text) e
 
-  pub is_made : (flat : FlatText) → flat_in (expanded text kind) ≡ Some flat → IsMade w text flat.expanded flat.formulas
-  is_made flat is = by (expanded text kind) refl is
+  pub is_made : (flat : FlatText) → flat_in (expanded limits text kind) ≡ Some flat → IsMade limits w text flat.expanded flat.formulas
+  is_made flat is = by (expanded limits text kind) refl is
     where
-      by : (o : Outcome Expanded) → expanded text kind ≡ o → flat_in o ≡ Some flat → IsMade w text flat.expanded flat.formulas
+      by : (o : Outcome Expanded) → expanded limits text kind ≡ o → flat_in o ≡ Some flat → IsMade limits w text flat.expanded flat.formulas
       by (fails code place) e none = cc
       by (gives x work) e some =
           let same : (let f : FlatText = record { expanded = x; formulas = work.formulas } in f) ≡ flat = cc in
-          subst (λ (f : FlatText). IsMade w text f.expanded f.formulas) same (made_of x work e)
+          subst (λ (f : FlatText). IsMade limits w text f.expanded f.formulas) same (made_of x work e)
 
 pub expansion_keeps_meaning : ExpansionKeepsMeaning
 expansion_keeps_meaning = record {
-  stands = λ text kind x work e. (made_of any_word text kind x work e).whole.stands;
-  list = λ text kind x work e. (made_of any_word text kind x work e).good.list;
-  meaning = λ text kind x work e w.
-      let m = made_of w text kind x work e in
+  stands = λ limits text kind x work e. (made_of limits any_word text kind x work e).whole.stands;
+  list = λ limits text kind x work e. (made_of limits any_word text kind x work e).good.list;
+  meaning = λ limits text kind x work e w.
+      let m = made_of limits w text kind x work e in
       ap (λ t. holds w t 0) m.whole.tree ∙ whole_holds x.strict w (section_trees work.formulas x.sections)
       ∙ (λ k. by_semantics (m.strict k) w (truths_are w work.formulas m.signals text.sections x.sections m.have k)) ∙ sym (ap (means_with w text) m.is);
 }
 
 pub expansion_has_few_signals : ExpansionHasFewSignals
-expansion_has_few_signals text kind x work e =
-    let m = made_of any_word text kind x work e in record { few_inputs = m.few_inputs; few_outputs = m.few_outputs; below = m.good.below }
+expansion_has_few_signals limits text kind x work e =
+    let m = made_of limits any_word text kind x work e in record { few_inputs = m.few_inputs; few_outputs = m.few_outputs; below = m.good.below }

@@ -1,6 +1,6 @@
 -- Outcomes that keep the list of formulas: it only grows, and stays a list of formulas over signals below a number.
 use Rattle.std.proofs.Common.{◌≡◌, ℕ, ◌<◌, Bool, true, false, ltb, cond, List, [], ◌∷◌, ◌++◌, length, Option, None, Some, refl, subst, arith}
-use Rattle.std.specs.Prelude.{position, slice_get, ◌&&◌}
+use Rattle.std.specs.Prelude.{min, position, slice_get, ◌&&◌}
 use Rattle.std.proofs.lemmas.Bool.{and_parts, ltb-true}
 use Rattle.std.proofs.lemmas.List.{append-nil}
 use Rattle.std.proofs.lemmas.Option.{slice_get_within}
@@ -12,7 +12,7 @@ use Rattle.ltl_formula.specs.Nodes.{tree_of, trees_of, tree_at, PartsBelow, Sign
 use Rattle.ltl_formula.specs.ListSignals.{HasSignalsBelow}
 use Rattle.ltl_formula.specs.Added.{node_eq, Built, built_at, added}
 use Rattle.ltl_formula.proofs.ListSignals.{HasSignalsBelow-added, HasSignalsBelow-none}
-use Rattle.ltl_formula.proofs.Lists.{Grows-refl, Grows-trans, Grows-added, added-stands, IsNodeList-append, tree_at-slice_get}
+use Rattle.ltl_formula.proofs.Lists.{Grows-refl, Grows-trans, Grows-added, added-stands, room_below, IsNodeList-append, tree_at-slice_get}
 use Rattle.spec_faults.specs.declared.code.SpecCode.{SpecCode}
 use Rattle.spec_faults.specs.declared.code.SpecCode.TheVariants.{TooManyNodes, WrongSort}
 use Rattle.tlsf_values.specs.declared.work.Work.{Work}
@@ -142,34 +142,34 @@ signal-below nodes (node.Release a b) h = tt
 signal-below nodes (node.WeakUntil a b) h = tt
 
 -- a list after a node was added is a list of formulas
-list-added : (nodes : List Node) (n : Node) → IsNodeList nodes → may_stand nodes n ≡ true → IsNodeList (added nodes n).nodes
-list-added nodes n list may = by (position (node_eq n) nodes) refl
+list-added : (most : ℕ) (nodes : List Node) (n : Node) → IsNodeList nodes → may_stand nodes n ≡ true → IsNodeList (added most nodes n).nodes
+list-added most nodes n list may = by (position (node_eq n) nodes) refl
   where
-    room : (b : Bool) → position (node_eq n) nodes ≡ None → ltb (length nodes) MAX_NODES ≡ b
+    room : (b : Bool) → position (node_eq n) nodes ≡ None → ltb (length nodes) (min most MAX_NODES) ≡ b
         → IsNodeList (cond b (let x : Built = record { nodes = nodes ++ n ∷ []; made = Some (record { 0 = length nodes }) } in x) (let x : Built = record { nodes = nodes; made = None } in x)).nodes
-    room true absent e = IsNodeList-append nodes n list (parts-stand nodes n may) (signal-below nodes n may) absent (ltb-true (length nodes) MAX_NODES e)
+    room true absent e = IsNodeList-append nodes n list (parts-stand nodes n may) (signal-below nodes n may) absent (room_below most (length nodes) (ltb-true (length nodes) (min most MAX_NODES) e))
     room false absent e = list
 
-    by : (o : Option ℕ) → position (node_eq n) nodes ≡ o → IsNodeList (built_at o nodes n).nodes
+    by : (o : Option ℕ) → position (node_eq n) nodes ≡ o → IsNodeList (built_at most o nodes n).nodes
     by (Some i) e = list
-    by None e = room (ltb (length nodes) MAX_NODES) e refl
+    by None e = room (ltb (length nodes) (min most MAX_NODES)) e refl
 
-makes-added : (nodes : List Node) (n : Node) (id : FormulaId) → IsNodeList (added nodes n).nodes → (added nodes n).made ≡ Some id → Makes n id (added nodes n).nodes
-makes-added nodes n id list made =
-    let at : slice_get (added nodes n).nodes id.0 ≡ Some n = subst (λ xs. slice_get xs id.0 ≡ Some n) (append-nil (added nodes n).nodes) (added-stands nodes n [] id made) in
-    record { stands = slice_get_within (added nodes n).nodes id.0 n at; tree = tree_at-slice_get (added nodes n).nodes n id.0 list at }
+makes-added : (most : ℕ) (nodes : List Node) (n : Node) (id : FormulaId) → IsNodeList (added most nodes n).nodes → (added most nodes n).made ≡ Some id → Makes n id (added most nodes n).nodes
+makes-added most nodes n id list made =
+    let at : slice_get (added most nodes n).nodes id.0 ≡ Some n = subst (λ xs. slice_get xs id.0 ≡ Some n) (append-nil (added most nodes n).nodes) (added-stands most nodes n [] id made) in
+    record { stands = slice_get_within (added most nodes n).nodes id.0 n at; tree = tree_at-slice_get (added most nodes n).nodes n id.0 list at }
 
 -- a node over parts that don't all stand has a wrong sort, and else only room may be wanting
 pub gives_made : {R : SpecCode → ℕ → Type 0} {top : ℕ} (place : ℕ) (n : Node) (work : Work) → IsGood top work.formulas → SignalBelow top n
     → (may_stand work.formulas n ≡ false → R WrongSort place) → R TooManyNodes place → Gives R (IsKept top work.formulas (Makes n)) (made place n work)
 gives_made {R = R} {top = top} place n work good small wrong full =
-    keeps_choose (may_stand work.formulas n) _ _ work (Makes n) (λ may. by may (added work.formulas n).made refl) (λ not_so. refused_so _ _ (wrong not_so))
+    keeps_choose (may_stand work.formulas n) _ _ work (Makes n) (λ may. by may (added work.limits.nodes work.formulas n).made refl) (λ not_so. refused_so _ _ (wrong not_so))
   where
-    by : may_stand work.formulas n ≡ true → (o : Option FormulaId) → (added work.formulas n).made ≡ o → Gives R (IsKept top work.formulas (Makes n)) (made_from place work.done (added work.formulas n).nodes o)
+    by : may_stand work.formulas n ≡ true → (o : Option FormulaId) → (added work.limits.nodes work.formulas n).made ≡ o → Gives R (IsKept top work.formulas (Makes n)) (made_from place work (added work.limits.nodes work.formulas n) o)
     by may (Some id) e =
-        let list = list-added work.formulas n good.list may in
-        keeps id (record { done = work.done; formulas = (added work.formulas n).nodes }) (record { list = list; below = HasSignalsBelow-added top work.formulas n good.below small })
-        (Grows-added work.formulas n) (makes-added work.formulas n id list e)
+        let list = list-added work.limits.nodes work.formulas n good.list may in
+        keeps id (record work { formulas = (added work.limits.nodes work.formulas n).nodes }) (record { list = list; below = HasSignalsBelow-added work.limits.nodes top work.formulas n good.below small })
+        (Grows-added work.limits.nodes work.formulas n) (makes-added work.limits.nodes work.formulas n id list e)
     by may None e = refused_so _ _ full
 
 pub keeps_made : {top : ℕ} (place : ℕ) (n : Node) (work : Work) → IsGood top work.formulas → SignalBelow top n → Keeps top work.formulas (Makes n) (made place n work)

@@ -2,6 +2,7 @@
 use Rattle.std.proofs.Common.{◌≡◌, ℕ, ◌+◌, ◌≤◌, Bool, true, false, List, [], ◌∷◌, ◌++◌, length, Option, None, Some, refl, arith}
 use Rattle.std.proofs.lemmas.Bool.{leb-true}
 use Rattle.std.specs.Prelude.{◌==◌, ◌&&◌, nat_le, if◌then◌else◌, pos, negsuc}
+use Rattle.text_limits.specs.declared.Limits.{Limits}
 use Rattle.letter_word.specs.Word.{Word}
 use Rattle.ltl_formula.specs.declared.nodes.Node.{Node}
 use Rattle.ltl_formula.proofs.ListSignals.{HasSignalsBelow-more}
@@ -15,7 +16,7 @@ use Rattle.tlsf_values.specs.Outcomes.{gives, fails, Checked, fine, faulty, chec
 use Rattle.tlsf_values.specs.Names.{Names, Meaning, known, a_signal, a_definition, an_enumeration, undeclared, same_name, without_names}
 use Rattle.tlsf_values.specs.Patterns.{all_values, are_wide}
 use Rattle.tlsf_values.specs.Values.{start_of}
-use Rattle.tlsf_expand.specs.Signals.{values_in, or_those, values_named, width_of, other_width, first_of, uneven_in, uneven_value, Extent, alone, wide, of_type, bits_in, width_in, declares, type_in, extent_value, TypedSignal, Declared, declared, most_signals, declarations_value, Signals, none_yet, signals_value, even_first, signals_of}
+use Rattle.tlsf_expand.specs.Signals.{values_in, or_those, values_named, width_of, other_width, first_of, uneven_in, uneven_value, Extent, alone, wide, of_type, bits_in, width_in, declares, type_in, extent_value, TypedSignal, Declared, declared, declarations_value, Signals, none_yet, signals_value, even_first, work_within, signals_of}
 use Rattle.tlsf_expand.proofs.Kept.{IsGood, Gives, Anyhow, gives_such, refuses, gives_go_on, Keeps, keeps_go_on, keeps_given, no_nodes}
 use Rattle.tlsf_expand.proofs.Named.{HasPlainNames, names-more, plain_with_signal, plain_with_bus, plain_with_definitions, plain_without_names}
 use Rattle.tlsf_expand.proofs.Valued.{FitFrom, wide_fit}
@@ -106,16 +107,16 @@ keeps_checked_extent (faulty code place) work good even = refuses _ _
 -- ---- declarations
 
 -- the signals declared so far, after those of `from`, are all that there are
-record IsDeclared (from : ℕ) (d : Declared) (nodes : List Node) : Type 0 where
-  few : length d.flat ≤ 8
+record IsDeclared (most from : ℕ) (d : Declared) (nodes : List Node) : Type 0 where
+  few : length d.flat ≤ most
   good : IsGood (from + length d.flat) nodes
   plain : HasPlainNames (from + length d.flat) d.names
   typed_fit : TypedFit (from + length d.flat) d.typed
 
 -- the text's signals are all that there are
-pub record AreSignals (s : Signals) (nodes : List Node) : Type 0 where
-  pub few_inputs : length s.inputs ≤ 8
-  pub few_outputs : length s.outputs ≤ 8
+pub record AreSignals (most : ℕ) (s : Signals) (nodes : List Node) : Type 0 where
+  pub few_inputs : length s.inputs ≤ most
+  pub few_outputs : length s.outputs ≤ most
   pub good : IsGood (length s.inputs + length s.outputs) nodes
   pub plain : HasPlainNames (length s.inputs + length s.outputs) s.names
   pub inputs_fit : TypedFit (length s.inputs + length s.outputs) s.typed_inputs
@@ -125,7 +126,7 @@ pub record AreSignals (s : Signals) (nodes : List Node) : Type 0 where
 pub any_word : Word
 any_word = record { stem = []; ring = [] }
 
-module _ (text : Text) (even : uneven_value text.definitions ≡ None) where
+module _ (most : ℕ) (text : Text) (even : uneven_value text.definitions ≡ None) where
   type_even : (word : Named) (x : Meaning) → IsEvenChecked (type_in text word x)
   type_even word an_enumeration = values_even word.name text.definitions even
   type_even word undeclared = by (declares word.name text.inputs) (declares word.name text.outputs)
@@ -156,8 +157,8 @@ module _ (text : Text) (even : uneven_value text.definitions ≡ None) where
   typed_declared m word (of_type values) d is h =
       let n = m + width_of values in typed_append n d.typed _ (typed-more m n d.typed (omega arith) h) (wide_fit n m (width_of values) values (omega arith) is)
 
-  one_declared : (from : ℕ) (d : Declared) (word : Named) (extent : Extent) (before nodes : List Node) → IsDeclared from d before → IsGood (from + length d.flat) nodes → IsEven extent
-      → length d.flat + bits_in extent ≤ 8 → IsDeclared from (declared word (from + length d.flat) extent d) nodes
+  one_declared : (from : ℕ) (d : Declared) (word : Named) (extent : Extent) (before nodes : List Node) → IsDeclared most from d before → IsGood (from + length d.flat) nodes → IsEven extent
+      → length d.flat + bits_in extent ≤ most → IsDeclared most from (declared word (from + length d.flat) extent d) nodes
   one_declared from d word extent before nodes h good is few =
       let m = from + length d.flat in
       let long : length (declared word m extent d).flat ≡ length d.flat + bits_in extent = length-declared word m extent d in
@@ -169,30 +170,30 @@ module _ (text : Text) (even : uneven_value text.definitions ≡ None) where
         typed_fit = typed-more (m + bits_in extent) _ _ more (typed_declared m word extent d is h.typed_fit);
       }
 
-  declares_chosen : (from : ℕ) (d : Declared) (before : List Node) (x : Declaration) (extent : Extent) (work : Work) → IsDeclared from d before → IsGood (from + length d.flat) work.formulas → IsEven extent
-      → (b : Bool) → nat_le (length d.flat + bits_in extent) most_signals ≡ b
-      → Gives Anyhow (IsDeclared from) (choose b (λ w. gives (declared x.word (from + length d.flat) extent d) w) (λ w. fails TooManySignals x.word.span.start) work)
+  declares_chosen : (from : ℕ) (d : Declared) (before : List Node) (x : Declaration) (extent : Extent) (work : Work) → IsDeclared most from d before → IsGood (from + length d.flat) work.formulas → IsEven extent
+      → (b : Bool) → nat_le (length d.flat + bits_in extent) most ≡ b
+      → Gives Anyhow (IsDeclared most from) (choose b (λ w. gives (declared x.word (from + length d.flat) extent d) w) (λ w. fails TooManySignals x.word.span.start) work)
   declares_chosen from d before x extent work h good is true e =
-      gives_such _ work (one_declared from d x.word extent before work.formulas h good is (leb-true (length d.flat + bits_in extent) most_signals e))
+      gives_such _ work (one_declared from d x.word extent before work.formulas h good is (leb-true (length d.flat + bits_in extent) most e))
   declares_chosen from d before x extent work h good is false e = refuses _ _
 
-  declares_each : (from : ℕ) (d : Declared) (xs : List Declaration) (work : Work) → IsDeclared from d work.formulas → Gives Anyhow (IsDeclared from) (declarations_value text from d xs work)
+  declares_each : (from : ℕ) (d : Declared) (xs : List Declaration) (work : Work) → IsDeclared most from d work.formulas → Gives Anyhow (IsDeclared most from) (declarations_value most text from d xs work)
   declares_each from d [] work h = gives_such d work h
   declares_each from d (x ∷ xs) work h =
-      gives_go_on _ (IsDeclared from)
-      (gives_go_on _ (IsDeclared from) (keeps_extent d.names h.plain x.shape work h.good) (λ extent w k.
-      declares_chosen from d work.formulas x extent w h k.good k.is (nat_le (length d.flat + bits_in extent) most_signals) refl))
+      gives_go_on _ (IsDeclared most from)
+      (gives_go_on _ (IsDeclared most from) (keeps_extent d.names h.plain x.shape work h.good) (λ extent w k.
+      declares_chosen from d work.formulas x extent w h k.good k.is (nat_le (length d.flat + bits_in extent) most) refl))
       (λ next w1 h1. declares_each from next xs w1 h1)
 
-  none_declared : (m from : ℕ) (names : Names) (nodes : List Node) → m ≤ from → IsGood m nodes → HasPlainNames m names → IsDeclared from (none_yet names) nodes
+  none_declared : (m from : ℕ) (names : Names) (nodes : List Node) → m ≤ from → IsGood m nodes → HasPlainNames m names → IsDeclared most from (none_yet names) nodes
   none_declared m from names nodes le good plain =
       record { few = omega arith; good = good-more m (from + 0) nodes (omega arith) good; plain = names-more m (from + 0) names (omega arith) plain; typed_fit = tt }
 
-  gives_signals_value : (work : Work) → IsGood 0 work.formulas → Gives Anyhow AreSignals (signals_value text work)
+  gives_signals_value : (work : Work) → IsGood 0 work.formulas → Gives Anyhow (AreSignals most) (signals_value most text work)
   gives_signals_value work good =
-      gives_go_on _ AreSignals (declares_each 0 _ text.inputs work (none_declared 0 0 _ work.formulas (omega arith) good (plain_with_definitions without_names text.definitions plain_without_names))) (λ inputs w1 h.
+      gives_go_on _ (AreSignals most) (declares_each 0 _ text.inputs work (none_declared 0 0 _ work.formulas (omega arith) good (plain_with_definitions without_names text.definitions plain_without_names))) (λ inputs w1 h.
       let n = length inputs.flat in
-      gives_go_on _ AreSignals (declares_each n (none_yet inputs.names) text.outputs w1 (none_declared (0 + n) n inputs.names w1.formulas (omega arith) h.good h.plain)) (λ outputs w2 g.
+      gives_go_on _ (AreSignals most) (declares_each n (none_yet inputs.names) text.outputs w1 (none_declared (0 + n) n inputs.names w1.formulas (omega arith) h.good h.plain)) (λ outputs w2 g.
       gives_such _ w2 (record {
         few_inputs = h.few;
         few_outputs = g.few;
@@ -202,9 +203,9 @@ module _ (text : Text) (even : uneven_value text.definitions ≡ None) where
         outputs_fit = g.typed_fit;
       })))
 
-pub gives_signals : (text : Text) → Gives Anyhow AreSignals (signals_of text)
-gives_signals text = by (uneven_value text.definitions) refl
+pub gives_signals : (limits : Limits) (text : Text) → Gives Anyhow (AreSignals limits.signals) (signals_of limits text)
+gives_signals limits text = by (uneven_value text.definitions) refl
   where
-    by : (o : Option ℕ) → uneven_value text.definitions ≡ o → Gives Anyhow AreSignals (even_first o (signals_value text (record { done = 0; formulas = [] })))
-    by None e = gives_signals_value text e (record { done = 0; formulas = [] }) (no_nodes 0)
+    by : (o : Option ℕ) → uneven_value text.definitions ≡ o → Gives Anyhow (AreSignals limits.signals) (even_first o (signals_value limits.signals text (work_within limits)))
+    by None e = gives_signals_value limits.signals text e (work_within limits) (no_nodes 0)
     by (Some place) e = refuses _ _

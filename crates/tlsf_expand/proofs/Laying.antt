@@ -1,18 +1,15 @@
 -- What the code's loops lay one after the other: values of enumerations, bits, and declarations.
-use Rattle.std.proofs.Common.{◌≡◌, ℕ, suc, ◌+◌, ◌-◌, ◌<◌, ◌≤◌, zero, Bool, true, false, List, [], ◌∷◌, ◌++◌, length, get_or, drop, map, Some, Result, Err, refl, sym, ap, subst, ◌∙◌, append_assoc, arith, length-append}
+use Rattle.std.proofs.Common.{◌≡◌, ℕ, suc, ◌+◌, ◌-◌, ◌<◌, zero, Bool, true, false, List, [], ◌∷◌, ◌++◌, length, get_or, drop, map, Some, Result, Err, refl, sym, ap, subst, ◌∙◌, append_assoc, arith, length-append}
 use Rattle.std.proofs.lemmas.List.{at_drop_more}
-use Rattle.std.proofs.lemmas.Bool.{leb-true}
-use Rattle.std.specs.Prelude.{◌==◌, nat_le, if◌then◌else◌}
+use Rattle.std.specs.Prelude.{◌==◌, if◌then◌else◌}
 use Rattle.spec_faults.specs.declared.code.SpecFault.{SpecFault}
 use Rattle.spec_faults.specs.declared.code.SpecFault.TheVariants.{NoMemory, At}
-use Rattle.spec_faults.specs.declared.code.SpecCode.{SpecCode}
-use Rattle.spec_faults.specs.declared.code.SpecCode.TheVariants.{TooManySignals}
 use Rattle.tlsf_syntax.specs.declared.spec.Declaration.{Declaration as CodeDeclaration}
 use Rattle.tlsf_syntax.specs.Tree.{Named, Pattern, Declaration}
 use Rattle.tlsf_values.specs.declared.work.Work.{Work}
-use Rattle.tlsf_values.specs.Outcomes.{Outcome, gives, fails, go_on, choose}
+use Rattle.tlsf_values.specs.Outcomes.{Outcome, gives, go_on}
 use Rattle.tlsf_values.specs.Results.{IsFault, IsOutcomeAs}
-use Rattle.tlsf_expand.specs.Signals.{first_of, other_width, width_of, bit_name, bit_names, bits_in, most_signals, Extent, alone, wide, of_type, extent_value, Declared, declared, declaration_value, declarations_value}
+use Rattle.tlsf_expand.specs.Signals.{first_of, other_width, width_of, bit_name, bit_names, bits_in, Extent, alone, wide, of_type, Declared, declared, declaration_value, declarations_value}
 use Rattle.tlsf_syntax.specs.Text.{Text}
 use Rattle.tlsf_syntax.specs.Seen.{declaration_seen}
 
@@ -42,33 +39,20 @@ pub declarations_from : (xs : List CodeDeclaration) (i : ℕ) (x : CodeDeclarati
     map declaration_seen (drop i xs) ≡ declaration_seen x ∷ map declaration_seen (drop (i + 1) xs)
 declarations_from xs i x below is = at_drop_more (map declaration_seen) xs i x below ∙ ap (λ y. map declaration_seen (y ∷ drop (i + 1) xs)) (sym is)
 
-pub declaration_given : (text : Text) (from : ℕ) (d next : Declared) (x : Declaration) (xs : List Declaration) (w w1 : Work) → declaration_value text from d x w ≡ gives next w1 →
-    declarations_value text from d (x ∷ xs) w ≡ declarations_value text from next xs w1
-declaration_given text from d next x xs w w1 e = ap (λ o. go_on o (λ d w. declarations_value text from d xs w)) e
+pub declaration_given : (most : ℕ) (text : Text) (from : ℕ) (d next : Declared) (x : Declaration) (xs : List Declaration) (w w1 : Work) → declaration_value most text from d x w ≡ gives next w1 →
+    declarations_value most text from d (x ∷ xs) w ≡ declarations_value most text from next xs w1
+declaration_given most text from d next x xs w w1 e = ap (λ o. go_on o (λ d w. declarations_value most text from d xs w)) e
 
-pub declaration_fault : (text : Text) (from : ℕ) (d : Declared) (x : Declaration) (xs : List Declaration) (w : Work) (e : SpecFault) → IsFault (declaration_value text from d x w) e →
-    IsFault (declarations_value text from d (x ∷ xs) w) e
-declaration_fault text from d x xs w NoMemory h = tt
-declaration_fault text from d x xs w (At code place) h = ap (λ o. go_on o (λ d w. declarations_value text from d xs w)) h
+pub declaration_fault : (most : ℕ) (text : Text) (from : ℕ) (d : Declared) (x : Declaration) (xs : List Declaration) (w : Work) (e : SpecFault) → IsFault (declaration_value most text from d x w) e →
+    IsFault (declarations_value most text from d (x ∷ xs) w) e
+declaration_fault most text from d x xs w NoMemory h = tt
+declaration_fault most text from d x xs w (At code place) h = ap (λ o. go_on o (λ d w. declarations_value most text from d xs w)) h
 
 -- what an exit answers
 pub fault_out : {A B : Type 0} (f : A → B) (r : Result A SpecFault) (w : Work) (o : Outcome B) (x e : SpecFault) → r ≡ Err x → x ≡ e → IsFault o e → IsOutcomeAs f r w o
 fault_out f r w o x e is same h = subst (λ q. IsOutcomeAs f q w o) (sym (is ∙ ap Err same)) h
 
 -- ---- how many signals there are
-
--- where it is given, so many are declared at most
-data Few : Outcome Declared → Type 0 where
-  few : (d : Declared) (w : Work) → length d.flat ≤ 8 → Few (gives d w)
-  none : (code : SpecCode) (place : ℕ) → Few (fails code place)
-
-few_go_on : {A : Type 0} (o : Outcome A) (f : A → Work → Outcome Declared) → ((a : A) (w : Work) → Few (f a w)) → Few (go_on o f)
-few_go_on (gives a w) f h = h a w
-few_go_on (fails code place) f h = none code place
-
-few_from : (o : Outcome Declared) (f : Declared → Work → Outcome Declared) → Few o → ((d : Declared) (w : Work) → length d.flat ≤ 8 → Few (f d w)) → Few (go_on o f)
-few_from _ f (few d w h) next = next d w h
-few_from _ f (none code place) next = none code place
 
 length-bits : (name : List ℕ) (k n : ℕ) → length (bit_names name k n) ≡ n
 length-bits name k zero = refl
@@ -79,24 +63,3 @@ length-declared word number alone d = length-append d.flat (word.name ∷ [])
 length-declared word number (wide n) d = length-append d.flat (bit_names word.name 0 n) ∙ ap (λ k. length d.flat + k) (length-bits word.name 0 n)
 length-declared word number (of_type values) d =
     length-append d.flat (bit_names word.name 0 (width_of values)) ∙ ap (λ k. length d.flat + k) (length-bits word.name 0 (width_of values))
-
-few_chosen : (b : Bool) (text : Text) (from : ℕ) (d : Declared) (x : Declaration) (extent : Extent) (w : Work) → nat_le (length d.flat + bits_in extent) most_signals ≡ b →
-    Few (choose b (λ w. gives (declared x.word (from + length d.flat) extent d) w) (λ w. fails TooManySignals x.word.span.start) w)
-few_chosen true text from d x extent w e =
-    few _ w (subst (λ n. n ≤ 8) (sym (length-declared x.word (from + length d.flat) extent d)) (leb-true (length d.flat + bits_in extent) most_signals e))
-few_chosen false text from d x extent w e = none _ _
-
-few_declaration : (text : Text) (from : ℕ) (d : Declared) (x : Declaration) (w : Work) → Few (declaration_value text from d x w)
-few_declaration text from d x w =
-    few_go_on (extent_value text d.names x.shape w) _ (λ extent w. few_chosen (nat_le (length d.flat + bits_in extent) most_signals) text from d x extent w refl)
-
-few_declarations : (text : Text) (from : ℕ) (d : Declared) (xs : List Declaration) (w : Work) → length d.flat ≤ 8 → Few (declarations_value text from d xs w)
-few_declarations text from d [] w h = few d w h
-few_declarations text from d (x ∷ xs) w h = few_from (declaration_value text from d x w) _ (few_declaration text from d x w) (λ d w h. few_declarations text from d xs w h)
-
-few_in : (d : Declared) (w : Work) → Few (gives d w) → length d.flat ≤ 8
-few_in _ _ (few d w h) = h
-
-pub few_given : (text : Text) (from : ℕ) (d : Declared) (xs : List Declaration) (w : Work) (next : Declared) (w1 : Work) → length d.flat ≤ 8 →
-    declarations_value text from d xs w ≡ gives next w1 → length next.flat ≤ 8
-few_given text from d xs w next w1 h e = few_in next w1 (subst Few e (few_declarations text from d xs w h))

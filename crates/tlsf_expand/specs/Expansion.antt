@@ -1,6 +1,7 @@
 -- A whole text expanded: its flat sections with the formula of the whole, or its first fault of those that come after reading and
--- before normal forms. This project's profile of TLSF 1.1.
+-- before normal forms, within the limits that are handed in. This project's profile of TLSF 1.1.
 use Rattle.std.specs.Prelude.{ℕ, Bool, List, Option, None, Some}
+use Rattle.text_limits.specs.declared.Limits.{Limits}
 use Rattle.letter_word.specs.declared.kinds.Kind.{Kind}
 use Rattle.letter_word.specs.declared.kinds.Kind.TheVariants.{Mealy, Moore}
 use Rattle.ltl_formula.specs.declared.nodes.FormulaId.{FormulaId}
@@ -30,15 +31,15 @@ abbrev pub kind_of : Option Kind → Text → Option Kind
 kind_of (Some kind) text = Some kind
 kind_of None text = common_kind text.info.semantics text.info.target
 
-abbrev pub expanded_as : Option Kind → Text → Outcome Expanded
-expanded_as None text = fails TargetDiffers text.info.target_at
-expanded_as (Some kind) text =
-    go_on (signals_of text) (λ signals w. go_on (sections_value signals text.sections w) (λ sections w. go_on (whole_value text.info.strict sections w) (λ whole w.
+abbrev pub expanded_as : Limits → Option Kind → Text → Outcome Expanded
+expanded_as limits None text = fails TargetDiffers text.info.target_at
+expanded_as limits (Some kind) text =
+    go_on (signals_of limits text) (λ signals w. go_on (sections_value signals text.sections w) (λ sections w. go_on (whole_value text.info.strict sections w) (λ whole w.
     gives (record { inputs = signals.inputs; outputs = signals.outputs; kind = kind; strict = text.info.strict; sections = sections; whole = whole }) w)))
 
 -- the work after it has the list of all nodes, and the evaluations done
-abbrev pub expanded : Text → Option Kind → Outcome Expanded
-expanded text kind = expanded_as (kind_of kind text) text
+abbrev pub expanded : Limits → Text → Option Kind → Outcome Expanded
+expanded limits text kind = expanded_as limits (kind_of kind text) text
 
 pub record Fault : Type 0 where
   pub code : SpecCode
@@ -49,5 +50,5 @@ fault_in (gives a w) = None
 fault_in (fails code place) = Some (record { code = code; place = place })
 
 -- the first fault of a text that was read, without those of normal forms and automata
-abbrev pub flat_fault : Text → Option Kind → Option Fault
-flat_fault text kind = fault_in (expanded text kind)
+abbrev pub flat_fault : Limits → Text → Option Kind → Option Fault
+flat_fault limits text kind = fault_in (expanded limits text kind)

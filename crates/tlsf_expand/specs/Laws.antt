@@ -1,5 +1,6 @@
 -- Laws of expansion.
 use Rattle.std.specs.Prelude.{◌≡◌, Option}
+use Rattle.text_limits.specs.declared.Limits.{Limits}
 use Rattle.letter_word.specs.declared.kinds.Kind.{Kind}
 use Rattle.letter_word.specs.Word.{Word}
 use Rattle.ltl_formula.specs.Nodes.{IsNodeList, Stands, tree_at}
@@ -12,7 +13,7 @@ use Rattle.tlsf_expand.specs.Meaning.{means}
 
 -- where a text is expanded, the whole flat formula holds on a lasso exactly where the text means so
 pub record ExpansionKeepsMeaning : Type 0 where
-  pub stands : (text : Text) (kind : Option Kind) (x : Expanded) (work : Work) → expanded text kind ≡ gives x work → Stands work.formulas x.whole
-  pub list : (text : Text) (kind : Option Kind) (x : Expanded) (work : Work) → expanded text kind ≡ gives x work → IsNodeList work.formulas
-  pub meaning : (text : Text) (kind : Option Kind) (x : Expanded) (work : Work) → expanded text kind ≡ gives x work
-      → (w : Word) → holds w (tree_at work.formulas x.whole) 0 ≡ means w text
+  pub stands : (limits : Limits) (text : Text) (kind : Option Kind) (x : Expanded) (work : Work) → expanded limits text kind ≡ gives x work → Stands work.formulas x.whole
+  pub list : (limits : Limits) (text : Text) (kind : Option Kind) (x : Expanded) (work : Work) → expanded limits text kind ≡ gives x work → IsNodeList work.formulas
+  pub meaning : (limits : Limits) (text : Text) (kind : Option Kind) (x : Expanded) (work : Work) → expanded limits text kind ≡ gives x work
+      → (w : Word) → holds w (tree_at work.formulas x.whole) 0 ≡ means limits w text

@@ -2,6 +2,7 @@
 -- sections on the written tree.
 use Rattle.std.specs.Prelude.{ℕ, Bool, true, false, not, ◌&&◌, List, []}
 use Rattle.std.specs.List.{list_all}
+use Rattle.text_limits.specs.declared.Limits.{Limits}
 use Rattle.letter_word.specs.Word.{Word}
 use Rattle.tlsf_syntax.specs.Tree.{Tree}
 use Rattle.tlsf_values.specs.Outcomes.{Outcome, gives, fails}
@@ -47,6 +48,6 @@ abbrev pub means_with : Word → Text → Outcome Signals → Bool
 means_with w text (gives signals work) = by_semantics text.info.strict w (section_truths w signals text.sections)
 means_with w text (fails code place) = false
 
--- what the text says of a lasso; a text whose signals have a fault says nothing
-abbrev pub means : Word → Text → Bool
-means w text = means_with w text (signals_of text)
+-- what the text says of a lasso; a text whose signals have a fault within these limits says nothing
+abbrev pub means : Limits → Word → Text → Bool
+means limits w text = means_with w text (signals_of limits text)

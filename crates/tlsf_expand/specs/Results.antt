@@ -1,5 +1,6 @@
 -- What the code answers, against what comes of the definitions.
 use Rattle.std.specs.Prelude.{◌≡◌, List, Some, Result, Ok, Err}
+use Rattle.text_limits.specs.declared.Limits.{Limits}
 use Rattle.letter_word.specs.Word.{Word}
 use Rattle.ltl_formula.specs.declared.nodes.FormulaId.{FormulaId}
 use Rattle.ltl_formula.specs.declared.nodes.Node.{Node}
@@ -20,6 +21,6 @@ IsExpansion (Ok spec) o = flat_in o ≡ Some (spec_seen spec)
 IsExpansion (Err e) o = IsFault o e
 
 -- a flat formula holds on every lasso exactly where the text means so
-pub record KeepsMeaning (text : Text) (nodes : List Node) (whole : FormulaId) : Type 0 where
+pub record KeepsMeaning (limits : Limits) (text : Text) (nodes : List Node) (whole : FormulaId) : Type 0 where
   pub stands : Stands nodes whole
-  pub same : (w : Word) → holds w (tree_at nodes whole) 0 ≡ means w text
+  pub same : (w : Word) → holds w (tree_at nodes whole) 0 ≡ means limits w text

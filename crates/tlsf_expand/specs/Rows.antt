@@ -1,5 +1,6 @@
 -- Worked rows: texts with their flat sections, their first faults or their meaning, written out by hand.
 use Rattle.std.specs.Prelude.{◌≡◌, ℕ, ◌-◌, ◌^◌, Bool, true, false, List, [], ◌∷◌, Option, None, Some, pos, negsuc, codes}
+use Rattle.text_limits.specs.declared.TheConstants.{SMALL_LIMITS}
 use Rattle.letter_word.specs.Word.{Word}
 use Rattle.letter_word.specs.declared.kinds.Kind.TheVariants.{Mealy, Moore}
 use Rattle.ltl_formula.specs.declared.nodes.Node.{Node}
@@ -91,7 +92,7 @@ nodes_of_b =
     ∷ node.And (id 10) (id 15) ∷ node.Implies (id 10) (id 16) ∷ []
 
 pub record RowsExpand : Type 0 where
-  pub one_of_a_type : expanded (is_b (two_members ∷ [])) None ≡ gives (record {
+  pub one_of_a_type : expanded SMALL_LIMITS (is_b (two_members ∷ [])) None ≡ gives (record {
     inputs = bit_name (codes "t") 0 ∷ bit_name (codes "t") 1 ∷ [];
     outputs = codes "g" ∷ [];
     kind = Mealy;
@@ -99,16 +100,16 @@ pub record RowsExpand : Type 0 where
     sections = record { initially = []; preset = []; require = id 9 ∷ []; assert = []; assume = []; guarantee = id 2 ∷ [] };
     whole = id 17;
   })
-      (record { done = 5; formulas = nodes_of_b })
-  pub uneven_values : flat_fault (is_b (uneven ∷ [])) None ≡ fault code.WrongSort 23
-  pub unknown_type : flat_fault (is_b []) None ≡ fault code.UnknownName 84
-  pub too_wide : flat_fault (of_width (number (from 86) (Some (pos 9)))) None ≡ fault code.TooManySignals 84
-  pub huge_width : flat_fault (of_width (number (from 86) (Some (pos (2 ^ 63 - 1))))) None ≡ fault code.TooManySignals 84
-  pub negative_width : flat_fault (of_width (number (from 86) (Some (negsuc 0)))) None ≡ fault code.NumberRange 86
-  pub truth_as_width : flat_fault (of_width (truth (from 86) true)) None ≡ fault code.WrongSort 86
-  pub own_name_in_width : flat_fault (of_width (named (from 86) (codes "r"))) None ≡ fault code.UnknownName 86
-  pub no_formula : flat_fault (guarantees [] [] [] (number (from 110) (Some (pos 1)) ∷ [])) None ≡ fault code.WrongSort 110
-  pub other_target : flat_fault (record (lazy false) { info = record (info_of false) { semantics = Moore } }) None ≡ fault code.TargetDiffers 60
-  pub given_kind : flat_fault (record (lazy false) { info = record (info_of false) { semantics = Moore } }) (Some Mealy) ≡ None
-  pub standard_meaning : means silence (lazy false) ≡ true
-  pub strict_meaning : means silence (lazy true) ≡ false
+      (record { limits = SMALL_LIMITS; done = 5; formulas = nodes_of_b })
+  pub uneven_values : flat_fault SMALL_LIMITS (is_b (uneven ∷ [])) None ≡ fault code.WrongSort 23
+  pub unknown_type : flat_fault SMALL_LIMITS (is_b []) None ≡ fault code.UnknownName 84
+  pub too_wide : flat_fault SMALL_LIMITS (of_width (number (from 86) (Some (pos 9)))) None ≡ fault code.TooManySignals 84
+  pub huge_width : flat_fault SMALL_LIMITS (of_width (number (from 86) (Some (pos (2 ^ 63 - 1))))) None ≡ fault code.TooManySignals 84
+  pub negative_width : flat_fault SMALL_LIMITS (of_width (number (from 86) (Some (negsuc 0)))) None ≡ fault code.NumberRange 86
+  pub truth_as_width : flat_fault SMALL_LIMITS (of_width (truth (from 86) true)) None ≡ fault code.WrongSort 86
+  pub own_name_in_width : flat_fault SMALL_LIMITS (of_width (named (from 86) (codes "r"))) None ≡ fault code.UnknownName 86
+  pub no_formula : flat_fault SMALL_LIMITS (guarantees [] [] [] (number (from 110) (Some (pos 1)) ∷ [])) None ≡ fault code.WrongSort 110
+  pub other_target : flat_fault SMALL_LIMITS (record (lazy false) { info = record (info_of false) { semantics = Moore } }) None ≡ fault code.TargetDiffers 60
+  pub given_kind : flat_fault SMALL_LIMITS (record (lazy false) { info = record (info_of false) { semantics = Moore } }) (Some Mealy) ≡ None
+  pub standard_meaning : means SMALL_LIMITS silence (lazy false) ≡ true
+  pub strict_meaning : means SMALL_LIMITS silence (lazy true) ≡ false

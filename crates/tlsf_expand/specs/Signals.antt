@@ -2,6 +2,7 @@
 -- profile of TLSF 1.1.
 use Rattle.std.specs.Prelude.{ℕ, zero, suc, ◌+◌, ◌==◌, nat_le, if◌then◌else◌, Bool, List, [], ◌∷◌, ◌++◌, length, Option, None, Some, pos, negsuc, codes, decimal}
 use Rattle.std.specs.List.{list_any}
+use Rattle.text_limits.specs.declared.Limits.{Limits}
 use Rattle.spec_faults.specs.declared.code.SpecCode.TheVariants.{UnknownName, WrongSort, NumberRange, TooManySignals}
 use Rattle.tlsf_syntax.specs.Tree.{Named, Pattern, Definition, parameter, function, enumeration, Shape, single, bus, typed, Declaration}
 use Rattle.tlsf_values.specs.declared.value.Value.{Value}
@@ -120,22 +121,19 @@ declared word number (of_type values) d = record {
   typed = d.typed ++ record { place = word.span.start; first = number; values = values } ∷ [];
 }
 
--- how many inputs there are at most, and how many outputs
-abbrev pub most_signals : ℕ
-most_signals = 8
-
--- one more declaration, where the first signal of all has this number; one that passes the limit is refused at its name
-abbrev pub declaration_value : Text → ℕ → Declared → Declaration → Work → Outcome Declared
-declaration_value text from d x w =
+-- one more declaration of at most so many signals in all, where the first of them has this number; one that passes the limit is
+-- refused at its name
+abbrev pub declaration_value : ℕ → Text → ℕ → Declared → Declaration → Work → Outcome Declared
+declaration_value most text from d x w =
     go_on (extent_value text d.names x.shape w) (λ extent w.
-    choose (nat_le (length d.flat + bits_in extent) most_signals)
+    choose (nat_le (length d.flat + bits_in extent) most)
     (λ w. gives (declared x.word (from + length d.flat) extent d) w) (λ w. fails TooManySignals x.word.span.start) w)
 
 -- the declarations in their order
-abbrev pub declarations_value : Text → ℕ → Declared → List Declaration → Work → Outcome Declared
-declarations_value text from d [] w = gives d w
-declarations_value text from d (x ∷ xs) w =
-    go_on (declaration_value text from d x w) (λ d w. declarations_value text from d xs w)
+abbrev pub declarations_value : ℕ → Text → ℕ → Declared → List Declaration → Work → Outcome Declared
+declarations_value most text from d [] w = gives d w
+declarations_value most text from d (x ∷ xs) w =
+    go_on (declaration_value most text from d x w) (λ d w. declarations_value most text from d xs w)
 
 -- ---- all signals
 
@@ -149,10 +147,11 @@ pub record Signals : Type 0 where
 abbrev pub none_yet : Names → Declared
 none_yet names = record { names = names; flat = []; typed = [] }
 
-abbrev pub signals_value : Text → Work → Outcome Signals
-signals_value text w =
-    go_on (declarations_value text 0 (none_yet (with_definitions without_names text.definitions)) text.inputs w) (λ inputs w.
-    go_on (declarations_value text (length inputs.flat) (none_yet inputs.names) text.outputs w) (λ outputs w.
+-- at most so many inputs, and at most so many outputs
+abbrev pub signals_value : ℕ → Text → Work → Outcome Signals
+signals_value most text w =
+    go_on (declarations_value most text 0 (none_yet (with_definitions without_names text.definitions)) text.inputs w) (λ inputs w.
+    go_on (declarations_value most text (length inputs.flat) (none_yet inputs.names) text.outputs w) (λ outputs w.
     gives (record { names = outputs.names; inputs = inputs.flat; outputs = outputs.flat; typed_inputs = inputs.typed; typed_outputs = outputs.typed }) w))
 
 -- the widths of the enumerations' values come first, and count no evaluation
@@ -160,6 +159,10 @@ abbrev pub even_first : Option ℕ → Outcome Signals → Outcome Signals
 even_first None signals = signals
 even_first (Some place) signals = fails WrongSort place
 
--- the signals of a text, with the work that their widths took
-abbrev pub signals_of : Text → Outcome Signals
-signals_of text = even_first (uneven_value text.definitions) (signals_value text (record { done = 0; formulas = [] }))
+-- nothing is done yet
+abbrev pub work_within : Limits → Work
+work_within limits = record { limits = limits; done = 0; formulas = [] }
+
+-- the signals of a text within these limits, with the work that their widths took
+abbrev pub signals_of : Limits → Text → Outcome Signals
+signals_of limits text = even_first (uneven_value text.definitions) (signals_value limits.signals text (work_within limits))

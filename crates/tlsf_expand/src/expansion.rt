@@ -14,6 +14,7 @@ use letter_word::Kind;
 use ltl_formula::Formulas;
 use spec_faults::{SpecCode, SpecFault, fault};
 use std::alloc::Global;
+use text_limits::Limits;
 use tlsf_syntax::SpecTree;
 use tlsf_values::Work;
 
@@ -31,16 +32,22 @@ fn kind_of(kind: Option<Kind>, tree: &SpecTree) -> Option<Kind>
 }
 
 /// The flat sections of a text, with the formula of the whole, or its first fault of those that come after reading and before
-/// normal forms. A kind that is given stands for those that the text names.
-pub fn expand(alloc: Global, tree: &SpecTree, kind: Option<Kind>) -> Result<Spec, SpecFault>
-    ensures expansion { IsExpansion result (expanded (text_seen tree.now) kind) }
-    ensures meaning { IfOk result (λ spec. KeepsMeaning (text_seen tree.now) spec.formulas spec.whole) }
-    ensures few { IfOk result (λ spec. HasFewSignals (length spec.inputs.items) (length spec.outputs.items) spec.formulas) }
+/// normal forms, within these limits. A kind that is given stands for those that the text names.
+pub fn expand(
+    alloc: Global,
+    tree: &SpecTree,
+    kind: Option<Kind>,
+    limits: Limits,
+) -> Result<Spec, SpecFault>
+    ensures expansion { IsExpansion result (expanded limits (text_seen tree.now) kind) }
+    ensures meaning { IfOk result (λ spec. KeepsMeaning limits (text_seen tree.now) spec.formulas spec.whole) }
+    ensures few { IfOk result (λ spec. HasFewSignals limits (length spec.inputs.items) (length spec.outputs.items) spec.formulas) }
 {
     let Some(kind) = kind_of(kind, tree) else {
         return Err(fault(SpecCode::TargetDiffers, tree.info.target_at));
     };
     let mut work = Work {
+        limits,
         done: 0,
         formulas: Formulas::new(alloc),
     };

@@ -14,7 +14,7 @@ pub fn rows_expand()
     ensures { RowsExpand }
 {}
 
-/// A text that is expanded has at most 8 inputs and at most 8 outputs, and its formulas speak of those signals alone.
+/// A text that is expanded has at most as many inputs and as many outputs as the limits say, and its formulas speak of those signals alone.
 pub fn expansion_has_few_signals()
     ensures { ExpansionHasFewSignals }
 {}

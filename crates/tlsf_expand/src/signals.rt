@@ -1,6 +1,6 @@
 //! The signals that a text declares, with their numbers and flat names.
 
-ghost use Rattle.std.specs.Prelude.{◌≡◌, ◌+◌, ◌≤◌, ◌++◌, IfOk, OnOk, map};
+ghost use Rattle.std.specs.Prelude.{◌≡◌, ◌++◌, IfOk, OnOk, map};
 ghost use Rattle.tlsf_expand.specs.Signals.{bit_name, bit_names, bits_in, declaration_value, declarations_value, declared, declares, even_first, extent_value, none_yet, signals_value, type_in, uneven_value, width_in};
 ghost use Rattle.tlsf_expand.specs.SignalsSeen.{declared_seen, extent_seen, signals_seen};
 ghost use Rattle.tlsf_syntax.specs.Seen.{declaration_seen, shape_seen, text_seen};
@@ -14,9 +14,6 @@ use std::alloc::{AllocError, Global};
 use text_base::{Name, push_number};
 use tlsf_syntax::{Declaration, Member, Shape, SpecTree, Word};
 use tlsf_values::{Names, Value, Work};
-
-/// How many inputs there are at most, and how many outputs.
-const MOST_SIGNALS: usize = 8;
 
 /// What is declared: a single signal, a bus of this width, or a bus for the values of an enumeration with these members.
 #[derive(Clone, Copy)]
@@ -150,6 +147,13 @@ fn add_bits(alloc: Global, flat: &mut Vec<Name>, name: &Name, width: u64) -> Res
     Ok(())
 }
 
+/// The number of a signal. Where it has over 32 bits there would be no memory for all names.
+fn signal_number(number: u128) -> Result<u32, AllocError>
+    ensures { IfOk result (λ n. n ≡ number) }
+{
+    u32::try_from(number).map_err(|_| AllocError)
+}
+
 impl<'t> Declared<'t> {
     /// No inputs, or no outputs, yet.
     fn none_yet(alloc: Global, names: Names<'t>) -> Declared<'t>
@@ -170,7 +174,6 @@ impl<'t> Declared<'t> {
         first: u32,
         extent: Extent<'t>,
     ) -> Result<(), AllocError>
-        requires { bits_in (extent_seen extent) ≤ 8 }
         ensures { OnOk result (declared_seen self.new ≡ declared (word_seen word.now) first (extent_seen extent.entry) (declared_seen self.old)) }
     {
         match extent {
@@ -179,12 +182,14 @@ impl<'t> Declared<'t> {
                 self.flat.push(word.name.clone()?)?;
             }
             Extent::Wide(width) => {
-                self.names.add_bus(&word.name, first, width as u32)?;
+                self.names
+                    .add_bus(&word.name, first, signal_number(u128::from(width))?)?;
                 add_bits(alloc, &mut self.flat, &word.name, width)?;
             }
             Extent::OfType(members) => {
                 let width = width(members);
-                self.names.add_bus(&word.name, first, width as u32)?;
+                self.names
+                    .add_bus(&word.name, first, signal_number(width as u128)?)?;
                 add_bits(alloc, &mut self.flat, &word.name, width as u64)?;
                 self.typed.push(TypedSignal {
                     place: word.span.start,
@@ -196,64 +201,67 @@ impl<'t> Declared<'t> {
         Ok(())
     }
 
-    /// One more declaration, where the first of all has this number.
+    /// One more declaration of at most `most` signals in all, where the first of them has this number.
     fn declaration(
         &mut self,
         alloc: Global,
         tree: &'t SpecTree,
+        most: usize,
         from: u32,
         declaration: &'t Declaration,
         work: &mut Work,
     ) -> Result<(), SpecFault>
-        requires { from ≤ 8 }
-        ensures { IsOutcomeAs (λ _. declared_seen self.new) result work.new (declaration_value (text_seen tree.now) from (declared_seen self.old) (declaration_seen declaration.now) work.old) }
+        ensures { IsOutcomeAs (λ _. declared_seen self.new) result work.new (declaration_value most (text_seen tree.now) from (declared_seen self.old) (declaration_seen declaration.now) work.old) }
     {
         let extent = declared_extent(tree, &mut self.names, &declaration.shape, work)?;
         let before = self.flat.len();
-        if before as u128 + u128::from(extent.bits()) > MOST_SIGNALS as u128 {
+        if before as u128 + u128::from(extent.bits()) > most as u128 {
             return Err(fault(SpecCode::TooManySignals, declaration.word.span.start));
         }
-        let first = from + before as u32;
+        let first = signal_number(u128::from(from) + before as u128)?;
         self.declare(alloc, &declaration.word, first, extent)?;
         Ok(())
     }
 
-    /// The declarations in their order, where the first signal of all has this number.
+    /// The declarations in their order, of at most `most` signals, where the first signal of all has this number.
     fn declarations(
         &mut self,
         alloc: Global,
         tree: &'t SpecTree,
+        most: usize,
         from: u32,
         declarations: &'t [Declaration],
         work: &mut Work,
     ) -> Result<(), SpecFault>
-        requires { from ≤ 8 }
-        ensures { IsOutcomeAs (λ _. declared_seen self.new) result work.new (declarations_value (text_seen tree.now) from (declared_seen self.old) (map declaration_seen declarations.now) work.old) }
+        ensures { IsOutcomeAs (λ _. declared_seen self.new) result work.new (declarations_value most (text_seen tree.now) from (declared_seen self.old) (map declaration_seen declarations.now) work.old) }
     {
         for declaration in declarations {
-            self.declaration(alloc, tree, from, declaration, work)?;
+            self.declaration(alloc, tree, most, from, declaration, work)?;
         }
         Ok(())
     }
 }
 
-/// The signals of a text. The widths of the values of enumerations are tested first.
+/// The signals of a text. The widths of the values of enumerations are tested first. There are at most as many inputs as the
+/// work's limits say, and as many outputs.
 pub(crate) fn declared_signals<'t>(
     alloc: Global,
     tree: &'t SpecTree,
     work: &mut Work,
 ) -> Result<Signals<'t>, SpecFault>
-    ensures { IsOutcomeAs signals_seen result work.new (even_first (uneven_value (text_seen tree.now).definitions) (signals_value (text_seen tree.now) work.old)) }
+    ensures { IsOutcomeAs signals_seen result work.new (even_first (uneven_value (text_seen tree.now).definitions) (signals_value work.old.limits.signals (text_seen tree.now) work.old)) }
 {
     if let Some(place) = uneven_value(&tree.definitions) {
         return Err(fault(SpecCode::WrongSort, place));
     }
+    let most = work.limits.signals;
     let mut names = Names::new(alloc);
     names.add_definitions(&tree.definitions)?;
     let mut inputs = Declared::none_yet(alloc, names);
-    inputs.declarations(alloc, tree, 0, &tree.inputs, work)?;
+    inputs.declarations(alloc, tree, most, 0, &tree.inputs, work)?;
+    let from = signal_number(inputs.flat.len() as u128)?;
     let mut outputs = Declared::none_yet(alloc, inputs.names);
-    outputs.declarations(alloc, tree, inputs.flat.len() as u32, &tree.outputs, work)?;
+    outputs.declarations(alloc, tree, most, from, &tree.outputs, work)?;
     Ok(Signals {
         names: outputs.names,
         inputs: inputs.flat,

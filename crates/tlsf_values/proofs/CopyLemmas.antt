@@ -13,7 +13,7 @@ use Rattle.ltl_formula.proofs.NodeEquality.{node_eq-true}
 
 -- the first nodes of a list, with the next one added, are one more of its nodes
 pub added-take : (nodes : List Node) (i : ℕ) (node : Node) → IsNodeList nodes → i < length nodes → node_at nodes i ≡ node
-    → added (take i nodes) node ≡ record { nodes = take (i + 1) nodes; made = Some (record { 0 = i }) }
+    → added MAX_NODES (take i nodes) node ≡ record { nodes = take (i + 1) nodes; made = Some (record { 0 = i }) }
 added-take nodes i node list h is = by (position (node_eq node) (take i nodes)) refl
   where
     long : length (take i nodes) ≡ i
@@ -22,7 +22,7 @@ added-take nodes i node list h is = by (position (node_eq node) (take i nodes)) 
     last : take i nodes ++ node ∷ [] ≡ take (i + 1) nodes
     last = ap (λ x. take i nodes ++ x ∷ []) (sym is) ∙ sym (take_more nodes i False h)
 
-    by : (o : Option ℕ) → position (node_eq node) (take i nodes) ≡ o → built_at o (take i nodes) node ≡ record { nodes = take (i + 1) nodes; made = Some (record { 0 = i }) }
+    by : (o : Option ℕ) → position (node_eq node) (take i nodes) ≡ o → built_at MAX_NODES o (take i nodes) node ≡ record { nodes = take (i + 1) nodes; made = Some (record { 0 = i }) }
     by (Some j) e =
         let at = position-Some (node_eq node) (take i nodes) j False e in
         let before : j < i = let l = long in let r : j < length (take i nodes) = at.0 in omega arith in

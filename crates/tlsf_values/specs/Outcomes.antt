@@ -4,7 +4,7 @@ use Rattle.ltl_formula.specs.declared.nodes.FormulaId.{FormulaId}
 use Rattle.ltl_formula.specs.declared.nodes.Node.{Node}
 use Rattle.ltl_formula.specs.declared.nodes.Node.TheVariants as node
 use Rattle.ltl_formula.specs.declared.nodes.TheConstants.{MAX_SIGNALS}
-use Rattle.ltl_formula.specs.Added.{added}
+use Rattle.ltl_formula.specs.Added.{Built, added}
 use Rattle.spec_faults.specs.declared.code.SpecCode.{SpecCode}
 use Rattle.spec_faults.specs.declared.code.SpecCode.TheVariants.{WrongSort, TooManyNodes, ExpandTooLong}
 use Rattle.tlsf_values.specs.declared.work.TheConstants.{MOST_EVALUATIONS}
@@ -39,9 +39,9 @@ choose false f g w = g w
 -- so many evaluations are counted for the node at this byte, where the limit allows them
 abbrev pub counted : ℕ → ℕ → Work → Outcome (Unit {0})
 counted place n w =
-    choose (nat_le n (MOST_EVALUATIONS - w.done)) (λ w. gives tt (record { done = w.done + n; formulas = w.formulas })) (λ w. fails ExpandTooLong place) w
+    choose (nat_le n (MOST_EVALUATIONS - w.done)) (λ w. gives tt (record w { done = w.done + n })) (λ w. fails ExpandTooLong place) w
 
--- a node may stand in a list: its parts do, and its signal is below 16
+-- a node may stand in a list: its parts do, and its signal is below 32
 abbrev pub stands : List Node → FormulaId → Bool
 stands nodes id = nat_lt id.0 (length nodes)
 
@@ -61,12 +61,12 @@ may_stand nodes (node.Until a b) = stands nodes a && stands nodes b
 may_stand nodes (node.Release a b) = stands nodes a && stands nodes b
 may_stand nodes (node.WeakUntil a b) = stands nodes a && stands nodes b
 
-abbrev pub made_from : ℕ → ℕ → List Node → Option FormulaId → Outcome FormulaId
-made_from place done nodes (Some id) = gives id (record { done = done; formulas = nodes })
-made_from place done nodes None = fails TooManyNodes place
+abbrev pub made_from : ℕ → Work → Built → Option FormulaId → Outcome FormulaId
+made_from place w built (Some id) = gives id (record w { formulas = built.nodes })
+made_from place w built None = fails TooManyNodes place
 
--- A node joins the list, unless an equal one stands there, or the list is full. What is no formula of the list, as a value that
+-- A node joins the list, unless an equal one stands there, or as many nodes stand as the limits of the work allow. What is no formula of the list, as a value that
 -- came with it may be, has no sort.
 abbrev pub made : ℕ → Node → Work → Outcome FormulaId
 made place node w =
-    choose (may_stand w.formulas node) (λ w. made_from place w.done (added w.formulas node).nodes (added w.formulas node).made) (λ w. fails WrongSort place) w
+    choose (may_stand w.formulas node) (λ w. made_from place w (added w.limits.nodes w.formulas node) (added w.limits.nodes w.formulas node).made) (λ w. fails WrongSort place) w

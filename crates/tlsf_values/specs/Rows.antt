@@ -1,5 +1,6 @@
 -- Worked rows: expressions with their values or their first faults, written out by hand.
 use Rattle.std.specs.Prelude.{◌≡◌, ℕ, ◌+◌, Bool, true, false, List, [], ◌∷◌, Option, None, Some, pos, negsuc, ◌^◌, ◌-◌, codes}
+use Rattle.text_limits.specs.declared.TheConstants.{SMALL_LIMITS}
 use Rattle.ltl_formula.specs.declared.nodes.Node.{Node}
 use Rattle.ltl_formula.specs.declared.nodes.Node.TheVariants as node
 use Rattle.ltl_formula.specs.declared.nodes.FormulaId.{FormulaId}
@@ -27,7 +28,7 @@ abbrev pub id : ℕ → FormulaId
 id n = record { 0 = n }
 
 abbrev pub ended : ℕ → List Node → Work
-ended done nodes = record { done = done; formulas = nodes }
+ended done nodes = record { limits = SMALL_LIMITS; done = done; formulas = nodes }
 
 -- the value of an expression that stands alone
 abbrev pub alone : Names → Tree → Outcome Value

@@ -2,7 +2,7 @@
 
 ghost use Rattle.std.specs.Prelude.{◌≡◌, ◌+◌, IfOk, OnErr, OnOk, [], map, reverse, take};
 ghost use Rattle.ltl_formula.specs.Nodes.{Grows, Stands};
-ghost use Rattle.tlsf_values.specs.EnvSeen.{binding_of, buses_named, env_bound, env_names, signals_named, work_of};
+ghost use Rattle.tlsf_values.specs.EnvSeen.{binding_of, buses_named, env_bound, env_names, metered, signals_named, work_of};
 ghost use Rattle.tlsf_values.specs.NamesSeen.{names_seen};
 ghost use Rattle.tlsf_values.specs.Results.{IsOutcome};
 ghost use Rattle.tlsf_syntax.specs.Seen.{expr_seen};
@@ -12,10 +12,11 @@ use crate::names::Names;
 use crate::scope::Scope;
 use crate::value::Value;
 use crate::work::{MOST_DEPTH, Work};
-use ltl_formula::{AddFault, FormulaId, Formulas};
+use ltl_formula::{AddFault, FormulaId, Formulas, MAX_NODES};
 use spec_faults::SpecFault;
 use std::alloc::{AllocError, Global};
 use text_base::Name;
+use text_limits::Limits;
 use tlsf_syntax::{Expr, SpecTree};
 
 /// What stands around an expression beside its text's definitions.
@@ -94,7 +95,7 @@ fn add_same(copy: &mut Formulas, formulas: &Formulas, id: FormulaId) -> Result<(
     requires before { copy.old ≡ take id.0 formulas.now }
     ensures { OnOk result (copy.new ≡ take (id.0 + 1) formulas.now) }
 {
-    match copy.add(formulas.node(id)) {
+    match copy.add(MAX_NODES, formulas.node(id)) {
         Ok(_) => Ok(()),
         Err(AddFault::NoMemory) => Err(AllocError),
         Err(AddFault::TooManyNodes) => unreachable!(),
@@ -113,16 +114,18 @@ fn copied(alloc: Global, formulas: &Formulas) -> Result<Formulas, AllocError>
 }
 
 /// The value of an expression of a text, or its first fault: the meter counts the evaluations, and the formulas that the
-/// value needs join the list. After a refusal the meter and the list are as before.
+/// value needs join the list. A formula that passes the limits is refused. After a
+/// refusal the meter and the list are as before.
 /// It makes a map of the text's names and copies the list first; for several expressions of one text make `Names` once.
 pub fn value_of(
     tree: &SpecTree,
     expr: &Expr,
     env: &Env,
+    limits: Limits,
     meter: &mut Meter,
     formulas: &mut Formulas,
 ) -> Result<Value, SpecFault>
-    ensures value { IsOutcome result (work_of meter.new.done formulas.new) (value_at (env_names tree.now env.now) (env_bound env.now) (expr_seen expr.now) meter.old.depth (work_of meter.old.done formulas.old)) }
+    ensures value { IsOutcome result (work_of limits meter.new.done formulas.new) (metered limits (value_at (env_names tree.now env.now) (env_bound env.now) (expr_seen expr.now) meter.old.depth (work_of limits meter.old.done formulas.old))) }
     ensures depth { meter.new.depth ≡ meter.old.depth }
     ensures refused { OnErr result (formulas.new ≡ formulas.old) }
     ensures uncounted { OnErr result (meter.new.done ≡ meter.old.done) }
@@ -130,6 +133,7 @@ pub fn value_of(
     let alloc = *env.bound.allocator();
     let names = Names::of_env(alloc, tree, env)?;
     let mut work = Work {
+        limits,
         done: meter.done,
         formulas: copied(alloc, formulas)?,
     };

@@ -6,6 +6,7 @@ ghost use Rattle.tlsf_values.specs.Results.{IsOutcome};
 
 use ltl_formula::{AddFault, FormulaId, Formulas, Node};
 use spec_faults::{SpecCode, SpecFault, fault};
+use text_limits::Limits;
 
 /// How many evaluations there are at most.
 pub const MOST_EVALUATIONS: u64 = 1_000_000;
@@ -13,9 +14,10 @@ pub const MOST_EVALUATIONS: u64 = 1_000_000;
 /// How many nodes and calls are entered and not left at most.
 pub const MOST_DEPTH: u32 = 1024;
 
-/// The evaluations that were done, and the list of flat formulas.
+/// The limits of a text, the evaluations that were done, and the list of flat formulas.
 #[derive(Debug, Drop)]
 pub struct Work {
+    pub limits: Limits,
     pub done: u64,
     pub formulas: Formulas,
 }
@@ -42,7 +44,7 @@ impl Work {
         if !self.formulas.can_add(node) {
             return Err(fault(SpecCode::WrongSort, place));
         }
-        match self.formulas.add(node) {
+        match self.formulas.add(self.limits.nodes, node) {
             Ok(id) => Ok(id),
             Err(AddFault::TooManyNodes) => Err(fault(SpecCode::TooManyNodes, place)),
             Err(AddFault::NoMemory) => Err(SpecFault::NoMemory),

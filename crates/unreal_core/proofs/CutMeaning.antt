@@ -1,6 +1,7 @@
 -- What a text means whose guarantees are cut.
 use Rattle.std.proofs.Common.{◌≡◌, ℕ, Bool, true, false, List, [], ◌∷◌, refl, sym, ap, ◌∙◌}
 use Rattle.std.specs.Prelude.{◌&&◌}
+use Rattle.text_limits.specs.declared.TheConstants.{SMALL_LIMITS}
 use Rattle.letter_word.specs.Word.{Word}
 use Rattle.ltl_formula.specs.declared.nodes.FormulaId.{FormulaId}
 use Rattle.ltl_formula.specs.declared.nodes.Node.{Node}
@@ -48,5 +49,5 @@ kept_later keep old new ids grows h = λ k. record (same_trees old new ids grows
 
 pub cut_texts_mean : CutTextsMean
 cut_texts_mean text kind flat keep w is =
-    let m = is_made w text kind flat is in
+    let m = is_made SMALL_LIMITS w text kind flat is in
     (λ k. by_semantics (m.strict k) w (cut_truths w flat.formulas keep m.signals text.sections flat.expanded.sections m.have k)) ∙ sym (ap (means_with w (cut keep text)) m.is)

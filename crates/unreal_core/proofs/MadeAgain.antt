@@ -16,8 +16,8 @@ use Rattle.tlsf_values.specs.Outcomes.{gives, fails, choose, may_stand, made_fro
 use Rattle.tlsf_expand.proofs.Filling.{may_stand_true}
 
 -- what `made` is of a node that may stand
-made_there : (x : Node) (work : Work) → may_stand work.formulas x ≡ true → made 0 x work ≡ made_from 0 work.done (added work.formulas x).nodes (added work.formulas x).made
-made_there x work may = ap (λ b. choose b (λ w. made_from 0 w.done (added w.formulas x).nodes (added w.formulas x).made) (λ w. fails WrongSort 0) work) may
+made_there : (x : Node) (work : Work) → may_stand work.formulas x ≡ true → made 0 x work ≡ made_from 0 work (added work.limits.nodes work.formulas x) (added work.limits.nodes work.formulas x).made
+made_there x work may = ap (λ b. choose b (λ w. made_from 0 w (added w.limits.nodes w.formulas x) (added w.limits.nodes w.formulas x).made) (λ w. fails WrongSort 0) work) may
 
 module _ (nodes : List Node) (list : IsNodeList nodes) (id : FormulaId) (there : Stands nodes id) where
   abbrev here : Node
@@ -41,4 +41,4 @@ pub made_again : (work : Work) (id : FormulaId) → IsNodeList work.formulas →
 made_again work id list there =
     let x : Node = node_at work.formulas id.0 in
     made_there x work (may_stand_true work.formulas id.0 x (let h : id.0 < length work.formulas = there in omega arith) (list.parts_first id.0) (list.signals id.0))
-    ∙ ap (λ o. made_from 0 work.done (built_at o work.formulas x).nodes (built_at o work.formulas x).made) (found work.formulas list id there)
+    ∙ ap (λ o. made_from 0 work (built_at work.limits.nodes o work.formulas x) (built_at work.limits.nodes o work.formulas x).made) (found work.formulas list id there)

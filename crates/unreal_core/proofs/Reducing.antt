@@ -3,6 +3,7 @@ use Rattle.std.proofs.Common.{◌≡◌, ℕ, ◌≤◌, Bool, true, false, List
 use Rattle.std.proofs.lemmas.List.{drop_all}
 use Rattle.std.proofs.lemmas.List.Elements.{All-cons, All-head, All-tail}
 use Rattle.std.proofs.lemmas.Option.{same_Some}
+use Rattle.text_limits.specs.declared.TheConstants.{SMALL_LIMITS}
 use Rattle.ltl_formula.specs.declared.nodes.FormulaId.{FormulaId}
 use Rattle.ltl_formula.specs.declared.nodes.Node.{Node}
 use Rattle.ltl_formula.specs.declared.nodes.TheConstants.{MAX_SIGNALS}
@@ -19,6 +20,7 @@ use Rattle.tlsf_values.specs.Results.{IsFault}
 use Rattle.tlsf_values.specs.declared.work.Work.{Work}
 use Rattle.tlsf_values.specs.Outcomes.{Outcome, fails}
 use Rattle.tlsf_syntax.specs.declared.sections.Sections.{Sections}
+use Rattle.tlsf_expand.specs.Signals.{work_within}
 use Rattle.tlsf_expand.specs.Standing.{OfEach, SectionsStand, StandsAs, formulas_at}
 use Rattle.tlsf_expand.proofs.EachSection.{each_of, keeps_in_order}
 use Rattle.tlsf_expand.proofs.Filling.{Fills, is_full, stands_later}
@@ -26,7 +28,7 @@ use Rattle.tlsf_expand.proofs.Kept.{IsGood, IsKept, gives_such, keeps_given, kee
 use Rattle.tlsf_expand.proofs.WholeTree.{AllStandAs, all_later, fills_whole, none_stand, one_stands, whole_holds, whole_tree}
 use Rattle.unreal_core.specs.declared.whole.Reduced.{Reduced}
 use Rattle.unreal_core.specs.Put.{put_all}
-use Rattle.unreal_core.specs.Reduced.{add_fault, kept, kept_sections, nothing_done, reduced, reduced_in}
+use Rattle.unreal_core.specs.Reduced.{add_fault, kept, kept_sections, reduced, reduced_in}
 use Rattle.unreal_core.specs.Truths.{SaysWhole}
 use Rattle.unreal_core.proofs.Putting.{fills_put}
 
@@ -101,7 +103,7 @@ module _ (n : ℕ) where
   fills_reduced : (s : Sections (List Tree)) → OfEach AreSmall s → (strict : Bool) → Fills n [] (λ id nodes. StandsAs nodes (whole_tree strict s) id) (reduced strict s)
   fills_reduced s h strict =
       keeps_go_on _ _
-      (keeps_in_order AreSmall (λ ts ids nodes. AllStandAs nodes ts ids) put_all (λ ts ids old new grows. all_later grows) (λ ts a. fills_all ts a.small a.below) s h nothing_done (no_nodes n)) (λ ids work good grows all.
+      (keeps_in_order AreSmall (λ ts ids nodes. AllStandAs nodes ts ids) put_all (λ ts ids old new grows. all_later grows) (λ ts a. fills_all ts a.small a.below) s h (work_within SMALL_LIMITS) (no_nodes n)) (λ ids work good grows all.
       fills_whole s ids strict work good all)
 
 -- ---- what the call answers

@@ -1,6 +1,7 @@
 -- In a text that is expanded the formulas of the sections stand, and the formula of the whole is the one that they make.
 use Rattle.std.proofs.Common.{◌≡◌, true, List, [], ◌∷◌, length, replicate, Option, Some, refl, sym, ap, ◌∙◌}
 use Rattle.std.proofs.lemmas.List.{length-map}
+use Rattle.text_limits.specs.declared.TheConstants.{SMALL_LIMITS}
 use Rattle.letter_word.specs.declared.kinds.Kind.{Kind}
 use Rattle.ltl_formula.specs.Nodes.{IsNodeList, tree_at}
 use Rattle.tlsf_syntax.specs.Text.{Text}
@@ -15,11 +16,11 @@ use Rattle.unreal_core.specs.WholeLaws.{AllKeptIsTheWhole, SectionsOfTextsStand}
 use Rattle.unreal_core.specs.Reduced.{kept, kept_sections}
 use Rattle.unreal_core.proofs.Reducing.{whole_stands}
 
-pub list_of_text : (text : Text) (kind : Option Kind) (flat : FlatText) → flat_in (expanded text kind) ≡ Some flat → IsNodeList flat.formulas
-list_of_text text kind flat is = (is_made any_word text kind flat is).good.list
+pub list_of_text : (text : Text) (kind : Option Kind) (flat : FlatText) → flat_in (expanded SMALL_LIMITS text kind) ≡ Some flat → IsNodeList flat.formulas
+list_of_text text kind flat is = (is_made SMALL_LIMITS any_word text kind flat is).good.list
 
 pub sections_of_texts_stand : SectionsOfTextsStand
-sections_of_texts_stand text kind flat is = sections_stand (is_made any_word text kind flat is).have
+sections_of_texts_stand text kind flat is = sections_stand (is_made SMALL_LIMITS any_word text kind flat is).have
 
 all_kept : {A : Type 0} (xs : List A) → kept (replicate (length xs) true) xs ≡ xs
 all_kept [] = refl
@@ -27,7 +28,7 @@ all_kept (x ∷ xs) = ap (λ ys. x ∷ ys) (all_kept xs)
 
 pub all_kept_is_the_whole : AllKeptIsTheWhole
 all_kept_is_the_whole text kind flat r is kept_is =
-    let own = is_made any_word text kind flat is in
+    let own = is_made SMALL_LIMITS any_word text kind flat is in
     let ids = flat.expanded.sections in
     let keep = replicate (length ids.guarantee) true in
     let all = formulas_at flat.formulas ids.guarantee in

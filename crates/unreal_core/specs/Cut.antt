@@ -1,5 +1,6 @@
 -- A written text whose section of guarantees is cut to some of them (this project's own).
 use Rattle.std.specs.Prelude.{◌≡◌, Bool, List, Option, Some}
+use Rattle.text_limits.specs.declared.TheConstants.{SMALL_LIMITS}
 use Rattle.letter_word.specs.declared.kinds.Kind.{Kind}
 use Rattle.letter_word.specs.Word.{Word}
 use Rattle.tlsf_expand.specs.Expansion.{expanded}
@@ -17,5 +18,5 @@ cut keep text = record text { sections = record text.sections { guarantee = kept
 -- so: the formulas of the flat section are those of the written one, in order
 abbrev pub CutTextsMean : Type 0
 CutTextsMean =
-    (text : Text) (kind : Option Kind) (flat : FlatText) (keep : List Bool) (w : Word) → flat_in (expanded text kind) ≡ Some flat
-    → by_semantics flat.expanded.strict w (truths_of w (kept_sections flat.formulas keep flat.expanded.sections)) ≡ means w (cut keep text)
+    (text : Text) (kind : Option Kind) (flat : FlatText) (keep : List Bool) (w : Word) → flat_in (expanded SMALL_LIMITS text kind) ≡ Some flat
+    → by_semantics flat.expanded.strict w (truths_of w (kept_sections flat.formulas keep flat.expanded.sections)) ≡ means SMALL_LIMITS w (cut keep text)

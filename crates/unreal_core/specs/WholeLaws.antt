@@ -1,5 +1,6 @@
 -- Laws of the whole over some guarantees.
 use Rattle.std.specs.Prelude.{◌≡◌, true, length, replicate, Option, Some}
+use Rattle.text_limits.specs.declared.TheConstants.{SMALL_LIMITS}
 use Rattle.letter_word.specs.declared.kinds.Kind.{Kind}
 use Rattle.ltl_formula.specs.Nodes.{tree_at}
 use Rattle.tlsf_expand.specs.Expansion.{expanded}
@@ -11,11 +12,11 @@ use Rattle.unreal_core.specs.Reduced.{kept_sections, reduced, reduced_in}
 
 -- the formulas of the sections of a text that is expanded stand in its list
 abbrev pub SectionsOfTextsStand : Type 0
-SectionsOfTextsStand = (text : Text) (kind : Option Kind) (flat : FlatText) → flat_in (expanded text kind) ≡ Some flat → SectionsStand flat.formulas flat.expanded.sections
+SectionsOfTextsStand = (text : Text) (kind : Option Kind) (flat : FlatText) → flat_in (expanded SMALL_LIMITS text kind) ≡ Some flat → SectionsStand flat.formulas flat.expanded.sections
 
 -- with each guarantee kept the formula of the whole is the text's own
 abbrev pub AllKeptIsTheWhole : Type 0
 AllKeptIsTheWhole =
-    (text : Text) (kind : Option Kind) (flat : FlatText) (r : Reduced) → flat_in (expanded text kind) ≡ Some flat
+    (text : Text) (kind : Option Kind) (flat : FlatText) (r : Reduced) → flat_in (expanded SMALL_LIMITS text kind) ≡ Some flat
     → reduced_in (reduced flat.expanded.strict (kept_sections flat.formulas (replicate (length flat.expanded.sections.guarantee) true) flat.expanded.sections)) ≡ Some r
     → tree_at r.formulas r.whole ≡ tree_at flat.formulas flat.expanded.whole

@@ -10,13 +10,14 @@ ghost use Rattle.tlsf_values.specs.Outcomes.{fails};
 ghost use Rattle.tlsf_values.specs.Results.{IsFault, IsOutcomeAs};
 ghost use Rattle.unreal_core.specs.Copies.{AreCopies};
 ghost use Rattle.unreal_core.specs.Put.{put_all};
-ghost use Rattle.unreal_core.specs.Reduced.{add_fault, kept, kept_sections, nothing_done, put_sections, reduced, reduced_in};
+ghost use Rattle.unreal_core.specs.Reduced.{add_fault, kept, kept_sections, put_sections, reduced, reduced_in};
 ghost use Rattle.unreal_core.specs.Truths.{SaysWhole};
 
 use crate::copies::put_all;
 use ltl_formula::{AddFault, FormulaId, Formulas};
 use spec_faults::SpecFault;
 use std::alloc::{AllocError, Global};
+use text_limits::SMALL_LIMITS;
 use tlsf_expand::whole_formula;
 use tlsf_syntax::Sections;
 use tlsf_values::Work;
@@ -78,6 +79,7 @@ fn reduce(
     ensures fault { IfErr result (λ e. IsFault (reduced strict (kept_sections formulas.now keep.now (section_lists sections.now))) e) }
 {
     let mut work = Work {
+        limits: SMALL_LIMITS,
         done: 0,
         formulas: Formulas::new(alloc),
     };

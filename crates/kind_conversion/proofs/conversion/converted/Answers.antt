@@ -27,9 +27,9 @@ put_form-requires-clause-stand c = subst (λ forms. All (λ id. Stands c.loop-pl
 pub returns-in_err-form-clause-too_many : goal.returns-in_err-form-clause-too_many
 returns-in_err-form-clause-too_many c h =
     let p = err_from_is_err_and c.from_residual.result c.from_residual.ensures.1 in
-    converted-none c.args.shift c.args.inputs c.args.formulas.now c.args.whole _ c.loop-place.invariant.so_far
-    (turn-none c.args.shift c.args.inputs c.args.formulas.now c.loop-place.made c.loop-place.forms.items c.node-node.result c.loop-place.place c.node-node.ensures.value
-    (subst (λ forms. (put_form c.args.shift c.args.inputs forms c.node-node.result c.loop-place.made).made ≡ None) c.deref.ensures.value
+    converted-none c.args.most c.args.shift c.args.inputs c.args.formulas.now c.args.whole _ c.loop-place.invariant.so_far
+    (turn-none c.args.most c.args.shift c.args.inputs c.args.formulas.now c.loop-place.made c.loop-place.forms.items c.node-node.result c.loop-place.place c.node-node.ensures.value
+    (subst (λ forms. (put_form c.args.most c.args.shift c.args.inputs forms c.node-node.result c.loop-place.made).made ≡ None) c.deref.ensures.value
     (c.in_err-form.ensures.too_many (ap Err (same_fault c.from_residual.result p.0 c.in_err-form.field-0.0 _ p.1 p.2 h)))))
 
 pub returns-in_err-push_form-clause-too_many : goal.returns-in_err-push_form-clause-too_many
@@ -39,13 +39,13 @@ returns-in_err-push_form-clause-too_many c h =
 
 pub loop-place-preserved : goal.loop-place-preserved
 loop-place-preserved c =
-    let put : put_form c.args.shift c.args.inputs c.loop-place.forms.items c.node-node.result c.loop-place.made ≡ record { nodes = c.put_form.new.made; made = Some c.in_ok-form.form } =
-    subst (λ forms. put_form c.args.shift c.args.inputs forms c.node-node.result c.loop-place.made ≡ record { nodes = c.put_form.new.made; made = Some c.in_ok-form.form }) c.deref.ensures.value c.in_ok-form.ensures.ok in
+    let put : put_form c.args.most c.args.shift c.args.inputs c.loop-place.forms.items c.node-node.result c.loop-place.made ≡ record { nodes = c.put_form.new.made; made = Some c.in_ok-form.form } =
+    subst (λ forms. put_form c.args.most c.args.shift c.args.inputs forms c.node-node.result c.loop-place.made ≡ record { nodes = c.put_form.new.made; made = Some c.in_ok-form.form }) c.deref.ensures.value c.in_ok-form.ensures.ok in
     record {
       so_far = c.loop-place.invariant.so_far
-          ∙ turn-same c.args.shift c.args.inputs c.args.formulas.now c.loop-place.made c.loop-place.forms.items c.node-node.result c.loop-place.place c.node-node.ensures.value
+          ∙ turn-same c.args.most c.args.shift c.args.inputs c.args.formulas.now c.loop-place.made c.loop-place.forms.items c.node-node.result c.loop-place.place c.node-node.ensures.value
           c.put_form.new.made c.in_ok-form.form c.push_form.new.forms.items put c.in_ok-push_form.ensures.ok;
-      known = turn-known c.args.shift c.args.inputs c.args.formulas.now c.loop-place.made c.loop-place.forms.items c.node-node.result c.loop-place.place c.node-node.ensures.value
+      known = turn-known c.args.most c.args.shift c.args.inputs c.args.formulas.now c.loop-place.made c.loop-place.forms.items c.node-node.result c.loop-place.place c.node-node.ensures.value
           c.node-node.ensures.list c.loop-place.invariant.known c.loop-place.invariant.many c.put_form.new.made c.in_ok-form.form c.push_form.new.forms.items put c.in_ok-push_form.ensures.ok;
       many = ap length c.in_ok-push_form.ensures.ok ∙ length_push c.loop-place.forms.items c.in_ok-form.form ∙ ap (λ n. n + 1) c.loop-place.invariant.many;
     }
@@ -56,7 +56,7 @@ form_at-requires c = omega (arith, c.requires, c.loop-place-test.false, c.loop-p
 pub returns-clause-ok : goal.returns-clause-ok
 returns-clause-ok c =
     let end : length c.args.formulas.now ≤ c.loop-place.place = omega (arith, c.loop-place-test.false, c.len-place-end.ensures.value) in
-    converted-some c.args.shift c.args.inputs c.args.formulas.now c.args.whole c.loop-place.place c.loop-place.made c.loop-place.forms.items c.loop-place.invariant.so_far end
+    converted-some c.args.most c.args.shift c.args.inputs c.args.formulas.now c.args.whole c.loop-place.place c.loop-place.made c.loop-place.forms.items c.loop-place.invariant.so_far end
     ∙ ap (λ id. Some (let list : ConvertedList = record { formulas = c.loop-place.made; whole = id } in list))
     (ap (λ forms. form_at forms c.args.whole) (sym c.deref-2.ensures.value) ∙ sym c.form_at.ensures)
 
@@ -65,5 +65,5 @@ returns-clause-too_many c h = absurd (ok-err {A = ConvertedList} _ TooManyNodes 
 
 pub returns-clause-says : goal.returns-clause-says
 returns-clause-says c =
-    converted_lists_say c.args.shift c.args.inputs c.args.formulas.now c.args.whole (record { formulas = c.loop-place.made; whole = c.form_at.result })
+    converted_lists_say c.args.most c.args.shift c.args.inputs c.args.formulas.now c.args.whole (record { formulas = c.loop-place.made; whole = c.form_at.result })
     c.len-place-end.ensures.list c.requires (returns-clause-ok c)

@@ -16,55 +16,55 @@ pub both-returns-in_err-second-clause-performs : goal.both-returns-in_err-second
 both-returns-in_err-second-clause-performs t c =
     let p = err_from_is_err_and c.from_residual-in_err-second.result c.from_residual-in_err-second.ensures.1 in
     rw (p.1, p.2)
-    (Performs-join-fails c.args.joint (form_in c.args.a.keep (tree_at c.args.formulas.now c.args.a.id)) (form_in c.args.b.keep (tree_at c.args.formulas.now c.args.b.id)) c.args.formulas.now _ _ c.in_ok-first.first _
+    (Performs-join-fails c.args.most c.args.joint (form_in c.args.most c.args.a.keep (tree_at c.args.formulas.now c.args.a.id)) (form_in c.args.most c.args.b.keep (tree_at c.args.formulas.now c.args.b.id)) c.args.formulas.now _ _ c.in_ok-first.first _
     c.in_ok-first.ensures.performs
-    (moved (λ t u. form_in c.args.b.keep u) c.args.a.id c.args.b.id c.args.formulas.now _ _ _ c.in_ok-first.ensures.performs.grows c.requires.a_stands c.requires.b_stands c.in_err-second.ensures.performs))
+    (moved (λ t u. form_in c.args.most c.args.b.keep u) c.args.a.id c.args.b.id c.args.formulas.now _ _ _ c.in_ok-first.ensures.performs.grows c.requires.a_stands c.requires.b_stands c.in_err-second.ensures.performs))
 
 pub both-returns-clause-performs : goal.both-returns-clause-performs
 both-returns-clause-performs t c =
-    Performs-join c.args.joint (form_in c.args.a.keep (tree_at c.args.formulas.now c.args.a.id)) (form_in c.args.b.keep (tree_at c.args.formulas.now c.args.b.id)) c.args.formulas.now _ _ _ _ _ _
+    Performs-join c.args.most c.args.joint (form_in c.args.most c.args.a.keep (tree_at c.args.formulas.now c.args.a.id)) (form_in c.args.most c.args.b.keep (tree_at c.args.formulas.now c.args.b.id)) c.args.formulas.now _ _ _ _ _ _
     c.in_ok-first.ensures.performs
-    (moved (λ t u. form_in c.args.b.keep u) c.args.a.id c.args.b.id c.args.formulas.now _ _ _ c.in_ok-first.ensures.performs.grows c.requires.a_stands c.requires.b_stands c.in_ok-second.ensures.performs)
+    (moved (λ t u. form_in c.args.most c.args.b.keep u) c.args.a.id c.args.b.id c.args.formulas.now _ _ _ c.in_ok-first.ensures.performs.grows c.requires.a_stands c.requires.b_stands c.in_ok-second.ensures.performs)
     c.join.ensures
 
 pub both-returns-clause-memo : goal.both-returns-clause-memo
-both-returns-clause-memo t c = memo-kept _ _ _ _ _ c.in_ok-second.ensures.performs.list c.in_ok-second.ensures.memo c.join.ensures
+both-returns-clause-memo t c = memo-kept c.args.most _ _ _ _ _ c.in_ok-second.ensures.performs.list c.in_ok-second.ensures.memo c.join.ensures
 
 pub build-returns-in-True-clause-memo : goal.build-returns-in-True-clause-memo
-build-returns-in-True-clause-memo t c = memo-kept _ _ _ _ _ c.requires.list c.requires.memo c.add_constant.ensures
+build-returns-in-True-clause-memo t c = memo-kept c.args.most _ _ _ _ _ c.requires.list c.requires.memo c.add_constant.ensures
 
 pub build-returns-in-False-clause-memo : goal.build-returns-in-False-clause-memo
-build-returns-in-False-clause-memo t c = memo-kept _ _ _ _ _ c.requires.list c.requires.memo c.add_constant-in-False.ensures
+build-returns-in-False-clause-memo t c = memo-kept c.args.most _ _ _ _ _ c.requires.list c.requires.memo c.add_constant-in-False.ensures
 
 pub build-returns-in-Signal-clause-memo : goal.build-returns-in-Signal-clause-memo
-build-returns-in-Signal-clause-memo t c = memo-kept _ _ _ _ _ c.requires.list c.requires.memo c.add_literal.ensures
+build-returns-in-Signal-clause-memo t c = memo-kept c.args.most _ _ _ _ _ c.requires.list c.requires.memo c.add_literal.ensures
 
 pub equivalence-returns-in_err-second-clause-performs : goal.equivalence-returns-in_err-second-clause-performs
 equivalence-returns-in_err-second-clause-performs t c =
     let p = err_from_is_err_and c.from_residual-in_err-second.result c.from_residual-in_err-second.ensures.1 in
     rw (p.1, p.2)
-    (Performs-join-fails Or
-    (nodes_to.join And (form_in true (tree_at c.args.formulas.now c.args.a)) (form_in c.args.b.keep (tree_at c.args.formulas.now c.args.b.id)))
-    (nodes_to.join And (form_in false (tree_at c.args.formulas.now c.args.a)) (form_in (not c.args.b.keep) (tree_at c.args.formulas.now c.args.b.id)))
+    (Performs-join-fails c.args.most Or
+    ((nodes_to c.args.most).join And (form_in c.args.most true (tree_at c.args.formulas.now c.args.a)) (form_in c.args.most c.args.b.keep (tree_at c.args.formulas.now c.args.b.id)))
+    ((nodes_to c.args.most).join And (form_in c.args.most false (tree_at c.args.formulas.now c.args.a)) (form_in c.args.most (not c.args.b.keep) (tree_at c.args.formulas.now c.args.b.id)))
     c.args.formulas.now _ _ c.in_ok-first.first _ c.in_ok-first.ensures.performs
-    (moved (λ t u. nodes_to.join And (form_in false t) (form_in (not c.args.b.keep) u)) c.args.a c.args.b.id c.args.formulas.now _ _ _ c.in_ok-first.ensures.performs.grows c.requires.a_stands c.requires.b_stands c.in_err-second.ensures.performs))
+    (moved (λ t u. (nodes_to c.args.most).join And (form_in c.args.most false t) (form_in c.args.most (not c.args.b.keep) u)) c.args.a c.args.b.id c.args.formulas.now _ _ _ c.in_ok-first.ensures.performs.grows c.requires.a_stands c.requires.b_stands c.in_err-second.ensures.performs))
 
 pub equivalence-returns-clause-performs : goal.equivalence-returns-clause-performs
 equivalence-returns-clause-performs t c =
-    Performs-join Or
-    (nodes_to.join And (form_in true (tree_at c.args.formulas.now c.args.a)) (form_in c.args.b.keep (tree_at c.args.formulas.now c.args.b.id)))
-    (nodes_to.join And (form_in false (tree_at c.args.formulas.now c.args.a)) (form_in (not c.args.b.keep) (tree_at c.args.formulas.now c.args.b.id)))
+    Performs-join c.args.most Or
+    ((nodes_to c.args.most).join And (form_in c.args.most true (tree_at c.args.formulas.now c.args.a)) (form_in c.args.most c.args.b.keep (tree_at c.args.formulas.now c.args.b.id)))
+    ((nodes_to c.args.most).join And (form_in c.args.most false (tree_at c.args.formulas.now c.args.a)) (form_in c.args.most (not c.args.b.keep) (tree_at c.args.formulas.now c.args.b.id)))
     c.args.formulas.now _ _ _ _ _ _
     c.in_ok-first.ensures.performs
-    (moved (λ t u. nodes_to.join And (form_in false t) (form_in (not c.args.b.keep) u)) c.args.a c.args.b.id c.args.formulas.now _ _ _ c.in_ok-first.ensures.performs.grows c.requires.a_stands c.requires.b_stands c.in_ok-second.ensures.performs)
+    (moved (λ t u. (nodes_to c.args.most).join And (form_in c.args.most false t) (form_in c.args.most (not c.args.b.keep) u)) c.args.a c.args.b.id c.args.formulas.now _ _ _ c.in_ok-first.ensures.performs.grows c.requires.a_stands c.requires.b_stands c.in_ok-second.ensures.performs)
     c.join.ensures
 
 pub equivalence-returns-clause-memo : goal.equivalence-returns-clause-memo
-equivalence-returns-clause-memo t c = memo-kept _ _ _ _ _ c.in_ok-second.ensures.performs.list c.in_ok-second.ensures.memo c.join.ensures
+equivalence-returns-clause-memo t c = memo-kept c.args.most _ _ _ _ _ c.in_ok-second.ensures.performs.list c.in_ok-second.ensures.memo c.join.ensures
 
 pub form-returns-in-Some-clause-performs : goal.form-returns-in-Some-clause-performs
 form-returns-in-Some-clause-performs t c =
-    Performs-found c.args.forms.now c.args.part.keep c.args.part.id c.in-Some.made c.args.formulas.now c.requires.list c.requires.memo (sym c.in-Some.ensures)
+    Performs-found c.args.most c.args.forms.now c.args.part.keep c.args.part.id c.in-Some.made c.args.formulas.now c.requires.list c.requires.memo (sym c.in-Some.ensures)
 
 pub form-build-requires : goal.form-build-requires
 form-build-requires t c =
@@ -83,7 +83,7 @@ form-build-requires t c =
 
 pub form-returns-clause-memo : goal.form-returns-clause-memo
 form-returns-clause-memo t c =
-    IsMemo-with c.build.new.forms c.args.part.id c.in_ok-made.made c.args.part.keep c.args.formulas.now c.build.new.formulas
+    IsMemo-with c.args.most c.build.new.forms c.args.part.id c.in_ok-made.made c.args.part.keep c.args.formulas.now c.build.new.formulas
     c.requires.list c.requires.stands c.in_ok-made.ensures.performs.list (rw c.node.ensures.tree c.in_ok-made.ensures.performs.ok)
     c.in_ok-made.ensures.memo (let most = c.requires.list.most in omega arith) c.with.result c.with.ensures
 
@@ -95,7 +95,7 @@ from_constant-form-requires t c =
         Grows-stands c.args.formulas.now mid c.args.a.id c.in_ok-first.ensures.grows c.requires.stands,
         (
           c.in_ok-first.ensures.list,
-          (IsMemo-grows c.args.forms.now c.args.formulas.now mid c.requires.list c.in_ok-first.ensures.list c.in_ok-first.ensures.grows c.requires.memo, c.requires.room),
+          (IsMemo-grows c.args.most c.args.forms.now c.args.formulas.now mid c.requires.list c.in_ok-first.ensures.list c.in_ok-first.ensures.grows c.requires.memo, c.requires.room),
         ),
       ),
     )
@@ -104,39 +104,39 @@ pub from_constant-returns-in_err-second-clause-performs : goal.from_constant-ret
 from_constant-returns-in_err-second-clause-performs t c =
     let p = err_from_is_err_and c.from_residual-in_err-second.result c.from_residual-in_err-second.ensures.1 in
     rw (p.1, p.2)
-    (Performs-join-fails c.args.joint (nodes_to.constant c.args.value) (form_in c.args.a.keep (tree_at c.args.formulas.now c.args.a.id)) c.args.formulas.now _ _ c.in_ok-first.first _ c.in_ok-first.ensures
-    (moved (λ t u. form_in c.args.a.keep u) c.args.a.id c.args.a.id c.args.formulas.now _ _ _ c.in_ok-first.ensures.grows c.requires.stands c.requires.stands c.in_err-second.ensures.performs))
+    (Performs-join-fails c.args.most c.args.joint ((nodes_to c.args.most).constant c.args.value) (form_in c.args.most c.args.a.keep (tree_at c.args.formulas.now c.args.a.id)) c.args.formulas.now _ _ c.in_ok-first.first _ c.in_ok-first.ensures
+    (moved (λ t u. form_in c.args.most c.args.a.keep u) c.args.a.id c.args.a.id c.args.formulas.now _ _ _ c.in_ok-first.ensures.grows c.requires.stands c.requires.stands c.in_err-second.ensures.performs))
 
 pub from_constant-returns-clause-performs : goal.from_constant-returns-clause-performs
 from_constant-returns-clause-performs t c =
-    Performs-join c.args.joint (nodes_to.constant c.args.value) (form_in c.args.a.keep (tree_at c.args.formulas.now c.args.a.id)) c.args.formulas.now _ _ _ _ _ _
+    Performs-join c.args.most c.args.joint ((nodes_to c.args.most).constant c.args.value) (form_in c.args.most c.args.a.keep (tree_at c.args.formulas.now c.args.a.id)) c.args.formulas.now _ _ _ _ _ _
     c.in_ok-first.ensures
-    (moved (λ t u. form_in c.args.a.keep u) c.args.a.id c.args.a.id c.args.formulas.now _ _ _ c.in_ok-first.ensures.grows c.requires.stands c.requires.stands c.in_ok-second.ensures.performs)
+    (moved (λ t u. form_in c.args.most c.args.a.keep u) c.args.a.id c.args.a.id c.args.formulas.now _ _ _ c.in_ok-first.ensures.grows c.requires.stands c.requires.stands c.in_ok-second.ensures.performs)
     c.join.ensures
 
 pub from_constant-returns-clause-memo : goal.from_constant-returns-clause-memo
-from_constant-returns-clause-memo t c = memo-kept _ _ _ _ _ c.in_ok-second.ensures.performs.list c.in_ok-second.ensures.memo c.join.ensures
+from_constant-returns-clause-memo t c = memo-kept c.args.most _ _ _ _ _ c.in_ok-second.ensures.performs.list c.in_ok-second.ensures.memo c.join.ensures
 
 pub next_of-returns-clause-memo : goal.next_of-returns-clause-memo
 next_of-returns-clause-memo t c =
-    memo-kept _ _ _ _ _ c.in_ok-part.ensures.performs.list c.in_ok-part.ensures.memo c.next.ensures
+    memo-kept c.args.most _ _ _ _ _ c.in_ok-part.ensures.performs.list c.in_ok-part.ensures.memo c.next.ensures
 
 pub weak_until-returns-in_err-second-clause-performs : goal.weak_until-returns-in_err-second-clause-performs
 weak_until-returns-in_err-second-clause-performs t c =
     let p = err_from_is_err_and c.from_residual-in_err-second.result c.from_residual-in_err-second.ensures.1 in
     rw (p.1, p.2)
-    (Performs-join-fails (facing_of c.args.b.keep Release) (form_in c.args.b.keep (tree_at c.args.formulas.now c.args.b.id)) (nodes_to.join (facing_of c.args.b.keep Or) (form_in c.args.b.keep (tree_at c.args.formulas.now c.args.a)) (form_in c.args.b.keep (tree_at c.args.formulas.now c.args.b.id))) c.args.formulas.now _ _ c.in_ok-first.first _ c.in_ok-first.ensures.performs
-    (moved (λ t u. nodes_to.join (facing_of c.args.b.keep Or) (form_in c.args.b.keep t) (form_in c.args.b.keep u)) c.args.a c.args.b.id c.args.formulas.now _ _ _ c.in_ok-first.ensures.performs.grows c.requires.a_stands c.requires.b_stands
-    (subst (λ j. Performs (nodes_to.join j (form_in c.args.b.keep (tree_at c.form.new.formulas c.args.a)) (form_in c.args.b.keep (tree_at c.form.new.formulas c.args.b.id))) c.form.new.formulas c.both.new.formulas (Err c.in_err-second.field-0.0)) c.facing.ensures c.in_err-second.ensures.performs)))
+    (Performs-join-fails c.args.most (facing_of c.args.b.keep Release) (form_in c.args.most c.args.b.keep (tree_at c.args.formulas.now c.args.b.id)) ((nodes_to c.args.most).join (facing_of c.args.b.keep Or) (form_in c.args.most c.args.b.keep (tree_at c.args.formulas.now c.args.a)) (form_in c.args.most c.args.b.keep (tree_at c.args.formulas.now c.args.b.id))) c.args.formulas.now _ _ c.in_ok-first.first _ c.in_ok-first.ensures.performs
+    (moved (λ t u. (nodes_to c.args.most).join (facing_of c.args.b.keep Or) (form_in c.args.most c.args.b.keep t) (form_in c.args.most c.args.b.keep u)) c.args.a c.args.b.id c.args.formulas.now _ _ _ c.in_ok-first.ensures.performs.grows c.requires.a_stands c.requires.b_stands
+    (subst (λ j. Performs ((nodes_to c.args.most).join j (form_in c.args.most c.args.b.keep (tree_at c.form.new.formulas c.args.a)) (form_in c.args.most c.args.b.keep (tree_at c.form.new.formulas c.args.b.id))) c.form.new.formulas c.both.new.formulas (Err c.in_err-second.field-0.0)) c.facing.ensures c.in_err-second.ensures.performs)))
 
 pub weak_until-returns-clause-performs : goal.weak_until-returns-clause-performs
 weak_until-returns-clause-performs t c =
-    Performs-join (facing_of c.args.b.keep Release) (form_in c.args.b.keep (tree_at c.args.formulas.now c.args.b.id)) (nodes_to.join (facing_of c.args.b.keep Or) (form_in c.args.b.keep (tree_at c.args.formulas.now c.args.a)) (form_in c.args.b.keep (tree_at c.args.formulas.now c.args.b.id))) c.args.formulas.now _ _ _ _ _ _
+    Performs-join c.args.most (facing_of c.args.b.keep Release) (form_in c.args.most c.args.b.keep (tree_at c.args.formulas.now c.args.b.id)) ((nodes_to c.args.most).join (facing_of c.args.b.keep Or) (form_in c.args.most c.args.b.keep (tree_at c.args.formulas.now c.args.a)) (form_in c.args.most c.args.b.keep (tree_at c.args.formulas.now c.args.b.id))) c.args.formulas.now _ _ _ _ _ _
     c.in_ok-first.ensures.performs
-    (moved (λ t u. nodes_to.join (facing_of c.args.b.keep Or) (form_in c.args.b.keep t) (form_in c.args.b.keep u)) c.args.a c.args.b.id c.args.formulas.now _ _ _ c.in_ok-first.ensures.performs.grows c.requires.a_stands c.requires.b_stands
-    (subst (λ j. Performs (nodes_to.join j (form_in c.args.b.keep (tree_at c.form.new.formulas c.args.a)) (form_in c.args.b.keep (tree_at c.form.new.formulas c.args.b.id))) c.form.new.formulas c.both.new.formulas (Ok c.in_ok-second.second)) c.facing.ensures c.in_ok-second.ensures.performs))
-    (subst (λ j. Performs (join_ids j c.in_ok-first.first c.in_ok-second.second) c.both.new.formulas c.join.new.formulas c.join.result) c.facing-2.ensures c.join.ensures)
+    (moved (λ t u. (nodes_to c.args.most).join (facing_of c.args.b.keep Or) (form_in c.args.most c.args.b.keep t) (form_in c.args.most c.args.b.keep u)) c.args.a c.args.b.id c.args.formulas.now _ _ _ c.in_ok-first.ensures.performs.grows c.requires.a_stands c.requires.b_stands
+    (subst (λ j. Performs ((nodes_to c.args.most).join j (form_in c.args.most c.args.b.keep (tree_at c.form.new.formulas c.args.a)) (form_in c.args.most c.args.b.keep (tree_at c.form.new.formulas c.args.b.id))) c.form.new.formulas c.both.new.formulas (Ok c.in_ok-second.second)) c.facing.ensures c.in_ok-second.ensures.performs))
+    (subst (λ j. Performs (join_ids c.args.most j c.in_ok-first.first c.in_ok-second.second) c.both.new.formulas c.join.new.formulas c.join.result) c.facing-2.ensures c.join.ensures)
 
 pub weak_until-returns-clause-memo : goal.weak_until-returns-clause-memo
 weak_until-returns-clause-memo t c =
-    memo-kept _ _ _ _ _ c.in_ok-second.ensures.performs.list c.in_ok-second.ensures.memo c.join.ensures
+    memo-kept c.args.most _ _ _ _ _ c.in_ok-second.ensures.performs.list c.in_ok-second.ensures.memo c.join.ensures

@@ -19,7 +19,7 @@ returns-in-First c =
     let outcome : outcome_of joint (constant_at now a) (constant_at now b) (eqb a.0 b.0) ≡ First =
     ap (λ x. outcome_of joint x (constant_at now b) (eqb a.0 b.0)) first ∙ ap (λ y. outcome_of joint c.constant-first.result y (eqb a.0 b.0)) second
     ∙ ap (outcome_of joint c.constant-first.result c.constant-second.result) (sym c.eq.ensures) ∙ sym c.in-First.ensures in
-    Performs-gives (join_ids joint a b) now a c.node.ensures.list c.requires.a_stands (ap (λ o. chosen_step o a b (whole_node joint a b) now) outcome)
+    Performs-gives (join_ids c.args.most joint a b) now a c.node.ensures.list c.requires.a_stands (ap (λ o. chosen_step c.args.most o a b (whole_node joint a b) now) outcome)
 
 pub returns-in-Second : goal.returns-in-Second
 returns-in-Second c =
@@ -32,7 +32,7 @@ returns-in-Second c =
     let outcome : outcome_of joint (constant_at now a) (constant_at now b) (eqb a.0 b.0) ≡ Second =
     ap (λ x. outcome_of joint x (constant_at now b) (eqb a.0 b.0)) first ∙ ap (λ y. outcome_of joint c.constant-first.result y (eqb a.0 b.0)) second
     ∙ ap (outcome_of joint c.constant-first.result c.constant-second.result) (sym c.eq.ensures) ∙ sym c.in-Second.ensures in
-    Performs-gives (join_ids joint a b) now b c.node.ensures.list c.requires.b_stands (ap (λ o. chosen_step o a b (whole_node joint a b) now) outcome)
+    Performs-gives (join_ids c.args.most joint a b) now b c.node.ensures.list c.requires.b_stands (ap (λ o. chosen_step c.args.most o a b (whole_node joint a b) now) outcome)
 
 pub returns-in-Whole : goal.returns-in-Whole
 returns-in-Whole c =
@@ -45,6 +45,6 @@ returns-in-Whole c =
     let outcome : outcome_of joint (constant_at now a) (constant_at now b) (eqb a.0 b.0) ≡ Whole =
     ap (λ x. outcome_of joint x (constant_at now b) (eqb a.0 b.0)) first ∙ ap (λ y. outcome_of joint c.constant-first.result y (eqb a.0 b.0)) second
     ∙ ap (outcome_of joint c.constant-first.result c.constant-second.result) (sym c.eq.ensures) ∙ sym c.in-Whole.ensures in
-    Performs-like (join_ids joint a b) (λ ns. added ns c.whole.result) now c.add.new.self c.add.result
-    (ap (λ o. chosen_step o a b (whole_node joint a b) now) outcome ∙ ap (added now) (sym c.whole.ensures))
-    (Performs-add c.whole.result now c.add.new.self c.add.result c.add.ensures.ok c.add.ensures.too_many c.add.ensures.err c.add.ensures.stands c.add.ensures.grows c.add.ensures.list)
+    Performs-like (join_ids c.args.most joint a b) (λ ns. added c.args.most ns c.whole.result) now c.add.new.self c.add.result
+    (ap (λ o. chosen_step c.args.most o a b (whole_node joint a b) now) outcome ∙ ap (added c.args.most now) (sym c.whole.ensures))
+    (Performs-add c.args.most c.whole.result now c.add.new.self c.add.result c.add.ensures.ok c.add.ensures.too_many c.add.ensures.err c.add.ensures.stands c.add.ensures.grows c.add.ensures.list)

@@ -8,18 +8,18 @@ use Rattle.ltl_normal.proofs.TruthKept.{OpposesTruthOf-negated_of, IsNormal-tabl
 use Rattle.ltl_normal.proofs.forms.negated.Goals as goal
 
 pub returns-clause-tree : goal.returns-clause-tree
-returns-clause-tree c = result-tree false c.args.f c.args.formulas.now c.form_of.new.formulas c.form_of.ensures.list c.requires c.form_of.result c.form_of.ensures.performs
+returns-clause-tree c = result-tree c.args.most false c.args.f c.args.formulas.now c.form_of.new.formulas c.form_of.ensures.list c.requires c.form_of.result c.form_of.ensures.performs
 
 pub returns-clause-truth : goal.returns-clause-truth
 returns-clause-truth c =
-    result-is false c.args.f c.args.formulas.now c.form_of.new.formulas c.form_of.ensures.list c.requires (λ t. OpposesTruthOf (tree_at c.args.formulas.now c.args.f) t)
+    result-is c.args.most false c.args.f c.args.formulas.now c.form_of.new.formulas c.form_of.ensures.list c.requires (λ t. OpposesTruthOf (tree_at c.args.formulas.now c.args.f) t)
     (OpposesTruthOf-negated_of (tree_at c.args.formulas.now c.args.f)) c.form_of.result c.form_of.ensures.performs
 
 pub returns-clause-shape : goal.returns-clause-shape
 returns-clause-shape c =
-    result-is false c.args.f c.args.formulas.now c.form_of.new.formulas c.form_of.ensures.list c.requires (λ t. IsNormal t)
+    result-is c.args.most false c.args.f c.args.formulas.now c.form_of.new.formulas c.form_of.ensures.list c.requires (λ t. IsNormal t)
     (IsNormal-table false (tree_at c.args.formulas.now c.args.f)) c.form_of.result c.form_of.ensures.performs
 
 pub returns-clause-signals : goal.returns-clause-signals
 returns-clause-signals c =
-    signals_kept false c.args.formulas.now c.form_of.new.formulas c.args.f c.form_of.result c.form_of.ensures.list c.requires c.form_of.ensures.performs.ok
+    signals_kept c.args.most false c.args.formulas.now c.form_of.new.formulas c.args.f c.form_of.result c.form_of.ensures.list c.requires c.form_of.ensures.performs.ok

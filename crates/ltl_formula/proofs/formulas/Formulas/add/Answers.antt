@@ -12,7 +12,7 @@ returns-in-Some-clause-tree c =
     (found-stands c.self.inside.nodes.keys c.args.node c.in-Some.place (sym c.in-Some.ensures.index)))
 
 pub returns-in-None-clause-stands : goal.returns-in-None-clause-stands
-returns-in-None-clause-stands c = last-stands c.args.self.now c.add_new.new.self c.args.node c.add_new.result c.add_new.ensures.last c.add_new.ensures.grown
+returns-in-None-clause-stands c = last-stands c.args.most c.args.self.now c.add_new.new.self c.args.node c.add_new.result c.add_new.ensures.last c.add_new.ensures.grown
 
 pub returns-in-None-clause-tree : goal.returns-in-None-clause-tree
-returns-in-None-clause-tree c = last-tree c.args.self.now c.add_new.new.self c.args.node c.add_new.result c.add_new.ensures.last c.add_new.ensures.grown
+returns-in-None-clause-tree c = last-tree c.args.most c.args.self.now c.add_new.new.self c.args.node c.add_new.result c.add_new.ensures.last c.add_new.ensures.grown

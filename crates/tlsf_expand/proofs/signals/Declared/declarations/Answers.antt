@@ -14,17 +14,17 @@ returns-in_err-declaration c =
     let d = declared_seen c.loop-declaration.self in
     let rest = map declaration_seen (drop (c.loop-declaration.declaration-index + 1) c.args.declarations.now) in
     fault_out (λ x. declared_seen c.declaration.new.self) c.from_residual.result c.declaration.new.work
-    (declarations_value text c.args.from (declared_seen c.args.self.now) (map declaration_seen c.args.declarations.now) c.args.work.now) p.0 c.in_err-declaration.field-0.0 p.1 p.2
+    (declarations_value c.args.most text c.args.from (declared_seen c.args.self.now) (map declaration_seen c.args.declarations.now) c.args.work.now) p.0 c.in_err-declaration.field-0.0 p.1 p.2
     (subst (λ o. IsFault o c.in_err-declaration.field-0.0)
-    (sym (c.loop-declaration.invariant ∙ ap (λ xs. declarations_value text c.args.from d xs c.loop-declaration.work)
+    (sym (c.loop-declaration.invariant ∙ ap (λ xs. declarations_value c.args.most text c.args.from d xs c.loop-declaration.work)
     (declarations_from c.args.declarations.now c.loop-declaration.declaration-index c.declaration-item.result c.loop-declaration-test.true c.declaration-item.is)))
-    (declaration_fault text c.args.from d (declaration_seen c.declaration-item.result) rest c.loop-declaration.work c.in_err-declaration.field-0.0 c.in_err-declaration.ensures))
+    (declaration_fault c.args.most text c.args.from d (declaration_seen c.declaration-item.result) rest c.loop-declaration.work c.in_err-declaration.field-0.0 c.in_err-declaration.ensures))
 
 pub loop-declaration-preserved : goal.loop-declaration-preserved
 loop-declaration-preserved c =
     let text = text_seen c.args.tree.now in
     let d = declared_seen c.loop-declaration.self in
     let rest = map declaration_seen (drop (c.loop-declaration.declaration-index + 1) c.args.declarations.now) in
-    c.loop-declaration.invariant ∙ ap (λ xs. declarations_value text c.args.from d xs c.loop-declaration.work)
+    c.loop-declaration.invariant ∙ ap (λ xs. declarations_value c.args.most text c.args.from d xs c.loop-declaration.work)
     (declarations_from c.args.declarations.now c.loop-declaration.declaration-index c.declaration-item.result c.loop-declaration-test.true c.declaration-item.is)
-    ∙ declaration_given text c.args.from d (declared_seen c.declaration.new.self) (declaration_seen c.declaration-item.result) rest c.loop-declaration.work c.declaration.new.work c.in_ok-declaration.ensures
+    ∙ declaration_given c.args.most text c.args.from d (declared_seen c.declaration.new.self) (declaration_seen c.declaration-item.result) rest c.loop-declaration.work c.declaration.new.work c.in_ok-declaration.ensures

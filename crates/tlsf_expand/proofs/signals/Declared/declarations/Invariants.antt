@@ -6,5 +6,5 @@ use Rattle.tlsf_expand.proofs.signals.Declared.declarations.Given as goal
 
 abbrev pub invariant-loop-declaration : goal.invariant-loop-declaration
 invariant-loop-declaration l =
-    declarations_value (text_seen l.tree) l.from (declared_seen l.fn.self) (map declaration_seen l.fn.declarations) l.fn.work
-    ≡ declarations_value (text_seen l.tree) l.from (declared_seen l.self) (map declaration_seen (drop l.declaration-index l.declarations)) l.work
+    declarations_value l.most (text_seen l.tree) l.from (declared_seen l.fn.self) (map declaration_seen l.fn.declarations) l.fn.work
+    ≡ declarations_value l.most (text_seen l.tree) l.from (declared_seen l.self) (map declaration_seen (drop l.declaration-index l.declarations)) l.work
