@@ -11,9 +11,11 @@ use Rattle.ltl_formula.specs.Nodes.{IsNodeList, PartsBelow, Stands, node_at, tre
 use Rattle.ltl_formula.specs.Truth.{holds, release_at, until_at}
 use Rattle.ltl_formula.proofs.Ahead.{until_at-gives, until_at-unfold}
 use Rattle.ltl_formula.proofs.Trees.{tree_at-node}
+use Rattle.obligation_sets.specs.declared.sets.Covering.{Covering}
 use Rattle.obligation_sets.specs.Ids.{has_id}
 use Rattle.obligation_sets.proofs.BackedLeaves.{Backed, InNext, InPostponed, Seen}
 use Rattle.obligation_sets.proofs.Flags.{has_id-within}
+use Rattle.obligation_sets.proofs.Implied.{AsksFor}
 use Rattle.obligation_sets.proofs.Lists.{Contains-here, Contains-there}
 use Rattle.obligation_sets.proofs.NextStep.{opposed_value}
 use Rattle.obligation_sets.proofs.OneStep.{one_step, value}
@@ -29,16 +31,16 @@ unfold_now w a b i ring within h = until_at-unfold w a b i ring within ∙ or_le
 unfold_on : (w : Word) (a b : ℕ → Bool) (i : ℕ) → HasRing w → i < lasso_len w → a i ≡ true → until_at w a b (next w i) ≡ true → until_at w a b i ≡ true
 unfold_on w a b i ring within h later = until_at-unfold w a b i ring within ∙ or_right (b i) (a i && until_at w a b (next w i)) (and_from (a i) (until_at w a b (next w i)) h later)
 
-module _ (ns : List Node) (list : IsNodeList ns) (untils : List FormulaId) (w : Word) (ring : HasRing w) (root : FormulaId)
+module _ (covering : Covering) (ns : List Node) (list : IsNodeList ns) (untils : List FormulaId) (w : Word) (ring : HasRing w) (root : FormulaId)
     (numbers : (f : FormulaId) → OccursIn ns root f → (g h : FormulaId) → node_at ns f.0 ≡ Until g h → Contains untils f)
-    (home : ℕ) (base : State) (inside : home < lasso_len w) (last : base.counter ≡ length untils) (further : ℕ) (cycle : Walk ns list untils w (suc further) home base home base) where
+    (home : ℕ) (base : State) (inside : home < lasso_len w) (last : base.counter ≡ length untils) (further : ℕ) (cycle : Walk covering ns list untils w (suc further) home base home base) where
   -- a step from which the base is reached again
   record Live (i : ℕ) (s : State) : Type 0 where
     within : i < lasso_len w
     target : State
-    move : Move ns list untils w i s target
+    move : Move covering ns list untils w i s target
     steps : ℕ
-    rest : Walk ns list untils w steps (next w i) target home base
+    rest : Walk covering ns list untils w steps (next w i) target home base
 
   abbrev now : ℕ → FormulaId → Bool
   now i f = holds w (tree_at ns f) i
@@ -49,7 +51,7 @@ module _ (ns : List Node) (list : IsNodeList ns) (untils : List FormulaId) (w : 
   at_home : Live home base
   at_home = record { within = inside; target = cycle.0; move = cycle.1; steps = further; rest = cycle.2 }
 
-  goes_on : (n i : ℕ) (s : State) → i < lasso_len w → Walk ns list untils w n i s home base → Live i s
+  goes_on : (n i : ℕ) (s : State) → i < lasso_len w → Walk covering ns list untils w n i s home base → Live i s
   goes_on zero i s within walk = subst (λ (k : ℕ). Live k s) (sym walk.0) (subst (λ (t : State). Live home t) (sym walk.1) at_home)
   goes_on (suc n) i s within walk = record { within = within; target = walk.0; move = walk.1; steps = n; rest = walk.2 }
 
@@ -65,7 +67,7 @@ module _ (ns : List Node) (list : IsNodeList ns) (untils : List FormulaId) (w : 
 
   -- a formula that the leaf has seen, or left to the next position
   part_holds : (n : ℕ) → AreTrue n → (g : FormulaId) → g.0 < n → OccursIn ns root g → (i : ℕ) (s : State) (l : Live i s) → Seen l.move.leaf g → now i g ≡ true
-  part_holds n below g less occurs i s l seen = below g less occurs i s l (seen_done ns list untils w _ l.move.leaf l.move.below g seen)
+  part_holds n below g less occurs i s l seen = below g less occurs i s l (seen_done covering ns list untils w _ l.move.leaf l.move.below g seen)
 
   module _ (f : FormulaId) (occurs : OccursIn ns root f) (below : AreTrue f.0) where
     module _ (g h : FormulaId) (small_g : g.0 < f.0) (small_h : h.0 < f.0) (occurs_g : OccursIn ns root g) (occurs_h : OccursIn ns root h) where
@@ -77,28 +79,28 @@ module _ (ns : List Node) (list : IsNodeList ns) (untils : List FormulaId) (w : 
 
       module _ (is : node_at ns f.0 ≡ Until g h) where
         -- a step either meets the until or puts it off
-        until_step : (i : ℕ) (s : State) (l : Live i s) → taken i s l f → (B i ≡ true) ⊎ ((A i ≡ true) × Contains l.target.set f × (has_id l.move.leaf.postponed f ≡ true))
+        until_step : (i : ℕ) (s : State) (l : Live i s) → taken i s l f → (B i ≡ true) ⊎ ((A i ≡ true) × AsksFor ns l.target.set f × (has_id l.move.leaf.postponed f ≡ true))
         until_step i s l done = by (rw is at (backed i s l f done))
           where
-            by : Seen l.move.leaf h ⊎ (Seen l.move.leaf g × InNext l.move.leaf f × InPostponed l.move.leaf f) → (B i ≡ true) ⊎ ((A i ≡ true) × Contains l.target.set f × (has_id l.move.leaf.postponed f ≡ true))
+            by : Seen l.move.leaf h ⊎ (Seen l.move.leaf g × InNext l.move.leaf f × InPostponed l.move.leaf f) → (B i ≡ true) ⊎ ((A i ≡ true) × AsksFor ns l.target.set f × (has_id l.move.leaf.postponed f ≡ true))
             by (inl second) = inl (part_holds f.0 below h small_h occurs_h i s l second)
-            by (inr off) = inr (part_holds f.0 below g small_g occurs_g i s l off.0, left_in ns list untils w i s l.target l.move f off.1, off.2)
+            by (inr off) = inr (part_holds f.0 below g small_g occurs_g i s l off.0, left_in covering ns list untils w i s l.target l.move f off.1, off.2)
 
         -- along a walk to the base: it holds, or it is put off all along and in the base's set
-        record IsPutOff (n i : ℕ) (s : State) (walk : Walk ns list untils w n i s home base) : Type 0 where
-          there : Contains base.set f
+        record IsPutOff (n i : ℕ) (s : State) (walk : Walk covering ns list untils w n i s home base) : Type 0 where
+          there : AsksFor ns base.set f
           back : until_at w A B home ≡ true → until_at w A B i ≡ true
-          puts : AllPut ns list untils w f n i s home base walk
+          puts : AllPut covering ns list untils w f n i s home base walk
 
-        until_along : (n i : ℕ) (s : State) → i < lasso_len w → (walk : Walk ns list untils w n i s home base) → Contains s.set f → (until_at w A B i ≡ true) ⊎ IsPutOff n i s walk
+        until_along : (n i : ℕ) (s : State) → i < lasso_len w → (walk : Walk covering ns list untils w n i s home base) → AsksFor ns s.set f → (until_at w A B i ≡ true) ⊎ IsPutOff n i s walk
         until_along zero i s within walk c = inr (record {
-          there = subst (λ (t : State). Contains t.set f) walk.1 c;
+          there = subst (λ (t : State). AsksFor ns t.set f) walk.1 c;
           back = λ h. subst (λ (k : ℕ). until_at w A B k ≡ true) (sym walk.0) h;
           puts = tt;
         })
         until_along (suc n) i s within walk c =
             let l : Live i s = record { within = within; target = walk.0; move = walk.1; steps = n; rest = walk.2 } in
-            elim (until_step i s l (done_in ns list untils w i s walk.0 walk.1 f c)) [
+            elim (until_step i s l (done_in covering ns list untils w i s walk.0 walk.1 f c)) [
               | inl met ↦ inl (unfold_now w A B i ring within met)
               | inr off ↦ elim (until_along n (next w i) walk.0 (next_within w i ring within) walk.2 off.1) [
                 | inl later ↦ inl (unfold_on w A B i ring within off.0 later)
@@ -112,10 +114,10 @@ module _ (ns : List Node) (list : IsNodeList ns) (untils : List FormulaId) (w : 
             let number : Contains untils f = numbers f occurs g h is in
             let less : number.0 < length untils = number.1 in
             let from : base.counter ≤ number.0 =
-            all_held ns list untils w number.0 f number.2 further home base home base cycle put.puts (let e = begin_at_end untils base.counter last in rw e (omega arith)) in
+            all_held covering ns list untils w number.0 f number.2 further home base home base cycle put.puts (let e = begin_at_end untils base.counter last in rw e (omega arith)) in
             omega arith
 
-        until_at_base : Contains base.set f → until_at w A B home ≡ true
+        until_at_base : AsksFor ns base.set f → until_at w A B home ≡ true
         until_at_base c =
             elim (until_along (suc further) home base inside cycle c) [
               | inl true_there ↦ true_there
@@ -133,15 +135,15 @@ module _ (ns : List Node) (list : IsNodeList ns) (untils : List FormulaId) (w : 
             ]
 
       module _ (is : node_at ns f.0 ≡ Release g h) where
-        release_step : (i : ℕ) (s : State) (l : Live i s) → taken i s l f → (B i ≡ true) × ((A i ≡ true) ⊎ Contains l.target.set f)
+        release_step : (i : ℕ) (s : State) (l : Live i s) → taken i s l f → (B i ≡ true) × ((A i ≡ true) ⊎ AsksFor ns l.target.set f)
         release_step i s l done = by (rw is at (backed i s l f done))
           where
-            by : Seen l.move.leaf h × (Seen l.move.leaf g ⊎ InNext l.move.leaf f) → (B i ≡ true) × ((A i ≡ true) ⊎ Contains l.target.set f)
+            by : Seen l.move.leaf h × (Seen l.move.leaf g ⊎ InNext l.move.leaf f) → (B i ≡ true) × ((A i ≡ true) ⊎ AsksFor ns l.target.set f)
             by both = (
               part_holds f.0 below h small_h occurs_h i s l both.0,
               elim both.1 [
                 | inl first ↦ inl (part_holds f.0 below g small_g occurs_g i s l first)
-                | inr left ↦ inr (left_in ns list untils w i s l.target l.move f left)
+                | inr left ↦ inr (left_in covering ns list untils w i s l.target l.move f left)
               ],
             )
 
@@ -153,7 +155,7 @@ module _ (ns : List Node) (list : IsNodeList ns) (untils : List FormulaId) (w : 
               | inl first ↦ absurd (both_ways (A i) (none 0 (omega arith)) first)
               | inr left ↦
                   stays j (next w i) l.target (live_next i s l)
-                  (done_in ns list untils w (next w i) l.target (live_next i s l).target (live_next i s l).move f left)
+                  (done_in covering ns list untils w (next w i) l.target (live_next i s l).target (live_next i s l).move f left)
                   (λ k less. none (suc k) (omega arith))
             ]
 
@@ -189,7 +191,7 @@ module _ (ns : List Node) (list : IsNodeList ns) (untils : List FormulaId) (w : 
       holds_by (Next g) is parts b =
           ap (λ t. holds w t i) (tree_is (Next g) is)
           ∙ below g parts (occurs_part (Next g) is g (Contains-here g [])) (next w i) l.target (live_next i s l)
-          (done_in ns list untils w (next w i) l.target (live_next i s l).target (live_next i s l).move g (left_in ns list untils w i s l.target l.move g b))
+          (done_in covering ns list untils w (next w i) l.target (live_next i s l).target (live_next i s l).move g (left_in covering ns list untils w i s l.target l.move g b))
       holds_by (Finally g) is parts b = absurd b
       holds_by (Globally g) is parts b = absurd b
       holds_by (And g h) is parts b =
@@ -218,7 +220,7 @@ module _ (ns : List Node) (list : IsNodeList ns) (untils : List FormulaId) (w : 
       holds_by g occurs (λ f small o j t k d. are_true n f (omega arith) o j t k d) i s l done stands (node_at ns g.0) refl (list.parts_first g.0) (backed i s l g done)
 
   -- what is in the set of a state from which the base is reached holds there
-  pub set_is_true : (n i : ℕ) (s : State) → i < lasso_len w → Walk ns list untils w n i s home base → (g : FormulaId) → OccursIn ns root g → Contains s.set g → holds w (tree_at ns g) i ≡ true
+  pub set_is_true : (n i : ℕ) (s : State) → i < lasso_len w → Walk covering ns list untils w n i s home base → (g : FormulaId) → OccursIn ns root g → AsksFor ns s.set g → holds w (tree_at ns g) i ≡ true
   set_is_true n i s within walk g occurs c =
       let l : Live i s = goes_on n i s within walk in
-      are_true (suc g.0) g (omega arith) occurs i s l (done_in ns list untils w i s l.target l.move g c)
+      are_true (suc g.0) g (omega arith) occurs i s l (done_in covering ns list untils w i s l.target l.move g c)

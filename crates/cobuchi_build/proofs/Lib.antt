@@ -7,8 +7,8 @@ pub mod Occurs
 pub mod Moves
 pub mod AcceptedTrue
 pub mod Places
+pub mod NamedPaths
 pub mod TrueAccepted
 pub mod Accepting
-pub mod Ordered
 pub mod LimitsKept
 pub mod TableLemmas

@@ -2,7 +2,7 @@ use Rattle.std.proofs.Common.{◌≡◌, inl, inr, ℕ, suc, ◌+◌, ◌-◌, �
 use Rattle.std.specs.Prelude.{fold}
 use Rattle.std.specs.List.{position_or_len}
 use Rattle.std.proofs.lemmas.Bool.{cond-true}
-use Rattle.std.proofs.lemmas.List.{append-nil, length-drop, get_or_default, length-take, take-append-drop, take_at}
+use Rattle.std.proofs.lemmas.List.{append-nil, length-drop, get_or_default, length-take, take-append-drop}
 use Rattle.std.proofs.lemmas.List.Elements.{filter-append}
 use Rattle.std.proofs.lemmas.Option.{get_or_from_slice_get}
 use Rattle.std.proofs.lemmas.List.Sums.{fold-append, fold_more}
@@ -18,6 +18,7 @@ use Rattle.machine_model.specs.declared.automata.Edge.{Edge}
 use Rattle.cobuchi_build.specs.declared.exploring.State.{State}
 use Rattle.cobuchi_build.specs.Explored.{Explored, meeting, same_edge, same_state, state_after}
 use Rattle.cobuchi_build.specs.Occurring.{marked_down, with_parts}
+use Rattle.text_limits.specs.declared.AutomatonLimits.{AutomatonLimits}
 use Rattle.cobuchi_build.specs.Sizes.{HasTooMany}
 use Rattle.cobuchi_build.proofs.Growth.{IsPrefix-length}
 use Rattle.cobuchi_build.proofs.Rounds.{GrowsTo, fold_grows}
@@ -39,19 +40,19 @@ module _ (untils : List FormulaId) (number counter : ℕ) where
   fold_step found now new cs i c h is before after =
       after ∙ (λ j. meeting untils number counter (before j) (is j)) ∙ sym (fold_more (meeting untils number counter) found cs i c h)
 
-  too_many-grown : (a b : Explored) → GrowsTo a b → HasTooMany a → HasTooMany b
-  too_many-grown a b g (inl h) = inl (omega (arith, IsPrefix-length a.states b.states g.states))
-  too_many-grown a b g (inr h) = inr (omega (arith, IsPrefix-length a.edges b.edges g.edges))
+  too_many-grown : (limits : AutomatonLimits) (a b : Explored) → GrowsTo a b → HasTooMany limits a → HasTooMany limits b
+  too_many-grown limits a b g (inl h) = inl (omega (arith, IsPrefix-length a.states b.states g.states))
+  too_many-grown limits a b g (inr h) = inr (omega (arith, IsPrefix-length a.edges b.edges g.edges))
 
   -- what is too large after some covers is too large after all
-  pub too_many-all : (found now : Explored) (cs : List Cover) (i : ℕ) (c : Cover) → i < length cs → c ≡ get_or cs i c → now ≡ fold (meeting untils number counter) found (take i cs) → HasTooMany (meeting untils number counter now c) → HasTooMany (fold (meeting untils number counter) found cs)
-  too_many-all found now cs i c h is before large =
+  pub too_many-all : (limits : AutomatonLimits) (found now : Explored) (cs : List Cover) (i : ℕ) (c : Cover) → i < length cs → c ≡ get_or cs i c → now ≡ fold (meeting untils number counter) found (take i cs) → HasTooMany limits (meeting untils number counter now c) → HasTooMany limits (fold (meeting untils number counter) found cs)
+  too_many-all limits found now cs i c h is before large =
       let here : meeting untils number counter now c ≡ fold (meeting untils number counter) found (take (i + 1) cs) = fold_step found now (meeting untils number counter now c) cs i c h is before refl in
       let all : fold (meeting untils number counter) (fold (meeting untils number counter) found (take (i + 1) cs)) (drop (i + 1) cs) ≡ fold (meeting untils number counter) found cs =
       sym (fold-append (meeting untils number counter) found (take (i + 1) cs) (drop (i + 1) cs)) ∙ ap (fold (meeting untils number counter) found) (take-append-drop (i + 1) cs) in
-      subst HasTooMany all
-      (too_many-grown (fold (meeting untils number counter) found (take (i + 1) cs)) (fold (meeting untils number counter) (fold (meeting untils number counter) found (take (i + 1) cs)) (drop (i + 1) cs))
-      (fold_grows untils number counter (fold (meeting untils number counter) found (take (i + 1) cs)) (drop (i + 1) cs)) (subst HasTooMany here large))
+      subst (HasTooMany limits) all
+      (too_many-grown limits (fold (meeting untils number counter) found (take (i + 1) cs)) (fold (meeting untils number counter) (fold (meeting untils number counter) found (take (i + 1) cs)) (drop (i + 1) cs))
+      (fold_grows untils number counter (fold (meeting untils number counter) found (take (i + 1) cs)) (drop (i + 1) cs)) (subst (HasTooMany limits) here large))
 
 pub none_noted : (xs : List FormulaId) (id : FormulaId) (b : Bool) → b ≡ false → xs ≡ xs ++ cond b (id ∷ []) []
 none_noted xs id b e = sym (append-nil xs) ∙ ap (λ t. xs ++ cond t (id ∷ []) []) (sym e)
@@ -60,10 +61,6 @@ pub sum_within : (xs : List FormulaId) (b r : ℕ) → b ≤ length xs → r ≤
 sum_within xs b r h g =
     let e : length (take (length xs - b) (drop b xs)) ≡ min (length xs - b) (length xs - b) = length-take (length xs - b) (drop b xs) ∙ ap (min (length xs - b)) (length-drop b xs) in
     omega arith
-
--- what a slice of a Vec was written to, read back
-pub written_back : (new old : List Bool) (n : ℕ) → length new ≡ length old → n ≡ length old → take n (new ++ drop (length new) old) ≡ new
-written_back new old n same e = take_at new (drop (length new) old) n (same ∙ sym e)
 
 -- the parts of one more formula are marked
 pub marked_more : (ns : List Node) (place n : ℕ) (flags lent new : List Bool) (node : Node) (flag : Bool) → place ≡ suc n → flag ≡ get_or flags n flag → flag ≡ true → n < length flags → slice_get ns n ≡ Some node → lent ≡ flags → new ≡ with_parts lent node → marked_down ns n new ≡ marked_down ns place flags

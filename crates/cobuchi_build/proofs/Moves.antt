@@ -13,36 +13,39 @@ use Rattle.ltl_formula.specs.declared.nodes.FormulaId.{FormulaId}
 use Rattle.ltl_formula.specs.declared.nodes.Node.{Node}
 use Rattle.ltl_formula.specs.Nodes.{IsNodeList}
 use Rattle.obligation_sets.specs.declared.sets.Cover.{Cover}
+use Rattle.obligation_sets.specs.declared.sets.Covering.{Covering}
 use Rattle.obligation_sets.specs.Branch.{Branch}
-use Rattle.obligation_sets.specs.Covers.{cover_of, covers_of, start_of}
-use Rattle.obligation_sets.specs.Ids.{has_id, ids_of, same_id}
+use Rattle.obligation_sets.specs.Covers.{start_of}
+use Rattle.obligation_sets.specs.Reduced.{cover_by, covers_by}
+use Rattle.obligation_sets.specs.Ids.{has_id, ids_of, is_among, same_id}
 use Rattle.obligation_sets.proofs.BackedLeaves.{LeafOf, Seen}
 use Rattle.obligation_sets.proofs.IdLists.{id_of_flag}
 use Rattle.obligation_sets.proofs.Lists.{Contains-none}
-use Rattle.obligation_sets.proofs.NextStep.{Expansion, expansion}
+use Rattle.obligation_sets.proofs.Implied.{AsksFor, asked_done}
+use Rattle.obligation_sets.proofs.NextStep.{Expansion, expansion, left_asked}
 use Rattle.machine_model.specs.Accepts.{Path}
 use Rattle.machine_model.specs.Automaton.{HasEdge}
 use Rattle.cobuchi_build.specs.declared.exploring.State.{State}
 use Rattle.cobuchi_build.specs.Built.{automaton_from}
-use Rattle.cobuchi_build.specs.Explored.{Explored, counter_after, is_postponed, state_after}
+use Rattle.cobuchi_build.specs.Explored.{Explored, counter_after, state_after}
 use Rattle.cobuchi_build.proofs.Sound.{FromCover, IsGood, IsSound, begin_of, contains_at}
 
 -- an until that is put off holds the counter back
-postponed_test : (postponed : List FormulaId) (f : FormulaId) → Contains postponed f → is_postponed postponed f ≡ true
+postponed_test : (postponed : List FormulaId) (f : FormulaId) → Contains postponed f → is_among postponed f ≡ true
 postponed_test postponed f c = list_any-from_Any (λ g. same_id g f) postponed (c.0, f, c.1, c.2, eq-eqb f.0 f.0 refl)
 
 pub held_back : (untils : List FormulaId) (counter k : ℕ) (f : FormulaId) (postponed : List FormulaId) → get_or untils k f ≡ f → Contains postponed f → begin_of untils counter ≤ k → counter_after untils counter postponed ≤ k
 held_back untils counter k f postponed at c from =
     let b : ℕ = begin_of untils counter in
-    elim (cases_lt (k - begin_of untils counter) (position_or_len (is_postponed postponed) (drop (begin_of untils counter) untils))) [
+    elim (cases_lt (k - begin_of untils counter) (position_or_len (is_among postponed) (drop (begin_of untils counter) untils))) [
       | inr more ↦ omega arith
       | inl less ↦
-          let fails : is_postponed postponed (get_or (drop (begin_of untils counter) untils) (k - begin_of untils counter) f) ≡ false =
-          fails_before_first (is_postponed postponed) (drop (begin_of untils counter) untils) (k - begin_of untils counter) f less in
+          let fails : is_among postponed (get_or (drop (begin_of untils counter) untils) (k - begin_of untils counter) f) ≡ false =
+          fails_before_first (is_among postponed) (drop (begin_of untils counter) untils) (k - begin_of untils counter) f less in
           let there : begin_of untils counter + (k - begin_of untils counter) ≡ k = omega arith in
           let is : get_or (drop (begin_of untils counter) untils) (k - begin_of untils counter) f ≡ f =
           get_or-drop (begin_of untils counter) untils (k - begin_of untils counter) f ∙ ap (λ n. get_or untils n f) there ∙ at in
-          absurd (false≢true (sym fails ∙ ap (is_postponed postponed) is ∙ postponed_test postponed f c))
+          absurd (false≢true (sym fails ∙ ap (is_among postponed) is ∙ postponed_test postponed f c))
     ]
 
 -- the counter goes on from 0 or from itself
@@ -59,13 +62,13 @@ begin_at_end untils counter last = cond-true (eqb counter (length untils)) 0 cou
 pub begin_inside : (untils : List FormulaId) (counter : ℕ) → counter < length untils → begin_of untils counter ≡ counter
 begin_inside untils counter less = cond-false (eqb counter (length untils)) 0 counter (ne_eqb counter (length untils) (λ e. omega arith))
 
-module _ (ns : List Node) (list : IsNodeList ns) (untils : List FormulaId) (w : Word) where
+module _ (covering : Covering) (ns : List Node) (list : IsNodeList ns) (untils : List FormulaId) (w : Word) where
   -- a step from a state at a position: the leaf of one of its covers, whose cube fits the letter
   pub record Move (i : ℕ) (s t : State) : Type 0 where
     pub leaf : Branch
     pub below : LeafOf ns list (start_of ns s.set) leaf
     pub fits : Fits leaf.cube (letter_at w i)
-    pub target : t ≡ state_after untils s.counter (cover_of leaf)
+    pub target : t ≡ state_after untils s.counter (cover_by covering ns leaf)
 
   -- so many steps from a state at a position to another
   abbrev pub Walk : ℕ → ℕ → State → ℕ → State → Type 0
@@ -76,13 +79,15 @@ module _ (ns : List Node) (list : IsNodeList ns) (untils : List FormulaId) (w : 
   seen_done b leaf below g (inl done) = done
   seen_done b leaf below g (inr work) = absurd (Contains-none g (subst (λ (fs : List FormulaId). Contains fs g) below.empty work))
 
-  -- each formula of the state's set is taken up in the step
-  pub done_in : (i : ℕ) (s t : State) (m : Move i s t) (f : FormulaId) → Contains s.set f → has_id m.leaf.done f ≡ true
-  done_in i s t m f h = seen_done (start_of ns s.set) m.leaf m.below f (m.below.goes.grown.parts f (inr h))
+  -- each formula that the state's set asks for is taken up in the step
+  pub done_in : (i : ℕ) (s t : State) (m : Move i s t) (f : FormulaId) → AsksFor ns s.set f → has_id m.leaf.done f ≡ true
+  done_in i s t m f asks =
+      asked_done ns m.leaf (seen_done (start_of ns s.set) m.leaf m.below) m.below.goes.backed s.set
+      (λ g there. seen_done (start_of ns s.set) m.leaf m.below g (m.below.goes.grown.parts g (inr there))) f asks
 
-  -- what the leaf leaves is in the next state's set
-  pub left_in : (i : ℕ) (s t : State) (m : Move i s t) (f : FormulaId) → has_id m.leaf.next f ≡ true → Contains t.set f
-  left_in i s t m f h = subst (λ (u : State). Contains u.set f) (sym m.target) (id_of_flag m.leaf.next f h)
+  -- what the leaf leaves the next state's set asks for
+  pub left_in : (i : ℕ) (s t : State) (m : Move i s t) (f : FormulaId) → has_id m.leaf.next f ≡ true → AsksFor ns t.set f
+  left_in i s t m f h = subst (λ (u : State). AsksFor ns u.set f) (sym m.target) (left_asked covering ns list m.leaf.next m.below.places.next f h)
 
   -- a step that puts an until off doesn't pass its number
   pub held_at : (i : ℕ) (s t : State) (m : Move i s t) (k : ℕ) (f : FormulaId) → get_or untils k f ≡ f → has_id m.leaf.postponed f ≡ true → begin_of untils s.counter ≤ k → t.counter ≤ k
@@ -102,15 +107,15 @@ module _ (ns : List Node) (list : IsNodeList ns) (untils : List FormulaId) (w : 
       all_held k f at n (next w i) walk.0 j t walk.2 puts.1 (begin_least untils walk.0.counter k here)
 
   -- a path of the automaton is such a walk
-  module _ (f : FormulaId) (n : ℕ) (found : Explored) (sound : IsSound ns untils f n found) where
+  module _ (f : FormulaId) (n : ℕ) (found : Explored) (sound : IsSound covering ns untils f n found) where
     edge_move : (i q r : ℕ) (s : State) → slice_get found.states q ≡ Some s → HasEdge (automaton_from untils found) (letter_at w i) q r → (t : State) × (slice_get found.states r ≡ Some t) × Move i s t
     edge_move i q r s at edge =
-        let fc : FromCover ns untils found (record { from = q; cube = edge.cube; to = r }) = sound.edges (record { from = q; cube = edge.cube; to = r }) edge.stands in
+        let fc : FromCover covering ns untils found (record { from = q; cube = edge.cube; to = r }) = sound.edges (record { from = q; cube = edge.cube; to = r }) edge.stands in
         let here : Some s ≡ Some fc.state = sym at ∙ fc.at in
         let is_state : s ≡ fc.state = cc in
-        let there : Contains (covers_of ns s.set) fc.cover = subst (λ (u : State). Contains (covers_of ns u.set) fc.cover) (sym is_state) fc.is_cover in
-        let good : IsGood ns untils s = All-contains (IsGood ns untils) found.states s sound.good (contains_at found.states q s at) in
-        let e : Expansion ns list s.set (λ k d h. (good.normal k d h).0) fc.cover = expansion ns list s.set (λ k d h. (good.normal k d h).0) fc.cover there in
+        let there : Contains (covers_by covering ns s.set) fc.cover = subst (λ (u : State). Contains (covers_by covering ns u.set) fc.cover) (sym is_state) fc.is_cover in
+        let good : IsGood covering ns untils s = All-contains (IsGood covering ns untils) found.states s sound.good (contains_at found.states q s at) in
+        let e : Expansion ns list s.set (λ k d h. (good.normal k d h).0) covering fc.cover = expansion ns list s.set (λ k d h. (good.normal k d h).0) covering fc.cover there in
         let same : edge.cube ≡ e.leaf.cube = fc.cube ∙ sym (ap (λ (c : Cover). c.cube) e.is) in (
           state_after untils s.counter fc.cover,
           fc.target ∙ ap (λ (u : State). Some (state_after untils u.counter fc.cover)) (sym is_state),

@@ -1,6 +1,6 @@
-use Rattle.std.proofs.Common.{◌≡◌, ◌⊎◌, inl, inr, ℕ, zero, suc, ◌<◌, ◌≤◌, Bool, true, false, cond, List, [], ◌∷◌, filter, get_or, length, replicate, refl, sym, ◌∙◌, ap, subst, arith}
-use Rattle.std.specs.Prelude.{Contains, fold}
-use Rattle.std.proofs.lemmas.Bool.{cases_eq, cond-true, false≢true}
+use Rattle.std.proofs.Common.{◌≡◌, inl, inr, ℕ, zero, suc, ◌<◌, ◌≤◌, Bool, true, false, cond, List, [], ◌∷◌, filter, get_or, length, replicate, refl, sym, ◌∙◌, ap, subst, arith}
+use Rattle.std.specs.Prelude.{Contains}
+use Rattle.std.proofs.lemmas.Bool.{cases_eq, false≢true}
 use Rattle.std.proofs.lemmas.List.{get_or_past, length-replicate, length-set}
 use Rattle.std.proofs.lemmas.List.Elements.{All-contains, filter_passes}
 use Rattle.ltl_formula.specs.declared.nodes.FormulaId.{FormulaId}
@@ -8,41 +8,12 @@ use Rattle.ltl_formula.specs.declared.nodes.Node.{Node}
 use Rattle.ltl_formula.specs.declared.nodes.Node.TheVariants.{True, False, Signal, Not, Next, Finally, Globally, And, Or, Implies, Equiv, Until, Release, WeakUntil}
 use Rattle.ltl_formula.specs.Nodes.{IsNodeList, PartsBelow, Stands, node_at}
 use Rattle.obligation_sets.specs.Ids.{has_id, ids_from, ids_of, with_id}
-use Rattle.obligation_sets.proofs.Flags.{has_id-none, with_id-cases, with_id-here, with_id-keeps}
+use Rattle.obligation_sets.proofs.Flags.{all-cases, all-here, all-keeps, fold_length, has_id-none, with_id-cases, with_id-here}
 use Rattle.obligation_sets.proofs.IdLists.{flag_of_id, id, id_of_flag}
-use Rattle.obligation_sets.proofs.Lists.{Contains-cons_cases, Contains-here, Contains-none, Contains-there}
+use Rattle.obligation_sets.proofs.Lists.{Contains-cons_cases, Contains-none, filter_from, filter_in}
 use Rattle.cobuchi_build.specs.Laws.{UntilsAreThoseThatOccur}
 use Rattle.cobuchi_build.specs.Occurring.{OccursIn, is_until, marked_down, occurring, operands_of, untils_of, with_parts}
 use Rattle.cobuchi_build.specs.Occurring.OccursIn.{itself, part}
-
--- the flags of some more formulas
-all-cases : (flags : List Bool) (gs : List FormulaId) (g : FormulaId) → has_id (fold with_id flags gs) g ≡ true → Contains gs g ⊎ (has_id flags g ≡ true)
-all-cases flags [] g h = inr h
-all-cases flags (f ∷ gs) g h =
-    elim (all-cases (with_id flags f) gs g h) [
-      | inl later ↦ inl (Contains-there f gs g later)
-      | inr before ↦ elim (with_id-cases flags f g before) [
-        | inl same ↦ inl (subst (λ (x : FormulaId). Contains (x ∷ gs) g) same (Contains-here g gs))
-        | inr old ↦ inr old
-      ]
-    ]
-
-all-keeps : (flags : List Bool) (gs : List FormulaId) (g : FormulaId) → has_id flags g ≡ true → has_id (fold with_id flags gs) g ≡ true
-all-keeps flags [] g h = h
-all-keeps flags (f ∷ gs) g h = all-keeps (with_id flags f) gs g (with_id-keeps flags f g h)
-
-all-here : (flags : List Bool) (gs : List FormulaId) (g : FormulaId) → g.0 < length flags → Contains gs g → has_id (fold with_id flags gs) g ≡ true
-all-here flags [] g within c = absurd (Contains-none g c)
-all-here flags (f ∷ gs) g within c =
-    let len : length (with_id flags f) ≡ length flags = length-set flags f.0 true in
-    elim (Contains-cons_cases f gs g c) [
-      | inl same ↦ all-keeps (with_id flags f) gs g (subst (λ (x : FormulaId). has_id (with_id flags x) g ≡ true) (sym same) (with_id-here flags g within))
-      | inr later ↦ all-here (with_id flags f) gs g (omega arith) later
-    ]
-
-pub fold_length : (flags : List Bool) (gs : List FormulaId) → length (fold with_id flags gs) ≡ length flags
-fold_length flags [] = refl
-fold_length flags (g ∷ gs) = fold_length (with_id flags g) gs ∙ length-set flags g.0 true
 
 -- parts stand before wholes
 one_below : (n : ℕ) (g x : FormulaId) → g.0 < n → Contains (g ∷ []) x → x.0 < n
@@ -155,34 +126,6 @@ kept_rise : (p : FormulaId → Bool) (k : ℕ) (flags : List Bool) (i j : ℕ) (
 kept_rise p k [] i j d less h = absurd (omega arith)
 kept_rise p k (true ∷ flags) i j d less h = rise_by (p (id k)) k (filter p (ids_from (suc k) flags)) (kept_least p (suc k) flags) (kept_rise p (suc k) flags) i j d less h
 kept_rise p k (false ∷ flags) i j d less h = kept_rise p (suc k) flags i j d less h
-
--- what a filter keeps
-module _ (p : FormulaId → Bool) where
-  in_cond : (b : Bool) (x : FormulaId) (xs : List FormulaId) (y : FormulaId) → Contains (cond b (x ∷ xs) xs) y → Contains (x ∷ xs) y
-  in_cond true x xs y c = c
-  in_cond false x xs y c = Contains-there x xs y c
-
-  filter_from : (xs : List FormulaId) (y : FormulaId) → Contains (filter p xs) y → Contains xs y
-  filter_from [] y c = c
-  filter_from (x ∷ xs) y c =
-      elim (Contains-cons_cases x (filter p xs) y (in_cond (p x) x (filter p xs) y c)) [
-        | inl same ↦ subst (λ (z : FormulaId). Contains (z ∷ xs) y) (sym same) (Contains-here y xs)
-        | inr later ↦ Contains-there x xs y (filter_from xs y later)
-      ]
-
-  cond_keeps : (b : Bool) (x : FormulaId) (xs : List FormulaId) (y : FormulaId) → Contains xs y → Contains (cond b (x ∷ xs) xs) y
-  cond_keeps true x xs y c = Contains-there x xs y c
-  cond_keeps false x xs y c = c
-
-  filter_in : (xs : List FormulaId) (y : FormulaId) → Contains xs y → p y ≡ true → Contains (filter p xs) y
-  filter_in [] y c e = c
-  filter_in (x ∷ xs) y c e =
-      elim (Contains-cons_cases x xs y c) [
-        | inl same ↦
-            subst (λ (l : List FormulaId). Contains l y) (sym (cond-true (p x) (x ∷ filter p xs) (filter p xs) (ap p same ∙ e)))
-            (subst (λ (z : FormulaId). Contains (z ∷ filter p xs) y) (sym same) (Contains-here y (filter p xs)))
-        | inr later ↦ cond_keeps (p x) x (filter p xs) y (filter_in xs y later e)
-      ]
 
 pub untils_are_those_that_occur : UntilsAreThoseThatOccur
 untils_are_those_that_occur ns f list stands =

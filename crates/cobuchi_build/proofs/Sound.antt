@@ -10,8 +10,9 @@ use Rattle.ltl_formula.specs.declared.nodes.FormulaId.{FormulaId}
 use Rattle.ltl_formula.specs.declared.nodes.Node.{Node}
 use Rattle.ltl_formula.specs.Nodes.{IsNodeList}
 use Rattle.obligation_sets.specs.declared.sets.Cover.{Cover}
-use Rattle.obligation_sets.specs.Covers.{covers_of}
-use Rattle.obligation_sets.specs.Ids.{same_ids}
+use Rattle.obligation_sets.specs.declared.sets.Covering.{Covering}
+use Rattle.obligation_sets.specs.Reduced.{covers_by}
+use Rattle.obligation_sets.specs.Ids.{is_among, same_ids}
 use Rattle.obligation_sets.specs.NextStep.{AreNormal}
 use Rattle.obligation_sets.proofs.Cubes.{same_cube}
 use Rattle.obligation_sets.proofs.Distinct.{all_from, all_in, same_ids-decides}
@@ -19,7 +20,7 @@ use Rattle.obligation_sets.proofs.Lists.{Contains-cons_cases, Contains-here, Con
 use Rattle.obligation_sets.proofs.NextStep.{All-from_contains}
 use Rattle.machine_model.specs.declared.automata.Edge.{Edge}
 use Rattle.cobuchi_build.specs.declared.exploring.State.{State}
-use Rattle.cobuchi_build.specs.Explored.{Explored, counter_after, expanding, explored, is_postponed, meeting, same_edge, same_state, start_of, state_after}
+use Rattle.cobuchi_build.specs.Explored.{Explored, counter_after, expanding, explored, meeting, same_edge, same_state, start_of, state_after}
 use Rattle.cobuchi_build.proofs.Growth.{IsPrefix-at, IsPrefix-before, IsPrefix-contains, insert_key-at}
 use Rattle.obligation_sets.proofs.Kept.{next_normal}
 use Rattle.cobuchi_build.proofs.Rounds.{GrowsTo, fold_grows}
@@ -62,7 +63,7 @@ begin_within untils counter h =
 pub counter_within : (untils : List FormulaId) (counter : ℕ) (postponed : List FormulaId) → counter ≤ length untils → counter_after untils counter postponed ≤ length untils
 counter_within untils counter postponed h =
     let b : begin_of untils counter ≤ length untils = begin_within untils counter h in
-    let r : position_or_len (is_postponed postponed) (drop (begin_of untils counter) untils) ≤ length (drop (begin_of untils counter) untils) =
+    let r : position_or_len (is_among postponed) (drop (begin_of untils counter) untils) ≤ length (drop (begin_of untils counter) untils) =
     prefix_len-le-length _ (drop (begin_of untils counter) untils) in
     let l : length (drop (begin_of untils counter) untils) ≡ length untils - begin_of untils counter = length-drop (begin_of untils counter) untils in
     omega arith
@@ -70,13 +71,13 @@ counter_within untils counter postponed h =
 pub contains_at : {X : Type 0} (xs : List X) (k : ℕ) (x : X) → slice_get xs k ≡ Some x → Contains xs x
 contains_at xs k x at = (k, slice_get_within xs k x at, get_or_from_slice_get xs k x x at)
 
-module _ (ns : List Node) (untils : List FormulaId) where
+module _ (covering : Covering) (ns : List Node) (untils : List FormulaId) where
   -- the edge comes from a cover of its source
   pub record FromCover (found : Explored) (e : Edge) : Type 0 where
     pub state : State
     pub at : slice_get found.states e.from ≡ Some state
     pub cover : Cover
-    pub is_cover : Contains (covers_of ns state.set) cover
+    pub is_cover : Contains (covers_by covering ns state.set) cover
     pub cube : e.cube ≡ cover.cube
     pub target : slice_get found.states e.to ≡ Some (state_after untils state.counter cover)
 
@@ -186,14 +187,14 @@ module _ (ns : List Node) (untils : List FormulaId) where
   pub record IsSound (f : FormulaId) (n : ℕ) (found : Explored) : Type 0 where
     pub start : slice_get found.states 0 ≡ Some (start_of f)
     pub edges : (e : Edge) → Contains found.edges e → FromCover found e
-    pub covers : (q : ℕ) (s : State) → q < n → slice_get found.states q ≡ Some s → (c : Cover) → Contains (covers_of ns s.set) c → HasCover found q s.counter c
+    pub covers : (q : ℕ) (s : State) → q < n → slice_get found.states q ≡ Some s → (c : Cover) → Contains (covers_by covering ns s.set) c → HasCover found q s.counter c
     pub good : All IsGood found.states
 
   module _ (list : IsNodeList ns) (f : FormulaId) where
-    target_good : (s : State) → IsGood s → (c : Cover) → Contains (covers_of ns s.set) c → IsGood (state_after untils s.counter c)
-    target_good s good c h = record { normal = next_normal ns list s.set good.normal c h; counter = counter_within untils s.counter c.postponed good.counter }
+    target_good : (s : State) → IsGood s → (c : Cover) → Contains (covers_by covering ns s.set) c → IsGood (state_after untils s.counter c)
+    target_good s good c h = record { normal = next_normal ns list covering s.set good.normal c h; counter = counter_within untils s.counter c.postponed good.counter }
 
-    sound_round : (n : ℕ) (found : Explored) → IsSound f n found → (o : Option State) → slice_get found.states n ≡ o → IsSound f (suc n) (expanding ns untils n found o)
+    sound_round : (n : ℕ) (found : Explored) → IsSound f n found → (o : Option State) → slice_get found.states n ≡ o → IsSound f (suc n) (expanding covering ns untils n found o)
     sound_round n found sound None is = record {
       start = sound.start;
       edges = sound.edges;
@@ -205,13 +206,13 @@ module _ (ns : List Node) (untils : List FormulaId) where
       good = sound.good;
     }
     sound_round n found sound (Some state) is =
-        let new : Explored = fold (meeting untils n state.counter) found (covers_of ns state.set) in
-        let grown : GrowsTo found new = fold_grows untils n state.counter found (covers_of ns state.set) in
+        let new : Explored = fold (meeting untils n state.counter) found (covers_by covering ns state.set) in
+        let grown : GrowsTo found new = fold_grows untils n state.counter found (covers_by covering ns state.set) in
         let good : IsGood state = All-at n state is sound.good in
         record {
           start = IsPrefix-at found.states new.states 0 (start_of f) grown.states sound.start;
           edges = λ e h.
-              elim (fold_edges n state.counter found (covers_of ns state.set) e h) [
+              elim (fold_edges n state.counter found (covers_by covering ns state.set) e h) [
                 | inl old ↦ FromCover-grown found new e grown (sound.edges e old)
                 | inr made ↦ record {
                   state = state;
@@ -229,28 +230,28 @@ module _ (ns : List Node) (untils : List FormulaId) where
                     let is_state : s ≡ state = cc in
                     subst (λ (k : ℕ). HasCover new k s.counter c) (sym same)
                     (subst (λ (t : State). HasCover new n t.counter c) (sym is_state)
-                    (fold_covers n state.counter found (covers_of ns state.set) c (subst (λ (t : State). Contains (covers_of ns t.set) c) is_state there)))
+                    (fold_covers n state.counter found (covers_by covering ns state.set) c (subst (λ (t : State). Contains (covers_by covering ns t.set) c) is_state there)))
                 | inr other ↦ earlier q s (let apart : q ≡ n → ⊥ = other in omega arith) at c there
               ];
-          good = fold_good n state.counter found (covers_of ns state.set) (λ c h. target_good state good c h) sound.good;
+          good = fold_good n state.counter found (covers_by covering ns state.set) (λ c h. target_good state good c h) sound.good;
         }
       where
         All-at : (k : ℕ) (s : State) → slice_get found.states k ≡ Some s → All IsGood found.states → IsGood s
         All-at k s at all = All-contains IsGood found.states s all (contains_at found.states k s at)
 
-        earlier : (q : ℕ) (s : State) → q < n → slice_get (fold (meeting untils n state.counter) found (covers_of ns state.set)).states q ≡ Some s → (c : Cover) → Contains (covers_of ns s.set) c → HasCover (fold (meeting untils n state.counter) found (covers_of ns state.set)) q s.counter c
+        earlier : (q : ℕ) (s : State) → q < n → slice_get (fold (meeting untils n state.counter) found (covers_by covering ns state.set)).states q ≡ Some s → (c : Cover) → Contains (covers_by covering ns s.set) c → HasCover (fold (meeting untils n state.counter) found (covers_by covering ns state.set)) q s.counter c
         earlier q s less at c there =
-            let grown : GrowsTo found (fold (meeting untils n state.counter) found (covers_of ns state.set)) = fold_grows untils n state.counter found (covers_of ns state.set) in
+            let grown : GrowsTo found (fold (meeting untils n state.counter) found (covers_by covering ns state.set)) = fold_grows untils n state.counter found (covers_by covering ns state.set) in
             let within : n < length found.states = slice_get_within found.states n state is in
-            HasCover-grown found (fold (meeting untils n state.counter) found (covers_of ns state.set)) q s.counter c grown
+            HasCover-grown found (fold (meeting untils n state.counter) found (covers_by covering ns state.set)) q s.counter c grown
             (sound.covers q s less (IsPrefix-before found.states _ q s grown.states (omega arith) at) c there)
 
     -- all that is ever met is sound
-    pub explored_sound : AreNormal ns (f ∷ []) → (n : ℕ) → IsSound f n (explored ns untils f n)
+    pub explored_sound : AreNormal ns (f ∷ []) → (n : ℕ) → IsSound f n (explored covering ns untils f n)
     explored_sound normal zero = record {
       start = refl;
       edges = λ e h. absurd (Contains-none e h);
       covers = λ q s less at c there. absurd (omega arith);
       good = All-cons IsGood (start_of f) [] (record { normal = normal; counter = omega arith }) (All-nil IsGood);
     }
-    explored_sound normal (suc n) = sound_round n (explored ns untils f n) (explored_sound normal n) (slice_get (explored ns untils f n).states n) refl
+    explored_sound normal (suc n) = sound_round n (explored covering ns untils f n) (explored_sound normal n) (slice_get (explored covering ns untils f n).states n) refl

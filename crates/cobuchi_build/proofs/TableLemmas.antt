@@ -9,7 +9,9 @@ use Rattle.indexmap.specs.IndexSet.{insert_key}
 use Rattle.ltl_formula.specs.declared.nodes.FormulaId.{FormulaId}
 use Rattle.ltl_formula.specs.declared.nodes.Node.{Node}
 use Rattle.obligation_sets.specs.declared.sets.Cover.{Cover}
-use Rattle.obligation_sets.specs.Covers.{covers_of, set_leaves}
+use Rattle.obligation_sets.specs.declared.sets.Covering.{Covering}
+use Rattle.obligation_sets.specs.Covers.{set_leaves}
+use Rattle.obligation_sets.specs.Reduced.{covers_by}
 use Rattle.obligation_sets.specs.Ids.{same_ids}
 use Rattle.obligation_sets.proofs.Distinct.{same_ids-decides}
 use Rattle.cobuchi_build.specs.CoverTable.{IsTableOf, TableModel}
@@ -17,13 +19,13 @@ use Rattle.cobuchi_build.proofs.Growth.{insert_key-at}
 use Rattle.cobuchi_build.proofs.Sound.{contains_at}
 
 -- what stands at the place of a set
-pub covers_at : (ns : List Node) (t : TableModel) (place : ℕ) (set : List FormulaId) → IsTableOf ns t → slice_get t.sets place ≡ Some set → slice_get t.covers place ≡ Some (covers_of ns set)
-covers_at ns t place set known there =
-    ap (λ (l : List (List Cover)). slice_get l place) known.covers ∙ slice_get-map (covers_of ns) t.sets place ∙ ap (option_map (covers_of ns)) there
+pub covers_at : (covering : Covering) (ns : List Node) (t : TableModel) (place : ℕ) (set : List FormulaId) → IsTableOf covering ns t → slice_get t.sets place ≡ Some set → slice_get t.covers place ≡ Some (covers_by covering ns set)
+covers_at covering ns t place set known there =
+    ap (λ (l : List (List Cover)). slice_get l place) known.covers ∙ slice_get-map (covers_by covering ns) t.sets place ∙ ap (option_map (covers_by covering ns)) there
 
-module _ (ns : List Node) (set : List FormulaId) (sets : List (List FormulaId)) (covers : List (List Cover)) (t : TableModel) (view : record { sets = sets; covers = covers } ≡ t) (known : IsTableOf ns t) (keys : List (List FormulaId)) (place : ℕ) (key : List FormulaId) (same : key ≡ set) (joins : keys ≡ insert_key same_ids sets key) (is : place ≡ position_or_len (same_ids key) sets) where
-  inside : IsTableOf ns (record { sets = sets; covers = covers })
-  inside = subst (IsTableOf ns) (sym view) known
+module _ (covering : Covering) (ns : List Node) (set : List FormulaId) (sets : List (List FormulaId)) (covers : List (List Cover)) (t : TableModel) (view : record { sets = sets; covers = covers } ≡ t) (known : IsTableOf covering ns t) (keys : List (List FormulaId)) (place : ℕ) (key : List FormulaId) (same : key ≡ set) (joins : keys ≡ insert_key same_ids sets key) (is : place ≡ position_or_len (same_ids key) sets) where
+  inside : IsTableOf covering ns (record { sets = sets; covers = covers })
+  inside = subst (IsTableOf covering ns) (sym view) known
 
   -- the set stands at its place
   here : slice_get keys place ≡ Some set
@@ -36,24 +38,24 @@ module _ (ns : List Node) (set : List FormulaId) (sets : List (List FormulaId)) 
     there : slice_get sets place ≡ Some set
     there = ap (λ (l : List (List FormulaId)). slice_get l place) (sym same_keys) ∙ here
 
-    pub old_covers : slice_get covers place ≡ Some (covers_of ns set)
-    old_covers = covers_at ns (record { sets = sets; covers = covers }) place set inside there
+    pub old_covers : slice_get covers place ≡ Some (covers_by covering ns set)
+    old_covers = covers_at covering ns (record { sets = sets; covers = covers }) place set inside there
 
     pub old_few : length (set_leaves ns set) ≤ 100000
     old_few = All-contains (λ s. length (set_leaves ns s) ≤ 100000) sets set inside.few (contains_at sets place set there)
 
-  module _ (fresh : list_any (same_ids key) sets ≡ false) (made : List Cover) (right : made ≡ covers_of ns set) (few : length (set_leaves ns set) ≤ 100000) (new : List (List Cover)) (grown : new ≡ covers ++ made ∷ []) where
+  module _ (fresh : list_any (same_ids key) sets ≡ false) (made : List Cover) (right : made ≡ covers_by covering ns set) (few : length (set_leaves ns set) ≤ 100000) (new : List (List Cover)) (grown : new ≡ covers ++ made ∷ []) where
     more_keys : keys ≡ sets ++ set ∷ []
     more_keys = joins ∙ cond-false (list_any (same_ids key) sets) sets (sets ++ key ∷ []) fresh ∙ ap (λ k. sets ++ k ∷ []) same
 
-    pub new_known : IsTableOf ns (record { sets = keys; covers = new })
+    pub new_known : IsTableOf covering ns (record { sets = keys; covers = new })
     new_known = record {
-      covers = grown ∙ (λ i. inside.covers i ++ right i ∷ []) ∙ sym (map-append (covers_of ns) sets (set ∷ [])) ∙ ap (map (covers_of ns)) (sym more_keys);
+      covers = grown ∙ (λ i. inside.covers i ++ right i ∷ []) ∙ sym (map-append (covers_by covering ns) sets (set ∷ [])) ∙ ap (map (covers_by covering ns)) (sym more_keys);
       few = subst (All (λ s. length (set_leaves ns s) ≤ 100000)) (sym more_keys) (All-append (λ s. length (set_leaves ns s) ≤ 100000) sets (set ∷ []) inside.few (search rules));
     }
 
-    pub new_covers : slice_get new place ≡ Some (covers_of ns set)
-    new_covers = covers_at ns (record { sets = keys; covers = new }) place set new_known here
+    pub new_covers : slice_get new place ≡ Some (covers_by covering ns set)
+    new_covers = covers_at covering ns (record { sets = keys; covers = new }) place set new_known here
 
 pub is_fresh : (b is_new : Bool) → is_new ≡ not b → is_new ≡ true → b ≡ false
 is_fresh true is_new e t = cc

@@ -1,22 +1,32 @@
-use Rattle.std.specs.Prelude.{◌≡◌, List}
+use Rattle.std.specs.Prelude.{◌≡◌, List, IsTrue}
 use Rattle.ltl_formula.specs.declared.nodes.FormulaId.{FormulaId}
 use Rattle.ltl_formula.specs.declared.nodes.Node.{Node}
 use Rattle.ltl_formula.specs.NormalForm.{IsNormal}
 use Rattle.ltl_formula.specs.Nodes.{IsNodeList, Stands, tree_at}
+use Rattle.letter_word.specs.Word.{Word, HasRing}
+use Rattle.ltl_formula.specs.Truth.{holds}
+use Rattle.obligation_sets.specs.declared.sets.Covering.{Covering}
 use Rattle.machine_model.specs.Automaton.{AutomatonModel}
 use Rattle.cobuchi_build.specs.Built.{AcceptsExactly, IsAutomatonOf}
 use Rattle.cobuchi_build.specs.Occurring.{ListsUntils, untils_of}
+use Rattle.cobuchi_build.specs.Paths.{HasPath}
 
--- the automaton of a formula in normal form accepts exactly the lassos on which the formula is true
+-- the automaton of a formula in normal form, over plain or reduced covers, accepts exactly the lassos on which the formula is true
 abbrev pub TheAutomatonAcceptsExactly : Type 0
 TheAutomatonAcceptsExactly =
-    (ns : List Node) (f : FormulaId) (a : AutomatonModel) → IsNodeList ns → Stands ns f → IsNormal (tree_at ns f)
-    → IsAutomatonOf ns f a → AcceptsExactly ns f a
+    (covering : Covering) (ns : List Node) (f : FormulaId) (a : AutomatonModel) → IsNodeList ns → Stands ns f → IsNormal (tree_at ns f)
+    → IsAutomatonOf covering ns f a → AcceptsExactly ns f a
 
--- a formula has one automaton: what is found no longer changes once each state was expanded
+-- where a formula in normal form is true on a lasso it has a path of named states there, whatever the limits are
+abbrev pub TrueFormulasHavePaths : Type 0
+TrueFormulasHavePaths =
+    (covering : Covering) (ns : List Node) (f : FormulaId) (w : Word) → IsNodeList ns → Stands ns f → IsNormal (tree_at ns f)
+    → HasRing w → IsTrue (holds w (tree_at ns f) 0) → HasPath covering ns f w
+
+-- a formula has one automaton over plain covers, and one over reduced ones: what is found no longer changes once each state was expanded
 abbrev pub OneAutomatonPerFormula : Type 0
 OneAutomatonPerFormula =
-    (ns : List Node) (f : FormulaId) (a b : AutomatonModel) → IsAutomatonOf ns f a → IsAutomatonOf ns f b → a ≡ b
+    (covering : Covering) (ns : List Node) (f : FormulaId) (a b : AutomatonModel) → IsAutomatonOf covering ns f a → IsAutomatonOf covering ns f b → a ≡ b
 
 -- the list of untils has exactly those that occur in the formula, by rising id
 abbrev pub UntilsAreThoseThatOccur : Type 0

@@ -6,7 +6,8 @@ use Rattle.ltl_formula.specs.NormalForm.{IsNormal}
 use Rattle.ltl_formula.specs.Nodes.{IsNodeList, Stands, tree_at}
 use Rattle.machine_model.specs.Automaton.{AutomatonModel, states_of}
 use Rattle.machine_model.specs.Problem.{NamesSignals}
-use Rattle.cobuchi_build.specs.declared.building.TheConstants.{MAX_STATES}
+use Rattle.obligation_sets.specs.declared.sets.Covering.{Covering}
+use Rattle.text_limits.specs.declared.AutomatonLimits.{AutomatonLimits}
 use Rattle.cobuchi_build.specs.Built.{IsAutomatonOf, PassesLimit}
 
 -- the automaton's cubes name no signals but those of the list
@@ -15,5 +16,5 @@ pub record NamesSignalsOf (ns : List Node) (a : AutomatonModel) : Type 0 where
 
 -- what every automaton of a formula keeps to
 pub record AutomataKeepLimits : Type 0 where
-  pub signals : (ns : List Node) (f : FormulaId) (a : AutomatonModel) → IsNodeList ns → Stands ns f → IsNormal (tree_at ns f) → IsAutomatonOf ns f a → NamesSignalsOf ns a
-  pub states : (ns : List Node) (f : FormulaId) (a : AutomatonModel) → IsAutomatonOf ns f a → (PassesLimit ns f → ⊥) → states_of a ≤ MAX_STATES
+  pub signals : (covering : Covering) (ns : List Node) (f : FormulaId) (a : AutomatonModel) → IsNodeList ns → Stands ns f → IsNormal (tree_at ns f) → IsAutomatonOf covering ns f a → NamesSignalsOf ns a
+  pub states : (covering : Covering) (limits : AutomatonLimits) (ns : List Node) (f : FormulaId) (a : AutomatonModel) → IsAutomatonOf covering ns f a → (PassesLimit covering limits ns f → ⊥) → states_of a ≤ limits.states

@@ -1,12 +1,12 @@
 use Rattle.std.specs.Prelude.{◌<◌, ◌≤◌, ◌⊎◌, length}
-use Rattle.cobuchi_build.specs.declared.building.TheConstants.{MAX_EDGES, MAX_STATES}
+use Rattle.text_limits.specs.declared.AutomatonLimits.{AutomatonLimits}
 use Rattle.cobuchi_build.specs.Explored.{Explored}
 
 -- what was found is within the limits on states and edges
-pub record HasRoom (found : Explored) : Type 0 where
-  pub states : length found.states ≤ MAX_STATES
-  pub edges : length found.edges ≤ MAX_EDGES
+pub record HasRoom (limits : AutomatonLimits) (found : Explored) : Type 0 where
+  pub states : length found.states ≤ limits.states
+  pub edges : length found.edges ≤ limits.edges
 
 -- what was found passes the limit on states or that on edges
-abbrev pub HasTooMany : Explored → Type 0
-HasTooMany found = (MAX_STATES < length found.states) ⊎ (MAX_EDGES < length found.edges)
+abbrev pub HasTooMany : AutomatonLimits → Explored → Type 0
+HasTooMany limits found = (limits.states < length found.states) ⊎ (limits.edges < length found.edges)

@@ -11,14 +11,9 @@ use crate::exploring::Found;
 use crate::untils::untils_of;
 use ltl_formula::{FormulaId, Formulas};
 use machine_model::Automaton;
-use obligation_sets::CoverFault;
+use obligation_sets::{CoverFault, Covering};
 use std::alloc::{AllocError, AllocFailed, Global};
-
-/// The largest number of states that an automaton may have.
-pub const MAX_STATES: usize = 2_000;
-
-/// The largest number of edges that an automaton may have, equal ones counted once.
-pub const MAX_EDGES: usize = 200_000;
+use text_limits::AutomatonLimits;
 
 /// Why an automaton wasn't given.
 #[derive(Clone, Copy, Debug, PartialEq, Eq)]
@@ -64,24 +59,31 @@ impl From<CoverFault> for BuildFault {
     }
 }
 
-/// The automaton of a formula in normal form, which accepts exactly the lassos on which the formula is true. States and
+/// The automaton of a formula in normal form, over plain or reduced covers, which accepts exactly the lassos on which
+/// the formula is true. States and
 /// edges are found by hashing. It takes time for each leaf of each set, as much as there are formulas, and for each cover
 /// of each state, as much as there are untils.
-pub fn build(alloc: Global, formulas: &Formulas, f: FormulaId) -> Result<Automaton, BuildFault>
+pub fn build(
+    alloc: Global,
+    formulas: &Formulas,
+    f: FormulaId,
+    covering: Covering,
+    limits: AutomatonLimits,
+) -> Result<Automaton, BuildFault>
     requires stands { Stands formulas.now f }
     requires normal { IsNormal (tree_at formulas.now f) }
 
-    ensures automaton { IfOk result (λ a. IsAutomatonOf formulas.now f a) }
-    ensures within { OnOk result (PassesLimit formulas.now f → ⊥) }
+    ensures automaton { IfOk result (λ a. IsAutomatonOf covering formulas.now f a) }
+    ensures within { OnOk result (PassesLimit covering limits formulas.now f → ⊥) }
     ensures accepts { IfOk result (λ a. AcceptsExactly formulas.now f a) }
     ensures signals { IfOk result (NamesSignalsOf formulas.now) }
-    ensures small { IfOk result (λ a. states_of a ≤ MAX_STATES) }
+    ensures small { IfOk result (λ a. states_of a ≤ limits.states) }
 
-    ensures too_large { result ≡ Err BuildFault.TooLarge → PassesLimit formulas.now f }
+    ensures too_large { result ≡ Err BuildFault.TooLarge → PassesLimit covering limits formulas.now f }
     ensures nodes { result ≡ Err BuildFault.TooManyNodes → ⊥ }
 {
     let untils = untils_of(alloc, formulas, f)?;
-    let found = explore(alloc, formulas, f, &untils)?;
+    let found = explore(alloc, formulas, f, &untils, covering, limits)?;
     let (edges, rejecting) = found.into_parts(alloc, untils.len())?;
     match Automaton::new(edges, rejecting) {
         Ok(automaton) => Ok(automaton),
@@ -95,26 +97,31 @@ fn explore(
     formulas: &Formulas,
     f: FormulaId,
     untils: &[FormulaId],
+    covering: Covering,
+    limits: AutomatonLimits,
 ) -> Result<Found, BuildFault>
     requires list { IsNodeList formulas.now }
     requires stands { Stands formulas.now f }
     requires normal { IsNormal (tree_at formulas.now f) }
     requires untils { untils.now ≡ untils_of formulas.now f }
 
-    ensures all { IfOk result (IsFinished formulas.now f) }
-    ensures within { OnOk result (PassesLimit formulas.now f → ⊥) }
-    ensures few { IfOk result (λ found. length found.states ≤ MAX_STATES) }
-    ensures too_large { result ≡ Err BuildFault.TooLarge → PassesLimit formulas.now f }
+    ensures all { IfOk result (IsFinished covering formulas.now f) }
+    ensures within { OnOk result (PassesLimit covering limits formulas.now f → ⊥) }
+    ensures few { IfOk result (λ found. length found.states ≤ limits.states) }
+    ensures too_large { result ≡ Err BuildFault.TooLarge → PassesLimit covering limits formulas.now f }
     ensures nodes { result ≡ Err BuildFault.TooManyNodes → ⊥ }
 {
+    if limits.allows_none() {
+        return Err(BuildFault::TooLarge);
+    }
     let mut found = Found::start(alloc, f)?;
     let mut table = CoverTable::new(alloc);
     let mut number = 0;
     while let Some(state) = found.state(number) {
         let counter = state.counter;
-        let place = table.place(alloc, formulas, &state.set)?;
+        let place = table.place(alloc, formulas, &state.set, covering)?;
         let covers = table.at(place);
-        found.expand(alloc, untils, number as u32, counter, covers)?;
+        found.expand(alloc, untils, number as u32, counter, covers, limits)?;
         number += 1;
     }
     Ok(found)

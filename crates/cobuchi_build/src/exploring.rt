@@ -1,29 +1,32 @@
-ghost use Rattle.std.specs.Prelude.{◌≡◌, ◌==◌, ◌<◌, ◌≤◌, Err, IfOk, OnOk, fold, length, map, slice_get};
+ghost use Rattle.std.specs.Prelude.{◌≡◌, ◌==◌, ◌<◌, ◌≤◌, ◌^◌, Err, IfOk, OnOk, fold, length, map, slice_get};
 ghost use Rattle.std.specs.List.{position_or_len};
 ghost use Rattle.std.specs.Option.{option_copied};
-ghost use Rattle.obligation_sets.specs.Ids.{IdsRise};
-ghost use Rattle.cobuchi_build.specs.Explored.{counter_after, is_postponed};
+ghost use Rattle.obligation_sets.specs.Ids.{is_among};
+ghost use Rattle.cobuchi_build.specs.Explored.{counter_after};
 
-use crate::building::{BuildFault, MAX_EDGES, MAX_STATES};
+use crate::building::BuildFault;
 use indexmap::IndexSet;
 use ltl_formula::FormulaId;
 use machine_model::Edge;
 use obligation_sets::{Cover, ObligationSet};
 use std::alloc::{AllocError, Global};
 use std::marker::Model;
+use text_limits::AutomatonLimits;
 
-/// A state of the automaton: what is to hold from here on, and the number of the until that is waited for.
-#[derive(Drop, PartialEq, Eq, Hash)]
-pub(crate) struct State {
-    pub(crate) set: ObligationSet,
-    pub(crate) counter: u32,
+/// A state of the automaton, named by what it is.
+#[derive(Debug, Drop, PartialEq, Eq, Hash)]
+pub struct State {
+    /// What is to hold from here on.
+    pub set: ObligationSet,
+    /// The number of the until that is waited for, or the number of all untils.
+    pub counter: u32,
 }
 
 impl State {
     ghost use Rattle.cobuchi_build.specs.Explored.{start_of, state_after};
 
     /// The state that the automaton of `f` starts in.
-    fn start(alloc: Global, f: FormulaId) -> Result<State, AllocError>
+    pub fn start(alloc: Global, f: FormulaId) -> Result<State, AllocError>
         ensures { IfOk result (λ state. state ≡ start_of f) }
     {
         Ok(State {
@@ -33,13 +36,13 @@ impl State {
     }
 
     /// The state that a cover of a state with this counter leads to.
-    fn after(
+    pub fn after(
         alloc: Global,
         untils: &[FormulaId],
         counter: u32,
         cover: &Cover,
     ) -> Result<State, AllocError>
-        requires few { length untils.now < 2000 }
+        requires few { length untils.now < 2 ^ 32 }
         requires counter { counter ≤ length untils.now }
         ensures { IfOk result (λ state. state ≡ state_after untils.now counter cover.now) }
     {
@@ -50,9 +53,9 @@ impl State {
     }
 }
 
-/// The counter after a step that puts these untils off.
-fn counter_after(untils: &[FormulaId], counter: u32, postponed: &ObligationSet) -> u32
-    requires few { length untils.now < 2000 }
+/// The counter after a step that puts these untils off. It takes a binary search for each until.
+pub fn counter_after(untils: &[FormulaId], counter: u32, postponed: &ObligationSet) -> u32
+    requires few { length untils.now < 2 ^ 32 }
     requires counter { counter ≤ length untils.now }
     ensures value { result ≡ counter_after untils.now counter postponed.now }
     ensures within { result ≤ length untils.now }
@@ -67,24 +70,15 @@ fn counter_after(untils: &[FormulaId], counter: u32, postponed: &ObligationSet) 
 
 /// How many untils come before the first that was put off. It takes a binary search for each.
 fn met_in_turn(untils: &[FormulaId], postponed: &ObligationSet) -> usize
-    ensures value { result ≡ position_or_len (is_postponed postponed.now) untils.now }
+    ensures value { result ≡ position_or_len (is_among postponed.now) untils.now }
     ensures within { result ≤ length untils.now }
 {
     for (number, until) in untils.iter().enumerate() {
-        if is_postponed(postponed, *until) {
+        if postponed.contains(*until) {
             return number;
         }
     }
     untils.len()
-}
-
-/// Whether an until was put off.
-fn is_postponed(postponed: &ObligationSet, until: FormulaId) -> bool
-    ensures { result ≡ is_postponed postponed.now until }
-{
-    let ids = postponed.ids();
-    let place = ids.partition_point(|id| id.0 < until.0);
-    place < ids.len() && ids[place] == until
 }
 
 /// For each state whether its counter is `untils`.
@@ -144,17 +138,18 @@ impl Found {
         number: u32,
         counter: u32,
         covers: &[Cover],
+        limits: AutomatonLimits,
     ) -> Result<(), BuildFault>
-        requires few { length untils.now < 2000 }
+        requires few { length untils.now < 2 ^ 32 }
         requires counter { counter ≤ length untils.now }
-        requires room { HasRoom self.old }
+        requires room { HasRoom limits self.old }
         ensures ok { OnOk result (self.new ≡ fold (meeting untils.now number counter) self.old covers.now) }
-        ensures room { OnOk result (HasRoom self.new) }
-        ensures too_large { result ≡ Err BuildFault.TooLarge → HasTooMany (fold (meeting untils.now number counter) self.old covers.now) }
+        ensures room { OnOk result (HasRoom limits self.new) }
+        ensures too_large { result ≡ Err BuildFault.TooLarge → HasTooMany limits (fold (meeting untils.now number counter) self.old covers.now) }
         ensures nodes { result ≡ Err BuildFault.TooManyNodes → ⊥ }
     {
         for cover in covers {
-            self.meet(alloc, untils, number, counter, cover)?;
+            self.meet(alloc, untils, number, counter, cover, limits)?;
         }
         Ok(())
     }
@@ -167,18 +162,19 @@ impl Found {
         number: u32,
         counter: u32,
         cover: &Cover,
+        limits: AutomatonLimits,
     ) -> Result<(), BuildFault>
-        requires few { length untils.now < 2000 }
+        requires few { length untils.now < 2 ^ 32 }
         requires counter { counter ≤ length untils.now }
-        requires room { HasRoom self.old }
+        requires room { HasRoom limits self.old }
         ensures ok { OnOk result (self.new ≡ meeting untils.now number counter self.old cover.now) }
-        ensures room { OnOk result (HasRoom self.new) }
-        ensures too_large { result ≡ Err BuildFault.TooLarge → HasTooMany (meeting untils.now number counter self.old cover.now) }
+        ensures room { OnOk result (HasRoom limits self.new) }
+        ensures too_large { result ≡ Err BuildFault.TooLarge → HasTooMany limits (meeting untils.now number counter self.old cover.now) }
         ensures nodes { result ≡ Err BuildFault.TooManyNodes → ⊥ }
     {
         let target = State::after(alloc, untils, counter, cover)?;
         let (to, _) = self.states.insert_full(target)?;
-        if self.states.len() > MAX_STATES {
+        if self.states.len() > limits.states as usize {
             return Err(BuildFault::TooLarge);
         }
         self.edges.insert(Edge {
@@ -186,7 +182,7 @@ impl Found {
             cube: cover.cube,
             to: to as u32,
         })?;
-        if self.edges.len() > MAX_EDGES {
+        if self.edges.len() > limits.edges {
             return Err(BuildFault::TooLarge);
         }
         Ok(())

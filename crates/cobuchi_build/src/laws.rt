@@ -1,11 +1,16 @@
 //! Laws of the automaton of a formula. Each is the contract of a function that does nothing.
 
 ghost use Rattle.cobuchi_build.specs.Limits.{AutomataKeepLimits};
-ghost use Rattle.cobuchi_build.specs.Laws.{OneAutomatonPerFormula, TheAutomatonAcceptsExactly, UntilsAreThoseThatOccur};
+ghost use Rattle.cobuchi_build.specs.Laws.{OneAutomatonPerFormula, TheAutomatonAcceptsExactly, TrueFormulasHavePaths, UntilsAreThoseThatOccur};
 
 /// The automaton of a formula in normal form accepts exactly the lassos on which the formula is true.
 pub fn the_automaton_accepts_exactly()
     ensures { TheAutomatonAcceptsExactly }
+{}
+
+/// Where a formula is true it has a path of named states, whatever the limits are.
+pub fn true_formulas_have_paths()
+    ensures { TrueFormulasHavePaths }
 {}
 
 /// A formula has one automaton.
@@ -18,8 +23,8 @@ pub fn untils_are_those_that_occur()
     ensures { UntilsAreThoseThatOccur }
 {}
 
-/// The cubes of a formula's automaton name no signals but those of the list, and an automaton within the limits has at most 2,000
-/// states.
+/// The cubes of a formula's automaton name no signals but those of the list, and an automaton within the limits has no
+/// more states than they allow.
 pub fn automata_keep_limits()
     ensures { AutomataKeepLimits }
 {}

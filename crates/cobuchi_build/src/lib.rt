@@ -10,4 +10,6 @@ mod exploring;
 pub mod laws;
 mod untils;
 
-pub use building::{BuildFault, MAX_EDGES, MAX_STATES, build};
+pub use building::{BuildFault, build};
+pub use exploring::{State, counter_after};
+pub use untils::{occurring, untils_of};

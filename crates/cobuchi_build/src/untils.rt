@@ -1,4 +1,5 @@
-ghost use Rattle.std.specs.Prelude.{◌≡◌, ◌<◌, [], ◌∷◌, ◌++◌, IfOk, OnOk, filter, length};
+ghost use Rattle.std.specs.Prelude.{◌≡◌, ◌≤◌, [], ◌∷◌, ◌++◌, IfOk, OnOk, filter, length};
+ghost use Rattle.ltl_formula.specs.declared.nodes.TheConstants.{MAX_NODES};
 ghost use Rattle.ltl_formula.specs.Nodes.{IsNodeList, PartsBelow, Stands, node_at};
 ghost use Rattle.cobuchi_build.specs.Occurring.{is_until, occurring, untils_of, with_parts};
 
@@ -6,13 +7,14 @@ use ltl_formula::{FormulaId, Formulas, Node};
 use std::alloc::{AllocError, Global};
 
 /// The until formulas that occur in `f`, by rising id. It takes time and memory for each formula of the list.
-pub(crate) fn untils_of(
+pub fn untils_of(
     alloc: Global,
     formulas: &Formulas,
     f: FormulaId,
 ) -> Result<Vec<FormulaId>, AllocError>
     requires { Stands formulas.now f }
     ensures untils { IfOk result (λ v. v.items ≡ untils_of formulas.now f) }
+    ensures few { IfOk result (λ v. length v.items ≤ MAX_NODES) }
     ensures list { OnOk result (IsNodeList formulas.now) }
 {
     let occurs = occurring(alloc, formulas, f)?;
@@ -25,8 +27,8 @@ pub(crate) fn untils_of(
     Ok(untils)
 }
 
-/// For each formula of the list, whether it occurs in `f`.
-fn occurring(alloc: Global, formulas: &Formulas, f: FormulaId) -> Result<Vec<bool>, AllocError>
+/// For each formula of the list, whether it occurs in `f`. It takes time and memory for each.
+pub fn occurring(alloc: Global, formulas: &Formulas, f: FormulaId) -> Result<Vec<bool>, AllocError>
     requires { Stands formulas.now f }
     ensures flags { IfOk result (λ v. v.items ≡ occurring formulas.now f) }
     ensures places { IfOk result (λ v. length v.items ≡ length formulas.now) }

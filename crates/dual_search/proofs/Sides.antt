@@ -15,7 +15,9 @@ use Rattle.ltl_normal.specs.Truths.{HasTruthOf, OpposesTruthOf}
 use Rattle.ltl_normal.proofs.Building.{go_on-Some}
 use Rattle.machine_model.specs.Automaton.{AutomatonModel}
 use Rattle.cobuchi_build.specs.declared.building.BuildFault.{BuildFault}
+use Rattle.obligation_sets.specs.declared.sets.Covering.{Covering}
 use Rattle.cobuchi_build.specs.Built.{IsAutomatonOf, PassesLimit}
+use Rattle.text_limits.specs.declared.TheConstants.{SMALL_LIMITS}
 use Rattle.cobuchi_build.proofs.Rounds.{one_automaton_per_formula}
 use Rattle.dual_search.specs.BothForms.{AreForms, IsFormWhere, both_forms, fault_of}
 use Rattle.dual_search.specs.Laws.{AnswersAreApart}
@@ -23,20 +25,20 @@ use Rattle.dual_search.specs.Sides.{IsWithinLimits}
 
 -- both forms, made one after the other
 module _ (f : Tree) (old between : List Node) where
-  module _ (negated : FormulaId) (first : form_in false f old ≡ record { nodes = between; made = Some negated }) where
-    then_normal : both_forms f old ≡ form_in true f between
+  module _ (negated : FormulaId) (first : form_in SMALL_LIMITS.nodes false f old ≡ record { nodes = between; made = Some negated }) where
+    then_normal : both_forms f old ≡ form_in SMALL_LIMITS.nodes true f between
     then_normal =
-        go_on-Some (form_in false f old) (λ _ later. form_in true f later) negated (ap (λ (b : Built). b.made) first)
-        ∙ ap (λ (b : Built). form_in true f b.nodes) first
+        go_on-Some (form_in SMALL_LIMITS.nodes false f old) (λ _ later. form_in SMALL_LIMITS.nodes true f later) negated (ap (λ (b : Built). b.made) first)
+        ∙ ap (λ (b : Built). form_in SMALL_LIMITS.nodes true f b.nodes) first
 
-    pub forms_made : (new : List Node) (normal : FormulaId) (g : Tree) → g ≡ f → form_in true g between ≡ record { nodes = new; made = Some normal } → AreForms f old new negated normal
+    pub forms_made : (new : List Node) (normal : FormulaId) (g : Tree) → g ≡ f → form_in SMALL_LIMITS.nodes true g between ≡ record { nodes = new; made = Some normal } → AreForms f old new negated normal
     forms_made new normal g same second = record {
       of_negated = ap (λ (b : Built). b.made) first;
-      of_normal = then_normal ∙ ap (λ h. form_in true h between) (sym same) ∙ second;
+      of_normal = then_normal ∙ ap (λ h. form_in SMALL_LIMITS.nodes true h between) (sym same) ∙ second;
     }
 
-    pub no_normal : (new : List Node) (g : Tree) → g ≡ f → form_in true g between ≡ record { nodes = new; made = None } → both_forms f old ≡ record { nodes = new; made = None }
-    no_normal new g same second = then_normal ∙ ap (λ h. form_in true h between) (sym same) ∙ second
+    pub no_normal : (new : List Node) (g : Tree) → g ≡ f → form_in SMALL_LIMITS.nodes true g between ≡ record { nodes = new; made = None } → both_forms f old ≡ record { nodes = new; made = None }
+    no_normal new g same second = then_normal ∙ ap (λ h. form_in SMALL_LIMITS.nodes true h between) (sym same) ∙ second
 
 opposed : (b c : Bool) → b ≡ not c → (b ≡ true → c ≡ false) × (c ≡ false → b ≡ true)
 opposed b true e = (λ d. absurd (let x : true ≡ false = sym d ∙ e in cc), λ d. absurd (let x : true ≡ false = d in cc))
@@ -74,7 +76,7 @@ same_within : (ns : List Node) (id : FormulaId) (o p : Option AutomatonModel) �
 same_within ns id None None x y = refl
 same_within ns id None (Some b) x y = absurd (y.1 x)
 same_within ns id (Some a) None x y = absurd (x.1 y)
-same_within ns id (Some a) (Some b) x y = ap Some (one_automaton_per_formula ns id a b x.0 y.0)
+same_within ns id (Some a) (Some b) x y = ap Some (one_automaton_per_formula Covering.Plain ns id a b x.0 y.0)
 
 moved : (P : List Node → FormulaId → Type 0) (p q : List Node) (n k : FormulaId) → p ≡ q → n ≡ k → P q k → P p n
 moved P p q n k lists ids h = subst (λ ns. P ns n) (sym lists) (subst (λ id. P q id) (sym ids) h)
@@ -84,13 +86,13 @@ answers_are_apart = record {
   one = λ f old p q a b x y.
       let same = same_forms f old p q x.negated x.normal y.negated y.normal x.forms y.forms in
       let system : a.system ≡ b.system =
-      one_automaton_per_formula p x.negated a.system b.system x.system (moved (λ ns id. IsAutomatonOf ns id b.system) p q x.negated y.negated same.0 same.1 y.system) in
+      one_automaton_per_formula Covering.Plain p x.negated a.system b.system x.system (moved (λ ns id. IsAutomatonOf Covering.Plain ns id b.system) p q x.negated y.negated same.0 same.1 y.system) in
       let environment : a.environment ≡ b.environment =
       same_within p x.normal a.environment b.environment x.environment (moved (λ ns id. IsWithinLimits ns id b.environment) p q x.normal y.normal same.0 same.2 y.environment) in
       λ i. record { system = system i; environment = environment i };
   too_large = λ f old p q a x y.
       let same = same_forms f old p q x.negated x.normal y.negated y.normal x.forms y.forms in
-      x.within (moved PassesLimit p q x.negated y.negated same.0 same.1 y.passes);
+      x.within (moved (PassesLimit Covering.Plain SMALL_LIMITS.automaton) p q x.negated y.negated same.0 same.1 y.passes);
   made = λ f old new a x e. made_some x.normal (ap (λ (b : Built). b.made) (sym x.forms.of_normal) ∙ e);
   passed = λ f old new x e. made_some x.normal (ap (λ (b : Built). b.made) (sym x.forms.of_normal) ∙ e);
 }

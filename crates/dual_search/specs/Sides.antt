@@ -6,7 +6,9 @@ use Rattle.ltl_formula.specs.Tree.{Tree}
 use Rattle.ltl_formula.specs.Truth.{holds}
 use Rattle.machine_model.specs.Accepts.{Accepts}
 use Rattle.machine_model.specs.Automaton.{AutomatonModel}
+use Rattle.obligation_sets.specs.declared.sets.Covering.{Covering}
 use Rattle.cobuchi_build.specs.Built.{IsAutomatonOf, PassesLimit}
+use Rattle.text_limits.specs.declared.TheConstants.{SMALL_LIMITS}
 use Rattle.dual_search.specs.declared.automata.Automata.{Automata}
 use Rattle.dual_search.specs.BothForms.{AreForms}
 
@@ -16,8 +18,8 @@ pub record AcceptsWhere (truth : Bool) (f : Tree) (a : AutomatonModel) : Type 0 
 
 -- the automaton of a form, or none exactly where that passes a limit (this project's own)
 abbrev pub IsWithinLimits : List Node → FormulaId → Option AutomatonModel → Type 0
-IsWithinLimits ns f None = PassesLimit ns f
-IsWithinLimits ns f (Some a) = IsAutomatonOf ns f a × (PassesLimit ns f → ⊥)
+IsWithinLimits ns f None = PassesLimit Covering.Plain SMALL_LIMITS.automaton ns f
+IsWithinLimits ns f (Some a) = IsAutomatonOf Covering.Plain ns f a × (PassesLimit Covering.Plain SMALL_LIMITS.automaton ns f → ⊥)
 
 -- the automata of both sides: the system's of the negated form, which passes no limit, and the environment's of the normal
 -- form, where that passes none (bounded synthesis of Finkbeiner and Schewe)
@@ -25,8 +27,8 @@ pub record AreAutomataOf (f : Tree) (old new : List Node) (a : Automata) : Type 
   pub negated : FormulaId
   pub normal : FormulaId
   pub forms : AreForms f old new negated normal
-  pub system : IsAutomatonOf new negated a.system
-  pub within : PassesLimit new negated → ⊥
+  pub system : IsAutomatonOf Covering.Plain new negated a.system
+  pub within : PassesLimit Covering.Plain SMALL_LIMITS.automaton new negated → ⊥
   pub environment : IsWithinLimits new normal a.environment
 
 -- both forms were made, and the system's automaton passes a limit
@@ -34,4 +36,4 @@ pub record SystemPassesLimit (f : Tree) (old new : List Node) : Type 0 where
   pub negated : FormulaId
   pub normal : FormulaId
   pub forms : AreForms f old new negated normal
-  pub passes : PassesLimit new negated
+  pub passes : PassesLimit Covering.Plain SMALL_LIMITS.automaton new negated

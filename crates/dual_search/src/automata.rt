@@ -13,7 +13,9 @@ use cobuchi_build::{BuildFault, build};
 use ltl_formula::{AddFault, FormulaId, Formulas};
 use ltl_normal::{negated, normal};
 use machine_model::Automaton;
+use obligation_sets::Covering;
 use std::alloc::Global;
+use text_limits::SMALL_LIMITS;
 
 /// What each side has to keep away from.
 #[derive(Debug, Drop)]
@@ -43,7 +45,13 @@ pub fn problems(
     ensures list { IsNodeList formulas.new }
 {
     let forms = both_forms(formulas, whole)?;
-    let system = build(alloc, formulas, forms.negated)?;
+    let system = build(
+        alloc,
+        formulas,
+        forms.negated,
+        Covering::Plain,
+        SMALL_LIMITS.automaton,
+    )?;
     let environment = build_within(alloc, formulas, forms.normal)?;
     Ok(Automata {
         system,
@@ -70,11 +78,11 @@ fn both_forms(formulas: &mut Formulas, whole: FormulaId) -> Result<FormIds, Buil
     ensures grows { Grows formulas.old formulas.new }
     ensures list { IsNodeList formulas.new }
 {
-    let negated = match negated(formulas, whole) {
+    let negated = match negated(formulas, SMALL_LIMITS.nodes, whole) {
         Ok(id) => id,
         Err(fault) => return Err(fault_of(fault)),
     };
-    let normal = match normal(formulas, whole) {
+    let normal = match normal(formulas, SMALL_LIMITS.nodes, whole) {
         Ok(id) => id,
         Err(fault) => return Err(fault_of(fault)),
     };
@@ -106,7 +114,7 @@ fn build_within(
     ensures too_large { result ≡ Err BuildFault.TooLarge → ⊥ }
     ensures nodes { result ≡ Err BuildFault.TooManyNodes → ⊥ }
 {
-    match build(alloc, formulas, f) {
+    match build(alloc, formulas, f, Covering::Plain, SMALL_LIMITS.automaton) {
         Ok(automaton) => Ok(Some(automaton)),
         Err(BuildFault::TooLarge) => Ok(None),
         Err(fault) => Err(fault),

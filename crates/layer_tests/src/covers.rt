@@ -3,7 +3,7 @@ ghost use Rattle.std.specs.Prelude.{◌≡◌, [], ◌∷◌, IfOk};
 
 use crate::formula_texts::{formula, push_times};
 use ltl_formula::{FormulaId, Formulas};
-use obligation_sets::{Cover, CoverFault, ObligationSet, covers};
+use obligation_sets::{Cover, CoverFault, Covering, ObligationSet, covers};
 use std::alloc::{AllocError, Global};
 use std::test::Fail;
 
@@ -19,7 +19,7 @@ fn covers_of(alloc: Global, text: &[u8]) -> Result<Result<Vec<Cover>, CoverFault
     let mut formulas = Formulas::new(alloc);
     let f = formula(alloc, &mut formulas, text)?;
     let set = set_of_one(alloc, f)?;
-    Ok(covers(alloc, &formulas, &set))
+    Ok(covers(alloc, &formulas, &set, Covering::Plain))
 }
 
 /// The conjunction of `(X^j a) || (X^j b)` for each j from 1 to `count`.

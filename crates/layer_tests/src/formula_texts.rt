@@ -3,7 +3,7 @@
 ghost use Rattle.std.specs.Prelude.{IfOk};
 ghost use Rattle.ltl_formula.specs.Nodes.{Stands};
 
-use ltl_formula::{FormulaId, Formulas, Node};
+use ltl_formula::{FormulaId, Formulas, MAX_NODES, Node};
 use std::alloc::{AllocError, Global};
 use std::test::Fail;
 
@@ -11,7 +11,7 @@ fn add(formulas: &mut Formulas, node: Node) -> Result<FormulaId, Fail> {
     if !formulas.can_add(node) {
         return Err(Fail::from("a part is missing"));
     }
-    Ok(formulas.add(node)?)
+    Ok(formulas.add(MAX_NODES, node)?)
 }
 
 /// The node of an operator with one part.

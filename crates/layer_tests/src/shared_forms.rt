@@ -1,6 +1,6 @@
 //! Negated forms of formulas whose parts are shared.
 use crate::formula_texts::{formula, push_times};
-use ltl_formula::Formulas;
+use ltl_formula::{Formulas, MAX_NODES};
 use ltl_normal::negated;
 use std::alloc::Global;
 use std::test::Fail;
@@ -11,7 +11,7 @@ fn tower(alloc: Global, level: &[u8], levels: u32) -> Result<(), Fail> {
     push_times(&mut text, level, levels)?;
     let mut formulas = Formulas::new(alloc);
     let top = formula(alloc, &mut formulas, &text)?;
-    let _opposite = negated(&mut formulas, top)?;
+    let _opposite = negated(&mut formulas, MAX_NODES, top)?;
     Ok(())
 }
 

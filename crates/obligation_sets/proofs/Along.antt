@@ -2,17 +2,21 @@ use Rattle.std.proofs.Common.{◌≡◌, ℕ, zero, suc, ◌+◌, ◌*◌, ◌^�
 use Rattle.std.proofs.lemmas.List.{append_assoc, append-nil, length-append, length-replicate, reverse-append}
 use Rattle.std.proofs.lemmas.List.Elements.{All-cons, All-nil, All-pop, All-push}
 use Rattle.std.proofs.lemmas.List.Sums.{fold_push}
-use Rattle.indexmap.specs.IndexSet.{insert_all, insert_key}
+use Rattle.std.specs.Prelude.{fold}
 use Rattle.ltl_formula.specs.declared.nodes.FormulaId.{FormulaId}
 use Rattle.ltl_formula.specs.declared.nodes.Node.{Node}
 use Rattle.ltl_formula.specs.Nodes.{IsNodeList, Stands}
 use Rattle.obligation_sets.specs.declared.branches.Step.{Step}
 use Rattle.obligation_sets.specs.declared.branches.Step.TheVariants.{Leaf, Dead, On, Split}
 use Rattle.obligation_sets.specs.declared.sets.Cover.{Cover}
+use Rattle.obligation_sets.specs.declared.sets.Covering.{Covering}
 use Rattle.obligation_sets.specs.Branch.{Branch}
 use Rattle.obligation_sets.specs.Steps.{HasPlaces, step, undone}
-use Rattle.obligation_sets.specs.Covers.{alive, cover_of, leaves_below, leaves_of, same_cover, set_leaves, start_of}
-use Rattle.obligation_sets.specs.Search.{AfterStep, FitsIds}
+use Rattle.obligation_sets.specs.Covers.{alive, leaves_below, leaves_of, set_leaves, start_of}
+use Rattle.obligation_sets.specs.Gathered.{gather}
+use Rattle.obligation_sets.specs.Reduced.{cover_by, covers_by}
+use Rattle.obligation_sets.specs.Search.{AfterStep, HasLeafPlaces}
+use Rattle.obligation_sets.proofs.LessAsked.{covers_gathered}
 use Rattle.obligation_sets.proofs.Walks.{Stepped, leaves_of-step, step_stepped}
 
 -- the leaves below a stack of branches, the top one's first
@@ -21,10 +25,10 @@ pending ns [] = []
 pending ns (b ∷ bs) = leaves_of ns b ++ pending ns bs
 
 -- how far the search for covers is: the leaves met, in their order, and those below the stack are all leaves
-pub record IsAlong (ns : List Node) (set : List FormulaId) (stack : List Branch) (found : List Cover) (leaves : ℕ) : Type 0 where
+pub record IsAlong (covering : Covering) (ns : List Node) (set : List FormulaId) (stack : List Branch) (found : List Cover) (leaves : ℕ) : Type 0 where
   pub seen : List (Option Branch)
   pub all : set_leaves ns set ≡ seen ++ pending ns (reverse stack)
-  pub covers : found ≡ insert_all same_cover [] (alive seen)
+  pub covers : found ≡ fold (gather covering) [] (alive (cover_by covering ns) seen)
   pub count : leaves ≡ length seen
   pub places : All (HasPlaces (length ns)) stack
 
@@ -44,31 +48,28 @@ three_pos : (n : ℕ) → 0 < 3 ^ n
 three_pos zero = omega arith
 three_pos (suc n) = let p : 0 < 3 ^ n = three_pos n in let e : 3 ^ suc n ≡ 3 * 3 ^ n = three_more n in omega arith
 
-alive-push : (leaves : List (Option Branch)) (leaf : Branch) → alive (leaves ++ Some leaf ∷ []) ≡ alive leaves ++ cover_of leaf ∷ []
-alive-push [] leaf = refl
-alive-push (None ∷ leaves) leaf = alive-push leaves leaf
-alive-push (Some b ∷ leaves) leaf = ap (λ covers. cover_of b ∷ covers) (alive-push leaves leaf)
+alive-push : (cover : Branch → Cover) (leaves : List (Option Branch)) (leaf : Branch) → alive cover (leaves ++ Some leaf ∷ []) ≡ alive cover leaves ++ cover leaf ∷ []
+alive-push cover [] leaf = refl
+alive-push cover (None ∷ leaves) leaf = alive-push cover leaves leaf
+alive-push cover (Some b ∷ leaves) leaf = ap (λ covers. cover b ∷ covers) (alive-push cover leaves leaf)
 
-alive-push_dead : (leaves : List (Option Branch)) → alive (leaves ++ None ∷ []) ≡ alive leaves
-alive-push_dead [] = refl
-alive-push_dead (None ∷ leaves) = alive-push_dead leaves
-alive-push_dead (Some b ∷ leaves) = ap (λ covers. cover_of b ∷ covers) (alive-push_dead leaves)
+alive-push_dead : (cover : Branch → Cover) (leaves : List (Option Branch)) → alive cover (leaves ++ None ∷ []) ≡ alive cover leaves
+alive-push_dead cover [] = refl
+alive-push_dead cover (None ∷ leaves) = alive-push_dead cover leaves
+alive-push_dead cover (Some b ∷ leaves) = ap (λ covers. cover b ∷ covers) (alive-push_dead cover leaves)
 
 pub start_places : (ns : List Node) (set : List FormulaId) → All (Stands ns) set → HasPlaces (length ns) (start_of ns set)
 start_places ns set stand = record { work = stand; done = length-replicate (length ns) false; next = length-replicate (length ns) false; postponed = length-replicate (length ns) false }
 
--- the flags of what comes of a step fit ids of 32 bits
-pub fits_ids : (n : ℕ) → n ≤ 1024 → (b : Branch) (s : Step) → Stepped n b s → FitsIds s
-fits_ids n few b (Leaf leaf) h =
-    let next : length leaf.next ≡ n = h.next in
-    let postponed : length leaf.postponed ≡ n = h.postponed in
-    (omega arith, omega arith)
-fits_ids n few b Dead h = tt
-fits_ids n few b (On c) h = tt
-fits_ids n few b (Split c d) h = tt
+-- a leaf that comes of a step is one over n formulas, and its flags fit ids of 32 bits
+leaf_places : (n : ℕ) → n ≤ 4096 → (b : Branch) (s : Step) → Stepped n b s → HasLeafPlaces n s
+leaf_places n few b (Leaf leaf) h = (h, let next : length leaf.next ≡ n = h.next in omega arith)
+leaf_places n few b Dead h = tt
+leaf_places n few b (On c) h = tt
+leaf_places n few b (Split c d) h = tt
 
-module _ (ns : List Node) (list : IsNodeList ns) (set : List FormulaId) where
-  pub along-start : HasPlaces (length ns) (start_of ns set) → IsAlong ns set (start_of ns set ∷ []) [] 0
+module _ (covering : Covering) (ns : List Node) (list : IsNodeList ns) (set : List FormulaId) where
+  pub along-start : HasPlaces (length ns) (start_of ns set) → IsAlong covering ns set (start_of ns set ∷ []) [] 0
   along-start places = record {
     seen = [];
     all = sym (append-nil (leaves_of ns (start_of ns set)));
@@ -77,27 +78,27 @@ module _ (ns : List Node) (list : IsNodeList ns) (set : List FormulaId) where
     places = All-cons (HasPlaces (length ns)) (start_of ns set) [] places (All-nil (HasPlaces (length ns)));
   }
 
-  pub along-start_at : All (Stands ns) set → (stack : List Branch) (found : List Cover) → stack ≡ start_of ns set ∷ [] → found ≡ [] → IsAlong ns set stack found 0
+  pub along-start_at : All (Stands ns) set → (stack : List Branch) (found : List Cover) → stack ≡ start_of ns set ∷ [] → found ≡ [] → IsAlong covering ns set stack found 0
   along-start_at stand stack found one none =
-      subst (λ (bs : List Branch). IsAlong ns set bs found 0) (sym one)
-      (subst (λ (cs : List Cover). IsAlong ns set (start_of ns set ∷ []) cs 0) (sym none) (along-start (start_places ns set stand)))
+      subst (λ (bs : List Branch). IsAlong covering ns set bs found 0) (sym one)
+      (subst (λ (cs : List Cover). IsAlong covering ns set (start_of ns set ∷ []) cs 0) (sym none) (along-start (start_places ns set stand)))
 
   -- with its top branch taken off, what is left of the stack and the leaves of the branch are what is below
-  top : (rest : List Branch) (b : Branch) (found : List Cover) (leaves : ℕ) → (along : IsAlong ns set (rest ++ b ∷ []) found leaves) → set_leaves ns set ≡ along.seen ++ (leaves_of ns b ++ pending ns (reverse rest))
+  top : (rest : List Branch) (b : Branch) (found : List Cover) (leaves : ℕ) → (along : IsAlong covering ns set (rest ++ b ∷ []) found leaves) → set_leaves ns set ≡ along.seen ++ (leaves_of ns b ++ pending ns (reverse rest))
   top rest b found leaves along = along.all ∙ ap (λ bs. along.seen ++ pending ns bs) (reverse-append rest (b ∷ []))
 
-  pub along-after : (rest new : List Branch) (b : Branch) (found after : List Cover) (leaves met : ℕ) (s : Step) → Stepped (length ns) b s → leaves_of ns b ≡ leaves_below (leaves_of ns) s → All (HasPlaces (length ns)) rest → IsAlong ns set (rest ++ b ∷ []) found leaves → AfterStep s rest new found after met → IsAlong ns set new after (leaves + met)
+  pub along-after : (rest new : List Branch) (b : Branch) (found after : List Cover) (leaves met : ℕ) (s : Step) → Stepped (length ns) b s → leaves_of ns b ≡ leaves_below (leaves_of ns) s → All (HasPlaces (length ns)) rest → IsAlong covering ns set (rest ++ b ∷ []) found leaves → AfterStep covering ns s rest new found after met → IsAlong covering ns set new after (leaves + met)
   along-after rest new b found after leaves met (Leaf leaf) goes below places along h = record {
     seen = along.seen ++ Some leaf ∷ [];
     all = top rest b found leaves along ∙ ap (λ ls. along.seen ++ (ls ++ pending ns (reverse rest))) below ∙ sym (append_assoc along.seen (Some leaf ∷ []) (pending ns (reverse rest))) ∙ ap (λ bs. (along.seen ++ Some leaf ∷ []) ++ pending ns (reverse bs)) (sym h.0);
-    covers = h.1 ∙ ap (λ cs. insert_key same_cover cs (cover_of leaf)) along.covers ∙ sym (fold_push (insert_key same_cover) [] (alive along.seen) (cover_of leaf)) ∙ ap (insert_all same_cover []) (sym (alive-push along.seen leaf));
+    covers = h.1 ∙ ap (λ cs. gather covering cs (cover_by covering ns leaf)) along.covers ∙ sym (fold_push (gather covering) [] (alive (cover_by covering ns) along.seen) (cover_by covering ns leaf)) ∙ ap (fold (gather covering) []) (sym (alive-push (cover_by covering ns) along.seen leaf));
     count = (let e : leaves ≡ length along.seen = along.count in let m : met ≡ 1 = h.2 in omega (arith, length-append along.seen (Some leaf ∷ [])));
     places = rw (h.0) places;
   }
   along-after rest new b found after leaves met Dead goes below places along h = record {
     seen = along.seen ++ None ∷ [];
     all = top rest b found leaves along ∙ ap (λ ls. along.seen ++ (ls ++ pending ns (reverse rest))) below ∙ sym (append_assoc along.seen (None ∷ []) (pending ns (reverse rest))) ∙ ap (λ bs. (along.seen ++ None ∷ []) ++ pending ns (reverse bs)) (sym h.0);
-    covers = h.1 ∙ along.covers ∙ ap (insert_all same_cover []) (sym (alive-push_dead along.seen));
+    covers = h.1 ∙ along.covers ∙ ap (fold (gather covering) []) (sym (alive-push_dead (cover_by covering ns) along.seen));
     count = (let e : leaves ≡ length along.seen = along.count in let m : met ≡ 1 = h.2 in omega (arith, length-append along.seen (None ∷ [])));
     places = rw (h.0) places;
   }
@@ -117,11 +118,11 @@ module _ (ns : List Node) (list : IsNodeList ns) (set : List FormulaId) where
   }
 
   -- the whole step of the search
-  pub along-step : (rest new : List Branch) (b : Branch) (found after : List Cover) (leaves met : ℕ) → HasPlaces (length ns) b → All (HasPlaces (length ns)) rest → IsAlong ns set (rest ++ b ∷ []) found leaves → AfterStep (step ns b) rest new found after met → IsAlong ns set new after (leaves + met)
+  pub along-step : (rest new : List Branch) (b : Branch) (found after : List Cover) (leaves met : ℕ) → HasPlaces (length ns) b → All (HasPlaces (length ns)) rest → IsAlong covering ns set (rest ++ b ∷ []) found leaves → AfterStep covering ns (step ns b) rest new found after met → IsAlong covering ns set new after (leaves + met)
   along-step rest new b found after leaves met here places along h =
       along-after rest new b found after leaves met (step ns b) (step_stepped ns list b here) (leaves_of-step ns list b here) places along h
 
-  pub weight-falls : (rest new : List Branch) (b : Branch) (found after : List Cover) (met : ℕ) (s : Step) → Stepped (length ns) b s → AfterStep s rest new found after met → weight new < weight (rest ++ b ∷ [])
+  pub weight-falls : (rest new : List Branch) (b : Branch) (found after : List Cover) (met : ℕ) (s : Step) → Stepped (length ns) b s → AfterStep covering ns s rest new found after met → weight new < weight (rest ++ b ∷ [])
   weight-falls rest new b found after met (Leaf leaf) goes h =
       let e : weight new ≡ weight rest = ap weight h.0 in
       let p : 0 < 3 ^ undone b.done = three_pos (undone b.done) in
@@ -143,22 +144,28 @@ module _ (ns : List Node) (list : IsNodeList ns) (set : List FormulaId) where
       omega (arith, weight-append rest (b ∷ []), weight-append (rest ++ d ∷ []) (c ∷ []), weight-append rest (d ∷ []))
 
   -- the same for a stack whose top was taken off
-  module _ (stack rest : List Branch) (b : Branch) (found : List Cover) (leaves : ℕ) (along : IsAlong ns set stack found leaves) (popped : stack ≡ rest ++ b ∷ []) where
+  module _ (stack rest : List Branch) (b : Branch) (found : List Cover) (leaves : ℕ) (along : IsAlong covering ns set stack found leaves) (popped : stack ≡ rest ++ b ∷ []) where
     rest_places : All (HasPlaces (length ns)) rest
     rest_places = (All-pop (HasPlaces (length ns)) stack rest (Some b) popped along.places).0
 
     pub top_places : HasPlaces (length ns) b
     top_places = (All-pop (HasPlaces (length ns)) stack rest (Some b) popped along.places).1
 
-    pub top_fits : (s : Step) → s ≡ step ns b → FitsIds s
-    top_fits s is = subst FitsIds (sym is) (fits_ids (length ns) list.most b (step ns b) (step_stepped ns list b top_places))
+    pub top_leaf : (s : Step) → s ≡ step ns b → HasLeafPlaces (length ns) s
+    top_leaf s is = subst (HasLeafPlaces (length ns)) (sym is) (leaf_places (length ns) list.most b (step ns b) (step_stepped ns list b top_places))
 
-    module _ (new : List Branch) (after : List Cover) (met : ℕ) (s : Step) (is : s ≡ step ns b) (done : AfterStep s rest new found after met) where
-      after_step : AfterStep (step ns b) rest new found after met
-      after_step = subst (λ (t : Step). AfterStep t rest new found after met) is done
+    module _ (new : List Branch) (after : List Cover) (met : ℕ) (s : Step) (is : s ≡ step ns b) (done : AfterStep covering ns s rest new found after met) where
+      after_step : AfterStep covering ns (step ns b) rest new found after met
+      after_step = subst (λ (t : Step). AfterStep covering ns t rest new found after met) is done
 
-      pub along-more : IsAlong ns set new after (leaves + met)
-      along-more = along-step rest new b found after leaves met top_places rest_places (subst (λ (bs : List Branch). IsAlong ns set bs found leaves) popped along) after_step
+      pub along-more : IsAlong covering ns set new after (leaves + met)
+      along-more = along-step rest new b found after leaves met top_places rest_places (subst (λ (bs : List Branch). IsAlong covering ns set bs found leaves) popped along) after_step
 
       pub weight-less : weight new < weight stack
       weight-less = subst (λ (bs : List Branch). weight new < weight bs) (sym popped) (weight-falls rest new b found after met (step ns b) (step_stepped ns list b top_places) after_step)
+
+  -- where the stack is empty the covers found are those of the set
+  pub along_end : (stack : List Branch) (found : List Cover) (leaves : ℕ) → IsAlong covering ns set stack found leaves → stack ≡ [] → found ≡ covers_by covering ns set
+  along_end stack found leaves along none =
+      let all : set_leaves ns set ≡ along.seen = along.all ∙ ap (λ bs. along.seen ++ pending ns (reverse bs)) none ∙ append-nil along.seen in
+      along.covers ∙ ap (λ ls. fold (gather covering) [] (alive (cover_by covering ns) ls)) (sym all) ∙ covers_gathered covering ns set

@@ -3,6 +3,7 @@ use Rattle.std.specs.Prelude.{Contains}
 use Rattle.std.specs.List.{list_any}
 use Rattle.std.specs.Cmp.Lexicographic.{pointwise_decides}
 use Rattle.std.proofs.lemmas.Bool.{and_parts, cases_Bool, cond-true, cond-false, eq-eqb, eqb-true, false≢true, or_cases}
+use Rattle.std.proofs.lemmas.List.Folds.{list_any-from_Any}
 use Rattle.std.proofs.lemmas.List.Elements.{Contains-append_left, Contains-push, Contains-push_cases}
 use Rattle.indexmap.specs.IndexSet.{insert_all, insert_key}
 use Rattle.ltl_formula.specs.declared.nodes.FormulaId.{FormulaId}
@@ -13,13 +14,16 @@ use Rattle.obligation_sets.specs.Ids.{same_id, same_ids}
 use Rattle.obligation_sets.proofs.Cubes.{same_cube}
 use Rattle.obligation_sets.proofs.Lists.{Contains-cons_cases, Contains-here, Contains-none, Contains-there}
 
-any_of : {X : Type 0} (p : X → Bool) (xs : List X) → list_any p xs ≡ true → (y : X) × Contains xs y × (p y ≡ true)
+pub any_of : {X : Type 0} (p : X → Bool) (xs : List X) → list_any p xs ≡ true → (y : X) × Contains xs y × (p y ≡ true)
 any_of p [] h = absurd (false≢true h)
 any_of p (x ∷ xs) h =
     elim (or_cases (p x) (list_any p xs) h) [
       | inl here ↦ (x, Contains-here x xs, here)
       | inr there ↦ let found : (y : _) × Contains xs y × (p y ≡ true) = any_of p xs there in (found.0, Contains-there x xs found.0 found.1, found.2)
     ]
+
+pub any_from : {X : Type 0} (p : X → Bool) (xs : List X) (x : X) → Contains xs x → p x ≡ true → list_any p xs ≡ true
+any_from p xs x c e = list_any-from_Any p xs (c.0, x, c.1, c.2, e)
 
 module _ {X : Type 0} (eq : X → X → Bool) where
   key_kept : (ks : List X) (k x : X) → Contains ks x → Contains (insert_key eq ks k) x

@@ -10,16 +10,17 @@ use Rattle.ltl_formula.specs.Nodes.{IsNodeList, PartsBelow, Stands, node_at, tre
 use Rattle.obligation_sets.specs.declared.branches.Step.{Step}
 use Rattle.obligation_sets.specs.declared.branches.Step.TheVariants.{Leaf, Dead, On, Split}
 use Rattle.obligation_sets.specs.declared.sets.Cover.{Cover}
+use Rattle.obligation_sets.specs.declared.sets.Covering.{Covering}
 use Rattle.obligation_sets.specs.Branch.{Branch}
-use Rattle.obligation_sets.specs.Covers.{alive, cover_of, covers_of, leaves_below, leaves_within, same_cover, set_leaves, start_of}
+use Rattle.obligation_sets.specs.Covers.{leaves_below, leaves_within, set_leaves, start_of}
+use Rattle.obligation_sets.specs.Reduced.{cover_by, covers_by}
 use Rattle.obligation_sets.specs.Cubes.{forbidding, wanting}
-use Rattle.obligation_sets.specs.Ids.{has_id, ids_of, with_id}
+use Rattle.obligation_sets.specs.Ids.{has_id, with_id}
 use Rattle.obligation_sets.specs.NextStep.{AreNormal}
 use Rattle.obligation_sets.specs.OpenWork.{open_work}
 use Rattle.obligation_sets.specs.Steps.{expanding, in_front, joining, leaving, opposing, postponing, step, step_on, undone}
-use Rattle.obligation_sets.proofs.Distinct.{all_from}
+use Rattle.obligation_sets.proofs.LessAsked.{covers_from, left_from}
 use Rattle.obligation_sets.proofs.Flags.{has_id-none, with_id-cases}
-use Rattle.obligation_sets.proofs.IdLists.{flag_of_id}
 use Rattle.obligation_sets.proofs.Lists.{Contains-cons_cases, Contains-none}
 use Rattle.obligation_sets.proofs.NextStep.{All-from_contains, alive_from}
 use Rattle.obligation_sets.proofs.OneStep.{NodeIsNormal, node_normal}
@@ -115,17 +116,13 @@ module _ (ns : List Node) (P : FormulaId → Type 0) (closed : (f : FormulaId) �
   leaf_inside zero b i leaf there = absurd (Contains-none (Some leaf) there)
   leaf_inside (suc n) b i leaf there = inside_below n (leaf_inside n) (step ns b) (step_on_inside b i (open_work b.done b.work) refl) leaf there
 
-  pub next_kept : (set : List FormulaId) → All P set → (c : Cover) → Contains (covers_of ns set) c → All P c.next
-  next_kept set all c there =
-      elim (all_from same_cover [] (alive (set_leaves ns set)) c there) [
-        | inl none ↦ absurd (Contains-none c none)
-        | inr alives ↦
-            let r : (leaf : Branch) × Contains (set_leaves ns set) (Some leaf) × (cover_of leaf ≡ c) = alive_from (set_leaves ns set) c alives in
-            let i : Inside r.0 =
-            leaf_inside (suc (undone (start_of ns set).done)) (start_of ns set) (record { work = all; next = λ f h. absurd (has_id-none (length ns) f h) }) r.0 r.1 in
-            subst (λ (x : Cover). All P x.next) r.2
-            (All-from_contains P (ids_of r.0.next) (λ f h. i.next f (flag_of_id r.0.next f h)))
-      ]
+  pub next_kept : (covering : Covering) (set : List FormulaId) → All P set → (c : Cover) → Contains (covers_by covering ns set) c → All P c.next
+  next_kept covering set all c there =
+      let r : (leaf : Branch) × Contains (set_leaves ns set) (Some leaf) × (cover_by covering ns leaf ≡ c) = alive_from (cover_by covering ns) (set_leaves ns set) c (covers_from covering ns set c there) in
+      let i : Inside r.0 =
+      leaf_inside (suc (undone (start_of ns set).done)) (start_of ns set) (record { work = all; next = λ f h. absurd (has_id-none (length ns) f h) }) r.0 r.1 in
+      subst (λ (x : Cover). All P x.next) r.2
+      (All-from_contains P (cover_by covering ns r.0).next (λ f h. i.next f (left_from covering ns r.0.next f h)))
 
 -- the formulas of a set, and those that its covers leave, are in normal form
 module _ (ns : List Node) (list : IsNodeList ns) where
@@ -151,5 +148,5 @@ module _ (ns : List Node) (list : IsNodeList ns) where
   normal_closed : (f : FormulaId) → StandsNormal f → PartsAre StandsNormal (node_at ns f.0)
   normal_closed f h = stands_normal f h.0 (node_at ns f.0) (list.parts_first f.0) (node_normal ns list f h.0 h.1)
 
-  pub next_normal : (set : List FormulaId) → AreNormal ns set → (c : Cover) → Contains (covers_of ns set) c → AreNormal ns c.next
-  next_normal set normal c there = next_kept ns StandsNormal normal_closed set normal c there
+  pub next_normal : (covering : Covering) (set : List FormulaId) → AreNormal ns set → (c : Cover) → Contains (covers_by covering ns set) c → AreNormal ns c.next
+  next_normal covering set normal c there = next_kept ns StandsNormal normal_closed covering set normal c there

@@ -1,6 +1,7 @@
 pub mod Cubes
 pub mod Lists
 pub mod IdLists
+pub mod Ordered
 pub mod Marks
 pub mod Steps
 pub mod Walks
@@ -10,6 +11,9 @@ pub mod Flags
 pub mod MetLeaves
 pub mod BackedLeaves
 pub mod Distinct
+pub mod Minimal
+pub mod Implied
+pub mod LessAsked
 pub mod NextStep
 pub mod Kept
 pub mod NamedSignals

@@ -14,14 +14,16 @@ use Rattle.ltl_formula.specs.Nodes.{SignalBelow, node_at}
 use Rattle.obligation_sets.specs.declared.branches.Step.{Step}
 use Rattle.obligation_sets.specs.declared.branches.Step.TheVariants.{Leaf, Dead, On, Split}
 use Rattle.obligation_sets.specs.declared.sets.Cover.{Cover}
+use Rattle.obligation_sets.specs.declared.sets.Covering.{Covering}
 use Rattle.obligation_sets.specs.Branch.{Branch}
 use Rattle.obligation_sets.specs.CoverSignals.{CoversNameSignals, NameSignalsOf, NamesSignals}
-use Rattle.obligation_sets.specs.Covers.{alive, cover_of, covers_of, leaves_below, leaves_within, same_cover, set_leaves, start_of}
+use Rattle.obligation_sets.specs.Covers.{leaves_below, leaves_within, set_leaves, start_of}
+use Rattle.obligation_sets.specs.Reduced.{cover_by, covers_by}
 use Rattle.obligation_sets.specs.Cubes.{forbidding, forbidding_at, wanting, wanting_at}
 use Rattle.obligation_sets.specs.Ids.{with_id}
 use Rattle.obligation_sets.specs.OpenWork.{open_work}
 use Rattle.obligation_sets.specs.Steps.{expanding, joining, opposing, step, step_on, undone}
-use Rattle.obligation_sets.proofs.Distinct.{all_from}
+use Rattle.obligation_sets.proofs.LessAsked.{covers_from}
 use Rattle.obligation_sets.proofs.Lists.{Contains-cons_cases, Contains-none}
 use Rattle.obligation_sets.proofs.NextStep.{All-from_contains, alive_from}
 
@@ -109,19 +111,15 @@ module _ (n : ℕ) (ns : List Node) (below : HasSignalsBelow n ns) where
   leaf_inside zero b i leaf there = absurd (Contains-none (Some leaf) there)
   leaf_inside (suc fuel) b i leaf there = inside_below fuel (leaf_inside fuel) (step ns b) (step_on_inside b i (open_work b.done b.work)) leaf there
 
-  cover_named : (set : List FormulaId) (c : Cover) → Contains (covers_of ns set) c → NamesSignals n c
-  cover_named set c there =
-      elim (all_from same_cover [] (alive (set_leaves ns set)) c there) [
-        | inl none ↦ absurd (Contains-none c none)
-        | inr alives ↦
-            let r : (leaf : Branch) × Contains (set_leaves ns set) (Some leaf) × (cover_of leaf ≡ c) = alive_from (set_leaves ns set) c alives in
-            let i : Inside r.0.cube = leaf_inside (suc (undone (start_of ns set).done)) (start_of ns set) (record { must = pow_pos n; none_of = pow_pos n }) r.0 r.1 in
-            subst (λ (x : Cover). NamesSignals n x) r.2 (record { must = i.must; none_of = i.none_of })
-      ]
+  cover_named : (covering : Covering) (set : List FormulaId) (c : Cover) → Contains (covers_by covering ns set) c → NamesSignals n c
+  cover_named covering set c there =
+      let r : (leaf : Branch) × Contains (set_leaves ns set) (Some leaf) × (cover_by covering ns leaf ≡ c) = alive_from (cover_by covering ns) (set_leaves ns set) c (covers_from covering ns set c there) in
+      let i : Inside r.0.cube = leaf_inside (suc (undone (start_of ns set).done)) (start_of ns set) (record { must = pow_pos n; none_of = pow_pos n }) r.0 r.1 in
+      subst (λ (x : Cover). NamesSignals n x) r.2 (record { must = i.must; none_of = i.none_of })
 
 -- the covers of a set name no signals but those of the list
 pub covers_name_signals : CoversNameSignals
-covers_name_signals ns set = record { named = λ n below. All-from_contains (NamesSignals n) (covers_of ns set) (cover_named n ns below set) }
+covers_name_signals covering ns set = record { named = λ n below. All-from_contains (NamesSignals n) (covers_by covering ns set) (cover_named n ns below covering set) }
 
-pub signals_named : (ns : List Node) (set : List FormulaId) (covers : List Cover) → covers ≡ covers_of ns set → NameSignalsOf ns covers
-signals_named ns set covers is = subst (NameSignalsOf ns) (sym is) (covers_name_signals ns set)
+pub signals_named : (covering : Covering) (ns : List Node) (set : List FormulaId) (covers : List Cover) → covers ≡ covers_by covering ns set → NameSignalsOf ns covers
+signals_named covering ns set covers is = subst (NameSignalsOf ns) (sym is) (covers_name_signals covering ns set)

@@ -6,6 +6,7 @@ use Rattle.letter_word.specs.Cube.{Fits}
 use Rattle.letter_word.specs.declared.cubes.Cube.{Cube}
 use Rattle.letter_word.specs.Signals.{has}
 use Rattle.letter_word.specs.Word.{Word, HasRing, lasso_len, letter_at, next}
+use Rattle.letter_word.proofs.Positions.{next_within}
 use Rattle.letter_word.specs.declared.letters.Letter.{Letter}
 use Rattle.ltl_formula.specs.declared.nodes.FormulaId.{FormulaId}
 use Rattle.ltl_formula.specs.declared.nodes.Node.{Node}
@@ -14,42 +15,46 @@ use Rattle.ltl_formula.specs.Nodes.{IsNodeList, PartsBelow, Stands, node_at, tre
 use Rattle.ltl_formula.specs.Truth.{holds}
 use Rattle.ltl_formula.proofs.Trees.{tree_at-node}
 use Rattle.obligation_sets.specs.declared.sets.Cover.{Cover}
+use Rattle.obligation_sets.specs.declared.sets.Covering.{Covering}
 use Rattle.obligation_sets.specs.Apart.{has-nothing}
 use Rattle.obligation_sets.specs.Branch.{Branch}
-use Rattle.obligation_sets.specs.Covers.{alive, cover_of, covers_of, same_cover, set_leaves, start_of}
+use Rattle.obligation_sets.specs.Covers.{alive, set_leaves, start_of}
 use Rattle.obligation_sets.specs.Ids.{has_id, ids_of}
 use Rattle.obligation_sets.specs.NextStep.{AreNormal, CoversAreTheNextStep, HasFittingCover, MeetsAt, SecondPartFails, SetHolds}
+use Rattle.obligation_sets.specs.Reduced.{cover_by, covers_by, left_by}
 use Rattle.obligation_sets.specs.Steps.{HasPlaces, undone}
 use Rattle.obligation_sets.proofs.Along.{start_places}
+use Rattle.obligation_sets.proofs.LessAsked.{HasBelow, covers_below, covers_from, left_from}
 use Rattle.obligation_sets.proofs.BackedLeaves.{Backed, InNext, InPostponed, LeafOf, Opposed, Seen, leaf_of}
-use Rattle.obligation_sets.proofs.Distinct.{all_from, all_in, same_cover-decides}
 use Rattle.obligation_sets.proofs.Flags.{has_id-none, has_id-within}
 use Rattle.obligation_sets.proofs.IdLists.{flag_of_id, id_of_flag}
+use Rattle.obligation_sets.proofs.Implied.{AsksFor, asked_holds, still_asks}
+use Rattle.obligation_sets.proofs.Implied.AsksFor.{in_set}
 use Rattle.obligation_sets.proofs.Lists.{Contains-cons_cases, Contains-here, Contains-none, Contains-there}
 use Rattle.obligation_sets.proofs.MetLeaves.{IsMet, Reached, reached, second_false}
 use Rattle.obligation_sets.proofs.OneStep.{IsOneStep, one_step, value}
 
 -- the leaf that a cover comes from
-pub alive_from : (leaves : List (Option Branch)) (c : Cover) → Contains (alive leaves) c → (leaf : Branch) × Contains leaves (Some leaf) × (cover_of leaf ≡ c)
-alive_from [] c h = absurd (Contains-none c h)
-alive_from (None ∷ leaves) c h = let r : (leaf : Branch) × Contains leaves (Some leaf) × (cover_of leaf ≡ c) = alive_from leaves c h in (r.0, Contains-there None leaves (Some r.0) r.1, r.2)
-alive_from (Some b ∷ leaves) c h =
-    elim (Contains-cons_cases (cover_of b) (alive leaves) c h) [
+pub alive_from : (cover : Branch → Cover) (leaves : List (Option Branch)) (c : Cover) → Contains (alive cover leaves) c → (leaf : Branch) × Contains leaves (Some leaf) × (cover leaf ≡ c)
+alive_from cover [] c h = absurd (Contains-none c h)
+alive_from cover (None ∷ leaves) c h = let r : (leaf : Branch) × Contains leaves (Some leaf) × (cover leaf ≡ c) = alive_from cover leaves c h in (r.0, Contains-there None leaves (Some r.0) r.1, r.2)
+alive_from cover (Some b ∷ leaves) c h =
+    elim (Contains-cons_cases (cover b) (alive cover leaves) c h) [
       | inl same ↦ (b, Contains-here (Some b) leaves, same)
-      | inr later ↦ let r : (leaf : Branch) × Contains leaves (Some leaf) × (cover_of leaf ≡ c) = alive_from leaves c later in (r.0, Contains-there (Some b) leaves (Some r.0) r.1, r.2)
+      | inr later ↦ let r : (leaf : Branch) × Contains leaves (Some leaf) × (cover leaf ≡ c) = alive_from cover leaves c later in (r.0, Contains-there (Some b) leaves (Some r.0) r.1, r.2)
     ]
 
-alive_has : (leaves : List (Option Branch)) (leaf : Branch) → Contains leaves (Some leaf) → Contains (alive leaves) (cover_of leaf)
-alive_has [] leaf h = absurd (Contains-none (Some leaf) h)
-alive_has (None ∷ leaves) leaf h =
+alive_has : (cover : Branch → Cover) (leaves : List (Option Branch)) (leaf : Branch) → Contains leaves (Some leaf) → Contains (alive cover leaves) (cover leaf)
+alive_has cover [] leaf h = absurd (Contains-none (Some leaf) h)
+alive_has cover (None ∷ leaves) leaf h =
     elim (Contains-cons_cases None leaves (Some leaf) h) [
       | inl wrong ↦ absurd (let contra : ⊥ = cc in contra)
-      | inr later ↦ alive_has leaves leaf later
+      | inr later ↦ alive_has cover leaves leaf later
     ]
-alive_has (Some b ∷ leaves) leaf h =
+alive_has cover (Some b ∷ leaves) leaf h =
     elim (Contains-cons_cases (Some b) leaves (Some leaf) h) [
-      | inl same ↦ (let e : b ≡ leaf = cc in subst (λ (x : Branch). Contains (cover_of b ∷ alive leaves) (cover_of x)) e (Contains-here (cover_of b) (alive leaves)))
-      | inr later ↦ Contains-there (cover_of b) (alive leaves) (cover_of leaf) (alive_has leaves leaf later)
+      | inl same ↦ (let e : b ≡ leaf = cc in subst (λ (x : Branch). Contains (cover b ∷ alive cover leaves) (cover x)) e (Contains-here (cover b) (alive cover leaves)))
+      | inr later ↦ Contains-there (cover b) (alive cover leaves) (cover leaf) (alive_has cover leaves leaf later)
     ]
 
 -- a fact of each element
@@ -58,23 +63,19 @@ All-from_contains P xs each = λ k d h. each (get_or xs k d) (Contains-get_or xs
 
 module _ (ns : List Node) (list : IsNodeList ns) (set : List FormulaId) (stand : All (Stands ns) set) where
   -- a cover of the set and the leaf that it is
-  pub record Expansion (c : Cover) : Type 0 where
+  pub record Expansion (covering : Covering) (c : Cover) : Type 0 where
     pub leaf : Branch
     pub below : LeafOf ns list (start_of ns set) leaf
-    pub is : cover_of leaf ≡ c
+    pub is : cover_by covering ns leaf ≡ c
 
-  pub expansion : (c : Cover) → Contains (covers_of ns set) c → Expansion c
-  expansion c h =
-      elim (all_from same_cover [] (alive (set_leaves ns set)) c h) [
-        | inl none ↦ absurd (Contains-none c none)
-        | inr there ↦
-            let r : (leaf : Branch) × Contains (set_leaves ns set) (Some leaf) × (cover_of leaf ≡ c) = alive_from (set_leaves ns set) c there in
-            record {
-              leaf = r.0;
-              below = leaf_of ns list (suc (undone (start_of ns set).done)) (start_of ns set) (start_places ns set stand) (λ f done. absurd (has_id-none (length ns) f done)) r.0 r.1;
-              is = r.2;
-            }
-      ]
+  pub expansion : (covering : Covering) (c : Cover) → Contains (covers_by covering ns set) c → Expansion covering c
+  expansion covering c h =
+      let r : (leaf : Branch) × Contains (set_leaves ns set) (Some leaf) × (cover_by covering ns leaf ≡ c) = alive_from (cover_by covering ns) (set_leaves ns set) c (covers_from covering ns set c h) in
+      record {
+        leaf = r.0;
+        below = leaf_of ns list (suc (undone (start_of ns set).done)) (start_of ns set) (start_places ns set stand) (λ f done. absurd (has_id-none (length ns) f done)) r.0 r.1;
+        is = r.2;
+      }
 
   -- each formula of the set is among those that the leaf took off its work list
   pub set_done : (leaf : Branch) → LeafOf ns list (start_of ns set) leaf → (f : FormulaId) → Contains set f → has_id leaf.done f ≡ true
@@ -142,18 +143,33 @@ module _ (ns : List Node) (list : IsNodeList ns) (letter : Letter) (now later : 
     pub done_holds : (f : FormulaId) → has_id leaf.done f ≡ true → now f ≡ true
     done_holds f done = done_below (suc f.0) f (omega arith) done
 
-module _ (ns : List Node) (w : Word) (i : ℕ) (set : List FormulaId) (list : IsNodeList ns) (normal : AreNormal ns set) (ring : HasRing w) (within : i < lasso_len w) where
+-- what a leaf leaves is still asked for by what its cover leaves
+pub left_asked : (covering : Covering) (ns : List Node) (list : IsNodeList ns) (left : List Bool) → length left ≡ length ns → (f : FormulaId) → has_id left f ≡ true → AsksFor ns (ids_of (left_by covering ns left)) f
+left_asked Covering.Plain ns list left places f h = in_set (id_of_flag left f h)
+left_asked Covering.Reduced ns list left places f h = still_asks ns list left places f h
+
+module _ (covering : Covering) (ns : List Node) (w : Word) (i : ℕ) (set : List FormulaId) (list : IsNodeList ns) (normal : AreNormal ns set) (ring : HasRing w) (within : i < lasso_len w) where
   stand : All (Stands ns) set
   stand = λ k d h. (normal k d h).0
 
-  holds_where_met : (c : Cover) → Contains (covers_of ns set) c → MeetsAt ns w i c → SetHolds ns w i set
+  -- what a cover leaves stands in the list, since its leaf leaves it
+  left_holds : (leaf : Branch) → HasPlaces (length ns) leaf → SetHolds ns w (next w i) (cover_by covering ns leaf).next → (f : FormulaId) → Contains (cover_by covering ns leaf).next f → Stands ns f × IsTrue (holds w (tree_at ns f) (next w i))
+  left_holds leaf places all f there = (
+    rw places.next at (has_id-within leaf.next f (left_from covering ns leaf.next f there)),
+    All-contains (λ x. IsTrue (holds w (tree_at ns x) (next w i))) (cover_by covering ns leaf).next f all there,
+  )
+
+  holds_where_met : (c : Cover) → Contains (covers_by covering ns set) c → MeetsAt ns w i c → SetHolds ns w i set
   holds_where_met c there meets =
-      let e : Expansion ns list set stand c = expansion ns list set stand c there in
-      let met : MeetsAt ns w i (cover_of e.leaf) = subst (λ (x : Cover). MeetsAt ns w i x) (sym e.is) meets in
+      let e : Expansion ns list set stand covering c = expansion ns list set stand covering c there in
+      let met : MeetsAt ns w i (cover_by covering ns e.leaf) = subst (λ (x : Cover). MeetsAt ns w i x) (sym e.is) meets in
       All-from_contains (λ f. IsTrue (holds w (tree_at ns f) i)) set
       (λ f h.
       done_holds ns list (letter_at w i) (λ g. holds w (tree_at ns g) i) (λ g. holds w (tree_at ns g) (next w i)) (one_step ns w ring i within list) e.leaf met.fits
-      (λ g flag. All-contains (λ x. IsTrue (holds w (tree_at ns x) (next w i))) (ids_of e.leaf.next) g met.next_holds (id_of_flag e.leaf.next g flag))
+      (λ g flag.
+      asked_holds ns list (letter_at w (next w i)) (λ x. holds w (tree_at ns x) (next w i)) (λ x. holds w (tree_at ns x) (next w (next w i)))
+      (one_step ns w ring (next w i) (next_within w i ring within) list) (cover_by covering ns e.leaf).next (left_holds e.leaf e.below.places met.next_holds) g
+      (left_asked covering ns list e.leaf.next e.below.places.next g flag))
       e.below.places e.below.empty e.below.goes.backed f (set_done ns list set stand e.leaf e.below f h))
 
   start_met : SetHolds ns w i set → IsMet ns (letter_at w i) (λ g. holds w (tree_at ns g) i) (λ g. holds w (tree_at ns g) (next w i)) (start_of ns set)
@@ -182,28 +198,30 @@ module _ (ns : List Node) (w : Word) (i : ℕ) (set : List FormulaId) (list : Is
   second_fails f (Release g h) e x = absurd x
   second_fails f (WeakUntil g h) e x = absurd x
 
-  met_where_holds : SetHolds ns w i set → HasFittingCover ns w i set
+  met_where_holds : SetHolds ns w i set → HasFittingCover covering ns w i set
   met_where_holds all =
       let r : Reached ns (letter_at w i) (λ g. holds w (tree_at ns g) i) (λ g. holds w (tree_at ns g) (next w i)) (set_leaves ns set) =
       reached ns (letter_at w i) (λ g. holds w (tree_at ns g) i) (λ g. holds w (tree_at ns g) (next w i)) list (one_step ns w ring i within list)
       (suc (undone (start_of ns set).done)) (start_of ns set) (start_places ns set stand) (omega arith) (start_met all) in
+      let b : HasBelow (covers_by covering ns set) (cover_by covering ns r.leaf) =
+      covers_below covering ns set (cover_by covering ns r.leaf) (alive_has (cover_by covering ns) (set_leaves ns set) r.leaf r.there) in
       record {
-        cover = cover_of r.leaf;
-        is_cover = all_in same_cover same_cover-decides [] (alive (set_leaves ns set)) (cover_of r.leaf) (alive_has (set_leaves ns set) r.leaf r.there);
+        cover = b.cover;
+        is_cover = b.there;
         met = record {
-          fits = r.met.fits;
-          next_holds = All-from_contains (λ f. IsTrue (holds w (tree_at ns f) (next w i))) (ids_of r.leaf.next) (λ f h. r.met.next f (flag_of_id r.leaf.next f h));
+          fits = record { must = λ k h. r.met.fits.must k (b.part.must k h); none_of = λ k h. r.met.fits.none_of k (b.part.none_of k h) };
+          next_holds = All-from_contains (λ f. IsTrue (holds w (tree_at ns f) (next w i))) b.cover.next (λ f h. r.met.next f (left_from covering ns r.leaf.next f (b.part.next f h)));
         };
-        postponed = All-from_contains (λ f. SecondPartFails w i (tree_at ns f)) (ids_of r.leaf.postponed)
+        postponed = All-from_contains (λ f. SecondPartFails w i (tree_at ns f)) b.cover.postponed
             (λ f h.
-            let flag : has_id r.leaf.postponed f ≡ true = flag_of_id r.leaf.postponed f h in
-            let stands : Stands ns f = rw r.places.postponed at (has_id-within r.leaf.postponed f flag) in
-            second_fails f (node_at ns f.0) (tree_at-node ns f.0 stands (list.parts_first f.0)) (r.met.postponed f flag));
-        put_off_hold = All-from_contains (λ f. IsTrue (holds w (tree_at ns f) (next w i))) (ids_of r.leaf.postponed) (λ f h. r.met.put_off f (flag_of_id r.leaf.postponed f h));
+            let flag : has_id r.leaf.postponed f ≡ true = flag_of_id r.leaf.postponed f (b.part.postponed f h) in
+            let there : Stands ns f = rw r.places.postponed at (has_id-within r.leaf.postponed f flag) in
+            second_fails f (node_at ns f.0) (tree_at-node ns f.0 there (list.parts_first f.0)) (r.met.postponed f flag));
+        put_off_hold = All-from_contains (λ f. IsTrue (holds w (tree_at ns f) (next w i))) b.cover.postponed (λ f h. r.met.put_off f (flag_of_id r.leaf.postponed f (b.part.postponed f h)));
       }
 
 pub covers_are_the_next_step : CoversAreTheNextStep
 covers_are_the_next_step = record {
-  holds_where_met = λ ns w i set c list normal ring within there met. holds_where_met ns w i set list normal ring within c there met;
-  met_where_holds = λ ns w i set list normal ring within all. met_where_holds ns w i set list normal ring within all;
+  holds_where_met = λ covering ns w i set c list normal ring within there met. holds_where_met covering ns w i set list normal ring within c there met;
+  met_where_holds = λ covering ns w i set list normal ring within all. met_where_holds covering ns w i set list normal ring within all;
 }

@@ -3,7 +3,8 @@ use Rattle.ltl_formula.specs.declared.nodes.FormulaId.{FormulaId}
 use Rattle.ltl_formula.specs.declared.nodes.Node.{Node}
 use Rattle.ltl_formula.specs.ListSignals.{HasSignalsBelow}
 use Rattle.obligation_sets.specs.declared.sets.Cover.{Cover}
-use Rattle.obligation_sets.specs.Covers.{covers_of}
+use Rattle.obligation_sets.specs.declared.sets.Covering.{Covering}
+use Rattle.obligation_sets.specs.Reduced.{covers_by}
 
 -- the cover's cube names only the first n signals
 pub record NamesSignals (n : ℕ) (c : Cover) : Type 0 where
@@ -16,4 +17,4 @@ pub record NameSignalsOf (ns : List Node) (covers : List Cover) : Type 0 where
 
 -- the covers of a set name no signals but those of the list that its formulas stand in
 abbrev pub CoversNameSignals : Type 0
-CoversNameSignals = (ns : List Node) (set : List FormulaId) → NameSignalsOf ns (covers_of ns set)
+CoversNameSignals = (covering : Covering) (ns : List Node) (set : List FormulaId) → NameSignalsOf ns (covers_by covering ns set)

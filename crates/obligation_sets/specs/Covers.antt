@@ -46,11 +46,11 @@ set_leaves ns set = leaves_of ns (start_of ns set)
 abbrev pub cover_of : Branch → Cover
 cover_of leaf = record { cube = leaf.cube; next = ids_of leaf.next; postponed = ids_of leaf.postponed }
 
--- the covers of the leaves that aren't dead
-abbrev pub alive : List (Option Branch) → List Cover
-alive [] = []
-alive (None ∷ leaves) = alive leaves
-alive (Some leaf ∷ leaves) = cover_of leaf ∷ alive leaves
+-- the covers of the leaves that aren't dead, where `cover` gives that of a leaf
+abbrev pub alive : (Branch → Cover) → List (Option Branch) → List Cover
+alive cover [] = []
+alive cover (None ∷ leaves) = alive cover leaves
+alive cover (Some leaf ∷ leaves) = cover leaf ∷ alive cover leaves
 
 -- whether two covers are the same, as it is derived: by their cubes and their ids
 abbrev pub same_cover : Cover → Cover → Bool
@@ -59,4 +59,4 @@ same_cover = cover_ghosts.eq
 -- the covers of a set of obligations: its leaves that aren't dead, each different one once, at its first place
 -- (bounded synthesis of Finkbeiner and Schewe; the order is this project's own)
 abbrev pub covers_of : List Node → List FormulaId → List Cover
-covers_of ns set = insert_all same_cover [] (alive (set_leaves ns set))
+covers_of ns set = insert_all same_cover [] (alive cover_of (set_leaves ns set))

@@ -1,5 +1,6 @@
 use Rattle.std.specs.Prelude.{◌==◌, ℕ, suc, ◌<◌, Bool, true, false, List, [], ◌∷◌, length, slice_index_or, slice_set}
 use Rattle.std.specs.Cmp.Lexicographic.{pointwise}
+use Rattle.std.specs.List.{list_all, list_any}
 use Rattle.ltl_formula.specs.declared.nodes.FormulaId.{FormulaId}
 
 -- Among a list of formulas a set of them is its flags, one for each place of the list (this project's own).
@@ -29,6 +30,14 @@ same_id f g = f.0 == g.0
 -- whether two lists of ids are the same
 abbrev pub same_ids : List FormulaId → List FormulaId → Bool
 same_ids = pointwise same_id
+
+-- the formula is among these
+abbrev pub is_among : List FormulaId → FormulaId → Bool
+is_among ids f = list_any (λ g. same_id g f) ids
+
+-- each formula of a set is in another
+abbrev pub all_among : List FormulaId → List FormulaId → Bool
+all_among some ids = list_all (is_among ids) some
 
 -- each id is above those before it
 pub record IdsRise (ids : List FormulaId) : Type 0 where

@@ -7,6 +7,8 @@ pub mod Marks
 pub mod OpenWork
 pub mod Steps
 pub mod Covers
+pub mod Reduced
+pub mod Gathered
 pub mod Search
 pub mod NextStep
 pub mod CoverSignals

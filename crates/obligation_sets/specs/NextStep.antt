@@ -7,10 +7,12 @@ use Rattle.ltl_formula.specs.Nodes.{IsNodeList, Stands, tree_at}
 use Rattle.ltl_formula.specs.Tree.{Tree}
 use Rattle.ltl_formula.specs.Tree.Tree.{truth, falsity, signal, negation, next_time, finally, globally, conjunction, disjunction, implication, equivalence, until, release, weak_until}
 use Rattle.ltl_formula.specs.Truth.{holds}
+use Rattle.obligation_sets.specs.declared.sets.Covering.{Covering}
 use Rattle.obligation_sets.specs.declared.sets.Cover.{Cover}
 use Rattle.obligation_sets.specs.Branch.{Branch}
 use Rattle.obligation_sets.specs.Steps.{HasPlaces, step}
-use Rattle.obligation_sets.specs.Covers.{covers_of, leaves_below, leaves_of}
+use Rattle.obligation_sets.specs.Covers.{leaves_below, leaves_of}
+use Rattle.obligation_sets.specs.Reduced.{covers_by}
 use Rattle.ltl_formula.specs.NormalForm.{IsNormal}
 
 -- each formula of a set holds at a position of a lasso (linear temporal logic)
@@ -43,24 +45,24 @@ SecondPartFails w i (equivalence a b) = ⊥
 SecondPartFails w i (release a b) = ⊥
 SecondPartFails w i (weak_until a b) = ⊥
 
--- one of the set's covers is met at the position, and it puts off only untils whose second part is false there and
+-- one of the set's covers, plain or reduced, is met at the position, and it puts off only untils whose second part is false there and
 -- that hold at the next position
-pub record HasFittingCover (ns : List Node) (w : Word) (i : ℕ) (set : List FormulaId) : Type 0 where
+pub record HasFittingCover (covering : Covering) (ns : List Node) (w : Word) (i : ℕ) (set : List FormulaId) : Type 0 where
   pub cover : Cover
-  pub is_cover : Contains (covers_of ns set) cover
+  pub is_cover : Contains (covers_by covering ns set) cover
   pub met : MeetsAt ns w i cover
   pub postponed : All (λ f. SecondPartFails w i (tree_at ns f)) cover.postponed
   pub put_off_hold : SetHolds ns w (next w i) cover.postponed
 
--- covers are the next step of a set in normal form: the set holds at a position exactly where one of its covers is
+-- covers, plain or reduced, are the next step of a set in normal form: the set holds at a position exactly where one of its covers is
 -- met there, and then one that puts off only untils whose second part is false and that hold at the next position
 pub record CoversAreTheNextStep : Type 0 where
-  pub holds_where_met : (ns : List Node) (w : Word) (i : ℕ) (set : List FormulaId) (c : Cover) → IsNodeList ns → AreNormal ns set → HasRing w → i < lasso_len w → Contains (covers_of ns set) c → MeetsAt ns w i c → SetHolds ns w i set
-  pub met_where_holds : (ns : List Node) (w : Word) (i : ℕ) (set : List FormulaId) → IsNodeList ns → AreNormal ns set → HasRing w → i < lasso_len w → SetHolds ns w i set → HasFittingCover ns w i set
+  pub holds_where_met : (covering : Covering) (ns : List Node) (w : Word) (i : ℕ) (set : List FormulaId) (c : Cover) → IsNodeList ns → AreNormal ns set → HasRing w → i < lasso_len w → Contains (covers_by covering ns set) c → MeetsAt ns w i c → SetHolds ns w i set
+  pub met_where_holds : (covering : Covering) (ns : List Node) (w : Word) (i : ℕ) (set : List FormulaId) → IsNodeList ns → AreNormal ns set → HasRing w → i < lasso_len w → SetHolds ns w i set → HasFittingCover covering ns w i set
 
 -- what a cover of a set in normal form leaves to the next position is in normal form
 abbrev pub CoversStayNormal : Type 0
-CoversStayNormal = (ns : List Node) (set : List FormulaId) (c : Cover) → IsNodeList ns → AreNormal ns set → Contains (covers_of ns set) c → AreNormal ns c.next
+CoversStayNormal = (covering : Covering) (ns : List Node) (set : List FormulaId) (c : Cover) → IsNodeList ns → AreNormal ns set → Contains (covers_by covering ns set) c → AreNormal ns c.next
 
 -- the leaves of a branch are its first step's and then those of what comes of it: the number of steps is always enough
 abbrev pub LeavesGoOn : Type 0

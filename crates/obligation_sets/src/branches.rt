@@ -1,11 +1,14 @@
 ghost use Rattle.std.specs.Prelude.{◌≡◌, ◌<◌, ◌^◌, [], ◌∷◌, All, IfOk, IfSome, MatchOption, OnOk, length, reverse};
-ghost use Rattle.std.specs.Prelude.{◌++◌, if◌then◌else◌};
+ghost use Rattle.std.specs.Prelude.{◌++◌, ◌&&◌, ◌||◌, false, fold, if◌then◌else◌, not, slice_index_or};
+ghost use Rattle.ltl_formula.specs.Nodes.{PartsBelow};
+ghost use Rattle.ltl_formula.specs.declared.nodes.TheConstants.{MAX_SIGNALS};
 ghost use Rattle.obligation_sets.specs.Cubes.{forbidding, wanting};
 ghost use Rattle.obligation_sets.specs.Ids.{has_id, ids_of, with_id};
 ghost use Rattle.obligation_sets.specs.Marks.{done_of, next_of, postponed_of};
 ghost use Rattle.obligation_sets.specs.OpenWork.{open_work};
+ghost use Rattle.obligation_sets.specs.Reduced.{cover_by, implied_by, implied_parts, left_by, without};
 
-use crate::sets::{Cover, ObligationSet};
+use crate::sets::{Cover, Covering, ObligationSet};
 use letter_word::{Cube, Letter};
 use ltl_formula::{FormulaId, Formulas, Node};
 use std::alloc::{AllocError, Global};
@@ -55,7 +58,7 @@ impl Model for Branch {
 }
 
 impl Branch {
-    ghost use Rattle.obligation_sets.specs.Covers.{cover_of, start_of};
+    ghost use Rattle.obligation_sets.specs.Covers.{start_of};
     ghost use Rattle.obligation_sets.specs.Ids.{with_id};
     ghost use Rattle.obligation_sets.specs.Steps.{HasPlaces, expanding, joining, leaving, opposing, postponing, step};
     ghost use Rattle.ltl_formula.specs.Nodes.{IsNodeList, SignalBelow, Stands, node_at};
@@ -138,7 +141,7 @@ impl Branch {
 
     /// The branch that forbids a signal.
     fn oppose(self, part: Node) -> Step
-        requires { SignalBelow 16 part }
+        requires { SignalBelow MAX_SIGNALS part }
         ensures { result ≡ opposing self part }
     {
         match part {
@@ -188,12 +191,76 @@ impl Branch {
     }
 
     /// The cover that a leaf is.
-    pub(crate) fn cover(&self, alloc: Global) -> Result<Cover, AllocError>
-        requires next { length self.now.next < 2 ^ 32 }
-        requires postponed { length self.now.postponed < 2 ^ 32 }
-        ensures { IfOk result (λ c. c ≡ cover_of self.now) }
+    pub(crate) fn cover(
+        &self,
+        alloc: Global,
+        formulas: &Formulas,
+        covering: Covering,
+    ) -> Result<Cover, AllocError>
+        requires places { HasPlaces (length formulas.now) self.now }
+        requires few { length self.now.next < 2 ^ 32 }
+        ensures { IfOk result (λ c. c ≡ cover_by covering formulas.now self.now) }
     {
-        cover_of(alloc, self.cube, &self.marks)
+        let implied = dropped(alloc, formulas, covering, &self.marks)?;
+        cover_of(alloc, self.cube, &self.marks, &implied)
+    }
+}
+
+/// The formulas that a cover leaves out of what its leaf leaves, as flags.
+#[tactic(auto, using(crate::proofs::Flags::without_none))]
+fn dropped(
+    alloc: Global,
+    formulas: &Formulas,
+    covering: Covering,
+    marks: &[Mark],
+) -> Result<Vec<bool>, AllocError>
+    requires { length marks.now ≡ length formulas.now }
+    ensures { IfOk result (λ v. without (next_of marks.now) v.items ≡ left_by covering formulas.now (next_of marks.now)) }
+{
+    match covering {
+        Covering::Plain => Ok(Vec::new(alloc)),
+        Covering::Reduced => implied_by(alloc, formulas, marks),
+    }
+}
+
+/// For each formula of the list, whether one that is left over implies it at once. It takes time for each formula.
+fn implied_by(alloc: Global, formulas: &Formulas, marks: &[Mark]) -> Result<Vec<bool>, AllocError>
+    requires { length marks.now ≡ length formulas.now }
+    ensures { IfOk result (λ v. v.items ≡ implied_by formulas.now (next_of marks.now)) }
+{
+    let mut implied = vec![in alloc; false; formulas.len()]?;
+    for place in (0..formulas.len()).rev() {
+        if is_held(marks, &implied, place) {
+            mark_implied(&mut implied, formulas.node(FormulaId(place as u32)));
+        }
+    }
+    Ok(implied)
+}
+
+/// Whether a formula is left over or implied.
+#[tactic(auto, using(crate::proofs::Marks::flag_is))]
+fn is_held(marks: &[Mark], implied: &[bool], place: usize) -> bool
+    requires marks { place < length marks.now }
+    requires implied { place < length implied.now }
+    ensures { result ≡ (slice_index_or (next_of marks.now) place false || slice_index_or implied.now place false) }
+{
+    let mark = marks[place];
+    mark.next || implied[place]
+}
+
+/// Marks the parts of a formula that hold wherever it does.
+fn mark_implied(implied: &mut [bool], node: Node)
+    requires { PartsBelow (length implied.old) node }
+    ensures flags { implied.new ≡ fold with_id implied.old (implied_parts node) }
+    ensures places { length implied.new ≡ length implied.old }
+{
+    match node {
+        Node::And(left, right) => {
+            implied[left.0 as usize] = true;
+            implied[right.0 as usize] = true;
+        }
+        Node::Release(_, right) => implied[right.0 as usize] = true,
+        _ => {}
     }
 }
 
@@ -264,7 +331,7 @@ fn mark_postponed(marks: &mut Vec<Mark>, id: FormulaId)
 
 /// The cube that also wants the signal, or None where it forbids it.
 fn wanting(cube: Cube, signal: u32) -> Option<Cube>
-    requires { signal < 16 }
+    requires { signal < MAX_SIGNALS }
     ensures { result ≡ wanting cube signal }
 {
     if Letter(cube.not).has(signal) {
@@ -279,7 +346,7 @@ fn wanting(cube: Cube, signal: u32) -> Option<Cube>
 
 /// The cube that also forbids the signal, or None where it wants it.
 fn forbidding(cube: Cube, signal: u32) -> Option<Cube>
-    requires { signal < 16 }
+    requires { signal < MAX_SIGNALS }
     ensures { result ≡ forbidding cube signal }
 {
     if Letter(cube.must).has(signal) {
@@ -292,15 +359,20 @@ fn forbidding(cube: Cube, signal: u32) -> Option<Cube>
     }
 }
 
-/// The cover that the marks of a leaf tell, found in one pass over them.
-fn cover_of(alloc: Global, cube: Cube, marks: &[Mark]) -> Result<Cover, AllocError>
+/// The cover that the marks of a leaf tell, without the formulas that are dropped, found in one pass over them.
+fn cover_of(
+    alloc: Global,
+    cube: Cube,
+    marks: &[Mark],
+    dropped: &[bool],
+) -> Result<Cover, AllocError>
     requires { length marks.now < 2 ^ 32 }
-    ensures { IfOk result (λ c. c ≡ record { cube = cube; next = ids_of (next_of marks.now); postponed = ids_of (postponed_of marks.now) }) }
+    ensures { IfOk result (λ c. c ≡ record { cube = cube; next = ids_of (without (next_of marks.now) dropped.now); postponed = ids_of (postponed_of marks.now) }) }
 {
     let mut next = Vec::new(alloc);
     let mut postponed = Vec::new(alloc);
     for (id, mark) in marks.iter().enumerate() {
-        note_chosen(&mut next, FormulaId(id as u32), mark.next)?;
+        note_chosen(&mut next, FormulaId(id as u32), stays(*mark, dropped, id))?;
         note_chosen(&mut postponed, FormulaId(id as u32), mark.postponed)?;
     }
     Ok(Cover {
@@ -308,6 +380,13 @@ fn cover_of(alloc: Global, cube: Cube, marks: &[Mark]) -> Result<Cover, AllocErr
         next: ObligationSet::new(next),
         postponed: ObligationSet::new(postponed),
     })
+}
+
+/// Whether a formula is left over and not dropped.
+fn stays(mark: Mark, dropped: &[bool], place: usize) -> bool
+    ensures { result ≡ (mark.next && not (slice_index_or dropped.now place false)) }
+{
+    mark.next && !dropped.get(place).copied().unwrap_or(false)
 }
 
 /// Puts a formula behind the others if it is chosen.

@@ -24,7 +24,7 @@ impl Model for ObligationSet {
 }
 
 impl ObligationSet {
-    ghost use Rattle.obligation_sets.specs.Ids.{IdsRise};
+    ghost use Rattle.obligation_sets.specs.Ids.{IdsRise, all_among, is_among};
 
     /// The set of these formulas. It takes no memory.
     pub fn new(ids: Vec<FormulaId>) -> ObligationSet
@@ -40,6 +40,22 @@ impl ObligationSet {
         ensures rising { IdsRise self.now }
     {
         &self.ids
+    }
+
+    /// Whether a formula is in the set. It takes a binary search.
+    pub fn contains(&self, id: FormulaId) -> bool
+        ensures { result ≡ is_among self.now id }
+    {
+        let ids = self.ids();
+        let place = ids.partition_point(|other| other.0 < id.0);
+        place < ids.len() && ids[place] == id
+    }
+
+    /// Whether each formula of the set is in another. It takes a binary search for each.
+    pub(crate) fn is_within(&self, other: &ObligationSet) -> bool
+        ensures { result ≡ all_among self.now other.now }
+    {
+        self.ids().iter().all(|id| other.contains(*id))
     }
 }
 
@@ -73,6 +89,15 @@ impl Hash for ObligationSet {
     fn hash<H: Hasher>(&self, state: &mut H) {
         self.ids.hash(state);
     }
+}
+
+/// Which covers of a set are meant.
+#[derive(Clone, Copy, Debug, PartialEq, Eq)]
+pub enum Covering {
+    /// The covers of all leaves that aren't dead.
+    Plain,
+    /// The minimal ones of these, where none leaves a formula that another one that it leaves implies at once.
+    Reduced,
 }
 
 /// One way to meet a set of obligations at a position.

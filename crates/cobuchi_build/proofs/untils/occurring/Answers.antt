@@ -1,6 +1,7 @@
 use Rattle.std.proofs.Common.{◌≡◌, ◌-◌, ◌++◌, ◌<◌, suc, ap, drop, length, ◌∙◌, take, arith}
 use Rattle.cobuchi_build.specs.Occurring.{marked_down}
-use Rattle.cobuchi_build.proofs.Meeting.{marked_more, written_back}
+use Rattle.obligation_sets.proofs.Flags.{written_back}
+use Rattle.cobuchi_build.proofs.Meeting.{marked_more}
 use Rattle.cobuchi_build.proofs.untils.occurring.Goals as goal
 
 pub loop-place-preserved-then-index : goal.loop-place-preserved-then-index

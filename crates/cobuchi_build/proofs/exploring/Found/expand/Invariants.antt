@@ -7,5 +7,5 @@ use Rattle.cobuchi_build.proofs.exploring.Found.expand.Given as goal
 abbrev pub invariant-loop-cover : goal.invariant-loop-cover
 invariant-loop-cover l = record {
   met : l.self ≡ fold (meeting l.untils l.number l.counter) l.initial.self (take l.cover-index l.covers);
-  room : HasRoom l.self;
+  room : HasRoom l.limits l.self;
 }

@@ -4,8 +4,7 @@ use Rattle.std.proofs.lemmas.Bool.{cases_eq, cases_lt, ltb-false, ltb-true, ne_e
 use Rattle.std.proofs.lemmas.List.{get_or_default}
 use Rattle.std.proofs.lemmas.List.Folds.{list_any-from_Any, list_any_none}
 use Rattle.ltl_formula.specs.declared.nodes.FormulaId.{FormulaId}
-use Rattle.obligation_sets.specs.Ids.{IdsRise, same_id}
-use Rattle.cobuchi_build.specs.Explored.{is_postponed}
+use Rattle.obligation_sets.specs.Ids.{IdsRise, is_among, same_id}
 
 pub rising : (ids : List FormulaId) → IdsRise ids → IsNonDecreasingBy (λ (g : FormulaId). g.0) ids
 rising ids r i j d le h =
@@ -37,13 +36,13 @@ module _ (ids : List FormulaId) (rise : IdsRise ids) (x : FormulaId) (i : ℕ) (
         ]
       ]
 
-  search_by : i < length ids → (b : Bool) → eqb (get_or ids i x).0 x.0 ≡ b → b ≡ is_postponed ids x
+  search_by : i < length ids → (b : Bool) → eqb (get_or ids i x).0 x.0 ≡ b → b ≡ is_among ids x
   search_by within true e = sym (list_any-from_Any (λ (g : FormulaId). same_id g x) ids (i, get_or ids i x, within, get_or_default ids i (get_or ids i x) x within, e))
   search_by within false e = sym (list_any_none (λ (g : FormulaId). same_id g x) ids (none_at within e))
 
   -- the id at that place is the one that was looked for, exactly where that is among them
-  pub found_there : (d : FormulaId) (b : Bool) → i < length ids → b ≡ eqb (get_or ids i d).0 x.0 → b ≡ is_postponed ids x
+  pub found_there : (d : FormulaId) (b : Bool) → i < length ids → b ≡ eqb (get_or ids i d).0 x.0 → b ≡ is_among ids x
   found_there d b within tested = search_by within b (ap (λ (z : FormulaId). eqb z.0 x.0) (get_or_default ids i x d within) ∙ sym tested)
 
-  pub found_nowhere : (b : Bool) → length ids ≤ i → b ≡ false → b ≡ is_postponed ids x
+  pub found_nowhere : (b : Bool) → length ids ≤ i → b ≡ false → b ≡ is_among ids x
   found_nowhere b past none = none ∙ sym (list_any_none (λ (g : FormulaId). same_id g x) ids (λ k d inside. before k d (omega arith)))
