@@ -2,6 +2,7 @@
 use Rattle.std.proofs.Common.{◌≡◌, ℕ, ◌<◌, List, refl, ap, subst, arith, inl, inr}
 use Rattle.std.proofs.lemmas.Bool.{cases_eq, cases_lt}
 use Rattle.letter_word.specs.declared.kinds.Kind.{Kind}
+use Rattle.letter_word.specs.declared.kinds.Side.{Side}
 use Rattle.machine_model.specs.Automaton.{AutomatonModel}
 use Rattle.aiger_text.specs.Circuit.{Circuit}
 use Rattle.annot_check.specs.declared.pairs.Pair.{Pair}
@@ -11,9 +12,9 @@ use Rattle.annot_check.specs.Valid.{IsValidPairList, KeepsRule}
 use Rattle.annot_check.specs.Causes.{BreaksRule, IsCause, IsFirstBroken, IsFirstByInput}
 use Rattle.annot_check.specs.Laws.{CausesAreApart}
 
-module _ (c : Circuit) (kind : Kind) (a : AutomatonModel) (pairs : List Pair) where
+module _ (side : Side) (c : Circuit) (kind : Kind) (a : AutomatonModel) (pairs : List Pair) where
   -- no pair keeps the rule and breaks it
-  clash : (pair : Pair) → KeepsRule c a pairs pair → BreaksRule c a pairs pair → ⊥
+  clash : (pair : Pair) → KeepsRule side c a pairs pair → BreaksRule side c a pairs pair → ⊥
   clash pair keeps breaks = breaks.missing (keeps.rule breaks.letter breaks.next breaks.state breaks.goes breaks.edge)
 
   -- two that are both the first are one
@@ -27,20 +28,20 @@ module _ (c : Circuit) (kind : Kind) (a : AutomatonModel) (pairs : List Pair) wh
   one_output : (j k : ℕ) → IsFirstByInput c j → IsFirstByInput c k → j ≡ k
   one_output j k f g = trichotomy j k (λ less. g.first j less f.leads) (λ less. f.first k less g.leads)
 
-  one_pair : (j k : ℕ) → IsFirstBroken c a pairs j → IsFirstBroken c a pairs k → j ≡ k
+  one_pair : (j k : ℕ) → IsFirstBroken side c a pairs j → IsFirstBroken side c a pairs k → j ≡ k
   one_pair j k f g =
-      trichotomy j k (λ less. clash f.pair (subst (KeepsRule c a pairs) f.at (g.first j f.pair less)) f.breaks)
-      (λ less. clash g.pair (subst (KeepsRule c a pairs) g.at (f.first k g.pair less)) g.breaks)
+      trichotomy j k (λ less. clash f.pair (subst (KeepsRule side c a pairs) f.at (g.first j f.pair less)) f.breaks)
+      (λ less. clash g.pair (subst (KeepsRule side c a pairs) g.at (f.first k g.pair less)) g.breaks)
 
-  pub valid_none : (fault : AnnotFault) → IsValidPairList c kind a pairs → IsCause c kind a pairs fault → fault ≡ NoMemory
+  pub valid_none : (fault : AnnotFault) → IsValidPairList side c kind a pairs → IsCause side c kind a pairs fault → fault ≡ NoMemory
   valid_none NoMemory valid cause = refl
   valid_none (BadLine n) valid cause = absurd cause
   valid_none NoStart valid cause = absurd (cause valid.start)
   valid_none (NotMoore o) valid cause = absurd ((valid.moore cause.1).outputs o cause.2.output cause.2.leads)
   valid_none (Broken j) valid cause =
-      absurd (clash cause.2.pair (subst (KeepsRule c a pairs) cause.2.at (valid.rules j cause.2.pair cause.2.within)) cause.2.breaks)
+      absurd (clash cause.2.pair (subst (KeepsRule side c a pairs) cause.2.at (valid.rules j cause.2.pair cause.2.within)) cause.2.breaks)
 
-  pub one_cause : (f g : AnnotFault) → IsCause c kind a pairs f → IsCause c kind a pairs g → (f ≡ NoMemory → ⊥) → (g ≡ NoMemory → ⊥) → f ≡ g
+  pub one_cause : (f g : AnnotFault) → IsCause side c kind a pairs f → IsCause side c kind a pairs g → (f ≡ NoMemory → ⊥) → (g ≡ NoMemory → ⊥) → f ≡ g
   one_cause NoMemory g of_f of_g some_f some_g = absurd (some_f refl)
   one_cause (BadLine n) g of_f of_g some_f some_g = absurd of_f
   one_cause NoStart NoMemory of_f of_g some_f some_g = absurd (some_g refl)
@@ -61,6 +62,6 @@ module _ (c : Circuit) (kind : Kind) (a : AutomatonModel) (pairs : List Pair) wh
 
 pub causes_are_apart : (c : Circuit) → CausesAreApart c
 causes_are_apart c = record {
-  valid = λ kind a pairs fault valid cause. valid_none c kind a pairs fault valid cause;
-  one = λ kind a pairs f g of_f of_g some_f some_g. one_cause c kind a pairs f g of_f of_g some_f some_g;
+  valid = λ side kind a pairs fault valid cause. valid_none side c kind a pairs fault valid cause;
+  one = λ side kind a pairs f g of_f of_g some_f some_g. one_cause side c kind a pairs f g of_f of_g some_f some_g;
 }

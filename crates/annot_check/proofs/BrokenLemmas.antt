@@ -6,6 +6,7 @@ use Rattle.std.proofs.lemmas.Bool.{cases_lt}
 use Rattle.std.proofs.lemmas.List.{get_or-map, get_or_default, length-map, take_more}
 use Rattle.std.proofs.lemmas.List.Elements.{Contains-append_left, Contains-push, Contains-push_cases}
 use Rattle.std.proofs.lemmas.List.Sorted.{Contains-permutation, IsPermutation-sym}
+use Rattle.letter_word.specs.declared.kinds.Side.{Side}
 use Rattle.machine_model.specs.Automaton.{AutomatonModel}
 use Rattle.aiger_text.specs.Circuit.{Circuit}
 use Rattle.annot_check.specs.declared.pairs.Pair.{Pair}
@@ -13,17 +14,17 @@ use Rattle.annot_check.specs.Causes.{BreaksRule, IsFirstBroken}
 use Rattle.annot_check.specs.Steps.{ArePlaces, earlier_of}
 use Rattle.annot_check.specs.Valid.{KeepsRule}
 
-module _ (c : Circuit) (a : AutomatonModel) (pairs : List Pair) where
+module _ (side : Side) (c : Circuit) (a : AutomatonModel) (pairs : List Pair) where
   -- the pair at a place keeps the rule
   abbrev Keeps : ℕ → Type 0
-  Keeps k = (d : Pair) → KeepsRule c a pairs (get_or pairs k d)
+  Keeps k = (d : Pair) → KeepsRule side c a pairs (get_or pairs k d)
 
   -- the pair at a place breaks it
   pub record Breaks (p : ℕ) : Type 0 where
     pub pair : Pair
     pub within : p < length pairs
     pub at : get_or pairs p pair ≡ pair
-    pub breaks : BreaksRule c a pairs pair
+    pub breaks : BreaksRule side c a pairs pair
 
   -- what is found among some places: that each keeps the rule, or one that breaks it, before which each does
   pub record IsFoundAmong (done : List ℕ) (first : Option ℕ) : Type 0 where
@@ -71,7 +72,7 @@ module _ (c : Circuit) (a : AutomatonModel) (pairs : List Pair) where
 
   -- where all places were looked at
   pub found_all : (done : List ℕ) (first : Option ℕ) → ArePlaces (length pairs) done → IsFoundAmong done first
-      → MatchOption first (All (KeepsRule c a pairs) pairs) (IsFirstBroken c a pairs)
+      → MatchOption first (All (KeepsRule side c a pairs) pairs) (IsFirstBroken side c a pairs)
   found_all done None places f = λ k d h. f.none refl k (places.all k h) d
   found_all done (Some p) places f =
       let broken = f.some p refl in

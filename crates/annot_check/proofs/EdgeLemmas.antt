@@ -5,21 +5,21 @@ use Rattle.std.specs.List.Sorted.{IsNonDecreasingBy, IsPartitionPoint, IsPartiti
 use Rattle.std.proofs.lemmas.Bool.{cases_lt, leb-true, leb-false, le-leb, lt-ltb, ltb-true, ltb-false}
 use Rattle.std.proofs.lemmas.List.Sorted.{Contains-permutation, IsPermutation-sym}
 use Rattle.std.proofs.lemmas.List.{get_or-drop, get_or-take, get_or_default, length-drop, length-take-le}
+use Rattle.letter_word.specs.declared.kinds.Side.{Side}
 use Rattle.letter_word.specs.declared.letters.Letter.{Letter}
 use Rattle.letter_word.specs.Cube.{Fits}
 use Rattle.letter_word.proofs.Sets.{has-zero}
 use Rattle.machine_model.specs.declared.automata.Edge.{Edge}
 use Rattle.machine_model.specs.Automaton.{AutomatonModel, HasEdge, JoinsStates}
-use Rattle.std.proofs.Math.Nat.{mod-lt}
-use Rattle.std.proofs.lemmas.Nat.{pow_pos}
 use Rattle.aiger_text.specs.Circuit.{Circuit}
 use Rattle.annot_check.specs.declared.pairs.Pair.{Pair}
 use Rattle.annot_check.specs.declared.numbers.Numbers.{Numbers}
 use Rattle.annot_check.specs.Causes.{BreaksRule}
 use Rattle.annot_check.specs.Numbers.{Knows, greatest_at}
 use Rattle.annot_check.specs.Pairs.{weight}
-use Rattle.annot_check.specs.Steps.{AreEdgesFrom, HasTheEdges, IsEnough, IsReaction, LeadsOn, OneFails, TellsRule}
+use Rattle.annot_check.specs.Steps.{AreEdgesFrom, HasTheEdges, IsEnough, IsReaction, LeadsOn, OneFails, TellsRule, read_of}
 use Rattle.annot_check.specs.Valid.{Goes, KeepsRule}
+use Rattle.annot_check.proofs.Letters.{read_below}
 use Rattle.annot_check.proofs.Lists.{All-Contains}
 
 -- ---- edges that are sorted by their source
@@ -143,23 +143,23 @@ module _ (numbers : Numbers) (a : AutomatonModel) (number : ℕ) (next : List Bo
     fails = λ enough. fails (subst (λ (x : List Bool). IsEnough numbers a number x edge.to) (sym same) enough);
   }
 
-module _ (c : Circuit) (a : AutomatonModel) (numbers : Numbers) (pair : Pair) where
+module _ (side : Side) (c : Circuit) (a : AutomatonModel) (numbers : Numbers) (pair : Pair) where
   -- so far each letter that reads less than n leads on
   pub record LeadsBelow (n : ℕ) : Type 0 where
-    pub below : (letter : Letter) (next : List Bool) (state : ℕ) → Goes c pair.code letter next → letter.0 % 2 ^ length c.inputs < n
+    pub below : (letter : Letter) (next : List Bool) (state : ℕ) → Goes side c pair.code letter next → read_of side c letter.0 < n
         → HasEdge a letter pair.state state → IsEnough numbers a pair.number next state
 
   pub leads_none : LeadsBelow 0
   leads_none = record { below = λ letter next state g less edge. absurd (omega arith) }
 
-module _ (c : Circuit) (a : AutomatonModel) (numbers : Numbers) (pair : Pair) (edges : List Edge) (from : AreEdgesFrom a.edges edges pair.state) where
-  pub leads_more : (read : ℕ) (letter : Letter) (next code : List Bool) → code ≡ next → LeadsBelow c a numbers pair read → IsReaction c pair.code read letter next
-      → All (LeadsOn letter (IsEnough numbers a pair.number code)) edges → LeadsBelow c a numbers pair (read + 1)
+module _ (side : Side) (c : Circuit) (a : AutomatonModel) (numbers : Numbers) (pair : Pair) (edges : List Edge) (from : AreEdgesFrom a.edges edges pair.state) where
+  pub leads_more : (read : ℕ) (letter : Letter) (next code : List Bool) → code ≡ next → LeadsBelow side c a numbers pair read → IsReaction side c pair.code read letter next
+      → All (LeadsOn letter (IsEnough numbers a pair.number code)) edges → LeadsBelow side c a numbers pair (read + 1)
   leads_more read letter next code same before reaction lead = record {
-    below = λ other to state g less edge. elim (cases_lt (other.0 % 2 ^ length c.inputs) read) [
+    below = λ other to state g less edge. elim (cases_lt (read_of side c other.0) read) [
       | inl early ↦ before.below other to state g early edge
       | inr late ↦
-          let here : other.0 % 2 ^ length c.inputs ≡ read = omega arith in
+          let here : read_of side c other.0 ≡ read = omega arith in
           let one = reaction.only other to g here in
           let fits : Fits edge.cube letter = subst (Fits edge.cube) one.0 edge.fits in
           let this : Edge = record { from = pair.state; cube = edge.cube; to = state } in
@@ -168,14 +168,14 @@ module _ (c : Circuit) (a : AutomatonModel) (numbers : Numbers) (pair : Pair) (e
     ];
   }
 
-  pub keeps : (n : ℕ) → n ≡ 2 ^ length c.inputs → LeadsBelow c a numbers pair n → (pairs : List Pair) → Knows (greatest_at numbers) pairs → KeepsRule c a pairs pair
+  pub keeps : (n : ℕ) → n ≡ 2 ^ length c.inputs → LeadsBelow side c a numbers pair n → (pairs : List Pair) → Knows (greatest_at numbers) pairs → KeepsRule side c a pairs pair
   keeps n whole leads pairs knows = record {
     rule = λ letter next state g edge. knows.finds (record { code = next; state = state }) (pair.number + weight a state)
-        (leads.below letter next state g (let low : letter.0 % 2 ^ length c.inputs < 2 ^ length c.inputs = mod-lt letter.0 (pow_pos (length c.inputs)) in omega arith) edge);
+        (leads.below letter next state g (let low : read_of side c letter.0 < 2 ^ length c.inputs = read_below side c letter.0 g.within in omega arith) edge);
   }
 
-  pub breaks : (read : ℕ) (letter : Letter) (next : List Bool) → IsReaction c pair.code read letter next → OneFails letter (IsEnough numbers a pair.number next) edges
-      → (pairs : List Pair) → Knows (greatest_at numbers) pairs → BreaksRule c a pairs pair
+  pub breaks : (read : ℕ) (letter : Letter) (next : List Bool) → IsReaction side c pair.code read letter next → OneFails letter (IsEnough numbers a pair.number next) edges
+      → (pairs : List Pair) → Knows (greatest_at numbers) pairs → BreaksRule side c a pairs pair
   breaks read letter next reaction one pairs knows =
       let there = from.among one.edge one.among in
       record {
@@ -191,11 +191,11 @@ module _ (c : Circuit) (a : AutomatonModel) (numbers : Numbers) (pair : Pair) (e
         missing = λ stands. one.fails (knows.finds_all (record { code = next; state = one.edge.to }) (pair.number + weight a one.edge.to) stands);
       }
 
-  pub tells_yes : (n : ℕ) → n ≡ 2 ^ length c.inputs → LeadsBelow c a numbers pair n → TellsRule c a numbers pair true
+  pub tells_yes : (n : ℕ) → n ≡ 2 ^ length c.inputs → LeadsBelow side c a numbers pair n → TellsRule side c a numbers pair true
   tells_yes n whole leads = record { holds = λ pairs knows _. keeps n whole leads pairs knows; fails = λ pairs knows e. absurd (cc) }
 
-  pub tells_no : (read : ℕ) (letter : Letter) (next code : List Bool) → code ≡ next → IsReaction c pair.code read letter next → OneFails letter (IsEnough numbers a pair.number code) edges
-      → TellsRule c a numbers pair false
+  pub tells_no : (read : ℕ) (letter : Letter) (next code : List Bool) → code ≡ next → IsReaction side c pair.code read letter next → OneFails letter (IsEnough numbers a pair.number code) edges
+      → TellsRule side c a numbers pair false
   tells_no read letter next code same reaction one = record {
     holds = λ pairs knows e. absurd (cc);
     fails = λ pairs knows _.

@@ -5,8 +5,10 @@ pub mod Apart
 pub mod Satisfying
 pub mod Readings
 pub mod NumberLemmas
+pub mod Letters
 pub mod StepLemmas
 pub mod EdgeLemmas
 pub mod MarkLemmas
 pub mod ReadLemmas
+pub mod PairsRead
 pub mod BrokenLemmas

@@ -12,7 +12,7 @@ use Rattle.annot_check.specs.declared.pairs.Pair.{Pair}
 use Rattle.annot_check.specs.declared.numbers.Place.{Place}
 use Rattle.annot_check.specs.Pairs.{Listed}
 use Rattle.annot_check.specs.Numbers.{place_eq, place_of}
-use Rattle.annot_check.specs.AnnotationText.{behind_head, count_of, is_taken, listed_in, pair_in, pairs_in, pieces_of, reading_from}
+use Rattle.annot_check.specs.AnnotationText.{Headed, behind_head, count_of, head_from, is_taken, list_behind, listed_in, pair_in, pairs_in, pieces_of, reading_of}
 use Rattle.annot_check.specs.Readings.{is_held, next_of}
 
 -- there is always a last part
@@ -32,41 +32,45 @@ whole_is rest none = no_cut 10 rest none
 
 -- ---- the head
 
-module _ (latches states : ℕ) where
-  -- one line of those up to the head
-  abbrev at_line : List (List ℕ) → ℕ → List ℕ → Result Listed ℕ
-  at_line parts n line =
-      option_map_or (λ word. option_map_or (listed_in latches states parts n) (count_of word) (Err n)) (behind_head line) (reading_from latches states parts (n + 1))
+-- one line of those up to the head
+abbrev at_line : List (List ℕ) → ℕ → List ℕ → Result Headed ℕ
+at_line parts n line = option_map_or (λ word. Ok (record { word = word; line = n; parts = parts })) (behind_head line) (head_from parts (n + 1))
 
-  read_line : (parts : List (List ℕ)) (line : List ℕ) (n : ℕ) → 0 < length parts → reading_from latches states (line ∷ parts) n ≡ at_line parts n line
-  read_line [] line n some = absurd (omega arith)
-  read_line (next ∷ more) line n some = refl
+read_line : (parts : List (List ℕ)) (line : List ℕ) (n : ℕ) → 0 < length parts → head_from (line ∷ parts) n ≡ at_line parts n line
+read_line [] line n some = absurd (omega arith)
+read_line (next ∷ more) line n some = refl
 
-  module _ (rest line behind : List ℕ) (n : ℕ) (r : Result Listed ℕ) (cut : pieces_of rest ≡ line ∷ pieces_of behind) (so_far : reading_from latches states (pieces_of rest) n ≡ r) where
-    at_this : r ≡ at_line (pieces_of behind) n line
-    at_this = sym so_far ∙ ap (λ ps. reading_from latches states ps n) cut ∙ read_line (pieces_of behind) line n (some_part behind)
+module _ (rest line behind : List ℕ) (n : ℕ) (r : Result Headed ℕ) (cut : pieces_of rest ≡ line ∷ pieces_of behind) (so_far : head_from (pieces_of rest) n ≡ r) where
+  at_this : r ≡ at_line (pieces_of behind) n line
+  at_this = sym so_far ∙ ap (λ ps. head_from ps n) cut ∙ read_line (pieces_of behind) line n (some_part behind)
 
-    pub head_found : (word : List ℕ) (count : ℕ) → behind_head line ≡ Some word → count_of word ≡ Some count → listed_in latches states (pieces_of behind) n count ≡ r
-    head_found word count begins counted =
-        sym (at_this
-        ∙ ap (λ o. option_map_or (λ word. option_map_or (listed_in latches states (pieces_of behind) n) (count_of word) (Err n)) o (reading_from latches states (pieces_of behind) (n + 1))) begins
-        ∙ ap (λ o. option_map_or (listed_in latches states (pieces_of behind) n) o (Err n)) counted)
+  abbrev by_word : Option (List ℕ) → Result Headed ℕ
+  by_word o = option_map_or (λ word. Ok (record { word = word; line = n; parts = pieces_of behind })) o (head_from (pieces_of behind) (n + 1))
 
-    pub head_bad : (word : List ℕ) → behind_head line ≡ Some word → count_of word ≡ None → r ≡ Err n
-    head_bad word begins counted =
-        at_this
-        ∙ ap (λ o. option_map_or (λ word. option_map_or (listed_in latches states (pieces_of behind) n) (count_of word) (Err n)) o (reading_from latches states (pieces_of behind) (n + 1))) begins
-        ∙ ap (λ o. option_map_or (listed_in latches states (pieces_of behind) n) o (Err n)) counted
+  pub head_found : (word : List ℕ) → behind_head line ≡ Some word → r ≡ Ok (record { word = word; line = n; parts = pieces_of behind })
+  head_found word begins = at_this ∙ ap by_word begins
 
-    pub head_later : behind_head line ≡ None → reading_from latches states (pieces_of behind) (n + 1) ≡ r
-    head_later begins =
-        sym (at_this
-        ∙ ap (λ o. option_map_or (λ word. option_map_or (listed_in latches states (pieces_of behind) n) (count_of word) (Err n)) o (reading_from latches states (pieces_of behind) (n + 1))) begins)
+  pub head_later : behind_head line ≡ None → head_from (pieces_of behind) (n + 1) ≡ r
+  head_later begins = sym (at_this ∙ ap by_word begins)
 
-  -- the last part
-  pub no_head : (rest : List ℕ) (n : ℕ) (r : Result Listed ℕ) → pieces_of rest ≡ rest ∷ [] → reading_from latches states (pieces_of rest) n ≡ r
-      → r ≡ cond ((length rest == 0) || is_some (behind_head rest)) (Err n) (Err (n + 1))
-  no_head rest n r whole so_far = sym so_far ∙ ap (λ ps. reading_from latches states ps n) whole
+-- the last part
+pub no_head : (rest : List ℕ) (n : ℕ) (r : Result Headed ℕ) → pieces_of rest ≡ rest ∷ [] → head_from (pieces_of rest) n ≡ r
+    → r ≡ cond ((length rest == 0) || is_some (behind_head rest)) (Err n) (Err (n + 1))
+no_head rest n r whole so_far = sym so_far ∙ ap (λ ps. head_from ps n) whole
+
+-- what a head that was found leaves
+module _ (latches states : ℕ) (bytes : List ℕ) where
+  pub head_left : (head : Headed) (count : ℕ) → head_from (pieces_of bytes) 1 ≡ Ok head → count_of head.word ≡ Some count
+      → listed_in latches states head.parts head.line count ≡ reading_of latches states bytes
+  head_left head count found counted =
+      sym (ap (list_behind latches states) found ∙ ap (λ o. option_map_or (listed_in latches states head.parts head.line) o (Err head.line)) counted)
+
+  pub head_bad : (head : Headed) → head_from (pieces_of bytes) 1 ≡ Ok head → count_of head.word ≡ None → reading_of latches states bytes ≡ Err head.line
+  head_bad head found counted =
+      ap (list_behind latches states) found ∙ ap (λ o. option_map_or (listed_in latches states head.parts head.line) o (Err head.line)) counted
+
+  pub head_none : (n : ℕ) → head_from (pieces_of bytes) 1 ≡ Err n → reading_of latches states bytes ≡ Err n
+  head_none n none = ap (list_behind latches states) none
 
 -- ---- the pairs
 

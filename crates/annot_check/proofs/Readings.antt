@@ -3,13 +3,13 @@ use Rattle.std.proofs.Common.{◌≡◌, ℕ}
 use Rattle.std.specs.Prelude.{Result, Ok, Err}
 use Rattle.annot_check.specs.Stated.{ReadingsAreApart}
 
-same_ok : {X : Type 0} (r : Result X ℕ) (x y : X) → r ≡ Ok x → r ≡ Ok y → x ≡ y
+pub same_ok : {X : Type 0} (r : Result X ℕ) (x y : X) → r ≡ Ok x → r ≡ Ok y → x ≡ y
 same_ok r x y p q = cc
 
-same_err : {X : Type 0} (r : Result X ℕ) (m n : ℕ) → r ≡ Err m → r ≡ Err n → m ≡ n
+pub same_err : {X : Type 0} (r : Result X ℕ) (m n : ℕ) → r ≡ Err m → r ≡ Err n → m ≡ n
 same_err r m n p q = cc
 
-never_both : {X : Type 0} (r : Result X ℕ) (x : X) (n : ℕ) → r ≡ Ok x → r ≡ Err n → ⊥
+pub never_both : {X : Type 0} (r : Result X ℕ) (x : X) (n : ℕ) → r ≡ Ok x → r ≡ Err n → ⊥
 never_both r x n p q = cc
 
 pub readings_are_apart : ReadingsAreApart

@@ -5,9 +5,9 @@ use Rattle.annot_check.specs.Laws.{ValidListsSatisfy, ValidListsShowKind}
 use Rattle.annot_check.proofs.Walks.{valid_lists_show}
 
 pub valid_lists_satisfy : (c : Circuit) → ValidListsShowKind c → ValidListsSatisfy c
-valid_lists_satisfy c of_kind kind means a pairs accepts valid = record {
-  kind = of_kind kind a pairs valid;
-  means = λ w values run. by (means w) (λ false_there. (valid_lists_show c kind a pairs valid).none_accepted w values run (accepts.lassos w run.lasso.ring false_there));
+valid_lists_satisfy c of_kind side kind means a pairs accepts valid = record {
+  kind = of_kind side kind a pairs valid;
+  means = λ w values run. by (means w) (λ false_there. (valid_lists_show c side kind a pairs valid).none_accepted w values run (accepts.lassos w run.lasso.ring false_there));
 }
   where
     by : (b : Bool) → (b ≡ false → ⊥) → b ≡ true

@@ -1,11 +1,10 @@
 -- One step of a circuit, from given values.
 use Rattle.std.proofs.Common.{below_more, set, ◌≡◌, ℕ, zero, suc, ◌+◌, ◌-◌, ◌*◌, ◌/◌, ◌%◌, ◌^◌, ◌<◌, ◌≤◌, Bool, true, false, List, [], ◌∷◌, ◌++◌, length, get_or, drop, refl, sym, ap, subst, ◌∙◌, arith, inl, inr}
-use Rattle.std.proofs.Math.Nat.{mul-le-mul_right}
-use Rattle.std.proofs.lemmas.Nat.{pow-add, div-mul-add, mod-mul-add}
 use Rattle.std.proofs.lemmas.Bool.{cases_lt}
 use Rattle.std.proofs.lemmas.List.{get_or_append_left, length-append, length-drop, get_or-map, get_or-set_other, get_or-set_same, get_or_default, length-map, length-set, same_lists}
 use Rattle.std.proofs.Math.Pow.{pow_mono}
 use Rattle.std.proofs.Math.Seq.{get_or-append_seam}
+use Rattle.letter_word.specs.declared.kinds.Side.{Side}
 use Rattle.letter_word.specs.declared.letters.Letter.{Letter}
 use Rattle.letter_word.specs.Signals.{has}
 use Rattle.aiger_text.specs.declared.circuits.Latch.{Latch}
@@ -13,7 +12,6 @@ use Rattle.aiger_text.specs.Circuit.{Circuit, literal_value, literal_values}
 use Rattle.aiger_text.specs.CircuitType.{IsCircuit, IsDefined}
 use Rattle.aiger_text.specs.Step.{HasValues, IsStep, StateModel}
 use Rattle.aiger_text.specs.Laws.{ValuationsAgree}
-use Rattle.aiger_text.proofs.Bits.{has-div, has-mod}
 use Rattle.aiger_text.proofs.Putting.{no_latch}
 use Rattle.aiger_text.proofs.Stepping.{next_defined, output_defined}
 use Rattle.std.specs.Cmp.{booleans_Decides}
@@ -21,46 +19,26 @@ use Rattle.std.specs.Cmp.Lexicographic.{pointwise_decides}
 use Rattle.annot_check.specs.declared.steps.Reaction.{Reaction}
 use Rattle.annot_check.specs.declared.steps.Reactions.{Reactions}
 use Rattle.annot_check.specs.Place.{same_code}
-use Rattle.annot_check.specs.Steps.{AreReactions, GivesInputs, IsReaction}
+use Rattle.annot_check.specs.Steps.{AreReactions, GivesInputs, IsReaction, read_of, whole_of}
 use Rattle.letter_word.specs.Bits.{number_of}
-use Rattle.letter_word.proofs.Bits.{same_number, has-number_of, number_of-lt}
+use Rattle.letter_word.proofs.Bits.{same_number, number_of-lt}
 use Rattle.annot_check.specs.Valid.{Goes}
+use Rattle.annot_check.proofs.Letters.{HasParts, each_signal, read_signals, whole_parts}
 use Rattle.annot_check.proofs.Lists.{map-All}
 
--- what was read and what was written, in one letter
-module _ (n read : ℕ) (small : read < 2 ^ n) (written : List Bool) where
-  abbrev whole : ℕ
-  whole = number_of written * 2 ^ n + read
-
-  upper : whole / 2 ^ n ≡ number_of written
-  upper = div-mul-add (number_of written) (2 ^ n) read small
-
-  lower : whole % 2 ^ n ≡ read
-  lower = mod-mul-add (number_of written) (2 ^ n) read small
-
-  has-read : (k : ℕ) → k < n → has whole k ≡ has read k
-  has-read k h = sym (has-mod whole n k h) ∙ ap (λ m. has m k) lower
-
-  has-written : (k : ℕ) → k < length written → has whole (n + k) ≡ get_or written k false
-  has-written k h = sym (has-div whole n k) ∙ ap (λ m. has m k) upper ∙ has-number_of written k h
-
-  whole-lt : whole < 2 ^ (n + length written)
-  whole-lt =
-      let few : number_of written < 2 ^ length written = number_of-lt written in
-      let more : (number_of written + 1) * 2 ^ n ≤ 2 ^ length written * 2 ^ n = mul-le-mul_right (2 ^ n) (let le : number_of written + 1 ≤ 2 ^ length written = omega arith in le) in
-      let e : 2 ^ (n + length written) ≡ 2 ^ n * 2 ^ length written = pow-add 2 n (length written) in
-      rw e (omega (arith, more))
-
 -- the letter of a step, and no other that reads the same
-module _ (c : Circuit) (circuit : IsCircuit c) (agree : ValuationsAgree c) (code : List Bool) (read : ℕ) (before after : StateModel)
+module _ (side : Side) (c : Circuit) (circuit : IsCircuit c) (agree : ValuationsAgree c) (code : List Bool) (read : ℕ) (before after : StateModel)
     (small : read < 2 ^ length c.inputs) (count : length before.inputs ≡ length c.inputs)
     (inputs : (k : ℕ) → k < length c.inputs → get_or before.inputs k false ≡ has read k)
     (latches : before.latches ≡ code) (step : IsStep c before after) where
   abbrev letter : ℕ
-  letter = number_of after.outputs * 2 ^ length c.inputs + read
+  letter = whole_of side c read (number_of after.outputs)
 
   outputs-length : length after.outputs ≡ length c.outputs
   outputs-length = ap (λ (xs : List Bool). length xs) step.writes ∙ length-map c.outputs (literal_value step.values)
+
+  parts : HasParts side c letter read after.outputs
+  parts = whole_parts side c read after.outputs small outputs-length
 
   input-value : (k : ℕ) → k < length c.inputs → literal_value step.values (get_or c.inputs k 0) ≡ has read k
   input-value k h =
@@ -72,21 +50,20 @@ module _ (c : Circuit) (circuit : IsCircuit c) (agree : ValuationsAgree c) (code
       sym (get_or-map (λ literal. literal_value step.values literal) c.outputs k 0 false h)
       ∙ ap (λ (bits : List Bool). get_or bits k false) (sym step.writes)
 
-  goes : Goes c code (record { 0 = letter }) after.latches
+  goes : Goes side c code (record { 0 = letter }) after.latches
   goes = record {
     values = step.values;
     holds = step.before.holds ∙ latches;
     gates = step.before.gates;
-    reads = λ k h. input-value k h ∙ sym (has-read (length c.inputs) read small after.outputs k h) ∙ ap (has letter) (let e : k ≡ 0 + k = omega arith in e);
-    writes = λ k h. output-value k h ∙ sym (has-written (length c.inputs) read small after.outputs k (rw outputs-length h));
-    within = subst (λ m. letter < 2 ^ (length c.inputs + m)) outputs-length (whole-lt (length c.inputs) read small after.outputs);
+    reads = λ k h. input-value k h ∙ sym (parts.reads k h);
+    writes = λ k h. output-value k h ∙ sym (parts.writes k h);
+    within = parts.within;
     moves = step.moves;
   }
 
-  module _ (other : Letter) (to : List Bool) (g : Goes c code other to) (same_read : other.0 % 2 ^ length c.inputs ≡ read) where
+  module _ (other : Letter) (to : List Bool) (g : Goes side c code other to) (same_read : read_of side c other.0 ≡ read) where
     other-read : (k : ℕ) → k < length c.inputs → literal_value g.values (get_or c.inputs k 0) ≡ has read k
-    other-read k h =
-        g.reads k h ∙ ap (has other.0) (let e : 0 + k ≡ k = omega arith in e) ∙ sym (has-mod other.0 (length c.inputs) k h) ∙ ap (λ m. has m k) same_read
+    other-read k h = g.reads k h ∙ sym (read_signals side c other.0 k h) ∙ ap (λ m. has m k) same_read
 
     reads : literal_values g.values c.inputs ≡ before.inputs
     reads = same_lists (literal_values g.values c.inputs) before.inputs (length-map c.inputs (literal_value g.values) ∙ sym count)
@@ -108,24 +85,16 @@ module _ (c : Circuit) (circuit : IsCircuit c) (agree : ValuationsAgree c) (code
         ∙ sym step.moves
 
     bits-agree : (k : ℕ) → k < length c.inputs + length c.outputs → has other.0 k ≡ has letter k
-    bits-agree k h = elim (cases_lt k (length c.inputs)) [
-      | inl less ↦
-          sym (has-mod other.0 (length c.inputs) k less) ∙ ap (λ m. has m k) same_read ∙ sym (has-read (length c.inputs) read small after.outputs k less)
-      | inr more ↦
-          let j : ℕ = k - length c.inputs in
-          let within : j < length c.outputs = omega arith in
-          let at : length c.inputs + j ≡ k = omega arith in
-          subst (λ i. has other.0 i ≡ has letter i) at
-          (sym (g.writes j within) ∙ same_value (get_or c.outputs j 0) (output_defined c circuit j 0 within) ∙ output-value j within
-          ∙ sym (has-written (length c.inputs) read small after.outputs j (rw outputs-length within)))
-    ]
+    bits-agree = each_signal side c (λ k. has other.0 k ≡ has letter k)
+        (λ k h. sym (g.reads k h) ∙ other-read k h ∙ sym (parts.reads k h))
+        (λ k h. sym (g.writes k h) ∙ same_value (get_or c.outputs k 0) (output_defined c circuit k 0 h) ∙ output-value k h ∙ sym (parts.writes k h))
 
     same_letter : other ≡ record { 0 = letter }
     same_letter =
         let e : other.0 ≡ letter = same_number (length c.inputs + length c.outputs) other.0 letter g.within goes.within bits-agree in
         λ i. record { 0 = e i }
 
-  pub reacts : IsReaction c code read (record { 0 = letter }) after.latches
+  pub reacts : IsReaction side c code read (record { 0 = letter }) after.latches
   reacts = record { goes = goes; only = λ other to g same. (same_letter other to g same, same_next other to g same) }
 
 -- ---- giving values one by one
@@ -186,11 +155,11 @@ set_all old now code n count all g =
     g.same ∙ ap (λ (xs : List Bool). (let t : StateModel = record old { latches = xs } in t)) one
 
 -- a number of few bits is small
-pub small_number : (bits : List Bool) (k n : ℕ) → length bits < 9 → n ≡ number_of (drop k bits) → n < 256
+pub small_number : (bits : List Bool) (k n : ℕ) → length bits < 17 → n ≡ number_of (drop k bits) → n < 65536
 small_number bits k n few is =
     let less : number_of (drop k bits) < 2 ^ length (drop k bits) = number_of-lt (drop k bits) in
-    let short : length (drop k bits) ≤ 8 = (let d : length (drop k bits) ≡ length bits - k = length-drop k bits in omega (arith, d, few)) in
-    let most : 2 ^ length (drop k bits) ≤ 2 ^ 8 = pow_mono short in
+    let short : length (drop k bits) ≤ 16 = (let d : length (drop k bits) ≡ length bits - k = length-drop k bits in omega (arith, d, few)) in
+    let most : 2 ^ length (drop k bits) ≤ 2 ^ 16 = pow_mono short in
     omega (arith, is, less, most)
 
 pub whole_number : (bits : List Bool) (k n count : ℕ) → length bits ≡ count → k ≤ 0 → n ≡ number_of (drop k bits) → n < 2 ^ count
@@ -198,24 +167,24 @@ whole_number bits zero n count is low same = subst (λ m. n < 2 ^ m) is (rw same
 whole_number bits (suc k) n count is low same = absurd (omega arith)
 
 -- one reaction more
-pub each_pushed : (c : Circuit) (code : List Bool) (steps : List Reaction) (step : Reaction) → ((k : ℕ) (d : Reaction) → k < length steps → IsReaction c code k (get_or steps k d).letter (get_or steps k d).next)
-    → IsReaction c code (length steps) step.letter step.next → (k : ℕ) (d : Reaction) → k < length (steps ++ step ∷ [])
-    → IsReaction c code k (get_or (steps ++ step ∷ []) k d).letter (get_or (steps ++ step ∷ []) k d).next
-each_pushed c code steps step each one k d h = elim (cases_lt k (length steps)) [
-  | inl less ↦ subst (λ (r : Reaction). IsReaction c code k r.letter r.next) (sym (get_or_append_left steps (step ∷ []) d k less)) (each k d less)
+pub each_pushed : (side : Side) (c : Circuit) (code : List Bool) (steps : List Reaction) (step : Reaction) → ((k : ℕ) (d : Reaction) → k < length steps → IsReaction side c code k (get_or steps k d).letter (get_or steps k d).next)
+    → IsReaction side c code (length steps) step.letter step.next → (k : ℕ) (d : Reaction) → k < length (steps ++ step ∷ [])
+    → IsReaction side c code k (get_or (steps ++ step ∷ []) k d).letter (get_or (steps ++ step ∷ []) k d).next
+each_pushed side c code steps step each one k d h = elim (cases_lt k (length steps)) [
+  | inl less ↦ subst (λ (r : Reaction). IsReaction side c code k r.letter r.next) (sym (get_or_append_left steps (step ∷ []) d k less)) (each k d less)
   | inr more ↦
       let size : length (steps ++ step ∷ []) ≡ length steps + 1 = length-append steps (step ∷ []) in
       let last : length steps ≡ k = omega (arith, h, size, more) in
-      subst (λ j. IsReaction c code j (get_or (steps ++ step ∷ []) j d).letter (get_or (steps ++ step ∷ []) j d).next) last
-      (subst (λ (r : Reaction). IsReaction c code (length steps) r.letter r.next) (sym (get_or-append_seam steps step [] d)) one)
+      subst (λ j. IsReaction side c code j (get_or (steps ++ step ∷ []) j d).letter (get_or (steps ++ step ∷ []) j d).next) last
+      (subst (λ (r : Reaction). IsReaction side c code (length steps) r.letter r.next) (sym (get_or-append_seam steps step [] d)) one)
 ]
 
 -- one of the reactions from a code
-pub reaction_at : (c : Circuit) (r : Reactions) → AreReactions c r → (code : List Bool) → r.code ≡ code → (k : ℕ) (step : Reaction) → k < length r.steps.items
-    → step ≡ get_or r.steps.items k step → IsReaction c code k step.letter step.next
-reaction_at c r are code same k step h is =
-    subst (λ (x : List Bool). IsReaction c x k step.letter step.next) same
-    (subst (λ (s : Reaction). IsReaction c r.code k s.letter s.next) (sym is) (are.each k step h))
+pub reaction_at : (side : Side) (c : Circuit) (r : Reactions) → AreReactions side c r → (code : List Bool) → r.code ≡ code → (k : ℕ) (step : Reaction) → k < length r.steps.items
+    → step ≡ get_or r.steps.items k step → IsReaction side c code k step.letter step.next
+reaction_at side c r are code same k step h is =
+    subst (λ (x : List Bool). IsReaction side c x k step.letter step.next) same
+    (subst (λ (s : Reaction). IsReaction side c r.code k s.letter s.next) (sym is) (are.each k step h))
 
 -- the same code, as it is compared
 pub code_same : (a b : List Bool) → same_code a b ≡ true → a ≡ b

@@ -2,7 +2,8 @@
 use Rattle.std.proofs.Common.{◌≡◌, ℕ, zero, suc, ◌+◌, ◌<◌, ◌≤◌, Bool, true, false, IsTrue, cond, List, length, map, refl, subst, sym, arith}
 use Rattle.std.specs.Prelude.{sum_by}
 use Rattle.letter_word.specs.declared.kinds.Kind.{Kind}
-use Rattle.letter_word.specs.declared.kinds.Side.TheVariants.{System}
+use Rattle.letter_word.specs.declared.kinds.Side.{Side}
+use Rattle.letter_word.specs.declared.letters.Letter.{Letter}
 use Rattle.letter_word.specs.Word.{Word, HasRing, lasso_len, letter_at, next}
 use Rattle.letter_word.proofs.Positions.{next_within, letter_below}
 use Rattle.machine_model.specs.Automaton.{AutomatonModel, HasEdge, rejects}
@@ -32,13 +33,9 @@ Stands-bounded pairs code state least s =
     let bound : s.pair.number ≤ sum_by (λ (p : Pair). p.number) pairs = Contains-sum (λ (p : Pair). p.number) pairs s.pair s.among in
     omega arith
 
-module _ (c : Circuit) (kind : Kind) (a : AutomatonModel) (pairs : List Pair) (valid : IsValidPairList c kind a pairs)
-    (w : Word) (values : ℕ → Valuation) (run : IsCircuitRun System c w values) where
-  -- the pair of the latches at a position and of a state stands
-  abbrev At : ℕ → ℕ → ℕ → Type 0
-  At i q least = Stands pairs (latch_values c (values i)) q least
-
-  goes : (i : ℕ) → i < lasso_len w → Goes c (latch_values c (values i)) (letter_at w i) (latch_values c (values (next w i)))
+-- one step of a run lasso of the circuit that plays the side
+module _ (side : Side) (c : Circuit) (w : Word) (values : ℕ → Valuation) (run : IsCircuitRun side c w values) where
+  pub goes : (i : ℕ) → i < lasso_len w → Goes side c (latch_values c (values i)) (letter_at w i) (latch_values c (values (next w i)))
   goes i h = record {
     values = values i;
     holds = refl;
@@ -49,18 +46,34 @@ module _ (c : Circuit) (kind : Kind) (a : AutomatonModel) (pairs : List Pair) (v
     moves = map-All (λ (latch : Latch). literal_value (values (next w i)) latch.literal) (λ (latch : Latch). literal_value (values i) latch.next) c.latches (run.steps i h);
   }
 
+  -- the latches begin with their resets
+  pub resets : map (λ (latch : Latch). latch.reset) c.latches ≡ latch_values c (values 0)
+  resets = sym (map-All (λ (latch : Latch). literal_value (values 0) latch.literal) (λ (latch : Latch). latch.reset) c.latches run.resets)
+
+-- and of such a step and an edge, from a pair that stands
+pub Stands-step : (side : Side) (c : Circuit) (kind : Kind) (a : AutomatonModel) (pairs : List Pair) → IsValidPairList side c kind a pairs
+    → (code after : List Bool) (letter : Letter) (q r least : ℕ) → Goes side c code letter after → Stands pairs code q least → HasEdge a letter q r
+    → Stands pairs after r (least + weight a r)
+Stands-step side c kind a pairs valid code after letter q r least goes at edge =
+    let from : HasEdge a letter at.pair.state r = subst (λ s. HasEdge a letter s r) (sym at.state_is) edge in
+    let move : Goes side c at.pair.code letter after = subst (λ (x : List Bool). Goes side c x letter after) (sym at.code_is) goes in
+    let rule = All-Contains (KeepsRule side c a pairs) pairs at.pair valid.rules at.among in
+    let enough : least ≤ at.pair.number = at.enough in
+    Stands-less pairs after r (at.pair.number + weight a r) (least + weight a r) (omega arith) (rule.rule letter after r move from)
+
+module _ (side : Side) (c : Circuit) (kind : Kind) (a : AutomatonModel) (pairs : List Pair) (valid : IsValidPairList side c kind a pairs)
+    (w : Word) (values : ℕ → Valuation) (run : IsCircuitRun side c w values) where
+  -- the pair of the latches at a position and of a state stands
+  abbrev At : ℕ → ℕ → ℕ → Type 0
+  At i q least = Stands pairs (latch_values c (values i)) q least
+
   inside : (i : ℕ) → i < lasso_len w → next w i < lasso_len w
   inside i h = next_within w i run.lasso.ring h
 
   step : (i q r least : ℕ) → i < lasso_len w → At i q least → HasEdge a (letter_at w i) q r → At (next w i) r (least + weight a r)
   step i q r least h at edge =
-      let from : HasEdge a (letter_at w i) at.pair.state r = subst (λ s. HasEdge a (letter_at w i) s r) (sym at.state_is) edge in
-      let move : Goes c at.pair.code (letter_at w i) (latch_values c (values (next w i))) =
-      subst (λ (code : List Bool). Goes c code (letter_at w i) (latch_values c (values (next w i)))) (sym at.code_is) (goes i h) in
-      let rule = All-Contains (KeepsRule c a pairs) pairs at.pair valid.rules at.among in
-      let enough : least ≤ at.pair.number = at.enough in
-      Stands-less pairs (latch_values c (values (next w i))) r (at.pair.number + weight a r) (least + weight a r) (omega arith)
-      (rule.rule (letter_at w i) (latch_values c (values (next w i))) r move from)
+      Stands-step side c kind a pairs valid (latch_values c (values i)) (latch_values c (values (next w i))) (letter_at w i) q r least
+      (goes side c w values run i h) at edge
 
   along : (n i q j r least : ℕ) → i < lasso_len w → At i q least → Path a w n i q j r → At j r least × (j < lasso_len w)
   along zero i q j r least h at path = (subst (λ s. At j s least) path.1 (subst (λ k. At k q least) path.0 at), subst (λ k. k < lasso_len w) path.0 h)
@@ -78,10 +91,8 @@ module _ (c : Circuit) (kind : Kind) (a : AutomatonModel) (pairs : List Pair) (v
 
   start : At 0 0 0
   start =
-      let resets : map (λ (latch : Latch). latch.reset) c.latches ≡ latch_values c (values 0) =
-      sym (map-All (λ (latch : Latch). literal_value (values 0) latch.literal) (λ (latch : Latch). latch.reset) c.latches run.resets) in
       Stands-less pairs (latch_values c (values 0)) 0 (weight a 0) 0 (omega arith)
-      (subst (λ (code : List Bool). Stands pairs code 0 (weight a 0)) resets valid.start)
+      (subst (λ (code : List Bool). Stands pairs code 0 (weight a 0)) (resets side c w values run) valid.start)
 
   module _ (accepted : Accepts a w) where
     counts : weight a accepted.state ≡ 1
@@ -109,4 +120,4 @@ module _ (c : Circuit) (kind : Kind) (a : AutomatonModel) (pairs : List Pair) (v
         absurd (omega (arith, bound))
 
 pub valid_lists_show : (c : Circuit) → ValidListsShow c
-valid_lists_show c kind a pairs valid = record { none_accepted = λ w values run accepted. never c kind a pairs valid w values run accepted }
+valid_lists_show c side kind a pairs valid = record { none_accepted = λ w values run accepted. never side c kind a pairs valid w values run accepted }

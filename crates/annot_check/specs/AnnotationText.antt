@@ -90,18 +90,28 @@ with_head n (Err line) = Err line
 abbrev pub listed_in : ℕ → ℕ → List (List ℕ) → ℕ → ℕ → Result Listed ℕ
 listed_in latches states parts n count = with_head n (pairs_in latches states count [] parts (n + 1))
 
+-- a head: what stands behind its first word, its line, and the parts behind that line
+pub record Headed : Type 0 where
+  pub word : List ℕ
+  pub line : ℕ
+  pub parts : List (List ℕ)
+
 -- The first line that begins as a head is one. A last part that isn't ended counts as a line that is skipped where it isn't empty, unless
 -- it begins as a head.
-abbrev pub reading_from : ℕ → ℕ → List (List ℕ) → ℕ → Result Listed ℕ
-reading_from latches states [] n = Err n
-reading_from latches states (last ∷ []) n = if (length last == 0) || is_some (behind_head last) then Err n else Err (n + 1)
-reading_from latches states (line ∷ next ∷ more) n =
-    option_map_or (λ word. option_map_or (listed_in latches states (next ∷ more) n) (count_of word) (Err n)) (behind_head line)
-    (reading_from latches states (next ∷ more) (n + 1))
+abbrev pub head_from : List (List ℕ) → ℕ → Result Headed ℕ
+head_from [] n = Err n
+head_from (last ∷ []) n = if (length last == 0) || is_some (behind_head last) then Err n else Err (n + 1)
+head_from (line ∷ next ∷ more) n =
+    option_map_or (λ word. Ok (record { word = word; line = n; parts = next ∷ more })) (behind_head line) (head_from (next ∷ more) (n + 1))
+
+-- the list behind a head
+abbrev pub list_behind : ℕ → ℕ → Result Headed ℕ → Result Listed ℕ
+list_behind latches states (Ok head) = option_map_or (listed_in latches states head.parts head.line) (count_of head.word) (Err head.line)
+list_behind latches states (Err n) = Err n
 
 -- what a text states: a list of pairs, or the first line that is refused
 abbrev pub reading_of : ℕ → ℕ → List ℕ → Result Listed ℕ
-reading_of latches states bytes = reading_from latches states (pieces_of bytes) 1
+reading_of latches states bytes = list_behind latches states (head_from (pieces_of bytes) 1)
 
 -- the text states this list of pairs, for so many latches and states
 abbrev pub StatesPairs : List ℕ → ℕ → ℕ → Listed → Type 0

@@ -1,7 +1,7 @@
 -- Laws of valid lists of pairs.
 use Rattle.std.specs.Prelude.{◌≡◌, ℕ, Bool, true, false, List}
 use Rattle.letter_word.specs.declared.kinds.Kind.{Kind}
-use Rattle.letter_word.specs.declared.kinds.Side.TheVariants.{System}
+use Rattle.letter_word.specs.declared.kinds.Side.{Side}
 use Rattle.letter_word.specs.Word.{Word, HasRing}
 use Rattle.machine_model.specs.Automaton.{AutomatonModel}
 use Rattle.machine_model.specs.Accepts.{Accepts}
@@ -12,14 +12,14 @@ use Rattle.annot_check.specs.declared.faults.AnnotFault.TheVariants.{NoMemory}
 use Rattle.annot_check.specs.Valid.{IsValidPairList}
 use Rattle.annot_check.specs.Causes.{IsCause}
 
--- the automaton accepts no run lasso of the circuit, which plays the system
-pub record IsAcceptedCircuit (a : AutomatonModel) (c : Circuit) : Type 0 where
-  pub none_accepted : (w : Word) (values : ℕ → Valuation) → IsCircuitRun System c w values → Accepts a w → ⊥
+-- the automaton accepts no run lasso of the circuit, which plays this side
+pub record IsAcceptedCircuit (side : Side) (a : AutomatonModel) (c : Circuit) : Type 0 where
+  pub none_accepted : (w : Word) (values : ℕ → Valuation) → IsCircuitRun side c w values → Accepts a w → ⊥
 
--- the circuit is of the kind, and what is wanted is true on each of its run lassos
-pub record SatisfiesAs (wanted_kind : Kind) (wanted : Word → Bool) (c : Circuit) : Type 0 where
+-- the circuit is of the kind, and what is wanted is true on each of its run lassos, where it plays this side
+pub record SatisfiesAs (side : Side) (wanted_kind : Kind) (wanted : Word → Bool) (c : Circuit) : Type 0 where
   pub kind : IsCircuitOfKind wanted_kind c
-  pub means : (w : Word) (values : ℕ → Valuation) → IsCircuitRun System c w values → wanted w ≡ true
+  pub means : (w : Word) (values : ℕ → Valuation) → IsCircuitRun side c w values → wanted w ≡ true
 
 -- the automaton accepts each lasso on which what is wanted is false
 pub record AcceptsFalse (means : Word → Bool) (a : AutomatonModel) : Type 0 where
@@ -27,21 +27,22 @@ pub record AcceptsFalse (means : Word → Bool) (a : AutomatonModel) : Type 0 wh
 
 -- a circuit with a valid list of pairs is accepted: no run lasso of it, with any number of latches, is an accepted word
 abbrev pub ValidListsShow : Circuit → Type 0
-ValidListsShow c = (kind : Kind) (a : AutomatonModel) (pairs : List Pair) → IsValidPairList c kind a pairs → IsAcceptedCircuit a c
+ValidListsShow c = (side : Side) (kind : Kind) (a : AutomatonModel) (pairs : List Pair) → IsValidPairList side c kind a pairs → IsAcceptedCircuit side a c
 
 -- and it is of the kind
 abbrev pub ValidListsShowKind : Circuit → Type 0
-ValidListsShowKind c = (kind : Kind) (a : AutomatonModel) (pairs : List Pair) → IsValidPairList c kind a pairs → IsCircuitOfKind kind c
+ValidListsShowKind c = (side : Side) (kind : Kind) (a : AutomatonModel) (pairs : List Pair) → IsValidPairList side c kind a pairs → IsCircuitOfKind kind c
 
 -- so it satisfies whatever is false on accepted lassos alone
 abbrev pub ValidListsSatisfy : Circuit → Type 0
 ValidListsSatisfy c =
-    (kind : Kind) (means : Word → Bool) (a : AutomatonModel) (pairs : List Pair) → AcceptsFalse means a → IsValidPairList c kind a pairs
-    → SatisfiesAs kind means c
+    (side : Side) (kind : Kind) (means : Word → Bool) (a : AutomatonModel) (pairs : List Pair) → AcceptsFalse means a
+    → IsValidPairList side c kind a pairs → SatisfiesAs side kind means c
 
 -- a list with a cause but want of memory isn't valid, and it has at most one
 pub record CausesAreApart (c : Circuit) : Type 0 where
-  pub valid : (kind : Kind) (a : AutomatonModel) (pairs : List Pair) (fault : AnnotFault) → IsValidPairList c kind a pairs
-      → IsCause c kind a pairs fault → fault ≡ NoMemory
-  pub one : (kind : Kind) (a : AutomatonModel) (pairs : List Pair) (f g : AnnotFault) → IsCause c kind a pairs f → IsCause c kind a pairs g
+  pub valid : (side : Side) (kind : Kind) (a : AutomatonModel) (pairs : List Pair) (fault : AnnotFault) → IsValidPairList side c kind a pairs
+      → IsCause side c kind a pairs fault → fault ≡ NoMemory
+  pub one : (side : Side) (kind : Kind) (a : AutomatonModel) (pairs : List Pair) (f g : AnnotFault) → IsCause side c kind a pairs f
+      → IsCause side c kind a pairs g
       → (f ≡ NoMemory → ⊥) → (g ≡ NoMemory → ⊥) → f ≡ g

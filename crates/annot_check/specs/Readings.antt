@@ -6,9 +6,10 @@ use Rattle.annot_check.specs.declared.faults.AnnotFault.TheVariants.{NoMemory, B
 use Rattle.annot_check.specs.declared.numbers.Place.{Place}
 use Rattle.annot_check.specs.declared.pairs.Pair.{Pair}
 use Rattle.annot_check.specs.declared.reading.Head.{Head}
+use Rattle.annot_check.specs.declared.reading.PairLines.{PairLines}
 use Rattle.annot_check.specs.declared.reading.Taken.{Taken}
 use Rattle.annot_check.specs.Pairs.{Listed}
-use Rattle.annot_check.specs.AnnotationText.{is_taken, listed_in, pair_in, pieces_of}
+use Rattle.annot_check.specs.AnnotationText.{Headed, is_taken, listed_in, pair_in, pieces_of}
 use Rattle.annot_check.specs.Numbers.{place_eq, place_of}
 
 -- the refusals of a text
@@ -19,9 +20,13 @@ IsReadFault NoStart = ⊥
 IsReadFault (NotMoore o) = ⊥
 IsReadFault (Broken j) = ⊥
 
--- what the head leaves to read
-abbrev pub left_of : ℕ → ℕ → Head → Result Listed ℕ
-left_of latches states head = listed_in latches states (pieces_of head.rest.now) head.line head.count
+-- what a head says
+abbrev pub headed_of : Head → Headed
+headed_of head = record { word = head.word.now; line = head.line; parts = pieces_of head.rest.now }
+
+-- what the line of a head leaves to read
+abbrev pub left_of : ℕ → ℕ → PairLines → Result Listed ℕ
+left_of latches states lines = listed_in latches states (pieces_of lines.rest.now) lines.line lines.count
 
 -- the pairs with the one that a line states, where it states one whose place is free
 abbrev pub next_of : ℕ → ℕ → List Pair → List ℕ → Option (List Pair)

@@ -1,5 +1,7 @@
 -- What the checker finds out of one step and of the edges of one state (this project's own).
-use Rattle.std.specs.Prelude.{◌≡◌, ℕ, ◌%◌, ◌^◌, ◌<◌, Bool, true, false, List, ◌+◌, Contains, Option, Some, None, min, length, slice_index_or}
+use Rattle.std.specs.Prelude.{◌≡◌, ℕ, ◌*◌, ◌/◌, ◌%◌, ◌^◌, ◌<◌, Bool, true, false, List, ◌+◌, Contains, Option, Some, None, min, length, slice_index_or}
+use Rattle.letter_word.specs.declared.kinds.Side.{Side}
+use Rattle.letter_word.specs.declared.kinds.Side.TheVariants.{System, Environment}
 use Rattle.letter_word.specs.declared.letters.Letter.{Letter}
 use Rattle.letter_word.specs.Cube.{Fits}
 use Rattle.letter_word.specs.Signals.{has}
@@ -16,15 +18,25 @@ use Rattle.annot_check.specs.Numbers.{AtLeast, Knows, greatest_at}
 use Rattle.annot_check.specs.Pairs.{weight}
 use Rattle.annot_check.specs.Valid.{Goes, KeepsRule, StartStands}
 
+-- the letter in which the circuit, which plays this side, reads and writes these numbers
+abbrev pub whole_of : Side → Circuit → ℕ → ℕ → ℕ
+whole_of System c read written = written * 2 ^ length c.inputs + read
+whole_of Environment c read written = read * 2 ^ length c.outputs + written
+
+-- what such a circuit reads of a letter
+abbrev pub read_of : Side → Circuit → ℕ → ℕ
+read_of System c letter = letter % 2 ^ length c.inputs
+read_of Environment c letter = letter / 2 ^ length c.outputs
+
 -- the circuit goes with this letter to these values, and with no other letter that reads the same
-pub record IsReaction (c : Circuit) (code : List Bool) (read : ℕ) (letter : Letter) (next : List Bool) : Type 0 where
-  pub goes : Goes c code letter next
-  pub only : (other : Letter) (to : List Bool) → Goes c code other to → other.0 % 2 ^ length c.inputs ≡ read → (other ≡ letter) × (to ≡ next)
+pub record IsReaction (side : Side) (c : Circuit) (code : List Bool) (read : ℕ) (letter : Letter) (next : List Bool) : Type 0 where
+  pub goes : Goes side c code letter next
+  pub only : (other : Letter) (to : List Bool) → Goes side c code other to → read_of side c other.0 ≡ read → (other ≡ letter) × (to ≡ next)
 
 -- what the circuit does from these values, on each letter of inputs in its order
-pub record AreReactions (c : Circuit) (r : Reactions) : Type 0 where
+pub record AreReactions (side : Side) (c : Circuit) (r : Reactions) : Type 0 where
   pub count : length r.steps.items ≡ 2 ^ length c.inputs
-  pub each : (k : ℕ) (d : Reaction) → k < length r.steps.items → IsReaction c r.code k (slice_index_or r.steps.items k d).letter (slice_index_or r.steps.items k d).next
+  pub each : (k : ℕ) (d : Reaction) → k < length r.steps.items → IsReaction side c r.code k (slice_index_or r.steps.items k d).letter (slice_index_or r.steps.items k d).next
 
 -- the inputs are the signals of a letter, and all else is as before
 pub record GivesInputs (old new : StateModel) (read : ℕ) : Type 0 where
@@ -58,9 +70,9 @@ abbrev pub IsEnough : Numbers → AutomatonModel → ℕ → List Bool → ℕ �
 IsEnough numbers a number code state = AtLeast (greatest_at numbers (record { code = code; state = state })) (number + weight a state)
 
 -- the answer tells whether a pair keeps the rule, for all pairs that the numbers are of
-pub record TellsRule (c : Circuit) (a : AutomatonModel) (numbers : Numbers) (pair : Pair) (keeps : Bool) : Type 0 where
-  pub holds : (pairs : List Pair) → Knows (greatest_at numbers) pairs → keeps ≡ true → KeepsRule c a pairs pair
-  pub fails : (pairs : List Pair) → Knows (greatest_at numbers) pairs → keeps ≡ false → BreaksRule c a pairs pair
+pub record TellsRule (side : Side) (c : Circuit) (a : AutomatonModel) (numbers : Numbers) (pair : Pair) (keeps : Bool) : Type 0 where
+  pub holds : (pairs : List Pair) → Knows (greatest_at numbers) pairs → keeps ≡ true → KeepsRule side c a pairs pair
+  pub fails : (pairs : List Pair) → Knows (greatest_at numbers) pairs → keeps ≡ false → BreaksRule side c a pairs pair
 
 -- and so for the start
 pub record TellsStart (c : Circuit) (a : AutomatonModel) (numbers : Numbers) (starts : Bool) : Type 0 where

@@ -12,30 +12,32 @@ use crate::pairs::PairList;
 use crate::product::Product;
 use crate::reads::first_by_input;
 use aiger_text::Circuit;
-use letter_word::Kind;
+use letter_word::{Kind, Side};
 use machine_model::Automaton;
 use std::alloc::{AllocError, Global};
 
-/// Whether a list of pairs is valid for a circuit, a kind and an automaton, or else the first cause for which it isn't: the start, the
+/// Whether a list of pairs is valid for a circuit that plays this side, its own kind and an automaton, or else the first cause for which it isn't: the start, the
 /// first output that leads to an input where the kind is Moore, the first pair that breaks the rule.
 ///
 /// Costs a step of the circuit for each pair and each letter of inputs, and a look-up of a pair for each edge that fits there.
 pub fn check_annotation(
     alloc: Global,
     circuit: &Circuit,
+    side: Side,
     kind: Kind,
     automaton: &Automaton,
     inputs: u32,
     pairs: &PairList,
 ) -> Result<(), AnnotFault>
     requires { CanBeChecked circuit.now inputs pairs.now.pairs }
-    ensures valid { OnOk result (IsValidPairList circuit.now kind automaton.now pairs.now.pairs) }
-    ensures cause { IfErr result (IsCause circuit.now kind automaton.now pairs.now.pairs) }
+    ensures valid { OnOk result (IsValidPairList side circuit.now kind automaton.now pairs.now.pairs) }
+    ensures cause { IfErr result (IsCause side circuit.now kind automaton.now pairs.now.pairs) }
 {
     let numbers = Numbers::of(alloc, &pairs.pairs)?;
     let product = Product {
         alloc,
         circuit,
+        side,
         automaton,
         inputs,
         numbers: &numbers,

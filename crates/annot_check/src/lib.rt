@@ -1,8 +1,8 @@
-//! Circuits of other makers, checked by an annotation: a list of pairs of latch values and states of an automaton, each with a
-//! number. `read_annotation` gives exactly the list that a text states, or its first line that is refused; `check_annotation` says
-//! whether the list is valid for a circuit, a kind and an automaton, or why not. A valid list shows that the circuit is of the kind
-//! and that no run lasso of it, with any number of latches, is a word that the automaton accepts. It stands on machine_model for
-//! automata and on aiger_text for circuits.
+//! Circuits of either side and of other makers, checked by an annotation: a list of pairs of latch values and states of an automaton,
+//! each with a number. `read_annotation` gives exactly the list that a text states, or its first line that is refused;
+//! `check_annotation` says whether the list is valid for a circuit, a side, a kind and an automaton, or why not. A valid list shows that
+//! the circuit is of the kind and that no run lasso of it, where it plays the side, is a word that the automaton accepts. It stands on
+//! machine_model for automata and on aiger_text for circuits.
 #![tactic(auto)]
 
 mod checking;
@@ -19,4 +19,5 @@ mod words;
 pub use checking::check_annotation;
 pub use faults::AnnotFault;
 pub use pairs::{Code, Pair, PairList};
-pub use reading::read_annotation;
+pub use reading::{Head, PairLines, find_head, read_annotation, read_pairs};
+pub use words::number_in;

@@ -16,7 +16,7 @@ use crate::pairs::{Code, Pair};
 use crate::steps::{Reactions, all_reactions, latches_of};
 use aiger_text::{Circuit, CircuitState};
 use indexmap::IndexSet;
-use letter_word::Letter;
+use letter_word::{Letter, Side};
 use machine_model::{Automaton, Edge};
 use std::alloc::{AllocError, Global};
 
@@ -25,6 +25,7 @@ use std::alloc::{AllocError, Global};
 pub(crate) struct Product<'a> {
     pub(crate) alloc: Global,
     pub(crate) circuit: &'a Circuit,
+    pub(crate) side: Side,
     pub(crate) automaton: &'a Automaton,
     pub(crate) inputs: u32,
     pub(crate) numbers: &'a Numbers,
@@ -58,15 +59,15 @@ impl<'a> Product<'a> {
     pub(crate) fn first_broken(&self, pairs: &[Pair]) -> Result<Option<usize>, AllocError>
         requires checked { CanBeChecked self.now.circuit.now self.now.inputs pairs.now }
         requires knows { Knows (greatest_at self.now.numbers.now) pairs.now }
-        ensures { IfOk result (λ found. MatchOption found (All (KeepsRule self.now.circuit.now self.now.automaton.now pairs.now) pairs.now)
-            (IsFirstBroken self.now.circuit.now self.now.automaton.now pairs.now)) }
+        ensures { IfOk result (λ found. MatchOption found (All (KeepsRule self.now.side self.now.circuit.now self.now.automaton.now pairs.now) pairs.now)
+            (IsFirstBroken self.now.side self.now.circuit.now self.now.automaton.now pairs.now)) }
     {
         let circuit: &Circuit = self.circuit;
         let edges = by_source(self.alloc, self.automaton.edges())?;
         let order = by_code(self.alloc, pairs)?;
         let mut state = CircuitState::new(self.alloc, circuit)?;
         let start = latches_of(self.alloc, &state, circuit.latches.len())?;
-        let mut known = all_reactions(self.alloc, circuit, &mut state, start)?;
+        let mut known = all_reactions(self.alloc, circuit, self.side, &mut state, start)?;
         let mut first: Option<usize> = None;
         for place in &order {
             let pair = &pairs[*place];
@@ -85,27 +86,27 @@ impl<'a> Product<'a> {
         state: &mut CircuitState,
         code: &Code,
     ) -> Result<Reactions, AllocError>
-        requires known { AreReactions self.now.circuit.now known }
+        requires known { AreReactions self.now.side self.now.circuit.now known }
         requires fits { IsStateOf self.now.circuit.now state.old }
         requires code { length code.now ≡ length self.now.circuit.now.latches }
-        requires inputs { length self.now.circuit.now.inputs < 9 }
-        requires outputs { length self.now.circuit.now.outputs < 9 }
-        ensures reactions { IfOk result (AreReactions self.now.circuit.now) }
+        requires inputs { length self.now.circuit.now.inputs < 17 }
+        requires outputs { length self.now.circuit.now.outputs < 17 }
+        ensures reactions { IfOk result (AreReactions self.now.side self.now.circuit.now) }
         ensures code { IfOk result (λ r. r.code ≡ code.now) }
         ensures fits { OnOk result (IsStateOf self.now.circuit.now state.new) }
     {
         if known.code == *code {
             return Ok(known);
         }
-        all_reactions(self.alloc, self.circuit, state, code.clone()?)
+        all_reactions(self.alloc, self.circuit, self.side, state, code.clone()?)
     }
 
     /// Whether a pair keeps the rule, where these are the edges of its state, and what the circuit does from its code.
     fn keeps_rule(&self, pair: &Pair, edges: &[Edge], known: &Reactions) -> Result<bool, AllocError>
-        requires known { AreReactions self.now.circuit.now known.now }
+        requires known { AreReactions self.now.side self.now.circuit.now known.now }
         requires code { known.now.code ≡ pair.now.code }
         requires edges { AreEdgesFrom self.now.automaton.now.edges edges.now pair.now.state }
-        ensures { IfOk result (TellsRule self.now.circuit.now self.now.automaton.now self.now.numbers.now pair.now) }
+        ensures { IfOk result (TellsRule self.now.side self.now.circuit.now self.now.automaton.now self.now.numbers.now pair.now) }
     {
         let _states = self.automaton.states();
         for step in &known.steps {

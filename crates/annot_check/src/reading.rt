@@ -3,9 +3,9 @@
 ghost use Rattle.std.specs.Prelude.{◌≡◌, ◌==◌, ◌||◌, ◌+◌, ◌-◌, ◌^◌, ◌<◌, ◌≤◌, ◌∷◌, ◌++◌, ℕ, [], All, Err, IfErr, IfOk, None, Ok, OnOk, Some, if◌then◌else◌, is_some, length, not};
 ghost use Rattle.annot_check.specs.declared.pairs.Pair.{Pair as APair};
 ghost use Rattle.annot_check.specs.declared.faults.AnnotFault.TheVariants.{BadLine};
-ghost use Rattle.annot_check.specs.AnnotationText.{IsFirstBadAnnotationLine, StatesPairs, behind_head, pairs_in, pieces_of, reading_of};
+ghost use Rattle.annot_check.specs.AnnotationText.{IsFirstBadAnnotationLine, StatesPairs, behind_head, head_from, pairs_in, pieces_of, reading_of};
 ghost use Rattle.annot_check.specs.Numbers.{place_of};
-ghost use Rattle.annot_check.specs.Readings.{IsIndexed, IsReadFault, is_held, left_of, next_of};
+ghost use Rattle.annot_check.specs.Readings.{IsIndexed, IsReadFault, headed_of, is_held, left_of, next_of};
 
 use crate::faults::AnnotFault;
 use crate::numbers::Place;
@@ -34,44 +34,70 @@ pub fn read_annotation(
     ensures lines { IfOk result (λ list. list.head_line + length list.pairs ≤ length lines.now) }
     ensures within { (n : ℕ) → result ≡ Err (BadLine n) → n ≤ length lines.now + 1 }
 {
-    let head = match read_head(lines) {
-        Ok(head) => head,
+    let found = match read_head(lines) {
+        Ok(found) => found,
         Err(line) => return Err(AnnotFault::BadLine(line)),
     };
-    let pairs = read_pairs(alloc, &head, latches, states)?;
+    let pairs = read_pairs(alloc, &found, latches, states)?;
     Ok(PairList {
         pairs,
-        head_line: head.line,
+        head_line: found.line,
     })
 }
 
-/// The head of an annotation: how many pairs it says, its line, and what stands behind it.
+/// The head of an annotation: what stands behind its first word, its line, from 1, and what stands behind that line.
 #[derive(Drop)]
-struct Head<'a> {
-    count: u64,
-    line: u64,
-    rest: &'a [u8],
+pub struct Head<'a> {
+    pub word: &'a [u8],
+    pub line: u64,
+    pub rest: &'a [u8],
 }
 
-/// Finds the head, or the line that is refused.
-fn read_head(lines: &[u8]) -> Result<Head<'_>, u64>
-    ensures ok { IfOk result (λ head. (latches states : ℕ) → left_of latches states head ≡ reading_of latches states lines.now) }
-    ensures counted { IfOk result (λ head. head.line + length head.rest.now ≤ length lines.now) }
+/// The lines of pairs: how many there are, the line above them, and what stands from the first of them on.
+#[derive(Drop)]
+pub struct PairLines<'a> {
+    pub count: u64,
+    pub line: u64,
+    pub rest: &'a [u8],
+}
+
+/// The lines of pairs below the head, or the line that is refused.
+fn read_head(lines: &[u8]) -> Result<PairLines<'_>, u64>
+    ensures ok { IfOk result (λ found. (latches states : ℕ) → left_of latches states found ≡ reading_of latches states lines.now) }
+    ensures counted { IfOk result (λ found. found.line + length found.rest.now ≤ length lines.now) }
     ensures bad { IfErr result (λ n. (latches states : ℕ) → reading_of latches states lines.now ≡ Err n) }
+    ensures within { IfErr result (λ n. n ≤ length lines.now + 1) }
+{
+    let head = match find_head(lines) {
+        Ok(head) => head,
+        Err(line) => return Err(line),
+    };
+    match count_of(head.word) {
+        Some(count) => Ok(PairLines {
+            count,
+            line: head.line,
+            rest: head.rest,
+        }),
+        None => Err(head.line),
+    }
+}
+
+/// Finds the head, the first line that begins as one, or the line that is refused. Linear in the bytes.
+pub fn find_head(lines: &[u8]) -> Result<Head<'_>, u64>
+    ensures ok { IfOk result (λ head. head_from (pieces_of lines.now) 1 ≡ Ok (headed_of head)) }
+    ensures counted { IfOk result (λ head. head.line + length head.rest.now ≤ length lines.now) }
+    ensures bad { IfErr result (λ n. head_from (pieces_of lines.now) 1 ≡ Err n) }
     ensures within { IfErr result (λ n. n ≤ length lines.now + 1) }
 {
     let mut rest = lines;
     let mut number = 1u64;
     while let Some((line, behind)) = cut_at(rest, b'\n') {
         if let Some(word) = behind_head(line) {
-            return match count_of(word) {
-                Some(count) => Ok(Head {
-                    count,
-                    line: number,
-                    rest: behind,
-                }),
-                None => Err(number),
-            };
+            return Ok(Head {
+                word,
+                line: number,
+                rest: behind,
+            });
         }
         rest = behind;
         number += 1;
@@ -129,29 +155,29 @@ fn insert_place(places: &mut IndexSet<Place>, pair: &Pair) -> Result<bool, Alloc
     Ok(new)
 }
 
-/// Reads the pairs behind a head, and the line `end`.
-fn read_pairs(
+/// Reads pairs, and the line `end` behind them, for so many latches and states. Linear in the bytes.
+pub fn read_pairs(
     alloc: Global,
-    head: &Head<'_>,
+    lines: &PairLines<'_>,
     latches: u32,
     states: u32,
 ) -> Result<Vec<Pair>, AnnotFault>
-    requires { head.now.line + length head.now.rest.now < 2 ^ 64 - 1 }
-    ensures ok { IfOk result (λ pairs. pairs_in latches states head.now.count [] (pieces_of head.now.rest.now) (head.now.line + 1) ≡ Ok pairs.items) }
-    ensures bad { (n : ℕ) → result ≡ Err (BadLine n) → pairs_in latches states head.now.count [] (pieces_of head.now.rest.now) (head.now.line + 1) ≡ Err n }
+    requires { lines.now.line + length lines.now.rest.now < 2 ^ 64 - 1 }
+    ensures ok { IfOk result (λ pairs. pairs_in latches states lines.now.count [] (pieces_of lines.now.rest.now) (lines.now.line + 1) ≡ Ok pairs.items) }
+    ensures bad { (n : ℕ) → result ≡ Err (BadLine n) → pairs_in latches states lines.now.count [] (pieces_of lines.now.rest.now) (lines.now.line + 1) ≡ Err n }
     ensures no_other { IfErr result IsReadFault }
     ensures codes { IfOk result (λ pairs. All (λ (pair : APair). length pair.code ≡ latches) pairs.items) }
-    ensures lines { IfOk result (λ pairs. length pairs.items ≤ length head.now.rest.now) }
-    ensures within { (n : ℕ) → result ≡ Err (BadLine n) → n ≤ head.now.line + length head.now.rest.now + 1 }
+    ensures lines { IfOk result (λ pairs. length pairs.items ≤ length lines.now.rest.now) }
+    ensures within { (n : ℕ) → result ≡ Err (BadLine n) → n ≤ lines.now.line + length lines.now.rest.now + 1 }
 {
     let mut taken = Taken {
         pairs: Vec::new(alloc),
         places: IndexSet::new(alloc),
     };
-    let mut rest = head.rest;
-    let mut number = head.line + 1;
+    let mut rest = lines.rest;
+    let mut number = lines.line + 1;
     while let Some((line, behind)) = cut_at(rest, b'\n') {
-        if taken.pairs.len() as u64 >= head.count {
+        if taken.pairs.len() as u64 >= lines.count {
             if line == b"end".as_slice() {
                 return Ok(taken.pairs);
             }

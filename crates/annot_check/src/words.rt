@@ -75,7 +75,8 @@ fn bits_of(alloc: Global, word: &[u8]) -> Result<Vec<bool>, AllocError>
     word.iter().map(|byte| *byte == b'1').collect(alloc)
 }
 
-fn number_in(word: &[u8]) -> Option<u32>
+/// The number of 32 bits that a word writes.
+pub fn number_in(word: &[u8]) -> Option<u32>
     ensures { result ≡ number_in word.now }
 {
     let number = number_within(word, 4_294_967_295)?;

@@ -1,5 +1,6 @@
 -- From what was found to the answer.
 use Rattle.std.proofs.Common.{◌≡◌, ℕ, None, List, Result, Ok, Err, IfOk, length, refl, sym, ap, ◌∙◌}
+use Rattle.text_limits.specs.declared.TheConstants.{SMALL_LIMITS}
 use Rattle.letter_word.specs.declared.kinds.Kind.{Kind}
 use Rattle.letter_word.specs.declared.kinds.Kind.TheVariants.{Mealy, Moore}
 use Rattle.letter_word.specs.declared.kinds.Side.TheVariants.{System}
@@ -68,7 +69,7 @@ module _ (text : List ℕ) (t : TextProblems) (taken : IsForVerify text t) where
     inputs = spec.expanded.inputs;
     outputs = spec.expanded.outputs;
     kind = t.problems.system.kind;
-    means = λ w. means w taken.text_with.says.tree;
+    means = λ w. means SMALL_LIMITS w taken.text_with.says.tree;
   }
 
   kind_is : t.problems.system.kind ≡ spec.expanded.kind
@@ -92,7 +93,7 @@ module _ (text : List ℕ) (t : TextProblems) (taken : IsForVerify text t) where
     lassos = λ w ring no. (taken.text_with.accept.system_where.lassos w ring).1 (taken.text_with.says.meaning.same w ∙ no);
   }
 
-  satisfying : (c : Circuit) → HasSignals given.inputs given.outputs c → SatisfiesAs t.problems.system.kind wanted.means c → RunsOnEveryInput System c → IsSatisfying wanted c
+  satisfying : (c : Circuit) → HasSignals given.inputs given.outputs c → SatisfiesAs System t.problems.system.kind wanted.means c → RunsOnEveryInput System c → IsSatisfying wanted c
   satisfying c signals owed runs = record {
     signals = signals;
     satisfies = record {

@@ -18,9 +18,9 @@ use Rattle.annot_check.specs.Stated.{ReadingsAreApart}
 use Rattle.annot_check.proofs.Apart.{causes_are_apart}
 use Rattle.cert_text.specs.Reading.{fault_line}
 use Rattle.document_check.specs.Facts.{Facts}
-use Rattle.document_check.specs.FirstBad.{earliest, faulty_line, stated_line}
+use Rattle.circuit_names.specs.Lines.{earliest}
+use Rattle.document_check.specs.FirstBad.{faulty_line, stated_line}
 use Rattle.verify_answer.specs.FirstBad.{Annotates, FitsText, HasComment, IsFirstBadOfCircuit, IsValidFor, cause_line, comment_of, no_comment, of_fault, of_line, of_names, of_pairs, over}
-use Rattle.verify_answer.proofs.SameNames.{faulty_same}
 
 some_is : (o : Option ℕ) (n m : ℕ) → o ≡ Some n → o ≡ Some m → n ≡ m
 some_is o n m is_n is_m = ap (λ (x : Option ℕ). unwrap_or x 0) (sym is_n ∙ is_m)
@@ -75,14 +75,14 @@ module _ (one_thing : FilesStateOneThing) (one_fault : FilesHaveOneFault) (nothi
     file_of f g p q a b = same_file f g a.comment b.comment a.commented b.commented
 
     one_cause : (f g : File) (p q : Listed) (i j : AnnotFault) → Annotates facts bytes f p → Annotates facts bytes g q → (i ≡ NoMemory → ⊥) → (j ≡ NoMemory → ⊥)
-        → IsCause f.circuit facts.system.kind (over facts) p.pairs i → IsCause g.circuit facts.system.kind (over facts) q.pairs j → cause_line f p i ≡ cause_line g q j
+        → IsCause System f.circuit facts.system.kind (over facts) p.pairs i → IsCause System g.circuit facts.system.kind (over facts) q.pairs j → cause_line f p i ≡ cause_line g q j
     one_cause f g p q i j a b some_i some_j cause_i cause_j =
         let file : f ≡ g = file_of f g p q a b in
         let list : p ≡ q = one_list f g p q a b in
-        let moved : IsCause f.circuit facts.system.kind (over facts) p.pairs j =
-        subst (λ (x : Listed). IsCause f.circuit facts.system.kind (over facts) x.pairs j) (sym list)
-        (subst (λ (x : File). IsCause x.circuit facts.system.kind (over facts) q.pairs j) (sym file) cause_j) in
-        let fault : i ≡ j = (causes_are_apart f.circuit).one facts.system.kind (over facts) p.pairs i j cause_i moved some_i some_j in
+        let moved : IsCause System f.circuit facts.system.kind (over facts) p.pairs j =
+        subst (λ (x : Listed). IsCause System f.circuit facts.system.kind (over facts) x.pairs j) (sym list)
+        (subst (λ (x : File). IsCause System x.circuit facts.system.kind (over facts) q.pairs j) (sym file) cause_j) in
+        let fault : i ≡ j = (causes_are_apart f.circuit).one System facts.system.kind (over facts) p.pairs i j cause_i moved some_i some_j in
         λ k. cause_line (file k) (list k) (fault k)
 
     pub one_line : (n m : ℕ) → IsFirstBadOfCircuit facts bytes n → IsFirstBadOfCircuit facts bytes m → n ≡ m
@@ -124,7 +124,7 @@ module _ (one_thing : FilesStateOneThing) (one_fault : FilesHaveOneFault) (nothi
     valid_has_none g q _ b valid (no_comment f fits none) = not_missing f g b.comment fits none b.commented
     valid_has_none g q _ b valid (of_line f c n has bad) = not_both f g c q n has bad b
     valid_has_none g q _ b valid (of_pairs f p i a some cause) =
-        some ((causes_are_apart f.circuit).valid facts.system.kind (over facts) p.pairs i
+        some ((causes_are_apart f.circuit).valid System facts.system.kind (over facts) p.pairs i
         (subst (λ (x : Listed). IsValidFor facts f x) (sym (one_list f g p q a b)) (subst (λ (x : File). IsValidFor facts x q) (sym (file_of f g p q a b)) valid)) cause)
 
 -- == facts that say the same ==
@@ -150,8 +150,7 @@ module _ (inputs outputs : List (List ℕ)) (s t : Problem) (e f : Option Proble
   }
 
   pub first_moved : (n : ℕ) → IsFirstBadOfCircuit one bytes n → IsFirstBadOfCircuit other bytes n
-  first_moved _ (of_fault fault n first is) =
-      of_fault fault n first (ap (λ (o : Option ℕ). earliest (Some (fault_line fault)) o) (sym (faulty_same inputs outputs s t e f bytes)) ∙ is)
+  first_moved _ (of_fault fault n first is) = of_fault fault n first is
   first_moved _ (of_names file n states some) = of_names file n states some
   first_moved _ (no_comment file fits none) = no_comment file (fits_moved file fits) none
   first_moved _ (of_line file comment n has bad) =
@@ -159,5 +158,5 @@ module _ (inputs outputs : List (List ℕ)) (s t : Problem) (e f : Option Proble
       (subst (λ (x : AutomatonModel). IsFirstBadAnnotationLine comment (length file.circuit.latches) (states_of x) n) same_automaton bad)
   first_moved _ (of_pairs file list fault a some cause) =
       of_pairs file list fault (annotates_moved file list a) some
-      (subst (λ (k : Kind). IsCause file.circuit k (automaton_of t) list.pairs fault) same_kind
-      (subst (λ (x : AutomatonModel). IsCause file.circuit s.kind x list.pairs fault) same_automaton cause))
+      (subst (λ (k : Kind). IsCause System file.circuit k (automaton_of t) list.pairs fault) same_kind
+      (subst (λ (x : AutomatonModel). IsCause System file.circuit s.kind x list.pairs fault) same_automaton cause))

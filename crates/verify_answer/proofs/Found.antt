@@ -7,7 +7,8 @@ use Rattle.annot_check.specs.Pairs.{Listed}
 use Rattle.cert_text.specs.Reading.{fault_line}
 use Rattle.cert_text.proofs.CommentLine.{comment_fits}
 use Rattle.document_check.specs.Facts.{Facts}
-use Rattle.document_check.specs.FirstBad.{earliest, faulty_line}
+use Rattle.circuit_names.specs.Lines.{earliest}
+use Rattle.document_check.specs.FirstBad.{faulty_line}
 use Rattle.verify_answer.specs.FirstBad.{Annotates, HasComment, IsFirstBadOfCircuit, of_fault, of_pairs}
 use Rattle.verify_answer.specs.Reply.{IsFoundOf, IsToldOf}
 

@@ -1,6 +1,5 @@
 mod Signals
 mod Found
 mod Answered
-mod SameNames
 mod FirstBadLemmas
 mod Determined

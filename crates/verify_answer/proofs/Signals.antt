@@ -11,7 +11,8 @@ use Rattle.aiger_text.specs.CircuitType.{IsCircuit}
 use Rattle.annot_check.specs.declared.pairs.Pair.{Pair}
 use Rattle.annot_check.specs.Causes.{CanBeChecked}
 use Rattle.document_check.specs.Facts.{Facts}
-use Rattle.document_check.specs.FirstBad.{earliest, foreign_from, foreign_name, stated_line}
+use Rattle.circuit_names.specs.Lines.{earliest, foreign_from, foreign_name}
+use Rattle.document_check.specs.FirstBad.{stated_line}
 use Rattle.verify_answer.specs.Reply.{AreReady}
 use Rattle.verify_answer.specs.Verified.{HasSignals, IsNameIfAny}
 

@@ -9,7 +9,8 @@ use Rattle.aiger_text.specs.Circuit.{Circuit}
 use Rattle.aiger_text.specs.CircuitFile.{File, IsFirstFault, States}
 use Rattle.cert_text.specs.Reading.{fault_line}
 use Rattle.document_check.specs.Facts.{Facts}
-use Rattle.document_check.specs.FirstBad.{earliest, faulty_line, stated_line}
+use Rattle.circuit_names.specs.Lines.{earliest}
+use Rattle.document_check.specs.FirstBad.{faulty_line, stated_line}
 use Rattle.annot_check.specs.declared.faults.AnnotFault.{AnnotFault}
 use Rattle.annot_check.specs.declared.faults.AnnotFault.TheVariants.{NoMemory, BadLine, NoStart, NotMoore, Broken}
 use Rattle.annot_check.specs.AnnotationText.{IsFirstBadAnnotationLine, StatesPairs}
@@ -43,7 +44,7 @@ pub record Annotates (facts : Facts) (bytes : List ℕ) (file : File) (list : Li
 
 -- the list is valid for the circuit, the text's kind and the system's automaton
 abbrev pub IsValidFor : Facts → File → Listed → Type 0
-IsValidFor facts file list = IsValidPairList file.circuit facts.system.kind (over facts) list.pairs
+IsValidFor facts file list = IsValidPairList System file.circuit facts.system.kind (over facts) list.pairs
 
 -- the line of an output of a circuit, from 0
 abbrev pub output_line : Circuit → ℕ → ℕ
@@ -69,4 +70,4 @@ pub data IsFirstBadOfCircuit (facts : Facts) (bytes : List ℕ) : ℕ → Type 0
   of_line : (file : File) (comment : List ℕ) (n : ℕ) → HasComment facts bytes file comment
       → IsFirstBadAnnotationLine comment (length file.circuit.latches) (states_of (over facts)) n → IsFirstBadOfCircuit facts bytes (file.comment_line + n)
   of_pairs : (file : File) (list : Listed) (fault : AnnotFault) → Annotates facts bytes file list → (fault ≡ NoMemory → ⊥)
-      → IsCause file.circuit facts.system.kind (over facts) list.pairs fault → IsFirstBadOfCircuit facts bytes (cause_line file list fault)
+      → IsCause System file.circuit facts.system.kind (over facts) list.pairs fault → IsFirstBadOfCircuit facts bytes (cause_line file list fault)

@@ -42,14 +42,14 @@ AreForVerify text (Refused r) = (circuit : List ℕ) → VerifyAnswers text circ
 pub record IsShownBy (facts : Facts) (file : File) (list : Listed) : Type 0 where
   pub circuit : IsCircuit file.circuit
   pub valid : IsValidFor facts file list
-  pub satisfies : (means : Word → Bool) → AcceptsFalse means (over facts) → SatisfiesAs facts.system.kind means file.circuit
+  pub satisfies : (means : Word → Bool) → AcceptsFalse means (over facts) → SatisfiesAs System facts.system.kind means file.circuit
   pub runs : RunsOnEveryInput System file.circuit
 
 -- the list isn't valid, by a cause with this line
 pub record FailsAt (facts : Facts) (file : File) (list : Listed) (n : ℕ) : Type 0 where
   pub fault : AnnotFault
   pub some : fault ≢ NoMemory
-  pub cause : IsCause file.circuit facts.system.kind (over facts) list.pairs fault
+  pub cause : IsCause System file.circuit facts.system.kind (over facts) list.pairs fault
   pub line : n ≡ cause_line file list fault
 
 -- what is found out of a list: the line at which it fails, or that it is valid

@@ -158,7 +158,15 @@ fn pairs_line(
     runs_on_every_input(circuit);
     let kind = facts.system.kind;
     let inputs = facts.inputs.len() as u32;
-    match check_annotation(alloc, circuit, kind, &facts.system.automaton, inputs, list) {
+    match check_annotation(
+        alloc,
+        circuit,
+        Side::System,
+        kind,
+        &facts.system.automaton,
+        inputs,
+        list,
+    ) {
         Ok(()) => Ok(None),
         Err(fault) => {
             let line = cause_line(file, list, fault)?;
@@ -170,7 +178,7 @@ fn pairs_line(
 /// The line at which a list of pairs fails by this cause.
 fn cause_line(file: &CircuitFile, list: &PairList, fault: AnnotFault) -> Result<u64, AllocError>
     requires within { IsWithin file.now list.now fault }
-    requires few { (length file.now.circuit.inputs < 9) × (length file.now.circuit.outputs < 9) }
+    requires few { (length file.now.circuit.inputs < 17) × (length file.now.circuit.outputs < 17) }
     requires lines { file.now.comment_line + list.now.head_line + length list.now.pairs < 2 ^ 64 }
     ensures line { IfOk result (λ line. line ≡ line_of_cause file.now list.now fault) }
     ensures some { IfOk result (λ _. fault ≢ AnnotFault.NoMemory) }
@@ -187,7 +195,7 @@ fn cause_line(file: &CircuitFile, list: &PairList, fault: AnnotFault) -> Result<
 
 /// The line of an output of a circuit.
 fn output_line(circuit: &Circuit, output: usize) -> u64
-    requires { (length circuit.now.inputs < 9) × (output < 9) }
+    requires { (length circuit.now.inputs < 17) × (output < 17) }
     ensures { result ≡ line_of_output circuit.now output }
 {
     2 + circuit.inputs.len() as u64 + circuit.latches.len() as u64 + output as u64

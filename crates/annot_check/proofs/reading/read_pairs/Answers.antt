@@ -8,21 +8,21 @@ use Rattle.annot_check.proofs.reading.read_pairs.Goals as goal
 pub returns-then-eq-clause-ok : goal.returns-then-eq-clause-ok
 returns-then-eq-clause-ok c =
     let cut = cut_is c.loop-line.rest.now c.in-Some.line.now c.in-Some.behind.now (sym c.in-Some.ensures) in
-    pairs_ended c.args.latches c.args.states c.args.head.now.count c.loop-line.taken.pairs.items c.loop-line.rest.now c.in-Some.line.now c.in-Some.behind.now c.loop-line.number
-    (pairs_in c.args.latches c.args.states c.args.head.now.count [] (pieces_of c.args.head.now.rest.now) (c.args.head.now.line + 1)) cut.0 c.loop-line.invariant.reading
+    pairs_ended c.args.latches c.args.states c.args.lines.now.count c.loop-line.taken.pairs.items c.loop-line.rest.now c.in-Some.line.now c.in-Some.behind.now c.loop-line.number
+    (pairs_in c.args.latches c.args.states c.args.lines.now.count [] (pieces_of c.args.lines.now.rest.now) (c.args.lines.now.line + 1)) cut.0 c.loop-line.invariant.reading
     (search rules) (search rules)
 
-pub returns-then-len-head-clause-bad : goal.returns-then-len-head-clause-bad
-returns-then-len-head-clause-bad c = λ n same.
+pub returns-then-len-lines-clause-bad : goal.returns-then-len-lines-clause-bad
+returns-then-len-lines-clause-bad c = λ n same.
     let cut = cut_is c.loop-line.rest.now c.in-Some.line.now c.in-Some.behind.now (sym c.in-Some.ensures) in
-    pairs_open c.args.latches c.args.states c.args.head.now.count c.loop-line.taken.pairs.items c.loop-line.rest.now c.in-Some.line.now c.in-Some.behind.now c.loop-line.number
-    (pairs_in c.args.latches c.args.states c.args.head.now.count [] (pieces_of c.args.head.now.rest.now) (c.args.head.now.line + 1)) cut.0 c.loop-line.invariant.reading
+    pairs_open c.args.latches c.args.states c.args.lines.now.count c.loop-line.taken.pairs.items c.loop-line.rest.now c.in-Some.line.now c.in-Some.behind.now c.loop-line.number
+    (pairs_in c.args.latches c.args.states c.args.lines.now.count [] (pieces_of c.args.lines.now.rest.now) (c.args.lines.now.line + 1)) cut.0 c.loop-line.invariant.reading
     (search rules) (search rules) ∙ ap Err (let e : c.loop-line.number ≡ n = cc in e)
 
 pub returns-clause-bad : goal.returns-clause-bad
 returns-clause-bad c = λ n same.
-    pairs_short c.args.latches c.args.states c.args.head.now.count c.loop-line.taken.pairs.items c.loop-line.rest.now c.loop-line.number
-    (pairs_in c.args.latches c.args.states c.args.head.now.count [] (pieces_of c.args.head.now.rest.now) (c.args.head.now.line + 1)) (whole_is c.loop-line.rest.now (sym c.in_default.ensures))
+    pairs_short c.args.latches c.args.states c.args.lines.now.count c.loop-line.taken.pairs.items c.loop-line.rest.now c.loop-line.number
+    (pairs_in c.args.latches c.args.states c.args.lines.now.count [] (pieces_of c.args.lines.now.rest.now) (c.args.lines.now.line + 1)) (whole_is c.loop-line.rest.now (sym c.in_default.ensures))
     c.loop-line.invariant.reading ∙ ap Err (let e : c.loop-line.number ≡ n = cc in e)
 
 pub returns-then-not-branch-clause-bad : goal.returns-then-not-branch-clause-bad
@@ -30,8 +30,8 @@ returns-then-not-branch-clause-bad c = λ n same.
     let cut = cut_is c.loop-line.rest.now c.in-Some.line.now c.in-Some.behind.now (sym c.in-Some.ensures) in
     let none : next_of c.args.latches c.args.states c.loop-line.taken.pairs.items c.in-Some.line.now ≡ None =
     c.in_ok-take.ensures.next ∙ ap (λ (b : Bool). if b then Some c.take.new.self.pairs.items else None) (let no : c.in_ok-take.field-0 ≡ false = search rules in no) in
-    pair_bad c.args.latches c.args.states c.args.head.now.count c.loop-line.taken.pairs.items c.loop-line.rest.now c.in-Some.line.now c.in-Some.behind.now c.loop-line.number
-    (pairs_in c.args.latches c.args.states c.args.head.now.count [] (pieces_of c.args.head.now.rest.now) (c.args.head.now.line + 1)) cut.0 c.loop-line.invariant.reading
+    pair_bad c.args.latches c.args.states c.args.lines.now.count c.loop-line.taken.pairs.items c.loop-line.rest.now c.in-Some.line.now c.in-Some.behind.now c.loop-line.number
+    (pairs_in c.args.latches c.args.states c.args.lines.now.count [] (pieces_of c.args.lines.now.rest.now) (c.args.lines.now.line + 1)) cut.0 c.loop-line.invariant.reading
     (search rules) none ∙ ap Err (let e : c.loop-line.number ≡ n = cc in e)
 
 pub loop-line-preserved : goal.loop-line-preserved
@@ -45,8 +45,8 @@ loop-line-preserved c =
     let one : length c.take.new.self.pairs.items ≡ length c.loop-line.taken.pairs.items + 1 =
     next_longer c.args.latches c.args.states c.in-Some.line.now c.loop-line.taken.pairs.items c.take.new.self.pairs.items some in
     record {
-      reading = pair_good c.args.latches c.args.states c.args.head.now.count c.loop-line.taken.pairs.items c.loop-line.rest.now c.in-Some.line.now c.in-Some.behind.now
-          c.loop-line.number (pairs_in c.args.latches c.args.states c.args.head.now.count [] (pieces_of c.args.head.now.rest.now) (c.args.head.now.line + 1)) cut.0
+      reading = pair_good c.args.latches c.args.states c.args.lines.now.count c.loop-line.taken.pairs.items c.loop-line.rest.now c.in-Some.line.now c.in-Some.behind.now
+          c.loop-line.number (pairs_in c.args.latches c.args.states c.args.lines.now.count [] (pieces_of c.args.lines.now.rest.now) (c.args.lines.now.line + 1)) cut.0
           c.loop-line.invariant.reading c.take.new.self.pairs.items (search rules) some;
       counted = omega (arith, shorter, counted);
       numbered = omega (arith, one, numbered);

@@ -5,10 +5,10 @@ use Rattle.annot_check.proofs.reading.read_pairs.Given as goal
 
 abbrev pub invariant-loop-line : goal.invariant-loop-line
 invariant-loop-line l = record {
-  reading : pairs_in l.latches l.states l.head.count l.taken.pairs.items (pieces_of l.rest) l.number
-      ≡ pairs_in l.latches l.states l.head.count [] (pieces_of l.head.rest.now) (l.head.line + 1);
-  counted : l.number + length l.rest ≤ l.head.line + length l.head.rest.now + 1;
-  numbered : l.number ≡ l.head.line + 1 + length l.taken.pairs.items;
+  reading : pairs_in l.latches l.states l.lines.count l.taken.pairs.items (pieces_of l.rest) l.number
+      ≡ pairs_in l.latches l.states l.lines.count [] (pieces_of l.lines.rest.now) (l.lines.line + 1);
+  counted : l.number + length l.rest ≤ l.lines.line + length l.lines.rest.now + 1;
+  numbered : l.number ≡ l.lines.line + 1 + length l.taken.pairs.items;
   indexed : IsIndexed l.latches l.taken;
 }
 

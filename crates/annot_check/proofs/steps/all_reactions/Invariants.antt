@@ -8,5 +8,5 @@ abbrev pub invariant-loop-read : goal.invariant-loop-read
 invariant-loop-read l = record {
   fits : IsStateOf l.circuit l.state;
   count : length l.steps.items ≡ l.read;
-  each : (k : ℕ) (d : Reaction) → k < length l.steps.items → IsReaction l.circuit l.fn.code k (get_or l.steps.items k d).letter (get_or l.steps.items k d).next;
+  each : (k : ℕ) (d : Reaction) → k < length l.steps.items → IsReaction l.side l.circuit l.fn.code k (get_or l.steps.items k d).letter (get_or l.steps.items k d).next;
 }

@@ -11,8 +11,8 @@ pub returns-in-Ok : goal.returns-in-Ok
 returns-in-Ok c =
     subst (λ (f : File). IsShownBy (facts_of c.args.facts) f c.args.list.now) c.file.view_is (record {
       circuit = c.circuit_is_kept.ensures;
-      valid = subst (λ (a : AutomatonModel). IsValidPairList c.file.inside.circuit c.args.facts.system.now.kind a c.args.list.now.pairs) c.deref.ensures c.in-Ok.ensures.valid;
-      satisfies = λ means accepts. c.valid_lists_satisfy.ensures _ means _ c.args.list.now.pairs accepts
-          (subst (λ (a : AutomatonModel). IsValidPairList c.file.inside.circuit c.args.facts.system.now.kind a c.args.list.now.pairs) c.deref.ensures c.in-Ok.ensures.valid);
+      valid = subst (λ (a : AutomatonModel). IsValidPairList System c.file.inside.circuit c.args.facts.system.now.kind a c.args.list.now.pairs) c.deref.ensures c.in-Ok.ensures.valid;
+      satisfies = λ means accepts. c.valid_lists_satisfy.ensures System _ means _ c.args.list.now.pairs accepts
+          (subst (λ (a : AutomatonModel). IsValidPairList System c.file.inside.circuit c.args.facts.system.now.kind a c.args.list.now.pairs) c.deref.ensures c.in-Ok.ensures.valid);
       runs = c.runs_on_every_input.ensures System;
     })

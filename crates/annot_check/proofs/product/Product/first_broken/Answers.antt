@@ -14,21 +14,21 @@ pub offset_bounds-pairs-place : goal.offset_bounds-pairs-place
 offset_bounds-pairs-place c =
     let places : ArePlaces (length c.args.pairs.now) c.deref-place-items.result.now = subst (ArePlaces (length c.args.pairs.now)) (sym c.deref-place-items.ensures.value) c.in_ok-order.ensures in
     let within : get_or c.deref-place-items.result.now c.loop-place.place-index 0 < length c.args.pairs.now =
-    place_within c.args.self.now.circuit.now c.args.self.now.automaton.now c.args.pairs.now c.deref-place-items.result.now places c.loop-place.place-index c.loop-place-test.true in
+    place_within c.args.self.now.side c.args.self.now.circuit.now c.args.self.now.automaton.now c.args.pairs.now c.deref-place-items.result.now places c.loop-place.place-index c.loop-place-test.true in
     search rules
 
 pub bounds-pairs-place : goal.bounds-pairs-place
 bounds-pairs-place c =
     let places : ArePlaces (length c.args.pairs.now) c.deref-place-items.result.now = subst (ArePlaces (length c.args.pairs.now)) (sym c.deref-place-items.ensures.value) c.in_ok-order.ensures in
     let within : get_or c.deref-place-items.result.now c.loop-place.place-index 0 < length c.args.pairs.now =
-    place_within c.args.self.now.circuit.now c.args.self.now.automaton.now c.args.pairs.now c.deref-place-items.result.now places c.loop-place.place-index c.loop-place-test.true in
+    place_within c.args.self.now.side c.args.self.now.circuit.now c.args.self.now.automaton.now c.args.pairs.now c.deref-place-items.result.now places c.loop-place.place-index c.loop-place-test.true in
     within
 
 pub known_for-requires-clause-code : goal.known_for-requires-clause-code
 known_for-requires-clause-code c =
     let places : ArePlaces (length c.args.pairs.now) c.deref-place-items.result.now = subst (ArePlaces (length c.args.pairs.now)) (sym c.deref-place-items.ensures.value) c.in_ok-order.ensures in
     let within : get_or c.deref-place-items.result.now c.loop-place.place-index 0 < length c.args.pairs.now =
-    place_within c.args.self.now.circuit.now c.args.self.now.automaton.now c.args.pairs.now c.deref-place-items.result.now places c.loop-place.place-index c.loop-place-test.true in
+    place_within c.args.self.now.side c.args.self.now.circuit.now c.args.self.now.automaton.now c.args.pairs.now c.deref-place-items.result.now places c.loop-place.place-index c.loop-place-test.true in
     subst (λ (pair : Pair). length pair.code ≡ length c.args.self.now.circuit.now.latches) (sym c.index-pairs-place.is)
     (c.requires.checked.codes (get_or c.deref-place-items.result.now c.loop-place.place-index 0) c.index-pairs-place.result within)
 
@@ -45,16 +45,16 @@ pub loop-place-preserved : goal.loop-place-preserved
 loop-place-preserved c =
     let places : ArePlaces (length c.args.pairs.now) c.deref-place-items.result.now = subst (ArePlaces (length c.args.pairs.now)) (sym c.deref-place-items.ensures.value) c.in_ok-order.ensures in
     let within : get_or c.deref-place-items.result.now c.loop-place.place-index 0 < length c.args.pairs.now =
-    place_within c.args.self.now.circuit.now c.args.self.now.automaton.now c.args.pairs.now c.deref-place-items.result.now places c.loop-place.place-index c.loop-place-test.true in
+    place_within c.args.self.now.side c.args.self.now.circuit.now c.args.self.now.automaton.now c.args.pairs.now c.deref-place-items.result.now places c.loop-place.place-index c.loop-place-test.true in
     let place : ℕ = get_or c.deref-place-items.result.now c.loop-place.place-index 0 in
     record {
       fits = c.in_ok-known-2.ensures.fits;
       known = c.in_ok-known-2.ensures.reactions;
       found = elim c.if-not-branch.branch [
         | then-not-branch w ↦
-            subst (IsFoundAmong c.args.self.now.circuit.now c.args.self.now.automaton.now c.args.pairs.now (take (c.loop-place.place-index + 1) c.deref-place-items.result.now))
+            subst (IsFoundAmong c.args.self.now.side c.args.self.now.circuit.now c.args.self.now.automaton.now c.args.pairs.now (take (c.loop-place.place-index + 1) c.deref-place-items.result.now))
             (sym (w.first-is ∙ w.earlier.ensures))
-            (broken_more c.args.self.now.circuit.now c.args.self.now.automaton.now c.args.pairs.now c.deref-place-items.result.now places c.loop-place.place-index
+            (broken_more c.args.self.now.side c.args.self.now.circuit.now c.args.self.now.automaton.now c.args.pairs.now c.deref-place-items.result.now places c.loop-place.place-index
             c.loop-place-test.true c.loop-place.first c.loop-place.invariant.found (record {
               pair = c.index-pairs-place.result;
               within = within;
@@ -62,11 +62,11 @@ loop-place-preserved c =
               breaks = c.in_ok-keeps_rule.ensures.fails c.args.pairs.now c.requires.knows (let no : c.in_ok-keeps_rule.field-0 ≡ false = search rules in no);
             }))
         | else-not-branch w ↦
-            subst (IsFoundAmong c.args.self.now.circuit.now c.args.self.now.automaton.now c.args.pairs.now (take (c.loop-place.place-index + 1) c.deref-place-items.result.now))
+            subst (IsFoundAmong c.args.self.now.side c.args.self.now.circuit.now c.args.self.now.automaton.now c.args.pairs.now (take (c.loop-place.place-index + 1) c.deref-place-items.result.now))
             (sym w.first-is)
-            (kept_more c.args.self.now.circuit.now c.args.self.now.automaton.now c.args.pairs.now c.deref-place-items.result.now places c.loop-place.place-index
+            (kept_more c.args.self.now.side c.args.self.now.circuit.now c.args.self.now.automaton.now c.args.pairs.now c.deref-place-items.result.now places c.loop-place.place-index
             c.loop-place-test.true c.loop-place.first c.loop-place.invariant.found
-            (λ d. subst (KeepsRule c.args.self.now.circuit.now c.args.self.now.automaton.now c.args.pairs.now)
+            (λ d. subst (KeepsRule c.args.self.now.side c.args.self.now.circuit.now c.args.self.now.automaton.now c.args.pairs.now)
             (c.index-pairs-place.is ∙ get_or_default c.args.pairs.now place c.index-pairs-place.result d within)
             (c.in_ok-keeps_rule.ensures.holds c.args.pairs.now c.requires.knows (let good : c.in_ok-keeps_rule.field-0 ≡ true = search rules in good))))
       ];
@@ -75,6 +75,6 @@ loop-place-preserved c =
 pub returns : goal.returns
 returns c =
     let places : ArePlaces (length c.args.pairs.now) c.deref-place-items.result.now = subst (ArePlaces (length c.args.pairs.now)) (sym c.deref-place-items.ensures.value) c.in_ok-order.ensures in
-    found_all c.args.self.now.circuit.now c.args.self.now.automaton.now c.args.pairs.now c.deref-place-items.result.now c.loop-place.first places
-    (subst (λ (xs : List ℕ). IsFoundAmong c.args.self.now.circuit.now c.args.self.now.automaton.now c.args.pairs.now xs c.loop-place.first)
+    found_all c.args.self.now.side c.args.self.now.circuit.now c.args.self.now.automaton.now c.args.pairs.now c.deref-place-items.result.now c.loop-place.first places
+    (subst (λ (xs : List ℕ). IsFoundAmong c.args.self.now.side c.args.self.now.circuit.now c.args.self.now.automaton.now c.args.pairs.now xs c.loop-place.first)
     (take_all c.loop-place.place-index c.deref-place-items.result.now c.loop-place-test.false) c.loop-place.invariant.found)

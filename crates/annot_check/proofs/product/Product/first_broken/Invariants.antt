@@ -7,6 +7,6 @@ use Rattle.annot_check.proofs.product.Product.first_broken.Given as goal
 abbrev pub invariant-loop-place : goal.invariant-loop-place
 invariant-loop-place l = record {
   fits : IsStateOf l.self.circuit.now l.state;
-  known : AreReactions l.self.circuit.now l.known;
-  found : IsFoundAmong l.self.circuit.now l.self.automaton.now l.pairs (take l.place-index l.place-items) l.first;
+  known : AreReactions l.self.side l.self.circuit.now l.known;
+  found : IsFoundAmong l.self.side l.self.circuit.now l.self.automaton.now l.pairs (take l.place-index l.place-items) l.first;
 }

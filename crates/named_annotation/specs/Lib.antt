@@ -1,0 +1,4 @@
+pub mod NamedStates
+pub mod NamedText
+pub mod Laws
+pub mod Parts
