@@ -1,6 +1,7 @@
 -- A text taken with another kind is the same but for its kind.
 use Rattle.std.proofs.Common.{◌≡◌, ℕ, List, Some, refl, ap, ◌∙◌}
 use Rattle.std.specs.Prelude.{option_map}
+use Rattle.text_limits.specs.declared.TheConstants.{SMALL_LIMITS}
 use Rattle.letter_word.specs.declared.kinds.Kind.{Kind}
 use Rattle.ltl_formula.specs.declared.nodes.FormulaId.{FormulaId}
 use Rattle.tlsf_values.specs.declared.work.Work.{Work}
@@ -33,13 +34,13 @@ sections_at kind t signals sections w = go_on (whole_value t.info.strict section
 abbrev signals_at : Kind → Text → Signals → Work → Outcome Expanded
 signals_at kind t signals w = go_on (sections_value signals t.sections w) (sections_at kind t signals)
 
-as_kind : (a b : Kind) (t : Text) → flat_in (expanded_as (Some b) t) ≡ option_map (of_kind b) (flat_in (expanded_as (Some a) t))
+as_kind : (a b : Kind) (t : Text) → flat_in (expanded_as SMALL_LIMITS (Some b) t) ≡ option_map (of_kind b) (flat_in (expanded_as SMALL_LIMITS (Some a) t))
 as_kind a b t =
-    through b (signals_of t) (signals_at a t) (signals_at b t) (λ signals w.
+    through b (signals_of SMALL_LIMITS t) (signals_at a t) (signals_at b t) (λ signals w.
     through b (sections_value signals t.sections w) (sections_at a t signals) (sections_at b t signals) (λ sections w.
     through b (whole_value t.info.strict sections w) (whole_at a t signals sections) (whole_at b t signals sections) (λ whole w. refl)))
 
-pub flat_of_kind : (text : List ℕ) (a b : Kind) (flat : FlatText) → IsFlatOf text (Some a) flat → IsFlatOf text (Some b) (of_kind b flat)
+pub flat_of_kind : (text : List ℕ) (a b : Kind) (flat : FlatText) → IsFlatOf SMALL_LIMITS text (Some a) flat → IsFlatOf SMALL_LIMITS text (Some b) (of_kind b flat)
 flat_of_kind text a b flat is = record {
   tree = is.tree;
   read = is.read;

@@ -1,8 +1,7 @@
 -- Facts that say the same, wherever their automata are kept, have the same first bad lines.
 use Rattle.std.proofs.Common.{◌≡◌, ℕ, ◌+◌, Bool, Option, Some, None, List, [], ◌∷◌, refl, ap, subst, ◌∙◌, if◌then◌else◌}
-use Rattle.std.specs.Prelude.{MatchOption, codes, option_map}
+use Rattle.std.specs.Prelude.{MatchOption, option_map}
 use Rattle.std.specs.Option.{option_map_or, option_or}
-use Rattle.std.specs.Str.{bytes_eq}
 use Rattle.letter_word.specs.declared.kinds.Kind.{Kind}
 use Rattle.letter_word.specs.declared.kinds.Side.{Side}
 use Rattle.letter_word.specs.declared.kinds.Side.TheVariants.{System, Environment}
@@ -10,8 +9,6 @@ use Rattle.letter_word.specs.Kinds.{other_kind}
 use Rattle.machine_model.specs.declared.problems.Problem.{Problem}
 use Rattle.machine_model.specs.Problem.{Parts, parts_of}
 use Rattle.annotation_encode.specs.Count.{allowed_sizes}
-use Rattle.aiger_text.specs.CircuitFile.{File, lines_of}
-use Rattle.aiger_text.specs.Words.{cut_at}
 use Rattle.cert_text.specs.declared.header.Header.{Header}
 use Rattle.cert_text.specs.declared.reading.CircuitPart.{CircuitPart}
 use Rattle.cert_text.specs.declared.reading.CircuitPart.TheVariants.{Absent, Faulty, Stated}
@@ -21,7 +18,8 @@ use Rattle.document_check.specs.declared.facts.Asked.{Asked}
 use Rattle.document_check.specs.declared.facts.Size.{Size}
 use Rattle.document_check.specs.Facts.{Facts, allowed_at, clause_version, problem_at, wanted_sizes}
 use Rattle.document_check.specs.Holds.{may_be_full}
-use Rattle.document_check.specs.FirstBad.{FailsBehind, FailsIn, IsFirstBadFor, LogsFail, LogsFailIn, all_there, another, asked_in, circuit_line, counts_line, earliest, end_line, faulty_line, foreign_line, is_foreign, last_line, no_problem, number_line, one_fails, one_good, one_missing, one_more, side_in, stated_line, wanted_in}
+use Rattle.document_check.specs.FirstBad.{FailsBehind, FailsIn, IsFirstBadFor, LogsFail, LogsFailIn, all_there, another, asked_in, circuit_line, end_line, last_line, no_problem, number_line, one_fails, one_good, one_missing, one_more, wanted_in}
+use Rattle.circuit_names.specs.Lines.{earliest}
 use Rattle.document_check.specs.Shown.{IsProblemAt}
 use Rattle.document_check.proofs.LogsLineLemmas.{fails_at, goes_on, without_problem}
 use Rattle.document_check.proofs.ProblemLemmas.{allowed_is}
@@ -51,33 +49,10 @@ module _ (inputs outputs : List (List ℕ)) (s t : Problem) (e f : Option Proble
 
   -- == the circuit ==
 
-  foreign_same : (line : List ℕ) → is_foreign one line ≡ is_foreign other line
-  foreign_same [] = refl
-  foreign_same (letter ∷ text) = refl
-
-  foreign_line_same : (n : ℕ) (lines : List (List ℕ)) → foreign_line one n lines ≡ foreign_line other n lines
-  foreign_line_same n [] = refl
-  foreign_line_same n (line ∷ []) = refl
-  foreign_line_same n (line ∷ next ∷ rest) =
-      ap (λ (b : Bool). if bytes_eq line (codes "c") then None else (if b then Some n else foreign_line one (n + 1) (next ∷ rest))) (foreign_same line)
-      ∙ ap (λ (o : Option ℕ). if bytes_eq line (codes "c") then None else (if is_foreign other line then Some n else o)) (foreign_line_same (n + 1) (next ∷ rest))
-
-  faulty_same : (bytes : List ℕ) → faulty_line one bytes ≡ faulty_line other bytes
-  faulty_same bytes = by (cut_at 10 bytes)
-    where
-      by : (o : Option (List ℕ × List ℕ)) → option_map_or (λ cut. earliest (counts_line one cut.0) (foreign_line one 2 (lines_of cut.1))) o None
-          ≡ option_map_or (λ cut. earliest (counts_line other cut.0) (foreign_line other 2 (lines_of cut.1))) o None
-      by None = refl
-      by (Some cut) = ap (earliest (counts_line other cut.0)) (foreign_line_same 2 (lines_of cut.1))
-
-  stated_same : (side : Side) (file : File) → stated_line one side file ≡ stated_line other side file
-  stated_same System file = refl
-  stated_same Environment file = refl
-
   circuit_same : (bytes : List ℕ) (header : Header) (part : CircuitPart) → circuit_line one bytes header part ≡ circuit_line other bytes header part
   circuit_same bytes header Absent = refl
-  circuit_same bytes header Faulty = faulty_same bytes
-  circuit_same bytes header (Stated file) = stated_same (side_in header) file
+  circuit_same bytes header Faulty = refl
+  circuit_same bytes header (Stated file) = refl
 
   -- == the problems ==
 

@@ -15,7 +15,8 @@ use Rattle.document_check.specs.declared.facts.Asked.{Asked}
 use Rattle.document_check.specs.declared.facts.Size.{Size}
 use Rattle.document_check.specs.Facts.{Facts, problem_at}
 use Rattle.document_check.specs.Holds.{may_be_full}
-use Rattle.document_check.specs.FirstBad.{asked_in, circuit_line, earliest, end_line, entry_of, environment_sizes, Fails, FailsBehind, IsFirstBadFor, last_line, LogFails, other_numbers, bad_entry, left_open, is_good, LogsFail, all_there, one_missing, one_more, another, no_problem, one_fails, one_good, number_line, system_sizes, wanted_in}
+use Rattle.document_check.specs.FirstBad.{asked_in, circuit_line, end_line, entry_of, environment_sizes, Fails, FailsBehind, IsFirstBadFor, last_line, LogFails, other_numbers, bad_entry, left_open, is_good, LogsFail, all_there, one_missing, one_more, another, no_problem, one_fails, one_good, number_line, system_sizes, wanted_in}
+use Rattle.circuit_names.specs.Lines.{earliest}
 use Rattle.std.specs.Option.{option_or}
 
 module _ (full : Bool) (limit : Option ℕ) (l : LogPart) (p : Problem) where

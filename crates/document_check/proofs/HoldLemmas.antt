@@ -32,7 +32,8 @@ use Rattle.document_check.specs.declared.facts.Asked.{Asked}
 use Rattle.document_check.specs.declared.facts.Size.{Size}
 use Rattle.document_check.specs.Facts.{Facts, problem_at, wanted_sizes, read_names, written_names, circuit_side}
 use Rattle.document_check.specs.Holds.{AllHold, first_open, HasNames, HoldsAt, HoldsFor, is_allowed, IsAsWanted, IsLogOf, IsLogOfSome, may_be_full, names_open, size_of}
-use Rattle.document_check.specs.FirstBad.{circuit_line, earliest, end_line, environment_sizes, Fails, FailsBehind, foreign_from, foreign_name, has_numbers, IsFirstBadFor, is_size_of, last_line, LogFails, other_numbers, bad_entry, left_open, is_good, LogsFail, all_there, one_missing, one_more, another, no_problem, one_fails, one_good, LogsFailIn, number_line, same_length, side_in, stated_line, suffices, system_sizes, wanted_in}
+use Rattle.document_check.specs.FirstBad.{circuit_line, end_line, environment_sizes, Fails, FailsBehind, has_numbers, IsFirstBadFor, is_size_of, last_line, LogFails, other_numbers, bad_entry, left_open, is_good, LogsFail, all_there, one_missing, one_more, another, no_problem, one_fails, one_good, LogsFailIn, number_line, side_in, stated_line, suffices, system_sizes, wanted_in}
+use Rattle.circuit_names.specs.Lines.{earliest, foreign_from, foreign_name, same_length}
 use Rattle.document_check.proofs.DocumentLemmas.{IsDocumentOf, document_is, asked_by, asked_of_document, not_faulty}
 
 earliest_none : (a b : Option ℕ) → earliest a b ≡ None → (a ≡ None) × (b ≡ None)

@@ -1,7 +1,6 @@
 pub mod ReadFacts
 pub mod SizeLemmas
 pub mod FaultNumbers
-pub mod LineLemmas
 pub mod LogFailLemmas
 pub mod ProblemLemmas
 pub mod AskedLemmas

@@ -10,6 +10,8 @@ use Rattle.annotation_encode.specs.Count.{allowed_sizes}
 use Rattle.cert_text.specs.declared.documents.Verdict.{Verdict}
 use Rattle.cert_text.specs.declared.documents.Verdict.TheVariants.{Realizable, Unrealizable, Bounded, UnknownSizes, UnknownEntries}
 use Rattle.cert_text.specs.Order.{tells_bounds}
+use Rattle.circuit_names.specs.Names as names
+use Rattle.circuit_names.specs.Names.{Names}
 use Rattle.document_check.specs.declared.facts.Size.{Size}
 
 -- The names of the inputs and outputs, and the problem of the system and of the environment, if it has one. Their kinds, sizes and
@@ -19,6 +21,10 @@ pub record Facts : Type 0 where
   pub outputs : List (List ℕ)
   pub system : Problem
   pub environment : Option Problem
+
+-- the names alone
+abbrev pub names_in : Facts → Names
+names_in facts = record { inputs = facts.inputs; outputs = facts.outputs }
 
 -- the version of the base clauses of a document's version
 abbrev pub clause_version : ℕ → ℕ
@@ -50,14 +56,12 @@ wanted_sizes version UnknownSizes found system environment = sizes_to System sys
 wanted_sizes version (UnknownEntries side n) found system environment =
     if found == 0 then sizes_to System system ++ sizes_to Environment environment else sizes_to System (min (found - 1) system)
 
--- the names that a document's circuit has for its inputs, and for its outputs: those of an environment's machine are the other way round
+-- the names that a document's circuit has for its inputs, and for its outputs
 abbrev pub read_names : Facts → Side → List (List ℕ)
-read_names facts System = facts.inputs
-read_names facts Environment = facts.outputs
+read_names facts side = names.read_names (names_in facts) side
 
 abbrev pub written_names : Facts → Side → List (List ℕ)
-written_names facts System = facts.outputs
-written_names facts Environment = facts.inputs
+written_names facts side = names.written_names (names_in facts) side
 
 -- the side of a document's circuit
 abbrev pub circuit_side : Verdict → Side

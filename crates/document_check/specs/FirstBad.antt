@@ -27,82 +27,21 @@ use Rattle.letter_word.specs.contracts.kinds.SidePartialEq.TheImpl.{ghosts as si
 use Rattle.cert_text.specs.Header.{behind}
 use Rattle.cert_text.specs.Reading.{DocumentLines, Reads}
 use Rattle.document_check.specs.declared.facts.Asked.{Asked}
+use Rattle.circuit_names.specs.Lines as names
+use Rattle.circuit_names.specs.Lines.{earliest}
 use Rattle.document_check.specs.declared.facts.Size.{Size}
-use Rattle.document_check.specs.Facts.{Facts, problem_at, allowed_at, wanted_sizes, read_names, written_names, circuit_side}
+use Rattle.document_check.specs.Facts.{Facts, names_in, problem_at, allowed_at, wanted_sizes, circuit_side}
 use Rattle.document_check.specs.Holds.{is_allowed, may_be_full, first_open, names_open}
-
--- the smaller one of two lines, where they are there
-abbrev pub earliest : Option ℕ → Option ℕ → Option ℕ
-earliest None other = other
-earliest (Some n) None = Some n
-earliest (Some n) (Some m) = Some (min n m)
 
 -- == the circuit ==
 
--- the line of a name that isn't the wanted one
-abbrev pub foreign_name : Option (List ℕ) → List ℕ → ℕ → Option ℕ
-foreign_name None wanted line = None
-foreign_name (Some name) wanted line = if bytes_eq name wanted then None else Some line
-
--- the first line of names that aren't the wanted ones; the first of their lines stands at this place
-abbrev pub foreign_from : ℕ → List (Option (List ℕ)) → List (List ℕ) → List ℕ → Option ℕ
-foreign_from place [] wanted lines = None
-foreign_from place (name ∷ names) [] lines = None
-foreign_from place (name ∷ names) (other ∷ wanted) lines =
-    earliest (foreign_name name other (slice_index lines place)) (foreign_from (place + 1) names wanted lines)
-
-abbrev pub same_length : {X Y : Type 0} → List X → List Y → Bool
-same_length xs ys = length xs == length ys
-
--- Of a circuit without fault, line 1 where it has another number of inputs or outputs, of which each has a place for its name.
+-- the line at which a circuit without fault, of this side, has other numbers of signals or other names than the text
 abbrev pub stated_line : Facts → Side → File → Option ℕ
-stated_line facts side file =
-    if same_length file.circuit.input_names (read_names facts side) && same_length file.circuit.output_names (written_names facts side)
-    then earliest (foreign_from 0 file.circuit.input_names (read_names facts side) file.name_lines)
-    (foreign_from (length file.circuit.input_names) file.circuit.output_names (written_names facts side) file.name_lines)
-    else Some 1
+stated_line facts side file = names.stated_line (names_in facts) side file
 
--- whether a word writes this number
-abbrev pub writes : ℕ → List ℕ → Bool
-writes n word = option_map_or (λ m. m == n) (number_within n word) false
-
--- the words of a header for the numbers of inputs and of outputs
-abbrev pub count_words : List ℕ → Option (List ℕ × List ℕ)
-count_words line =
-    option_and_then (λ text. option_and_then (λ variables. option_and_then (λ inputs. option_and_then (λ latches.
-    option_map (λ outputs. (inputs.0, outputs.0)) (cut_at 32 latches.1)) (cut_at 32 inputs.1)) (cut_at 32 variables.1)) (cut_at 32 text))
-    (behind (codes "aag ") line)
-
--- line 1 where it doesn't count the text's inputs and outputs
-abbrev pub counts_line : Facts → List ℕ → Option ℕ
-counts_line facts line =
-    option_map_or (λ words. if writes (length facts.inputs) words.0 && writes (length facts.outputs) words.1 then None else Some 1) (count_words line) (Some 1)
-
--- whether the name is another than that of this number
-abbrev pub is_other : List (List ℕ) → Option ℕ → List ℕ → Bool
-is_other names None name = false
-is_other names (Some place) name = nat_lt place (length names) && not (bytes_eq name (slice_index_or names place []))
-
-abbrev pub names_other : List (List ℕ) → List ℕ → Bool
-names_other names text = option_map_or (λ words. is_other names (number_within (length names) words.0) words.1) (cut_at 32 text) false
-
--- whether a line names an input or an output, and not as the text does
-abbrev pub is_foreign : Facts → List ℕ → Bool
-is_foreign facts [] = false
-is_foreign facts (letter ∷ text) =
-    if letter == 105 then names_other facts.inputs text else (if letter == 111 then names_other facts.outputs text else false)
-
--- the first such line before the line `c`, the first piece being line n; the last piece is no line
-abbrev pub foreign_line : Facts → ℕ → List (List ℕ) → Option ℕ
-foreign_line facts n [] = None
-foreign_line facts n (line ∷ []) = None
-foreign_line facts n (line ∷ next ∷ rest) =
-    if bytes_eq line (codes "c") then None else (if is_foreign facts line then Some n else foreign_line facts (n + 1) (next ∷ rest))
-
--- Of a circuit that has a fault, whose verdict isn't reached, the names are those of a system's.
+-- the same of the bytes of a circuit that has a fault, whose verdict isn't reached: the names are those of a system's
 abbrev pub faulty_line : Facts → List ℕ → Option ℕ
-faulty_line facts bytes =
-    option_map_or (λ cut. earliest (counts_line facts cut.0) (foreign_line facts 2 (lines_of cut.1))) (cut_at 10 bytes) None
+faulty_line facts bytes = names.faulty_line (names_in facts) bytes
 
 -- the side of the circuit, where a verdict is reached
 abbrev pub side_in : Header → Side

@@ -7,10 +7,11 @@ ghost use Rattle.document_check.specs.Holds.{HoldsFor, is_allowed as number_allo
 ghost use Rattle.document_check.specs.FirstBad.{end_line as line_of_end, environment_sizes, Fails, FailsIn, IsFirstBadFor, last_line as line_of_last, line_behind as line_behind_logs, LogsFailIn, number_line as line_of_number, system_sizes};
 ghost use Rattle.document_check.specs.Shown.{AreFacts, facts_of, IsReadable};
 
-use crate::circuits::{circuit_line, earliest};
+use crate::circuits::circuit_line;
 use crate::facts::{Asked, TextFacts, asked_in, wanted_sizes};
 use crate::logs::{Wanted, logs_line, may_be_full, names_open};
 use cert_text::{Document, DocumentFault, DocumentLines, LogPart, Verdict, read_lines};
+use circuit_names::earliest;
 use letter_word::Side;
 use std::alloc::{AllocError, Global};
 use std::thread::Threads;

@@ -1,12 +1,14 @@
 //! What a text gives for a check, and the sizes that a document wants.
 ghost use Rattle.std.specs.Prelude.{◌≡◌, ◌++◌, ◌≤◌, ◌^◌, All, IfOk, OnOk, option_map};
 ghost use Rattle.machine_model.specs.Problem.{IsProblem, parts_of};
-ghost use Rattle.document_check.specs.Facts.{allowed_at, clause_version, problem_at, read_names, sizes_to, wanted_sizes, written_names};
+ghost use Rattle.document_check.specs.Facts.{allowed_at, clause_version, names_in, problem_at, sizes_to, wanted_sizes};
+ghost use Rattle.circuit_names.specs.Names.{names_of};
 ghost use Rattle.document_check.specs.FirstBad.{asked_in as asked_of};
 ghost use Rattle.document_check.specs.Shown.{AreFacts, facts_of, IsProblemAt, IsSize};
 
 use annotation_encode::allowed_sizes;
 use cert_text::{Header, Verdict, tells_bounds};
+use circuit_names::TextNames;
 use letter_word::{Kind, Side};
 use machine_model::Problem;
 use std::alloc::{AllocError, Global};
@@ -57,23 +59,13 @@ pub fn asked_in(header: &Header) -> Option<Asked>
 }
 
 impl<'a> TextFacts<'a> {
-    /// The names that a circuit of that side reads.
-    pub(crate) fn read_names(self, side: Side) -> &'a [Name]
-        ensures { result.now ≡ read_names (facts_of self.entry) side }
+    /// The names alone.
+    pub(crate) fn names(self) -> TextNames<'a>
+        ensures { names_of result ≡ names_in (facts_of self.entry) }
     {
-        match side {
-            Side::System => self.inputs,
-            Side::Environment => self.outputs,
-        }
-    }
-
-    /// The names that a circuit of that side writes.
-    pub(crate) fn written_names(self, side: Side) -> &'a [Name]
-        ensures { result.now ≡ written_names (facts_of self.entry) side }
-    {
-        match side {
-            Side::System => self.outputs,
-            Side::Environment => self.inputs,
+        TextNames {
+            inputs: self.inputs,
+            outputs: self.outputs,
         }
     }
 

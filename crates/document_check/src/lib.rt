@@ -11,5 +11,6 @@ pub mod laws;
 mod logs;
 
 pub use check::check_document;
-pub use circuits::{earliest, faulty_line, stated_line};
+pub use circuit_names::earliest;
+pub use circuits::{faulty_line, stated_line};
 pub use facts::TextFacts;

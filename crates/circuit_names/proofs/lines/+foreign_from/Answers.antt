@@ -1,6 +1,6 @@
 use Rattle.std.proofs.Common.{◌≡◌, length, rules}
-use Rattle.document_check.proofs.LineLemmas.{none_wanted}
-use Rattle.document_check.proofs.circuits.+foreign_from.Goals as goal
+use Rattle.circuit_names.proofs.LineLemmas.{none_wanted}
+use Rattle.circuit_names.proofs.lines.+foreign_from.Goals as goal
 
 pub returns-in-len1-up-empty : goal.returns-in-len1-up-empty
 returns-in-len1-up-empty t c =

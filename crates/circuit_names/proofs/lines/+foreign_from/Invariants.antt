@@ -1,5 +1,5 @@
 use Rattle.std.proofs.Common.{length}
-use Rattle.document_check.proofs.circuits.+foreign_from.Given as goal
+use Rattle.circuit_names.proofs.lines.+foreign_from.Given as goal
 
 abbrev pub decreases-foreign_from : goal.decreases-foreign_from
 decreases-foreign_from l = length l.names.now

@@ -1,0 +1,10 @@
+//! The names of a circuit's inputs and outputs against those of a text: the first line at which a circuit without fault, or one that has
+//! a fault, counts or names them otherwise. The contract above this layer: `stated_line` and `faulty_line` give exactly the line of their
+//! definitions. It stands on aiger_text for circuits and their lines.
+#![tactic(auto)]
+
+mod lines;
+mod names;
+
+pub use lines::{earliest, faulty_line, stated_line};
+pub use names::TextNames;
