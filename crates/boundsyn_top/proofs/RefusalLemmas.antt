@@ -1,5 +1,6 @@
 -- Nothing but its line answers a fault, or a bad line.
 use Rattle.std.proofs.Common.{◌≡◌, ◌<◌, ◌≤◌, ℕ, List, ◌∙◌, ap, arith, refl, true, Option, Some}
+use Rattle.text_limits.specs.declared.TheConstants.{SMALL_LIMITS}
 use Rattle.letter_word.specs.declared.kinds.Kind.{Kind}
 use Rattle.spec_faults.specs.declared.code.SpecCode.{SpecCode}
 use Rattle.outside_edge.specs.Files.{Files, bytes_under}
@@ -62,10 +63,10 @@ module _ (problems : ProblemsOfTextsAreDetermined) where
 
   module _ (flats : FlatTextsAreDetermined) (faults : CoreFaultsAreDetermined) where
     -- few guarantees aren't many
-    not_many : (text : List ℕ) (kind : Option Kind) (flat other : FlatText) → IsFlatOf text kind flat → IsFlatOf text kind other → guarantees_in flat ≤ 64 →
+    not_many : (text : List ℕ) (kind : Option Kind) (flat other : FlatText) → IsFlatOf SMALL_LIMITS text kind flat → IsFlatOf SMALL_LIMITS text kind other → guarantees_in flat ≤ 64 →
         64 < guarantees_in other → ⊥
     not_many text kind flat other is_flat is_other few many =
-        let same : guarantees_in flat ≡ guarantees_in other = ap guarantees_in (flats text kind flat other is_flat is_other) in omega (arith, same, few, many)
+        let same : guarantees_in flat ≡ guarantees_in other = ap guarantees_in (flats SMALL_LIMITS text kind flat other is_flat is_other) in omega (arith, same, few, many)
 
     core_fault : (text : List ℕ) (kind : Option Kind) (settings : Settings) (bytes : List ℕ) (status : ℕ) (code : SpecCode) (place : ℕ) →
         CoreAnswers text kind settings bytes status → IsCoreFault text kind code place → (status ≡ 1) × (bytes ≡ refusal_line code place)

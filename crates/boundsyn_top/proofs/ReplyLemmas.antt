@@ -1,6 +1,7 @@
 -- What makes a reply one of those that a command, and a run, may write.
 use Rattle.std.specs.Prelude.{Contains, IfOk, Result, Ok, Err, codes}
 use Rattle.std.proofs.Common.{◌≡◌, ◌≢◌, ℕ, List, [], ◌∷◌, ◌<◌, ◌≤◌, length, refl, sym, subst, arith, Option, Some, None}
+use Rattle.text_limits.specs.declared.TheConstants.{SMALL_LIMITS}
 use Rattle.letter_word.specs.declared.kinds.Kind.{Kind}
 use Rattle.letter_word.specs.declared.kinds.Kind.TheVariants.{Mealy}
 use Rattle.outside_edge.specs.Faults.{Rose}
@@ -94,8 +95,8 @@ without_fault text t law taken = record { none = λ code place fault. law.no_fau
 pub own_without_fault : (text : List ℕ) (t : TextProblems) → ProblemsOfTextsAreDetermined → IsForVerify text t → HasNone (IsFirstFault text None)
 own_without_fault text t law taken = record { none = λ code place fault. law.no_fault text None 2 (spec_seen t.spec) t.problems code place taken.text_with.are fault }
 
-pub flat_without_fault : (text : List ℕ) (flat : FlatText) → FlatTextsHaveNoFault → IsFlatOf text None flat → HasNone (IsFlatFault text None)
-flat_without_fault text flat law is_flat = record { none = λ code place fault. law text None flat code place is_flat fault }
+pub flat_without_fault : (text : List ℕ) (flat : FlatText) → FlatTextsHaveNoFault → IsFlatOf SMALL_LIMITS text None flat → HasNone (IsFlatFault SMALL_LIMITS text None)
+flat_without_fault text flat law is_flat = record { none = λ code place fault. law SMALL_LIMITS text None flat code place is_flat fault }
 
 -- the text that is taken has none of the command's faults
 pub check_goes_on : (told : Option Files) (spec certificate text : List ℕ) → AreOfFile told spec text → HasNone (IsFirstFault text (Some Mealy)) →
@@ -105,10 +106,10 @@ check_goes_on (Some files) spec certificate text are none = record {
   unless = λ stops. (subst (λ t. HasNone (IsFirstFault t (Some Mealy))) are none).none stops.code stops.place stops.fault;
 }
 
-pub lasso_goes_on : (told : Option Files) (spec word text : List ℕ) → AreOfFile told spec text → HasNone (IsFlatFault text None) → GoesOn told (lasso spec word)
+pub lasso_goes_on : (told : Option Files) (spec word text : List ℕ) → AreOfFile told spec text → HasNone (IsFlatFault SMALL_LIMITS text None) → GoesOn told (lasso spec word)
 lasso_goes_on None spec word text are none = record { unless = tt }
 lasso_goes_on (Some files) spec word text are none = record {
-  unless = λ stops. (subst (λ t. HasNone (IsFlatFault t None)) are none).none stops.code stops.place stops.fault;
+  unless = λ stops. (subst (λ t. HasNone (IsFlatFault SMALL_LIMITS t None)) are none).none stops.code stops.place stops.fault;
 }
 
 pub verify_goes_on : (told : Option Files) (spec circuit text : List ℕ) → AreOfFile told spec text → HasNone (IsFirstFault text None) →
@@ -325,10 +326,10 @@ module _ (step : ShelfStep) where
 
   pub lasso_by_file : (told : Option Files) (middle : List ℕ → ℕ) (spec word text : List ℕ) (bytes : List ℕ) (status : ℕ) → told ≡ step.files →
       AreOfFile step.files spec text → ((any : List ℕ) → step.before any ≤ middle any) →
-      RepliesByFile (rest_from told middle) word (HasNone (IsFlatFault text None)) (λ lines. LassoAnswers text lines bytes status) bytes status →
+      RepliesByFile (rest_from told middle) word (HasNone (IsFlatFault SMALL_LIMITS text None)) (λ lines. LassoAnswers text lines bytes status) bytes status →
       RepliesTo step (lasso spec word) bytes status
   lasso_by_file told middle spec word text bytes status same are =
-      by_file (lasso spec word) spec word LassoAnswers (λ bytes status h. h) lasso_status (HasNone (IsFlatFault text None)) told middle text bytes status same are
+      by_file (lasso spec word) spec word LassoAnswers (λ bytes status h. h) lasso_status (HasNone (IsFlatFault SMALL_LIMITS text None)) told middle text bytes status same are
       (λ due. behind (refl, lasso_goes_on step.files spec word text are due))
 
   -- == gen and bench ==

@@ -1,5 +1,6 @@
 -- What keeps a command from its work: the first fault of its text, or the first bad line of its list or its other file (this project's own).
 use Rattle.std.specs.Prelude.{◌≡◌, ℕ, Some, None, List}
+use Rattle.text_limits.specs.declared.TheConstants.{SMALL_LIMITS}
 use Rattle.letter_word.specs.declared.kinds.Kind.TheVariants.{Mealy}
 use Rattle.spec_faults.specs.declared.code.SpecCode.{SpecCode}
 use Rattle.flat_text.specs.FlatOf.{IsFlatFault, IsFlatOf}
@@ -23,8 +24,8 @@ use Rattle.boundsyn_top.specs.Commands.{AnswersAsked}
 abbrev pub HasFault : Files → Asked → SpecCode → ℕ → Type 0
 HasFault files (synth spec wanted kind) code place = IsFirstFault (bytes_under files spec) kind code place
 HasFault files (check spec certificate) code place = IsFirstFault (bytes_under files spec) (Some Mealy) code place
-HasFault files (expand spec) code place = IsFlatFault (bytes_under files spec) None code place
-HasFault files (lasso spec word) code place = IsFlatFault (bytes_under files spec) None code place
+HasFault files (expand spec) code place = IsFlatFault SMALL_LIMITS (bytes_under files spec) None code place
+HasFault files (lasso spec word) code place = IsFlatFault SMALL_LIMITS (bytes_under files spec) None code place
 HasFault files (gen clients) code place = ⊥
 HasFault files (bench clients workers) code place = ⊥
 HasFault files (verify spec circuit) code place = IsFirstFault (bytes_under files spec) None code place
@@ -43,7 +44,7 @@ pub record IsBadCertificate (text certificate : List ℕ) (line : ℕ) : Type 0 
 -- the text has no fault, and this is the first bad line of the word over its signals
 pub record IsBadWord (text word : List ℕ) (line : ℕ) : Type 0 where
   pub flat : FlatText
-  pub is_flat : IsFlatOf text None flat
+  pub is_flat : IsFlatOf SMALL_LIMITS text None flat
   pub bad : IsFirstBadWordLine word (all_names flat.expanded) line
 
 -- the text has no fault, and this is the first bad line of the circuit's file for it

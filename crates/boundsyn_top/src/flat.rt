@@ -1,5 +1,6 @@
 //! The replies to `expand` and `lasso`, which want the flat form of a text.
 ghost use Rattle.std.specs.Prelude.{◌≡◌, ◌≢◌, ℕ, List, None, IfOk, length};
+ghost use Rattle.text_limits.specs.declared.TheConstants.{SMALL_LIMITS};
 ghost use Rattle.flat_answer.specs.Lasso.{LassoAnswers};
 ghost use Rattle.ltl_formula.specs.Nodes.{Stands};
 ghost use Rattle.tlsf_expand.specs.FewSignals.{HasFewSignals};
@@ -73,9 +74,9 @@ fn tell_by<H: Shelf>(
     word: &str,
 ) -> Result<Reply, AllocError>
     ensures reply { IfOk result (λ r. RepliesByFile (step_of H.files H.faults shelf.old shelf.new) word.now
-        (HasNone (IsFlatFault text.now None)) (λ lines. LassoAnswers text.now lines r.bytes.items (status_number r.status)) r.bytes.items (status_number r.status)) }
+        (HasNone (IsFlatFault SMALL_LIMITS text.now None)) (λ lines. LassoAnswers text.now lines r.bytes.items (status_number r.status)) r.bytes.items (status_number r.status)) }
     ensures files { H.files shelf.new ≡ H.files shelf.old }
-    ensures other_files { (name : List ℕ) → (HasNone (IsFlatFault text.now None) → name ≢ word.now) → H.faults shelf.new name ≡ H.faults shelf.old name }
+    ensures other_files { (name : List ℕ) → (HasNone (IsFlatFault SMALL_LIMITS text.now None) → name ≢ word.now) → H.faults shelf.new name ≡ H.faults shelf.old name }
 {
     flat_texts_have_no_fault();
     match expanded(alloc, text)? {
@@ -91,11 +92,11 @@ fn told<H: Shelf>(
     flat: &Spec,
     word: &str,
 ) -> Result<Reply, AllocError>
-    requires few { HasFewSignals (length flat.now.inputs.items) (length flat.now.outputs.items) flat.now.formulas }
+    requires few { HasFewSignals SMALL_LIMITS (length flat.now.inputs.items) (length flat.now.outputs.items) flat.now.formulas }
     requires stands { Stands flat.now.formulas flat.now.whole }
-    ensures reply { (text : List ℕ) → IsFlatOf text None (spec_seen flat.now) → HasNone (IsFlatFault text None)
+    ensures reply { (text : List ℕ) → IsFlatOf SMALL_LIMITS text None (spec_seen flat.now) → HasNone (IsFlatFault SMALL_LIMITS text None)
         → IfOk result (λ r. RepliesByFile (step_of H.files H.faults shelf.old shelf.new) word.now
-        (HasNone (IsFlatFault text None)) (λ lines. LassoAnswers text lines r.bytes.items (status_number r.status)) r.bytes.items (status_number r.status)) }
+        (HasNone (IsFlatFault SMALL_LIMITS text None)) (λ lines. LassoAnswers text lines r.bytes.items (status_number r.status)) r.bytes.items (status_number r.status)) }
     ensures files { H.files shelf.new ≡ H.files shelf.old }
     ensures other_files { (name : List ℕ) → name ≢ word.now → H.faults shelf.new name ≡ H.faults shelf.old name }
 {

@@ -1,7 +1,7 @@
 //! Laws of the answers, and what a run answers where nothing outside can fail.
 ghost use Rattle.std.specs.Prelude.{◌∷◌, map, string_bytes, Contains};
 ghost use Rattle.program_words.specs.Settings.{Asked};
-ghost use Rattle.synth_answer.specs.Numbers.{NumbersAreDetermined};
+ghost use Rattle.synth_answer.specs.Numbers.{NoSmallerCircuits, VerdictsAreDetermined};
 ghost use Rattle.boundsyn_top.specs.Commands.{statuses_of};
 ghost use Rattle.boundsyn_top.specs.Faults.{RefusalsAreDetermined};
 ghost use Rattle.boundsyn_top.specs.Run.{Asks};
@@ -33,12 +33,20 @@ pub fn refusals_are_determined()
     lists_are_determined();
 }
 
-/// Two answers of status 10, or of status 20, to one text and kind tell the same number of states, whatever `--max`, the limits
-/// on entries, what was counted, the workers and the schedules were.
-pub fn numbers_are_determined()
-    ensures { NumbersAreDetermined }
+/// Two answers of status 10, or of status 20, to one text and kind tell the same number of states, and there is none of status 10 beside
+/// one of status 20, whatever `--max`, the limits on entries, what was counted, the workers and the schedules were.
+pub fn verdicts_are_determined()
+    ensures { VerdictsAreDetermined }
 {
-    synth_answer::laws::numbers_are_determined();
+    synth_answer::laws::verdicts_are_determined();
+}
+
+/// Below the number of states that the document of an answer of status 10 tells no circuit satisfies what its text wants, and below that
+/// of one of status 20 none defeats every machine.
+pub fn no_smaller_circuits()
+    ensures { NoSmallerCircuits }
+{
+    synth_answer::laws::no_smaller_circuits();
 }
 
 /// Over a shelf and a sink that never fail, words that ask for something get an answer, or memory was wanted.

@@ -10,3 +10,4 @@ pub mod Held
 pub mod Grounds
 pub mod AsThree
 pub mod Numbers
+pub mod NoSmaller

@@ -1,23 +1,44 @@
--- That the number of states of an answer doesn't depend on how its search was bounded (this project's own).
-use Rattle.std.specs.Prelude.{◌≡◌, ◌⊎◌, ℕ, List, Option}
+-- That what an answer says of machines doesn't depend on how its search was bounded (this project's own).
+use Rattle.std.specs.Prelude.{◌≡◌, ◌⊎◌, ◌<◌, ℕ, List, Option}
 use Rattle.letter_word.specs.declared.kinds.Kind.{Kind}
-use Rattle.spec_faults.specs.declared.code.SpecCode.{SpecCode}
+use Rattle.tlsf_syntax.specs.Text.{Text}
+use Rattle.tlsf_reader.specs.Reads.{Reads}
+use Rattle.tlsf_expand.specs.Expansion.{kind_of}
 use Rattle.synth_engine.specs.declared.settings.Settings.{Settings}
-use Rattle.synth_answer.specs.Answer.{Answers, AnswersFor, refused, realizable, unrealizable, bounded, no_size, no_entries}
-use Rattle.text_ground.specs.Ground.{Ground}
+use Rattle.cert_text.specs.declared.documents.Verdict.{Verdict}
+use Rattle.cert_text.specs.declared.documents.Verdict.TheVariants.{Realizable, Unrealizable, Bounded, UnknownSizes, UnknownEntries}
+use Rattle.cert_text.specs.Parts.{Document}
+use Rattle.cert_text.specs.States.{States}
+use Rattle.satisfaction.specs.Wanted.{Wanted}
+use Rattle.circuit_laws.specs.Laws.{NoCircuitDefeats, NoCircuitSatisfies}
+use Rattle.text_ground.specs.Ground.{IsWantedBy}
+use Rattle.synth_answer.specs.Answer.{Answers}
 
--- the number of states that an answer tells, and 0 where it tells none
-abbrev pub number_of : {IsFault : SpecCode → ℕ → Type 0} {IsGround : Option Kind → Ground → Type 0} {kind : Option Kind} {settings : Settings}
-    {bytes : List ℕ} {status : ℕ} → AnswersFor IsFault IsGround kind settings bytes status → ℕ
-number_of (refused code position is fault line) = 0
-number_of (realizable p n c is holds) = n
-number_of (unrealizable p n c is holds) = n
-number_of (bounded p side n c is holds) = n
-number_of (no_size p is holds) = 0
-number_of (no_entries p side n is holds) = 0
+-- the number of states that a verdict tells, and 0 where it tells none
+abbrev pub told_number : Verdict → ℕ
+told_number (Realizable n) = n
+told_number (Unrealizable n) = n
+told_number (Bounded side n) = n
+told_number UnknownSizes = 0
+told_number (UnknownEntries side n) = 0
 
--- two answers of status 10, or of status 20, to one text and kind tell the same number of states, whatever bounded their searches
-abbrev pub NumbersAreDetermined : Type 0
-NumbersAreDetermined =
-    (text : List ℕ) (kind : Option Kind) (settings other : Settings) (bytes more : List ℕ) (status : ℕ) → (status ≡ 10) ⊎ (status ≡ 20)
-    → (a : Answers text kind settings bytes status) (b : Answers text kind other more status) → number_of a ≡ number_of b
+-- both ask for machines of one kind: the given one, else the one that the text names
+abbrev pub AskAlike : List ℕ → Option Kind → Option Kind → Type 0
+AskAlike text kind other = (tree : Text) → Reads text tree → kind_of kind tree ≡ kind_of other tree
+
+-- Of answers to one text that ask for machines of one kind, whatever bounded their searches: two of status 10, or of status 20, tell the
+-- same number of states in the documents that they state; and there is none of status 10 beside one of status 20.
+pub record VerdictsAreDetermined : Type 0 where
+  pub numbers : (text : List ℕ) (kind given : Option Kind) (settings other : Settings) (bytes more : List ℕ) (status : ℕ) (d e : Document)
+      → AskAlike text kind given → (status ≡ 10) ⊎ (status ≡ 20) → Answers text kind settings bytes status → Answers text given other more status
+      → States bytes d → States more e → told_number d.verdict ≡ told_number e.verdict
+  pub never_both : (text : List ℕ) (kind given : Option Kind) (settings other : Settings) (bytes more : List ℕ) → AskAlike text kind given
+      → Answers text kind settings bytes 10 → Answers text given other more 20 → ⊥
+
+-- Where the document that an answer of status 10 states tells a number, no circuit with fewer states satisfies what the text wants; where
+-- one of status 20 does, none with fewer defeats every machine.
+pub record NoSmallerCircuits : Type 0 where
+  pub satisfy : (text : List ℕ) (kind : Option Kind) (settings : Settings) (bytes : List ℕ) (d : Document) (x : Wanted) (k : ℕ)
+      → Answers text kind settings bytes 10 → States bytes d → IsWantedBy text kind x → k < told_number d.verdict → NoCircuitSatisfies x k
+  pub defeat : (text : List ℕ) (kind : Option Kind) (settings : Settings) (bytes : List ℕ) (d : Document) (x : Wanted) (k : ℕ)
+      → Answers text kind settings bytes 20 → States bytes d → IsWantedBy text kind x → k < told_number d.verdict → NoCircuitDefeats x k

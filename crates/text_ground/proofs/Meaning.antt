@@ -1,5 +1,6 @@
 -- What a text's problems say of machines.
 use Rattle.std.proofs.Common.{◌≡◌, ℕ, ◌≤◌, Bool, true, false, List, Option, Some, None, IfSome, length, refl, sym, ap, ◌∙◌, subst}
+use Rattle.text_limits.specs.declared.TheConstants.{SMALL_LIMITS}
 use Rattle.letter_word.specs.declared.kinds.Kind.{Kind}
 use Rattle.letter_word.specs.declared.kinds.Side.{Side}
 use Rattle.letter_word.specs.declared.kinds.Side.TheVariants.{System, Environment}
@@ -41,7 +42,7 @@ use Rattle.text_ground.proofs.Lists.{some_of}
 -- == what a text wants ==
 
 abbrev pub wanted_of : Expanded → Text → Wanted
-wanted_of x tree = record { inputs = x.inputs; outputs = x.outputs; kind = x.kind; means = λ w. means w tree }
+wanted_of x tree = record { inputs = x.inputs; outputs = x.outputs; kind = x.kind; means = λ w. means SMALL_LIMITS w tree }
 
 -- == its problems ==
 
@@ -82,10 +83,10 @@ through : {A : Type 0} (o : Outcome A) (f : A → Work → Outcome Expanded) (ki
 through (gives a w) f kind h flat e = h a w flat e
 through (fails code position) f kind h flat e = absurd (cc)
 
-kind_of_flat : (o : Option Kind) (t : Text) (flat : FlatText) → flat_in (expanded_as o t) ≡ Some flat → o ≡ Some flat.expanded.kind
+kind_of_flat : (o : Option Kind) (t : Text) (flat : FlatText) → flat_in (expanded_as SMALL_LIMITS o t) ≡ Some flat → o ≡ Some flat.expanded.kind
 kind_of_flat None t flat e = absurd (cc)
 kind_of_flat (Some kind) t flat e =
-    let is = through (signals_of t) (λ signals w. go_on (sections_value signals t.sections w) (λ sections w. go_on (whole_value t.info.strict sections w) (λ whole w.
+    let is = through (signals_of SMALL_LIMITS t) (λ signals w. go_on (sections_value signals t.sections w) (λ sections w. go_on (whole_value t.info.strict sections w) (λ whole w.
     gives (record { inputs = signals.inputs; outputs = signals.outputs; kind = kind; strict = t.info.strict; sections = sections; whole = whole }) w))) kind
     (λ signals w. through (sections_value signals t.sections w) (λ sections w. go_on (whole_value t.info.strict sections w) (λ whole w.
     gives (record { inputs = signals.inputs; outputs = signals.outputs; kind = kind; strict = t.info.strict; sections = sections; whole = whole }) w)) kind
@@ -94,24 +95,24 @@ kind_of_flat (Some kind) t flat e =
     (λ whole w flat e. sym (ap (λ o. option_map_or (λ (x : FlatText). x.expanded.kind) o kind) e)))) flat e in
     ap (λ y. Some y) (sym is)
 
-pub flat_by_its_kind : (text : List ℕ) (kind : Option Kind) (flat : FlatText) → IsFlatOf text kind flat → IsFlatOf text (Some flat.expanded.kind) flat
+pub flat_by_its_kind : (text : List ℕ) (kind : Option Kind) (flat : FlatText) → IsFlatOf SMALL_LIMITS text kind flat → IsFlatOf SMALL_LIMITS text (Some flat.expanded.kind) flat
 flat_by_its_kind text kind flat is = record {
   tree = is.tree;
   read = is.read;
-  expanded = subst (λ o. flat_in (expanded_as o is.tree) ≡ Some flat) (kind_of_flat (kind_of kind is.tree) is.tree flat is.expanded) is.expanded;
+  expanded = subst (λ o. flat_in (expanded_as SMALL_LIMITS o is.tree) ≡ Some flat) (kind_of_flat (kind_of kind is.tree) is.tree flat is.expanded) is.expanded;
   meaning = is.meaning;
 }
 
 -- == its ground ==
 
 abbrev pub truth_of_text : {text : List ℕ} {nodes : List Node} {whole : FormulaId} → SaysWhat text nodes whole → Word → Bool
-truth_of_text says w = means w says.tree
+truth_of_text says w = means SMALL_LIMITS w says.tree
 
 -- the ground of a text, with the names of a text that says the same
 abbrev pub text_ground : {text : List ℕ} (spec flat : FlatText) → SaysWhat text spec.formulas spec.expanded.whole → Ground
 text_ground spec flat says = ground_with spec.expanded (truth_of_text says) flat.formulas flat.expanded.whole
 
-ground_at : (text : List ℕ) (kind : Option Kind) (spec flat : FlatText) (says : SaysWhat text spec.formulas spec.expanded.whole) → IsFlatOf text kind flat
+ground_at : (text : List ℕ) (kind : Option Kind) (spec flat : FlatText) (says : SaysWhat text spec.formulas spec.expanded.whole) → IsFlatOf SMALL_LIMITS text kind flat
     → spec.expanded ≡ flat.expanded → IsGroundOf text kind (text_ground spec flat says)
 ground_at text kind spec flat says is same = record {
   is_wanted = record {
@@ -137,7 +138,7 @@ pub ground_by_its_kind : (v : ℕ) (text : List ℕ) (kind : Option Kind) (spec 
     (are : AreProblemsOf text kind v spec s) → IsGroundOf text (Some spec.expanded.kind) (text_ground spec are.flat says)
 ground_by_its_kind v text kind spec s says are =
     ground_at text (Some spec.expanded.kind) spec are.flat says
-    (subst (λ (x : Expanded). IsFlatOf text (Some x.kind) are.flat) (sym are.same) (flat_by_its_kind text kind are.flat are.is_flat)) are.same
+    (subst (λ (x : Expanded). IsFlatOf SMALL_LIMITS text (Some x.kind) are.flat) (sym are.same) (flat_by_its_kind text kind are.flat are.is_flat)) are.same
 
 -- the problems of the text stand on it
 pub given_on : (v : ℕ) (text : List ℕ) (kind : Option Kind) (spec : FlatText) (s : SideProblems) (says : SaysWhat text spec.formulas spec.expanded.whole)

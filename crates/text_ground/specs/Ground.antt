@@ -1,6 +1,7 @@
 -- What an answer stands on: what is wanted, and a formula that says it. For a text these are what the text means and its flat whole
 -- (this project's own).
 use Rattle.std.specs.Prelude.{◌≡◌, ℕ, Bool, List, Option, length}
+use Rattle.text_limits.specs.declared.TheConstants.{SMALL_LIMITS}
 use Rattle.letter_word.specs.declared.kinds.Kind.{Kind}
 use Rattle.letter_word.specs.Word.{Word}
 use Rattle.ltl_formula.specs.declared.nodes.FormulaId.{FormulaId}
@@ -76,13 +77,13 @@ given_by spec problems = record {
 -- what is true. A kind that is given stands for those that the text names.
 pub record IsWantedBy (text : List ℕ) (kind : Option Kind) (x : Wanted) : Type 0 where
   pub flat : FlatText
-  pub is_flat : IsFlatOf text kind flat
+  pub is_flat : IsFlatOf SMALL_LIMITS text kind flat
   pub inputs : x.inputs ≡ flat.expanded.inputs
   pub outputs : x.outputs ≡ flat.expanded.outputs
   pub kind_is : x.kind ≡ flat.expanded.kind
   pub tree : Text
   pub read : Reads text tree
-  pub meaning : (w : Word) → x.means w ≡ means w tree
+  pub meaning : (w : Word) → x.means w ≡ means SMALL_LIMITS w tree
 
 -- its flat whole says it, in the list that evaluation leaves
 pub record IsGroundOf (text : List ℕ) (kind : Option Kind) (g : Ground) : Type 0 where

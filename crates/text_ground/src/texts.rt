@@ -1,5 +1,6 @@
 //! A text that is read before anything else is taken or searched.
 ghost use Rattle.std.specs.Prelude.{◌≡◌, IfOk, length};
+ghost use Rattle.text_limits.specs.declared.TheConstants.{SMALL_LIMITS};
 ghost use Rattle.machine_model.specs.Automaton.{IsAutomaton};
 ghost use Rattle.machine_model.specs.Problem.{IsVersion, automaton_of};
 ghost use Rattle.tlsf_expand.specs.FewSignals.{HasFewSignals};
@@ -38,7 +39,7 @@ pub fn problems_or_refusal(
     requires { IsVersion version }
     ensures text { IfOk result (AreOfText version text.now kind) }
     ensures meet { IfOk result (IfProblems (λ t. AreProblems t.problems)) }
-    ensures few { IfOk result (IfProblems (λ t. HasFewSignals (length t.spec.inputs.items) (length t.spec.outputs.items) t.spec.formulas)) }
+    ensures few { IfOk result (IfProblems (λ t. HasFewSignals SMALL_LIMITS (length t.spec.inputs.items) (length t.spec.outputs.items) t.spec.formulas)) }
     ensures names { IfOk result (IfProblems (λ t. HasPlainNames (spec_seen t.spec).expanded)) }
 {
     match text_problems(alloc, text, kind, version) {
