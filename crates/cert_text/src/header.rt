@@ -215,7 +215,8 @@ fn verdict_at(version: u32, bytes: &[u8]) -> Option<(Verdict, &[u8])>
     }
 }
 
-fn kind_at(bytes: &[u8]) -> Option<(Kind, &[u8])>
+/// The kind that the first line states, with the bytes behind it, where it is of its form.
+pub fn kind_at(bytes: &[u8]) -> Option<(Kind, &[u8])>
     ensures { option_map (λ p. (p.0, p.1.now)) result ≡ front kind_in bytes.now }
 {
     let (line, rest) = cut_at(bytes, b'\n')?;

@@ -34,9 +34,9 @@ pub struct LogsRead {
 
 /// The first entries of a text, and the bytes behind them.
 #[derive(Drop)]
-struct FirstEntries<'a> {
-    entries: Vec<Entry>,
-    rest: &'a [u8],
+pub struct FirstEntries<'a> {
+    pub entries: Vec<Entry>,
+    pub rest: &'a [u8],
 }
 
 impl Head {
@@ -167,7 +167,7 @@ fn head_behind(side: Side, text: &[u8]) -> Option<Head>
 }
 
 /// The first entries of a text, at most so many.
-fn first_entries(
+pub fn first_entries(
     alloc: Global,
     vars: u32,
     count: u64,

@@ -173,7 +173,8 @@ impl Header {
     }
 }
 
-fn all_named(circuit: &Circuit) -> bool
+/// Whether each input and each output has a name.
+pub fn all_named(circuit: &Circuit) -> bool
     ensures { result ≡ has_all_names circuit.now }
 {
     are_named(&circuit.input_names) && are_named(&circuit.output_names)
@@ -186,7 +187,7 @@ fn are_named(names: &[Option<Name>]) -> bool
 }
 
 /// The line of a fault, but for want of memory.
-fn fault_line(fault: CircuitFault) -> Option<u64>
+pub fn fault_line(fault: CircuitFault) -> Option<u64>
     ensures line { IfSome result (λ line. line ≡ line_of_fault fault) }
     ensures no_memory { fault ≡ NoMemory → result ≡ None }
 {

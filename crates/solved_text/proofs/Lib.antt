@@ -1,0 +1,11 @@
+pub mod LetterLemmas
+pub mod HeadLemmas
+pub mod LogLemmas
+pub mod EndLemmas
+pub mod SixthLemmas
+pub mod HeaderWhole
+pub mod ReadingLemmas
+pub mod BodyLemmas
+pub mod LogsWhole
+pub mod Whole
+pub mod WriteLemmas

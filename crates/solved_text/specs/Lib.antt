@@ -1,0 +1,9 @@
+pub mod Parts
+pub mod Lines
+pub mod Header
+pub mod Logs
+pub mod Annotation
+pub mod Reading
+pub mod States
+pub mod Laws
+pub mod Shown
