@@ -1,0 +1,148 @@
+//! Both sides of a text, played in turn.
+
+use crate::circuits::circuit_of;
+use crate::making::machine_of;
+use aiger_text::Circuit;
+use game_arena::{Arena, Meter, Player, Stop};
+use letter_word::{Kind, Side};
+use machine_model::Automaton;
+use safety_game::{Budget, Rounds, Win};
+use std::alloc::{AllocError, Global};
+use text_base::Name;
+
+/// What is played for: the signals by their names, the kind of the system's machines, and for each side that plays an automaton that
+/// accepts what the side has to keep away from. In its letters the inputs come before the outputs; there are at most 32 signals.
+#[derive(Clone, Copy)]
+pub struct Contest<'a> {
+    pub inputs: &'a [Name],
+    pub outputs: &'a [Name],
+    /// The environment's machines are of the other kind.
+    pub kind: Kind,
+    pub system: Option<&'a Automaton>,
+    pub environment: Option<&'a Automaton>,
+}
+
+/// A side that wins, and the circuit of its machine, which is still to be tested. A circuit of the environment has the text's outputs as
+/// its inputs, and the text's inputs as its outputs.
+#[derive(Drop)]
+pub struct Found {
+    pub side: Side,
+    /// The number of the machine's states.
+    pub states: usize,
+    pub circuit: Circuit,
+}
+
+/// The first game of each side may take so many steps, or an eighth of the budget where that is less, so that each game has its turn.
+/// From round to round there are four times as many.
+const FIRST_SLICE: u64 = 50_000;
+
+/// Plays both sides in turn until one of them wins. None says that no game is left that could be won, that the budget is used up or
+/// that there is no circuit of the win within it; an error that memory ran out.
+pub fn find(
+    alloc: Global,
+    contest: Contest<'_>,
+    budget: Budget,
+) -> Result<Option<Found>, AllocError> {
+    let mut left = budget;
+    let system = contest.arena(alloc, Side::System, &mut left)?;
+    let environment = contest.arena(alloc, Side::Environment, &mut left)?;
+    let mut sides = Vec::new(alloc);
+    for arena in system.iter().chain(&environment) {
+        sides.push(Rounds::new(alloc, arena)?)?;
+    }
+    match first_win(&mut sides, &mut left)? {
+        Some(win) => contest.found(alloc, win),
+        None => Ok(None),
+    }
+}
+
+/// Plays rounds of both sides until one wins.
+fn first_win<'a>(
+    sides: &mut [Rounds<'a>],
+    left: &mut Budget,
+) -> Result<Option<Win<'a>>, AllocError> {
+    let mut slice = FIRST_SLICE.min(left.steps / 8);
+    for _ in 0..64 {
+        let mut is_over = true;
+        for rounds in sides.iter_mut() {
+            if let Some(win) = rounds.play(left, slice)? {
+                return Ok(Some(win));
+            }
+            is_over = is_over && rounds.are_over();
+        }
+        if is_over || left.steps == 0 {
+            break;
+        }
+        slice = slice.saturating_mul(4);
+    }
+    Ok(None)
+}
+
+impl Contest<'_> {
+    /// The arena of a side. None where it has no automaton, or one for which the steps don't suffice.
+    fn arena(
+        &self,
+        alloc: Global,
+        side: Side,
+        left: &mut Budget,
+    ) -> Result<Option<Arena>, AllocError> {
+        let automaton = match side {
+            Side::System => self.system,
+            Side::Environment => self.environment,
+        };
+        let Some(automaton) = automaton else {
+            return Ok(None);
+        };
+        let mut meter = Meter::new(left.steps);
+        let outcome = Arena::new(alloc, automaton, self.player(side), &mut meter);
+        left.steps = left.steps.saturating_sub(meter.used());
+        unless_memory(outcome)
+    }
+
+    fn player(&self, side: Side) -> Player {
+        Player {
+            inputs: count_of(self.inputs),
+            outputs: count_of(self.outputs),
+            side,
+            kind: match side {
+                Side::System => self.kind,
+                Side::Environment => self.kind.other(),
+            },
+        }
+    }
+
+    /// The circuit of a win.
+    fn found(&self, alloc: Global, win: Win<'_>) -> Result<Option<Found>, AllocError> {
+        let side = win.game.arena.player.side;
+        let (read, written) = match side {
+            Side::System => (self.inputs, self.outputs),
+            Side::Environment => (self.outputs, self.inputs),
+        };
+        let steps = win.steps;
+        let Some(machine) = unless_memory(machine_of(alloc, win))? else {
+            return Ok(None);
+        };
+        let states = machine.states.len();
+        match unless_memory(circuit_of(alloc, &machine, read, written, steps))? {
+            Some(circuit) => Ok(Some(Found {
+                side,
+                states,
+                circuit,
+            })),
+            None => Ok(None),
+        }
+    }
+}
+
+fn count_of(names: &[Name]) -> u32 {
+    u32::try_from(names.len()).unwrap_or(u32::MAX)
+}
+
+/// What was made, or None where the budget kept it from being made.
+fn unless_memory<T: Drop>(outcome: Result<T, Stop>) -> Result<Option<T>, AllocError> {
+    match outcome {
+        Ok(made) => Ok(Some(made)),
+        Err(Stop::NoMemory) => Err(AllocError),
+        Err(Stop::Steps | Stop::Positions | Stop::Bytes) => Ok(None),
+    }
+}
