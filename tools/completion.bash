@@ -1,4 +1,4 @@
-# Completion of the words of boundsyn for bash: `source tools/completion.bash`.
+# Completion of the words of boundsyn, boundsyn-show and annotate for bash: `source tools/completion.bash`.
 
 _boundsyn_values() {
     case $1:$2 in
@@ -47,4 +47,35 @@ _boundsyn() {
     mapfile -t COMPREPLY < <(compgen -W "$values" -- "$word")
 }
 
+_boundsyn_show() {
+    local word=${COMP_WORDS[COMP_CWORD]} last=${COMP_WORDS[COMP_CWORD - 1]} values=""
+    COMPREPLY=()
+    case $last in
+    --reset) values="none sync async" ;;
+    --rounds) values="1 2 5 10 100" ;;
+    --text | --without | --module | --proofs) return ;;
+    *)
+        if [[ $word != -* ]]; then
+            mapfile -t COMPREPLY < <(compgen -f -- "$word")
+            return
+        fi
+        values="--table --dot --json --hoa --circuit --verilog --module --reset --smv --html --wave --vcd --rounds --against --word --proofs"
+        values+=" --text --core --without --spec --ltl --tlsf --apart --dual --lint --help --version"
+        ;;
+    esac
+    mapfile -t COMPREPLY < <(compgen -W "$values" -- "$word")
+}
+
+_annotate() {
+    local word=${COMP_WORDS[COMP_CWORD]}
+    COMPREPLY=()
+    if [[ $COMP_CWORD == 1 && $word == -* ]]; then
+        mapfile -t COMPREPLY < <(compgen -W "--help --version" -- "$word")
+    else
+        mapfile -t COMPREPLY < <(compgen -f -- "$word")
+    fi
+}
+
 complete -o filenames -F _boundsyn boundsyn
+complete -o filenames -F _boundsyn_show boundsyn-show
+complete -o filenames -F _annotate annotate

@@ -2,10 +2,12 @@
 
 import os
 import random
+import re
 import subprocess
 import sys
 
 from browser import Page
+from page_promises import lose, owe, press_buttons, promises, same
 
 STEPS = 10
 EXAMPLES = os.path.join(os.path.dirname(os.path.realpath(__file__)), "..", "..", "examples")
@@ -23,11 +25,6 @@ def write(folder, name, text):
     with open(path, "w", encoding="utf-8") as file:
         file.write(text)
     return path
-
-
-def same(what, found, wanted):
-    if found != wanted:
-        sys.exit(f"page-test: {what}: {found!r} in place of {wanted!r}")
 
 
 def letters_and_wave(show, document, names, room, text):
@@ -62,9 +59,14 @@ def test(boundsyn, show, text, room, pictures):
     letters, wave = letters_and_wave(show, document, names, room, text)
     page = Page(write(room, f"{text}.html", html))
     try:
+        title = re.search(r'TITLE: +"([^"]*)"', open(spec, encoding="ascii").read()).group(1)
+        same(f"{text}: the title", (page.text("#title"), page.value("document.title")), (title, title))
+        {"prophecy": lose, "arbiter_of_two": owe}.get(text, promises)(page)
         take_steps(page, text, names, letters, wave)
         same(f"{text}: the run", dict(line.split(None, 1) for line in page.text("#wave").splitlines()), wave)
         same(f"{text}: that the last step is said in words", page.text("#said").startswith(f"Step {STEPS}: in state {wave['(state)'][-1]}, "), True)
+        press_buttons(page, text)
+        same(f"{text}: the run behind a step back", dict(line.split(None, 1) for line in page.text("#wave").splitlines()), wave)
         page.call("Emulation.setDeviceMetricsOverride", width=360, height=740, deviceScaleFactor=2, mobile=True)
         same(f"{text}: the width on a telephone", page.value("document.documentElement.scrollWidth"), 360)
         if pictures:

@@ -52,16 +52,19 @@ def install_and_uninstall(it):
 
     assert install()[0] == 1 and files_below(prefix) == []
     it.keep()
-    write(f"{it.top}/docs/boundsyn.1", "page")
-    write(f"{it.top}/tools/completion.bash", "completion")
+    for name in ("docs/boundsyn.1", "docs/annotate.1", "docs/FORMATS.md", "tools/completion.bash", "tools/syntcomp", "tools/parts/texts.py"):
+        write(f"{it.top}/{name}", f"what {name} has")
     write(f"{prefix}/bin/annotate", "another program of that name")
     assert install()[0] == 1 and files_below(prefix) == ["bin/annotate"]
     os.remove(f"{prefix}/bin/annotate")
     write(f"{prefix}/bin/others", "left alone")
     assert install()[0] == install()[0] == 0
-    assert files_below(prefix) == ["bin/annotate", "bin/boundsyn", "bin/boundsyn-show", "bin/others", "share/bash-completion/completions/boundsyn",
-                                   "share/boundsyn/installed", "share/man/man1/boundsyn.1"]
+    completions = [f"share/bash-completion/completions/{name}" for name in ("annotate", "boundsyn", "boundsyn-show")]
+    scripts = ["share/boundsyn/installed", "share/boundsyn/tools/parts/texts.py", "share/boundsyn/tools/syntcomp", "share/doc/boundsyn/FORMATS.md"]
+    assert files_below(prefix) == ["bin/annotate", "bin/boundsyn", "bin/boundsyn-show", "bin/others", "bin/syntcomp", *completions, *scripts,
+                                   "share/man/man1/annotate.1", "share/man/man1/boundsyn.1"]
     assert it.run("x", name=f"{prefix}/bin/annotate", kit=False)[:2] == (10, "built of one: x\n")
+    assert read(f"{prefix}/bin/syntcomp") == "what tools/syntcomp has" and os.path.islink(f"{prefix}/bin/syntcomp")
     write(f"{prefix}/share/man/man1/boundsyn.1", "changed since")
     assert install("--uninstall")[0] == 0
     assert files_below(prefix) == ["bin/others", "share/man/man1/boundsyn.1"]
@@ -71,8 +74,8 @@ def the_version_is_told_once(_it):
     version = read(f"{TOP}/VERSION").strip()
     assert re.search(rf"^## {re.escape(version)}\b", read(f"{TOP}/CHANGELOG.md"), re.M)
     texts = [read(path) for path in glob.glob(f"{TOP}/crates/*/src/**/*.rt", recursive=True)]
-    constants = [it for text in texts if "VERSION" in text for it in re.findall(r'const VERSION: &(?:\'static )?str = "(?:boundsyn-show )?(.*)";', text)]
-    assert set(constants) == {version}, constants
+    constants = [it for text in texts if "VERSION" in text for it in re.findall(r'const VERSION: &(?:\'static )?str = "(?:boundsyn-show |annotate )?([0-9.]*)(?:\\n)?";', text)]
+    assert set(constants) == {version} and len(constants) == 3, constants
 
 
 def the_readme_names_the_glibc_that_is_needed(_it):

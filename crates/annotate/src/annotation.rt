@@ -1,6 +1,5 @@
 //! The annotation of one circuit for one text.
 
-ghost use Rattle.std.specs.Prelude.{◌<◌, IsTrue, length};
 ghost use Rattle.tlsf_expand.specs.FlatText.{spec_seen};
 ghost use Rattle.text_ground.specs.Ground.{given_by};
 ghost use Rattle.verify_answer.specs.Reply.{AreReady};
@@ -17,6 +16,9 @@ use text_base::push_number;
 use text_ground::Problems;
 use verify_answer::{problems_for_verify, verify_answer};
 
+/// The most inputs of a circuit whose pairs are looked for.
+const MOST_INPUTS: usize = 8;
+
 /// What comes of a text and a circuit.
 #[derive(Drop)]
 pub enum Outcome {
@@ -24,13 +26,15 @@ pub enum Outcome {
     Annotated(Vec<u8>),
     /// Lines that say why there is none.
     Told(Vec<u8>),
+    /// What `verify` replies, where that refuses the text or the circuit.
+    Refused(Reply),
 }
 
 /// Annotates a circuit for a text, or says why it can't.
 pub(crate) fn annotate(alloc: Global, text: &[u8], circuit: &[u8]) -> Result<Outcome, AllocError> {
     match problems_for_verify(alloc, text)? {
         Problems::Of(problems) => annotate_for(alloc, &problems, circuit),
-        Problems::Refused(reply) => Ok(Outcome::Told(reply.bytes)),
+        Problems::Refused(reply) => Ok(Outcome::Refused(reply)),
     }
 }
 
@@ -38,27 +42,22 @@ fn annotate_for(alloc: Global, text: &TextProblems, circuit: &[u8]) -> Result<Ou
     requires { AreReady (given_by (spec_seen text.now.spec) text.now.problems) }
 {
     let Ok(file) = read_circuit(alloc, circuit) else {
-        return Ok(Outcome::Told(verify_answer(alloc, text, circuit)?.bytes));
+        return Ok(Outcome::Refused(verify_answer(alloc, text, circuit)?));
     };
     // Without pairs only the head of the annotation is refused, where the rest of the circuit fits the text.
     let bare = with_comment(alloc, &file, circuit, b"annotation 0\nend\n")?;
     let reply = verify_answer(alloc, text, &bare)?;
     let expected = refused_at_line(alloc, file.comment_line.saturating_add(1))?;
-    if reply.bytes.as_slice() != expected.bytes.as_slice() || !is_small(&file.circuit) {
-        return Ok(Outcome::Told(reply.bytes));
+    if reply.bytes.as_slice() != expected.bytes.as_slice()
+        || file.circuit.inputs.len() > MOST_INPUTS
+    {
+        return Ok(Outcome::Refused(reply));
     }
     let automaton: &Automaton = &text.problems.system.automaton;
     let Some(graph) = reached(alloc, &file.circuit, automaton)? else {
         return told_limit(alloc);
     };
     annotate_graph(alloc, text, &file, circuit, &graph)
-}
-
-/// Whether the inputs are as many as a text may have.
-fn is_small(circuit: &Circuit) -> bool
-    ensures { IsTrue result → length circuit.now.inputs < 9 }
-{
-    circuit.inputs.len() < 9
 }
 
 /// Annotates the circuit with the pairs that it reaches.
@@ -135,7 +134,7 @@ fn annotation_text(alloc: Global, graph: &Graph, numbers: &[usize]) -> Result<Ve
 fn push_code(bytes: &mut Vec<u8>, graph: &Graph, code: usize) -> Result<(), AllocError> {
     let before = bytes.len();
     if let Some(code) = graph.codes.get_index(code) {
-        for value in code.bits() {
+        for value in code {
             bytes.push(if *value { b'1' } else { b'0' })?;
         }
     }
@@ -157,21 +156,22 @@ fn told_refusal(
     alloc: Global,
     text: &TextProblems,
     circuit: &Circuit,
-    reply: Reply,
+    mut reply: Reply,
 ) -> Result<Outcome, AllocError> {
-    let mut bytes = reply.bytes;
     let mut line = (circuit.inputs.len() as u64)
         .saturating_add(circuit.latches.len() as u64)
         .saturating_add(2);
     for name in &text.spec.outputs {
         let of_output = refused_at_line(alloc, line)?;
-        if bytes.as_slice() == of_output.bytes.as_slice() {
-            bytes.extend_from_slice(b"the circuit isn't Moore: an input leads to ")?;
-            bytes.extend_from_slice(name.bytes())?;
-            bytes.push(b'\n')?;
-            return Ok(Outcome::Told(bytes));
+        if reply.bytes.as_slice() == of_output.bytes.as_slice() {
+            reply
+                .bytes
+                .extend_from_slice(b"the circuit isn't Moore: an input leads to ")?;
+            reply.bytes.extend_from_slice(name.bytes())?;
+            reply.bytes.push(b'\n')?;
+            return Ok(Outcome::Refused(reply));
         }
         line = line.saturating_add(1);
     }
-    Ok(Outcome::Told(bytes))
+    Ok(Outcome::Refused(reply))
 }

@@ -1,26 +1,26 @@
 //! What is written, of the files that are named.
 
-use crate::faults::Fault;
+use crate::faults::{Fault, File};
 use crate::words::{Asked, MachineTask};
-use machine_page::page_of;
-use machine_play::{PlayView, against};
-use machine_smv::smv_of;
-use machine_source::{Choice, Shown, chosen_circuit, read_shown};
-use machine_table::ShowFault;
-use machine_verilog::verilog_of;
-use machine_views::{View, WordView, show};
-use outside_edge::{FileShelf, Shelf};
-use proof_files::proof_files;
-use spec_texts::{Form, SpecText, formula_lines, spec_text};
-use std::alloc::Global;
+use machine_table::{Choice, Part, ShowFault, Shown, Text, chosen_circuit, read_shown};
+use machine_views::{ModuleView, Reset, View, WordView, show};
+use outside_edge::{FileShelf, Shelf, ShelfFault};
+use shown_text::push_shown;
+use spec_texts::{Form, SpecText, TextFault, Told, proof_files, spec_text};
+use std::alloc::{AllocError, Global};
 use std::fs;
 use std::rt::Files;
+use text_lint::{Lint, lint_of};
 
 /// The bytes of a file.
 fn bytes_of<R: Files>(rt: &R, alloc: Global, name: &str) -> Result<Vec<u8>, Fault> {
     let mut bytes = Vec::new(alloc);
-    FileShelf::new(rt, alloc).take(name, u64::MAX, &mut bytes)?;
-    Ok(bytes)
+    let mut shelf = FileShelf::new(rt, alloc);
+    match shelf.take(name, u64::MAX, &mut bytes) {
+        Ok(()) => Ok(bytes),
+        Err(ShelfFault::NoMemory) => Err(Fault::NoMemory),
+        Err(_) => Err(Fault::of_unread(alloc, name, shelf.last_error())?),
+    }
 }
 
 /// What is shown of a document.
@@ -29,71 +29,125 @@ pub(crate) fn machine_answer<R: Files>(
     alloc: Global,
     task: MachineTask<'_>,
 ) -> Result<Vec<u8>, Fault> {
-    let document = bytes_of(rt, alloc, task.document)?;
-    let shown = read_shown(alloc, &document, task.choice)?;
+    let bytes = bytes_of(rt, alloc, task.document)?;
+    let document = File {
+        name: task.document,
+        bytes: &bytes,
+    };
+    if let Asked::Circuit = task.asked {
+        return told(alloc, circuit_text(alloc, &bytes, task.choice), document);
+    }
+    let shown = match read_shown(alloc, &bytes, task.choice) {
+        Ok(shown) => shown,
+        Err(fault) => return Err(Fault::of(alloc, TextFault::NotShown(fault), document)?),
+    };
+    let Some(name) = task.beside else {
+        return told(alloc, view_text(alloc, &shown, task.asked, None), document);
+    };
+    let bytes = bytes_of(rt, alloc, name)?;
+    let beside = File {
+        name,
+        bytes: &bytes,
+    };
     match task.asked {
-        Asked::Summary => view_text(alloc, &shown, View::Summary),
-        Asked::Table => view_text(alloc, &shown, View::Table),
-        Asked::Dot => view_text(alloc, &shown, View::Dot),
-        Asked::Circuit => circuit_text(alloc, &document, task.choice),
-        Asked::Vcd(name, rounds) => run_text(rt, alloc, &shown, name, rounds, true),
-        Asked::Wave(name, rounds) => run_text(rt, alloc, &shown, name, rounds, false),
-        Asked::Verilog(module) => verilog_text(alloc, &shown, module),
-        Asked::Html(None) => page_text(alloc, &shown, &[]),
-        Asked::Html(Some(name)) => page_with(rt, alloc, &shown, name),
-        Asked::Smv(None) => smv_text(alloc, &shown, None),
-        Asked::Smv(Some(name)) => smv_with(rt, alloc, &shown, name),
-        Asked::Against(name, view) => play_text(rt, alloc, &shown, name, view),
-        Asked::Proofs(prefix, name) => proofs_text(rt, alloc, &shown, prefix, name),
+        Asked::Proofs(prefix) => proofs_text(rt, alloc, &shown, prefix, document, beside),
+        asked => beside_answer(alloc, &shown, asked, document, beside),
     }
 }
 
-fn view_text(alloc: Global, shown: &Shown, view: View<'_>) -> Result<Vec<u8>, Fault> {
-    Ok(show(alloc, shown, view)?.into_bytes())
+/// What is shown of a document with another file.
+fn beside_answer(
+    alloc: Global,
+    shown: &Shown,
+    asked: Asked<'_>,
+    document: File<'_>,
+    beside: File<'_>,
+) -> Result<Vec<u8>, Fault> {
+    match view_text(alloc, shown, asked, Some(beside.bytes)) {
+        Ok(bytes) => Ok(bytes),
+        Err(fault) => {
+            let file = if is_of_other(alloc, &fault, shown) {
+                beside
+            } else {
+                document
+            };
+            Err(Fault::of(alloc, fault, file)?)
+        }
+    }
 }
 
-fn circuit_text(alloc: Global, document: &[u8], choice: Choice<'_>) -> Result<Vec<u8>, Fault> {
+fn told(alloc: Global, made: Result<Vec<u8>, TextFault>, file: File<'_>) -> Result<Vec<u8>, Fault> {
+    match made {
+        Ok(bytes) => Ok(bytes),
+        Err(fault) => Err(Fault::of(alloc, fault, file)?),
+    }
+}
+
+/// Whether a fault, behind that the document was read, is one of the file beside it.
+fn is_of_other(alloc: Global, fault: &TextFault, shown: &Shown) -> bool {
+    match fault {
+        TextFault::NotShown(ShowFault::NoMachine) => shown.machine(alloc).is_ok(),
+        TextFault::NotShown(ShowFault::TooManySignals) => shown.machine(alloc).is_ok(),
+        TextFault::NotShown(ShowFault::TooManyStates) => shown.machine(alloc).is_ok(),
+        TextFault::Refused(_) => true,
+        TextFault::NoSuchForm(_) => true,
+        TextFault::NotShown(ShowFault::OtherSignals) => true,
+        TextFault::NotShown(ShowFault::NoSuchDocument) => true,
+        TextFault::NotShown(reason) => reason.line().is_some(),
+    }
+}
+
+fn circuit_text(alloc: Global, document: &[u8], choice: Choice<'_>) -> Result<Vec<u8>, TextFault> {
     let text = chosen_circuit(document, choice)?;
     Ok(Vec::from_slice(alloc, text)?)
 }
 
-fn verilog_text(alloc: Global, shown: &Shown, module: &str) -> Result<Vec<u8>, Fault> {
-    let machine = shown.machine(alloc)?;
-    Ok(verilog_of(alloc, &machine, module)?.into_bytes())
-}
-
-fn page_text(alloc: Global, shown: &Shown, lines: &[String]) -> Result<Vec<u8>, Fault> {
-    Ok(page_of(alloc, shown, lines)?.into_bytes())
-}
-
-/// The page, with the formulas of the text of a file.
-fn page_with<R: Files>(rt: &R, alloc: Global, shown: &Shown, name: &str) -> Result<Vec<u8>, Fault> {
-    let text = bytes_of(rt, alloc, name)?;
-    page_text(alloc, shown, &formula_lines(alloc, &text)?)
-}
-
-fn smv_text(alloc: Global, shown: &Shown, text: Option<&[u8]>) -> Result<Vec<u8>, Fault> {
-    let machine = shown.machine(alloc)?;
-    Ok(smv_of(alloc, &machine, shown.side(), text)?)
-}
-
-/// The module of SMV, with the formula of the text of a file.
-fn smv_with<R: Files>(rt: &R, alloc: Global, shown: &Shown, name: &str) -> Result<Vec<u8>, Fault> {
-    let text = bytes_of(rt, alloc, name)?;
-    smv_text(alloc, shown, Some(&text))
-}
-
-/// The play against the machine of a file.
-fn play_text<R: Files>(
-    rt: &R,
+/// A view, with the bytes of the file that it is shown with.
+fn view_text(
     alloc: Global,
     shown: &Shown,
-    name: &str,
-    view: PlayView,
-) -> Result<Vec<u8>, Fault> {
-    let circuit = bytes_of(rt, alloc, name)?;
-    let other = read_shown(alloc, &circuit, Choice::First)?;
-    Ok(against(alloc, shown, &other, view)?.into_bytes())
+    asked: Asked<'_>,
+    beside: Option<&[u8]>,
+) -> Result<Vec<u8>, TextFault> {
+    let text = beside.unwrap_or(&[]);
+    match asked {
+        Asked::Json => show(alloc, shown, View::Json),
+        Asked::Table => show(alloc, shown, View::Table),
+        Asked::Dot => show(alloc, shown, View::Dot),
+        Asked::Hoa => show(alloc, shown, View::Hoa),
+        Asked::Vcd(rounds) => show(alloc, shown, View::Vcd(WordView { text, rounds })),
+        Asked::Wave(rounds) => show(alloc, shown, View::Wave(WordView { text, rounds })),
+        Asked::Smv => show(alloc, shown, View::Smv(beside)),
+        Asked::Against(play) => {
+            let other = read_shown(alloc, text, Choice::First)?;
+            show(alloc, shown, View::Play(&other, play))
+        }
+        Asked::Html => match beside {
+            None => show(alloc, shown, View::Page(None)),
+            Some(text) => show(alloc, shown, View::Page(Some(&Told::of(alloc, text)?))),
+        },
+        Asked::Verilog(name, reset) => match beside {
+            None => module_text(alloc, shown, name, reset, None),
+            Some(text) => module_text(alloc, shown, name, reset, Some(&Told::of(alloc, text)?)),
+        },
+        _ => show(alloc, shown, View::Summary),
+    }
+}
+
+/// A module of Verilog, with the title of the text that the machine is for.
+fn module_text<'a>(
+    alloc: Global,
+    shown: &Shown,
+    name: &'a str,
+    reset: Reset,
+    about: Option<&'a Told>,
+) -> Result<Vec<u8>, TextFault> {
+    let title = match about {
+        None => None,
+        Some(told) => Some(told.title.as_str()),
+    };
+    let module = ModuleView { name, reset, title };
+    show(alloc, shown, View::Verilog(module))
 }
 
 /// Writes the files of a document's logs, and gives a line with the name of each.
@@ -102,52 +156,91 @@ fn proofs_text<R: Files>(
     alloc: Global,
     shown: &Shown,
     prefix: &str,
-    name: &str,
+    document: File<'_>,
+    text: File<'_>,
 ) -> Result<Vec<u8>, Fault> {
-    let text = bytes_of(rt, alloc, name)?;
-    let Shown::Document(document) = shown else {
-        return Err(Fault::NotShown(ShowFault::NoSuchDocument));
+    let Shown::Document(read) = shown else {
+        let fault = TextFault::NotShown(ShowFault::NoSuchDocument);
+        return Err(Fault::of(alloc, fault, document)?);
+    };
+    let files = match proof_files(alloc, read, text.bytes) {
+        Ok(files) => files,
+        Err(TextFault::Refused(line)) => {
+            return Err(Fault::of(alloc, TextFault::Refused(line), text)?);
+        }
+        Err(other) => return Err(Fault::of(alloc, other, document)?),
     };
     let mut names = Vec::new(alloc);
-    for file in &proof_files(alloc, document, &text)? {
-        let ending = &file.ending;
-        let name = format!(in alloc; "{prefix}{ending}")?;
-        fs::write(rt, &name, &file.bytes).or(Err(Fault::CannotWrite))?;
-        names.extend_from_slice(name.as_bytes())?;
-        names.push(b'\n').or(Err(Fault::NoMemory))?;
+    for file in &files {
+        let name = file_name(alloc, prefix, &file.ending, &mut names)?;
+        if let Err(error) = fs::write(rt, &name, &file.bytes) {
+            return Err(Fault::of_unwritten(alloc, &name, &error)?);
+        }
     }
     Ok(names)
 }
 
+/// The name of a file, which is added as a line to the names.
+fn file_name(
+    alloc: Global,
+    prefix: &str,
+    ending: &str,
+    names: &mut Vec<u8>,
+) -> Result<String, AllocError> {
+    let name = format!(in alloc; "{prefix}{ending}")?;
+    names.extend_from_slice(name.as_bytes())?;
+    names.push(b'\n')?;
+    Ok(name)
+}
+
 /// A form of the text of a file.
-pub fn text_answer<R: Files>(
+pub(crate) fn text_answer<R: Files>(
     rt: &R,
     alloc: Global,
     name: &str,
     form: Form,
 ) -> Result<SpecText, Fault> {
-    let text = bytes_of(rt, alloc, name)?;
-    Ok(spec_text(alloc, &text, form)?)
+    let bytes = bytes_of(rt, alloc, name)?;
+    match spec_text(alloc, &bytes, form) {
+        Ok(text) => Ok(text),
+        Err(fault) => {
+            let file = File {
+                name,
+                bytes: &bytes,
+            };
+            Err(Fault::of(alloc, fault, file)?)
+        }
+    }
 }
 
-/// What the machine does on the word of a file.
-fn run_text<R: Files>(
-    rt: &R,
-    alloc: Global,
-    shown: &Shown,
-    name: &str,
-    rounds: u32,
-    is_vcd: bool,
-) -> Result<Vec<u8>, Fault> {
-    let text = bytes_of(rt, alloc, name)?;
-    let word = WordView {
-        text: &text,
-        rounds,
+/// A line for each thing that the text of a file says and that is seldom meant.
+pub(crate) fn lint_answer<R: Files>(rt: &R, alloc: Global, name: &str) -> Result<Vec<u8>, Fault> {
+    let bytes = bytes_of(rt, alloc, name)?;
+    let file = File {
+        name,
+        bytes: &bytes,
     };
-    let view = if is_vcd {
-        View::Vcd(word)
-    } else {
-        View::Wave(word)
-    };
-    view_text(alloc, shown, view)
+    told(alloc, lint_text(alloc, file), file)
+}
+
+fn lint_text(alloc: Global, file: File<'_>) -> Result<Vec<u8>, TextFault> {
+    // Of a text that is refused nothing is said but its fault.
+    let _about = Told::of(alloc, file.bytes)?;
+    let mut shown = String::new(alloc);
+    push_shown(alloc, file.name.as_bytes(), &mut shown)?;
+    let mut out = Text::new(alloc);
+    for lint in &lint_of(alloc, file.bytes)? {
+        push_lint(&mut out, &shown, lint);
+    }
+    Ok(out.finish()?)
+}
+
+/// The line of one such thing.
+fn push_lint<'a>(out: &mut Text, shown: &'a str, lint: &'a Lint) {
+    let parts = [
+        Part::Word(shown),
+        Part::Number(lint.line),
+        Part::Word(lint.text.as_str()),
+    ];
+    out.fill("{}:{}: note: {}\n", &parts);
 }

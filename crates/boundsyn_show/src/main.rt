@@ -4,58 +4,85 @@
 
 mod answers;
 mod faults;
+mod options;
 mod words;
 
-use answers::{machine_answer, text_answer};
-use faults::Fault;
+use answers::{lint_answer, machine_answer, text_answer};
+use faults::{Fault, USAGE};
+use options::{Given, WordsFault};
 use spec_texts::Form;
 use std::alloc::Global;
 use std::env;
 use std::io::{ErrorKind, Write};
 use std::process::ExitCode;
-use words::{Task, read_words};
+use words::{Task, task_of};
 
-const VERSION: &str = "boundsyn-show 0.3.0";
+const VERSION: &str = "boundsyn-show 0.3.0\n";
 
-/// Shows what the words of the command line ask for.
-fn run(rt: &HostRuntime, alloc: Global) -> Result<(), Fault> {
-    // Words that are no text are refused as no words are.
-    let words: Vec<String> = match env::args(rt) {
-        Ok(args) => args.collect(alloc)?,
-        Err(error) if error.kind() == ErrorKind::OutOfMemory => return Err(Fault::NoMemory),
-        Err(_) => Vec::new(alloc),
-    };
-    let Some(task) = read_words(alloc, &words)? else {
-        return Err(Fault::BadWords);
-    };
-    answer(rt, alloc, task)
+/// The words of the command line; words that are no text are refused as no words are.
+fn words_of(rt: &HostRuntime, alloc: Global) -> Result<Vec<String>, Fault> {
+    match env::args(rt) {
+        Ok(args) => args.collect(alloc).or(Err(Fault::NoMemory)),
+        Err(error) if error.kind() == ErrorKind::OutOfMemory => Err(Fault::NoMemory),
+        Err(_) => Ok(Vec::new(alloc)),
+    }
+}
+
+fn task<'a>(alloc: Global, words: &'a [String]) -> Result<Task<'a>, WordsFault<'a>> {
+    task_of(&Given::read(alloc, words)?)
+}
+
+/// Shows what the words ask for.
+fn run(rt: &HostRuntime, alloc: Global, words: &[String]) -> Result<(), Fault> {
+    match task(alloc, words) {
+        Ok(task) => answer(rt, alloc, task),
+        Err(WordsFault::NoMemory) => Err(Fault::NoMemory),
+        Err(WordsFault::Bad(word, why)) => Err(Fault::of_word(alloc, word, why)?),
+    }
 }
 
 fn answer(rt: &HostRuntime, alloc: Global, task: Task<'_>) -> Result<(), Fault> {
     match task {
-        Task::Version => eprintln!(rt; "{VERSION}").or(Err(Fault::CannotWrite)),
-        Task::Machine(task) => write_out(rt, &machine_answer(rt, alloc, task)?),
+        Task::Help => write_out(rt, alloc, USAGE.as_bytes()),
+        Task::Version => {
+            let _ = rt.eprint(VERSION);
+            Ok(())
+        }
+        Task::Machine(task) => write_out(rt, alloc, &machine_answer(rt, alloc, task)?),
         Task::Text(name, form) => write_text(rt, alloc, name, form),
+        Task::Lint(name) => write_out(rt, alloc, &lint_answer(rt, alloc, name)?),
     }
 }
 
 fn write_text(rt: &HostRuntime, alloc: Global, name: &str, form: Form) -> Result<(), Fault> {
     let text = text_answer(rt, alloc, name, form)?;
     if let Some(note) = text.note {
-        let _ = eprintln!(rt; "boundsyn-show: {note}");
+        let _ = eprintln!(rt; "boundsyn-show: note: {note}");
     }
-    write_out(rt, &text.bytes)
+    write_out(rt, alloc, &text.bytes)
 }
 
-fn write_out(rt: &HostRuntime, bytes: &[u8]) -> Result<(), Fault> {
-    rt.stdout().write_all(bytes).or(Err(Fault::CannotWrite))
+fn write_out(rt: &HostRuntime, alloc: Global, bytes: &[u8]) -> Result<(), Fault> {
+    match rt.stdout().write_all(bytes) {
+        Ok(()) => Ok(()),
+        Err(error) => Err(Fault::of_output(alloc, &error)),
+    }
 }
 
 fn main(rt: HostRuntime) -> ExitCode {
     let alloc = rt.alloc();
-    let Err(fault) = run(&rt, alloc) else {
-        return ExitCode::SUCCESS;
+    let words = match words_of(&rt, alloc) {
+        Ok(words) => words,
+        Err(fault) => return end(&rt, &fault),
     };
-    let _ = fault.report(&rt);
-    ExitCode::from(fault.status())
+    match run(&rt, alloc, &words) {
+        Ok(()) => ExitCode::SUCCESS,
+        Err(fault) => end(&rt, &fault),
+    }
+}
+
+/// Says why nothing is shown, and gives the status.
+fn end(rt: &HostRuntime, fault: &Fault) -> ExitCode {
+    let _ = fault.report(rt);
+    ExitCode::from(fault.status().number())
 }

@@ -1,19 +1,20 @@
-//! The words of the command line, as `clap` takes them.
+//! The words of the command line.
 
-use clap::error::ErrorKind;
-use clap::{Arg, ArgAction, ArgMatches, Command};
-use machine_play::PlayView;
-use machine_source::Choice;
+use crate::options::{Given, WordsFault};
+use machine_table::Choice;
+use machine_views::{PlayView, Reset};
 use spec_texts::Form;
-use std::alloc::{AllocError, Global};
 
 /// What the words ask for.
 #[derive(Clone, Copy)]
 pub enum Task<'a> {
+    Help,
     Version,
     Machine(MachineTask<'a>),
     /// A form of the text of a file.
     Text(&'a str, Form),
+    /// What the text of a file says that is seldom meant.
+    Lint(&'a str),
 }
 
 /// What is shown of which document, by the names of files.
@@ -22,40 +23,31 @@ pub struct MachineTask<'a> {
     pub document: &'a str,
     pub choice: Choice<'a>,
     pub asked: Asked<'a>,
+    /// The file that it is shown with: a word, a text or the circuit of another machine.
+    pub beside: Option<&'a str>,
 }
 
-/// What is shown of a document, by the names of files.
+/// What is shown of a document.
 #[derive(Clone, Copy)]
 pub enum Asked<'a> {
     Summary,
+    Json,
     Table,
     Dot,
+    Hoa,
     Circuit,
-    /// What the machine does on the word of a file, with so many rounds of its ring.
-    Vcd(&'a str, u32),
-    Wave(&'a str, u32),
+    /// What the machine does on a word, with so many rounds of its ring.
+    Vcd(u32),
+    Wave(u32),
     /// A module of that name.
-    Verilog(&'a str),
-    /// A page, with the formulas of the text of a file.
-    Html(Option<&'a str>),
-    /// A module of SMV, with the formula of the text of a file.
-    Smv(Option<&'a str>),
-    /// A play against the machine of a file.
-    Against(&'a str, PlayView),
-    /// The logs in files whose names begin so, over the text of a file.
-    Proofs(&'a str, &'a str),
+    Verilog(&'a str, Reset),
+    Html,
+    Smv,
+    /// A play against another machine.
+    Against(PlayView),
+    /// The logs in files whose names begin so.
+    Proofs(&'a str),
 }
-
-/// The words that say what is shown, and behind which nothing stands.
-const VIEW_FLAGS: [&str; 11] = [
-    "version", "table", "dot", "circuit", "verilog", "html", "smv", "ltl", "tlsf", "apart", "dual",
-];
-
-/// The same, where the name of a file stands behind them; so does one behind `vcd` where no play is asked for.
-const VIEW_OPTIONS: [&str; 3] = ["wave", "against", "proofs"];
-
-/// What a view may be told, where a value stands behind it.
-const MORE_OPTIONS: [&str; 5] = ["text", "without", "rounds", "module", "spec"];
 
 const DEFAULT_ROUNDS: u32 = 2;
 
@@ -63,217 +55,52 @@ const MOST_ROUNDS: u32 = 100;
 
 const DEFAULT_MODULE: &str = "machine";
 
-/// What the words ask for, or None where they are no words of the program; the first of them is the program's name.
-pub fn read_words(alloc: Global, words: &[String]) -> Result<Option<Task<'_>>, AllocError> {
-    // Of a play `--vcd` says how it is shown, and else of which word.
-    let is_play = words.iter().any(|word| word.as_str() == "--against");
-    let program = command_line(alloc, is_play)?;
-    match program.try_get_matches_from(words) {
-        Ok(matches) => Ok(Given {
-            matches: &matches,
-            is_play,
+fn bad<'a, T>(word: &'a str, why: &'static str) -> Result<T, WordsFault<'a>> {
+    Err(WordsFault::Bad(word, why))
+}
+
+/// The task that these words ask for.
+pub(crate) fn task_of<'a>(given: &Given<'a>) -> Result<Task<'a>, WordsFault<'a>> {
+    let view = given.view()?;
+    given.check_beside(view)?;
+    match (view, given.document, form_of(view)) {
+        ("help", None, _) => Ok(Task::Help),
+        ("version", None, _) => Ok(Task::Version),
+        ("lint", None, _) => Ok(Task::Lint(text_name(given)?)),
+        (_, None, Some(form)) => Ok(Task::Text(text_name(given)?, form)),
+        (_, None, None) => bad("DOC", "is wanted: the name of a document or of a circuit"),
+        (_, Some(document), None) if takes_document(view) => {
+            Ok(Task::Machine(machine_task(given, view, document)?))
         }
-        .task()),
-        Err(error) => match error.kind() {
-            ErrorKind::OutOfMemory => Err(AllocError),
-            _ => Ok(None),
+        (_, Some(document), _) => bad(document, "stands beside a word that takes no document"),
+    }
+}
+
+fn takes_document(view: &str) -> bool {
+    view != "help" && view != "version" && view != "lint"
+}
+
+fn text_name<'a>(given: &Given<'a>) -> Result<&'a str, WordsFault<'a>> {
+    match given.value("spec") {
+        Some(name) => Ok(name),
+        None => bad("--spec", "is wanted, with the name of a text"),
+    }
+}
+
+fn machine_task<'a>(
+    given: &Given<'a>,
+    view: &str,
+    document: &'a str,
+) -> Result<MachineTask<'a>, WordsFault<'a>> {
+    Ok(MachineTask {
+        document,
+        choice: choice_of(given)?,
+        asked: asked_by(given, view)?,
+        beside: match view {
+            "vcd" | "wave" | "against" => given.value(view),
+            _ => given.value("spec"),
         },
-    }
-}
-
-fn command_line<'a>(alloc: Global, is_play: bool) -> Result<Command<'a>, AllocError> {
-    let program = Command::new(alloc, "boundsyn-show")
-        .disable_help_flag(true)
-        .arg(Arg::new(alloc, "document"))?;
-    let program = with_forms(alloc, with_choices(alloc, with_flags(alloc, program)?)?)?;
-    with_options(alloc, program, is_play)
-}
-
-fn with_forms<'a>(alloc: Global, program: Command<'a>) -> Result<Command<'a>, AllocError> {
-    program
-        .arg(flag(alloc, "ltl"))?
-        .arg(flag(alloc, "tlsf"))?
-        .arg(flag(alloc, "apart"))?
-        .arg(flag(alloc, "dual"))?
-        .arg(option(alloc, "spec"))
-}
-
-fn with_flags<'a>(alloc: Global, program: Command<'a>) -> Result<Command<'a>, AllocError> {
-    program
-        .arg(flag(alloc, "version"))?
-        .arg(flag(alloc, "table"))?
-        .arg(flag(alloc, "dot"))?
-        .arg(flag(alloc, "circuit"))?
-        .arg(flag(alloc, "verilog"))?
-        .arg(flag(alloc, "html"))?
-        .arg(flag(alloc, "smv"))
-}
-
-fn with_choices<'a>(alloc: Global, program: Command<'a>) -> Result<Command<'a>, AllocError> {
-    program
-        .arg(option(alloc, "text"))?
-        .arg(flag(alloc, "core"))?
-        .arg(option(alloc, "without"))?
-        .arg(flag(alloc, "word"))
-}
-
-fn with_options<'a>(
-    alloc: Global,
-    program: Command<'a>,
-    is_play: bool,
-) -> Result<Command<'a>, AllocError> {
-    let vcd = if is_play {
-        flag(alloc, "vcd")
-    } else {
-        option(alloc, "vcd")
-    };
-    program
-        .arg(vcd)?
-        .arg(option(alloc, "wave"))?
-        .arg(option(alloc, "against"))?
-        .arg(option(alloc, "proofs"))?
-        .arg(option(alloc, "rounds"))?
-        .arg(option(alloc, "module"))
-}
-
-fn flag<'a>(alloc: Global, name: &'a str) -> Arg<'a> {
-    Arg::new(alloc, name).long(name).action(ArgAction::SetTrue)
-}
-
-fn option<'a>(alloc: Global, name: &'a str) -> Arg<'a> {
-    Arg::new(alloc, name).long(name)
-}
-
-/// The words that are given, and whether they ask for a play.
-#[derive(Clone, Copy)]
-struct Given<'m, 'a> {
-    matches: &'m ArgMatches<'a>,
-    is_play: bool,
-}
-
-impl<'m, 'a> Given<'m, 'a> {
-    fn value(self, name: &str) -> Option<&'a str> {
-        self.matches.get_str(name)
-    }
-
-    fn flag(self, name: &str) -> bool {
-        self.matches.get_flag(name)
-    }
-
-    fn task(self) -> Option<Task<'a>> {
-        let view = self.view()?;
-        if !self.has_only_words_for(view) {
-            return None;
-        }
-        match self.value("document") {
-            Some(document) => Some(Task::Machine(MachineTask {
-                document,
-                choice: self.choice()?,
-                asked: self.asked(view)?,
-            })),
-            None if view == "version" => Some(Task::Version),
-            None => Some(Task::Text(self.value("spec")?, form_of(view)?)),
-        }
-    }
-
-    /// The one word that says what is shown, or `summary` where there is none.
-    fn view(self) -> Option<&'static str> {
-        let flags = VIEW_FLAGS.iter().filter(|name| self.flag(**name)).count();
-        let options = VIEW_OPTIONS
-            .iter()
-            .filter(|name| self.value(**name).is_some())
-            .count();
-        match (flags, options) {
-            (0, 0) if !self.is_play && self.value("vcd").is_some() => Some("vcd"),
-            (0, 0) => Some("summary"),
-            (1, 0) => VIEW_FLAGS.iter().find(|name| self.flag(**name)).copied(),
-            (0, 1) => VIEW_OPTIONS
-                .iter()
-                .find(|name| self.value(**name).is_some())
-                .copied(),
-            _ => None,
-        }
-    }
-
-    fn has_only_words_for(self, view: &str) -> bool {
-        let has_options = MORE_OPTIONS.iter().all(|name| self.value(*name).is_none()
-            || may_be_told(view, *name));
-        let has_word = !self.is_play && self.value("vcd").is_some();
-        has_options
-            && (!self.flag("core") || may_be_told(view, "core"))
-            && (!self.flag("word") || may_be_told(view, "word"))
-            && (!has_word || view == "vcd")
-    }
-
-    fn choice(self) -> Option<Choice<'a>> {
-        match (self.value("text"), self.flag("core"), self.value("without")) {
-            (None, false, None) => Some(Choice::First),
-            (Some(name), false, None) => Some(Choice::Text(name.as_bytes())),
-            (None, true, None) => Some(Choice::Core),
-            (None, false, Some(number)) => Some(Choice::Without(number.parse::<u64>().ok()?)),
-            _ => None,
-        }
-    }
-
-    fn asked(self, view: &str) -> Option<Asked<'a>> {
-        match view {
-            "summary" => Some(Asked::Summary),
-            "table" => Some(Asked::Table),
-            "dot" => Some(Asked::Dot),
-            "circuit" => Some(Asked::Circuit),
-            "vcd" => Some(Asked::Vcd(self.value("vcd")?, self.rounds()?)),
-            "wave" => Some(Asked::Wave(self.value("wave")?, self.rounds()?)),
-            "verilog" => Some(Asked::Verilog(self.module()?)),
-            "html" => Some(Asked::Html(self.value("spec"))),
-            "smv" => Some(Asked::Smv(self.value("spec"))),
-            "against" => Some(Asked::Against(self.value("against")?, self.play_view()?)),
-            "proofs" => Some(Asked::Proofs(self.value("proofs")?, self.value("spec")?)),
-            _ => None,
-        }
-    }
-
-    fn play_view(self) -> Option<PlayView> {
-        match (self.flag("vcd"), self.flag("word")) {
-            (false, false) => Some(PlayView::Wave(self.rounds()?)),
-            (true, false) => Some(PlayView::Vcd(self.rounds()?)),
-            (false, true) if self.value("rounds").is_none() => Some(PlayView::Word),
-            _ => None,
-        }
-    }
-
-    fn rounds(self) -> Option<u32> {
-        let Some(text) = self.value("rounds") else {
-            return Some(DEFAULT_ROUNDS);
-        };
-        let rounds = text.parse::<u32>().ok()?;
-        if 1 <= rounds && rounds <= MOST_ROUNDS {
-            Some(rounds)
-        } else {
-            None
-        }
-    }
-
-    fn module(self) -> Option<&'a str> {
-        let Some(name) = self.value("module") else {
-            return Some(DEFAULT_MODULE);
-        };
-        if !name.is_empty() && name.bytes().all(|byte| byte.is_ascii_graphic()) {
-            Some(name)
-        } else {
-            None
-        }
-    }
-}
-
-/// Whether a view may be told that.
-fn may_be_told(view: &str, name: &str) -> bool {
-    match name {
-        "rounds" => view == "vcd" || view == "wave" || view == "against",
-        "module" => view == "verilog",
-        "word" => view == "against",
-        "spec" => view == "html" || view == "smv" || view == "proofs" || form_of(view).is_some(),
-        _ => view != "version" && form_of(view).is_none(),
-    }
+    })
 }
 
 /// The form of a text that a view is.
@@ -284,5 +111,89 @@ fn form_of(view: &str) -> Option<Form> {
         "apart" => Some(Form::Apart),
         "dual" => Some(Form::Dual),
         _ => None,
+    }
+}
+
+fn choice_of<'a>(given: &Given<'a>) -> Result<Choice<'a>, WordsFault<'a>> {
+    match (
+        given.value("text"),
+        given.has("core"),
+        given.value("without"),
+    ) {
+        (None, false, None) => Ok(Choice::First),
+        (Some(name), false, None) => Ok(Choice::Text(name.as_bytes())),
+        (None, true, None) => Ok(Choice::Core),
+        (None, false, Some(number)) => match number.parse::<u64>() {
+            Ok(number) => Ok(Choice::Without(number)),
+            Err(_) => bad(number, "isn't the number of a guarantee"),
+        },
+        _ => bad(
+            "--text, --core, --without",
+            "choose a document: give one of them",
+        ),
+    }
+}
+
+fn asked_by<'a>(given: &Given<'a>, view: &str) -> Result<Asked<'a>, WordsFault<'a>> {
+    match view {
+        "json" => Ok(Asked::Json),
+        "table" => Ok(Asked::Table),
+        "dot" => Ok(Asked::Dot),
+        "hoa" => Ok(Asked::Hoa),
+        "circuit" => Ok(Asked::Circuit),
+        "html" => Ok(Asked::Html),
+        "smv" => Ok(Asked::Smv),
+        "vcd" => Ok(Asked::Vcd(rounds_of(given)?)),
+        "wave" => Ok(Asked::Wave(rounds_of(given)?)),
+        "verilog" => Ok(Asked::Verilog(module_of(given)?, reset_of(given)?)),
+        "against" => Ok(Asked::Against(play_of(given)?)),
+        "proofs" => match (given.value("proofs"), given.has("spec")) {
+            (Some(prefix), true) => Ok(Asked::Proofs(prefix)),
+            _ => bad("--spec", "is wanted, with the name of a text"),
+        },
+        _ => Ok(Asked::Summary),
+    }
+}
+
+fn play_of<'a>(given: &Given<'a>) -> Result<PlayView, WordsFault<'a>> {
+    match (given.has("vcd"), given.has("word")) {
+        (false, false) => Ok(PlayView::Wave(rounds_of(given)?)),
+        (true, false) => Ok(PlayView::Vcd(rounds_of(given)?)),
+        (false, true) if !given.has("rounds") => Ok(PlayView::Word),
+        (false, true) => bad("--rounds", "says nothing of a word"),
+        (true, true) => bad("--word", "can't stand beside --vcd"),
+    }
+}
+
+fn rounds_of<'a>(given: &Given<'a>) -> Result<u32, WordsFault<'a>> {
+    let Some(text) = given.value("rounds") else {
+        return Ok(DEFAULT_ROUNDS);
+    };
+    match text.parse::<u32>() {
+        Ok(rounds) if 1 <= rounds && rounds <= MOST_ROUNDS => Ok(rounds),
+        _ => bad(text, "isn't a number of rounds from 1 to 100"),
+    }
+}
+
+fn module_of<'a>(given: &Given<'a>) -> Result<&'a str, WordsFault<'a>> {
+    let Some(name) = given.value("module") else {
+        return Ok(DEFAULT_MODULE);
+    };
+    let is_graphic = name
+        .bytes()
+        .all(|byte| byte.is_ascii_graphic() && byte != b'`');
+    if name.is_empty() || !is_graphic {
+        return bad(name, "isn't the name of a module");
+    }
+    Ok(name)
+}
+
+fn reset_of<'a>(given: &Given<'a>) -> Result<Reset, WordsFault<'a>> {
+    match given.value("reset") {
+        None => Ok(Reset::Synchronous),
+        Some("sync") => Ok(Reset::Synchronous),
+        Some("async") => Ok(Reset::Asynchronous),
+        Some("none") => Ok(Reset::Initial),
+        Some(other) => bad(other, "isn't a reset: none, sync or async"),
     }
 }

@@ -1,15 +1,13 @@
 //! Input letters with the same answer, as few cubes.
 
-use crate::machines::{Answer, Row};
-use crate::signals::push_label;
+use crate::machines::Answer;
+use circuit_steps::{has, letters_with, signal_bit};
 use letter_word::Letter;
 use std::alloc::{AllocError, Global};
-use text_base::Name;
-
-/// A letter has at most 8 inputs, so there are so many letters at most.
-const MOST_INPUTS: u32 = 8;
 
 const MOST_LETTERS: u32 = 256;
+
+const LETTERS_OF_WORD: u32 = 64;
 
 /// The letters that have the signals of `wanted`, and no others of the signals of `cared`.
 #[derive(Clone, Copy)]
@@ -27,15 +25,11 @@ pub struct Edge {
 
 impl Cube {
     /// The cube of one letter.
-    fn of_letter(letter: Letter) -> Cube {
+    fn of_letter(letter: u32) -> Cube {
         Cube {
-            wanted: letter,
-            cared: Letter(u32::MAX),
+            wanted: Letter(letter),
+            cared: Letter(MOST_LETTERS.saturating_sub(1)),
         }
-    }
-
-    fn fits(self, letter: Letter) -> bool {
-        letter.0 & self.cared.0 == self.wanted.0 & self.cared.0
     }
 
     /// This cube and the one that differs from it in that signal.
@@ -55,76 +49,110 @@ impl Cube {
         }
     }
 
-    /// Appends the signals that the cube asks for, as `a & !b`, or `-` for none.
-    pub fn push_to(self, names: &[Name], out: &mut String) -> Result<(), AllocError> {
-        let mut is_first = true;
-        for (signal, name) in (0u32..32).zip(names) {
-            let Some(is_wanted) = self.asks(signal) else {
-                continue;
-            };
-            if !is_first {
-                out.push_str(" & ")?;
+    /// Its letters of a block of 64.
+    fn word(self, block: u32) -> u64 {
+        let mut word = u64::MAX;
+        for signal in 0u32..8 {
+            match self.asks(signal) {
+                Some(true) => word &= letters_with(signal, block),
+                Some(false) => word &= !letters_with(signal, block),
+                None => {}
             }
-            if !is_wanted {
-                out.push('!')?;
-            }
-            push_label(name, out)?;
-            is_first = false;
         }
-        if is_first {
-            out.push('-')?;
-        }
-        Ok(())
+        word
     }
 }
 
-/// The letter of one signal, as a number; 0 where there are no such letters.
-pub fn signal_bit(signal: u32) -> u32 {
-    if signal < 32 { 1 << signal } else { 0 }
+/// A set of letters, a word for each block of 64.
+#[derive(Drop)]
+struct LetterSet {
+    words: Vec<u64>,
+}
+
+impl LetterSet {
+    /// The letters with that answer.
+    fn of(alloc: Global, answers: &[Answer], answer: Answer) -> Result<LetterSet, AllocError> {
+        let mut words = Vec::new(alloc);
+        for block in answers.chunks(LETTERS_OF_WORD as usize) {
+            let mut word = 0u64;
+            for (letter, own) in (0u32..LETTERS_OF_WORD).zip(block) {
+                if own.is(answer) {
+                    word |= letter_bit(letter);
+                }
+            }
+            words.push(word)?;
+        }
+        Ok(LetterSet { words })
+    }
+
+    fn has(&self, letter: u32) -> bool {
+        let place = (letter / LETTERS_OF_WORD) as usize;
+        let word = self.words.get(place).copied().unwrap_or(0);
+        has(word, letter % LETTERS_OF_WORD)
+    }
+
+    fn has_all(&self, cube: Cube) -> bool {
+        (0u32..4)
+            .zip(&self.words)
+            .all(|(block, word)| cube.word(block) & !*word == 0)
+    }
+
+    fn take_away(&mut self, cube: Cube) {
+        for (block, word) in (0u32..4).zip(&mut self.words) {
+            *word &= !cube.word(block);
+        }
+    }
+
+    /// The cube of a letter, merged with its neighbour in one input after the other where that is in the set too.
+    fn widest_cube(&self, inputs: u32, letter: u32) -> Cube {
+        let mut cube = Cube::of_letter(letter);
+        for signal in 0..inputs {
+            let wider = cube.without(signal);
+            if self.has_all(wider) {
+                cube = wider;
+            }
+        }
+        cube
+    }
+}
+
+/// The set of one letter of a block.
+fn letter_bit(letter: u32) -> u64 {
+    if letter < 64 { 1 << letter } else { 0 }
 }
 
 /// Cubes for all letters of a state, those with the same answer together. They are few, not the fewest, and those with the same
 /// answer may overlap.
-pub fn edges_of(alloc: Global, row: &Row) -> Result<Vec<Edge>, AllocError> {
-    let mut edges = Vec::new(alloc);
-    for answer in &row.answers {
-        if !has_answer(&edges, *answer) {
-            push_cubes(row, *answer, &mut edges)?;
+pub(crate) fn edges_of(
+    alloc: Global,
+    inputs: u32,
+    answers: &[Answer],
+) -> Result<Vec<Edge>, AllocError> {
+    let mut edges: Vec<Edge> = Vec::new(alloc);
+    for answer in answers {
+        if !edges.iter().any(|edge| edge.answer.is(*answer)) {
+            push_cubes(alloc, inputs, answers, *answer, &mut edges)?;
         }
     }
     Ok(edges)
 }
 
-fn has_answer(edges: &[Edge], answer: Answer) -> bool {
-    edges.iter().any(|edge| edge.answer.is(answer))
-}
-
 /// Cubes for the letters with that answer.
-fn push_cubes(row: &Row, answer: Answer, edges: &mut Vec<Edge>) -> Result<(), AllocError> {
-    for (number, own) in (0..MOST_LETTERS).zip(&row.answers) {
-        let letter = Letter(number);
-        if own.is(answer) && !edges.iter().any(|edge| edge.cube.fits(letter)) {
-            let cube = widest_cube(row, letter, answer);
+fn push_cubes(
+    alloc: Global,
+    inputs: u32,
+    answers: &[Answer],
+    answer: Answer,
+    edges: &mut Vec<Edge>,
+) -> Result<(), AllocError> {
+    let same = LetterSet::of(alloc, answers, answer)?;
+    let mut left = LetterSet::of(alloc, answers, answer)?;
+    for letter in 0..MOST_LETTERS {
+        if left.has(letter) {
+            let cube = same.widest_cube(inputs, letter);
+            left.take_away(cube);
             edges.push(Edge { cube, answer })?;
         }
     }
     Ok(())
-}
-
-/// The cube of a letter, merged with its neighbour in one signal after the other where that has the same answer. A signal that
-/// is no input has no letters, and so it is merged too.
-fn widest_cube(row: &Row, letter: Letter, answer: Answer) -> Cube {
-    let mut cube = Cube::of_letter(letter);
-    for signal in 0..MOST_INPUTS {
-        let wider = cube.without(signal);
-        if has_one_answer(row, wider, answer) {
-            cube = wider;
-        }
-    }
-    cube
-}
-
-fn has_one_answer(row: &Row, cube: Cube, answer: Answer) -> bool {
-    (0..MOST_LETTERS).zip(&row.answers).all(|(number, own)| own.is(answer)
-        || !cube.fits(Letter(number)))
 }

@@ -1,35 +1,29 @@
 use std::alloc::{AllocError, AllocFailed};
-use thiserror::Error;
+
+const BAD_WORD: &str =
+    "a word is `stem`, letters, `ring` and at least one letter, a line each; a letter is the names of the machine's inputs that are true, with one blank between them, or `-`";
 
 /// Why something isn't shown.
-#[derive(Clone, Copy, Debug, PartialEq, Eq, Error)]
+#[derive(Clone, Copy)]
 pub enum ShowFault {
     /// The first line of the document that is refused, from 1.
-    #[error("line {0} of the document isn't what a document has there")]
     BadDocument(u64),
-    /// The line of the circuit that is refused, from 1.
-    #[error("line {0} of the circuit is refused")]
-    BadCircuit(u64),
+    /// The line of the circuit that is refused, from 1, and why.
+    BadCircuit(u64, &'static str),
     /// The first line of the word that is refused, from 1.
-    #[error("line {0} of the word isn't what a word of input letters has there")]
     BadWord(u64),
-    #[error("there is no such document in the file")]
+    /// The line of the log that is over other base clauses than the text's.
+    OtherText(u64),
     NoSuchDocument,
-    #[error("the document has no machine")]
     NoMachine,
-    #[error("the machine has more than 8 inputs or more than 8 outputs")]
     TooManySignals,
-    #[error("the machine has more than 256 states")]
     TooManyStates,
-    #[error("two signals of the machine have the same name")]
+    TooLong,
     SameNames,
-    #[error("the machines don't read and write each other's signals")]
+    OtherSignals,
     NoPartners,
-    #[error("the page would have more than 100000 bytes")]
     PageTooLong,
-    #[error("neither machine writes its outputs by its state alone")]
     NoMoore,
-    #[error("out of memory")]
     NoMemory,
 }
 
@@ -37,9 +31,33 @@ impl ShowFault {
     /// The line that is refused, where it is one.
     pub fn line(self) -> Option<u64> {
         match self {
-            ShowFault::BadDocument(line) | ShowFault::BadCircuit(line) | ShowFault::BadWord(line) =>
-                { Some(line) }
+            ShowFault::BadDocument(line) => Some(line),
+            ShowFault::BadCircuit(line, _) => Some(line),
+            ShowFault::BadWord(line) => Some(line),
+            ShowFault::OtherText(line) => Some(line),
             _ => None,
+        }
+    }
+
+    /// A sentence on it, without the line.
+    pub fn sentence(self) -> &'static str {
+        match self {
+            ShowFault::BadDocument(_) => "no document has this line here",
+            ShowFault::BadCircuit(_, why) => why,
+            ShowFault::BadWord(_) => BAD_WORD,
+            ShowFault::OtherText(_) => "this log isn't over base clauses of the text",
+            ShowFault::NoSuchDocument => "there is no such document in the file",
+            ShowFault::NoMachine => "the document has no machine",
+            ShowFault::TooManySignals =>
+                "the machine has more than 8 inputs or more than 8 outputs",
+            ShowFault::TooManyStates => "the machine has more than 256 states",
+            ShowFault::TooLong => "the output would have more than 64 MB",
+            ShowFault::SameNames => "two signals of the machine have the same name",
+            ShowFault::OtherSignals => "the signals of the text aren't those of the machine",
+            ShowFault::NoPartners => "the machines don't read and write each other's signals",
+            ShowFault::PageTooLong => "the page would have more than 100000 bytes",
+            ShowFault::NoMoore => "neither machine writes its outputs by its state alone",
+            ShowFault::NoMemory => "out of memory",
         }
     }
 }

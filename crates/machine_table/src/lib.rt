@@ -1,17 +1,27 @@
-//! A circuit as a table: the states that are reached, and what is answered in each to each letter of the inputs.
+//! A document, a document within what `core` or `batch` wrote, or a circuit alone; and its machine as a table: the states that are
+//! reached, and what is answered in each to each letter of the inputs.
 //!
-//! `Machine::of_circuit` explores a circuit, `edges_of` writes the letters with one answer as few cubes, and signals, letters and cubes
-//! have their printable text here. It promises safety alone. Stands on aiger_text for the steps of circuits.
+//! `read_shown` reads, `Machine::of_circuit` explores a circuit by its steps, and writes the letters with one answer as few cubes. `Text` is what
+//! views write into. It promises safety alone. Stands on cert_text for documents and on aiger_text for circuits.
 #![tactic(auto)]
 
-mod circuit_steps;
+mod choices;
 mod cubes;
-mod exploring;
 mod faults;
+mod lines;
 mod machines;
+mod outputs;
+mod shown;
 mod signals;
+mod texts;
 
-pub use cubes::{Cube, Edge, edges_of, signal_bit};
+pub use choices::Choice;
+pub use cubes::{Cube, Edge};
 pub use faults::ShowFault;
-pub use machines::{Answer, Machine, Row};
-pub use signals::{label_of, labels_of, push_label, push_labels, push_letter};
+pub use machines::{Answer, Machine, Row, Signals};
+pub use shown::{Shown, chosen_circuit, read_shown};
+pub use signals::{
+    escaped, escaped_text, has_twice, labels_of, put_cube, put_digits, put_letter, put_levels,
+    put_words,
+};
+pub use texts::{Part, Text};

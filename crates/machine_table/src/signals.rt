@@ -1,5 +1,7 @@
-//! The names of a machine's signals, and letters of them as text.
+//! The names of a machine's signals as printable text, and letters and cubes of them.
 
+use crate::cubes::Cube;
+use crate::texts::Text;
 use letter_word::Letter;
 use std::alloc::{AllocError, Global};
 use std::fmt::Write;
@@ -11,7 +13,7 @@ pub(crate) fn names_of(
     sort: char,
     names: &[Option<Name>],
 ) -> Result<Vec<Name>, AllocError> {
-    let mut found = Vec::with_capacity(alloc, names.len())?;
+    let mut found = Vec::new(alloc);
     for (place, name) in names.iter().enumerate() {
         let name = match name {
             Some(name) => name.clone()?,
@@ -20,25 +22,6 @@ pub(crate) fn names_of(
         found.push(name)?;
     }
     Ok(found)
-}
-
-/// Appends a name as printable text: a byte that isn't a graphic character of ASCII stands as `%` and two digits.
-pub fn push_label(name: &Name, out: &mut String) -> Result<(), AllocError> {
-    for byte in name.bytes() {
-        if byte.is_ascii_graphic() {
-            out.push(char::from(*byte))?;
-        } else {
-            write!(out, "%{byte:02x}")?;
-        }
-    }
-    Ok(())
-}
-
-/// A name as printable text.
-pub fn label_of(alloc: Global, name: &Name) -> Result<String, AllocError> {
-    let mut label = String::new(alloc);
-    push_label(name, &mut label)?;
-    Ok(label)
 }
 
 /// The names as printable text.
@@ -50,35 +33,122 @@ pub fn labels_of(alloc: Global, names: &[Name]) -> Result<Vec<String>, AllocErro
     Ok(labels)
 }
 
-/// Appends all the names with a blank between them, or `-`.
-pub fn push_labels(names: &[Name], out: &mut String) -> Result<(), AllocError> {
-    if names.is_empty() {
-        return out.push('-');
-    }
-    for (place, name) in names.iter().enumerate() {
-        if place > 0 {
-            out.push(' ')?;
+/// A name as printable text: a byte that isn't a graphic character of ASCII stands as `%` and two digits.
+fn label_of(alloc: Global, name: &Name) -> Result<String, AllocError> {
+    let mut label = String::new(alloc);
+    for byte in name.bytes() {
+        if byte.is_ascii_graphic() {
+            label.push(char::from(*byte))?;
+        } else {
+            write!(label, "%{byte:02x}")?;
         }
-        push_label(name, out)?;
     }
-    Ok(())
+    Ok(label)
 }
 
-/// Appends the names of a letter's signals with a blank between them, or `-`, as a line of a word has them.
-pub fn push_letter(letter: Letter, names: &[Name], out: &mut String) -> Result<(), AllocError> {
+/// Puts the words with another between two of them, or that last one where there are none.
+pub fn put_words(words: &[String], joint: &str, none: &str, out: &mut Text) {
+    for (place, word) in words.iter().enumerate() {
+        if place > 0 {
+            out.put(joint);
+        }
+        out.put(word);
+    }
+    if words.is_empty() {
+        out.put(none);
+    }
+}
+
+/// Puts the names of a letter's signals with a blank between them, or `-`, as a line of a word has them.
+pub fn put_letter(letter: Letter, labels: &[String], out: &mut Text) {
     let mut is_first = true;
-    for (signal, name) in (0u32..32).zip(names) {
-        if !letter.has(signal) {
+    for (signal, label) in (0u32..32).zip(labels) {
+        if letter.has(signal) {
+            if !is_first {
+                out.put(" ");
+            }
+            out.put(label);
+            is_first = false;
+        }
+    }
+    if is_first {
+        out.put("-");
+    }
+}
+
+/// Puts the signals that a cube asks for, with `and` between them and `!` before one that is to be false, or `none`.
+pub fn put_cube(cube: Cube, labels: &[String], and: &str, none: &str, out: &mut Text) {
+    let mut is_first = true;
+    for (signal, label) in (0u32..32).zip(labels) {
+        let Some(is_wanted) = cube.asks(signal) else {
             continue;
-        }
+        };
         if !is_first {
-            out.push(' ')?;
+            out.put(and);
         }
-        push_label(name, out)?;
+        if !is_wanted {
+            out.put("!");
+        }
+        out.put(label);
         is_first = false;
     }
     if is_first {
-        out.push('-')?;
+        out.put(none);
     }
-    Ok(())
+}
+
+/// Puts a digit for each signal, by what a cube asks of it, or `-`.
+pub fn put_digits(cube: Cube, labels: &[String], out: &mut Text) {
+    for (signal, _label) in (0u32..32).zip(labels) {
+        out.put(match cube.asks(signal) {
+            Some(true) => "1",
+            Some(false) => "0",
+            None => "-",
+        });
+    }
+}
+
+/// Puts a digit for each signal, by whether a letter has it.
+pub fn put_levels(letter: Letter, labels: &[String], out: &mut Text) {
+    for (signal, _label) in (0u32..32).zip(labels) {
+        out.put(if letter.has(signal) { "1" } else { "0" });
+    }
+}
+
+/// The labels with each of these characters replaced.
+pub fn escaped(
+    alloc: Global,
+    labels: &[String],
+    signs: &[(char, &str)],
+) -> Result<Vec<String>, AllocError> {
+    let mut found = Vec::new(alloc);
+    for label in labels {
+        found.push(escaped_text(alloc, label, signs)?)?;
+    }
+    Ok(found)
+}
+
+/// A text with each of these characters replaced.
+pub fn escaped_text(
+    alloc: Global,
+    text: &str,
+    signs: &[(char, &str)],
+) -> Result<String, AllocError> {
+    let mut found = String::new(alloc);
+    for character in text.chars() {
+        match signs.iter().find(|sign| sign.0 == character) {
+            Some(sign) => found.push_str(sign.1)?,
+            None => found.push(character)?,
+        }
+    }
+    Ok(found)
+}
+
+/// Whether two of the labels, taken together, are the same.
+pub fn has_twice(inputs: &[String], outputs: &[String]) -> bool {
+    let mut all = inputs.iter().chain(outputs.iter()).enumerate();
+    all.any(|(place, label)| {
+        let mut before = inputs.iter().chain(outputs.iter()).take(place);
+        before.any(|other| other.as_str() == label.as_str())
+    })
 }

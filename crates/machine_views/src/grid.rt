@@ -1,6 +1,7 @@
 //! Cells in columns.
 
-use std::alloc::{AllocError, Global};
+use machine_table::{ShowFault, Text};
+use std::alloc::Global;
 
 /// Two blanks stand between columns.
 const GAP: usize = 2;
@@ -10,7 +11,10 @@ const GAP: usize = 2;
 pub(crate) struct Grid {
     alloc: Global,
     columns: usize,
-    cells: Vec<String>,
+    /// The texts of all cells, one behind the other.
+    pub(crate) cells: Text,
+    /// Where each cell ends.
+    ends: Vec<usize>,
 }
 
 impl Grid {
@@ -18,62 +22,55 @@ impl Grid {
         Grid {
             alloc,
             columns,
-            cells: Vec::new(alloc),
+            cells: Text::new(alloc),
+            ends: Vec::new(alloc),
         }
     }
 
-    pub(crate) fn push(&mut self, cell: String) -> Result<(), AllocError> {
-        self.cells.push(cell)?;
+    /// Ends the cell into which was put what stands behind the last one.
+    pub(crate) fn end_cell(&mut self) -> Result<(), ShowFault> {
+        self.ends.push(self.cells.len())?;
         Ok(())
     }
 
-    pub(crate) fn push_str(&mut self, cell: &str) -> Result<(), AllocError> {
-        self.push(String::from_str(self.alloc, cell)?)
-    }
-
-    pub(crate) fn push_two(&mut self, first: String, second: String) -> Result<(), AllocError> {
-        self.push(first)?;
-        self.push(second)
-    }
-
-    pub(crate) fn push_number(&mut self, number: usize) -> Result<(), AllocError> {
-        self.push(format!(in self.alloc; "{number}")?)
-    }
-
-    /// The rows as lines, with each column as wide as its widest cell.
-    pub(crate) fn push_to(&self, out: &mut String) -> Result<(), AllocError> {
+    /// The rows as lines, with each column as wide as its widest cell; the last cell isn't filled up.
+    pub(crate) fn put_to(self, out: &mut Text) -> Result<(), ShowFault> {
         let widths = self.widths()?;
-        for row in self.cells.chunks(self.columns.max(1)) {
-            push_row(row, &widths, out)?;
+        let bytes = self.cells.finish()?;
+        let last = self.columns.saturating_sub(1);
+        let mut begin = 0;
+        let mut column = 0usize;
+        for end in &self.ends {
+            let cell = bytes.get(begin..*end).unwrap_or(&[]);
+            begin = *end;
+            out.put_bytes(cell);
+            if column < last {
+                let width = widths.get(column).copied().unwrap_or(0);
+                out.put_blanks(width.saturating_sub(cell.len()).saturating_add(GAP));
+                column = column.saturating_add(1);
+            } else {
+                out.put("\n");
+                column = 0;
+            }
         }
         Ok(())
     }
 
-    fn widths(&self) -> Result<Vec<usize>, AllocError> {
-        let mut widths = vec![in self.alloc; 0; self.columns]?;
-        for row in self.cells.chunks(self.columns.max(1)) {
-            for (width, cell) in widths.iter_mut().zip(row) {
-                *width = cell.len().max(*width);
+    fn widths(&self) -> Result<Vec<usize>, ShowFault> {
+        let mut widths = vec![in self.alloc; 0usize; self.columns]?;
+        let mut begin = 0;
+        let mut column = 0usize;
+        for end in &self.ends {
+            let length = end.saturating_sub(begin);
+            begin = *end;
+            if let Some(width) = widths.get_mut(column) {
+                *width = length.max(*width);
+            }
+            column = column.saturating_add(1);
+            if column >= self.columns {
+                column = 0;
             }
         }
         Ok(widths)
     }
-}
-
-/// The last cell isn't filled up.
-fn push_row(row: &[String], widths: &[usize], out: &mut String) -> Result<(), AllocError> {
-    let mut missing = 0;
-    for (cell, width) in row.iter().zip(widths) {
-        push_blanks(missing, out)?;
-        out.push_str(cell)?;
-        missing = width.saturating_sub(cell.len()).saturating_add(GAP);
-    }
-    out.push('\n')
-}
-
-pub(crate) fn push_blanks(count: usize, out: &mut String) -> Result<(), AllocError> {
-    for _ in 0..count {
-        out.push(' ')?;
-    }
-    Ok(())
 }

@@ -1,20 +1,35 @@
-//! A machine as one can look at it: a summary of its document, a table, a drawing for Graphviz, and what it does on a word as lines of
-//! text or as a VCD file.
+//! A machine as one can look at it: a summary of its document, a table, a drawing for Graphviz, a page to step through, a module of Verilog or of SMV,
+//! an automaton, JSON, and what it does on a word or against another machine as lines of text or as a VCD file.
 //!
-//! `show` gives one of these views as text. It promises safety alone. Stands on machine_source for what is shown, on machine_table for
-//! its machine and on lasso_word for words.
+//! `show` gives one of these views as text. It promises safety alone. The page is tools/page.html. Stands on machine_table for what is shown and its
+//! machine, on lasso_word for words, on dual_search for plays, and on spec_texts for what is told of a text.
 #![tactic(auto)]
 
 mod dot;
 mod grid;
+mod hoa;
+mod identifiers;
+mod json;
+mod keywords;
+mod knowledge;
+mod logs;
+mod matching;
+mod page_text;
+mod pages;
+mod partners;
+mod plays;
+mod ports;
 mod runs;
+mod smv;
+mod smv_conditions;
 mod summary;
 mod table;
 mod vcd;
+mod verilog;
+mod verilog_states;
 mod views;
 mod wave;
 
-pub use runs::{Run, Step};
-pub use vcd::push_vcd;
+pub use plays::PlayView;
+pub use verilog::{ModuleView, Reset};
 pub use views::{View, WordView, show};
-pub use wave::push_wave;

@@ -1,57 +1,61 @@
 //! A machine as a table: a line for each cube of input letters of each state.
 
 use crate::grid::Grid;
-use letter_word::{Kind, Letter};
-use machine_table::{Edge, Machine, edges_of, push_letter};
-use std::alloc::{AllocError, Global};
+use machine_table::{Edge, Machine, ShowFault, Text, put_cube, put_letter};
+use std::alloc::Global;
 
 /// What is written stands behind what is read, or behind the state where it is of the state alone.
-pub(crate) fn push_table(
-    alloc: Global,
-    machine: &Machine,
-    out: &mut String,
-) -> Result<(), AllocError> {
-    let titles = match machine.kind {
-        Kind::Mealy => ["state", "reads", "writes", "next"],
-        Kind::Moore => ["state", "writes", "reads", "next"],
+pub(crate) fn put_table(alloc: Global, machine: &Machine, out: &mut Text) -> Result<(), ShowFault> {
+    let titles = if machine.is_moore() {
+        ["state", "writes", "reads", "next"]
+    } else {
+        ["state", "reads", "writes", "next"]
     };
     let mut grid = Grid::new(alloc, titles.len());
     for title in titles {
-        grid.push_str(title)?;
+        grid.cells.put(title);
+        grid.end_cell()?;
     }
     for (state, row) in machine.rows.iter().enumerate() {
-        for edge in &edges_of(alloc, row)? {
-            push_line(alloc, machine, state, edge, &mut grid)?;
+        for edge in &row.edges {
+            put_line(machine, state, edge, &mut grid)?;
         }
     }
-    grid.push_to(out)
+    grid.put_to(out)
 }
 
-fn push_line(
-    alloc: Global,
+fn put_line(
     machine: &Machine,
     state: usize,
     edge: &Edge,
     grid: &mut Grid,
-) -> Result<(), AllocError> {
-    let reads = reads_of(alloc, machine, edge)?;
-    let writes = writes_of(alloc, machine, edge.answer.written)?;
-    grid.push_number(state)?;
-    match machine.kind {
-        Kind::Mealy => grid.push_two(reads, writes)?,
-        Kind::Moore => grid.push_two(writes, reads)?,
+) -> Result<(), ShowFault> {
+    grid.cells.put_number(state as u64);
+    grid.end_cell()?;
+    if machine.is_moore() {
+        put_letter(
+            edge.answer.written,
+            &machine.outputs.labels,
+            &mut grid.cells,
+        );
+        grid.end_cell()?;
     }
-    grid.push_number(edge.answer.next)
-}
-
-fn reads_of(alloc: Global, machine: &Machine, edge: &Edge) -> Result<String, AllocError> {
-    let mut reads = String::new(alloc);
-    edge.cube.push_to(&machine.inputs, &mut reads)?;
-    Ok(reads)
-}
-
-fn writes_of(alloc: Global, machine: &Machine, written: Letter) -> Result<String, AllocError> {
-    let mut writes = String::new(alloc);
-    push_letter(written, &machine.outputs, &mut writes)?;
-    Ok(writes)
+    put_cube(
+        edge.cube,
+        &machine.inputs.labels,
+        " & ",
+        "-",
+        &mut grid.cells,
+    );
+    grid.end_cell()?;
+    if !machine.is_moore() {
+        put_letter(
+            edge.answer.written,
+            &machine.outputs.labels,
+            &mut grid.cells,
+        );
+        grid.end_cell()?;
+    }
+    grid.cells.put_number(edge.answer.next as u64);
+    grid.end_cell()
 }

@@ -1,32 +1,47 @@
-use crate::dot::push_dot;
-use crate::runs::Run;
-use crate::summary::push_summary;
-use crate::table::push_table;
-use crate::vcd::push_vcd;
-use crate::wave::push_wave;
+use crate::dot::put_dot;
+use crate::hoa::put_hoa;
+use crate::json::put_json;
+use crate::pages::put_page;
+use crate::plays::{PlayView, put_play};
+use crate::runs::steps_on;
+use crate::smv::put_smv;
+use crate::summary::put_summary;
+use crate::table::put_table;
+use crate::vcd::put_vcd;
+use crate::verilog::{ModuleView, put_verilog};
+use crate::wave::put_wave;
 use lasso_word::{WordFault, read_word};
 use letter_word::Lasso;
-use machine_source::Shown;
-use machine_table::ShowFault;
+use machine_table::{ShowFault, Shown, Text};
+use spec_texts::{TextFault, Told};
 use std::alloc::Global;
 use text_base::Name;
-
-/// The most names of which a word may be.
-const MOST_NAMES: usize = 16;
 
 /// What is shown of a document or of a circuit.
 #[derive(Clone, Copy)]
 pub enum View<'a> {
     /// The document's verdict and logs, and the signals of the machine, for a person.
     Summary,
+    /// The same with the machine, as JSON.
+    Json,
     /// The machine as a table.
     Table,
     /// The machine as a graph for Graphviz.
     Dot,
+    /// The machine as an automaton in the Hanoi Omega-Automata format.
+    Hoa,
+    /// The machine as a module of Verilog-2005.
+    Verilog(ModuleView<'a>),
+    /// A page, with what is told of a text.
+    Page(Option<&'a Told>),
+    /// A module of SMV, with the formula of a text.
+    Smv(Option<&'a [u8]>),
     /// What the machine does on a word, as a VCD file.
     Vcd(WordView<'a>),
     /// The same as lines of text.
     Wave(WordView<'a>),
+    /// A play against another machine.
+    Play(&'a Shown, PlayView),
 }
 
 /// A word of input letters, as its text has it, and how often its ring is run through.
@@ -37,24 +52,43 @@ pub struct WordView<'a> {
 }
 
 /// What is shown, as text. A machine is wanted first, then the word is read.
-pub fn show(alloc: Global, shown: &Shown, view: View<'_>) -> Result<String, ShowFault> {
-    let mut out = String::new(alloc);
+pub fn show(alloc: Global, shown: &Shown, view: View<'_>) -> Result<Vec<u8>, TextFault> {
+    let mut out = Text::new(alloc);
     match view {
-        View::Summary => push_summary(alloc, shown, &mut out)?,
-        View::Table => push_table(alloc, &shown.machine(alloc)?, &mut out)?,
-        View::Dot => push_dot(alloc, &shown.machine(alloc)?, &mut out)?,
-        View::Vcd(word) => push_vcd(&run_of(alloc, shown, word)?, &mut out)?,
-        View::Wave(word) => push_wave(alloc, &run_of(alloc, shown, word)?, &mut out)?,
+        View::Summary => put_summary(alloc, shown, &mut out)?,
+        View::Json => put_json(alloc, shown, &mut out)?,
+        View::Table => put_table(alloc, &shown.machine(alloc)?, &mut out)?,
+        View::Dot => put_dot(alloc, &shown.machine(alloc)?, &mut out)?,
+        View::Hoa => put_hoa(alloc, &shown.machine(alloc)?, &mut out)?,
+        View::Verilog(module) => put_verilog(alloc, shown, module, &mut out)?,
+        View::Page(told) => put_page(alloc, shown, told, &mut out)?,
+        View::Smv(text) => put_smv(alloc, &shown.machine(alloc)?, shown.side(), text, &mut out)?,
+        View::Vcd(word) => put_run(alloc, shown, word, true, &mut out)?,
+        View::Wave(word) => put_run(alloc, shown, word, false, &mut out)?,
+        View::Play(other, play) => put_play(alloc, shown, other, play, &mut out)?,
     }
-    Ok(out)
+    Ok(out.finish()?)
 }
 
-fn run_of(alloc: Global, shown: &Shown, word: WordView<'_>) -> Result<Run, ShowFault> {
+fn put_run(
+    alloc: Global,
+    shown: &Shown,
+    word: WordView<'_>,
+    is_vcd: bool,
+    out: &mut Text,
+) -> Result<(), ShowFault> {
     let machine = shown.machine(alloc)?;
-    let lasso = lasso_of(alloc, word.text, &machine.inputs)?;
-    Ok(Run::on_word(alloc, &machine, &lasso, word.rounds)?)
+    let lasso = lasso_of(alloc, word.text, &machine.inputs.names)?;
+    let steps = steps_on(alloc, &machine, &lasso, word.rounds)?;
+    if is_vcd {
+        put_vcd(alloc, &machine, &steps, out)?;
+    } else {
+        put_wave(&machine, &steps, out);
+    }
+    Ok(())
 }
 
+/// A machine has at most 8 inputs, so a word has few names.
 fn lasso_of(alloc: Global, text: &[u8], names: &[Name]) -> Result<Lasso, ShowFault> {
     if names.len() > MOST_NAMES {
         return Err(ShowFault::TooManySignals);
@@ -65,3 +99,6 @@ fn lasso_of(alloc: Global, text: &[u8], names: &[Name]) -> Result<Lasso, ShowFau
         Err(WordFault::BadLine(line)) => Err(ShowFault::BadWord(line)),
     }
 }
+
+/// The most names of which a word may be.
+const MOST_NAMES: usize = 16;

@@ -1,81 +1,89 @@
 //! A run as lines of text, one for each signal.
 
-use crate::grid::push_blanks;
-use crate::runs::{Run, Step};
-use std::alloc::{AllocError, Global};
+use crate::runs::Step;
+use letter_word::Letter;
+use machine_table::{Machine, Text};
 
 /// What stands before the states.
 const STATES: &str = "(state)";
 
-/// Appends a line for each input and each output, and one for the states in which the steps begin. `#` is true and `_` false, and `|`
+/// Puts a line for each input and each output, and one for the states in which the steps begin. `#` is true and `_` false, and `|`
 /// stands before each round of the ring.
-pub fn push_wave(alloc: Global, run: &Run, out: &mut String) -> Result<(), AllocError> {
-    let labels = label_width(run);
-    let cell = cell_width(run);
-    for signal in &run.signals {
-        push_label(&signal.label, labels, out)?;
-        for step in &run.steps {
-            push_mark(step, out)?;
-            push_level(step.has(signal), cell, out)?;
+pub(crate) fn put_wave(machine: &Machine, steps: &[Step], out: &mut Text) {
+    let width = label_width(machine);
+    let cell = cell_width(steps);
+    for (signal, label) in (0u32..32).zip(&machine.inputs.labels) {
+        put_label(label, width, out);
+        for step in steps {
+            put_level(step, step.read, signal, cell, out);
         }
-        out.push('\n')?;
+        out.put("\n");
     }
-    push_label(STATES, labels, out)?;
-    for step in &run.steps {
-        push_mark(step, out)?;
-        push_state(alloc, step.state, cell, out)?;
+    for (signal, label) in (0u32..32).zip(&machine.outputs.labels) {
+        put_label(label, width, out);
+        for step in steps {
+            put_level(step, step.written, signal, cell, out);
+        }
+        out.put("\n");
     }
-    out.push('\n')
+    put_label(STATES, width, out);
+    for step in steps {
+        put_mark(step, out);
+        out.put_blanks(cell.saturating_sub(digits(step.state)));
+        out.put_number(step.state as u64);
+    }
+    out.put("\n");
 }
 
-fn label_width(run: &Run) -> usize {
+fn label_width(machine: &Machine) -> usize {
     let mut width = STATES.len();
-    for signal in &run.signals {
-        width = signal.label.len().max(width);
+    for label in machine
+        .inputs
+        .labels
+        .iter()
+        .chain(machine.outputs.labels.iter())
+    {
+        width = label.len().max(width);
     }
     width
 }
 
 /// How wide a step is drawn: as its state's number, with a blank more where it has several digits.
-fn cell_width(run: &Run) -> usize {
-    let mut greatest = 0;
-    for step in &run.steps {
-        greatest = step.state.max(greatest);
+fn cell_width(steps: &[Step]) -> usize {
+    let mut width = 1;
+    for step in steps {
+        width = digits(step.state).max(width);
     }
-    match greatest {
+    if width == 1 {
+        1
+    } else {
+        width.saturating_add(1)
+    }
+}
+
+/// The digits of a state's number; there are at most 256 states.
+fn digits(state: usize) -> usize {
+    match state {
         0..=9 => 1,
-        10..=99 => 3,
-        100..=999 => 4,
-        _ => 5,
+        10..=99 => 2,
+        _ => 3,
     }
 }
 
-fn push_label(label: &str, width: usize, out: &mut String) -> Result<(), AllocError> {
-    out.push_str(label)?;
-    push_blanks(width.saturating_sub(label.len()).saturating_add(2), out)
+fn put_label(label: &str, width: usize, out: &mut Text) {
+    out.put(label);
+    out.put_blanks(width.saturating_sub(label.len()).saturating_add(2));
 }
 
-fn push_mark(step: &Step, out: &mut String) -> Result<(), AllocError> {
+fn put_mark(step: &Step, out: &mut Text) {
     if step.begins_round {
-        out.push('|')?;
+        out.put("|");
     }
-    Ok(())
 }
 
-fn push_level(is_true: bool, cell: usize, out: &mut String) -> Result<(), AllocError> {
+fn put_level(step: &Step, letter: Letter, signal: u32, cell: usize, out: &mut Text) {
+    put_mark(step, out);
     for _ in 0..cell {
-        out.push(if is_true { '#' } else { '_' })?;
+        out.put(if letter.has(signal) { "#" } else { "_" });
     }
-    Ok(())
-}
-
-fn push_state(
-    alloc: Global,
-    state: usize,
-    cell: usize,
-    out: &mut String,
-) -> Result<(), AllocError> {
-    let number = format!(in alloc; "{state}")?;
-    push_blanks(cell.saturating_sub(number.len()), out)?;
-    out.push_str(&number)
 }

@@ -1,6 +1,6 @@
 //! The formula of a text in infix LTL.
 
-ghost use Rattle.std.specs.Prelude.{◌≡◌, OnOk, length};
+ghost use Rattle.std.specs.Prelude.{◌≡◌, length};
 ghost use Rattle.flat_lines.specs.FlatLines.{CanBeWritten};
 ghost use Rattle.ltl_formula.specs.ListSignals.{HasSignalsBelow};
 ghost use Rattle.ltl_formula.specs.Nodes.{Stands};
@@ -11,82 +11,75 @@ use flat_lines::all_names;
 use letter_word::Kind;
 use ltl_formula::laws::signals_of_lists_are_kept;
 use ltl_formula::write_formula;
+use machine_table::Text;
 use std::alloc::{AllocError, Global};
 use text_base::Name;
 use tlsf_expand::Spec;
 
-/// Lines that begin with `#`, and the formula of the whole on the last line. The first ones name the kind, the replaced names and
+const MEALY: &str = "# Mealy: outputs may be of the inputs of the same step\n";
+
+const MOORE: &str = "# Moore: outputs may not be of the inputs of the same step\n";
+
+/// Puts lines that begin with `#`, and the formula of the whole on the last line. The first ones name the kind, the replaced names and
 /// the lists of the signals.
-pub(crate) fn ltl_text(alloc: Global, spec: &Spec) -> Result<Vec<u8>, AllocError>
+pub(crate) fn put_ltl(alloc: Global, spec: &Spec, out: &mut Text) -> Result<(), AllocError>
     requires writable { CanBeWritten (spec_seen spec.now) }
     requires stands { Stands spec.now.formulas spec.now.whole }
 {
     let names = all_names(alloc, spec)?;
     let plain = plain_names(alloc, &names, &LTL_WORDS)?;
-    let mut out = Vec::new(alloc);
-    out.extend_from_slice(kind_line(spec.kind))?;
-    push_replaced(&names, &plain, &mut out)?;
-    push_list(b"# --ins=", &plain, 0, spec.inputs.len(), &mut out)?;
-    push_list(
-        b"# --outs=",
-        &plain,
-        spec.inputs.len(),
-        usize::MAX,
-        &mut out,
-    )?;
-    write_whole(spec, &plain, &mut out)?;
-    out.push(b'\n')?;
-    Ok(out)
+    out.put(if spec.kind == Kind::Mealy {
+        MEALY
+    } else {
+        MOORE
+    });
+    put_replaced(&names, &plain, out);
+    let inputs = spec.inputs.len();
+    put_list("# --ins=", &plain, 0, inputs, out);
+    put_list("# --outs=", &plain, inputs, usize::MAX, out);
+    put_whole(alloc, spec, &plain, out)?;
+    out.put("\n");
+    Ok(())
 }
 
-fn kind_line(kind: Kind) -> &'static [u8] {
-    match kind {
-        Kind::Mealy => b"# Mealy: outputs may be of the inputs of the same step\n",
-        Kind::Moore => b"# Moore: outputs may not be of the inputs of the same step\n",
-    }
-}
-
-fn push_replaced(names: &[Name], plain: &[Name], out: &mut Vec<u8>) -> Result<(), AllocError> {
+fn put_replaced(names: &[Name], plain: &[Name], out: &mut Text) {
     for (name, other) in names.iter().zip(plain) {
         if name.bytes() != other.bytes() {
-            out.extend_from_slice(b"# ")?;
-            out.extend_from_slice(other.bytes())?;
-            out.extend_from_slice(b" stands for ")?;
-            out.extend_from_slice(name.bytes())?;
-            out.push(b'\n')?;
+            out.put("# ");
+            out.put_bytes(other.bytes());
+            out.put(" stands for ");
+            out.put_bytes(name.bytes());
+            out.put("\n");
         }
     }
-    Ok(())
 }
 
 /// The names from a place on, up to another, with commas between them.
-fn push_list(
-    word: &[u8],
-    names: &[Name],
-    from: usize,
-    to: usize,
-    out: &mut Vec<u8>,
-) -> Result<(), AllocError> {
-    out.extend_from_slice(word)?;
+fn put_list(word: &str, names: &[Name], from: usize, to: usize, out: &mut Text) {
+    out.put(word);
     for (place, name) in names.iter().enumerate() {
-        if place < from || to <= place {
-            continue;
+        if from <= place && place < to {
+            out.put(if place > from { "," } else { "" });
+            out.put_bytes(name.bytes());
         }
-        if place > from {
-            out.push(b',')?;
-        }
-        out.extend_from_slice(name.bytes())?;
     }
-    out.push(b'\n')?;
-    Ok(())
+    out.put("\n");
 }
 
-/// Appends the formula of the whole, with these names for its signals.
-pub(crate) fn write_whole(spec: &Spec, names: &[Name], out: &mut Vec<u8>) -> Result<(), AllocError>
+/// Puts the formula of the whole, with these names for its signals.
+pub(crate) fn put_whole(
+    alloc: Global,
+    spec: &Spec,
+    names: &[Name],
+    out: &mut Text,
+) -> Result<(), AllocError>
     requires stands { Stands spec.now.formulas spec.now.whole }
     requires named { HasSignalsBelow (length names.now) spec.now.formulas }
 {
     let _nodes = spec.formulas.len();
     signals_of_lists_are_kept();
-    write_formula(&spec.formulas, spec.whole, names, out)
+    let mut formula = Vec::new(alloc);
+    write_formula(&spec.formulas, spec.whole, names, &mut formula)?;
+    out.put_bytes(&formula);
+    Ok(())
 }

@@ -1,17 +1,29 @@
-//! A text for other tools: its formula as infix LTL, and basic TLSF of it, with its guarantees apart, or of the environment's task.
+//! A text and the logs of a document for other tools: its formula as infix LTL, basic TLSF of it, with its guarantees apart, or of the environment's
+//! task; base clauses in DIMACS form, entries in LRAT and their clauses in DRAT.
 //!
-//! `spec_text` writes one of these, `formula_lines` gives the formulas of the expanded text, and `smv_formula` writes
-//! the whole for a module of SMV. It promises safety alone. Stands on flat_answer for the flat text, on flat_lines for its lines and
-//! on ltl_formula for the text of a formula.
+//! `spec_text` writes a text, `Told` has its title and its formulas, `put_smv_formula` puts the whole for a module of SMV, and `proof_files` makes the
+//! files of each log; `base_of` and `push_formula` give the base clauses alone. It promises safety alone. Stands on flat_answer for the flat text and
+//! on spec_problems and annotation_encode for the base clauses.
 #![tactic(auto)]
 
+mod dimacs;
+mod entries;
+mod faults;
+mod files;
 mod forms;
 mod infix;
 mod plain_names;
+mod problems;
 mod sections;
 mod smv;
 mod smv_names;
 mod tlsf;
+mod told;
 
-pub use forms::{Form, SpecText, TextFault, formula_lines, spec_text};
-pub use smv_names::{SmvNames, smv_formula};
+pub use dimacs::push_formula;
+pub use faults::TextFault;
+pub use files::{ProofFile, proof_files};
+pub use forms::{Form, SpecText, spec_text};
+pub use problems::base_of;
+pub use smv_names::{SmvNames, put_smv_formula};
+pub use told::Told;

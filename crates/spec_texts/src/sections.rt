@@ -4,13 +4,50 @@ ghost use Rattle.flat_lines.specs.FlatLines.{CanBeWritten};
 ghost use Rattle.tlsf_expand.specs.FlatText.{spec_seen};
 
 use flat_lines::put_flat;
+use machine_table::Text;
 use outside_edge::PlainSink;
 use std::alloc::{AllocError, Global};
 use tlsf_expand::Spec;
-use tlsf_tokens::Section;
 
 /// The lines of a flat text that stand before its formulas.
 const LINES_BEFORE: usize = 3;
+
+/// A section by the word that stands before its formulas in a flat text, behind which no other line begins so, and by its word in TLSF.
+#[derive(Clone, Copy)]
+pub(crate) struct SectionWords {
+    front: &'static [u8],
+    word: &'static str,
+}
+
+pub(crate) const INITIALLY: SectionWords = SectionWords {
+    front: b"initially ",
+    word: "INITIALLY",
+};
+
+pub(crate) const PRESET: SectionWords = SectionWords {
+    front: b"preset ",
+    word: "PRESET",
+};
+
+pub(crate) const REQUIRE: SectionWords = SectionWords {
+    front: b"require ",
+    word: "REQUIRE",
+};
+
+pub(crate) const ASSERT: SectionWords = SectionWords {
+    front: b"assert ",
+    word: "ASSERT",
+};
+
+pub(crate) const ASSUME: SectionWords = SectionWords {
+    front: b"assume ",
+    word: "ASSUME",
+};
+
+pub(crate) const GUARANTEE: SectionWords = SectionWords {
+    front: b"guarantee ",
+    word: "GUARANTEE",
+};
 
 /// The lines of a flat text.
 #[derive(Drop)]
@@ -45,20 +82,46 @@ impl FlatLines {
         Ok(lines)
     }
 
-    /// The formulas of a section.
-    pub(crate) fn formulas(
+    pub(crate) fn has(&self, section: SectionWords) -> bool {
+        self.sink
+            .bytes()
+            .split(|byte| *byte == b'\n')
+            .any(|line| line.starts_with(section.front))
+    }
+
+    /// Puts a section, where it has formulas.
+    pub(crate) fn put_section(&self, section: SectionWords, out: &mut Text) {
+        if self.has(section) {
+            put_opened(section, out);
+            self.put_formulas(section, "", "", out);
+            out.put("  }\n");
+        }
+    }
+
+    /// Puts a line for each formula of a section, between these.
+    pub(crate) fn put_formulas(
         &self,
-        alloc: Global,
-        section: Section,
-    ) -> Result<Vec<&[u8]>, AllocError> {
-        let mut found = Vec::new(alloc);
+        section: SectionWords,
+        before: &str,
+        behind: &str,
+        out: &mut Text,
+    ) {
         for line in self.sink.bytes().split(|byte| *byte == b'\n') {
-            if let Some(formula) = line.strip_prefix(front_of(section)) {
-                found.push(formula)?;
+            if let Some(formula) = line.strip_prefix(section.front) {
+                out.put("    ");
+                out.put(before);
+                out.put_bytes(formula);
+                out.put(behind);
+                out.put(";\n");
             }
         }
-        Ok(found)
     }
+}
+
+pub(crate) fn put_opened(section: SectionWords, out: &mut Text) {
+    out.put("  ");
+    out.put(section.word);
+    out.put(" {\n");
 }
 
 fn string_of(alloc: Global, bytes: &[u8]) -> Result<String, AllocError> {
@@ -67,28 +130,4 @@ fn string_of(alloc: Global, bytes: &[u8]) -> Result<String, AllocError> {
         text.push(char::from(*byte))?;
     }
     Ok(text)
-}
-
-/// What stands before a formula of a section. No other line begins so.
-fn front_of(section: Section) -> &'static [u8] {
-    match section {
-        Section::Initially => b"initially ",
-        Section::Preset => b"preset ",
-        Section::Require => b"require ",
-        Section::Assert => b"assert ",
-        Section::Assume => b"assume ",
-        Section::Guarantee => b"guarantee ",
-    }
-}
-
-/// The word of a section in TLSF.
-pub(crate) fn word_of(section: Section) -> &'static [u8] {
-    match section {
-        Section::Initially => b"INITIALLY",
-        Section::Preset => b"PRESET",
-        Section::Require => b"REQUIRE",
-        Section::Assert => b"ASSERT",
-        Section::Assume => b"ASSUME",
-        Section::Guarantee => b"GUARANTEE",
-    }
 }

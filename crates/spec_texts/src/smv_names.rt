@@ -2,16 +2,15 @@
 
 ghost use Rattle.ltl_formula.specs.Nodes.{Stands};
 
-use crate::forms::TextFault;
+use crate::faults::TextFault;
 use crate::plain_names::{SMV_WORDS, plain_names};
-use crate::smv::write_smv;
+use crate::smv::put_smv;
 use flat_answer::{Expansion, expanded};
 use flat_lines::all_names;
+use machine_table::{ShowFault, Text};
 use std::alloc::{AllocError, Global};
 use text_base::Name;
 use tlsf_expand::Spec;
-
-const OTHER_SIGNALS: &str = "the signals of the text aren't those of the machine";
 
 /// Names that SMV takes, for the inputs and the outputs of a machine.
 #[derive(Drop)]
@@ -59,14 +58,14 @@ fn push_names(names: &[Name], out: &mut Vec<Name>) -> Result<(), AllocError> {
     Ok(())
 }
 
-/// Appends the formula of a text, over the signals of a machine with those inputs and outputs.
-pub fn smv_formula(
+/// Puts the formula of a text, over the signals of a machine with those inputs and outputs.
+pub fn put_smv_formula(
     alloc: Global,
     text: &[u8],
     names: &SmvNames,
     inputs: &[Name],
     outputs: &[Name],
-    out: &mut Vec<u8>,
+    out: &mut Text,
 ) -> Result<(), TextFault> {
     let spec = match expanded(alloc, text)? {
         Expansion::Flat(spec) => spec,
@@ -75,16 +74,16 @@ pub fn smv_formula(
     let mut plain = Vec::new(alloc);
     for signal in &all_names(alloc, &spec)? {
         let Some(name) = names.name_for(signal, inputs, outputs) else {
-            return Err(TextFault::NoSuchForm(OTHER_SIGNALS));
+            return Err(TextFault::NotShown(ShowFault::OtherSignals));
         };
         plain.push(name.clone()?)?;
     }
-    push_whole(&spec, &plain, out)?;
+    put_whole(&spec, &plain, out);
     Ok(())
 }
 
-fn push_whole(spec: &Spec, names: &[Name], out: &mut Vec<u8>) -> Result<(), AllocError>
+fn put_whole(spec: &Spec, names: &[Name], out: &mut Text)
     requires { Stands spec.now.formulas spec.now.whole }
 {
-    write_smv(&spec.formulas, spec.whole, names, out)
+    put_smv(&spec.formulas, spec.whole, names, out);
 }

@@ -1,0 +1,154 @@
+//! A document, or a circuit alone.
+
+use crate::choices::Choice;
+use crate::faults::ShowFault;
+use crate::lines::Lines;
+use crate::machines::Machine;
+use crate::outputs::{Found, find, is_output};
+use aiger_text::{Circuit, CircuitFault, read_circuit};
+use cert_text::{Document, DocumentFault, Verdict, read_document};
+use letter_word::{Kind, Side};
+use std::alloc::Global;
+
+const BAD_HEADER: &str =
+    "a circuit begins with `aag M I L O A`, where M is at least the sum of I, L and A";
+
+const BAD_LINE: &str = "this line isn't of the form that a circuit has there";
+
+const UNDEFINED: &str = "this line uses a variable that no line defines";
+
+const DEFINED_TWICE: &str = "this line defines a variable that an earlier line defines";
+
+const CYCLE: &str = "the gate of this line depends on itself";
+
+const UNSUPPORTED: &str = "a circuit has neither further counts nor latches without a first value";
+
+const TOO_LARGE: &str = "a circuit has at most 100000 variables";
+
+/// What is shown.
+#[derive(Drop)]
+pub enum Shown {
+    Document(Document),
+    /// A circuit of any maker, of which no document says what it is for.
+    Circuit(Circuit),
+}
+
+impl Shown {
+    pub fn circuit(&self) -> Option<&Circuit> {
+        match self {
+            Shown::Document(document) => document.circuit.as_ref(),
+            Shown::Circuit(circuit) => Some(circuit),
+        }
+    }
+
+    /// The side whose machine it is, where a document says so.
+    pub fn side(&self) -> Option<Side> {
+        match self {
+            Shown::Document(document) => side_in(document.verdict),
+            Shown::Circuit(_) => None,
+        }
+    }
+
+    /// The kind of the machine, where a document says so: that of the system's machines, or for a counter-machine the other one.
+    pub fn kind(&self) -> Option<Kind> {
+        let Shown::Document(document) = self else {
+            return None;
+        };
+        match side_in(document.verdict)? {
+            Side::System => Some(document.kind),
+            Side::Environment => Some(document.kind.other()),
+        }
+    }
+
+    /// The machine as a table.
+    pub fn machine(&self, alloc: Global) -> Result<Machine, ShowFault> {
+        match self.circuit() {
+            Some(circuit) => Machine::of_circuit(alloc, circuit, self.kind()),
+            None => Err(ShowFault::NoMachine),
+        }
+    }
+}
+
+fn side_in(verdict: Verdict) -> Option<Side> {
+    match verdict {
+        Verdict::Realizable(_) => Some(Side::System),
+        Verdict::Unrealizable(_) => Some(Side::Environment),
+        Verdict::Bounded(side, _) => Some(side),
+        Verdict::UnknownSizes | Verdict::UnknownEntries(..) => None,
+    }
+}
+
+/// Reads a document, the document that is chosen of what `core` or `batch` wrote, or a circuit in ASCII AIGER, whose gates may stand
+/// in any order. A document isn't checked against the text that it is for.
+pub fn read_shown(alloc: Global, bytes: &[u8], choice: Choice<'_>) -> Result<Shown, ShowFault> {
+    shown_in(alloc, found_in(bytes, choice)?)
+}
+
+/// The circuit of what is chosen as the bytes have it, up to and without its line `c`. The rest isn't looked at.
+pub fn chosen_circuit<'a>(bytes: &'a [u8], choice: Choice<'_>) -> Result<&'a [u8], ShowFault> {
+    let found = found_in(bytes, choice)?.bytes;
+    if !found.starts_with(b"aag ") {
+        return Err(ShowFault::NoMachine);
+    }
+    let mut lines = Lines::of(found);
+    lines.skip_to_comment();
+    let length = found.len().saturating_sub(lines.rest.len());
+    let front = found.get(..length).unwrap_or(found);
+    Ok(front.strip_suffix(b"c\n").unwrap_or(front))
+}
+
+fn found_in<'a>(bytes: &'a [u8], choice: Choice<'_>) -> Result<Found<'a>, ShowFault> {
+    if is_output(bytes) {
+        return find(bytes, choice);
+    }
+    match choice {
+        Choice::First => Ok(Found {
+            bytes,
+            lines_before: 0,
+        }),
+        _ => Err(ShowFault::NoSuchDocument),
+    }
+}
+
+fn shown_in(alloc: Global, found: Found<'_>) -> Result<Shown, ShowFault> {
+    if is_bare_circuit(found.bytes) {
+        return bare_circuit(alloc, found.bytes);
+    }
+    match read_document(alloc, found.bytes) {
+        Ok(document) => Ok(Shown::Document(document)),
+        Err(DocumentFault::NoMemory) => Err(ShowFault::NoMemory),
+        Err(DocumentFault::BadLine(line)) => {
+            Err(ShowFault::BadDocument(line.saturating_add(found.lines_before)))
+        }
+    }
+}
+
+fn bare_circuit(alloc: Global, bytes: &[u8]) -> Result<Shown, ShowFault> {
+    match read_circuit(alloc, bytes) {
+        Ok(file) => Ok(Shown::Circuit(file.circuit)),
+        Err(fault) => Err(fault_of(fault)),
+    }
+}
+
+fn fault_of(fault: CircuitFault) -> ShowFault {
+    match fault {
+        CircuitFault::NoMemory => ShowFault::NoMemory,
+        CircuitFault::BadHeader(line) => ShowFault::BadCircuit(line, BAD_HEADER),
+        CircuitFault::BadLine(line) => ShowFault::BadCircuit(line, BAD_LINE),
+        CircuitFault::Undefined(line) => ShowFault::BadCircuit(line, UNDEFINED),
+        CircuitFault::DefinedTwice(line) => ShowFault::BadCircuit(line, DEFINED_TWICE),
+        CircuitFault::Cycle(line) => ShowFault::BadCircuit(line, CYCLE),
+        CircuitFault::Unsupported(line) => ShowFault::BadCircuit(line, UNSUPPORTED),
+        CircuitFault::TooLarge(line) => ShowFault::BadCircuit(line, TOO_LARGE),
+    }
+}
+
+/// A circuit is bare where its comment doesn't begin as a document does.
+fn is_bare_circuit(bytes: &[u8]) -> bool {
+    if !bytes.starts_with(b"aag ") {
+        return false;
+    }
+    let mut lines = Lines::of(bytes);
+    lines.skip_to_comment();
+    !lines.rest.starts_with(b"boundsyn ")
+}

@@ -1,0 +1,189 @@
+//! What the summary and the table say, as JSON.
+
+use crate::logs::{Ending, LogSummary, side_name};
+use cert_text::{Document, LogPart, Verdict};
+use letter_word::Side;
+use machine_table::{
+    Cube, Edge, Machine, Part, ShowFault, Shown, Text, escaped, escaped_text, has_twice,
+};
+use std::alloc::{AllocError, Global};
+
+/// A text between quotes; a `<` could end the script in which it stands.
+pub(crate) const SIGNS: [(char, &str); 6] = [
+    ('"', "\\\""),
+    ('\\', "\\\\"),
+    ('<', "\\u003c"),
+    ('\n', " "),
+    ('\r', " "),
+    ('\t', " "),
+];
+
+/// Puts an object with the verdict, the machine and the logs.
+pub(crate) fn put_json(alloc: Global, shown: &Shown, out: &mut Text) -> Result<(), ShowFault> {
+    match shown {
+        Shown::Circuit(_) => out.put("{\"verdict\": null, \"machine\": "),
+        Shown::Document(document) => put_head(document, out),
+    }
+    match shown.machine(alloc) {
+        Ok(machine) => put_machine(alloc, &machine, shown.side(), out)?,
+        Err(ShowFault::NoMachine) => out.put("null"),
+        Err(fault) => return Err(fault),
+    }
+    out.put(", \"logs\": [");
+    if let Shown::Document(document) = shown {
+        put_logs(alloc, document, out)?;
+    }
+    out.put("]}\n");
+    Ok(())
+}
+
+fn put_head(document: &Document, out: &mut Text) {
+    let (word, size, is_least) = match document.verdict {
+        Verdict::Realizable(size) => ("realizable", Some(size), "true"),
+        Verdict::Unrealizable(size) => ("unrealizable", Some(size), "true"),
+        Verdict::Bounded(Side::System, size) => ("realizable", Some(size), "false"),
+        Verdict::Bounded(Side::Environment, size) => ("unrealizable", Some(size), "false"),
+        Verdict::UnknownSizes => ("unknown", None, "null"),
+        Verdict::UnknownEntries(_, size) => ("unknown", Some(size), "null"),
+    };
+    out.fill(
+        "{\"verdict\": \"{}\", \"size\": {}, \"is_least_size\": {}, \"kind_of_system\": \"{}\", \"max\": {}, \"entries\": ",
+        &[
+            Part::Word(word),
+            size_part(size),
+            Part::Word(is_least),
+            Part::Word(document.kind.word()),
+            Part::Number(u64::from(document.max)),
+        ],
+    );
+    match document.entries {
+        Some(most) => out.put_number(most),
+        None => out.put("null"),
+    }
+    out.put(", \"machine\": ");
+}
+
+fn size_part(size: Option<u32>) -> Part<'static> {
+    match size {
+        Some(size) => Part::Number(u64::from(size)),
+        None => Part::Word("null"),
+    }
+}
+
+fn put_machine(
+    alloc: Global,
+    machine: &Machine,
+    side: Option<Side>,
+    out: &mut Text,
+) -> Result<(), ShowFault> {
+    if has_twice(&machine.inputs.labels, &machine.outputs.labels) {
+        return Err(ShowFault::SameNames);
+    }
+    let inputs = escaped(alloc, &machine.inputs.labels, &SIGNS)?;
+    let outputs = escaped(alloc, &machine.outputs.labels, &SIGNS)?;
+    out.fill(
+        "{\"side\": \"{}\", \"kind\": \"{}\", \"states\": {}, \"inputs\": ",
+        &[
+            Part::Word(side.map_or("unknown", side_name)),
+            Part::Word(machine.kind.word()),
+            Part::Number(machine.rows.len() as u64),
+        ],
+    );
+    put_texts(&inputs, out);
+    out.put(", \"outputs\": ");
+    put_texts(&outputs, out);
+    out.put(", \"edges\": [");
+    for (state, row) in machine.rows.iter().enumerate() {
+        for (place, edge) in row.edges.iter().enumerate() {
+            out.put(if state == 0 && place == 0 { "" } else { "," });
+            put_edge(state, edge, &inputs, &outputs, out);
+        }
+    }
+    out.put("]}");
+    Ok(())
+}
+
+fn put_edge(state: usize, edge: &Edge, inputs: &[String], outputs: &[String], out: &mut Text) {
+    out.fill(
+        "\n {\"state\": {}, \"reads\": {",
+        &[Part::Number(state as u64)],
+    );
+    put_reads(edge.cube, inputs, out);
+    out.put("}, \"writes\": [");
+    let mut is_first = true;
+    for (signal, label) in (0u32..32).zip(outputs) {
+        if edge.answer.written.has(signal) {
+            out.put(if is_first { "" } else { ", " });
+            out.fill("\"{}\"", &[Part::Word(label)]);
+            is_first = false;
+        }
+    }
+    out.fill("], \"next\": {}}", &[Part::Number(edge.answer.next as u64)]);
+}
+
+/// The inputs that a cube asks for, with what each must be.
+fn put_reads(cube: Cube, inputs: &[String], out: &mut Text) {
+    let mut is_first = true;
+    for (signal, label) in (0u32..32).zip(inputs) {
+        if let Some(is_wanted) = cube.asks(signal) {
+            out.put(if is_first { "" } else { ", " });
+            out.fill("\"{}\": ", &[Part::Word(label)]);
+            out.put(if is_wanted { "true" } else { "false" });
+            is_first = false;
+        }
+    }
+}
+
+/// Puts texts, which are escaped, as a list.
+pub(crate) fn put_texts(texts: &[String], out: &mut Text) {
+    out.put("[");
+    for (place, text) in texts.iter().enumerate() {
+        let joint = if place == 0 { "" } else { ", " };
+        out.fill("{}\"{}\"", &[Part::Word(joint), Part::Word(text)]);
+    }
+    out.put("]");
+}
+
+/// Puts a text between quotes.
+pub(crate) fn put_text(alloc: Global, text: &str, out: &mut Text) -> Result<(), AllocError> {
+    let text = escaped_text(alloc, text, &SIGNS)?;
+    out.fill("\"{}\"", &[Part::Word(&text)]);
+    Ok(())
+}
+
+fn put_logs(alloc: Global, document: &Document, out: &mut Text) -> Result<(), AllocError> {
+    for (place, log) in document.logs.iter().enumerate() {
+        out.put(if place == 0 { "" } else { "," });
+        put_log(log, &LogSummary::of(alloc, log, document.entries)?, out);
+    }
+    Ok(())
+}
+
+fn put_log(log: &LogPart, summary: &LogSummary, out: &mut Text) {
+    let ending = match summary.ending {
+        Ending::Closed => "closed",
+        Ending::Full => "full",
+        Ending::Open => "open",
+    };
+    out.fill(
+        "\n {\"side\": \"{}\", \"size\": {}, \"end\": \"{}\", \"variables\": {}, \"base_clauses\": {}, \"entries\": {}, \"longest_clause\": {}, \"workers\": {",
+        &[
+            Part::Word(summary.side),
+            Part::Number(u64::from(log.size)),
+            Part::Word(ending),
+            Part::Number(u64::from(log.vars)),
+            Part::Number(log.base),
+            Part::Number(log.entries.len() as u64),
+            Part::Number(summary.longest),
+        ],
+    );
+    let mut is_first = true;
+    for (worker, entries) in &summary.workers {
+        out.put(if is_first { "\"" } else { ", \"" });
+        out.put_number(u64::from(*worker));
+        out.put("\": ");
+        out.put_number(*entries);
+        is_first = false;
+    }
+    out.put("}}");
+}

@@ -1,0 +1,83 @@
+//! What a document says in sentences: its verdict, and what is known of other sizes.
+
+use crate::logs::{Ending, ending_of};
+use cert_text::{Document, LogPart, Verdict};
+use letter_word::Side;
+use machine_table::{Part, Shown, Text};
+
+/// Puts what is known of the machine.
+pub(crate) fn put_known(shown: &Shown, out: &mut Text) {
+    let (form, size) = match shown {
+        Shown::Circuit(_) => ("A circuit alone: nothing says what it is for.", 0),
+        Shown::Document(document) => sentence_of_verdict(document.verdict),
+    };
+    out.fill(form, &[Part::Number(u64::from(size))]);
+}
+
+fn sentence_of_verdict(verdict: Verdict) -> (&'static str, u32) {
+    match verdict {
+        Verdict::Realizable(size) => {
+            (
+                "Realizable, by a controller of size {}. No smaller one exists.",
+                size,
+            )
+        }
+        Verdict::Unrealizable(size) => {
+            (
+                "Unrealizable: this machine of size {} defeats every controller.",
+                size,
+            )
+        }
+        Verdict::Bounded(Side::System, size) => {
+            (
+                "Realizable, by a controller of size {}, which needn't be the smallest.",
+                size,
+            )
+        }
+        Verdict::Bounded(Side::Environment, size) => (
+            "Unrealizable: this machine of size {}, which needn't be the smallest, defeats every controller.",
+            size,
+        ),
+        Verdict::UnknownSizes => ("Nothing was found.", 0),
+        Verdict::UnknownEntries(..) => ("Nothing was found.", 0),
+    }
+}
+
+/// Puts a sentence on a log.
+pub(crate) fn put_size(document: &Document, log: &LogPart, out: &mut Text) {
+    let what = match log.side {
+        Side::System => "controller",
+        Side::Environment => "counter-machine",
+    };
+    let entries = log.entries.len() as u64;
+    let word = if entries == 1 { "entry" } else { "entries" };
+    let size = Part::Number(u64::from(log.size));
+    let vars = Part::Number(u64::from(log.vars));
+    let base = Part::Number(log.base);
+    match (ending_of(&log.entries, document.entries), document.entries) {
+        (Ending::Closed, _) => out.fill(
+            "No {} of size {} exists: its log of {} {}, over {} variables and {} clauses, is closed.",
+            &[
+                Part::Word(what),
+                size,
+                Part::Number(entries),
+                Part::Word(word),
+                vars,
+                base,
+            ],
+        ),
+        (_, Some(most)) => out.fill(
+            "Whether a {} of size {} exists isn't known: its log, over {} variables and {} clauses, is full with {} entries.",
+            &[Part::Word(what), size, vars, base, Part::Number(most)],
+        ),
+        (_, None) => out.fill(
+            "Whether a {} of size {} exists isn't known: its log of {} {} isn't closed.",
+            &[
+                Part::Word(what),
+                size,
+                Part::Number(entries),
+                Part::Word(word),
+            ],
+        ),
+    }
+}

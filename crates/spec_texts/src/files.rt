@@ -1,0 +1,132 @@
+//! The files of a document's logs.
+
+ghost use Rattle.machine_model.specs.Problem.{IsVersion};
+ghost use Rattle.spec_problems.specs.OfFormula.{AreProblems};
+
+use crate::dimacs::push_formula;
+use crate::entries::{push_drat, push_lrat};
+use crate::faults::TextFault;
+use crate::problems::base_of;
+use cert_text::{Document, LogPart};
+use clause_base::Cnf;
+use letter_word::Side;
+use machine_table::ShowFault;
+use program_replies::refused;
+use spec_faults::SpecFault;
+use spec_problems::{SideProblems, text_problems};
+use std::alloc::{AllocError, Global};
+
+/// The greatest size of a log.
+const MOST_STATES: u32 = 8;
+
+/// A file, and what stands behind a prefix in its name.
+#[derive(Drop)]
+pub struct ProofFile {
+    pub ending: String,
+    pub bytes: Vec<u8>,
+}
+
+/// For each log of a document its base clauses in DIMACS form (`.cnf`), its entries in LRAT (`.lrat`) and their clauses in DRAT (`.drat`).
+/// The names of a log that isn't closed say that it is no refutation. The entries themselves aren't tested.
+pub fn proof_files(
+    alloc: Global,
+    document: &Document,
+    text: &[u8],
+) -> Result<Vec<ProofFile>, TextFault> {
+    let version = clause_version(document.version);
+    let text = match text_problems(alloc, text, Some(document.kind), version) {
+        Ok(text) => text,
+        Err(SpecFault::NoMemory) => return Err(TextFault::NotShown(ShowFault::NoMemory)),
+        Err(SpecFault::At { code, place }) => {
+            return Err(TextFault::Refused(refused(alloc, code, place)?.bytes));
+        }
+    };
+    files_of(alloc, &text.problems, &document.logs)
+}
+
+/// The version of the base clauses that a document's logs are over.
+fn clause_version(version: u32) -> u32
+    ensures { IsVersion result }
+{
+    match version {
+        1 => 1,
+        5 => 3,
+        _ => 2,
+    }
+}
+
+fn files_of(
+    alloc: Global,
+    problems: &SideProblems,
+    logs: &[LogPart],
+) -> Result<Vec<ProofFile>, TextFault>
+    requires { AreProblems problems.now }
+{
+    let mut files = Vec::new(alloc);
+    for log in logs {
+        push_files(alloc, problems, log, &mut files)?;
+    }
+    Ok(files)
+}
+
+fn push_files(
+    alloc: Global,
+    problems: &SideProblems,
+    log: &LogPart,
+    files: &mut Vec<ProofFile>,
+) -> Result<(), TextFault>
+    requires { AreProblems problems.now }
+{
+    if log.size < 1 || log.size > MOST_STATES {
+        return Err(TextFault::NotShown(ShowFault::OtherText(log.line)));
+    }
+    let Some(base) = base_of(alloc, problems, log.side, log.size)? else {
+        return Err(TextFault::NotShown(ShowFault::OtherText(log.line)));
+    };
+    if base.vars != log.vars || base.clauses.len() as u64 != log.base {
+        return Err(TextFault::NotShown(ShowFault::OtherText(log.line)));
+    }
+    push_three(alloc, &base, log, files)?;
+    Ok(())
+}
+
+fn push_three(
+    alloc: Global,
+    base: &Cnf,
+    log: &LogPart,
+    files: &mut Vec<ProofFile>,
+) -> Result<(), AllocError> {
+    let mut bytes = Vec::new(alloc);
+    push_formula(base, &mut bytes)?;
+    push_file(alloc, log, "cnf", bytes, files)?;
+    let mut bytes = Vec::new(alloc);
+    push_lrat(log.base, &log.entries, &mut bytes)?;
+    push_file(alloc, log, "lrat", bytes, files)?;
+    let mut bytes = Vec::new(alloc);
+    push_drat(&log.entries, &mut bytes)?;
+    push_file(alloc, log, "drat", bytes, files)
+}
+
+fn push_file(
+    alloc: Global,
+    log: &LogPart,
+    form: &str,
+    bytes: Vec<u8>,
+    files: &mut Vec<ProofFile>,
+) -> Result<(), AllocError> {
+    let side = match log.side {
+        Side::System => "system",
+        Side::Environment => "environment",
+    };
+    let size = log.size;
+    let what = if is_closed(log) { "" } else { "-no-refutation" };
+    let ending = format!(in alloc; "-{side}-{size}{what}.{form}")?;
+    files.push(ProofFile { ending, bytes })?;
+    Ok(())
+}
+
+fn is_closed(log: &LogPart) -> bool {
+    log.entries
+        .last()
+        .is_some_and(|entry| entry.clause.lits().is_empty())
+}
