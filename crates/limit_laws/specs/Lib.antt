@@ -1,0 +1,4 @@
+pub mod Wider
+pub mod Laws
+pub mod Forms
+pub mod Taken

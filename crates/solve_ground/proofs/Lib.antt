@@ -1,0 +1,2 @@
+mod FormsMade
+pub mod Whole

@@ -1,0 +1,4 @@
+pub mod Taken
+pub mod Forms
+pub mod SolveText
+pub mod Parts
