@@ -9,3 +9,4 @@ pub mod BodyLemmas
 pub mod LogsWhole
 pub mod Whole
 pub mod WriteLemmas
+pub mod PlaceLemmas

@@ -7,3 +7,4 @@ pub mod Reading
 pub mod States
 pub mod Laws
 pub mod Shown
+pub mod Places

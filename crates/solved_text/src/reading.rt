@@ -1,6 +1,7 @@
 //! A document's bytes, line by line.
 ghost use Rattle.std.specs.Prelude.{◌≡◌, ◌+◌, ◌<◌, ◌^◌, ◌↔◌, IfOk, IfSome, IsTrue, length};
 ghost use Rattle.std.specs.Option.{option_copied};
+ghost use Rattle.solved_text.specs.Places.{AreNumbered};
 ghost use Rattle.solved_text.specs.Reading.{IsSixth, Reads, ReadsBehind, ReadsBody, ReadsRest, annotation_of as annotation_behind, bad_of as bad_line_behind, begins_sixth as is_begun_so, circuit_alone as with_circuit_alone, lines_with, no_rest, place_in as place_in_bytes, rest_behind};
 ghost use Rattle.solved_text.specs.Shown.{shown_annotation, shown_body, shown_logs, shown_rest};
 
@@ -139,6 +140,7 @@ fn begins_sixth(bytes: &[u8]) -> bool
 /// It is linear in the bytes.
 pub fn read_solved(alloc: Global, bytes: &[u8]) -> Result<SolvedLines, AllocError>
     ensures reads { IfOk result (Reads bytes.now) }
+    ensures numbered { IfOk result (AreNumbered bytes.now) }
 {
     if bytes.starts_with(b"boundsyn ") {
         let body = read_body(alloc, false, 1, bytes)?;

@@ -1,5 +1,6 @@
 use Rattle.std.proofs.Common.{◌≡◌, ℕ, ◌-◌, ◌^◌, ◌<◌, true, false, Some, None, List, length, take, drop, sym, ap, subst, ◌∙◌, arith, rules, inl, inr}
 use Rattle.std.proofs.lemmas.List.{take_all, length-drop}
+use Rattle.std.specs.Prelude.{IfOk}
 use Rattle.std.proofs.lemmas.Result.{IfOk-weaker}
 use Rattle.aiger_text.specs.CircuitFile.{File, IsFirstFault}
 use Rattle.cert_text.specs.declared.reading.CircuitPart.TheVariants.{Stated}
@@ -8,19 +9,23 @@ use Rattle.cert_text.proofs.LogsLemmas.{some_none}
 use Rattle.cert_text.proofs.CommentLine.{comment_fits}
 use Rattle.solved_text.specs.Reading.{Reads, ReadsBehind, without_circuit, of_fault, uncommented, commented, circuit_alone}
 use Rattle.solved_text.specs.Shown.{shown_body}
+use Rattle.solved_text.specs.Places.{AreNumbered}
+use Rattle.solved_text.proofs.PlaceLemmas.{numbered}
 use Rattle.solved_text.proofs.reading.read_solved.Goals as goal
 
 pub returns-then-starts_with : goal.returns-then-starts_with
 returns-then-starts_with c =
     let begins : begins_without_circuit c.args.bytes.now ≡ true = search rules in
-    record { reads = rw c.behind.ensures (without_circuit (shown_body c.in_ok-body.body) begins c.in_ok-body.ensures) }
+    let reads : Reads c.args.bytes.now c.behind.result = rw c.behind.ensures (without_circuit (shown_body c.in_ok-body.body) begins c.in_ok-body.ensures) in
+    record { reads = reads; numbered = numbered c.args.bytes.now (search rules) c.behind.result reads }
 
 pub returns-in-Err : goal.returns-in-Err
 returns-in-Err c =
     let begins : begins_without_circuit c.args.bytes.now ≡ false = search rules in
     let fault : IsFirstFault c.args.bytes.now c.in-Err.fault =
     elim c.in-Err.ensures.fault [ inl none ↦ absurd (some_none c.fault_line.result c.in-Some.line c.in-Some.is (c.fault_line.ensures.no_memory none)) | inr first ↦ first ] in
-    record { reads = rw (c.circuit_alone.ensures, c.in-Some.ensures.line) (of_fault c.in-Err.fault begins fault) }
+    let reads : Reads c.args.bytes.now c.circuit_alone.result = rw (c.circuit_alone.ensures, c.in-Some.ensures.line) (of_fault c.in-Err.fault begins fault) in
+    record { reads = reads; numbered = numbered c.args.bytes.now (search rules) c.circuit_alone.result reads }
 
 pub returns-in_default-comment_at : goal.returns-in_default-comment_at
 returns-in_default-comment_at c =
@@ -28,7 +33,8 @@ returns-in_default-comment_at c =
     let none : c.in-Ok.file.comment_at ≡ None = ap (λ (f : File). f.comment_at) (sym c.file.view_is) ∙ c.in_default-comment_at.is in
     let read : c.circuit_alone-in_default-comment_at.result ≡ circuit_alone (Stated c.in-Ok.file) c.in-Ok.file.comment_line =
     c.circuit_alone-in_default-comment_at.ensures ∙ ap (λ (f : File). circuit_alone (Stated c.in-Ok.file) f.comment_line) c.file.view_is in
-    record { reads = rw read (uncommented c.in-Ok.file begins c.in-Ok.ensures.states none) }
+    let reads : Reads c.args.bytes.now c.circuit_alone-in_default-comment_at.result = rw read (uncommented c.in-Ok.file begins c.in-Ok.ensures.states none) in
+    record { reads = reads; numbered = numbered c.args.bytes.now (search rules) c.circuit_alone-in_default-comment_at.result reads }
 
 pub read_behind-requires : goal.read_behind-requires
 read_behind-requires c =
@@ -47,8 +53,9 @@ returns c =
     let whole : take (length c.args.bytes.now - c.in-Some-comment_at.at) (drop c.in-Some-comment_at.at c.args.bytes.now) ≡ drop c.in-Some-comment_at.at c.args.bytes.now =
     take_all (length c.args.bytes.now - c.in-Some-comment_at.at) (drop c.in-Some-comment_at.at c.args.bytes.now)
     (omega (arith, length-drop c.in-Some-comment_at.at c.args.bytes.now)) in
-    record {
-      reads = IfOk-weaker c.read_behind.result (ReadsBehind c.args.bytes.now c.in-Ok.file (take (length c.args.bytes.now - c.in-Some-comment_at.at) (drop c.in-Some-comment_at.at c.args.bytes.now))) (Reads c.args.bytes.now)
-          (λ lines behind. commented c.in-Ok.file c.in-Some-comment_at.at lines begins c.in-Ok.ensures.states some
-          (subst (λ (comment : List ℕ). ReadsBehind c.args.bytes.now c.in-Ok.file comment lines) whole behind)) c.read_behind.ensures;
-    }
+    let reads : IfOk c.read_behind.result (Reads c.args.bytes.now) =
+    IfOk-weaker c.read_behind.result (ReadsBehind c.args.bytes.now c.in-Ok.file (take (length c.args.bytes.now - c.in-Some-comment_at.at) (drop c.in-Some-comment_at.at c.args.bytes.now))) (Reads c.args.bytes.now)
+    (λ lines behind. commented c.in-Ok.file c.in-Some-comment_at.at lines begins c.in-Ok.ensures.states some
+    (subst (λ (comment : List ℕ). ReadsBehind c.args.bytes.now c.in-Ok.file comment lines) whole behind)) c.read_behind.ensures in
+    let small : length c.args.bytes.now < 2 ^ 63 = search rules in
+    record { reads = reads; numbered = IfOk-weaker c.read_behind.result (Reads c.args.bytes.now) (AreNumbered c.args.bytes.now) (numbered c.args.bytes.now small) reads }

@@ -1,0 +1,108 @@
+-- A document that holds for a text is true of what the text wants.
+use Rattle.std.proofs.Common.{◌≡◌, ℕ, ◌<◌, ◌≤◌, true, Option, List, [], ◌∷◌, length, refl, sym, ap, subst, ◌∙◌, arith}
+use Rattle.std.proofs.lemmas.Bool.{and_parts}
+use Rattle.std.specs.Prelude.{All, IfSome, Some, is_some, map}
+use Rattle.std.specs.Bool.{beq}
+use Rattle.letter_word.specs.declared.kinds.Kind.{Kind}
+use Rattle.letter_word.specs.declared.kinds.Kind.TheVariants.{Mealy, Moore}
+use Rattle.letter_word.specs.declared.kinds.Side.{Side}
+use Rattle.letter_word.specs.declared.kinds.Side.TheVariants.{System, Environment}
+use Rattle.letter_word.specs.contracts.kinds.KindPartialEq.TheImpl.{ghosts as kind_ghosts}
+use Rattle.letter_word.specs.Kinds.{other_kind}
+use Rattle.aiger_text.specs.Circuit.{Circuit, IsCircuitOfKind}
+use Rattle.named_annotation.specs.Laws.{IsNeverTrue}
+use Rattle.solve_ground.specs.declared.texts.SolveText.{SolveText}
+use Rattle.solve_ground.specs.SolveText.{IsFormOf, IsSolveText}
+use Rattle.solved_text.specs.declared.documents.Verdict.{Verdict}
+use Rattle.solved_text.specs.declared.documents.Verdict.TheVariants.{Realizable, Unrealizable, Unknown}
+use Rattle.solved_text.specs.Parts.{Document, SizeLog}
+use Rattle.solved_text.specs.States.{States}
+use Rattle.solve_check.specs.declared.acceptance.Acceptance.{Acceptance}
+use Rattle.solve_check.specs.Accepted.{IsAcceptedSolved, IsController, IsCounterStrategy, IsTrueOf}
+use Rattle.solve_check.specs.Checked.{IsAcceptedAs}
+use Rattle.solve_check.specs.Given.{form_for, kind_for}
+use Rattle.solve_check.specs.Holds.{HasCircuit, HasWhatIsSaid, HoldsSolved}
+use Rattle.solve_check.specs.Line.{acceptance_of}
+use Rattle.solve_check.specs.Parts.{AreLaws, IsSound}
+use Rattle.solve_check.specs.SizeLogs.{LogHoldsSix}
+use Rattle.solve_check.proofs.Meaning.{defeats, satisfies}
+
+kinds_are : (k l : Kind) → kind_ghosts.eq k l ≡ true → k ≡ l
+kinds_are Mealy Mealy e = refl
+kinds_are Mealy Moore e = absurd (cc)
+kinds_are Moore Mealy e = absurd (cc)
+kinds_are Moore Moore e = refl
+
+-- no log holds, so there is none
+no_logs : (t : SolveText) (side : Side) (logs : List SizeLog) → All (LogHoldsSix t side) logs → length logs ≡ 0
+no_logs t side [] all = refl
+no_logs t side (l ∷ logs) all = absurd (all 0 l (omega arith))
+
+module _ (laws : AreLaws) (text : List ℕ) (given : Option Kind) (t : SolveText) (is : IsSolveText text given t) (d : Document) (sound : IfSome d.circuit IsSound) where
+  module _ (side : Side) (n : ℕ) (has : HasCircuit t side n d) (form : IsFormOf side t.formulas is.wanted (form_for t side)) where
+    sound_here : IsSound has.circuit
+    sound_here = subst (λ (o : Option Circuit). IfSome o IsSound) has.circuit_is sound
+
+    of_kind : IsCircuitOfKind (kind_for t side) has.circuit
+    of_kind = sound_here.kind side (kind_for t side) has.annotation.named.automaton has.annotation.named.list.pairs has.annotation.valid
+
+    never_true : IsNeverTrue side has.circuit t.formulas (form_for t side)
+    never_true =
+        laws.annotations side has.circuit (kind_for t side) t.formulas (form_for t side) d.annotation (length has.circuit.latches) (length has.circuit.inputs) has.annotation.named
+        is.list form.stands form.normal has.annotation.stated has.annotation.valid
+
+    none_refuted : (k : ℕ) {P : Type 0} → 0 < k → k ≤ length d.logs → P
+    none_refuted k pos few = let none : length d.logs ≡ 0 = no_logs t side d.logs has.logs in absurd (omega (arith, pos, few, none))
+
+  controller : (n : ℕ) → HasCircuit t System n d → IsController is.wanted n (length d.logs) d
+  controller n has = record {
+    circuit = has.circuit;
+    circuit_is = has.circuit_is;
+    is_circuit = (sound_here System n has is.negated).is_circuit;
+    satisfies = satisfies t.formulas is.wanted t.negated has.circuit is.negated (never_true System n has is.negated)
+        (subst (λ (k : Kind). IsCircuitOfKind k has.circuit) is.kind_is (of_kind System n has is.negated))
+        (has.names.inputs ∙ ap (map Some) is.inputs) (has.names.outputs ∙ ap (map Some) is.outputs);
+    runs = (sound_here System n has is.negated).runs System;
+    states = has.states;
+    no_machine = λ k pos few. none_refuted System n has is.negated k pos few;
+    no_circuit = λ k few. laws.no_controller is.wanted (length d.logs) (λ j pos less. none_refuted System n has is.negated j pos less) k few;
+  }
+
+  counter_strategy : (n : ℕ) → HasCircuit t Environment n d → IsCounterStrategy is.wanted n (length d.logs) d
+  counter_strategy n has = record {
+    circuit = has.circuit;
+    circuit_is = has.circuit_is;
+    is_circuit = (sound_here Environment n has is.normal).is_circuit;
+    defeats = defeats t.formulas is.wanted t.normal has.circuit laws.defeat (sound_here Environment n has is.normal).is_circuit is.normal (never_true Environment n has is.normal)
+        (subst (λ (k : Kind). IsCircuitOfKind (other_kind k) has.circuit) is.kind_is (of_kind Environment n has is.normal))
+        (has.names.inputs ∙ ap (map Some) is.outputs) (has.names.outputs ∙ ap (map Some) is.inputs);
+    runs = (sound_here Environment n has is.normal).runs Environment;
+    states = has.states;
+    no_machine = λ k pos few. none_refuted Environment n has is.normal k pos few;
+    no_circuit = λ k few. laws.no_counter_strategy is.wanted (length d.logs) (λ j pos less. none_refuted Environment n has is.normal j pos less) k few;
+  }
+
+  true_of : (v : Verdict) → HasWhatIsSaid t d v → IsTrueOf is.wanted d v
+  true_of (Realizable n) has = controller n has
+  true_of (Unrealizable n) has = counter_strategy n has
+  true_of Unknown has = tt
+
+  pub accepted : (bytes : List ℕ) → States bytes d → HoldsSolved t d → IsAcceptedSolved text given bytes d
+  accepted bytes states holds =
+      let same : t.kind ≡ d.kind = kinds_are t.kind d.kind (and_parts (kind_ghosts.eq t.kind d.kind) (beq (is_some t.semantics) d.converted) holds.taken).0 in
+      record {
+        known = t;
+        is_known = is;
+        states = states;
+        holds = holds;
+        flat = is.flat;
+        wanted = is.wanted;
+        taken = is.taken;
+        kind_is = sym same ∙ is.kind_is;
+        verdict = true_of d.verdict holds.said;
+      }
+
+  -- and this is told of it
+  pub accepted_as : (bytes : List ℕ) (a : Acceptance) → States bytes d → HoldsSolved t d → a ≡ acceptance_of t d → IsAcceptedAs text given bytes a
+  unfolding accepted
+  accepted_as bytes a states holds told = record { document = d; accepted = accepted bytes states holds; told = told }

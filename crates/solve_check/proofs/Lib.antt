@@ -1,0 +1,12 @@
+mod Names
+mod Meaning
+mod Bounds
+mod Never
+mod Same
+mod Held
+mod Accepted
+mod Determined
+mod Passing
+mod Answered
+mod CountedLemmas
+mod LogLemmas

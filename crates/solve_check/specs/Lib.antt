@@ -1,0 +1,10 @@
+pub mod Given
+pub mod SizeLogs
+pub mod FirstBad
+pub mod Holds
+pub mod Line
+pub mod Accepted
+pub mod Checked
+pub mod Asked
+pub mod Laws
+pub mod Parts
