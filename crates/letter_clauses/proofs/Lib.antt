@@ -1,0 +1,9 @@
+pub mod Within
+pub mod ClauseOrder
+pub mod ClausesAll
+pub mod Renumbered
+pub mod Tables
+pub mod Meets
+pub mod Restricted
+pub mod Refuted
+pub mod AllLetters

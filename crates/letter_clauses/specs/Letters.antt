@@ -1,0 +1,40 @@
+use Rattle.std.specs.Prelude.{◌≡◌, ◌≢◌, ℕ, ◌+◌, ◌*◌, ◌^◌, ◌<◌, ◌≤◌, List, [], All, AllPairs, slice_index}
+use Rattle.machine_model.specs.Automaton.{states_of}
+use Rattle.machine_model.specs.Components.{AreComponentsOf, ComponentsModel}
+use Rattle.machine_model.specs.Problem.{NamesSignals, automaton_of, reads_of}
+use Rattle.machine_model.specs.declared.problems.Problem.{Problem}
+use Rattle.annotation_encode.specs.Variables.{counted_before}
+
+-- Base clauses of version 4 speak of some of the letters that a machine reads, and count as those of version 3 do (this
+-- project's own).
+
+-- a list of letters of so many read signals: some, each by its number, by rising number
+pub record IsLetterList (signals : ℕ) (letters : List ℕ) : Type 0 where
+  pub some : letters ≢ []
+  pub below : All (λ letter. letter < 2 ^ signals) letters
+  pub rising : AllPairs (λ letter later. letter < later) letters
+
+-- the letter at a place of the list
+abbrev pub letter_at : List ℕ → ℕ → ℕ
+letter_at letters k = slice_index letters k
+
+-- the search for a machine of one size over some letters, within the limits of version 4 (this project's own)
+pub record IsLetterProblem (p : Problem) (letters : List ℕ) : Type 0 where
+  pub inputs : p.inputs ≤ 16
+  pub outputs : p.outputs ≤ 16
+  pub some : 1 ≤ p.size
+  pub size : p.size ≤ 16
+  pub states : states_of (automaton_of p) ≤ 20000
+  pub signals : All (NamesSignals (p.inputs + p.outputs)) (automaton_of p).edges
+  pub local : p.version ≡ 3
+  pub list : IsLetterList (reads_of p) letters
+
+-- the same with the components by which its numbers are counted
+pub record IsLetterSize (p : Problem) (components : ComponentsModel) (letters : List ℕ) : Type 0 where
+  pub problem : IsLetterProblem p letters
+  pub right : AreComponentsOf (automaton_of p) components
+
+-- and so few numbers that each variable has one of 32 bits, as where the clauses are few enough
+pub record IsSmallSize (p : Problem) (components : ComponentsModel) (letters : List ℕ) : Type 0 where
+  pub within : IsLetterSize p components letters
+  pub few : p.size * (p.size * counted_before p (states_of (automaton_of p))) ≤ 4000000
