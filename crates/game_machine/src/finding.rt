@@ -32,17 +32,32 @@ pub struct Found {
     pub circuit: Circuit,
 }
 
+/// What comes of a contest.
+#[derive(Drop)]
+pub enum Outcome {
+    Found(Found),
+    /// Nobody wins.
+    NoWin(End),
+    /// This side wins, and its machine has too many moves, its circuit has too many variables, or they take too many steps to make.
+    NoCircuit(Side),
+}
+
+/// How games end that nobody wins.
+#[derive(Clone, Copy, Debug, PartialEq, Eq)]
+pub enum End {
+    /// No game is left that could be won: each is lost, or has no room for its positions.
+    Over,
+    /// The budget's steps are used up.
+    Steps,
+}
+
 /// The first game of each side may take so many steps, or an eighth of the budget where that is less, so that each game has its turn.
 /// From round to round there are four times as many.
 const FIRST_SLICE: u64 = 50_000;
 
-/// Plays both sides in turn until one of them wins. None says that no game is left that could be won, that the budget is used up or
-/// that there is no circuit of the win within it; an error that memory ran out.
-pub fn find(
-    alloc: Global,
-    contest: Contest<'_>,
-    budget: Budget,
-) -> Result<Option<Found>, AllocError> {
+/// Plays both sides in turn until one of them wins, no game is left that could be won, or the budget is used up. An error says that
+/// memory ran out.
+pub fn find(alloc: Global, contest: Contest<'_>, budget: Budget) -> Result<Outcome, AllocError> {
     let mut left = budget;
     let system = contest.arena(alloc, Side::System, &mut left)?;
     let environment = contest.arena(alloc, Side::Environment, &mut left)?;
@@ -52,7 +67,16 @@ pub fn find(
     }
     match first_win(&mut sides, &mut left)? {
         Some(win) => contest.found(alloc, win),
-        None => Ok(None),
+        None => Ok(Outcome::NoWin(end_of(left))),
+    }
+}
+
+/// How games that nobody won ended, by what is left of their budget.
+fn end_of(left: Budget) -> End {
+    if left.steps == 0 {
+        End::Steps
+    } else {
+        End::Over
     }
 }
 
@@ -112,7 +136,7 @@ impl Contest<'_> {
     }
 
     /// The circuit of a win.
-    fn found(&self, alloc: Global, win: Win<'_>) -> Result<Option<Found>, AllocError> {
+    fn found(&self, alloc: Global, win: Win<'_>) -> Result<Outcome, AllocError> {
         let side = win.game.arena.player.side;
         let (read, written) = match side {
             Side::System => (self.inputs, self.outputs),
@@ -120,16 +144,16 @@ impl Contest<'_> {
         };
         let steps = win.steps;
         let Some(machine) = unless_memory(machine_of(alloc, win))? else {
-            return Ok(None);
+            return Ok(Outcome::NoCircuit(side));
         };
         let states = machine.states.len();
         match unless_memory(circuit_of(alloc, &machine, read, written, steps))? {
-            Some(circuit) => Ok(Some(Found {
+            Some(circuit) => Ok(Outcome::Found(Found {
                 side,
                 states,
                 circuit,
             })),
-            None => Ok(None),
+            None => Ok(Outcome::NoCircuit(side)),
         }
     }
 }

@@ -15,5 +15,5 @@ mod making;
 mod products;
 mod spare_positions;
 
-pub use finding::{Contest, Found, find};
+pub use finding::{Contest, End, Found, Outcome, find};
 pub use safety_game::Budget;

@@ -1,0 +1,158 @@
+//! A text that is played, and what comes of it.
+
+use crate::headings::{Heading, Sides, Slip};
+use crate::tests::passes;
+use game_machine::{Budget, Contest, Found, Outcome, find};
+use letter_word::Side;
+use machine_model::{Automaton, Edge, Problem};
+use spec_problems::{TextProblems, text_problems};
+use std::alloc::{AllocError, Global};
+
+const MOST_POSITIONS: usize = 100_000;
+
+const MOST_BYTES: usize = 1_000_000_000;
+
+/// A heading, and what comes of its text.
+pub(crate) fn push_row(
+    alloc: Global,
+    out: &mut Vec<u8>,
+    heading: &[u8],
+    text: &[u8],
+) -> Result<(), AllocError> {
+    out.extend_from_slice(heading)?;
+    match text_problems(alloc, text, None, 1) {
+        Ok(problems) => push_play(alloc, out, Heading::of(heading), &problems),
+        Err(fault) => {
+            let line = format!(in alloc; "{fault}\n")?;
+            out.extend_from_slice(line.as_bytes())
+        }
+    }
+}
+
+/// Plays the sides that the heading names.
+fn push_play(
+    alloc: Global,
+    out: &mut Vec<u8>,
+    heading: Heading,
+    text: &TextProblems,
+) -> Result<(), AllocError> {
+    let system = told(alloc, text, Side::System, heading.slip)?;
+    let environment = told(alloc, text, Side::Environment, heading.slip)?;
+    let contest = contest(text, heading, system.as_ref(), environment.as_ref());
+    let budget = Budget {
+        steps: heading.steps,
+        positions: MOST_POSITIONS,
+        bytes: MOST_BYTES,
+    };
+    let Outcome::Found(found) = find(alloc, contest, budget)? else {
+        return out.extend_from_slice(b"nobody\n");
+    };
+    match problem_of(text, found.side) {
+        Some(problem) => push_found(alloc, out, problem, &found, heading),
+        None => out.extend_from_slice(b"a side that has no automaton\n"),
+    }
+}
+
+/// The automaton of a side as the games are told of it.
+fn told(
+    alloc: Global,
+    text: &TextProblems,
+    side: Side,
+    slip: Slip,
+) -> Result<Option<Automaton>, AllocError> {
+    let whose = match (slip, side) {
+        (Slip::Exchange, Side::System) => Side::Environment,
+        (Slip::Exchange, Side::Environment) => Side::System,
+        _ => side,
+    };
+    match problem_of(text, whose) {
+        Some(problem) => slipped(alloc, &problem.automaton, slip),
+        None => Ok(None),
+    }
+}
+
+/// The automaton with what the slip leaves of it.
+fn slipped(
+    alloc: Global,
+    automaton: &Automaton,
+    slip: Slip,
+) -> Result<Option<Automaton>, AllocError> {
+    let mut edges = Vec::new(alloc);
+    for edge in automaton.edges() {
+        match slip {
+            Slip::Edges => {}
+            Slip::Ends => edges.push(Edge {
+                to: edge.from,
+                ..*edge
+            })?,
+            _ => edges.push(*edge)?,
+        }
+    }
+    let mut rejecting = Vec::new(alloc);
+    for state in 0..automaton.states() {
+        rejecting.push(automaton.is_rejecting(state) && !matches!(slip, Slip::Marks))?;
+    }
+    if rejecting.len() > 1_000_000 {
+        return Ok(None);
+    }
+    Ok(Automaton::new(edges, rejecting).ok())
+}
+
+/// What the games are told.
+fn contest<'a>(
+    text: &'a TextProblems,
+    heading: Heading,
+    system: Option<&'a Automaton>,
+    environment: Option<&'a Automaton>,
+) -> Contest<'a> {
+    let kind = match heading.slip {
+        Slip::Kind => text.spec.kind.other(),
+        _ => text.spec.kind,
+    };
+    let (system, environment) = match heading.sides {
+        Sides::Both => (system, environment),
+        Sides::System => (system, None),
+        Sides::Environment => (None, environment),
+    };
+    Contest {
+        inputs: &text.spec.inputs,
+        outputs: &text.spec.outputs,
+        kind,
+        system,
+        environment,
+    }
+}
+
+fn problem_of(text: &TextProblems, side: Side) -> Option<&Problem> {
+    match side {
+        Side::System => Some(&text.problems.system),
+        Side::Environment => text.problems.environment.as_ref(),
+    }
+}
+
+/// Who wins, and with what, where the circuit passes the test.
+fn push_found(
+    alloc: Global,
+    out: &mut Vec<u8>,
+    problem: &Problem,
+    found: &Found,
+    heading: Heading,
+) -> Result<(), AllocError> {
+    let winner = match problem.side {
+        Side::System => "system",
+        Side::Environment => "environment",
+    };
+    if !passes(alloc, problem, &found.circuit)? {
+        let line = format!(in alloc; "{winner} is rejected\n")?;
+        return out.extend_from_slice(line.as_bytes());
+    }
+    let states = found.states;
+    let gates = (found.circuit.gates.len() as u64).saturating_mul(5);
+    let size = if gates <= heading.gates.saturating_mul(6) {
+        "few"
+    } else {
+        "many"
+    };
+    let line = format!(in alloc; "{winner} passes, {states} states, {size} gates\n")?;
+    out.extend_from_slice(line.as_bytes())
+}
