@@ -1,0 +1,36 @@
+-- How the answers of `solve` are made (this project's own).
+use Rattle.std.specs.Prelude.{ℕ, List, [], Option, None, is_some}
+use Rattle.letter_word.specs.declared.kinds.Kind.{Kind}
+use Rattle.ltl_formula.specs.Nodes.{tree_at}
+use Rattle.ltl_formula.specs.NormalForm.{IsNormal}
+use Rattle.program_replies.specs.declared.replies.Reply.{Reply}
+use Rattle.program_replies.specs.declared.replies.Status.{Status}
+use Rattle.program_replies.specs.declared.replies.Status.TheVariants as ended
+use Rattle.program_replies.specs.Statuses.{status_number}
+use Rattle.solve_ground.specs.declared.texts.SolveText.{SolveText}
+use Rattle.solve_ground.specs.SolveText.{IsSolveText}
+use Rattle.solved_text.specs.declared.documents.Verdict.{Verdict}
+use Rattle.solved_text.specs.declared.documents.Verdict.TheVariants.{Realizable, Unrealizable, Unknown}
+use Rattle.solved_text.specs.Parts.{Document}
+use Rattle.solve_check.specs.Checked.{IsReady}
+use Rattle.solve_answer.specs.Answer.{SolveAnswers}
+
+-- both forms of a text's whole stand in its list, in normal form, and its signals are few
+pub record CanBePlayed (t : SolveText) : Type 0 where
+  pub ready : IsReady t
+  pub negated : IsNormal (tree_at t.formulas t.negated)
+  pub normal : IsNormal (tree_at t.formulas t.normal)
+
+-- the status of a document of this verdict
+abbrev pub status_of : Verdict → Status
+status_of (Realizable n) = ended.Realizable
+status_of (Unrealizable n) = ended.Unrealizable
+status_of Unknown = ended.Unknown
+
+-- the document that says that neither was found
+abbrev pub unknown_document : SolveText → Document
+unknown_document t = record { verdict = Unknown; kind = t.kind; converted = is_some t.semantics; circuit = None; logs = []; annotation = [] }
+
+-- the reply answers each text of which this is known
+abbrev pub AnswersEach : SolveText → Reply → Type 0
+AnswersEach t r = (text : List ℕ) (given : Option Kind) → IsSolveText text given t → SolveAnswers text given r.bytes.items (status_number r.status)

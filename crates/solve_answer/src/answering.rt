@@ -1,0 +1,110 @@
+//! The answer to a text.
+ghost use Rattle.std.specs.Prelude.{◌≡◌, IfOk, IfSome};
+ghost use Rattle.program_replies.specs.Statuses.{status_number};
+ghost use Rattle.solve_answer.specs.Answer.{SolveAnswers};
+ghost use Rattle.solve_answer.specs.Parts.{AnswersEach, CanBePlayed, status_of as status_for};
+
+use crate::documents::{strategy_text, unknown_text};
+use crate::finding::{Search, Strategy, find_strategy};
+use game_machine::Budget;
+use letter_word::Kind;
+use program_replies::{Reply, Status, refusal};
+use solve_check::{Checked, check_solved};
+use solve_ground::{SolveText, solve_text};
+use solve_told::{Told, Withheld};
+use solved_text::Verdict;
+use std::alloc::{AllocError, Global};
+
+/// What the games of a text may use, unless something else is asked for.
+pub const GAME_BUDGET: Budget = Budget {
+    steps: 500_000_000,
+    positions: 100_000,
+    bytes: 1_000_000_000,
+};
+
+/// An answer, and what is told beside it.
+#[derive(Drop)]
+pub struct Solved {
+    pub reply: Reply,
+    pub told: Told,
+}
+
+/// The answer to a text, whose machines are of the given kind, or of the text's TARGET: the line of its first fault with status 1, or a
+/// document of version 6, with status 10 where it has a controller, 20 where it has a counter-strategy, and 30 where neither was found.
+/// No size is refuted. Where memory runs out in the games, neither was found.
+///
+/// It takes the time of both automata, of the games' budget, and of the circuit's states and pairs with each letter that is read, once to
+/// find the annotation and once to test it.
+pub fn solve(
+    alloc: Global,
+    text: &[u8],
+    given: Option<Kind>,
+    budget: Budget,
+) -> Result<Solved, AllocError>
+    ensures { IfOk result (λ s. SolveAnswers text.now given s.reply.bytes.items (status_number s.reply.status)) }
+{
+    match solve_text(alloc, text, given) {
+        Ok(known) => answer(alloc, &known, budget),
+        Err(fault) => Ok(Solved {
+            reply: refusal(alloc, fault)?,
+            told: Told::Refused,
+        }),
+    }
+}
+
+/// The answer to a text that is known.
+fn answer(alloc: Global, text: &SolveText, budget: Budget) -> Result<Solved, AllocError>
+    requires { CanBePlayed text.now }
+    ensures { IfOk result (λ s. AnswersEach text.now s.reply) }
+{
+    match find_strategy(alloc, text, budget)? {
+        Search::Of(strategy) => tested(alloc, text, strategy),
+        Search::Without(told) => unknown(alloc, text, told),
+    }
+}
+
+/// The document of a strategy, where it is accepted.
+fn tested(alloc: Global, text: &SolveText, strategy: Strategy) -> Result<Solved, AllocError>
+    requires { CanBePlayed text.now }
+    ensures { IfOk result (λ s. AnswersEach text.now s.reply) }
+{
+    let side = strategy.side;
+    let states = strategy.states;
+    let bytes = strategy_text(alloc, text, strategy)?;
+    match check_solved(alloc, text, &bytes)? {
+        Checked::Accepted(accepted) => Ok(Solved {
+            reply: Reply {
+                bytes,
+                status: status_of(accepted.verdict),
+            },
+            told: Told::Found(side, states),
+        }),
+        Checked::BadLine(line) => {
+            unknown(alloc, text, Told::Withheld(side, Withheld::BadLine(line)))
+        }
+    }
+}
+
+/// The document that says that neither was found, and why.
+fn unknown(alloc: Global, text: &SolveText, told: Told) -> Result<Solved, AllocError>
+    ensures { IfOk result (λ s. AnswersEach text.now s.reply) }
+{
+    Ok(Solved {
+        reply: Reply {
+            bytes: unknown_text(alloc, text)?,
+            status: Status::Unknown,
+        },
+        told,
+    })
+}
+
+/// The status of a document of this verdict.
+fn status_of(verdict: Verdict) -> Status
+    ensures { result ≡ status_for verdict }
+{
+    match verdict {
+        Verdict::Realizable(_) => Status::Realizable,
+        Verdict::Unrealizable(_) => Status::Unrealizable,
+        Verdict::Unknown => Status::Unknown,
+    }
+}

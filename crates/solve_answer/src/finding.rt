@@ -1,0 +1,194 @@
+//! A circuit of a side that wins, with its annotation. Nothing is said of what is found: it is tested.
+ghost use Rattle.ltl_formula.specs.Nodes.{Stands, tree_at};
+ghost use Rattle.ltl_formula.specs.NormalForm.{IsNormal};
+ghost use Rattle.solve_answer.specs.Parts.{CanBePlayed};
+
+use crate::told::{end_of, limit_of};
+use aiger_text::Circuit;
+use annotation_maker::{Made, Maker, annotation_of};
+use cobuchi_build::{BuildFault, build};
+use game_machine::{Budget, Contest, Found, Outcome, find};
+use letter_word::Side;
+use ltl_formula::{FormulaId, Formulas};
+use machine_model::Automaton;
+use obligation_sets::Covering;
+use reached_states::reached_states;
+use solve_ground::SolveText;
+use solve_told::{NotWon, Told, Withheld};
+use std::alloc::{AllocError, Global};
+use text_limits::LARGE_LIMITS;
+
+/// The steps that the system may take before the environment's automaton is made.
+const FIRST_STEPS: u64 = 1_000_000;
+
+/// The most states that a document tells of.
+const MOST_STATES: usize = 65_536;
+
+/// The most inputs of a circuit whose states are counted.
+const MOST_INPUTS: usize = 16;
+
+/// The most steps that are taken to count a circuit's states.
+const MOST_STEPS: usize = 1 << 26;
+
+/// A circuit of a side, how many states it reaches, and the lines of its annotation.
+#[derive(Drop)]
+pub(crate) struct Strategy {
+    pub(crate) side: Side,
+    pub(crate) states: u32,
+    pub(crate) circuit: Circuit,
+    pub(crate) annotation: Vec<u8>,
+}
+
+/// A strategy, or why there is none.
+#[derive(Drop)]
+pub(crate) enum Search {
+    Of(Strategy),
+    Without(Told),
+}
+
+/// The strategy of the side that wins within the budget, or why there is none.
+pub(crate) fn find_strategy(
+    alloc: Global,
+    text: &SolveText,
+    budget: Budget,
+) -> Result<Search, AllocError>
+    requires { CanBePlayed text.now }
+{
+    match who_wins(alloc, text, budget)? {
+        Winner::Of(found) => annotated(alloc, text, found),
+        Winner::Without(told) => Ok(Search::Without(told)),
+    }
+}
+
+/// Who wins with what, or why nobody does.
+#[derive(Drop)]
+enum Winner {
+    Of(Found),
+    Without(Told),
+}
+
+/// Who wins the game of the text. The system plays alone at first, since where it wins soon the environment's automaton isn't needed.
+fn who_wins(alloc: Global, text: &SolveText, budget: Budget) -> Result<Winner, AllocError>
+    requires { CanBePlayed text.now }
+{
+    let system = automaton(alloc, &text.formulas, text.negated)?;
+    let first = Budget {
+        steps: FIRST_STEPS.min(budget.steps),
+        ..budget
+    };
+    if let Winner::Of(found) = played(alloc, text, system.as_ref(), None, first) {
+        return Ok(Winner::Of(found));
+    }
+    let environment = automaton(alloc, &text.formulas, text.normal)?;
+    Ok(played(alloc, text, system.as_ref(), environment.as_ref(), budget))
+}
+
+/// Who wins the games of these automata. Where memory runs out in the games, neither side does.
+fn played(
+    alloc: Global,
+    text: &SolveText,
+    system: Option<&Automaton>,
+    environment: Option<&Automaton>,
+    budget: Budget,
+) -> Winner {
+    let contest = Contest {
+        inputs: &text.inputs,
+        outputs: &text.outputs,
+        kind: text.kind,
+        system,
+        environment,
+    };
+    match find(alloc, contest, budget) {
+        Ok(Outcome::Found(found)) => Winner::Of(found),
+        Ok(Outcome::NoWin(end)) => unwon(system, environment, NotWon::Ended(end_of(end))),
+        Ok(Outcome::NoCircuit(side)) => {
+            Winner::Without(Told::Withheld(side, Withheld::CircuitTooLarge))
+        }
+        Err(_) => unwon(system, environment, NotWon::NoMemory),
+    }
+}
+
+/// That neither side wins, for this reason, or since it has no automaton.
+fn unwon(system: Option<&Automaton>, environment: Option<&Automaton>, why: NotWon) -> Winner {
+    let system = unless_absent(system, why);
+    let environment = unless_absent(environment, why);
+    Winner::Without(Told::Neither(system, environment))
+}
+
+fn unless_absent(automaton: Option<&Automaton>, why: NotWon) -> NotWon {
+    match automaton {
+        Some(_) => why,
+        None => NotWon::AutomatonTooLarge,
+    }
+}
+
+/// The reduced automaton of what a side keeps from being true. None where it passes a limit.
+fn automaton(
+    alloc: Global,
+    formulas: &Formulas,
+    form: FormulaId,
+) -> Result<Option<Automaton>, AllocError>
+    requires stands { Stands formulas.now form }
+    requires normal { IsNormal (tree_at formulas.now form) }
+{
+    match build(
+        alloc,
+        formulas,
+        form,
+        Covering::Reduced,
+        LARGE_LIMITS.automaton,
+    ) {
+        Ok(automaton) => Ok(Some(automaton)),
+        Err(BuildFault::TooLarge) => Ok(None),
+        Err(BuildFault::TooManyNodes) => Ok(None),
+        Err(BuildFault::NoMemory) => Err(AllocError),
+    }
+}
+
+/// What was found with the number of its states and its annotation.
+fn annotated(alloc: Global, text: &SolveText, found: Found) -> Result<Search, AllocError> {
+    let side = found.side;
+    let Some(states) = states_of(alloc, &found.circuit)? else {
+        return Ok(withheld(side, Withheld::TooManyStates));
+    };
+    match annotation_of(alloc, maker(text, &found))? {
+        Made::Lines(annotation) => Ok(Search::Of(Strategy {
+            side,
+            states,
+            circuit: found.circuit,
+            annotation,
+        })),
+        Made::LetsThrough => Ok(withheld(side, Withheld::Loses)),
+        Made::TooLarge(limit) => Ok(withheld(side, Withheld::AnnotationTooLarge(limit_of(limit)))),
+    }
+}
+
+fn withheld(side: Side, why: Withheld) -> Search {
+    Search::Without(Told::Withheld(side, why))
+}
+
+/// How many states a circuit reaches, where a document may tell so many of it.
+fn states_of(alloc: Global, circuit: &Circuit) -> Result<Option<u32>, AllocError> {
+    let inputs = circuit.inputs.len();
+    if inputs > MOST_INPUTS {
+        return Ok(None);
+    }
+    let most = MOST_STATES.min(MOST_STEPS >> inputs);
+    match reached_states(alloc, circuit, most)? {
+        Some(states) => Ok(u32::try_from(states).ok()),
+        None => Ok(None),
+    }
+}
+
+/// What an annotation of what was found is of.
+fn maker<'a>(text: &'a SolveText, found: &'a Found) -> Maker<'a> {
+    Maker {
+        circuit: &found.circuit,
+        side: found.side,
+        formulas: &text.formulas,
+        form: match found.side {
+            Side::System => text.negated,
+            Side::Environment => text.normal,
+        },
+    }
+}
