@@ -5,10 +5,11 @@
 
 mod counting_gate;
 mod listening;
+mod wishes;
 
 use boundsyn_top::run;
 use counting_gate::CountingGate;
-use diagnostics::{Heard, KeptFiles, OwnWords, Seen, entry_limit, message, read_own_words};
+use diagnostics::{Heard, KeptFiles, OwnWords, Seen, message, read_own_words};
 use listening::{HearingSink, KeepingShelf};
 use outside_edge::{FileShelf, StdSink};
 use std::alloc::{AllocError, Global};
@@ -18,6 +19,7 @@ use std::process::ExitCode;
 use std::rt::{Clock, Files};
 use std::sync::Wait;
 use std::thread::Threads;
+use wishes::{entry_limit, is_batch};
 
 /// The status where memory runs out before there are words.
 const NO_MEMORY: u8 = 5;
@@ -103,12 +105,13 @@ where
         inner: FileShelf::new(rt, alloc),
         kept: KeptFiles::new(alloc),
     };
-    let is_batch = words.get(1).is_some_and(|word| word.as_str() == "batch");
     let mut out = HearingSink {
         inner: StdSink::new(rt),
-        heard: Heard::new(alloc, is_batch),
+        heard: Heard::new(alloc, is_batch(words)),
     };
-    let status = run(rt, alloc, words, &mut shelf, &mut out, &gate);
+    let mut told = None;
+    let status = run(rt, alloc, words, &mut shelf, &mut out, &gate, &mut told);
+    out.heard.tell(told);
     // Whoever closed the pipe wants no more of the output, and no word about it.
     let is_closed = out
         .inner

@@ -2,5 +2,6 @@ mod SinkLemmas
 mod FileLemmas
 mod BatchLemmas
 mod ReplyLemmas
+mod SolveLemmas
 mod RefusalLemmas
 mod RunLemmas

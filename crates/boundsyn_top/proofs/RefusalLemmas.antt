@@ -6,7 +6,7 @@ use Rattle.spec_faults.specs.declared.code.SpecCode.{SpecCode}
 use Rattle.outside_edge.specs.Files.{Files, bytes_under}
 use Rattle.program_replies.specs.Lines.{line_refusal, refusal_line}
 use Rattle.program_replies.proofs.RefusalLemmas.{one_refusal}
-use Rattle.program_words.specs.Settings.{Asked, batch, bench, check, core, expand, gen, lasso, synth, verify}
+use Rattle.program_words.specs.Settings.{Asked, batch, bench, check, core, expand, gen, lasso, solve, synth, verify}
 use Rattle.tlsf_expand.specs.FlatText.{FlatText}
 use Rattle.flat_text.specs.FlatOf.{IsFlatOf}
 use Rattle.spec_problems.specs.OfText.{IsFirstFault}
@@ -27,13 +27,17 @@ use Rattle.core_answer.specs.Core.{CoreAnswers, IsCoreFault, guarantees_in}
 use Rattle.core_answer.specs.Core as cores
 use Rattle.core_answer.specs.Laws.{CoreFaultsAreDetermined}
 use Rattle.batch_answer.specs.Laws.{ListsAreDetermined}
+use Rattle.solve_answer.specs.Answer.{SolveAnswers}
 use Rattle.batch_answer.specs.ListText.{IsFirstBadLineOfList}
 use Rattle.boundsyn_top.specs.Batch.{ListAnswers}
 use Rattle.boundsyn_top.specs.Batch as batches
 use Rattle.boundsyn_top.specs.Files.{HoldsOfFile}
 use Rattle.boundsyn_top.specs.Commands.{AnswersAsked}
-use Rattle.boundsyn_top.specs.Faults.{HasBadLine, HasFault, RefusalsAreDetermined}
+use Rattle.boundsyn_top.specs.Faults as faults_of_check
+use Rattle.boundsyn_top.specs.Faults.{HasBadLine, HasFault, IsBadCertificate, IsCheckFault, RefusalsAreDetermined}
+use Rattle.boundsyn_top.specs.Solving.{SolveFaultsAreDetermined}
 use Rattle.boundsyn_top.proofs.FileLemmas.{of_told}
+use Rattle.boundsyn_top.proofs.SolveLemmas.{solve_fault}
 
 module _ (problems : ProblemsOfTextsAreDetermined) where
   no_fault : (text : List ℕ) (kind : Option Kind) (settings : Settings) (bytes : List ℕ) (code : SpecCode) (place : ℕ) →
@@ -88,7 +92,19 @@ bad_list law told lines settings bytes status n (batches.bad_line m ended first 
 bad_list law told lines settings bytes status n (batches.answered names texts ended is_list are answer) bad = absurd (law.apart lines names n is_list bad)
 
 module _ (problems : ProblemsOfTextsAreDetermined) (checks : ChecksAreDetermined) (expansions : ExpandAnswersAreDue) (truths : LassoAnswersAreDue)
-    (verifications : VerificationsAreDetermined) (flats : FlatTextsAreDetermined) (faults : CoreFaultsAreDetermined) (lists : ListsAreDetermined) where
+    (verifications : VerificationsAreDetermined) (flats : FlatTextsAreDetermined) (faults : CoreFaultsAreDetermined) (lists : ListsAreDetermined)
+    (solvings : SolveFaultsAreDetermined) where
+  check_fault : (text document bytes : List ℕ) (status : ℕ) (code : SpecCode) (place : ℕ) → CheckAnswers text document bytes status →
+      IsCheckFault text document code place → (status ≡ 1) × (bytes ≡ refusal_line code place)
+  check_fault text document bytes status code place a (faults_of_check.of_text _ _ fault untested) = checks.of_fault text document bytes status code place a fault untested
+  check_fault text document bytes status code place a (faults_of_check.of_larger _ _ given sixth fault) =
+      checks.of_larger_fault text document bytes status code place a given sixth fault
+
+  bad_certificate : (text document bytes : List ℕ) (status n : ℕ) → CheckAnswers text document bytes status → IsBadCertificate text document n →
+      (status ≡ 40) × (bytes ≡ line_refusal n)
+  bad_certificate text document bytes status n a (faults_of_check.earlier given isnt first) = checks.of_bad_line text document bytes status given n a isnt first
+  bad_certificate text document bytes status n a (faults_of_check.solved given first) = checks.of_solved_bad_line text document bytes status given n a first
+
   of_text : (files : Files) (asked : Asked) (bytes : List ℕ) (status : ℕ) (code : SpecCode) (place : ℕ) → HasFault files asked code place →
       AnswersAsked (Some files) asked bytes status → (status ≡ 1) × (bytes ≡ refusal_line code place)
   of_text files (synth spec wanted kind) bytes status code place fault a =
@@ -96,7 +112,8 @@ module _ (problems : ProblemsOfTextsAreDetermined) (checks : ChecksAreDetermined
       (of_told files spec (λ text. Answers text kind wanted bytes status) a.answer) fault
   of_text files (check spec document) bytes status code place fault a =
       let h = of_told files spec (λ text. HoldsOfFile (Some files) document (λ lines. CheckAnswers text lines bytes status)) a.answer in
-      checks.of_fault (bytes_under files spec) h.bytes bytes status code place h.holds fault
+      check_fault (bytes_under files spec) (bytes_under files document) bytes status code place
+      (of_told files document (λ lines. CheckAnswers (bytes_under files spec) lines bytes status) h) fault
   of_text files (expand spec) bytes status code place fault a =
       expansions.of_fault (bytes_under files spec) bytes status code place (of_told files spec (λ text. ExpandAnswers text bytes status) a.answer) fault
   of_text files (lasso spec word) bytes status code place fault a =
@@ -111,14 +128,17 @@ module _ (problems : ProblemsOfTextsAreDetermined) (checks : ChecksAreDetermined
       core_fault problems flats faults (bytes_under files spec) kind wanted bytes status code place
       (of_told files spec (λ text. CoreAnswers text kind wanted bytes status) a.answer) fault
   of_text files (batch list wanted) bytes status code place fault a = absurd fault
+  of_text files (solve spec kind) bytes status code place fault a =
+      solve_fault solvings (bytes_under files spec) kind bytes status code place
+      (of_told files spec (λ text. SolveAnswers text kind bytes status) a.answer) fault
 
   of_line : (files : Files) (asked : Asked) (bytes : List ℕ) (status n : ℕ) → HasBadLine files asked n →
       AnswersAsked (Some files) asked bytes status → (status ≡ 40) × (bytes ≡ line_refusal n)
   of_line files (synth spec wanted kind) bytes status n bad a = absurd bad
   of_line files (check spec document) bytes status n bad a =
       let h = of_told files spec (λ text. HoldsOfFile (Some files) document (λ lines. CheckAnswers text lines bytes status)) a.answer in
-      checks.of_bad_line (bytes_under files spec) (bytes_under files document) bytes status bad.given n
-      (of_told files document (λ lines. CheckAnswers (bytes_under files spec) lines bytes status) h) bad.bad
+      bad_certificate (bytes_under files spec) (bytes_under files document) bytes status n
+      (of_told files document (λ lines. CheckAnswers (bytes_under files spec) lines bytes status) h) bad
   of_line files (expand spec) bytes status n bad a = absurd bad
   of_line files (lasso spec word) bytes status n bad a =
       let h = of_told files spec (λ text. HoldsOfFile (Some files) word (λ lines. LassoAnswers text lines bytes status)) a.answer in
@@ -134,6 +154,7 @@ module _ (problems : ProblemsOfTextsAreDetermined) (checks : ChecksAreDetermined
   of_line files (batch list wanted) bytes status n bad a =
       bad_list lists (Some files) (bytes_under files list) wanted bytes status n
       (of_told files list (λ lines. ListAnswers (Some files) lines wanted bytes status) a.answer) bad
+  of_line files (solve spec kind) bytes status n bad a = absurd bad
 
   pub determined : RefusalsAreDetermined
   determined = record { of_text = of_text; of_line = of_line }

@@ -12,7 +12,7 @@ use Rattle.program_replies.specs.declared.replies.Status.{Status}
 use Rattle.program_replies.specs.declared.replies.Status.TheVariants.{CannotRead, Done, WordsRefused}
 use Rattle.program_replies.specs.Statuses.{status_number}
 use Rattle.program_replies.specs.Lines.{refusal_line}
-use Rattle.program_words.specs.Settings.{Asked, settings_of, batch, bench, check, core, expand, lasso, synth, verify}
+use Rattle.program_words.specs.Settings.{Asked, settings_of, batch, bench, check, core, expand, lasso, solve, synth, verify}
 use Rattle.cert_text.specs.declared.documents.Verdict.{Verdict}
 use Rattle.cert_text.specs.declared.documents.Verdict.TheVariants as verdict
 use Rattle.bench_answer.specs.Bench.{BenchAnswer, HasStatus}
@@ -27,14 +27,19 @@ use Rattle.spec_problems.specs.OfText.{IsFirstFault, of_text}
 use Rattle.synth_engine.specs.declared.settings.Settings.{Settings}
 use Rattle.synth_answer.specs.Answer.{Answers, realizable, unrealizable, bounded, no_size, no_entries}
 use Rattle.synth_answer.specs.Answer as synthesis
-use Rattle.check_answer.specs.Answer.{CheckAnswers, accepted}
+use Rattle.text_ground.specs.declared.texts.Problems.{Problems}
+use Rattle.text_ground.specs.declared.texts.Problems.TheVariants.{Of, Refused}
+use Rattle.check_answer.specs.Answer.{CheckAnswers}
 use Rattle.check_answer.specs.Answer as certificate
-use Rattle.check_answer.specs.Reply.{IsForCheck}
+use Rattle.check_answer.specs.Reply.{CanBeTested, IsForCertificates}
 use Rattle.verify_answer.specs.Reply.{IsForVerify}
 use Rattle.verify_answer.specs.Answer.{VerifyAnswers, verified}
 use Rattle.verify_answer.specs.Answer as circuits
 use Rattle.core_answer.specs.Core.{CoreAnswers, IsCoreFault}
 use Rattle.core_answer.specs.Core as cores
+use Rattle.solve_ground.specs.SolveText as solving
+use Rattle.solve_answer.specs.Answer.{SolveAnswers}
+use Rattle.solve_answer.specs.Answer as solved
 use Rattle.batch_answer.specs.Batch.{BatchAnswers}
 use Rattle.batch_answer.specs.Laws.{ListsAreDetermined}
 use Rattle.batch_answer.specs.ListText.{IsFirstBadLineOfList, IsList}
@@ -52,7 +57,7 @@ use Rattle.boundsyn_top.specs.Files.{AreOfFile, HoldsOfFile, IsUntaken, RepliesB
 use Rattle.boundsyn_top.specs.Commands.{MayAnswer, statuses_of}
 use Rattle.boundsyn_top.specs.Batch.{AreFilesOf, IsBadList, IsListRefusal, IsListed, ListAnswers, OneRose, RepliesByLines, RepliesByNames}
 use Rattle.boundsyn_top.specs.Batch as batches
-use Rattle.boundsyn_top.specs.Faults.{HasNone}
+use Rattle.boundsyn_top.specs.Faults.{HasNone, TakesCertificates}
 use Rattle.boundsyn_top.specs.Takes.{GoesOn, TakesBehind, TakesFile, behind, first, first_file}
 use Rattle.boundsyn_top.specs.Steps.{ShelfStep}
 use Rattle.boundsyn_top.specs.Run.{Asks, IsForeign, IsOutputFor, IsOutputOf, IsReply, RepliesTo, answers, answered, cannot_read, unread, words_refused}
@@ -88,10 +93,18 @@ untaken_by words told asked name is foreign = foreign asked (record { settings =
 pub not_first : (told : Option Files) (asked : Asked) (spec name : List ℕ) → first_file asked ≡ spec ∷ [] → (TakesFile told asked name → ⊥) → name ≢ spec
 not_first told asked spec name is other = λ same. other (first (subst (λ xs. Contains xs name) (sym is) (0, omega arith, sym same)))
 
--- a text that has problems, or a flat form, has no fault
-pub without_fault : (text : List ℕ) (t : TextProblems) → ProblemsOfTextsAreDetermined → IsForCheck text t → HasNone (IsFirstFault text (Some Mealy))
-without_fault text t law taken = record { none = λ code place fault. law.no_fault text (Some Mealy) 3 (spec_seen t.spec) t.problems code place taken.text_with.are fault }
+-- a certificate is taken for a text that isn't refused in any case
+pub takes_certificates : (text : List ℕ) (found : Problems) → ProblemsOfTextsAreDetermined → IsForCertificates text found → TakesCertificates text
+takes_certificates text (Of t) law taken = record {
+  unless = λ r. law.no_fault text (Some Mealy) 3 (spec_seen t.spec) t.problems r.code r.place taken.text_with.are r.fault;
+}
+takes_certificates text (Refused reply) law alone = record { unless = λ r. alone.taken.none r.larger_code r.larger_place r.larger }
 
+pub can_be_tested : (text : List ℕ) (found : Problems) → IsForCertificates text found → CanBeTested found
+can_be_tested text (Of t) taken = taken.facts
+can_be_tested text (Refused reply) alone = tt
+
+-- a text that has problems, or a flat form, has no fault
 pub own_without_fault : (text : List ℕ) (t : TextProblems) → ProblemsOfTextsAreDetermined → IsForVerify text t → HasNone (IsFirstFault text None)
 own_without_fault text t law taken = record { none = λ code place fault. law.no_fault text None 2 (spec_seen t.spec) t.problems code place taken.text_with.are fault }
 
@@ -99,12 +112,10 @@ pub flat_without_fault : (text : List ℕ) (flat : FlatText) → FlatTextsHaveNo
 flat_without_fault text flat law is_flat = record { none = λ code place fault. law SMALL_LIMITS text None flat code place is_flat fault }
 
 -- the text that is taken has none of the command's faults
-pub check_goes_on : (told : Option Files) (spec certificate text : List ℕ) → AreOfFile told spec text → HasNone (IsFirstFault text (Some Mealy)) →
+pub check_goes_on : (told : Option Files) (spec certificate text : List ℕ) → AreOfFile told spec text → TakesCertificates text →
     GoesOn told (check spec certificate)
-check_goes_on None spec certificate text are none = record { unless = tt }
-check_goes_on (Some files) spec certificate text are none = record {
-  unless = λ stops. (subst (λ t. HasNone (IsFirstFault t (Some Mealy))) are none).none stops.code stops.place stops.fault;
-}
+check_goes_on None spec certificate text are taken = record { unless = tt }
+check_goes_on (Some files) spec certificate text are taken = record { unless = λ stops. (subst (λ t. TakesCertificates t) are taken).unless stops }
 
 pub lasso_goes_on : (told : Option Files) (spec word text : List ℕ) → AreOfFile told spec text → HasNone (IsFlatFault SMALL_LIMITS text None) → GoesOn told (lasso spec word)
 lasso_goes_on None spec word text are none = record { unless = tt }
@@ -161,9 +172,12 @@ synth_status text kind settings bytes status (no_size p is holds) = (4, omega ar
 synth_status text kind settings bytes status (no_entries p side n is holds) = (4, omega arith, sym is)
 
 check_status : (text document bytes : List ℕ) (status : ℕ) → CheckAnswers text document bytes status → Contains (0 ∷ 1 ∷ 40 ∷ []) status
-check_status text document bytes status (certificate.refused code place is fault line) = (1, omega arith, sym is)
-check_status text document bytes status (certificate.bad_line given n is bad line) = (2, omega arith, sym is)
-check_status text document bytes status (accepted given d is holds line) = (0, omega arith, sym is)
+check_status text document bytes status (certificate.refused code place is fault why line) = (1, omega arith, sym is)
+check_status text document bytes status (certificate.refused_as_larger code place is given sixth fault line) = (1, omega arith, sym is)
+check_status text document bytes status (certificate.bad_line given n is isnt bad line) = (2, omega arith, sym is)
+check_status text document bytes status (certificate.accepted given d is isnt holds line) = (0, omega arith, sym is)
+check_status text document bytes status (certificate.of_solved given (certificate.line_fails n is bad line)) = (2, omega arith, sym is)
+check_status text document bytes status (certificate.of_solved given (certificate.told a is holds line)) = (0, omega arith, sym is)
 
 expand_status : (text bytes : List ℕ) (status : ℕ) → ExpandAnswers text bytes status → Contains (0 ∷ 1 ∷ []) status
 expand_status text bytes status (expansion.refused code place is fault line) = (1, omega arith, sym is)
@@ -191,6 +205,13 @@ core_status : (text : List ℕ) (kind : Option Kind) (settings : Settings) (byte
 core_status text kind settings bytes status (cores.refused code place is fault line) = (0, omega arith, sym is)
 core_status text kind settings bytes status (cores.spared flat is_flat few answer is) = synth_status text kind settings bytes status answer
 core_status text kind settings bytes status (cores.core is told) = (3, omega arith, sym is)
+
+solve_status : (text : List ℕ) (kind : Option Kind) (bytes : List ℕ) (status : ℕ) → SolveAnswers text kind bytes status →
+    Contains (1 ∷ 10 ∷ 20 ∷ 30 ∷ []) status
+solve_status text kind bytes status (solved.refused code place is fault line) = (0, omega arith, sym is)
+solve_status text kind bytes status (solved.realizable n is prints) = (1, omega arith, sym is)
+solve_status text kind bytes status (solved.unrealizable n is prints) = (2, omega arith, sym is)
+solve_status text kind bytes status (solved.unknown is prints) = (3, omega arith, sym is)
 
 list_status : (told : Option Files) (lines : List ℕ) (settings : Settings) (bytes : List ℕ) (status : ℕ) →
     ListAnswers told lines settings bytes status → Contains (0 ∷ 40 ∷ []) status
@@ -289,14 +310,15 @@ module _ (step : ShelfStep) where
   check_untaken spec document =
       text_untaken (check spec document) spec document CheckAnswers (λ bytes status h. h) check_status (0, omega arith, refl)
       (λ text lines bytes status fault is ended.
-      certificate.refused TooLong most_bytes ended (of_text TooLong most_bytes (of_reading TooLong most_bytes fault)) is)
+      certificate.refused TooLong most_bytes ended (of_text TooLong most_bytes (of_reading TooLong most_bytes fault))
+      (certificate.refused_by_solve TooLong most_bytes (solving.of_reading TooLong most_bytes fault)) is)
 
   pub check_by_file : (told : Option Files) (middle : List ℕ → ℕ) (spec document text : List ℕ) (bytes : List ℕ) (status : ℕ) → told ≡ step.files →
       AreOfFile step.files spec text → ((any : List ℕ) → step.before any ≤ middle any) →
-      RepliesByFile (rest_from told middle) document (HasNone (IsFirstFault text (Some Mealy))) (λ lines. CheckAnswers text lines bytes status) bytes status →
+      RepliesByFile (rest_from told middle) document (TakesCertificates text) (λ lines. CheckAnswers text lines bytes status) bytes status →
       RepliesTo step (check spec document) bytes status
   check_by_file told middle spec document text bytes status same are =
-      by_file (check spec document) spec document CheckAnswers (λ bytes status h. h) check_status (HasNone (IsFirstFault text (Some Mealy))) told middle text bytes status same are
+      by_file (check spec document) spec document CheckAnswers (λ bytes status h. h) check_status (TakesCertificates text) told middle text bytes status same are
       (λ due. behind (refl, check_goes_on step.files spec document text are due))
 
   -- == expand ==
@@ -371,6 +393,20 @@ module _ (step : ShelfStep) where
       (λ text are long is ended. core_answered spec text wanted kind bytes status are
       (cores.refused TooLong most_bytes ended
       (cores.of_text TooLong most_bytes (of_text TooLong most_bytes (of_reading TooLong most_bytes (too_long long)))) is))
+
+  -- == solve ==
+
+  pub solve_answered : (spec text : List ℕ) (kind : Option Kind) (bytes : List ℕ) (status : ℕ) →
+      AreOfFile step.files spec text → SolveAnswers text kind bytes status → RepliesTo step (solve spec kind) bytes status
+  solve_answered spec text kind bytes status are answer =
+      replies (solve spec kind) bytes status (solve_status text kind bytes status answer) (record { bytes = text; are_told = are; holds = answer })
+
+  pub solve_untaken : (spec : List ℕ) (kind : Option Kind) (bytes : List ℕ) (status : ℕ) →
+      IsUntaken step spec bytes status → RepliesTo step (solve spec kind) bytes status
+  solve_untaken spec kind bytes status =
+      untaken (solve spec kind) spec bytes status (0, omega arith, refl)
+      (λ text are long is ended. solve_answered spec text kind bytes status are
+      (solved.refused TooLong most_bytes ended (solving.of_reading TooLong most_bytes (too_long long)) is))
 
   -- == batch ==
 

@@ -11,7 +11,7 @@ use Rattle.outside_edge.specs.declared.sink.SinkFault.TheVariants.{Failed, NoMem
 use Rattle.outside_edge.proofs.GainLemmas.{gains_nothing}
 use Rattle.spec_faults.specs.declared.code.SpecCode.{SpecCode}
 use Rattle.program_replies.specs.Lines.{line_refusal, refusal_line}
-use Rattle.program_words.specs.Settings.{Asked, synth, check, expand, lasso, gen, bench, verify, core, batch}
+use Rattle.program_words.specs.Settings.{Asked, synth, check, expand, lasso, gen, bench, verify, core, batch, solve}
 use Rattle.boundsyn_top.specs.Commands.{AnswersAsked, statuses_of}
 use Rattle.boundsyn_top.specs.Faults.{RefusalsAreDetermined}
 use Rattle.boundsyn_top.specs.Run.{AnswersWords, AskForNothing, Asks, EndsWith, Gained, GainedPart, IsEnding, IsForeign, IsReply, IsStopped, LineFails, ReadFailed, ReadsWell, TextFails, answered, answering, cannot_read, prevented, says, words_refused}
@@ -106,6 +106,11 @@ all_answering (core spec wanted kind) =
 all_answering (batch list wanted) =
     All-cons IsAnswering 0 (40 ∷ []) answering_0
     (All-cons IsAnswering 40 [] answering_40 (All-nil IsAnswering))
+all_answering (solve spec kind) =
+    All-cons IsAnswering 1 (10 ∷ 20 ∷ 30 ∷ []) answering_1
+    (All-cons IsAnswering 10 (20 ∷ 30 ∷ []) answering_10
+    (All-cons IsAnswering 20 (30 ∷ []) answering_20
+    (All-cons IsAnswering 30 [] answering_30 (All-nil IsAnswering))))
 
 is_answering : (asked : Asked) (n : ℕ) → Contains (statuses_of asked) n → IsAnswering n
 is_answering asked n h = All-contains IsAnswering (statuses_of asked) n (all_answering asked) h
@@ -280,6 +285,7 @@ none_behind files (bench clients workers) name stops taken = taken
 none_behind files (verify spec circuit) name stops taken = taken.1.unless stops
 none_behind files (core spec wanted kind) name stops taken = taken
 none_behind files (batch list wanted) name stops taken = taken.1.unless stops
+none_behind files (solve spec kind) name stops taken = taken
 
 first_alone : (files : Files) (asked : Asked) (name : List ℕ) → Stops files asked → (Contains (first_file asked) name → ⊥) →
     TakesFile (Some files) asked name → ⊥

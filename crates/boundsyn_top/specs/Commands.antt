@@ -1,7 +1,7 @@
 -- What each command may write whole, and with which status (this project's own).
 use Rattle.std.specs.Prelude.{◌≡◌, ℕ, Option, List, [], ◌∷◌}
 use Rattle.outside_edge.specs.Files.{Files}
-use Rattle.program_words.specs.Settings.{Asked, synth, check, expand, lasso, gen, bench, verify, core, batch}
+use Rattle.program_words.specs.Settings.{Asked, synth, check, expand, lasso, gen, bench, verify, core, batch, solve}
 use Rattle.arbiter_text.specs.Arbiter.{generated_text}
 use Rattle.synth_answer.specs.Answer.{Answers}
 use Rattle.check_answer.specs.Answer.{CheckAnswers}
@@ -10,6 +10,7 @@ use Rattle.flat_answer.specs.Lasso.{LassoAnswers}
 use Rattle.bench_answer.specs.Bench.{BenchAnswer}
 use Rattle.verify_answer.specs.Answer.{VerifyAnswers}
 use Rattle.core_answer.specs.Core.{CoreAnswers}
+use Rattle.solve_answer.specs.Answer.{SolveAnswers}
 use Rattle.boundsyn_top.specs.Files.{HoldsOfFile}
 use Rattle.boundsyn_top.specs.Batch.{ListAnswers}
 
@@ -24,6 +25,7 @@ statuses_of (bench clients workers) = 10 ∷ 20 ∷ 30 ∷ []
 statuses_of (verify spec circuit) = 0 ∷ 1 ∷ 40 ∷ []
 statuses_of (core spec wanted kind) = 1 ∷ 10 ∷ 11 ∷ 20 ∷ 30 ∷ []
 statuses_of (batch list wanted) = 0 ∷ 40 ∷ []
+statuses_of (solve spec kind) = 1 ∷ 10 ∷ 20 ∷ 30 ∷ []
 
 -- the bytes and the status that may answer a command, each by the definition of its answer
 abbrev pub MayAnswer : Option Files → Asked → List ℕ → ℕ → Type 0
@@ -39,6 +41,7 @@ MayAnswer told (verify spec circuit) bytes status =
     HoldsOfFile told spec (λ text. HoldsOfFile told circuit (λ lines. VerifyAnswers text lines bytes status))
 MayAnswer told (core spec wanted kind) bytes status = HoldsOfFile told spec (λ text. CoreAnswers text kind wanted bytes status)
 MayAnswer told (batch list wanted) bytes status = HoldsOfFile told list (λ lines. ListAnswers told lines wanted bytes status)
+MayAnswer told (solve spec kind) bytes status = HoldsOfFile told spec (λ text. SolveAnswers text kind bytes status)
 
 -- the bytes and the status that answer what was asked
 pub record AnswersAsked (told : Option Files) (asked : Asked) (bytes : List ℕ) (status : ℕ) : Type 0 where

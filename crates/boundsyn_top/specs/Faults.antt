@@ -6,24 +6,36 @@ use Rattle.spec_faults.specs.declared.code.SpecCode.{SpecCode}
 use Rattle.flat_text.specs.FlatOf.{IsFlatFault, IsFlatOf}
 use Rattle.spec_problems.specs.OfText.{IsFirstFault}
 use Rattle.document_check.specs.FirstBad.{IsFirstBadFor}
-use Rattle.check_answer.specs.Answer.{GivenToCheck, facts_to_check}
+use Rattle.solved_text.specs.Reading.{IsSixth}
+use Rattle.solve_check.specs.FirstBad.{IsFirstBadSolved}
+use Rattle.check_answer.specs.Answer.{GivenToCheck, GivenToSolved, IsUntested, facts_to_check}
 use Rattle.lasso_word.specs.WordText.{IsFirstBadWordLine}
 use Rattle.verify_answer.specs.Answer.{GivenToVerify, facts_to_verify}
 use Rattle.verify_answer.specs.FirstBad.{IsFirstBadOfCircuit}
 use Rattle.core_answer.specs.Core.{IsCoreFault}
+use Rattle.solve_ground.specs.SolveText.{IsSolveFault}
 use Rattle.batch_answer.specs.ListText.{IsFirstBadLineOfList}
 use Rattle.flat_lines.specs.FlatLines.{all_names}
 use Rattle.tlsf_expand.specs.FlatText.{FlatText}
 use Rattle.outside_edge.specs.Files.{Files, bytes_under}
 use Rattle.program_replies.specs.Lines.{line_refusal, refusal_line}
-use Rattle.program_words.specs.Settings.{Asked, synth, check, expand, lasso, gen, bench, verify, core, batch}
+use Rattle.program_words.specs.Settings.{Asked, synth, check, expand, lasso, gen, bench, verify, core, batch, solve}
 use Rattle.boundsyn_top.specs.Commands.{AnswersAsked}
 
+-- The fault for which `check` refuses a text with a certificate, taken as with a kind that is given: the text's first one, but where the
+-- certificate is of version 6 and the text has none as `solve` takes it; and of version 6 also one that the text has only so.
+pub data IsCheckFault (text certificate : List ℕ) : SpecCode → ℕ → Type 0 where
+  of_text : (code : SpecCode) (place : ℕ) → IsFirstFault text (Some Mealy) code place → IsUntested text certificate
+      → IsCheckFault text certificate code place
+  of_larger : (code : SpecCode) (place : ℕ) → GivenToCheck text → IsSixth certificate → IsSolveFault text (Some Mealy) code place
+      → IsCheckFault text certificate code place
+
 -- The first fault of the text that a command takes. `check` takes it as with a kind that is given, `expand` and `lasso` have no normal
--- forms and no automata, and `core` takes few guarantees. The texts of a list are refused each for itself.
+-- forms and no automata, `core` takes few guarantees, and `solve` takes larger texts, and converts those whose kinds differ. The texts of a list are refused
+-- each for itself.
 abbrev pub HasFault : Files → Asked → SpecCode → ℕ → Type 0
 HasFault files (synth spec wanted kind) code place = IsFirstFault (bytes_under files spec) kind code place
-HasFault files (check spec certificate) code place = IsFirstFault (bytes_under files spec) (Some Mealy) code place
+HasFault files (check spec certificate) code place = IsCheckFault (bytes_under files spec) (bytes_under files certificate) code place
 HasFault files (expand spec) code place = IsFlatFault SMALL_LIMITS (bytes_under files spec) None code place
 HasFault files (lasso spec word) code place = IsFlatFault SMALL_LIMITS (bytes_under files spec) None code place
 HasFault files (gen clients) code place = ⊥
@@ -31,15 +43,31 @@ HasFault files (bench clients workers) code place = ⊥
 HasFault files (verify spec circuit) code place = IsFirstFault (bytes_under files spec) None code place
 HasFault files (core spec wanted kind) code place = IsCoreFault (bytes_under files spec) kind code place
 HasFault files (batch list wanted) code place = ⊥
+HasFault files (solve spec kind) code place = IsSolveFault (bytes_under files spec) kind code place
 
 -- there is none of these faults
 pub record HasNone (Fault : SpecCode → ℕ → Type 0) : Type 0 where
   pub none : (code : SpecCode) (place : ℕ) → Fault code place → ⊥
 
--- the text has no fault, and this is the certificate's first bad line for it
-pub record IsBadCertificate (text certificate : List ℕ) (line : ℕ) : Type 0 where
-  pub given : GivenToCheck text
-  pub bad : IsFirstBadFor (facts_to_check given) certificate line
+-- `check` refuses the text whatever the certificate is: it has a fault, and one as `solve` takes it too
+pub record IsRefusedAnyway (text : List ℕ) : Type 0 where
+  pub code : SpecCode
+  pub place : ℕ
+  pub fault : IsFirstFault text (Some Mealy) code place
+  pub larger_code : SpecCode
+  pub larger_place : ℕ
+  pub larger : IsSolveFault text (Some Mealy) larger_code larger_place
+
+-- it doesn't, so the certificate is taken
+pub record TakesCertificates (text : List ℕ) : Type 0 where
+  pub unless : IsRefusedAnyway text → ⊥
+
+-- The text has no fault, and this is the certificate's first bad line for it; or the certificate is of version 6, and that of the text as
+-- `solve` takes it.
+pub data IsBadCertificate (text certificate : List ℕ) (line : ℕ) : Type 0 where
+  earlier : (given : GivenToCheck text) → (IsSixth certificate → ⊥) → IsFirstBadFor (facts_to_check given) certificate line
+      → IsBadCertificate text certificate line
+  solved : (given : GivenToSolved text certificate) → IsFirstBadSolved given.known certificate line → IsBadCertificate text certificate line
 
 -- the text has no fault, and this is the first bad line of the word over its signals
 pub record IsBadWord (text word : List ℕ) (line : ℕ) : Type 0 where
@@ -63,6 +91,7 @@ HasBadLine files (bench clients workers) n = ⊥
 HasBadLine files (verify spec circuit) n = IsBadCircuit (bytes_under files spec) (bytes_under files circuit) n
 HasBadLine files (core spec wanted kind) n = ⊥
 HasBadLine files (batch list wanted) n = IsFirstBadLineOfList (bytes_under files list) n
+HasBadLine files (solve spec kind) n = ⊥
 
 -- nothing but its line answers a fault, or a bad line
 pub record RefusalsAreDetermined : Type 0 where

@@ -6,3 +6,4 @@ pub mod Commands
 pub mod Faults
 pub mod Takes
 pub mod Run
+pub mod Solving

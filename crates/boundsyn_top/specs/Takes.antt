@@ -2,9 +2,9 @@
 use Rattle.std.specs.Prelude.{◌≡◌, ℕ, Option, List, [], ◌∷◌, IfSome, Contains}
 use Rattle.spec_faults.specs.declared.code.SpecCode.{SpecCode}
 use Rattle.outside_edge.specs.Files.{Files, bytes_under}
-use Rattle.program_words.specs.Settings.{Asked, synth, check, expand, lasso, gen, bench, verify, core, batch}
+use Rattle.program_words.specs.Settings.{Asked, synth, check, expand, lasso, gen, bench, verify, core, batch, solve}
 use Rattle.boundsyn_top.specs.Batch.{IsBadList, IsListed}
-use Rattle.boundsyn_top.specs.Faults.{HasFault}
+use Rattle.boundsyn_top.specs.Faults.{HasFault, IsRefusedAnyway}
 
 -- the file that is taken first, where there is one
 abbrev pub first_file : Asked → List (List ℕ)
@@ -17,6 +17,7 @@ first_file (bench clients workers) = []
 first_file (verify spec circuit) = spec ∷ []
 first_file (core spec wanted kind) = spec ∷ []
 first_file (batch list wanted) = list ∷ []
+first_file (solve spec kind) = spec ∷ []
 
 -- the text that the command takes has a fault
 pub record IsFaulty (files : Files) (asked : Asked) : Type 0 where
@@ -24,10 +25,10 @@ pub record IsFaulty (files : Files) (asked : Asked) : Type 0 where
   pub place : ℕ
   pub fault : HasFault files asked code place
 
--- what the first file holds is refused: the text has a fault, or the list a bad line
+-- what the first file holds is refused, whatever the others hold: the text has a fault, or the list a bad line
 abbrev pub Stops : Files → Asked → Type 0
 Stops files (synth spec wanted kind) = IsFaulty files (synth spec wanted kind)
-Stops files (check spec certificate) = IsFaulty files (check spec certificate)
+Stops files (check spec certificate) = IsRefusedAnyway (bytes_under files spec)
 Stops files (expand spec) = IsFaulty files (expand spec)
 Stops files (lasso spec word) = IsFaulty files (lasso spec word)
 Stops files (gen clients) = ⊥
@@ -35,6 +36,7 @@ Stops files (bench clients workers) = ⊥
 Stops files (verify spec circuit) = IsFaulty files (verify spec circuit)
 Stops files (core spec wanted kind) = IsFaulty files (core spec wanted kind)
 Stops files (batch list wanted) = IsBadList (bytes_under files list)
+Stops files (solve spec kind) = IsFaulty files (solve spec kind)
 
 -- it isn't, where that is told
 pub record GoesOn (told : Option Files) (asked : Asked) : Type 0 where
@@ -51,6 +53,7 @@ TakesBehind told (bench clients workers) name = ⊥
 TakesBehind told (verify spec circuit) name = (name ≡ circuit) × GoesOn told (verify spec circuit)
 TakesBehind told (core spec wanted kind) name = ⊥
 TakesBehind told (batch list wanted) name = IfSome told (λ files. IsListed (bytes_under files list) name) × GoesOn told (batch list wanted)
+TakesBehind told (solve spec kind) name = ⊥
 
 -- the command takes the file of this name
 pub data TakesFile (told : Option Files) (asked : Asked) (name : List ℕ) : Type 0 where

@@ -1,13 +1,10 @@
 //! The reply to `check`.
-ghost use Rattle.std.specs.Prelude.{◌≡◌, ◌≢◌, ℕ, List, Some, IfOk};
-ghost use Rattle.letter_word.specs.declared.kinds.Kind.TheVariants.{Mealy};
+ghost use Rattle.std.specs.Prelude.{◌≡◌, ◌≢◌, ℕ, List, IfOk};
 ghost use Rattle.check_answer.specs.Answer.{CheckAnswers};
-ghost use Rattle.check_answer.specs.Reply.{IsForCheck, facts_for_check};
-ghost use Rattle.document_check.specs.Shown.{AreFacts};
-ghost use Rattle.spec_problems.specs.OfText.{IsFirstFault};
+ghost use Rattle.check_answer.specs.Reply.{CanBeTested, IsForCertificates};
 ghost use Rattle.program_replies.specs.Statuses.{status_number};
 ghost use Rattle.program_words.specs.Settings.{check};
-ghost use Rattle.boundsyn_top.specs.Faults.{HasNone};
+ghost use Rattle.boundsyn_top.specs.Faults.{TakesCertificates};
 ghost use Rattle.boundsyn_top.specs.Files.{RepliesByFile};
 ghost use Rattle.boundsyn_top.specs.Run.{IsOutputOf};
 ghost use Rattle.boundsyn_top.specs.Steps.{step_of};
@@ -15,17 +12,16 @@ ghost use Rattle.boundsyn_top.specs.Takes.{TakesFile};
 
 use crate::files::{Taken, cannot_read, take_parts, take_text};
 use crate::output::{Output, whole_output};
-use check_answer::{check_answer, problems_for_check};
+use check_answer::{TextForCheck, check_answer, text_for_check};
 use outside_edge::Shelf;
 use program_replies::Reply;
-use spec_problems::TextProblems;
 use spec_problems::laws::problems_of_texts_are_determined;
 use std::alloc::{AllocError, Global};
 use std::sync::Wait;
 use std::thread::Threads;
 use text_ground::Problems;
 
-/// Checks a document against a text. The document is taken only where the text has no fault.
+/// Checks a document against a text. The document is taken unless the text is refused whatever it is.
 pub(crate) fn check_certificate<R, H>(
     rt: &R,
     alloc: Global,
@@ -46,7 +42,7 @@ where
     }
 }
 
-/// Takes a document, and checks it against a text, unless the text has a fault.
+/// Takes a document, and checks it against a text, unless the text is refused whatever the document is.
 fn check_by<R, H>(
     rt: &R,
     alloc: Global,
@@ -58,37 +54,38 @@ where
     R: Threads + Wait + Sync,
     H: Shelf,
     ensures reply { IfOk result (λ r. RepliesByFile (step_of H.files H.faults shelf.old shelf.new) certificate.now
-        (HasNone (IsFirstFault text.now (Some Mealy))) (λ document. CheckAnswers text.now document r.bytes.items (status_number r.status)) r.bytes.items (status_number r.status)) }
+        (TakesCertificates text.now) (λ document. CheckAnswers text.now document r.bytes.items (status_number r.status)) r.bytes.items (status_number r.status)) }
     ensures files { H.files shelf.new ≡ H.files shelf.old }
-    ensures other_files { (name : List ℕ) → (HasNone (IsFirstFault text.now (Some Mealy)) → name ≢ certificate.now) → H.faults shelf.new name ≡ H.faults shelf.old name }
+    ensures other_files { (name : List ℕ) → (TakesCertificates text.now → name ≢ certificate.now) → H.faults shelf.new name ≡ H.faults shelf.old name }
 {
     problems_of_texts_are_determined();
-    match problems_for_check(alloc, text)? {
-        Problems::Of(found) => checked(rt, alloc, shelf, &found, certificate),
-        Problems::Refused(reply) => Ok(reply),
+    match text_for_check(alloc, text)? {
+        TextForCheck::Taken(found) => checked(rt, alloc, shelf, text, found, certificate),
+        TextForCheck::Refused(reply) => Ok(reply),
     }
 }
 
-/// Takes a document, and checks it against a text that has problems.
+/// Takes a document, and checks it against a text that is found so.
 fn checked<R, H>(
     rt: &R,
     alloc: Global,
     shelf: &mut H,
-    found: &TextProblems,
+    text: &[u8],
+    found: Problems,
     certificate: &str,
 ) -> Result<Reply, AllocError>
 where
     R: Threads + Wait + Sync,
     H: Shelf,
-    requires { AreFacts (facts_for_check found.now) }
-    ensures reply { (text : List ℕ) → IsForCheck text found.now → HasNone (IsFirstFault text (Some Mealy))
+    requires { CanBeTested found }
+    ensures reply { IsForCertificates text.now found → TakesCertificates text.now
         → IfOk result (λ r. RepliesByFile (step_of H.files H.faults shelf.old shelf.new) certificate.now
-        (HasNone (IsFirstFault text (Some Mealy))) (λ document. CheckAnswers text document r.bytes.items (status_number r.status)) r.bytes.items (status_number r.status)) }
+        (TakesCertificates text.now) (λ document. CheckAnswers text.now document r.bytes.items (status_number r.status)) r.bytes.items (status_number r.status)) }
     ensures files { H.files shelf.new ≡ H.files shelf.old }
     ensures other_files { (name : List ℕ) → name ≢ certificate.now → H.faults shelf.new name ≡ H.faults shelf.old name }
 {
     match take_parts(alloc, shelf, certificate)? {
-        Some(document) => check_answer(rt, alloc, found, &document),
+        Some(document) => check_answer(rt, alloc, text, found, &document),
         None => cannot_read(alloc),
     }
 }

@@ -5,18 +5,24 @@ ghost use Rattle.synth_answer.specs.Numbers.{NoSmallerCircuits, VerdictsAreDeter
 ghost use Rattle.boundsyn_top.specs.Commands.{statuses_of};
 ghost use Rattle.boundsyn_top.specs.Faults.{RefusalsAreDetermined};
 ghost use Rattle.boundsyn_top.specs.Run.{Asks};
+ghost use Rattle.boundsyn_top.specs.Solving.{SolveFaultsAreDetermined, SolveVerdictsAgree};
 
 use crate::run;
 use batch_answer::laws::lists_are_determined;
 use check_answer::laws::checks_are_determined;
 use core_answer::laws::core_faults_are_determined;
 use flat_answer::laws::{expand_answers_are_due, lasso_answers_are_due};
-use flat_text::laws::flat_texts_are_determined;
+use flat_text::laws::{
+    flat_faults_are_determined, flat_texts_are_determined, flat_texts_have_no_fault,
+};
 use outside_edge::{Gate, PlainShelf, PlainSink};
+use solve_check::laws::never_both;
+use solve_told::Told;
 use spec_problems::laws::problems_of_texts_are_determined;
 use std::alloc::Global;
 use std::sync::Wait;
 use std::thread::Threads;
+use tlsf_reader::laws::{trees_are_determined, trees_have_no_fault};
 use verify_answer::laws::verifications_are_determined;
 
 /// Nothing but its line answers the first fault of a text, or the first bad line of a list or of another file.
@@ -31,6 +37,25 @@ pub fn refusals_are_determined()
     flat_texts_are_determined();
     core_faults_are_determined();
     lists_are_determined();
+    solve_faults_are_determined();
+}
+
+/// A text has at most one first fault as `solve` takes it, and none where it can be taken.
+pub fn solve_faults_are_determined()
+    ensures { SolveFaultsAreDetermined }
+{
+    trees_are_determined();
+    trees_have_no_fault();
+    flat_faults_are_determined();
+    flat_texts_have_no_fault();
+}
+
+/// No two answers of `solve` to one text and kind are of status 10 and of status 20.
+pub fn solve_verdicts_agree()
+    ensures { SolveVerdictsAgree }
+{
+    trees_are_determined();
+    never_both();
 }
 
 /// Two answers of status 10, or of status 20, to one text and kind tell the same number of states, and there is none of status 10 beside
@@ -57,11 +82,12 @@ pub fn run_over_plain<R, G>(
     shelf: &mut PlainShelf,
     out: &mut PlainSink,
     gate: &G,
+    told: &mut Option<Told>,
 ) -> u8
 where
     R: Threads + Wait + Sync,
     G: Gate + Sync,
     ensures { (asked : Asked) → Asks (map string_bytes words.now) asked → Contains (5 ∷ statuses_of asked) result }
 {
-    run(rt, alloc, words, shelf, out, gate)
+    run(rt, alloc, words, shelf, out, gate, told)
 }

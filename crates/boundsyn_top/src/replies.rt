@@ -12,21 +12,24 @@ use crate::circuits::verify_circuit;
 use crate::cores::find_core;
 use crate::flat::{expand_spec, tell_truth};
 use crate::output::{Output, whole_output};
+use crate::solving::solve_spec;
 use crate::synthesis::synthesize;
 use outside_edge::{Gate, Shelf};
 use program_replies::{Reply, Status, whole};
 use program_words::{Settings, WordsFault, read_words};
+use solve_told::Told;
 use std::alloc::{AllocError, Global};
 use std::sync::Wait;
 use std::thread::Threads;
 
-/// What is written for the words, for which their files are taken from the shelf.
+/// What is written for the words, for which their files are taken from the shelf; with `solve` something is told beside it.
 pub fn reply_to<R, H, G>(
     rt: &R,
     alloc: Global,
     words: &[String],
     shelf: &mut H,
     gate: &G,
+    told: &mut Option<Told>,
 ) -> Result<Output, AllocError>
 where
     R: Threads + Wait + Sync,
@@ -37,7 +40,7 @@ where
     ensures other_files { (name : List ℕ) → IsForeign (map string_bytes words.now) (H.files shelf.old) name → H.faults shelf.new name ≡ H.faults shelf.old name }
 {
     match read_words(alloc, words) {
-        Ok(settings) => obey(rt, alloc, settings, shelf, gate),
+        Ok(settings) => obey(rt, alloc, settings, shelf, gate, told),
         Err(WordsFault::Refused) => whole_output(words_refused(alloc)),
         Err(WordsFault::NoMemory) => Err(AllocError),
     }
@@ -50,6 +53,7 @@ fn obey<R, H, G>(
     settings: Settings<'_>,
     shelf: &mut H,
     gate: &G,
+    told: &mut Option<Told>,
 ) -> Result<Output, AllocError>
 where
     R: Threads + Wait + Sync,
@@ -87,6 +91,7 @@ where
             list,
             search: wanted,
         } => answer_list(rt, alloc, shelf, list, wanted, gate),
+        Settings::Solve { spec, kind } => solve_spec(alloc, shelf, spec, kind, told),
     }
 }
 

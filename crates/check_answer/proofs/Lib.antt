@@ -1,6 +1,8 @@
 mod OfKind
 mod SameFacts
-mod Determined
+mod SameText
+mod SolveTexts
 mod Told
 mod Accepted
 mod Answered
+mod Determined

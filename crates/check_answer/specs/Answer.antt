@@ -1,5 +1,5 @@
 -- The answer of `check` to a text and a certificate (this project's own).
-use Rattle.std.specs.Prelude.{◌≡◌, ℕ, ◌<◌, ◌≤◌, ⊤, true, List, ◌++◌, Some, All, IsTrue, codes, decimal}
+use Rattle.std.specs.Prelude.{◌≡◌, ℕ, ◌<◌, ◌≤◌, ⊤, true, Option, List, ◌++◌, Some, All, IsTrue, codes, decimal}
 use Rattle.letter_word.specs.declared.kinds.Kind.{Kind}
 use Rattle.letter_word.specs.declared.kinds.Kind.TheVariants.{Mealy}
 use Rattle.letter_word.specs.Kinds.{kind_word}
@@ -23,6 +23,14 @@ use Rattle.document_check.specs.FirstBad.{IsFirstBadFor}
 use Rattle.program_replies.specs.Lines.{line_refusal, refusal_line}
 use Rattle.text_ground.specs.Ground.{IsWantedBy}
 use Rattle.text_ground.specs.Ground.{given_by}
+use Rattle.solve_ground.specs.declared.texts.SolveText.{SolveText}
+use Rattle.solve_ground.specs.SolveText.{IsSolveFault}
+use Rattle.solved_text.specs.Reading.{IsSixth, Reads, SolvedLines}
+use Rattle.solve_check.specs.declared.acceptance.Acceptance.{Acceptance}
+use Rattle.solve_check.specs.Asked.{IsAsked}
+use Rattle.solve_check.specs.Checked.{IsAcceptedAs}
+use Rattle.solve_check.specs.FirstBad.{IsFirstBadSolved}
+use Rattle.solve_check.specs.Line as solved
 
 -- == the line of a document that is accepted ==
 
@@ -84,14 +92,50 @@ pub record IsAcceptedDocument (text certificate : List ℕ) (given : Facts) (d :
   pub refuted : All (λ l. is_ended l.entries ≡ true → HasNoMachine wanted l.side l.size) d.logs
   pub told : SaysOfSizes wanted d.version (allowed_at given d.kind d.version d.max System) (allowed_at given d.kind d.version d.max Environment) d.verdict
 
+-- == documents of version 6 ==
+
+-- the text has no fault as `solve` takes it, within larger limits; which kind is given makes no difference
+pub record IsTakenBySolve (text : List ℕ) : Type 0 where
+  pub none : (code : SpecCode) (position : ℕ) → IsSolveFault text (Some Mealy) code position → ⊥
+
+-- A certificate of version 6, with what its lines state, and the text as it asks for it, which `solve` takes. It makes no difference
+-- whether the text has a fault within the limits of the other commands.
+pub record GivenToSolved (text certificate : List ℕ) : Type 0 where
+  pub sixth : IsSixth certificate
+  pub taken : IsTakenBySolve text
+  pub lines : SolvedLines
+  pub reads : Reads certificate lines
+  pub given : Option Kind
+  pub known : SolveText
+  pub asked : IsAsked text lines.header given known
+
+-- what answers a certificate of version 6 and a text that is taken so: the certificate's first bad line for the text, or the line that
+-- tells what is accepted
+pub data SolvedAnswers (text : List ℕ) (given : Option Kind) (known : SolveText) (certificate bytes : List ℕ) (status : ℕ) : Type 0 where
+  line_fails : (n : ℕ) → status ≡ 40 → IsFirstBadSolved known certificate n → bytes ≡ line_refusal n
+      → SolvedAnswers text given known certificate bytes status
+  told : (a : Acceptance) → status ≡ 0 → IsAcceptedAs text given certificate a → bytes ≡ solved.accepted_line a
+      → SolvedAnswers text given known certificate bytes status
+
+-- why the first fault of a text is answered, and the certificate isn't tested: it isn't of version 6, or the text has a fault as `solve`
+-- takes it too
+pub data IsUntested (text certificate : List ℕ) : Type 0 where
+  of_earlier_version : (IsSixth certificate → ⊥) → IsUntested text certificate
+  refused_by_solve : (code : SpecCode) (position : ℕ) → IsSolveFault text (Some Mealy) code position → IsUntested text certificate
+
 -- == the answer ==
 
 -- The bytes and the status that answer a text and a certificate: the line of the text's first fault, that of the certificate's first
--- bad line for the text, or that of the document that it states.
+-- bad line for the text, or that of the document that it states. A document of version 6 is tested against the text as `solve` takes it.
 pub data CheckAnswers (text certificate bytes : List ℕ) (status : ℕ) : Type 0 where
-  refused : (code : SpecCode) (position : ℕ) → status ≡ 1 → IsFirstFault text (Some Mealy) code position → bytes ≡ refusal_line code position
+  refused : (code : SpecCode) (position : ℕ) → status ≡ 1 → IsFirstFault text (Some Mealy) code position → IsUntested text certificate
+      → bytes ≡ refusal_line code position → CheckAnswers text certificate bytes status
+  refused_as_larger : (code : SpecCode) (position : ℕ) → status ≡ 1 → GivenToCheck text → IsSixth certificate
+      → IsSolveFault text (Some Mealy) code position → bytes ≡ refusal_line code position → CheckAnswers text certificate bytes status
+  bad_line : (g : GivenToCheck text) (n : ℕ) → status ≡ 40 → (IsSixth certificate → ⊥) → IsFirstBadFor (facts_to_check g) certificate n
+      → bytes ≡ line_refusal n → CheckAnswers text certificate bytes status
+  accepted : (g : GivenToCheck text) (d : Document) → status ≡ 0 → (IsSixth certificate → ⊥)
+      → IsAcceptedDocument text certificate (facts_to_check g) d → bytes ≡ accepted_line d.verdict d.kind
       → CheckAnswers text certificate bytes status
-  bad_line : (g : GivenToCheck text) (n : ℕ) → status ≡ 40 → IsFirstBadFor (facts_to_check g) certificate n → bytes ≡ line_refusal n
-      → CheckAnswers text certificate bytes status
-  accepted : (g : GivenToCheck text) (d : Document) → status ≡ 0 → IsAcceptedDocument text certificate (facts_to_check g) d → bytes ≡ accepted_line d.verdict d.kind
+  of_solved : (g : GivenToSolved text certificate) → SolvedAnswers text g.given g.known certificate bytes status
       → CheckAnswers text certificate bytes status

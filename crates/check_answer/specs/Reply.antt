@@ -1,5 +1,5 @@
 -- How the answers of `check` are made (this project's own).
-use Rattle.std.specs.Prelude.{◌≡◌, ℕ, List, Some}
+use Rattle.std.specs.Prelude.{◌≡◌, ⊤, ℕ, List, Option, Some, MatchOption}
 use Rattle.letter_word.specs.declared.kinds.Kind.{Kind}
 use Rattle.letter_word.specs.declared.kinds.Kind.TheVariants.{Mealy}
 use Rattle.tlsf_expand.specs.FlatText.{spec_seen}
@@ -14,11 +14,19 @@ use Rattle.text_ground.specs.declared.texts.Problems.{Problems}
 use Rattle.text_ground.specs.declared.texts.Problems.TheVariants.{Of, Refused}
 use Rattle.text_ground.specs.Ground.{given_by}
 use Rattle.text_ground.specs.Texts.{IsTextWith}
+use Rattle.spec_problems.specs.OfText.{IsFirstFault}
+use Rattle.solve_ground.specs.SolveText.{IsSolveFault}
+use Rattle.solved_text.specs.declared.header.Header.{Header}
+use Rattle.solved_text.specs.Reading.{Reads, SolvedLines}
 use Rattle.program_replies.specs.Lines.{line_refusal}
+use Rattle.program_replies.specs.Refusals.{RefusedBy}
+use Rattle.program_replies.specs.declared.replies.Reply.{Reply as AReply}
 use Rattle.program_replies.specs.Statuses.{status_number}
 use Rattle.program_replies.specs.declared.replies.Status.{Status}
 use Rattle.program_replies.specs.declared.replies.Status.TheVariants as ended
-use Rattle.check_answer.specs.Answer.{CheckAnswers, accepted_line}
+use Rattle.check_answer.specs.declared.answering.TextForCheck.{TextForCheck}
+use Rattle.check_answer.specs.declared.answering.TextForCheck.TheVariants as ready
+use Rattle.check_answer.specs.Answer.{CheckAnswers, IsTakenBySolve, accepted_line}
 
 -- what a text with its problems gives to the test of documents
 abbrev pub facts_for_check : TextProblems → Facts
@@ -30,10 +38,37 @@ pub record IsForCheck (text : List ℕ) (t : TextProblems) : Type 0 where
   pub facts : AreFacts (facts_for_check t)
   pub meet : AreProblems t.problems
 
--- A text's problems, or a reply that answers the text with whatever certificate.
-abbrev pub AreForCheck : List ℕ → Problems → Type 0
-AreForCheck text (Of t) = IsForCheck text t
-AreForCheck text (Refused r) = (certificate : List ℕ) → CheckAnswers text certificate r.bytes.items (status_number r.status)
+-- the reply to a fault that the text hasn't as `solve` takes it
+pub record IsRefusedAlone (text bytes : List ℕ) (status : ℕ) : Type 0 where
+  pub fault : RefusedBy (IsFirstFault text (Some Mealy)) bytes status
+  pub taken : IsTakenBySolve text
+
+-- What answers certificates that aren't of version 6, where the text isn't refused in any case: its problems, or the reply to a fault
+-- that it hasn't as `solve` takes it.
+abbrev pub IsForCertificates : List ℕ → Problems → Type 0
+IsForCertificates text (Of t) = IsForCheck text t
+IsForCertificates text (Refused r) = IsRefusedAlone text r.bytes.items (status_number r.status)
+
+-- the same, or a reply that answers the text with whatever certificate
+abbrev pub AreForCheck : List ℕ → TextForCheck → Type 0
+AreForCheck text (ready.Taken found) = IsForCertificates text found
+AreForCheck text (ready.Refused r) = (certificate : List ℕ) → CheckAnswers text certificate r.bytes.items (status_number r.status)
+
+-- the problems can be tested against, where there are some
+abbrev pub CanBeTested : Problems → Type 0
+CanBeTested (Of t) = AreFacts (facts_for_check t)
+CanBeTested (Refused r) = ⊤
+
+-- no fault, or the reply to the first one, of the text as `solve` takes it
+abbrev pub IsFaultForSolve : List ℕ → Option AReply → Type 0
+IsFaultForSolve text found =
+    MatchOption found (IsTakenBySolve text) (λ r. RefusedBy (IsSolveFault text (Some Mealy)) r.bytes.items (status_number r.status))
+
+-- what is read of the bytes has this header
+pub record IsHeaderOf (bytes : List ℕ) (header : Header) : Type 0 where
+  pub lines : SolvedLines
+  pub reads : Reads bytes lines
+  pub is : header ≡ lines.header
 
 -- the bytes and the status for a fault of a document; for want of memory there are none
 abbrev pub IsLineRefusal : DocumentFault → List ℕ → Status → Type 0

@@ -1,6 +1,7 @@
 use crate::line_rules::cut_word;
 use crate::text_faults::TextFault;
 use letter_word::{Kind, Side};
+use solve_told::Told;
 use spec_faults::SpecCode;
 use std::alloc::{AllocError, Global};
 
@@ -39,6 +40,8 @@ pub(crate) struct Answer {
     pub(crate) total: Option<u64>,
     /// The numbers of the guarantees of a core.
     pub(crate) guarantees: Vec<u64>,
+    /// What `solve` tells beside its answer.
+    pub(crate) told: Option<Told>,
 }
 
 impl Answer {
@@ -54,6 +57,7 @@ impl Answer {
             logs: Vec::new(alloc),
             total: None,
             guarantees: Vec::new(alloc),
+            told: None,
         }
     }
 
@@ -152,6 +156,11 @@ impl Heard {
         if !self.is_lost && self.hear_line(line).is_err() {
             self.is_lost = true;
         }
+    }
+
+    /// Hears what `solve` tells beside its answer.
+    pub fn tell(&mut self, told: Option<Told>) {
+        self.answer.told = told;
     }
 
     /// How many bytes were written.

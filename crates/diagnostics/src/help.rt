@@ -1,9 +1,10 @@
 use crate::VERSION;
-use crate::commands::COMMANDS;
+use program_words::COMMANDS;
 use std::alloc::AllocError;
 use std::fmt::Write;
 
-const PAGE: &str = "  synth SPEC           the smallest controller with its logs, or who defeats it
+const PAGE: &str = "  solve SPEC           a tested controller of any size, or who defeats it
+  synth SPEC           the smallest controller with its logs, or who defeats it
   check SPEC CERT      test the logs of a printed document
   expand SPEC          the text without parameters, functions and sets
   lasso SPEC WORD      whether the text holds on a word
@@ -13,7 +14,8 @@ const PAGE: &str = "  synth SPEC           the smallest controller with its logs
   core SPEC            guarantees that can't be met together
   batch LIST           `synth` on each text of a list
 options behind these words, and what holds without them:
-  --max N              most states, 1 to 8 (4); in batch 1 to 4 (4)
+  --max N              most states, 1 to 8 (4); in batch 1 to 4 (4); `solve`
+                       takes 0 alone: no smaller size is refuted (0)
   --entries B          most entries of a log, 0 to 250000 or none (50000)
   --workers W          threads, 1 to 8 (4); in batch 1 to 4 (4)
   --kind mealy|moore   the kind, in place of the text's own

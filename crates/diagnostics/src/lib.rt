@@ -3,12 +3,12 @@
 //!
 //! `message` makes it from what was seen of a run from around it: its words, its status, copies of its files (`KeptFiles`) and what it
 //! wrote (`Heard`). It promises safety, and that a place's line is the one that it stands in; what it says changes nothing of a run. Stands on
-//! tlsf_tokens for the tokens around a place, on shown_text for what a terminal may be given, and on strsim for the nearest name.
+//! tlsf_tokens for the tokens around a place, on program_words for the commands, on shown_text for what a terminal may be given, and on strsim for
+//! the nearest name.
 #![tactic(auto)]
 
 mod answers;
 mod around;
-mod commands;
 mod declared;
 mod excerpts;
 mod heard;
@@ -24,6 +24,7 @@ mod places;
 mod progress;
 mod sentences;
 mod slips;
+mod solved;
 mod text_faults;
 mod unknown;
 mod wrong_words;
@@ -32,7 +33,7 @@ pub use heard::Heard;
 pub use kept::{KeptFile, KeptFiles};
 pub use messages::{Seen, message};
 pub use own_words::{OwnWords, read_own_words};
-pub use progress::{SizeTurns, entry_limit, progress_line};
+pub use progress::{SizeTurns, progress_line};
 
 /// The version of the program, which is that of the file VERSION.
 pub const VERSION: &str = "0.3.0";

@@ -2,9 +2,11 @@ use crate::answers::push_answer;
 use crate::heard::{Answer, Heard, Verdict};
 use crate::kept::{KeptFile, KeptFiles};
 use crate::line_faults::{LineFault, LineOf, push_line_fault};
-use crate::text_faults::{Source, push_text_fault};
+use crate::solved::{SOLVED_VERSION, push_solved, push_unsolved};
+use crate::text_faults::{RefusedBy, Source, push_text_fault};
 use crate::unknown::push_unknown;
 use crate::wrong_words::push_wrong_words;
+use letter_word::Side;
 use program_replies::Status;
 use shown_text::first_messages;
 use std::alloc::{AllocError, Global};
@@ -70,8 +72,7 @@ fn push_message(
         REFUSED => push_refused(alloc, seen, out),
         BOUNDED | UNKNOWN => push_open(alloc, seen, is_verbose, out),
         LINE_REFUSED => push_refused_line(alloc, seen, out),
-        _ if is_verbose => push_found(alloc, seen, out),
-        _ => Ok(()),
+        _ => push_found(alloc, seen, is_verbose, out),
     }
 }
 
@@ -80,6 +81,14 @@ fn source(file: &KeptFile) -> Source<'_> {
         name: file.name.as_str(),
         bytes: &file.bytes,
         is_whole: file.is_whole,
+    }
+}
+
+/// The command's word.
+fn command<'a>(seen: Seen<'a>) -> &'a str {
+    match seen.words.get(1) {
+        Some(word) => word.as_str(),
+        None => "",
     }
 }
 
@@ -96,12 +105,7 @@ fn push_unread(seen: Seen<'_>, out: &mut String) -> Result<(), AllocError> {
     if name == "-" {
         out.push_str("  note: standard input is read by its name: `/dev/stdin`\n")?;
     }
-    if name.ends_with('?')
-        && seen
-            .words
-            .get(1)
-            .is_some_and(|word| word.as_str() == "batch")
-    {
+    if name.ends_with('?') && command(seen) == "batch" {
         out.push_str(
             "  note: a line of the list may end with a carriage return: it ends with a line feed alone\n",
         )?;
@@ -125,6 +129,8 @@ fn push_memory(seen: Seen<'_>, out: &mut String) -> Result<(), AllocError> {
         "in the search"
     } else if seen.files.files().is_empty() {
         "before a text was read"
+    } else if command(seen) == "solve" {
+        "after the text was read"
     } else {
         "after the text was read, before a search"
     };
@@ -135,14 +141,16 @@ fn push_memory(seen: Seen<'_>, out: &mut String) -> Result<(), AllocError> {
 
 fn push_refused(alloc: Global, seen: Seen<'_>, out: &mut String) -> Result<(), AllocError> {
     match (first_file(seen), seen.heard.answer().fault) {
-        (Some(file), Some(fault)) => push_text_fault(alloc, file, fault, out),
+        (Some(file), Some(fault)) => {
+            push_text_fault(alloc, file, fault, RefusedBy::of(command(seen)), out)
+        },
         _ => Ok(()),
     }
 }
 
 /// What a refused line is of, by the command.
 fn line_of(seen: Seen<'_>) -> Option<LineOf> {
-    match seen.words.get(1)?.as_str() {
+    match command(seen) {
         "check" => Some(LineOf::Document),
         "lasso" => Some(LineOf::Word),
         "verify" => Some(LineOf::Circuit),
@@ -169,23 +177,46 @@ fn push_open(
 ) -> Result<(), AllocError> {
     match (first_file(seen), seen.heard.answer().verdict) {
         (Some(file), Some(_)) => {
-            let words = seen.words.iter().map(|word| word.as_str());
-            let command: Vec<&str> = words.collect(alloc)?;
-            push_unknown(alloc, file.name, seen.heard.answer(), &command, out)?;
+            if is_solved(seen) {
+                push_unsolved(file.name, seen.heard.answer(), out)?;
+            } else {
+                let words = seen.words.iter().map(|word| word.as_str());
+                let command: Vec<&str> = words.collect(alloc)?;
+                push_unknown(alloc, file.name, seen.heard.answer(), &command, out)?;
+            }
             push_lint(alloc, file, is_verbose, out)
         },
         _ => Ok(()),
     }
 }
 
-fn push_found(alloc: Global, seen: Seen<'_>, out: &mut String) -> Result<(), AllocError> {
-    match first_file(seen) {
-        Some(file) => {
-            push_answer(alloc, file, seen.heard.answer(), out)?;
-            push_lint(alloc, file, true, out)
+/// Whether a document of `solve` was written.
+fn is_solved(seen: Seen<'_>) -> bool {
+    seen.heard.answer().version == Some(SOLVED_VERSION)
+}
+
+/// Appends what was found: always where `solve` says it, else where that is wanted.
+fn push_found(
+    alloc: Global,
+    seen: Seen<'_>,
+    is_verbose: bool,
+    out: &mut String,
+) -> Result<(), AllocError> {
+    let Some(file) = first_file(seen) else {
+        return Ok(());
+    };
+    let answer = seen.heard.answer();
+    match answer.verdict {
+        Some(Verdict::Realizable(states)) if is_solved(seen) => {
+            push_solved(file.name, Side::System, states, out)?
         },
-        None => Ok(()),
+        Some(Verdict::Unrealizable(states)) if is_solved(seen) => {
+            push_solved(file.name, Side::Environment, states, out)?
+        },
+        _ if is_verbose => push_answer(alloc, file, answer, out)?,
+        _ => {},
     }
+    push_lint(alloc, file, is_verbose, out)
 }
 
 /// Appends what an answered text says that is seldom meant, where that is wanted.
@@ -229,7 +260,7 @@ fn push_text(
     out: &mut String,
 ) -> Result<(), AllocError> {
     match (answer.fault, answer.verdict) {
-        (Some(fault), _) => return push_text_fault(alloc, file, fault, out),
+        (Some(fault), _) => return push_text_fault(alloc, file, fault, RefusedBy::Search, out),
         (None, Some(Verdict::Unknown | Verdict::Bounded(..))) => {
             let command = ["boundsyn", "synth", file.name];
             push_unknown(alloc, file.name, answer, &command, out)?;

@@ -2,6 +2,7 @@ use crate::around::{Around, is_block, opener_of};
 use crate::declared::{Declared, Sort, declarations, find, nearest_declared};
 use crate::nearest::Nearest;
 use crate::slips::{FILES, FORMULA_SIGNS, NAME_FORM, OPERAND_SIGNS, RAW_FILES, SIGNS, WORDS};
+use crate::text_faults::RefusedBy;
 use shown_text::push_shown;
 use spec_faults::SpecCode;
 use std::alloc::{AllocError, Global};
@@ -51,16 +52,36 @@ impl<'a> Note<'a> {
     }
 }
 
-/// Appends a note where the fault at the place is a usual slip.
+/// Appends a note where the fault at the place is a usual slip, and one where another command may take the text.
 pub(crate) fn push_note(
     alloc: Global,
     around: &Around<'_>,
     code: SpecCode,
+    by: RefusedBy,
     out: &mut String,
 ) -> Result<(), AllocError> {
-    match note_for(alloc, around, code)? {
-        Some(note) => note.push(alloc, out),
-        None => Ok(()),
+    if let Some(note) = note_for(alloc, around, code)? {
+        note.push(alloc, out)?;
+    }
+    match by {
+        RefusedBy::Search => push_larger(code, out),
+        RefusedBy::Solve | RefusedBy::Other => Ok(()),
+    }
+}
+
+/// Appends that `solve` may take a text that a search refuses for its size.
+fn push_larger(code: SpecCode, out: &mut String) -> Result<(), AllocError> {
+    match code {
+        SpecCode::TooManySignals => {
+            out.push_str("  note: `solve` takes up to 16 inputs and up to 16 outputs\n")
+        },
+        SpecCode::TooManyNodes => {
+            out.push_str("  note: `solve` takes formulas with up to 4,096 different parts\n")
+        },
+        SpecCode::AutomatonTooLarge => out.push_str(
+            "  note: `solve` makes smaller automata of a text, and takes larger ones: up to 20,000 states and 2,000,000 edges\n",
+        ),
+        _ => Ok(()),
     }
 }
 
@@ -81,7 +102,7 @@ fn note_for<'a>(
         ))),
         SpecCode::Unsupported => Ok(sign_note(around).or(word_note(around, &names))),
         SpecCode::TargetDiffers => Ok(Some(Note::plain(
-            "`synth` and `core` take the kind from `--kind mealy` or `--kind moore`",
+            "`solve` takes both as TLSF means them; `synth` and `core` take one kind from `--kind mealy` or `--kind moore`",
         ))),
         SpecCode::AutomatonTooLarge => Ok(Some(Note::plain(
             "many formulas with F and U, and many assumptions, make automata large; fewer of them, and G without F, help",

@@ -18,26 +18,6 @@ pub struct SizeTurns {
     pub entries: u64,
 }
 
-/// The limit of entries that the words set, where one search alone runs: with `synth`. The other commands count those of many logs.
-pub fn entry_limit(words: &[String]) -> Option<u64> {
-    let command = words.get(1)?;
-    if command.as_str() != "synth" {
-        return None;
-    }
-    let mut limit = Some(50_000u64);
-    let mut is_next = false;
-    for word in words.iter().skip(2) {
-        let word = word.as_str();
-        if is_next {
-            limit = word.parse::<u64>().ok();
-        } else if let Some(value) = word.strip_prefix("--entries=") {
-            limit = value.parse::<u64>().ok();
-        }
-        is_next = word == "--entries";
-    }
-    limit
-}
-
 /// The line on a search that runs so many seconds: for each size the turns in all, those of the last second, and, where there is a
 /// limit, the entries of its log. At most 120 characters, with its end; the sizes at which nobody took a turn lately come last.
 pub fn progress_line(

@@ -1,4 +1,5 @@
 use crate::around::Around;
+use crate::text_faults::RefusedBy;
 use shown_text::push_shown;
 use spec_faults::SpecCode;
 use std::alloc::{AllocError, Global};
@@ -10,6 +11,7 @@ pub(crate) fn push_sentence(
     alloc: Global,
     around: &Around<'_>,
     code: SpecCode,
+    by: RefusedBy,
     out: &mut String,
 ) -> Result<(), AllocError> {
     match code {
@@ -31,21 +33,16 @@ pub(crate) fn push_sentence(
         ),
         SpecCode::NoGuard => push_about(alloc, around, "no guard of ", " is true here", out),
         SpecCode::TooManySignals => {
-            push_about(
-                alloc,
-                around,
-                "with ",
-                " there are over 8 inputs or over 8 outputs",
-                out,
-            )
+            push_about(alloc, around, "with ", " ", out)?;
+            out.push_str(fixed_sentence(code, by))
         },
         SpecCode::Unsupported => push_unsupported(alloc, around, out),
-        _ => out.push_str(fixed_sentence(code)),
+        _ => out.push_str(fixed_sentence(code, by)),
     }
 }
 
 /// What is wrong where nothing of the text is told.
-pub(crate) fn fixed_sentence(code: SpecCode) -> &'static str {
+pub(crate) fn fixed_sentence(code: SpecCode, by: RefusedBy) -> &'static str {
     match code {
         SpecCode::TooLong => "the text has over 1,048,576 bytes",
         SpecCode::BadByte => "no token of TLSF begins here",
@@ -62,7 +59,13 @@ pub(crate) fn fixed_sentence(code: SpecCode) -> &'static str {
         SpecCode::NoGuard => "no guard is true here",
         SpecCode::TooDeep =>
             "this is nested too deep: over 128 deep as written, or over 1,024 as evaluated",
+        SpecCode::TooManyNodes if by == RefusedBy::Solve => {
+            "the formulas have over 4,096 different parts"
+        },
         SpecCode::TooManyNodes => "the formulas have over 1,024 different parts",
+        SpecCode::TooManySignals if by == RefusedBy::Solve => {
+            "there are over 16 inputs or over 16 outputs"
+        },
         SpecCode::TooManySignals => "there are over 8 inputs or over 8 outputs",
         SpecCode::TargetDiffers => "SEMANTICS and TARGET name different kinds",
         SpecCode::Unsupported => "this isn't supported",

@@ -18,6 +18,27 @@ pub struct Source<'a> {
     pub is_whole: bool,
 }
 
+/// Which command refuses a text, as far as a message goes by it.
+#[derive(Clone, Copy, PartialEq, Eq)]
+pub enum RefusedBy {
+    /// `solve`, which takes the largest texts.
+    Solve,
+    /// A command that searches for machines, where `solve` may take the text.
+    Search,
+    Other,
+}
+
+impl RefusedBy {
+    /// By the name of the command.
+    pub fn of(command: &str) -> RefusedBy {
+        match command {
+            "solve" => RefusedBy::Solve,
+            "synth" | "core" | "batch" => RefusedBy::Search,
+            _ => RefusedBy::Other,
+        }
+    }
+}
+
 /// A fault of a text, and the byte at which it stands.
 #[derive(Clone, Copy)]
 pub struct TextFault {
@@ -44,6 +65,7 @@ pub fn push_text_fault(
     alloc: Global,
     source: Source<'_>,
     fault: TextFault,
+    by: RefusedBy,
     out: &mut String,
 ) -> Result<(), AllocError> {
     let TextFault { code, place } = fault;
@@ -55,18 +77,18 @@ pub fn push_text_fault(
         writeln!(
             out,
             "{name}: error {number} {word}: {}",
-            fixed_sentence(code)
+            fixed_sentence(code, by)
         )?;
-        return push_note(alloc, &around, code, out);
+        return push_note(alloc, &around, code, by, out);
     }
     let place = Place::new(source.bytes, place as usize);
     let line = place.line;
     let column = place.column();
     write!(out, "{name}:{line}:{column}: error {number} {word}: ")?;
-    push_sentence(alloc, &around, code, out)?;
+    push_sentence(alloc, &around, code, by, out)?;
     out.push('\n')?;
     push_marked(alloc, place, out)?;
-    push_note(alloc, &around, code, out)
+    push_note(alloc, &around, code, by, out)
 }
 
 /// Appends a formula of the section GUARANTEE as it is written, by its number from 1: the file, the line, and the formula's first line.

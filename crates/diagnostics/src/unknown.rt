@@ -1,10 +1,8 @@
 use crate::heard::{Answer, Log, Verdict};
 use letter_word::{Kind, Side};
+use program_words::{MOST_ALONE, MOST_ENTRIES};
 use std::alloc::{AllocError, Global};
 use std::fmt::Write;
-
-/// The greatest size that any search may be allowed.
-const GREATEST_SIZE: u64 = 8;
 
 /// The version of documents over base clauses that bound counts locally, of which a size may have more.
 const LOCAL_VERSION: u64 = 5;
@@ -239,7 +237,7 @@ impl Advice {
 
 /// Which side reached the greatest size that was asked for, where there are greater ones.
 fn reaching(system: &Sizes, environment: &Sizes, answer: &Answer) -> Option<&'static str> {
-    if answer.max >= GREATEST_SIZE {
+    if answer.max >= u64::from(MOST_ALONE) {
         return None;
     }
     match (system.count >= answer.max, environment.count >= answer.max) {
@@ -257,11 +255,14 @@ fn push_advice(advice: Advice, answer: &Answer, out: &mut String) -> Result<(), 
     if let Some(side) = advice.max {
         writeln!(
             out,
-            "  try a greater `--max`, up to 8, for {side}, as far as base clauses allow"
+            "  try a greater `--max`, up to {MOST_ALONE}, for {side}, as far as base clauses allow"
         )?;
     }
     if advice.entries {
-        out.push_str("  try `--entries none`, or a greater number up to 250000\n")?;
+        writeln!(
+            out,
+            "  try `--entries none`, or a greater number up to {MOST_ENTRIES}"
+        )?;
     }
     if advice.kind {
         let other = match answer.kind {
@@ -278,6 +279,11 @@ fn push_advice(advice: Advice, answer: &Answer, out: &mut String) -> Result<(), 
             "  no {other}option allows a size with over {most} base clauses"
         )?;
     }
+    push_easier(out)
+}
+
+/// Appends which texts are easier.
+pub(crate) fn push_easier(out: &mut String) -> Result<(), AllocError> {
     out.push_str(
         "  fewer or simpler guarantees with F and U make the search easier: see docs/WRITING.md, and `tools/text-size` for how large a text is\n",
     )
@@ -300,7 +306,7 @@ fn push_next(command: &[&str], advice: Advice, out: &mut String) -> Result<(), A
         is_value = is_replaced && !word.contains('=');
     }
     if advice.max.is_some() {
-        out.push_str(" --max 8")?;
+        write!(out, " --max {MOST_ALONE}")?;
     }
     if advice.counts {
         out.push_str(" --counts local")?;

@@ -1,7 +1,7 @@
 use crate::VERSION;
-use crate::commands::{COMMANDS, Command, Part, Values, command_of};
 use crate::help::{push_forms, push_help};
 use crate::nearest::Nearest;
+use program_words::{COMMANDS, Command, Part, Values, command_of};
 use shown_text::push_shown;
 use std::alloc::{AllocError, Global};
 use std::fmt::Write;

@@ -8,7 +8,7 @@ use Rattle.clap.specs.Kinds.{Kinds, or_else}
 use Rattle.clap.specs.Simple.{App, Shape, built, built_leaf, entered, inherited, names_of, subcommand_of}
 use Rattle.clap.specs.Walk.{Held, Row, Text, Walk, finished, idle, nothing_held, option, rows_after, settled, settled_rows, walk, walk_from, walked}
 use Rattle.program_words.specs.CommandLine as line
-use Rattle.program_words.specs.Plain.{Item, AreOptions, IsAmong, PlainWordsAreRead, batch_options, bench_options, given_by, has_item, is_plain, item, option_words, synth_options}
+use Rattle.program_words.specs.Plain.{Item, AreOptions, IsAmong, PlainWordsAreRead, batch_options, bench_options, given_by, has_item, is_plain, item, option_words, solve_options, synth_options}
 use Rattle.program_words.specs.Settings.{Asked, asked_of, command_asked, given_in, settings_of}
 use Rattle.program_words.proofs.PlainSteps.{HaveNoDefaults, defaults_fault_none, finished_none, open_idle, open_option, plain_turn_fault, plain_walked, row_of_item, rows_of_items}
 use Rattle.program_words.proofs.PlainWalks.{EndsAt, OptionSteps, Settles, after, options_end, settled_fault, settled_one}
@@ -232,6 +232,26 @@ batch_counts = record {
   value_fault = λ rows position text plain. plain_turn_fault (leaf line.batch) rows (Some (codes "counts", [])) (option (codes "counts")) (open_option (codes "counts")) position text plain;
 }
 
+solve_max : OptionSteps (leaf line.solve) (codes "max")
+unfolding clap_on_literals
+solve_max = record {
+  settles = record { rows = λ text rows. refl; fault = λ text rows waiting position. refl };
+  word = λ rows pending position. refl;
+  word_fault_is = λ rows pending position. refl;
+  value_is = λ rows position text plain. plain_walked (leaf line.solve).rules rows (Some (codes "max", [])) (option (codes "max")) (open_option (codes "max")) position text plain;
+  value_fault = λ rows position text plain. plain_turn_fault (leaf line.solve) rows (Some (codes "max", [])) (option (codes "max")) (open_option (codes "max")) position text plain;
+}
+
+solve_kind : OptionSteps (leaf line.solve) (codes "kind")
+unfolding clap_on_literals
+solve_kind = record {
+  settles = record { rows = λ text rows. refl; fault = λ text rows waiting position. refl };
+  word = λ rows pending position. refl;
+  word_fault_is = λ rows pending position. refl;
+  value_is = λ rows position text plain. plain_walked (leaf line.solve).rules rows (Some (codes "kind", [])) (option (codes "kind")) (open_option (codes "kind")) position text plain;
+  value_fault = λ rows position text plain. plain_turn_fault (leaf line.solve) rows (Some (codes "kind", [])) (option (codes "kind")) (open_option (codes "kind")) position text plain;
+}
+
 synth_spec_settles : (name : Text) → Settles (leaf (line.searching name)) (codes "spec")
 unfolding clap_on_literals
 synth_spec_settles name = record { rows = λ text rows. refl; fault = λ text rows waiting position. refl }
@@ -263,6 +283,10 @@ verify_circuit_settles = record { rows = λ text rows. refl; fault = λ text row
 batch_list_settles : Settles (leaf line.batch) (codes "list")
 unfolding clap_on_literals
 batch_list_settles = record { rows = λ text rows. refl; fault = λ text rows waiting position. refl }
+
+solve_spec_settles : Settles (leaf line.solve) (codes "spec")
+unfolding clap_on_literals
+solve_spec_settles = record { rows = λ text rows. refl; fault = λ text rows waiting position. refl }
 
 synth_met : IsMet (codes "synth")
 unfolding clap_on_literals
@@ -300,6 +324,10 @@ batch_met : IsMet (codes "batch")
 unfolding clap_on_literals
 batch_met = record { walk_is = refl; no_fault = refl }
 
+solve_met : IsMet (codes "solve")
+unfolding clap_on_literals
+solve_met = record { walk_is = refl; no_fault = refl }
+
 read_command : (program command : Text) (s : Shape) (rest : List Text) (items : List Item) → IsMet command →
     whole_level [] (met command rest) ≡ or_else (level_fault s [] nothing_held rest false []) [] →
     entered whole (Some (command, rest)) ≡ Some (command, rows_after s.rules [] rest) →
@@ -328,6 +356,11 @@ batch_steps id (inr (inr (inl e))) = subst (OptionSteps (leaf line.batch)) (sym 
 batch_steps id (inr (inr (inr (inl e)))) = subst (OptionSteps (leaf line.batch)) (sym e) batch_counts
 batch_steps id (inr (inr (inr (inr bad)))) = absurd bad
 
+solve_steps : (id : Text) → IsAmong id solve_options → OptionSteps (leaf line.solve) id
+solve_steps id (inl e) = subst (OptionSteps (leaf line.solve)) (sym e) solve_max
+solve_steps id (inr (inl e)) = subst (OptionSteps (leaf line.solve)) (sym e) solve_kind
+solve_steps id (inr (inr bad)) = absurd bad
+
 synth_different : (id : Text) → IsAmong id synth_options → bytes_eq (codes "spec") id ≡ false
 synth_different id (inl e) = ap (bytes_eq (codes "spec")) e
 synth_different id (inr (inl e)) = ap (bytes_eq (codes "spec")) e
@@ -346,6 +379,11 @@ batch_different id (inr (inl e)) = ap (bytes_eq (codes "list")) e
 batch_different id (inr (inr (inl e))) = ap (bytes_eq (codes "list")) e
 batch_different id (inr (inr (inr (inl e)))) = ap (bytes_eq (codes "list")) e
 batch_different id (inr (inr (inr (inr bad)))) = absurd bad
+
+solve_different : (id : Text) → IsAmong id solve_options → bytes_eq (codes "spec") id ≡ false
+solve_different id (inl e) = ap (bytes_eq (codes "spec")) e
+solve_different id (inr (inl e)) = ap (bytes_eq (codes "spec")) e
+solve_different id (inr (inr bad)) = absurd bad
 
 synth_read : (program spec : Text) (options : List Item) → IsTrue (is_plain spec) → AreOptions synth_options [] options →
     settings_of (program ∷ codes "synth" ∷ spec ∷ option_words options) ≡ command_asked (codes "synth") (given_by (item (codes "spec") spec ∷ options))
@@ -443,6 +481,16 @@ batch_read program list options plain are =
     (plain_walked s.rules [] None idle open_idle 1 list plain) (plain_turn_fault s [] None idle open_idle 1 list plain) end in
     read_command program (codes "batch") s (list ∷ option_words options) (item (codes "list") list ∷ options) batch_met refl refl (leaf_reads s (list ∷ option_words options) (item (codes "list") list ∷ options) 2 all (refl, (refl, (refl, (refl, (refl, tt))))) refl)
 
+solve_read : (program spec : Text) (options : List Item) → IsTrue (is_plain spec) → AreOptions solve_options [] options →
+    settings_of (program ∷ codes "solve" ∷ spec ∷ option_words options) ≡ command_asked (codes "solve") (given_by (item (codes "spec") spec ∷ options))
+unfolding clap_on_literals
+solve_read program spec options plain are =
+    let s = leaf line.solve in
+    let end = options_end s solve_options solve_steps [] (item (codes "spec") spec) 2 (options) refl solve_spec_settles (behind_name (item (codes "spec") spec) solve_options solve_different [] options are) in
+    let all = after_name s (walk_from nothing_held) (after [] (item (codes "spec") spec) 2) spec (option_words options) (item (codes "spec") spec ∷ options) 2
+    (plain_walked s.rules [] None idle open_idle 1 spec plain) (plain_turn_fault s [] None idle open_idle 1 spec plain) end in
+    read_command program (codes "solve") s (spec ∷ option_words options) (item (codes "spec") spec ∷ options) solve_met refl refl (leaf_reads s (spec ∷ option_words options) (item (codes "spec") spec ∷ options) 2 all (refl, (refl, (refl, tt))) refl)
+
 pub plain_words_are_read : PlainWordsAreRead
 plain_words_are_read = record {
   synth_words = synth_read;
@@ -454,4 +502,5 @@ plain_words_are_read = record {
   verify_words = verify_read;
   core_words = core_read;
   batch_words = batch_read;
+  solve_words = solve_read;
 }

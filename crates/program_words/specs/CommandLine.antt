@@ -35,9 +35,12 @@ entries = option (codes "entries")
 abbrev pub counts : Rule
 counts = option (codes "counts")
 
+abbrev pub kind : Rule
+kind = option (codes "kind")
+
 -- a command that searches for a machine of one text
 abbrev pub searching : Text → Shape
-searching name = command name (spec ∷ most ∷ entries ∷ workers ∷ counts ∷ option (codes "kind") ∷ [])
+searching name = command name (spec ∷ most ∷ entries ∷ workers ∷ counts ∷ kind ∷ [])
 
 abbrev pub synth : Shape
 synth = searching (codes "synth")
@@ -66,6 +69,9 @@ core = searching (codes "core")
 abbrev pub batch : Shape
 batch = command (codes "batch") (required (codes "list") ∷ most ∷ entries ∷ workers ∷ counts ∷ [])
 
+abbrev pub solve : Shape
+solve = command (codes "solve") (spec ∷ most ∷ kind ∷ [])
+
 abbrev pub program : App
 program = record {
   top = record (new_shape (codes "boundsyn")) {
@@ -74,7 +80,7 @@ program = record {
     disable_help_subcommand = true;
     subcommand_required = true;
   };
-  subs = synth ∷ check ∷ expand ∷ lasso ∷ gen ∷ bench ∷ verify ∷ core ∷ batch ∷ [];
+  subs = synth ∷ check ∷ expand ∷ lasso ∷ gen ∷ bench ∷ verify ∷ core ∷ batch ∷ solve ∷ [];
 }
 
 -- a command without subcommands and global arguments is set up so

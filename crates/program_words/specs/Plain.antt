@@ -5,7 +5,7 @@ use Rattle.std.specs.List.{list_any}
 use Rattle.std.specs.Str.{bytes_eq}
 use Rattle.clap.specs.Walk.{Text}
 use Rattle.program_words.specs.Numbers.{number_in}
-use Rattle.program_words.specs.Settings.{Given, synth_asked, bench_asked, core_asked, batch_asked, check, expand, gen, lasso, verify, settings_of}
+use Rattle.program_words.specs.Settings.{Given, synth_asked, bench_asked, core_asked, batch_asked, solve_asked, check, expand, gen, lasso, verify, settings_of}
 
 -- a text that is given for an argument
 pub record Item : Type 0 where
@@ -46,6 +46,9 @@ bench_options = codes "workers" ∷ []
 abbrev pub batch_options : List Text
 batch_options = codes "max" ∷ codes "entries" ∷ codes "workers" ∷ codes "counts" ∷ []
 
+abbrev pub solve_options : List Text
+solve_options = codes "max" ∷ codes "kind" ∷ []
+
 abbrev pub item : Text → Text → Item
 item id text = record { id = id; text = text }
 
@@ -69,3 +72,5 @@ pub record PlainWordsAreRead : Type 0 where
       settings_of (program ∷ codes "core" ∷ spec ∷ option_words options) ≡ core_asked (given_by (item (codes "spec") spec ∷ options))
   pub batch_words : (program list : Text) (options : List Item) → IsTrue (is_plain list) → AreOptions batch_options [] options →
       settings_of (program ∷ codes "batch" ∷ list ∷ option_words options) ≡ batch_asked (given_by (item (codes "list") list ∷ options))
+  pub solve_words : (program spec : Text) (options : List Item) → IsTrue (is_plain spec) → AreOptions solve_options [] options →
+      settings_of (program ∷ codes "solve" ∷ spec ∷ option_words options) ≡ solve_asked (given_by (item (codes "spec") spec ∷ options))

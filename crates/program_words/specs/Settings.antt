@@ -26,6 +26,7 @@ pub data Asked : Type 0 where
   verify : Text → Text → Asked
   core : Text → Search → Option Kind → Asked
   batch : Text → Search → Asked
+  solve : Text → Option Kind → Asked
 
 -- what settings of the code ask for
 abbrev pub asked_by : Settings → Asked
@@ -38,6 +39,7 @@ asked_by (settings.Bench clients workers) = bench clients workers
 asked_by (settings.Verify spec circuit) = verify spec.now circuit.now
 asked_by (settings.Core spec wanted kind) = core spec.now wanted kind
 asked_by (settings.Batch list wanted) = batch list.now wanted
+asked_by (settings.Solve spec kind) = solve spec.now kind
 
 -- the most states and workers of a search for a machine of one text
 abbrev pub most_alone : ℕ
@@ -65,6 +67,7 @@ IsInRange (bench clients workers) = ((1 ≤ clients) × (clients ≤ 4)) × ((1 
 IsInRange (verify spec circuit) = Unit {0}
 IsInRange (core spec wanted kind) = IsSearchInRange most_alone wanted
 IsInRange (batch list wanted) = IsSearchInRange most_in_batch wanted
+IsInRange (solve spec kind) = Unit {0}
 
 -- ---- the values of options, each with its default
 
@@ -80,6 +83,10 @@ most_size most = number_or (codes "max") 4 1 most
 
 abbrev pub worker_count : ℕ → Given → Option ℕ
 worker_count most = number_or (codes "workers") 4 1 most
+
+-- how many sizes are refuted below that of a machine that is found: none is, so that 0 alone may be given
+abbrev pub refuted_count : Given → Option ℕ
+refuted_count = number_or (codes "max") 0 0 0
 
 -- a number of entries, or `none` for no limit
 abbrev pub limit_in : Text → Option (Option ℕ)
@@ -148,6 +155,11 @@ abbrev pub batch_asked : Given → Option Asked
 batch_asked given =
     option_and_then (λ list. option_map (batch list) (search_asked most_in_batch given)) (given (codes "list"))
 
+abbrev pub solve_asked : Given → Option Asked
+solve_asked given =
+    option_and_then (λ spec. option_and_then (λ refuted. option_map (solve spec) (kind_asked given))
+    (refuted_count given)) (given (codes "spec"))
+
 abbrev pub command_asked : Text → Given → Option Asked
 command_asked name given =
     if bytes_eq name (codes "synth") then synth_asked given
@@ -159,6 +171,7 @@ command_asked name given =
     else if bytes_eq name (codes "verify") then verify_asked given
     else if bytes_eq name (codes "core") then core_asked given
     else if bytes_eq name (codes "batch") then batch_asked given
+    else if bytes_eq name (codes "solve") then solve_asked given
     else None
 
 abbrev pub given_in : List Row → Given

@@ -1,7 +1,7 @@
 //! The command line, as `clap` is set up.
 ghost use Rattle.std.specs.Prelude.{◌≡◌, [], ◌∷◌, false, IfOk};
 ghost use Rattle.clap.specs.Words.{app_of, rule_of};
-ghost use Rattle.program_words.specs.CommandLine.{IsSetUpAs, batch, bench, check, expand, gen, lasso, option, program, required, searching, verify};
+ghost use Rattle.program_words.specs.CommandLine.{IsSetUpAs, batch, bench, check, expand, gen, lasso, option, program, required, searching, solve, verify};
 
 use clap::{Arg, Command};
 use std::alloc::{AllocError, Global};
@@ -23,7 +23,8 @@ pub(crate) fn program<'a>(alloc: Global) -> Result<Command<'a>, AllocError>
         .subcommand(bench(alloc)?)?
         .subcommand(verify(alloc)?)?
         .subcommand(searching(alloc, "core")?)?
-        .subcommand(batch(alloc)?)
+        .subcommand(batch(alloc)?)?
+        .subcommand(solve(alloc)?)
 }
 
 /// A command that searches for a machine of one text.
@@ -92,6 +93,15 @@ fn batch<'a>(alloc: Global) -> Result<Command<'a>, AllocError>
         .arg(option(alloc, "entries"))?
         .arg(option(alloc, "workers"))?
         .arg(option(alloc, "counts"))
+}
+
+fn solve<'a>(alloc: Global) -> Result<Command<'a>, AllocError>
+    ensures { IfOk result (IsSetUpAs solve) }
+{
+    Command::new(alloc, "solve")
+        .arg(required(alloc, "spec"))?
+        .arg(option(alloc, "max"))?
+        .arg(option(alloc, "kind"))
 }
 
 /// What must be given, by its place.

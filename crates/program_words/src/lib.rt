@@ -1,14 +1,18 @@
 //! The words of the command line.
 //!
 //! `read_words` gives exactly the settings that the words ask for, or refuses them; which words ask for what is
-//! `settings_of` in `specs/`. Stands on `clap`, whose matches are all that is read, and on `text_base` for numbers.
+//! `settings_of` in `specs/`. `COMMANDS` is the table of the commands for who tells of them. Stands on `clap`, whose matches are all that is read, and on `text_base` for numbers.
 #![tactic(auto)]
 
 mod command_line;
+mod commands;
 pub mod laws;
 mod numbers;
+mod ranges;
 mod settings;
 mod words;
 
+pub use commands::{COMMANDS, Command, Part, Values, command_of};
+pub use ranges::{MOST_ALONE, MOST_ENTRIES, USUAL_ENTRIES};
 pub use settings::Settings;
 pub use words::{WordsFault, read_words};

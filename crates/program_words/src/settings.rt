@@ -47,4 +47,9 @@ pub enum Settings<'a> {
         list: &'a str,
         search: Search,
     },
+    Solve {
+        spec: &'a str,
+        /// In place of the text's own kinds.
+        kind: Option<Kind>,
+    },
 }

@@ -1,9 +1,12 @@
 ghost use Rattle.std.specs.Prelude.{◌≡◌, ◌≢◌, Some, None, map, option_map, option_and_then, string_bytes, IfOk, IfSome, IsErrOf, ◌≤◌};
 ghost use Rattle.clap.specs.Words.{first_of, found_of, rows_of, subcommand_rows_of};
-ghost use Rattle.program_words.specs.Settings.{asked_by, asked_of, batch_asked, bench_asked, check_asked, core_asked, counts_asked, counts_in, entry_limit, expand_asked, gen_asked, given_in, IsInRange, IsSearchInRange, kind_asked, kind_in, lasso_asked, limit_in, number_or, search_asked, settings_of, synth_asked, verify_asked};
+ghost use Rattle.program_words.specs.Settings.{asked_by, asked_of, batch_asked, bench_asked, check_asked, core_asked, counts_asked, counts_in, entry_limit, expand_asked, gen_asked, given_in, IsInRange, IsSearchInRange, kind_asked, kind_in, lasso_asked, limit_in, number_or, refuted_count, search_asked, settings_of, solve_asked, synth_asked, verify_asked};
 
 use crate::command_line::program;
 use crate::numbers::number_in;
+use crate::ranges::{
+    MOST_ALONE, MOST_BENCHED, MOST_CLIENTS, MOST_ENTRIES, MOST_IN_BATCH, USUAL_ENTRIES,
+};
 use crate::settings::Settings;
 use annotation_encode::Counts;
 use clap::ArgMatches;
@@ -11,12 +14,6 @@ use clap::error::ErrorKind;
 use letter_word::Kind;
 use std::alloc::{AllocError, Global};
 use synth_engine::Settings as Search;
-
-/// The most states and workers of a search for one text.
-const MOST_ALONE: u32 = 8;
-
-/// The same where many texts are searched at once.
-const MOST_IN_BATCH: u32 = 4;
 
 /// Why words ask for nothing.
 #[derive(Clone, Copy)]
@@ -86,6 +83,7 @@ fn settings_in<'a>(matches: &ArgMatches<'a>) -> Option<Settings<'a>>
         "verify" => verify_in(own),
         "core" => core_in(own),
         "batch" => batch_in(own),
+        "solve" => solve_in(own),
         _ => None,
     }
 }
@@ -133,7 +131,7 @@ fn gen_in<'a>(own: &ArgMatches<'a>) -> Option<Settings<'a>>
     ensures asked { option_map asked_by result ≡ gen_asked (given_in (rows_of (found_of own.now))) }
     ensures ranges { IfSome result (λ s. IsInRange (asked_by s)) }
 {
-    let clients = number_in(text_of(own, "clients")?, 1, 8)?;
+    let clients = number_in(text_of(own, "clients")?, 1, MOST_CLIENTS)?;
     Some(Settings::Gen { clients })
 }
 
@@ -141,7 +139,7 @@ fn bench_in<'a>(own: &ArgMatches<'a>) -> Option<Settings<'a>>
     ensures asked { option_map asked_by result ≡ bench_asked (given_in (rows_of (found_of own.now))) }
     ensures ranges { IfSome result (λ s. IsInRange (asked_by s)) }
 {
-    let clients = number_in(text_of(own, "clients")?, 1, 4)?;
+    let clients = number_in(text_of(own, "clients")?, 1, MOST_BENCHED)?;
     let workers = number_or(own, "workers", 4, 1, MOST_ALONE)?;
     Some(Settings::Bench { clients, workers })
 }
@@ -177,6 +175,23 @@ fn batch_in<'a>(own: &ArgMatches<'a>) -> Option<Settings<'a>>
     })
 }
 
+fn solve_in<'a>(own: &ArgMatches<'a>) -> Option<Settings<'a>>
+    ensures asked { option_map asked_by result ≡ solve_asked (given_in (rows_of (found_of own.now))) }
+    ensures ranges { IfSome result (λ s. IsInRange (asked_by s)) }
+{
+    let spec = text_of(own, "spec")?;
+    let _refuted = refuted_in(own)?;
+    let kind = kind_or(own)?;
+    Some(Settings::Solve { spec, kind })
+}
+
+/// How many sizes are refuted: none is, so that 0 alone may be given.
+fn refuted_in(own: &ArgMatches<'_>) -> Option<u32>
+    ensures { result ≡ refuted_count (given_in (rows_of (found_of own.now))) }
+{
+    number_or(own, "max", 0, 0, 0)
+}
+
 /// How a search is bounded, by at most so many states and workers.
 fn search_in(own: &ArgMatches<'_>, most: u32) -> Option<Search>
     requires default { 4 ≤ most }
@@ -208,7 +223,7 @@ fn limit_or(own: &ArgMatches<'_>) -> Option<Option<u64>>
     ensures within { IfSome result (λ limit. IfSome limit (λ n. n ≤ 250000)) }
 {
     match text_of(own, "entries") {
-        None => Some(Some(50_000)),
+        None => Some(Some(USUAL_ENTRIES)),
         Some(text) => limit_in(text),
     }
 }
@@ -220,7 +235,7 @@ fn limit_in(text: &str) -> Option<Option<u64>>
     if text == "none" {
         return Some(None);
     }
-    let entries = number_in(text, 0, 250_000)?;
+    let entries = number_in(text, 0, MOST_ENTRIES)?;
     Some(Some(u64::from(entries)))
 }
 

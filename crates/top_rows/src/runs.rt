@@ -75,7 +75,7 @@ pub(crate) fn run_through<R: Threads + Wait + Sync>(
     let mut shelf = MemoryShelf::new(alloc, held(alloc, files)?, numbers(alloc, faults.shelf)?);
     let mut sink = MemorySink::new(alloc, numbers(alloc, faults.sink)?);
     let words = words_in(alloc, words)?;
-    let status = run(rt, alloc, &words, &mut shelf, &mut sink, gate);
+    let status = run(rt, alloc, &words, &mut shelf, &mut sink, gate, &mut None);
     Ok(Ended {
         status,
         written: Vec::from_slice(alloc, sink.bytes())?,

@@ -4,15 +4,15 @@ use Rattle.boundsyn_top.proofs.ReplyLemmas.{of_bytes, unread_file}
 use Rattle.boundsyn_top.proofs.certificates.checked.Goals as goal
 
 pub returns-in-Some-clause-reply : goal.returns-in-Some-clause-reply
-returns-in-Some-clause-reply g c = λ text taken none.
+returns-in-Some-clause-reply g c = λ taken due.
     let are = rw c.in-Some.is at c.in_ok-document.ensures.taken in
     IfOk-weaker c.check_answer.result _ _
     (λ r answer. of_bytes _ c.args.certificate.now c.in-Some.document.items _ _ r.bytes.items (status_number r.status) are (rw c.deref.ensures.value at answer))
-    (c.check_answer.ensures text taken)
+    (c.check_answer.ensures taken)
 
 pub returns-in-None-clause-reply : goal.returns-in-None-clause-reply
-returns-in-None-clause-reply g c = λ text taken none.
+returns-in-None-clause-reply g c = λ taken due.
     let rose = rw c.in-None.is at c.in_ok-document.ensures.taken in
     IfOk-weaker c.cannot_read.result _ _
-    (λ r is. unread_file _ c.args.certificate.now _ _ r.bytes.items r.status none rose is.0 is.1)
+    (λ r is. unread_file _ c.args.certificate.now _ _ r.bytes.items r.status due rose is.0 is.1)
     c.cannot_read.ensures

@@ -1,6 +1,6 @@
 use Rattle.std.proofs.lemmas.Result.{IfOk-weaker}
 use Rattle.std.proofs.Common.{refl}
-use Rattle.program_words.specs.Settings.{core, expand, synth}
+use Rattle.program_words.specs.Settings.{core, expand, solve, synth}
 use Rattle.boundsyn_top.proofs.ReplyLemmas.{not_first}
 use Rattle.boundsyn_top.proofs.replies.obey.Goals as goal
 
@@ -26,6 +26,11 @@ pub returns-in-Core-clause-other_files : goal.returns-in-Core-clause-other_files
 returns-in-Core-clause-other_files g c = λ name foreign.
     c.find_core.ensures.other_files name
     (not_first _ (core c.in-Core.spec.now c.in-Core.wanted c.in-Core.kind) c.in-Core.spec.now name refl (rw c.in-Core.is at foreign))
+
+pub returns-in-Solve-clause-other_files : goal.returns-in-Solve-clause-other_files
+returns-in-Solve-clause-other_files g c = λ name foreign.
+    c.solve_spec.ensures.other_files name
+    (not_first _ (solve c.in-Solve.spec.now c.in-Solve.kind) c.in-Solve.spec.now name refl (rw c.in-Solve.is at foreign))
 
 pub returns-in-Batch-clause-other_files : goal.returns-in-Batch-clause-other_files
 returns-in-Batch-clause-other_files g c = λ name foreign. c.answer_list.ensures.other_files name (rw c.in-Batch.is at foreign)

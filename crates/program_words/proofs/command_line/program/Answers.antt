@@ -15,4 +15,5 @@ returns c =
     let six = with_command _ _ _ _ _ five c.in_ok-subcommand-6.ensures c.in_ok-bench.ensures in
     let seven = with_command _ _ _ _ _ six c.in_ok-subcommand-7.ensures c.in_ok-verify.ensures in
     let eight = with_command _ _ _ _ _ seven c.in_ok-subcommand-8.ensures c.in_ok-searching-2.ensures in
-    IfOk-weaker c.subcommand-9.result _ _ (λ new adds. with_command _ _ _ _ _ eight adds c.in_ok-batch.ensures) c.subcommand-9.ensures
+    let nine = with_command _ _ _ _ _ eight c.in_ok-subcommand-9.ensures c.in_ok-batch.ensures in
+    IfOk-weaker c.subcommand-10.result _ _ (λ new adds. with_command _ _ _ _ _ nine adds c.in_ok-solve.ensures) c.subcommand-10.ensures

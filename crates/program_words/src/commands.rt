@@ -1,9 +1,12 @@
+//! The commands with their options and ranges, for whoever tells of them.
+
+use crate::ranges::{MOST_ALONE, MOST_BENCHED, MOST_CLIENTS, MOST_ENTRIES, MOST_IN_BATCH};
 use std::alloc::AllocError;
 use std::fmt::Write;
 
 /// What a word may be.
 #[derive(Clone, Copy)]
-pub(crate) enum Values {
+pub enum Values {
     /// The name of a file.
     File,
     /// A number from the first to the second.
@@ -16,22 +19,33 @@ pub(crate) enum Values {
 
 /// What must be given by its place, or an option.
 #[derive(Clone, Copy)]
-pub(crate) struct Part {
-    pub(crate) name: &'static str,
-    pub(crate) values: Values,
+pub struct Part {
+    pub name: &'static str,
+    pub values: Values,
 }
 
 /// A command.
 #[derive(Clone, Copy)]
-pub(crate) struct Command {
-    pub(crate) name: &'static str,
+pub struct Command {
+    pub name: &'static str,
     /// What must be given, in order.
-    pub(crate) places: &'static [Part],
-    pub(crate) options: &'static [Part],
+    pub places: &'static [Part],
+    pub options: &'static [Part],
 }
 
 /// The commands, in the order of the help page.
-pub(crate) const COMMANDS: [Command; 9] = [
+pub const COMMANDS: [Command; 10] = [
+    Command {
+        name: "solve",
+        places: &[SPEC],
+        options: &[
+            Part {
+                name: "--max",
+                values: Values::Number(0, 0),
+            },
+            KIND,
+        ],
+    },
     Command {
         name: "synth",
         places: &[SPEC],
@@ -68,7 +82,7 @@ pub(crate) const COMMANDS: [Command; 9] = [
         name: "gen",
         places: &[Part {
             name: "K",
-            values: Values::Number(1, 8),
+            values: Values::Number(1, MOST_CLIENTS),
         }],
         options: &[],
     },
@@ -76,7 +90,7 @@ pub(crate) const COMMANDS: [Command; 9] = [
         name: "bench",
         places: &[Part {
             name: "K",
-            values: Values::Number(1, 4),
+            values: Values::Number(1, MOST_BENCHED),
         }],
         options: &[WORKERS],
     },
@@ -105,12 +119,12 @@ pub(crate) const COMMANDS: [Command; 9] = [
         options: &[
             Part {
                 name: "--max",
-                values: Values::Number(1, 4),
+                values: Values::Number(1, MOST_IN_BATCH),
             },
             ENTRIES,
             Part {
                 name: "--workers",
-                values: Values::Number(1, 4),
+                values: Values::Number(1, MOST_IN_BATCH),
             },
             COUNTS,
         ],
@@ -124,17 +138,17 @@ const SPEC: Part = Part {
 
 const MAX: Part = Part {
     name: "--max",
-    values: Values::Number(1, 8),
+    values: Values::Number(1, MOST_ALONE),
 };
 
 const ENTRIES: Part = Part {
     name: "--entries",
-    values: Values::Limit(250_000),
+    values: Values::Limit(MOST_ENTRIES),
 };
 
 const WORKERS: Part = Part {
     name: "--workers",
-    values: Values::Number(1, 8),
+    values: Values::Number(1, MOST_ALONE),
 };
 
 const KIND: Part = Part {
@@ -148,7 +162,7 @@ const COUNTS: Part = Part {
 };
 
 /// The command of that name.
-pub(crate) fn command_of(name: &str) -> Option<Command> {
+pub fn command_of(name: &str) -> Option<Command> {
     COMMANDS
         .iter()
         .find(|command| command.name == name)
@@ -157,7 +171,7 @@ pub(crate) fn command_of(name: &str) -> Option<Command> {
 
 impl Command {
     /// Appends its form, as `gen K`.
-    pub(crate) fn push_form(self, out: &mut String) -> Result<(), AllocError> {
+    pub fn push_form(self, out: &mut String) -> Result<(), AllocError> {
         let Command {
             name,
             places,
@@ -178,7 +192,7 @@ impl Command {
     }
 
     /// The option of that name.
-    pub(crate) fn option(self, name: &str) -> Option<Part> {
+    pub fn option(self, name: &str) -> Option<Part> {
         self.options
             .iter()
             .find(|option| option.name == name)
@@ -188,7 +202,7 @@ impl Command {
 
 impl Values {
     /// Whether a word is one of them.
-    pub(crate) fn fit(self, word: &str) -> bool {
+    pub fn fit(self, word: &str) -> bool {
         match self {
             Values::File => true,
             Values::Number(least, most) => is_number(word, least, most),
@@ -198,9 +212,10 @@ impl Values {
     }
 
     /// Appends what they are, as a form and a sentence have it.
-    pub(crate) fn push_to(self, out: &mut String) -> Result<(), AllocError> {
+    pub fn push_to(self, out: &mut String) -> Result<(), AllocError> {
         match self {
             Values::File => out.push_str("the name of a file"),
+            Values::Number(least, most) if least == most => write!(out, "{least}"),
             Values::Number(least, most) => write!(out, "{least}..{most}"),
             Values::Limit(most) => write!(out, "0..{most}|none"),
             Values::Either(one, other) => write!(out, "{one}|{other}"),

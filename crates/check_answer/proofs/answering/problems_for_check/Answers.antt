@@ -1,5 +1,0 @@
-use Rattle.check_answer.proofs.Answered.{for_check}
-use Rattle.check_answer.proofs.answering.problems_for_check.Goals as goal
-
-pub returns : goal.returns
-returns c = for_check c.args.text.now c.problems_or_refusal.result c.problems_or_refusal.ensures.text c.problems_or_refusal.ensures.meet

@@ -1,0 +1,11 @@
+use Rattle.std.proofs.Common.{codes}
+use Rattle.std.proofs.lemmas.Result.{IfOk-weaker}
+use Rattle.program_words.proofs.Building.{started, with_more}
+use Rattle.program_words.proofs.command_line.solve.Goals as goal
+
+pub returns : goal.returns
+returns c =
+    let none = started c.new.result (codes "solve") c.new.ensures.app c.new.ensures.local in
+    let one = with_more _ _ _ _ _ none c.in_ok-arg.ensures c.required.ensures.rule c.required.ensures.own in
+    let two = with_more _ _ _ _ _ one c.in_ok-arg-2.ensures c.option.ensures.rule c.option.ensures.own in
+    IfOk-weaker c.arg-3.result _ _ (λ new adds. with_more _ _ _ _ _ two adds c.option-2.ensures.rule c.option-2.ensures.own) c.arg-3.ensures
