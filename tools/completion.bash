@@ -5,6 +5,7 @@ _boundsyn_values() {
     *:--kind) echo "mealy moore" ;;
     *:--counts) echo "whole local" ;;
     *:--entries) echo "0 50000 250000 none" ;;
+    solve:--max) echo "0" ;;
     batch:--max | batch:--workers) echo "1 2 3 4" ;;
     *:--max | *:--workers) echo "1 2 3 4 5 6 7 8" ;;
     esac
@@ -12,6 +13,7 @@ _boundsyn_values() {
 
 _boundsyn_options() {
     case $1 in
+    solve) echo "--max --kind" ;;
     synth | core) echo "--max --entries --workers --kind --counts" ;;
     batch) echo "--max --entries --workers --counts" ;;
     bench) echo "--workers" ;;
@@ -31,7 +33,7 @@ _boundsyn() {
         esac
     done
     if [[ -z $command ]]; then
-        values="synth check expand lasso gen bench verify core batch --progress --quiet --verbose --help --version"
+        values="solve synth check expand lasso gen bench verify core batch --progress --quiet --verbose --help --version"
     elif [[ $last == --* ]]; then
         values=$(_boundsyn_values "$command" "$last")
     elif [[ $word == -* ]]; then

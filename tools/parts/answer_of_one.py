@@ -1,4 +1,4 @@
-"""What tools/synth-all runs for each text, on whatever machine: SECONDS PROGRAM SPEC [options of synth]. It prints one line with the status, the
+"""What tools/synth-all runs for each text, on whatever machine: SECONDS PROGRAM COMMAND SPEC [its options]. It prints one line with the status, the
 seconds, the peak memory in kilobytes, and what the program printed and said, each in base 64. The status is 124 where SECONDS, unless they are 0,
 weren't enough."""
 
@@ -20,7 +20,7 @@ def too_late(*_):
 signal.signal(signal.SIGALRM, too_late)
 begun, is_late = time.monotonic(), False
 with tempfile.TemporaryFile() as said:
-    started = subprocess.Popen([sys.argv[2], "synth", *sys.argv[3:]], stdin=subprocess.DEVNULL, stdout=subprocess.PIPE, stderr=said)
+    started = subprocess.Popen(sys.argv[2:], stdin=subprocess.DEVNULL, stdout=subprocess.PIPE, stderr=said)
     try:
         signal.setitimer(signal.ITIMER_REAL, float(sys.argv[1]))
         printed = started.stdout.read()

@@ -17,7 +17,7 @@ def answer(texts, answers, programs, own, options):
     """Has the texts answered, and tests and keeps what comes back."""
     with tempfile.TemporaryDirectory(prefix=".synth-all-", dir=own.out) as room, ThreadPoolExecutor(os.cpu_count()) as pool:
         stage(room, texts, programs["boundsyn"])
-        tests, tested = Tests(programs, options, room), []
+        tests, tested = Tests(programs, own.command, options, room), []
         for number, (*frame, said) in frames(room, len(texts), own, options):
             texts[number].tell(said, f"{os.path.basename(room)}/{number}.tlsf")
             tested.append(pool.submit(answers.add, tests, number, texts[number], *frame))
@@ -42,7 +42,7 @@ def words_of(folder, own, options):
         words += ["--basefile", f"{folder}/boundsyn", "--basefile", f"{folder}/answer.py"]
     if sys.stderr.isatty():
         words.append("--bar")
-    return [*words, "python3", f"{folder}/answer.py", str(own.timeout), f"{folder}/boundsyn", f"{folder}/{{}}", *options]
+    return [*words, "python3", f"{folder}/answer.py", str(own.timeout), f"{folder}/boundsyn", own.command, f"{folder}/{{}}", *options]
 
 
 def frames(room, count, own, options):

@@ -11,10 +11,11 @@ def stop(why):
     sys.exit(2)
 
 
-def programs_of(tools):
-    """The three programs: those in the folder that is named, else those of the checkout that are built from its sources or, outside of one, on the PATH."""
+def programs_of(tools, command):
+    """The programs that a command wants: those in the folder that is named, else those of the checkout that are built from its sources or, outside of one,
+    on the PATH."""
     folder, prebuilt, found = os.environ.get("BOUNDSYN_BIN"), os.path.join(tools, "prebuilt"), {}
-    for name in ("boundsyn", "annotate", "boundsyn-show"):
+    for name in ("boundsyn", "annotate", "boundsyn-show") if command == "synth" else ("boundsyn",):
         place = os.path.join(folder, name) if folder else name
         if not folder and os.path.exists(prebuilt):
             asked = subprocess.run([prebuilt, "place", name], stdout=subprocess.PIPE, check=False)
@@ -28,13 +29,13 @@ def programs_of(tools):
     return found
 
 
-def options_of(program, given):
-    """The options of the search: the given ones and, unless others are asked for, local counts and one worker."""
+def options_of(program, command, given):
+    """The options of the command: the given ones and, for `synth`, one worker and local counts unless others are asked for."""
     words = list(given)
-    for name, value in (("--counts", "local"), ("--workers", "1")):
+    for name, value in (("--counts", "local"), ("--workers", "1")) if command == "synth" else ():
         if not any(it.split("=")[0] == name for it in given):
             words += [name, value]
-    asked = subprocess.run([program, "synth", os.devnull, *words], stdin=subprocess.DEVNULL, stdout=subprocess.DEVNULL, stderr=subprocess.PIPE, check=False)
+    asked = subprocess.run([program, command, os.devnull, *words], stdin=subprocess.DEVNULL, stdout=subprocess.DEVNULL, stderr=subprocess.PIPE, check=False)
     if asked.returncode != 1:
-        stop("boundsyn refuses these options of synth: " + asked.stderr.decode(errors="replace").partition("\n")[0])
+        stop(f"boundsyn refuses these options of {command}: " + asked.stderr.decode(errors="replace").partition("\n")[0])
     return words

@@ -28,9 +28,9 @@ def seconds(word):
 
 
 class Text:
-    """A text with the options of its search. `why` says why it can't be answered, or is empty."""
+    """A text with the command and the options of its search. `why` says why it can't be answered, or is empty."""
 
-    def __init__(self, path, options):
+    def __init__(self, path, search):
         self.shown, self.name, self.content, self.why = shown(path), name_of(path), b"", ""
         try:
             if self.shown != path:
@@ -41,7 +41,7 @@ class Text:
             self.why = f"can't be read: {why.strerror}"
         except ValueError as why:
             self.why = str(why)
-        words = "".join(f"{it}\0" for it in options)
+        words = "".join(f"{it}\0" for it in search)
         self.checksum = hashlib.sha256(os.fsencode(words) + self.content).hexdigest()
 
     def tell(self, said, place):

@@ -4,6 +4,7 @@ import random
 import shutil
 
 from rows import Skipped
+from syntcomp_rows import needs_solve
 
 
 def values_after(text, steps, seed=1):
@@ -61,6 +62,64 @@ def a_smaller_circuit_is_verified(it):
         it.write("smaller", it.run("abc-optimise", "document")[1])
         it.write("annotated", it.run("annotate", f"examples/{name}.tlsf", "smaller")[1])
         assert it.run("boundsyn", "verify", f"examples/{name}.tlsf", "annotated")[:2] == (0, "verified as Mealy\n")
+
+
+def a_document_with_a_smaller_circuit_is_accepted(it):
+    needs_abc(it)
+    needs_solve(it)
+    for name, status in (("gear", 10), ("arbiter_of_three", 10), ("prophecy", 20)):
+        spec = f"examples/{name}.tlsf"
+        before = it.run("boundsyn", "solve", spec, "--max", "0")[1]
+        it.write("document", before)
+        status, after, said = it.run("abc-optimise", "--spec", spec, "document")
+        assert (status, said) == (0, "") and int(after.split()[5]) <= int(before.split()[5]) and after.partition("\nc\n")[2] == before.partition("\nc\n")[2]
+        it.write("smaller", after)
+        assert it.run("boundsyn", "check", spec, "smaller") == it.run("boundsyn", "check", spec, "document")
+
+
+# The delay with a latch that begins as 1, behind two gates more than it needs.
+BEGUN = """aag 5 1 1 1 3
+2
+4 10 1
+5
+6 2 4
+8 2 5
+10 7 9
+i0 in
+o0 out
+c
+boundsyn 6
+verdict realizable 2
+kind Mealy
+refuted 0
+annotation 2 1
+state 0 0 21
+1 0 0
+0 0 1
+end
+"""
+
+
+def values_of_latches_that_began_as_one_are_the_opposite_ones(it):
+    needs_abc(it)
+    it.needs("boundsyn")
+    it.write("begun.aag", BEGUN)
+    it.replace("boundsyn", 'cp "$3" asked\necho "accepted realizable 2 as Mealy, smallest"\n')
+    status, printed, said = it.run("abc-optimise", "--spec", "any.tlsf", "begun.aag")
+    assert (status, said) == (0, "") and printed == it.read("asked") and printed.startswith("aag 2 1 1 1 0\n2\n4 2\n4\ni0 in\no0 out\nc\n")
+    assert printed.partition("\nc\n")[2] == BEGUN.partition("\nc\n")[2].replace("1 0 0\n0 0 1\n", "0 0 0\n1 0 1\n")
+
+
+def only_what_check_accepts_is_printed(it):
+    needs_abc(it)
+    it.needs("boundsyn")
+    it.write("begun.aag", BEGUN)
+    it.replace("boundsyn", 'echo "refused at line 12"\nexit 40\n')
+    assert it.run("abc-optimise", "--spec", "any.tlsf", "begun.aag") == (1, "", "abc-optimise: begun.aag: check says of the smaller one: refused at line 12\n")
+    assert it.run("abc-optimise", "begun.aag") == (1, "", "abc-optimise: begun.aag: a document of version 6 wants --spec SPEC\n")
+    name = "examples/delay_by_hand.aag"
+    assert it.run("abc-optimise", "--spec", "any.tlsf", name) == (1, "", f"abc-optimise: {name}: no document of version 6\n")
+    assert it.run("abc-optimise", "--spec", "any.tlsf")[0] == 2
 
 
 BROKEN = {

@@ -1,0 +1,72 @@
+"""The texts of tools/second-checker-test, each with documents for it, and how one is broken."""
+import pathlib
+import re
+import subprocess
+
+TOP = pathlib.Path(__file__).resolve().parents[2]
+RUNS = [("delay", ""), ("delay", "--max 1"), ("delay", "--entries 0"), ("delay", "--max 1 --entries 0"), ("prophecy", "--max 2"),
+        ("prophecy", "--kind moore"), ("arbiter_of_two", ""), ("arbiter_of_two", "--entries 2"), ("door", "--max 1"),
+        ("strict_promise", ""), ("traffic_light", "--max 1 --entries none"), ("inverter", "--kind moore"), ("lift", "--max 3 --entries 40")]
+SOLVED = [("wire", ""), ("delay", ""), ("delay", "--max 0"), ("delay", "--kind moore"), ("prophecy", ""), ("arbiter_of_two", ""), ("door", ""),
+          ("strict_promise", ""), ("inverter", "--kind moore"), ("lift", ""), ("dma_grant", "--max 0"), ("gear", "")]
+MIXED = """INFO {{ TITLE: "t" DESCRIPTION: "d" SEMANTICS: {} TARGET: {} }}
+MAIN {{ INPUTS {{ r; }} OUTPUTS {{ g; }} {} }}
+"""
+MEANT = ["GUARANTEE { G (g <-> r); }", "REQUIRE { r || X r; } ASSERT { g <-> r; } GUARANTEE { F g; }", "GUARANTEE { G (r || !r); }"]
+KINDS = ["Mealy", "Moore", "Mealy, Strict", "Moore, Strict"]
+
+
+def given(program):
+    """The texts, each with its documents."""
+    rows = re.findall(r"^(?:file|cut) (spec|document)\n((?:    .*\n)*)", (TOP / "tools/rows/check.rows").read_text(encoding="utf-8"), flags=re.M)
+    rows = [(name, re.sub(r"^    ", "", body, flags=re.M)) for name, body in rows]
+    alone = re.findall(r"^==== document .*\n(.*?)\n(?===== |\Z)", (TOP / "crates/call_rows/stdin").read_text(encoding="latin-1"), flags=re.M | re.S)
+    documents = [body.encode("latin-1") for body in alone + [body for name, body in rows if name == "document"]]
+    yield from ((body, documents) for name, body in rows if name == "spec")
+    for name, options in RUNS:
+        path = TOP / "examples" / (name + ".tlsf")
+        whole, local = (said(program, "synth", path, "--workers", "1", "--counts", counts, *options.split()) for counts in ("whole", "local"))
+        yield path.read_text(encoding="utf-8"), [*(whole.replace(b"boundsyn 3", b"boundsyn %d" % version) for version in (1, 2, 3, 5)), local]
+
+
+def solved(program, folder):
+    """The same with documents of version 6, where the program writes such: of texts of examples/, and of small ones whose kinds may differ."""
+    for name in dict.fromkeys(name for name, _ in SOLVED):
+        path = TOP / "examples" / (name + ".tlsf")
+        documents = [said(program, "solve", path, *options.split()) for it, options in SOLVED if it == name]
+        yield path.read_text(encoding="utf-8"), [it for it in documents if not it.startswith(b"words refused")]
+    spec = pathlib.Path(folder, "mixed")
+    for meant in MEANT:
+        texts, documents = [MIXED.format(semantics, target, meant) for semantics in KINDS for target in KINDS[:2]], []
+        for text in texts:
+            _ = spec.write_text(text, encoding="utf-8")
+            documents += [said(program, "solve", spec, *kind) for kind in ([], ["--kind", "mealy"], ["--kind", "moore"])]
+        yield from ((text, [it for it in dict.fromkeys(documents) if not it.startswith(b"words refused")]) for text in texts)
+
+
+def flat_of(program, spec, text):
+    """What `expand` writes of a text where its SEMANTICS is its TARGET, too; its TARGET; and the numbers of its typed inputs and outputs."""
+    told = re.sub(r"//.*", "", text)
+    semantics, target = (re.search(word + r":[^}]*?\b(Mealy|Moore)\b", told)[1] for word in ("SEMANTICS", "TARGET"))
+    parts = (re.search(word + r"\s*\{([^}]*)\}", told) for word in ("INPUTS", "OUTPUTS"))
+    typed = tuple(len(re.findall(r"[\w@']+\s+[\w@']+\s*;", part[1])) if part else 0 for part in parts)
+    _ = spec.write_text(re.sub(r"(TARGET:\s*)\w+", r"\g<1>" + semantics, text), encoding="utf-8")
+    return said(program, "expand", spec).decode(), target, typed
+
+
+def said(*words):
+    return subprocess.run(words, stdin=subprocess.DEVNULL, stdout=subprocess.PIPE, stderr=subprocess.DEVNULL, check=False).stdout
+
+
+def broken(document, chance):
+    """The lines of the document with one line broken: each line in each way."""
+    lines = document.splitlines(keepends=True)
+    for at, line in enumerate(lines):
+        before, after, place = lines[:at], lines[at + 1:], chance.randrange(len(line))
+        yield [*before, *after]
+        yield [*before, line, line, *after]
+        yield [*before, *after[:1], line, *after[1:]]
+        yield [*before, line[:place] + bytes([chance.choice(b"\n 019-acilogx")]) + line[place + 1:], *after]
+        yield [*before, line[:place] + line[place + 1:], *after]
+        for number in set(re.findall(rb"\d+", line)):
+            yield [*before, re.sub(rb"\b%s\b" % number, b"%d" % (int(number) + chance.choice((-1, 1))), line, count=1), *after]
