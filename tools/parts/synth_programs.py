@@ -30,9 +30,9 @@ def programs_of(tools, command):
 
 
 def options_of(program, command, given):
-    """The options of the command: the given ones and, for `synth`, one worker and local counts unless others are asked for."""
+    """The options of the command: the given ones, one worker and, for `synth`, local counts unless others are asked for."""
     words = list(given)
-    for name, value in (("--counts", "local"), ("--workers", "1")) if command == "synth" else ():
+    for name, value in (("--counts", "local"), ("--workers", "1")) if command == "synth" else (("--workers", "1"),):
         if not any(it.split("=")[0] == name for it in given):
             words += [name, value]
     asked = subprocess.run([program, command, os.devnull, *words], stdin=subprocess.DEVNULL, stdout=subprocess.DEVNULL, stderr=subprocess.PIPE, check=False)
