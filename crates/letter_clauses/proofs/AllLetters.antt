@@ -1,10 +1,9 @@
 -- Over all letters the variables and the clauses are those of version 3.
-use Rattle.std.proofs.Common.{◌≡◌, ℕ, zero, suc, ◌+◌, ◌*◌, ◌^◌, ◌<◌, ◌≤◌, List, [], ◌∷◌, ◌++◌, length, cond, refl, sym, ap, ◌∙◌, arith}
+use Rattle.std.proofs.Common.{◌≡◌, ℕ, zero, suc, ◌+◌, ◌*◌, ◌^◌, ◌<◌, List, [], ◌∷◌, ◌++◌, length, cond, refl, sym, ap, ◌∙◌, arith}
 use Rattle.std.specs.Prelude.{◌==◌, nat_le}
-use Rattle.std.specs.List.{flat_map, range_with_len}
+use Rattle.std.specs.List.{flat_map}
 use Rattle.std.proofs.lemmas.Bool.{cond-true, eq-eqb, le-leb}
 use Rattle.std.proofs.lemmas.List.FromFn.{get_or-range_with_len, length-range_with_len}
-use Rattle.clause_base.specs.Literal.{Literal}
 use Rattle.letter_word.specs.Signals.{has}
 use Rattle.letter_word.specs.declared.cubes.Cube.{Cube}
 use Rattle.machine_model.specs.Automaton.{states_of}
@@ -16,7 +15,7 @@ use Rattle.annotation_encode.specs.BaseClauses.{each_below, fits_read, in_order,
 use Rattle.annotation_encode.specs.BaseClauses as three
 use Rattle.annotation_encode.specs.Variables.{letter_count, numbers_before, state_numbers, write_place, write_places}
 use Rattle.annotation_encode.specs.Variables as places
-use Rattle.letter_clauses.specs.BaseClauses.{base_clauses, chain_clause, chain_clauses, count_literals, edge_clauses, letter_clauses, order_clauses, row_clauses, start_clause, state_chains, state_clauses, step_clause, step_clauses, write_literal, write_literals}
+use Rattle.letter_clauses.specs.BaseClauses.{base_clauses, chain_clause, chain_clauses, count_literals, edge_clauses, letter_clauses, order_clauses, row_clauses, start_clause, state_clauses, step_clause, step_clauses, write_literal, write_literals}
 use Rattle.letter_clauses.specs.Laws.{AreOfVersionThree, all_letters}
 use Rattle.letter_clauses.specs.Letters.{letter_at}
 use Rattle.letter_clauses.specs.Variables.{var_count, var_move, var_write, variables_of}

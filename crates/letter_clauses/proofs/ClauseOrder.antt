@@ -1,9 +1,8 @@
 -- The literals of each base clause stand by rising variable, and none passes the number of variables.
-use Rattle.std.proofs.Common.{subst, ◌≡◌, ℕ, suc, ◌+◌, ◌-◌, ◌*◌, ◌<◌, ◌≤◌, Bool, true, false, not, ◌&&◌, List, [], ◌∷◌, ◌++◌, length, refl, sym, ap, ◌∙◌, arith, cond, inl, inr}
+use Rattle.std.proofs.Common.{subst, ◌≡◌, ℕ, suc, ◌+◌, ◌-◌, ◌*◌, ◌<◌, ◌≤◌, Bool, true, false, not, ◌&&◌, List, [], ◌∷◌, ◌++◌, length, refl, sym, ◌∙◌, arith, cond, inl, inr}
 use Rattle.std.specs.Prelude.{◌==◌, nat_le, nat_lt}
 use Rattle.std.proofs.lemmas.Bool.{cases_eq, cases_lt, cond-true, eq-eqb, leb-true}
 use Rattle.std.proofs.lemmas.Bool.Decides.{Decides-ltb}
-use Rattle.clause_base.specs.Literal.{Literal}
 use Rattle.letter_word.specs.Signals.{has}
 use Rattle.letter_word.specs.declared.cubes.Cube.{Cube}
 use Rattle.machine_model.specs.Automaton.{IsAutomaton, JoinsStates, rejects, states_of}
@@ -18,7 +17,7 @@ use Rattle.annotation_encode.proofs.Rising.{Rises, Rises-append, Rises-each_belo
 use Rattle.annotation_encode.proofs.Sizes.{row_end}
 use Rattle.letter_clauses.specs.BaseClauses.{chain_clause, count_literals, start_clause, step_clause, write_literal, write_literals}
 use Rattle.letter_clauses.specs.Letters.{IsLetterProblem}
-use Rattle.letter_clauses.specs.Variables.{move_count, row_count, row_place, var_count, var_move, var_write, variables_of, write_count}
+use Rattle.letter_clauses.specs.Variables.{move_count, row_count, var_count, var_move, var_write, variables_of, write_count}
 use Rattle.letter_clauses.proofs.Within.{count_within, move_within, row_within, same_count, writes_within}
 
 module _ (p : Problem) (letters : List ℕ) where

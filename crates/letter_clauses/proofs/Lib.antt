@@ -7,3 +7,5 @@ pub mod Meets
 pub mod Restricted
 pub mod Refuted
 pub mod AllLetters
+pub mod Weights
+pub mod Bounds

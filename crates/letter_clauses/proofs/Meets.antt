@@ -1,6 +1,6 @@
 -- The assignment of tables over a list of letters meets every base clause.
-use Rattle.std.proofs.Common.{◌≡◌, ℕ, zero, suc, ◌+◌, ◌-◌, ◌*◌, ◌^◌, ◌<◌, ◌≤◌, ◌⊎◌, inl, inr, Bool, true, false, not, List, [], ◌∷◌, ◌++◌, Option, Some, None, length, get_or, refl, sym, ap, ◌∙◌, subst, arith, cond}
-use Rattle.std.specs.Prelude.{All, Contains, ◌==◌, ◌||◌, nat_le, nat_lt}
+use Rattle.std.proofs.Common.{◌≡◌, ℕ, suc, ◌+◌, ◌-◌, ◌^◌, ◌<◌, ◌≤◌, ◌⊎◌, inl, inr, Bool, true, false, not, List, [], ◌∷◌, ◌++◌, Option, Some, None, length, refl, sym, ap, ◌∙◌, subst, arith, cond}
+use Rattle.std.specs.Prelude.{Contains, ◌==◌, ◌||◌, nat_le, nat_lt}
 use Rattle.std.specs.List.{list_any}
 use Rattle.std.proofs.lemmas.Bool.{cases_lt, eq-eqb, le-leb, leb-true, not-false}
 use Rattle.std.proofs.lemmas.Bool.Decides.{Decides-eqb}
@@ -11,7 +11,6 @@ use Rattle.clause_base.proofs.Tests.{Decides-all}
 use Rattle.clause_base.specs.Truth.{is_true_clause, is_true_literal, meets, value_of}
 use Rattle.letter_word.specs.Cube.{Fits}
 use Rattle.letter_word.specs.Signals.{has}
-use Rattle.letter_word.specs.declared.cubes.Cube.{Cube}
 use Rattle.machine_model.specs.Automaton.{HasEdge, IsAutomaton, JoinsStates, states_of}
 use Rattle.machine_model.specs.Problem as looked_for
 use Rattle.machine_model.specs.Problem.{NamesSignals, automaton_of, reads_of}

@@ -1,12 +1,12 @@
 -- Where a side accepts some machine of a problem, some assignment meets all base clauses over any letters.
-use Rattle.std.proofs.Common.{◌≡◌, ℕ, ◌+◌, ◌*◌, ◌^◌, ◌<◌, ◌≤◌, inl, inr, Bool, true, false, List, Option, [], ◌∷◌, length, refl, sym, ◌∙◌, subst, arith}
+use Rattle.std.proofs.Common.{◌≡◌, ℕ, ◌^◌, ◌<◌, ◌≤◌, inl, inr, Bool, true, false, List, Option, [], ◌∷◌, length, refl, sym, ◌∙◌, subst, arith}
 use Rattle.clause_base.specs.Truth.{meets}
 use Rattle.machine_model.specs.Automaton.{IsAutomaton}
 use Rattle.machine_model.specs.Components.{ComponentsClass}
 use Rattle.machine_model.specs.Machine.{IsMachine, MachineModel, next_of, size_of}
 use Rattle.machine_model.specs.Problem.{IsMachineOf, automaton_of}
 use Rattle.machine_model.specs.declared.problems.Problem.{Problem}
-use Rattle.product_bound.specs.Laws.{HasRejectingRun, HasValidAnnotation}
+use Rattle.product_bound.specs.Laws.{HasValidAnnotation}
 use Rattle.product_bound.proofs.Exists.{annotation_or_run, has_annotation}
 use Rattle.annotation_encode.specs.Laws.{HasAccepted, HasNoAccepted, IsMetBySome}
 use Rattle.letter_clauses.specs.BaseClauses.{base_clauses}

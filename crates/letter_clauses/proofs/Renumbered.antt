@@ -6,7 +6,7 @@ use Rattle.std.proofs.lemmas.Bool.{cases_lt, cond-true, cond-false, le-ltb}
 use Rattle.std.proofs.lemmas.Bool.Decides.{Decides-ltb}
 use Rattle.std.proofs.lemmas.Nat.{div-add-mod', div-mul-add, mod-mul-add, mul-add-lt}
 use Rattle.product_bound.specs.Numbered.{place_in, with_state}
-use Rattle.product_bound.proofs.Places.{Added, Extends, Extends-refl, Extends-trans, Once-with_state, added, at_place, place_in-first, place_in-le}
+use Rattle.product_bound.proofs.Places.{Added, Extends, Extends-refl, Extends-trans, Once-with_state, added, place_in-le}
 use Rattle.product_bound.proofs.Sums.{Once, sum_below, total, total-once}
 
 -- the state that a row leads to, where the states so far have their new numbers

@@ -1,13 +1,12 @@
 -- What an annotated machine does on the letters of a list, with its states numbered as the rows over these first name them.
-use Rattle.std.proofs.Common.{◌≡◌, ℕ, ◌+◌, ◌-◌, ◌*◌, ◌/◌, ◌%◌, ◌^◌, ◌<◌, ◌≤◌, inl, inr, List, Option, Some, None, length, get_or, cond, refl, sym, ap, ◌∙◌, subst, arith}
+use Rattle.std.proofs.Common.{◌≡◌, ℕ, ◌+◌, ◌*◌, ◌/◌, ◌%◌, ◌^◌, ◌<◌, ◌≤◌, inl, inr, List, Option, Some, None, length, get_or, cond, refl, sym, ap, ◌∙◌, subst, arith}
 use Rattle.std.specs.Prelude.{nat_lt}
-use Rattle.std.proofs.Math.Nat.{mod-lt, div-lt_iff_lt-mul}
+use Rattle.std.proofs.Math.Nat.{mod-lt}
 use Rattle.std.proofs.lemmas.Bool.{cases_lt, cond-true, cond-false, le-ltb}
 use Rattle.std.proofs.lemmas.Bool.Decides.{Decides-ltb}
 use Rattle.std.proofs.lemmas.Nat.{div-mul-add, mod-mul-add, pow_pos}
 use Rattle.letter_word.specs.declared.kinds.Kind.{Kind}
 use Rattle.letter_word.specs.declared.kinds.Kind.TheVariants.{Mealy, Moore}
-use Rattle.letter_word.specs.declared.kinds.Side.{Side}
 use Rattle.machine_model.specs.Automaton.{HasEdge, states_of}
 use Rattle.machine_model.specs.Course.{letter_of}
 use Rattle.machine_model.specs.Machine.{IsMachine, MachineModel, next_of, size_of, writes_of}
@@ -15,11 +14,11 @@ use Rattle.machine_model.specs.Problem as looked_for
 use Rattle.machine_model.specs.Problem.{IsMachineOf, automaton_of, reads_of}
 use Rattle.machine_model.specs.Run.{joined}
 use Rattle.machine_model.specs.declared.problems.Problem.{Problem}
-use Rattle.product_bound.specs.Annotation.{HasNumber, IsValidAnnotation, bound_at, number_after, number_at, start_number}
+use Rattle.product_bound.specs.Annotation.{HasNumber, IsValidAnnotation, number_after, number_at, start_number}
 use Rattle.product_bound.specs.Numbered.{place_in}
 use Rattle.product_bound.proofs.Places.{at_place}
 use Rattle.annotation_encode.specs.Variables.{write_place}
-use Rattle.annotation_encode.proofs.Letters.{joined_at, reads_at, writes_at}
+use Rattle.annotation_encode.proofs.Letters.{joined_at}
 use Rattle.annotation_encode.proofs.Meets.{joined_same, reads_same, writes_same}
 use Rattle.letter_clauses.specs.Letters.{IsLetterProblem, letter_at}
 use Rattle.letter_clauses.specs.Variables.{row_count, row_place}

@@ -1,6 +1,5 @@
 -- The variables lie where they should, and those of pairs are different.
-use Rattle.std.proofs.Common.{◌≡◌, ℕ, ◌+◌, ◌*◌, ◌<◌, ◌≤◌, List, length, ap, ◌∙◌, arith}
-use Rattle.std.proofs.lemmas.Nat.{div-mul-add, mod-mul-add}
+use Rattle.std.proofs.Common.{◌≡◌, ℕ, ◌+◌, ◌*◌, ◌<◌, ◌≤◌, List, length, arith}
 use Rattle.machine_model.specs.Automaton.{states_of}
 use Rattle.machine_model.specs.Problem.{automaton_of, writes_of}
 use Rattle.machine_model.specs.declared.problems.Problem.{Problem}
@@ -8,7 +7,6 @@ use Rattle.product_bound.specs.Annotation.{bound_at}
 use Rattle.annotation_encode.specs.BaseClauses.{row_move}
 use Rattle.annotation_encode.specs.Variables.{numbers_before, state_numbers, write_place, write_places}
 use Rattle.annotation_encode.specs.Variables as version_three
-use Rattle.annotation_encode.proofs.Counted.{number_within, same_number}
 use Rattle.annotation_encode.proofs.Sizes.{count_below, place_below, row_end, write_below}
 use Rattle.annotation_encode.proofs.Sizes as version_three_sizes
 use Rattle.letter_clauses.specs.Variables.{move_count, row_count, row_place, var_count, var_move, variables_of, write_count}

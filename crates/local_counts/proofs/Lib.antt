@@ -1,0 +1,4 @@
+pub mod Passing
+pub mod Leading
+pub mod NamesBelow
+pub mod Summing
