@@ -1,9 +1,9 @@
 -- A pass over edges, one edge after the other.
-use Rattle.std.proofs.Common.{◌≡◌, ℕ, ◌+◌, ◌<◌, ◌≤◌, inl, inr, Bool, true, false, not, List, [], ◌∷◌, ◌++◌, length, get_or, set, take, cond, refl, sym, ap, ◌∙◌, subst, arith}
+use Rattle.std.proofs.Common.{◌≡◌, ℕ, zero, suc, ◌+◌, ◌<◌, ◌≤◌, inl, inr, Bool, true, false, not, List, [], ◌∷◌, ◌++◌, length, drop, get_or, set, take, cond, refl, sym, ap, ◌∙◌, subst, arith}
 use Rattle.std.specs.Prelude.{Contains}
 use Rattle.std.proofs.lemmas.Bool.{cases_eq}
-use Rattle.std.proofs.lemmas.List.{get_or-set_other, get_or-set_same, length-set, take_more}
-use Rattle.std.proofs.lemmas.List.Elements.{Contains-append_left, Contains-push, Contains-push_cases}
+use Rattle.std.proofs.lemmas.List.{drop_more, get_or-set_other, get_or-set_same, length-set, take_more}
+use Rattle.std.proofs.lemmas.List.Elements.{Contains-append_cases, Contains-append_left, Contains-append_right, Contains-push, Contains-push_cases}
 use Rattle.std.proofs.lemmas.List.Sums.{sum_by-set}
 use Rattle.machine_model.specs.declared.automata.Edge.{Edge}
 use Rattle.local_counts.specs.Marked.{GoesAlong, IsLeft, IsNewlyMarked, IsPass, is_marked, source_of, target_of, unmarked}
@@ -97,3 +97,37 @@ module _ (way : Way) (xs : List Edge) (e : Edge) (old marks new : List Bool) (gr
 
     pub leaves_marks : IsPass way (xs ++ e ∷ []) old new grows
     leaves_marks = subst (λ ms. IsPass way (xs ++ e ∷ []) old ms grows) (sym step.same) left_as_it_is
+
+-- a pass along edges is one along the same edges in another order
+pub pass_along : (way : Way) (xs ys : List Edge) (old new : List Bool) (grows : Bool) → ((e : Edge) → Contains xs e → Contains ys e) → ((e : Edge) → Contains ys e → Contains xs e)
+    → IsPass way xs old new grows → IsPass way ys old new grows
+pass_along way xs ys old new grows there back pass = record {
+  places = pass.places;
+  keeps = pass.keeps;
+  sound = λ good goes known. pass.sound good (record { along = λ e h. goes.along e (there e h) }) known;
+  closed = λ h. record { along = λ e in_ys. (pass.closed h).along e (back e in_ys) };
+  fewer = pass.fewer;
+  most = pass.most;
+}
+
+-- a pass that took what is behind an edge took the edge now
+pub pass_before : (way : Way) (edges items : List Edge) (i j : ℕ) (e : Edge) (old new : List Bool) (grows : Bool) → items ≡ edges → i < length items → j ≡ i + 1 → e ≡ get_or items i e
+    → IsPass way (drop j edges ++ e ∷ []) old new grows → IsPass way (drop i edges) old new grows
+pass_before way edges items i j e old new grows same h next is pass =
+    let whole : e ∷ drop (i + 1) edges ≡ drop i edges
+    = subst (λ xs. e ∷ drop (i + 1) xs ≡ drop i xs) same (ap (λ y. y ∷ drop (i + 1) items) is ∙ sym (drop_more items i e h)) in
+    subst (λ xs. IsPass way xs old new grows) whole
+    (pass_along way (drop (i + 1) edges ++ e ∷ []) (e ∷ drop (i + 1) edges) old new grows
+    (λ x there. elim (Contains-push_cases (drop (i + 1) edges) e x there) [
+      | inl later ↦ Contains-append_right (e ∷ []) (drop (i + 1) edges) x later
+      | inr here ↦ subst (Contains (e ∷ drop (i + 1) edges)) here (zero, omega arith, refl)
+    ])
+    (λ x there. elim (Contains-append_cases (e ∷ []) (drop (i + 1) edges) x there) [
+      | inl first ↦ subst (Contains (drop (i + 1) edges ++ e ∷ [])) (only e x first) (Contains-push (drop (i + 1) edges) e)
+      | inr later ↦ Contains-append_left (drop (i + 1) edges) (e ∷ []) x later
+    ])
+    (subst (λ k. IsPass way (drop k edges ++ e ∷ []) old new grows) next pass))
+  where
+    only : (e x : Edge) → Contains (e ∷ []) x → e ≡ x
+    only e x (zero, less, at) = at
+    only e x (suc k, less, at) = absurd (omega (arith, less))

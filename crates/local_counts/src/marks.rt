@@ -65,13 +65,40 @@ fn mark_all(automaton: &Automaton, way: Way, q: u32, marks: &mut [bool])
 }
 
 /// Marks each state that an edge leads to from a marked one, and says whether there was one that wasn't marked.
+///
+/// Edges mostly lead from states that were found earlier to later ones, and stand in this order. So they are taken from the first
+/// on along them, and from the last on against them: then one pass marks most of a path.
 fn mark_more(automaton: &Automaton, way: Way, marks: &mut [bool]) -> bool
+    requires { length marks.old ≡ states_of automaton.now }
+    ensures { IsPass way automaton.now.edges marks.old marks.new result }
+{
+    match way {
+        Way::Ahead => mark_from_first(automaton, way, marks),
+        Way::Behind => mark_from_last(automaton, way, marks),
+    }
+}
+
+fn mark_from_first(automaton: &Automaton, way: Way, marks: &mut [bool]) -> bool
     requires { length marks.old ≡ states_of automaton.now }
     ensures { IsPass way automaton.now.edges marks.old marks.new result }
 {
     let mut grows = false;
     for edge in automaton.edges() {
         if mark_target(way, *edge, marks) {
+            grows = true;
+        }
+    }
+    grows
+}
+
+fn mark_from_last(automaton: &Automaton, way: Way, marks: &mut [bool]) -> bool
+    requires { length marks.old ≡ states_of automaton.now }
+    ensures { IsPass way automaton.now.edges marks.old marks.new result }
+{
+    let edges = automaton.edges();
+    let mut grows = false;
+    for place in (0..edges.len()).rev() {
+        if mark_target(way, edges[place], marks) {
             grows = true;
         }
     }
