@@ -98,6 +98,7 @@ pub is_ready : (text : List ℕ) (given : Option Kind) (known : SolveText) → I
 is_ready text given known is = record {
   negated = is.negated.stands;
   normal = is.normal.stands;
+  forms = record { negated = is.negated.normal; normal = is.normal.normal };
   few_inputs = is.few_inputs;
   few_outputs = is.few_outputs;
 }

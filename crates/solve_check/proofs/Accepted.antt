@@ -1,7 +1,7 @@
 -- A document that holds for a text is true of what the text wants.
-use Rattle.std.proofs.Common.{◌≡◌, ℕ, ◌<◌, ◌≤◌, true, Option, List, [], ◌∷◌, length, refl, sym, ap, subst, ◌∙◌, arith}
+use Rattle.std.proofs.Common.{◌≡◌, ℕ, ◌<◌, ◌≤◌, true, Option, List, length, refl, sym, ap, subst, ◌∙◌}
 use Rattle.std.proofs.lemmas.Bool.{and_parts}
-use Rattle.std.specs.Prelude.{All, IfSome, Some, is_some, map}
+use Rattle.std.specs.Prelude.{IfSome, Some, is_some, map}
 use Rattle.std.specs.Bool.{beq}
 use Rattle.letter_word.specs.declared.kinds.Kind.{Kind}
 use Rattle.letter_word.specs.declared.kinds.Kind.TheVariants.{Mealy, Moore}
@@ -11,12 +11,14 @@ use Rattle.letter_word.specs.contracts.kinds.KindPartialEq.TheImpl.{ghosts as ki
 use Rattle.letter_word.specs.Kinds.{other_kind}
 use Rattle.aiger_text.specs.Circuit.{Circuit, IsCircuitOfKind}
 use Rattle.named_annotation.specs.Laws.{IsNeverTrue}
+use Rattle.satisfaction.specs.Satisfaction.{EachCanLose, NoneSatisfies}
+use Rattle.size_refutations.specs.Laws.{IsEnvironmentGround, IsGroundFor, IsSystemGround}
 use Rattle.solve_ground.specs.declared.texts.SolveText.{SolveText}
 use Rattle.solve_ground.specs.SolveText.{IsFormOf, IsSolveText}
 use Rattle.solved_text.specs.declared.documents.Verdict.{Verdict}
 use Rattle.solved_text.specs.declared.documents.Verdict.TheVariants.{Realizable, Unrealizable, Unknown}
-use Rattle.solved_text.specs.Parts.{Document, SizeLog}
-use Rattle.solved_text.specs.States.{States}
+use Rattle.solved_text.specs.Parts.{Document}
+use Rattle.solved_text.specs.States.{HasText, States}
 use Rattle.solve_check.specs.declared.acceptance.Acceptance.{Acceptance}
 use Rattle.solve_check.specs.Accepted.{IsAcceptedSolved, IsController, IsCounterStrategy, IsTrueOf}
 use Rattle.solve_check.specs.Checked.{IsAcceptedAs}
@@ -24,7 +26,8 @@ use Rattle.solve_check.specs.Given.{form_for, kind_for}
 use Rattle.solve_check.specs.Holds.{HasCircuit, HasWhatIsSaid, HoldsSolved}
 use Rattle.solve_check.specs.Line.{acceptance_of}
 use Rattle.solve_check.specs.Parts.{AreLaws, IsSound}
-use Rattle.solve_check.specs.SizeLogs.{LogHoldsSix}
+use Rattle.solve_check.specs.SizeLogs.{ground_for}
+use Rattle.solve_check.proofs.LogSizes.{HasLog, log_of_size}
 use Rattle.solve_check.proofs.Meaning.{defeats, satisfies}
 
 kinds_are : (k l : Kind) → kind_ghosts.eq k l ≡ true → k ≡ l
@@ -32,11 +35,6 @@ kinds_are Mealy Mealy e = refl
 kinds_are Mealy Moore e = absurd (cc)
 kinds_are Moore Mealy e = absurd (cc)
 kinds_are Moore Moore e = refl
-
--- no log holds, so there is none
-no_logs : (t : SolveText) (side : Side) (logs : List SizeLog) → All (LogHoldsSix t side) logs → length logs ≡ 0
-no_logs t side [] all = refl
-no_logs t side (l ∷ logs) all = absurd (all 0 l (omega arith))
 
 module _ (laws : AreLaws) (text : List ℕ) (given : Option Kind) (t : SolveText) (is : IsSolveText text given t) (d : Document) (sound : IfSome d.circuit IsSound) where
   module _ (side : Side) (n : ℕ) (has : HasCircuit t side n d) (form : IsFormOf side t.formulas is.wanted (form_for t side)) where
@@ -51,11 +49,40 @@ module _ (laws : AreLaws) (text : List ℕ) (given : Option Kind) (t : SolveText
         laws.annotations side has.circuit (kind_for t side) t.formulas (form_for t side) d.annotation (length has.circuit.latches) (length has.circuit.inputs) has.annotation.named
         is.list form.stands form.normal has.annotation.stated has.annotation.valid
 
-    none_refuted : (k : ℕ) {P : Type 0} → 0 < k → k ≤ length d.logs → P
-    none_refuted k pos few = let none : length d.logs ≡ 0 = no_logs t side d.logs has.logs in absurd (omega (arith, pos, few, none))
+    -- each size has a log that holds
+    its_log : (bytes : List ℕ) → States bytes d → (k : ℕ) → 0 < k → k ≤ length d.logs → HasLog (ground_for t side) k
+    its_log bytes states k pos few =
+        log_of_size (ground_for t side) _ d.logs (subst (λ (o : Option Circuit). HasText bytes o d) has.circuit_is states.text).logs has.logs k pos few
 
-  controller : (n : ℕ) → HasCircuit t System n d → IsController is.wanted n (length d.logs) d
-  controller n has = record {
+  ground_of : (side : Side) → IsFormOf side t.formulas is.wanted (form_for t side) → IsGroundFor (ground_for t side) is.wanted
+  ground_of side form = record {
+    list = is.list;
+    stands = form.stands;
+    normal = form.normal;
+    inputs = ap length is.inputs;
+    outputs = ap length is.outputs;
+    few_inputs = is.few_inputs;
+    few_outputs = is.few_outputs;
+  }
+
+  system_ground : IsSystemGround (ground_for t System) is.wanted
+  system_ground = record { ground_for = ground_of System is.negated; of_system = refl; kind_is = is.kind_is; says = is.negated.says }
+
+  environment_ground : IsEnvironmentGround (ground_for t Environment) is.wanted
+  environment_ground = record { ground_for = ground_of Environment is.normal; of_environment = refl; kind_is = ap other_kind is.kind_is; says = is.normal.says }
+
+  none_satisfies : (bytes : List ℕ) → States bytes d → (n : ℕ) → HasCircuit t System n d → (k : ℕ) → 0 < k → k ≤ length d.logs → NoneSatisfies is.wanted k
+  none_satisfies bytes states n has k pos few =
+      let found = its_log System n has is.negated bytes states k pos few in
+      subst (NoneSatisfies is.wanted) found.size (laws.refute.systems (ground_for t System) found.log is.wanted system_ground found.holds)
+
+  each_can_lose : (bytes : List ℕ) → States bytes d → (n : ℕ) → HasCircuit t Environment n d → (k : ℕ) → 0 < k → k ≤ length d.logs → EachCanLose is.wanted k
+  each_can_lose bytes states n has k pos few =
+      let found = its_log Environment n has is.normal bytes states k pos few in
+      subst (EachCanLose is.wanted) found.size (laws.refute.environments (ground_for t Environment) found.log is.wanted environment_ground found.holds)
+
+  controller : (bytes : List ℕ) → States bytes d → (n : ℕ) → HasCircuit t System n d → IsController is.wanted n (length d.logs) d
+  controller bytes stated n has = record {
     circuit = has.circuit;
     circuit_is = has.circuit_is;
     is_circuit = (sound_here System n has is.negated).is_circuit;
@@ -64,12 +91,12 @@ module _ (laws : AreLaws) (text : List ℕ) (given : Option Kind) (t : SolveText
         (has.names.inputs ∙ ap (map Some) is.inputs) (has.names.outputs ∙ ap (map Some) is.outputs);
     runs = (sound_here System n has is.negated).runs System;
     states = has.states;
-    no_machine = λ k pos few. none_refuted System n has is.negated k pos few;
-    no_circuit = λ k few. laws.no_controller is.wanted (length d.logs) (λ j pos less. none_refuted System n has is.negated j pos less) k few;
+    no_machine = λ k pos few. none_satisfies bytes stated n has k pos few;
+    no_circuit = λ k few. laws.no_controller is.wanted (length d.logs) (λ j pos less. none_satisfies bytes stated n has j pos less) k few;
   }
 
-  counter_strategy : (n : ℕ) → HasCircuit t Environment n d → IsCounterStrategy is.wanted n (length d.logs) d
-  counter_strategy n has = record {
+  counter_strategy : (bytes : List ℕ) → States bytes d → (n : ℕ) → HasCircuit t Environment n d → IsCounterStrategy is.wanted n (length d.logs) d
+  counter_strategy bytes stated n has = record {
     circuit = has.circuit;
     circuit_is = has.circuit_is;
     is_circuit = (sound_here Environment n has is.normal).is_circuit;
@@ -78,14 +105,14 @@ module _ (laws : AreLaws) (text : List ℕ) (given : Option Kind) (t : SolveText
         (has.names.inputs ∙ ap (map Some) is.outputs) (has.names.outputs ∙ ap (map Some) is.inputs);
     runs = (sound_here Environment n has is.normal).runs Environment;
     states = has.states;
-    no_machine = λ k pos few. none_refuted Environment n has is.normal k pos few;
-    no_circuit = λ k few. laws.no_counter_strategy is.wanted (length d.logs) (λ j pos less. none_refuted Environment n has is.normal j pos less) k few;
+    no_machine = λ k pos few. each_can_lose bytes stated n has k pos few;
+    no_circuit = λ k few. laws.no_counter_strategy is.wanted (length d.logs) (λ j pos less. each_can_lose bytes stated n has j pos less) k few;
   }
 
-  true_of : (v : Verdict) → HasWhatIsSaid t d v → IsTrueOf is.wanted d v
-  true_of (Realizable n) has = controller n has
-  true_of (Unrealizable n) has = counter_strategy n has
-  true_of Unknown has = tt
+  true_of : (bytes : List ℕ) → States bytes d → (v : Verdict) → HasWhatIsSaid t d v → IsTrueOf is.wanted d v
+  true_of bytes stated (Realizable n) has = controller bytes stated n has
+  true_of bytes stated (Unrealizable n) has = counter_strategy bytes stated n has
+  true_of bytes stated Unknown has = tt
 
   pub accepted : (bytes : List ℕ) → States bytes d → HoldsSolved t d → IsAcceptedSolved text given bytes d
   accepted bytes states holds =
@@ -99,7 +126,7 @@ module _ (laws : AreLaws) (text : List ℕ) (given : Option Kind) (t : SolveText
         wanted = is.wanted;
         taken = is.taken;
         kind_is = sym same ∙ is.kind_is;
-        verdict = true_of d.verdict holds.said;
+        verdict = true_of bytes states d.verdict holds.said;
       }
 
   -- and this is told of it

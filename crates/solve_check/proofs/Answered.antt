@@ -4,6 +4,7 @@ use Rattle.std.specs.Prelude.{IfSome, MatchOption, unwrap_or}
 use Rattle.letter_word.specs.declared.kinds.Kind.{Kind}
 use Rattle.aiger_text.specs.Circuit.{Circuit}
 use Rattle.cert_text.specs.Reading.{circuit_in}
+use Rattle.size_refutations.specs.Laws.{LogsAreDetermined}
 use Rattle.solve_ground.specs.declared.texts.SolveText.{SolveText}
 use Rattle.solve_ground.specs.SolveText.{IsSolveText}
 use Rattle.solved_text.specs.declared.documents.Verdict.{Verdict}
@@ -42,7 +43,7 @@ module _ (t : SolveText) (bytes : List ℕ) (lines : SolvedLines) (reads : Reads
   pub bad_claim : (n : ℕ) → LinesFail t bytes lines None → IsClaimed t bytes lines (Some n) → IsFirstBadSolved t bytes n
   bad_claim n none claimed = claim_by n none (annotated_in lines) claimed
 
-  module _ (determined : SolvedAreDetermined) (none : LinesFail t bytes lines None) (claimed : IsClaimed t bytes lines None) (a : Acceptance) (tells : TellsOf t lines a) where
+  module _ (determined : SolvedAreDetermined) (law : LogsAreDetermined) (none : LinesFail t bytes lines None) (claimed : IsClaimed t bytes lines None) (a : Acceptance) (tells : TellsOf t lines a) where
     good_text : lines.bad ≡ None
     good_text = (earliest_none lines.bad _ (earliest_none (circuit_line t bytes lines.header lines.circuit) _ (sym none.first_is)).1).0
 
@@ -57,7 +58,7 @@ module _ (t : SolveText) (bytes : List ℕ) (lines : SolvedLines) (reads : Reads
     good = record {
       document = stated.document;
       states = stated.states;
-      holds = holds t bytes lines stated.document is_document none stated.states claimed;
+      holds = holds law t bytes lines stated.document is_document none stated.states claimed;
       told = told_of t bytes lines stated.document a is_document tells;
     }
 
@@ -65,7 +66,7 @@ module _ (t : SolveText) (bytes : List ℕ) (lines : SolvedLines) (reads : Reads
   pub means : AreLaws → LinesFail t bytes lines None → IsClaimed t bytes lines None → (a : Acceptance) → TellsOf t lines a → IfSome (circuit_in lines.circuit) IsSound
       → (text : List ℕ) (given : Option Kind) → IsSolveText text given t → IsAcceptedAs text given bytes a
   means laws none claimed a tells sound text given is =
-      let s : IsStated bytes lines = stated laws.documents none claimed a tells in
-      let d : IsDocumentOf bytes lines s.document = is_document laws.documents none claimed a tells in
+      let s : IsStated bytes lines = stated laws.documents laws.logs none claimed a tells in
+      let d : IsDocumentOf bytes lines s.document = is_document laws.documents laws.logs none claimed a tells in
       let its : IfSome s.document.circuit IsSound = subst (λ (o : Option Circuit). IfSome o IsSound) d.circuit sound in
-      accepted_as laws text given t is s.document its bytes a s.states (holds t bytes lines s.document d none s.states claimed) (told_of t bytes lines s.document a d tells)
+      accepted_as laws text given t is s.document its bytes a s.states (holds laws.logs t bytes lines s.document d none s.states claimed) (told_of t bytes lines s.document a d tells)

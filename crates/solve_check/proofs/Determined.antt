@@ -1,20 +1,22 @@
 -- Of a text a document has at most one first bad line.
 use Rattle.std.proofs.Common.{◌≡◌, ℕ, Option, Some, None, Ok, Err, List, [], ◌∷◌, refl, sym, ap, subst, ◌∙◌, true≢false}
 use Rattle.std.specs.Prelude.{MatchOption, Result, unwrap_or}
-use Rattle.letter_word.specs.declared.kinds.Side.{Side}
 use Rattle.aiger_text.specs.Circuit.{Circuit}
 use Rattle.annot_check.specs.declared.faults.AnnotFault.{AnnotFault}
 use Rattle.annot_check.specs.declared.faults.AnnotFault.TheVariants.{NoMemory}
 use Rattle.annot_check.proofs.Apart.{causes_are_apart}
 use Rattle.circuit_names.specs.Lines.{earliest}
 use Rattle.named_annotation.specs.NamedStates.{Named}
+use Rattle.size_refutations.specs.FirstBad.{LogFails}
+use Rattle.size_refutations.specs.Ground.{LogGround}
+use Rattle.size_refutations.specs.Laws.{LogsAreDetermined}
 use Rattle.solve_ground.specs.declared.texts.SolveText.{SolveText}
 use Rattle.solved_text.specs.Parts.{SizeLog}
 use Rattle.solved_text.specs.Laws.{SolvedAreDetermined}
 use Rattle.solved_text.specs.Reading.{Reads, SolvedLines}
 use Rattle.solve_check.specs.Given.{kind_for}
-use Rattle.solve_check.specs.SizeLogs.{LogsFail, none_fails, one_fails, one_good}
-use Rattle.solve_check.specs.FirstBad.{Annotated, Counted, HasAnnotation, IsCauseFor, IsFirstBadSolved, LinesFail, NumberFails, annotated_in, annotation_line, another, cause_line, circuit_line, counted_in, of_line, of_pairs, reading_in, right, taken_line, too_many}
+use Rattle.solve_check.specs.SizeLogs.{LogsFail, ground_for, none_fails, one_fails, one_good}
+use Rattle.solve_check.specs.FirstBad.{Annotated, Counted, HasAnnotation, IsCauseFor, IsFirstBadSolved, LinesFail, NumberFails, annotated_in, annotation_line, another, cause_line, circuit_line, counted_in, of_line, of_pairs, reading_in, right, side_in, taken_line, too_many}
 
 pub some_same : {X : Type 0} (o : Option X) (x y : X) → o ≡ Some x → o ≡ Some y → x ≡ y
 some_same o x y a b = ap (λ o. unwrap_or o x) (sym a ∙ b)
@@ -39,13 +41,17 @@ number_by : (q : Option Counted) (line : ℕ) (o p : Option ℕ) → MatchOption
 number_by None line o p a b = a ∙ sym b
 number_by (Some c) line o p a b = number_one c.circuit c.states line o p a b
 
-logs_one : (t : SolveText) (side : Side) (logs : List SizeLog) (o p : Option ℕ) → LogsFail t side logs o → LogsFail t side logs p → o ≡ p
-logs_one t side [] _ _ none_fails none_fails = refl
-logs_one t side (l ∷ logs) _ _ (one_fails k ks n e) (one_fails m ms j f) = e ∙ sym f
-logs_one t side (l ∷ logs) _ _ (one_fails k ks n e) (one_good m ms first f rest) = absurd (cc)
-logs_one t side (l ∷ logs) _ _ (one_good k ks first e rest) more = absurd (cc)
+some_or_none : LogsAreDetermined → (g : LogGround) (l : SizeLog) (n : ℕ) → LogFails g l (Some n) → LogFails g l None → ⊥
+some_or_none law g l n fails good = let never : Some n ≡ None = law.one g l (Some n) None fails good in absurd (cc)
 
-module _ (t : SolveText) (bytes : List ℕ) where
+logs_one : LogsAreDetermined → (g : LogGround) (logs : List SizeLog) (o p : Option ℕ) → LogsFail g logs o → LogsFail g logs p → o ≡ p
+logs_one law g [] _ _ none_fails none_fails = refl
+logs_one law g (l ∷ logs) _ _ (one_fails k ks n e) (one_fails m ms j f) = law.one g l (Some n) (Some j) e f
+logs_one law g (l ∷ logs) _ _ (one_fails k ks n e) (one_good m ms first f rest) = absurd (some_or_none law g l n e f)
+logs_one law g (l ∷ logs) _ _ (one_good k ks first e rest) (one_fails m ms j f) = absurd (some_or_none law g l j f e)
+logs_one law g (l ∷ logs) _ _ (one_good k ks first e rest) (one_good m ms other f more) = logs_one law g logs first other rest more
+
+module _ (law : LogsAreDetermined) (t : SolveText) (bytes : List ℕ) where
   -- the least line, of what the number and the logs give
   abbrev least : SolvedLines → Option ℕ → Option ℕ → Option ℕ
   least lines number logs = earliest (circuit_line t bytes lines.header lines.circuit)
@@ -54,7 +60,7 @@ module _ (t : SolveText) (bytes : List ℕ) where
   pub fails_one : (lines : SolvedLines) (o p : Option ℕ) → LinesFail t bytes lines o → LinesFail t bytes lines p → o ≡ p
   fails_one lines o p a b =
       let number : a.number ≡ b.number = number_by (counted_in lines) lines.verdict_line a.number b.number a.number_fails b.number_fails in
-      let logs : a.logs ≡ b.logs = logs_one t _ lines.logs a.logs b.logs a.logs_fail b.logs_fail in
+      let logs : a.logs ≡ b.logs = logs_one law (ground_for t (side_in lines.header)) lines.logs a.logs b.logs a.logs_fail b.logs_fail in
       a.first_is ∙ ap (λ (x : Option ℕ). least lines x a.logs) number ∙ ap (λ (x : Option ℕ). least lines b.number x) logs ∙ sym b.first_is
 
   -- the same annotation has one cause, and so one line

@@ -2,6 +2,7 @@
 use Rattle.std.proofs.Common.{◌≡◌, ℕ, ◌+◌, Bool, true, false, cond, Option, Some, None, List, [], ◌∷◌, length, drop, refl, sym, ap, subst, ◌∙◌, arith}
 use Rattle.std.specs.Prelude.{All, IfSome, MatchOption, is_some, option_and_then, option_map, unwrap_or}
 use Rattle.std.specs.Option.{option_map_or}
+use Rattle.std.proofs.lemmas.List.Elements.{All-cons}
 use Rattle.letter_word.specs.declared.kinds.Kind.{Kind}
 use Rattle.letter_word.specs.declared.kinds.Side.{Side}
 use Rattle.letter_word.specs.declared.kinds.Side.TheVariants.{System, Environment}
@@ -11,6 +12,9 @@ use Rattle.cert_text.specs.declared.reading.CircuitPart.{CircuitPart}
 use Rattle.cert_text.specs.declared.reading.CircuitPart.TheVariants.{Absent, Faulty, Stated}
 use Rattle.cert_text.specs.Reading.{all_named, circuit_in}
 use Rattle.circuit_names.specs.Lines.{earliest, stated_line}
+use Rattle.size_refutations.specs.Ground.{LogGround}
+use Rattle.size_refutations.specs.Holds.{LogHolds}
+use Rattle.size_refutations.specs.Laws.{LogsAreDetermined}
 use Rattle.solve_ground.specs.declared.texts.SolveText.{SolveText}
 use Rattle.solved_text.specs.declared.annotation.AnnotationPlace.{AnnotationPlace}
 use Rattle.solved_text.specs.declared.documents.Verdict.{Verdict}
@@ -21,7 +25,7 @@ use Rattle.solved_text.specs.Parts.{Document, SizeLog}
 use Rattle.solved_text.specs.Reading.{SolvedLines, annotation_in, document_of}
 use Rattle.solved_text.specs.States.{IsShown, IsShownBy, States}
 use Rattle.solve_check.specs.Given.{is_taken_so, names_in}
-use Rattle.solve_check.specs.SizeLogs.{LogHoldsSix, LogsFail, none_fails, one_fails, one_good}
+use Rattle.solve_check.specs.SizeLogs.{LogsFail, ground_for, none_fails, one_fails, one_good}
 use Rattle.solve_check.specs.FirstBad.{Annotated, Counted, LinesFail, NumberFails, annotated_in, annotation_line, circuit_line, circuit_side, counted_in, file_in, may_be_counted, side_in, states_told, taken_line, too_many, another, right}
 use Rattle.solve_check.specs.Holds.{HasCircuit, HasNames, HasWhatIsSaid, HoldsSolved}
 use Rattle.solve_check.specs.Parts.{IsClaimed}
@@ -91,14 +95,15 @@ number_right c n line o (too_many few) none = absurd (cc)
 number_right c n line o (another few never) none = absurd (cc)
 number_right c n line o (right few states) none = (few, states)
 
-all_hold : (t : SolveText) (side : Side) (logs : List SizeLog) (o : Option ℕ) → LogsFail t side logs o → o ≡ None → All (LogHoldsSix t side) logs
-all_hold t side [] o none_fails none = λ k d few. absurd (omega (arith, few))
-all_hold t side (l ∷ logs) o (one_fails m more n fails) none = absurd (cc)
-all_hold t side (l ∷ logs) o (one_good m more first good rest) none = absurd (cc)
+all_hold : LogsAreDetermined → (g : LogGround) (logs : List SizeLog) (o : Option ℕ) → LogsFail g logs o → o ≡ None → All (LogHolds g) logs
+all_hold law g [] o none_fails none = λ k d few. absurd (omega (arith, few))
+all_hold law g (l ∷ logs) o (one_fails m more n fails) none = absurd (cc)
+all_hold law g (l ∷ logs) o (one_good m more first good rest) none =
+    All-cons (LogHolds g) l logs ((law.holding g l).0 good) (all_hold law g logs o rest none)
 
 -- ---- where no line fails, it holds
 
-module _ (t : SolveText) (bytes : List ℕ) (lines : SolvedLines) (d : Document) (is : IsDocumentOf bytes lines d) (fails : LinesFail t bytes lines None) where
+module _ (law : LogsAreDetermined) (t : SolveText) (bytes : List ℕ) (lines : SolvedLines) (d : Document) (is : IsDocumentOf bytes lines d) (fails : LinesFail t bytes lines None) where
   circuit_none : circuit_line t bytes lines.header lines.circuit ≡ None
   circuit_none = (earliest_none (circuit_line t bytes lines.header lines.circuit) _ (sym fails.first_is)).0
 
@@ -179,8 +184,9 @@ module _ (t : SolveText) (bytes : List ℕ) (lines : SolvedLines) (d : Document)
           states = number.1;
           annotation = rw (sym s, sym has.circuit_is, sym annotation_is)
               (record { named = is_shown.named; stated = is_shown.annotation.stated; valid = is_shown.told });
-          logs = subst (λ (x : Side). All (LogHoldsSix t x) d.logs) s
-              (subst (All (LogHoldsSix t (side_in lines.header))) is.logs (all_hold t (side_in lines.header) lines.logs fails.logs fails.logs_fail logs_none));
+          logs = subst (λ (x : Side). All (LogHolds (ground_for t x)) d.logs) s
+              (subst (All (LogHolds (ground_for t (side_in lines.header)))) is.logs
+              (all_hold law (ground_for t (side_in lines.header)) lines.logs fails.logs fails.logs_fail logs_none));
         }
 
   said : States bytes d → IsClaimed t bytes lines None → (v : Verdict) → d.verdict ≡ v → HasWhatIsSaid t d v

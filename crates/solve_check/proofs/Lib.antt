@@ -10,3 +10,5 @@ mod Passing
 mod Answered
 mod CountedLemmas
 mod LogLemmas
+pub mod LogSizes
+pub mod Sought

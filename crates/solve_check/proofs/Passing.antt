@@ -1,7 +1,8 @@
 -- Of a document that holds no line fails, and it has no first bad line.
-use Rattle.std.proofs.Common.{◌≡◌, ℕ, ◌+◌, Bool, true, false, cond, Option, Some, None, Ok, List, [], ◌∷◌, length, drop, refl, sym, ap, subst, ◌∙◌, arith}
+use Rattle.std.proofs.Common.{◌≡◌, ℕ, ◌+◌, Bool, true, false, cond, Option, Some, None, Ok, List, [], ◌∷◌, length, drop, refl, sym, ap, subst, ◌∙◌}
 use Rattle.std.specs.Prelude.{All, MatchOption, is_some, option_and_then, option_map}
 use Rattle.std.specs.Option.{option_map_or}
+use Rattle.std.proofs.lemmas.List.Elements.{All-head, All-tail}
 use Rattle.letter_word.specs.declared.kinds.Kind.{Kind}
 use Rattle.letter_word.specs.declared.kinds.Side.{Side}
 use Rattle.letter_word.specs.declared.kinds.Side.TheVariants.{System, Environment}
@@ -17,6 +18,9 @@ use Rattle.circuit_names.specs.Lines.{stated_line}
 use Rattle.named_annotation.specs.Laws.{IsValidNamed}
 use Rattle.named_annotation.specs.NamedStates.{Named}
 use Rattle.named_annotation.specs.NamedText.{named_reading}
+use Rattle.size_refutations.specs.Ground.{LogGround}
+use Rattle.size_refutations.specs.Holds.{LogHolds}
+use Rattle.size_refutations.specs.Laws.{LogsAreDetermined}
 use Rattle.solve_ground.specs.declared.texts.SolveText.{SolveText}
 use Rattle.solved_text.specs.declared.annotation.AnnotationPlace.{AnnotationPlace}
 use Rattle.solved_text.specs.declared.documents.Verdict.{Verdict}
@@ -29,7 +33,7 @@ use Rattle.solved_text.specs.Parts.{Document, SizeLog}
 use Rattle.solved_text.specs.Reading.{Reads, ReadsBehind, SolvedLines, annotation_in, commented, named, of_fault, uncommented, unnamed, without_circuit}
 use Rattle.solved_text.specs.States.{IsShown, IsShownBy, States}
 use Rattle.solve_check.specs.Given.{form_for, is_taken_so, kind_for, names_in}
-use Rattle.solve_check.specs.SizeLogs.{LogHoldsSix, LogsFail, none_fails}
+use Rattle.solve_check.specs.SizeLogs.{LogsFail, ground_for, none_fails, one_good}
 use Rattle.solve_check.specs.FirstBad.{Annotated, Counted, HasAnnotation, IsCauseFor, IsFirstBadSolved, LinesFail, NumberFails, NumberFailsIn, annotated_in, annotation_line, circuit_line, circuit_side, counted_in, file_in, of_line, of_pairs, reading_in, refused_line, right, side_in, states_told, taken_line}
 use Rattle.solve_check.specs.Holds.{HasCircuit, HasNames, HasWhatIsSaid, HoldsSolved}
 use Rattle.solve_check.proofs.Determined.{fails_one, named_or, some_same}
@@ -70,11 +74,12 @@ cond_same : (b : Bool) (o : Option ℕ) → o ≡ None → cond b None o ≡ Non
 cond_same true o none = refl
 cond_same false o none = none
 
-logs_pass : (t : SolveText) (side : Side) (logs : List SizeLog) → All (LogHoldsSix t side) logs → LogsFail t side logs None
-logs_pass t side [] all = none_fails
-logs_pass t side (l ∷ logs) all = absurd (all 0 l (omega arith))
+logs_pass : LogsAreDetermined → (g : LogGround) (logs : List SizeLog) → All (LogHolds g) logs → LogsFail g logs None
+logs_pass law g [] all = none_fails
+logs_pass law g (l ∷ logs) all =
+    one_good l logs None ((law.holding g l).1 (All-head (LogHolds g) l logs all)) (logs_pass law g logs (All-tail (LogHolds g) l logs all))
 
-module _ (t : SolveText) (bytes : List ℕ) (lines : SolvedLines) (d : Document) (is : IsDocumentOf bytes lines d) (reads : Reads bytes lines) (good : lines.bad ≡ None)
+module _ (law : LogsAreDetermined) (t : SolveText) (bytes : List ℕ) (lines : SolvedLines) (d : Document) (is : IsDocumentOf bytes lines d) (reads : Reads bytes lines) (good : lines.bad ≡ None)
     (states : States bytes d) (holds : HoldsSolved t d) where
   taken_none : taken_line t lines ≡ None
   taken_none =
@@ -86,7 +91,7 @@ module _ (t : SolveText) (bytes : List ℕ) (lines : SolvedLines) (d : Document)
   side_is = ap (λ (o : Option Verdict). option_map_or circuit_side o System) is.verdict
 
   pass : circuit_line t bytes lines.header lines.circuit ≡ None → NumberFailsIn lines None → annotation_line t bytes lines ≡ None
-      → LogsFail t (side_in lines.header) lines.logs None → LinesFail t bytes lines None
+      → LogsFail (ground_for t (side_in lines.header)) lines.logs None → LinesFail t bytes lines None
   pass circuit number annotation logs = record {
     number = None;
     number_fails = number;
@@ -113,7 +118,7 @@ module _ (t : SolveText) (bytes : List ℕ) (lines : SolvedLines) (d : Document)
         pass (no_line t bytes lines.header lines.circuit none_there (not_faulty bytes lines reads good))
         (subst (λ (q : Option Counted). MatchOption q (◌≡◌ {A = Option ℕ} None None) (λ c. NumberFails c.circuit c.states lines.verdict_line None)) (sym counted) refl)
         (cond_same (is_some (circuit_line t bytes lines.header lines.circuit)) _ (ap (option_and_then (λ a. refused_line a (reading_in t bytes a))) none_annotated))
-        (subst (λ (ls : List SizeLog). LogsFail t (side_in lines.header) ls None) (sym logs) none_fails)
+        (subst (λ (ls : List SizeLog). LogsFail (ground_for t (side_in lines.header)) ls None) (sym logs) none_fails)
 
   module _ (side : Side) (n : ℕ) (same_side : circuit_side d.verdict ≡ side) (told : states_told d.verdict ≡ Some n) (has : HasCircuit t side n d) (shown : IsShown n d.logs d.annotation) where
     abbrev f : HasFile lines.circuit has.circuit
@@ -164,7 +169,8 @@ module _ (t : SolveText) (bytes : List ℕ) (lines : SolvedLines) (d : Document)
         (subst (λ (q : Option Counted). MatchOption q (◌≡◌ {A = Option ℕ} None None) (λ c. NumberFails c.circuit c.states lines.verdict_line None)) (sym counted) (right has.counted has.states))
         (cond_same (is_some (circuit_line t bytes lines.header lines.circuit)) _
         (ap (option_and_then (λ x. refused_line x (reading_in t bytes x))) annotated ∙ ap (refused_line a) reading))
-        (subst (λ (x : Side). LogsFail t x lines.logs None) (sym s) (subst (λ (ls : List SizeLog). LogsFail t side ls None) (sym is.logs) (logs_pass t side d.logs has.logs)))
+        (subst (λ (x : Side). LogsFail (ground_for t x) lines.logs None) (sym s)
+        (subst (λ (ls : List SizeLog). LogsFail (ground_for t side) ls None) (sym is.logs) (logs_pass law (ground_for t side) d.logs has.logs)))
 
     its_annotation : (b : Annotated) (q : Named) → HasAnnotation t bytes lines b q → IsValidNamed b.side b.file.circuit (kind_for t b.side) q
     its_annotation b q got =
@@ -186,11 +192,11 @@ module _ (t : SolveText) (bytes : List ℕ) (lines : SolvedLines) (d : Document)
   by_verdict (Unrealizable n) e said =
       with_circuit Environment n (ap circuit_side e) (ap states_told e) said (subst (λ (v : Verdict). IsShownBy v d.logs d.annotation) e states.well_formed.shown)
 
-module _ (determined : SolvedAreDetermined) (t : SolveText) (bytes : List ℕ) (d : Document) (states : States bytes d) (holds : HoldsSolved t d) where
+module _ (determined : SolvedAreDetermined) (law : LogsAreDetermined) (t : SolveText) (bytes : List ℕ) (d : Document) (states : States bytes d) (holds : HoldsSolved t d) where
   all_pass : (lines : SolvedLines) → Reads bytes lines → Passes t bytes lines
   all_pass lines reads =
       let whole = determined.all_good bytes lines d reads states in
-      by_verdict t bytes lines d (document_is bytes lines d whole.1) reads whole.0 states holds d.verdict refl holds.said
+      by_verdict law t bytes lines d (document_is bytes lines d whole.1) reads whole.0 states holds d.verdict refl holds.said
 
   no_cause : (lines : SolvedLines) (a : Annotated) (p : Named) (fault : AnnotFault) → Passes t bytes lines → HasAnnotation t bytes lines a p → (fault ≡ NoMemory → ⊥)
       → IsCauseFor t a p fault → ⊥
@@ -198,7 +204,7 @@ module _ (determined : SolvedAreDetermined) (t : SolveText) (bytes : List ℕ) (
       some ((causes_are_apart a.file.circuit).valid a.side (kind_for t a.side) p.automaton p.list.pairs fault (passed.annotation a p has) cause)
 
   no_bad : (lines : SolvedLines) (n : ℕ) → Passes t bytes lines → LinesFail t bytes lines (Some n) → ⊥
-  no_bad lines n passed fails = let same : Some n ≡ None = fails_one t bytes lines (Some n) None fails passed.fails in absurd (cc)
+  no_bad lines n passed fails = let same : Some n ≡ None = fails_one law t bytes lines (Some n) None fails passed.fails in absurd (cc)
 
   pub holding_has_none : (n : ℕ) → IsFirstBadSolved t bytes n → ⊥
   holding_has_none _ (of_line lines n reads fails) = no_bad lines n (all_pass lines reads) fails

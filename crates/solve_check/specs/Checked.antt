@@ -1,7 +1,8 @@
 -- What the test of a document answers (this project's own).
 use Rattle.std.specs.Prelude.{◌≡◌, ◌≤◌, ⊤, ℕ, List, Option, length}
 use Rattle.letter_word.specs.declared.kinds.Kind.{Kind}
-use Rattle.ltl_formula.specs.Nodes.{Stands}
+use Rattle.ltl_formula.specs.NormalForm.{IsNormal}
+use Rattle.ltl_formula.specs.Nodes.{Stands, tree_at}
 use Rattle.solve_ground.specs.declared.texts.SolveText.{SolveText}
 use Rattle.solved_text.specs.Parts.{Document}
 use Rattle.solved_text.specs.States.{States}
@@ -13,10 +14,16 @@ use Rattle.solve_check.specs.FirstBad.{IsFirstBadSolved}
 use Rattle.solve_check.specs.Holds.{HoldsSolved}
 use Rattle.solve_check.specs.Line.{acceptance_of}
 
--- both forms of a text's whole stand in its list, and its signals are few
+-- both forms of a text's whole are in normal form
+pub record AreNormal (t : SolveText) : Type 0 where
+  pub negated : IsNormal (tree_at t.formulas t.negated)
+  pub normal : IsNormal (tree_at t.formulas t.normal)
+
+-- both forms of a text's whole stand in its list in normal form, and its signals are few
 pub record IsReady (t : SolveText) : Type 0 where
   pub negated : Stands t.formulas t.negated
   pub normal : Stands t.formulas t.normal
+  pub forms : AreNormal t
   pub few_inputs : length t.inputs.items ≤ 16
   pub few_outputs : length t.outputs.items ≤ 16
 

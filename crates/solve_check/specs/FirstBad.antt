@@ -25,7 +25,7 @@ use Rattle.solved_text.specs.declared.header.Header.{Header}
 use Rattle.solved_text.specs.Header.{is_number_of_states}
 use Rattle.solved_text.specs.Reading.{Reads, SolvedLines}
 use Rattle.solve_check.specs.Given.{form_for, is_taken_so, kind_for, names_in}
-use Rattle.solve_check.specs.SizeLogs.{LogsFail}
+use Rattle.solve_check.specs.SizeLogs.{LogsFail, ground_for}
 
 -- == the circuit ==
 
@@ -130,7 +130,7 @@ pub record LinesFail (t : SolveText) (bytes : List ℕ) (lines : SolvedLines) (f
   pub number : Option ℕ
   pub number_fails : NumberFailsIn lines number
   pub logs : Option ℕ
-  pub logs_fail : LogsFail t (side_in lines.header) lines.logs logs
+  pub logs_fail : LogsFail (ground_for t (side_in lines.header)) lines.logs logs
   pub first_is : first ≡ earliest (circuit_line t bytes lines.header lines.circuit)
       (earliest lines.bad (earliest number (earliest (taken_line t lines) (earliest (annotation_line t bytes lines) logs))))
 

@@ -7,13 +7,14 @@ use Rattle.circuit_names.specs.Names.{Names, read_names, written_names}
 use Rattle.named_annotation.specs.Laws.{IsValidNamed}
 use Rattle.named_annotation.specs.NamedStates.{Named}
 use Rattle.named_annotation.specs.NamedText.{StatesNamed}
+use Rattle.size_refutations.specs.Holds.{LogHolds}
 use Rattle.solve_ground.specs.declared.texts.SolveText.{SolveText}
 use Rattle.solved_text.specs.declared.documents.Verdict.{Verdict}
 use Rattle.solved_text.specs.declared.documents.Verdict.TheVariants.{Realizable, Unrealizable, Unknown}
 use Rattle.solved_text.specs.Parts.{Document}
 use Rattle.solve_check.specs.Given.{form_for, is_taken_so, kind_for, names_in}
 use Rattle.solve_check.specs.FirstBad.{may_be_counted}
-use Rattle.solve_check.specs.SizeLogs.{LogHoldsSix}
+use Rattle.solve_check.specs.SizeLogs.{ground_for}
 
 -- each input and each output has the text's name for it, where the circuit plays this side
 pub record HasNames (names : Names) (side : Side) (c : Circuit) : Type 0 where
@@ -35,7 +36,7 @@ pub record HasCircuit (t : SolveText) (side : Side) (n : ℕ) (d : Document) : T
   pub counted : may_be_counted n (length circuit.inputs) ≡ true
   pub states : HasStates circuit n
   pub annotation : IsAnnotationOf t side circuit d.annotation
-  pub logs : All (LogHoldsSix t side) d.logs
+  pub logs : All (LogHolds (ground_for t side)) d.logs
 
 -- what a verdict wants of its document
 abbrev pub HasWhatIsSaid : SolveText → Document → Verdict → Type 0

@@ -1,5 +1,5 @@
 -- What the parts of the code have of a document and of a text (this project's own).
-use Rattle.std.specs.Prelude.{◌≡◌, ◌≢◌, ℕ, ◌+◌, ◌<◌, ◌^◌, ⊤, true, Option, Some, None, Ok, List, length, MatchOption}
+use Rattle.std.specs.Prelude.{◌≡◌, ◌≢◌, ℕ, ◌+◌, ◌<◌, ◌≤◌, ◌^◌, ⊤, true, Option, Some, None, Ok, List, length, MatchOption}
 use Rattle.letter_word.specs.declared.kinds.Kind.{Kind}
 use Rattle.letter_word.specs.declared.kinds.Side.{Side}
 use Rattle.aiger_text.specs.Circuit.{Circuit, RunsOnEveryInput}
@@ -9,8 +9,10 @@ use Rattle.annot_check.specs.declared.faults.AnnotFault.TheVariants.{NoMemory, B
 use Rattle.annot_check.specs.Laws.{ValidListsShowKind}
 use Rattle.annot_check.specs.Causes.{CanBeChecked}
 use Rattle.circuit_laws.specs.Laws.{LosingCircuitsDefeat, NoSmallCircuitDefeats, NoSmallCircuitSatisfies}
+use Rattle.ltl_formula.specs.Nodes.{Stands}
 use Rattle.named_annotation.specs.Laws.{IsValidNamed, ValidNamedListsShow}
 use Rattle.named_annotation.specs.NamedStates.{Named}
+use Rattle.size_refutations.specs.Laws.{HoldingLogsRefute, LogsAreDetermined}
 use Rattle.solve_ground.specs.declared.texts.SolveText.{SolveText}
 use Rattle.solve_ground.specs.SolveText.{IsSolveText}
 use Rattle.solved_text.specs.Laws.{SolvedAreDetermined}
@@ -34,6 +36,13 @@ abbrev pub annotated_seen : Annotated → bad.Annotated
 annotated_seen a = record { file = a.file.now; side = a.side; place = a.place }
 
 -- == the annotation ==
+
+-- both forms of a text's whole stand in its list, and its signals are few: so an annotation over either can be read
+pub record IsReadable (t : SolveText) : Type 0 where
+  pub negated : Stands t.formulas t.negated
+  pub normal : Stands t.formulas t.normal
+  pub few_inputs : length t.inputs.items ≤ 16
+  pub few_outputs : length t.outputs.items ≤ 16
 
 -- an annotation's lines have numbers, those of its states and pairs among them, and its pairs can be checked for the circuit
 pub record CanBeTested (a : bad.Annotated) (named : Named) : Type 0 where
@@ -115,9 +124,11 @@ pub record IsConvertedFor (text : List ℕ) (kind : Kind) (t : SolveText) : Type
 
 -- == laws ==
 
--- what is known of documents, annotations and circuits
+-- what is known of documents, logs, annotations and circuits
 pub record AreLaws : Type 0 where
   pub documents : SolvedAreDetermined
+  pub logs : LogsAreDetermined
+  pub refute : HoldingLogsRefute
   pub annotations : ValidNamedListsShow
   pub defeat : LosingCircuitsDefeat
   pub no_controller : NoSmallCircuitSatisfies

@@ -5,7 +5,7 @@ ghost use Rattle.circuit_names.specs.Lines.{stated_line as line_of_stated};
 ghost use Rattle.solve_check.specs.Checked.{IsReady};
 ghost use Rattle.solve_check.specs.FirstBad.{annotated_in as annotated_in_lines, circuit_line as line_of_circuit, circuit_side as side_of_verdict, side_in as side_of_header};
 ghost use Rattle.solve_check.specs.Given.{names_in};
-ghost use Rattle.solve_check.specs.Parts.{IsReadAs, IsReadingOf, annotated_seen, refused_in};
+ghost use Rattle.solve_check.specs.Parts.{IsReadAs, IsReadable, IsReadingOf, annotated_seen, refused_in};
 ghost use Rattle.solved_text.specs.Places.{StandsAmong};
 
 use crate::given::{form_for, names_of};
@@ -125,7 +125,7 @@ fn read_annotated(
     bytes: &[u8],
     annotated: Annotated<'_>,
 ) -> Result<Reading, AllocError>
-    requires ready { IsReady text.now }
+    requires ready { IsReadable text.now }
     requires fits { line_of_stated (names_in text.now) annotated.side annotated.file.now ≡ None }
     requires among { StandsAmong bytes.now annotated.place }
     ensures { IfOk result (IsReadAs text.now bytes.now (annotated_seen annotated.entry)) }

@@ -13,6 +13,7 @@ use circuit_laws::laws::{
     losing_circuits_defeat, no_small_circuit_defeats, no_small_circuit_satisfies,
 };
 use named_annotation::laws::valid_named_lists_show;
+use size_refutations::laws::{holding_logs_refute, logs_are_determined};
 use solve_ground::SolveText;
 use solved_text::laws::solved_are_determined;
 use solved_text::{SolvedLines, read_solved};
@@ -70,11 +71,13 @@ fn checked_of(
     }
 }
 
-/// What is known of documents, annotations and circuits.
+/// What is known of documents, logs, annotations and circuits.
 fn laws_hold()
     ensures { AreLaws }
 {
     solved_are_determined();
+    logs_are_determined();
+    holding_logs_refute();
     valid_named_lists_show();
     losing_circuits_defeat();
     no_small_circuit_satisfies();

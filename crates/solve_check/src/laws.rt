@@ -4,6 +4,7 @@ ghost use Rattle.solve_check.specs.Laws.{LeastLieBetween, NeverBoth, SolvedCheck
 use circuit_laws::laws::{no_small_circuit_defeats, no_small_circuit_satisfies};
 use circuit_machines::laws::circuits_are_machines;
 use satisfaction::laws::defeating_cannot_lose;
+use size_refutations::laws::logs_are_determined;
 use solved_text::laws::solved_are_determined;
 use tlsf_reader::laws::trees_are_determined;
 
@@ -12,6 +13,7 @@ pub fn solved_checks_are_determined()
     ensures { SolvedChecksAreDetermined }
 {
     solved_are_determined();
+    logs_are_determined();
 }
 
 /// Of one text, kind and semantics no two documents are accepted, one realizable and one unrealizable.

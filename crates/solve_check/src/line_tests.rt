@@ -1,5 +1,6 @@
 //! The tests that each look at some lines of a document.
-ghost use Rattle.std.specs.Prelude.{◌≡◌, ◌+◌, ◌<◌, ◌^◌, IfOk, None};
+ghost use Rattle.std.specs.Prelude.{◌≡◌, ◌+◌, ◌<◌, ◌^◌, All, IfOk, None};
+ghost use Rattle.size_refutations.specs.Parts.{IsReadLog};
 ghost use Rattle.solve_check.specs.Checked.{IsReady};
 ghost use Rattle.solve_check.specs.FirstBad.{annotation_line, circuit_line as line_of_circuit, taken_line as line_of_taken};
 ghost use Rattle.solve_check.specs.Parts.{IsReadingOf, IsTested, refused_in};
@@ -30,6 +31,7 @@ pub(crate) fn test_lines(
 ) -> Result<Tested, AllocError>
     requires ready { IsReady text.now }
     requires numbered { AreNumbered bytes.now lines.now }
+    requires logs { All IsReadLog lines.now.logs }
     ensures { IfOk result (IsTested text.now bytes.now lines.now) }
 {
     let circuit = circuit_line(text, bytes, lines.header, &lines.circuit);

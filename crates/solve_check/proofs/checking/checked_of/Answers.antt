@@ -37,7 +37,7 @@ returns-in-Some-2-clause-checked c =
 pub returns-in_ok-told-in-None-clause-checked : goal.returns-in_ok-told-in-None-clause-checked
 returns-in_ok-told-in-None-clause-checked c =
     let none : c.args.tested.now.first ≡ None = search rules in
-    good c.args.text.now c.args.bytes.now c.args.lines.now c.requires.reads c.laws_hold.ensures.documents
+    good c.args.text.now c.args.bytes.now c.args.lines.now c.requires.reads c.laws_hold.ensures.documents c.laws_hold.ensures.logs
     (subst (LinesFail c.args.text.now c.args.bytes.now c.args.lines.now) none c.requires.tests.fails)
     (subst (IsClaimed c.args.text.now c.args.bytes.now c.args.lines.now) c.in-None.is c.in_ok-line.ensures)
     c.in_ok-told-in-None.told c.in_ok-told-in-None.ensures

@@ -4,7 +4,7 @@ use Rattle.circuit_names.specs.Lines.{earliest}
 use Rattle.solved_text.specs.Parts.{SizeLog}
 use Rattle.solved_text.specs.Reading.{SolvedLines}
 use Rattle.solve_check.specs.FirstBad.{circuit_line, side_in}
-use Rattle.solve_check.specs.SizeLogs.{LogsFail}
+use Rattle.solve_check.specs.SizeLogs.{LogsFail, ground_for}
 use Rattle.solve_check.proofs.Names.{earliest_none}
 use Rattle.solve_check.proofs.line_tests.test_lines.Goals as goal
 
@@ -25,9 +25,9 @@ returns c = record {
     number = c.in_ok-number.number;
     number_fails = c.in_ok-number.ensures;
     logs = c.in_ok-logs.logs;
-    logs_fail = subst (λ (l : SolvedLines). LogsFail c.args.text.now (side_in l.header) l.logs c.in_ok-logs.logs) c.lines.view_is
-        (subst (λ (s : Side). LogsFail c.args.text.now s c.lines.inside.logs.items c.in_ok-logs.logs) c.side_in.ensures
-        (subst (λ (ls : List SizeLog). LogsFail c.args.text.now c.side_in.result ls c.in_ok-logs.logs) c.deref.ensures.value c.in_ok-logs.ensures));
+    logs_fail = subst (λ (l : SolvedLines). LogsFail (ground_for c.args.text.now (side_in l.header)) l.logs c.in_ok-logs.logs) c.lines.view_is
+        (subst (λ (s : Side). LogsFail (ground_for c.args.text.now s) c.lines.inside.logs.items c.in_ok-logs.logs) c.side_in.ensures
+        (subst (λ (ls : List SizeLog). LogsFail (ground_for c.args.text.now c.side_in.result) ls c.in_ok-logs.logs) c.deref.ensures.value c.in_ok-logs.ensures));
     first_is = least c.circuit_line-circuit.result c.lines.inside.bad c.in_ok-number.number c.taken_line-taken.result c.refused.result c.in_ok-logs.logs _ c.args.lines.now.bad _ _
         c.earliest.result c.earliest-2.result c.earliest-behind.result c.earliest-3.result c.earliest-4.result
         (c.circuit_line-circuit.ensures ∙ ap (λ (l : SolvedLines). circuit_line c.args.text.now c.args.bytes.now l.header l.circuit) c.lines.view_is)

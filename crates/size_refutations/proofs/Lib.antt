@@ -1,0 +1,9 @@
+pub mod Placed
+pub mod HeadLemmas
+pub mod SameProblem
+pub mod Determined
+pub mod Refuted
+pub mod Searched
+pub mod Overs
+pub mod Lines
+pub mod ReadLogs

@@ -1,0 +1,68 @@
+-- What is kept of a ground gives the problem of each size.
+use Rattle.std.proofs.Common.{◌≡◌, ℕ, ◌+◌, ◌≤◌, true, List, sym, ap, subst, ◌∙◌, arith}
+use Rattle.std.specs.Prelude.{All}
+use Rattle.letter_word.specs.declared.kinds.Side.{Side}
+use Rattle.letter_word.specs.declared.kinds.Side.TheVariants.{System, Environment}
+use Rattle.machine_model.specs.Automaton.{AutomatonModel, states_of}
+use Rattle.machine_model.specs.Components.{AreComponentsOf}
+use Rattle.machine_model.specs.Problem.{NamesSignals, Parts, automaton_of, parts_of, reads_of, sized}
+use Rattle.machine_model.specs.declared.problems.Problem.{Problem}
+use Rattle.letter_clauses.specs.Letters.{IsLetterList, IsLetterSize}
+use Rattle.size_refutations.specs.declared.grounds.Search.{Search}
+use Rattle.size_refutations.specs.Ground.{IsAutomatonFor, IsSizeOf, LogGround}
+use Rattle.size_refutations.specs.Heads.{is_number_of_states}
+use Rattle.size_refutations.specs.Parts.{IsSearchOf}
+use Rattle.size_refutations.proofs.HeadLemmas.{states_of_test}
+
+few_by : (inputs outputs : ℕ) (side : Side) → inputs ≤ 16 → outputs ≤ 16 → elim side [ System ↦ inputs | Environment ↦ outputs ] ≤ 16
+few_by inputs outputs System i o = i
+few_by inputs outputs Environment i o = o
+
+module _ (g : LogGround) (s : Search) (n : ℕ) (p : Problem) (is : IsSearchOf g s) (same : parts_of p ≡ parts_of (sized s.problem n)) where
+  same_automaton : automaton_of p ≡ automaton_of s.problem
+  same_automaton = ap (λ (x : Parts). x.automaton) same
+
+  pub size_is : IsSizeOf g n p
+  size_is = record {
+    automaton = subst (IsAutomatonFor g) (sym same_automaton) is.problem.automaton;
+    inputs = ap (λ (x : Parts). x.inputs) same ∙ is.problem.inputs;
+    outputs = ap (λ (x : Parts). x.outputs) same ∙ is.problem.outputs;
+    of_side = ap (λ (x : Parts). x.side) same ∙ is.problem.of_side;
+    kind_is = ap (λ (x : Parts). x.kind) same ∙ is.problem.kind_is;
+    states = ap (λ (x : Parts). x.size) same;
+    version_is = ap (λ (x : Parts). x.version) same ∙ is.problem.version_is;
+    components = ap (λ (x : Parts). x.components) same ∙ is.problem.components;
+  }
+
+  pub few_reads : reads_of p ≤ 16
+  few_reads =
+      let inputs : p.inputs ≡ g.inputs = size_is.inputs in
+      let outputs : p.outputs ≡ g.outputs = size_is.outputs in
+      let i : g.inputs ≤ 16 = is.few_inputs in
+      let o : g.outputs ≤ 16 = is.few_outputs in
+      few_by p.inputs p.outputs p.side (omega (arith, inputs, i)) (omega (arith, outputs, o))
+
+  pub letter_size : (letters : List ℕ) → is_number_of_states n ≡ true → IsLetterList (reads_of p) letters → IsLetterSize p s.components letters
+  letter_size letters states list =
+      let few = states_of_test n states in
+      let size : p.size ≡ n = size_is.states in
+      let inputs : p.inputs ≡ g.inputs = size_is.inputs in
+      let outputs : p.outputs ≡ g.outputs = size_is.outputs in
+      let i : g.inputs ≤ 16 = is.few_inputs in
+      let o : g.outputs ≤ 16 = is.few_outputs in
+      let some : 1 ≤ n = few.some in
+      let most : n ≤ 16 = few.few in
+      let both : g.inputs + g.outputs ≡ p.inputs + p.outputs = omega (arith, inputs, outputs) in
+      record {
+        problem = record {
+          inputs = omega (arith, inputs, i);
+          outputs = omega (arith, outputs, o);
+          some = omega (arith, size, some);
+          size = omega (arith, size, most);
+          states = subst (λ (a : AutomatonModel). states_of a ≤ 20000) (sym same_automaton) is.states;
+          signals = subst (λ (k : ℕ). All (NamesSignals k) (automaton_of p).edges) both size_is.automaton.signals;
+          local = size_is.version_is;
+          list = list;
+        };
+        right = subst (λ (a : AutomatonModel). AreComponentsOf a s.components) (sym same_automaton) is.components;
+      }

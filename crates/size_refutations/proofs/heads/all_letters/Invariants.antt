@@ -1,0 +1,7 @@
+use Rattle.std.proofs.Common.{◌≡◌}
+use Rattle.std.specs.List.{range_with_len}
+use Rattle.size_refutations.proofs.heads.all_letters.Given as goal
+
+-- those below the next one stand there
+abbrev pub invariant-loop-letter : goal.invariant-loop-letter
+invariant-loop-letter l = l.letters.items ≡ range_with_len 0 l.letter
