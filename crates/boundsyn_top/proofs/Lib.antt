@@ -5,3 +5,4 @@ mod ReplyLemmas
 mod SolveLemmas
 mod RefusalLemmas
 mod RunLemmas
+mod PrintedLemmas

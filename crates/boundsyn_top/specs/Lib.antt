@@ -7,3 +7,4 @@ pub mod Faults
 pub mod Takes
 pub mod Run
 pub mod Solving
+pub mod Printed

@@ -2,8 +2,10 @@
 ghost use Rattle.std.specs.Prelude.{◌∷◌, map, string_bytes, Contains};
 ghost use Rattle.program_words.specs.Settings.{Asked};
 ghost use Rattle.synth_answer.specs.Numbers.{NoSmallerCircuits, VerdictsAreDetermined};
+ghost use Rattle.answer_laws.specs.Accepted.{PrintedIsAccepted};
 ghost use Rattle.boundsyn_top.specs.Commands.{statuses_of};
 ghost use Rattle.boundsyn_top.specs.Faults.{RefusalsAreDetermined};
+ghost use Rattle.boundsyn_top.specs.Printed.{PrintedRunsAreAccepted};
 ghost use Rattle.boundsyn_top.specs.Run.{Asks};
 ghost use Rattle.boundsyn_top.specs.Solving.{SolveFaultsAreDetermined, SolveVerdictsAgree};
 
@@ -72,6 +74,16 @@ pub fn no_smaller_circuits()
     ensures { NoSmallerCircuits }
 {
     synth_answer::laws::no_smaller_circuits();
+}
+
+/// What `synth`, `batch` and `core` print for a text, `check` accepts for it, with the line of the verdict and the kind that are printed,
+/// whether a kind was given or not, and so does a run of a run's output. In the documents inside an answer of `core` no line is bad for
+/// the text with their guarantees.
+pub fn printed_is_accepted()
+    ensures answers { PrintedIsAccepted }
+    ensures runs { PrintedRunsAreAccepted }
+{
+    answer_laws::laws::printed_is_accepted();
 }
 
 /// Over a shelf and a sink that never fail, words that ask for something get an answer, or memory was wanted.

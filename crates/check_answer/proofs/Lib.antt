@@ -1,4 +1,4 @@
-mod OfKind
+pub mod OfKind
 mod SameFacts
 mod SameText
 mod SolveTexts

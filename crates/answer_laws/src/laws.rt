@@ -1,0 +1,25 @@
+//! Laws of the answers of several commands, each the contract of a function that does nothing.
+ghost use Rattle.answer_laws.specs.Accepted.{PrintedIsAccepted};
+
+use aiger_text::files_state_one_thing;
+use cert_text::laws::documents_are_determined;
+use document_check::laws::bad_lines_are_determined;
+use dual_search::laws::answers_are_apart;
+use flat_text::laws::{flat_texts_are_determined, flat_texts_have_no_fault};
+use spec_problems::laws::problems_of_formulas_are_determined;
+use tlsf_reader::laws::trees_are_determined;
+
+/// What `synth`, `batch` and `core` print for a text, `check` accepts for it, with the line of the verdict and the kind that are printed.
+/// In the documents inside an answer of `core` no line is bad for the text with their guarantees.
+pub fn printed_is_accepted()
+    ensures { PrintedIsAccepted }
+{
+    trees_are_determined();
+    flat_texts_are_determined();
+    flat_texts_have_no_fault();
+    answers_are_apart();
+    problems_of_formulas_are_determined();
+    files_state_one_thing();
+    documents_are_determined();
+    bad_lines_are_determined();
+}

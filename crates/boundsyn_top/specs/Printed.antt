@@ -1,0 +1,44 @@
+-- What a run of `check` answers of what another run printed (this project's own).
+use Rattle.std.specs.Prelude.{◌≡◌, ◌≢◌, ℕ, List, Option, Some, slice_get}
+use Rattle.letter_word.specs.declared.kinds.Kind.{Kind}
+use Rattle.outside_edge.specs.Files.{Files, bytes_under}
+use Rattle.synth_engine.specs.declared.settings.Settings.{Settings}
+use Rattle.cert_text.specs.Parts.{Document}
+use Rattle.cert_text.specs.States.{States}
+use Rattle.check_answer.specs.Answer.{accepted_line}
+use Rattle.batch_answer.specs.Batch.{BatchAnswers, Part}
+use Rattle.answer_laws.specs.Accepted.{status_told}
+use Rattle.program_words.specs.Settings.{check, core, synth}
+use Rattle.boundsyn_top.specs.Batch.{AreFilesOf}
+use Rattle.boundsyn_top.specs.Commands.{AnswersAsked}
+
+-- among these files the one is the text, and the other has these bytes
+pub record HoldBoth (files : Files) (spec certificate text bytes : List ℕ) : Type 0 where
+  pub text_is : bytes_under files spec ≡ text
+  pub bytes_are : bytes_under files certificate ≡ bytes
+
+-- The bytes state a document whose verdict goes with the status that they were printed with; the answer to them has status 0, and its line
+-- tells that verdict and the document's kind.
+pub record IsAcceptedLine (bytes : List ℕ) (status : ℕ) (line : List ℕ) (ended : ℕ) : Type 0 where
+  pub document : Document
+  pub states : States bytes document
+  pub verdict : status ≡ status_told document.verdict
+  pub ended_is : ended ≡ 0
+  pub line_is : line ≡ accepted_line document.verdict document.kind
+
+-- Whatever answers `check` of the text and of these bytes, under whatever names and among whatever files.
+abbrev pub IsCheckedWell : List ℕ → List ℕ → ℕ → Type 0
+IsCheckedWell text bytes status =
+    (files : Files) (spec certificate line : List ℕ) (ended : ℕ) → HoldBoth files spec certificate text bytes
+    → AnswersAsked (Some files) (check spec certificate) line ended → IsAcceptedLine bytes status line ended
+
+-- What answers `synth` of a text is checked well, unless it is the line of a refusal, with whatever settings and whichever kind was given.
+-- So is each part of what answers the texts that a list names, for the text of its name, and what answers `core` with another status than 20.
+pub record PrintedRunsAreAccepted : Type 0 where
+  pub by_synth : (files : Files) (spec bytes : List ℕ) (settings : Settings) (kind : Option Kind) (status : ℕ)
+      → AnswersAsked (Some files) (synth spec settings kind) bytes status → status ≢ 1 → IsCheckedWell (bytes_under files spec) bytes status
+  pub by_batch : (files : Files) (names texts : List (List ℕ)) (settings : Settings) (bytes : List ℕ) → AreFilesOf (Some files) names texts
+      → (b : BatchAnswers names texts settings bytes) (k : ℕ) (name : List ℕ) (part : Part) → slice_get names k ≡ Some name → slice_get b.parts k ≡ Some part
+      → part.status ≢ 1 → IsCheckedWell (bytes_under files name) part.lines part.status
+  pub by_core : (files : Files) (spec bytes : List ℕ) (settings : Settings) (kind : Option Kind) (status : ℕ)
+      → AnswersAsked (Some files) (core spec settings kind) bytes status → status ≢ 1 → status ≢ 20 → IsCheckedWell (bytes_under files spec) bytes status
