@@ -242,6 +242,26 @@ solve_max = record {
   value_fault = λ rows position text plain. plain_turn_fault (leaf line.solve) rows (Some (codes "max", [])) (option (codes "max")) (open_option (codes "max")) position text plain;
 }
 
+solve_entries : OptionSteps (leaf line.solve) (codes "entries")
+unfolding clap_on_literals
+solve_entries = record {
+  settles = record { rows = λ text rows. refl; fault = λ text rows waiting position. refl };
+  word = λ rows pending position. refl;
+  word_fault_is = λ rows pending position. refl;
+  value_is = λ rows position text plain. plain_walked (leaf line.solve).rules rows (Some (codes "entries", [])) (option (codes "entries")) (open_option (codes "entries")) position text plain;
+  value_fault = λ rows position text plain. plain_turn_fault (leaf line.solve) rows (Some (codes "entries", [])) (option (codes "entries")) (open_option (codes "entries")) position text plain;
+}
+
+solve_workers : OptionSteps (leaf line.solve) (codes "workers")
+unfolding clap_on_literals
+solve_workers = record {
+  settles = record { rows = λ text rows. refl; fault = λ text rows waiting position. refl };
+  word = λ rows pending position. refl;
+  word_fault_is = λ rows pending position. refl;
+  value_is = λ rows position text plain. plain_walked (leaf line.solve).rules rows (Some (codes "workers", [])) (option (codes "workers")) (open_option (codes "workers")) position text plain;
+  value_fault = λ rows position text plain. plain_turn_fault (leaf line.solve) rows (Some (codes "workers", [])) (option (codes "workers")) (open_option (codes "workers")) position text plain;
+}
+
 solve_kind : OptionSteps (leaf line.solve) (codes "kind")
 unfolding clap_on_literals
 solve_kind = record {
@@ -358,8 +378,10 @@ batch_steps id (inr (inr (inr (inr bad)))) = absurd bad
 
 solve_steps : (id : Text) → IsAmong id solve_options → OptionSteps (leaf line.solve) id
 solve_steps id (inl e) = subst (OptionSteps (leaf line.solve)) (sym e) solve_max
-solve_steps id (inr (inl e)) = subst (OptionSteps (leaf line.solve)) (sym e) solve_kind
-solve_steps id (inr (inr bad)) = absurd bad
+solve_steps id (inr (inl e)) = subst (OptionSteps (leaf line.solve)) (sym e) solve_entries
+solve_steps id (inr (inr (inl e))) = subst (OptionSteps (leaf line.solve)) (sym e) solve_workers
+solve_steps id (inr (inr (inr (inl e)))) = subst (OptionSteps (leaf line.solve)) (sym e) solve_kind
+solve_steps id (inr (inr (inr (inr bad)))) = absurd bad
 
 synth_different : (id : Text) → IsAmong id synth_options → bytes_eq (codes "spec") id ≡ false
 synth_different id (inl e) = ap (bytes_eq (codes "spec")) e
@@ -383,7 +405,9 @@ batch_different id (inr (inr (inr (inr bad)))) = absurd bad
 solve_different : (id : Text) → IsAmong id solve_options → bytes_eq (codes "spec") id ≡ false
 solve_different id (inl e) = ap (bytes_eq (codes "spec")) e
 solve_different id (inr (inl e)) = ap (bytes_eq (codes "spec")) e
-solve_different id (inr (inr bad)) = absurd bad
+solve_different id (inr (inr (inl e))) = ap (bytes_eq (codes "spec")) e
+solve_different id (inr (inr (inr (inl e)))) = ap (bytes_eq (codes "spec")) e
+solve_different id (inr (inr (inr (inr bad)))) = absurd bad
 
 synth_read : (program spec : Text) (options : List Item) → IsTrue (is_plain spec) → AreOptions synth_options [] options →
     settings_of (program ∷ codes "synth" ∷ spec ∷ option_words options) ≡ command_asked (codes "synth") (given_by (item (codes "spec") spec ∷ options))
@@ -489,7 +513,7 @@ solve_read program spec options plain are =
     let end = options_end s solve_options solve_steps [] (item (codes "spec") spec) 2 (options) refl solve_spec_settles (behind_name (item (codes "spec") spec) solve_options solve_different [] options are) in
     let all = after_name s (walk_from nothing_held) (after [] (item (codes "spec") spec) 2) spec (option_words options) (item (codes "spec") spec ∷ options) 2
     (plain_walked s.rules [] None idle open_idle 1 spec plain) (plain_turn_fault s [] None idle open_idle 1 spec plain) end in
-    read_command program (codes "solve") s (spec ∷ option_words options) (item (codes "spec") spec ∷ options) solve_met refl refl (leaf_reads s (spec ∷ option_words options) (item (codes "spec") spec ∷ options) 2 all (refl, (refl, (refl, tt))) refl)
+    read_command program (codes "solve") s (spec ∷ option_words options) (item (codes "spec") spec ∷ options) solve_met refl refl (leaf_reads s (spec ∷ option_words options) (item (codes "spec") spec ∷ options) 2 all (refl, (refl, (refl, (refl, (refl, tt))))) refl)
 
 pub plain_words_are_read : PlainWordsAreRead
 plain_words_are_read = record {

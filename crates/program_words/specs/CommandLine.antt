@@ -70,7 +70,7 @@ abbrev pub batch : Shape
 batch = command (codes "batch") (required (codes "list") ∷ most ∷ entries ∷ workers ∷ counts ∷ [])
 
 abbrev pub solve : Shape
-solve = command (codes "solve") (spec ∷ most ∷ kind ∷ [])
+solve = command (codes "solve") (spec ∷ most ∷ entries ∷ workers ∷ kind ∷ [])
 
 abbrev pub program : App
 program = record {

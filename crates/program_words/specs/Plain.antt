@@ -47,7 +47,7 @@ abbrev pub batch_options : List Text
 batch_options = codes "max" ∷ codes "entries" ∷ codes "workers" ∷ codes "counts" ∷ []
 
 abbrev pub solve_options : List Text
-solve_options = codes "max" ∷ codes "kind" ∷ []
+solve_options = codes "max" ∷ codes "entries" ∷ codes "workers" ∷ codes "kind" ∷ []
 
 abbrev pub item : Text → Text → Item
 item id text = record { id = id; text = text }

@@ -15,6 +15,12 @@ use Rattle.program_words.specs.declared.settings.Settings.TheVariants as setting
 use Rattle.program_words.specs.CommandLine.{program}
 use Rattle.program_words.specs.Numbers.{number_in}
 
+-- how far smaller machines are refuted: at most so many sizes, where that is given, with at most so many entries each
+pub record Refutations : Type 0 where
+  pub max : Option ℕ
+  pub entries : Option ℕ
+  pub workers : ℕ
+
 -- a command with its names, its number and its options
 pub data Asked : Type 0 where
   synth : Text → Search → Option Kind → Asked
@@ -26,7 +32,7 @@ pub data Asked : Type 0 where
   verify : Text → Text → Asked
   core : Text → Search → Option Kind → Asked
   batch : Text → Search → Asked
-  solve : Text → Option Kind → Asked
+  solve : Text → Option Kind → Refutations → Asked
 
 -- what settings of the code ask for
 abbrev pub asked_by : Settings → Asked
@@ -39,7 +45,7 @@ asked_by (settings.Bench clients workers) = bench clients workers
 asked_by (settings.Verify spec circuit) = verify spec.now circuit.now
 asked_by (settings.Core spec wanted kind) = core spec.now wanted kind
 asked_by (settings.Batch list wanted) = batch list.now wanted
-asked_by (settings.Solve spec kind) = solve spec.now kind
+asked_by (settings.Solve spec kind max entries workers) = solve spec.now kind (record { max = max; entries = entries; workers = workers })
 
 -- the most states and workers of a search for a machine of one text
 abbrev pub most_alone : ℕ
@@ -57,6 +63,13 @@ pub record IsSearchInRange (most : ℕ) (s : Search) : Type 0 where
   pub some_worker : 1 ≤ s.workers
   pub most_workers : s.workers ≤ most
 
+-- the same where sizes are refuted
+pub record AreRefutationsInRange (r : Refutations) : Type 0 where
+  pub sizes : IfSome r.max (λ max. max ≤ 16)
+  pub entries : IfSome r.entries (λ limit. limit ≤ 250000)
+  pub some_worker : 1 ≤ r.workers
+  pub most_workers : r.workers ≤ most_alone
+
 abbrev pub IsInRange : Asked → Type 0
 IsInRange (synth spec wanted kind) = IsSearchInRange most_alone wanted
 IsInRange (check spec certificate) = Unit {0}
@@ -67,7 +80,7 @@ IsInRange (bench clients workers) = ((1 ≤ clients) × (clients ≤ 4)) × ((1 
 IsInRange (verify spec circuit) = Unit {0}
 IsInRange (core spec wanted kind) = IsSearchInRange most_alone wanted
 IsInRange (batch list wanted) = IsSearchInRange most_in_batch wanted
-IsInRange (solve spec kind) = Unit {0}
+IsInRange (solve spec kind refutations) = AreRefutationsInRange refutations
 
 -- ---- the values of options, each with its default
 
@@ -84,16 +97,23 @@ most_size most = number_or (codes "max") 4 1 most
 abbrev pub worker_count : ℕ → Given → Option ℕ
 worker_count most = number_or (codes "workers") 4 1 most
 
--- how many sizes are refuted below that of a machine that is found: none is, so that 0 alone may be given
-abbrev pub refuted_count : Given → Option ℕ
-refuted_count = number_or (codes "max") 0 0 0
-
 -- a number of entries, or `none` for no limit
 abbrev pub limit_in : Text → Option (Option ℕ)
 limit_in text = if bytes_eq text (codes "none") then Some None else option_map Some (number_in 0 250000 text)
 
+abbrev pub limit_or : ℕ → Given → Option (Option ℕ)
+limit_or default given = option_map_or limit_in (given (codes "entries")) (Some (Some default))
+
 abbrev pub entry_limit : Given → Option (Option ℕ)
-entry_limit given = option_map_or limit_in (given (codes "entries")) (Some (Some 50000))
+entry_limit = limit_or 50000
+
+-- how many sizes are refuted below that of a machine that is found, where that is given
+abbrev pub refuted_count : Given → Option (Option ℕ)
+refuted_count given = option_map_or (λ text. option_map Some (number_in 0 16 text)) (given (codes "max")) (Some None)
+
+-- without a number of sizes they are those that are soon refuted, so that fewer entries serve
+abbrev pub refuted_limit : Given → Option (Option ℕ)
+refuted_limit given = option_map_or (λ text. limit_or 50000 given) (given (codes "max")) (limit_or 2000 given)
 
 abbrev pub kind_in : Text → Option (Option Kind)
 kind_in text = if bytes_eq text (codes "mealy") then Some (Some Mealy)
@@ -115,6 +135,12 @@ search_asked most given =
     option_and_then (λ max. option_and_then (λ entries. option_and_then (λ workers. option_map (λ counts.
     record { max = max; entries = entries; workers = workers; counts = counts })
     (counts_asked given)) (worker_count most given)) (entry_limit given)) (most_size most given)
+
+abbrev pub refutations_asked : Given → Option Refutations
+refutations_asked given =
+    option_and_then (λ max. option_and_then (λ entries. option_map (λ workers.
+    record { max = max; entries = entries; workers = workers })
+    (worker_count most_alone given)) (refuted_limit given)) (refuted_count given)
 
 -- ---- each command
 
@@ -157,8 +183,8 @@ batch_asked given =
 
 abbrev pub solve_asked : Given → Option Asked
 solve_asked given =
-    option_and_then (λ spec. option_and_then (λ refuted. option_map (solve spec) (kind_asked given))
-    (refuted_count given)) (given (codes "spec"))
+    option_and_then (λ spec. option_and_then (λ refutations. option_map (λ kind. solve spec kind refutations)
+    (kind_asked given)) (refutations_asked given)) (given (codes "spec"))
 
 abbrev pub command_asked : Text → Given → Option Asked
 command_asked name given =

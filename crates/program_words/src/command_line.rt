@@ -101,6 +101,8 @@ fn solve<'a>(alloc: Global) -> Result<Command<'a>, AllocError>
     Command::new(alloc, "solve")
         .arg(required(alloc, "spec"))?
         .arg(option(alloc, "max"))?
+        .arg(option(alloc, "entries"))?
+        .arg(option(alloc, "workers"))?
         .arg(option(alloc, "kind"))
 }
 

@@ -1,6 +1,8 @@
 //! The commands with their options and ranges, for whoever tells of them.
 
-use crate::ranges::{MOST_ALONE, MOST_BENCHED, MOST_CLIENTS, MOST_ENTRIES, MOST_IN_BATCH};
+use crate::ranges::{
+    MOST_ALONE, MOST_BENCHED, MOST_CLIENTS, MOST_ENTRIES, MOST_IN_BATCH, MOST_REFUTED,
+};
 use std::alloc::AllocError;
 use std::fmt::Write;
 
@@ -41,8 +43,10 @@ pub const COMMANDS: [Command; 10] = [
         options: &[
             Part {
                 name: "--max",
-                values: Values::Number(0, 0),
+                values: Values::Number(0, MOST_REFUTED),
             },
+            ENTRIES,
+            WORKERS,
             KIND,
         ],
     },
@@ -215,7 +219,6 @@ impl Values {
     pub fn push_to(self, out: &mut String) -> Result<(), AllocError> {
         match self {
             Values::File => out.push_str("the name of a file"),
-            Values::Number(least, most) if least == most => write!(out, "{least}"),
             Values::Number(least, most) => write!(out, "{least}..{most}"),
             Values::Limit(most) => write!(out, "0..{most}|none"),
             Values::Either(one, other) => write!(out, "{one}|{other}"),

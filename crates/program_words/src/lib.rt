@@ -10,9 +10,11 @@ pub mod laws;
 mod numbers;
 mod ranges;
 mod settings;
+mod wishes;
 mod words;
 
 pub use commands::{COMMANDS, Command, Part, Values, command_of};
-pub use ranges::{MOST_ALONE, MOST_ENTRIES, USUAL_ENTRIES};
+pub use ranges::{BRIEF_ENTRIES, MOST_ALONE, MOST_ENTRIES, MOST_REFUTED, USUAL_ENTRIES};
 pub use settings::Settings;
+pub use wishes::{Wishes, read_wishes};
 pub use words::{WordsFault, read_words};

@@ -12,6 +12,12 @@ pub const MOST_ENTRIES: u32 = 250_000;
 /// The limit of entries of a log without one in the words.
 pub const USUAL_ENTRIES: u64 = 50_000;
 
+/// The same where it isn't said how many sizes are refuted either.
+pub const BRIEF_ENTRIES: u64 = 2_000;
+
+/// The most sizes that are refuted below that of a machine that is found.
+pub const MOST_REFUTED: u32 = 16;
+
 /// The most clients of a text that is made.
 pub const MOST_CLIENTS: u32 = 8;
 

@@ -47,9 +47,15 @@ pub enum Settings<'a> {
         list: &'a str,
         search: Search,
     },
+    /// Workers are 1 to 8.
     Solve {
         spec: &'a str,
         /// In place of the text's own kinds.
         kind: Option<Kind>,
+        /// How many sizes are refuted at most, 0 to 16. None where that goes by how large they are.
+        max: Option<u32>,
+        /// The most entries of a log, if there is a limit.
+        entries: Option<u64>,
+        workers: u32,
     },
 }

@@ -1,11 +1,12 @@
 ghost use Rattle.std.specs.Prelude.{◌≡◌, ◌≢◌, Some, None, map, option_map, option_and_then, string_bytes, IfOk, IfSome, IsErrOf, ◌≤◌};
 ghost use Rattle.clap.specs.Words.{first_of, found_of, rows_of, subcommand_rows_of};
-ghost use Rattle.program_words.specs.Settings.{asked_by, asked_of, batch_asked, bench_asked, check_asked, core_asked, counts_asked, counts_in, entry_limit, expand_asked, gen_asked, given_in, IsInRange, IsSearchInRange, kind_asked, kind_in, lasso_asked, limit_in, number_or, refuted_count, search_asked, settings_of, solve_asked, synth_asked, verify_asked};
+ghost use Rattle.program_words.specs.Settings.{asked_by, asked_of, batch_asked, bench_asked, check_asked, core_asked, counts_asked, counts_in, expand_asked, gen_asked, given_in, IsInRange, IsSearchInRange, kind_asked, kind_in, lasso_asked, limit_in, limit_or, number_or, refuted_count, refuted_limit, search_asked, settings_of, solve_asked, synth_asked, verify_asked};
 
 use crate::command_line::program;
 use crate::numbers::number_in;
 use crate::ranges::{
-    MOST_ALONE, MOST_BENCHED, MOST_CLIENTS, MOST_ENTRIES, MOST_IN_BATCH, USUAL_ENTRIES,
+    BRIEF_ENTRIES, MOST_ALONE, MOST_BENCHED, MOST_CLIENTS, MOST_ENTRIES, MOST_IN_BATCH,
+    MOST_REFUTED, USUAL_ENTRIES,
 };
 use crate::settings::Settings;
 use annotation_encode::Counts;
@@ -180,16 +181,39 @@ fn solve_in<'a>(own: &ArgMatches<'a>) -> Option<Settings<'a>>
     ensures ranges { IfSome result (λ s. IsInRange (asked_by s)) }
 {
     let spec = text_of(own, "spec")?;
-    let _refuted = refuted_in(own)?;
+    let max = refuted_count(own)?;
+    let entries = refuted_limit(own)?;
+    let workers = number_or(own, "workers", 4, 1, MOST_ALONE)?;
     let kind = kind_or(own)?;
-    Some(Settings::Solve { spec, kind })
+    Some(Settings::Solve {
+        spec,
+        kind,
+        max,
+        entries,
+        workers,
+    })
 }
 
-/// How many sizes are refuted: none is, so that 0 alone may be given.
-fn refuted_in(own: &ArgMatches<'_>) -> Option<u32>
-    ensures { result ≡ refuted_count (given_in (rows_of (found_of own.now))) }
+/// How many sizes are refuted at most, where that is given.
+fn refuted_count(own: &ArgMatches<'_>) -> Option<Option<u32>>
+    ensures asked { result ≡ refuted_count (given_in (rows_of (found_of own.now))) }
+    ensures within { IfSome result (λ max. IfSome max (λ n. n ≤ 16)) }
 {
-    number_or(own, "max", 0, 0, 0)
+    match text_of(own, "max") {
+        None => Some(None),
+        Some(text) => Some(Some(number_in(text, 0, MOST_REFUTED)?)),
+    }
+}
+
+/// The most entries of a log of a refutation: few where it isn't said how many sizes are refuted.
+fn refuted_limit(own: &ArgMatches<'_>) -> Option<Option<u64>>
+    ensures asked { result ≡ refuted_limit (given_in (rows_of (found_of own.now))) }
+    ensures within { IfSome result (λ limit. IfSome limit (λ n. n ≤ 250000)) }
+{
+    match text_of(own, "max") {
+        None => limit_or(own, BRIEF_ENTRIES),
+        Some(_) => limit_or(own, USUAL_ENTRIES),
+    }
 }
 
 /// How a search is bounded, by at most so many states and workers.
@@ -200,7 +224,7 @@ fn search_in(own: &ArgMatches<'_>, most: u32) -> Option<Search>
     ensures ranges { IfSome result (IsSearchInRange most) }
 {
     let max = number_or(own, "max", 4, 1, most)?;
-    let entries = limit_or(own)?;
+    let entries = limit_or(own, USUAL_ENTRIES)?;
     let workers = number_or(own, "workers", 4, 1, most)?;
     let counts = counts_or(own)?;
     Some(Search::new(max, entries, workers, counts))
@@ -218,12 +242,14 @@ fn number_or(own: &ArgMatches<'_>, id: &str, default: u32, least: u32, most: u32
     }
 }
 
-fn limit_or(own: &ArgMatches<'_>) -> Option<Option<u64>>
-    ensures asked { result ≡ entry_limit (given_in (rows_of (found_of own.now))) }
+/// The most entries of a log, if there is a limit, or this default.
+fn limit_or(own: &ArgMatches<'_>, default: u64) -> Option<Option<u64>>
+    requires default { default ≤ 250000 }
+    ensures asked { result ≡ limit_or default (given_in (rows_of (found_of own.now))) }
     ensures within { IfSome result (λ limit. IfSome limit (λ n. n ≤ 250000)) }
 {
     match text_of(own, "entries") {
-        None => Some(Some(USUAL_ENTRIES)),
+        None => Some(Some(default)),
         Some(text) => limit_in(text),
     }
 }
