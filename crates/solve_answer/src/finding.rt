@@ -14,7 +14,7 @@ use machine_model::Automaton;
 use obligation_sets::Covering;
 use reached_states::reached_states;
 use solve_ground::SolveText;
-use solve_told::{NotWon, Told, Withheld};
+use solve_told::{NotWon, Refuted, RefutingEnd, Told, Unwon, Withheld};
 use std::alloc::{AllocError, Global};
 use text_limits::LARGE_LIMITS;
 
@@ -115,10 +115,17 @@ fn unwon(system: Option<&Automaton>, environment: Option<&Automaton>, why: NotWo
     Winner::Without(Told::Neither(system, environment))
 }
 
-fn unless_absent(automaton: Option<&Automaton>, why: NotWon) -> NotWon {
-    match automaton {
+fn unless_absent(automaton: Option<&Automaton>, why: NotWon) -> Unwon {
+    let why = match automaton {
         Some(_) => why,
         None => NotWon::AutomatonTooLarge,
+    };
+    Unwon {
+        why,
+        refuted: Refuted {
+            sizes: 0,
+            end: RefutingEnd::Done,
+        },
     }
 }
 

@@ -10,5 +10,5 @@ mod documents;
 mod finding;
 mod told;
 
-pub use answering::{GAME_BUDGET, Solved, solve};
+pub use answering::{GAME_BUDGET, Refuting, Solved, solve};
 pub use game_machine::Budget;

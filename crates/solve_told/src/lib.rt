@@ -5,17 +5,71 @@
 
 use letter_word::Side;
 
+/// What is told while an answer is made.
+#[derive(Clone, Copy, Debug, PartialEq, Eq)]
+pub enum News {
+    /// A strategy of this side is found, whose circuit reaches so many states, and its document passes the test. Smaller sizes are tried
+    /// from now on.
+    Found(Side, u32),
+}
+
+/// Who hears news.
+pub trait Listener {
+    fn hear(&mut self, news: News);
+}
+
+/// Who hears nothing.
+#[derive(Clone, Copy, Debug, PartialEq, Eq)]
+pub struct NoListener;
+
+impl Listener for NoListener {
+    fn hear(&mut self, _news: News) {}
+}
+
 /// What is told of an answer beside its bytes.
 #[derive(Clone, Copy, Debug, PartialEq, Eq)]
 pub enum Told {
     /// The text has a fault.
     Refused,
-    /// A strategy of this side is found, whose circuit reaches so many states, and it passes the test.
-    Found(Side, u32),
+    /// A strategy of this side is found, whose circuit reaches so many states, and it passes the test, with the logs of the sizes that
+    /// are refuted.
+    Found(Side, u32, Refuted),
     /// Neither side wins: why not, of the system and of the environment.
-    Neither(NotWon, NotWon),
+    Neither(Unwon, Unwon),
     /// This side wins, and what it wins with isn't printed.
     Withheld(Side, Withheld),
+}
+
+/// Which sizes of a side are refuted, and why no further one.
+#[derive(Clone, Copy, Debug, PartialEq, Eq)]
+pub struct Refuted {
+    /// The sizes from 1 to this one.
+    pub sizes: u32,
+    pub end: RefutingEnd,
+}
+
+/// Why no further size is refuted. The size that isn't is the one behind the refuted ones.
+#[derive(Clone, Copy, Debug, PartialEq, Eq)]
+pub enum RefutingEnd {
+    /// Nothing more was asked: all sizes below the known machine's, or up to the greatest that is to be tried, are refuted.
+    Done,
+    /// Its log has as many entries as it may have.
+    Full,
+    /// Its base clauses, or those over the next list of letters, are too many; or its side's automaton passes a limit.
+    TooLarge,
+    /// There is a machine of this size, and no circuit of it was made that passes the test.
+    NotMade,
+    /// Memory ran out.
+    NoMemory,
+    /// The logs fail at this line of the document: a fault of who makes them. It is printed without them.
+    BadLine(u64),
+}
+
+/// Why a side doesn't win, and how far its sizes were tried.
+#[derive(Clone, Copy, Debug, PartialEq, Eq)]
+pub struct Unwon {
+    pub why: NotWon,
+    pub refuted: Refuted,
 }
 
 /// Why a side doesn't win.
