@@ -1,17 +1,19 @@
 //! The program: files of the system, standard output and a gate that holds nobody back, around the one call that does the
 //! work, with its status as the exit status. What surrounds that call remembers what a message on standard error may need, and writes
-//! it once the call is over; the words `--progress`, `--quiet` and `--verbose` before the others, which the call doesn't see, say how much.
+//! it once the call is over, but that something is found, which it says at once; the words `--progress`, `--quiet` and `--verbose` before the others, which the call doesn't see, say how much.
 #![tactic(auto)]
 
+mod announcing;
 mod counting_gate;
 mod listening;
-mod wishes;
 
+use announcing::Announcer;
 use boundsyn_top::run;
 use counting_gate::CountingGate;
 use diagnostics::{Heard, KeptFiles, OwnWords, Seen, message, read_own_words};
 use listening::{HearingSink, KeepingShelf};
 use outside_edge::{FileShelf, StdSink};
+use program_words::read_wishes;
 use std::alloc::{AllocError, Global};
 use std::env;
 use std::io::{Error, ErrorKind};
@@ -19,7 +21,6 @@ use std::process::ExitCode;
 use std::rt::{Clock, Files};
 use std::sync::Wait;
 use std::thread::Threads;
-use wishes::{entry_limit, is_batch};
 
 /// The status where memory runs out before there are words.
 const NO_MEMORY: u8 = 5;
@@ -100,18 +101,27 @@ fn run_words<R>(rt: &R, alloc: Global, words: &[String], own: OwnWords) -> Resul
 where
     R: Files + Print + Eprint + Clock + Threads + Wait + Sync,
 {
-    let gate = CountingGate::new(rt, alloc, own.progress, entry_limit(words))?;
+    let wishes = read_wishes(alloc, words);
+    let gate = CountingGate::new(rt, alloc, own.progress, wishes.entries)?;
     let mut shelf = KeepingShelf {
         inner: FileShelf::new(rt, alloc),
         kept: KeptFiles::new(alloc),
     };
     let mut out = HearingSink {
         inner: StdSink::new(rt),
-        heard: Heard::new(alloc, is_batch(words)),
+        heard: Heard::new(alloc, wishes.is_batch),
     };
-    let mut told = None;
-    let status = run(rt, alloc, words, &mut shelf, &mut out, &gate, &mut told);
-    out.heard.tell(told);
+    let mut announcer = Announcer::new(rt, alloc, if own.quiet { None } else { wishes.spec });
+    let status = run(
+        rt,
+        alloc,
+        words,
+        &mut shelf,
+        &mut out,
+        &gate,
+        &mut announcer,
+    );
+    out.heard.tell(announcer.told, announcer.is_announced);
     // Whoever closed the pipe wants no more of the output, and no word about it.
     let is_closed = out
         .inner

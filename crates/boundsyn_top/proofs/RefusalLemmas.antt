@@ -128,7 +128,7 @@ module _ (problems : ProblemsOfTextsAreDetermined) (checks : ChecksAreDetermined
       core_fault problems flats faults (bytes_under files spec) kind wanted bytes status code place
       (of_told files spec (λ text. CoreAnswers text kind wanted bytes status) a.answer) fault
   of_text files (batch list wanted) bytes status code place fault a = absurd fault
-  of_text files (solve spec kind) bytes status code place fault a =
+  of_text files (solve spec kind refutations) bytes status code place fault a =
       solve_fault solvings (bytes_under files spec) kind bytes status code place
       (of_told files spec (λ text. SolveAnswers text kind bytes status) a.answer) fault
 
@@ -154,7 +154,7 @@ module _ (problems : ProblemsOfTextsAreDetermined) (checks : ChecksAreDetermined
   of_line files (batch list wanted) bytes status n bad a =
       bad_list lists (Some files) (bytes_under files list) wanted bytes status n
       (of_told files list (λ lines. ListAnswers (Some files) lines wanted bytes status) a.answer) bad
-  of_line files (solve spec kind) bytes status n bad a = absurd bad
+  of_line files (solve spec kind refutations) bytes status n bad a = absurd bad
 
   pub determined : RefusalsAreDetermined
   determined = record { of_text = of_text; of_line = of_line }

@@ -12,7 +12,7 @@ use Rattle.program_replies.specs.declared.replies.Status.{Status}
 use Rattle.program_replies.specs.declared.replies.Status.TheVariants.{CannotRead, Done, WordsRefused}
 use Rattle.program_replies.specs.Statuses.{status_number}
 use Rattle.program_replies.specs.Lines.{refusal_line}
-use Rattle.program_words.specs.Settings.{Asked, settings_of, batch, bench, check, core, expand, lasso, solve, synth, verify}
+use Rattle.program_words.specs.Settings.{Asked, Refutations, settings_of, batch, bench, check, core, expand, lasso, solve, synth, verify}
 use Rattle.cert_text.specs.declared.documents.Verdict.{Verdict}
 use Rattle.cert_text.specs.declared.documents.Verdict.TheVariants as verdict
 use Rattle.bench_answer.specs.Bench.{BenchAnswer, HasStatus}
@@ -396,16 +396,16 @@ module _ (step : ShelfStep) where
 
   -- == solve ==
 
-  pub solve_answered : (spec text : List ℕ) (kind : Option Kind) (bytes : List ℕ) (status : ℕ) →
-      AreOfFile step.files spec text → SolveAnswers text kind bytes status → RepliesTo step (solve spec kind) bytes status
-  solve_answered spec text kind bytes status are answer =
-      replies (solve spec kind) bytes status (solve_status text kind bytes status answer) (record { bytes = text; are_told = are; holds = answer })
+  pub solve_answered : (spec text : List ℕ) (kind : Option Kind) (refutations : Refutations) (bytes : List ℕ) (status : ℕ) →
+      AreOfFile step.files spec text → SolveAnswers text kind bytes status → RepliesTo step (solve spec kind refutations) bytes status
+  solve_answered spec text kind refutations bytes status are answer =
+      replies (solve spec kind refutations) bytes status (solve_status text kind bytes status answer) (record { bytes = text; are_told = are; holds = answer })
 
-  pub solve_untaken : (spec : List ℕ) (kind : Option Kind) (bytes : List ℕ) (status : ℕ) →
-      IsUntaken step spec bytes status → RepliesTo step (solve spec kind) bytes status
-  solve_untaken spec kind bytes status =
-      untaken (solve spec kind) spec bytes status (0, omega arith, refl)
-      (λ text are long is ended. solve_answered spec text kind bytes status are
+  pub solve_untaken : (spec : List ℕ) (kind : Option Kind) (refutations : Refutations) (bytes : List ℕ) (status : ℕ) →
+      IsUntaken step spec bytes status → RepliesTo step (solve spec kind refutations) bytes status
+  solve_untaken spec kind refutations bytes status =
+      untaken (solve spec kind refutations) spec bytes status (0, omega arith, refl)
+      (λ text are long is ended. solve_answered spec text kind refutations bytes status are
       (solved.refused TooLong most_bytes ended (solving.of_reading TooLong most_bytes (too_long long)) is))
 
   -- == batch ==

@@ -106,7 +106,7 @@ all_answering (core spec wanted kind) =
 all_answering (batch list wanted) =
     All-cons IsAnswering 0 (40 ∷ []) answering_0
     (All-cons IsAnswering 40 [] answering_40 (All-nil IsAnswering))
-all_answering (solve spec kind) =
+all_answering (solve spec kind refutations) =
     All-cons IsAnswering 1 (10 ∷ 20 ∷ 30 ∷ []) answering_1
     (All-cons IsAnswering 10 (20 ∷ 30 ∷ []) answering_10
     (All-cons IsAnswering 20 (30 ∷ []) answering_20
@@ -285,7 +285,7 @@ none_behind files (bench clients workers) name stops taken = taken
 none_behind files (verify spec circuit) name stops taken = taken.1.unless stops
 none_behind files (core spec wanted kind) name stops taken = taken
 none_behind files (batch list wanted) name stops taken = taken.1.unless stops
-none_behind files (solve spec kind) name stops taken = taken
+none_behind files (solve spec kind refutations) name stops taken = taken
 
 first_alone : (files : Files) (asked : Asked) (name : List ℕ) → Stops files asked → (Contains (first_file asked) name → ⊥) →
     TakesFile (Some files) asked name → ⊥

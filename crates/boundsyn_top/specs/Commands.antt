@@ -25,7 +25,7 @@ statuses_of (bench clients workers) = 10 ∷ 20 ∷ 30 ∷ []
 statuses_of (verify spec circuit) = 0 ∷ 1 ∷ 40 ∷ []
 statuses_of (core spec wanted kind) = 1 ∷ 10 ∷ 11 ∷ 20 ∷ 30 ∷ []
 statuses_of (batch list wanted) = 0 ∷ 40 ∷ []
-statuses_of (solve spec kind) = 1 ∷ 10 ∷ 20 ∷ 30 ∷ []
+statuses_of (solve spec kind refutations) = 1 ∷ 10 ∷ 20 ∷ 30 ∷ []
 
 -- the bytes and the status that may answer a command, each by the definition of its answer
 abbrev pub MayAnswer : Option Files → Asked → List ℕ → ℕ → Type 0
@@ -41,7 +41,7 @@ MayAnswer told (verify spec circuit) bytes status =
     HoldsOfFile told spec (λ text. HoldsOfFile told circuit (λ lines. VerifyAnswers text lines bytes status))
 MayAnswer told (core spec wanted kind) bytes status = HoldsOfFile told spec (λ text. CoreAnswers text kind wanted bytes status)
 MayAnswer told (batch list wanted) bytes status = HoldsOfFile told list (λ lines. ListAnswers told lines wanted bytes status)
-MayAnswer told (solve spec kind) bytes status = HoldsOfFile told spec (λ text. SolveAnswers text kind bytes status)
+MayAnswer told (solve spec kind refutations) bytes status = HoldsOfFile told spec (λ text. SolveAnswers text kind bytes status)
 
 -- the bytes and the status that answer what was asked
 pub record AnswersAsked (told : Option Files) (asked : Asked) (bytes : List ℕ) (status : ℕ) : Type 0 where

@@ -43,7 +43,7 @@ HasFault files (bench clients workers) code place = ⊥
 HasFault files (verify spec circuit) code place = IsFirstFault (bytes_under files spec) None code place
 HasFault files (core spec wanted kind) code place = IsCoreFault (bytes_under files spec) kind code place
 HasFault files (batch list wanted) code place = ⊥
-HasFault files (solve spec kind) code place = IsSolveFault (bytes_under files spec) kind code place
+HasFault files (solve spec kind refutations) code place = IsSolveFault (bytes_under files spec) kind code place
 
 -- there is none of these faults
 pub record HasNone (Fault : SpecCode → ℕ → Type 0) : Type 0 where
@@ -91,7 +91,7 @@ HasBadLine files (bench clients workers) n = ⊥
 HasBadLine files (verify spec circuit) n = IsBadCircuit (bytes_under files spec) (bytes_under files circuit) n
 HasBadLine files (core spec wanted kind) n = ⊥
 HasBadLine files (batch list wanted) n = IsFirstBadLineOfList (bytes_under files list) n
-HasBadLine files (solve spec kind) n = ⊥
+HasBadLine files (solve spec kind refutations) n = ⊥
 
 -- nothing but its line answers a fault, or a bad line
 pub record RefusalsAreDetermined : Type 0 where

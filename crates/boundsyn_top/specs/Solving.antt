@@ -1,10 +1,16 @@
--- Laws of what `solve` answers (this project's own).
+-- What `solve` is asked for, and laws of what it answers (this project's own).
 use Rattle.std.specs.Prelude.{◌≡◌, ℕ, List, Option}
 use Rattle.letter_word.specs.declared.kinds.Kind.{Kind}
 use Rattle.spec_faults.specs.declared.code.SpecCode.{SpecCode}
 use Rattle.solve_ground.specs.declared.texts.SolveText.{SolveText}
 use Rattle.solve_ground.specs.SolveText.{IsSolveFault, IsSolveText}
+use Rattle.solve_answer.specs.declared.answering.Refuting.{Refuting}
 use Rattle.solve_answer.specs.Answer.{SolveAnswers}
+use Rattle.program_words.specs.Settings.{Refutations}
+
+-- how far smaller machines are refuted, as it is asked for
+abbrev pub refutations_by : Refuting → Refutations
+refutations_by refuting = record { max = refuting.max; entries = refuting.entries; workers = refuting.workers }
 
 -- a text has at most one first fault as `solve` takes it, and none where it can be taken
 pub record SolveFaultsAreDetermined : Type 0 where

@@ -17,7 +17,7 @@ first_file (bench clients workers) = []
 first_file (verify spec circuit) = spec ∷ []
 first_file (core spec wanted kind) = spec ∷ []
 first_file (batch list wanted) = list ∷ []
-first_file (solve spec kind) = spec ∷ []
+first_file (solve spec kind refutations) = spec ∷ []
 
 -- the text that the command takes has a fault
 pub record IsFaulty (files : Files) (asked : Asked) : Type 0 where
@@ -36,7 +36,7 @@ Stops files (bench clients workers) = ⊥
 Stops files (verify spec circuit) = IsFaulty files (verify spec circuit)
 Stops files (core spec wanted kind) = IsFaulty files (core spec wanted kind)
 Stops files (batch list wanted) = IsBadList (bytes_under files list)
-Stops files (solve spec kind) = IsFaulty files (solve spec kind)
+Stops files (solve spec kind refutations) = IsFaulty files (solve spec kind refutations)
 
 -- it isn't, where that is told
 pub record GoesOn (told : Option Files) (asked : Asked) : Type 0 where
@@ -53,7 +53,7 @@ TakesBehind told (bench clients workers) name = ⊥
 TakesBehind told (verify spec circuit) name = (name ≡ circuit) × GoesOn told (verify spec circuit)
 TakesBehind told (core spec wanted kind) name = ⊥
 TakesBehind told (batch list wanted) name = IfSome told (λ files. IsListed (bytes_under files list) name) × GoesOn told (batch list wanted)
-TakesBehind told (solve spec kind) name = ⊥
+TakesBehind told (solve spec kind refutations) name = ⊥
 
 -- the command takes the file of this name
 pub data TakesFile (told : Option Files) (asked : Asked) (name : List ℕ) : Type 0 where

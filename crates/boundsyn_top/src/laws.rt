@@ -19,7 +19,7 @@ use flat_text::laws::{
 };
 use outside_edge::{Gate, PlainShelf, PlainSink};
 use solve_check::laws::never_both;
-use solve_told::Told;
+use solve_told::Listener;
 use spec_problems::laws::problems_of_texts_are_determined;
 use std::alloc::Global;
 use std::sync::Wait;
@@ -87,19 +87,20 @@ pub fn printed_is_accepted()
 }
 
 /// Over a shelf and a sink that never fail, words that ask for something get an answer, or memory was wanted.
-pub fn run_over_plain<R, G>(
+pub fn run_over_plain<R, G, L>(
     rt: &R,
     alloc: Global,
     words: &[String],
     shelf: &mut PlainShelf,
     out: &mut PlainSink,
     gate: &G,
-    told: &mut Option<Told>,
+    listener: &mut L,
 ) -> u8
 where
     R: Threads + Wait + Sync,
     G: Gate + Sync,
+    L: Listener,
     ensures { (asked : Asked) → Asks (map string_bytes words.now) asked → Contains (5 ∷ statuses_of asked) result }
 {
-    run(rt, alloc, words, shelf, out, gate, told)
+    run(rt, alloc, words, shelf, out, gate, listener)
 }

@@ -17,48 +17,51 @@ use crate::synthesis::synthesize;
 use outside_edge::{Gate, Shelf};
 use program_replies::{Reply, Status, whole};
 use program_words::{Settings, WordsFault, read_words};
-use solve_told::Told;
+use solve_answer::Refuting;
+use solve_told::Listener;
 use std::alloc::{AllocError, Global};
 use std::sync::Wait;
 use std::thread::Threads;
 
-/// What is written for the words, for which their files are taken from the shelf; with `solve` something is told beside it.
-pub fn reply_to<R, H, G>(
+/// What is written for the words, for which their files are taken from the shelf; with `solve` the listener hears what is told beside it.
+pub fn reply_to<R, H, G, L>(
     rt: &R,
     alloc: Global,
     words: &[String],
     shelf: &mut H,
     gate: &G,
-    told: &mut Option<Told>,
+    listener: &mut L,
 ) -> Result<Output, AllocError>
 where
     R: Threads + Wait + Sync,
     H: Shelf,
     G: Gate + Sync,
+    L: Listener,
     ensures output { IfOk result (IsOutputFor (map string_bytes words.now) (step_of H.files H.faults shelf.old shelf.new)) }
     ensures files { H.files shelf.new ≡ H.files shelf.old }
     ensures other_files { (name : List ℕ) → IsForeign (map string_bytes words.now) (H.files shelf.old) name → H.faults shelf.new name ≡ H.faults shelf.old name }
 {
     match read_words(alloc, words) {
-        Ok(settings) => obey(rt, alloc, settings, shelf, gate, told),
+        Ok(settings) => obey(rt, alloc, settings, shelf, gate, listener),
         Err(WordsFault::Refused) => whole_output(words_refused(alloc)),
         Err(WordsFault::NoMemory) => Err(AllocError),
     }
 }
 
 /// What is written for a command.
-fn obey<R, H, G>(
+fn obey<R, H, G, L>(
     rt: &R,
     alloc: Global,
     settings: Settings<'_>,
     shelf: &mut H,
     gate: &G,
-    told: &mut Option<Told>,
+    listener: &mut L,
 ) -> Result<Output, AllocError>
 where
     R: Threads + Wait + Sync,
     H: Shelf,
     G: Gate + Sync,
+    L: Listener,
     requires { IsInRange (asked_by settings) }
     ensures output { IfOk result (IsOutputOf (step_of H.files H.faults shelf.old shelf.new) (asked_by settings.entry)) }
     ensures files { H.files shelf.new ≡ H.files shelf.old }
@@ -91,7 +94,20 @@ where
             list,
             search: wanted,
         } => answer_list(rt, alloc, shelf, list, wanted, gate),
-        Settings::Solve { spec, kind } => solve_spec(alloc, shelf, spec, kind, told),
+        Settings::Solve {
+            spec,
+            kind,
+            max,
+            entries,
+            workers,
+        } => {
+            let refuting = Refuting {
+                max,
+                entries,
+                workers,
+            };
+            solve_spec(rt, alloc, shelf, spec, kind, refuting, listener)
+        },
     }
 }
 

@@ -4,6 +4,7 @@ ghost use Rattle.program_replies.specs.Statuses.{status_number};
 ghost use Rattle.program_words.specs.Settings.{solve};
 ghost use Rattle.solve_answer.specs.Answer.{SolveAnswers};
 ghost use Rattle.boundsyn_top.specs.Run.{IsOutputOf};
+ghost use Rattle.boundsyn_top.specs.Solving.{refutations_by};
 ghost use Rattle.boundsyn_top.specs.Steps.{step_of};
 
 use crate::files::{Taken, take_text};
@@ -11,38 +12,51 @@ use crate::output::{Output, whole_output};
 use letter_word::Kind;
 use outside_edge::Shelf;
 use program_replies::Reply;
-use solve_answer::{GAME_BUDGET, solve};
-use solve_told::Told;
+use solve_answer::{GAME_BUDGET, Refuting, solve};
+use solve_told::{Listener, News};
 use std::alloc::{AllocError, Global};
+use std::sync::Wait;
+use std::thread::Threads;
 
-/// Finds a controller of a text, or a counter-strategy, and prints it where its test accepts it.
-pub(crate) fn solve_spec<H: Shelf>(
+/// Finds a controller of a text, or a counter-strategy, refutes smaller ones, and prints what its test accepts.
+pub(crate) fn solve_spec<R, H, L>(
+    rt: &R,
     alloc: Global,
     shelf: &mut H,
     spec: &str,
     kind: Option<Kind>,
-    told: &mut Option<Told>,
+    refuting: Refuting,
+    listener: &mut L,
 ) -> Result<Output, AllocError>
-    ensures output { IfOk result (IsOutputOf (step_of H.files H.faults shelf.old shelf.new) (solve spec.now kind)) }
+where
+    R: Threads + Wait + Sync,
+    H: Shelf,
+    L: Listener,
+    ensures output { IfOk result (IsOutputOf (step_of H.files H.faults shelf.old shelf.new) (solve spec.now kind (refutations_by refuting))) }
     ensures files { H.files shelf.new ≡ H.files shelf.old }
     ensures other_files { (name : List ℕ) → name ≢ spec.now → H.faults shelf.new name ≡ H.faults shelf.old name }
 {
     match take_text(alloc, shelf, spec)? {
-        Taken::Whole(text) => whole_output(solved(alloc, &text, kind, told)),
+        Taken::Whole(text) => whole_output(solved(rt, alloc, &text, kind, refuting, listener)),
         Taken::Refused(reply) => Ok(Output::Whole(reply)),
     }
 }
 
-/// Answers a text, and notes what is told beside the answer.
-fn solved(
+/// Answers a text. The listener hears what is told beside the answer, too.
+fn solved<R, L>(
+    rt: &R,
     alloc: Global,
     text: &[u8],
     kind: Option<Kind>,
-    told: &mut Option<Told>,
+    refuting: Refuting,
+    listener: &mut L,
 ) -> Result<Reply, AllocError>
+where
+    R: Threads + Wait + Sync,
+    L: Listener,
     ensures { IfOk result (λ r. SolveAnswers text.now kind r.bytes.items (status_number r.status)) }
 {
-    let solved = solve(alloc, text, kind, GAME_BUDGET)?;
-    *told = Some(solved.told);
+    let solved = solve(rt, alloc, text, kind, GAME_BUDGET, refuting, listener)?;
+    listener.hear(News::Answered(solved.told));
     Ok(solved.reply)
 }

@@ -15,31 +15,33 @@ use crate::output::put_output;
 use crate::replies::reply_to;
 use outside_edge::{Gate, Shelf, Sink, SinkFault};
 use program_replies::Status;
-use solve_told::Told;
+use solve_told::Listener;
 use std::alloc::Global;
 use std::sync::Wait;
 use std::thread::Threads;
 
 /// Does what the words ask for, and gives the status to end with. The first word is the program's name.
-/// Each line is one call of `put`, its end included. What `solve` tells beside its answer goes to `told`; nothing is promised of it.
+/// Each line is one call of `put`, its end included. What `solve` tells beside its answer, while it makes it and at its end, the listener
+/// hears; nothing is promised of it.
 ///
 /// 0: done, accepted or verified. 10, 11, 20, 30: what `solve`, `synth` or `core` found. 1: the text is refused. 40: the list or the other file is
 /// refused at a line. 2: the words are refused. 3: a file that was due couldn't be read. 4: not all could be written. 5: memory was
 /// wanted.
-pub fn run<R, H, K, G>(
+pub fn run<R, H, K, G, L>(
     rt: &R,
     alloc: Global,
     words: &[String],
     shelf: &mut H,
     out: &mut K,
     gate: &G,
-    told: &mut Option<Told>,
+    listener: &mut L,
 ) -> u8
 where
     R: Threads + Wait + Sync,
     H: Shelf,
     K: Sink,
     G: Gate + Sync,
+    L: Listener,
     ensures statuses { Contains (2 ∷ 3 ∷ 4 ∷ 5 ∷ answering) result }
 
     // What is written whole.
@@ -71,7 +73,7 @@ where
         → (name : List ℕ) → ¬ Contains (first_file stopped.asked) name → H.faults shelf.new name ≡ H.faults shelf.old name }
 {
     refusals_are_determined();
-    let Ok(output) = reply_to(rt, alloc, words, shelf, gate, told) else {
+    let Ok(output) = reply_to(rt, alloc, words, shelf, gate, listener) else {
         return Status::NoMemory.number();
     };
     let status = output.status();

@@ -40,8 +40,12 @@ pub(crate) struct Answer {
     pub(crate) total: Option<u64>,
     /// The numbers of the guarantees of a core.
     pub(crate) guarantees: Vec<u64>,
+    /// The sizes from 1 to this one are refuted, in a document of `solve`.
+    pub(crate) refuted: u64,
     /// What `solve` tells beside its answer.
     pub(crate) told: Option<Told>,
+    /// Whether it was said at once that something is found.
+    pub(crate) is_announced: bool,
 }
 
 impl Answer {
@@ -57,7 +61,9 @@ impl Answer {
             logs: Vec::new(alloc),
             total: None,
             guarantees: Vec::new(alloc),
+            refuted: 0,
             told: None,
+            is_announced: false,
         }
     }
 
@@ -97,6 +103,7 @@ impl Answer {
             b"verdict" => self.verdict = verdict_of(rest),
             b"kind" if rest == b"Moore".as_slice() => self.kind = Kind::Moore,
             b"max" => self.max = number(rest),
+            b"refuted" => self.refuted = number(rest),
             b"entries" => self.entries = parsed(rest),
             b"log" => {
                 let (side, behind) = cut_word(rest);
@@ -158,9 +165,10 @@ impl Heard {
         }
     }
 
-    /// Hears what `solve` tells beside its answer.
-    pub fn tell(&mut self, told: Option<Told>) {
+    /// Hears what `solve` tells beside its answer, and whether it was said at once that something is found.
+    pub fn tell(&mut self, told: Option<Told>, is_announced: bool) {
         self.answer.told = told;
+        self.answer.is_announced = is_announced;
     }
 
     /// How many bytes were written.

@@ -14,9 +14,10 @@ const PAGE: &str = "  solve SPEC           a tested controller of any size, or w
   core SPEC            guarantees that can't be met together
   batch LIST           `synth` on each text of a list
 options behind these words, and what holds without them:
-  --max N              most states, 1 to 8 (4); in batch 1 to 4 (4); `solve`
-                       takes 0 alone: no smaller size is refuted (0)
-  --entries B          most entries of a log, 0 to 250000 or none (50000)
+  --max N              most states, 1 to 8 (4); in batch 1 to 4 (4); in solve
+                       sizes to refute, 0 to 16 (those that are soon refuted)
+  --entries B          most entries of a log, 0 to 250000 or none (50000; in
+                       solve 2000 without --max)
   --workers W          threads, 1 to 8 (4); in batch 1 to 4 (4)
   --kind mealy|moore   the kind, in place of the text's own
   --counts whole|local how base clauses bound their counts (whole)

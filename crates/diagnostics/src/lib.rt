@@ -34,6 +34,7 @@ pub use kept::{KeptFile, KeptFiles};
 pub use messages::{Seen, message};
 pub use own_words::{OwnWords, read_own_words};
 pub use progress::{SizeTurns, progress_line};
+pub use solved::found_line;
 
 /// The version of the program, which is that of the file VERSION.
 pub const VERSION: &str = "0.3.0";

@@ -2,12 +2,13 @@ use crate::answers::push_answer;
 use crate::heard::{Answer, Heard, Verdict};
 use crate::kept::{KeptFile, KeptFiles};
 use crate::line_faults::{LineFault, LineOf, push_line_fault};
-use crate::solved::{SOLVED_VERSION, push_solved, push_unsolved};
+use crate::solved::{SOLVED_VERSION, Solved, push_solved, push_unsolved};
 use crate::text_faults::{RefusedBy, Source, push_text_fault};
 use crate::unknown::push_unknown;
 use crate::wrong_words::push_wrong_words;
 use letter_word::Side;
 use program_replies::Status;
+use program_words::read_wishes;
 use shown_text::first_messages;
 use std::alloc::{AllocError, Global};
 use std::fmt::Write;
@@ -175,18 +176,30 @@ fn push_open(
     is_verbose: bool,
     out: &mut String,
 ) -> Result<(), AllocError> {
-    match (first_file(seen), seen.heard.answer().verdict) {
-        (Some(file), Some(_)) => {
-            if is_solved(seen) {
-                push_unsolved(file.name, seen.heard.answer(), out)?;
-            } else {
-                let words = seen.words.iter().map(|word| word.as_str());
-                let command: Vec<&str> = words.collect(alloc)?;
-                push_unknown(alloc, file.name, seen.heard.answer(), &command, out)?;
-            }
-            push_lint(alloc, file, is_verbose, out)
-        },
-        _ => Ok(()),
+    let (Some(file), Some(_)) = (first_file(seen), seen.heard.answer().verdict) else {
+        return Ok(());
+    };
+    let command = words_of(alloc, seen)?;
+    if is_solved(seen) {
+        push_unsolved(solved(alloc, seen, file.name, &command), out)?;
+    } else {
+        push_unknown(alloc, file.name, seen.heard.answer(), &command, out)?;
+    }
+    push_lint(alloc, file, is_verbose, out)
+}
+
+fn words_of<'a>(alloc: Global, seen: Seen<'a>) -> Result<Vec<&'a str>, AllocError> {
+    let words = seen.words.iter().map(|word| word.as_str());
+    words.collect(alloc)
+}
+
+/// What is said of an answer of `solve`.
+fn solved<'a>(alloc: Global, seen: Seen<'a>, name: &'a str, command: &'a [&'a str]) -> Solved<'a> {
+    Solved {
+        name,
+        answer: seen.heard.answer(),
+        solving: read_wishes(alloc, seen.words).solving,
+        command,
     }
 }
 
@@ -206,12 +219,14 @@ fn push_found(
         return Ok(());
     };
     let answer = seen.heard.answer();
+    let command = words_of(alloc, seen)?;
+    let solved = solved(alloc, seen, file.name, &command);
     match answer.verdict {
         Some(Verdict::Realizable(states)) if is_solved(seen) => {
-            push_solved(file.name, Side::System, states, out)?
+            push_solved(solved, Side::System, states, out)?
         },
         Some(Verdict::Unrealizable(states)) if is_solved(seen) => {
-            push_solved(file.name, Side::Environment, states, out)?
+            push_solved(solved, Side::Environment, states, out)?
         },
         _ if is_verbose => push_answer(alloc, file, answer, out)?,
         _ => {},

@@ -81,6 +81,11 @@ fn push_larger(code: SpecCode, out: &mut String) -> Result<(), AllocError> {
         SpecCode::AutomatonTooLarge => out.push_str(
             "  note: `solve` makes smaller automata of a text, and takes larger ones: up to 20,000 states and 2,000,000 edges\n",
         ),
+        SpecCode::TooManyGuarantees => {
+            out.push_str(
+                "  note: `solve` takes any number of them, and finds whether they can be met\n",
+            )
+        },
         _ => Ok(()),
     }
 }

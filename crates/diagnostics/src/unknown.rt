@@ -52,7 +52,7 @@ pub(crate) fn push_unknown(
             out.push_str("\n")?;
             let advice = Advice::bounded(answer);
             push_advice(advice, answer, out)?;
-            push_next(command, advice, out)
+            push_next(command, advice.next(), out)
         },
         _ => {
             push_open(&system, &environment, out)?;
@@ -60,7 +60,7 @@ pub(crate) fn push_unknown(
             push_side(Side::Environment, &environment, answer, out)?;
             let advice = Advice::unknown(&system, &environment, answer);
             push_advice(advice, answer, out)?;
-            push_next(command, advice, out)
+            push_next(command, advice.next(), out)
         },
     }
 }
@@ -211,14 +211,12 @@ impl Advice {
         }
     }
 
-    /// Whether a word is an option to which another value is given.
-    fn replaces(self, word: &str) -> bool {
-        let (name, _) = word.split_once('=').unwrap_or((word, ""));
-        match name {
-            "--max" => self.max.is_some(),
-            "--counts" => self.counts,
-            "--entries" => self.entries,
-            _ => false,
+    /// The options that try further.
+    fn next(self) -> Next {
+        Next {
+            max: self.max.map(|_| MOST_ALONE),
+            is_local: self.counts,
+            entries: if self.entries { Some(None) } else { None },
         }
     }
 
@@ -289,31 +287,71 @@ pub(crate) fn push_easier(out: &mut String) -> Result<(), AllocError> {
     )
 }
 
-/// Appends the words of a command with what may help, where a shell reads them as they are.
-fn push_next(command: &[&str], advice: Advice, out: &mut String) -> Result<(), AllocError> {
-    let is_nothing = !advice.counts && advice.max.is_none() && !advice.entries;
-    if is_nothing || !command.iter().skip(1).all(|word| is_plain(word)) {
+/// Options that try further than a command did.
+#[derive(Clone, Copy)]
+pub(crate) struct Next {
+    /// A greater `--max`.
+    pub(crate) max: Option<u32>,
+    /// Whether counts are to be bounded locally.
+    pub(crate) is_local: bool,
+    /// Another limit of entries, or that there is none.
+    pub(crate) entries: Option<Option<u64>>,
+}
+
+impl Next {
+    pub(crate) const NOTHING: Next = Next {
+        max: None,
+        is_local: false,
+        entries: None,
+    };
+
+    fn is_nothing(self) -> bool {
+        self.max.is_none() && !self.is_local && self.entries.is_none()
+    }
+
+    /// Whether a word is an option to which another value is given.
+    fn replaces(self, word: &str) -> bool {
+        let (name, _) = word.split_once('=').unwrap_or((word, ""));
+        match name {
+            "--max" => self.max.is_some(),
+            "--counts" => self.is_local,
+            "--entries" => self.entries.is_some(),
+            _ => false,
+        }
+    }
+
+    /// Appends the options.
+    fn push_to(self, out: &mut String) -> Result<(), AllocError> {
+        if let Some(max) = self.max {
+            write!(out, " --max {max}")?;
+        }
+        if self.is_local {
+            out.push_str(" --counts local")?;
+        }
+        match self.entries {
+            Some(Some(entries)) => write!(out, " --entries {entries}"),
+            Some(None) => out.push_str(" --entries none"),
+            None => Ok(()),
+        }
+    }
+}
+
+/// Appends the words of a command with options that try further, where there are some and a shell reads the words as they are.
+pub(crate) fn push_next(command: &[&str], next: Next, out: &mut String) -> Result<(), AllocError> {
+    if next.is_nothing() || !command.iter().skip(1).all(|word| is_plain(word)) {
         return Ok(());
     }
     out.push_str("  for instance: boundsyn")?;
     let mut is_value = false;
     for word in command.iter().skip(1) {
-        let is_replaced = !is_value && advice.replaces(word);
+        let is_replaced = !is_value && next.replaces(word);
         if !is_value && !is_replaced {
             out.push(' ')?;
             out.push_str(word)?;
         }
         is_value = is_replaced && !word.contains('=');
     }
-    if advice.max.is_some() {
-        write!(out, " --max {MOST_ALONE}")?;
-    }
-    if advice.counts {
-        out.push_str(" --counts local")?;
-    }
-    if advice.entries {
-        out.push_str(" --entries none")?;
-    }
+    next.push_to(out)?;
     out.push('\n')
 }
 

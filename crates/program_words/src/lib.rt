@@ -16,5 +16,5 @@ mod words;
 pub use commands::{COMMANDS, Command, Part, Values, command_of};
 pub use ranges::{BRIEF_ENTRIES, MOST_ALONE, MOST_ENTRIES, MOST_REFUTED, USUAL_ENTRIES};
 pub use settings::Settings;
-pub use wishes::{Wishes, read_wishes};
+pub use wishes::{Solving, Wishes, read_wishes};
 pub use words::{WordsFault, read_words};

@@ -11,6 +11,8 @@ pub enum News {
     /// A strategy of this side is found, whose circuit reaches so many states, and its document passes the test. Smaller sizes are tried
     /// from now on.
     Found(Side, u32),
+    /// An answer is made, and this is told of it.
+    Answered(Told),
 }
 
 /// Who hears news.

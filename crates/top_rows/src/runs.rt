@@ -3,6 +3,7 @@
 use crate::gates::RowGate;
 use boundsyn_top::run;
 use outside_edge::{FileBytes, MemoryShelf, MemorySink};
+use solve_told::NoListener;
 use std::alloc::{AllocError, Global};
 use std::sync::Wait;
 use std::thread::Threads;
@@ -75,7 +76,15 @@ pub(crate) fn run_through<R: Threads + Wait + Sync>(
     let mut shelf = MemoryShelf::new(alloc, held(alloc, files)?, numbers(alloc, faults.shelf)?);
     let mut sink = MemorySink::new(alloc, numbers(alloc, faults.sink)?);
     let words = words_in(alloc, words)?;
-    let status = run(rt, alloc, &words, &mut shelf, &mut sink, gate, &mut None);
+    let status = run(
+        rt,
+        alloc,
+        &words,
+        &mut shelf,
+        &mut sink,
+        gate,
+        &mut NoListener,
+    );
     Ok(Ended {
         status,
         written: Vec::from_slice(alloc, sink.bytes())?,

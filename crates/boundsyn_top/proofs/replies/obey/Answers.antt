@@ -30,7 +30,7 @@ returns-in-Core-clause-other_files g c = λ name foreign.
 pub returns-in-Solve-clause-other_files : goal.returns-in-Solve-clause-other_files
 returns-in-Solve-clause-other_files g c = λ name foreign.
     c.solve_spec.ensures.other_files name
-    (not_first _ (solve c.in-Solve.spec.now c.in-Solve.kind) c.in-Solve.spec.now name refl (rw c.in-Solve.is at foreign))
+    (not_first _ (solve c.in-Solve.spec.now c.in-Solve.kind (record { max = c.in-Solve.max; entries = c.in-Solve.entries; workers = c.in-Solve.workers })) c.in-Solve.spec.now name refl (rw c.in-Solve.is at foreign))
 
 pub returns-in-Batch-clause-other_files : goal.returns-in-Batch-clause-other_files
 returns-in-Batch-clause-other_files g c = λ name foreign. c.answer_list.ensures.other_files name (rw c.in-Batch.is at foreign)

@@ -1,0 +1,56 @@
+//! Who hears what `solve` tells, and says at once that something is found.
+
+use diagnostics::found_line;
+use letter_word::Side;
+use solve_told::{Listener, News, Told};
+use std::alloc::Global;
+use std::io;
+
+/// Writes to standard error that something is found, and keeps what is told of the answer.
+#[derive(Drop)]
+pub struct Announcer<'a, R: Eprint> {
+    pub rt: &'a R,
+    pub alloc: Global,
+    /// The name of the text, where something is to be said of it.
+    pub name: Option<&'a str>,
+    pub told: Option<Told>,
+    /// Whether a line was written.
+    pub is_announced: bool,
+}
+
+impl<'a, R: Eprint> Announcer<'a, R> {
+    /// Where there is no name nothing is written.
+    pub fn new(rt: &'a R, alloc: Global, name: Option<&'a str>) -> Announcer<'a, R> {
+        Announcer {
+            rt,
+            alloc,
+            name,
+            told: None,
+            is_announced: false,
+        }
+    }
+
+    /// Writes that a strategy is found, and gives whether there was something to say.
+    fn announce(&self, side: Side, states: u32) -> io::Result<bool> {
+        let Some(name) = self.name else {
+            return Ok(false);
+        };
+        let line = found_line(self.alloc, name, side, states)?;
+        if line.is_empty() {
+            return Ok(false);
+        }
+        self.rt.eprint(line.as_str())?;
+        Ok(true)
+    }
+}
+
+impl<'a, R: Eprint> Listener for Announcer<'a, R> {
+    fn hear(&mut self, news: News) {
+        match news {
+            News::Found(side, states) => {
+                self.is_announced = self.announce(side, states).unwrap_or(false);
+            },
+            News::Answered(told) => self.told = Some(told),
+        }
+    }
+}
