@@ -4,8 +4,8 @@ _boundsyn_values() {
     case $1:$2 in
     *:--kind) echo "mealy moore" ;;
     *:--counts) echo "whole local" ;;
-    *:--entries) echo "0 50000 250000 none" ;;
-    solve:--max) echo "0" ;;
+    *:--entries) echo "0 2000 50000 250000 none" ;;
+    solve:--max) echo "0 1 2 3 4 5 6 7 8 9 10 11 12 13 14 15 16" ;;
     batch:--max | batch:--workers) echo "1 2 3 4" ;;
     *:--max | *:--workers) echo "1 2 3 4 5 6 7 8" ;;
     esac
@@ -13,7 +13,7 @@ _boundsyn_values() {
 
 _boundsyn_options() {
     case $1 in
-    solve) echo "--max --kind" ;;
+    solve) echo "--max --entries --workers --kind" ;;
     synth | core) echo "--max --entries --workers --kind --counts" ;;
     batch) echo "--max --entries --workers --counts" ;;
     bench) echo "--workers" ;;
