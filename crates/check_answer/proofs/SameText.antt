@@ -1,5 +1,5 @@
 -- Texts as `solve` takes them that say the same, wherever their names are kept, have the same first bad lines.
-use Rattle.std.proofs.Common.{◌≡◌, ℕ, Option, Some, None, List, refl, ap, subst, ◌∙◌, if◌then◌else◌}
+use Rattle.std.proofs.Common.{◌≡◌, ℕ, Option, Some, None, List, length, refl, ap, subst, ◌∙◌, if◌then◌else◌}
 use Rattle.std.specs.Prelude.{is_some, option_and_then}
 use Rattle.letter_word.specs.declared.kinds.Kind.{Kind}
 use Rattle.letter_word.specs.declared.kinds.Side.{Side}
@@ -9,13 +9,13 @@ use Rattle.cert_text.specs.declared.reading.CircuitPart.TheVariants.{Absent, Fau
 use Rattle.circuit_names.specs.Lines.{earliest, faulty_line, stated_line}
 use Rattle.circuit_names.specs.Names.{Names}
 use Rattle.named_annotation.specs.Laws.{IsNamedCause}
+use Rattle.size_refutations.specs.Ground.{LogGround}
 use Rattle.solve_ground.specs.declared.texts.SolveText.{SolveText}
 use Rattle.solve_ground.specs.SolveText.{forms_seen}
-use Rattle.solved_text.specs.Parts.{SizeLog}
 use Rattle.solved_text.specs.Reading.{SolvedLines}
 use Rattle.solve_check.specs.FirstBad.{Annotated, IsFirstBadSolved, LinesFail, annotated_in, annotation_line, circuit_line, of_line, of_pairs, reading_in, refused_line, side_in, taken_line}
-use Rattle.solve_check.specs.Given.{kind_for, names_in}
-use Rattle.solve_check.specs.SizeLogs.{LogsFail, none_fails, one_fails, one_good}
+use Rattle.solve_check.specs.Given.{form_for, kind_for, names_in}
+use Rattle.solve_check.specs.SizeLogs.{LogsFail, ground_for}
 
 -- what is read of both is the same
 pub record IsSameText (t t' : SolveText) : Type 0 where
@@ -37,10 +37,15 @@ module _ (t t' : SolveText) (same : IsSameText t t') where
   kind_same System = refl
   kind_same Environment = refl
 
-  logs_same : (side : Side) (logs : List SizeLog) (first : Option ℕ) → LogsFail t side logs first → LogsFail moved side logs first
-  logs_same side _ _ none_fails = none_fails
-  logs_same side _ _ (one_fails l logs n fails) = one_fails l logs n fails
-  logs_same side _ _ (one_good l logs first good more) = one_good l logs first good (logs_same side logs first more)
+  ground_same : (side : Side) → ground_for t side ≡ ground_for moved side
+  ground_same side = λ i. record {
+    nodes = t.formulas;
+    form = form_for t side;
+    side = side;
+    kind = kind_same side i;
+    inputs = length (same.inputs i);
+    outputs = length (same.outputs i);
+  }
 
   module _ (bytes : List ℕ) (lines : SolvedLines) where
     circuit_same : circuit_line t bytes lines.header lines.circuit ≡ circuit_line moved bytes lines.header lines.circuit
@@ -60,7 +65,7 @@ module _ (t t' : SolveText) (same : IsSameText t t') where
       number = fails.number;
       number_fails = fails.number_fails;
       logs = fails.logs;
-      logs_fail = logs_same (side_in lines.header) lines.logs fails.logs fails.logs_fail;
+      logs_fail = subst (λ (g : LogGround). LogsFail g lines.logs fails.logs) (ground_same (side_in lines.header)) fails.logs_fail;
       first_is = fails.first_is ∙ (λ i.
           earliest (circuit_same i) (earliest lines.bad (earliest fails.number (earliest (taken_line t lines) (earliest (annotation_same i) fails.logs)))));
     }
