@@ -10,10 +10,12 @@ mod fewer_states;
 mod finding;
 mod functions;
 mod gates;
+mod given_tables;
 mod great_positions;
 mod making;
 mod products;
 mod spare_positions;
 
 pub use finding::{Contest, End, Found, Outcome, find};
+pub use given_tables::{GivenTable, table_circuit};
 pub use safety_game::Budget;

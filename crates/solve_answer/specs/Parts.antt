@@ -1,6 +1,9 @@
 -- How the answers of `solve` are made (this project's own).
 use Rattle.std.specs.Prelude.{ℕ, List, [], Option, None, is_some}
 use Rattle.letter_word.specs.declared.kinds.Kind.{Kind}
+use Rattle.letter_word.specs.declared.kinds.Side.{Side}
+use Rattle.letter_word.specs.declared.kinds.Side.TheVariants.{System, Environment}
+use Rattle.ltl_formula.specs.declared.nodes.FormulaId.{FormulaId}
 use Rattle.ltl_formula.specs.Nodes.{tree_at}
 use Rattle.ltl_formula.specs.NormalForm.{IsNormal}
 use Rattle.program_replies.specs.declared.replies.Reply.{Reply}
@@ -20,6 +23,11 @@ pub record CanBePlayed (t : SolveText) : Type 0 where
   pub ready : IsReady t
   pub negated : IsNormal (tree_at t.formulas t.negated)
   pub normal : IsNormal (tree_at t.formulas t.normal)
+
+-- what a side keeps from being true
+abbrev pub form_for : SolveText → Side → FormulaId
+form_for t System = t.negated
+form_for t Environment = t.normal
 
 -- the status of a document of this verdict
 abbrev pub status_of : Verdict → Status

@@ -1,18 +1,22 @@
 //! The answer to a text.
-ghost use Rattle.std.specs.Prelude.{◌≡◌, IfOk, IfSome};
+ghost use Rattle.std.specs.Prelude.{IfOk};
 ghost use Rattle.program_replies.specs.Statuses.{status_number};
 ghost use Rattle.solve_answer.specs.Answer.{SolveAnswers};
-ghost use Rattle.solve_answer.specs.Parts.{AnswersEach, CanBePlayed, status_of as status_for};
+ghost use Rattle.solve_answer.specs.Parts.{AnswersEach, CanBePlayed};
 
-use crate::documents::{strategy_text, unknown_text};
+use crate::documents::{strategy_document, unknown_text};
 use crate::finding::{Search, Strategy, find_strategy};
+use crate::refuting::Refuting;
+use crate::shrinking::{Plain, with_logs};
+use crate::testing::tested;
+use crate::told::nothing;
+use crate::unwon::{Found, search_sizes};
 use game_machine::Budget;
+use letter_search::Refutations;
 use letter_word::Kind;
 use program_replies::{Reply, Status, refusal};
-use solve_check::{Checked, check_solved};
 use solve_ground::{SolveText, solve_text};
-use solve_told::{Listener, News, Refuted, RefutingEnd, Told, Withheld};
-use solved_text::Verdict;
+use solve_told::{Listener, News, RefutingEnd, Told, Withheld};
 use std::alloc::{AllocError, Global};
 use std::sync::Wait;
 use std::thread::Threads;
@@ -24,17 +28,6 @@ pub const GAME_BUDGET: Budget = Budget {
     bytes: 1_000_000_000,
 };
 
-/// Which sizes are to be refuted, and with how much effort.
-#[derive(Clone, Copy, Debug)]
-pub struct Refuting {
-    /// The sizes up to this one are tried, whatever their clauses. None: as far as their clauses are few.
-    pub max: Option<u32>,
-    /// The most entries of a log. None: no limit.
-    pub entries: Option<u64>,
-    /// How many workers search, the caller among them, from 1 to 64.
-    pub workers: u32,
-}
-
 /// An answer, and what is told beside it.
 #[derive(Drop)]
 pub struct Solved {
@@ -44,10 +37,11 @@ pub struct Solved {
 
 /// The answer to a text, whose machines are of the given kind, or of the text's TARGET: the line of its first fault with status 1, or a
 /// document of version 6, with status 10 where it has a controller, 20 where it has a counter-strategy, and 30 where neither was found.
-/// Where memory runs out in the games, neither was found. The listener hears of the first strategy before smaller sizes are tried.
+/// Where memory runs out in the games, neither was found; where it runs out in refuting sizes, the document has the logs so far. The listener
+/// hears of the first strategy before smaller sizes are tried.
 ///
 /// It takes the time of both automata, of the games' budget, and of the circuit's states and pairs with each letter that is read, once to
-/// find the annotation and once to test it.
+/// find the annotation and once to test it; and then that of the sizes that are tried, whose logs are tested, too.
 pub fn solve<R: Threads + Wait + Sync, L: Listener>(
     rt: &R,
     alloc: Global,
@@ -80,18 +74,37 @@ fn answer<R: Threads + Wait + Sync, L: Listener>(
     requires { CanBePlayed text.now }
     ensures { IfOk result (λ s. AnswersEach text.now s.reply) }
 {
-    match find_strategy(alloc, text, budget)? {
-        Search::Of(strategy) => tested(rt, alloc, text, strategy, refuting, listener),
-        Search::Without(told) => unknown(alloc, text, told),
+    match find_any(rt, alloc, text, budget, refuting)? {
+        Found::Of(strategy, below) => {
+            of_strategy(rt, alloc, text, strategy, below, refuting, listener)
+        }
+        Found::Without(told) => unknown(alloc, text, told),
     }
 }
 
-/// The document of a strategy, where it is accepted.
-fn tested<R: Threads + Wait + Sync, L: Listener>(
-    _rt: &R,
+/// A strategy that the games give, or a small machine where nobody wins these.
+fn find_any<R: Threads + Wait + Sync>(
+    rt: &R,
+    alloc: Global,
+    text: &SolveText,
+    budget: Budget,
+    refuting: Refuting,
+) -> Result<Found, AllocError>
+    requires { CanBePlayed text.now }
+{
+    match find_strategy(alloc, text, budget)? {
+        Search::Of(strategy) => Ok(Found::Of(strategy, None)),
+        Search::Without(told) => Ok(search_sizes(rt, alloc, text, told, refuting)),
+    }
+}
+
+/// The document of a strategy, where it is accepted, with the logs of smaller sizes.
+fn of_strategy<R: Threads + Wait + Sync, L: Listener>(
+    rt: &R,
     alloc: Global,
     text: &SolveText,
     strategy: Strategy,
+    below: Option<Refutations>,
     refuting: Refuting,
     listener: &mut L,
 ) -> Result<Solved, AllocError>
@@ -100,31 +113,29 @@ fn tested<R: Threads + Wait + Sync, L: Listener>(
 {
     let side = strategy.side;
     let states = strategy.states;
-    let bytes = strategy_text(alloc, text, strategy)?;
-    match check_solved(alloc, text, &bytes)? {
-        Checked::Accepted(accepted) => {
-            if refuting.max != Some(0) {
-                listener.hear(News::Found(side, states));
-            }
-            Ok(Solved {
-                reply: Reply {
-                    bytes,
-                    status: status_of(accepted.verdict),
-                },
-                told: Told::Found(side, states, NOTHING),
-            })
+    let document = strategy_document(alloc, text, strategy);
+    let reply = match tested(alloc, text, &document)? {
+        Ok(reply) => reply,
+        Err(line) => {
+            return unknown(alloc, text, Told::Withheld(side, Withheld::BadLine(line)));
         }
-        Checked::BadLine(line) => {
-            unknown(alloc, text, Told::Withheld(side, Withheld::BadLine(line)))
-        }
+    };
+    if refuting.max == Some(0) {
+        let told = Told::Found(side, states, nothing(RefutingEnd::Done));
+        return Ok(Solved { reply, told });
     }
+    listener.hear(News::Found(side, states));
+    let plain = Plain {
+        side,
+        states,
+        document,
+    };
+    let longer = with_logs(rt, alloc, text, plain, below, refuting);
+    Ok(Solved {
+        reply: longer.reply.unwrap_or(reply),
+        told: Told::Found(side, longer.states, longer.refuted),
+    })
 }
-
-/// No size is refuted.
-const NOTHING: Refuted = Refuted {
-    sizes: 0,
-    end: RefutingEnd::Done,
-};
 
 /// The document that says that neither was found, and why.
 fn unknown(alloc: Global, text: &SolveText, told: Told) -> Result<Solved, AllocError>
@@ -137,15 +148,4 @@ fn unknown(alloc: Global, text: &SolveText, told: Told) -> Result<Solved, AllocE
         },
         told,
     })
-}
-
-/// The status of a document of this verdict.
-fn status_of(verdict: Verdict) -> Status
-    ensures { result ≡ status_for verdict }
-{
-    match verdict {
-        Verdict::Realizable(_) => Status::Realizable,
-        Verdict::Unrealizable(_) => Status::Unrealizable,
-        Verdict::Unknown => Status::Unknown,
-    }
 }

@@ -10,18 +10,14 @@ use solved_text::{Document, Verdict, write_solved};
 use std::alloc::{AllocError, Global};
 
 /// The document of a strategy, which refutes no size. It is still to be tested.
-pub(crate) fn strategy_text(
-    alloc: Global,
-    text: &SolveText,
-    strategy: Strategy,
-) -> Result<Vec<u8>, AllocError> {
+pub(crate) fn strategy_document(alloc: Global, text: &SolveText, strategy: Strategy) -> Document {
     let Strategy {
         side,
         states,
         circuit,
         annotation,
     } = strategy;
-    let document = Document {
+    Document {
         verdict: match side {
             Side::System => Verdict::Realizable(states),
             Side::Environment => Verdict::Unrealizable(states),
@@ -31,8 +27,7 @@ pub(crate) fn strategy_text(
         circuit: Some(circuit),
         logs: Vec::new(alloc),
         annotation,
-    };
-    text_of(alloc, &document)
+    }
 }
 
 /// The document that says that neither was found.
@@ -50,7 +45,8 @@ pub(crate) fn unknown_text(alloc: Global, text: &SolveText) -> Result<Vec<u8>, A
     text_of(alloc, &document)
 }
 
-fn text_of(alloc: Global, document: &Document) -> Result<Vec<u8>, AllocError>
+/// The bytes of a document.
+pub(crate) fn text_of(alloc: Global, document: &Document) -> Result<Vec<u8>, AllocError>
     ensures { IfOk result (λ bytes. bytes.items ≡ document_text document.now) }
 {
     let mut bytes = Vec::new(alloc);

@@ -1,9 +1,10 @@
 //! A circuit of a side that wins, with its annotation. Nothing is said of what is found: it is tested.
+ghost use Rattle.std.specs.Prelude.{◌≡◌};
 ghost use Rattle.ltl_formula.specs.Nodes.{Stands, tree_at};
 ghost use Rattle.ltl_formula.specs.NormalForm.{IsNormal};
-ghost use Rattle.solve_answer.specs.Parts.{CanBePlayed};
+ghost use Rattle.solve_answer.specs.Parts.{CanBePlayed, form_for};
 
-use crate::told::{end_of, limit_of};
+use crate::told::{end_of, limit_of, nothing};
 use aiger_text::Circuit;
 use annotation_maker::{Made, Maker, annotation_of};
 use cobuchi_build::{BuildFault, build};
@@ -14,7 +15,7 @@ use machine_model::Automaton;
 use obligation_sets::Covering;
 use reached_states::reached_states;
 use solve_ground::SolveText;
-use solve_told::{NotWon, Refuted, RefutingEnd, Told, Unwon, Withheld};
+use solve_told::{NotWon, RefutingEnd, Told, Unwon, Withheld};
 use std::alloc::{AllocError, Global};
 use text_limits::LARGE_LIMITS;
 
@@ -55,7 +56,7 @@ pub(crate) fn find_strategy(
     requires { CanBePlayed text.now }
 {
     match who_wins(alloc, text, budget)? {
-        Winner::Of(found) => annotated(alloc, text, found),
+        Winner::Of(found) => annotated(alloc, text, found.side, found.circuit),
         Winner::Without(told) => Ok(Search::Without(told)),
     }
 }
@@ -122,10 +123,7 @@ fn unless_absent(automaton: Option<&Automaton>, why: NotWon) -> Unwon {
     };
     Unwon {
         why,
-        refuted: Refuted {
-            sizes: 0,
-            end: RefutingEnd::Done,
-        },
+        refuted: nothing(RefutingEnd::Done),
     }
 }
 
@@ -152,17 +150,21 @@ fn automaton(
     }
 }
 
-/// What was found with the number of its states and its annotation.
-fn annotated(alloc: Global, text: &SolveText, found: Found) -> Result<Search, AllocError> {
-    let side = found.side;
-    let Some(states) = states_of(alloc, &found.circuit)? else {
+/// A circuit of a side with the number of its states and its annotation.
+pub(crate) fn annotated(
+    alloc: Global,
+    text: &SolveText,
+    side: Side,
+    circuit: Circuit,
+) -> Result<Search, AllocError> {
+    let Some(states) = states_of(alloc, &circuit)? else {
         return Ok(withheld(side, Withheld::TooManyStates));
     };
-    match annotation_of(alloc, maker(text, &found))? {
+    match annotation_of(alloc, maker(text, side, &circuit))? {
         Made::Lines(annotation) => Ok(Search::Of(Strategy {
             side,
             states,
-            circuit: found.circuit,
+            circuit,
             annotation,
         })),
         Made::LetsThrough => Ok(withheld(side, Withheld::Loses)),
@@ -187,15 +189,22 @@ fn states_of(alloc: Global, circuit: &Circuit) -> Result<Option<u32>, AllocError
     }
 }
 
-/// What an annotation of what was found is of.
-fn maker<'a>(text: &'a SolveText, found: &'a Found) -> Maker<'a> {
+/// What an annotation of a side's circuit is of.
+fn maker<'a>(text: &'a SolveText, side: Side, circuit: &'a Circuit) -> Maker<'a> {
     Maker {
-        circuit: &found.circuit,
-        side: found.side,
+        circuit,
+        side,
         formulas: &text.formulas,
-        form: match found.side {
-            Side::System => text.negated,
-            Side::Environment => text.normal,
-        },
+        form: form_of(text, side),
+    }
+}
+
+/// What a side keeps from being true.
+pub(crate) fn form_of(text: &SolveText, side: Side) -> FormulaId
+    ensures { result ≡ form_for text.now side }
+{
+    match side {
+        Side::System => text.negated,
+        Side::Environment => text.normal,
     }
 }

@@ -1,0 +1,192 @@
+//! One size, over one list of letters after another.
+ghost use Rattle.std.specs.Prelude.{IfOk, IfSome};
+ghost use Rattle.clause_base.specs.Clause.{IsFormula};
+
+use crate::blocks::{Places, Span};
+use crate::decoding::Decoding;
+use crate::filling::{Filled, Filling};
+use crate::letters::{Choice, Chosen};
+use crate::tracks::Tracks;
+use crate::working::{Worked, search_clauses};
+use clause_base::{Assignment, Cnf};
+use letter_word::Side;
+use machine_model::Row;
+use refutation_log::Entry;
+use size_refutations::{Ground, Sought};
+use solved_text::SizeLog;
+use std::alloc::{AllocError, Global};
+use std::sync::Wait;
+use std::thread::Threads;
+
+/// A machine that was found, which is still to be tested.
+#[derive(Drop)]
+pub struct SmallMachine {
+    pub states: u32,
+    /// For each state its rows on all letters that are read, by their numbers. In what is written the first signal is bit 0.
+    pub rows: Vec<Row>,
+}
+
+/// What came of a size.
+#[derive(Drop)]
+pub(crate) enum Tried {
+    Refuted(SizeLog),
+    /// There is a machine. None where its table isn't made.
+    Found(Option<SmallMachine>),
+    Full,
+    TooLarge,
+}
+
+/// A size that is tried.
+#[derive(Clone, Copy)]
+pub(crate) struct Trial<'a, 'b> {
+    pub(crate) alloc: Global,
+    pub(crate) ground: &'b Ground<'a>,
+    pub(crate) size: u32,
+    /// The most base clauses.
+    pub(crate) clauses: u64,
+    /// The most entries of a log.
+    pub(crate) entries: Option<u64>,
+    pub(crate) workers: u32,
+}
+
+/// What is to be done behind a list of letters.
+#[derive(Drop)]
+enum Next {
+    Ends(Tried),
+    GoesOn(Chosen),
+}
+
+/// A size is tried over at most so many lists of letters.
+const LISTS: u32 = 3;
+
+impl Trial<'_, '_> {
+    /// Tries a size over few letters, over some more where these leave gaps, and then over all.
+    pub(crate) fn tried<R: Threads + Wait + Sync>(&self, rt: &R) -> Result<Tried, AllocError> {
+        let mut chosen = Chosen::first(self.alloc, self.ground.reads())?;
+        for _ in 0..LISTS {
+            match self.tried_over(rt, chosen)? {
+                Next::Ends(tried) => return Ok(tried),
+                Next::GoesOn(next) => chosen = next,
+            }
+        }
+        Ok(Tried::TooLarge)
+    }
+
+    /// The number of base clauses over the first letters, where there is one.
+    pub(crate) fn first_count(&self) -> Option<u64> {
+        let chosen = Chosen::first(self.alloc, self.ground.reads()).ok()?;
+        self.ground.count(self.size, &chosen.letters).ok()?
+    }
+
+    fn tried_over<R: Threads + Wait + Sync>(
+        &self,
+        rt: &R,
+        chosen: Chosen,
+    ) -> Result<Next, AllocError> {
+        let Some(base) = self.base_over(&chosen.letters)? else {
+            return Ok(Next::Ends(Tried::TooLarge));
+        };
+        match search_clauses(rt, self.alloc, &base, self.entries, self.workers)? {
+            Worked::Refuted(entries) => {
+                let log = self.log_of(chosen, &base, entries);
+                Ok(Next::Ends(Tried::Refuted(log)))
+            }
+            Worked::Full => Ok(Next::Ends(Tried::Full)),
+            Worked::Met(values) => self.after_model(chosen, &values),
+        }
+    }
+
+    /// The base clauses over some letters, unless they are too many. They are counted before they are made.
+    fn base_over(&self, letters: &[u32]) -> Result<Option<Cnf>, AllocError>
+        ensures { IfOk result (λ made. IfSome made (λ base. IsFormula base.vars base.clauses.items)) }
+    {
+        match self.ground.count(self.size, letters)? {
+            Some(count) if count <= self.clauses => {
+                self.ground.encoded(self.alloc, self.size, letters)
+            }
+            _ => Ok(None),
+        }
+    }
+
+    fn log_of(&self, chosen: Chosen, base: &Cnf, entries: Vec<Entry>) -> SizeLog {
+        SizeLog {
+            size: self.size,
+            letters: chosen.into_letters(),
+            vars: base.vars,
+            base: base.clauses.len() as u64,
+            entries,
+            line: 0,
+        }
+    }
+
+    /// The machine of values that meet the base clauses, or the letters that come next.
+    fn after_model(&self, chosen: Chosen, values: &Assignment) -> Result<Next, AllocError> {
+        match self.filled(&chosen, values)? {
+            Filled::Whole(rows) => Ok(Next::Ends(Tried::Found(Some(SmallMachine {
+                states: self.size,
+                rows,
+            })))),
+            Filled::Gaps(gaps) => self.behind(&chosen, &gaps),
+            Filled::TooLong => match chosen.choice {
+                Choice::All => Ok(Next::Ends(Tried::Found(None))),
+                Choice::First | Choice::Joined => {
+                    let all = Chosen::all(self.alloc, self.ground.reads())?;
+                    Ok(Next::GoesOn(all))
+                }
+            },
+        }
+    }
+
+    /// The letters that come behind those that left gaps.
+    fn behind(&self, chosen: &Chosen, gaps: &[u32]) -> Result<Next, AllocError> {
+        let next = chosen.next(self.alloc, self.ground.reads(), gaps)?;
+        Ok(Next::GoesOn(next))
+    }
+
+    fn filled(&self, chosen: &Chosen, values: &Assignment) -> Result<Filled, AllocError> {
+        let Some(automaton) = self.ground.automaton() else {
+            return Ok(Filled::TooLong);
+        };
+        let Some(tracks) = Tracks::of(self.alloc, automaton)? else {
+            return Ok(Filled::TooLong);
+        };
+        let sought = self.ground.sought();
+        let places = places_of(sought);
+        let filling = Filling {
+            alloc: self.alloc,
+            decoding: Decoding {
+                values: &values.values,
+                size: self.size,
+                letters: u32::try_from(chosen.letters.len()).unwrap_or(u32::MAX),
+                writes: places.writes.count,
+                kind: sought.kind,
+            },
+            letters: &chosen.letters,
+            tracks: &tracks,
+            places,
+        };
+        filling.filled()
+    }
+}
+
+/// Which signals a side reads, and which it writes.
+fn places_of(sought: Sought<'_>) -> Places {
+    let inputs = Span {
+        first: 0,
+        count: sought.inputs,
+    };
+    let outputs = Span {
+        first: sought.inputs,
+        count: sought.outputs,
+    };
+    match sought.side {
+        Side::System => Places {
+            reads: inputs,
+            writes: outputs,
+        },
+        Side::Environment => Places {
+            reads: outputs,
+            writes: inputs,
+        },
+    }
+}

@@ -1,0 +1,70 @@
+//! The sizes of a side.
+ghost use Rattle.std.specs.Prelude.{IfOk};
+ghost use Rattle.solve_answer.specs.Parts.{CanBePlayed};
+
+use crate::finding::form_of;
+use letter_search::{Effort, Refutations, refute_sizes};
+use letter_word::Side;
+use size_refutations::{Ground, Sought};
+use solve_ground::SolveText;
+use std::alloc::{AllocError, Global};
+use std::sync::Wait;
+use std::thread::Threads;
+
+/// Which sizes are to be refuted, and with how much effort.
+#[derive(Clone, Copy, Debug)]
+pub struct Refuting {
+    /// The sizes up to this one are tried, whatever their clauses. None: as far as their clauses are few.
+    pub max: Option<u32>,
+    /// The most entries of a log. None: no limit.
+    pub entries: Option<u64>,
+    /// How many workers search, from 1 to 64. One is the caller itself.
+    pub workers: u32,
+}
+
+impl Refuting {
+    pub(crate) fn effort(self) -> Effort {
+        Effort {
+            max: self.max,
+            entries: self.entries,
+            workers: self.workers,
+        }
+    }
+}
+
+/// What the logs of a side are tested against.
+pub(crate) fn ground_of(
+    alloc: Global,
+    text: &SolveText,
+    side: Side,
+) -> Result<Ground<'_>, AllocError>
+    requires { CanBePlayed text.now }
+{
+    let sought = Sought {
+        formulas: &text.formulas,
+        form: form_of(text, side),
+        side,
+        kind: match side {
+            Side::System => text.kind,
+            Side::Environment => text.kind.other(),
+        },
+        inputs: text.inputs.len() as u32,
+        outputs: text.outputs.len() as u32,
+    };
+    Ground::new(alloc, sought)
+}
+
+/// What comes of the sizes below a known one of a side.
+pub(crate) fn refuted<R: Threads + Wait + Sync>(
+    rt: &R,
+    alloc: Global,
+    text: &SolveText,
+    side: Side,
+    known: u32,
+    refuting: Refuting,
+) -> Result<Refutations, AllocError>
+    requires { CanBePlayed text.now }
+{
+    let ground = ground_of(alloc, text, side)?;
+    Ok(refute_sizes(rt, alloc, &ground, known, refuting.effort()))
+}

@@ -1,0 +1,180 @@
+//! A strategy with the logs of the sizes below it, or a smaller one in its place.
+ghost use Rattle.std.specs.Prelude.{IfOk, IfSome};
+ghost use Rattle.solve_answer.specs.Parts.{AnswersEach, CanBePlayed};
+
+use crate::documents::strategy_document;
+use crate::finding::{Search, Strategy, annotated};
+use crate::refuting::{Refuting, refuted};
+use crate::testing::tested;
+use crate::told::{nothing, refuting_end, so_many};
+use game_machine::{GivenTable, table_circuit};
+use letter_search::{Ended, Refutations, SmallMachine};
+use letter_word::Side;
+use program_replies::Reply;
+use solve_ground::SolveText;
+use solve_told::{Refuted, RefutingEnd};
+use solved_text::{Document, SizeLog};
+use std::alloc::{AllocError, Global};
+use std::sync::Wait;
+use std::thread::Threads;
+
+/// A strategy whose document is accepted, without logs.
+#[derive(Drop)]
+pub(crate) struct Plain {
+    pub(crate) side: Side,
+    pub(crate) states: u32,
+    pub(crate) document: Document,
+}
+
+/// A document that says more, and what is told of it.
+#[derive(Drop)]
+pub(crate) struct Longer {
+    /// None where the document without logs is all that there is.
+    pub(crate) reply: Option<Reply>,
+    pub(crate) states: u32,
+    pub(crate) refuted: Refuted,
+}
+
+/// The same strategy, or a smaller one, with the logs of the sizes below it. Where memory runs out, nothing more is said than before.
+pub(crate) fn with_logs<R: Threads + Wait + Sync>(
+    rt: &R,
+    alloc: Global,
+    text: &SolveText,
+    plain: Plain,
+    below: Option<Refutations>,
+    refuting: Refuting,
+) -> Longer
+    requires { CanBePlayed text.now }
+    ensures { IfSome result.reply (AnswersEach text.now) }
+{
+    let states = plain.states;
+    match make_longer(rt, alloc, text, plain, below, refuting) {
+        Ok(longer) => longer,
+        Err(_) => Longer {
+            reply: None,
+            states,
+            refuted: nothing(RefutingEnd::NoMemory),
+        },
+    }
+}
+
+fn make_longer<R: Threads + Wait + Sync>(
+    rt: &R,
+    alloc: Global,
+    text: &SolveText,
+    plain: Plain,
+    below: Option<Refutations>,
+    refuting: Refuting,
+) -> Result<Longer, AllocError>
+    requires { CanBePlayed text.now }
+    ensures { IfOk result (λ l. IfSome l.reply (AnswersEach text.now)) }
+{
+    let below = match below {
+        Some(below) => below,
+        None => refuted(rt, alloc, text, plain.side, plain.states, refuting)?,
+    };
+    let smaller = smaller_strategy(alloc, text, plain.side, &below.ended)?;
+    let end = refuting_end(&below.ended);
+    match smaller {
+        Some(strategy) => shrunk(alloc, text, plain, strategy, below.logs),
+        None => kept(alloc, text, plain, below.logs, end),
+    }
+}
+
+/// The document of a smaller strategy, or that of the known one where it fails.
+fn shrunk(
+    alloc: Global,
+    text: &SolveText,
+    plain: Plain,
+    strategy: Strategy,
+    logs: Vec<SizeLog>,
+) -> Result<Longer, AllocError>
+    requires { CanBePlayed text.now }
+    ensures { IfOk result (λ l. IfSome l.reply (AnswersEach text.now)) }
+{
+    let states = strategy.states;
+    let sizes = logs.len();
+    let mut document = strategy_document(alloc, text, strategy);
+    document.logs = logs;
+    match tested(alloc, text, &document)? {
+        Ok(reply) => Ok(Longer {
+            reply: Some(reply),
+            states,
+            refuted: so_many(sizes, RefutingEnd::Done),
+        }),
+        Err(_) => kept(alloc, text, plain, document.logs, RefutingEnd::NotMade),
+    }
+}
+
+/// The document of the known strategy with logs.
+fn kept(
+    alloc: Global,
+    text: &SolveText,
+    plain: Plain,
+    logs: Vec<SizeLog>,
+    end: RefutingEnd,
+) -> Result<Longer, AllocError>
+    requires { CanBePlayed text.now }
+    ensures { IfOk result (λ l. IfSome l.reply (AnswersEach text.now)) }
+{
+    let states = plain.states;
+    let sizes = logs.len();
+    if sizes == 0 {
+        return Ok(Longer {
+            reply: None,
+            states,
+            refuted: nothing(end),
+        });
+    }
+    let mut document = plain.document;
+    document.logs = logs;
+    match tested(alloc, text, &document)? {
+        Ok(reply) => Ok(Longer {
+            reply: Some(reply),
+            states,
+            refuted: so_many(sizes, end),
+        }),
+        Err(line) => Ok(Longer {
+            reply: None,
+            states,
+            refuted: nothing(RefutingEnd::BadLine(line)),
+        }),
+    }
+}
+
+/// The strategy of a machine that was found, if there is one.
+pub(crate) fn smaller_strategy(
+    alloc: Global,
+    text: &SolveText,
+    side: Side,
+    ended: &Ended,
+) -> Result<Option<Strategy>, AllocError> {
+    match ended {
+        Ended::Found(_, Some(machine)) => strategy_of(alloc, text, side, machine),
+        _ => Ok(None),
+    }
+}
+
+/// The strategy of a machine, unless its circuit or its annotation passes a limit.
+fn strategy_of(
+    alloc: Global,
+    text: &SolveText,
+    side: Side,
+    machine: &SmallMachine,
+) -> Result<Option<Strategy>, AllocError> {
+    let table = GivenTable {
+        inputs: &text.inputs,
+        outputs: &text.outputs,
+        side,
+        kind: text.kind,
+        states: machine.states,
+        rows: &machine.rows,
+    };
+    let Some(circuit) = table_circuit(alloc, table)? else {
+        return Ok(None);
+    };
+    match annotated(alloc, text, side, circuit)? {
+        Search::Of(strategy) => Ok(Some(strategy)),
+        Search::Without(_) => Ok(None),
+    }
+}

@@ -1,0 +1,40 @@
+//! A document before it is printed.
+ghost use Rattle.std.specs.Prelude.{◌≡◌, IfOk};
+ghost use Rattle.solve_answer.specs.Parts.{AnswersEach, CanBePlayed, status_of as status_for};
+
+use crate::documents::text_of;
+use program_replies::{Reply, Status};
+use solve_check::{Checked, check_solved};
+use solve_ground::SolveText;
+use solved_text::{Document, Verdict};
+use std::alloc::{AllocError, Global};
+
+/// The reply that has a document, where it is accepted, else its first bad line.
+pub(crate) fn tested(
+    alloc: Global,
+    text: &SolveText,
+    document: &Document,
+) -> Result<Result<Reply, u64>, AllocError>
+    requires { CanBePlayed text.now }
+    ensures { IfOk result (λ tested. IfOk tested (AnswersEach text.now)) }
+{
+    let bytes = text_of(alloc, document)?;
+    match check_solved(alloc, text, &bytes)? {
+        Checked::Accepted(accepted) => Ok(Ok(Reply {
+            bytes,
+            status: status_of(accepted.verdict),
+        })),
+        Checked::BadLine(line) => Ok(Err(line)),
+    }
+}
+
+/// The status of a document of this verdict.
+fn status_of(verdict: Verdict) -> Status
+    ensures { result ≡ status_for verdict }
+{
+    match verdict {
+        Verdict::Realizable(_) => Status::Realizable,
+        Verdict::Unrealizable(_) => Status::Unrealizable,
+        Verdict::Unknown => Status::Unknown,
+    }
+}

@@ -1,0 +1,155 @@
+//! The sizes of both sides, where neither wins its games.
+ghost use Rattle.solve_answer.specs.Parts.{CanBePlayed};
+
+use crate::finding::Strategy;
+use crate::refuting::{Refuting, ground_of};
+use crate::shrinking::smaller_strategy;
+use crate::told::{nothing, refuting_end, so_many};
+use letter_search::{Ended, Refutations, Sizes};
+use letter_word::Side;
+use solve_ground::SolveText;
+use solve_told::{NotWon, Refuted, RefutingEnd, Told, Unwon};
+use std::alloc::{AllocError, Global};
+use std::sync::Wait;
+use std::thread::Threads;
+
+/// A strategy, with what is known of the sizes below it, or why there is none.
+#[derive(Drop)]
+pub(crate) enum Found {
+    Of(Strategy, Option<Refutations>),
+    Without(Told),
+}
+
+/// What came of both sides' sizes.
+#[derive(Drop)]
+struct Both {
+    system: Refutations,
+    environment: Refutations,
+}
+
+/// Greater than each size that is tried.
+const NO_SIZE: u32 = 17;
+
+/// Searches the sizes of both sides by turns, where neither wins its games. Where memory runs out, neither is found.
+pub(crate) fn search_sizes<R: Threads + Wait + Sync>(
+    rt: &R,
+    alloc: Global,
+    text: &SolveText,
+    told: Told,
+    refuting: Refuting,
+) -> Found
+    requires { CanBePlayed text.now }
+{
+    let Told::Neither(system, environment) = told else {
+        return Found::Without(told);
+    };
+    if refuting.max == Some(0) {
+        return Found::Without(told);
+    }
+    match searched(rt, alloc, text, system.why, environment.why, refuting) {
+        Ok(found) => found,
+        Err(_) => {
+            let lost = nothing(RefutingEnd::NoMemory);
+            Found::Without(neither(system.why, lost, environment.why, lost))
+        }
+    }
+}
+
+/// That neither wins, and how far their sizes were tried.
+fn neither(system: NotWon, first: Refuted, environment: NotWon, second: Refuted) -> Told {
+    let system = Unwon {
+        why: system,
+        refuted: first,
+    };
+    let environment = Unwon {
+        why: environment,
+        refuted: second,
+    };
+    Told::Neither(system, environment)
+}
+
+fn searched<R: Threads + Wait + Sync>(
+    rt: &R,
+    alloc: Global,
+    text: &SolveText,
+    system: NotWon,
+    environment: NotWon,
+    refuting: Refuting,
+) -> Result<Found, AllocError>
+    requires { CanBePlayed text.now }
+{
+    let both = tried(rt, alloc, text, refuting)?;
+    let first = refuted_in(&both.system);
+    let second = refuted_in(&both.environment);
+    let by_system = smaller_strategy(alloc, text, Side::System, &both.system.ended)?;
+    if let Some(strategy) = by_system {
+        return Ok(Found::Of(strategy, Some(all_below(both.system))));
+    }
+    let by_other = smaller_strategy(alloc, text, Side::Environment, &both.environment.ended)?;
+    if let Some(strategy) = by_other {
+        return Ok(Found::Of(strategy, Some(all_below(both.environment))));
+    }
+    Ok(Found::Without(neither(system, first, environment, second)))
+}
+
+/// The logs of all sizes below a machine that was found.
+fn all_below(found: Refutations) -> Refutations {
+    Refutations {
+        logs: found.logs,
+        ended: Ended::AllRefuted,
+    }
+}
+
+fn refuted_in(found: &Refutations) -> Refuted {
+    so_many(found.logs.len(), refuting_end(&found.ended))
+}
+
+/// Tries the sizes of both sides by turns, the one with the smaller formula first, until one has a machine.
+fn tried<R: Threads + Wait + Sync>(
+    rt: &R,
+    alloc: Global,
+    text: &SolveText,
+    refuting: Refuting,
+) -> Result<Both, AllocError>
+    requires { CanBePlayed text.now }
+{
+    let of_system = ground_of(alloc, text, Side::System)?;
+    let of_environment = ground_of(alloc, text, Side::Environment)?;
+    let mut system = Sizes::new(alloc, &of_system, NO_SIZE, refuting.effort());
+    let mut environment = Sizes::new(alloc, &of_environment, NO_SIZE, refuting.effort());
+    for _ in 0..NO_SIZE {
+        if is_decided(rt, &mut system, &mut environment) {
+            break;
+        }
+    }
+    Ok(Both {
+        system: system.into_refutations(),
+        environment: environment.into_refutations(),
+    })
+}
+
+/// Tries the next size of each side, and says whether one has a machine, or none is left.
+fn is_decided<R: Threads + Wait + Sync>(
+    rt: &R,
+    system: &mut Sizes<'_, '_>,
+    environment: &mut Sizes<'_, '_>,
+) -> bool {
+    if system.next_clauses() <= environment.next_clauses() {
+        step_both(rt, system, environment)
+    } else {
+        step_both(rt, environment, system)
+    }
+}
+
+fn step_both<R: Threads + Wait + Sync>(
+    rt: &R,
+    first: &mut Sizes<'_, '_>,
+    second: &mut Sizes<'_, '_>,
+) -> bool {
+    first.step(rt);
+    if first.has_found() {
+        return true;
+    }
+    second.step(rt);
+    second.has_found() || (first.is_ended() && second.is_ended())
+}
