@@ -1,0 +1,4 @@
+mod TwoWords
+mod Signals
+mod Found
+mod Determined
