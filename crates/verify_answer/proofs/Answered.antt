@@ -1,11 +1,8 @@
 -- From what was found to the answer.
 use Rattle.std.proofs.Common.{◌≡◌, ℕ, None, List, Result, Ok, Err, IfOk, length, refl, sym, ap, ◌∙◌}
 use Rattle.text_limits.specs.declared.TheConstants.{SMALL_LIMITS}
-use Rattle.letter_word.specs.declared.kinds.Kind.{Kind}
-use Rattle.letter_word.specs.declared.kinds.Kind.TheVariants.{Mealy, Moore}
 use Rattle.letter_word.specs.declared.kinds.Side.TheVariants.{System}
-use Rattle.letter_word.specs.Word.{Word}
-use Rattle.aiger_text.specs.Circuit.{Circuit, IsCircuitOfKind, IsCircuitRun, RunsOnEveryInput, Valuation}
+use Rattle.aiger_text.specs.Circuit.{Circuit, RunsOnEveryInput}
 use Rattle.tlsf_expand.specs.Meaning.{means}
 use Rattle.tlsf_expand.specs.FlatText.{FlatText, spec_seen}
 use Rattle.spec_problems.specs.declared.texts.TextProblems.{TextProblems}
@@ -13,7 +10,7 @@ use Rattle.spec_problems.specs.declared.sides.SideProblems.{SideProblems}
 use Rattle.spec_problems.specs.OfFormula.{AreProblems}
 use Rattle.spec_problems.specs.OfText.{AreProblemsOf}
 use Rattle.satisfaction.specs.Wanted.{Wanted}
-use Rattle.document_check.specs.Facts.{Facts}
+use Rattle.document_check.specs.Facts.{Facts, names_in}
 use Rattle.annot_check.specs.Laws.{AcceptsFalse, SatisfiesAs}
 use Rattle.program_replies.specs.Lines.{line_refusal}
 use Rattle.program_replies.specs.declared.replies.Status.{Status}
@@ -24,10 +21,12 @@ use Rattle.text_ground.specs.Ground.{given_by}
 use Rattle.text_ground.specs.Texts.{AreOfText, IfProblems}
 use Rattle.text_ground.specs.declared.texts.Problems.{Problems}
 use Rattle.text_ground.specs.declared.texts.Problems.TheVariants.{Of, Refused}
-use Rattle.verify_answer.specs.Answer.{GivenToVerify, VerifyAnswers, bad_line, refused, verified, verified_line}
+use Rattle.circuit_check.specs.Forms.{NamesStates}
+use Rattle.verify_answer.specs.Answer.{GivenToVerify, VerifyAnswers, bad_line, verified, verified_line}
 use Rattle.verify_answer.specs.FirstBad.{IsFirstBadOfCircuit, over}
 use Rattle.verify_answer.specs.Reply.{AreForVerify, AreReady, IsForVerify, IsShown}
-use Rattle.verify_answer.specs.Verified.{HasSignals, IsSatisfying, named_as}
+use Rattle.verify_answer.specs.Verified.{HasSignals, IsSatisfying}
+use Rattle.verify_answer.proofs.Naming.{kind_named, run_unnamed}
 use Rattle.verify_answer.proofs.Signals.{has_signals}
 
 -- what the text gives to the test of circuits is ready
@@ -42,19 +41,8 @@ ready text spec s are meet = record {
 pub for_verify : {E : Type 0} (text : List ℕ) (found : Result Problems E) → IfOk found (AreOfText 2 text None) → IfOk found (IfProblems (λ t. AreProblems t.problems))
     → IfOk found (AreForVerify text)
 for_verify text (Ok (Of t)) of_text meet = record { text_with = of_text; ready = ready text (spec_seen t.spec) t.problems of_text.are meet }
-for_verify text (Ok (Refused reply)) r meet = λ circuit. refused r.code r.place r.status_is r.fault r.line
+for_verify text (Ok (Refused reply)) r meet = r
 for_verify text (Err e) of_text meet = tt
-
--- a circuit's names make no difference to its runs and its kind
-run_unnamed : (x : Wanted) (c : Circuit) (w : Word) (values : ℕ → Valuation) → IsCircuitRun System (named_as x c) w values → IsCircuitRun System c w values
-run_unnamed x c w values run = record { lasso = run.lasso; resets = run.resets; steps = run.steps; gates = run.gates; reads = run.reads; writes = run.writes }
-
-kind_named : (x : Wanted) (c : Circuit) (kind : Kind) → IsCircuitOfKind kind c → IsCircuitOfKind kind (named_as x c)
-kind_named x c Mealy of_kind = tt
-kind_named x c Moore of_kind = record {
-  same_outputs = λ v w in_v in_w i k run_v run_w less_i less_k same.
-      of_kind.same_outputs v w in_v in_w i k (run_unnamed x c v in_v run_v) (run_unnamed x c w in_w run_w) less_i less_k same;
-}
 
 module _ (text : List ℕ) (t : TextProblems) (taken : IsForVerify text t) where
   abbrev spec : FlatText
@@ -97,31 +85,31 @@ module _ (text : List ℕ) (t : TextProblems) (taken : IsForVerify text t) where
   satisfying c signals owed runs = record {
     signals = signals;
     satisfies = record {
-      kind = kind_named wanted c t.problems.system.kind owed.kind;
+      kind = kind_named given.inputs given.outputs c t.problems.system.kind owed.kind;
       inputs = refl;
       outputs = refl;
-      means = λ w run. owed.means w run.0 (run_unnamed wanted c w run.0 run.1);
+      means = λ w run. owed.means w run.0 (run_unnamed given.inputs given.outputs c System w run.0 run.1);
     };
     runs = runs;
   }
 
-  pub shown_answers : (circuit bytes : List ℕ) (status : Status) → IsShown given circuit → bytes ≡ verified_line t.problems.system.kind → status ≡ ended.Done
+  pub shown_answers : (circuit bytes : List ℕ) (status : Status) → (NamesStates circuit → ⊥) → IsShown given circuit → bytes ≡ verified_line t.problems.system.kind → status ≡ ended.Done
       → VerifyAnswers text circuit bytes (status_number status)
-  shown_answers circuit bytes status shown line done =
+  shown_answers circuit bytes status unnamed shown line done =
       let by = shown.shown in
       let g : GivenToVerify text = record { spec = spec; problems = t.problems; are_problems = taken.text_with.are } in
-      verified g (ap status_number done) (record {
+      verified g (ap status_number done) unnamed (record {
         file = shown.file;
         list = shown.list;
         annotates = shown.annotates;
         valid = by.valid;
         wanted = wanted;
         is_wanted = is_wanted;
-        satisfying = satisfying shown.file.circuit (has_signals given shown.file by.circuit shown.annotates.commented.of_text.fits) (by.satisfies wanted.means accepts) by.runs;
+        satisfying = satisfying shown.file.circuit (has_signals (names_in given) shown.file by.circuit shown.annotates.commented.of_text.fits) (by.satisfies wanted.means accepts) by.runs;
       }) line
 
-  pub bad_answers : (circuit bytes : List ℕ) (status : Status) (n : ℕ) → IsFirstBadOfCircuit given circuit n → bytes ≡ line_refusal n → status ≡ ended.LineRefused
+  pub bad_answers : (circuit bytes : List ℕ) (status : Status) (n : ℕ) → (NamesStates circuit → ⊥) → IsFirstBadOfCircuit given circuit n → bytes ≡ line_refusal n → status ≡ ended.LineRefused
       → VerifyAnswers text circuit bytes (status_number status)
-  bad_answers circuit bytes status n first line done =
+  bad_answers circuit bytes status n unnamed first line done =
       let g : GivenToVerify text = record { spec = spec; problems = t.problems; are_problems = taken.text_with.are } in
-      bad_line g n (ap status_number done) first line
+      bad_line g n (ap status_number done) unnamed first line

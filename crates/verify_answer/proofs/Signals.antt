@@ -11,8 +11,10 @@ use Rattle.aiger_text.specs.CircuitType.{IsCircuit}
 use Rattle.annot_check.specs.declared.pairs.Pair.{Pair}
 use Rattle.annot_check.specs.Causes.{CanBeChecked}
 use Rattle.document_check.specs.Facts.{Facts}
-use Rattle.circuit_names.specs.Lines.{earliest, foreign_from, foreign_name}
-use Rattle.document_check.specs.FirstBad.{stated_line}
+use Rattle.circuit_names.specs.Lines.{earliest, foreign_from, foreign_name, stated_line}
+use Rattle.document_check.specs.Facts.{names_in}
+use Rattle.document_check.specs.FirstBad as facts_lines
+use Rattle.circuit_names.specs.Names.{Names}
 use Rattle.verify_answer.specs.Reply.{AreReady}
 use Rattle.verify_answer.specs.Verified.{HasSignals, IsNameIfAny}
 
@@ -45,44 +47,44 @@ wanted_names place (n ∷ ns) (w ∷ ws) lines same none = (
   wanted_names (place + 1) ns ws lines (omega arith) (no_second (foreign_name n w (slice_index lines place)) (foreign_from (place + 1) ns ws lines) none),
 )
 
-module _ (facts : Facts) (file : File) (kept : IsCircuit file.circuit) where
+module _ (names : Names) (file : File) (kept : IsCircuit file.circuit) where
   abbrev lines_fit : Option ℕ
   lines_fit =
-      earliest (foreign_from 0 file.circuit.input_names facts.inputs file.name_lines)
-      (foreign_from (length file.circuit.input_names) file.circuit.output_names facts.outputs file.name_lines)
+      earliest (foreign_from 0 file.circuit.input_names names.inputs file.name_lines)
+      (foreign_from (length file.circuit.input_names) file.circuit.output_names names.outputs file.name_lines)
 
-  fit_by : (a b : Bool) → eqb (length file.circuit.input_names) (length facts.inputs) ≡ a → eqb (length file.circuit.output_names) (length facts.outputs) ≡ b
-      → cond (a && b) lines_fit (Some 1) ≡ None → HasSignals facts.inputs facts.outputs file.circuit
+  fit_by : (a b : Bool) → eqb (length file.circuit.input_names) (length names.inputs) ≡ a → eqb (length file.circuit.output_names) (length names.outputs) ≡ b
+      → cond (a && b) lines_fit (Some 1) ≡ None → HasSignals names.inputs names.outputs file.circuit
   fit_by true true a b none =
-      let reads : length file.circuit.input_names ≡ length facts.inputs = eqb-true _ _ a in
-      let writes : length file.circuit.output_names ≡ length facts.outputs = eqb-true _ _ b in
+      let reads : length file.circuit.input_names ≡ length names.inputs = eqb-true _ _ a in
+      let writes : length file.circuit.output_names ≡ length names.outputs = eqb-true _ _ b in
       record {
         input_count = sym kept.input_places ∙ reads;
         output_count = sym kept.output_places ∙ writes;
-        input_names = wanted_names 0 file.circuit.input_names facts.inputs file.name_lines reads
-            (no_first (foreign_from 0 file.circuit.input_names facts.inputs file.name_lines)
-            (foreign_from (length file.circuit.input_names) file.circuit.output_names facts.outputs file.name_lines) none);
-        output_names = wanted_names (length file.circuit.input_names) file.circuit.output_names facts.outputs file.name_lines writes
-            (no_second (foreign_from 0 file.circuit.input_names facts.inputs file.name_lines)
-            (foreign_from (length file.circuit.input_names) file.circuit.output_names facts.outputs file.name_lines) none);
+        input_names = wanted_names 0 file.circuit.input_names names.inputs file.name_lines reads
+            (no_first (foreign_from 0 file.circuit.input_names names.inputs file.name_lines)
+            (foreign_from (length file.circuit.input_names) file.circuit.output_names names.outputs file.name_lines) none);
+        output_names = wanted_names (length file.circuit.input_names) file.circuit.output_names names.outputs file.name_lines writes
+            (no_second (foreign_from 0 file.circuit.input_names names.inputs file.name_lines)
+            (foreign_from (length file.circuit.input_names) file.circuit.output_names names.outputs file.name_lines) none);
       }
   fit_by true false a b none = absurd (cc)
   fit_by false true a b none = absurd (cc)
   fit_by false false a b none = absurd (cc)
 
-  pub has_signals : stated_line facts System file ≡ None → HasSignals facts.inputs facts.outputs file.circuit
+  pub has_signals : stated_line names System file ≡ None → HasSignals names.inputs names.outputs file.circuit
   has_signals none =
-      fit_by (eqb (length file.circuit.input_names) (length facts.inputs)) (eqb (length file.circuit.output_names) (length facts.outputs)) refl refl none
+      fit_by (eqb (length file.circuit.input_names) (length names.inputs)) (eqb (length file.circuit.output_names) (length names.outputs)) refl refl none
 
-  -- within the limits, a list of pairs for so many latches can be checked
-  pub can_be_checked : (pairs : List Pair) → AreReady facts → stated_line facts System file ≡ None → All (λ (pair : Pair). length pair.code ≡ length file.circuit.latches) pairs
-      → CanBeChecked file.circuit (length facts.inputs) pairs
-  can_be_checked pairs ready none codes =
-      let signals = has_signals none in
-      let reads : length file.circuit.inputs ≡ length facts.inputs = signals.input_count in
-      let writes : length file.circuit.outputs ≡ length facts.outputs = signals.output_count in
-      let few_reads : facts.system.inputs ≤ 8 = ready.problem.inputs in
-      let few_writes : facts.system.outputs ≤ 8 = ready.problem.outputs in
-      let read_names : facts.system.inputs ≡ length facts.inputs = ready.inputs in
-      let written_names : facts.system.outputs ≡ length facts.outputs = ready.outputs in
-      record { reads = reads; few_inputs = omega (arith, few_reads, read_names); few_outputs = omega (arith, few_writes, written_names, writes); codes = codes }
+-- within the limits, a list of pairs for so many latches can be checked
+pub can_be_checked : (facts : Facts) (file : File) → IsCircuit file.circuit → (pairs : List Pair) → AreReady facts → facts_lines.stated_line facts System file ≡ None
+    → All (λ (pair : Pair). length pair.code ≡ length file.circuit.latches) pairs → CanBeChecked file.circuit (length facts.inputs) pairs
+can_be_checked facts file kept pairs ready none codes =
+    let signals = has_signals (names_in facts) file kept none in
+    let reads : length file.circuit.inputs ≡ length facts.inputs = signals.input_count in
+    let writes : length file.circuit.outputs ≡ length facts.outputs = signals.output_count in
+    let few_reads : facts.system.inputs ≤ 8 = ready.problem.inputs in
+    let few_writes : facts.system.outputs ≤ 8 = ready.problem.outputs in
+    let read_names : facts.system.inputs ≡ length facts.inputs = ready.inputs in
+    let written_names : facts.system.outputs ≡ length facts.outputs = ready.outputs in
+    record { reads = reads; few_inputs = omega (arith, few_reads, read_names); few_outputs = omega (arith, few_writes, written_names, writes); codes = codes }

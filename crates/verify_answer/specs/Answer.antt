@@ -1,7 +1,10 @@
--- The answer of `verify` to a text and a circuit's file (this project's own).
-use Rattle.std.specs.Prelude.{◌≡◌, ℕ, List, None, codes}
+-- The answers of `verify` to a text and a circuit's file (this project's own).
+use Rattle.std.specs.Prelude.{◌≡◌, ℕ, List, [], ◌++◌, Option, Some, None, codes}
 use Rattle.letter_word.specs.declared.kinds.Kind.{Kind}
 use Rattle.letter_word.specs.declared.kinds.Kind.TheVariants.{Mealy, Moore}
+use Rattle.letter_word.specs.declared.kinds.Side.{Side}
+use Rattle.letter_word.specs.declared.kinds.Side.TheVariants.{System, Environment}
+use Rattle.letter_word.specs.Kinds.{kind_word, other_kind}
 use Rattle.spec_faults.specs.declared.code.SpecCode.{SpecCode}
 use Rattle.tlsf_expand.specs.FlatText.{FlatText}
 use Rattle.spec_problems.specs.declared.sides.SideProblems.{SideProblems}
@@ -9,8 +12,15 @@ use Rattle.spec_problems.specs.OfText.{AreProblemsOf, IsFirstFault}
 use Rattle.document_check.specs.Facts.{Facts}
 use Rattle.program_replies.specs.Lines.{line_refusal, refusal_line}
 use Rattle.text_ground.specs.Ground.{given_by}
+use Rattle.solve_ground.specs.declared.texts.SolveText.{SolveText}
+use Rattle.solve_ground.specs.SolveText.{IsSolveFault, IsSolveText}
+use Rattle.circuit_check.specs.Duty.{Owed}
+use Rattle.circuit_check.specs.FirstBad.{IsFirstBad}
+use Rattle.circuit_check.specs.Forms.{NamesStates}
 use Rattle.verify_answer.specs.FirstBad.{IsFirstBadOfCircuit}
-use Rattle.verify_answer.specs.Verified.{IsVerified}
+use Rattle.verify_answer.specs.Verified.{IsVerified, IsVerifiedFor}
+
+-- == an annotation over the system's automaton ==
 
 -- the line of a circuit that is verified, with the text's kind
 abbrev pub verified_line : Kind → List ℕ
@@ -27,12 +37,79 @@ pub record GivenToVerify (text : List ℕ) : Type 0 where
 abbrev pub facts_to_verify : {text : List ℕ} → GivenToVerify text → Facts
 facts_to_verify g = given_by g.spec g.problems
 
--- The bytes and the status that answer a text and a circuit's file: the line of the text's first fault, that of the file's first bad
--- line for the text, or `verified as KIND`.
+-- == an annotation that names its states ==
+
+abbrev pub side_words : Side → List ℕ
+side_words System = codes "verified as "
+side_words Environment = codes "verified environment as "
+
+-- the SEMANTICS of a converted text
+abbrev pub conversion_words : Option Kind → List ℕ
+conversion_words None = []
+conversion_words (Some kind) = codes " of " ++ kind_word kind ++ codes " semantics"
+
+-- the line of a circuit of this side that is verified, with the system's kind
+abbrev pub tested_line : Side → Kind → Option Kind → List ℕ
+tested_line side kind semantics = side_words side ++ kind_word kind ++ conversion_words semantics ++ codes "\n"
+
+-- what a circuit of a side owes to a text as `solve` takes it: one of the environment reads the outputs and writes the inputs, and is of
+-- the other kind
+abbrev pub owed_to : SolveText → Side → Owed
+owed_to t System = record {
+  names = record { inputs = t.inputs.items; outputs = t.outputs.items };
+  side = System;
+  kind = t.kind;
+  nodes = t.formulas;
+  form = t.negated;
+}
+owed_to t Environment = record {
+  names = record { inputs = t.outputs.items; outputs = t.inputs.items };
+  side = Environment;
+  kind = other_kind t.kind;
+  nodes = t.formulas;
+  form = t.normal;
+}
+
+-- a text as `solve` takes it, within larger limits, and converted where its kinds differ
+pub record GivenToTest (text : List ℕ) : Type 0 where
+  pub known : SolveText
+  pub is_text : IsSolveText text None known
+
+-- what answers the file of a circuit of a side and a text that is known so: the file's first bad line for the text, or what is verified
+pub data TestAnswers (side : Side) (text circuit : List ℕ) (t : SolveText) (bytes : List ℕ) (status : ℕ) : Type 0 where
+  line_fails : (n : ℕ) → status ≡ 40 → IsFirstBad (owed_to t side) circuit n → bytes ≡ line_refusal n
+      → TestAnswers side text circuit t bytes status
+  shown : status ≡ 0 → IsVerifiedFor side text circuit (owed_to t side) → bytes ≡ tested_line side t.kind t.semantics
+      → TestAnswers side text circuit t bytes status
+
+-- == the answers ==
+
+-- why the first fault of a text is answered, and the circuit isn't tested: its annotation names no states, or the text has a fault as
+-- `solve` takes it too
+pub data IsUntested (text circuit : List ℕ) : Type 0 where
+  without_states : (NamesStates circuit → ⊥) → IsUntested text circuit
+  refused_by_solve : (code : SpecCode) (position : ℕ) → IsSolveFault text None code position → IsUntested text circuit
+
+-- The bytes and the status that answer a text and the file of a circuit that plays the system: the line of the text's first fault, that
+-- of the file's first bad line for the text, or what is verified. Where the annotation names its states, the text is taken as `solve`
+-- takes it.
 pub data VerifyAnswers (text circuit bytes : List ℕ) (status : ℕ) : Type 0 where
-  refused : (code : SpecCode) (position : ℕ) → status ≡ 1 → IsFirstFault text None code position → bytes ≡ refusal_line code position
+  refused : (code : SpecCode) (position : ℕ) → status ≡ 1 → IsFirstFault text None code position → IsUntested text circuit
+      → bytes ≡ refusal_line code position → VerifyAnswers text circuit bytes status
+  bad_line : (g : GivenToVerify text) (n : ℕ) → status ≡ 40 → (NamesStates circuit → ⊥) → IsFirstBadOfCircuit (facts_to_verify g) circuit n
+      → bytes ≡ line_refusal n → VerifyAnswers text circuit bytes status
+  verified : (g : GivenToVerify text) → status ≡ 0 → (NamesStates circuit → ⊥) → IsVerified text circuit (facts_to_verify g)
+      → bytes ≡ verified_line (facts_to_verify g).system.kind → VerifyAnswers text circuit bytes status
+  of_states : (g : GivenToTest text) → NamesStates circuit → TestAnswers System text circuit g.known bytes status
       → VerifyAnswers text circuit bytes status
-  bad_line : (g : GivenToVerify text) (n : ℕ) → status ≡ 40 → IsFirstBadOfCircuit (facts_to_verify g) circuit n → bytes ≡ line_refusal n
-      → VerifyAnswers text circuit bytes status
-  verified : (g : GivenToVerify text) → status ≡ 0 → IsVerified text circuit (facts_to_verify g) → bytes ≡ verified_line (facts_to_verify g).system.kind
-      → VerifyAnswers text circuit bytes status
+
+-- The same of a circuit that plays the environment, whose annotation names its states in any case: the text is taken as `solve` takes it.
+pub data EnvironmentAnswers (text circuit bytes : List ℕ) (status : ℕ) : Type 0 where
+  text_refused : (code : SpecCode) (position : ℕ) → status ≡ 1 → IsSolveFault text None code position → bytes ≡ refusal_line code position
+      → EnvironmentAnswers text circuit bytes status
+  of_text : (g : GivenToTest text) → TestAnswers Environment text circuit g.known bytes status → EnvironmentAnswers text circuit bytes status
+
+-- the answer to the file of a circuit that plays this side
+abbrev pub CircuitAnswers : Side → List ℕ → List ℕ → List ℕ → ℕ → Type 0
+CircuitAnswers System text circuit bytes status = VerifyAnswers text circuit bytes status
+CircuitAnswers Environment text circuit bytes status = EnvironmentAnswers text circuit bytes status

@@ -1,6 +1,7 @@
 -- How the answers of `verify` are made (this project's own).
 use Rattle.std.specs.Prelude.{◌≡◌, ◌≢◌, ◌<◌, ⊤, ℕ, Bool, List, Option, Some, None, length}
-use Rattle.letter_word.specs.declared.kinds.Side.TheVariants.{System}
+use Rattle.letter_word.specs.declared.kinds.Side.{Side}
+use Rattle.letter_word.specs.declared.kinds.Side.TheVariants.{System, Environment}
 use Rattle.letter_word.specs.Word.{Word}
 use Rattle.machine_model.specs.Problem.{IsProblem}
 use Rattle.tlsf_expand.specs.FlatText.{spec_seen}
@@ -20,7 +21,18 @@ use Rattle.text_ground.specs.declared.texts.Problems.TheVariants.{Of, Refused}
 use Rattle.text_ground.specs.Ground.{given_by}
 use Rattle.text_ground.specs.Texts.{IsTextWith}
 use Rattle.verify_answer.specs.FirstBad.{Annotates, IsFirstBadOfCircuit, IsValidFor, cause_line, over}
-use Rattle.verify_answer.specs.Answer.{VerifyAnswers}
+use Rattle.spec_faults.specs.declared.code.SpecCode.{SpecCode}
+use Rattle.spec_faults.specs.declared.code.SpecFault.{SpecFault}
+use Rattle.spec_faults.specs.declared.code.SpecFault.TheVariants as failed
+use Rattle.spec_problems.specs.OfText.{IsFirstFault}
+use Rattle.program_replies.specs.declared.replies.Reply.{Reply as AReply}
+use Rattle.program_replies.specs.Refusals.{RefusedBy}
+use Rattle.solve_ground.specs.declared.texts.SolveText.{SolveText}
+use Rattle.solve_ground.specs.SolveText.{IsSolveFault, IsSolveText}
+use Rattle.circuit_check.specs.Duty.{IsReady}
+use Rattle.verify_answer.specs.declared.texts.TextForVerify.{TextForVerify}
+use Rattle.verify_answer.specs.declared.texts.TextForVerify.TheVariants as told
+use Rattle.verify_answer.specs.Answer.{CircuitAnswers, owed_to}
 
 -- what a text gives to the test of circuits is within the limits, and its problem is over its inputs and outputs
 pub record AreReady (facts : Facts) : Type 0 where
@@ -33,10 +45,46 @@ pub record IsForVerify (text : List ℕ) (t : TextProblems) : Type 0 where
   pub text_with : IsTextWith 2 text None (spec_seen t.spec) t.problems
   pub ready : AreReady (given_by (spec_seen t.spec) t.problems)
 
--- A text's problems, or a reply that answers the text with whatever circuit.
+-- a text's problems, or the reply to its first fault
 abbrev pub AreForVerify : List ℕ → Problems → Type 0
 AreForVerify text (Of t) = IsForVerify text t
-AreForVerify text (Refused r) = (circuit : List ℕ) → VerifyAnswers text circuit r.bytes.items (status_number r.status)
+AreForVerify text (Refused r) = RefusedBy (IsFirstFault text None) r.bytes.items (status_number r.status)
+
+-- == the text as `solve` takes it ==
+
+-- circuits of either side can be tested against it
+pub record IsReadyFor (t : SolveText) : Type 0 where
+  pub system : IsReady (owed_to t System)
+  pub environment : IsReady (owed_to t Environment)
+
+-- the text is taken so, has no fault so, and circuits can be tested against it
+pub record IsTestable (text : List ℕ) (t : SolveText) : Type 0 where
+  pub is_text : IsSolveText text None t
+  pub ready : IsReadyFor t
+  pub no_fault : (code : SpecCode) (place : ℕ) → IsSolveFault text None code place → ⊥
+
+-- want of memory, or a fault of the text as `solve` takes it
+abbrev pub IsSolveRefusal : List ℕ → SpecFault → Type 0
+IsSolveRefusal text failed.NoMemory = ⊤
+IsSolveRefusal text (failed.At code place) = IsSolveFault text None code place
+
+-- the reply to the first fault of a text that has one as `solve` takes it too
+pub record IsRefusedAnyway (text : List ℕ) (r : AReply) : Type 0 where
+  pub fault : RefusedBy (IsFirstFault text None) r.bytes.items (status_number r.status)
+  pub code : SpecCode
+  pub place : ℕ
+  pub larger : IsSolveFault text None code place
+
+-- a reply that answers the text with whatever circuit that plays this side
+abbrev pub IsRefusedFor : Side → List ℕ → AReply → Type 0
+IsRefusedFor side text r = (circuit : List ℕ) → CircuitAnswers side text circuit r.bytes.items (status_number r.status)
+
+-- a text that is known, or such a reply
+abbrev pub IsTextFor : Side → List ℕ → TextForVerify → Type 0
+IsTextFor side text (told.Taken t) = IsTestable text t
+IsTextFor side text (told.Refused r) = IsRefusedFor side text r
+
+-- == a list of pairs ==
 
 -- The list is valid, and so the circuit satisfies, as its kind, whatever is false on lassos alone that the system's automaton accepts.
 pub record IsShownBy (facts : Facts) (file : File) (list : Listed) : Type 0 where

@@ -1,50 +1,75 @@
-//! The answer to a text and a circuit's file.
-ghost use Rattle.std.specs.Prelude.{◌≡◌, ℕ, List, IfOk};
-ghost use Rattle.tlsf_expand.specs.FlatText.{spec_seen};
-ghost use Rattle.program_replies.specs.declared.replies.Status.TheVariants as ended;
+//! The answers to a text and a circuit's file.
+ghost use Rattle.std.specs.Prelude.{ℕ, List, IfOk, None};
 ghost use Rattle.program_replies.specs.Statuses.{status_number};
-ghost use Rattle.text_ground.specs.Ground.{given_by};
-ghost use Rattle.verify_answer.specs.Answer.{VerifyAnswers, verified_line};
-ghost use Rattle.verify_answer.specs.Reply.{AreForVerify, AreReady, IsForVerify};
+ghost use Rattle.solve_ground.specs.SolveText.{IsSolveText};
+ghost use Rattle.circuit_check.specs.Forms.{NamesStates};
+ghost use Rattle.verify_answer.specs.Answer.{CircuitAnswers, EnvironmentAnswers, VerifyAnswers};
+ghost use Rattle.verify_answer.specs.Reply.{IsReadyFor};
 
-use crate::files::first_bad_line;
-use letter_word::Kind;
-use program_replies::{Reply, Status, refused_at_line, whole};
-use spec_problems::TextProblems;
+use crate::listed::listed_answer;
+use crate::named::tested;
+use crate::texts::problems_for_verify;
+use circuit_check::names_states;
+use letter_word::Side;
+use program_replies::Reply;
+use solve_ground::SolveText;
 use std::alloc::{AllocError, Global};
-use text_ground::{Problems, facts_of, problems_or_refusal};
+use text_ground::Problems;
 
-/// The problems of a text that circuits are verified against, of the kind that it names, or the line of its first fault with status 1.
-pub fn problems_for_verify(alloc: Global, text: &[u8]) -> Result<Problems, AllocError>
-    ensures { IfOk result (AreForVerify text.now) }
-{
-    problems_or_refusal(alloc, text, None, 2)
-}
-
-/// The answer to a text with these problems, and to a circuit's file: `verified as KIND` with status 0, where its annotation is valid
-/// for its circuit and the text, or the line of its first bad line with status 40.
+/// The answer to a text that is known so, and to the file of a circuit that plays this side: what is verified with status 0, where its
+/// annotation is valid for its circuit and the text, or the line of its first bad line with status 40. Where the circuit plays the system
+/// and its annotation names no states, a first fault that the text has within the limits of the other commands is told, with status 1.
 ///
-/// It is linear in the bytes, and costs a step of the circuit for each pair of the annotation and each letter of inputs.
+/// It is linear in the bytes, and costs a step of the circuit for each pair of the annotation and each letter that is read. The text's
+/// automata are built only where the annotation names no states.
 pub fn verify_answer(
     alloc: Global,
-    text: &TextProblems,
+    side: Side,
+    text: &[u8],
+    known: &SolveText,
     circuit: &[u8],
 ) -> Result<Reply, AllocError>
-    requires { AreReady (given_by (spec_seen text.now.spec) text.now.problems) }
-    ensures { (bytes : List ℕ) → IsForVerify bytes text.now → IfOk result (λ r. VerifyAnswers bytes circuit.now r.bytes.items (status_number r.status)) }
+    requires { IsReadyFor known.now }
+    ensures { IsSolveText text.now None known.now → IfOk result (λ r. CircuitAnswers side text.now circuit.now r.bytes.items (status_number r.status)) }
 {
-    match first_bad_line(alloc, facts_of(text), circuit)? {
-        None => verified(alloc, text.problems.system.kind),
-        Some(line) => refused_at_line(alloc, line),
+    match side {
+        Side::System => system_answer(alloc, text, known, circuit),
+        Side::Environment => environment_answer(alloc, known, circuit),
     }
 }
 
-/// The reply to a circuit that is verified.
-fn verified(alloc: Global, kind: Kind) -> Result<Reply, AllocError>
-    ensures { IfOk result (λ r. (r.bytes.items ≡ verified_line kind) × (r.status ≡ ended.Done)) }
+/// The answer to the file of a circuit that plays the system.
+fn system_answer(
+    alloc: Global,
+    text: &[u8],
+    known: &SolveText,
+    circuit: &[u8],
+) -> Result<Reply, AllocError>
+    requires { IsReadyFor known.now }
+    ensures { IsSolveText text.now None known.now → IfOk result (λ r. VerifyAnswers text.now circuit.now r.bytes.items (status_number r.status)) }
 {
-    match kind {
-        Kind::Mealy => whole(alloc, b"verified as Mealy\n", Status::Done),
-        Kind::Moore => whole(alloc, b"verified as Moore\n", Status::Done),
+    let names = names_states(alloc, circuit)?;
+    if names {
+        tested(alloc, known, Side::System, circuit)
+    } else {
+        answer_by_problems(alloc, text, circuit)
     }
+}
+
+/// The same for a file whose annotation names no states.
+fn answer_by_problems(alloc: Global, text: &[u8], circuit: &[u8]) -> Result<Reply, AllocError>
+    ensures { (NamesStates circuit.now → ⊥) → IfOk result (λ r. VerifyAnswers text.now circuit.now r.bytes.items (status_number r.status)) }
+{
+    match problems_for_verify(alloc, text)? {
+        Problems::Of(found) => listed_answer(alloc, &found, circuit),
+        Problems::Refused(reply) => Ok(reply),
+    }
+}
+
+/// The answer to the file of a circuit that plays the environment.
+fn environment_answer(alloc: Global, known: &SolveText, circuit: &[u8]) -> Result<Reply, AllocError>
+    requires { IsReadyFor known.now }
+    ensures { (text : List ℕ) → IsSolveText text None known.now → IfOk result (λ r. EnvironmentAnswers text circuit.now r.bytes.items (status_number r.status)) }
+{
+    tested(alloc, known, Side::Environment, circuit)
 }

@@ -1,5 +1,5 @@
-//! A circuit's file against a text.
-ghost use Rattle.std.specs.Prelude.{◌≡◌, ◌≢◌, ◌+◌, ◌<◌, ◌≤◌, ◌^◌, ◌⊎◌, IfErr, IfOk, IfSome, None, length};
+//! The answer to a file whose annotation is over the system's automaton.
+ghost use Rattle.std.specs.Prelude.{◌≡◌, ◌≢◌, ℕ, List, ◌+◌, ◌<◌, ◌≤◌, ◌^◌, ◌⊎◌, IfErr, IfOk, IfSome, None, length};
 ghost use Rattle.std.specs.Option.{option_copied};
 ghost use Rattle.aiger_text.specs.declared.faults.CircuitFault.TheVariants.{NoMemory};
 ghost use Rattle.aiger_text.specs.CircuitFile.{IsFirstFault, States};
@@ -7,25 +7,63 @@ ghost use Rattle.aiger_text.specs.CircuitType.{IsCircuit};
 ghost use Rattle.annot_check.specs.Causes.{CanBeChecked};
 ghost use Rattle.annot_check.specs.declared.faults.AnnotFault.TheVariants.{BadLine};
 ghost use Rattle.cert_text.specs.Reading.{fault_line as line_of_fault};
-ghost use Rattle.document_check.specs.Shown.{facts_of};
+ghost use Rattle.document_check.specs.Shown.{facts_of as facts_seen};
+ghost use Rattle.tlsf_expand.specs.FlatText.{spec_seen};
+ghost use Rattle.program_replies.specs.declared.replies.Status.TheVariants as ended;
+ghost use Rattle.program_replies.specs.Statuses.{status_number};
+ghost use Rattle.text_ground.specs.Ground.{given_by};
+ghost use Rattle.circuit_check.specs.Forms.{NamesStates};
+ghost use Rattle.verify_answer.specs.Answer.{VerifyAnswers, verified_line};
 ghost use Rattle.verify_answer.specs.FirstBad.{HasComment, cause_line as line_of_cause, comment_of as comment_in, output_line as line_of_output};
-ghost use Rattle.verify_answer.specs.Reply.{AreReady, IsFoundOf, IsToldOf, IsWithin};
+ghost use Rattle.verify_answer.specs.Reply.{AreReady, IsForVerify, IsFoundOf, IsToldOf, IsWithin};
 
 use aiger_text::{Circuit, CircuitFault, CircuitFile, read_circuit, runs_on_every_input};
 use annot_check::laws::valid_lists_satisfy;
 use annot_check::{AnnotFault, PairList, check_annotation, read_annotation};
 use document_check::{TextFacts, earliest, faulty_line, stated_line};
-use letter_word::Side;
+use letter_word::{Kind, Side};
+use program_replies::{Reply, Status, refused_at_line, whole};
+use spec_problems::TextProblems;
 use std::alloc::{AllocError, Global};
+use text_ground::facts_of;
+
+/// The answer to a text with these problems, and to the file of a circuit whose annotation doesn't name its states: `verified as KIND`
+/// with status 0, where its annotation is valid for its circuit and the text, or the line of its first bad line with status 40.
+///
+/// It is linear in the bytes, and costs a step of the circuit for each pair of the annotation and each letter of inputs.
+pub fn listed_answer(
+    alloc: Global,
+    text: &TextProblems,
+    circuit: &[u8],
+) -> Result<Reply, AllocError>
+    requires { AreReady (given_by (spec_seen text.now.spec) text.now.problems) }
+    ensures { (bytes : List ℕ) → IsForVerify bytes text.now → (NamesStates circuit.now → ⊥)
+        → IfOk result (λ r. VerifyAnswers bytes circuit.now r.bytes.items (status_number r.status)) }
+{
+    match first_bad_line(alloc, facts_of(text), circuit)? {
+        None => verified(alloc, text.problems.system.kind),
+        Some(line) => refused_at_line(alloc, line),
+    }
+}
+
+/// The reply to a circuit that is verified.
+fn verified(alloc: Global, kind: Kind) -> Result<Reply, AllocError>
+    ensures { IfOk result (λ r. (r.bytes.items ≡ verified_line kind) × (r.status ≡ ended.Done)) }
+{
+    match kind {
+        Kind::Mealy => whole(alloc, b"verified as Mealy\n", Status::Done),
+        Kind::Moore => whole(alloc, b"verified as Moore\n", Status::Done),
+    }
+}
 
 /// The first line at which a circuit's file fails for a text, or none, where its annotation is valid for its circuit.
-pub(crate) fn first_bad_line(
+fn first_bad_line(
     alloc: Global,
     facts: TextFacts<'_>,
     bytes: &[u8],
 ) -> Result<Option<u64>, AllocError>
-    requires { AreReady (facts_of facts) }
-    ensures { IfOk result (IsFoundOf (facts_of facts.entry) bytes.now) }
+    requires { AreReady (facts_seen facts) }
+    ensures { IfOk result (IsFoundOf (facts_seen facts.entry) bytes.now) }
 {
     match read_circuit(alloc, bytes) {
         Ok(file) => file_line(alloc, facts, bytes, &file),
@@ -40,7 +78,7 @@ fn fault_line(
     fault: CircuitFault,
 ) -> Result<Option<u64>, AllocError>
     requires { (fault ≡ NoMemory) ⊎ IsFirstFault bytes.now fault }
-    ensures { IfOk result (IsFoundOf (facts_of facts.entry) bytes.now) }
+    ensures { IfOk result (IsFoundOf (facts_seen facts.entry) bytes.now) }
 {
     let line = own_line(fault)?;
     Ok(earliest(Some(line), faulty_line(facts, bytes)))
@@ -70,9 +108,9 @@ fn file_line(
     bytes: &[u8],
     file: &CircuitFile,
 ) -> Result<Option<u64>, AllocError>
-    requires ready { AreReady (facts_of facts) }
+    requires ready { AreReady (facts_seen facts) }
     requires states { States bytes.now file.now }
-    ensures { IfOk result (IsFoundOf (facts_of facts.entry) bytes.now) }
+    ensures { IfOk result (IsFoundOf (facts_seen facts.entry) bytes.now) }
 {
     if let Some(line) = stated_line(facts, Side::System, file) {
         return Ok(Some(line));
@@ -100,9 +138,9 @@ fn comment_line(
     file: &CircuitFile,
     comment: &[u8],
 ) -> Result<Option<u64>, AllocError>
-    requires ready { AreReady (facts_of facts) }
-    requires commented { HasComment (facts_of facts) bytes.now file.now comment.now }
-    ensures { IfOk result (IsFoundOf (facts_of facts.entry) bytes.now) }
+    requires ready { AreReady (facts_seen facts) }
+    requires commented { HasComment (facts_seen facts) bytes.now file.now comment.now }
+    ensures { IfOk result (IsFoundOf (facts_seen facts.entry) bytes.now) }
 {
     let _size = bytes.len();
     circuit_is_kept(&file.circuit);
@@ -148,9 +186,9 @@ fn pairs_line(
     file: &CircuitFile,
     list: &PairList,
 ) -> Result<Option<u64>, AllocError>
-    requires checked { CanBeChecked file.now.circuit (length (facts_of facts).inputs) list.now.pairs }
+    requires checked { CanBeChecked file.now.circuit (length (facts_seen facts).inputs) list.now.pairs }
     requires lines { file.now.comment_line + list.now.head_line + length list.now.pairs < 2 ^ 64 }
-    ensures { IfOk result (IsToldOf (facts_of facts.entry) file.now list.now) }
+    ensures { IfOk result (IsToldOf (facts_seen facts.entry) file.now list.now) }
 {
     let circuit = &file.circuit;
     circuit_is_kept(circuit);

@@ -11,7 +11,7 @@ use Rattle.verify_answer.specs.FirstBad.{IsFirstBadOfCircuit, of_line, over}
 use Rattle.verify_answer.specs.Reply.{IsFoundOf, IsToldOf}
 use Rattle.verify_answer.proofs.Found.{comment_short, list_found}
 use Rattle.verify_answer.proofs.Signals.{can_be_checked}
-use Rattle.verify_answer.proofs.files.comment_line.Goals as goal
+use Rattle.verify_answer.proofs.listed.comment_line.Goals as goal
 
 pub pairs_line-requires-clause-lines : goal.pairs_line-requires-clause-lines
 pairs_line-requires-clause-lines c =

@@ -1,6 +1,6 @@
 use Rattle.std.proofs.Common.{inl, inr, rules}
 use Rattle.verify_answer.proofs.Found.{fault_found}
-use Rattle.verify_answer.proofs.files.fault_line.Goals as goal
+use Rattle.verify_answer.proofs.listed.fault_line.Goals as goal
 
 pub returns : goal.returns
 returns c = elim c.requires [

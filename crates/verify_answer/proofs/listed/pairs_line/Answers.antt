@@ -5,7 +5,7 @@ use Rattle.annot_check.specs.Valid.{IsValidPairList}
 use Rattle.aiger_text.specs.CircuitFile.{File}
 use Rattle.document_check.specs.Shown.{facts_of}
 use Rattle.verify_answer.specs.Reply.{IsShownBy}
-use Rattle.verify_answer.proofs.files.pairs_line.Goals as goal
+use Rattle.verify_answer.proofs.listed.pairs_line.Goals as goal
 
 pub returns-in-Ok : goal.returns-in-Ok
 returns-in-Ok c =

@@ -1,5 +1,5 @@
 use Rattle.verify_answer.proofs.Answered.{for_verify}
-use Rattle.verify_answer.proofs.answering.problems_for_verify.Goals as goal
+use Rattle.verify_answer.proofs.texts.problems_for_verify.Goals as goal
 
 pub returns : goal.returns
 returns c = for_verify c.args.text.now c.problems_or_refusal.result c.problems_or_refusal.ensures.text c.problems_or_refusal.ensures.meet
