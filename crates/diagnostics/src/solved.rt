@@ -99,7 +99,7 @@ fn push_smaller(states: u64, refuted: u64, out: &mut String) -> Result<(), Alloc
     if refuted == 0 {
         return out.push_str("; whether fewer do is open\n");
     }
-    match last - first {
+    match last.saturating_sub(first) {
         0 => writeln!(out, "; whether {first} does is open"),
         1 => writeln!(out, "; whether {first} or {last} do is open"),
         _ => writeln!(out, "; whether {first} to {last} do is open"),
