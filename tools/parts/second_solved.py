@@ -7,7 +7,7 @@ from second_formulas import next_counter, reduced_covers_of
 from second_problems import ANY, ENVIRONMENT, MOST_BASE, MOST_LITERALS, SYSTEM, U32, U64, BadLine, Log, Reader, number
 
 FIRST_LINE, LAST_LINE = b"boundsyn 6", b"end"
-MOST_REACHED, MOST_STEPS, MOST_PAIRS, MOST_NAMED, MOST_LETTER = 65_536, 2**26, 1_000_000, 20_000, 65_535
+MOST_REACHED, MOST_STEPS, MOST_PAIRS, MOST_NAMED, MOST_LETTER, MOST_SIZE = 65_536, 2**26, 1_000_000, 20_000, 65_535, 16
 VERDICT = re.compile(rb"verdict (?:unknown|(realizable|unrealizable) (0|[1-9][0-9]*))")
 WORDS = {SYSTEM: "realizable", ENVIRONMENT: "unrealizable"}
 KINDS = {b"kind Mealy": "Mealy", b"kind Moore": "Moore"}
@@ -159,7 +159,8 @@ def log_lines(taken, document):
     """The line at which the first log fails that does."""
     for log in document.logs:
         problem = taken.problem(document.side, document.kind, log.letters)
-        is_allowed = problem is not None and problem.count(log.size) <= MOST_BASE[4] and problem.literals(log.size) <= MOST_LITERALS
+        is_sized = problem is not None and log.size <= MOST_SIZE
+        is_allowed = is_sized and problem.count(log.size) <= MOST_BASE[4] and problem.literals(log.size) <= MOST_LITERALS
         line = log.failing_line(problem if is_allowed else None, None, False)
         if line is not None:
             yield line
