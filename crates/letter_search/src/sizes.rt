@@ -10,9 +10,9 @@ use crate::tracks::Tracks;
 use crate::working::{Worked, search_clauses};
 use clause_base::{Assignment, Cnf};
 use letter_word::Side;
-use machine_model::Row;
+use machine_model::{Problem, Row};
 use refutation_log::Entry;
-use size_refutations::{Ground, Sought};
+use size_refutations::Ground;
 use solved_text::SizeLog;
 use std::alloc::{AllocError, Global};
 use std::sync::Wait;
@@ -144,14 +144,13 @@ impl Trial<'_, '_> {
     }
 
     fn filled(&self, chosen: &Chosen, values: &Assignment) -> Result<Filled, AllocError> {
-        let Some(automaton) = self.ground.automaton() else {
+        let Some(problem) = self.ground.problem() else {
             return Ok(Filled::TooLong);
         };
-        let Some(tracks) = Tracks::of(self.alloc, automaton)? else {
+        let Some(tracks) = Tracks::of(self.alloc, &problem.automaton)? else {
             return Ok(Filled::TooLong);
         };
-        let sought = self.ground.sought();
-        let places = places_of(sought);
+        let places = places_of(problem);
         let filling = Filling {
             alloc: self.alloc,
             decoding: Decoding {
@@ -159,7 +158,7 @@ impl Trial<'_, '_> {
                 size: self.size,
                 letters: u32::try_from(chosen.letters.len()).unwrap_or(u32::MAX),
                 writes: places.writes.count,
-                kind: sought.kind,
+                kind: problem.kind,
             },
             letters: &chosen.letters,
             tracks: &tracks,
@@ -170,16 +169,16 @@ impl Trial<'_, '_> {
 }
 
 /// Which signals a side reads, and which it writes.
-fn places_of(sought: Sought<'_>) -> Places {
+fn places_of(problem: &Problem) -> Places {
     let inputs = Span {
         first: 0,
-        count: sought.inputs,
+        count: problem.inputs,
     };
     let outputs = Span {
-        first: sought.inputs,
-        count: sought.outputs,
+        first: problem.inputs,
+        count: problem.outputs,
     };
-    match sought.side {
+    match problem.side {
         Side::System => Places {
             reads: inputs,
             writes: outputs,

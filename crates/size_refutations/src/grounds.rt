@@ -76,25 +76,6 @@ impl<'a> Ground<'a> {
         Ok(Ground { sought, search })
     }
 
-    /// What the logs are about.
-    pub fn sought(&self) -> Sought<'a>
-        ensures { ground_of result ≡ self.now }
-    {
-        let _search = &self.search;
-        self.sought
-    }
-
-    /// The side's automaton. None where it passes a limit.
-    pub fn automaton(&self) -> Option<&Automaton>
-        ensures some { IfSome result (λ automaton. IsAutomatonFor self.now automaton.now) }
-        ensures none { result ≡ None → HasNoAutomaton self.now }
-    {
-        match &self.search {
-            Some(search) => Some(&search.problem.automaton),
-            None => None,
-        }
-    }
-
     /// The line at which a log fails. Its base clauses are counted before any is made, and its entries are tested one after the other. It takes
     /// the memory of the base clauses of one size.
     pub fn log_line(&self, alloc: Global, log: &SizeLog) -> Result<Option<u64>, AllocError>
@@ -116,6 +97,17 @@ impl<'a> Ground<'a> {
         match self.sought.side {
             Side::System => self.sought.inputs,
             Side::Environment => self.sought.outputs,
+        }
+    }
+
+    /// The problem of the side's machines of one state, over its automaton. None where it has none.
+    pub fn problem(&self) -> Option<&Problem>
+        ensures some { IfSome result (λ problem. IsSizeOf self.now 1 problem.now) }
+        ensures none { result ≡ None → HasNoAutomaton self.now }
+    {
+        match &self.search {
+            Some(search) => Some(&search.problem),
+            None => None,
         }
     }
 

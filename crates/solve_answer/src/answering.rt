@@ -1,5 +1,5 @@
 //! The answer to a text.
-ghost use Rattle.std.specs.Prelude.{IfOk};
+ghost use Rattle.std.specs.Prelude.{IfOk, IfSome};
 ghost use Rattle.program_replies.specs.Statuses.{status_number};
 ghost use Rattle.solve_answer.specs.Answer.{SolveAnswers};
 ghost use Rattle.solve_answer.specs.Parts.{AnswersEach, CanBePlayed};
@@ -82,7 +82,7 @@ fn answer<R: Threads + Wait + Sync, L: Listener>(
     }
 }
 
-/// A strategy that the games give, or a small machine where nobody wins these.
+/// A strategy that the games give, or a small machine where they give nothing to print.
 fn find_any<R: Threads + Wait + Sync>(
     rt: &R,
     alloc: Global,
@@ -131,10 +131,21 @@ fn of_strategy<R: Threads + Wait + Sync, L: Listener>(
         document,
     };
     let longer = with_logs(rt, alloc, text, plain, below, refuting);
-    Ok(Solved {
-        reply: longer.reply.unwrap_or(reply),
-        told: Told::Found(side, longer.states, longer.refuted),
-    })
+    let told = Told::Found(side, longer.states, longer.refuted);
+    let reply = better_of(text, longer.reply, reply);
+    Ok(Solved { reply, told })
+}
+
+/// The better reply to a text, where there is one, or the one that there is.
+fn better_of(_text: &SolveText, better: Option<Reply>, reply: Reply) -> Reply
+    requires better { IfSome better (AnswersEach _text.now) }
+    requires other { AnswersEach _text.now reply }
+    ensures { AnswersEach _text.now result }
+{
+    match better {
+        Some(better) => better,
+        None => reply,
+    }
 }
 
 /// The document that says that neither was found, and why.

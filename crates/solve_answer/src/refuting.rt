@@ -3,7 +3,7 @@ ghost use Rattle.std.specs.Prelude.{IfOk};
 ghost use Rattle.solve_answer.specs.Parts.{CanBePlayed};
 
 use crate::finding::form_of;
-use letter_search::{Effort, Refutations, refute_sizes};
+use letter_search::{Effort, Ended, Refutations, refute_sizes};
 use letter_word::Side;
 use size_refutations::{Ground, Sought};
 use solve_ground::SolveText;
@@ -65,6 +65,12 @@ pub(crate) fn refuted<R: Threads + Wait + Sync>(
 ) -> Result<Refutations, AllocError>
     requires { CanBePlayed text.now }
 {
+    if known <= 1 {
+        return Ok(Refutations {
+            logs: Vec::new(alloc),
+            ended: Ended::AllRefuted,
+        });
+    }
     let ground = ground_of(alloc, text, side)?;
     Ok(refute_sizes(rt, alloc, &ground, known, refuting.effort()))
 }

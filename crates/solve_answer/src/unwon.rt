@@ -1,8 +1,8 @@
-//! The sizes of both sides, where neither wins its games.
+//! The sizes of a side, or of both, where the games give nothing to print.
 ghost use Rattle.solve_answer.specs.Parts.{CanBePlayed};
 
 use crate::finding::Strategy;
-use crate::refuting::{Refuting, ground_of};
+use crate::refuting::{Refuting, ground_of, refuted};
 use crate::shrinking::smaller_strategy;
 use crate::told::{nothing, refuting_end, so_many};
 use letter_search::{Ended, Refutations, Sizes};
@@ -30,7 +30,8 @@ struct Both {
 /// Greater than each size that is tried.
 const NO_SIZE: u32 = 17;
 
-/// Searches the sizes of both sides by turns, where neither wins its games. Where memory runs out, neither is found.
+/// Searches sizes where the games give nothing to print: those of both sides by turns, or those of the side that wins. Where memory runs out,
+/// neither is found.
 pub(crate) fn search_sizes<R: Threads + Wait + Sync>(
     rt: &R,
     alloc: Global,
@@ -40,17 +41,54 @@ pub(crate) fn search_sizes<R: Threads + Wait + Sync>(
 ) -> Found
     requires { CanBePlayed text.now }
 {
-    let Told::Neither(system, environment) = told else {
-        return Found::Without(told);
-    };
     if refuting.max == Some(0) {
         return Found::Without(told);
     }
-    match searched(rt, alloc, text, system.why, environment.why, refuting) {
+    match told {
+        Told::Neither(system, environment) => {
+            of_both(rt, alloc, text, system.why, environment.why, refuting)
+        }
+        Told::Withheld(side, _) => match of_winner(rt, alloc, text, side, refuting) {
+            Ok(Some(found)) => found,
+            _ => Found::Without(told),
+        },
+        _ => Found::Without(told),
+    }
+}
+
+/// The sizes of the side that wins, whose circuit isn't printed.
+fn of_winner<R: Threads + Wait + Sync>(
+    rt: &R,
+    alloc: Global,
+    text: &SolveText,
+    side: Side,
+    refuting: Refuting,
+) -> Result<Option<Found>, AllocError>
+    requires { CanBePlayed text.now }
+{
+    let found = refuted(rt, alloc, text, side, NO_SIZE, refuting)?;
+    match smaller_strategy(alloc, text, side, &found.ended)? {
+        Some(strategy) => Ok(Some(Found::Of(strategy, Some(all_below(found))))),
+        None => Ok(None),
+    }
+}
+
+/// The sizes of both sides, neither of which wins.
+fn of_both<R: Threads + Wait + Sync>(
+    rt: &R,
+    alloc: Global,
+    text: &SolveText,
+    system: NotWon,
+    environment: NotWon,
+    refuting: Refuting,
+) -> Found
+    requires { CanBePlayed text.now }
+{
+    match searched(rt, alloc, text, system, environment, refuting) {
         Ok(found) => found,
         Err(_) => {
             let lost = nothing(RefutingEnd::NoMemory);
-            Found::Without(neither(system.why, lost, environment.why, lost))
+            Found::Without(neither(system, lost, environment, lost))
         }
     }
 }

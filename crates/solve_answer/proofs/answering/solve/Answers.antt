@@ -9,13 +9,13 @@ use Rattle.solve_answer.proofs.Answered.{refused_answers}
 use Rattle.solve_answer.proofs.answering.solve.Goals as goal
 
 pub returns-in-Ok : goal.returns-in-Ok
-returns-in-Ok c = IfOk-weaker c.answer.result
+returns-in-Ok g c = IfOk-weaker c.answer.result
     (λ s. AnswersEach c.in-Ok.known s.reply)
     (λ s. SolveAnswers c.args.text.now c.args.given s.reply.bytes.items (status_number s.reply.status))
     (λ s each. each c.args.text.now c.args.given c.in-Ok.ensures.text) c.answer.ensures
 
 pub returns-in_ok-refusal-in-Err : goal.returns-in_ok-refusal-in-Err
-returns-in_ok-refusal-in-Err c =
+returns-in_ok-refusal-in-Err g c =
     let reply = c.in_ok-refusal-in-Err.field-0 in
     refused_answers c.args.text.now c.args.given reply.bytes.items _
     (refused_by (IsSolveFault c.args.text.now c.args.given) c.in-Err.fault reply.bytes.items reply.status

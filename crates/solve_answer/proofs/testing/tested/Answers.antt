@@ -1,7 +1,7 @@
 use Rattle.std.proofs.Common.{IfOk, subst}
 use Rattle.solve_check.specs.Checked.{IsAcceptedAs, IsMeantOf}
 use Rattle.solve_answer.proofs.Answered.{accepted_answers}
-use Rattle.solve_answer.proofs.answering.tested.Goals as goal
+use Rattle.solve_answer.proofs.testing.tested.Goals as goal
 
 pub returns-in-Accepted : goal.returns-in-Accepted
 returns-in-Accepted c = λ text given is.
