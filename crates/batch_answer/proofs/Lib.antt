@@ -1,4 +1,4 @@
 mod ListLemmas
-mod ReplyLemmas
+pub mod ReplyLemmas
 mod WholeLines
 mod ReadBack

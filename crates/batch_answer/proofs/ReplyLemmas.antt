@@ -45,7 +45,7 @@ pub record TextAt (texts : List TakenText) (k : ℕ) (file : List ℕ) : Type 0 
   pub at : slice_get texts k ≡ Some text
   pub is_text : IsText text file
 
-text_at : (texts : List TakenText) (files : List (List ℕ)) → AreTexts texts files → (k : ℕ) (file : List ℕ) → slice_get files k ≡ Some file → TextAt texts k file
+pub text_at : (texts : List TakenText) (files : List (List ℕ)) → AreTexts texts files → (k : ℕ) (file : List ℕ) → slice_get files k ≡ Some file → TextAt texts k file
 text_at [] [] are k file found = absurd (none-some file found)
 text_at [] (f ∷ files) are k file found = absurd are
 text_at (t ∷ texts) [] are k file found = absurd are
@@ -54,7 +54,7 @@ text_at (t ∷ texts) (f ∷ files) are (suc k) file found =
     let more = text_at texts files are.1 k file found in
     record { text = more.text; at = more.at; is_text = more.is_text }
 
-as_many : (texts : List TakenText) (files : List (List ℕ)) → AreTexts texts files → length texts ≡ length files
+pub as_many : (texts : List TakenText) (files : List (List ℕ)) → AreTexts texts files → length texts ≡ length files
 as_many [] [] are = refl
 as_many [] (f ∷ files) are = absurd are
 as_many (t ∷ texts) [] are = absurd are
@@ -66,14 +66,14 @@ pub record ReplyAt (replies : List Reply) (k : ℕ) (part : Part) : Type 0 where
   pub at : slice_get replies k ≡ Some reply
   pub is : part_of reply ≡ part
 
-reply_at : (replies : List Reply) (k : ℕ) (part : Part) → slice_get (map part_of replies) k ≡ Some part → ReplyAt replies k part
+pub reply_at : (replies : List Reply) (k : ℕ) (part : Part) → slice_get (map part_of replies) k ≡ Some part → ReplyAt replies k part
 reply_at [] k part found = absurd (none-some part found)
 reply_at (r ∷ replies) zero part found = record { reply = r; at = refl; is = same_Some (part_of r) part found }
 reply_at (r ∷ replies) (suc k) part found =
     let more = reply_at replies k part found in
     record { reply = more.reply; at = more.at; is = more.is }
 
-parts_many : (replies : List Reply) → length (map part_of replies) ≡ length replies
+pub parts_many : (replies : List Reply) → length (map part_of replies) ≡ length replies
 parts_many [] = refl
 parts_many (r ∷ replies) = ap suc (parts_many replies)
 

@@ -15,4 +15,5 @@ mod texts;
 pub use answering::batch_answer;
 pub use file_name::FileName;
 pub use list::{ListFault, read_list};
+pub use parts::batch_text;
 pub use texts::TakenText;

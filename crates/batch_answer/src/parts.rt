@@ -8,7 +8,7 @@ use std::alloc::{AllocError, Global};
 use text_base::push_number;
 
 /// A part for each reply, under the name of its text, and the last line.
-pub(crate) fn batch_text(
+pub fn batch_text(
     alloc: Global,
     names: &[FileName],
     replies: &[Reply],

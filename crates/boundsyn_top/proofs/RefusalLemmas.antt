@@ -6,7 +6,7 @@ use Rattle.spec_faults.specs.declared.code.SpecCode.{SpecCode}
 use Rattle.outside_edge.specs.Files.{Files, bytes_under}
 use Rattle.program_replies.specs.Lines.{line_refusal, refusal_line}
 use Rattle.program_replies.proofs.RefusalLemmas.{one_refusal}
-use Rattle.program_words.specs.Settings.{Asked, batch, bench, check, core, expand, gen, lasso, solve, synth, verify}
+use Rattle.program_words.specs.Settings.{Asked, EachText, batch, bench, check, core, expand, gen, lasso, solve, synth, verify}
 use Rattle.tlsf_expand.specs.FlatText.{FlatText}
 use Rattle.flat_text.specs.FlatOf.{IsFlatOf}
 use Rattle.spec_problems.specs.OfText.{IsFirstFault}
@@ -86,10 +86,10 @@ module _ (problems : ProblemsOfTextsAreDetermined) where
         absurd (not_many text kind told.flat other told.is_flat is_other told.few many)
 
 -- nothing but its line answers a list with a bad line
-bad_list : ListsAreDetermined → (told : Option Files) (lines : List ℕ) (settings : Settings) (bytes : List ℕ) (status n : ℕ) →
-    ListAnswers told lines settings bytes status → IsFirstBadLineOfList lines n → (status ≡ 40) × (bytes ≡ line_refusal n)
-bad_list law told lines settings bytes status n (batches.bad_line m ended first is) bad = (ended, is ∙ ap line_refusal (law.one_line lines m n first bad))
-bad_list law told lines settings bytes status n (batches.answered names texts ended is_list are answer) bad = absurd (law.apart lines names n is_list bad)
+bad_list : ListsAreDetermined → (told : Option Files) (lines : List ℕ) (wanted : EachText) (bytes : List ℕ) (status n : ℕ) →
+    ListAnswers told lines wanted bytes status → IsFirstBadLineOfList lines n → (status ≡ 40) × (bytes ≡ line_refusal n)
+bad_list law told lines wanted bytes status n (batches.bad_line m ended first is) bad = (ended, is ∙ ap line_refusal (law.one_line lines m n first bad))
+bad_list law told lines wanted bytes status n (batches.answered names texts ended is_list are answer) bad = absurd (law.apart lines names n is_list bad)
 
 module _ (problems : ProblemsOfTextsAreDetermined) (checks : ChecksAreDetermined) (expansions : ExpandAnswersAreDue) (truths : LassoAnswersAreDue)
     (verifications : VerificationsAreDetermined) (flats : FlatTextsAreDetermined) (faults : CoreFaultsAreDetermined) (lists : ListsAreDetermined)

@@ -12,7 +12,7 @@ use Rattle.program_replies.specs.declared.replies.Status.{Status}
 use Rattle.program_replies.specs.declared.replies.Status.TheVariants.{CannotRead, Done, WordsRefused}
 use Rattle.program_replies.specs.Statuses.{status_number}
 use Rattle.program_replies.specs.Lines.{refusal_line}
-use Rattle.program_words.specs.Settings.{Asked, Refutations, settings_of, batch, bench, check, core, expand, lasso, solve, synth, verify}
+use Rattle.program_words.specs.Settings.{Asked, EachText, Refutations, settings_of, batch, bench, check, core, expand, lasso, solve, synth, verify}
 use Rattle.cert_text.specs.declared.documents.Verdict.{Verdict}
 use Rattle.cert_text.specs.declared.documents.Verdict.TheVariants as verdict
 use Rattle.bench_answer.specs.Bench.{BenchAnswer, HasStatus}
@@ -40,7 +40,6 @@ use Rattle.core_answer.specs.Core as cores
 use Rattle.solve_ground.specs.SolveText as solving
 use Rattle.solve_answer.specs.Answer.{SolveAnswers}
 use Rattle.solve_answer.specs.Answer as solved
-use Rattle.batch_answer.specs.Batch.{BatchAnswers}
 use Rattle.batch_answer.specs.Laws.{ListsAreDetermined}
 use Rattle.batch_answer.specs.ListText.{IsFirstBadLineOfList, IsList}
 use Rattle.batch_answer.specs.declared.list.ListFault.{ListFault}
@@ -55,7 +54,7 @@ use Rattle.boundsyn_top.specs.Output.{IsExpansion, IsWholeOf, bytes_of, status_o
 use Rattle.boundsyn_top.specs.Files as file
 use Rattle.boundsyn_top.specs.Files.{AreOfFile, HoldsOfFile, IsUntaken, RepliesByFile}
 use Rattle.boundsyn_top.specs.Commands.{MayAnswer, statuses_of}
-use Rattle.boundsyn_top.specs.Batch.{AreFilesOf, IsBadList, IsListRefusal, IsListed, ListAnswers, OneRose, RepliesByLines, RepliesByNames}
+use Rattle.boundsyn_top.specs.Batch.{AreFilesOf, IsBadList, IsListRefusal, IsListed, ListAnswers, OneRose, RepliesByLines, RepliesByNames, TextsAnswers}
 use Rattle.boundsyn_top.specs.Batch as batches
 use Rattle.boundsyn_top.specs.Faults.{HasNone, TakesCertificates}
 use Rattle.boundsyn_top.specs.Takes.{GoesOn, TakesBehind, TakesFile, behind, first, first_file}
@@ -131,7 +130,7 @@ verify_goes_on (Some files) spec circuit text are none = record {
 }
 
 -- a name of a list is taken, where the list has no bad line
-pub listed_taken : (told : Option Files) (list : List ℕ) (wanted : Settings) (lines name : List ℕ) → AreOfFile told list lines → IsListed lines name →
+pub listed_taken : (told : Option Files) (list : List ℕ) (wanted : EachText) (lines name : List ℕ) → AreOfFile told list lines → IsListed lines name →
     (IsBadList lines → ⊥) → TakesBehind told (batch list wanted) name
 listed_taken None list wanted lines name are listed good = (tt, record { unless = tt })
 listed_taken (Some files) list wanted lines name are listed good =
@@ -213,10 +212,10 @@ solve_status text kind bytes status (solved.realizable n is prints) = (1, omega 
 solve_status text kind bytes status (solved.unrealizable n is prints) = (2, omega arith, sym is)
 solve_status text kind bytes status (solved.unknown is prints) = (3, omega arith, sym is)
 
-list_status : (told : Option Files) (lines : List ℕ) (settings : Settings) (bytes : List ℕ) (status : ℕ) →
-    ListAnswers told lines settings bytes status → Contains (0 ∷ 40 ∷ []) status
-list_status told lines settings bytes status (batches.bad_line n is bad line) = (1, omega arith, sym is)
-list_status told lines settings bytes status (batches.answered names texts is list are answer) = (0, omega arith, sym is)
+list_status : (told : Option Files) (lines : List ℕ) (wanted : EachText) (bytes : List ℕ) (status : ℕ) →
+    ListAnswers told lines wanted bytes status → Contains (0 ∷ 40 ∷ []) status
+list_status told lines wanted bytes status (batches.bad_line n is bad line) = (1, omega arith, sym is)
+list_status told lines wanted bytes status (batches.answered names texts is list are answer) = (0, omega arith, sym is)
 
 module _ (step : ShelfStep) where
   -- the rest of the step, behind a moment in between
@@ -411,11 +410,11 @@ module _ (step : ShelfStep) where
   -- == batch ==
 
   -- the list couldn't be read
-  pub list_unread : (list : List ℕ) (wanted : Settings) (bytes : List ℕ) (status : Status) → Rose (step.before list) (step.after list) →
+  pub list_unread : (list : List ℕ) (wanted : EachText) (bytes : List ℕ) (status : Status) → Rose (step.before list) (step.after list) →
       bytes ≡ codes "cannot read\n" → status ≡ CannotRead → RepliesTo step (batch list wanted) bytes (status_number status)
   list_unread list wanted bytes status rose is ended = rw ended (unread list (first (0, omega arith, refl)) rose refl is)
 
-  by_lines_here : (middle : List ℕ → ℕ) (list : List ℕ) (wanted : Settings) (lines bytes : List ℕ) (status : ℕ) → AreOfFile step.files list lines →
+  by_lines_here : (middle : List ℕ → ℕ) (list : List ℕ) (wanted : EachText) (lines bytes : List ℕ) (status : ℕ) → AreOfFile step.files list lines →
       ((any : List ℕ) → step.before any ≤ middle any) → RepliesByLines (rest_from step.files middle) lines wanted bytes status →
       RepliesTo step (batch list wanted) bytes status
   by_lines_here middle list wanted lines bytes status are more (batches.text_rose name listed good rose ended is) =
@@ -425,31 +424,31 @@ module _ (step : ShelfStep) where
       replies (batch list wanted) bytes status (list_status step.files lines wanted bytes status answer)
       (record { bytes = lines; are_told = are; holds = answer })
 
-  pub by_lines : (told : Option Files) (middle : List ℕ → ℕ) (list : List ℕ) (wanted : Settings) (lines bytes : List ℕ) (status : ℕ) → told ≡ step.files →
+  pub by_lines : (told : Option Files) (middle : List ℕ → ℕ) (list : List ℕ) (wanted : EachText) (lines bytes : List ℕ) (status : ℕ) → told ≡ step.files →
       AreOfFile step.files list lines → ((any : List ℕ) → step.before any ≤ middle any) →
       RepliesByLines (rest_from told middle) lines wanted bytes status → RepliesTo step (batch list wanted) bytes status
   by_lines told middle list wanted lines bytes status same are more replied =
       by_lines_here middle list wanted lines bytes status are more (subst (λ o. RepliesByLines (rest_from o middle) lines wanted bytes status) same replied)
 
   -- the reply to texts is one to the list that names them
-  pub by_names : ListsAreDetermined → (lines : List ℕ) (names : List (List ℕ)) (settings : Settings) (bytes : List ℕ) (status : ℕ) → IsList lines names →
-      RepliesByNames step names settings bytes status → RepliesByLines step lines settings bytes status
-  by_names law lines names settings bytes status is_list (batches.one_rose one ended is) =
+  pub by_names : ListsAreDetermined → (lines : List ℕ) (names : List (List ℕ)) (wanted : EachText) (bytes : List ℕ) (status : ℕ) → IsList lines names →
+      RepliesByNames step names wanted bytes status → RepliesByLines step lines wanted bytes status
+  by_names law lines names wanted bytes status is_list (batches.one_rose one ended is) =
       batches.text_rose one.name (record { names = names; is_list = is_list; among = one.among })
       (λ bad. law.apart lines names bad.line is_list bad.bad) one.rose ended is
-  by_names law lines names settings bytes status is_list (batches.of_texts texts ended are answer) =
+  by_names law lines names wanted bytes status is_list (batches.of_texts texts ended are answer) =
       batches.of_lines (batches.answered names texts ended is_list are answer)
 
-  pub list_refused : (lines : List ℕ) (settings : Settings) (fault : ListFault) (bytes : List ℕ) (status : Status) →
+  pub list_refused : (lines : List ℕ) (wanted : EachText) (fault : ListFault) (bytes : List ℕ) (status : Status) →
       ((n : ℕ) → fault ≡ faults.BadLine n → IsFirstBadLineOfList lines n) → IsListRefusal fault bytes status →
-      RepliesByLines step lines settings bytes (status_number status)
-  list_refused lines settings (faults.BadLine n) bytes status bad is = rw is.1 (batches.of_lines (batches.bad_line n refl (bad n refl) is.0))
-  list_refused lines settings faults.NoMemory bytes status bad is = absurd is
+      RepliesByLines step lines wanted bytes (status_number status)
+  list_refused lines wanted (faults.BadLine n) bytes status bad is = rw is.1 (batches.of_lines (batches.bad_line n refl (bad n refl) is.0))
+  list_refused lines wanted faults.NoMemory bytes status bad is = absurd is
 
-  pub names_unread : (names : List (List ℕ)) (settings : Settings) (bytes : List ℕ) (status : Status) → OneRose step.before step.after names →
-      bytes ≡ codes "cannot read\n" → status ≡ CannotRead → RepliesByNames step names settings bytes (status_number status)
-  names_unread names settings bytes status one is ended = rw ended (batches.one_rose one refl is)
+  pub names_unread : (names : List (List ℕ)) (wanted : EachText) (bytes : List ℕ) (status : Status) → OneRose step.before step.after names →
+      bytes ≡ codes "cannot read\n" → status ≡ CannotRead → RepliesByNames step names wanted bytes (status_number status)
+  names_unread names wanted bytes status one is ended = rw ended (batches.one_rose one refl is)
 
-  pub texts_answered : (names texts : List (List ℕ)) (settings : Settings) (bytes : List ℕ) (status : Status) → AreFilesOf step.files names texts →
-      BatchAnswers names texts settings bytes → status ≡ Done → RepliesByNames step names settings bytes (status_number status)
-  texts_answered names texts settings bytes status are answer done = rw done (batches.of_texts texts refl are answer)
+  pub texts_answered : (names texts : List (List ℕ)) (wanted : EachText) (bytes : List ℕ) (status : Status) → AreFilesOf step.files names texts →
+      TextsAnswers names texts wanted bytes → status ≡ Done → RepliesByNames step names wanted bytes (status_number status)
+  texts_answered names texts wanted bytes status are answer done = rw done (batches.of_texts texts refl are answer)

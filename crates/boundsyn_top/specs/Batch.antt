@@ -1,14 +1,18 @@
 -- The answer to a list of texts, and what is taken for it (this project's own).
-use Rattle.std.specs.Prelude.{◌≡◌, ℕ, Option, List, IfSome, Contains, codes, map}
+use Rattle.std.specs.Prelude.{◌≡◌, ◌≤◌, ℕ, Option, List, IfSome, Contains, codes, map}
 use Rattle.outside_edge.specs.Faults.{Rose}
 use Rattle.outside_edge.specs.Files.{Files, bytes_under}
 use Rattle.program_replies.specs.declared.replies.Status.{Status}
 use Rattle.program_replies.specs.declared.replies.Status.TheVariants.{LineRefused}
 use Rattle.program_replies.specs.Lines.{line_refusal}
-use Rattle.synth_engine.specs.declared.settings.Settings.{Settings}
 use Rattle.batch_answer.specs.ListText.{IsFirstBadLineOfList, IsList}
 use Rattle.batch_answer.specs.Taken.{IsText}
 use Rattle.batch_answer.specs.Batch.{BatchAnswers}
+use Rattle.program_words.specs.Settings.{EachText, searched, solved}
+use Rattle.solve_batch.specs.SolvedBatch.{SolvedBatchAnswers}
+use Rattle.boundsyn_top.specs.declared.batches.ListWish.{ListWish}
+use Rattle.boundsyn_top.specs.declared.batches.ListWish.TheVariants as wish
+use Rattle.boundsyn_top.specs.Solving.{refutations_by}
 use Rattle.batch_answer.specs.declared.list.ListFault.{ListFault}
 use Rattle.batch_answer.specs.declared.list.ListFault.TheVariants as fault
 use Rattle.batch_answer.specs.declared.texts.TakenText.{TakenText}
@@ -51,20 +55,35 @@ pub record OneRose (before after : List ℕ → ℕ) (names : List (List ℕ)) :
 
 -- == the answer ==
 
+-- what is done with each text, as the code has it
+abbrev pub wished : ListWish → EachText
+wished (wish.Search settings) = searched settings
+wished (wish.Solve kind refuting) = solved kind (refutations_by refuting)
+
+-- there is a worker
+abbrev pub HasWorkers : ListWish → Type 0
+HasWorkers (wish.Search settings) = 1 ≤ settings.workers
+HasWorkers (wish.Solve kind refuting) = 1 ≤ refuting.workers
+
+-- the bytes answer the texts of these names, each by what is done with it
+abbrev pub TextsAnswers : List (List ℕ) → List (List ℕ) → EachText → List ℕ → Type 0
+TextsAnswers names texts (searched settings) bytes = BatchAnswers names texts settings bytes
+TextsAnswers names texts (solved kind refutations) bytes = SolvedBatchAnswers names texts kind bytes
+
 -- The bytes and the status that answer a list: the line of its first bad line, or the answers to the texts that it names.
-pub data ListAnswers (told : Option Files) (lines : List ℕ) (settings : Settings) (bytes : List ℕ) (status : ℕ) : Type 0 where
-  bad_line : (n : ℕ) → status ≡ 40 → IsFirstBadLineOfList lines n → bytes ≡ line_refusal n → ListAnswers told lines settings bytes status
-  answered : (names texts : List (List ℕ)) → status ≡ 0 → IsList lines names → AreFilesOf told names texts → BatchAnswers names texts settings bytes
-      → ListAnswers told lines settings bytes status
+pub data ListAnswers (told : Option Files) (lines : List ℕ) (wanted : EachText) (bytes : List ℕ) (status : ℕ) : Type 0 where
+  bad_line : (n : ℕ) → status ≡ 40 → IsFirstBadLineOfList lines n → bytes ≡ line_refusal n → ListAnswers told lines wanted bytes status
+  answered : (names texts : List (List ℕ)) → status ≡ 0 → IsList lines names → AreFilesOf told names texts → TextsAnswers names texts wanted bytes
+      → ListAnswers told lines wanted bytes status
 
 -- The reply to texts of these names: the line where one of their counts of faults rose, or their answers.
-pub data RepliesByNames (step : ShelfStep) (names : List (List ℕ)) (settings : Settings) (bytes : List ℕ) (status : ℕ) : Type 0 where
-  one_rose : OneRose step.before step.after names → status ≡ 3 → bytes ≡ codes "cannot read\n" → RepliesByNames step names settings bytes status
-  of_texts : (texts : List (List ℕ)) → status ≡ 0 → AreFilesOf step.files names texts → BatchAnswers names texts settings bytes
-      → RepliesByNames step names settings bytes status
+pub data RepliesByNames (step : ShelfStep) (names : List (List ℕ)) (wanted : EachText) (bytes : List ℕ) (status : ℕ) : Type 0 where
+  one_rose : OneRose step.before step.after names → status ≡ 3 → bytes ≡ codes "cannot read\n" → RepliesByNames step names wanted bytes status
+  of_texts : (texts : List (List ℕ)) → status ≡ 0 → AreFilesOf step.files names texts → TextsAnswers names texts wanted bytes
+      → RepliesByNames step names wanted bytes status
 
 -- The reply to a list: the line where the count of faults of a text of it rose, or what answers it.
-pub data RepliesByLines (step : ShelfStep) (lines : List ℕ) (settings : Settings) (bytes : List ℕ) (status : ℕ) : Type 0 where
+pub data RepliesByLines (step : ShelfStep) (lines : List ℕ) (wanted : EachText) (bytes : List ℕ) (status : ℕ) : Type 0 where
   text_rose : (name : List ℕ) → IsListed lines name → (IsBadList lines → ⊥) → Rose (step.before name) (step.after name) → status ≡ 3 → bytes ≡ codes "cannot read\n"
-      → RepliesByLines step lines settings bytes status
-  of_lines : ListAnswers step.files lines settings bytes status → RepliesByLines step lines settings bytes status
+      → RepliesByLines step lines wanted bytes status
+  of_lines : ListAnswers step.files lines wanted bytes status → RepliesByLines step lines wanted bytes status

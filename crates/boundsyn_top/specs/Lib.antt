@@ -1,10 +1,10 @@
 pub mod Output
 pub mod Steps
 pub mod Files
+pub mod Solving
 pub mod Batch
 pub mod Commands
 pub mod Faults
 pub mod Takes
 pub mod Run
-pub mod Solving
 pub mod Printed

@@ -5,7 +5,8 @@ ghost use Rattle.outside_edge.specs.Faults.{Rose};
 ghost use Rattle.program_replies.specs.Statuses.{status_number};
 ghost use Rattle.program_words.specs.Settings.{batch};
 ghost use Rattle.batch_answer.specs.ListText.{IsList};
-ghost use Rattle.boundsyn_top.specs.Batch.{IsBadList, IsListRefusal, IsListed, IsTakenAs, OneRose, RepliesByLines, RepliesByNames};
+ghost use Rattle.batch_answer.specs.Taken.{AreTexts};
+ghost use Rattle.boundsyn_top.specs.Batch.{HasWorkers, IsBadList, IsListRefusal, IsListed, IsTakenAs, OneRose, RepliesByLines, RepliesByNames, TextsAnswers, wished};
 ghost use Rattle.boundsyn_top.specs.Run.{IsOutputOf};
 ghost use Rattle.boundsyn_top.specs.Steps.{step_of};
 ghost use Rattle.boundsyn_top.specs.Takes.{TakesFile};
@@ -14,12 +15,24 @@ use crate::files::{LONGEST_TEXT, cannot_read, take_whole};
 use crate::output::{Output, whole_output};
 use batch_answer::laws::lists_are_determined;
 use batch_answer::{FileName, ListFault, TakenText, batch_answer, read_list};
+use letter_word::Kind;
 use outside_edge::{Gate, Shelf, ShelfFault};
-use program_replies::{Reply, refused_at_line};
+use program_replies::{Reply, Status, refused_at_line};
+use solve_answer::Refuting;
+use solve_batch::solve_batch;
 use std::alloc::{AllocError, Global};
 use std::sync::Wait;
 use std::thread::Threads;
 use synth_engine::Settings;
+
+/// What is done with each text of a list.
+#[derive(Clone, Copy)]
+pub enum ListWish {
+    /// It is searched, as `synth` does.
+    Search(Settings),
+    /// It is solved, with machines of a kind in place of its own if one is given.
+    Solve(Option<Kind>, Refuting),
+}
 
 /// Answers the texts that a list names. They are taken only where the list has no bad line, and all before the first is answered.
 pub(crate) fn answer_list<R, H, G>(
@@ -27,17 +40,17 @@ pub(crate) fn answer_list<R, H, G>(
     alloc: Global,
     shelf: &mut H,
     list: &str,
-    wanted: Settings,
+    wanted: ListWish,
     gate: &G,
 ) -> Result<Output, AllocError>
 where
     R: Threads + Wait + Sync,
     H: Shelf,
     G: Gate + Sync,
-    requires workers { 1 ≤ wanted.workers }
-    ensures output { IfOk result (IsOutputOf (step_of H.files H.faults shelf.old shelf.new) (batch list.now wanted)) }
+    requires workers { HasWorkers wanted }
+    ensures output { IfOk result (IsOutputOf (step_of H.files H.faults shelf.old shelf.new) (batch list.now (wished wanted))) }
     ensures files { H.files shelf.new ≡ H.files shelf.old }
-    ensures other_files { (name : List ℕ) → ¬ TakesFile (H.files shelf.old) (batch list.now wanted) name → H.faults shelf.new name ≡ H.faults shelf.old name }
+    ensures other_files { (name : List ℕ) → ¬ TakesFile (H.files shelf.old) (batch list.now (wished wanted)) name → H.faults shelf.new name ≡ H.faults shelf.old name }
 {
     match take_whole(alloc, shelf, list)? {
         Some(lines) => whole_output(answer_lines(rt, alloc, shelf, &lines, wanted, gate)),
@@ -51,16 +64,16 @@ fn answer_lines<R, H, G>(
     alloc: Global,
     shelf: &mut H,
     lines: &[u8],
-    wanted: Settings,
+    wanted: ListWish,
     gate: &G,
 ) -> Result<Reply, AllocError>
 where
     R: Threads + Wait + Sync,
     H: Shelf,
     G: Gate + Sync,
-    requires workers { 1 ≤ wanted.workers }
+    requires workers { HasWorkers wanted }
     ensures reply { IfOk result (λ r. RepliesByLines (step_of H.files H.faults shelf.old shelf.new)
-        lines.now wanted r.bytes.items (status_number r.status)) }
+        lines.now (wished wanted) r.bytes.items (status_number r.status)) }
     ensures files { H.files shelf.new ≡ H.files shelf.old }
     ensures other_files { (name : List ℕ) → ¬ (IsListed lines.now name × ¬ IsBadList lines.now) → H.faults shelf.new name ≡ H.faults shelf.old name }
 {
@@ -87,7 +100,7 @@ fn answer_texts<R, H, G>(
     alloc: Global,
     shelf: &mut H,
     names: &[FileName],
-    wanted: Settings,
+    wanted: ListWish,
     gate: &G,
 ) -> Result<Reply, AllocError>
 where
@@ -95,15 +108,41 @@ where
     H: Shelf,
     G: Gate + Sync,
     requires few { length names.now ≤ 64 }
-    requires workers { 1 ≤ wanted.workers }
+    requires workers { HasWorkers wanted }
     ensures reply { IfOk result (λ r. RepliesByNames (step_of H.files H.faults shelf.old shelf.new)
-        names.now wanted r.bytes.items (status_number r.status)) }
+        names.now (wished wanted) r.bytes.items (status_number r.status)) }
     ensures files { H.files shelf.new ≡ H.files shelf.old }
     ensures other_files { (name : List ℕ) → ¬ Contains names.now name → H.faults shelf.new name ≡ H.faults shelf.old name }
 {
     match take_texts(alloc, shelf, names)? {
-        Some(texts) => batch_answer(rt, alloc, names, &texts, wanted, gate),
+        Some(texts) => answer_taken(rt, alloc, names, &texts, wanted, gate),
         None => cannot_read(alloc),
+    }
+}
+
+/// Answers the texts of these names.
+fn answer_taken<R, G>(
+    rt: &R,
+    alloc: Global,
+    names: &[FileName],
+    texts: &[TakenText],
+    wanted: ListWish,
+    gate: &G,
+) -> Result<Reply, AllocError>
+where
+    R: Threads + Wait + Sync,
+    G: Gate + Sync,
+    requires one_each { length names.now ≡ length texts.now }
+    requires few { length texts.now < 2 ^ 32 }
+    requires workers { HasWorkers wanted }
+    ensures done { IfOk result (λ r. r.status ≡ Status.Done) }
+    ensures answers { (files : List (List ℕ)) → AreTexts texts.now files → IfOk result (λ r. TextsAnswers names.now files (wished wanted) r.bytes.items) }
+{
+    match wanted {
+        ListWish::Search(settings) => batch_answer(rt, alloc, names, texts, settings, gate),
+        ListWish::Solve(kind, refuting) => solve_batch(
+            rt, alloc, names, texts, kind, refuting, gate,
+        ),
     }
 }
 

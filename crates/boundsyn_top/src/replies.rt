@@ -6,7 +6,7 @@ ghost use Rattle.boundsyn_top.specs.Steps.{step_of};
 ghost use Rattle.boundsyn_top.specs.Takes.{TakesFile};
 
 use crate::arbiters::{generate, search_arbiter};
-use crate::batches::answer_list;
+use crate::batches::{ListWish, answer_list};
 use crate::certificates::check_certificate;
 use crate::circuits::verify_circuit;
 use crate::cores::find_core;
@@ -93,7 +93,28 @@ where
         Settings::Batch {
             list,
             search: wanted,
-        } => answer_list(rt, alloc, shelf, list, wanted, gate),
+        } => answer_list(rt, alloc, shelf, list, ListWish::Search(wanted), gate),
+        Settings::SolveList {
+            list,
+            kind,
+            max,
+            entries,
+            workers,
+        } => {
+            let refuting = Refuting {
+                max,
+                entries,
+                workers,
+            };
+            answer_list(
+                rt,
+                alloc,
+                shelf,
+                list,
+                ListWish::Solve(kind, refuting),
+                gate,
+            )
+        },
         Settings::Solve {
             spec,
             kind,

@@ -13,6 +13,7 @@ const PAGE: &str = "  solve SPEC           a tested controller of any size, or w
   verify SPEC CIRCUIT  test an annotated circuit of another maker
   core SPEC            guarantees that can't be met together
   batch LIST           `synth` on each text of a list
+  batch --solve LIST   `solve` on each text of a list
 options behind these words, and what holds without them:
   --max N              most states, 1 to 8 (4); in batch 1 to 4 (4); in solve
                        sizes to refute, 0 to 16 (those that are soon refuted)

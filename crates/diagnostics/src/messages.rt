@@ -8,7 +8,7 @@ use crate::unknown::push_unknown;
 use crate::wrong_words::push_wrong_words;
 use letter_word::Side;
 use program_replies::Status;
-use program_words::read_wishes;
+use program_words::{Solving, read_wishes};
 use shown_text::first_messages;
 use std::alloc::{AllocError, Global};
 use std::fmt::Write;
@@ -261,10 +261,46 @@ fn push_texts(
     out: &mut String,
 ) -> Result<(), AllocError> {
     let texts = seen.files.files().iter().skip(1);
+    let solving = read_wishes(alloc, seen.words).solving;
     for (file, answer) in texts.zip(seen.heard.texts()) {
-        push_text(alloc, source(file), answer, is_verbose, out)?;
+        let file = source(file);
+        match solving {
+            Some(solving) => push_solved_text(alloc, file, answer, solving, is_verbose, out)?,
+            None => push_text(alloc, file, answer, is_verbose, out)?,
+        }
     }
     Ok(())
+}
+
+/// Appends what is said of a text of a list whose texts are solved.
+fn push_solved_text(
+    alloc: Global,
+    file: Source<'_>,
+    answer: &Answer,
+    solving: Solving,
+    is_verbose: bool,
+    out: &mut String,
+) -> Result<(), AllocError> {
+    if let Some(fault) = answer.fault {
+        return push_text_fault(alloc, file, fault, RefusedBy::Solve, out);
+    }
+    let solved = Solved {
+        name: file.name,
+        answer,
+        solving: Some(solving),
+        command: &["boundsyn", "solve", file.name],
+    };
+    match answer.verdict {
+        Some(Verdict::Unknown) => push_unsolved(solved, out)?,
+        Some(Verdict::Realizable(states)) if is_verbose => {
+            push_solved(solved, Side::System, states, out)?
+        },
+        Some(Verdict::Unrealizable(states)) if is_verbose => {
+            push_solved(solved, Side::Environment, states, out)?
+        },
+        _ => {},
+    }
+    push_lint(alloc, file, is_verbose, out)
 }
 
 fn push_text(

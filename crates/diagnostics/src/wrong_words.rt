@@ -1,7 +1,7 @@
 use crate::VERSION;
 use crate::help::{push_forms, push_help};
 use crate::nearest::Nearest;
-use program_words::{COMMANDS, Command, Part, Values, command_of};
+use program_words::{COMMANDS, Command, Part, SOLVE_LIST, SOLVE_LIST_WORDS, Values, command_of};
 use shown_text::push_shown;
 use std::alloc::{AllocError, Global};
 use std::fmt::Write;
@@ -30,7 +30,7 @@ pub(crate) fn push_wrong_words(
     words: &[String],
     out: &mut String,
 ) -> Result<(), AllocError> {
-    let command = words.get(1).and_then(|word| command_of(word.as_str()));
+    let command = command_in(words);
     match wrong_in(command, words) {
         Wrong::Help => return push_help(out),
         Wrong::Version => return writeln!(out, "boundsyn {VERSION}"),
@@ -48,6 +48,26 @@ pub(crate) fn push_wrong_words(
             out.push('\n')
         },
         None => push_forms(out),
+    }
+}
+
+/// The command that the words name.
+fn command_in(words: &[String]) -> Option<Command> {
+    let command = command_of(words.get(1)?.as_str())?;
+    let is_solved = command.name == SOLVE_LIST_WORDS.name
+        && words
+            .iter()
+            .skip(2)
+            .any(|word| names_option(word.as_str(), "--solve"));
+    Some(if is_solved { SOLVE_LIST } else { command })
+}
+
+/// The command with what its words are read by.
+fn as_read(command: Command) -> Command {
+    if command.name == SOLVE_LIST.name {
+        SOLVE_LIST_WORDS
+    } else {
+        command
     }
 }
 
@@ -177,7 +197,7 @@ fn wrong_in<'a>(command: Option<Command>, words: &'a [String]) -> Wrong<'a> {
         ("--progress" | "--quiet" | "--verbose", _) => Wrong::Twice(first),
         (_, None) if first.starts_with('-') => Wrong::UnknownOption(first),
         (_, None) => Wrong::UnknownCommand(first),
-        (_, Some(command)) => wrong_behind(command, words),
+        (_, Some(command)) => wrong_behind(as_read(command), words),
     }
 }
 

@@ -10,7 +10,7 @@ use Rattle.clap.specs.Walk.{Held, Row, Text, Walk, finished, idle, nothing_held,
 use Rattle.program_words.specs.CommandLine as line
 use Rattle.program_words.specs.Plain.{Item, AreOptions, IsAmong, PlainWordsAreRead, batch_options, bench_options, given_by, has_item, is_plain, item, option_words, solve_options, synth_options}
 use Rattle.program_words.specs.Settings.{Asked, asked_of, command_asked, given_in, settings_of}
-use Rattle.program_words.proofs.PlainSteps.{HaveNoDefaults, defaults_fault_none, finished_none, open_idle, open_option, plain_turn_fault, plain_walked, row_of_item, rows_of_items}
+use Rattle.program_words.proofs.PlainSteps.{HaveNoDefaults, at, defaults_fault_none, finished_none, open_idle, open_option, plain_turn_fault, plain_walked, row_of_item, rows_of_items}
 use Rattle.program_words.proofs.PlainWalks.{EndsAt, OptionSteps, Settles, after, options_end, settled_fault, settled_one}
 
 -- ---- what is given
@@ -232,6 +232,26 @@ batch_counts = record {
   value_fault = λ rows position text plain. plain_turn_fault (leaf line.batch) rows (Some (codes "counts", [])) (option (codes "counts")) (open_option (codes "counts")) position text plain;
 }
 
+batch_kind : OptionSteps (leaf line.batch) (codes "kind")
+unfolding clap_on_literals
+batch_kind = record {
+  settles = record { rows = λ text rows. refl; fault = λ text rows waiting position. refl };
+  word = λ rows pending position. refl;
+  word_fault_is = λ rows pending position. refl;
+  value_is = λ rows position text plain. plain_walked (leaf line.batch).rules rows (Some (codes "kind", [])) (option (codes "kind")) (open_option (codes "kind")) position text plain;
+  value_fault = λ rows position text plain. plain_turn_fault (leaf line.batch) rows (Some (codes "kind", [])) (option (codes "kind")) (open_option (codes "kind")) position text plain;
+}
+
+batch_solve : OptionSteps (leaf line.batch) (codes "solve")
+unfolding clap_on_literals
+batch_solve = record {
+  settles = record { rows = λ text rows. refl; fault = λ text rows waiting position. refl };
+  word = λ rows pending position. refl;
+  word_fault_is = λ rows pending position. refl;
+  value_is = λ rows position text plain. plain_walked (leaf line.batch).rules rows (Some (codes "solve", [])) (option (codes "solve")) (open_option (codes "solve")) position text plain;
+  value_fault = λ rows position text plain. plain_turn_fault (leaf line.batch) rows (Some (codes "solve", [])) (option (codes "solve")) (open_option (codes "solve")) position text plain;
+}
+
 solve_max : OptionSteps (leaf line.solve) (codes "max")
 unfolding clap_on_literals
 solve_max = record {
@@ -374,7 +394,9 @@ batch_steps id (inl e) = subst (OptionSteps (leaf line.batch)) (sym e) batch_max
 batch_steps id (inr (inl e)) = subst (OptionSteps (leaf line.batch)) (sym e) batch_entries
 batch_steps id (inr (inr (inl e))) = subst (OptionSteps (leaf line.batch)) (sym e) batch_workers
 batch_steps id (inr (inr (inr (inl e)))) = subst (OptionSteps (leaf line.batch)) (sym e) batch_counts
-batch_steps id (inr (inr (inr (inr bad)))) = absurd bad
+batch_steps id (inr (inr (inr (inr (inl e))))) = subst (OptionSteps (leaf line.batch)) (sym e) batch_kind
+batch_steps id (inr (inr (inr (inr (inr (inl e)))))) = subst (OptionSteps (leaf line.batch)) (sym e) batch_solve
+batch_steps id (inr (inr (inr (inr (inr (inr bad)))))) = absurd bad
 
 solve_steps : (id : Text) → IsAmong id solve_options → OptionSteps (leaf line.solve) id
 solve_steps id (inl e) = subst (OptionSteps (leaf line.solve)) (sym e) solve_max
@@ -400,7 +422,9 @@ batch_different id (inl e) = ap (bytes_eq (codes "list")) e
 batch_different id (inr (inl e)) = ap (bytes_eq (codes "list")) e
 batch_different id (inr (inr (inl e))) = ap (bytes_eq (codes "list")) e
 batch_different id (inr (inr (inr (inl e)))) = ap (bytes_eq (codes "list")) e
-batch_different id (inr (inr (inr (inr bad)))) = absurd bad
+batch_different id (inr (inr (inr (inr (inl e))))) = ap (bytes_eq (codes "list")) e
+batch_different id (inr (inr (inr (inr (inr (inl e)))))) = ap (bytes_eq (codes "list")) e
+batch_different id (inr (inr (inr (inr (inr (inr bad)))))) = absurd bad
 
 solve_different : (id : Text) → IsAmong id solve_options → bytes_eq (codes "spec") id ≡ false
 solve_different id (inl e) = ap (bytes_eq (codes "spec")) e
@@ -503,7 +527,23 @@ batch_read program list options plain are =
     let end = options_end s batch_options batch_steps [] (item (codes "list") list) 2 (options) refl batch_list_settles (behind_name (item (codes "list") list) batch_options batch_different [] options are) in
     let all = after_name s (walk_from nothing_held) (after [] (item (codes "list") list) 2) list (option_words options) (item (codes "list") list ∷ options) 2
     (plain_walked s.rules [] None idle open_idle 1 list plain) (plain_turn_fault s [] None idle open_idle 1 list plain) end in
-    read_command program (codes "batch") s (list ∷ option_words options) (item (codes "list") list ∷ options) batch_met refl refl (leaf_reads s (list ∷ option_words options) (item (codes "list") list ∷ options) 2 all (refl, (refl, (refl, (refl, (refl, tt))))) refl)
+    read_command program (codes "batch") s (list ∷ option_words options) (item (codes "list") list ∷ options) batch_met refl refl (leaf_reads s (list ∷ option_words options) (item (codes "list") list ∷ options) 2 all (refl, (refl, (refl, (refl, (refl, (refl, (refl, tt))))))) refl)
+
+solve_list_read : (program list : Text) (options : List Item) → IsTrue (is_plain list) → AreOptions batch_options (item (codes "solve") list ∷ []) options →
+    settings_of (program ∷ codes "batch" ∷ codes "--solve" ∷ list ∷ option_words options) ≡ command_asked (codes "batch") (given_by (item (codes "solve") list ∷ options))
+unfolding clap_on_literals
+solve_list_read program list options plain are =
+    let s = leaf line.batch in
+    let named = option (codes "solve") in
+    let opened = at [] (Some (codes "solve", [])) named 1 in
+    let given = after [] (item (codes "solve") list) 1 in
+    let all = item (codes "solve") list ∷ options in
+    let end = options_end s batch_options batch_steps [] (item (codes "solve") list) 1 options refl batch_solve.settles are in
+    let valued = after_name s opened given list (option_words options) all 1 (batch_solve.value_is [] 1 list plain) (batch_solve.value_fault [] 1 list plain) end in
+    let whole_end = after_name s (walk_from nothing_held) opened (codes "--solve") (list ∷ option_words options) all 1
+    (batch_solve.word [] None 1) (batch_solve.word_fault_is [] None 1) valued in
+    read_command program (codes "batch") s (codes "--solve" ∷ list ∷ option_words options) all batch_met refl refl
+    (leaf_reads s (codes "--solve" ∷ list ∷ option_words options) all 1 whole_end (refl, (refl, (refl, (refl, (refl, (refl, (refl, tt))))))) refl)
 
 solve_read : (program spec : Text) (options : List Item) → IsTrue (is_plain spec) → AreOptions solve_options [] options →
     settings_of (program ∷ codes "solve" ∷ spec ∷ option_words options) ≡ command_asked (codes "solve") (given_by (item (codes "spec") spec ∷ options))
@@ -526,5 +566,6 @@ plain_words_are_read = record {
   verify_words = verify_read;
   core_words = core_read;
   batch_words = batch_read;
+  solve_list_words = solve_list_read;
   solve_words = solve_read;
 }

@@ -10,6 +10,10 @@ use Rattle.clap.specs.declared.builder.command.Command.TheViews.{out-Command as 
 abbrev pub required : Text → Rule
 required id = record (new_rule id) { required = true }
 
+-- what may be given, by its place
+abbrev pub optional : Text → Rule
+optional id = new_rule id
+
 -- an option `--name value`
 abbrev pub option : Text → Rule
 option name = record (new_rule name) { long = Some name }
@@ -67,7 +71,7 @@ abbrev pub core : Shape
 core = searching (codes "core")
 
 abbrev pub batch : Shape
-batch = command (codes "batch") (required (codes "list") ∷ most ∷ entries ∷ workers ∷ counts ∷ [])
+batch = command (codes "batch") (optional (codes "list") ∷ option (codes "solve") ∷ most ∷ entries ∷ workers ∷ counts ∷ kind ∷ [])
 
 abbrev pub solve : Shape
 solve = command (codes "solve") (spec ∷ most ∷ entries ∷ workers ∷ kind ∷ [])

@@ -1,5 +1,5 @@
 -- Words of the plain form (this project's own): the program's name, a command, its names or its number, and then options,
--- each as its name behind `--` and its value, in any order and each at most once.
+-- each as its name behind `--` and its value, in any order and each at most once. With `--solve` the list is an option's value.
 use Rattle.std.specs.Prelude.{◌≡◌, ◌==◌, ◌⊎◌, Bool, false, not, List, [], ◌∷◌, ◌++◌, Some, IsTrue, codes, find, option_map}
 use Rattle.std.specs.List.{list_any}
 use Rattle.std.specs.Str.{bytes_eq}
@@ -44,7 +44,7 @@ abbrev pub bench_options : List Text
 bench_options = codes "workers" ∷ []
 
 abbrev pub batch_options : List Text
-batch_options = codes "max" ∷ codes "entries" ∷ codes "workers" ∷ codes "counts" ∷ []
+batch_options = codes "max" ∷ codes "entries" ∷ codes "workers" ∷ codes "counts" ∷ codes "kind" ∷ codes "solve" ∷ []
 
 abbrev pub solve_options : List Text
 solve_options = codes "max" ∷ codes "entries" ∷ codes "workers" ∷ codes "kind" ∷ []
@@ -72,5 +72,7 @@ pub record PlainWordsAreRead : Type 0 where
       settings_of (program ∷ codes "core" ∷ spec ∷ option_words options) ≡ core_asked (given_by (item (codes "spec") spec ∷ options))
   pub batch_words : (program list : Text) (options : List Item) → IsTrue (is_plain list) → AreOptions batch_options [] options →
       settings_of (program ∷ codes "batch" ∷ list ∷ option_words options) ≡ batch_asked (given_by (item (codes "list") list ∷ options))
+  pub solve_list_words : (program list : Text) (options : List Item) → IsTrue (is_plain list) → AreOptions batch_options (item (codes "solve") list ∷ []) options →
+      settings_of (program ∷ codes "batch" ∷ codes "--solve" ∷ list ∷ option_words options) ≡ batch_asked (given_by (item (codes "solve") list ∷ options))
   pub solve_words : (program spec : Text) (options : List Item) → IsTrue (is_plain spec) → AreOptions solve_options [] options →
       settings_of (program ∷ codes "solve" ∷ spec ∷ option_words options) ≡ solve_asked (given_by (item (codes "spec") spec ∷ options))

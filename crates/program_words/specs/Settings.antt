@@ -1,5 +1,5 @@
 -- What the words of a command line ask for (this project's own).
-use Rattle.std.specs.Prelude.{◌==◌, ◌≤◌, ℕ, IfSome, List, Option, Some, None, codes, length, option_map, option_and_then, if◌then◌else◌}
+use Rattle.std.specs.Prelude.{◌==◌, ◌≤◌, ℕ, IfSome, is_some, List, Option, Some, None, codes, length, option_map, option_and_then, if◌then◌else◌}
 use Rattle.std.specs.Option.{option_map_or}
 use Rattle.std.specs.Str.{bytes_eq}
 use Rattle.letter_word.specs.declared.kinds.Kind.{Kind}
@@ -21,6 +21,11 @@ pub record Refutations : Type 0 where
   pub entries : Option ℕ
   pub workers : ℕ
 
+-- what is done with each text of a list: what `synth` does, or what `solve` does
+pub data EachText : Type 0 where
+  searched : Search → EachText
+  solved : Option Kind → Refutations → EachText
+
 -- a command with its names, its number and its options
 pub data Asked : Type 0 where
   synth : Text → Search → Option Kind → Asked
@@ -31,7 +36,7 @@ pub data Asked : Type 0 where
   bench : ℕ → ℕ → Asked
   verify : Text → Text → Asked
   core : Text → Search → Option Kind → Asked
-  batch : Text → Search → Asked
+  batch : Text → EachText → Asked
   solve : Text → Option Kind → Refutations → Asked
 
 -- what settings of the code ask for
@@ -44,7 +49,8 @@ asked_by (settings.Gen clients) = gen clients
 asked_by (settings.Bench clients workers) = bench clients workers
 asked_by (settings.Verify spec circuit) = verify spec.now circuit.now
 asked_by (settings.Core spec wanted kind) = core spec.now wanted kind
-asked_by (settings.Batch list wanted) = batch list.now wanted
+asked_by (settings.Batch list wanted) = batch list.now (searched wanted)
+asked_by (settings.SolveList list kind max entries workers) = batch list.now (solved kind (record { max = max; entries = entries; workers = workers }))
 asked_by (settings.Solve spec kind max entries workers) = solve spec.now kind (record { max = max; entries = entries; workers = workers })
 
 -- the most states and workers of a search for a machine of one text
@@ -63,12 +69,12 @@ pub record IsSearchInRange (most : ℕ) (s : Search) : Type 0 where
   pub some_worker : 1 ≤ s.workers
   pub most_workers : s.workers ≤ most
 
--- the same where sizes are refuted
-pub record AreRefutationsInRange (r : Refutations) : Type 0 where
+-- the same where sizes are refuted, by at most so many workers
+pub record AreRefutationsInRange (most : ℕ) (r : Refutations) : Type 0 where
   pub sizes : IfSome r.max (λ max. max ≤ 16)
   pub entries : IfSome r.entries (λ limit. limit ≤ 250000)
   pub some_worker : 1 ≤ r.workers
-  pub most_workers : r.workers ≤ most_alone
+  pub most_workers : r.workers ≤ most
 
 abbrev pub IsInRange : Asked → Type 0
 IsInRange (synth spec wanted kind) = IsSearchInRange most_alone wanted
@@ -79,8 +85,9 @@ IsInRange (gen clients) = (1 ≤ clients) × (clients ≤ 8)
 IsInRange (bench clients workers) = ((1 ≤ clients) × (clients ≤ 4)) × ((1 ≤ workers) × (workers ≤ most_alone))
 IsInRange (verify spec circuit) = Unit {0}
 IsInRange (core spec wanted kind) = IsSearchInRange most_alone wanted
-IsInRange (batch list wanted) = IsSearchInRange most_in_batch wanted
-IsInRange (solve spec kind refutations) = AreRefutationsInRange refutations
+IsInRange (batch list (searched wanted)) = IsSearchInRange most_in_batch wanted
+IsInRange (batch list (solved kind refutations)) = AreRefutationsInRange most_in_batch refutations
+IsInRange (solve spec kind refutations) = AreRefutationsInRange most_alone refutations
 
 -- ---- the values of options, each with its default
 
@@ -136,11 +143,11 @@ search_asked most given =
     record { max = max; entries = entries; workers = workers; counts = counts })
     (counts_asked given)) (worker_count most given)) (entry_limit given)) (most_size most given)
 
-abbrev pub refutations_asked : Given → Option Refutations
-refutations_asked given =
+abbrev pub refutations_asked : ℕ → Given → Option Refutations
+refutations_asked most given =
     option_and_then (λ max. option_and_then (λ entries. option_map (λ workers.
     record { max = max; entries = entries; workers = workers })
-    (worker_count most_alone given)) (refuted_limit given)) (refuted_count given)
+    (worker_count most given)) (refuted_limit given)) (refuted_count given)
 
 -- ---- each command
 
@@ -177,14 +184,27 @@ core_asked given =
     option_and_then (λ spec. option_and_then (λ wanted. option_map (core spec wanted) (kind_asked given))
     (search_asked most_alone given)) (given (codes "spec"))
 
+-- the texts of a list are searched as `synth` does, without another kind
+abbrev pub search_list_asked : Given → Option Asked
+search_list_asked given =
+    if is_some (given (codes "kind")) then None
+    else option_and_then (λ list. option_map (λ wanted. batch list (searched wanted)) (search_asked most_in_batch given)) (given (codes "list"))
+
+-- or solved, without another list, and without counts, since they are bounded in one way
+abbrev pub solve_list_asked : Text → Given → Option Asked
+solve_list_asked list given =
+    if is_some (given (codes "list")) then None
+    else if is_some (given (codes "counts")) then None
+    else option_and_then (λ refutations. option_map (λ kind. batch list (solved kind refutations)) (kind_asked given))
+    (refutations_asked most_in_batch given)
+
 abbrev pub batch_asked : Given → Option Asked
-batch_asked given =
-    option_and_then (λ list. option_map (batch list) (search_asked most_in_batch given)) (given (codes "list"))
+batch_asked given = option_map_or (λ list. solve_list_asked list given) (given (codes "solve")) (search_list_asked given)
 
 abbrev pub solve_asked : Given → Option Asked
 solve_asked given =
     option_and_then (λ spec. option_and_then (λ refutations. option_map (λ kind. solve spec kind refutations)
-    (kind_asked given)) (refutations_asked given)) (given (codes "spec"))
+    (kind_asked given)) (refutations_asked most_alone given)) (given (codes "spec"))
 
 abbrev pub command_asked : Text → Given → Option Asked
 command_asked name given =

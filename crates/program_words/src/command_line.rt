@@ -1,7 +1,7 @@
 //! The command line, as `clap` is set up.
 ghost use Rattle.std.specs.Prelude.{◌≡◌, [], ◌∷◌, false, IfOk};
 ghost use Rattle.clap.specs.Words.{app_of, rule_of};
-ghost use Rattle.program_words.specs.CommandLine.{IsSetUpAs, batch, bench, check, expand, gen, lasso, option, program, required, searching, solve, verify};
+ghost use Rattle.program_words.specs.CommandLine.{IsSetUpAs, batch, bench, check, expand, gen, lasso, option, optional, program, required, searching, solve, verify};
 
 use clap::{Arg, Command};
 use std::alloc::{AllocError, Global};
@@ -88,11 +88,13 @@ fn batch<'a>(alloc: Global) -> Result<Command<'a>, AllocError>
     ensures { IfOk result (IsSetUpAs batch) }
 {
     Command::new(alloc, "batch")
-        .arg(required(alloc, "list"))?
+        .arg(optional(alloc, "list"))?
+        .arg(option(alloc, "solve"))?
         .arg(option(alloc, "max"))?
         .arg(option(alloc, "entries"))?
         .arg(option(alloc, "workers"))?
-        .arg(option(alloc, "counts"))
+        .arg(option(alloc, "counts"))?
+        .arg(option(alloc, "kind"))
 }
 
 fn solve<'a>(alloc: Global) -> Result<Command<'a>, AllocError>
@@ -112,6 +114,14 @@ fn required<'a>(alloc: Global, id: &'a str) -> Arg<'a>
     ensures own { result.global ≡ false }
 {
     Arg::new(alloc, id).required(true)
+}
+
+/// What may be given, by its place.
+fn optional<'a>(alloc: Global, id: &'a str) -> Arg<'a>
+    ensures rule { rule_of result ≡ optional id.entry.now }
+    ensures own { result.global ≡ false }
+{
+    Arg::new(alloc, id)
 }
 
 /// An option `--name value`.

@@ -36,19 +36,11 @@ pub struct Command {
 }
 
 /// The commands, in the order of the help page.
-pub const COMMANDS: [Command; 10] = [
+pub const COMMANDS: [Command; 11] = [
     Command {
         name: "solve",
         places: &[SPEC],
-        options: &[
-            Part {
-                name: "--max",
-                values: Values::Number(0, MOST_REFUTED),
-            },
-            ENTRIES,
-            WORKERS,
-            KIND,
-        ],
+        options: &[REFUTED, ENTRIES, WORKERS, KIND],
     },
     Command {
         name: "synth",
@@ -116,24 +108,59 @@ pub const COMMANDS: [Command; 10] = [
     },
     Command {
         name: "batch",
-        places: &[Part {
-            name: "LIST",
-            values: Values::File,
-        }],
+        places: &[LIST],
         options: &[
             Part {
                 name: "--max",
                 values: Values::Number(1, MOST_IN_BATCH),
             },
             ENTRIES,
-            Part {
-                name: "--workers",
-                values: Values::Number(1, MOST_IN_BATCH),
-            },
+            SHARING,
             COUNTS,
         ],
     },
+    SOLVE_LIST,
 ];
+
+/// `batch` where its texts are solved, as a form tells it.
+pub const SOLVE_LIST: Command = Command {
+    name: "batch --solve",
+    places: &[LIST],
+    options: &[REFUTED, ENTRIES, SHARING, KIND],
+};
+
+/// The same as its words are read: the list is the value of `--solve`.
+pub const SOLVE_LIST_WORDS: Command = Command {
+    name: "batch",
+    places: &[],
+    options: &[
+        Part {
+            name: "--solve",
+            values: Values::File,
+        },
+        REFUTED,
+        ENTRIES,
+        SHARING,
+        KIND,
+    ],
+};
+
+const LIST: Part = Part {
+    name: "LIST",
+    values: Values::File,
+};
+
+/// The sizes that are refuted.
+const REFUTED: Part = Part {
+    name: "--max",
+    values: Values::Number(0, MOST_REFUTED),
+};
+
+/// The workers that share texts.
+const SHARING: Part = Part {
+    name: "--workers",
+    values: Values::Number(1, MOST_IN_BATCH),
+};
 
 const SPEC: Part = Part {
     name: "SPEC",

@@ -47,6 +47,18 @@ pub enum Settings<'a> {
         list: &'a str,
         search: Search,
     },
+    /// Each text of a list is solved on its own; the workers, 1 to 4, are those that share the texts.
+    SolveList {
+        /// Of a file with the names of the texts.
+        list: &'a str,
+        /// In place of the texts' own kinds.
+        kind: Option<Kind>,
+        /// How many sizes are refuted at most, 0 to 16. None where that goes by how large they are.
+        max: Option<u32>,
+        /// The most entries of a log, if there is a limit.
+        entries: Option<u64>,
+        workers: u32,
+    },
     /// Workers are 1 to 8.
     Solve {
         spec: &'a str,

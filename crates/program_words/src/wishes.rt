@@ -53,6 +53,11 @@ fn wishes_of(settings: Settings<'_>) -> Wishes<'_> {
             is_batch: true,
             ..Wishes::NONE
         },
+        Settings::SolveList { max, entries, .. } => Wishes {
+            is_batch: true,
+            solving: Some(Solving { max, entries }),
+            ..Wishes::NONE
+        },
         Settings::Solve {
             spec,
             max,

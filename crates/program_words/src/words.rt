@@ -1,6 +1,6 @@
-ghost use Rattle.std.specs.Prelude.{◌≡◌, ◌≢◌, Some, None, map, option_map, option_and_then, string_bytes, IfOk, IfSome, IsErrOf, ◌≤◌};
+ghost use Rattle.std.specs.Prelude.{◌≡◌, ◌≢◌, Some, None, map, option_map, option_and_then, string_bytes, is_some, IfOk, IfSome, IsErrOf, ◌≤◌};
 ghost use Rattle.clap.specs.Words.{first_of, found_of, rows_of, subcommand_rows_of};
-ghost use Rattle.program_words.specs.Settings.{asked_by, asked_of, batch_asked, bench_asked, check_asked, core_asked, counts_asked, counts_in, expand_asked, gen_asked, given_in, IsInRange, IsSearchInRange, kind_asked, kind_in, lasso_asked, limit_in, limit_or, number_or, refuted_count, refuted_limit, search_asked, settings_of, solve_asked, synth_asked, verify_asked};
+ghost use Rattle.program_words.specs.Settings.{asked_by, asked_of, batch_asked, bench_asked, check_asked, core_asked, counts_asked, counts_in, expand_asked, gen_asked, given_in, IsInRange, IsSearchInRange, kind_asked, kind_in, lasso_asked, limit_in, limit_or, number_or, refuted_count, refuted_limit, search_asked, search_list_asked, settings_of, solve_asked, solve_list_asked, synth_asked, verify_asked};
 
 use crate::command_line::program;
 use crate::numbers::number_in;
@@ -170,9 +170,45 @@ fn batch_in<'a>(own: &ArgMatches<'a>) -> Option<Settings<'a>>
     ensures asked { option_map asked_by result ≡ batch_asked (given_in (rows_of (found_of own.now))) }
     ensures ranges { IfSome result (λ s. IsInRange (asked_by s)) }
 {
+    match text_of(own, "solve") {
+        None => search_list_in(own),
+        Some(list) => solve_list_in(own, list),
+    }
+}
+
+fn search_list_in<'a>(own: &ArgMatches<'a>) -> Option<Settings<'a>>
+    ensures asked { option_map asked_by result ≡ search_list_asked (given_in (rows_of (found_of own.now))) }
+    ensures ranges { IfSome result (λ s. IsInRange (asked_by s)) }
+{
+    if is_given(own, "kind") {
+        return None;
+    }
     Some(Settings::Batch {
         list: text_of(own, "list")?,
         search: search_in(own, MOST_IN_BATCH)?,
+    })
+}
+
+fn solve_list_in<'a>(own: &ArgMatches<'a>, list: &'a str) -> Option<Settings<'a>>
+    ensures asked { option_map asked_by result ≡ solve_list_asked list.entry.now (given_in (rows_of (found_of own.now))) }
+    ensures ranges { IfSome result (λ s. IsInRange (asked_by s)) }
+{
+    if is_given(own, "list") {
+        return None;
+    }
+    if is_given(own, "counts") {
+        return None;
+    }
+    let max = refuted_count(own)?;
+    let entries = refuted_limit(own)?;
+    let workers = number_or(own, "workers", 4, 1, MOST_IN_BATCH)?;
+    let kind = kind_or(own)?;
+    Some(Settings::SolveList {
+        list,
+        kind,
+        max,
+        entries,
+        workers,
     })
 }
 
@@ -301,6 +337,13 @@ fn kind_in(text: &str) -> Option<Option<Kind>>
         "moore" => Some(Some(Kind::Moore)),
         _ => None,
     }
+}
+
+/// Whether a text was given for an argument.
+fn is_given(own: &ArgMatches<'_>, id: &str) -> bool
+    ensures { result ≡ is_some (given_in (rows_of (found_of own.now)) id.now) }
+{
+    text_of(own, id).is_some()
 }
 
 /// The text that was given for an argument.

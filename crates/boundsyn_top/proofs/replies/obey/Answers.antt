@@ -35,6 +35,9 @@ returns-in-Solve-clause-other_files g c = λ name foreign.
 pub returns-in-Batch-clause-other_files : goal.returns-in-Batch-clause-other_files
 returns-in-Batch-clause-other_files g c = λ name foreign. c.answer_list.ensures.other_files name (rw c.in-Batch.is at foreign)
 
+pub returns-in-SolveList-clause-other_files : goal.returns-in-SolveList-clause-other_files
+returns-in-SolveList-clause-other_files g c = λ name foreign. c.answer_list-in-SolveList.ensures.other_files name (rw c.in-SolveList.is at foreign)
+
 pub returns-in-Gen-clause-output : goal.returns-in-Gen-clause-output
 returns-in-Gen-clause-output g c = rw c.in-Gen.is (IfOk-weaker c.generate.result _ _ (λ o output. output _) c.generate.ensures)
 

@@ -1,0 +1,29 @@
+-- The answer of `batch --solve` (this project's own).
+use Rattle.std.specs.Prelude.{◌≡◌, ℕ, List, Option, length}
+use Rattle.letter_word.specs.declared.kinds.Kind.{Kind}
+use Rattle.program_replies.specs.declared.replies.Reply.{Reply}
+use Rattle.program_replies.specs.Statuses.{status_number}
+use Rattle.batch_run.specs.Answers.{AreAnswers}
+use Rattle.batch_answer.specs.declared.texts.TakenText.{TakenText}
+use Rattle.batch_answer.specs.Batch.{Part, batch_text}
+use Rattle.batch_answer.specs.Taken.{IsText}
+use Rattle.solve_answer.specs.Answer.{SolveAnswers}
+
+-- the text alone has this answer
+abbrev pub IsSolvedPart : Option Kind → List ℕ → Part → Type 0
+IsSolvedPart given text part = SolveAnswers text given part.lines part.status
+
+-- The bytes are a part for each text, under its name and in its place, which answers that text alone as `solve` does; last the line
+-- `end batch`.
+pub record SolvedBatchAnswers (names texts : List (List ℕ)) (given : Option Kind) (bytes : List ℕ) : Type 0 where
+  pub one_each : length names ≡ length texts
+  pub parts : List Part
+  pub each : AreAnswers (IsSolvedPart given) texts parts
+  pub text : bytes ≡ batch_text names parts
+
+-- ---- how the code goes on
+
+-- the reply answers each file that the text may be
+abbrev pub IsSolvedReply : Option Kind → TakenText → Reply → Type 0
+IsSolvedReply given text reply =
+    (file : List ℕ) → IsText text file → SolveAnswers file given reply.bytes.items (status_number reply.status)

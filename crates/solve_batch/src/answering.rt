@@ -1,0 +1,42 @@
+//! The answer to many texts.
+ghost use Rattle.std.specs.Prelude.{◌≡◌, ◌^◌, ◌<◌, ◌≤◌, ℕ, List, IfOk, length};
+ghost use Rattle.batch_answer.specs.Taken.{AreTexts};
+ghost use Rattle.solve_batch.specs.SolvedBatch.{SolvedBatchAnswers};
+
+use crate::texts::Solving;
+use batch_answer::{FileName, TakenText, batch_text};
+use batch_run::run_all;
+use letter_word::Kind;
+use outside_edge::Gate;
+use program_replies::{Reply, Status};
+use solve_answer::Refuting;
+use std::alloc::{AllocError, Global};
+use std::sync::Wait;
+use std::thread::Threads;
+
+/// The answers to texts of these names, in their order, as `batch_answer` of batch_answer writes them: each is that of `solve` to its text
+/// alone, whose machines are of the given kind. So many workers share the texts as are to refute; each text is solved by one of them.
+///
+/// It waits for the workers, each of which passes the gate as `run_all` of batch_run says.
+pub fn solve_batch<R: Threads + Wait + Sync, G: Gate + Sync>(
+    rt: &R,
+    alloc: Global,
+    names: &[FileName],
+    texts: &[TakenText],
+    given: Option<Kind>,
+    refuting: Refuting,
+    gate: &G,
+) -> Result<Reply, AllocError>
+    requires one_each { length names.now ≡ length texts.now }
+    requires few { length texts.now < 2 ^ 32 }
+    requires workers { 1 ≤ refuting.workers }
+    ensures done { IfOk result (λ r. r.status ≡ Status.Done) }
+    ensures answers { (files : List (List ℕ)) → AreTexts texts.now files → IfOk result (λ r. SolvedBatchAnswers names.now files given r.bytes.items) }
+{
+    let job = Solving::new(alloc, given, refuting);
+    let replies = run_all(rt, alloc, &job, texts, refuting.workers, gate)?;
+    Ok(Reply {
+        bytes: batch_text(alloc, names, &replies)?,
+        status: Status::Done,
+    })
+}

@@ -1,0 +1,89 @@
+//! The job of solving the texts of a batch.
+ghost use Rattle.std.specs.Prelude.{◌≡◌, IfOk};
+ghost use Rattle.program_replies.specs.Statuses.{status_number};
+ghost use Rattle.solve_answer.specs.Answer.{SolveAnswers};
+
+use batch_answer::TakenText;
+use batch_run::Job;
+use letter_word::Kind;
+use program_replies::{Reply, refused};
+use solve_answer::{GAME_BUDGET, Refuting, solve};
+use solve_told::NoListener;
+use spec_faults::SpecCode;
+use std::alloc::{AllocError, Global};
+use std::marker::Model;
+use std::sync::Wait;
+use std::thread::Threads;
+
+/// The most bytes that a text may have.
+const LONGEST_TEXT: u64 = 1_048_576;
+
+/// The job of solving texts, each by the worker that takes it alone. A contract sees the kind that is given.
+#[derive(Drop)]
+pub struct Solving {
+    alloc: Global,
+    given: Option<Kind>,
+    refuting: Refuting,
+}
+
+impl Model for Solving {
+    ghost use Rattle.std.specs.Prelude.{Option};
+    ghost use Rattle.letter_word.specs.declared.kinds.Kind.{Kind};
+
+    ghost Value = { Option Kind };
+
+    ghost view = { λ job. job.given };
+}
+
+impl Solving {
+    /// With a kind in place of the texts' own, if one is given.
+    pub fn new(alloc: Global, given: Option<Kind>, refuting: Refuting) -> Solving
+        ensures { result ≡ given }
+    {
+        Solving {
+            alloc,
+            given,
+            refuting: Refuting {
+                workers: 1,
+                ..refuting
+            },
+        }
+    }
+
+    /// The answer to all bytes of a text.
+    fn solved<R: Threads + Wait + Sync>(&self, rt: &R, text: &[u8]) -> Result<Reply, AllocError>
+        ensures { IfOk result (λ r. SolveAnswers text.now self.now r.bytes.items (status_number r.status)) }
+    {
+        let solved = solve(
+            rt,
+            self.alloc,
+            text,
+            self.given,
+            GAME_BUDGET,
+            self.refuting,
+            &mut NoListener,
+        )?;
+        Ok(solved.reply)
+    }
+}
+
+impl Job for Solving {
+    ghost use Rattle.solve_batch.specs.SolvedBatch.{IsSolvedReply};
+
+    type Task = TakenText;
+
+    type Answer = Reply;
+
+    ghost is_answer = { IsSolvedReply };
+
+    fn answer<R: Threads + Wait + Sync>(
+        &self,
+        rt: &R,
+        text: &TakenText,
+    ) -> Result<Reply, AllocError> {
+        match text {
+            TakenText::Whole(bytes) => self.solved(rt, bytes),
+            TakenText::TooLong => refused(self.alloc, SpecCode::TooLong, LONGEST_TEXT),
+        }
+    }
+}
