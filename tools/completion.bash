@@ -15,7 +15,7 @@ _boundsyn_options() {
     case $1 in
     solve) echo "--max --entries --workers --kind" ;;
     synth | core) echo "--max --entries --workers --kind --counts" ;;
-    batch) echo "--max --entries --workers --counts" ;;
+    batch) echo "--solve --max --entries --workers --kind --counts" ;;
     bench) echo "--workers" ;;
     esac
 }
@@ -34,6 +34,9 @@ _boundsyn() {
     done
     if [[ -z $command ]]; then
         values="solve synth check expand lasso gen bench verify core batch --progress --quiet --verbose --help --version"
+    elif [[ $last == --solve ]]; then
+        mapfile -t COMPREPLY < <(compgen -f -- "$word")
+        return
     elif [[ $last == --* ]]; then
         values=$(_boundsyn_values "$command" "$last")
     elif [[ $word == -* ]]; then
