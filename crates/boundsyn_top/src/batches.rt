@@ -1,5 +1,5 @@
 //! The reply to `batch`.
-ghost use Rattle.std.specs.Prelude.{◌≡◌, ◌≢◌, ◌≤◌, ℕ, List, Contains, IfOk, MatchOption, length};
+ghost use Rattle.std.specs.Prelude.{◌≡◌, ◌≢◌, ◌^◌, ◌<◌, ◌≤◌, ℕ, List, Contains, IfOk, MatchOption, length};
 ghost use Rattle.std.specs.List.{AllZip};
 ghost use Rattle.outside_edge.specs.Faults.{Rose};
 ghost use Rattle.program_replies.specs.Statuses.{status_number};
