@@ -17,6 +17,7 @@ _boundsyn_options() {
     synth | core) echo "--max --entries --workers --kind --counts" ;;
     batch) echo "--solve --max --entries --workers --kind --counts" ;;
     bench) echo "--workers" ;;
+    verify) echo "--unrealizable" ;;
     esac
 }
 
@@ -37,7 +38,7 @@ _boundsyn() {
     elif [[ $last == --solve ]]; then
         mapfile -t COMPREPLY < <(compgen -f -- "$word")
         return
-    elif [[ $last == --* ]]; then
+    elif [[ $last == --* && $last != --unrealizable ]]; then
         values=$(_boundsyn_values "$command" "$last")
     elif [[ $word == -* ]]; then
         values=$(_boundsyn_options "$command")

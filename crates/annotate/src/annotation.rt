@@ -14,7 +14,7 @@ use spec_problems::TextProblems;
 use std::alloc::{AllocError, Global};
 use text_base::push_number;
 use text_ground::Problems;
-use verify_answer::{problems_for_verify, verify_answer};
+use verify_answer::{listed_answer, problems_for_verify};
 
 /// The most inputs of a circuit whose pairs are looked for.
 const MOST_INPUTS: usize = 8;
@@ -42,11 +42,11 @@ fn annotate_for(alloc: Global, text: &TextProblems, circuit: &[u8]) -> Result<Ou
     requires { AreReady (given_by (spec_seen text.now.spec) text.now.problems) }
 {
     let Ok(file) = read_circuit(alloc, circuit) else {
-        return Ok(Outcome::Refused(verify_answer(alloc, text, circuit)?));
+        return Ok(Outcome::Refused(listed_answer(alloc, text, circuit)?));
     };
     // Without pairs only the head of the annotation is refused, where the rest of the circuit fits the text.
     let bare = with_comment(alloc, &file, circuit, b"annotation 0\nend\n")?;
-    let reply = verify_answer(alloc, text, &bare)?;
+    let reply = listed_answer(alloc, text, &bare)?;
     let expected = refused_at_line(alloc, file.comment_line.saturating_add(1))?;
     if reply.bytes.as_slice() != expected.bytes.as_slice()
         || file.circuit.inputs.len() > MOST_INPUTS
@@ -80,7 +80,7 @@ fn annotate_graph(
     let numbers = numbers(alloc, &component, &graph.ways, &rejects)?;
     let annotation = annotation_text(alloc, graph, &numbers)?;
     let whole = with_comment(alloc, file, circuit, &annotation)?;
-    let reply = verify_answer(alloc, text, &whole)?;
+    let reply = listed_answer(alloc, text, &whole)?;
     match reply.status {
         Status::Done => Ok(Outcome::Annotated(whole)),
         _ => told_refusal(alloc, text, &file.circuit, reply),

@@ -21,8 +21,10 @@ use Rattle.flat_answer.specs.Expand.{ExpandAnswers}
 use Rattle.flat_answer.specs.Lasso.{LassoAnswers}
 use Rattle.flat_answer.specs.Laws.{ExpandAnswersAreDue, LassoAnswersAreDue}
 use Rattle.flat_text.specs.Laws.{FlatTextsAreDetermined}
-use Rattle.verify_answer.specs.Answer.{VerifyAnswers}
-use Rattle.verify_answer.specs.Laws.{VerificationsAreDetermined}
+use Rattle.letter_word.specs.declared.kinds.Side.{Side}
+use Rattle.letter_word.specs.declared.kinds.Side.TheVariants.{Environment, System}
+use Rattle.verify_answer.specs.Answer.{CircuitAnswers}
+use Rattle.verify_answer.specs.Laws.{EnvironmentsAreDetermined, VerificationsAreDetermined}
 use Rattle.core_answer.specs.Core.{CoreAnswers, IsCoreFault, guarantees_in}
 use Rattle.core_answer.specs.Core as cores
 use Rattle.core_answer.specs.Laws.{CoreFaultsAreDetermined}
@@ -34,7 +36,7 @@ use Rattle.boundsyn_top.specs.Batch as batches
 use Rattle.boundsyn_top.specs.Files.{HoldsOfFile}
 use Rattle.boundsyn_top.specs.Commands.{AnswersAsked}
 use Rattle.boundsyn_top.specs.Faults as faults_of_check
-use Rattle.boundsyn_top.specs.Faults.{HasBadLine, HasFault, IsBadCertificate, IsCheckFault, RefusalsAreDetermined}
+use Rattle.boundsyn_top.specs.Faults.{HasBadLine, HasFault, IsBadCertificate, IsBadCircuit, IsCheckFault, IsVerifyFault, RefusalsAreDetermined}
 use Rattle.boundsyn_top.specs.Solving.{SolveFaultsAreDetermined}
 use Rattle.boundsyn_top.proofs.FileLemmas.{of_told}
 use Rattle.boundsyn_top.proofs.SolveLemmas.{solve_fault}
@@ -93,7 +95,21 @@ bad_list law told lines wanted bytes status n (batches.answered names texts ende
 
 module _ (problems : ProblemsOfTextsAreDetermined) (checks : ChecksAreDetermined) (expansions : ExpandAnswersAreDue) (truths : LassoAnswersAreDue)
     (verifications : VerificationsAreDetermined) (flats : FlatTextsAreDetermined) (faults : CoreFaultsAreDetermined) (lists : ListsAreDetermined)
-    (solvings : SolveFaultsAreDetermined) where
+    (solvings : SolveFaultsAreDetermined) (environments : EnvironmentsAreDetermined) where
+  verify_fault : (side : Side) (text circuit bytes : List ℕ) (status : ℕ) (code : SpecCode) (place : ℕ) → CircuitAnswers side text circuit bytes status →
+      IsVerifyFault side text circuit code place → (status ≡ 1) × (bytes ≡ refusal_line code place)
+  verify_fault System text circuit bytes status code place a fault =
+      verifications.of_fault text circuit bytes status code place a fault.fault fault.untested
+  verify_fault Environment text circuit bytes status code place a fault = environments.of_fault text circuit bytes status code place a fault
+
+  bad_circuit : (side : Side) (text circuit bytes : List ℕ) (status n : ℕ) → CircuitAnswers side text circuit bytes status → IsBadCircuit side text circuit n →
+      (status ≡ 40) × (bytes ≡ line_refusal n)
+  bad_circuit System text circuit bytes status n a (faults_of_check.listed given unnamed first) =
+      verifications.of_bad_line text circuit bytes status given n a unnamed first
+  bad_circuit System text circuit bytes status n a (faults_of_check.named given names first) =
+      verifications.of_line_with_states text circuit bytes status given n a names first
+  bad_circuit Environment text circuit bytes status n a bad = environments.of_bad_line text circuit bytes status bad.given n a bad.bad
+
   check_fault : (text document bytes : List ℕ) (status : ℕ) (code : SpecCode) (place : ℕ) → CheckAnswers text document bytes status →
       IsCheckFault text document code place → (status ≡ 1) × (bytes ≡ refusal_line code place)
   check_fault text document bytes status code place a (faults_of_check.of_text _ _ fault untested) = checks.of_fault text document bytes status code place a fault untested
@@ -121,9 +137,10 @@ module _ (problems : ProblemsOfTextsAreDetermined) (checks : ChecksAreDetermined
       truths.of_fault (bytes_under files spec) h.bytes bytes status code place h.holds fault
   of_text files (gen clients) bytes status code place fault a = absurd fault
   of_text files (bench clients workers) bytes status code place fault a = absurd fault
-  of_text files (verify spec circuit) bytes status code place fault a =
-      let h = of_told files spec (λ text. HoldsOfFile (Some files) circuit (λ lines. VerifyAnswers text lines bytes status)) a.answer in
-      verifications.of_fault (bytes_under files spec) h.bytes bytes status code place h.holds fault
+  of_text files (verify side spec circuit) bytes status code place fault a =
+      let h = of_told files spec (λ text. HoldsOfFile (Some files) circuit (λ lines. CircuitAnswers side text lines bytes status)) a.answer in
+      verify_fault side (bytes_under files spec) (bytes_under files circuit) bytes status code place
+      (of_told files circuit (λ lines. CircuitAnswers side (bytes_under files spec) lines bytes status) h) fault
   of_text files (core spec wanted kind) bytes status code place fault a =
       core_fault problems flats faults (bytes_under files spec) kind wanted bytes status code place
       (of_told files spec (λ text. CoreAnswers text kind wanted bytes status) a.answer) fault
@@ -146,10 +163,10 @@ module _ (problems : ProblemsOfTextsAreDetermined) (checks : ChecksAreDetermined
       (of_told files word (λ lines. LassoAnswers (bytes_under files spec) lines bytes status) h) bad.is_flat bad.bad
   of_line files (gen clients) bytes status n bad a = absurd bad
   of_line files (bench clients workers) bytes status n bad a = absurd bad
-  of_line files (verify spec circuit) bytes status n bad a =
-      let h = of_told files spec (λ text. HoldsOfFile (Some files) circuit (λ lines. VerifyAnswers text lines bytes status)) a.answer in
-      verifications.of_bad_line (bytes_under files spec) (bytes_under files circuit) bytes status bad.given n
-      (of_told files circuit (λ lines. VerifyAnswers (bytes_under files spec) lines bytes status) h) bad.bad
+  of_line files (verify side spec circuit) bytes status n bad a =
+      let h = of_told files spec (λ text. HoldsOfFile (Some files) circuit (λ lines. CircuitAnswers side text lines bytes status)) a.answer in
+      bad_circuit side (bytes_under files spec) (bytes_under files circuit) bytes status n
+      (of_told files circuit (λ lines. CircuitAnswers side (bytes_under files spec) lines bytes status) h) bad
   of_line files (core spec wanted kind) bytes status n bad a = absurd bad
   of_line files (batch list wanted) bytes status n bad a =
       bad_list lists (Some files) (bytes_under files list) wanted bytes status n

@@ -32,8 +32,11 @@ use Rattle.text_ground.specs.declared.texts.Problems.TheVariants.{Of, Refused}
 use Rattle.check_answer.specs.Answer.{CheckAnswers}
 use Rattle.check_answer.specs.Answer as certificate
 use Rattle.check_answer.specs.Reply.{CanBeTested, IsForCertificates}
-use Rattle.verify_answer.specs.Reply.{IsForVerify}
-use Rattle.verify_answer.specs.Answer.{VerifyAnswers, verified}
+use Rattle.letter_word.specs.declared.kinds.Side.{Side}
+use Rattle.letter_word.specs.declared.kinds.Side.TheVariants.{Environment, System}
+use Rattle.solve_ground.specs.declared.texts.SolveText.{SolveText}
+use Rattle.verify_answer.specs.Reply.{IsTestable}
+use Rattle.verify_answer.specs.Answer.{CircuitAnswers, TestAnswers, VerifyAnswers}
 use Rattle.verify_answer.specs.Answer as circuits
 use Rattle.core_answer.specs.Core.{CoreAnswers, IsCoreFault}
 use Rattle.core_answer.specs.Core as cores
@@ -103,9 +106,9 @@ pub can_be_tested : (text : List ℕ) (found : Problems) → IsForCertificates t
 can_be_tested text (Of t) taken = taken.facts
 can_be_tested text (Refused reply) alone = tt
 
--- a text that has problems, or a flat form, has no fault
-pub own_without_fault : (text : List ℕ) (t : TextProblems) → ProblemsOfTextsAreDetermined → IsForVerify text t → HasNone (IsFirstFault text None)
-own_without_fault text t law taken = record { none = λ code place fault. law.no_fault text None 2 (spec_seen t.spec) t.problems code place taken.text_with.are fault }
+-- a text that is taken, or a flat form, has no fault
+pub taken_without_fault : (text : List ℕ) (known : SolveText) → IsTestable text known → HasNone (solving.IsSolveFault text None)
+taken_without_fault text known taken = record { none = taken.no_fault }
 
 pub flat_without_fault : (text : List ℕ) (flat : FlatText) → FlatTextsHaveNoFault → IsFlatOf SMALL_LIMITS text None flat → HasNone (IsFlatFault SMALL_LIMITS text None)
 flat_without_fault text flat law is_flat = record { none = λ code place fault. law SMALL_LIMITS text None flat code place is_flat fault }
@@ -122,11 +125,11 @@ lasso_goes_on (Some files) spec word text are none = record {
   unless = λ stops. (subst (λ t. HasNone (IsFlatFault SMALL_LIMITS t None)) are none).none stops.code stops.place stops.fault;
 }
 
-pub verify_goes_on : (told : Option Files) (spec circuit text : List ℕ) → AreOfFile told spec text → HasNone (IsFirstFault text None) →
-    GoesOn told (verify spec circuit)
-verify_goes_on None spec circuit text are none = record { unless = tt }
-verify_goes_on (Some files) spec circuit text are none = record {
-  unless = λ stops. (subst (λ t. HasNone (IsFirstFault t None)) are none).none stops.code stops.place stops.fault;
+pub verify_goes_on : (side : Side) (told : Option Files) (spec circuit text : List ℕ) → AreOfFile told spec text → HasNone (solving.IsSolveFault text None) →
+    GoesOn told (verify side spec circuit)
+verify_goes_on side None spec circuit text are none = record { unless = tt }
+verify_goes_on side (Some files) spec circuit text are none = record {
+  unless = λ stops. (subst (λ t. HasNone (solving.IsSolveFault t None)) are none).none stops.code stops.place stops.fault;
 }
 
 -- a name of a list is taken, where the list has no bad line
@@ -194,10 +197,29 @@ bench_status (verdict.Bounded side n) status is = absurd is
 bench_status verdict.UnknownSizes status is = (2, omega arith, sym is)
 bench_status (verdict.UnknownEntries side n) status is = absurd is
 
-verify_status : (text circuit bytes : List ℕ) (status : ℕ) → VerifyAnswers text circuit bytes status → Contains (0 ∷ 1 ∷ 40 ∷ []) status
-verify_status text circuit bytes status (circuits.refused code place is fault line) = (1, omega arith, sym is)
-verify_status text circuit bytes status (circuits.bad_line given n is bad line) = (2, omega arith, sym is)
-verify_status text circuit bytes status (verified given is holds line) = (0, omega arith, sym is)
+test_status : (side : Side) (text circuit : List ℕ) (t : SolveText) (bytes : List ℕ) (status : ℕ) → TestAnswers side text circuit t bytes status →
+    Contains (0 ∷ 1 ∷ 40 ∷ []) status
+test_status side text circuit t bytes status (circuits.line_fails n is bad line) = (2, omega arith, sym is)
+test_status side text circuit t bytes status (circuits.shown is holds line) = (0, omega arith, sym is)
+
+system_status : (text circuit bytes : List ℕ) (status : ℕ) → VerifyAnswers text circuit bytes status → Contains (0 ∷ 1 ∷ 40 ∷ []) status
+system_status text circuit bytes status (circuits.refused code place is fault why line) = (1, omega arith, sym is)
+system_status text circuit bytes status (circuits.bad_line given n is unnamed bad line) = (2, omega arith, sym is)
+system_status text circuit bytes status (circuits.verified given is unnamed holds line) = (0, omega arith, sym is)
+system_status text circuit bytes status (circuits.of_states given names answers) = test_status System text circuit given.known bytes status answers
+
+verify_status : (side : Side) (text circuit bytes : List ℕ) (status : ℕ) → CircuitAnswers side text circuit bytes status → Contains (0 ∷ 1 ∷ 40 ∷ []) status
+verify_status System text circuit bytes status answer = system_status text circuit bytes status answer
+verify_status Environment text circuit bytes status (circuits.text_refused code place is fault line) = (1, omega arith, sym is)
+verify_status Environment text circuit bytes status (circuits.of_text given answers) = test_status Environment text circuit given.known bytes status answers
+
+-- a text that is too long is refused for either side
+verify_too_long : (side : Side) (text circuit bytes : List ℕ) (status : ℕ) → IsReadingFault text TooLong most_bytes → bytes ≡ refusal_line TooLong most_bytes → status ≡ 1
+    → CircuitAnswers side text circuit bytes status
+verify_too_long System text circuit bytes status fault is ended =
+    circuits.refused TooLong most_bytes ended (of_text TooLong most_bytes (of_reading TooLong most_bytes fault))
+    (circuits.refused_by_solve TooLong most_bytes (solving.of_reading TooLong most_bytes fault)) is
+verify_too_long Environment text circuit bytes status fault is ended = circuits.text_refused TooLong most_bytes ended (solving.of_reading TooLong most_bytes fault) is
 
 core_status : (text : List ℕ) (kind : Option Kind) (settings : Settings) (bytes : List ℕ) (status : ℕ) →
     CoreAnswers text kind settings bytes status → Contains (1 ∷ 10 ∷ 11 ∷ 20 ∷ 30 ∷ []) status
@@ -362,20 +384,19 @@ module _ (step : ShelfStep) where
 
   -- == verify ==
 
-  pub verify_untaken : (spec circuit : List ℕ) (bytes : List ℕ) (status : ℕ) →
-      IsUntaken step spec bytes status → RepliesTo step (verify spec circuit) bytes status
-  verify_untaken spec circuit =
-      text_untaken (verify spec circuit) spec circuit VerifyAnswers (λ bytes status h. h) verify_status (0, omega arith, refl)
-      (λ text lines bytes status fault is ended.
-      circuits.refused TooLong most_bytes ended (of_text TooLong most_bytes (of_reading TooLong most_bytes fault)) is)
+  pub verify_untaken : (side : Side) (spec circuit : List ℕ) (bytes : List ℕ) (status : ℕ) →
+      IsUntaken step spec bytes status → RepliesTo step (verify side spec circuit) bytes status
+  verify_untaken side spec circuit bytes status =
+      text_untaken (verify side spec circuit) spec circuit (CircuitAnswers side) (λ bytes status h. h) (verify_status side) (0, omega arith, refl)
+      (λ text lines bytes status fault is ended. verify_too_long side text lines bytes status fault is ended) bytes status
 
-  pub verify_by_file : (told : Option Files) (middle : List ℕ → ℕ) (spec circuit text : List ℕ) (bytes : List ℕ) (status : ℕ) → told ≡ step.files →
+  pub verify_by_file : (side : Side) (told : Option Files) (middle : List ℕ → ℕ) (spec circuit text : List ℕ) (bytes : List ℕ) (status : ℕ) → told ≡ step.files →
       AreOfFile step.files spec text → ((any : List ℕ) → step.before any ≤ middle any) →
-      RepliesByFile (rest_from told middle) circuit (HasNone (IsFirstFault text None)) (λ lines. VerifyAnswers text lines bytes status) bytes status →
-      RepliesTo step (verify spec circuit) bytes status
-  verify_by_file told middle spec circuit text bytes status same are =
-      by_file (verify spec circuit) spec circuit VerifyAnswers (λ bytes status h. h) verify_status (HasNone (IsFirstFault text None)) told middle text bytes status same are
-      (λ due. behind (refl, verify_goes_on step.files spec circuit text are due))
+      RepliesByFile (rest_from told middle) circuit (HasNone (solving.IsSolveFault text None)) (λ lines. CircuitAnswers side text lines bytes status) bytes status →
+      RepliesTo step (verify side spec circuit) bytes status
+  verify_by_file side told middle spec circuit text bytes status same are =
+      by_file (verify side spec circuit) spec circuit (CircuitAnswers side) (λ bytes status h. h) (verify_status side) (HasNone (solving.IsSolveFault text None)) told middle text bytes status same are
+      (λ due. behind (refl, verify_goes_on side step.files spec circuit text are due))
 
   -- == core ==
 

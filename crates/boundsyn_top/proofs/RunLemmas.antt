@@ -93,7 +93,7 @@ all_answering (bench clients workers) =
     All-cons IsAnswering 10 (20 ∷ 30 ∷ []) answering_10
     (All-cons IsAnswering 20 (30 ∷ []) answering_20
     (All-cons IsAnswering 30 [] answering_30 (All-nil IsAnswering)))
-all_answering (verify spec circuit) =
+all_answering (verify side spec circuit) =
     All-cons IsAnswering 0 (1 ∷ 40 ∷ []) answering_0
     (All-cons IsAnswering 1 (40 ∷ []) answering_1
     (All-cons IsAnswering 40 [] answering_40 (All-nil IsAnswering)))
@@ -282,7 +282,7 @@ none_behind files (expand spec) name stops taken = taken
 none_behind files (lasso spec word) name stops taken = taken.1.unless stops
 none_behind files (gen clients) name stops taken = taken
 none_behind files (bench clients workers) name stops taken = taken
-none_behind files (verify spec circuit) name stops taken = taken.1.unless stops
+none_behind files (verify side spec circuit) name stops taken = taken.1.unless stops
 none_behind files (core spec wanted kind) name stops taken = taken
 none_behind files (batch list wanted) name stops taken = taken.1.unless stops
 none_behind files (solve spec kind refutations) name stops taken = taken

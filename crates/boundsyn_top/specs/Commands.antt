@@ -8,7 +8,7 @@ use Rattle.check_answer.specs.Answer.{CheckAnswers}
 use Rattle.flat_answer.specs.Expand.{ExpandAnswers}
 use Rattle.flat_answer.specs.Lasso.{LassoAnswers}
 use Rattle.bench_answer.specs.Bench.{BenchAnswer}
-use Rattle.verify_answer.specs.Answer.{VerifyAnswers}
+use Rattle.verify_answer.specs.Answer.{CircuitAnswers}
 use Rattle.core_answer.specs.Core.{CoreAnswers}
 use Rattle.solve_answer.specs.Answer.{SolveAnswers}
 use Rattle.boundsyn_top.specs.Files.{HoldsOfFile}
@@ -22,7 +22,7 @@ statuses_of (expand spec) = 0 ∷ 1 ∷ []
 statuses_of (lasso spec word) = 0 ∷ 1 ∷ 40 ∷ []
 statuses_of (gen clients) = 0 ∷ []
 statuses_of (bench clients workers) = 10 ∷ 20 ∷ 30 ∷ []
-statuses_of (verify spec circuit) = 0 ∷ 1 ∷ 40 ∷ []
+statuses_of (verify side spec circuit) = 0 ∷ 1 ∷ 40 ∷ []
 statuses_of (core spec wanted kind) = 1 ∷ 10 ∷ 11 ∷ 20 ∷ 30 ∷ []
 statuses_of (batch list wanted) = 0 ∷ 40 ∷ []
 statuses_of (solve spec kind refutations) = 1 ∷ 10 ∷ 20 ∷ 30 ∷ []
@@ -37,8 +37,8 @@ MayAnswer told (lasso spec word) bytes status =
     HoldsOfFile told spec (λ text. HoldsOfFile told word (λ lines. LassoAnswers text lines bytes status))
 MayAnswer told (gen clients) bytes status = (bytes ≡ generated_text clients) × (status ≡ 0)
 MayAnswer told (bench clients workers) bytes status = BenchAnswer clients workers bytes status
-MayAnswer told (verify spec circuit) bytes status =
-    HoldsOfFile told spec (λ text. HoldsOfFile told circuit (λ lines. VerifyAnswers text lines bytes status))
+MayAnswer told (verify side spec circuit) bytes status =
+    HoldsOfFile told spec (λ text. HoldsOfFile told circuit (λ lines. CircuitAnswers side text lines bytes status))
 MayAnswer told (core spec wanted kind) bytes status = HoldsOfFile told spec (λ text. CoreAnswers text kind wanted bytes status)
 MayAnswer told (batch list wanted) bytes status = HoldsOfFile told list (λ lines. ListAnswers told lines wanted bytes status)
 MayAnswer told (solve spec kind refutations) bytes status = HoldsOfFile told spec (λ text. SolveAnswers text kind bytes status)

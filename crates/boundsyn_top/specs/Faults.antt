@@ -2,6 +2,8 @@
 use Rattle.std.specs.Prelude.{◌≡◌, ℕ, Some, None, List}
 use Rattle.text_limits.specs.declared.TheConstants.{SMALL_LIMITS}
 use Rattle.letter_word.specs.declared.kinds.Kind.TheVariants.{Mealy}
+use Rattle.letter_word.specs.declared.kinds.Side.{Side}
+use Rattle.letter_word.specs.declared.kinds.Side.TheVariants.{System, Environment}
 use Rattle.spec_faults.specs.declared.code.SpecCode.{SpecCode}
 use Rattle.flat_text.specs.FlatOf.{IsFlatFault, IsFlatOf}
 use Rattle.spec_problems.specs.OfText.{IsFirstFault}
@@ -10,7 +12,10 @@ use Rattle.solved_text.specs.Reading.{IsSixth}
 use Rattle.solve_check.specs.FirstBad.{IsFirstBadSolved}
 use Rattle.check_answer.specs.Answer.{GivenToCheck, GivenToSolved, IsUntested, facts_to_check}
 use Rattle.lasso_word.specs.WordText.{IsFirstBadWordLine}
-use Rattle.verify_answer.specs.Answer.{GivenToVerify, facts_to_verify}
+use Rattle.verify_answer.specs.Answer.{GivenToTest, GivenToVerify, facts_to_verify, owed_to}
+use Rattle.verify_answer.specs.Answer as circuits
+use Rattle.circuit_check.specs.FirstBad.{IsFirstBad}
+use Rattle.circuit_check.specs.Forms.{NamesStates}
 use Rattle.verify_answer.specs.FirstBad.{IsFirstBadOfCircuit}
 use Rattle.core_answer.specs.Core.{IsCoreFault}
 use Rattle.solve_ground.specs.SolveText.{IsSolveFault}
@@ -30,6 +35,17 @@ pub data IsCheckFault (text certificate : List ℕ) : SpecCode → ℕ → Type 
   of_larger : (code : SpecCode) (place : ℕ) → GivenToCheck text → IsSixth certificate → IsSolveFault text (Some Mealy) code place
       → IsCheckFault text certificate code place
 
+-- The fault for which `verify` refuses a text with the file of a circuit that plays the system: the text's first one, unless the circuit's
+-- annotation names its states and `solve` takes the text.
+pub record IsSystemFault (text circuit : List ℕ) (code : SpecCode) (place : ℕ) : Type 0 where
+  pub fault : IsFirstFault text None code place
+  pub untested : circuits.IsUntested text circuit
+
+-- with a circuit that plays the environment, the first one that the text has as `solve` takes it
+abbrev pub IsVerifyFault : Side → List ℕ → List ℕ → SpecCode → ℕ → Type 0
+IsVerifyFault System text circuit code place = IsSystemFault text circuit code place
+IsVerifyFault Environment text circuit code place = IsSolveFault text None code place
+
 -- The first fault of the text that a command takes. `check` takes it as with a kind that is given, `expand` and `lasso` have no normal
 -- forms and no automata, `core` takes few guarantees, and `solve` takes larger texts, and converts those whose kinds differ. The texts of a list are refused
 -- each for itself.
@@ -40,7 +56,7 @@ HasFault files (expand spec) code place = IsFlatFault SMALL_LIMITS (bytes_under 
 HasFault files (lasso spec word) code place = IsFlatFault SMALL_LIMITS (bytes_under files spec) None code place
 HasFault files (gen clients) code place = ⊥
 HasFault files (bench clients workers) code place = ⊥
-HasFault files (verify spec circuit) code place = IsFirstFault (bytes_under files spec) None code place
+HasFault files (verify side spec circuit) code place = IsVerifyFault side (bytes_under files spec) (bytes_under files circuit) code place
 HasFault files (core spec wanted kind) code place = IsCoreFault (bytes_under files spec) kind code place
 HasFault files (batch list wanted) code place = ⊥
 HasFault files (solve spec kind refutations) code place = IsSolveFault (bytes_under files spec) kind code place
@@ -58,7 +74,13 @@ pub record IsRefusedAnyway (text : List ℕ) : Type 0 where
   pub larger_place : ℕ
   pub larger : IsSolveFault text (Some Mealy) larger_code larger_place
 
--- it doesn't, so the certificate is taken
+-- the text has a fault as `solve` takes it, so `verify` takes no circuit
+pub record IsRefusedBySolve (text : List ℕ) : Type 0 where
+  pub code : SpecCode
+  pub place : ℕ
+  pub fault : IsSolveFault text None code place
+
+-- `check` doesn't, so the certificate is taken
 pub record TakesCertificates (text : List ℕ) : Type 0 where
   pub unless : IsRefusedAnyway text → ⊥
 
@@ -75,10 +97,21 @@ pub record IsBadWord (text word : List ℕ) (line : ℕ) : Type 0 where
   pub is_flat : IsFlatOf SMALL_LIMITS text None flat
   pub bad : IsFirstBadWordLine word (all_names flat.expanded) line
 
--- the text has no fault, and this is the first bad line of the circuit's file for it
-pub record IsBadCircuit (text circuit : List ℕ) (line : ℕ) : Type 0 where
-  pub given : GivenToVerify text
-  pub bad : IsFirstBadOfCircuit (facts_to_verify given) circuit line
+-- The text has no fault, the circuit's annotation names no states, and this is the first bad line of the circuit's file for the text; or it names
+-- some, and this is that for the text as `solve` takes it.
+pub data IsBadSystem (text circuit : List ℕ) (line : ℕ) : Type 0 where
+  listed : (given : GivenToVerify text) → (NamesStates circuit → ⊥) → IsFirstBadOfCircuit (facts_to_verify given) circuit line
+      → IsBadSystem text circuit line
+  named : (given : GivenToTest text) → NamesStates circuit → IsFirstBad (owed_to given.known System) circuit line → IsBadSystem text circuit line
+
+-- the text has no fault as `solve` takes it, and this is the first bad line for it of the file of a circuit that plays the environment
+pub record IsBadEnvironment (text circuit : List ℕ) (line : ℕ) : Type 0 where
+  pub given : GivenToTest text
+  pub bad : IsFirstBad (owed_to given.known Environment) circuit line
+
+abbrev pub IsBadCircuit : Side → List ℕ → List ℕ → ℕ → Type 0
+IsBadCircuit System text circuit line = IsBadSystem text circuit line
+IsBadCircuit Environment text circuit line = IsBadEnvironment text circuit line
 
 -- The text has no fault, and this is the first bad line of the other file; or it is that of the list.
 abbrev pub HasBadLine : Files → Asked → ℕ → Type 0
@@ -88,7 +121,7 @@ HasBadLine files (expand spec) n = ⊥
 HasBadLine files (lasso spec word) n = IsBadWord (bytes_under files spec) (bytes_under files word) n
 HasBadLine files (gen clients) n = ⊥
 HasBadLine files (bench clients workers) n = ⊥
-HasBadLine files (verify spec circuit) n = IsBadCircuit (bytes_under files spec) (bytes_under files circuit) n
+HasBadLine files (verify side spec circuit) n = IsBadCircuit side (bytes_under files spec) (bytes_under files circuit) n
 HasBadLine files (core spec wanted kind) n = ⊥
 HasBadLine files (batch list wanted) n = IsFirstBadLineOfList (bytes_under files list) n
 HasBadLine files (solve spec kind refutations) n = ⊥

@@ -4,7 +4,7 @@ use Rattle.spec_faults.specs.declared.code.SpecCode.{SpecCode}
 use Rattle.outside_edge.specs.Files.{Files, bytes_under}
 use Rattle.program_words.specs.Settings.{Asked, synth, check, expand, lasso, gen, bench, verify, core, batch, solve}
 use Rattle.boundsyn_top.specs.Batch.{IsBadList, IsListed}
-use Rattle.boundsyn_top.specs.Faults.{HasFault, IsRefusedAnyway}
+use Rattle.boundsyn_top.specs.Faults.{HasFault, IsRefusedAnyway, IsRefusedBySolve}
 
 -- the file that is taken first, where there is one
 abbrev pub first_file : Asked → List (List ℕ)
@@ -14,7 +14,7 @@ first_file (expand spec) = spec ∷ []
 first_file (lasso spec word) = spec ∷ []
 first_file (gen clients) = []
 first_file (bench clients workers) = []
-first_file (verify spec circuit) = spec ∷ []
+first_file (verify side spec circuit) = spec ∷ []
 first_file (core spec wanted kind) = spec ∷ []
 first_file (batch list wanted) = list ∷ []
 first_file (solve spec kind refutations) = spec ∷ []
@@ -33,7 +33,7 @@ Stops files (expand spec) = IsFaulty files (expand spec)
 Stops files (lasso spec word) = IsFaulty files (lasso spec word)
 Stops files (gen clients) = ⊥
 Stops files (bench clients workers) = ⊥
-Stops files (verify spec circuit) = IsFaulty files (verify spec circuit)
+Stops files (verify side spec circuit) = IsRefusedBySolve (bytes_under files spec)
 Stops files (core spec wanted kind) = IsFaulty files (core spec wanted kind)
 Stops files (batch list wanted) = IsBadList (bytes_under files list)
 Stops files (solve spec kind refutations) = IsFaulty files (solve spec kind refutations)
@@ -50,7 +50,7 @@ TakesBehind told (expand spec) name = ⊥
 TakesBehind told (lasso spec word) name = (name ≡ word) × GoesOn told (lasso spec word)
 TakesBehind told (gen clients) name = ⊥
 TakesBehind told (bench clients workers) name = ⊥
-TakesBehind told (verify spec circuit) name = (name ≡ circuit) × GoesOn told (verify spec circuit)
+TakesBehind told (verify side spec circuit) name = (name ≡ circuit) × GoesOn told (verify side spec circuit)
 TakesBehind told (core spec wanted kind) name = ⊥
 TakesBehind told (batch list wanted) name = IfSome told (λ files. IsListed (bytes_under files list) name) × GoesOn told (batch list wanted)
 TakesBehind told (solve spec kind refutations) name = ⊥

@@ -25,7 +25,7 @@ use std::alloc::Global;
 use std::sync::Wait;
 use std::thread::Threads;
 use tlsf_reader::laws::{trees_are_determined, trees_have_no_fault};
-use verify_answer::laws::verifications_are_determined;
+use verify_answer::laws::{environments_are_determined, verifications_are_determined};
 
 /// Nothing but its line answers the first fault of a text, or the first bad line of a list or of another file.
 pub fn refusals_are_determined()
@@ -40,6 +40,7 @@ pub fn refusals_are_determined()
     core_faults_are_determined();
     lists_are_determined();
     solve_faults_are_determined();
+    environments_are_determined();
 }
 
 /// A text has at most one first fault as `solve` takes it, and none where it can be taken.

@@ -84,7 +84,11 @@ where
         Settings::Lasso { spec, word } => tell_truth(alloc, shelf, spec, word),
         Settings::Gen { clients } => generate(alloc, clients),
         Settings::Bench { clients, workers } => search_arbiter(rt, alloc, clients, workers, gate),
-        Settings::Verify { spec, circuit } => verify_circuit(alloc, shelf, spec, circuit),
+        Settings::Verify {
+            side,
+            spec,
+            circuit,
+        } => { verify_circuit(alloc, shelf, side, spec, circuit) },
         Settings::Core {
             spec,
             search: wanted,

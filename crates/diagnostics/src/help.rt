@@ -22,6 +22,8 @@ options behind these words, and what holds without them:
   --workers W          threads, 1 to 8 (4); in batch 1 to 4 (4)
   --kind mealy|moore   the kind, in place of the text's own
   --counts whole|local how base clauses bound their counts (whole)
+  --unrealizable       before the names of `verify`: the circuit plays the
+                       environment (the system)
 words before the command, for standard error:
   --progress           a line each second   --verbose  what was found, too
   --quiet              no messages

@@ -280,7 +280,7 @@ impl Reading {
         {
             return Some(Wrong::Twice(name));
         }
-        self.is_open = value.is_none();
+        self.is_open = value.is_none() && option.takes_value();
         wrong_value(option, value?)
     }
 

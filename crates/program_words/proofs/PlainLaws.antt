@@ -3,13 +3,16 @@ use Rattle.std.proofs.Common.{◌≡◌, ◌==◌, ◌||◌, inl, inr, ℕ, Bool
 use Rattle.std.specs.Prelude.{fold, find, option_map, option_and_then, slice_get, is_some, if◌then◌else◌}
 use Rattle.std.specs.Str.{bytes_eq}
 use Rattle.clap.proofs.OnLiterals.{clap_on_literals}
+use Rattle.clap.specs.declared.parser.matches.ValueSource.TheVariants.{DefaultValue}
+use Rattle.clap.specs.declared.builder.value_parser.Reading.TheVariants.{AsWritten}
+use Rattle.letter_word.specs.declared.kinds.Side.TheVariants.{System, Environment}
 use Rattle.clap.specs.Faults.{check_fault, defaults_fault, entered_fault, fault_of, level_fault, settle_fault, turn_fault, walk_fault}
 use Rattle.clap.specs.Kinds.{Kinds, or_else}
 use Rattle.clap.specs.Simple.{App, Shape, built, built_leaf, entered, inherited, names_of, subcommand_of}
-use Rattle.clap.specs.Walk.{Held, Row, Text, Walk, finished, idle, nothing_held, option, rows_after, settled, settled_rows, walk, walk_from, walked}
+use Rattle.clap.specs.Walk.{Held, Row, Text, Walk, finished, idle, nothing_held, option, rows_after, settled, settled_rows, walk, walk_from, walked, with_default}
 use Rattle.program_words.specs.CommandLine as line
 use Rattle.program_words.specs.Plain.{Item, AreOptions, IsAmong, PlainWordsAreRead, batch_options, bench_options, given_by, has_item, is_plain, item, option_words, solve_options, synth_options}
-use Rattle.program_words.specs.Settings.{Asked, asked_of, command_asked, given_in, settings_of}
+use Rattle.program_words.specs.Settings.{Asked, asked_of, command_asked, given_in, settings_of, verify}
 use Rattle.program_words.proofs.PlainSteps.{HaveNoDefaults, at, defaults_fault_none, finished_none, open_idle, open_option, plain_turn_fault, plain_walked, row_of_item, rows_of_items}
 use Rattle.program_words.proofs.PlainWalks.{EndsAt, OptionSteps, Settles, after, options_end, settled_fault, settled_one}
 
@@ -497,8 +500,46 @@ bench_read program clients options plain are =
     (plain_walked s.rules [] None idle open_idle 1 clients plain) (plain_turn_fault s [] None idle open_idle 1 clients plain) end in
     read_command program (codes "bench") s (clients ∷ option_words options) (item (codes "clients") clients ∷ options) bench_met refl refl (leaf_reads s (clients ∷ option_words options) (item (codes "clients") clients ∷ options) 2 all (refl, (refl, tt)) refl)
 
+-- what a command with a flag, which has a default, reads
+record RowsRead (s : Shape) (words : List Text) (rows : List Row) : Type 0 where
+  rows_are : rows_after s.rules [] words ≡ rows
+  no_fault : level_fault s [] nothing_held words false [] ≡ []
+
+rows_read : (s : Shape) (words : List Text) (items : List Item) (position : ℕ) (rows : List Row) → EndsAt s (walk_from nothing_held) words items position →
+    fold with_default (rows_of_items items) s.rules ≡ rows → defaults_fault (rows_of_items items) s.rules ≡ [] → check_fault s rows false ≡ [] → RowsRead s words rows
+rows_read s words items position rows end filled defaults checks =
+    let settles : settled_rows s.rules (Some (end.last.id, end.last.text ∷ [])) (rows_of_items end.done) ≡ rows_of_items items =
+    settled_one s end.done end.last end.settles end.new ∙ ap rows_of_items end.all_are in
+    let finishes : finished s.rules (after end.done end.last position).held ≡ rows = ap (λ (xs : List Row). fold with_default xs s.rules) settles ∙ filled in
+    record {
+      rows_are = ap (λ (w : Walk). finished s.rules w.held) end.walk_is ∙ finishes;
+      no_fault =
+          ap₂ (λ k (w : Walk). leaf_level s k w.held) end.no_fault end.walk_is
+          ∙ ap (λ k. or_else k (or_else (defaults_fault (settled s.rules (after end.done end.last position).held).rows s.rules) (check_fault s (finished s.rules (after end.done end.last position).held) false)))
+          (settled_fault s end.done end.last position end.settles end.new)
+          ∙ ap₂ or_else (ap (λ (xs : List Row). defaults_fault xs s.rules) settles ∙ defaults) (ap (λ rows. check_fault s rows false) finishes ∙ checks);
+    }
+
+read_rows : (program command : Text) (s : Shape) (rest : List Text) (rows : List Row) → IsMet command →
+    whole_level [] (met command rest) ≡ or_else (level_fault s [] nothing_held rest false []) [] →
+    entered whole (Some (command, rest)) ≡ Some (command, rows_after s.rules [] rest) →
+    RowsRead s rest rows → settings_of (program ∷ command ∷ rest) ≡ command_asked command (given_in rows)
+read_rows program command s rest rows is_met fault matches reads =
+    let outer = program_reads program command rest is_met in
+    ap₂ asked (outer.fault ∙ fault ∙ ap (λ k. or_else k []) reads.no_fault) (outer.matches ∙ matches ∙ ap (λ rows. Some (command, rows)) reads.rows_are)
+
+-- the flag as `clap` has it where it isn't given
+abbrev unflagged : Row
+unflagged = record {
+  id = codes "unrealizable";
+  values = codes "false" ∷ [];
+  count = None;
+  source = Some DefaultValue;
+  reading = AsWritten;
+}
+
 verify_read : (program spec circuit : Text) → IsTrue (is_plain spec) → IsTrue (is_plain circuit) →
-    settings_of (program ∷ codes "verify" ∷ spec ∷ circuit ∷ []) ≡ command_asked (codes "verify") (given_by (item (codes "spec") spec ∷ item (codes "circuit") circuit ∷ []))
+    settings_of (program ∷ codes "verify" ∷ spec ∷ circuit ∷ []) ≡ Some (verify System spec circuit)
 unfolding clap_on_literals
 verify_read program spec circuit first_plain second_plain =
     let s = leaf line.verify in
@@ -507,7 +548,32 @@ verify_read program spec circuit first_plain second_plain =
     (plain_walked s.rules [] (Some (codes "spec", spec ∷ [])) idle open_idle 2 circuit second_plain) (plain_turn_fault s [] (Some (codes "spec", spec ∷ [])) idle open_idle 2 circuit second_plain) end in
     let all = after_name s (walk_from nothing_held) (after [] (item (codes "spec") spec) 2) spec (circuit ∷ []) (item (codes "spec") spec ∷ item (codes "circuit") circuit ∷ []) 3
     (plain_walked s.rules [] None idle open_idle 1 spec first_plain) (plain_turn_fault s [] None idle open_idle 1 spec first_plain) second in
-    read_command program (codes "verify") s (spec ∷ circuit ∷ []) (item (codes "spec") spec ∷ item (codes "circuit") circuit ∷ []) verify_met refl refl (leaf_reads s (spec ∷ circuit ∷ []) (item (codes "spec") spec ∷ item (codes "circuit") circuit ∷ []) 3 all (refl, (refl, tt)) refl)
+    read_rows program (codes "verify") s (spec ∷ circuit ∷ []) (rows_of_items (item (codes "spec") spec ∷ item (codes "circuit") circuit ∷ []) ++ unflagged ∷ []) verify_met refl refl
+    (rows_read s (spec ∷ circuit ∷ []) (item (codes "spec") spec ∷ item (codes "circuit") circuit ∷ []) 3 (rows_of_items (item (codes "spec") spec ∷ item (codes "circuit") circuit ∷ []) ++ unflagged ∷ []) all refl refl refl)
+
+-- behind the flag
+abbrev flagged : Item
+flagged = item (codes "unrealizable") (codes "true")
+
+environment_read : (program spec circuit : Text) → IsTrue (is_plain spec) → IsTrue (is_plain circuit) →
+    settings_of (program ∷ codes "verify" ∷ codes "--unrealizable" ∷ spec ∷ circuit ∷ []) ≡ Some (verify Environment spec circuit)
+unfolding clap_on_literals
+environment_read program spec circuit first_plain second_plain =
+    let s = leaf line.verify in
+    let end = options_end s [] (λ id bad. absurd bad) (flagged ∷ item (codes "spec") spec ∷ []) (item (codes "circuit") circuit) 3 [] refl verify_circuit_settles tt in
+    let second = after_name s (after (flagged ∷ []) (item (codes "spec") spec) 2) (after (flagged ∷ item (codes "spec") spec ∷ []) (item (codes "circuit") circuit) 3) circuit []
+    (flagged ∷ item (codes "spec") spec ∷ item (codes "circuit") circuit ∷ []) 3
+    (plain_walked s.rules (rows_of_items (flagged ∷ [])) (Some (codes "spec", spec ∷ [])) idle open_idle 2 circuit second_plain)
+    (plain_turn_fault s (rows_of_items (flagged ∷ [])) (Some (codes "spec", spec ∷ [])) idle open_idle 2 circuit second_plain) end in
+    let first = after_name s (at (rows_of_items (flagged ∷ [])) None idle 1) (after (flagged ∷ []) (item (codes "spec") spec) 2) spec (circuit ∷ [])
+    (flagged ∷ item (codes "spec") spec ∷ item (codes "circuit") circuit ∷ []) 3
+    (plain_walked s.rules (rows_of_items (flagged ∷ [])) None idle open_idle 1 spec first_plain)
+    (plain_turn_fault s (rows_of_items (flagged ∷ [])) None idle open_idle 1 spec first_plain) second in
+    let all = after_name s (walk_from nothing_held) (at (rows_of_items (flagged ∷ [])) None idle 1) (codes "--unrealizable") (spec ∷ circuit ∷ [])
+    (flagged ∷ item (codes "spec") spec ∷ item (codes "circuit") circuit ∷ []) 3 refl refl first in
+    read_rows program (codes "verify") s (codes "--unrealizable" ∷ spec ∷ circuit ∷ []) (rows_of_items (flagged ∷ item (codes "spec") spec ∷ item (codes "circuit") circuit ∷ [])) verify_met refl refl
+    (rows_read s (codes "--unrealizable" ∷ spec ∷ circuit ∷ []) (flagged ∷ item (codes "spec") spec ∷ item (codes "circuit") circuit ∷ []) 3
+    (rows_of_items (flagged ∷ item (codes "spec") spec ∷ item (codes "circuit") circuit ∷ [])) all refl refl refl)
 
 core_read : (program spec : Text) (options : List Item) → IsTrue (is_plain spec) → AreOptions synth_options [] options →
     settings_of (program ∷ codes "core" ∷ spec ∷ option_words options) ≡ command_asked (codes "core") (given_by (item (codes "spec") spec ∷ options))
@@ -564,6 +630,7 @@ plain_words_are_read = record {
   gen_words = gen_read;
   bench_words = bench_read;
   verify_words = verify_read;
+  environment_words = environment_read;
   core_words = core_read;
   batch_words = batch_read;
   solve_list_words = solve_list_read;

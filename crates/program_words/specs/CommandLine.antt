@@ -1,7 +1,8 @@
 -- The command line that `clap` is set up with (this project's own): a subcommand for each command, with its required
--- names or its number, and options that take one value each. Nothing else is set, and there is no help.
+-- names or its number, and options that take one value each; `verify` has a flag. Nothing else is set, and there is no help.
 use Rattle.std.specs.Prelude.{◌≡◌, List, [], ◌∷◌, Some, true, false, codes}
 use Rattle.clap.specs.Walk.{Rule, Text}
+use Rattle.clap.specs.declared.builder.action.ArgAction.TheVariants.{SetTrue}
 use Rattle.clap.specs.Simple.{App, Shape, new_rule, new_shape, shape_of}
 use Rattle.clap.specs.declared.builder.command.Command.{Command}
 use Rattle.clap.specs.declared.builder.command.Command.TheViews.{out-Command as fields_of}
@@ -17,6 +18,10 @@ optional id = new_rule id
 -- an option `--name value`
 abbrev pub option : Text → Rule
 option name = record (new_rule name) { long = Some name }
+
+-- a flag `--name`
+abbrev pub flag : Text → Rule
+flag name = record (new_rule name) { long = Some name; action = Some SetTrue }
 
 abbrev pub command : Text → List Rule → Shape
 command name rules = record (new_shape name) { rules = rules }
@@ -65,7 +70,7 @@ abbrev pub bench : Shape
 bench = command (codes "bench") (clients ∷ workers ∷ [])
 
 abbrev pub verify : Shape
-verify = command (codes "verify") (spec ∷ required (codes "circuit") ∷ [])
+verify = command (codes "verify") (spec ∷ required (codes "circuit") ∷ flag (codes "unrealizable") ∷ [])
 
 abbrev pub core : Shape
 core = searching (codes "core")

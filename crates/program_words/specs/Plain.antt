@@ -1,8 +1,10 @@
 -- Words of the plain form (this project's own): the program's name, a command, its names or its number, and then options,
--- each as its name behind `--` and its value, in any order and each at most once. With `--solve` the list is an option's value.
+-- each as its name behind `--` and its value, in any order and each at most once. With `--solve` the list is an option's value, and `verify` has a
+-- flag before its names.
 use Rattle.std.specs.Prelude.{◌≡◌, ◌==◌, ◌⊎◌, Bool, false, not, List, [], ◌∷◌, ◌++◌, Some, IsTrue, codes, find, option_map}
 use Rattle.std.specs.List.{list_any}
 use Rattle.std.specs.Str.{bytes_eq}
+use Rattle.letter_word.specs.declared.kinds.Side.TheVariants.{System, Environment}
 use Rattle.clap.specs.Walk.{Text}
 use Rattle.program_words.specs.Numbers.{number_in}
 use Rattle.program_words.specs.Settings.{Given, synth_asked, bench_asked, core_asked, batch_asked, solve_asked, check, expand, gen, lasso, verify, settings_of}
@@ -67,7 +69,9 @@ pub record PlainWordsAreRead : Type 0 where
   pub bench_words : (program clients : Text) (options : List Item) → IsTrue (is_plain clients) → AreOptions bench_options [] options →
       settings_of (program ∷ codes "bench" ∷ clients ∷ option_words options) ≡ bench_asked (given_by (item (codes "clients") clients ∷ options))
   pub verify_words : (program spec circuit : Text) → IsTrue (is_plain spec) → IsTrue (is_plain circuit) →
-      settings_of (program ∷ codes "verify" ∷ spec ∷ circuit ∷ []) ≡ Some (verify spec circuit)
+      settings_of (program ∷ codes "verify" ∷ spec ∷ circuit ∷ []) ≡ Some (verify System spec circuit)
+  pub environment_words : (program spec circuit : Text) → IsTrue (is_plain spec) → IsTrue (is_plain circuit) →
+      settings_of (program ∷ codes "verify" ∷ codes "--unrealizable" ∷ spec ∷ circuit ∷ []) ≡ Some (verify Environment spec circuit)
   pub core_words : (program spec : Text) (options : List Item) → IsTrue (is_plain spec) → AreOptions synth_options [] options →
       settings_of (program ∷ codes "core" ∷ spec ∷ option_words options) ≡ core_asked (given_by (item (codes "spec") spec ∷ options))
   pub batch_words : (program list : Text) (options : List Item) → IsTrue (is_plain list) → AreOptions batch_options [] options →

@@ -1,9 +1,11 @@
 -- What the words of a command line ask for (this project's own).
-use Rattle.std.specs.Prelude.{◌==◌, ◌≤◌, ℕ, IfSome, is_some, List, Option, Some, None, codes, length, option_map, option_and_then, if◌then◌else◌}
+use Rattle.std.specs.Prelude.{◌==◌, ◌≤◌, ℕ, false, IfSome, is_some, List, Option, Some, None, codes, length, option_map, option_and_then, if◌then◌else◌}
 use Rattle.std.specs.Option.{option_map_or}
 use Rattle.std.specs.Str.{bytes_eq}
 use Rattle.letter_word.specs.declared.kinds.Kind.{Kind}
 use Rattle.letter_word.specs.declared.kinds.Kind.TheVariants.{Mealy, Moore}
+use Rattle.letter_word.specs.declared.kinds.Side.{Side}
+use Rattle.letter_word.specs.declared.kinds.Side.TheVariants.{System, Environment}
 use Rattle.annotation_encode.specs.declared.counts.Counts.{Counts}
 use Rattle.annotation_encode.specs.declared.counts.Counts.TheVariants.{Whole, Local}
 use Rattle.clap.specs.Walk.{Row, Text, first_of}
@@ -34,7 +36,7 @@ pub data Asked : Type 0 where
   lasso : Text → Text → Asked
   gen : ℕ → Asked
   bench : ℕ → ℕ → Asked
-  verify : Text → Text → Asked
+  verify : Side → Text → Text → Asked
   core : Text → Search → Option Kind → Asked
   batch : Text → EachText → Asked
   solve : Text → Option Kind → Refutations → Asked
@@ -47,7 +49,7 @@ asked_by (settings.Expand spec) = expand spec.now
 asked_by (settings.Lasso spec word) = lasso spec.now word.now
 asked_by (settings.Gen clients) = gen clients
 asked_by (settings.Bench clients workers) = bench clients workers
-asked_by (settings.Verify spec circuit) = verify spec.now circuit.now
+asked_by (settings.Verify side spec circuit) = verify side spec.now circuit.now
 asked_by (settings.Core spec wanted kind) = core spec.now wanted kind
 asked_by (settings.Batch list wanted) = batch list.now (searched wanted)
 asked_by (settings.SolveList list kind max entries workers) = batch list.now (solved kind (record { max = max; entries = entries; workers = workers }))
@@ -83,7 +85,7 @@ IsInRange (expand spec) = Unit {0}
 IsInRange (lasso spec word) = Unit {0}
 IsInRange (gen clients) = (1 ≤ clients) × (clients ≤ 8)
 IsInRange (bench clients workers) = ((1 ≤ clients) × (clients ≤ 4)) × ((1 ≤ workers) × (workers ≤ most_alone))
-IsInRange (verify spec circuit) = Unit {0}
+IsInRange (verify side spec circuit) = Unit {0}
 IsInRange (core spec wanted kind) = IsSearchInRange most_alone wanted
 IsInRange (batch list (searched wanted)) = IsSearchInRange most_in_batch wanted
 IsInRange (batch list (solved kind refutations)) = AreRefutationsInRange most_in_batch refutations
@@ -129,6 +131,10 @@ kind_in text = if bytes_eq text (codes "mealy") then Some (Some Mealy)
 -- without the option the kind is the text's own
 abbrev pub kind_asked : Given → Option (Option Kind)
 kind_asked given = option_map_or kind_in (given (codes "kind")) (Some None)
+
+-- which side a circuit plays: `clap` gives the text `true` for a flag that is there, and else `false`
+abbrev pub side_asked : Given → Side
+side_asked given = if option_map_or (λ text. bytes_eq text (codes "true")) (given (codes "unrealizable")) false then Environment else System
 
 abbrev pub counts_in : Text → Option Counts
 counts_in text = if bytes_eq text (codes "whole") then Some Whole
@@ -177,7 +183,7 @@ bench_asked given =
 
 abbrev pub verify_asked : Given → Option Asked
 verify_asked given =
-    option_and_then (λ spec. option_map (verify spec) (given (codes "circuit"))) (given (codes "spec"))
+    option_and_then (λ spec. option_map (verify (side_asked given) spec) (given (codes "circuit"))) (given (codes "spec"))
 
 abbrev pub core_asked : Given → Option Asked
 core_asked given =

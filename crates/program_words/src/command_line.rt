@@ -1,9 +1,9 @@
 //! The command line, as `clap` is set up.
 ghost use Rattle.std.specs.Prelude.{◌≡◌, [], ◌∷◌, false, IfOk};
 ghost use Rattle.clap.specs.Words.{app_of, rule_of};
-ghost use Rattle.program_words.specs.CommandLine.{IsSetUpAs, batch, bench, check, expand, gen, lasso, option, optional, program, required, searching, solve, verify};
+ghost use Rattle.program_words.specs.CommandLine.{IsSetUpAs, batch, bench, check, expand, flag, gen, lasso, option, optional, program, required, searching, solve, verify};
 
-use clap::{Arg, Command};
+use clap::{Arg, ArgAction, Command};
 use std::alloc::{AllocError, Global};
 
 /// The whole command line. It has no help.
@@ -81,7 +81,8 @@ fn verify<'a>(alloc: Global) -> Result<Command<'a>, AllocError>
 {
     Command::new(alloc, "verify")
         .arg(required(alloc, "spec"))?
-        .arg(required(alloc, "circuit"))
+        .arg(required(alloc, "circuit"))?
+        .arg(flag(alloc, "unrealizable"))
 }
 
 fn batch<'a>(alloc: Global) -> Result<Command<'a>, AllocError>
@@ -122,6 +123,14 @@ fn optional<'a>(alloc: Global, id: &'a str) -> Arg<'a>
     ensures own { result.global ≡ false }
 {
     Arg::new(alloc, id)
+}
+
+/// A flag `--name`.
+fn flag<'a>(alloc: Global, name: &'a str) -> Arg<'a>
+    ensures rule { rule_of result ≡ flag name.entry.now }
+    ensures own { result.global ≡ false }
+{
+    Arg::new(alloc, name).long(name).action(ArgAction::SetTrue)
 }
 
 /// An option `--name value`.

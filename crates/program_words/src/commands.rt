@@ -17,6 +17,8 @@ pub enum Values {
     Limit(u32),
     /// One of two words.
     Either(&'static str, &'static str),
+    /// No value: the name stands alone.
+    Alone,
 }
 
 /// What must be given by its place, or an option.
@@ -99,7 +101,10 @@ pub const COMMANDS: [Command; 11] = [
                 values: Values::File,
             },
         ],
-        options: &[],
+        options: &[Part {
+            name: "--unrealizable",
+            values: Values::Alone,
+        }],
     },
     Command {
         name: "core",
@@ -214,10 +219,7 @@ impl Command {
             write!(out, " {name}")?;
         }
         for option in options {
-            let name = option.name;
-            write!(out, " [{name} ")?;
-            option.values.push_to(out)?;
-            out.push(']')?;
+            option.push_form(out)?;
         }
         Ok(())
     }
@@ -231,6 +233,25 @@ impl Command {
     }
 }
 
+impl Part {
+    /// Whether a value stands behind the name.
+    pub fn takes_value(self) -> bool {
+        !matches!(self.values, Values::Alone)
+    }
+
+    /// Appends an option's form, as ` [--kind mealy|moore]`.
+    fn push_form(self, out: &mut String) -> Result<(), AllocError> {
+        let Part { name, values } = self;
+        write!(out, " [{name}")?;
+        if let Values::Alone = values {
+            return out.push(']');
+        }
+        out.push(' ')?;
+        values.push_to(out)?;
+        out.push(']')
+    }
+}
+
 impl Values {
     /// Whether a word is one of them.
     pub fn fit(self, word: &str) -> bool {
@@ -239,6 +260,7 @@ impl Values {
             Values::Number(least, most) => is_number(word, least, most),
             Values::Limit(most) => word == "none" || is_number(word, 0, most),
             Values::Either(one, other) => word == one || word == other,
+            Values::Alone => false,
         }
     }
 
@@ -249,6 +271,7 @@ impl Values {
             Values::Number(least, most) => write!(out, "{least}..{most}"),
             Values::Limit(most) => write!(out, "0..{most}|none"),
             Values::Either(one, other) => write!(out, "{one}|{other}"),
+            Values::Alone => out.push_str("nothing"),
         }
     }
 }

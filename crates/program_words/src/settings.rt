@@ -1,4 +1,4 @@
-use letter_word::Kind;
+use letter_word::{Kind, Side};
 use synth_engine::Settings as Search;
 
 /// What the words ask for. Names are those of files. A search has 1 to 8 workers; where many texts are searched, at most 4 and as many
@@ -32,6 +32,8 @@ pub enum Settings<'a> {
         workers: u32,
     },
     Verify {
+        /// The side that the circuit plays.
+        side: Side,
         spec: &'a str,
         circuit: &'a str,
     },

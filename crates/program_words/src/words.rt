@@ -1,6 +1,8 @@
-ghost use Rattle.std.specs.Prelude.{◌≡◌, ◌≢◌, Some, None, map, option_map, option_and_then, string_bytes, is_some, IfOk, IfSome, IsErrOf, ◌≤◌};
+ghost use Rattle.std.specs.Prelude.{◌≡◌, ◌≢◌, Some, None, codes, if◌then◌else◌, map, option_map, option_and_then, string_bytes, is_some, IfOk, IfSome, IsErrOf, ◌≤◌};
+ghost use Rattle.std.specs.Str.{bytes_eq};
+ghost use Rattle.letter_word.specs.declared.kinds.Side.TheVariants.{Environment, System};
 ghost use Rattle.clap.specs.Words.{first_of, found_of, rows_of, subcommand_rows_of};
-ghost use Rattle.program_words.specs.Settings.{asked_by, asked_of, batch_asked, bench_asked, check_asked, core_asked, counts_asked, counts_in, expand_asked, gen_asked, given_in, IsInRange, IsSearchInRange, kind_asked, kind_in, lasso_asked, limit_in, limit_or, number_or, refuted_count, refuted_limit, search_asked, search_list_asked, settings_of, solve_asked, solve_list_asked, synth_asked, verify_asked};
+ghost use Rattle.program_words.specs.Settings.{asked_by, asked_of, batch_asked, bench_asked, check_asked, core_asked, counts_asked, counts_in, expand_asked, gen_asked, given_in, IsInRange, IsSearchInRange, kind_asked, kind_in, lasso_asked, limit_in, limit_or, number_or, refuted_count, refuted_limit, search_asked, search_list_asked, settings_of, side_asked, solve_asked, solve_list_asked, synth_asked, verify_asked};
 
 use crate::command_line::program;
 use crate::numbers::number_in;
@@ -12,7 +14,7 @@ use crate::settings::Settings;
 use annotation_encode::Counts;
 use clap::ArgMatches;
 use clap::error::ErrorKind;
-use letter_word::Kind;
+use letter_word::{Kind, Side};
 use std::alloc::{AllocError, Global};
 use synth_engine::Settings as Search;
 
@@ -149,10 +151,34 @@ fn verify_in<'a>(own: &ArgMatches<'a>) -> Option<Settings<'a>>
     ensures asked { option_map asked_by result ≡ verify_asked (given_in (rows_of (found_of own.now))) }
     ensures ranges { IfSome result (λ s. IsInRange (asked_by s)) }
 {
+    let spec = text_of(own, "spec")?;
+    let circuit = text_of(own, "circuit")?;
+    let side = side_or(own);
     Some(Settings::Verify {
-        spec: text_of(own, "spec")?,
-        circuit: text_of(own, "circuit")?,
+        side,
+        spec,
+        circuit,
     })
+}
+
+/// The side that a circuit plays: the environment with the flag, else the system.
+fn side_or(own: &ArgMatches<'_>) -> Side
+    ensures { result ≡ side_asked (given_in (rows_of (found_of own.now))) }
+{
+    match text_of(own, "unrealizable") {
+        Some(text) => side_in(text),
+        None => Side::System,
+    }
+}
+
+fn side_in(text: &str) -> Side
+    ensures { result ≡ (if bytes_eq text.now (codes "true") then Environment else System) }
+{
+    if text == "true" {
+        Side::Environment
+    } else {
+        Side::System
+    }
 }
 
 fn core_in<'a>(own: &ArgMatches<'a>) -> Option<Settings<'a>>

@@ -4,14 +4,14 @@ use Rattle.boundsyn_top.proofs.ReplyLemmas.{of_bytes, unread_file}
 use Rattle.boundsyn_top.proofs.circuits.verified.Goals as goal
 
 pub returns-in-Some-clause-reply : goal.returns-in-Some-clause-reply
-returns-in-Some-clause-reply g c = λ text taken none.
+returns-in-Some-clause-reply g c = λ taken none.
     let are = rw c.in-Some.is at c.in_ok-lines.ensures.taken in
     IfOk-weaker c.verify_answer.result _ _
     (λ r answer. of_bytes _ c.args.circuit.now c.in-Some.lines.items _ _ r.bytes.items (status_number r.status) are (rw c.deref.ensures.value at answer))
-    (c.verify_answer.ensures text taken)
+    (c.verify_answer.ensures taken.is_text)
 
 pub returns-in-None-clause-reply : goal.returns-in-None-clause-reply
-returns-in-None-clause-reply g c = λ text taken none.
+returns-in-None-clause-reply g c = λ taken none.
     let rose = rw c.in-None.is at c.in_ok-lines.ensures.taken in
     IfOk-weaker c.cannot_read.result _ _
     (λ r is. unread_file _ c.args.circuit.now _ _ r.bytes.items r.status none rose is.0 is.1)
