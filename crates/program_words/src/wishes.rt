@@ -38,13 +38,13 @@ impl Wishes<'_> {
 /// What the words ask for. They ask for nothing of it where they are refused, or there is no memory to read them.
 pub fn read_wishes(alloc: Global, words: &[String]) -> Wishes<'_> {
     match read_words(alloc, words) {
-        Ok(settings) => wishes_of(settings),
+        Ok(settings) => wishes_of(&settings),
         Err(_) => Wishes::NONE,
     }
 }
 
-fn wishes_of(settings: Settings<'_>) -> Wishes<'_> {
-    match settings {
+fn wishes_of<'a>(settings: &Settings<'a>) -> Wishes<'a> {
+    match *settings {
         Settings::Synth { search, .. } => Wishes {
             entries: search.entries(),
             ..Wishes::NONE
