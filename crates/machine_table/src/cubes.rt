@@ -2,12 +2,20 @@
 
 use crate::machines::Answer;
 use circuit_steps::{has, letters_with, signal_bit};
+use indexmap::IndexSet;
 use letter_word::Letter;
 use std::alloc::{AllocError, Global};
 
-const MOST_LETTERS: u32 = 256;
+/// The most letters: those of 16 signals.
+const MOST_LETTERS: u32 = 65_536;
 
 const LETTERS_OF_WORD: u32 = 64;
+
+/// The most words of a set of letters.
+const MOST_WORDS: u32 = 1024;
+
+/// The signals that are alike in all letters of a word: all but the first six.
+const SIGNALS_OF_WORD: u32 = !63;
 
 /// The letters that have the signals of `wanted`, and no others of the signals of `cared`.
 #[derive(Clone, Copy)]
@@ -49,10 +57,19 @@ impl Cube {
         }
     }
 
+    /// Whether a letter is one of its own.
+    pub fn has(self, letter: Letter) -> bool {
+        (letter.0 ^ self.wanted.0) & self.cared.0 == 0
+    }
+
     /// Its letters of a block of 64.
     fn word(self, block: u32) -> u64 {
+        let first = block.saturating_mul(LETTERS_OF_WORD);
+        if (first ^ self.wanted.0) & self.cared.0 & SIGNALS_OF_WORD != 0 {
+            return 0;
+        }
         let mut word = u64::MAX;
-        for signal in 0u32..8 {
+        for signal in 0u32..6 {
             match self.asks(signal) {
                 Some(true) => word &= letters_with(signal, block),
                 Some(false) => word &= !letters_with(signal, block),
@@ -70,17 +87,13 @@ struct LetterSet {
 }
 
 impl LetterSet {
-    /// The letters with that answer.
-    fn of(alloc: Global, answers: &[Answer], answer: Answer) -> Result<LetterSet, AllocError> {
-        let mut words = Vec::new(alloc);
-        for block in answers.chunks(LETTERS_OF_WORD as usize) {
-            let mut word = 0u64;
-            for (letter, own) in (0u32..LETTERS_OF_WORD).zip(block) {
-                if own.is(answer) {
-                    word |= letter_bit(letter);
-                }
+    /// These letters, of so many.
+    fn of(alloc: Global, count: usize, letters: &[u32]) -> Result<LetterSet, AllocError> {
+        let mut words = vec![in alloc; 0u64; words_of(count)]?;
+        for letter in letters {
+            if let Some(word) = words.get_mut((*letter / LETTERS_OF_WORD) as usize) {
+                *word |= letter_bit(*letter % LETTERS_OF_WORD);
             }
-            words.push(word)?;
         }
         Ok(LetterSet { words })
     }
@@ -92,13 +105,13 @@ impl LetterSet {
     }
 
     fn has_all(&self, cube: Cube) -> bool {
-        (0u32..4)
+        (0u32..MOST_WORDS)
             .zip(&self.words)
             .all(|(block, word)| cube.word(block) & !*word == 0)
     }
 
     fn take_away(&mut self, cube: Cube) {
-        for (block, word) in (0u32..4).zip(&mut self.words) {
+        for (block, word) in (0u32..MOST_WORDS).zip(&mut self.words) {
             *word &= !cube.word(block);
         }
     }
@@ -116,9 +129,22 @@ impl LetterSet {
     }
 }
 
+/// The words of a set of so many letters.
+fn words_of(count: usize) -> usize {
+    let last = (LETTERS_OF_WORD as usize).saturating_sub(1);
+    count.saturating_add(last) / (LETTERS_OF_WORD as usize)
+}
+
 /// The set of one letter of a block.
 fn letter_bit(letter: u32) -> u64 {
     if letter < 64 { 1 << letter } else { 0 }
+}
+
+/// The letters with one answer.
+#[derive(Drop)]
+struct Class {
+    answer: Answer,
+    letters: Vec<u32>,
 }
 
 /// Cubes for all letters of a state, those with the same answer together. They are few, not the fewest, and those with the same
@@ -128,31 +154,53 @@ pub(crate) fn edges_of(
     inputs: u32,
     answers: &[Answer],
 ) -> Result<Vec<Edge>, AllocError> {
-    let mut edges: Vec<Edge> = Vec::new(alloc);
-    for answer in answers {
-        if !edges.iter().any(|edge| edge.answer.is(*answer)) {
-            push_cubes(alloc, inputs, answers, *answer, &mut edges)?;
-        }
+    let mut edges = Vec::new(alloc);
+    for class in &classes_of(alloc, answers)? {
+        class.push_cubes(alloc, inputs, answers.len(), &mut edges)?;
     }
     Ok(edges)
 }
 
-/// Cubes for the letters with that answer.
-fn push_cubes(
-    alloc: Global,
-    inputs: u32,
-    answers: &[Answer],
-    answer: Answer,
-    edges: &mut Vec<Edge>,
-) -> Result<(), AllocError> {
-    let same = LetterSet::of(alloc, answers, answer)?;
-    let mut left = LetterSet::of(alloc, answers, answer)?;
-    for letter in 0..MOST_LETTERS {
-        if left.has(letter) {
-            let cube = same.widest_cube(inputs, letter);
-            left.take_away(cube);
-            edges.push(Edge { cube, answer })?;
+/// The letters with each answer, by the first of them.
+fn classes_of(alloc: Global, answers: &[Answer]) -> Result<Vec<Class>, AllocError> {
+    let mut met = IndexSet::new(alloc);
+    let mut classes: Vec<Class> = Vec::new(alloc);
+    for (letter, answer) in (0u32..MOST_LETTERS).zip(answers) {
+        let (place, is_new) = met.insert_full((answer.written.0, answer.next))?;
+        if is_new {
+            classes.push(Class {
+                answer: *answer,
+                letters: Vec::new(alloc),
+            })?;
+        }
+        if let Some(class) = classes.get_mut(place) {
+            class.letters.push(letter)?;
         }
     }
-    Ok(())
+    Ok(classes)
+}
+
+impl Class {
+    /// Cubes for its letters, of so many in all.
+    fn push_cubes(
+        &self,
+        alloc: Global,
+        inputs: u32,
+        count: usize,
+        edges: &mut Vec<Edge>,
+    ) -> Result<(), AllocError> {
+        let same = LetterSet::of(alloc, count, &self.letters)?;
+        let mut left = LetterSet::of(alloc, count, &self.letters)?;
+        for letter in &self.letters {
+            if left.has(*letter) {
+                let cube = same.widest_cube(inputs, *letter);
+                left.take_away(cube);
+                edges.push(Edge {
+                    cube,
+                    answer: self.answer,
+                })?;
+            }
+        }
+        Ok(())
+    }
 }

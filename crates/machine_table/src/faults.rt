@@ -18,6 +18,9 @@ pub enum ShowFault {
     NoMachine,
     TooManySignals,
     TooManyStates,
+    TooManyEdges,
+    /// A play that doesn't come to an end.
+    PlayTooLong,
     TooLong,
     SameNames,
     OtherSignals,
@@ -49,8 +52,10 @@ impl ShowFault {
             ShowFault::NoSuchDocument => "there is no such document in the file",
             ShowFault::NoMachine => "the document has no machine",
             ShowFault::TooManySignals =>
-                "the machine has more than 8 inputs or more than 8 outputs",
+                "the machine has more than 16 inputs or more than 16 outputs",
             ShowFault::TooManyStates => "the machine has more than 256 states",
+            ShowFault::TooManyEdges => "as a table the machine has more than 65536 lines",
+            ShowFault::PlayTooLong => "the play doesn't come round within 65536 steps",
             ShowFault::TooLong => "the output would have more than 64 MB",
             ShowFault::SameNames => "two signals of the machine have the same name",
             ShowFault::OtherSignals => "the signals of the text aren't those of the machine",

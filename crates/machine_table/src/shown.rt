@@ -5,9 +5,11 @@ use crate::faults::ShowFault;
 use crate::lines::Lines;
 use crate::machines::Machine;
 use crate::outputs::{Found, find, is_output};
+use crate::solved::{SolvedDocument, read_sixth};
 use aiger_text::{Circuit, CircuitFault, read_circuit};
 use cert_text::{Document, DocumentFault, Verdict, read_document};
 use letter_word::{Kind, Side};
+use solved_text::is_sixth;
 use std::alloc::Global;
 
 const BAD_HEADER: &str =
@@ -29,6 +31,8 @@ const TOO_LARGE: &str = "a circuit has at most 100000 variables";
 #[derive(Drop)]
 pub enum Shown {
     Document(Document),
+    /// A document of version 6.
+    Solved(SolvedDocument),
     /// A circuit of any maker, of which no document says what it is for.
     Circuit(Circuit),
 }
@@ -37,6 +41,7 @@ impl Shown {
     pub fn circuit(&self) -> Option<&Circuit> {
         match self {
             Shown::Document(document) => document.circuit.as_ref(),
+            Shown::Solved(document) => document.circuit.as_ref(),
             Shown::Circuit(circuit) => Some(circuit),
         }
     }
@@ -45,18 +50,26 @@ impl Shown {
     pub fn side(&self) -> Option<Side> {
         match self {
             Shown::Document(document) => side_in(document.verdict),
+            Shown::Solved(document) => document.side(),
             Shown::Circuit(_) => None,
         }
     }
 
     /// The kind of the machine, where a document says so: that of the system's machines, or for a counter-machine the other one.
     pub fn kind(&self) -> Option<Kind> {
-        let Shown::Document(document) = self else {
-            return None;
-        };
-        match side_in(document.verdict)? {
-            Side::System => Some(document.kind),
-            Side::Environment => Some(document.kind.other()),
+        let kind = self.kind_of_system()?;
+        match self.side()? {
+            Side::System => Some(kind),
+            Side::Environment => Some(kind.other()),
+        }
+    }
+
+    /// The kind of the system's machines, where a document says so.
+    pub fn kind_of_system(&self) -> Option<Kind> {
+        match self {
+            Shown::Document(document) => Some(document.kind),
+            Shown::Solved(document) => Some(document.kind),
+            Shown::Circuit(_) => None,
         }
     }
 
@@ -114,12 +127,22 @@ fn shown_in(alloc: Global, found: Found<'_>) -> Result<Shown, ShowFault> {
     if is_bare_circuit(found.bytes) {
         return bare_circuit(alloc, found.bytes);
     }
-    match read_document(alloc, found.bytes) {
-        Ok(document) => Ok(Shown::Document(document)),
-        Err(DocumentFault::NoMemory) => Err(ShowFault::NoMemory),
-        Err(DocumentFault::BadLine(line)) => {
+    match document_in(alloc, found.bytes) {
+        Err(ShowFault::BadDocument(line)) => {
             Err(ShowFault::BadDocument(line.saturating_add(found.lines_before)))
         }
+        shown => shown,
+    }
+}
+
+fn document_in(alloc: Global, bytes: &[u8]) -> Result<Shown, ShowFault> {
+    if is_sixth(alloc, bytes)? {
+        return Ok(Shown::Solved(read_sixth(alloc, bytes)?));
+    }
+    match read_document(alloc, bytes) {
+        Ok(document) => Ok(Shown::Document(document)),
+        Err(DocumentFault::NoMemory) => Err(ShowFault::NoMemory),
+        Err(DocumentFault::BadLine(line)) => Err(ShowFault::BadDocument(line)),
     }
 }
 
