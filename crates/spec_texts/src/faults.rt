@@ -7,6 +7,8 @@ pub enum TextFault {
     NotShown(ShowFault),
     /// The text has a fault, of which this line tells.
     Refused(Vec<u8>),
+    /// The same of a text that was taken within the limits of `solve`.
+    RefusedBySolve(Vec<u8>),
     /// The form isn't there for such a text, for this reason.
     NoSuchForm(&'static str),
 }

@@ -1,5 +1,6 @@
 //! The files of a document's logs.
 
+ghost use Rattle.std.specs.Prelude.{◌≡◌, ◌==◌, if◌then◌else◌};
 ghost use Rattle.machine_model.specs.Problem.{IsVersion};
 ghost use Rattle.spec_problems.specs.OfFormula.{AreProblems};
 
@@ -10,7 +11,7 @@ use crate::problems::base_of;
 use cert_text::{Document, LogPart};
 use clause_base::Cnf;
 use letter_word::Side;
-use machine_table::ShowFault;
+use machine_table::{ShowFault, Shown};
 use program_replies::refused;
 use spec_faults::SpecFault;
 use spec_problems::{SideProblems, text_problems};
@@ -18,6 +19,8 @@ use std::alloc::{AllocError, Global};
 
 /// The greatest size of a log.
 const MOST_STATES: u32 = 8;
+
+const NO_BASE: &str = "its logs are over base clauses of version 4, which aren't written";
 
 /// A file, and what stands behind a prefix in its name.
 #[derive(Drop)]
@@ -27,8 +30,18 @@ pub struct ProofFile {
 }
 
 /// For each log of a document its base clauses in DIMACS form (`.cnf`), its entries in LRAT (`.lrat`) and their clauses in DRAT (`.drat`).
-/// The names of a log that isn't closed say that it is no refutation. The entries themselves aren't tested.
-pub fn proof_files(
+/// The names of a log that isn't closed say that it is no refutation. The entries themselves aren't tested. A document of version 6 with logs is
+/// refused, since its base clauses aren't made here.
+pub fn proof_files(alloc: Global, shown: &Shown, text: &[u8]) -> Result<Vec<ProofFile>, TextFault> {
+    match shown {
+        Shown::Document(document) => files_of_document(alloc, document, text),
+        Shown::Solved(document) if document.logs.is_empty() => Ok(Vec::new(alloc)),
+        Shown::Solved(_) => Err(TextFault::NoSuchForm(NO_BASE)),
+        Shown::Circuit(_) => Err(TextFault::NotShown(ShowFault::NoSuchDocument)),
+    }
+}
+
+fn files_of_document(
     alloc: Global,
     document: &Document,
     text: &[u8],
@@ -46,7 +59,8 @@ pub fn proof_files(
 
 /// The version of the base clauses that a document's logs are over.
 fn clause_version(version: u32) -> u32
-    ensures { IsVersion result }
+    ensures value { result ≡ (if version == 1 then 1 else (if version == 5 then 3 else 2)) }
+    ensures version { IsVersion result }
 {
     match version {
         1 => 1,

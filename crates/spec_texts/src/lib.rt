@@ -6,6 +6,7 @@
 //! on spec_problems and annotation_encode for the base clauses.
 #![tactic(auto)]
 
+mod beside;
 mod dimacs;
 mod entries;
 mod faults;

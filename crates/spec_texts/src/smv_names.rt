@@ -2,12 +2,12 @@
 
 ghost use Rattle.ltl_formula.specs.Nodes.{Stands};
 
+use crate::beside::{flat_beside, input_count, shift_beside};
 use crate::faults::TextFault;
 use crate::plain_names::{SMV_WORDS, plain_names};
 use crate::smv::put_smv;
-use flat_answer::{Expansion, expanded};
 use flat_lines::all_names;
-use machine_table::{ShowFault, Text};
+use machine_table::{ShowFault, Shown, Text};
 use std::alloc::{AllocError, Global};
 use text_base::Name;
 use tlsf_expand::Spec;
@@ -58,28 +58,42 @@ fn push_names(names: &[Name], out: &mut Vec<Name>) -> Result<(), AllocError> {
     Ok(())
 }
 
-/// Puts the formula of a text, over the signals of a machine with those inputs and outputs.
+/// Puts the formula of a text, over the signals of the machine that is shown, with those inputs and outputs. Where the text was converted for it, X
+/// stands before the signals that are those of the next step.
 pub fn put_smv_formula(
     alloc: Global,
     text: &[u8],
+    shown: &Shown,
     names: &SmvNames,
     inputs: &[Name],
     outputs: &[Name],
     out: &mut Text,
 ) -> Result<(), TextFault> {
-    let spec = match expanded(alloc, text)? {
-        Expansion::Flat(spec) => spec,
-        Expansion::Refused(reply) => return Err(TextFault::Refused(reply.bytes)),
-    };
+    let spec = flat_beside(alloc, text, Some(shown))?;
+    let shift = shift_beside(Some(shown));
+    let count = input_count(&spec);
     let mut plain = Vec::new(alloc);
-    for signal in &all_names(alloc, &spec)? {
+    for (number, signal) in (0u32..32).zip(&all_names(alloc, &spec)?) {
         let Some(name) = names.name_for(signal, inputs, outputs) else {
             return Err(TextFault::NotShown(ShowFault::OtherSignals));
         };
-        plain.push(name.clone()?)?;
+        let is_shifted = shift.is_some_and(|shift| shift.takes(count, number));
+        plain.push(atom_of(alloc, name, is_shifted)?)?;
     }
     put_whole(&spec, &plain, out);
     Ok(())
+}
+
+/// The formula that a signal stands for: its name, or X and the name.
+fn atom_of(alloc: Global, name: &Name, is_shifted: bool) -> Result<Name, AllocError> {
+    if !is_shifted {
+        return name.clone();
+    }
+    let mut atom = Vec::new(alloc);
+    atom.extend_from_slice(b"(X ")?;
+    atom.extend_from_slice(name.bytes())?;
+    atom.push(b')')?;
+    Name::new(alloc, &atom)
 }
 
 fn put_whole(spec: &Spec, names: &[Name], out: &mut Text)
