@@ -2,16 +2,20 @@
 //! end of its last line; on standard output the heading and what the way asks for, or the text's first fault. The ways: `tree` what is
 //! read, `nodes` the list of formulas, `flat` all that a text is when it is expanded (`mealy` and `moore` with that kind given),
 //! `circuit` a circuit, written again, and where the comment and the names stand, `run BITS` its first output in each step where its
-//! first input has these values, and `document` whether a document is written as it was read, or its bad line. What a command prints is told by tools/rows.
+//! first input has these values, `document` whether a document is written as it was read, or its bad line, and `sizes SIDE LETTERS` how many
+//! variables and base clauses of version 4 a side's sizes 1 to 3 have over these letters, and fewer than ten clauses themselves. What a command
+//! prints is told by tools/rows.
 #![tactic(auto)]
 
 mod circuits;
 mod lines;
+mod sizes;
 mod specs;
 mod trees;
 
 use crate::circuits::{push_circuit, push_run};
 use crate::lines::Lines;
+use crate::sizes::push_sizes;
 use crate::specs::{push_nodes, push_spec};
 use crate::trees::push_tree;
 use cert_text::{DocumentFault, read_document, write_document};
@@ -87,6 +91,8 @@ fn push_row(lines: &mut Lines, heading: &[u8], text: &[u8]) -> Result<(), AllocE
         push_expanded(lines, text, Some(Kind::Moore), false)
     } else if heading.starts_with(b"circuit ") {
         push_circuit(lines, text)
+    } else if let Some(words) = heading.strip_prefix(b"sizes ") {
+        push_sizes(lines, words, text)
     } else if heading.starts_with(b"document ") {
         push_document(lines, text)
     } else if let Some(digits) = heading.strip_prefix(b"run ") {
