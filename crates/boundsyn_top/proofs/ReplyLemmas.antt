@@ -206,12 +206,12 @@ system_status : (text circuit bytes : List ℕ) (status : ℕ) → VerifyAnswers
 system_status text circuit bytes status (circuits.refused code place is fault why line) = (1, omega arith, sym is)
 system_status text circuit bytes status (circuits.bad_line given n is unnamed bad line) = (2, omega arith, sym is)
 system_status text circuit bytes status (circuits.verified given is unnamed holds line) = (0, omega arith, sym is)
-system_status text circuit bytes status (circuits.of_states given names answers) = test_status System text circuit given.known bytes status answers
+system_status text circuit bytes status (circuits.of_states given names tested) = test_status System text circuit given.known bytes status tested
 
 verify_status : (side : Side) (text circuit bytes : List ℕ) (status : ℕ) → CircuitAnswers side text circuit bytes status → Contains (0 ∷ 1 ∷ 40 ∷ []) status
 verify_status System text circuit bytes status answer = system_status text circuit bytes status answer
 verify_status Environment text circuit bytes status (circuits.text_refused code place is fault line) = (1, omega arith, sym is)
-verify_status Environment text circuit bytes status (circuits.of_text given answers) = test_status Environment text circuit given.known bytes status answers
+verify_status Environment text circuit bytes status (circuits.of_text given tested) = test_status Environment text circuit given.known bytes status tested
 
 -- a text that is too long is refused for either side
 verify_too_long : (side : Side) (text circuit bytes : List ℕ) (status : ℕ) → IsReadingFault text TooLong most_bytes → bytes ≡ refusal_line TooLong most_bytes → status ≡ 1

@@ -4,7 +4,7 @@ use Rattle.letter_word.specs.declared.kinds.Kind.{Kind}
 use Rattle.spec_faults.specs.declared.code.SpecCode.{SpecCode}
 use Rattle.solve_ground.specs.declared.texts.SolveText.{SolveText}
 use Rattle.solve_ground.specs.SolveText.{IsSolveFault, IsSolveText}
-use Rattle.solve_answer.specs.declared.answering.Refuting.{Refuting}
+use Rattle.solve_answer.specs.declared.refuting.Refuting.{Refuting}
 use Rattle.solve_answer.specs.Answer.{SolveAnswers}
 use Rattle.program_words.specs.Settings.{Refutations}
 
