@@ -42,6 +42,17 @@ def lose(page):
     page.press("0")
 
 
+def delay(page):
+    """The grant comes one step behind the request, as the formula says with X before it."""
+    line = "guarantee (G ((X grant) <-> request))"
+    same("later: the guarantee at the start", promises(page), {line: "kept so far"})
+    page.press("1")
+    page.press("Enter")
+    page.press("Enter")
+    same("later: the guarantee behind two steps", promises(page), {line: "kept so far"})
+    page.press("0")
+
+
 def owe(page):
     """A request without a grant is owed since its step, until the grant."""
     line = "guarantee (G (request_0 -> (F grant_0)))"

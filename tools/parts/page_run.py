@@ -7,10 +7,9 @@ import subprocess
 import sys
 
 from browser import Page
-from page_promises import lose, owe, press_buttons, promises, same
+from page_promises import delay, lose, owe, press_buttons, promises, same
 
 STEPS = 10
-EXAMPLES = os.path.join(os.path.dirname(os.path.realpath(__file__)), "..", "..", "examples")
 
 
 def printed(program, *words):
@@ -50,9 +49,8 @@ def take_steps(page, text, names, letters, wave):
         page.press("Enter")
 
 
-def test(boundsyn, show, text, room, pictures):
-    spec = os.path.join(EXAMPLES, f"{text}.tlsf")
-    document = write(room, "document", printed(boundsyn, "synth", spec, "--workers", "1"))
+def test(boundsyn, show, text, spec, words, room, pictures):
+    document = write(room, "document", printed(boundsyn, *words, spec))
     html = printed(show, document, "--html", "--spec", spec)
     same(f"{text}: that the page has less than 100,000 bytes", len(html.encode()) < 100_000, True)
     names = [line.split(" ", 1)[1] for line in printed(show, document, "--circuit").splitlines() if line[:1] == "i"]
@@ -61,7 +59,7 @@ def test(boundsyn, show, text, room, pictures):
     try:
         title = re.search(r'TITLE: +"([^"]*)"', open(spec, encoding="ascii").read()).group(1)
         same(f"{text}: the title", (page.text("#title"), page.value("document.title")), (title, title))
-        {"prophecy": lose, "arbiter_of_two": owe}.get(text, promises)(page)
+        {"prophecy": lose, "arbiter_of_two": owe, "later": delay}.get(text, promises)(page)
         take_steps(page, text, names, letters, wave)
         same(f"{text}: the run", dict(line.split(None, 1) for line in page.text("#wave").splitlines()), wave)
         same(f"{text}: that the last step is said in words", page.text("#said").startswith(f"Step {STEPS}: in state {wave['(state)'][-1]}, "), True)
