@@ -1,11 +1,14 @@
 //! What the summary and the table say, as JSON.
 
 use crate::logs::{Ending, LogSummary, side_name};
-use cert_text::{Document, LogPart, Verdict};
+use crate::solved::put_letters;
+use cert_text::{Document, Verdict};
 use letter_word::Side;
 use machine_table::{
-    Cube, Edge, Machine, Part, ShowFault, Shown, Text, escaped, escaped_text, has_twice,
+    Cube, Edge, Machine, Part, ShowFault, Shown, ShownLog, SolvedDocument, Text, escaped,
+    escaped_text, has_twice,
 };
+use solved_text::{Letters, Verdict as SolvedVerdict};
 use std::alloc::{AllocError, Global};
 
 /// A text between quotes; a `<` could end the script in which it stands.
@@ -23,6 +26,7 @@ pub(crate) fn put_json(alloc: Global, shown: &Shown, out: &mut Text) -> Result<(
     match shown {
         Shown::Circuit(_) => out.put("{\"verdict\": null, \"machine\": "),
         Shown::Document(document) => put_head(document, out),
+        Shown::Solved(document) => put_solved_head(document, out),
     }
     match shown.machine(alloc) {
         Ok(machine) => put_machine(alloc, &machine, shown.side(), out)?,
@@ -30,9 +34,7 @@ pub(crate) fn put_json(alloc: Global, shown: &Shown, out: &mut Text) -> Result<(
         Err(fault) => return Err(fault),
     }
     out.put(", \"logs\": [");
-    if let Shown::Document(document) = shown {
-        put_logs(alloc, document, out)?;
-    }
+    put_logs(alloc, shown, out)?;
     out.put("]}\n");
     Ok(())
 }
@@ -61,6 +63,35 @@ fn put_head(document: &Document, out: &mut Text) {
         None => out.put("null"),
     }
     out.put(", \"machine\": ");
+}
+
+fn put_solved_head(document: &SolvedDocument, out: &mut Text) {
+    let (word, is_least) = match document.verdict {
+        SolvedVerdict::Realizable(_) => ("realizable", truth(document.is_smallest())),
+        SolvedVerdict::Unrealizable(_) => ("unrealizable", truth(document.is_smallest())),
+        SolvedVerdict::Unknown => ("unknown", "null"),
+    };
+    out.fill(
+        "{\"verdict\": \"{}\", \"size\": {}, \"is_least_size\": {}, \"kind_of_system\": \"{}\", \"semantics\": ",
+        &[
+            Part::Word(word),
+            size_part(document.states()),
+            Part::Word(is_least),
+            Part::Word(document.kind.word()),
+        ],
+    );
+    match document.semantics {
+        Some(semantics) => out.fill("\"{}\"", &[Part::Word(semantics.word())]),
+        None => out.put("null"),
+    }
+    out.fill(
+        ", \"refuted\": {}, \"machine\": ",
+        &[Part::Number(document.logs.len() as u64)],
+    );
+}
+
+fn truth(is_so: bool) -> &'static str {
+    if is_so { "true" } else { "false" }
 }
 
 fn size_part(size: Option<u32>) -> Part<'static> {
@@ -151,26 +182,48 @@ pub(crate) fn put_text(alloc: Global, text: &str, out: &mut Text) -> Result<(), 
     Ok(())
 }
 
-fn put_logs(alloc: Global, document: &Document, out: &mut Text) -> Result<(), AllocError> {
-    for (place, log) in document.logs.iter().enumerate() {
-        out.put(if place == 0 { "" } else { "," });
-        put_log(log, &LogSummary::of(alloc, log, document.entries)?, out);
+fn put_logs(alloc: Global, shown: &Shown, out: &mut Text) -> Result<(), AllocError> {
+    for place in 0..shown.log_count() {
+        if let Some(log) = shown.log(place) {
+            out.put(if place == 0 { "" } else { "," });
+            put_log(log, &LogSummary::of(alloc, log, shown.most_entries())?, out);
+        }
     }
     Ok(())
 }
 
-fn put_log(log: &LogPart, summary: &LogSummary, out: &mut Text) {
+/// Puts the letters over which the base clauses of a log are.
+fn put_log_letters(letters: &Letters, out: &mut Text) {
+    out.put(", \"letters\": ");
+    let (opening, closing) = match letters {
+        Letters::All => ("\"", "\""),
+        Letters::Few(_) => ("[", "]"),
+    };
+    out.put(opening);
+    put_letters(letters, ", ", out);
+    out.put(closing);
+}
+
+fn put_log(log: ShownLog<'_>, summary: &LogSummary, out: &mut Text) {
     let ending = match summary.ending {
         Ending::Closed => "closed",
         Ending::Full => "full",
         Ending::Open => "open",
     };
     out.fill(
-        "\n {\"side\": \"{}\", \"size\": {}, \"end\": \"{}\", \"variables\": {}, \"base_clauses\": {}, \"entries\": {}, \"longest_clause\": {}, \"workers\": {",
+        "\n {\"side\": \"{}\", \"size\": {}, \"end\": \"{}\"",
         &[
             Part::Word(summary.side),
             Part::Number(u64::from(log.size)),
             Part::Word(ending),
+        ],
+    );
+    if let Some(letters) = log.letters {
+        put_log_letters(letters, out);
+    }
+    out.fill(
+        ", \"variables\": {}, \"base_clauses\": {}, \"entries\": {}, \"longest_clause\": {}, \"workers\": {",
+        &[
             Part::Number(u64::from(log.vars)),
             Part::Number(log.base),
             Part::Number(log.entries.len() as u64),

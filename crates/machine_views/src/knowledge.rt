@@ -1,17 +1,21 @@
 //! What a document says in sentences: its verdict, and what is known of other sizes.
 
 use crate::logs::{Ending, ending_of};
-use cert_text::{Document, LogPart, Verdict};
+use crate::solved;
+use cert_text::Verdict;
 use letter_word::Side;
-use machine_table::{Part, Shown, Text};
+use machine_table::{Part, Shown, ShownLog, Text};
 
 /// Puts what is known of the machine.
 pub(crate) fn put_known(shown: &Shown, out: &mut Text) {
-    let (form, size) = match shown {
-        Shown::Circuit(_) => ("A circuit alone: nothing says what it is for.", 0),
-        Shown::Document(document) => sentence_of_verdict(document.verdict),
-    };
-    out.fill(form, &[Part::Number(u64::from(size))]);
+    match shown {
+        Shown::Circuit(_) => out.put("A circuit alone: nothing says what it is for."),
+        Shown::Solved(document) => solved::put_known(document, out),
+        Shown::Document(document) => {
+            let (form, size) = sentence_of_verdict(document.verdict);
+            out.fill(form, &[Part::Number(u64::from(size))]);
+        }
+    }
 }
 
 fn sentence_of_verdict(verdict: Verdict) -> (&'static str, u32) {
@@ -43,8 +47,8 @@ fn sentence_of_verdict(verdict: Verdict) -> (&'static str, u32) {
     }
 }
 
-/// Puts a sentence on a log.
-pub(crate) fn put_size(document: &Document, log: &LogPart, out: &mut Text) {
+/// Puts a sentence on a log, which has at most so many entries.
+pub(crate) fn put_size(log: ShownLog<'_>, most: Option<u64>, out: &mut Text) {
     let what = match log.side {
         Side::System => "controller",
         Side::Environment => "counter-machine",
@@ -54,7 +58,7 @@ pub(crate) fn put_size(document: &Document, log: &LogPart, out: &mut Text) {
     let size = Part::Number(u64::from(log.size));
     let vars = Part::Number(u64::from(log.vars));
     let base = Part::Number(log.base);
-    match (ending_of(&log.entries, document.entries), document.entries) {
+    match (ending_of(log.entries, most), most) {
         (Ending::Closed, _) => out.fill(
             "No {} of size {} exists: its log of {} {}, over {} variables and {} clauses, is closed.",
             &[

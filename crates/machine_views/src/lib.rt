@@ -2,7 +2,7 @@
 //! an automaton, JSON, and what it does on a word or against another machine as lines of text or as a VCD file.
 //!
 //! `show` gives one of these views as text. It promises safety alone. The page is tools/page.html. Stands on machine_table for what is shown and its
-//! machine, on lasso_word for words, on dual_search for plays, and on spec_texts for what is told of a text.
+//! machine, on lasso_word for words, and on spec_texts for what is told of a text.
 #![tactic(auto)]
 
 mod dot;
@@ -22,6 +22,7 @@ mod ports;
 mod runs;
 mod smv;
 mod smv_conditions;
+mod solved;
 mod summary;
 mod table;
 mod vcd;

@@ -1,7 +1,7 @@
 //! What is told of a log.
 
-use cert_text::LogPart;
 use letter_word::Side;
+use machine_table::ShownLog;
 use refutation_log::Entry;
 use std::alloc::{AllocError, Global};
 use std::collections::BTreeMap;
@@ -27,14 +27,14 @@ pub(crate) struct LogSummary {
 impl LogSummary {
     pub(crate) fn of(
         alloc: Global,
-        log: &LogPart,
+        log: ShownLog<'_>,
         most: Option<u64>,
     ) -> Result<LogSummary, AllocError> {
         Ok(LogSummary {
             side: side_name(log.side),
-            ending: ending_of(&log.entries, most),
-            workers: entries_by_worker(alloc, &log.entries)?,
-            longest: longest_clause(&log.entries),
+            ending: ending_of(log.entries, most),
+            workers: entries_by_worker(alloc, log.entries)?,
+            longest: longest_clause(log.entries),
         })
     }
 }

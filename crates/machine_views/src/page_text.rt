@@ -594,7 +594,7 @@ function buildInputs() {\n\
 \x20\x20\x20\x20const button = document.createElement(\"button\");\n\
 \x20\x20\x20\x20button.type = \"button\";\n\
 \x20\x20\x20\x20button.dataset.signal = i;\n\
-\x20\x20\x20\x20button.innerHTML = `<span></span> <kbd>${i + 1}</kbd>`;\n\
+\x20\x20\x20\x20button.innerHTML = i < 9 ? `<span></span> <kbd>${i + 1}</kbd>` : \"<span></span>\";\n\
 \x20\x20\x20\x20button.firstChild.textContent = name;\n\
 \x20\x20\x20\x20button.addEventListener(\"click\", () => act(\"toggle\", i));\n"
 }

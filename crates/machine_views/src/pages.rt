@@ -78,10 +78,10 @@ fn put_knowledge(shown: &Shown, out: &mut Text) {
     out.put(",\n \"verdict\": \"");
     put_known(shown, out);
     out.put("\",\n \"sizes\": [");
-    if let Shown::Document(document) = shown {
-        for (place, log) in document.logs.iter().enumerate() {
+    for place in 0..shown.log_count() {
+        if let Some(log) = shown.log(place) {
             out.put(if place == 0 { "\"" } else { ", \"" });
-            put_size(document, log, out);
+            put_size(log, shown.most_entries(), out);
             out.put("\"");
         }
     }

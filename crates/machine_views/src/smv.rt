@@ -2,7 +2,7 @@
 
 use crate::smv_conditions::{put_output, put_steps};
 use letter_word::Side;
-use machine_table::{Machine, Part, ShowFault, Text, has_twice, labels_of};
+use machine_table::{Machine, Part, ShowFault, Shown, Text, has_twice, labels_of};
 use spec_texts::{SmvNames, TextFault, put_smv_formula};
 use std::alloc::Global;
 
@@ -11,11 +11,11 @@ use std::alloc::Global;
 /// signals with the same name.
 pub(crate) fn put_smv(
     alloc: Global,
-    machine: &Machine,
-    side: Option<Side>,
+    shown: &Shown,
     text: Option<&[u8]>,
     out: &mut Text,
 ) -> Result<(), TextFault> {
+    let machine = shown.machine(alloc)?;
     if has_twice(&machine.inputs.labels, &machine.outputs.labels) {
         return Err(TextFault::NotShown(ShowFault::SameNames));
     }
@@ -24,15 +24,16 @@ pub(crate) fn put_smv(
     let outputs = labels_of(alloc, &names.outputs)?;
     put_replaced(&machine.inputs.labels, &inputs, out);
     put_replaced(&machine.outputs.labels, &outputs, out);
-    put_module(machine, &inputs, &outputs, out);
+    put_module(&machine, &inputs, &outputs, out);
     if let Some(text) = text {
-        out.put(match side {
+        out.put(match shown.side() {
             Some(Side::Environment) => "LTLSPEC ! ",
             _ => "LTLSPEC ",
         });
         put_smv_formula(
             alloc,
             text,
+            shown,
             &names,
             &machine.inputs.names,
             &machine.outputs.names,

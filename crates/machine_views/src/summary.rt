@@ -1,20 +1,28 @@
 //! What a document says, for a person.
 
 use crate::logs::{Ending, LogSummary};
+use crate::solved;
 use aiger_text::Circuit;
-use cert_text::{Document, LogPart, Verdict};
+use cert_text::{Document, Verdict};
 use letter_word::{Kind, Side};
-use machine_table::{Machine, Part, ShowFault, Shown, Text, put_words};
+use machine_table::{Machine, Part, ShowFault, Shown, ShownLog, SolvedDocument, Text, put_words};
 use std::alloc::{AllocError, Global};
 
 pub(crate) fn put_summary(alloc: Global, shown: &Shown, out: &mut Text) -> Result<(), AllocError> {
     match shown {
-        Shown::Document(document) => put_document(alloc, document, shown.kind(), out),
+        Shown::Document(document) => put_document(alloc, document, shown.kind(), out)?,
+        Shown::Solved(document) => put_solved(alloc, document, shown.kind(), out)?,
         Shown::Circuit(circuit) => {
             out.put("verdict: none, since it is a circuit alone\n");
-            put_machine(alloc, circuit, None, out)
+            put_machine(alloc, circuit, None, out)?;
         }
     }
+    for place in 0..shown.log_count() {
+        if let Some(log) = shown.log(place) {
+            put_log(alloc, log, shown.most_entries(), out)?;
+        }
+    }
+    Ok(())
 }
 
 fn put_document(
@@ -29,15 +37,53 @@ fn put_document(
         "\nkind of the system: {}\n",
         &[Part::Word(document.kind.word())],
     );
-    match &document.circuit {
-        Some(circuit) => put_machine(alloc, circuit, kind, out)?,
-        None => out.put("states: none, since there is no machine\n"),
-    }
+    put_any_machine(alloc, document.circuit.as_ref(), kind, out)?;
     put_limits(document, out);
-    for log in &document.logs {
-        put_log(alloc, log, document.entries, out)?;
-    }
     Ok(())
+}
+
+fn put_solved(
+    alloc: Global,
+    document: &SolvedDocument,
+    kind: Option<Kind>,
+    out: &mut Text,
+) -> Result<(), AllocError> {
+    out.put("verdict: ");
+    solved::put_verdict(document, out);
+    out.fill(
+        "\nkind of the system: {}\n",
+        &[Part::Word(document.kind.word())],
+    );
+    if document.semantics.is_some() {
+        out.put("semantics of the text: ");
+        solved::put_semantics(document, out);
+        out.put("\n");
+    }
+    put_any_machine(alloc, document.circuit.as_ref(), kind, out)?;
+    put_refuted(document, out);
+    Ok(())
+}
+
+fn put_refuted(document: &SolvedDocument, out: &mut Text) {
+    out.fill(
+        "smaller sizes that are refuted: {}\n",
+        &[Part::Number(document.logs.len() as u64)],
+    );
+}
+
+fn put_any_machine(
+    alloc: Global,
+    circuit: Option<&Circuit>,
+    kind: Option<Kind>,
+    out: &mut Text,
+) -> Result<(), AllocError> {
+    match circuit {
+        Some(circuit) => put_machine(alloc, circuit, kind, out),
+        None => {
+            out.put("states: none, since there is no machine\n");
+            Ok(())
+        }
+    }
 }
 
 fn put_limits(document: &Document, out: &mut Text) {
@@ -113,7 +159,7 @@ fn put_signals(machine: &Machine, out: &mut Text) {
 /// The size of a log's problem, its entries, and how it ends.
 fn put_log(
     alloc: Global,
-    log: &LogPart,
+    log: ShownLog<'_>,
     most: Option<u64>,
     out: &mut Text,
 ) -> Result<(), AllocError> {
@@ -124,11 +170,21 @@ fn put_log(
         Ending::Open => "neither closed nor full",
     };
     out.fill(
-        "log of {} size {}: {}\n    variables: {}\n    base clauses: {}\n    entries: {}\n",
+        "log of {} size {}: {}\n",
         &[
             Part::Word(summary.side),
             Part::Number(u64::from(log.size)),
             Part::Word(ending),
+        ],
+    );
+    if let Some(letters) = log.letters {
+        out.put("    letters: ");
+        solved::put_letters(letters, ",", out);
+        out.put("\n");
+    }
+    out.fill(
+        "    variables: {}\n    base clauses: {}\n    entries: {}\n",
+        &[
             Part::Number(u64::from(log.vars)),
             Part::Number(log.base),
             Part::Number(log.entries.len() as u64),

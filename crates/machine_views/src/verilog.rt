@@ -2,10 +2,11 @@
 
 use crate::identifiers::{free_front, free_name, identifier};
 use crate::ports::{Labels, Ports};
+use crate::solved;
 use crate::summary::put_verdict;
 use crate::vcd::bits_of;
 use crate::verilog_states::put_state;
-use machine_table::{Machine, Part, ShowFault, Shown, Text};
+use machine_table::{Machine, Part, ShowFault, Shown, SolvedDocument, Text};
 use std::alloc::{AllocError, Global};
 
 /// How the state register comes to the first state.
@@ -86,9 +87,19 @@ fn put_comment(shown: &Shown, machine: &Machine, view: ModuleView<'_>, out: &mut
     );
     match shown {
         Shown::Document(document) => put_verdict(document.verdict, out),
+        Shown::Solved(document) => put_solved(document, out),
         Shown::Circuit(_) => out.put("a circuit alone"),
     }
     out.put("\n");
+}
+
+/// The verdict of a document of version 6, and what it means that the text was converted.
+fn put_solved(document: &SolvedDocument, out: &mut Text) {
+    solved::put_verdict(document, out);
+    if document.semantics.is_some() {
+        out.put("\n// semantics of the text: ");
+        solved::put_semantics(document, out);
+    }
 }
 
 fn put_head(

@@ -52,8 +52,8 @@ pub(crate) fn put_state(
 /// The outputs that are true whatever is read.
 fn written_always(row: &Row) -> Letter {
     let mut written = u32::MAX;
-    for answer in &row.answers {
-        written &= answer.written.0;
+    for edge in &row.edges {
+        written &= edge.answer.written.0;
     }
     Letter(written)
 }

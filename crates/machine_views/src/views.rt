@@ -62,7 +62,7 @@ pub fn show(alloc: Global, shown: &Shown, view: View<'_>) -> Result<Vec<u8>, Tex
         View::Hoa => put_hoa(alloc, &shown.machine(alloc)?, &mut out)?,
         View::Verilog(module) => put_verilog(alloc, shown, module, &mut out)?,
         View::Page(told) => put_page(alloc, shown, told, &mut out)?,
-        View::Smv(text) => put_smv(alloc, &shown.machine(alloc)?, shown.side(), text, &mut out)?,
+        View::Smv(text) => put_smv(alloc, shown, text, &mut out)?,
         View::Vcd(word) => put_run(alloc, shown, word, true, &mut out)?,
         View::Wave(word) => put_run(alloc, shown, word, false, &mut out)?,
         View::Play(other, play) => put_play(alloc, shown, other, play, &mut out)?,
@@ -88,7 +88,7 @@ fn put_run(
     Ok(())
 }
 
-/// A machine has at most 8 inputs, so a word has few names.
+/// A machine has at most 16 inputs, so a word has few names.
 fn lasso_of(alloc: Global, text: &[u8], names: &[Name]) -> Result<Lasso, ShowFault> {
     if names.len() > MOST_NAMES {
         return Err(ShowFault::TooManySignals);
