@@ -89,7 +89,9 @@ fn is_of_other(alloc: Global, fault: &TextFault, shown: &Shown) -> bool {
         TextFault::NotShown(ShowFault::NoMachine) => shown.machine(alloc).is_ok(),
         TextFault::NotShown(ShowFault::TooManySignals) => shown.machine(alloc).is_ok(),
         TextFault::NotShown(ShowFault::TooManyStates) => shown.machine(alloc).is_ok(),
+        TextFault::NotShown(ShowFault::TooManyEdges) => shown.machine(alloc).is_ok(),
         TextFault::Refused(_) => true,
+        TextFault::RefusedBySolve(_) => true,
         TextFault::NoSuchForm(_) => true,
         TextFault::NotShown(ShowFault::OtherSignals) => true,
         TextFault::NotShown(ShowFault::NoSuchDocument) => true,
@@ -124,11 +126,17 @@ fn view_text(
         }
         Asked::Html => match beside {
             None => show(alloc, shown, View::Page(None)),
-            Some(text) => show(alloc, shown, View::Page(Some(&Told::of(alloc, text)?))),
+            Some(text) => {
+                let told = Told::of(alloc, text, Some(shown))?;
+                show(alloc, shown, View::Page(Some(&told)))
+            }
         },
         Asked::Verilog(name, reset) => match beside {
             None => module_text(alloc, shown, name, reset, None),
-            Some(text) => module_text(alloc, shown, name, reset, Some(&Told::of(alloc, text)?)),
+            Some(text) => {
+                let told = Told::of(alloc, text, Some(shown))?;
+                module_text(alloc, shown, name, reset, Some(&told))
+            }
         },
         _ => show(alloc, shown, View::Summary),
     }
@@ -159,11 +167,7 @@ fn proofs_text<R: Files>(
     document: File<'_>,
     text: File<'_>,
 ) -> Result<Vec<u8>, Fault> {
-    let Shown::Document(read) = shown else {
-        let fault = TextFault::NotShown(ShowFault::NoSuchDocument);
-        return Err(Fault::of(alloc, fault, document)?);
-    };
-    let files = match proof_files(alloc, read, text.bytes) {
+    let files = match proof_files(alloc, shown, text.bytes) {
         Ok(files) => files,
         Err(TextFault::Refused(line)) => {
             return Err(Fault::of(alloc, TextFault::Refused(line), text)?);
@@ -225,7 +229,7 @@ pub(crate) fn lint_answer<R: Files>(rt: &R, alloc: Global, name: &str) -> Result
 
 fn lint_text(alloc: Global, file: File<'_>) -> Result<Vec<u8>, TextFault> {
     // Of a text that is refused nothing is said but its fault.
-    let _about = Told::of(alloc, file.bytes)?;
+    let _about = Told::of(alloc, file.bytes, None)?;
     let mut shown = String::new(alloc);
     push_shown(alloc, file.name.as_bytes(), &mut shown)?;
     let mut out = Text::new(alloc);

@@ -64,7 +64,8 @@ impl Fault {
         match fault {
             TextFault::NotShown(ShowFault::NoMemory) => Ok(Fault::NoMemory),
             TextFault::NotShown(reason) => of_shown(alloc, reason, file),
-            TextFault::Refused(line) => of_text(alloc, line, file),
+            TextFault::Refused(line) => of_text(alloc, "expand", line, file),
+            TextFault::RefusedBySolve(line) => of_text(alloc, "solve", line, file),
             TextFault::NoSuchForm(reason) => told(
                 alloc,
                 Status::Refused,
@@ -176,11 +177,16 @@ fn has_line(bytes: &[u8], number: u64) -> bool {
     number <= count as u64
 }
 
-/// Of a text, as `boundsyn expand` tells it, which writes that line.
-fn of_text(alloc: Global, line: Vec<u8>, file: File<'_>) -> Result<Fault, AllocError> {
+/// Of a text, as that command of `boundsyn` tells it, which writes that line.
+fn of_text(
+    alloc: Global,
+    command: &str,
+    line: Vec<u8>,
+    file: File<'_>,
+) -> Result<Fault, AllocError> {
     let mut words = Vec::new(alloc);
     words.push(String::from_str(alloc, "boundsyn")?)?;
-    words.push(String::from_str(alloc, "expand")?)?;
+    words.push(String::from_str(alloc, command)?)?;
     let mut files = KeptFiles::new(alloc);
     files.keep(file.name, file.bytes);
     let mut heard = Heard::new(alloc, false);
