@@ -9,10 +9,10 @@ can_be_tested text (Of t) taken = taken.facts
 can_be_tested text (Refused reply) alone = tt
 
 pub check_answer-requires : goal.check_answer-requires
-check_answer-requires g c = (search rules, can_be_tested c.args.text.now c.in-Taken.found (rw c.in-Taken.is at c.in_ok-text_for_check.ensures))
+check_answer-requires g c = (search rules, can_be_tested c.args.text.now c.in-Taken.found (rw c.in-Taken.is at c.in_ok-found.ensures))
 
 pub returns-in-Taken : goal.returns-in-Taken
-returns-in-Taken g c = c.check_answer.ensures (rw c.in-Taken.is at c.in_ok-text_for_check.ensures)
+returns-in-Taken g c = c.check_answer.ensures (rw c.in-Taken.is at c.in_ok-found.ensures)
 
 pub returns-in-Refused : goal.returns-in-Refused
-returns-in-Refused g c = (rw c.in-Refused.is at c.in_ok-text_for_check.ensures) c.args.certificate.now
+returns-in-Refused g c = (rw c.in-Refused.is at c.in_ok-found.ensures) c.args.certificate.now
