@@ -1,4 +1,3 @@
-use Rattle.std.proofs.Common.{◌≡◌}
 use Rattle.std.specs.Prelude.{◌≢◌}
 use Rattle.program_replies.specs.Statuses.{status_number}
 use Rattle.answer_laws.proofs.tests.checked_answer.Goals as goal
