@@ -10,7 +10,7 @@ use Rattle.check_answer.specs.Answer.{CheckAnswers}
 use Rattle.core_answer.specs.Core.{CoreAnswers}
 use Rattle.batch_answer.specs.Batch.{BatchAnswers, Part}
 use Rattle.answer_laws.specs.Accepted.{IsAccepted, PrintedIsAccepted}
-use Rattle.program_words.specs.Settings.{check, core, synth}
+use Rattle.program_words.specs.Settings.{core, synth}
 use Rattle.boundsyn_top.specs.Batch.{AreFilesOf}
 use Rattle.boundsyn_top.specs.Commands.{AnswersAsked}
 use Rattle.boundsyn_top.specs.Printed.{IsCheckedWell, PrintedRunsAreAccepted}
