@@ -22,7 +22,7 @@ pub(crate) enum Sides {
     Environment,
 }
 
-/// What the games are told wrongly. The test isn't.
+/// What the games are told wrongly, or have too little room for. The test isn't told so.
 #[derive(Clone, Copy)]
 pub(crate) enum Slip {
     None,
@@ -36,6 +36,10 @@ pub(crate) enum Slip {
     Kind,
     /// Each side has the automaton of the other.
     Exchange,
+    /// There is room for two positions.
+    Positions,
+    /// There is room for 300 bytes of positions.
+    Bytes,
 }
 
 impl Heading {
@@ -83,6 +87,8 @@ fn slip_of(word: &[u8]) -> Slip {
         b"ends" => Slip::Ends,
         b"kind" => Slip::Kind,
         b"exchange" => Slip::Exchange,
+        b"positions" => Slip::Positions,
+        b"bytes" => Slip::Bytes,
         _ => Slip::None,
     }
 }

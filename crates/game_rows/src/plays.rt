@@ -39,17 +39,27 @@ fn push_play(
     let system = told(alloc, text, Side::System, heading.slip)?;
     let environment = told(alloc, text, Side::Environment, heading.slip)?;
     let contest = contest(text, heading, system.as_ref(), environment.as_ref());
-    let budget = Budget {
-        steps: heading.steps,
-        positions: MOST_POSITIONS,
-        bytes: MOST_BYTES,
-    };
-    let Outcome::Found(found) = find(alloc, contest, budget)? else {
+    let Outcome::Found(found) = find(alloc, contest, budget(heading))? else {
         return out.extend_from_slice(b"nobody\n");
     };
     match problem_of(text, found.side) {
         Some(problem) => push_found(alloc, out, problem, &found, heading),
         None => out.extend_from_slice(b"a side that has no automaton\n"),
+    }
+}
+
+/// What the games may use.
+fn budget(heading: Heading) -> Budget {
+    Budget {
+        steps: heading.steps,
+        positions: match heading.slip {
+            Slip::Positions => 2,
+            _ => MOST_POSITIONS,
+        },
+        bytes: match heading.slip {
+            Slip::Bytes => 300,
+            _ => MOST_BYTES,
+        },
     }
 }
 
