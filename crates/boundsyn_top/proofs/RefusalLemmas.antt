@@ -1,5 +1,5 @@
 -- Nothing but its line answers a fault, or a bad line.
-use Rattle.std.proofs.Common.{◌≡◌, ◌<◌, ◌≤◌, ℕ, List, ◌∙◌, ap, arith, refl, true, Option, Some}
+use Rattle.std.proofs.Common.{◌≡◌, ◌<◌, ◌≤◌, ℕ, List, ◌∙◌, ap, arith, true, Option, Some}
 use Rattle.text_limits.specs.declared.TheConstants.{SMALL_LIMITS}
 use Rattle.letter_word.specs.declared.kinds.Kind.{Kind}
 use Rattle.spec_faults.specs.declared.code.SpecCode.{SpecCode}
@@ -146,8 +146,8 @@ module _ (problems : ProblemsOfTextsAreDetermined) (checks : ChecksAreDetermined
       (of_told files spec (λ text. CoreAnswers text kind wanted bytes status) a.answer) fault
   of_text files (batch list wanted) bytes status code place fault a = absurd fault
   of_text files (solve spec kind refutations) bytes status code place fault a =
-      solve_fault solvings (bytes_under files spec) kind bytes status code place
-      (of_told files spec (λ text. SolveAnswers text kind bytes status) a.answer) fault
+      solve_fault solvings (bytes_under files spec) kind refutations.max bytes status code place
+      (of_told files spec (λ text. SolveAnswers text kind refutations.max bytes status) a.answer) fault
 
   of_line : (files : Files) (asked : Asked) (bytes : List ℕ) (status n : ℕ) → HasBadLine files asked n →
       AnswersAsked (Some files) asked bytes status → (status ≡ 40) × (bytes ≡ line_refusal n)

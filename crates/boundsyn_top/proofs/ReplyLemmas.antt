@@ -21,9 +21,8 @@ use Rattle.tlsf_reader.specs.Faults.{IsReadingFault, most_bytes, too_long}
 use Rattle.tlsf_expand.specs.FlatText.{FlatText, spec_seen}
 use Rattle.flat_text.specs.FlatOf.{IsFlatFault, IsFlatOf, of_reading}
 use Rattle.flat_text.specs.Laws.{FlatTextsHaveNoFault}
-use Rattle.spec_problems.specs.declared.texts.TextProblems.{TextProblems}
 use Rattle.spec_problems.specs.Laws.{ProblemsOfTextsAreDetermined}
-use Rattle.spec_problems.specs.OfText.{IsFirstFault, of_text}
+use Rattle.spec_problems.specs.OfText.{of_text}
 use Rattle.synth_engine.specs.declared.settings.Settings.{Settings}
 use Rattle.synth_answer.specs.Answer.{Answers, realizable, unrealizable, bounded, no_size, no_entries}
 use Rattle.synth_answer.specs.Answer as synthesis
@@ -227,12 +226,12 @@ core_status text kind settings bytes status (cores.refused code place is fault l
 core_status text kind settings bytes status (cores.spared flat is_flat few answer is) = synth_status text kind settings bytes status answer
 core_status text kind settings bytes status (cores.core is told) = (3, omega arith, sym is)
 
-solve_status : (text : List ℕ) (kind : Option Kind) (bytes : List ℕ) (status : ℕ) → SolveAnswers text kind bytes status →
+solve_status : (text : List ℕ) (kind : Option Kind) (most : Option ℕ) (bytes : List ℕ) (status : ℕ) → SolveAnswers text kind most bytes status →
     Contains (1 ∷ 10 ∷ 20 ∷ 30 ∷ []) status
-solve_status text kind bytes status (solved.refused code place is fault line) = (0, omega arith, sym is)
-solve_status text kind bytes status (solved.realizable n is prints) = (1, omega arith, sym is)
-solve_status text kind bytes status (solved.unrealizable n is prints) = (2, omega arith, sym is)
-solve_status text kind bytes status (solved.unknown is prints) = (3, omega arith, sym is)
+solve_status text kind most bytes status (solved.refused code place is fault line) = (0, omega arith, sym is)
+solve_status text kind most bytes status (solved.realizable n is prints) = (1, omega arith, sym is)
+solve_status text kind most bytes status (solved.unrealizable n is prints) = (2, omega arith, sym is)
+solve_status text kind most bytes status (solved.unknown is prints) = (3, omega arith, sym is)
 
 list_status : (told : Option Files) (lines : List ℕ) (wanted : EachText) (bytes : List ℕ) (status : ℕ) →
     ListAnswers told lines wanted bytes status → Contains (0 ∷ 40 ∷ []) status
@@ -417,9 +416,9 @@ module _ (step : ShelfStep) where
   -- == solve ==
 
   pub solve_answered : (spec text : List ℕ) (kind : Option Kind) (refutations : Refutations) (bytes : List ℕ) (status : ℕ) →
-      AreOfFile step.files spec text → SolveAnswers text kind bytes status → RepliesTo step (solve spec kind refutations) bytes status
+      AreOfFile step.files spec text → SolveAnswers text kind refutations.max bytes status → RepliesTo step (solve spec kind refutations) bytes status
   solve_answered spec text kind refutations bytes status are answer =
-      replies (solve spec kind refutations) bytes status (solve_status text kind bytes status answer) (record { bytes = text; are_told = are; holds = answer })
+      replies (solve spec kind refutations) bytes status (solve_status text kind refutations.max bytes status answer) (record { bytes = text; are_told = are; holds = answer })
 
   pub solve_untaken : (spec : List ℕ) (kind : Option Kind) (refutations : Refutations) (bytes : List ℕ) (status : ℕ) →
       IsUntaken step spec bytes status → RepliesTo step (solve spec kind refutations) bytes status

@@ -98,13 +98,13 @@ module _ (laws : SolveFaultsAreDetermined) where
   printed text given bytes d code place accepted fault = absurd (laws.no_fault text given accepted.known code place accepted.is_known fault)
 
   -- nothing but its line answers a fault
-  pub solve_fault : (text : List ℕ) (given : Option Kind) (bytes : List ℕ) (status : ℕ) (code : SpecCode) (place : ℕ) →
-      SolveAnswers text given bytes status → IsSolveFault text given code place → (status ≡ 1) × (bytes ≡ refusal_line code place)
-  solve_fault text given bytes status code place (answers.refused other at ended first line) fault =
+  pub solve_fault : (text : List ℕ) (given : Option Kind) (most : Option ℕ) (bytes : List ℕ) (status : ℕ) (code : SpecCode) (place : ℕ) →
+      SolveAnswers text given most bytes status → IsSolveFault text given code place → (status ≡ 1) × (bytes ≡ refusal_line code place)
+  solve_fault text given most bytes status code place (answers.refused other at ended first line) fault =
       let e = laws.one_fault text given other code at place first fault in (ended, line ∙ one_refusal other code at place e.0 e.1)
-  solve_fault text given bytes status code place (answers.realizable n is p) fault = printed text given bytes p.document code place p.accepted fault
-  solve_fault text given bytes status code place (answers.unrealizable n is p) fault = printed text given bytes p.document code place p.accepted fault
-  solve_fault text given bytes status code place (answers.unknown is p) fault = printed text given bytes p.document code place p.accepted fault
+  solve_fault text given most bytes status code place (answers.realizable n is p) fault = printed text given bytes p.document code place p.accepted fault
+  solve_fault text given most bytes status code place (answers.unrealizable n is p) fault = printed text given bytes p.document code place p.accepted fault
+  solve_fault text given most bytes status code place (answers.unknown is p) fault = printed text given bytes p.document code place p.accepted fault
 
 -- == verdicts ==
 
@@ -135,9 +135,9 @@ module _ (trees : TreesAreDetermined) (both : NeverBoth) where
       }
 
   pub verdicts_agree : SolveVerdictsAgree
-  verdicts_agree text given a b one other = by 10 20 refl refl one other
+  verdicts_agree text given most more a b one other = by 10 20 refl refl one other
     where
-      by : (status status' : ℕ) → status ≡ 10 → status' ≡ 20 → SolveAnswers text given a status → SolveAnswers text given b status' → ⊥
+      by : (status status' : ℕ) → status ≡ 10 → status' ≡ 20 → SolveAnswers text given most a status → SolveAnswers text given more b status' → ⊥
       by status status' is is' (answers.realizable n ended p) (answers.unrealizable m ended' q) =
           both text given given a b p.document q.document n m p.accepted q.accepted (alike text given a b p.document q.document p.accepted q.accepted) p.verdict_is q.verdict_is
       by status status' is is' (answers.realizable n ended p) (answers.refused code at ended' first line) = omega (arith, is', ended')

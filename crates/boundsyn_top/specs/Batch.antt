@@ -68,7 +68,7 @@ HasWorkers (wish.Solve kind refuting) = 1 ≤ refuting.workers
 -- the bytes answer the texts of these names, each by what is done with it
 abbrev pub TextsAnswers : List (List ℕ) → List (List ℕ) → EachText → List ℕ → Type 0
 TextsAnswers names texts (searched settings) bytes = BatchAnswers names texts settings bytes
-TextsAnswers names texts (solved kind refutations) bytes = SolvedBatchAnswers names texts kind bytes
+TextsAnswers names texts (solved kind refutations) bytes = SolvedBatchAnswers names texts (record { given = kind; most = refutations.max }) bytes
 
 -- The bytes and the status that answer a list: the line of its first bad line, or the answers to the texts that it names.
 pub data ListAnswers (told : Option Files) (lines : List ℕ) (wanted : EachText) (bytes : List ℕ) (status : ℕ) : Type 0 where

@@ -19,6 +19,7 @@ pub record SolveFaultsAreDetermined : Type 0 where
   pub no_fault : (text : List ℕ) (given : Option Kind) (t : SolveText) (code : SpecCode) (place : ℕ) → IsSolveText text given t
       → IsSolveFault text given code place → ⊥
 
--- of one text and kind no answer tells of a controller and another of a counter-strategy
+-- of one text and kind no answer tells of a controller and another of a counter-strategy, whatever sizes may be refuted
 abbrev pub SolveVerdictsAgree : Type 0
-SolveVerdictsAgree = (text : List ℕ) (given : Option Kind) (a b : List ℕ) → SolveAnswers text given a 10 → SolveAnswers text given b 20 → ⊥
+SolveVerdictsAgree =
+    (text : List ℕ) (given : Option Kind) (most more : Option ℕ) (a b : List ℕ) → SolveAnswers text given most a 10 → SolveAnswers text given more b 20 → ⊥

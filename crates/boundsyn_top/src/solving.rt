@@ -54,7 +54,7 @@ fn solved<R, L>(
 where
     R: Threads + Wait + Sync,
     L: Listener,
-    ensures { IfOk result (λ r. SolveAnswers text.now kind r.bytes.items (status_number r.status)) }
+    ensures { IfOk result (λ r. SolveAnswers text.now kind refuting.max r.bytes.items (status_number r.status)) }
 {
     let solved = solve(rt, alloc, text, kind, GAME_BUDGET, refuting, listener)?;
     listener.hear(News::Answered(solved.told));

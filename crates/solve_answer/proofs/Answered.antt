@@ -1,5 +1,5 @@
 -- What is accepted answers the text, and so do that neither was found, which always is, and the line of its first fault.
-use Rattle.std.proofs.Common.{◌≡◌, ℕ, Bool, true, false, Option, List, refl, sym, ap}
+use Rattle.std.proofs.Common.{◌≡◌, ◌≤◌, ℕ, Bool, true, false, Option, Some, None, IfSome, List, length, refl, sym, subst, ap, arith}
 use Rattle.std.proofs.lemmas.Bool.{and_from}
 use Rattle.std.specs.Prelude.{is_some}
 use Rattle.std.specs.Bool.{beq}
@@ -22,15 +22,17 @@ use Rattle.solve_check.specs.Given.{is_taken_so}
 use Rattle.solve_answer.specs.Answer.{SolveAnswers, refused, realizable, unrealizable, unknown}
 use Rattle.solve_answer.specs.Parts.{status_of, unknown_document}
 
-answers : (text : List ℕ) (given : Option Kind) (bytes : List ℕ) (d : Document) → IsAcceptedSolved text given bytes d → (v : Verdict) → d.verdict ≡ v
-    → SolveAnswers text given bytes (status_number (status_of v))
-answers text given bytes d is (Realizable n) e = realizable n refl (record { document = d; verdict_is = e; accepted = is })
-answers text given bytes d is (Unrealizable n) e = unrealizable n refl (record { document = d; verdict_is = e; accepted = is })
-answers text given bytes d is Unknown e = unknown refl (record { document = d; verdict_is = e; accepted = is })
+answers : (text : List ℕ) (given : Option Kind) (most : Option ℕ) (bytes : List ℕ) (d : Document) → IsAcceptedSolved text given bytes d → IfSome most (λ m. length d.logs ≤ m)
+    → (v : Verdict) → d.verdict ≡ v → SolveAnswers text given most bytes (status_number (status_of v))
+answers text given most bytes d is few (Realizable n) e = realizable n refl (record { document = d; verdict_is = e; accepted = is; as_asked = few })
+answers text given most bytes d is few (Unrealizable n) e = unrealizable n refl (record { document = d; verdict_is = e; accepted = is; as_asked = few })
+answers text given most bytes d is few Unknown e = unknown refl (record { document = d; verdict_is = e; accepted = is; as_asked = few })
 
-pub accepted_answers : (text : List ℕ) (given : Option Kind) (bytes : List ℕ) (a : Acceptance) → IsAcceptedAs text given bytes a
-    → SolveAnswers text given bytes (status_number (status_of a.verdict))
-accepted_answers text given bytes a is = answers text given bytes is.document is.accepted a.verdict (sym (ap (λ a. a.verdict) is.told))
+pub accepted_answers : (text : List ℕ) (given : Option Kind) (most : Option ℕ) (bytes : List ℕ) (a : Acceptance) → IsAcceptedAs text given bytes a
+    → IfSome most (λ m. a.refuted ≤ m) → SolveAnswers text given most bytes (status_number (status_of a.verdict))
+accepted_answers text given most bytes a is few =
+    answers text given most bytes is.document is.accepted (subst (λ (n : ℕ). IfSome most (λ m. n ≤ m)) (ap (λ (b : Acceptance). b.refuted) is.told) few) a.verdict
+    (sym (ap (λ (b : Acceptance). b.verdict) is.told))
 
 same_kind : (k : Kind) → kind_ghosts.eq k k ≡ true
 same_kind Mealy = refl
@@ -61,10 +63,15 @@ unknown_accepted text given t is = record {
   verdict = tt;
 }
 
-pub unknown_answers : (text : List ℕ) (given : Option Kind) (t : SolveText) → IsSolveText text given t
-    → SolveAnswers text given (document_text (unknown_document t)) 30
-unknown_answers text given t is = unknown refl (record { document = unknown_document t; verdict_is = refl; accepted = unknown_accepted text given t is })
+none_at_most : (most : Option ℕ) → IfSome most (λ m. 0 ≤ m)
+none_at_most None = tt
+none_at_most (Some m) = omega arith
 
-pub refused_answers : (text : List ℕ) (given : Option Kind) (bytes : List ℕ) (status : ℕ) → RefusedBy (IsSolveFault text given) bytes status
-    → SolveAnswers text given bytes status
-refused_answers text given bytes status r = refused r.code r.place r.status_is r.fault r.line
+pub unknown_answers : (text : List ℕ) (given : Option Kind) (most : Option ℕ) (t : SolveText) → IsSolveText text given t
+    → SolveAnswers text given most (document_text (unknown_document t)) 30
+unknown_answers text given most t is =
+    unknown refl (record { document = unknown_document t; verdict_is = refl; accepted = unknown_accepted text given t is; as_asked = none_at_most most })
+
+pub refused_answers : (text : List ℕ) (given : Option Kind) (most : Option ℕ) (bytes : List ℕ) (status : ℕ) → RefusedBy (IsSolveFault text given) bytes status
+    → SolveAnswers text given most bytes status
+refused_answers text given most bytes status r = refused r.code r.place r.status_is r.fault r.line

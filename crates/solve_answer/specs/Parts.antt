@@ -40,5 +40,5 @@ abbrev pub unknown_document : SolveText → Document
 unknown_document t = record { verdict = Unknown; kind = t.kind; converted = is_some t.semantics; circuit = None; logs = []; annotation = [] }
 
 -- the reply answers each text of which this is known
-abbrev pub AnswersEach : SolveText → Reply → Type 0
-AnswersEach t r = (text : List ℕ) (given : Option Kind) → IsSolveText text given t → SolveAnswers text given r.bytes.items (status_number r.status)
+abbrev pub AnswersEach : SolveText → Option ℕ → Reply → Type 0
+AnswersEach t most r = (text : List ℕ) (given : Option Kind) → IsSolveText text given t → SolveAnswers text given most r.bytes.items (status_number r.status)

@@ -51,7 +51,7 @@ pub fn solve<R: Threads + Wait + Sync, L: Listener>(
     refuting: Refuting,
     listener: &mut L,
 ) -> Result<Solved, AllocError>
-    ensures { IfOk result (λ s. SolveAnswers text.now given s.reply.bytes.items (status_number s.reply.status)) }
+    ensures { IfOk result (λ s. SolveAnswers text.now given refuting.max s.reply.bytes.items (status_number s.reply.status)) }
 {
     match solve_text(alloc, text, given) {
         Ok(known) => answer(rt, alloc, &known, budget, refuting, listener),
@@ -72,13 +72,13 @@ fn answer<R: Threads + Wait + Sync, L: Listener>(
     listener: &mut L,
 ) -> Result<Solved, AllocError>
     requires { CanBePlayed text.now }
-    ensures { IfOk result (λ s. AnswersEach text.now s.reply) }
+    ensures { IfOk result (λ s. AnswersEach text.now refuting.max s.reply) }
 {
     match find_any(rt, alloc, text, budget, refuting)? {
         Found::Of(strategy, below) => {
             of_strategy(rt, alloc, text, strategy, below, refuting, listener)
         }
-        Found::Without(told) => unknown(alloc, text, told),
+        Found::Without(told) => unknown(alloc, text, told, refuting.max),
     }
 }
 
@@ -109,15 +109,20 @@ fn of_strategy<R: Threads + Wait + Sync, L: Listener>(
     listener: &mut L,
 ) -> Result<Solved, AllocError>
     requires { CanBePlayed text.now }
-    ensures { IfOk result (λ s. AnswersEach text.now s.reply) }
+    ensures { IfOk result (λ s. AnswersEach text.now refuting.max s.reply) }
 {
     let side = strategy.side;
     let states = strategy.states;
     let document = strategy_document(alloc, text, strategy);
-    let reply = match tested(alloc, text, &document)? {
+    let reply = match tested(alloc, text, &document, refuting.max)? {
         Ok(reply) => reply,
         Err(line) => {
-            return unknown(alloc, text, Told::Withheld(side, Withheld::BadLine(line)));
+            return unknown(
+                alloc,
+                text,
+                Told::Withheld(side, Withheld::BadLine(line)),
+                refuting.max,
+            );
         }
     };
     if refuting.max == Some(0) {
@@ -132,15 +137,15 @@ fn of_strategy<R: Threads + Wait + Sync, L: Listener>(
     };
     let longer = with_logs(rt, alloc, text, plain, below, refuting);
     let told = Told::Found(side, longer.states, longer.refuted);
-    let reply = better_of(text, longer.reply, reply);
+    let reply = better_of(text, refuting.max, longer.reply, reply);
     Ok(Solved { reply, told })
 }
 
 /// The better reply to a text, where there is one, or the one that there is.
-fn better_of(_text: &SolveText, better: Option<Reply>, reply: Reply) -> Reply
-    requires better { IfSome better (AnswersEach _text.now) }
-    requires other { AnswersEach _text.now reply }
-    ensures { AnswersEach _text.now result }
+fn better_of(_text: &SolveText, _most: Option<u32>, better: Option<Reply>, reply: Reply) -> Reply
+    requires better { IfSome better (AnswersEach _text.now _most) }
+    requires other { AnswersEach _text.now _most reply }
+    ensures { AnswersEach _text.now _most result }
 {
     match better {
         Some(better) => better,
@@ -149,8 +154,13 @@ fn better_of(_text: &SolveText, better: Option<Reply>, reply: Reply) -> Reply
 }
 
 /// The document that says that neither was found, and why.
-fn unknown(alloc: Global, text: &SolveText, told: Told) -> Result<Solved, AllocError>
-    ensures { IfOk result (λ s. AnswersEach text.now s.reply) }
+fn unknown(
+    alloc: Global,
+    text: &SolveText,
+    told: Told,
+    _most: Option<u32>,
+) -> Result<Solved, AllocError>
+    ensures { IfOk result (λ s. AnswersEach text.now _most s.reply) }
 {
     Ok(Solved {
         reply: Reply {

@@ -45,7 +45,7 @@ pub(crate) fn with_logs<R: Threads + Wait + Sync>(
     refuting: Refuting,
 ) -> Longer
     requires { CanBePlayed text.now }
-    ensures { IfSome result.reply (AnswersEach text.now) }
+    ensures { IfSome result.reply (AnswersEach text.now refuting.max) }
 {
     let states = plain.states;
     match make_longer(rt, alloc, text, plain, below, refuting) {
@@ -67,7 +67,7 @@ fn make_longer<R: Threads + Wait + Sync>(
     refuting: Refuting,
 ) -> Result<Longer, AllocError>
     requires { CanBePlayed text.now }
-    ensures { IfOk result (λ l. IfSome l.reply (AnswersEach text.now)) }
+    ensures { IfOk result (λ l. IfSome l.reply (AnswersEach text.now refuting.max)) }
 {
     let below = match below {
         Some(below) => below,
@@ -76,8 +76,8 @@ fn make_longer<R: Threads + Wait + Sync>(
     let smaller = smaller_strategy(alloc, text, plain.side, &below.ended)?;
     let end = refuting_end(&below.ended);
     match smaller {
-        Some(strategy) => shrunk(alloc, text, plain, strategy, below.logs),
-        None => kept(alloc, text, plain, below.logs, end),
+        Some(strategy) => shrunk(alloc, text, plain, strategy, below.logs, refuting),
+        None => kept(alloc, text, plain, below.logs, end, refuting),
     }
 }
 
@@ -88,21 +88,29 @@ fn shrunk(
     plain: Plain,
     strategy: Strategy,
     logs: Vec<SizeLog>,
+    refuting: Refuting,
 ) -> Result<Longer, AllocError>
     requires { CanBePlayed text.now }
-    ensures { IfOk result (λ l. IfSome l.reply (AnswersEach text.now)) }
+    ensures { IfOk result (λ l. IfSome l.reply (AnswersEach text.now refuting.max)) }
 {
     let states = strategy.states;
     let sizes = logs.len();
     let mut document = strategy_document(alloc, text, strategy);
     document.logs = logs;
-    match tested(alloc, text, &document)? {
+    match tested(alloc, text, &document, refuting.max)? {
         Ok(reply) => Ok(Longer {
             reply: Some(reply),
             states,
             refuted: so_many(sizes, RefutingEnd::Done),
         }),
-        Err(_) => kept(alloc, text, plain, document.logs, RefutingEnd::NotMade),
+        Err(_) => kept(
+            alloc,
+            text,
+            plain,
+            document.logs,
+            RefutingEnd::NotMade,
+            refuting,
+        ),
     }
 }
 
@@ -113,9 +121,10 @@ fn kept(
     plain: Plain,
     logs: Vec<SizeLog>,
     end: RefutingEnd,
+    refuting: Refuting,
 ) -> Result<Longer, AllocError>
     requires { CanBePlayed text.now }
-    ensures { IfOk result (λ l. IfSome l.reply (AnswersEach text.now)) }
+    ensures { IfOk result (λ l. IfSome l.reply (AnswersEach text.now refuting.max)) }
 {
     let states = plain.states;
     let sizes = logs.len();
@@ -128,7 +137,7 @@ fn kept(
     }
     let mut document = plain.document;
     document.logs = logs;
-    match tested(alloc, text, &document)? {
+    match tested(alloc, text, &document, refuting.max)? {
         Ok(reply) => Ok(Longer {
             reply: Some(reply),
             states,

@@ -1,7 +1,6 @@
 -- What a reply owes to a text, as `solve` answers it.
 use Rattle.std.proofs.Common.{◌≡◌, ℕ, List, length, sym, ◌∙◌, ap, subst, Global, map}
-use Rattle.std.specs.Prelude.{IfOk, Option, Result, Ok, Err, Vec}
-use Rattle.letter_word.specs.declared.kinds.Kind.{Kind}
+use Rattle.std.specs.Prelude.{IfOk, Result, Ok, Err, Vec}
 use Rattle.program_replies.specs.Lines.{refusal_line}
 use Rattle.program_replies.specs.Statuses.{status_number}
 use Rattle.program_replies.specs.declared.replies.Reply.{Reply}
@@ -14,36 +13,36 @@ use Rattle.solve_answer.specs.Answer as answers
 use Rattle.batch_answer.specs.declared.texts.TakenText.{TakenText}
 use Rattle.batch_answer.specs.declared.texts.TakenText.TheVariants.{Whole, TooLong}
 use Rattle.batch_answer.specs.Taken.{AreTexts}
-use Rattle.batch_answer.specs.Batch.{Part, batch_text, part_of}
+use Rattle.batch_answer.specs.Batch.{batch_text, part_of}
 use Rattle.batch_answer.proofs.ReplyLemmas.{as_many, parts_many, reply_at, text_at}
 use Rattle.batch_run.specs.Answers.{AreAnswers}
-use Rattle.solve_batch.specs.SolvedBatch.{IsSolvedPart, IsSolvedReply, SolvedBatchAnswers}
+use Rattle.solve_batch.specs.SolvedBatch.{AskedOfEach, IsSolvedPart, IsSolvedReply, SolvedBatchAnswers}
 
-module _ {E : Type 0} (given : Option Kind) where
+module _ {E : Type 0} (asked : AskedOfEach) where
   -- the answer to all bytes of a text
   pub whole_answers : (text : TakenText) (bytes : Vec ℕ Global) (r : Result Reply E) → text ≡ Whole bytes
-      → IfOk r (λ reply. SolveAnswers bytes.items given reply.bytes.items (status_number reply.status)) → IfOk r (IsSolvedReply given text)
+      → IfOk r (λ reply. SolveAnswers bytes.items asked.given asked.most reply.bytes.items (status_number reply.status)) → IfOk r (IsSolvedReply asked text)
   whole_answers text bytes (Err e) is answers = tt
   whole_answers text bytes (Ok reply) is answers = by text is
     where
-      by : (t : TakenText) → t ≡ Whole bytes → IsSolvedReply given t reply
-      by t at = subst (λ u. IsSolvedReply given u reply) (sym at)
-          (λ file same. subst (λ b. SolveAnswers b given reply.bytes.items (status_number reply.status)) same answers)
+      by : (t : TakenText) → t ≡ Whole bytes → IsSolvedReply asked t reply
+      by t at = subst (λ u. IsSolvedReply asked u reply) (sym at)
+          (λ file same. subst (λ b. SolveAnswers b asked.given asked.most reply.bytes.items (status_number reply.status)) same answers)
 
   -- the line of a text that is too long
   pub too_long_answers : (text : TakenText) (r : Result Reply E) → text ≡ TooLong
-      → IfOk r (λ reply. (reply.bytes.items ≡ refusal_line code.TooLong most_bytes) × (reply.status ≡ Refused)) → IfOk r (IsSolvedReply given text)
+      → IfOk r (λ reply. (reply.bytes.items ≡ refusal_line code.TooLong most_bytes) × (reply.status ≡ Refused)) → IfOk r (IsSolvedReply asked text)
   too_long_answers text (Err e) is line = tt
   too_long_answers text (Ok reply) is line =
-      subst (λ u. IsSolvedReply given u reply) (sym is) (λ file long.
+      subst (λ u. IsSolvedReply asked u reply) (sym is) (λ file long.
       answers.refused code.TooLong most_bytes (ap status_number line.1) (solving.of_reading code.TooLong most_bytes (too_long long)) line.0)
 
 -- == the answers to all texts ==
 
-pub solved_answers : (names : List (List ℕ)) (texts : List TakenText) (given job : Option Kind) (replies : List Reply) (bytes : List ℕ)
-    → length names ≡ length texts → job ≡ given → AreAnswers (IsSolvedReply job) texts replies
-    → bytes ≡ batch_text names (map part_of replies) → (files : List (List ℕ)) → AreTexts texts files → SolvedBatchAnswers names files given bytes
-solved_answers names texts given job replies bytes one_each is answered text files are = record {
+pub solved_answers : (names : List (List ℕ)) (texts : List TakenText) (asked job : AskedOfEach) (replies : List Reply) (bytes : List ℕ)
+    → length names ≡ length texts → job ≡ asked → AreAnswers (IsSolvedReply job) texts replies
+    → bytes ≡ batch_text names (map part_of replies) → (files : List (List ℕ)) → AreTexts texts files → SolvedBatchAnswers names files asked bytes
+solved_answers names texts asked job replies bytes one_each is answered text files are = record {
   one_each = one_each ∙ as_many texts files are;
   parts = map part_of replies;
   each = record {
@@ -52,8 +51,8 @@ solved_answers names texts given job replies bytes one_each is answered text fil
         let t = text_at texts files are k file here in
         let r = reply_at replies k part there in
         let answer = answered.each k t.text r.reply t.at r.at file t.is_text in
-        subst (IsSolvedPart given file) r.is
-        (subst (λ g. SolveAnswers file g r.reply.bytes.items (status_number r.reply.status)) is answer);
+        subst (IsSolvedPart asked file) r.is
+        (subst (λ (a : AskedOfEach). SolveAnswers file a.given a.most r.reply.bytes.items (status_number r.reply.status)) is answer);
   };
   text = text;
 }

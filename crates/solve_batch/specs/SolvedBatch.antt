@@ -9,21 +9,26 @@ use Rattle.batch_answer.specs.Batch.{Part, batch_text}
 use Rattle.batch_answer.specs.Taken.{IsText}
 use Rattle.solve_answer.specs.Answer.{SolveAnswers}
 
+-- what is asked of each text: the given kind, and the greatest size that may be refuted, if one is given
+pub record AskedOfEach : Type 0 where
+  pub given : Option Kind
+  pub most : Option ℕ
+
 -- the text alone has this answer
-abbrev pub IsSolvedPart : Option Kind → List ℕ → Part → Type 0
-IsSolvedPart given text part = SolveAnswers text given part.lines part.status
+abbrev pub IsSolvedPart : AskedOfEach → List ℕ → Part → Type 0
+IsSolvedPart asked text part = SolveAnswers text asked.given asked.most part.lines part.status
 
 -- The bytes are a part for each text, under its name and in its place, which answers that text alone as `solve` does; last the line
 -- `end batch`.
-pub record SolvedBatchAnswers (names texts : List (List ℕ)) (given : Option Kind) (bytes : List ℕ) : Type 0 where
+pub record SolvedBatchAnswers (names texts : List (List ℕ)) (asked : AskedOfEach) (bytes : List ℕ) : Type 0 where
   pub one_each : length names ≡ length texts
   pub parts : List Part
-  pub each : AreAnswers (IsSolvedPart given) texts parts
+  pub each : AreAnswers (IsSolvedPart asked) texts parts
   pub text : bytes ≡ batch_text names parts
 
 -- ---- how the code goes on
 
 -- the reply answers each file that the text may be
-abbrev pub IsSolvedReply : Option Kind → TakenText → Reply → Type 0
-IsSolvedReply given text reply =
-    (file : List ℕ) → IsText text file → SolveAnswers file given reply.bytes.items (status_number reply.status)
+abbrev pub IsSolvedReply : AskedOfEach → TakenText → Reply → Type 0
+IsSolvedReply asked text reply =
+    (file : List ℕ) → IsText text file → SolveAnswers file asked.given asked.most reply.bytes.items (status_number reply.status)

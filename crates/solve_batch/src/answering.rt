@@ -31,7 +31,7 @@ pub fn solve_batch<R: Threads + Wait + Sync, G: Gate + Sync>(
     requires few { length texts.now < 2 ^ 32 }
     requires workers { 1 ≤ refuting.workers }
     ensures done { IfOk result (λ r. r.status ≡ Status.Done) }
-    ensures answers { (files : List (List ℕ)) → AreTexts texts.now files → IfOk result (λ r. SolvedBatchAnswers names.now files given r.bytes.items) }
+    ensures answers { (files : List (List ℕ)) → AreTexts texts.now files → IfOk result (λ r. SolvedBatchAnswers names.now files (record { given = given; most = refuting.max }) r.bytes.items) }
 {
     let job = Solving::new(alloc, given, refuting);
     let replies = run_all(rt, alloc, &job, texts, refuting.workers, gate)?;

@@ -27,18 +27,17 @@ pub struct Solving {
 }
 
 impl Model for Solving {
-    ghost use Rattle.std.specs.Prelude.{Option};
-    ghost use Rattle.letter_word.specs.declared.kinds.Kind.{Kind};
+    ghost use Rattle.solve_batch.specs.SolvedBatch.{AskedOfEach};
 
-    ghost Value = { Option Kind };
+    ghost Value = { AskedOfEach };
 
-    ghost view = { λ job. job.given };
+    ghost view = { λ job. record { given = job.given; most = job.refuting.max } };
 }
 
 impl Solving {
     /// With a kind in place of the texts' own, if one is given.
     pub fn new(alloc: Global, given: Option<Kind>, refuting: Refuting) -> Solving
-        ensures { result ≡ given }
+        ensures { result ≡ record { given = given; most = refuting.max } }
     {
         Solving {
             alloc,
@@ -52,7 +51,7 @@ impl Solving {
 
     /// The answer to all bytes of a text.
     fn solved<R: Threads + Wait + Sync>(&self, rt: &R, text: &[u8]) -> Result<Reply, AllocError>
-        ensures { IfOk result (λ r. SolveAnswers text.now self.now r.bytes.items (status_number r.status)) }
+        ensures { IfOk result (λ r. SolveAnswers text.now self.now.given self.now.most r.bytes.items (status_number r.status)) }
     {
         let solved = solve(
             rt,
