@@ -25,6 +25,7 @@ mod progress;
 mod sentences;
 mod slips;
 mod solved;
+mod solved_rules;
 mod text_faults;
 mod unknown;
 mod wrong_words;

@@ -1,4 +1,5 @@
 use crate::line_faults::{LineFault, LineOf};
+use crate::solved_rules::{NamedLines, is_solved, named_head_rule, solved_rule};
 
 /// What a refused line should be, as far as the line and those before it tell.
 pub(crate) fn rule(bytes: &[u8], fault: LineFault, line: &[u8]) -> &'static str {
@@ -40,9 +41,12 @@ fn document_rule(bytes: &[u8], number: u64, line: &[u8]) -> &'static str {
     if bytes.starts_with(b"aag ") && !is_in_comment(bytes, number) {
         return gates_rule(bytes, number);
     }
+    if is_solved(bytes) {
+        return solved_rule(bytes, number, line);
+    }
     let (word, _) = cut_word(line);
     match word {
-        b"boundsyn" => "a document's head is `boundsyn` and its version, which is 1, 2, 3 or 5",
+        b"boundsyn" => "a document's head is `boundsyn` and its version, which is 1, 2, 3, 5 or 6",
         b"verdict" => {
             "the verdict is none that a document has, its size isn't allowed, or it names another log than the first that isn't closed"
         },
@@ -71,7 +75,7 @@ fn log_rule(line: &[u8]) -> &'static str {
     }
 }
 
-fn entry_rule(bytes: &[u8], number: u64, line: &[u8]) -> &'static str {
+pub(crate) fn entry_rule(bytes: &[u8], number: u64, line: &[u8]) -> &'static str {
     if !is_entry(line) {
         return "an entry is a worker's number, literals, `0`, hints and `0`";
     }
@@ -136,7 +140,7 @@ impl LogBefore {
 }
 
 /// The literals of an entry.
-fn clause_of(line: &[u8]) -> &[u8] {
+pub(crate) fn clause_of(line: &[u8]) -> &[u8] {
     let (_, literals) = cut_word(line);
     let mut len = 0usize;
     for word in literals.split(|byte| *byte == b' ') {
@@ -157,7 +161,7 @@ fn are_alike(one: &[u8], other: &[u8]) -> bool {
 }
 
 /// Whether a line has the form of an entry: a number, literals up to `0`, hints up to `0`.
-fn is_entry(line: &[u8]) -> bool {
+pub(crate) fn is_entry(line: &[u8]) -> bool {
     let mut zeros = 0u32;
     for (place, word) in line.split(|byte| *byte == b' ').enumerate() {
         let digits = word.strip_prefix(b"-").unwrap_or(word);
@@ -174,12 +178,12 @@ fn is_entry(line: &[u8]) -> bool {
 }
 
 /// Whether the bytes are so many numbers with a blank between them.
-fn are_numbers(bytes: &[u8], count: usize) -> bool {
+pub(crate) fn are_numbers(bytes: &[u8], count: usize) -> bool {
     bytes.split(|byte| *byte == b' ').count() == count
         && bytes.split(|byte| *byte == b' ').all(is_number)
 }
 
-fn is_number(word: &[u8]) -> bool {
+pub(crate) fn is_number(word: &[u8]) -> bool {
     !word.is_empty() && word.iter().all(|byte| byte.is_ascii_digit())
 }
 
@@ -187,12 +191,18 @@ fn circuit_rule(bytes: &[u8], number: u64, line: &[u8]) -> &'static str {
     if !is_in_comment(bytes, number) {
         return gates_rule(bytes, number);
     }
+    if let Some(lines) = NamedLines::before(bytes, number) {
+        return lines.rule(line);
+    }
     let (word, rest) = cut_word(line);
     if word == b"annotation".as_slice() {
         if is_number(rest) {
-            "the annotation's head has the form of one, but no line has the values to which the latches reset with state 0"
+            "the annotation's head has the form of one, but no line has the values to which the latches reset with state 0; with \
+                `--unrealizable` it is `annotation P A`"
+        } else if are_numbers(rest, 2) {
+            named_head_rule(line)
         } else {
-            "the annotation's head is `annotation` and the number of its lines"
+            "the annotation's head is `annotation` and the number of its lines, or `annotation P A` over named states"
         }
     } else if is_code(word) && are_numbers(rest, 2) {
         "this line has the form of one, but stands twice, or some letter leads from it to a line that isn't there or counts too little"
@@ -202,7 +212,7 @@ fn circuit_rule(bytes: &[u8], number: u64, line: &[u8]) -> &'static str {
 }
 
 /// Whether a word may be the values of latches.
-fn is_code(word: &[u8]) -> bool {
+pub(crate) fn is_code(word: &[u8]) -> bool {
     word == b"-".as_slice() || word.iter().all(|byte| matches!(byte, b'0' | b'1'))
 }
 
@@ -246,7 +256,7 @@ fn gates_rule(bytes: &[u8], number: u64) -> &'static str {
 }
 
 /// The number that a word is, or 0.
-fn value(word: &[u8]) -> u64 {
+pub(crate) fn value(word: &[u8]) -> u64 {
     str::from_utf8(word)
         .ok()
         .and_then(|word| word.parse::<u64>().ok())
