@@ -1,18 +1,21 @@
 //! Rows of texts, each with what a library call makes of it: on standard input a heading `==== WAY NAME` and then the text, without the
 //! end of its last line; on standard output the heading and what the way asks for, or the text's first fault. The ways: `tree` what is
 //! read, `nodes` the list of formulas, `flat` all that a text is when it is expanded (`mealy` and `moore` with that kind given),
+//! `automata` how large the automata of both sides are, over plain covers and over reduced ones,
 //! `circuit` a circuit, written again, and where the comment and the names stand, `run BITS` its first output in each step where its
 //! first input has these values, `document` whether a document is written as it was read, or its bad line, and `sizes SIDE LETTERS` how many
 //! variables and base clauses of version 4 a side's sizes 1 to 3 have over these letters, and fewer than ten clauses themselves. What a command
 //! prints is told by tools/rows.
 #![tactic(auto)]
 
+mod automata;
 mod circuits;
 mod lines;
 mod sizes;
 mod specs;
 mod trees;
 
+use crate::automata::push_automata;
 use crate::circuits::{push_circuit, push_run};
 use crate::lines::Lines;
 use crate::sizes::push_sizes;
@@ -89,6 +92,8 @@ fn push_row(lines: &mut Lines, heading: &[u8], text: &[u8]) -> Result<(), AllocE
         push_expanded(lines, text, Some(Kind::Mealy), false)
     } else if heading.starts_with(b"moore ") {
         push_expanded(lines, text, Some(Kind::Moore), false)
+    } else if heading.starts_with(b"automata ") {
+        push_automata(lines, text)
     } else if heading.starts_with(b"circuit ") {
         push_circuit(lines, text)
     } else if let Some(words) = heading.strip_prefix(b"sizes ") {
