@@ -1,6 +1,7 @@
 //! Machines of at most two states over automata of at most four, all of them drawn: a machine is accepted exactly where it has a valid
 //! annotation, and where the base clauses can be met with it, both where all rejecting states are counted and where those of a
-//! component are. No contract says that the last two hold of each machine that is accepted.
+//! component are. No contract says that the last two hold of each machine that is accepted. And formulas that are drawn with lassos: each lasso
+//! is accepted by a formula's automaton over plain covers exactly where it is by that over reduced ones.
 #![tactic(auto)]
 
 ghost use Rattle.std.specs.Prelude.{◌≤◌};
@@ -8,12 +9,15 @@ ghost use Rattle.machine_model.specs.Problem.{IsProblem};
 
 mod checked;
 mod clauses;
+mod covers;
 mod drawn;
+mod formulas;
 mod products;
 
 use anyhow::Context;
 use checked::{checked, fitting};
 use clauses::can_be_met;
+use covers::Agreement;
 use drawn::{random_machine, random_problem};
 use machine_model::{Machine, Problem};
 use products::{is_accepted, is_annotated};
@@ -23,6 +27,9 @@ use std::io;
 
 /// How many machines are drawn.
 const MACHINES: u32 = 400;
+
+/// How many formulas are drawn.
+const FORMULAS: u32 = 300;
 
 /// What each of the three ways says of a machine.
 fn verdicts(alloc: Global, problem: &Problem, machine: Machine) -> anyhow::Result<[bool; 3]>
@@ -109,5 +116,11 @@ fn main(rt: HostRuntime) -> anyhow::Result<()> {
     }
     whole.tell(&rt, "all rejecting states counted")?;
     local.tell(&rt, "counted by component")?;
+    let mut random = Pcg32::new(43, 54);
+    let mut formulas = Agreement::NONE;
+    for _ in 0..FORMULAS {
+        formulas.draw(rt.alloc(), &mut random)?;
+    }
+    formulas.tell(&rt)?;
     Ok(())
 }
