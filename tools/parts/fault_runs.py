@@ -1,4 +1,4 @@
-"""The runs of tools/faults: small and larger ones of the nine commands, each with a call that fails."""
+"""The runs of tools/faults: small and larger ones of all commands, each with a call that fails."""
 
 import os
 import resource
@@ -16,6 +16,9 @@ SMALLEST = [
     ("verify", "delay", "delay_by_hand.aag"),
     ("core", "wish", "--max", "1", "--workers", "1"),
     ("batch", "list", "--max", "1", "--workers", "1"),
+    ("solve", "delay", "--workers", "1"),
+    ("check", "delay", "delay.solved"),
+    ("batch", "--solve", "list", "--max", "1", "--workers", "1"),
 ]
 LARGER = [
     ("synth", "arbiter_of_two", "--workers", "1"),
@@ -24,6 +27,9 @@ LARGER = [
     ("check", "arbiter_of_three", "arbiter_of_three.document"),
     ("core", "door", "--max", "2", "--workers", "1"),
     ("batch", "several.list", "--max", "2", "--workers", "1"),
+    ("solve", "arbiter_of_three", "--workers", "1"),
+    ("solve", "gear", "--workers", "1"),
+    ("check", "arbiter_of_three", "arbiter_of_three.solved"),
 ]
 WISH = "INFO { TITLE: \"\" DESCRIPTION: \"\" SEMANTICS: Mealy TARGET: Mealy } MAIN { INPUTS { a; } OUTPUTS { b; } GUARANTEE { a; } }\n"
 TOLD = (b"text ", b"status ", b"core ", b"guarantee ", b"without ", b"verdict ", b"end ")
@@ -46,6 +52,9 @@ class Machine:
         for name in ("wire", "delay", "arbiter_of_two", "arbiter_of_three", "gear"):
             with open(os.path.join(room, f"{name}.document"), "wb") as file:
                 file.write(self.run(("synth", name, "--workers", "1"))[1])
+        for name in ("delay", "arbiter_of_three", "gear"):
+            with open(os.path.join(room, f"{name}.solved"), "wb") as file:
+                file.write(self.run(("solve", name, "--workers", "1"))[1])
 
     def run(self, words, fault=""):
         """The status and standard output of a run, which leaves its counts of calls."""
@@ -68,17 +77,26 @@ class Machine:
             status, printed = self.run(words, fault)
         except subprocess.TimeoutExpired:
             return False, "none after 120 seconds"
-        if (status, printed) == full or (status == full[0] and self.is_another_answer(words, full[1], printed)):
+        if (status, printed) == full or self.is_another_answer(words, full, status, printed):
             return True, None
         is_begin = printed == b"cannot read\n" if status == 3 else full[1].startswith(printed)
         return status == STATUS[fault.split()[0]] and is_begin, status
 
-    def is_another_answer(self, words, full, printed):
-        """Where a worker lacked memory, another one may have found another machine: its document is accepted too."""
+    def is_another_answer(self, words, full, status, printed):
+        """Where a worker lacked memory, another one may have found another machine: its document is accepted too. A game that lacks memory ends,
+        so `solve` may find less: a machine with fewer sizes refuted, another one, or none."""
+        if words[0] == "solve":
+            return status in (full[0], 30) and self.check(words[1], printed)[0] == 0
+        if status != full[0]:
+            return False
         if words[0] == "synth":
-            with tempfile.NamedTemporaryFile(dir=self.room) as document:
-                document.write(printed)
-                document.flush()
-                return self.run(("check", words[1], document.name)) == self.run(("check", words[1], f"{words[1]}.document"))
-        told = [[line for line in text.split(b"\n") if line.startswith(TOLD)] for text in (full, printed)]
-        return words[0] in ("core", "batch") and told[0] == told[1] and printed.endswith(full[full.rindex(b"end"):])
+            return self.check(words[1], printed) == self.run(("check", words[1], f"{words[1]}.document"))
+        told = [[line for line in text.split(b"\n") if line.startswith(TOLD)] for text in (full[1], printed)]
+        return words[0] in ("core", "batch") and told[0] == told[1] and printed.endswith(full[1][full[1].rindex(b"end"):])
+
+    def check(self, text, printed):
+        """The answer of `check` to a text and what was printed."""
+        with tempfile.NamedTemporaryFile(dir=self.room) as document:
+            document.write(printed)
+            document.flush()
+            return self.run(("check", text, document.name))
