@@ -41,3 +41,29 @@ fn sixteen_pairs_have_65536_covers(rt: HostRuntime) -> Result<(), Fail> {
     assert_eq!(rt; all.len(), 65_536);
     Ok(())
 }
+
+/// For each j from 1 to `count`, `X^j a` and `X^j b` and then `(X^j a) || (X^j b)`: both ways to meet the last ones are equal.
+fn joined_pairs(alloc: Global, count: u32) -> Result<Vec<u8>, AllocError> {
+    let mut text = b"1".to_vec(alloc)?;
+    for j in 0..count {
+        text.extend_from_slice(b"aX")?;
+        push_times(&mut text, b"X", j)?;
+        text.extend_from_slice(b"&bX")?;
+        push_times(&mut text, b"X", j)?;
+        text.extend_from_slice(b"&")?;
+    }
+    text.extend_from_slice(&pairs(alloc, count)?)?;
+    text.push(b'&')?;
+    Ok(text)
+}
+
+#[test]
+fn equal_branches_are_followed_once(rt: HostRuntime) -> Result<(), Fail> {
+    let text = joined_pairs(rt.alloc(), 16)?;
+    // One by one the 65,536 equal leaves would take minutes.
+    for _ in 0..4_000 {
+        let all = covers_of(rt.alloc(), &text)??;
+        assert_eq!(rt; all.len(), 1);
+    }
+    Ok(())
+}

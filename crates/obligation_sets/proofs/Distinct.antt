@@ -1,8 +1,8 @@
-use Rattle.std.proofs.Common.{◌≡◌, ◌⊎◌, inl, inr, Bool, true, eqb, ◌&&◌, List, [], ◌∷◌, ◌++◌, sym, ap, subst}
+use Rattle.std.proofs.Common.{◌≡◌, ◌⊎◌, inl, inr, Bool, true, eqb, ◌&&◌, List, [], ◌∷◌, ◌++◌, refl, sym, ap, subst}
 use Rattle.std.specs.Prelude.{Contains}
 use Rattle.std.specs.List.{list_any}
 use Rattle.std.specs.Cmp.Lexicographic.{pointwise_decides}
-use Rattle.std.proofs.lemmas.Bool.{and_parts, cases_Bool, cond-true, cond-false, eq-eqb, eqb-true, false≢true, or_cases}
+use Rattle.std.proofs.lemmas.Bool.{and_from, and_parts, cases_Bool, cond-true, cond-false, eq-eqb, eqb-true, false≢true, or_cases}
 use Rattle.std.proofs.lemmas.List.Folds.{list_any-from_Any}
 use Rattle.std.proofs.lemmas.List.Elements.{Contains-append_left, Contains-push, Contains-push_cases}
 use Rattle.indexmap.specs.IndexSet.{insert_all, insert_key}
@@ -105,3 +105,8 @@ same_cover-decides c d h =
     let p : SameParts c d = same_parts c d h in
     cover_of_parts c d (same_cube c.cube d.cube (eqb-true c.cube.must d.cube.must p.must) (eqb-true c.cube.not d.cube.not p.none_of)) (same_ids-decides c.next d.next p.next)
     (same_ids-decides c.postponed d.postponed p.postponed)
+
+-- and a cover is found the same as itself
+pub same_cover-itself : (c : Cover) → same_cover c c ≡ true
+same_cover-itself c =
+    and_from _ _ (and_from _ _ (eq-eqb c.cube.must c.cube.must refl) (eq-eqb c.cube.not c.cube.not refl)) (and_from _ _ ((pointwise_decides {E = same_id} ids_decide c.next c.next).1 refl) ((pointwise_decides {E = same_id} ids_decide c.postponed c.postponed).1 refl))

@@ -11,6 +11,7 @@ pub mod Flags
 pub mod MetLeaves
 pub mod BackedLeaves
 pub mod Distinct
+pub mod SameForks
 pub mod Minimal
 pub mod Implied
 pub mod LessAsked

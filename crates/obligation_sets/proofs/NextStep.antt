@@ -23,7 +23,7 @@ use Rattle.obligation_sets.specs.Ids.{has_id, ids_of}
 use Rattle.obligation_sets.specs.NextStep.{AreNormal, CoversAreTheNextStep, HasFittingCover, MeetsAt, SecondPartFails, SetHolds}
 use Rattle.obligation_sets.specs.Reduced.{cover_by, covers_by, left_by}
 use Rattle.obligation_sets.specs.Steps.{HasPlaces, undone}
-use Rattle.obligation_sets.proofs.Along.{start_places}
+use Rattle.obligation_sets.proofs.Walks.{start_places}
 use Rattle.obligation_sets.proofs.LessAsked.{HasBelow, covers_below, covers_from, left_from}
 use Rattle.obligation_sets.proofs.BackedLeaves.{Backed, InNext, InPostponed, LeafOf, Opposed, Seen, leaf_of}
 use Rattle.obligation_sets.proofs.Flags.{has_id-none, has_id-within}
@@ -44,7 +44,7 @@ alive_from cover (Some b ∷ leaves) c h =
       | inr later ↦ let r : (leaf : Branch) × Contains leaves (Some leaf) × (cover leaf ≡ c) = alive_from cover leaves c later in (r.0, Contains-there (Some b) leaves (Some r.0) r.1, r.2)
     ]
 
-alive_has : (cover : Branch → Cover) (leaves : List (Option Branch)) (leaf : Branch) → Contains leaves (Some leaf) → Contains (alive cover leaves) (cover leaf)
+pub alive_has : (cover : Branch → Cover) (leaves : List (Option Branch)) (leaf : Branch) → Contains leaves (Some leaf) → Contains (alive cover leaves) (cover leaf)
 alive_has cover [] leaf h = absurd (Contains-none (Some leaf) h)
 alive_has cover (None ∷ leaves) leaf h =
     elim (Contains-cons_cases None leaves (Some leaf) h) [

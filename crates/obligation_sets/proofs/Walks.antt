@@ -1,20 +1,20 @@
-use Rattle.std.proofs.Common.{◌≡◌, ℕ, zero, suc, ◌<◌, ◌≤◌, Bool, true, false, List, [], ◌∷◌, ◌++◌, Option, None, Some, All, get_or, set, length, refl, sym, ◌∙◌, ap, arith}
+use Rattle.std.proofs.Common.{◌≡◌, ℕ, zero, suc, ◌<◌, ◌≤◌, Bool, true, false, List, [], ◌∷◌, ◌++◌, Option, None, Some, All, get_or, set, length, refl, sym, ◌∙◌, ap, subst, arith}
 use Rattle.std.proofs.lemmas.Bool.{false≢true, cond-true, cond-false}
-use Rattle.std.proofs.lemmas.List.{length-set}
+use Rattle.std.proofs.lemmas.List.{length-replicate, length-set}
 use Rattle.std.proofs.lemmas.List.Elements.{All-cons, All-head, All-nil, All-tail}
 use Rattle.letter_word.specs.declared.cubes.Cube.{Cube}
 use Rattle.ltl_formula.specs.declared.nodes.FormulaId.{FormulaId}
 use Rattle.ltl_formula.specs.declared.nodes.Node.{Node}
 use Rattle.ltl_formula.specs.declared.nodes.Node.TheVariants.{True, False, Signal, Not, Next, Finally, Globally, And, Or, Implies, Equiv, Until, Release, WeakUntil}
-use Rattle.ltl_formula.specs.Nodes.{IsNodeList, PartsBelow, node_at}
+use Rattle.ltl_formula.specs.Nodes.{IsNodeList, PartsBelow, Stands, node_at}
 use Rattle.obligation_sets.specs.declared.branches.Step.{Step}
 use Rattle.obligation_sets.specs.declared.branches.Step.TheVariants.{Leaf, Dead, On, Split}
 use Rattle.obligation_sets.specs.Branch.{Branch}
 use Rattle.obligation_sets.specs.Cubes.{forbidding, wanting}
 use Rattle.obligation_sets.specs.Ids.{has_id, with_id}
 use Rattle.obligation_sets.specs.OpenWork.{open_work}
-use Rattle.obligation_sets.specs.Steps.{HasPlaces, expanding, in_front, joining, leaving, opposing, postponing, step, step_on, taking, undone}
-use Rattle.obligation_sets.specs.Covers.{leaves_below, leaves_of, leaves_within}
+use Rattle.obligation_sets.specs.Steps.{HasPlaces, expanding, in_front, joining, leaving, opposing, postponing, settled, step, step_on, taking, undone}
+use Rattle.obligation_sets.specs.Covers.{leaves_below, leaves_of, leaves_within, start_of}
 
 -- what comes of a step are branches over n formulas, with these done
 pub record GoesOn (n : ℕ) (done : List Bool) (b : Branch) : Type 0 where
@@ -170,3 +170,36 @@ leaves_below-of ns n b (Split c d) h = λ i. leaves-fuel ns b c h.1 i ++ leaves-
 -- the leaves of a branch are those of what comes of its step
 pub leaves_of-step : (ns : List Node) → IsNodeList ns → (b : Branch) → HasPlaces (length ns) b → leaves_of ns b ≡ leaves_below (leaves_of ns) (step ns b)
 leaves_of-step ns list b places = leaves_below-of ns (length ns) b (step ns b) (step_stepped ns list b places)
+
+-- the branch that begins with a set
+pub start_places : (ns : List Node) (set : List FormulaId) → All (Stands ns) set → HasPlaces (length ns) (start_of ns set)
+start_places ns set stand = record { work = stand; done = length-replicate (length ns) false; next = length-replicate (length ns) false; postponed = length-replicate (length ns) false }
+
+-- the work list from its first open formula on
+open_work-more : (done : List Bool) (x : FormulaId) (xs : List FormulaId) (b : Bool) → has_id done x ≡ b → open_work done (open_work done xs) ≡ open_work done xs → open_work done (open_work done (x ∷ xs)) ≡ open_work done (x ∷ xs)
+open_work-more done x xs true e same = ap (open_work done) (cond-true (has_id done x) (open_work done xs) (x ∷ xs) e) ∙ same ∙ sym (cond-true (has_id done x) (open_work done xs) (x ∷ xs) e)
+open_work-more done x xs false e same = ap (open_work done) (cond-false (has_id done x) (open_work done xs) (x ∷ xs) e)
+
+open_work-twice : (done : List Bool) (work : List FormulaId) → open_work done (open_work done work) ≡ open_work done work
+open_work-twice done [] = refl
+open_work-twice done (x ∷ xs) = open_work-more done x xs (has_id done x) refl (open_work-twice done xs)
+
+all_at : (P : FormulaId → Type 0) (done : List Bool) (x : FormulaId) (xs : List FormulaId) (b : Bool) → has_id done x ≡ b → All P (x ∷ xs) → All P (open_work done xs) → All P (open_work done (x ∷ xs))
+all_at P done x xs true e all rest = subst (All P) (sym (cond-true (has_id done x) (open_work done xs) (x ∷ xs) e)) rest
+all_at P done x xs false e all rest = subst (All P) (sym (cond-false (has_id done x) (open_work done xs) (x ∷ xs) e)) all
+
+open_work-all : (P : FormulaId → Type 0) (done : List Bool) (work : List FormulaId) → All P work → All P (open_work done work)
+open_work-all P done [] all = all
+open_work-all P done (x ∷ xs) all = all_at P done x xs (has_id done x) refl all (open_work-all P done xs (All-tail P x xs all))
+
+pub settled_places : (n : ℕ) (b : Branch) → HasPlaces n b → HasPlaces n (settled b)
+settled_places n b places = record { work = open_work-all (λ f. f.0 < n) b.done b.work places.work; done = places.done; next = places.next; postponed = places.postponed }
+
+settled_step : (ns : List Node) (b : Branch) (work : List FormulaId) → step_on ns (settled b) work ≡ step_on ns b work
+settled_step ns b [] = refl
+settled_step ns b (f ∷ rest) = refl
+
+-- a branch and the settled one go the same way
+pub leaves_of-settled : (ns : List Node) (b : Branch) → leaves_of ns (settled b) ≡ leaves_of ns b
+leaves_of-settled ns b =
+    ap (leaves_below (leaves_within (undone b.done) ns)) (ap (step_on ns (settled b)) (open_work-twice b.done b.work) ∙ settled_step ns b (open_work b.done b.work))

@@ -9,6 +9,8 @@ pub mod Steps
 pub mod Covers
 pub mod Reduced
 pub mod Gathered
+pub mod ForkLaws
+pub mod Forks
 pub mod Search
 pub mod NextStep
 pub mod CoverSignals

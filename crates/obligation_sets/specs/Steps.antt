@@ -63,6 +63,10 @@ step_on ns b (f ∷ rest) = expanding ns (taking b f rest) f (node_at ns f.0)
 abbrev pub step : List Node → Branch → Step
 step ns b = step_on ns b (open_work b.done b.work)
 
+-- the branch with its work list from the first formula on that isn't done
+abbrev pub settled : Branch → Branch
+settled b = record b { work = open_work b.done b.work }
+
 -- how many formulas aren't done
 abbrev pub undone : List Bool → ℕ
 undone [] = 0

@@ -15,7 +15,7 @@ use std::alloc::{AllocError, Global};
 use std::marker::Model;
 
 /// What a branch has done with one formula.
-#[derive(Clone, Copy)]
+#[derive(Clone, Copy, PartialEq, Eq)]
 struct Mark {
     /// Whether it was taken off the work list.
     done: bool,
@@ -47,6 +47,15 @@ pub(crate) enum Step {
     Split(Branch, Branch),
 }
 
+/// A branch that goes on as two, by its parts, so that equal ones are found. All that is hashed of it is the digest of its marks.
+#[derive(Drop, PartialEq, Eq)]
+pub(crate) struct Fork {
+    pub(crate) digest: u64,
+    work: Vec<FormulaId>,
+    cube: Cube,
+    marks: Vec<Mark>,
+}
+
 impl Model for Branch {
     ghost use Rattle.std.specs.Prelude.{reverse};
     ghost use Rattle.obligation_sets.specs.Branch.{Branch};
@@ -60,7 +69,8 @@ impl Model for Branch {
 impl Branch {
     ghost use Rattle.obligation_sets.specs.Covers.{start_of};
     ghost use Rattle.obligation_sets.specs.Ids.{with_id};
-    ghost use Rattle.obligation_sets.specs.Steps.{HasPlaces, expanding, joining, leaving, opposing, postponing, step};
+    ghost use Rattle.obligation_sets.specs.Forks.{branch_of};
+    ghost use Rattle.obligation_sets.specs.Steps.{HasPlaces, expanding, joining, leaving, opposing, postponing, settled, step};
     ghost use Rattle.ltl_formula.specs.Nodes.{IsNodeList, SignalBelow, Stands, node_at};
 
     /// The branch that begins with a set of obligations.
@@ -84,6 +94,50 @@ impl Branch {
             cube: Cube { must: 0, not: 0 },
             marks: vec![in alloc; none; formulas.len()]?,
         })
+    }
+
+    /// The branch with its work list from the first open formula on.
+    pub(crate) fn settled(mut self) -> Result<Branch, AllocError>
+        requires { All (λ f. f.0 < length self.done) self.work }
+        ensures { IfOk result (λ b. b ≡ settled self) }
+    {
+        match pop_open(&mut self.work, &self.marks) {
+            Some(id) => self.in_front(id),
+            None => Ok(self),
+        }
+    }
+
+    /// The branch by its parts, where the first formula of its work list is met in two ways.
+    pub(crate) fn fork(
+        &self,
+        alloc: Global,
+        formulas: &Formulas,
+    ) -> Result<Option<Fork>, AllocError>
+        requires { HasPlaces (length formulas.now) self.now }
+        ensures { IfOk result (λ o. IfSome o (λ fork. branch_of fork ≡ self.now)) }
+    {
+        if !self.splits(formulas) {
+            return Ok(None);
+        }
+        Ok(Some(Fork {
+            digest: digest(&self.marks),
+            work: Vec::from_slice(alloc, &self.work)?,
+            cube: self.cube,
+            marks: Vec::from_slice(alloc, &self.marks)?,
+        }))
+    }
+
+    /// Whether the first formula of the work list is met in two ways.
+    fn splits(&self, formulas: &Formulas) -> bool
+        requires { HasPlaces (length formulas.now) self.now }
+    {
+        match self.work.last() {
+            Some(id) => matches!(
+                formulas.node(*id),
+                Node::Or(_, _) | Node::Until(_, _) | Node::Release(_, _)
+            ),
+            None => false,
+        }
     }
 
     /// Takes the first open formula off the work list and says what comes of it.
@@ -204,6 +258,20 @@ impl Branch {
         let implied = dropped(alloc, formulas, covering, &self.marks)?;
         cover_of(alloc, self.cube, &self.marks, &implied)
     }
+}
+
+/// A number that equal marks have alike, and others seldom (FNV-1a).
+fn digest(marks: &[Mark]) -> u64 {
+    let mut digest: u64 = 0xcbf2_9ce4_8422_2325;
+    for mark in marks {
+        digest = (digest ^ number_of(*mark)).wrapping_mul(0x100_0000_01b3);
+    }
+    digest
+}
+
+/// A number for each mark.
+fn number_of(mark: Mark) -> u64 {
+    u64::from(mark.done) | u64::from(mark.next) << 1 | u64::from(mark.postponed) << 2
 }
 
 /// The formulas that a cover leaves out of what its leaf leaves, as flags.

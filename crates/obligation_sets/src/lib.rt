@@ -8,6 +8,7 @@
 mod asking;
 mod branches;
 mod cover_search;
+mod forks;
 pub mod laws;
 mod sets;
 

@@ -1,12 +1,13 @@
-use Rattle.std.proofs.Common.{◌≤◌}
-use Rattle.obligation_sets.proofs.Along.{IsAlong, weight}
+use Rattle.std.proofs.Common.{◌≤◌, reverse}
+use Rattle.obligation_sets.specs.declared.cover_search.TheConstants.{MAX_LEAVES}
+use Rattle.obligation_sets.specs.Search.{SearchAlong, weight}
 use Rattle.obligation_sets.proofs.cover_search.covers.Given as goal
 
-abbrev pub invariant-loop-branch : goal.invariant-loop-branch
-invariant-loop-branch l = record {
-  along : IsAlong l.covering l.formulas l.set l.branches.items l.found.keys l.leaves;
-  few : l.leaves ≤ 100000;
+abbrev pub invariant-loop-frame : goal.invariant-loop-frame
+invariant-loop-frame l = record {
+  along : SearchAlong l.covering l.formulas l.set (reverse l.search.frames.items) l.search;
+  few : l.search.leaves ≤ MAX_LEAVES;
 }
 
-abbrev pub decreases-loop-branch : goal.decreases-loop-branch
-decreases-loop-branch l = weight l.branches.items
+abbrev pub decreases-loop-frame : goal.decreases-loop-frame
+decreases-loop-frame l = weight (reverse l.search.frames.items)
