@@ -1,4 +1,4 @@
--- Where the assignment meets every base clause, each row has a move, and the decoded annotation is valid.
+-- Where the assignment meets every base clause of a problem, of whatever size, each row has a move, and the decoded annotation is valid.
 use Rattle.std.proofs.Common.{◌≡◌, ℕ, zero, suc, ◌+◌, ◌^◌, ◌<◌, ◌≤◌, inl, inr, Bool, true, false, not, List, [], ◌∷◌, ◌++◌, Option, Some, None, refl, sym, ap, ◌∙◌, subst, arith, cond}
 use Rattle.std.specs.Prelude.{Contains, ◌==◌, ◌||◌, ◌&&◌, nat_le, nat_lt}
 use Rattle.std.specs.List.{list_any}
@@ -56,7 +56,7 @@ second test true false a b misses h = go (test b) refl
     go true e = (refl, e)
     go false e = absurd (let x : true ≡ false = sym (alone (test a) (left_true (test b) (test a || false) h e)) ∙ misses in cc)
 
-module _ (p : Problem) (values : List Bool) (problem : IsProblem p) (made : IsAutomaton (automaton_of p)) (met : meets values (base_clauses p) ≡ true) where
+module _ (p : Problem) (values : List Bool) (some : 1 ≤ p.size) (start : start_number p ≤ bound_at p 0) (made : IsAutomaton (automaton_of p)) (met : meets values (base_clauses p) ≡ true) where
   kinds : HoldsOfKinds p (λ clause. is_true_clause values clause ≡ true)
   kinds = kinds_hold p (λ clause. is_true_clause values clause ≡ true)
       ((Decides-all (is_true_clause values) (λ clause. is_true_clause values clause ≡ true) (λ clause. (λ h. h, λ h. h)) (base_clauses p)).0 met)
@@ -93,7 +93,7 @@ module _ (p : Problem) (values : List Bool) (problem : IsProblem p) (made : IsAu
         (counts.0, counts.1)
 
     start_is : HasNumber p numbers 0 0 (start_number p)
-    start_is = reached 0 0 (start_number p) problem.some made.some (start_small p problem) (alone (value_of values (var_count p 0 0 (start_number p))) kinds.start)
+    start_is = reached 0 0 (start_number p) some made.some start (alone (value_of values (var_count p 0 0 (start_number p))) kinds.start)
 
     -- in version 3 a pair that reaches a number reaches 0
     down : (t q c : ℕ) → p.version ≡ 3 → t < p.size → q < states_of (automaton_of p) → c ≤ bound_at p q → value_of values (var_count p t q c) ≡ true → value_of values (var_count p t q 0) ≡ true
@@ -240,15 +240,14 @@ pub record IsOutcome (p : Problem) (values : List Bool) (m : MachineModel) (numb
   pub valid : IsValidAnnotation p m numbers
   pub accepted : SideAccepts (automaton_of p) p.side m
 
-outcome_of : (p : Problem) (values : List Bool) (table : List Row) → JoinedIsReached → IsProblem p → IsAutomaton (automaton_of p) → meets values (base_clauses p) ≡ true → AreRows p values (row_count p) table
+pub outcome_of : (p : Problem) (values : List Bool) (table : List Row) → JoinedIsReached → 1 ≤ p.size → start_number p ≤ bound_at p 0 → IsAutomaton (automaton_of p) → meets values (base_clauses p) ≡ true → AreRows p values (row_count p) table
     → IsOutcome p values (machine_of p table) (numbers_of p values)
-outcome_of p values table reached_is problem made met rows =
-    let fits : IsMachineOf p (machine_of p table) = is_of p values table problem rows in
-    let machine : IsMachine (machine_of p table) = is_machine p values table problem rows in
-    let decoded : IsDecoded p values (machine_of p table) (numbers_of p values) = is_decoded p values table problem rows in
-    let valid : IsValidAnnotation p (machine_of p table) (numbers_of p values) = is_valid p values problem made met (machine_of p table) (numbers_of p values) machine fits decoded in
-    let least : 1 ≤ p.size = problem.some in
-    let some : 0 < size_of (machine_of p table) = rw fits.size (omega arith) in
+outcome_of p values table reached_is least start made met rows =
+    let fits : IsMachineOf p (machine_of p table) = is_of p values table least rows in
+    let machine : IsMachine (machine_of p table) = is_machine p values table least rows in
+    let decoded : IsDecoded p values (machine_of p table) (numbers_of p values) = is_decoded p values table least rows in
+    let valid : IsValidAnnotation p (machine_of p table) (numbers_of p values) = is_valid p values least start made met (machine_of p table) (numbers_of p values) machine fits decoded in
+    let some : 0 < size_of (machine_of p table) = rw fits.size (omega (arith, least)) in
     record {
       looked_for = fits;
       made = machine;
@@ -263,4 +262,4 @@ pub outcome : (p : Problem) (values values' : List Bool) (table : List Row) (m :
 outcome p values values' table m numbers reached_is problem made met same rows machine listed =
     subst (λ ns. IsOutcome p values' m ns) (sym (listed ∙ ap (numbers_of p) same))
     (subst (λ k. IsOutcome p values' k (numbers_of p values')) (sym machine)
-    (outcome_of p values' table reached_is problem made met (subst (λ vs. AreRows p vs (row_count p) table) same rows)))
+    (outcome_of p values' table reached_is problem.some (start_small p problem) made met (subst (λ vs. AreRows p vs (row_count p) table) same rows)))

@@ -1,5 +1,5 @@
--- The decoded machine is a machine of the problem, and is what the assignment says.
-use Rattle.std.proofs.Common.{◌≡◌, ℕ, ◌+◌, ◌*◌, ◌/◌, ◌%◌, ◌<◌, Bool, List, Option, Some, None, length, get_or, refl, sym, ap, ◌∙◌, subst, arith}
+-- The decoded machine is a machine of the problem, of whatever size, and is what the assignment says.
+use Rattle.std.proofs.Common.{◌≡◌, ℕ, ◌+◌, ◌*◌, ◌/◌, ◌%◌, ◌<◌, ◌≤◌, Bool, List, Option, Some, None, length, get_or, refl, sym, ap, ◌∙◌, subst, arith}
 use Rattle.std.proofs.lemmas.List.FromFn.{get_or-map-range_with_len, length-map-range_with_len}
 use Rattle.std.proofs.lemmas.Nat.{div-mul-add, mod-mul-add, pow_pos}
 use Rattle.clause_base.specs.Truth.{value_of}
@@ -9,7 +9,7 @@ use Rattle.letter_word.specs.declared.kinds.Kind.TheVariants.{Moore}
 use Rattle.machine_model.specs.Automaton.{states_of}
 use Rattle.machine_model.specs.Machine.{IsMachine, MachineModel, next_of, size_of, writes_of}
 use Rattle.machine_model.specs.Problem as looked_for
-use Rattle.machine_model.specs.Problem.{IsMachineOf, IsProblem, automaton_of, reads_of}
+use Rattle.machine_model.specs.Problem.{IsMachineOf, automaton_of, reads_of}
 use Rattle.machine_model.specs.declared.machines.Row.{Row}
 use Rattle.machine_model.specs.declared.problems.Problem.{Problem}
 use Rattle.product_bound.specs.Annotation.{number_at, places_of}
@@ -25,7 +25,7 @@ use Rattle.machine_decode.proofs.Parts.{IsGreatest, greatest_is, letter_has, let
 abbrev pub machine_of : Problem → List Row → MachineModel
 machine_of p table = record { kind = p.kind; reads = reads_of p; writes = looked_for.writes_of p; table = table }
 
-module _ (p : Problem) (values : List Bool) (table : List Row) (problem : IsProblem p) (rows : AreRows p values (row_count p) table) where
+module _ (p : Problem) (values : List Bool) (table : List Row) (some : 1 ≤ p.size) (rows : AreRows p values (row_count p) table) where
   some_letter : 0 < letter_count p
   some_letter = pow_pos (reads_of p)
 
@@ -59,7 +59,7 @@ module _ (p : Problem) (values : List Bool) (table : List Row) (problem : IsProb
   is_machine = record {
     shape = record {
       some = λ none.
-          let first : row_place p 0 0 < p.size * letter_count p = row_below p 0 0 problem.some some_letter in
+          let first : row_place p 0 0 < p.size * letter_count p = row_below p 0 0 some some_letter in
           let places : length table ≡ p.size * letter_count p = rows.places in
           let empty : length table ≡ 0 = ap length none in
           absurd (omega (arith, first, places, empty));
