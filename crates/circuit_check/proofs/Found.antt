@@ -7,21 +7,18 @@ use Rattle.aiger_text.specs.FileLaws.{FilesStateOneThing}
 use Rattle.cert_text.specs.Reading.{fault_line}
 use Rattle.cert_text.proofs.CommentLine.{comment_fits}
 use Rattle.circuit_names.specs.Lines.{earliest, faulty_line}
+use Rattle.circuit_names.proofs.Fitting.{some_earliest}
 use Rattle.named_annotation.specs.NamedStates.{Named}
 use Rattle.circuit_check.specs.Duty.{Owed}
-use Rattle.circuit_check.specs.FirstBad.{Annotates, HasComment, IsFirstBad, IsValidFor, comment_of, of_fault, of_pairs}
+use Rattle.circuit_check.specs.FirstBad.{Annotates, IsFirstBad, IsValidFor, comment_of, of_fault, of_pairs}
 use Rattle.circuit_check.specs.Forms.{NamesStates, comment_names}
 use Rattle.circuit_check.specs.Parts.{IsFoundOf, IsToldOf, KeepsItsDuty}
-
-some_first : (line : ℕ) (o : Option ℕ) → earliest (Some line) o ≡ None → ⊥
-some_first line None none = absurd (cc)
-some_first line (Some m) none = absurd (cc)
 
 module _ (owed : Owed) (bytes : List ℕ) where
   -- a circuit with a fault
   pub fault_found : (fault : CircuitFault) (line : ℕ) (o : Option ℕ) → IsFirstFault bytes fault → line ≡ fault_line fault
       → o ≡ earliest (Some line) (faulty_line owed.names bytes) → IsFoundOf owed bytes o
-  fault_found fault line None first is same = absurd (some_first line (faulty_line owed.names bytes) (sym same))
+  fault_found fault line None first is same = absurd (some_earliest line (faulty_line owed.names bytes) (sym same))
   fault_found fault line (Some n) first is same =
       of_fault fault n first (ap (λ (m : ℕ). earliest (Some m) (faulty_line owed.names bytes)) (sym is) ∙ sym same)
 
@@ -46,10 +43,10 @@ short_by bytes comment line (Some at) is fits =
     subst (λ (x : List ℕ). line + length x ≤ length bytes + 1) (ap (λ (o : Option (List ℕ)). unwrap_or o []) is) (fits at refl)
 
 -- the comment's line and its bytes are at most one more than the file's bytes
-pub comment_short : (owed : Owed) (bytes : List ℕ) (file : File) (comment : List ℕ) → HasComment owed bytes file comment
+pub comment_within : (bytes : List ℕ) (file : File) (comment : List ℕ) → States bytes file → comment_of file bytes ≡ Some comment
     → file.comment_line + length comment ≤ length bytes + 1
-comment_short owed bytes file comment has =
-    short_by bytes comment file.comment_line file.comment_at has.comment_is (λ at some. comment_fits bytes file at has.fitting.states some)
+comment_within bytes file comment states is =
+    short_by bytes comment file.comment_line file.comment_at is (λ at some. comment_fits bytes file at states some)
 
 -- == the form of the annotation ==
 

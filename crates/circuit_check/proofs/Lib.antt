@@ -1,4 +1,4 @@
 mod TwoWords
 mod Signals
-mod Found
+pub mod Found
 mod Determined

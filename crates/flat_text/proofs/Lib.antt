@@ -6,3 +6,4 @@ pub mod DeclaredNames
 pub mod OneCode
 pub mod NamesOfTokens
 pub mod NamesOfTrees
+pub mod OfKinds

@@ -1,3 +1,4 @@
 pub mod FlatOf
 pub mod Laws
 pub mod FlatNames
+pub mod Kinds

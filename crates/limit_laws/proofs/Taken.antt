@@ -23,7 +23,7 @@ use Rattle.text_ground.specs.Ground.{IsWantedBy}
 use Rattle.solve_ground.specs.Forms.{forms_of, forms_taken}
 use Rattle.solve_ground.specs.SolveText.{IsSolveFault, of_reading, of_expansion, of_forms}
 use Rattle.solve_ground.specs.Taken.{IsTakenAs, spoken_word, taken_kind, taken_shift}
-use Rattle.solve_ground.proofs.Whole.{has_kind, kind_in}
+use Rattle.solve_ground.proofs.Whole.{kind_in}
 use Rattle.limit_laws.specs.Wider.{AreWider}
 use Rattle.limit_laws.specs.Laws.{IsSameText}
 use Rattle.limit_laws.specs.Taken.{IsSameWanted}
@@ -132,6 +132,6 @@ module _ (trees : TreesAreDetermined) (text : List ℕ) (given : Option Kind) (x
         inputs = wanted.inputs ∙ ap (λ (f : FlatText). f.expanded.inputs) same ∙ sym taken.inputs;
         outputs = wanted.outputs ∙ ap (λ (f : FlatText). f.expanded.outputs) same ∙ sym taken.outputs;
         kind_is = wanted.kind_is ∙ ap (λ (f : FlatText). f.expanded.kind) same
-            ∙ kind_in (taken_kind given tree) (expanded LARGE_LIMITS tree (Some (taken_kind given tree))) flat (has_kind LARGE_LIMITS tree (taken_kind given tree)) large ∙ sym taken.kind_is;
+            ∙ kind_in LARGE_LIMITS tree (taken_kind given tree) flat large ∙ sym taken.kind_is;
         truth = λ w ring. wanted.meaning w ∙ ap (means SMALL_LIMITS w) (trees text wanted.tree tree wanted.read taken.read) ∙ sym (meaning_taken given tree sound (length y.inputs) w) ∙ sym (taken.meaning w ring);
       }

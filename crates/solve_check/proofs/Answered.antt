@@ -18,7 +18,7 @@ use Rattle.solve_check.specs.Line.{acceptance_of}
 use Rattle.solve_check.specs.Parts.{AreLaws, IsClaimed, IsShown, IsSound, TellsOf}
 use Rattle.solve_check.proofs.Accepted.{accepted_as}
 use Rattle.solve_check.proofs.Held.{IsDocumentOf, document_is, holds}
-use Rattle.solve_check.proofs.Names.{earliest_none}
+use Rattle.circuit_names.proofs.Fitting.{earliest_none}
 
 -- what is told of good lines is what is told of the document that they state
 told_of : (t : SolveText) (bytes : List ℕ) (lines : SolvedLines) (d : Document) (a : Acceptance) → IsDocumentOf bytes lines d → TellsOf t lines a → a ≡ acceptance_of t d

@@ -27,10 +27,11 @@ use Rattle.solved_text.specs.States.{IsShown, IsShownBy, States}
 use Rattle.solve_check.specs.Given.{is_taken_so, names_in}
 use Rattle.solve_check.specs.SizeLogs.{LogsFail, ground_for, none_fails, one_fails, one_good}
 use Rattle.solve_check.specs.FirstBad.{Annotated, Counted, LinesFail, NumberFails, annotated_in, annotation_line, circuit_line, circuit_side, counted_in, file_in, may_be_counted, side_in, states_told, taken_line, too_many, another, right}
-use Rattle.solve_check.specs.Holds.{HasCircuit, HasNames, HasWhatIsSaid, HoldsSolved}
+use Rattle.circuit_names.specs.Names.{HasNames}
+use Rattle.solve_check.specs.Holds.{HasCircuit, HasWhatIsSaid, HoldsSolved}
 use Rattle.solve_check.specs.Parts.{IsClaimed}
 use Rattle.solve_check.specs.Parts as parts
-use Rattle.solve_check.proofs.Names.{earliest_none, stated_names}
+use Rattle.circuit_names.proofs.Fitting.{earliest_none, stated_names}
 
 cond_none : (b : Bool) (n : ℕ) → cond b None (Some n) ≡ None → b ≡ true
 cond_none true n none = refl

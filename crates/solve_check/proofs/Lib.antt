@@ -1,4 +1,3 @@
-mod Names
 mod Meaning
 mod Bounds
 mod Never

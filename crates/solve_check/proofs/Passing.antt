@@ -35,10 +35,11 @@ use Rattle.solved_text.specs.States.{IsShown, IsShownBy, States}
 use Rattle.solve_check.specs.Given.{form_for, is_taken_so, kind_for, names_in}
 use Rattle.solve_check.specs.SizeLogs.{LogsFail, ground_for, none_fails, one_good}
 use Rattle.solve_check.specs.FirstBad.{Annotated, Counted, HasAnnotation, IsCauseFor, IsFirstBadSolved, LinesFail, NumberFails, NumberFailsIn, annotated_in, annotation_line, circuit_line, circuit_side, counted_in, file_in, of_line, of_pairs, reading_in, refused_line, right, side_in, states_told, taken_line}
-use Rattle.solve_check.specs.Holds.{HasCircuit, HasNames, HasWhatIsSaid, HoldsSolved}
+use Rattle.circuit_names.specs.Names.{HasNames}
+use Rattle.solve_check.specs.Holds.{HasCircuit, HasWhatIsSaid, HoldsSolved}
 use Rattle.solve_check.proofs.Determined.{fails_one, named_or, some_same}
 use Rattle.solve_check.proofs.Held.{HasFile, IsDocumentOf, document_is, file_of, place_of}
-use Rattle.solve_check.proofs.Names.{names_pass, none_earliest}
+use Rattle.circuit_names.proofs.Fitting.{names_pass, none_earliest}
 
 behind_not_faulty : (bytes : List ℕ) (file : File) (comment : List ℕ) (lines : SolvedLines) → ReadsBehind bytes file comment lines → lines.circuit ≡ Faulty → ⊥
 behind_not_faulty bytes file comment lines (unnamed e) is = absurd (cc)

@@ -1,9 +1,9 @@
 -- When a document of version 6 holds for a text (this project's own; bounded synthesis of Finkbeiner and Schewe).
-use Rattle.std.specs.Prelude.{◌≡◌, ℕ, ⊤, true, List, Some, All, length, map}
+use Rattle.std.specs.Prelude.{◌≡◌, ℕ, ⊤, true, List, Some, All, length}
 use Rattle.letter_word.specs.declared.kinds.Side.{Side}
 use Rattle.letter_word.specs.declared.kinds.Side.TheVariants.{System, Environment}
 use Rattle.aiger_text.specs.Circuit.{Circuit, HasStates}
-use Rattle.circuit_names.specs.Names.{Names, read_names, written_names}
+use Rattle.circuit_names.specs.Names.{HasNames}
 use Rattle.named_annotation.specs.Laws.{IsValidNamed}
 use Rattle.named_annotation.specs.NamedStates.{Named}
 use Rattle.named_annotation.specs.NamedText.{StatesNamed}
@@ -15,11 +15,6 @@ use Rattle.solved_text.specs.Parts.{Document}
 use Rattle.solve_check.specs.Given.{form_for, is_taken_so, kind_for, names_in}
 use Rattle.solve_check.specs.FirstBad.{may_be_counted}
 use Rattle.solve_check.specs.SizeLogs.{ground_for}
-
--- each input and each output has the text's name for it, where the circuit plays this side
-pub record HasNames (names : Names) (side : Side) (c : Circuit) : Type 0 where
-  pub inputs : c.input_names ≡ map Some (read_names names side)
-  pub outputs : c.output_names ≡ map Some (written_names names side)
 
 -- the annotation is one of the circuit, which plays this side, over what that side keeps from being true, and it is valid
 pub record IsAnnotationOf (t : SolveText) (side : Side) (c : Circuit) (annotation : List ℕ) : Type 0 where

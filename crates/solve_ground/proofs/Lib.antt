@@ -1,2 +1,3 @@
 mod FormsMade
 pub mod Whole
+pub mod Determined

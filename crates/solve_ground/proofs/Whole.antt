@@ -1,5 +1,6 @@
 -- The answer of the call, from those of reading, of expansion and of the forms.
 use Rattle.std.proofs.Common.{◌≡◌, ℕ, not, List, length, Option, Some, None, Result, Ok, Err, IfOk, refl, sym, ap, subst, ◌∙◌, arith}
+use Rattle.std.proofs.lemmas.Option.{same_Some}
 use Rattle.letter_word.specs.declared.kinds.Kind.{Kind}
 use Rattle.letter_word.specs.Word.{Word, HasRing}
 use Rattle.ltl_formula.specs.Nodes.{tree_at}
@@ -14,17 +15,15 @@ use Rattle.kind_conversion.specs.declared.shifts.Shift.{Shift}
 use Rattle.satisfaction.specs.Wanted.{Wanted}
 use Rattle.tlsf_syntax.specs.Text.{Text}
 use Rattle.tlsf_reader.specs.Reads.{Reads}
-use Rattle.tlsf_values.specs.declared.work.Work.{Work}
-use Rattle.tlsf_values.specs.Outcomes.{Outcome, gives, fails, go_on}
+use Rattle.tlsf_values.specs.Outcomes.{fails}
 use Rattle.tlsf_values.specs.Results.{IsFault}
 use Rattle.tlsf_expand.specs.declared.spec.Spec.{Spec}
-use Rattle.tlsf_expand.specs.Expansion.{Expanded, expanded, fault_in}
+use Rattle.tlsf_expand.specs.Expansion.{expanded, fault_in}
 use Rattle.tlsf_expand.specs.FewSignals.{HasFewSignals}
 use Rattle.tlsf_expand.specs.FlatText.{FlatText, flat_in, spec_seen}
 use Rattle.tlsf_expand.specs.Meaning.{means}
 use Rattle.tlsf_expand.specs.Results.{KeepsMeaning}
-use Rattle.tlsf_expand.specs.Sections.{sections_value, whole_value}
-use Rattle.tlsf_expand.specs.Signals.{signals_of}
+use Rattle.flat_text.proofs.OfKinds.{kinds}
 use Rattle.solve_ground.specs.declared.texts.SolveText.{SolveText}
 use Rattle.solve_ground.specs.Forms.{forms_taken}
 use Rattle.solve_ground.specs.Parts.{HasNoForms, IsWithForms}
@@ -35,25 +34,9 @@ use Rattle.solve_ground.specs.Taken.{converted_from, spoken_word, taken_kind, ta
 pub same_error : {A E : Type 0} (r : Result A E) (x y e : E) → r ≡ Err x → x ≡ y → r ≡ Err e → y ≡ e
 same_error {A = A} {E = E} r x y e is same h = let k : ◌≡◌ {A = Result A E} (Err x) (Err e) = sym is ∙ h in cc
 
--- ---- the kind of a text under a given kind
-
-abbrev pub HasKind : Kind → Outcome Expanded → Type 0
-HasKind kind (gives x w) = x.kind ≡ kind
-HasKind kind (fails code place) = Unit {0}
-
-kind_go_on : {A : Type 0} (kind : Kind) (o : Outcome A) (f : A → Work → Outcome Expanded) → ((a : A) (w : Work) → HasKind kind (f a w)) → HasKind kind (go_on o f)
-kind_go_on kind (gives a w) f next = next a w
-kind_go_on kind (fails code place) f next = tt
-
-pub has_kind : (limits : Limits) (text : Text) (kind : Kind) → HasKind kind (expanded limits text (Some kind))
-has_kind limits text kind =
-    kind_go_on kind (signals_of limits text) _ (λ signals w. kind_go_on kind (sections_value signals text.sections w) _ (λ sections w.
-    kind_go_on kind (whole_value text.info.strict sections w) _ (λ whole w. refl)))
-
-pub kind_in : (kind : Kind) (o : Outcome Expanded) (flat : FlatText) → HasKind kind o → flat_in o ≡ Some flat → flat.expanded.kind ≡ kind
-kind_in kind (gives x w) flat has is =
-    let same : (let f : FlatText = record { expanded = x; formulas = w.formulas } in f) ≡ flat = cc in ap (λ (f : FlatText). f.expanded.kind) (sym same) ∙ has
-kind_in kind (fails code place) flat has is = cc
+-- the kind of a text under a given kind
+pub kind_in : (limits : Limits) (tree : Text) (kind : Kind) (flat : FlatText) → flat_in (expanded limits tree (Some kind)) ≡ Some flat → flat.expanded.kind ≡ kind
+kind_in limits tree kind flat is = sym (same_Some kind flat.expanded.kind (kinds.taken limits tree (Some kind) flat is))
 
 -- ---- faults
 
@@ -98,7 +81,7 @@ module _ (text : List ℕ) (given : Option Kind) (tree : Text) (read : Reads tex
               is_flat = record { tree = tree; read = read; expanded = flat_so; meaning = meaning };
               inputs = refl;
               outputs = refl;
-              kind_is = kind_in (taken_kind given tree) (expanded LARGE_LIMITS tree (Some (taken_kind given tree))) (spec_seen spec) (has_kind LARGE_LIMITS tree (taken_kind given tree)) flat_so;
+              kind_is = kind_in LARGE_LIMITS tree (taken_kind given tree) (spec_seen spec) flat_so;
               meaning = λ w ring. refl;
             };
             inputs = with_forms.inputs;

@@ -1,7 +1,5 @@
 //! The files of a document's logs.
 
-ghost use Rattle.std.specs.Prelude.{◌≡◌, ◌==◌, if◌then◌else◌};
-ghost use Rattle.machine_model.specs.Problem.{IsVersion};
 ghost use Rattle.spec_problems.specs.OfFormula.{AreProblems};
 
 use crate::dimacs::push_formula;
@@ -10,6 +8,7 @@ use crate::faults::TextFault;
 use crate::problems::base_of;
 use cert_text::{Document, LogPart};
 use clause_base::Cnf;
+use document_check::clause_version;
 use letter_word::Side;
 use machine_table::{ShowFault, Shown};
 use program_replies::refused;
@@ -55,18 +54,6 @@ fn files_of_document(
         }
     };
     files_of(alloc, &text.problems, &document.logs)
-}
-
-/// The version of the base clauses that a document's logs are over.
-fn clause_version(version: u32) -> u32
-    ensures value { result ≡ (if version == 1 then 1 else (if version == 5 then 3 else 2)) }
-    ensures version { IsVersion result }
-{
-    match version {
-        1 => 1,
-        5 => 3,
-        _ => 2,
-    }
 }
 
 fn files_of(

@@ -19,16 +19,12 @@ use Rattle.machine_model.specs.declared.problems.Problem.{Problem}
 use Rattle.annotation_encode.specs.Laws.{HasNoAccepted}
 use Rattle.dual_search.specs.declared.automata.Automata.{Automata}
 use Rattle.dual_search.specs.Sides.{AcceptsWhere}
-use Rattle.tlsf_expand.specs.Expansion.{Expanded, expanded_as, kind_of}
+use Rattle.tlsf_expand.specs.Expansion.{Expanded}
 use Rattle.tlsf_expand.specs.Meaning.{means}
-use Rattle.tlsf_expand.specs.FlatText.{FlatText, flat_in}
+use Rattle.tlsf_expand.specs.FlatText.{FlatText}
 use Rattle.tlsf_syntax.specs.Text.{Text}
-use Rattle.tlsf_expand.specs.Signals.{signals_of}
-use Rattle.tlsf_expand.specs.Sections.{sections_value, whole_value}
-use Rattle.tlsf_values.specs.declared.work.Work.{Work}
-use Rattle.tlsf_values.specs.Outcomes.{Outcome, fails, gives, go_on}
 use Rattle.flat_text.specs.FlatOf.{IsFlatOf}
-use Rattle.std.specs.Option.{option_map_or}
+use Rattle.flat_text.proofs.OfKinds.{kinds}
 use Rattle.spec_problems.specs.declared.sides.SideProblems.{SideProblems}
 use Rattle.spec_problems.specs.OfFormula.{AcceptBySide, AreProblems, AreProblemsIn, AreProblemsOver, IsEnvironmentOver, IsProblemOver}
 use Rattle.spec_problems.specs.OfText.{AreProblemsOf, SaysWhat, interface_of}
@@ -76,33 +72,6 @@ pub are_problems_for : (v : ℕ) (text : List ℕ) (kind : Option Kind) (spec : 
 are_problems_for v text kind spec s meet are =
     subst (λ x. AreProblemsFor v x s) (sym are.same) (problems_for v are.flat.expanded are.problems.automata s meet are.problems.problems)
 
--- == the kind that a text is taken with ==
-
-through : {A : Type 0} (o : Outcome A) (f : A → Work → Outcome Expanded) (kind : Kind) → ((a : A) (w : Work) (flat : FlatText) → flat_in (f a w) ≡ Some flat → flat.expanded.kind ≡ kind)
-    → (flat : FlatText) → flat_in (go_on o f) ≡ Some flat → flat.expanded.kind ≡ kind
-through (gives a w) f kind h flat e = h a w flat e
-through (fails code position) f kind h flat e = absurd (cc)
-
-kind_of_flat : (o : Option Kind) (t : Text) (flat : FlatText) → flat_in (expanded_as SMALL_LIMITS o t) ≡ Some flat → o ≡ Some flat.expanded.kind
-kind_of_flat None t flat e = absurd (cc)
-kind_of_flat (Some kind) t flat e =
-    let is = through (signals_of SMALL_LIMITS t) (λ signals w. go_on (sections_value signals t.sections w) (λ sections w. go_on (whole_value t.info.strict sections w) (λ whole w.
-    gives (record { inputs = signals.inputs; outputs = signals.outputs; kind = kind; strict = t.info.strict; sections = sections; whole = whole }) w))) kind
-    (λ signals w. through (sections_value signals t.sections w) (λ sections w. go_on (whole_value t.info.strict sections w) (λ whole w.
-    gives (record { inputs = signals.inputs; outputs = signals.outputs; kind = kind; strict = t.info.strict; sections = sections; whole = whole }) w)) kind
-    (λ sections w. through (whole_value t.info.strict sections w) (λ whole w.
-    gives (record { inputs = signals.inputs; outputs = signals.outputs; kind = kind; strict = t.info.strict; sections = sections; whole = whole }) w) kind
-    (λ whole w flat e. sym (ap (λ o. option_map_or (λ (x : FlatText). x.expanded.kind) o kind) e)))) flat e in
-    ap (λ y. Some y) (sym is)
-
-pub flat_by_its_kind : (text : List ℕ) (kind : Option Kind) (flat : FlatText) → IsFlatOf SMALL_LIMITS text kind flat → IsFlatOf SMALL_LIMITS text (Some flat.expanded.kind) flat
-flat_by_its_kind text kind flat is = record {
-  tree = is.tree;
-  read = is.read;
-  expanded = subst (λ o. flat_in (expanded_as SMALL_LIMITS o is.tree) ≡ Some flat) (kind_of_flat (kind_of kind is.tree) is.tree flat is.expanded) is.expanded;
-  meaning = is.meaning;
-}
-
 -- == its ground ==
 
 abbrev pub truth_of_text : {text : List ℕ} {nodes : List Node} {whole : FormulaId} → SaysWhat text nodes whole → Word → Bool
@@ -138,7 +107,7 @@ pub ground_by_its_kind : (v : ℕ) (text : List ℕ) (kind : Option Kind) (spec 
     (are : AreProblemsOf text kind v spec s) → IsGroundOf text (Some spec.expanded.kind) (text_ground spec are.flat says)
 ground_by_its_kind v text kind spec s says are =
     ground_at text (Some spec.expanded.kind) spec are.flat says
-    (subst (λ (x : Expanded). IsFlatOf SMALL_LIMITS text (Some x.kind) are.flat) (sym are.same) (flat_by_its_kind text kind are.flat are.is_flat)) are.same
+    (subst (λ (x : Expanded). IsFlatOf SMALL_LIMITS text (Some x.kind) are.flat) (sym are.same) (kinds.by_its_kind SMALL_LIMITS text kind are.flat are.is_flat)) are.same
 
 -- the problems of the text stand on it
 pub given_on : (v : ℕ) (text : List ℕ) (kind : Option Kind) (spec : FlatText) (s : SideProblems) (says : SaysWhat text spec.formulas spec.expanded.whole)

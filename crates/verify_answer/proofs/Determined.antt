@@ -4,8 +4,6 @@ use Rattle.letter_word.specs.declared.kinds.Side.{Side}
 use Rattle.letter_word.specs.declared.kinds.Side.TheVariants.{System, Environment}
 use Rattle.spec_faults.specs.declared.code.SpecCode.{SpecCode}
 use Rattle.tlsf_expand.specs.FlatText.{FlatText}
-use Rattle.tlsf_reader.specs.Reads.{TreesAreDetermined, TreesHaveNoFault}
-use Rattle.flat_text.specs.Laws.{FlatFaultsAreDetermined}
 use Rattle.spec_problems.specs.Laws.{AreSameProblems, ProblemsOfTextsAreDetermined}
 use Rattle.spec_problems.specs.OfText.{IsFirstFault}
 use Rattle.aiger_text.specs.CircuitFile.{File}
@@ -15,6 +13,7 @@ use Rattle.annot_check.specs.Stated.{ReadingsAreApart}
 use Rattle.named_annotation.specs.NamedStates.{Named}
 use Rattle.program_replies.specs.Lines.{line_refusal, refusal_line}
 use Rattle.text_ground.specs.Ground.{given_by}
+use Rattle.solve_ground.specs.Laws.{IsSameText, SolveTextsAreDetermined}
 use Rattle.solve_ground.specs.SolveText.{IsSolveFault}
 use Rattle.circuit_check.specs.Duty.{Owed}
 use Rattle.circuit_check.specs.FirstBad as circuits
@@ -24,17 +23,17 @@ use Rattle.verify_answer.specs.Answer.{EnvironmentAnswers, GivenToTest, GivenToV
 use Rattle.verify_answer.specs.FirstBad.{Annotates, IsFirstBadOfCircuit, IsValidFor}
 use Rattle.verify_answer.specs.Laws.{EnvironmentsAreDetermined, VerificationsAreDetermined}
 use Rattle.verify_answer.proofs.FirstBadLemmas.{first_moved, one_line, valid_has_none}
-use Rattle.verify_answer.proofs.SolveTexts.{AreAlike, alike, no_fault, one_fault}
+use Rattle.verify_answer.proofs.SolveTexts.{owed_same}
 
 -- == the test of an annotation that names its states ==
 
-module _ (lines : FirstBadLinesAreDetermined) (trees : TreesAreDetermined) (whole : TreesHaveNoFault) where
-  same_of : (text : List ℕ) (g h : GivenToTest text) → AreAlike g.known h.known
-  same_of text g h = alike trees whole text g.known h.known g.is_text h.is_text
+module _ (lines : FirstBadLinesAreDetermined) (solving : SolveTextsAreDetermined) where
+  same_of : (text : List ℕ) (g h : GivenToTest text) → IsSameText g.known h.known
+  same_of text g h = solving.one_text text None g.known h.known g.is_text h.is_text
 
   bad_there : (side : Side) (text circuit : List ℕ) (g h : GivenToTest text) (n : ℕ) → circuits.IsFirstBad (owed_to g.known side) circuit n
       → circuits.IsFirstBad (owed_to h.known side) circuit n
-  bad_there side text circuit g h n first = subst (λ (o : Owed). circuits.IsFirstBad o circuit n) ((same_of text g h).owed side) first
+  bad_there side text circuit g h n first = subst (λ (o : Owed). circuits.IsFirstBad o circuit n) (owed_same g.known h.known (same_of text g h) side) first
 
   test_line : (side : Side) (text circuit bytes : List ℕ) (status : ℕ) (g h : GivenToTest text) (n : ℕ) → TestAnswers side text circuit g.known bytes status
       → circuits.IsFirstBad (owed_to h.known side) circuit n → (status ≡ 40) × (bytes ≡ line_refusal n)
@@ -60,41 +59,40 @@ module _ (lines : FirstBadLinesAreDetermined) (trees : TreesAreDetermined) (whol
 
   -- a text that is taken has no fault so
   taken_without : (text : List ℕ) (g : GivenToTest text) (code : SpecCode) (position : ℕ) → IsSolveFault text None code position → ⊥
-  taken_without text g code position fault = no_fault trees whole text g.known code position g.is_text fault
+  taken_without text g code position fault = solving.no_fault text None g.known code position g.is_text fault
 
   -- == circuits that play the environment ==
 
-  module _ (faults : FlatFaultsAreDetermined) where
-    counter_fault : (text circuit bytes : List ℕ) (status : ℕ) (code : SpecCode) (position : ℕ) → EnvironmentAnswers text circuit bytes status
-        → IsSolveFault text None code position → (status ≡ 1) × (bytes ≡ refusal_line code position)
-    counter_fault text circuit bytes status code position (text_refused c p ended first line) fault =
-        let same = one_fault trees whole text faults c code p position first fault in
-        (ended, line ∙ (λ i. refusal_line (same.0 i) (same.1 i)))
-    counter_fault text circuit bytes status code position (of_text g is) fault = absurd (taken_without text g code position fault)
+  counter_fault : (text circuit bytes : List ℕ) (status : ℕ) (code : SpecCode) (position : ℕ) → EnvironmentAnswers text circuit bytes status
+      → IsSolveFault text None code position → (status ≡ 1) × (bytes ≡ refusal_line code position)
+  counter_fault text circuit bytes status code position (text_refused c p ended first line) fault =
+      let same = solving.one_fault text None c code p position first fault in
+      (ended, line ∙ (λ i. refusal_line (same.0 i) (same.1 i)))
+  counter_fault text circuit bytes status code position (of_text g is) fault = absurd (taken_without text g code position fault)
 
-    counter_line : (text circuit bytes : List ℕ) (status : ℕ) (g : GivenToTest text) (n : ℕ) → EnvironmentAnswers text circuit bytes status
-        → circuits.IsFirstBad (owed_to g.known Environment) circuit n → (status ≡ 40) × (bytes ≡ line_refusal n)
-    counter_line text circuit bytes status g n (text_refused c p ended fault line) first = absurd (taken_without text g c p fault)
-    counter_line text circuit bytes status g n (of_text h is) first = test_line Environment text circuit bytes status h g n is first
+  counter_line : (text circuit bytes : List ℕ) (status : ℕ) (g : GivenToTest text) (n : ℕ) → EnvironmentAnswers text circuit bytes status
+      → circuits.IsFirstBad (owed_to g.known Environment) circuit n → (status ≡ 40) × (bytes ≡ line_refusal n)
+  counter_line text circuit bytes status g n (text_refused c p ended fault line) first = absurd (taken_without text g c p fault)
+  counter_line text circuit bytes status g n (of_text h is) first = test_line Environment text circuit bytes status h g n is first
 
-    counter_shown : (text circuit bytes : List ℕ) (status : ℕ) (g : GivenToTest text) (file : File) (named : Named) → EnvironmentAnswers text circuit bytes status
-        → circuits.Annotates (owed_to g.known Environment) circuit file named → circuits.IsValidFor (owed_to g.known Environment) file named
-        → (status ≡ 0) × (bytes ≡ tested_line Environment g.known.kind g.known.semantics)
-    counter_shown text circuit bytes status g file named (text_refused c p ended fault line) annotates valid = absurd (taken_without text g c p fault)
-    counter_shown text circuit bytes status g file named (of_text h is) annotates valid =
-        test_shown Environment text circuit bytes status h g file named is annotates valid
+  counter_shown : (text circuit bytes : List ℕ) (status : ℕ) (g : GivenToTest text) (file : File) (named : Named) → EnvironmentAnswers text circuit bytes status
+      → circuits.Annotates (owed_to g.known Environment) circuit file named → circuits.IsValidFor (owed_to g.known Environment) file named
+      → (status ≡ 0) × (bytes ≡ tested_line Environment g.known.kind g.known.semantics)
+  counter_shown text circuit bytes status g file named (text_refused c p ended fault line) annotates valid = absurd (taken_without text g c p fault)
+  counter_shown text circuit bytes status g file named (of_text h is) annotates valid =
+      test_shown Environment text circuit bytes status h g file named is annotates valid
 
-    counter_status : (text circuit bytes : List ℕ) (status : ℕ) → EnvironmentAnswers text circuit bytes status → (status ≡ 0) ⊎ ((status ≡ 1) ⊎ (status ≡ 40))
-    counter_status text circuit bytes status (text_refused c p ended fault line) = inr (inl ended)
-    counter_status text circuit bytes status (of_text g is) = test_status Environment text circuit bytes status g is
+  counter_status : (text circuit bytes : List ℕ) (status : ℕ) → EnvironmentAnswers text circuit bytes status → (status ≡ 0) ⊎ ((status ≡ 1) ⊎ (status ≡ 40))
+  counter_status text circuit bytes status (text_refused c p ended fault line) = inr (inl ended)
+  counter_status text circuit bytes status (of_text g is) = test_status Environment text circuit bytes status g is
 
-    pub environments : EnvironmentsAreDetermined
-    environments = record { of_fault = counter_fault; of_bad_line = counter_line; of_annotation = counter_shown; statuses = counter_status }
+  pub environments : EnvironmentsAreDetermined
+  environments = record { of_fault = counter_fault; of_bad_line = counter_line; of_annotation = counter_shown; statuses = counter_status }
 
 -- == circuits that play the system ==
 
 module _ (texts : ProblemsOfTextsAreDetermined) (one_thing : FilesStateOneThing) (one_fault : FilesHaveOneFault) (nothing : FaultsStateNothing) (readings : ReadingsAreApart)
-    (lines : FirstBadLinesAreDetermined) (trees : TreesAreDetermined) (whole : TreesHaveNoFault) where
+    (lines : FirstBadLinesAreDetermined) (solving : SolveTextsAreDetermined) where
   same_problems : (text : List ℕ) (g h : GivenToVerify text) → AreSameProblems g.problems h.problems
   same_problems text g h = texts.one text None 2 g.spec h.spec g.problems h.problems g.are_problems h.are_problems
 
@@ -115,7 +113,7 @@ module _ (texts : ProblemsOfTextsAreDetermined) (one_thing : FilesStateOneThing)
   -- a fault that is answered isn't one of a circuit that is tested
   not_tested : (text circuit : List ℕ) (g : GivenToTest text) → NamesStates circuit → IsUntested text circuit → ⊥
   not_tested text circuit g names (without_states unnamed) = unnamed names
-  not_tested text circuit g names (refused_by_solve code position fault) = taken_without lines trees whole text g code position fault
+  not_tested text circuit g names (refused_by_solve code position fault) = taken_without lines solving text g code position fault
 
   of_fault : (text circuit bytes : List ℕ) (status : ℕ) (code : SpecCode) (position : ℕ) → VerifyAnswers text circuit bytes status
       → IsFirstFault text None code position → IsUntested text circuit → (status ≡ 1) × (bytes ≡ refusal_line code position)
@@ -152,7 +150,7 @@ module _ (texts : ProblemsOfTextsAreDetermined) (one_thing : FilesStateOneThing)
   of_line_with_states text circuit bytes status g n (bad_line h m ended unnamed other line) names first = absurd (unnamed names)
   of_line_with_states text circuit bytes status g n (verified h ended unnamed is line) names first = absurd (unnamed names)
   of_line_with_states text circuit bytes status g n (of_states h named is) names first =
-      test_line lines trees whole System text circuit bytes status h g n is first
+      test_line lines solving System text circuit bytes status h g n is first
 
   shown_with_states : (text circuit bytes : List ℕ) (status : ℕ) (g : GivenToTest text) (file : File) (named : Named) → VerifyAnswers text circuit bytes status
       → NamesStates circuit → circuits.Annotates (owed_to g.known System) circuit file named → circuits.IsValidFor (owed_to g.known System) file named
@@ -161,13 +159,13 @@ module _ (texts : ProblemsOfTextsAreDetermined) (one_thing : FilesStateOneThing)
   shown_with_states text circuit bytes status g file named (bad_line h m ended unnamed other line) names annotates valid = absurd (unnamed names)
   shown_with_states text circuit bytes status g file named (verified h ended unnamed is line) names annotates valid = absurd (unnamed names)
   shown_with_states text circuit bytes status g file named (of_states h its is) names annotates valid =
-      test_shown lines trees whole System text circuit bytes status h g file named is annotates valid
+      test_shown lines solving System text circuit bytes status h g file named is annotates valid
 
   statuses : (text circuit bytes : List ℕ) (status : ℕ) → VerifyAnswers text circuit bytes status → (status ≡ 0) ⊎ ((status ≡ 1) ⊎ (status ≡ 40))
   statuses text circuit bytes status (refused c p ended first why line) = inr (inl ended)
   statuses text circuit bytes status (bad_line g n ended unnamed first line) = inr (inr ended)
   statuses text circuit bytes status (verified g ended unnamed is line) = inl ended
-  statuses text circuit bytes status (of_states g names is) = test_status lines trees whole System text circuit bytes status g is
+  statuses text circuit bytes status (of_states g names is) = test_status lines solving System text circuit bytes status g is
 
   pub determined : VerificationsAreDetermined
   determined = record {

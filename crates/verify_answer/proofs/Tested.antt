@@ -14,6 +14,7 @@ use Rattle.program_replies.specs.declared.replies.Status.{Status}
 use Rattle.program_replies.specs.declared.replies.Status.TheVariants as ended
 use Rattle.program_replies.specs.Statuses.{status_number}
 use Rattle.solve_ground.specs.declared.texts.SolveText.{SolveText}
+use Rattle.solve_ground.specs.Laws.{SolveTextsAreDetermined}
 use Rattle.solve_ground.specs.SolveText.{IsSolveFault, IsSolveText}
 use Rattle.program_replies.specs.declared.replies.Reply.{Reply}
 use Rattle.program_replies.specs.Refusals.{RefusedBy}
@@ -28,8 +29,6 @@ use Rattle.verify_answer.specs.Reply.{IsForVerify, IsReadyFor, IsRefusedAnyway, 
 use Rattle.verify_answer.specs.Verified.{DoesItsPart, HasSignals, IsDefeating, IsSatisfying, named_as}
 use Rattle.verify_answer.proofs.Naming.{circuit_named, kind_named, run_unnamed}
 use Rattle.verify_answer.proofs.Signals.{has_signals}
-use Rattle.verify_answer.proofs.SolveTexts.{no_fault}
-use Rattle.tlsf_reader.specs.Reads.{TreesAreDetermined, TreesHaveNoFault}
 
 not_false : (b : Bool) → not b ≡ false → b ≡ true
 not_false true never = refl
@@ -55,8 +54,8 @@ module _ (text : List ℕ) (t : SolveText) (is : IsSolveText text None t) where
     };
   }
 
-  pub testable : TreesAreDetermined → TreesHaveNoFault → IsTestable text t
-  testable trees whole = record { is_text = is; ready = ready; no_fault = λ code place fault. no_fault trees whole text t code place is fault }
+  pub testable : SolveTextsAreDetermined → IsTestable text t
+  testable texts = record { is_text = is; ready = ready; no_fault = λ code place fault. texts.no_fault text None t code place is fault }
 
   satisfying : (circuit : List ℕ) (found : IsShown (owed_to t System) circuit) → IsSatisfying is.wanted found.file.circuit
   satisfying circuit found =

@@ -1,10 +1,11 @@
 -- What a circuit of another maker owes to a text (this project's own; bounded synthesis of Finkbeiner and Schewe).
-use Rattle.std.specs.Prelude.{◌≡◌, ℕ, List, Option, Some, None, IfSome, length, map}
+use Rattle.std.specs.Prelude.{◌≡◌, ℕ, List, Some, None, length, map}
 use Rattle.std.specs.List.{AllZip}
 use Rattle.letter_word.specs.declared.kinds.Side.{Side}
 use Rattle.letter_word.specs.declared.kinds.Side.TheVariants.{System, Environment}
 use Rattle.aiger_text.specs.Circuit.{Circuit, RunsOnEveryInput}
 use Rattle.aiger_text.specs.CircuitFile.{File}
+use Rattle.circuit_names.specs.Names.{IsNameIfAny}
 use Rattle.satisfaction.specs.Wanted.{Wanted}
 use Rattle.satisfaction.specs.Satisfaction.{CircuitDefeats, CircuitSatisfies}
 use Rattle.document_check.specs.Facts.{Facts}
@@ -16,10 +17,6 @@ use Rattle.named_annotation.specs.NamedStates.{Named}
 use Rattle.circuit_check.specs.Duty.{Owed}
 use Rattle.circuit_check.specs.FirstBad as circuits
 use Rattle.verify_answer.specs.FirstBad.{Annotates, IsValidFor}
-
--- a name is the wanted one where it isn't missing
-abbrev pub IsNameIfAny : Option (List ℕ) → List ℕ → Type 0
-IsNameIfAny name wanted = IfSome name (λ bytes. bytes ≡ wanted)
 
 -- the circuit has the inputs and outputs that are wanted, in their order; where it names one, it does so as they are named
 pub record HasSignals (inputs outputs : List (List ℕ)) (c : Circuit) : Type 0 where

@@ -8,12 +8,12 @@ ghost use Rattle.verify_answer.specs.Reply.{AreForVerify, IsRefusedAnyway, IsRef
 use letter_word::Side;
 use limit_laws::laws::small_texts_are_taken;
 use program_replies::{Reply, refusal};
+use solve_ground::laws::solve_texts_are_determined;
 use solve_ground::{SolveText, solve_text};
 use spec_faults::SpecFault;
 use spec_problems::laws::problems_of_texts_are_determined;
 use std::alloc::{AllocError, Global};
 use text_ground::{Problems, problems_or_refusal};
-use tlsf_reader::laws::{trees_are_determined, trees_have_no_fault};
 
 /// What is known of a text before a circuit is taken.
 #[derive(Drop)]
@@ -29,8 +29,7 @@ pub enum TextForVerify {
 pub fn text_for_verify(alloc: Global, side: Side, text: &[u8]) -> Result<TextForVerify, AllocError>
     ensures { IfOk result (IsTextFor side text.now) }
 {
-    trees_are_determined();
-    trees_have_no_fault();
+    solve_texts_are_determined();
     match solve_text(alloc, text, None) {
         Ok(known) => Ok(TextForVerify::Taken(known)),
         Err(fault) => Ok(TextForVerify::Refused(refused_text(alloc, side, text, fault)?)),

@@ -10,7 +10,7 @@ use Rattle.named_annotation.specs.NamedText.{IsFirstBadNamedLine, StatesNamed}
 use Rattle.circuit_check.specs.Duty.{owed_by}
 use Rattle.circuit_check.specs.FirstBad.{IsFirstBad, IsBadIn, StatesFor, of_line}
 use Rattle.circuit_check.specs.Parts.{IsFoundOf, IsToldOf}
-use Rattle.circuit_check.proofs.Found.{comment_short, pairs_found}
+use Rattle.circuit_check.proofs.Found.{comment_within, pairs_found}
 use Rattle.circuit_check.proofs.Signals.{can_be_checked, few_inputs}
 use Rattle.circuit_check.proofs.files.comment_line.Goals as goal
 
@@ -23,7 +23,7 @@ read_named_annotation-requires-clause-few c =
 
 pub pairs_line-requires : goal.pairs_line-requires
 pairs_line-requires c =
-    let short = comment_short (owed_by c.args.duty) c.args.bytes.now c.args.file.now c.args.comment.now c.requires.commented in
+    let short = comment_within c.args.bytes.now c.args.file.now c.args.comment.now c.requires.commented.fitting.states c.requires.commented.comment_is in
     let size : length c.args.bytes.now < 2 ^ 63 = search rules in
     let lines = c.in-Ok.ensures.lines in
     record {
@@ -36,7 +36,7 @@ pairs_line-requires c =
 
 pub overflow_add-result : goal.overflow_add-result
 overflow_add-result c =
-    let short = comment_short (owed_by c.args.duty) c.args.bytes.now c.args.file.now c.args.comment.now c.requires.commented in
+    let short = comment_within c.args.bytes.now c.args.file.now c.args.comment.now c.requires.commented.fitting.states c.requires.commented.comment_is in
     let size : length c.args.bytes.now < 2 ^ 63 = search rules in
     let here : c.file.inside.comment_line ≡ c.args.file.now.comment_line = ap (λ (f : File). f.comment_line) c.file.view_is in
     let within = c.in-Err.ensures.within c.in_ok-line-in-Err.line (ap Err c.in_ok-line-in-Err.ensures) in

@@ -5,7 +5,7 @@ use Rattle.solved_text.specs.Parts.{SizeLog}
 use Rattle.solved_text.specs.Reading.{SolvedLines}
 use Rattle.solve_check.specs.FirstBad.{circuit_line, side_in}
 use Rattle.solve_check.specs.SizeLogs.{LogsFail, ground_for}
-use Rattle.solve_check.proofs.Names.{earliest_none}
+use Rattle.circuit_names.proofs.Fitting.{earliest_none}
 use Rattle.solve_check.proofs.line_tests.test_lines.Goals as goal
 
 -- the least of the tests' lines, each of which is known as another

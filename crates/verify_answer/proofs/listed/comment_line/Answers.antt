@@ -9,13 +9,14 @@ use Rattle.annot_check.specs.AnnotationText.{IsFirstBadAnnotationLine, StatesPai
 use Rattle.document_check.specs.Shown.{facts_of}
 use Rattle.verify_answer.specs.FirstBad.{IsFirstBadOfCircuit, of_line, over}
 use Rattle.verify_answer.specs.Reply.{IsFoundOf, IsToldOf}
-use Rattle.verify_answer.proofs.Found.{comment_short, list_found}
+use Rattle.circuit_check.proofs.Found.{comment_within}
+use Rattle.verify_answer.proofs.Found.{list_found}
 use Rattle.verify_answer.proofs.Signals.{can_be_checked}
 use Rattle.verify_answer.proofs.listed.comment_line.Goals as goal
 
 pub pairs_line-requires-clause-lines : goal.pairs_line-requires-clause-lines
 pairs_line-requires-clause-lines c =
-    let short = comment_short (facts_of c.args.facts) c.args.bytes.now c.args.file.now c.args.comment.now c.requires.commented in
+    let short = comment_within c.args.bytes.now c.args.file.now c.args.comment.now c.requires.commented.of_text.states c.requires.commented.comment_is in
     let size : length c.args.bytes.now < 2 ^ 63 = search rules in
     let lines = c.in-Ok.ensures.lines in
     omega (arith, short, size, lines)
@@ -29,7 +30,7 @@ pairs_line-requires-clause-checked c =
 
 pub overflow_add-result : goal.overflow_add-result
 overflow_add-result c =
-    let short = comment_short (facts_of c.args.facts) c.args.bytes.now c.args.file.now c.args.comment.now c.requires.commented in
+    let short = comment_within c.args.bytes.now c.args.file.now c.args.comment.now c.requires.commented.of_text.states c.requires.commented.comment_is in
     let size : length c.args.bytes.now < 2 ^ 63 = search rules in
     let here : c.file.inside.comment_line ≡ c.args.file.now.comment_line = ap (λ (f : File). f.comment_line) c.file.view_is in
     let within = c.in-Err.ensures.within c.in_ok-line-in-Err.line (ap Err c.in_ok-line-in-Err.ensures) in

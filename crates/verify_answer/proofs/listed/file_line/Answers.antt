@@ -4,7 +4,7 @@ use Rattle.aiger_text.specs.CircuitFile.{File}
 use Rattle.document_check.specs.Shown.{facts_of}
 use Rattle.document_check.specs.FirstBad.{stated_line}
 use Rattle.verify_answer.specs.FirstBad.{IsFirstBadOfCircuit, comment_of, no_comment, of_names}
-use Rattle.verify_answer.proofs.Found.{none_mapped}
+use Rattle.circuit_check.proofs.Found.{none_mapped}
 use Rattle.verify_answer.proofs.listed.file_line.Goals as goal
 
 pub returns-in-Some : goal.returns-in-Some

@@ -1,0 +1,7 @@
+//! Laws of the definitions, which no code needs.
+ghost use Rattle.solve_ground.specs.Laws.{SolveTextsAreDetermined};
+
+/// A text is one thing as `solve` takes it, or has one first fault.
+pub fn solve_texts_are_determined()
+    ensures { SolveTextsAreDetermined }
+{}
