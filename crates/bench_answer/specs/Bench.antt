@@ -1,10 +1,12 @@
 -- The answer of `bench` (this project's own).
-use Rattle.std.specs.Prelude.{◌≡◌, ℕ, ◌++◌, List, None, codes, decimal}
+use Rattle.std.specs.Prelude.{◌≡◌, ℕ, ◌++◌, true, false, List, Some, None, codes, decimal, if◌then◌else◌}
+use Rattle.letter_word.specs.declared.kinds.Side.{Side}
+use Rattle.letter_word.specs.declared.kinds.Side.TheVariants.{System, Environment}
 use Rattle.arbiter_text.specs.Arbiter.{generated_text}
 use Rattle.annotation_encode.specs.declared.counts.Counts.TheVariants.{Whole}
 use Rattle.synth_engine.specs.declared.settings.Settings.{Settings}
 use Rattle.cert_text.specs.declared.documents.Verdict.{Verdict}
-use Rattle.cert_text.specs.declared.documents.Verdict.TheVariants.{Realizable, Unrealizable, Bounded, UnknownSizes, UnknownEntries}
+use Rattle.cert_text.specs.declared.documents.Verdict.TheVariants.{Machine, Unknown}
 use Rattle.cert_text.specs.Parts.{Document}
 use Rattle.cert_text.specs.States.{States}
 use Rattle.synth_answer.specs.Answer.{Answers}
@@ -15,26 +17,24 @@ bounds_of workers = record { max = 4; entries = None; workers = workers; counts 
 
 -- The status of a verdict. One that rests on a full log has none: where there is no limit, no log is full.
 abbrev pub HasStatus : Verdict → ℕ → Type 0
-HasStatus (Realizable n) status = status ≡ 10
-HasStatus (Unrealizable n) status = status ≡ 20
-HasStatus (Bounded side n) status = ⊥
-HasStatus UnknownSizes status = status ≡ 30
-HasStatus (UnknownEntries side n) status = ⊥
+HasStatus (Machine System states true) status = status ≡ 10
+HasStatus (Machine Environment states true) status = status ≡ 20
+HasStatus (Machine side states false) status = ⊥
+HasStatus (Unknown None) status = status ≡ 30
+HasStatus (Unknown (Some first)) status = ⊥
+
+abbrev pub least_word : Side → List ℕ
+least_word System = codes "realizable"
+least_word Environment = codes "unrealizable"
 
 abbrev pub word_of : Verdict → List ℕ
-word_of (Realizable n) = codes "realizable"
-word_of (Unrealizable n) = codes "unrealizable"
-word_of (Bounded side n) = codes "unknown"
-word_of UnknownSizes = codes "unknown"
-word_of (UnknownEntries side n) = codes "unknown"
+word_of (Machine side states least) = if least then least_word side else codes "unknown"
+word_of (Unknown first) = codes "unknown"
 
 -- the number of states of the smallest machine, or 0 where none is known
 abbrev pub states_of : Verdict → ℕ
-states_of (Realizable n) = n
-states_of (Unrealizable n) = n
-states_of (Bounded side n) = 0
-states_of UnknownSizes = 0
-states_of (UnknownEntries side n) = 0
+states_of (Machine side states least) = if least then states else 0
+states_of (Unknown first) = 0
 
 -- the three lines
 abbrev pub lines_of : ℕ → Verdict → List ℕ

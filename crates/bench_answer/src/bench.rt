@@ -1,11 +1,12 @@
 //! The search on the text of an arbiter, and its three lines.
 ghost use Rattle.std.specs.Prelude.{◌≡◌, ◌≤◌, IfOk};
 ghost use Rattle.program_replies.specs.Statuses.{status_number};
-ghost use Rattle.bench_answer.specs.Bench.{BenchAnswer, lines_of, states_of, word_of};
+ghost use Rattle.bench_answer.specs.Bench.{BenchAnswer, least_word, lines_of, states_of, word_of};
 
 use annotation_encode::Counts;
 use arbiter_text::write_arbiter;
 use cert_text::Verdict;
+use letter_word::Side;
 use outside_edge::Gate;
 use program_replies::Reply;
 use std::alloc::{AllocError, Global};
@@ -64,9 +65,22 @@ fn word(verdict: Verdict) -> &'static [u8]
     ensures { result.now ≡ word_of verdict }
 {
     match verdict {
-        Verdict::Realizable(_) => b"realizable",
-        Verdict::Unrealizable(_) => b"unrealizable",
-        Verdict::Bounded(..) | Verdict::UnknownSizes | Verdict::UnknownEntries(..) => b"unknown",
+        Verdict::Machine {
+            side,
+            least: true,
+            ..
+        } => least_word(side),
+        Verdict::Machine { .. } => b"unknown",
+        Verdict::Unknown(_) => b"unknown",
+    }
+}
+
+fn least_word(side: Side) -> &'static [u8]
+    ensures { result.now ≡ least_word side }
+{
+    match side {
+        Side::System => b"realizable",
+        Side::Environment => b"unrealizable",
     }
 }
 
@@ -74,7 +88,12 @@ fn states(verdict: Verdict) -> u32
     ensures { result ≡ states_of verdict }
 {
     match verdict {
-        Verdict::Realizable(size) | Verdict::Unrealizable(size) => size,
-        Verdict::Bounded(..) | Verdict::UnknownSizes | Verdict::UnknownEntries(..) => 0,
+        Verdict::Machine {
+            states,
+            least: true,
+            ..
+        } => states,
+        Verdict::Machine { .. } => 0,
+        Verdict::Unknown(_) => 0,
     }
 }

@@ -15,7 +15,7 @@ ghost use Rattle.text_ground.specs.Ground.{IsWantedBy};
 use crate::laws::answers_agree;
 use annotation_encode::Counts;
 use cert_text::Verdict;
-use letter_word::Kind;
+use letter_word::{Kind, Side};
 use outside_edge::OpenGate;
 use solve_check::{Acceptance, Checked, check_solved};
 use solve_ground::solve_text;
@@ -126,6 +126,15 @@ fn said(found: Option<(Told, Acceptance)>) -> (Option<Verdict>, usize) {
     }
 }
 
+/// The system's least machine has two states.
+fn two_states() -> Verdict {
+    Verdict::Machine {
+        side: Side::System,
+        states: 2,
+        least: true,
+    }
+}
+
 /// One is asked with the text's own kind and few sizes, the other one with a given kind and other base clauses.
 fn two_ways() -> (Asked, Asked) {
     let own = Asked {
@@ -143,8 +152,8 @@ fn two_ways() -> (Asked, Asked) {
 fn numbers_are_determined(rt: HostRuntime) -> Result<(), Fail> {
     let (own, given) = two_ways();
     let (one, other) = both_told(&rt, rt.alloc(), TOGGLE, own, given)?;
-    assert_eq!(rt; one.verdict, Some(Verdict::Realizable(2)));
-    assert_eq!(rt; other.verdict, Some(Verdict::Realizable(2)));
+    assert_eq!(rt; one.verdict, Some(two_states()));
+    assert_eq!(rt; other.verdict, Some(two_states()));
     Ok(())
 }
 
@@ -152,6 +161,6 @@ fn numbers_are_determined(rt: HostRuntime) -> Result<(), Fail> {
 fn synth_and_solve_agree(rt: HostRuntime) -> Result<(), Fail> {
     let (own, _given) = two_ways();
     let found = told_beside(&rt, rt.alloc(), TOGGLE, own, SOLVED)?;
-    assert_eq!(rt; said(found), (Some(Verdict::Realizable(2)), 1));
+    assert_eq!(rt; said(found), (Some(two_states()), 1));
     Ok(())
 }

@@ -13,7 +13,7 @@ use Rattle.aiger_text.specs.Words.{number_within}
 use Rattle.aiger_text.specs.CircuitText.{text_of_lines}
 use Rattle.aiger_text.proofs.Numbers.{Lacks, all_digits, number_within-decimal}
 use Rattle.cert_text.specs.declared.documents.Verdict.{Verdict}
-use Rattle.cert_text.specs.declared.documents.Verdict.TheVariants.{Realizable, Unrealizable, Bounded, UnknownSizes, UnknownEntries}
+use Rattle.cert_text.specs.declared.documents.Verdict.TheVariants.{Machine, Unknown}
 use Rattle.cert_text.specs.declared.header.Header.{Header}
 use Rattle.cert_text.specs.Lines.{version_line, verdict_line, kind_line, max_line, entries_line, found_lines}
 use Rattle.cert_text.specs.Order.{fits_max, fits_version, has_its_place, is_in_range, is_version, may_tell_found}
@@ -144,11 +144,9 @@ version_read v is =
 
 -- a verdict that fits has a small number
 pub small_number : (max : ℕ) (verdict : Verdict) → fits_max max verdict ≡ true → number_in verdict ≤ max
-small_number max (Realizable n) fits = (in_range_bounds 1 max n fits).1
-small_number max (Unrealizable n) fits = (in_range_bounds 1 max n fits).1
-small_number max (Bounded side n) fits = (in_range_bounds 1 max n fits).1
-small_number max UnknownSizes fits = omega arith
-small_number max (UnknownEntries side n) fits = (in_range_bounds 1 max n fits).1
+small_number max (Machine side n least) fits = (in_range_bounds 1 max n fits).1
+small_number max (Unknown None) fits = omega arith
+small_number max (Unknown (Some first)) fits = (in_range_bounds 1 max first.size fits).1
 
 -- ---- a machine that was found
 

@@ -4,31 +4,33 @@ use Rattle.std.specs.Prelude.{option_map, option_and_then, codes, unwrap_or}
 use Rattle.std.specs.Option.{option_or}
 use Rattle.std.specs.Str.{bytes_eq}
 use Rattle.std.specs.Cmp.Lexicographic.{bytes_decides}
+use Rattle.letter_word.specs.declared.kinds.Side.{Side}
 use Rattle.letter_word.specs.declared.kinds.Side.TheVariants.{System, Environment}
 use Rattle.aiger_text.proofs.Numbers.{Lacks}
 use Rattle.cert_text.specs.declared.documents.Verdict.{Verdict}
-use Rattle.cert_text.specs.declared.documents.Verdict.TheVariants.{Realizable, Unrealizable, Bounded, UnknownSizes, UnknownEntries}
-use Rattle.cert_text.specs.Lines.{bounded_words, unknown_words, verdict_line}
-use Rattle.cert_text.specs.Order.{fits_version}
-use Rattle.cert_text.specs.Header.{number_behind, any_verdict_in, verdict_in}
+use Rattle.cert_text.specs.declared.documents.Verdict.TheVariants.{Machine, Unknown}
+use Rattle.cert_text.specs.Lines.{machine_words, unknown_words, verdict_line}
+use Rattle.cert_text.specs.Order.{fits_version, place}
+use Rattle.cert_text.specs.Header.{number_behind, any_verdict_in, machine_in, unknown_in, verdict_in}
 use Rattle.cert_text.proofs.LineRead.{capped_read, number_behind_is, text_lacks, words_lack}
 
--- the number of a verdict
+-- the number that a verdict names
 abbrev pub number_in : Verdict → ℕ
-number_in (Realizable n) = n
-number_in (Unrealizable n) = n
-number_in (Bounded side n) = n
-number_in UnknownSizes = 0
-number_in (UnknownEntries side n) = n
+number_in (Machine side n least) = n
+number_in (Unknown None) = 0
+number_in (Unknown (Some first)) = first.size
 
 pub any_verdict_read : (verdict : Verdict) → number_in verdict < 2 ^ 32 → any_verdict_in (verdict_line verdict) ≡ Some verdict
-any_verdict_read (Realizable n) small = rw (capped_read n small) refl
-any_verdict_read (Unrealizable n) small = rw (capped_read n small) refl
-any_verdict_read (Bounded System n) small = rw (capped_read n small) refl
-any_verdict_read (Bounded Environment n) small = rw (capped_read n small) refl
-any_verdict_read UnknownSizes small = refl
-any_verdict_read (UnknownEntries System n) small = rw (capped_read n small) refl
-any_verdict_read (UnknownEntries Environment n) small = rw (capped_read n small) refl
+any_verdict_read (Machine System n true) small = rw (capped_read n small) refl
+any_verdict_read (Machine Environment n true) small = rw (capped_read n small) refl
+any_verdict_read (Machine System n false) small = rw (capped_read n small) refl
+any_verdict_read (Machine Environment n false) small = rw (capped_read n small) refl
+any_verdict_read (Unknown None) small = refl
+any_verdict_read (Unknown (Some first)) small = at first.side first.size small
+  where
+    at : (side : Side) (n : ℕ) → n < 2 ^ 32 → any_verdict_in (verdict_line (Unknown (Some (place side n)))) ≡ Some (Unknown (Some (place side n)))
+    at System n small = rw (capped_read n small) refl
+    at Environment n small = rw (capped_read n small) refl
 
 either_or : {X : Type 0} (o p : Option X) (x : X) → option_or o p ≡ Some x → (o ≡ Some x) ⊎ (p ≡ Some x)
 either_or None p x is = inr is
@@ -48,33 +50,27 @@ one_is words line f verdict text size small is =
     number_behind_is words line k.0 less k.1 ∙ sym (text k.0) ∙ ap verdict_line k.2
 
 module _ (line : List ℕ) (verdict : Verdict) (small : number_in verdict < 2 ^ 32 - 1) where
-  numbered_is : option_or (option_map Realizable (number_behind (codes "verdict realizable ") line))
-      (option_or (option_map Unrealizable (number_behind (codes "verdict unrealizable ") line))
-      (option_or (option_map (Bounded System) (number_behind (bounded_words System) line))
-      (option_or (option_map (Bounded Environment) (number_behind (bounded_words Environment) line))
-      (option_or (option_map (UnknownEntries System) (number_behind (unknown_words System) line))
-      (option_map (UnknownEntries Environment) (number_behind (unknown_words Environment) line)))))) ≡ Some verdict → line ≡ verdict_line verdict
+  machine_is : (side : Side) (least : Bool) → machine_in side least line ≡ Some verdict → line ≡ verdict_line verdict
+  machine_is side least is = one_is (machine_words side least) line (λ n. Machine side n least) verdict (λ n. refl) (λ n. refl) small is
+
+  unknown_is : (side : Side) → unknown_in side line ≡ Some verdict → line ≡ verdict_line verdict
+  unknown_is side is = one_is (unknown_words side) line (λ n. Unknown (Some (place side n))) verdict (λ n. refl) (λ n. refl) small is
+
+  numbered_is : option_or (option_or (machine_in System true line) (machine_in Environment true line))
+      (option_or (option_or (machine_in System false line) (machine_in Environment false line)) (option_or (unknown_in System line) (unknown_in Environment line))) ≡ Some verdict
+      → line ≡ verdict_line verdict
   numbered_is is = elim (either_or _ _ verdict is) [
-    | inl a ↦ one_is (codes "verdict realizable ") line Realizable verdict (λ n. refl) (λ n. refl) small a
-    | inr b ↦ elim (either_or _ _ verdict b) [
-      | inl a ↦ one_is (codes "verdict unrealizable ") line Unrealizable verdict (λ n. refl) (λ n. refl) small a
-      | inr b ↦ elim (either_or _ _ verdict b) [
-        | inl a ↦ one_is (bounded_words System) line (Bounded System) verdict (λ n. refl) (λ n. refl) small a
-        | inr b ↦ elim (either_or _ _ verdict b) [
-          | inl a ↦ one_is (bounded_words Environment) line (Bounded Environment) verdict (λ n. refl) (λ n. refl) small a
-          | inr b ↦ elim (either_or _ _ verdict b) [
-            | inl a ↦ one_is (unknown_words System) line (UnknownEntries System) verdict (λ n. refl) (λ n. refl) small a
-            | inr a ↦ one_is (unknown_words Environment) line (UnknownEntries Environment) verdict (λ n. refl) (λ n. refl) small a
-          ]
-        ]
-      ]
+    | inl least ↦ elim (either_or _ _ verdict least) [ inl a ↦ machine_is System true a | inr a ↦ machine_is Environment true a ]
+    | inr more ↦ elim (either_or _ _ verdict more) [
+      | inl bounded ↦ elim (either_or _ _ verdict bounded) [ inl a ↦ machine_is System false a | inr a ↦ machine_is Environment false a ]
+      | inr unknown ↦ elim (either_or _ _ verdict unknown) [ inl a ↦ unknown_is System a | inr a ↦ unknown_is Environment a ]
     ]
   ]
 
   any_by : (b : Bool) → bytes_eq line (codes "verdict unknown sizes") ≡ b → any_verdict_in line ≡ Some verdict → line ≡ verdict_line verdict
   any_by true e is =
       let words : line ≡ codes "verdict unknown sizes" = (bytes_decides line (codes "verdict unknown sizes")).0 e in
-      let same : UnknownSizes ≡ verdict = ap (λ (o : Option Verdict). unwrap_or o UnknownSizes) (ap any_verdict_in (sym words) ∙ is) in
+      let same : Unknown None ≡ verdict = ap (λ (o : Option Verdict). unwrap_or o (Unknown None)) (ap any_verdict_in (sym words) ∙ is) in
       words ∙ ap verdict_line same
   any_by false e is = numbered_is (rw e at is)
 
@@ -103,11 +99,17 @@ verdict_read version verdict small fits =
     ap (option_and_then (λ verdict. cond (fits_version version verdict) (Some verdict) None)) (any_verdict_read verdict small)
     ∙ ap (λ b. cond b (Some verdict) None) fits
 
+machine_words_lack : (side : Side) (least : Bool) → Lacks 10 (machine_words side least)
+machine_words_lack System true = words_lack (machine_words System true) refl
+machine_words_lack System false = words_lack (machine_words System false) refl
+machine_words_lack Environment true = words_lack (machine_words Environment true) refl
+machine_words_lack Environment false = words_lack (machine_words Environment false) refl
+
+unknown_words_lack : (side : Side) → Lacks 10 (unknown_words side)
+unknown_words_lack System = words_lack (unknown_words System) refl
+unknown_words_lack Environment = words_lack (unknown_words Environment) refl
+
 pub verdict_lacks : (verdict : Verdict) → number_in verdict < 2 ^ 32 → Lacks 10 (verdict_line verdict)
-verdict_lacks (Realizable n) small = text_lacks (codes "verdict realizable ") n (words_lack (codes "verdict realizable ") refl) (omega arith)
-verdict_lacks (Unrealizable n) small = text_lacks (codes "verdict unrealizable ") n (words_lack (codes "verdict unrealizable ") refl) (omega arith)
-verdict_lacks (Bounded System n) small = text_lacks (bounded_words System) n (words_lack (bounded_words System) refl) (omega arith)
-verdict_lacks (Bounded Environment n) small = text_lacks (bounded_words Environment) n (words_lack (bounded_words Environment) refl) (omega arith)
-verdict_lacks UnknownSizes small = words_lack (codes "verdict unknown sizes") refl
-verdict_lacks (UnknownEntries System n) small = text_lacks (unknown_words System) n (words_lack (unknown_words System) refl) (omega arith)
-verdict_lacks (UnknownEntries Environment n) small = text_lacks (unknown_words Environment) n (words_lack (unknown_words Environment) refl) (omega arith)
+verdict_lacks (Machine side n least) small = text_lacks (machine_words side least) n (machine_words_lack side least) (omega arith)
+verdict_lacks (Unknown None) small = words_lack (codes "verdict unknown sizes") refl
+verdict_lacks (Unknown (Some first)) small = text_lacks (unknown_words first.side) first.size (unknown_words_lack first.side) (omega arith)

@@ -5,14 +5,15 @@ use Rattle.std.specs.Option.{option_or}
 use Rattle.std.specs.Str.{bytes_eq}
 use Rattle.letter_word.specs.declared.kinds.Kind.{Kind}
 use Rattle.letter_word.specs.declared.kinds.Kind.TheVariants.{Mealy, Moore}
+use Rattle.letter_word.specs.declared.kinds.Side.{Side}
 use Rattle.letter_word.specs.declared.kinds.Side.TheVariants.{System, Environment}
 use Rattle.aiger_text.specs.Words.{cut_at, is_numeral, number_within}
 use Rattle.text_base.specs.Numerals.{decimal_value}
 use Rattle.cert_text.specs.declared.documents.Verdict.{Verdict}
-use Rattle.cert_text.specs.declared.documents.Verdict.TheVariants.{Realizable, Unrealizable, Bounded, UnknownSizes, UnknownEntries}
+use Rattle.cert_text.specs.declared.documents.Verdict.TheVariants.{Machine, Unknown}
 use Rattle.cert_text.specs.declared.header.Header.{Header}
-use Rattle.cert_text.specs.Lines.{bounded_words, unknown_words}
-use Rattle.cert_text.specs.Order.{has_its_place, fits_version, fits_max, is_version, may_tell_found}
+use Rattle.cert_text.specs.Lines.{machine_words, unknown_words}
+use Rattle.cert_text.specs.Order.{has_its_place, fits_version, fits_max, is_version, may_tell_found, place}
 
 -- what follows these bytes at a line's begin
 abbrev pub behind : List ℕ → List ℕ → Option (List ℕ)
@@ -38,15 +39,20 @@ version_in line = option_and_then version_number (behind (codes "boundsyn ") lin
 abbrev pub number_behind : List ℕ → List ℕ → Option ℕ
 number_behind words line = option_and_then capped (behind words line)
 
+-- the verdict of a machine, where the line begins with the words for such a one
+abbrev pub machine_in : Side → Bool → List ℕ → Option Verdict
+machine_in side least line = option_map (λ n. Machine side n least) (number_behind (machine_words side least) line)
+
+-- the verdict that names a log of this side
+abbrev pub unknown_in : Side → List ℕ → Option Verdict
+unknown_in side line = option_map (λ n. Unknown (Some (place side n))) (number_behind (unknown_words side) line)
+
 abbrev pub any_verdict_in : List ℕ → Option Verdict
 any_verdict_in line =
-    if bytes_eq line (codes "verdict unknown sizes") then Some UnknownSizes
-    else option_or (option_map Realizable (number_behind (codes "verdict realizable ") line))
-    (option_or (option_map Unrealizable (number_behind (codes "verdict unrealizable ") line))
-    (option_or (option_map (Bounded System) (number_behind (bounded_words System) line))
-    (option_or (option_map (Bounded Environment) (number_behind (bounded_words Environment) line))
-    (option_or (option_map (UnknownEntries System) (number_behind (unknown_words System) line))
-    (option_map (UnknownEntries Environment) (number_behind (unknown_words Environment) line))))))
+    if bytes_eq line (codes "verdict unknown sizes") then Some (Unknown None)
+    else option_or (option_or (machine_in System true line) (machine_in Environment true line))
+    (option_or (option_or (machine_in System false line) (machine_in Environment false line))
+    (option_or (unknown_in System line) (unknown_in Environment line)))
 
 abbrev pub verdict_in : ℕ → List ℕ → Option Verdict
 verdict_in version line = option_and_then (λ verdict. if fits_version version verdict then Some verdict else None) (any_verdict_in line)

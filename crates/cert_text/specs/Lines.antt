@@ -1,6 +1,6 @@
 -- The text of a document (this project's own): the circuit with its names and the line `c`, where there is a circuit, and then
 -- the lines below. Numbers have no leading zeros, one space stands between words, and each line is ended by LF.
-use Rattle.std.specs.Prelude.{ℕ, zero, suc, Option, Some, None, List, [], ◌∷◌, ◌++◌, length, codes, decimal}
+use Rattle.std.specs.Prelude.{ℕ, zero, suc, Bool, true, false, Option, Some, None, List, [], ◌∷◌, ◌++◌, length, codes, decimal}
 use Rattle.std.specs.List.{flat_map}
 use Rattle.letter_word.specs.declared.kinds.Kind.{Kind}
 use Rattle.letter_word.specs.declared.kinds.Kind.TheVariants.{Mealy, Moore}
@@ -10,27 +10,28 @@ use Rattle.refutation_log.specs.Text.{log_text}
 use Rattle.aiger_text.specs.Circuit.{Circuit}
 use Rattle.aiger_text.specs.CircuitText.{circuit_text, comment_text, numbers_line, text_of_lines}
 use Rattle.cert_text.specs.declared.documents.Verdict.{Verdict}
-use Rattle.cert_text.specs.declared.documents.Verdict.TheVariants.{Realizable, Unrealizable, Bounded, UnknownSizes, UnknownEntries}
+use Rattle.cert_text.specs.declared.documents.Verdict.TheVariants.{Machine, Unknown}
 use Rattle.cert_text.specs.Parts.{LogPart, Document}
 
 abbrev pub version_line : ℕ → List ℕ
 version_line version = codes "boundsyn " ++ decimal version
 
--- what a line begins with that ends by a side and a number
-abbrev pub bounded_words : Side → List ℕ
-bounded_words System = codes "verdict bounded system "
-bounded_words Environment = codes "verdict bounded environment "
+-- what the line of a verdict begins with that tells a machine, which is the least or needn't be
+abbrev pub machine_words : Side → Bool → List ℕ
+machine_words System true = codes "verdict realizable "
+machine_words System false = codes "verdict bounded system "
+machine_words Environment true = codes "verdict unrealizable "
+machine_words Environment false = codes "verdict bounded environment "
 
+-- what it begins with where it names a log
 abbrev pub unknown_words : Side → List ℕ
 unknown_words System = codes "verdict unknown entries system "
 unknown_words Environment = codes "verdict unknown entries environment "
 
 abbrev pub verdict_line : Verdict → List ℕ
-verdict_line (Realizable n) = codes "verdict realizable " ++ decimal n
-verdict_line (Unrealizable n) = codes "verdict unrealizable " ++ decimal n
-verdict_line (Bounded side n) = bounded_words side ++ decimal n
-verdict_line UnknownSizes = codes "verdict unknown sizes"
-verdict_line (UnknownEntries side n) = unknown_words side ++ decimal n
+verdict_line (Machine side states least) = machine_words side least ++ decimal states
+verdict_line (Unknown None) = codes "verdict unknown sizes"
+verdict_line (Unknown (Some first)) = unknown_words first.side ++ decimal first.size
 
 abbrev pub kind_line : Kind → List ℕ
 kind_line Mealy = codes "kind Mealy"

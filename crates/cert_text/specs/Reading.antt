@@ -7,7 +7,7 @@ use Rattle.aiger_text.specs.declared.faults.CircuitFault.TheVariants.{NoMemory, 
 use Rattle.aiger_text.specs.Circuit.{Circuit}
 use Rattle.aiger_text.specs.CircuitFile.{File, IsFirstFault}
 use Rattle.aiger_text.specs.CircuitFile as circuit
-use Rattle.cert_text.specs.declared.documents.Verdict.TheVariants.{UnknownSizes}
+use Rattle.cert_text.specs.declared.documents.Verdict.TheVariants.{Unknown}
 use Rattle.cert_text.specs.declared.header.Header.{Header}
 use Rattle.cert_text.specs.declared.order.Order.{Order}
 use Rattle.cert_text.specs.declared.reading.CircuitPart.{CircuitPart}
@@ -28,7 +28,7 @@ pub record DocumentLines : Type 0 where
 
 -- the order of the logs that a whole header wants
 abbrev pub order_in : Header → Order
-order_in h = order_of (unwrap_or h.version 0) (unwrap_or h.verdict UnknownSizes) (unwrap_or h.max 0) h.found
+order_in h = order_of (unwrap_or h.version 0) (unwrap_or h.verdict (Unknown None)) (unwrap_or h.max 0) h.found
 
 -- the number of lines of a whole header: one more where a machine that was found is told
 abbrev pub line_count : Header → ℕ

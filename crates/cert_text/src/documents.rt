@@ -1,6 +1,8 @@
 ghost use Rattle.std.specs.Prelude.{◌≡◌};
+ghost use Rattle.cert_text.specs.Order.{machine_of, named_of, verdict_of};
 ghost use Rattle.cert_text.specs.declared.documents.DocumentFault.TheVariants.{NoMemory};
 
+use crate::order::Place;
 use aiger_text::Circuit;
 use letter_word::{Kind, Side};
 use refutation_log::Entry;
@@ -8,19 +10,54 @@ use std::alloc::{AllocError, AllocFailed};
 use std::marker::Model;
 use thiserror::Error;
 
-/// What a document says, with the number of states of its machine, or the log that isn't closed.
+/// What a document says.
 #[derive(Clone, Copy, Debug, PartialEq, Eq)]
 pub enum Verdict {
-    /// A system's machine of so many states, and a closed log of each smaller size.
-    Realizable(u32),
-    /// An environment's machine of so many states; from version 3 on with a closed log of each smaller size.
-    Unrealizable(u32),
-    /// A machine of that side, with a log of each smaller size, of which one is full at least.
-    Bounded(Side, u32),
-    /// No machine, and a closed log of each size.
-    UnknownSizes,
-    /// The log of that side and size is full.
-    UnknownEntries(Side, u32),
+    /// A machine of that side with so many states. Of the logs of its side's smaller sizes each is closed where it is the least, else one
+    /// is full at least. Only from version 3 on does the environment's machine have logs, and is one told that needn't be the least.
+    Machine {
+        side: Side,
+        states: u32,
+        least: bool,
+    },
+    /// No machine. Each size has a closed log, or the log of this side and size is full, and the first that isn't closed.
+    Unknown(Option<Place>),
+}
+
+impl Verdict {
+    /// What is said of a machine of this side and size, or of none, beside logs of which this one is the first that isn't closed.
+    pub fn of(machine: Option<Place>, first: Option<Place>) -> Verdict
+        ensures { result ≡ verdict_of machine first }
+    {
+        match machine {
+            Some(machine) => Verdict::Machine {
+                side: machine.side,
+                states: machine.size,
+                least: first.is_none(),
+            },
+            None => Verdict::Unknown(first),
+        }
+    }
+
+    /// The side and the number of states of its machine.
+    pub fn machine(self) -> Option<Place>
+        ensures { result ≡ machine_of self }
+    {
+        match self {
+            Verdict::Machine { side, states, .. } => Some(Place { side, size: states }),
+            Verdict::Unknown(_) => None,
+        }
+    }
+
+    /// The side and the size that it names: those of its machine, or of a log.
+    pub fn named(self) -> Option<Place>
+        ensures { result ≡ named_of self }
+    {
+        match self {
+            Verdict::Machine { side, states, .. } => Some(Place { side, size: states }),
+            Verdict::Unknown(first) => first,
+        }
+    }
 }
 
 /// The log of one size of one side, with the numbers of the problem's variables and base clauses.

@@ -1,12 +1,12 @@
 //! The lines of a document before its logs.
 ghost use Rattle.std.specs.Prelude.{◌≡◌, ◌+◌, ◌<◌, ◌^◌, option_map, option_and_then};
-ghost use Rattle.cert_text.specs.Header.{any_verdict_in as verdict_of_line, behind, bad_at as with_bad, capped, entries_in, found_at as with_found, found_in, front, header_of, kind_in, max_in, no_header, number_behind as number_after, on_entries, on_kind, on_max, on_verdict, verdict_in, version_in, version_number as version_number_of};
+ghost use Rattle.cert_text.specs.Header.{any_verdict_in as verdict_of_line, behind, bad_at as with_bad, capped, entries_in, found_at as with_found, found_in, front, header_of, kind_in, machine_in as machine_of_line, max_in, no_header, number_behind as number_after, on_entries, on_kind, on_max, on_verdict, unknown_in as unknown_of_line, verdict_in, version_in, version_number as version_number_of};
 ghost use Rattle.cert_text.specs.Shown.{shown_header};
 ghost use Rattle.cert_text.specs.Order.{may_tell_found};
 
 use crate::documents::Verdict;
-use crate::order::{fits_max, fits_version, has_its_place, is_version, may_tell_found};
-use crate::words::{behind, capped, in_range};
+use crate::order::{Place, fits_max, fits_version, has_its_place, is_version, may_tell_found};
+use crate::words::{behind, capped, in_range, machine_words, unknown_words};
 use aiger_text::{cut_at, number_within};
 use letter_word::{Kind, Side};
 
@@ -266,25 +266,34 @@ fn any_verdict_in(line: &[u8]) -> Option<Verdict>
     ensures { result ≡ verdict_of_line line.now }
 {
     if line == b"verdict unknown sizes".as_slice() {
-        return Some(Verdict::UnknownSizes);
+        return Some(Verdict::Unknown(None));
     }
-    if let Some(n) = number_behind(line, b"verdict realizable ") {
-        return Some(Verdict::Realizable(n));
-    }
-    if let Some(n) = number_behind(line, b"verdict unrealizable ") {
-        return Some(Verdict::Unrealizable(n));
-    }
-    if let Some(n) = number_behind(line, b"verdict bounded system ") {
-        return Some(Verdict::Bounded(Side::System, n));
-    }
-    if let Some(n) = number_behind(line, b"verdict bounded environment ") {
-        return Some(Verdict::Bounded(Side::Environment, n));
-    }
-    if let Some(n) = number_behind(line, b"verdict unknown entries system ") {
-        return Some(Verdict::UnknownEntries(Side::System, n));
-    }
-    match number_behind(line, b"verdict unknown entries environment ") {
-        Some(n) => Some(Verdict::UnknownEntries(Side::Environment, n)),
-        None => None,
-    }
+    let least = machine_in(Side::System, true, line).or(machine_in(Side::Environment, true, line));
+    let bounded = machine_in(Side::System, false, line).or(machine_in(
+        Side::Environment,
+        false,
+        line,
+    ));
+    let unknown = unknown_in(Side::System, line).or(unknown_in(Side::Environment, line));
+    least.or(bounded.or(unknown))
+}
+
+/// The verdict of a machine, where the line begins with the words for such a one.
+fn machine_in(side: Side, least: bool, line: &[u8]) -> Option<Verdict>
+    ensures { result ≡ machine_of_line side least line.now }
+{
+    let states = number_behind(line, machine_words(side, least))?;
+    Some(Verdict::Machine {
+        side,
+        states,
+        least,
+    })
+}
+
+/// The verdict that names a log of this side.
+fn unknown_in(side: Side, line: &[u8]) -> Option<Verdict>
+    ensures { result ≡ unknown_of_line side line.now }
+{
+    let size = number_behind(line, unknown_words(side))?;
+    Some(Verdict::Unknown(Some(Place { side, size })))
 }

@@ -18,7 +18,7 @@ mod write;
 pub use documents::{Document, DocumentFault, LogPart, Verdict};
 pub use header::{Header, kind_at};
 pub use logs::{FirstEntries, first_entries};
-pub use order::tells_bounds;
+pub use order::{Order, Place, order_of};
 pub use reader::{DocumentReader, read_document};
 pub use reading::{CircuitPart, DocumentLines, all_named, fault_line, read_lines};
 pub use words::{behind, capped, in_range};

@@ -1,6 +1,6 @@
 //! Which logs a document has, and in which order.
 ghost use Rattle.std.specs.Prelude.{◌≡◌, ◌<◌, ◌^◌};
-ghost use Rattle.cert_text.specs.Order.{has_its_place, fits_max, fits_version, is_version, may_end, may_follow, may_tell_found, order_found as order_with, order_of as order_wanted, place as place_at, start_of, tells_bounds};
+ghost use Rattle.cert_text.specs.Order.{has_its_place, fits_max, fits_version, is_version, may_end, may_follow, may_tell_found, has_logs, order_of as order_wanted, start_of, tells_bounds};
 
 use crate::documents::Verdict;
 use letter_word::Side;
@@ -13,70 +13,64 @@ pub enum Order {
     AnyUpTo(u32),
 }
 
-/// A log's side and size.
-#[derive(Clone, Copy)]
+/// A side and a size: of a log, or of a machine.
+#[derive(Clone, Copy, Debug, PartialEq, Eq)]
 pub struct Place {
     pub side: Side,
     pub size: u32,
 }
 
 /// Whether the verdict stands behind a circuit, or without one, as it wants.
-pub fn has_its_place(circuit: bool, verdict: Verdict) -> bool
+pub(crate) fn has_its_place(circuit: bool, verdict: Verdict) -> bool
     ensures { result ≡ has_its_place circuit verdict }
 {
     match verdict {
-        Verdict::Realizable(_) => circuit,
-        Verdict::Unrealizable(_) => circuit,
-        Verdict::Bounded(_, _) => circuit,
-        Verdict::UnknownSizes => !circuit,
-        Verdict::UnknownEntries(_, _) => !circuit,
+        Verdict::Machine { .. } => circuit,
+        Verdict::Unknown(_) => !circuit,
     }
 }
 
 /// Whether there are documents of this version.
-pub fn is_version(version: u32) -> bool
+pub(crate) fn is_version(version: u32) -> bool
     ensures { result ≡ is_version version }
 {
     (1 <= version && version <= 3) || version == 5
 }
 
-/// Whether documents of this version have bounded verdicts, and logs beside a counter-machine.
-pub fn tells_bounds(version: u32) -> bool
+/// Whether documents of this version tell machines that needn't be the least, and have logs beside a counter-machine.
+pub(crate) fn tells_bounds(version: u32) -> bool
     ensures { result ≡ tells_bounds version }
 {
     version == 3 || version == 5
 }
 
 /// Whether documents of this version have such a verdict.
-pub fn fits_version(version: u32, verdict: Verdict) -> bool
+pub(crate) fn fits_version(version: u32, verdict: Verdict) -> bool
     ensures { result ≡ fits_version version verdict }
 {
     match verdict {
-        Verdict::Bounded(_, _) => tells_bounds(version),
-        _ => true,
+        Verdict::Machine { least, .. } => least || tells_bounds(version),
+        Verdict::Unknown(_) => true,
     }
 }
 
-/// Whether the verdict's number is a size.
-pub fn fits_max(max: u32, verdict: Verdict) -> bool
+/// Whether the number that the verdict names is a size.
+pub(crate) fn fits_max(max: u32, verdict: Verdict) -> bool
     ensures { result ≡ fits_max max verdict }
 {
-    match verdict {
-        Verdict::Realizable(n) => 1 <= n && n <= max,
-        Verdict::Unrealizable(n) => 1 <= n && n <= max,
-        Verdict::Bounded(_, n) => 1 <= n && n <= max,
-        Verdict::UnknownSizes => true,
-        Verdict::UnknownEntries(_, n) => 1 <= n && n <= max,
+    match verdict.named() {
+        Some(named) => 1 <= named.size && named.size <= max,
+        None => true,
     }
 }
 
 /// Whether such a document may tell of a machine that was found.
-pub fn may_tell_found(version: u32, verdict: Verdict) -> bool
+pub(crate) fn may_tell_found(version: u32, verdict: Verdict) -> bool
     ensures { result ≡ may_tell_found version verdict }
 {
     match verdict {
-        Verdict::UnknownEntries(_, _) => version < 3,
-        _ => false,
+        Verdict::Machine { .. } => false,
+        Verdict::Unknown(first) => first.is_some() && version < 3,
     }
 }
 
@@ -85,24 +79,22 @@ pub fn order_of(version: u32, verdict: Verdict, max: u32, found: u32) -> Order
     ensures { result ≡ order_wanted version verdict max found }
 {
     match verdict {
-        Verdict::Realizable(n) => Order::UpTo(Side::System, n.saturating_sub(1)),
-        Verdict::Unrealizable(n) if tells_bounds(version) => {
-            Order::UpTo(Side::Environment, n.saturating_sub(1))
+        Verdict::Machine { side, states, .. } if has_logs(version, side) => {
+            Order::UpTo(side, states.saturating_sub(1))
         }
-        Verdict::Unrealizable(_) => Order::UpTo(Side::Environment, 0),
-        Verdict::Bounded(side, n) => Order::UpTo(side, n.saturating_sub(1)),
-        Verdict::UnknownSizes => Order::AnyUpTo(max),
-        Verdict::UnknownEntries(_, _) => order_found(max, found),
+        Verdict::Machine { side, .. } => Order::UpTo(side, 0),
+        Verdict::Unknown(_) if found == 0 => Order::AnyUpTo(max),
+        Verdict::Unknown(_) => Order::UpTo(Side::System, found - 1),
     }
 }
 
-fn order_found(max: u32, found: u32) -> Order
-    ensures { result ≡ order_with max found }
+/// Whether logs stand beside a machine of this side.
+fn has_logs(version: u32, side: Side) -> bool
+    ensures { result ≡ has_logs version side }
 {
-    if found == 0 {
-        Order::AnyUpTo(max)
-    } else {
-        Order::UpTo(Side::System, found - 1)
+    match side {
+        Side::System => true,
+        Side::Environment => tells_bounds(version),
     }
 }
 

@@ -160,7 +160,7 @@ impl Header {
         ensures { result ≡ order_in self.now }
     {
         let version = self.version.unwrap_or(0);
-        let verdict = self.verdict.unwrap_or(Verdict::UnknownSizes);
+        let verdict = self.verdict.unwrap_or(Verdict::Unknown(None));
         order_of(version, verdict, self.max.unwrap_or(0), self.found)
     }
 

@@ -1,9 +1,33 @@
-//! What stands behind words, and the numbers of lines.
+//! The words of verdicts, what stands behind words, and the numbers of lines.
 ghost use Rattle.std.specs.Prelude.{◌≡◌};
 ghost use Rattle.std.specs.Option.{option_copied};
 ghost use Rattle.cert_text.specs.Header.{behind as behind_front, capped as capped_number, in_range as number_in_range};
+ghost use Rattle.cert_text.specs.Lines.{machine_words as words_of_machine, unknown_words as words_of_unknown};
 
 use aiger_text::{is_numeral, number_within};
+use letter_word::Side;
+
+/// What the line of a verdict begins with that tells a machine, which is the least or needn't be.
+pub(crate) fn machine_words(side: Side, least: bool) -> &'static [u8]
+    ensures { result.now ≡ words_of_machine side least }
+{
+    match (side, least) {
+        (Side::System, true) => b"verdict realizable ",
+        (Side::Environment, true) => b"verdict unrealizable ",
+        (Side::System, false) => b"verdict bounded system ",
+        (Side::Environment, false) => b"verdict bounded environment ",
+    }
+}
+
+/// What the line of a verdict begins with that names a log of this side.
+pub(crate) fn unknown_words(side: Side) -> &'static [u8]
+    ensures { result.now ≡ words_of_unknown side }
+{
+    match side {
+        Side::System => b"verdict unknown entries system ",
+        Side::Environment => b"verdict unknown entries environment ",
+    }
+}
 
 /// What follows these bytes at a line's begin.
 pub fn behind<'a>(line: &'a [u8], front: &[u8]) -> Option<&'a [u8]>

@@ -3,12 +3,13 @@ ghost use Rattle.std.specs.Prelude.{◌≡◌, ◌++◌, ◌∷◌, [], OnOk, On
 ghost use Rattle.std.specs.List.{flat_map};
 ghost use Rattle.aiger_text.specs.CircuitText.{numbers_line, text_of_lines};
 ghost use Rattle.aiger_text.specs.RoundTrip.{IsWritable};
-ghost use Rattle.cert_text.specs.Lines.{bounded_words as bounded_front, unknown_words as unknown_front, log_words as log_front, verdict_line, kind_line, entries_line, found_lines, head_line, part_text, circuit_part, header_text, body_text, document_text};
+ghost use Rattle.cert_text.specs.Lines.{log_words as log_front, verdict_line, kind_line, entries_line, found_lines, head_line, part_text, circuit_part, header_text, body_text, document_text};
 ghost use Rattle.cert_text.specs.WellFormed.{IsWellFormed};
 ghost use Rattle.cert_text.specs.States.{States, numbered};
 
 use crate::documents::{Document, LogPart, Verdict};
 use crate::laws::written_is_read;
+use crate::words::{machine_words, unknown_words};
 use aiger_text::{Circuit, write_circuit};
 use letter_word::{Kind, Side};
 use refutation_log::write_entries;
@@ -90,24 +91,6 @@ fn push_numbered(text: &mut Vec<u8>, words: &[u8], number: u64) -> Result<(), Al
     Ok(())
 }
 
-fn bounded_words(side: Side) -> &'static [u8]
-    ensures { result.now ≡ bounded_front side }
-{
-    match side {
-        Side::System => b"verdict bounded system ",
-        Side::Environment => b"verdict bounded environment ",
-    }
-}
-
-fn unknown_words(side: Side) -> &'static [u8]
-    ensures { result.now ≡ unknown_front side }
-{
-    match side {
-        Side::System => b"verdict unknown entries system ",
-        Side::Environment => b"verdict unknown entries environment ",
-    }
-}
-
 fn log_words(side: Side) -> &'static [u8]
     ensures { result.now ≡ log_front side }
 {
@@ -121,11 +104,17 @@ fn push_verdict(text: &mut Vec<u8>, verdict: Verdict) -> Result<(), AllocError>
     ensures { OnOk result (text.new.items ≡ text.old.items ++ text_of_lines (verdict_line verdict ∷ [])) }
 {
     match verdict {
-        Verdict::Realizable(n) => push_numbered(text, b"verdict realizable ", u64::from(n)),
-        Verdict::Unrealizable(n) => push_numbered(text, b"verdict unrealizable ", u64::from(n)),
-        Verdict::Bounded(side, n) => push_numbered(text, bounded_words(side), u64::from(n)),
-        Verdict::UnknownSizes => push_line(text, b"verdict unknown sizes"),
-        Verdict::UnknownEntries(side, n) => push_numbered(text, unknown_words(side), u64::from(n)),
+        Verdict::Machine {
+            side,
+            states,
+            least,
+        } => push_numbered(text, machine_words(side, least), u64::from(states)),
+        Verdict::Unknown(None) => push_line(text, b"verdict unknown sizes"),
+        Verdict::Unknown(Some(first)) => push_numbered(
+            text,
+            unknown_words(first.side),
+            u64::from(first.size),
+        ),
     }
 }
 

@@ -20,17 +20,21 @@ use Rattle.annotation_encode.specs.Laws.{HasNoAccepted}
 use Rattle.refutation_log.specs.Log.{is_ended}
 use Rattle.dual_search.specs.Sides.{AcceptsWhere}
 use Rattle.tlsf_expand.specs.FlatText.{FlatText, spec_seen}
+use Rattle.text_limits.specs.declared.TheConstants.{SMALL_LIMITS}
+use Rattle.flat_text.specs.Kinds.{of_kind}
+use Rattle.flat_text.proofs.OfKinds.{kinds}
 use Rattle.spec_problems.specs.declared.sides.SideProblems.{SideProblems}
 use Rattle.spec_problems.specs.declared.texts.TextProblems.{TextProblems}
 use Rattle.satisfaction.specs.Satisfaction.{EachCanLose}
 use Rattle.satisfaction.specs.Wanted.{Says, Wanted}
 use Rattle.cert_text.specs.declared.documents.Verdict.{Verdict}
-use Rattle.cert_text.specs.declared.documents.Verdict.TheVariants.{Realizable, Unrealizable, Bounded, UnknownSizes, UnknownEntries}
-use Rattle.cert_text.specs.Order.{tells_bounds}
+use Rattle.cert_text.specs.declared.order.Order.{Order}
+use Rattle.cert_text.specs.declared.order.Order.TheVariants.{UpTo, AnyUpTo}
+use Rattle.cert_text.specs.Order.{order_of, place_of}
 use Rattle.cert_text.specs.Parts.{Document, LogPart}
 use Rattle.cert_text.specs.States.{States}
-use Rattle.document_check.specs.Facts.{Facts, allowed_at, clause_version, problem_at, sizes_to, wanted_sizes}
-use Rattle.document_check.specs.Holds.{AllHold, HoldsAt, HoldsFor, IsLogOfSome, may_be_full, size_of}
+use Rattle.document_check.specs.Facts.{Facts, allowed_at, clause_version, for_side, problem_at, sizes_to, wanted_sizes}
+use Rattle.document_check.specs.Holds.{AllHold, HoldsAt, HoldsFor, IsLogOfSome, may_be_full}
 use Rattle.document_check.specs.Laws.{AllRefute, ClosedLogsRefuteSizes}
 use Rattle.document_check.specs.Shown.{AreFacts, IsProblemAt, IsSize}
 use Rattle.document_check.proofs.ProblemLemmas.{is_problem}
@@ -42,7 +46,6 @@ use Rattle.text_ground.proofs.Meaning.{IsSideOf, are_problems_for, each_can_lose
 use Rattle.text_ground.proofs.Lists.{all_three, some_of}
 use Rattle.check_answer.specs.Answer.{HasNoMachine, IsAcceptedDocument}
 use Rattle.check_answer.specs.Reply.{IsForCheck}
-use Rattle.check_answer.proofs.OfKind.{flat_of_kind, of_kind}
 use Rattle.check_answer.proofs.Told.{says_of_sizes}
 
 -- == the sizes of logs ==
@@ -60,26 +63,18 @@ module _ (system environment : ℕ) (few_systems : system ≤ 8) (few_environmen
   all_fit : All IsSize (sizes_to System system ++ sizes_to Environment environment)
   all_fit = All-append IsSize (sizes_to System system) (sizes_to Environment environment) (sizes_fit System system few_systems) (sizes_fit Environment environment few_environments)
 
-  counter_fit : (b : Bool) (n : ℕ) → All IsSize (if b then sizes_to Environment (min (n - 1) environment) else [])
-  counter_fit true n = smaller_fit Environment (n - 1) environment few_environments
-  counter_fit false n = All-nil IsSize
+  few_for : (side : Side) → for_side side system environment ≤ 8
+  few_for System = few_systems
+  few_for Environment = few_environments
 
-  unknown_fit : (b : Bool) (found : ℕ) → All IsSize (if b then (sizes_to System system ++ sizes_to Environment environment) else sizes_to System (min (found - 1) system))
-  unknown_fit true found = all_fit
-  unknown_fit false found = smaller_fit System (found - 1) system few_systems
+  wanted_fit : (order : Order) → All IsSize (wanted_sizes order system environment)
+  wanted_fit (UpTo side count) = smaller_fit side count (for_side side system environment) (few_for side)
+  wanted_fit (AnyUpTo max) = all_fit
 
-  wanted_fit : (version : ℕ) (verdict : Verdict) (found : ℕ) → All IsSize (wanted_sizes version verdict found system environment)
-  wanted_fit version (Realizable n) found = smaller_fit System (n - 1) system few_systems
-  wanted_fit version (Unrealizable n) found = counter_fit (tells_bounds version) n
-  wanted_fit version (Bounded System n) found = smaller_fit System (n - 1) system few_systems
-  wanted_fit version (Bounded Environment n) found = smaller_fit Environment (n - 1) environment few_environments
-  wanted_fit version UnknownSizes found = all_fit
-  wanted_fit version (UnknownEntries side n) found = unknown_fit (found == 0) found
-
-logs_fit : (logs : List LogPart) → All IsSize (map size_of logs) → All (λ l. IsSize (size_of l)) logs
-logs_fit [] all = All-nil (λ l. IsSize (size_of l))
+logs_fit : (logs : List LogPart) → All IsSize (map place_of logs) → All (λ l. IsSize (place_of l)) logs
+logs_fit [] all = All-nil (λ l. IsSize (place_of l))
 logs_fit (l ∷ logs) all =
-    All-cons (λ l. IsSize (size_of l)) l logs (All-head IsSize (size_of l) (map size_of logs) all) (logs_fit logs (All-tail IsSize (size_of l) (map size_of logs) all))
+    All-cons (λ l. IsSize (place_of l)) l logs (All-head IsSize (place_of l) (map place_of logs) all) (logs_fit logs (All-tail IsSize (place_of l) (map place_of logs) all))
 
 -- == each log of a list ==
 
@@ -137,7 +132,7 @@ module _ (text : List ℕ) (t : TextProblems) (k : Context text t) where
   is_wanted : (kind : Kind) → IsWantedBy text (Some kind) (wanted_with kind)
   is_wanted kind = record {
     flat = of_kind kind k.taken.text_with.are.flat;
-    is_flat = flat_of_kind text Mealy kind k.taken.text_with.are.flat k.taken.text_with.are.is_flat;
+    is_flat = kinds.by_other SMALL_LIMITS text Mealy kind k.taken.text_with.are.flat k.taken.text_with.are.is_flat;
     inputs = ap (λ x. x.inputs) k.taken.text_with.are.same;
     outputs = ap (λ x. x.outputs) k.taken.text_with.are.same;
     kind_is = refl;
@@ -211,13 +206,13 @@ module _ (text : List ℕ) (t : TextProblems) (k : Context text t) where
 
     logs_refuted : All (λ l. is_ended l.entries ≡ true → HasNoMachine (wanted_with d.kind) l.side l.size) d.logs
     logs_refuted =
-        all_three (λ l. IsSize (size_of l)) (HoldsAt given d.kind d.version (may_be_full d.verdict) d.entries)
+        all_three (λ l. IsSize (place_of l)) (HoldsAt given d.kind d.version (may_be_full d.verdict) d.entries)
         (λ l. is_ended l.entries ≡ true → Refuted (problem_at given d.kind d.version l.side l.size))
         (λ l. is_ended l.entries ≡ true → HasNoMachine (wanted_with d.kind) l.side l.size)
         (λ l size log refuted ended. no_machine d.kind d.version l.size size.some size.few (may_be_full d.verdict) d.entries l l.side log (refuted ended))
         d.logs
-        (logs_fit d.logs (All-same IsSize (map size_of d.logs) (wanted_sizes d.version d.verdict d.found systems_allowed environments_allowed) holds.sizes
-        (wanted_fit systems_allowed environments_allowed (few_allowed System) (few_allowed Environment) d.version d.verdict d.found)))
+        (logs_fit d.logs (All-same IsSize (map place_of d.logs) (wanted_sizes (order_of d.version d.verdict d.max d.found) systems_allowed environments_allowed) holds.sizes
+        (wanted_fit systems_allowed environments_allowed (few_allowed System) (few_allowed Environment) (order_of d.version d.verdict d.max d.found))))
         (each_holds given d.kind d.version (may_be_full d.verdict) d.entries d.logs holds.logs)
         (each_refutes given d.kind d.version d.logs (k.refute given d holds))
 
@@ -228,6 +223,6 @@ module _ (text : List ℕ) (t : TextProblems) (k : Context text t) where
       wanted = wanted_with d.kind;
       is_wanted = is_wanted d.kind;
       refuted = logs_refuted;
-      told = says_of_sizes (wanted_with d.kind) given d.kind d.version d.entries d.found systems_allowed environments_allowed d.logs logs_refuted d.verdict holds.sizes
+      told = says_of_sizes (wanted_with d.kind) given d.kind d.version d.entries d.max d.found systems_allowed environments_allowed d.logs logs_refuted d.verdict states.well_formed.found holds.sizes
           (each_holds given d.kind d.version (may_be_full d.verdict) d.entries d.logs holds.logs) holds.number;
     }

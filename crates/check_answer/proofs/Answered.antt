@@ -8,6 +8,7 @@ use Rattle.spec_faults.specs.declared.code.SpecFault.TheVariants.{At, NoMemory}
 use Rattle.tlsf_expand.specs.FlatText.{spec_seen}
 use Rattle.spec_problems.specs.declared.texts.TextProblems.{TextProblems}
 use Rattle.spec_problems.specs.OfFormula.{AreProblems}
+use Rattle.spec_problems.specs.Laws.{ProblemsOfTextsAreDetermined}
 use Rattle.spec_problems.specs.OfText.{IsFirstFault}
 use Rattle.cert_text.specs.declared.documents.DocumentFault.{DocumentFault}
 use Rattle.cert_text.specs.declared.documents.DocumentFault.TheVariants as fault
@@ -25,7 +26,9 @@ use Rattle.text_ground.proofs.TextFacts.{facts_are}
 use Rattle.text_ground.specs.declared.texts.Problems.{Problems}
 use Rattle.text_ground.specs.declared.texts.Problems.TheVariants.{Of, Refused}
 use Rattle.solve_ground.specs.declared.texts.SolveText.{SolveText}
+use Rattle.solve_ground.specs.Laws.{SolveTextsAreDetermined}
 use Rattle.solve_ground.specs.SolveText.{IsSolveFault, IsSolveText}
+use Rattle.limit_laws.specs.Taken.{SmallTextsAreTaken}
 use Rattle.solved_text.specs.declared.header.Header.{Header}
 use Rattle.solved_text.specs.Reading.{IsSixth}
 use Rattle.solve_check.specs.Asked.{IsAsked, IsAskedText, as_given, converted, in_vain, kind_said}
@@ -34,7 +37,6 @@ use Rattle.check_answer.specs.Answer.{CheckAnswers, GivenToCheck, IsTakenBySolve
 use Rattle.check_answer.specs.Answer as answer
 use Rattle.check_answer.specs.Reply.{IsAcceptance, IsForCertificates, IsForCheck, IsHeaderOf, IsLineRefusal, IsRefusedAlone}
 use Rattle.check_answer.proofs.Accepted.{Context, is_accepted}
-use Rattle.check_answer.proofs.OfKind.{fault_of_kind}
 
 -- a text's problems are what `check` tests against
 pub for_certificates : (text : List ℕ) (t : TextProblems) → AreOfText 3 text (Some Mealy) (Of t) → AreProblems t.problems → IsForCheck text t
@@ -56,21 +58,20 @@ pub refused_alone : (text certificate bytes : List ℕ) (status : ℕ) → IsRef
 refused_alone text certificate bytes status alone isnt =
     answer.refused alone.fault.code alone.fault.place alone.fault.status_is alone.fault.fault (answer.of_earlier_version isnt) alone.fault.line
 
--- a fault as `solve` takes a text answers documents of version 6
-pub larger_answers : (text certificate : List ℕ) (found : Problems) (bytes : List ℕ) (status : ℕ) → IsForCertificates text found → IsSixth certificate
-    → RefusedBy (IsSolveFault text (Some Mealy)) bytes status → CheckAnswers text certificate bytes status
-larger_answers text certificate (Of t) bytes status taken sixth r =
-    answer.refused_as_larger r.code r.place r.status_is
-    (record { spec = spec_seen t.spec; problems = t.problems; are_problems = taken.text_with.are }) sixth r.fault r.line
-larger_answers text certificate (Refused reply) bytes status alone sixth r = absurd (alone.taken.none r.code r.place r.fault)
+-- a text that isn't refused in any case has no fault as `solve` takes it
+pub taken_by_solve : SmallTextsAreTaken → ProblemsOfTextsAreDetermined → (text : List ℕ) (found : Problems) → IsForCertificates text found → IsTakenBySolve text
+taken_by_solve small problems text (Of t) known = record {
+  none = small text (Some Mealy) (λ code place. problems.no_fault text (Some Mealy) 3 (spec_seen t.spec) t.problems code place known.text_with.are);
+}
+taken_by_solve small problems text (Refused r) alone = alone.taken
 
 -- a text that `solve` takes has no fault with the kind that a document says
-pub asked_fault : (text certificate bytes : List ℕ) (header : Header) (found : SpecFault) (ended : Status) → IsTakenBySolve text
+pub asked_fault : SolveTextsAreDetermined → (text certificate bytes : List ℕ) (header : Header) (found : SpecFault) (ended : Status) → IsTakenBySolve text
     → ((code : SpecCode) (place : ℕ) → found ≡ At code place → IsSolveFault text (Some (kind_said header)) code place) → IsRefusal found bytes ended
     → CheckAnswers text certificate bytes (status_number ended)
-asked_fault text certificate bytes header (At code place) ended taken fault is =
-    absurd (taken.none code place (fault_of_kind text (kind_said header) Mealy code place (fault code place refl)))
-asked_fault text certificate bytes header NoMemory ended taken fault is = absurd is
+asked_fault texts text certificate bytes header (At code place) ended taken fault is =
+    absurd (taken.none code place (texts.any_kind text (kind_said header) Mealy code place (fault code place refl)))
+asked_fault texts text certificate bytes header NoMemory ended taken fault is = absurd is
 
 -- a certificate of version 6 that is tested against the text as it asks for it
 pub solved_answers : (text certificate : List ℕ) (header : Header) (known : SolveText) (bytes : List ℕ) (status : ℕ) → IsSixth certificate → IsTakenBySolve text

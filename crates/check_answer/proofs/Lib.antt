@@ -1,5 +1,3 @@
-pub mod OfKind
-mod SameFacts
 mod SameText
 mod SolveTexts
 mod Told

@@ -11,19 +11,11 @@ use Rattle.circuit_names.specs.Names.{Names}
 use Rattle.named_annotation.specs.Laws.{IsNamedCause}
 use Rattle.size_refutations.specs.Ground.{LogGround}
 use Rattle.solve_ground.specs.declared.texts.SolveText.{SolveText}
-use Rattle.solve_ground.specs.SolveText.{forms_seen}
+use Rattle.solve_ground.specs.Laws.{IsSameText}
 use Rattle.solved_text.specs.Reading.{SolvedLines}
 use Rattle.solve_check.specs.FirstBad.{Annotated, IsFirstBadSolved, LinesFail, annotated_in, annotation_line, circuit_line, of_line, of_pairs, reading_in, refused_line, side_in, taken_line}
 use Rattle.solve_check.specs.Given.{form_for, kind_for, names_in}
 use Rattle.solve_check.specs.SizeLogs.{LogsFail, ground_for}
-
--- what is read of both is the same
-pub record IsSameText (t t' : SolveText) : Type 0 where
-  pub inputs : t.inputs.items ≡ t'.inputs.items
-  pub outputs : t.outputs.items ≡ t'.outputs.items
-  pub kind : t.kind ≡ t'.kind
-  pub semantics : t.semantics ≡ t'.semantics
-  pub forms : forms_seen t ≡ forms_seen t'
 
 module _ (t t' : SolveText) (same : IsSameText t t') where
   -- the first text with the names where the other keeps them

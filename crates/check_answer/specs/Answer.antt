@@ -1,5 +1,5 @@
 -- The answer of `check` to a text and a certificate (this project's own).
-use Rattle.std.specs.Prelude.{◌≡◌, ℕ, ◌<◌, ◌≤◌, ⊤, true, Option, List, ◌++◌, Some, All, IsTrue, codes, decimal}
+use Rattle.std.specs.Prelude.{◌≡◌, ℕ, ◌<◌, ◌≤◌, ⊤, Bool, true, false, Option, List, ◌++◌, Some, None, All, IsTrue, codes, decimal}
 use Rattle.letter_word.specs.declared.kinds.Kind.{Kind}
 use Rattle.letter_word.specs.declared.kinds.Kind.TheVariants.{Mealy}
 use Rattle.letter_word.specs.Kinds.{kind_word}
@@ -13,8 +13,8 @@ use Rattle.spec_problems.specs.OfText.{AreProblemsOf, IsFirstFault}
 use Rattle.satisfaction.specs.Wanted.{Wanted}
 use Rattle.satisfaction.specs.Satisfaction.{EachCanLose, NoneSatisfies}
 use Rattle.cert_text.specs.declared.documents.Verdict.{Verdict}
-use Rattle.cert_text.specs.declared.documents.Verdict.TheVariants.{Realizable, Unrealizable, Bounded, UnknownSizes, UnknownEntries}
-use Rattle.cert_text.specs.Order.{tells_bounds}
+use Rattle.cert_text.specs.declared.documents.Verdict.TheVariants.{Machine, Unknown}
+use Rattle.cert_text.specs.Order.{has_logs}
 use Rattle.cert_text.specs.Parts.{Document}
 use Rattle.cert_text.specs.States.{States}
 use Rattle.document_check.specs.Facts.{Facts, allowed_at}
@@ -34,18 +34,17 @@ use Rattle.solve_check.specs.Line as solved
 
 -- == the line of a document that is accepted ==
 
--- what is told of a machine whose smaller sizes aren't all refuted begins with its side
-abbrev pub bounded_words : Side → List ℕ
-bounded_words System = codes "bounded system "
-bounded_words Environment = codes "bounded environment "
+-- what is told of a machine, which is the least or needn't be, begins so
+abbrev pub machine_words : Side → Bool → List ℕ
+machine_words System true = codes "realizable "
+machine_words System false = codes "bounded system "
+machine_words Environment true = codes "unrealizable "
+machine_words Environment false = codes "bounded environment "
 
--- what is told of a verdict: the same of both without a machine
+-- what is told of a verdict: the same of each without a machine
 abbrev pub verdict_words : Verdict → List ℕ
-verdict_words (Realizable n) = codes "realizable " ++ decimal n
-verdict_words (Unrealizable n) = codes "unrealizable " ++ decimal n
-verdict_words (Bounded side n) = bounded_words side ++ decimal n
-verdict_words UnknownSizes = codes "unknown"
-verdict_words (UnknownEntries side n) = codes "unknown"
+verdict_words (Machine side states least) = machine_words side least ++ decimal states
+verdict_words (Unknown first) = codes "unknown"
 
 abbrev pub accepted_line : Verdict → Kind → List ℕ
 accepted_line verdict kind = codes "accepted " ++ verdict_words verdict ++ codes " as " ++ kind_word kind ++ codes "\n"
@@ -74,12 +73,11 @@ HasNoMachine x Environment n = EachCanLose x n
 -- What a verdict says of sizes, with the numbers of allowed sizes: that a machine is the smallest of its side, or that there is none.
 -- A counter-machine of versions 1 and 2 comes without logs, and logs that may be full say nothing.
 abbrev pub SaysOfSizes : Wanted → ℕ → ℕ → ℕ → Verdict → Type 0
-SaysOfSizes x version system environment (Realizable n) = (k : ℕ) → 0 < k → k < n → NoneSatisfies x k
-SaysOfSizes x version system environment (Unrealizable n) = IsTrue (tells_bounds version) → (k : ℕ) → 0 < k → k < n → EachCanLose x k
-SaysOfSizes x version system environment (Bounded side n) = ⊤
-SaysOfSizes x version system environment UnknownSizes =
+SaysOfSizes x version system environment (Machine side n true) = IsTrue (has_logs version side) → (k : ℕ) → 0 < k → k < n → HasNoMachine x side k
+SaysOfSizes x version system environment (Machine side n false) = ⊤
+SaysOfSizes x version system environment (Unknown None) =
     ((k : ℕ) → 0 < k → k ≤ system → NoneSatisfies x k) × ((k : ℕ) → 0 < k → k ≤ environment → EachCanLose x k)
-SaysOfSizes x version system environment (UnknownEntries side n) = ⊤
+SaysOfSizes x version system environment (Unknown (Some first)) = ⊤
 
 -- The bytes state the document, which holds for the text. What is wanted of machines is what the text wants, with the document's
 -- kind, and each log that ends with the empty clause shows that its side has no machine of its size; so the verdict says what it does
@@ -130,8 +128,6 @@ pub data IsUntested (text certificate : List ℕ) : Type 0 where
 pub data CheckAnswers (text certificate bytes : List ℕ) (status : ℕ) : Type 0 where
   refused : (code : SpecCode) (position : ℕ) → status ≡ 1 → IsFirstFault text (Some Mealy) code position → IsUntested text certificate
       → bytes ≡ refusal_line code position → CheckAnswers text certificate bytes status
-  refused_as_larger : (code : SpecCode) (position : ℕ) → status ≡ 1 → GivenToCheck text → IsSixth certificate
-      → IsSolveFault text (Some Mealy) code position → bytes ≡ refusal_line code position → CheckAnswers text certificate bytes status
   bad_line : (g : GivenToCheck text) (n : ℕ) → status ≡ 40 → (IsSixth certificate → ⊥) → IsFirstBadFor (facts_to_check g) certificate n
       → bytes ≡ line_refusal n → CheckAnswers text certificate bytes status
   accepted : (g : GivenToCheck text) (d : Document) → status ≡ 0 → (IsSixth certificate → ⊥)

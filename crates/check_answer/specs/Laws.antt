@@ -1,6 +1,5 @@
 -- Laws of the answers of `check` (this project's own).
-use Rattle.std.specs.Prelude.{◌≡◌, ℕ, ◌⊎◌, List, Option, Some}
-use Rattle.letter_word.specs.declared.kinds.Kind.{Kind}
+use Rattle.std.specs.Prelude.{◌≡◌, ℕ, ◌⊎◌, List, Some}
 use Rattle.letter_word.specs.declared.kinds.Kind.TheVariants.{Mealy}
 use Rattle.spec_faults.specs.declared.code.SpecCode.{SpecCode}
 use Rattle.spec_problems.specs.OfText.{IsFirstFault}
@@ -9,8 +8,6 @@ use Rattle.cert_text.specs.States.{States}
 use Rattle.document_check.specs.Holds.{HoldsFor}
 use Rattle.document_check.specs.FirstBad.{IsFirstBadFor}
 use Rattle.program_replies.specs.Lines.{line_refusal, refusal_line}
-use Rattle.solve_ground.specs.declared.texts.SolveText.{SolveText}
-use Rattle.solve_ground.specs.SolveText.{IsSolveFault, IsSolveText}
 use Rattle.solved_text.specs.Parts as solved
 use Rattle.solved_text.specs.Reading.{IsSixth}
 use Rattle.solved_text.specs.States as solved_states
@@ -25,9 +22,6 @@ use Rattle.check_answer.specs.Answer.{CheckAnswers, GivenToCheck, GivenToSolved,
 pub record ChecksAreDetermined : Type 0 where
   pub of_fault : (text certificate bytes : List ℕ) (status : ℕ) (code : SpecCode) (position : ℕ) → CheckAnswers text certificate bytes status
       → IsFirstFault text (Some Mealy) code position → IsUntested text certificate → (status ≡ 1) × (bytes ≡ refusal_line code position)
-  pub of_larger_fault : (text certificate bytes : List ℕ) (status : ℕ) (code : SpecCode) (position : ℕ)
-      → CheckAnswers text certificate bytes status → GivenToCheck text → IsSixth certificate → IsSolveFault text (Some Mealy) code position
-      → (status ≡ 1) × (bytes ≡ refusal_line code position)
   pub of_bad_line : (text certificate bytes : List ℕ) (status : ℕ) (g : GivenToCheck text) (n : ℕ) → CheckAnswers text certificate bytes status
       → (IsSixth certificate → ⊥) → IsFirstBadFor (facts_to_check g) certificate n → (status ≡ 40) × (bytes ≡ line_refusal n)
   pub of_document : (text certificate bytes : List ℕ) (status : ℕ) (g : GivenToCheck text) (d : Document) → CheckAnswers text certificate bytes status
@@ -38,9 +32,3 @@ pub record ChecksAreDetermined : Type 0 where
       → CheckAnswers text certificate bytes status → solved_states.States certificate d → HoldsSolved g.known d
       → (status ≡ 0) × (bytes ≡ solved_line.accepted_line (solved_line.acceptance_of g.known d))
   pub statuses : (text certificate bytes : List ℕ) (status : ℕ) → CheckAnswers text certificate bytes status → (status ≡ 0) ⊎ ((status ≡ 1) ⊎ (status ≡ 40))
-
--- a text that `solve` takes has no fault so, with the same kind given or none
-abbrev pub SolveTextsHaveNoFault : Type 0
-SolveTextsHaveNoFault =
-    (text : List ℕ) (given : Option Kind) (t : SolveText) (code : SpecCode) (position : ℕ) → IsSolveText text given t
-    → IsSolveFault text given code position → ⊥

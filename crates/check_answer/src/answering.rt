@@ -8,10 +8,10 @@ ghost use Rattle.check_answer.specs.Answer.{CheckAnswers};
 ghost use Rattle.check_answer.specs.Reply.{AreForCheck, CanBeTested, IsFaultForSolve, IsForCertificates};
 
 use crate::earlier::earlier_answer;
-use crate::laws::solve_texts_have_no_fault;
 use crate::solved::solved_answer;
 use letter_word::Kind;
 use program_replies::{Reply, refusal};
+use solve_ground::laws::solve_texts_are_determined;
 use solve_ground::solve_text;
 use solved_text::is_sixth;
 use std::alloc::{AllocError, Global};
@@ -49,10 +49,10 @@ fn refused_for_check(alloc: Global, text: &[u8], reply: Reply) -> Result<TextFor
 }
 
 /// The reply to the first fault of a text as `solve` takes it, where it has one.
-pub(crate) fn fault_for_solve(alloc: Global, text: &[u8]) -> Result<Option<Reply>, AllocError>
+fn fault_for_solve(alloc: Global, text: &[u8]) -> Result<Option<Reply>, AllocError>
     ensures { IfOk result (IsFaultForSolve text.now) }
 {
-    solve_texts_have_no_fault();
+    solve_texts_are_determined();
     match solve_text(alloc, text, Some(Kind::Mealy)) {
         Ok(_known) => Ok(None),
         Err(fault) => Ok(Some(refusal(alloc, fault)?)),

@@ -1,13 +1,12 @@
 //! Laws of the answers, each the contract of a function that does nothing.
-ghost use Rattle.check_answer.specs.Laws.{ChecksAreDetermined, SolveTextsHaveNoFault};
+ghost use Rattle.check_answer.specs.Laws.{ChecksAreDetermined};
 
 use cert_text::laws::documents_are_determined;
-use document_check::laws::bad_lines_are_determined;
-use flat_text::laws::flat_faults_are_determined;
+use document_check::laws::{alike_texts_check_alike, bad_lines_are_determined};
 use solve_check::laws::solved_checks_are_determined;
+use solve_ground::laws::solve_texts_are_determined;
 use solved_text::laws::solved_are_determined;
 use spec_problems::laws::problems_of_texts_are_determined;
-use tlsf_reader::laws::{trees_are_determined, trees_have_no_fault};
 
 /// A text and a certificate have one answer, with status 0, 1 or 40.
 pub fn checks_are_determined()
@@ -16,17 +15,8 @@ pub fn checks_are_determined()
     problems_of_texts_are_determined();
     bad_lines_are_determined();
     documents_are_determined();
-    trees_are_determined();
-    trees_have_no_fault();
-    flat_faults_are_determined();
+    alike_texts_check_alike();
+    solve_texts_are_determined();
     solved_are_determined();
     solved_checks_are_determined();
-}
-
-/// A text that `solve` takes has no fault so.
-pub fn solve_texts_have_no_fault()
-    ensures { SolveTextsHaveNoFault }
-{
-    trees_are_determined();
-    trees_have_no_fault();
 }

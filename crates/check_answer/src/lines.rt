@@ -1,6 +1,6 @@
 //! The line of a document that is accepted.
 ghost use Rattle.std.specs.Prelude.{◌≡◌, ◌++◌, decimal, IfOk, OnOk};
-ghost use Rattle.check_answer.specs.Answer.{bounded_words as words_of_bounded, verdict_words};
+ghost use Rattle.check_answer.specs.Answer.{machine_words as words_of_machine, verdict_words};
 ghost use Rattle.check_answer.specs.Reply.{IsAcceptance};
 
 use cert_text::Verdict;
@@ -29,11 +29,12 @@ fn push_verdict(bytes: &mut Vec<u8>, verdict: Verdict) -> Result<(), AllocError>
     ensures { OnOk result (bytes.new.items ≡ bytes.old.items ++ verdict_words verdict) }
 {
     match verdict {
-        Verdict::Realizable(n) => push_numbered(bytes, b"realizable ", n),
-        Verdict::Unrealizable(n) => push_numbered(bytes, b"unrealizable ", n),
-        Verdict::Bounded(side, n) => push_numbered(bytes, bounded_words(side), n),
-        Verdict::UnknownSizes => bytes.extend_from_slice(b"unknown"),
-        Verdict::UnknownEntries(..) => bytes.extend_from_slice(b"unknown"),
+        Verdict::Machine {
+            side,
+            states,
+            least,
+        } => push_numbered(bytes, machine_words(side, least), states),
+        Verdict::Unknown(_) => bytes.extend_from_slice(b"unknown"),
     }
 }
 
@@ -46,11 +47,14 @@ fn push_numbered(bytes: &mut Vec<u8>, words: &[u8], number: u32) -> Result<(), A
     Ok(())
 }
 
-fn bounded_words(side: Side) -> &'static [u8]
-    ensures { result.now ≡ words_of_bounded side }
+/// What is told of a machine begins so, which is the least or needn't be.
+fn machine_words(side: Side, least: bool) -> &'static [u8]
+    ensures { result.now ≡ words_of_machine side least }
 {
-    match side {
-        Side::System => b"bounded system ",
-        Side::Environment => b"bounded environment ",
+    match (side, least) {
+        (Side::System, true) => b"realizable ",
+        (Side::System, false) => b"bounded system ",
+        (Side::Environment, true) => b"unrealizable ",
+        (Side::Environment, false) => b"bounded environment ",
     }
 }

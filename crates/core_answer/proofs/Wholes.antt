@@ -20,7 +20,8 @@ use Rattle.synth_answer.specs.Answer.{IsAnswerFor, IsAnswerOn}
 use Rattle.text_ground.specs.Ground.{AreGivenOn, Ground, IsGroundOf}
 use Rattle.text_ground.specs.Texts.{IsTextWith}
 use Rattle.synth_answer.proofs.Grounds.{answer_for}
-use Rattle.text_ground.proofs.Meaning.{flat_by_its_kind, given_on, ground_by_its_kind, is_ground, text_ground}
+use Rattle.flat_text.proofs.OfKinds.{kinds}
+use Rattle.text_ground.proofs.Meaning.{given_on, ground_by_its_kind, is_ground, text_ground}
 use Rattle.unreal_core.specs.WholeLaws.{SectionsOfTextsStand}
 use Rattle.tlsf_expand.specs.Standing.{SectionsStand}
 use Rattle.tlsf_expand.proofs.Expanded.{sections_stand_later}
@@ -43,7 +44,7 @@ module _ {version : ℕ} (text : List ℕ) (kind : Option Kind) (spec : FlatText
       record {
         flat = the_flat;
         is_flat = is;
-        by_its_kind = subst (λ (x : Expanded). IsFlatOf SMALL_LIMITS text (Some x.kind) the_flat) (sym t.are.same) (flat_by_its_kind text kind the_flat is);
+        by_its_kind = subst (λ (x : Expanded). IsFlatOf SMALL_LIMITS text (Some x.kind) the_flat) (sym t.are.same) (kinds.by_its_kind SMALL_LIMITS text kind the_flat is);
         same = t.are.same;
         grows = forms_grow (tree_at the_flat.formulas the_flat.expanded.whole) the_flat.formulas spec.formulas
             t.are.problems.are_automata.negated t.are.problems.are_automata.normal list

@@ -1,5 +1,5 @@
 -- At most one line is the first bad one.
-use Rattle.std.proofs.Common.{◌≡◌, ℕ, ◌+◌, Bool, true, false, Option, Some, None, List, [], ◌∷◌, refl, sym, ap, subst, ◌∙◌, true≢false}
+use Rattle.std.proofs.Common.{◌≡◌, ℕ, ◌+◌, Bool, Option, Some, None, List, [], ◌∷◌, refl, sym, ap, subst, ◌∙◌, true≢false}
 use Rattle.std.specs.Prelude.{MatchOption, unwrap_or}
 use Rattle.letter_word.specs.declared.kinds.Kind.{Kind}
 use Rattle.machine_model.specs.declared.problems.Problem.{Problem}
@@ -12,7 +12,7 @@ use Rattle.cert_text.specs.Reading.{DocumentLines}
 use Rattle.cert_text.proofs.LogsLemmas.{some_none, some_same}
 use Rattle.cert_text.proofs.ReadingLemmas.{reads_same}
 use Rattle.document_check.specs.declared.facts.Asked.{Asked}
-use Rattle.document_check.specs.declared.facts.Size.{Size}
+use Rattle.cert_text.specs.declared.order.Place.{Place}
 use Rattle.document_check.specs.Facts.{Facts, problem_at}
 use Rattle.document_check.specs.Holds.{may_be_full}
 use Rattle.document_check.specs.FirstBad.{asked_in, circuit_line, end_line, entry_of, environment_sizes, Fails, FailsBehind, IsFirstBadFor, last_line, LogFails, other_numbers, bad_entry, left_open, is_good, LogsFail, all_there, one_missing, one_more, another, no_problem, one_fails, one_good, number_line, system_sizes, wanted_in}
@@ -39,12 +39,12 @@ module _ (full : Bool) (limit : Option ℕ) (l : LogPart) (p : Problem) where
   fails_same a b (is_good n g s) (is_good n' g' s') = refl
 
 module _ (facts : Facts) (kind : Kind) (version : ℕ) (full : Bool) (limit : Option ℕ) (end : ℕ) where
-  its_same : (s : Size) (l : LogPart) (p q : Problem) (a b : Option ℕ) → problem_at facts kind version l.side l.size ≡ Some p → problem_at facts kind version l.side l.size ≡ Some q
+  its_same : (s : Place) (l : LogPart) (p q : Problem) (a b : Option ℕ) → problem_at facts kind version l.side l.size ≡ Some p → problem_at facts kind version l.side l.size ≡ Some q
       → LogFails full limit l p a → LogFails full limit l q b → a ≡ b
   its_same s l p q a b e f x y =
       fails_same full limit l p a b x (subst (λ (r : Problem). LogFails full limit l r b) (sym (some_same (problem_at facts kind version l.side l.size) p q e f)) y)
 
-  pub logs_same : (sizes : List Size) (logs : List LogPart) (a b : Option ℕ) → LogsFail facts kind version full limit end sizes logs a → LogsFail facts kind version full limit end sizes logs b → a ≡ b
+  pub logs_same : (sizes : List Place) (logs : List LogPart) (a b : Option ℕ) → LogsFail facts kind version full limit end sizes logs a → LogsFail facts kind version full limit end sizes logs b → a ≡ b
   logs_same [] [] a b all_there all_there = refl
   logs_same (s ∷ ss) [] a b (one_missing z zs) (one_missing y ys) = refl
   logs_same [] (l ∷ ls) a b (one_more z zs) (one_more y ys) = refl

@@ -1,10 +1,7 @@
 -- A document holds for a text exactly where no line fails.
-use Rattle.std.proofs.Common.{◌≡◌, ℕ, suc, ◌+◌, ◌≤◌, ◌==◌, Bool, true, false, ◌&&◌, ◌||◌, cond, eqb, Option, Some, None, List, [], ◌∷◌, length, refl, sym, ap, subst, ◌∙◌, arith, inl, inr, ◌⊎◌, true≢false}
-use Rattle.std.specs.Prelude.{map, MatchOption, IfSome, nat_le, is_some, slice_index}
+use Rattle.std.proofs.Common.{◌≡◌, ℕ, ◌+◌, ◌≤◌, ◌==◌, Bool, true, false, ◌&&◌, ◌||◌, cond, eqb, Option, Some, None, List, [], ◌∷◌, length, refl, sym, ap, subst, ◌∙◌, arith, inl, inr, ◌⊎◌, true≢false}
+use Rattle.std.specs.Prelude.{map, MatchOption, IfSome, nat_le}
 use Rattle.std.specs.Option.{option_or, option_map_or}
-use Rattle.std.specs.List.{list_all}
-use Rattle.std.specs.Str.{bytes_eq}
-use Rattle.std.specs.Cmp.Lexicographic.{bytes_decides}
 use Rattle.std.proofs.lemmas.Bool.{eqb-true, eq-eqb, le-leb, leb-true, and_parts, and_from}
 use Rattle.letter_word.specs.declared.kinds.Kind.{Kind}
 use Rattle.letter_word.specs.declared.kinds.Side.{Side}
@@ -18,10 +15,10 @@ use Rattle.refutation_log.specs.Log.{is_ended, IsLegal, IsFull, IsWithinLimit}
 use Rattle.refutation_log.specs.Turn.{is_at_limit}
 use Rattle.log_checker.proofs.FaultLemmas.{legal_has_none}
 use Rattle.aiger_text.specs.Circuit.{Circuit}
-use Rattle.aiger_text.specs.CircuitFile.{File}
 use Rattle.cert_text.specs.declared.documents.Verdict.{Verdict}
 use Rattle.cert_text.specs.declared.reading.CircuitPart.{CircuitPart}
 use Rattle.cert_text.specs.declared.reading.CircuitPart.TheVariants.{Absent, Faulty, Stated}
+use Rattle.cert_text.specs.Order.{order_of, place_of}
 use Rattle.cert_text.specs.Parts.{LogPart, Document}
 use Rattle.letter_word.specs.contracts.kinds.SidePartialEq.TheImpl.{ghosts as side_ghosts}
 use Rattle.cert_text.specs.Reading.{DocumentLines, Reads, all_named, circuit_in}
@@ -29,20 +26,13 @@ use Rattle.cert_text.specs.States.{States}
 use Rattle.cert_text.proofs.LogsLemmas.{some_none}
 use Rattle.cert_text.proofs.Whole.{all_good}
 use Rattle.document_check.specs.declared.facts.Asked.{Asked}
-use Rattle.document_check.specs.declared.facts.Size.{Size}
-use Rattle.document_check.specs.Facts.{Facts, problem_at, wanted_sizes, read_names, written_names, circuit_side}
-use Rattle.document_check.specs.Holds.{AllHold, first_open, HasNames, HoldsAt, HoldsFor, is_allowed, IsAsWanted, IsLogOf, IsLogOfSome, may_be_full, names_open, size_of}
+use Rattle.cert_text.specs.declared.order.Place.{Place}
+use Rattle.document_check.specs.Facts.{Facts, names_in, problem_at, wanted_sizes, circuit_side}
+use Rattle.document_check.specs.Holds.{AllHold, first_open, HasNames, HoldsAt, HoldsFor, is_allowed, IsAsWanted, IsLogOf, IsLogOfSome, may_be_full, names_open}
 use Rattle.document_check.specs.FirstBad.{circuit_line, end_line, environment_sizes, Fails, FailsBehind, has_numbers, IsFirstBadFor, is_size_of, last_line, LogFails, other_numbers, bad_entry, left_open, is_good, LogsFail, all_there, one_missing, one_more, another, no_problem, one_fails, one_good, LogsFailIn, number_line, side_in, stated_line, suffices, system_sizes, wanted_in}
-use Rattle.circuit_names.specs.Lines.{earliest, foreign_from, foreign_name, same_length}
+use Rattle.circuit_names.specs.Lines.{earliest}
+use Rattle.circuit_names.proofs.Fitting.{earliest_none, names_pass, none_earliest, stated_names}
 use Rattle.document_check.proofs.DocumentLemmas.{IsDocumentOf, document_is, asked_by, asked_of_document, not_faulty}
-
-earliest_none : (a b : Option ℕ) → earliest a b ≡ None → (a ≡ None) × (b ≡ None)
-earliest_none None b e = (refl, e)
-earliest_none (Some n) None e = absurd (cc)
-earliest_none (Some n) (Some m) e = absurd (cc)
-
-none_earliest : (a b : Option ℕ) → a ≡ None → b ≡ None → earliest a b ≡ None
-none_earliest a b e f = ap (λ (o : Option ℕ). earliest o b) e ∙ f
 
 or_none : (a b : Option ℕ) → option_or a b ≡ None → (a ≡ None) × (b ≡ None)
 or_none None b e = (refl, e)
@@ -131,23 +121,23 @@ pub same_as_itself : (a : Side) → side_ghosts.eq a a ≡ true
 same_as_itself System = refl
 same_as_itself Environment = refl
 
-size_is : (s : Size) (l : LogPart) → is_size_of s l ≡ true → size_of l ≡ s
+size_is : (s : Place) (l : LogPart) → is_size_of s l ≡ true → place_of l ≡ s
 size_is s l e =
     let k = and_parts (side_ghosts.eq s.side l.side) (eqb s.size l.size) e in
     λ i. record { side = sym (side_is s.side l.side k.0) i; size = sym (eqb-true s.size l.size k.1) i }
 
-is_its_size : (s : Size) (l : LogPart) → size_of l ≡ s → is_size_of s l ≡ true
-is_its_size s l e = subst (λ (s : Size). is_size_of s l ≡ true) e (and_from (side_ghosts.eq l.side l.side) (eqb l.size l.size) (same_as_itself l.side) (eq-eqb l.size l.size refl))
+is_its_size : (s : Place) (l : LogPart) → place_of l ≡ s → is_size_of s l ≡ true
+is_its_size s l e = subst (λ (s : Place). is_size_of s l ≡ true) e (and_from (side_ghosts.eq l.side l.side) (eqb l.size l.size) (same_as_itself l.side) (eq-eqb l.size l.size refl))
 
 module _ (facts : Facts) (kind : Kind) (version : ℕ) (full : Bool) (limit : Option ℕ) (end : ℕ) where
-  pub record AreGood (sizes : List Size) (logs : List LogPart) : Type 0 where
-    pub sizes_are : map size_of logs ≡ sizes
+  pub record AreGood (sizes : List Place) (logs : List LogPart) : Type 0 where
+    pub sizes_are : map place_of logs ≡ sizes
     pub hold : AllHold facts kind version full limit logs
 
   holds_at : (l : LogPart) (p : Problem) → problem_at facts kind version l.side l.size ≡ Some p → IsLogOf full limit l p → HoldsAt facts kind version full limit l
   holds_at l p is holds = subst (λ (o : Option Problem). IsLogOfSome full limit l o) (sym is) holds
 
-  pub logs_hold : (sizes : List Size) (logs : List LogPart) (o : Option ℕ) → LogsFail facts kind version full limit end sizes logs o → o ≡ None → AreGood sizes logs
+  pub logs_hold : (sizes : List Place) (logs : List LogPart) (o : Option ℕ) → LogsFail facts kind version full limit end sizes logs o → o ≡ None → AreGood sizes logs
   logs_hold [] [] o all_there none = record { sizes_are = refl; hold = tt }
   logs_hold (s ∷ ss) [] o (one_missing z zs) none = absurd (cc)
   logs_hold [] (l ∷ ls) o (one_more z zs) none = absurd (cc)
@@ -164,18 +154,18 @@ module _ (facts : Facts) (kind : Kind) (version : ℕ) (full : Bool) (limit : Op
   its_problem : (l : LogPart) (p : Problem) → problem_at facts kind version l.side l.size ≡ Some p → HoldsAt facts kind version full limit l → IsLogOf full limit l p
   its_problem l p is holds = subst (λ (o : Option Problem). IsLogOfSome full limit l o) is holds
 
-  head_is : (s : Size) (ss : List Size) (l : LogPart) (ls : List LogPart) → map size_of (l ∷ ls) ≡ s ∷ ss → (size_of l ≡ s) × (map size_of ls ≡ ss)
+  head_is : (s : Place) (ss : List Place) (l : LogPart) (ls : List LogPart) → map place_of (l ∷ ls) ≡ s ∷ ss → (place_of l ≡ s) × (map place_of ls ≡ ss)
   head_is s ss l ls e = (ap first e, ap behind e)
     where
-      first : List Size → Size
+      first : List Place → Place
       first [] = s
       first (x ∷ xs) = x
 
-      behind : List Size → List Size
+      behind : List Place → List Place
       behind [] = ss
       behind (x ∷ xs) = xs
 
-  pub logs_pass : (sizes : List Size) (logs : List LogPart) (o : Option ℕ) → map size_of logs ≡ sizes → AllHold facts kind version full limit logs
+  pub logs_pass : (sizes : List Place) (logs : List LogPart) (o : Option ℕ) → map place_of logs ≡ sizes → AllHold facts kind version full limit logs
       → LogsFail facts kind version full limit end sizes logs o → o ≡ None
   logs_pass [] [] o same hold all_there = refl
   logs_pass (s ∷ ss) [] o same hold (one_missing z zs) = absurd (cc)
@@ -184,73 +174,6 @@ module _ (facts : Facts) (kind : Kind) (version : ℕ) (full : Bool) (limit : Op
   logs_pass (s ∷ ss) (l ∷ ls) o same hold (no_problem z zs m ms e q) = absurd (subst (λ (o : Option Problem). IsLogOfSome full limit l o) q hold.0)
   logs_pass (s ∷ ss) (l ∷ ls) o same hold (one_fails z zs m ms p k e q f) = log_passes limit l p full (Some k) (its_problem l p q hold.0) f
   logs_pass (s ∷ ss) (l ∷ ls) o same hold (one_good z zs m ms p first e q f more) = logs_pass ss ls o (head_is s ss l ls same).1 hold.1 more
-
--- ---- the circuit
-
-name_is : (name wanted : List ℕ) (line : ℕ) (b : Bool) → bytes_eq name wanted ≡ b → cond b None (Some line) ≡ None → name ≡ wanted
-name_is name wanted line true e none = (bytes_decides name wanted).0 e
-name_is name wanted line false e none = absurd (cc)
-
-names_are : (place : ℕ) (names : List (Option (List ℕ))) (wanted : List (List ℕ)) (lines : List ℕ) → length names ≡ length wanted → list_all is_some names ≡ true
-    → foreign_from place names wanted lines ≡ None → names ≡ map (λ name. Some name) wanted
-names_are place [] [] lines n all none = refl
-names_are place [] (w ∷ ws) lines n all none = absurd (omega arith)
-names_are place (x ∷ xs) [] lines n all none = absurd (omega arith)
-names_are place (None ∷ xs) (w ∷ ws) lines n all none = absurd (cc)
-names_are place (Some x ∷ xs) (w ∷ ws) lines n all none =
-    let k = earliest_none (foreign_name (Some x) w (slice_index lines place)) (foreign_from (place + 1) xs ws lines) none in
-    let first : x ≡ w = name_is x w (slice_index lines place) (bytes_eq x w) refl k.0 in
-    let rest : xs ≡ map (λ name. Some name) ws = names_are (place + 1) xs ws lines (omega (arith, n)) all k.1 in
-    λ i. Some (first i) ∷ rest i
-
-no_foreign : (place : ℕ) (wanted : List (List ℕ)) (lines : List ℕ) → foreign_from place (map (λ name. Some name) wanted) wanted lines ≡ None
-no_foreign place [] lines = refl
-no_foreign place (w ∷ ws) lines =
-    let same : bytes_eq w w ≡ true = (bytes_decides w w).1 refl in
-    none_earliest (foreign_name (Some w) w (slice_index lines place)) (foreign_from (place + 1) (map (λ name. Some name) ws) ws lines)
-    (ap (λ b. cond b None (Some (slice_index lines place))) same) (no_foreign (place + 1) ws lines)
-
-length_named : (wanted : List (List ℕ)) → length (map (λ (name : List ℕ). Some name) wanted) ≡ length wanted
-length_named [] = refl
-length_named (w ∷ ws) = ap suc (length_named ws)
-
-module _ (facts : Facts) (side : Side) (file : File) where
-  stated_by : (b : Bool) → (same_length file.circuit.input_names (read_names facts side) && same_length file.circuit.output_names (written_names facts side)) ≡ b
-      → cond b (earliest (foreign_from 0 file.circuit.input_names (read_names facts side) file.name_lines)
-      (foreign_from (length file.circuit.input_names) file.circuit.output_names (written_names facts side) file.name_lines)) (Some 1) ≡ None
-      → all_named file.circuit ≡ true → HasNames facts side file.circuit
-  stated_by true e none all =
-      let lengths = and_parts (same_length file.circuit.input_names (read_names facts side)) (same_length file.circuit.output_names (written_names facts side)) e in
-      let named = and_parts (list_all is_some file.circuit.input_names) (list_all is_some file.circuit.output_names) all in
-      let k = earliest_none (foreign_from 0 file.circuit.input_names (read_names facts side) file.name_lines)
-      (foreign_from (length file.circuit.input_names) file.circuit.output_names (written_names facts side) file.name_lines) none in
-      record {
-        inputs = names_are 0 file.circuit.input_names (read_names facts side) file.name_lines (eqb-true (length file.circuit.input_names) (length (read_names facts side)) lengths.0) named.0 k.0;
-        outputs = names_are (length file.circuit.input_names) file.circuit.output_names (written_names facts side) file.name_lines
-            (eqb-true (length file.circuit.output_names) (length (written_names facts side)) lengths.1) named.1 k.1;
-      }
-  stated_by false e none all = absurd (cc)
-
-  pub stated_names : stated_line facts side file ≡ None → all_named file.circuit ≡ true → HasNames facts side file.circuit
-  stated_names none all = stated_by (same_length file.circuit.input_names (read_names facts side) && same_length file.circuit.output_names (written_names facts side)) refl none all
-
-  foreign_none : (place : ℕ) (names : List (Option (List ℕ))) (wanted : List (List ℕ)) → names ≡ map (λ name. Some name) wanted → foreign_from place names wanted file.name_lines ≡ None
-  foreign_none place names wanted is = ap (λ (xs : List (Option (List ℕ))). foreign_from place xs wanted file.name_lines) is ∙ no_foreign place wanted file.name_lines
-
-  length_is : (names : List (Option (List ℕ))) (wanted : List (List ℕ)) → names ≡ map (λ name. Some name) wanted → same_length names wanted ≡ true
-  length_is names wanted is = eq-eqb (length names) (length wanted) (ap length is ∙ length_named wanted)
-
-  pub names_pass : HasNames facts side file.circuit → stated_line facts side file ≡ None
-  names_pass has =
-      let lengths : (same_length file.circuit.input_names (read_names facts side) && same_length file.circuit.output_names (written_names facts side)) ≡ true =
-      and_from (same_length file.circuit.input_names (read_names facts side)) (same_length file.circuit.output_names (written_names facts side))
-      (length_is file.circuit.input_names (read_names facts side) has.inputs) (length_is file.circuit.output_names (written_names facts side) has.outputs) in
-      ap (λ b. cond b (earliest (foreign_from 0 file.circuit.input_names (read_names facts side) file.name_lines)
-      (foreign_from (length file.circuit.input_names) file.circuit.output_names (written_names facts side) file.name_lines)) (Some 1)) lengths
-      ∙ none_earliest (foreign_from 0 file.circuit.input_names (read_names facts side) file.name_lines)
-      (foreign_from (length file.circuit.input_names) file.circuit.output_names (written_names facts side) file.name_lines)
-      (foreign_none 0 file.circuit.input_names (read_names facts side) has.inputs)
-      (foreign_none (length file.circuit.input_names) file.circuit.output_names (written_names facts side) has.outputs)
 
 -- ---- the document
 
@@ -278,14 +201,14 @@ module _ (facts : Facts) (bytes : List ℕ) (lines : DocumentLines) (d : Documen
 
   logs_in_is : (o : Option ℕ) → LogsFailIn facts lines (asked_by d) o
       → LogsFail facts d.kind d.version (may_be_full d.verdict) d.entries (end_line lines)
-      (wanted_sizes d.version d.verdict d.found (system_sizes facts (asked_by d)) (environment_sizes facts (asked_by d))) d.logs o
+      (wanted_sizes (order_of d.version d.verdict d.max d.found) (system_sizes facts (asked_by d)) (environment_sizes facts (asked_by d))) d.logs o
   logs_in_is o fails =
       let here : LogsFail facts d.kind d.version (may_be_full d.verdict) d.entries (end_line lines) (wanted_in facts (asked_by d) lines.header.found) lines.logs o =
       subst (λ (e : Option (Option ℕ)). MatchOption e (o ≡ None) (λ limit. LogsFail facts d.kind d.version (may_be_full d.verdict) limit (end_line lines) (wanted_in facts (asked_by d) lines.header.found) lines.logs o)) is.entries fails in
       subst (λ (logs : List LogPart). LogsFail facts d.kind d.version (may_be_full d.verdict) d.entries (end_line lines)
-      (wanted_sizes d.version d.verdict d.found (system_sizes facts (asked_by d)) (environment_sizes facts (asked_by d))) logs o) is.logs
+      (wanted_sizes (order_of d.version d.verdict d.max d.found) (system_sizes facts (asked_by d)) (environment_sizes facts (asked_by d))) logs o) is.logs
       (subst (λ (f : ℕ). LogsFail facts d.kind d.version (may_be_full d.verdict) d.entries (end_line lines)
-      (wanted_sizes d.version d.verdict f (system_sizes facts (asked_by d)) (environment_sizes facts (asked_by d))) lines.logs o) is.found here)
+      (wanted_sizes (order_of d.version d.verdict d.max f) (system_sizes facts (asked_by d)) (environment_sizes facts (asked_by d))) lines.logs o) is.found here)
 
   -- ---- where no line fails, it holds
 
@@ -296,7 +219,7 @@ module _ (facts : Facts) (bytes : List ℕ) (lines : DocumentLines) (d : Documen
   names_by (Stated file) same none all =
       let named : all_named file.circuit ≡ true = subst (λ (o : Option Circuit). IfSome o (λ c. all_named c ≡ true)) (sym same) all in
       let here : stated_line facts (circuit_side d.verdict) file ≡ None = ap (λ (s : Side). stated_line facts s file) (sym side_in_is) ∙ none in
-      subst (λ (o : Option Circuit). IfSome o (HasNames facts (circuit_side d.verdict))) same (stated_names facts (circuit_side d.verdict) file here named)
+      subst (λ (o : Option Circuit). IfSome o (HasNames facts (circuit_side d.verdict))) same (stated_names (names_in facts) (circuit_side d.verdict) file here named)
 
   pub holds : States bytes d → lines.bad ≡ None → Fails facts bytes lines None → HoldsFor facts d
   holds states good fails =
@@ -309,7 +232,7 @@ module _ (facts : Facts) (bytes : List ℕ) (lines : DocumentLines) (d : Documen
       let number = number_by d.verdict lines.header.found (system_sizes facts (asked_by d)) (environment_sizes facts (asked_by d)) lines.verdict_line
       (is_allowed d.verdict (system_sizes facts (asked_by d)) (environment_sizes facts (asked_by d))) (nat_le lines.header.found (system_sizes facts (asked_by d))) refl refl parts.0 in
       let logs = logs_hold facts d.kind d.version (may_be_full d.verdict) d.entries (end_line lines)
-      (wanted_sizes d.version d.verdict d.found (system_sizes facts (asked_by d)) (environment_sizes facts (asked_by d))) d.logs behind.logs (logs_in_is behind.logs behind.logs_fail) parts.1 in
+      (wanted_sizes (order_of d.version d.verdict d.max d.found) (system_sizes facts (asked_by d)) (environment_sizes facts (asked_by d))) d.logs behind.logs (logs_in_is behind.logs behind.logs_fail) parts.1 in
       record {
         names = names_by lines.circuit is.circuit first.0 states.well_formed.named;
         number = number.0;
@@ -326,14 +249,14 @@ module _ (facts : Facts) (bytes : List ℕ) (lines : DocumentLines) (d : Documen
   pass_by Faulty same sound has = absurd (sound refl)
   pass_by (Stated file) same sound has =
       let here : HasNames facts (circuit_side d.verdict) file.circuit = subst (λ (o : Option Circuit). IfSome o (HasNames facts (circuit_side d.verdict))) (sym same) has in
-      ap (λ (s : Side). stated_line facts s file) side_in_is ∙ names_pass facts (circuit_side d.verdict) file here
+      ap (λ (s : Side). stated_line facts s file) side_in_is ∙ names_pass (names_in facts) (circuit_side d.verdict) file here
 
   pub passes : Reads bytes lines → lines.bad ≡ None → HoldsFor facts d → (o : Option ℕ) → Fails facts bytes lines o → o ≡ None
   passes reads good holds o fails =
       let behind : FailsBehind facts lines (asked_by d) fails.behind =
       subst (λ (o : Option Asked). MatchOption o (fails.behind ≡ None) (λ a. FailsBehind facts lines a fails.behind)) (asked_of_document lines d is) fails.fails in
       let logs : behind.logs ≡ None = logs_pass facts d.kind d.version (may_be_full d.verdict) d.entries (end_line lines)
-      (wanted_sizes d.version d.verdict d.found (system_sizes facts (asked_by d)) (environment_sizes facts (asked_by d))) d.logs behind.logs holds.sizes holds.logs (logs_in_is behind.logs behind.logs_fail) in
+      (wanted_sizes (order_of d.version d.verdict d.max d.found) (system_sizes facts (asked_by d)) (environment_sizes facts (asked_by d))) d.logs behind.logs holds.sizes holds.logs (logs_in_is behind.logs behind.logs_fail) in
       let found : nat_le lines.header.found (system_sizes facts (asked_by d)) ≡ true =
       ap (λ (f : ℕ). nat_le f (system_sizes facts (asked_by d))) is.found ∙ le-leb d.found (system_sizes facts (asked_by d)) holds.found in
       let number : number_line d.verdict lines.header.found (system_sizes facts (asked_by d)) (environment_sizes facts (asked_by d)) lines.verdict_line ≡ None =

@@ -9,3 +9,4 @@ pub mod FirstBadLemmas
 pub mod DocumentLemmas
 pub mod HoldLemmas
 pub mod RefuteLemmas
+pub mod Alike

@@ -6,7 +6,7 @@ use Rattle.letter_word.specs.contracts.kinds.SidePartialEq.TheImpl.{ghosts as si
 use Rattle.letter_word.specs.declared.kinds.Kind.{Kind}
 use Rattle.machine_model.specs.declared.problems.Problem.{Problem}
 use Rattle.cert_text.specs.Parts.{LogPart}
-use Rattle.document_check.specs.declared.facts.Size.{Size}
+use Rattle.cert_text.specs.declared.order.Place.{Place}
 use Rattle.document_check.specs.Facts.{Facts, problem_at}
 use Rattle.document_check.specs.FirstBad.{is_size_of, LogFails, LogsFail, all_there, one_missing, one_more, another, no_problem, one_fails, one_good}
 use Rattle.document_check.specs.Shown.{IsProblemAt, IsSize, line_of_first, uncons}
@@ -28,7 +28,7 @@ first_of {X = X} P xs x rest is all =
     (here 0 x (omega arith), λ k d less. here (suc k) d (omega arith))
 
 -- a log of a wanted size has a number of states that a problem may have
-pub size_fits : (s : Size) (l : LogPart) → is_size_of s l ≡ true → IsSize s → (1 ≤ l.size) × (l.size ≤ 8)
+pub size_fits : (s : Place) (l : LogPart) → is_size_of s l ≡ true → IsSize s → (1 ≤ l.size) × (l.size ≤ 8)
 size_fits s l is size =
     let k : s.size ≡ l.size = eqb-true s.size l.size (and_parts (side_ghosts.eq s.side l.side) (s.size == l.size) is).1 in
     let low = size.some in
@@ -36,16 +36,16 @@ size_fits s l is size =
     (omega (arith, k, low), omega (arith, k, high))
 
 module _ (facts : Facts) (kind : Kind) (version : ℕ) (full : Bool) (limit : Option ℕ) (end : ℕ) where
-  pub no_size : (sizes : List Size) (logs : List LogPart) → uncons sizes ≡ None → LogsFail facts kind version full limit end sizes logs (line_of_first logs)
-  no_size sizes logs is = subst (λ (xs : List Size). LogsFail facts kind version full limit end xs logs (line_of_first logs)) (sym (is_empty sizes is)) (by logs)
+  pub no_size : (sizes : List Place) (logs : List LogPart) → uncons sizes ≡ None → LogsFail facts kind version full limit end sizes logs (line_of_first logs)
+  no_size sizes logs is = subst (λ (xs : List Place). LogsFail facts kind version full limit end xs logs (line_of_first logs)) (sym (is_empty sizes is)) (by logs)
     where
       by : (logs : List LogPart) → LogsFail facts kind version full limit end [] logs (line_of_first logs)
       by [] = all_there
       by (l ∷ ls) = one_more l ls
 
-  module _ (sizes : List Size) (logs : List LogPart) (s : Size) (ss : List Size) (first : uncons sizes ≡ Some (s, ss)) where
+  module _ (sizes : List Place) (logs : List LogPart) (s : Place) (ss : List Place) (first : uncons sizes ≡ Some (s, ss)) where
     with_sizes : (o : Option ℕ) → LogsFail facts kind version full limit end (s ∷ ss) logs o → LogsFail facts kind version full limit end sizes logs o
-    with_sizes o fails = subst (λ (xs : List Size). LogsFail facts kind version full limit end xs logs o) (sym (list_is sizes s ss first)) fails
+    with_sizes o fails = subst (λ (xs : List Place). LogsFail facts kind version full limit end xs logs o) (sym (list_is sizes s ss first)) fails
 
     pub no_log : uncons logs ≡ None → LogsFail facts kind version full limit end sizes logs (Some end)
     no_log is = with_sizes (Some end) (subst (λ (xs : List LogPart). LogsFail facts kind version full limit end (s ∷ ss) xs (Some end)) (sym (is_empty logs is)) (one_missing s ss))

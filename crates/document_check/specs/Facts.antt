@@ -1,5 +1,5 @@
 -- What a document is checked against: the names of a text, and the problems of its two sides (this project's own).
-use Rattle.std.specs.Prelude.{◌==◌, ℕ, zero, suc, ◌-◌, Option, Some, List, [], ◌∷◌, ◌++◌, min, option_map, if◌then◌else◌}
+use Rattle.std.specs.Prelude.{◌==◌, ℕ, zero, suc, Option, Some, List, [], ◌∷◌, ◌++◌, min, option_map, if◌then◌else◌}
 use Rattle.std.specs.Option.{option_map_or}
 use Rattle.letter_word.specs.declared.kinds.Kind.{Kind}
 use Rattle.letter_word.specs.declared.kinds.Side.{Side}
@@ -8,11 +8,11 @@ use Rattle.letter_word.specs.Kinds.{other_kind}
 use Rattle.machine_model.specs.declared.problems.Problem.{Problem}
 use Rattle.annotation_encode.specs.Count.{allowed_sizes}
 use Rattle.cert_text.specs.declared.documents.Verdict.{Verdict}
-use Rattle.cert_text.specs.declared.documents.Verdict.TheVariants.{Realizable, Unrealizable, Bounded, UnknownSizes, UnknownEntries}
-use Rattle.cert_text.specs.Order.{tells_bounds}
-use Rattle.circuit_names.specs.Names as names
+use Rattle.cert_text.specs.declared.order.Order.{Order}
+use Rattle.cert_text.specs.declared.order.Order.TheVariants.{UpTo, AnyUpTo}
 use Rattle.circuit_names.specs.Names.{Names}
-use Rattle.document_check.specs.declared.facts.Size.{Size}
+use Rattle.cert_text.specs.declared.order.Place.{Place}
+use Rattle.cert_text.specs.Order.{machine_of, place}
 
 -- The names of the inputs and outputs, and the problem of the system and of the environment, if it has one. Their kinds, sizes and
 -- versions aren't looked at: those are the document's.
@@ -40,33 +40,22 @@ problem_at facts kind version Environment size =
 abbrev pub allowed_at : Facts → Kind → ℕ → ℕ → Side → ℕ
 allowed_at facts kind version max side = option_map_or (λ (p : Problem). allowed_sizes p max) (problem_at facts kind version side 1) 0
 
+-- of a number for each side, that of this side
+abbrev pub for_side : Side → ℕ → ℕ → ℕ
+for_side System system environment = system
+for_side Environment system environment = environment
+
 -- the sizes of a side from 1 up to a number
-abbrev pub sizes_to : Side → ℕ → List Size
+abbrev pub sizes_to : Side → ℕ → List Place
 sizes_to side zero = []
-sizes_to side (suc n) = sizes_to side n ++ record { side = side; size = suc n } ∷ []
+sizes_to side (suc n) = sizes_to side n ++ place side (suc n) ∷ []
 
--- The logs that a verdict wants, by rising size, the system's first: those below a machine's size, or those of all allowed sizes.
--- Of versions 1 and 2, a counter-machine has none, and beside a system's machine that was found stand the logs below its size.
-abbrev pub wanted_sizes : ℕ → Verdict → ℕ → ℕ → ℕ → List Size
-wanted_sizes version (Realizable n) found system environment = sizes_to System (min (n - 1) system)
-wanted_sizes version (Unrealizable n) found system environment = if tells_bounds version then sizes_to Environment (min (n - 1) environment) else []
-wanted_sizes version (Bounded System n) found system environment = sizes_to System (min (n - 1) system)
-wanted_sizes version (Bounded Environment n) found system environment = sizes_to Environment (min (n - 1) environment)
-wanted_sizes version UnknownSizes found system environment = sizes_to System system ++ sizes_to Environment environment
-wanted_sizes version (UnknownEntries side n) found system environment =
-    if found == 0 then sizes_to System system ++ sizes_to Environment environment else sizes_to System (min (found - 1) system)
-
--- the names that a document's circuit has for its inputs, and for its outputs
-abbrev pub read_names : Facts → Side → List (List ℕ)
-read_names facts side = names.read_names (names_in facts) side
-
-abbrev pub written_names : Facts → Side → List (List ℕ)
-written_names facts side = names.written_names (names_in facts) side
+-- Of which sizes logs are wanted, where a document wants them in this order and so many sizes of each side are allowed: by rising size,
+-- the system's first.
+abbrev pub wanted_sizes : Order → ℕ → ℕ → List Place
+wanted_sizes (UpTo side count) system environment = sizes_to side (min count (for_side side system environment))
+wanted_sizes (AnyUpTo max) system environment = sizes_to System system ++ sizes_to Environment environment
 
 -- the side of a document's circuit
 abbrev pub circuit_side : Verdict → Side
-circuit_side (Realizable n) = System
-circuit_side (Unrealizable n) = Environment
-circuit_side (Bounded side n) = side
-circuit_side UnknownSizes = System
-circuit_side (UnknownEntries side n) = System
+circuit_side verdict = option_map_or (λ (machine : Place). machine.side) (machine_of verdict) System

@@ -1,8 +1,7 @@
 -- The first line of a document that fails for a text (this project's own). Each test has at most one line at which it fails; the
 -- smallest of these lines is the first bad one. What a verdict says of the logs is tested last.
-use Rattle.std.specs.Prelude.{◌≡◌, ◌==◌, ℕ, ◌+◌, Bool, true, false, not, ◌&&◌, ◌||◌, Option, Some, None, List, [], ◌∷◌, length, codes, min, nat_le, nat_lt, MatchOption, option_map, option_and_then, slice_index, slice_index_or, if◌then◌else◌}
+use Rattle.std.specs.Prelude.{◌≡◌, ◌==◌, ℕ, ◌+◌, Bool, true, false, ◌&&◌, ◌||◌, Option, Some, None, List, [], ◌∷◌, length, nat_le, MatchOption, option_map, option_and_then, if◌then◌else◌}
 use Rattle.std.specs.Option.{option_or, option_map_or}
-use Rattle.std.specs.Str.{bytes_eq}
 use Rattle.letter_word.specs.declared.kinds.Kind.{Kind}
 use Rattle.letter_word.specs.declared.kinds.Side.{Side}
 use Rattle.letter_word.specs.declared.kinds.Side.TheVariants.{System, Environment}
@@ -16,20 +15,19 @@ use Rattle.refutation_log.specs.Turn.{is_at_limit}
 use Rattle.log_checker.specs.declared.faults.LogFault.{LogFault}
 use Rattle.log_checker.specs.declared.faults.LogFault.TheVariants.{BadHint, NotFalsified, Repeated, NotClosed, AfterEnd, OverLimit, NoMemory}
 use Rattle.log_checker.specs.Faults.{IsLogFault}
-use Rattle.aiger_text.specs.CircuitFile.{File, lines_of}
-use Rattle.aiger_text.specs.Words.{cut_at, number_within}
+use Rattle.aiger_text.specs.CircuitFile.{File}
 use Rattle.cert_text.specs.declared.documents.Verdict.{Verdict}
 use Rattle.cert_text.specs.declared.header.Header.{Header}
 use Rattle.cert_text.specs.declared.reading.CircuitPart.{CircuitPart}
 use Rattle.cert_text.specs.declared.reading.CircuitPart.TheVariants.{Absent, Faulty, Stated}
 use Rattle.cert_text.specs.Parts.{LogPart}
 use Rattle.letter_word.specs.contracts.kinds.SidePartialEq.TheImpl.{ghosts as side_ghosts}
-use Rattle.cert_text.specs.Header.{behind}
+use Rattle.cert_text.specs.Order.{order_of}
 use Rattle.cert_text.specs.Reading.{DocumentLines, Reads}
 use Rattle.document_check.specs.declared.facts.Asked.{Asked}
 use Rattle.circuit_names.specs.Lines as names
 use Rattle.circuit_names.specs.Lines.{earliest}
-use Rattle.document_check.specs.declared.facts.Size.{Size}
+use Rattle.cert_text.specs.declared.order.Place.{Place}
 use Rattle.document_check.specs.Facts.{Facts, names_in, problem_at, allowed_at, wanted_sizes, circuit_side}
 use Rattle.document_check.specs.Holds.{is_allowed, may_be_full, first_open, names_open}
 
@@ -102,23 +100,23 @@ pub data LogFails (full : Bool) (limit : Option ℕ) (l : LogPart) (p : Problem)
   is_good : has_numbers l p ≡ true → IsLegal (variables_of p) (base_clauses p) limit l.entries → suffices full limit l.entries ≡ true
       → LogFails full limit l p None
 
-abbrev pub is_size_of : Size → LogPart → Bool
+abbrev pub is_size_of : Place → LogPart → Bool
 is_size_of s l = side_ghosts.eq s.side l.side && (s.size == l.size)
 
 -- The first line at which the logs fail, of which these sizes are wanted: a further log, a log of another size or of a side without
 -- a problem, one that fails itself, and at `end` a log that is missing.
-pub data LogsFail (facts : Facts) (kind : Kind) (version : ℕ) (full : Bool) (limit : Option ℕ) (end : ℕ) : List Size → List LogPart → Option ℕ → Type 0 where
+pub data LogsFail (facts : Facts) (kind : Kind) (version : ℕ) (full : Bool) (limit : Option ℕ) (end : ℕ) : List Place → List LogPart → Option ℕ → Type 0 where
   all_there : LogsFail facts kind version full limit end [] [] None
-  one_missing : (s : Size) (sizes : List Size) → LogsFail facts kind version full limit end (s ∷ sizes) [] (Some end)
+  one_missing : (s : Place) (sizes : List Place) → LogsFail facts kind version full limit end (s ∷ sizes) [] (Some end)
   one_more : (l : LogPart) (logs : List LogPart) → LogsFail facts kind version full limit end [] (l ∷ logs) (Some l.line)
-  another : (s : Size) (sizes : List Size) (l : LogPart) (logs : List LogPart) → is_size_of s l ≡ false
+  another : (s : Place) (sizes : List Place) (l : LogPart) (logs : List LogPart) → is_size_of s l ≡ false
       → LogsFail facts kind version full limit end (s ∷ sizes) (l ∷ logs) (Some l.line)
-  no_problem : (s : Size) (sizes : List Size) (l : LogPart) (logs : List LogPart) → is_size_of s l ≡ true
+  no_problem : (s : Place) (sizes : List Place) (l : LogPart) (logs : List LogPart) → is_size_of s l ≡ true
       → problem_at facts kind version l.side l.size ≡ None → LogsFail facts kind version full limit end (s ∷ sizes) (l ∷ logs) (Some l.line)
-  one_fails : (s : Size) (sizes : List Size) (l : LogPart) (logs : List LogPart) (p : Problem) (n : ℕ) → is_size_of s l ≡ true
+  one_fails : (s : Place) (sizes : List Place) (l : LogPart) (logs : List LogPart) (p : Problem) (n : ℕ) → is_size_of s l ≡ true
       → problem_at facts kind version l.side l.size ≡ Some p → LogFails full limit l p (Some n)
       → LogsFail facts kind version full limit end (s ∷ sizes) (l ∷ logs) (Some n)
-  one_good : (s : Size) (sizes : List Size) (l : LogPart) (logs : List LogPart) (p : Problem) (first : Option ℕ) → is_size_of s l ≡ true
+  one_good : (s : Place) (sizes : List Place) (l : LogPart) (logs : List LogPart) (p : Problem) (first : Option ℕ) → is_size_of s l ≡ true
       → problem_at facts kind version l.side l.size ≡ Some p → LogFails full limit l p None
       → LogsFail facts kind version full limit end sizes logs first
       → LogsFail facts kind version full limit end (s ∷ sizes) (l ∷ logs) first
@@ -134,8 +132,8 @@ abbrev pub end_line : DocumentLines → ℕ
 end_line lines = line_behind (lines.verdict_line + (if lines.header.found == 0 then 4 else 5)) lines.logs
 
 -- a whole header's logs
-abbrev pub wanted_in : Facts → Asked → ℕ → List Size
-wanted_in facts a found = wanted_sizes a.version a.verdict found (system_sizes facts a) (environment_sizes facts a)
+abbrev pub wanted_in : Facts → Asked → ℕ → List Place
+wanted_in facts a found = wanted_sizes (order_of a.version a.verdict a.max found) (system_sizes facts a) (environment_sizes facts a)
 
 -- the first line at which the logs fail; without a whole header there are none
 abbrev pub LogsFailIn : Facts → DocumentLines → Asked → Option ℕ → Type 0

@@ -7,6 +7,7 @@ use Rattle.annotation_encode.specs.Laws.{HasNoAccepted}
 use Rattle.refutation_log.specs.Log.{is_ended}
 use Rattle.cert_text.specs.Parts.{LogPart, Document}
 use Rattle.cert_text.specs.States.{States}
+use Rattle.document_check.specs.Alike.{AreAlike}
 use Rattle.document_check.specs.Facts.{Facts, problem_at}
 use Rattle.document_check.specs.Holds.{HoldsFor}
 use Rattle.document_check.specs.FirstBad.{IsFirstBadFor}
@@ -26,3 +27,8 @@ AllRefute facts kind version (l ∷ logs) =
 -- so do the closed logs of a document that holds (bounded synthesis of Finkbeiner and Schewe; clausal proofs)
 abbrev pub ClosedLogsRefuteSizes : Type 0
 ClosedLogsRefuteSizes = (facts : Facts) (d : Document) → HoldsFor facts d → AllRefute facts d.kind d.version d.logs
+
+-- that a document holds, and which line is its first bad one, depend on names, and on the sides' automata and signals alone
+pub record AlikeTextsCheckAlike : Type 0 where
+  pub holds : (facts other : Facts) (d : Document) → AreAlike facts other → HoldsFor facts d → HoldsFor other d
+  pub first_bad : (facts other : Facts) (bytes : List ℕ) (n : ℕ) → AreAlike facts other → IsFirstBadFor facts bytes n → IsFirstBadFor other bytes n

@@ -3,3 +3,4 @@ pub mod Holds
 pub mod FirstBad
 pub mod Laws
 pub mod Shown
+pub mod Alike

@@ -6,7 +6,7 @@ use Rattle.machine_model.specs.Problem.{HasComponents, IsProblem, parts_of}
 use Rattle.refutation_log.specs.Text.{IsWritable}
 use Rattle.cert_text.specs.Parts.{LogPart}
 use Rattle.document_check.specs.declared.facts.TextFacts.{TextFacts}
-use Rattle.document_check.specs.declared.facts.Size.{Size}
+use Rattle.cert_text.specs.declared.order.Place.{Place}
 use Rattle.document_check.specs.Facts.{Facts}
 
 abbrev pub facts_of : TextFacts → Facts
@@ -35,7 +35,7 @@ pub record IsReadable (l : LogPart) : Type 0 where
   pub lines : l.line + 1 + length l.entries < 2 ^ 64
 
 -- a number of states that a problem may have
-pub record IsSize (s : Size) : Type 0 where
+pub record IsSize (s : Place) : Type 0 where
   pub some : 1 ≤ s.size
   pub few : s.size ≤ 8
 

@@ -8,9 +8,9 @@ ghost use Rattle.document_check.specs.FirstBad.{end_line as line_of_end, environ
 ghost use Rattle.document_check.specs.Shown.{AreFacts, facts_of, IsReadable};
 
 use crate::circuits::circuit_line;
-use crate::facts::{Asked, TextFacts, asked_in, wanted_sizes};
+use crate::facts::{Asked, TextFacts, asked_in, for_side, wanted_sizes};
 use crate::logs::{Wanted, logs_line, may_be_full, names_open};
-use cert_text::{Document, DocumentFault, DocumentLines, LogPart, Verdict, read_lines};
+use cert_text::{Document, DocumentFault, DocumentLines, LogPart, Verdict, order_of, read_lines};
 use circuit_names::earliest;
 use letter_word::Side;
 use std::alloc::{AllocError, Global};
@@ -120,7 +120,8 @@ fn logs_in<R: Threads + Sync>(
         limit,
         end: end_line(lines),
     };
-    let sizes = wanted_sizes(alloc, asked, lines.header.found, system, environment)?;
+    let order = order_of(asked.version, asked.verdict, asked.max, lines.header.found);
+    let sizes = wanted_sizes(alloc, order, system, environment)?;
     let line = logs_line(rt, alloc, facts, wanted, &sizes, &lines.logs)?;
     Ok(line)
 }
@@ -149,14 +150,9 @@ fn number_line(
 fn is_allowed(verdict: Verdict, system: u32, environment: u32) -> bool
     ensures { result ≡ number_allowed verdict system environment }
 {
-    match verdict {
-        Verdict::Realizable(n) => n <= system,
-        Verdict::Unrealizable(n) => n <= environment,
-        Verdict::Bounded(Side::System, n) => n <= system,
-        Verdict::Bounded(Side::Environment, n) => n <= environment,
-        Verdict::UnknownSizes => true,
-        Verdict::UnknownEntries(Side::System, n) => n <= system,
-        Verdict::UnknownEntries(Side::Environment, n) => n <= environment,
+    match verdict.named() {
+        Some(named) => named.size <= for_side(named.side, system, environment),
+        None => true,
     }
 }
 

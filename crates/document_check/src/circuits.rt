@@ -38,12 +38,9 @@ fn side_in(header: &Header) -> Side
 fn circuit_side(verdict: Verdict) -> Side
     ensures { result ≡ side_of_circuit verdict }
 {
-    match verdict {
-        Verdict::Realizable(_) => Side::System,
-        Verdict::Unrealizable(_) => Side::Environment,
-        Verdict::Bounded(side, _) => side,
-        Verdict::UnknownSizes => Side::System,
-        Verdict::UnknownEntries(_, _) => Side::System,
+    match verdict.machine() {
+        Some(machine) => machine.side,
+        None => Side::System,
     }
 }
 

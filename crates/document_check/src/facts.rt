@@ -1,13 +1,13 @@
 //! What a text gives for a check, and the sizes that a document wants.
 ghost use Rattle.std.specs.Prelude.{◌≡◌, ◌++◌, ◌≤◌, ◌^◌, All, IfOk, OnOk, option_map};
-ghost use Rattle.machine_model.specs.Problem.{IsProblem, parts_of};
-ghost use Rattle.document_check.specs.Facts.{allowed_at, clause_version, names_in, problem_at, sizes_to, wanted_sizes};
+ghost use Rattle.machine_model.specs.Problem.{IsProblem, IsVersion, parts_of};
+ghost use Rattle.document_check.specs.Facts.{allowed_at, clause_version, for_side, names_in, problem_at, sizes_to, wanted_sizes};
 ghost use Rattle.circuit_names.specs.Names.{names_of};
 ghost use Rattle.document_check.specs.FirstBad.{asked_in as asked_of};
 ghost use Rattle.document_check.specs.Shown.{AreFacts, facts_of, IsProblemAt, IsSize};
 
 use annotation_encode::allowed_sizes;
-use cert_text::{Header, Verdict, tells_bounds};
+use cert_text::{Header, Order, Place, Verdict};
 use circuit_names::TextNames;
 use letter_word::{Kind, Side};
 use machine_model::Problem;
@@ -24,13 +24,6 @@ pub struct TextFacts<'a> {
     /// The system's problem, and the environment's, if it has an automaton.
     pub system: &'a Problem,
     pub environment: Option<&'a Problem>,
-}
-
-/// A log's side and size.
-#[derive(Clone, Copy)]
-pub struct Size {
-    pub side: Side,
-    pub size: u32,
 }
 
 /// What a document asks for, once its line `max` is good.
@@ -136,9 +129,10 @@ fn problem_for(
     })
 }
 
-/// The version of the base clauses of a document's version.
-fn clause_version(version: u32) -> u32
-    ensures { result ≡ clause_version version }
+/// The version of the base clauses of a document's version, which is from 1 to 5: 1 for 1, 3 for 5, else 2.
+pub fn clause_version(version: u32) -> u32
+    ensures value { result ≡ clause_version version }
+    ensures version { IsVersion result }
 {
     match version {
         1 => 1,
@@ -147,67 +141,51 @@ fn clause_version(version: u32) -> u32
     }
 }
 
-/// The sizes of the logs that a verdict wants.
+/// The sizes of the logs that are wanted in this order, where so many sizes of each side are allowed.
 pub fn wanted_sizes(
     alloc: Global,
-    asked: Asked,
-    found: u32,
+    order: Order,
     system: u32,
     environment: u32,
-) -> Result<Vec<Size>, AllocError>
+) -> Result<Vec<Place>, AllocError>
     requires system { system ≤ 8 }
     requires environment { environment ≤ 8 }
-    ensures sizes { IfOk result (λ sizes. sizes.items ≡ wanted_sizes asked.version asked.verdict found system environment) }
+    ensures sizes { IfOk result (λ sizes. sizes.items ≡ wanted_sizes order system environment) }
     ensures few { IfOk result (λ sizes. All IsSize sizes.items) }
 {
     let mut sizes = Vec::new(alloc);
-    match asked.verdict {
-        Verdict::Realizable(n) => {
-            push_sizes(&mut sizes, Side::System, n.saturating_sub(1).min(system))?;
+    match order {
+        Order::UpTo(side, count) => {
+            let most = for_side(side, system, environment);
+            push_sizes(&mut sizes, side, count.min(most))?;
         }
-        Verdict::Unrealizable(n) => {
-            if tells_bounds(asked.version) {
-                push_sizes(
-                    &mut sizes,
-                    Side::Environment,
-                    n.saturating_sub(1).min(environment),
-                )?;
-            }
-        }
-        Verdict::Bounded(Side::System, n) => {
-            push_sizes(&mut sizes, Side::System, n.saturating_sub(1).min(system))?;
-        }
-        Verdict::Bounded(Side::Environment, n) => {
-            push_sizes(
-                &mut sizes,
-                Side::Environment,
-                n.saturating_sub(1).min(environment),
-            )?;
-        }
-        Verdict::UnknownSizes => {
+        Order::AnyUpTo(_) => {
             push_sizes(&mut sizes, Side::System, system)?;
             push_sizes(&mut sizes, Side::Environment, environment)?;
-        }
-        Verdict::UnknownEntries(_, _) => {
-            if found == 0 {
-                push_sizes(&mut sizes, Side::System, system)?;
-                push_sizes(&mut sizes, Side::Environment, environment)?;
-            } else {
-                push_sizes(&mut sizes, Side::System, (found - 1).min(system))?;
-            }
         }
     }
     Ok(sizes)
 }
 
+/// Of a number for each side, that of this side.
+pub fn for_side(side: Side, system: u32, environment: u32) -> u32
+    ensures value { result ≡ for_side side system environment }
+    ensures few { system ≤ 8 → environment ≤ 8 → result ≤ 8 }
+{
+    match side {
+        Side::System => system,
+        Side::Environment => environment,
+    }
+}
+
 /// Appends the sizes of a side from 1 up to a number.
-fn push_sizes(sizes: &mut Vec<Size>, side: Side, count: u32) -> Result<(), AllocError>
+fn push_sizes(sizes: &mut Vec<Place>, side: Side, count: u32) -> Result<(), AllocError>
     requires { count ≤ 8 }
     ensures sizes { OnOk result (sizes.new.items ≡ sizes.old.items ++ sizes_to side count) }
     ensures few { OnOk result (All IsSize sizes.old.items → All IsSize sizes.new.items) }
 {
     for n in 0..count {
-        sizes.push(Size { side, size: n + 1 })?;
+        sizes.push(Place { side, size: n + 1 })?;
     }
     Ok(())
 }

@@ -1,5 +1,5 @@
 //! Laws of documents and texts, each the contract of a function that does nothing.
-ghost use Rattle.document_check.specs.Laws.{BadLinesAreDetermined, ClosedLogsRefuteSizes};
+ghost use Rattle.document_check.specs.Laws.{AlikeTextsCheckAlike, BadLinesAreDetermined, ClosedLogsRefuteSizes};
 
 use size_laws::closed_logs_refute;
 
@@ -15,3 +15,8 @@ pub fn closed_logs_refute_sizes()
 {
     closed_logs_refute();
 }
+
+/// What is found out of a document depends on a text's names, and on its sides' automata and signals alone.
+pub fn alike_texts_check_alike()
+    ensures { AlikeTextsCheckAlike }
+{}

@@ -13,4 +13,5 @@ mod logs;
 pub use check::check_document;
 pub use circuit_names::earliest;
 pub use circuits::{faulty_line, stated_line};
-pub use facts::TextFacts;
+pub use facts::{TextFacts, clause_version};
+pub use logs::first_open;

@@ -5,13 +5,13 @@ ghost use Rattle.refutation_log.specs.Turn.{is_at_limit};
 ghost use Rattle.machine_model.specs.Problem.{IsProblem};
 ghost use Rattle.log_checker.specs.declared.faults.LogFault.TheVariants.{NoMemory, NotClosed};
 ghost use Rattle.document_check.specs.FirstBad.{LogFails, LogsFail, entry_of as entry_named, has_numbers as has_its_numbers, is_size_of as is_size_of_log, suffices as is_enough};
-ghost use Rattle.document_check.specs.Holds.{first_open as first_open_log, may_be_full as full_allowed, names_open as open_named, size_of};
+ghost use Rattle.document_check.specs.Holds.{first_open as first_open_log, may_be_full as full_allowed, names_open as open_named};
 ghost use Rattle.document_check.specs.Shown.{AreFacts, facts_of, IsReadable, IsSize, line_of_first, uncons};
 
-use crate::facts::{Size, TextFacts};
+use crate::facts::TextFacts;
 use annotation_encode::{count, encode, variables};
-use cert_text::{LogPart, Verdict};
-use letter_word::{Kind, Side};
+use cert_text::{LogPart, Place, Verdict};
+use letter_word::Kind;
 use log_checker::{LogFault, check_open_split};
 use machine_model::Problem;
 use refutation_log::Entry;
@@ -37,7 +37,7 @@ pub fn logs_line<R: Threads + Sync>(
     alloc: Global,
     facts: TextFacts<'_>,
     wanted: Wanted,
-    sizes: &[Size],
+    sizes: &[Place],
     logs: &[LogPart],
 ) -> Result<Option<u64>, AllocError>
     requires facts { AreFacts (facts_of facts) }
@@ -65,7 +65,7 @@ pub fn logs_line<R: Threads + Sync>(
 }
 
 /// The first size, and those behind it.
-fn first_size(sizes: &[Size]) -> Option<(Size, &[Size])>
+fn first_size(sizes: &[Place]) -> Option<(Place, &[Place])>
     ensures { option_map (λ p. (p.0, p.1.now)) result ≡ uncons sizes.now }
 {
     match sizes {
@@ -94,7 +94,7 @@ fn first_line(logs: &[LogPart]) -> Option<u64>
     }
 }
 
-fn is_size_of(size: Size, log: &LogPart) -> bool
+fn is_size_of(size: Place, log: &LogPart) -> bool
     ensures { result ≡ is_size_of_log size log.now }
 {
     size.side == log.side && size.size == log.size
@@ -188,28 +188,20 @@ fn entry_of(fault: LogFault) -> Option<u64>
     }
 }
 
-/// Whether the verdict names the first log that isn't closed, where it names one, and a bounded one has such a log.
+/// Whether the verdict is what is said of its machine, or of none, beside these logs.
 pub fn names_open(verdict: Verdict, logs: &[LogPart]) -> bool
     ensures { result ≡ open_named verdict (first_open_log logs.now) }
 {
-    let open = first_open(logs);
-    match verdict {
-        Verdict::Bounded(_, _) => open.is_some(),
-        Verdict::UnknownEntries(side, size) => match open {
-            Some(open) => open.side == side && open.size == size,
-            None => false,
-        },
-        _ => true,
-    }
+    verdict == Verdict::of(verdict.machine(), first_open(logs))
 }
 
-/// The first log that isn't closed.
-fn first_open(logs: &[LogPart]) -> Option<Size>
+/// The side and the size of the first log that isn't closed.
+pub fn first_open(logs: &[LogPart]) -> Option<Place>
     ensures { result ≡ first_open_log logs.now }
 {
     for log in logs {
         if !is_ended(&log.entries) {
-            return Some(Size {
+            return Some(Place {
                 side: log.side,
                 size: log.size,
             });
@@ -223,8 +215,7 @@ pub fn may_be_full(verdict: Verdict) -> bool
     ensures { result ≡ full_allowed verdict }
 {
     match verdict {
-        Verdict::Bounded(_, _) => true,
-        Verdict::UnknownEntries(_, _) => true,
-        _ => false,
+        Verdict::Machine { least, .. } => !least,
+        Verdict::Unknown(first) => first.is_some(),
     }
 }

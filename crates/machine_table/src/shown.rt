@@ -7,7 +7,7 @@ use crate::machines::Machine;
 use crate::outputs::{Found, find, is_output};
 use crate::solved::{SolvedDocument, read_sixth};
 use aiger_text::{Circuit, CircuitFault, read_circuit};
-use cert_text::{Document, DocumentFault, Verdict, read_document};
+use cert_text::{Document, DocumentFault, read_document};
 use letter_word::{Kind, Side};
 use solved_text::is_sixth;
 use std::alloc::Global;
@@ -49,7 +49,7 @@ impl Shown {
     /// The side whose machine it is, where a document says so.
     pub fn side(&self) -> Option<Side> {
         match self {
-            Shown::Document(document) => side_in(document.verdict),
+            Shown::Document(document) => document.verdict.machine().map(|machine| machine.side),
             Shown::Solved(document) => document.side(),
             Shown::Circuit(_) => None,
         }
@@ -79,15 +79,6 @@ impl Shown {
             Some(circuit) => Machine::of_circuit(alloc, circuit, self.kind()),
             None => Err(ShowFault::NoMachine),
         }
-    }
-}
-
-fn side_in(verdict: Verdict) -> Option<Side> {
-    match verdict {
-        Verdict::Realizable(_) => Some(Side::System),
-        Verdict::Unrealizable(_) => Some(Side::Environment),
-        Verdict::Bounded(side, _) => Some(side),
-        Verdict::UnknownSizes | Verdict::UnknownEntries(..) => None,
     }
 }
 

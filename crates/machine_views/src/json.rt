@@ -41,12 +41,17 @@ pub(crate) fn put_json(alloc: Global, shown: &Shown, out: &mut Text) -> Result<(
 
 fn put_head(document: &Document, out: &mut Text) {
     let (word, size, is_least) = match document.verdict {
-        Verdict::Realizable(size) => ("realizable", Some(size), "true"),
-        Verdict::Unrealizable(size) => ("unrealizable", Some(size), "true"),
-        Verdict::Bounded(Side::System, size) => ("realizable", Some(size), "false"),
-        Verdict::Bounded(Side::Environment, size) => ("unrealizable", Some(size), "false"),
-        Verdict::UnknownSizes => ("unknown", None, "null"),
-        Verdict::UnknownEntries(_, size) => ("unknown", Some(size), "null"),
+        Verdict::Machine {
+            side: Side::System,
+            states,
+            least,
+        } => ("realizable", Some(states), truth(least)),
+        Verdict::Machine {
+            side: Side::Environment,
+            states,
+            least,
+        } => ("unrealizable", Some(states), truth(least)),
+        Verdict::Unknown(first) => ("unknown", first.map(|first| first.size), "null"),
     };
     out.fill(
         "{\"verdict\": \"{}\", \"size\": {}, \"is_least_size\": {}, \"kind_of_system\": \"{}\", \"max\": {}, \"entries\": ",

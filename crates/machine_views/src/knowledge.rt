@@ -20,30 +20,27 @@ pub(crate) fn put_known(shown: &Shown, out: &mut Text) {
 
 fn sentence_of_verdict(verdict: Verdict) -> (&'static str, u32) {
     match verdict {
-        Verdict::Realizable(size) => {
-            (
-                "Realizable, by a controller of size {}. No smaller one exists.",
-                size,
-            )
+        Verdict::Machine {
+            side,
+            states,
+            least,
+        } => (sentence_of_machine(side, least), states),
+        Verdict::Unknown(_) => ("Nothing was found.", 0),
+    }
+}
+
+fn sentence_of_machine(side: Side, least: bool) -> &'static str {
+    match (side, least) {
+        (Side::System, true) => "Realizable, by a controller of size {}. No smaller one exists.",
+        (Side::System, false) => {
+            "Realizable, by a controller of size {}, which needn't be the smallest."
         }
-        Verdict::Unrealizable(size) => {
-            (
-                "Unrealizable: this machine of size {} defeats every controller.",
-                size,
-            )
+        (Side::Environment, true) => {
+            "Unrealizable: this machine of size {} defeats every controller."
         }
-        Verdict::Bounded(Side::System, size) => {
-            (
-                "Realizable, by a controller of size {}, which needn't be the smallest.",
-                size,
-            )
+        (Side::Environment, false) => {
+            "Unrealizable: this machine of size {}, which needn't be the smallest, defeats every controller."
         }
-        Verdict::Bounded(Side::Environment, size) => (
-            "Unrealizable: this machine of size {}, which needn't be the smallest, defeats every controller.",
-            size,
-        ),
-        Verdict::UnknownSizes => ("Nothing was found.", 0),
-        Verdict::UnknownEntries(..) => ("Nothing was found.", 0),
     }
 }
 

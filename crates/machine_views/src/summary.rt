@@ -100,32 +100,35 @@ fn put_limits(document: &Document, out: &mut Text) {
 /// Puts a verdict as one line, without its end.
 pub(crate) fn put_verdict(verdict: Verdict, out: &mut Text) {
     let (form, size) = match verdict {
-        Verdict::Realizable(size) => ("realizable, by a controller of size {}", size),
-        Verdict::Unrealizable(size) => ("unrealizable, by a counter-machine of size {}", size),
-        Verdict::Bounded(Side::System, size) => {
-            (
-                "realizable, by a controller of size {}, which needn't be the smallest",
-                size,
-            )
-        }
-        Verdict::Bounded(Side::Environment, size) => {
-            (
-                "unrealizable, by a counter-machine of size {}, which needn't be the smallest",
-                size,
-            )
-        }
-        Verdict::UnknownSizes => ("unknown, since no machine of an allowed size wins", 0),
-        Verdict::UnknownEntries(Side::System, size) => {
-            ("unknown, since the log of system size {} is full", size)
-        }
-        Verdict::UnknownEntries(Side::Environment, size) => {
-            (
-                "unknown, since the log of environment size {} is full",
-                size,
-            )
-        }
+        Verdict::Machine {
+            side,
+            states,
+            least,
+        } => (form_of_machine(side, least), states),
+        Verdict::Unknown(None) => ("unknown, since no machine of an allowed size wins", 0),
+        Verdict::Unknown(Some(first)) => (form_of_log(first.side), first.size),
     };
     out.fill(form, &[Part::Number(u64::from(size))]);
+}
+
+fn form_of_machine(side: Side, least: bool) -> &'static str {
+    match (side, least) {
+        (Side::System, true) => "realizable, by a controller of size {}",
+        (Side::System, false) => {
+            "realizable, by a controller of size {}, which needn't be the smallest"
+        }
+        (Side::Environment, true) => "unrealizable, by a counter-machine of size {}",
+        (Side::Environment, false) => {
+            "unrealizable, by a counter-machine of size {}, which needn't be the smallest"
+        }
+    }
+}
+
+fn form_of_log(side: Side) -> &'static str {
+    match side {
+        Side::System => "unknown, since the log of system size {} is full",
+        Side::Environment => "unknown, since the log of environment size {} is full",
+    }
 }
 
 /// The states that are reached, and the names of what is read and written.

@@ -1,5 +1,5 @@
 -- The outcome of a search of a text's problems.
-use Rattle.std.proofs.Common.{◌≡◌, ℕ, ◌≤◌, length, refl, ◌∙◌, subst, arith}
+use Rattle.std.proofs.Common.{◌≡◌, ℕ, ◌≤◌, List, Option, Some, None, length, ◌∙◌, subst, arith}
 use Rattle.letter_word.specs.declared.kinds.Side.{Side}
 use Rattle.letter_word.specs.declared.kinds.Side.TheVariants.{System, Environment}
 use Rattle.machine_model.specs.Machine.{MachineModel}
@@ -9,12 +9,11 @@ use Rattle.annotation_encode.specs.Count.{SizesRise}
 use Rattle.tlsf_expand.specs.Expansion.{Expanded}
 use Rattle.spec_problems.specs.declared.sides.SideProblems.{SideProblems}
 use Rattle.synth_engine.specs.declared.settings.Settings.{Settings}
-use Rattle.synth_engine.specs.declared.outcomes.Outcome.{Outcome}
-use Rattle.synth_engine.specs.declared.outcomes.Outcome.TheVariants.{Real, Unreal, Bounded, NoSize, NoEntries}
-use Rattle.synth_engine.specs.Outcomes.{HasNoEntries, HasNoSize, IsFound, IsSmallest, OfSide, OnBounded, OnReal, OnUnreal}
-use Rattle.synth_engine.specs.Outcomes as outcomes
+use Rattle.size_search.specs.declared.size_log.SizeLog.{SizeLog}
+use Rattle.synth_engine.specs.declared.outcomes.Found.{Found}
+use Rattle.synth_engine.specs.Outcomes.{GoesWith, IsFound, IsFoundWith}
 use Rattle.synth_answer.specs.Holds.{read_by, written_by}
-use Rattle.synth_answer.specs.Reply.{FitsNames, HasFittingMachine}
+use Rattle.synth_answer.specs.Reply.{FitsNames, FoundFits}
 use Rattle.text_ground.specs.Problems.{AreProblemsFor, IsProblemFor}
 use Rattle.text_ground.proofs.Meaning.{kind_for, reads_environment, reads_system, writes_environment, writes_system}
 use Rattle.synth_answer.proofs.Sides.{IsOf, find}
@@ -43,15 +42,8 @@ module _ (v : ℕ) (x : Expanded) (s : SideProblems) (problems : AreProblemsFor 
         writes = found.accepted.looked_for.writes ∙ writes_for side p known.of_side known.inputs known.outputs;
       }
 
-  pub outcome_fits : (o : Outcome) → OnReal (IsSmallest s.system settings) o
-      → OnUnreal (λ machine logs. OfSide s.system s.environment (λ p. IsSmallest p settings machine logs) Environment) o
-      → OnBounded (λ side machine logs. OfSide s.system s.environment (λ p. outcomes.IsBounded p settings machine logs) side) o → HasFittingMachine x o
-  outcome_fits (Real m logs) a b c = one_fits System s.system m refl a.found
-  outcome_fits (Unreal m logs) a b c =
-      let there = find s.system s.environment Environment (λ p. IsSmallest p settings m logs.items) b in
-      one_fits Environment there.problem m there.of there.holds.found
-  outcome_fits (Bounded side m logs) a b c =
-      let there = find s.system s.environment side (λ p. outcomes.IsBounded p settings m logs.items) c in
-      one_fits side there.problem m there.of there.holds.found
-  outcome_fits (NoSize logs) a b c = tt
-  outcome_fits (NoEntries side size logs) a b c = tt
+  pub found_fits : (found : Option Found) (logs : List SizeLog) → GoesWith s.system s.environment settings logs found → FoundFits x found
+  found_fits None logs goes = tt
+  found_fits (Some f) logs goes =
+      let there = find s.system s.environment f.side (λ p. IsFoundWith p settings f.machine logs) goes in
+      one_fits f.side there.problem f.machine there.of there.holds.found

@@ -1,6 +1,7 @@
 -- What makes a document hold for a text, and that it does.
-use Rattle.std.proofs.Common.{◌≡◌, ℕ, zero, suc, ◌-◌, ◌<◌, ◌≤◌, inl, inr, Bool, true, false, List, [], ◌∷◌, ◌++◌, Option, Some, None, All, Any, IsTrue, IfSome, length, map, min, refl, sym, ap, ◌∙◌, subst, arith, is_some, eq-eqb}
-use Rattle.std.specs.Option.{ForSome}
+use Rattle.std.proofs.Common.{◌≡◌, ℕ, ◌-◌, ◌<◌, ◌≤◌, inl, inr, Bool, true, false, List, [], ◌∷◌, Option, Some, None, All, IsTrue, IfSome, length, map, min, refl, sym, ap, ◌∙◌, subst, arith, is_some}
+use Rattle.std.specs.Prelude.{nat_le}
+use Rattle.std.specs.Option.{ForSome, option_map_or}
 use Rattle.std.proofs.lemmas.Bool.{le-leb}
 use Rattle.std.proofs.lemmas.List.Elements.{All-head, All-tail}
 use Rattle.letter_word.specs.declared.kinds.Kind.{Kind}
@@ -13,75 +14,34 @@ use Rattle.annotation_encode.specs.Count.{SizesRise, allowed_sizes}
 use Rattle.annotation_encode.specs.Counts.{counts_version}
 use Rattle.annotation_encode.specs.declared.counts.Counts.{Counts}
 use Rattle.annotation_encode.specs.Variables.{variables_of}
-use Rattle.refutation_log.specs.Log.{is_ended}
 use Rattle.aiger_text.specs.Circuit.{Circuit}
 use Rattle.cert_text.specs.declared.documents.Verdict.{Verdict}
-use Rattle.cert_text.specs.declared.documents.Verdict.TheVariants.{Realizable, Unrealizable, Bounded, UnknownSizes, UnknownEntries}
+use Rattle.cert_text.specs.declared.documents.Verdict.TheVariants.{Machine, Unknown}
+use Rattle.cert_text.specs.contracts.documents.VerdictPartialEq.TheImpl.{ghosts as verdict_ghosts}
+use Rattle.cert_text.specs.declared.order.Order.TheVariants.{UpTo}
 use Rattle.cert_text.specs.declared.order.Place.{Place}
-use Rattle.cert_text.specs.Order.{has_its_place, place}
+use Rattle.cert_text.specs.Order.{has_its_place, machine_of, named_of, order_of, place_of, verdict_of}
 use Rattle.cert_text.specs.Parts.{Document, LogPart}
-use Rattle.document_check.specs.declared.facts.Size.{Size}
-use Rattle.document_check.specs.Facts.{Facts, allowed_at, circuit_side, clause_version, problem_at, sizes_to, wanted_sizes}
+use Rattle.document_check.specs.Facts.{Facts, allowed_at, circuit_side, clause_version, for_side, problem_at, sizes_to, wanted_sizes}
 use Rattle.document_check.specs.Holds as check
 use Rattle.synth_engine.specs.Searched.{allowed_of}
 use Rattle.synth_engine.specs.Logs.{base_at}
 use Rattle.synth_engine.specs.Outcomes.{OfSide}
-use Rattle.synth_answer.proofs.AsThree.{same_clauses, same_sizes}
-use Rattle.synth_answer.specs.Holds.{ForLog, IsClosedFor, IsClosedLog, IsEndedLog, IsFirstOpen, IsFullFor, IsFullLog, document_version, place_of, read_by, sizes_of, written_by}
-use Rattle.synth_answer.proofs.Sides.{IsOf, on_both_of, out_of}
-use Rattle.text_ground.proofs.Lists.{all_map, all_three}
+use Rattle.synth_answer.proofs.AsThree.{same_clauses}
+use Rattle.synth_answer.proofs.OpenLogs.{all_closed, may_be_full_is, same_verdict}
+use Rattle.synth_answer.specs.Holds.{ForLog, IsClosedFor, IsClosedLog, IsEndedLog, IsFullFor, document_version, read_by, sizes_of, written_by}
+use Rattle.synth_answer.proofs.Sides.{IsOf, on_both_of}
+use Rattle.text_ground.proofs.Lists.{all_three}
 
 -- a circuit of the side has the text's names, in their order
 pub record HasNames (x : Facts) (side : Side) (c : Circuit) : Type 0 where
   pub reads : c.input_names ≡ map Some (read_by side x.inputs x.outputs)
   pub writes : c.output_names ≡ map Some (written_by side x.inputs x.outputs)
 
--- the side and the number of states of the machine that a verdict tells
-abbrev pub machine_of : Verdict → Option Place
-machine_of (Realizable n) = Some (place System n)
-machine_of (Unrealizable n) = Some (place Environment n)
-machine_of (Bounded side n) = Some (place side n)
-machine_of UnknownSizes = None
-machine_of (UnknownEntries side n) = None
-
--- the side and the size that a verdict names, of its machine or of a log
-abbrev pub named_of : Verdict → Option Place
-named_of (Realizable n) = Some (place System n)
-named_of (Unrealizable n) = Some (place Environment n)
-named_of (Bounded side n) = Some (place side n)
-named_of UnknownSizes = None
-named_of (UnknownEntries side n) = Some (place side n)
-
--- the sizes 1 to n of a side, in their order
-abbrev pub places_to : Side → ℕ → List Place
-places_to side zero = []
-places_to side (suc n) = places_to side n ++ place side (suc n) ∷ []
-
--- the allowed sizes of the system, then those of the environment
-abbrev pub all_places : Facts → ℕ → List Place
-all_places x max = places_to System (sizes_of x max System) ++ places_to Environment (sizes_of x max Environment)
-
--- of which sizes logs stand
-abbrev pub wanted_places : Facts → ℕ → Verdict → List Place
-wanted_places x max (Realizable n) = places_to System (n - 1)
-wanted_places x max (Unrealizable n) = places_to Environment (n - 1)
-wanted_places x max (Bounded side n) = places_to side (n - 1)
-wanted_places x max UnknownSizes = all_places x max
-wanted_places x max (UnknownEntries side n) = all_places x max
-
 -- the log has the problem's numbers of variables and of base clauses
 pub record HasHeadOf (p : Problem) (l : LogPart) : Type 0 where
   pub vars : l.vars ≡ variables_of (sized p l.size)
   pub base : l.base ≡ length (base_at p l.size)
-
--- each log is closed, or where the verdict allows it full; for a bounded verdict one is full at least, and where the verdict
--- names a log, it is the first that isn't closed
-abbrev pub AreAsWanted : Facts → Option ℕ → List LogPart → Verdict → Type 0
-AreAsWanted x limit logs (Realizable n) = All (IsClosedLog x limit) logs
-AreAsWanted x limit logs (Unrealizable n) = All (IsClosedLog x limit) logs
-AreAsWanted x limit logs (Bounded side n) = All (IsEndedLog x limit) logs × Any (IsFullLog x limit) logs
-AreAsWanted x limit logs UnknownSizes = All (IsClosedLog x limit) logs
-AreAsWanted x limit logs (UnknownEntries side n) = All (IsEndedLog x limit) logs × IsFirstOpen x limit (place side n) logs
 
 -- the problems are those of a document of this kind over base clauses that count so
 pub record AreOfKind (x : Facts) (kind : Kind) (counts : Counts) : Type 0 where
@@ -104,105 +64,29 @@ names_in x side (Some c) h = named_so x side c h
 
 names_hold : (x : Facts) (v : Verdict) (c : Option Circuit) → IsTrue (has_its_place (is_some c) v) → IfSome (machine_of v) (λ m. IfSome c (HasNames x m.side))
     → IfSome c (check.HasNames x (circuit_side v))
-names_hold x (Realizable n) c has h = names_in x System c h
-names_hold x (Unrealizable n) c has h = names_in x Environment c h
-names_hold x (Bounded side n) c has h = names_in x side c h
-names_hold x UnknownSizes None has h = tt
-names_hold x UnknownSizes (Some c) has h = absurd (cc)
-names_hold x (UnknownEntries side n) None has h = tt
-names_hold x (UnknownEntries side n) (Some c) has h = absurd (cc)
+names_hold x (Machine side n least) c has h = names_in x side c h
+names_hold x (Unknown first) None has h = tt
+names_hold x (Unknown first) (Some c) has h = absurd (cc)
 
 -- == numbers ==
 
-number_holds : (v : Verdict) (x : Facts) (max : ℕ) → IfSome (named_of v) (λ q. q.size ≤ sizes_of x max q.side)
-    → IsTrue (check.is_allowed v (sizes_of x max System) (sizes_of x max Environment))
-number_holds (Realizable n) x max h = le-leb n (sizes_of x max System) h
-number_holds (Unrealizable n) x max h = le-leb n (sizes_of x max Environment) h
-number_holds (Bounded System n) x max h = le-leb n (sizes_of x max System) h
-number_holds (Bounded Environment n) x max h = le-leb n (sizes_of x max Environment) h
-number_holds UnknownSizes x max h = refl
-number_holds (UnknownEntries System n) x max h = le-leb n (sizes_of x max System) h
-number_holds (UnknownEntries Environment n) x max h = le-leb n (sizes_of x max Environment) h
+side_sizes : (x : Facts) (max : ℕ) (side : Side) → sizes_of x max side ≡ for_side side (sizes_of x max System) (sizes_of x max Environment)
+side_sizes x max System = refl
+side_sizes x max Environment = refl
 
--- == places ==
+number_holds : (x : Facts) (max : ℕ) (o : Option Place) → IfSome o (λ q. q.size ≤ sizes_of x max q.side)
+    → option_map_or (λ (p : Place). nat_le p.size (for_side p.side (sizes_of x max System) (sizes_of x max Environment))) o true ≡ true
+number_holds x max None h = refl
+number_holds x max (Some q) h =
+    le-leb q.size (for_side q.side (sizes_of x max System) (sizes_of x max Environment)) (subst (λ most. q.size ≤ most) (side_sizes x max q.side) h)
 
-abbrev size_at : Place → Size
-size_at q = record { side = q.side; size = q.size }
-
-mapped : {A B : Type 0} (f : A → B) (xs ys : List A) → map f (xs ++ ys) ≡ map f xs ++ map f ys
-mapped f [] ys = refl
-mapped f (x ∷ xs) ys = ap (λ zs. f x ∷ zs) (mapped f xs ys)
-
-sizes_at : (logs : List LogPart) → map check.size_of logs ≡ map size_at (map place_of logs)
-sizes_at [] = refl
-sizes_at (l ∷ logs) = ap (λ ss. check.size_of l ∷ ss) (sizes_at logs)
-
-sizes_of_places : (side : Side) (n : ℕ) → map size_at (places_to side n) ≡ sizes_to side n
-sizes_of_places side zero = refl
-sizes_of_places side (suc n) =
-    mapped size_at (places_to side n) (place side (suc n) ∷ []) ∙ ap (λ ss. ss ++ record { side = side; size = suc n } ∷ []) (sizes_of_places side n)
-
-sizes_of_both : (n m : ℕ) → map size_at (places_to System n ++ places_to Environment m) ≡ sizes_to System n ++ sizes_to Environment m
-sizes_of_both n m =
-    mapped size_at (places_to System n) (places_to Environment m)
-    ∙ ap (λ ss. ss ++ map size_at (places_to Environment m)) (sizes_of_places System n) ∙ ap (λ ss. sizes_to System n ++ ss) (sizes_of_places Environment m)
-
-least : (n most : ℕ) → n ≤ most → n - 1 ≡ min (n - 1) most
-least n most h = omega (arith, h)
-
-wanted_here : (v : Verdict) (x : Facts) (max : ℕ) → IfSome (named_of v) (λ q. q.size ≤ sizes_of x max q.side)
-    → map size_at (wanted_places x max v) ≡ wanted_sizes 3 v 0 (sizes_of x max System) (sizes_of x max Environment)
-wanted_here (Realizable n) x max h = sizes_of_places System (n - 1) ∙ ap (sizes_to System) (least n (sizes_of x max System) h)
-wanted_here (Unrealizable n) x max h = sizes_of_places Environment (n - 1) ∙ ap (sizes_to Environment) (least n (sizes_of x max Environment) h)
-wanted_here (Bounded System n) x max h = sizes_of_places System (n - 1) ∙ ap (sizes_to System) (least n (sizes_of x max System) h)
-wanted_here (Bounded Environment n) x max h = sizes_of_places Environment (n - 1) ∙ ap (sizes_to Environment) (least n (sizes_of x max Environment) h)
-wanted_here UnknownSizes x max h = sizes_of_both (sizes_of x max System) (sizes_of x max Environment)
-wanted_here (UnknownEntries side n) x max h = sizes_of_both (sizes_of x max System) (sizes_of x max Environment)
-
--- == the first open log ==
-
-open_head : (b : Bool) (l : LogPart) (logs : List LogPart) → is_ended l.entries ≡ b → (b ≡ true → is_some (check.first_open logs) ≡ true) → is_some (check.first_open (l ∷ logs)) ≡ true
-open_head true l logs e later = rw e (later refl)
-open_head false l logs e later = rw e refl
-
-some_open : (logs : List LogPart) → Any (λ l. is_ended l.entries ≡ false) logs → is_some (check.first_open logs) ≡ true
-some_open [] (n, l, within, is, open_log) = absurd (omega (arith, within))
-some_open (l ∷ logs) (zero, m, within, is, open_log) =
-    let e : is_ended l.entries ≡ false = subst (λ q. is_ended q.entries ≡ false) (sym is) open_log in
-    open_head false l logs e (λ f. absurd (cc))
-some_open (l ∷ logs) (suc n, m, within, is, open_log) =
-    open_head (is_ended l.entries) l logs refl (λ t. some_open logs (n, m, omega (arith, within), is, open_log))
-
-first_open_at : (before : List LogPart) (named : LogPart) (after : List LogPart) → All (λ l. is_ended l.entries ≡ true) before → is_ended named.entries ≡ false
-    → check.first_open (before ++ named ∷ after) ≡ Some (check.size_of named)
-first_open_at [] named after ended e = rw e refl
-first_open_at (l ∷ before) named after ended e =
-    let here = All-head (λ q. is_ended q.entries ≡ true) l before ended in
-    rw here (first_open_at before named after (All-tail (λ q. is_ended q.entries ≡ true) l before ended) e)
-
-closed_is_ended : (x : Facts) (limit : Option ℕ) (l : LogPart) → IsClosedLog x limit l → is_ended l.entries ≡ true
-closed_is_ended x limit l = out_of x.system x.environment l.side (λ p. IsClosedFor limit p l) (is_ended l.entries ≡ true) (λ p of h. h.refutes)
-
-full_is_open : (x : Facts) (limit : Option ℕ) (l : LogPart) → IsFullLog x limit l → is_ended l.entries ≡ false
-full_is_open x limit l = out_of x.system x.environment l.side (λ p. IsFullFor limit p l) (is_ended l.entries ≡ false) (λ p of h. h.not_closed)
-
-any_open : (x : Facts) (limit : Option ℕ) (logs : List LogPart) → Any (IsFullLog x limit) logs → Any (λ l. is_ended l.entries ≡ false) logs
-any_open x limit logs (n, l, within, is, full) = (n, l, within, is, full_is_open x limit l full)
-
-itself : (side : Side) (n : ℕ) → check.is_size side n (Some (record { side = side; size = n })) ≡ true
-itself System n = eq-eqb n n refl
-itself Environment n = eq-eqb n n refl
-
-open_holds : (x : Facts) (limit : Option ℕ) (logs : List LogPart) (v : Verdict) → AreAsWanted x limit logs v → IsTrue (check.names_open v (check.first_open logs))
-open_holds x limit logs (Realizable n) h = refl
-open_holds x limit logs (Unrealizable n) h = refl
-open_holds x limit logs (Bounded side n) h = some_open logs (any_open x limit logs h.1)
-open_holds x limit logs UnknownSizes h = refl
-open_holds x limit logs (UnknownEntries side n) h =
-    let at = h.1 in
-    let opens = first_open_at at.before at.named at.after (all_map (IsClosedLog x limit) (λ l. is_ended l.entries ≡ true) (closed_is_ended x limit) at.before at.first) (full_is_open x limit at.named at.full) in
-    let first : check.first_open logs ≡ Some (record { side = side; size = n }) = ap check.first_open at.split ∙ opens ∙ ap (λ q. Some (size_at q)) at.is_at in
-    subst (λ o. IsTrue (check.is_size side n o)) (sym first) (itself side n)
+-- of a machine of n states the sizes below n are wanted
+pub sizes_below : (x : Facts) (max : ℕ) (side : Side) (n : ℕ) → n ≤ sizes_of x max side
+    → sizes_to side (n - 1) ≡ wanted_sizes (UpTo side (n - 1)) (sizes_of x max System) (sizes_of x max Environment)
+sizes_below x max side n h =
+    let most : n ≤ for_side side (sizes_of x max System) (sizes_of x max Environment) = subst (λ most. n ≤ most) (side_sizes x max side) h in
+    let least : n - 1 ≡ min (n - 1) (for_side side (sizes_of x max System) (sizes_of x max Environment)) = omega (arith, most) in
+    ap (sizes_to side) least
 
 -- == the problems of sizes ==
 
@@ -269,13 +153,12 @@ module _ (counts : Counts) (sizes : SizesRise) (x : Facts) (kind : Kind) (max : 
   ended_log l head allowed (inl closed) = one_log true l head allowed (λ p. IsClosedFor limit p l) (λ p h. inl h) closed
   ended_log l head allowed (inr full) = one_log true l head allowed (λ p. IsFullFor limit p l) (λ p h. inr h) full
 
-  each_holds : (logs : List LogPart) → All (ForLog x HasHeadOf) logs → All (IsAllowedLog x max) logs → (v : Verdict) → AreAsWanted x limit logs v
-      → All (check.HoldsAt x kind (document_version counts) (check.may_be_full v) limit) logs
-  each_holds logs heads allowed (Realizable n) h = all_three (ForLog x HasHeadOf) (IsAllowedLog x max) (IsClosedLog x limit) (check.HoldsAt x kind (document_version counts) false limit) closed_log logs heads allowed h
-  each_holds logs heads allowed (Unrealizable n) h = all_three (ForLog x HasHeadOf) (IsAllowedLog x max) (IsClosedLog x limit) (check.HoldsAt x kind (document_version counts) false limit) closed_log logs heads allowed h
-  each_holds logs heads allowed (Bounded side n) h = all_three (ForLog x HasHeadOf) (IsAllowedLog x max) (IsEndedLog x limit) (check.HoldsAt x kind (document_version counts) true limit) ended_log logs heads allowed h.0
-  each_holds logs heads allowed UnknownSizes h = all_three (ForLog x HasHeadOf) (IsAllowedLog x max) (IsClosedLog x limit) (check.HoldsAt x kind (document_version counts) false limit) closed_log logs heads allowed h
-  each_holds logs heads allowed (UnknownEntries side n) h = all_three (ForLog x HasHeadOf) (IsAllowedLog x max) (IsEndedLog x limit) (check.HoldsAt x kind (document_version counts) true limit) ended_log logs heads allowed h.0
+  each_holds : (logs : List LogPart) → All (ForLog x HasHeadOf) logs → All (IsAllowedLog x max) logs → All (IsEndedLog x limit) logs → (first : Option Place) → check.first_open logs ≡ first
+      → All (check.HoldsAt x kind (document_version counts) (is_some first) limit) logs
+  each_holds logs heads allowed ended None none =
+      all_three (ForLog x HasHeadOf) (IsAllowedLog x max) (IsClosedLog x limit) (check.HoldsAt x kind (document_version counts) false limit) closed_log logs heads allowed (all_closed x limit logs none ended)
+  each_holds logs heads allowed ended (Some q) is =
+      all_three (ForLog x HasHeadOf) (IsAllowedLog x max) (IsEndedLog x limit) (check.HoldsAt x kind (document_version counts) true limit) ended_log logs heads allowed ended
 
   with_allowed : (P : ℕ → ℕ → Type 0) → P (sizes_of x max System) (sizes_of x max Environment) → P (allowed_at x kind (document_version counts) max System) (allowed_at x kind (document_version counts) max Environment)
   with_allowed P h =
@@ -287,14 +170,18 @@ module _ (counts : Counts) (sizes : SizesRise) (x : Facts) (kind : Kind) (max : 
   is_made_of v c logs d = record d { version = document_version counts; verdict = v; kind = kind; max = max; entries = limit; found = 0; circuit = c; logs = logs }
 
   pub held : (v : Verdict) (c : Option Circuit) (logs : List LogPart) (d : Document) → IsTrue (has_its_place (is_some c) v) → IfSome (machine_of v) (λ m. IfSome c (HasNames x m.side))
-      → IfSome (named_of v) (λ q. q.size ≤ sizes_of x max q.side) → map place_of logs ≡ wanted_places x max v → All (ForLog x HasHeadOf) logs → All (IsAllowedLog x max) logs
-      → AreAsWanted x limit logs v → check.HoldsFor x (is_made_of v c logs d)
-  held v c logs d has names number places heads allowed wanted = record {
-    names = names_hold x v c has names;
-    number = with_allowed (λ n m. IsTrue (check.is_allowed v n m)) (number_holds v x max number);
-    found = omega arith;
-    sizes = with_allowed (λ n m. map check.size_of logs ≡ wanted_sizes (document_version counts) v 0 n m)
-        (sizes_at logs ∙ ap (map size_at) places ∙ wanted_here v x max number ∙ same_sizes counts v 0 (sizes_of x max System) (sizes_of x max Environment));
-    logs = all_hold counts x kind (check.may_be_full v) limit logs (each_holds logs heads allowed v wanted);
-    named = open_holds x limit logs v wanted;
-  }
+      → IfSome (named_of v) (λ q. q.size ≤ sizes_of x max q.side)
+      → map place_of logs ≡ wanted_sizes (order_of (document_version counts) v max 0) (sizes_of x max System) (sizes_of x max Environment)
+      → All (ForLog x HasHeadOf) logs → All (IsAllowedLog x max) logs → All (IsEndedLog x limit) logs → v ≡ verdict_of (machine_of v) (check.first_open logs)
+      → check.HoldsFor x (is_made_of v c logs d)
+  held v c logs d has names number places heads allowed ended told =
+      let full : check.may_be_full v ≡ is_some (check.first_open logs) = ap check.may_be_full told ∙ may_be_full_is (machine_of v) (check.first_open logs) in
+      record {
+        names = names_hold x v c has names;
+        number = with_allowed (λ n m. IsTrue (check.is_allowed v n m)) (number_holds x max (named_of v) number);
+        found = omega arith;
+        sizes = with_allowed (λ n m. map place_of logs ≡ wanted_sizes (order_of (document_version counts) v max 0) n m) places;
+        logs = all_hold counts x kind (check.may_be_full v) limit logs
+            (subst (λ b. All (check.HoldsAt x kind (document_version counts) b limit) logs) (sym full) (each_holds logs heads allowed ended (check.first_open logs) refl));
+        named = subst (λ w. IsTrue (verdict_ghosts.eq v w)) told (same_verdict v);
+      }

@@ -7,6 +7,7 @@ pub mod ListLemmas
 pub mod Whole
 pub mod Fitting
 pub mod Held
+pub mod OpenLogs
 pub mod Grounds
 pub mod AsThree
 pub mod Numbers

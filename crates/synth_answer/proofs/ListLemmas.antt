@@ -1,7 +1,7 @@
 -- Numbers in a range, names of lines, and the two parts of a list of which something holds.
-use Rattle.std.proofs.Common.{◌≡◌, ℕ, ◌≤◌, true, List, [], ◌∷◌, ◌++◌, Some, All, IfSome, IsTrue, is_some, map, refl}
+use Rattle.std.proofs.Common.{◌≡◌, ℕ, ◌≤◌, true, List, [], ◌∷◌, Some, All, IfSome, IsTrue, is_some, map, refl}
 use Rattle.std.proofs.lemmas.Bool.{le-leb}
-use Rattle.std.proofs.lemmas.List.Elements.{All-cons, All-head, All-map, All-nil, All-tail}
+use Rattle.std.proofs.lemmas.List.Elements.{All-map}
 use Rattle.std.specs.List.{list_all}
 use Rattle.aiger_text.specs.RoundTrip.{IsLineName}
 use Rattle.flat_text.specs.FlatNames.{IsOneWord}
@@ -19,11 +19,3 @@ pub line_names : (names : List (List ℕ)) → All IsOneWord names → All (λ n
 line_names names all =
     All-map (λ name. IfSome name IsLineName) Some names
     (all_map IsOneWord IsLineName (λ name h. record { nonempty = h.nonempty; one_line = h.one_line }) names all)
-
-pub all_front : {A : Type 0} (P : A → Type 0) (xs ys : List A) → All P (xs ++ ys) → All P xs
-all_front P [] ys all = All-nil P
-all_front P (x ∷ xs) ys all = All-cons P x xs (All-head P x (xs ++ ys) all) (all_front P xs ys (All-tail P x (xs ++ ys) all))
-
-pub all_back : {A : Type 0} (P : A → Type 0) (xs ys : List A) → All P (xs ++ ys) → All P ys
-all_back P [] ys all = all
-all_back P (x ∷ xs) ys all = all_back P xs ys (All-tail P x (xs ++ ys) all)

@@ -1,5 +1,5 @@
 -- No circuit with fewer states than an answer tells does what its side owes.
-use Rattle.std.proofs.Common.{◌≡◌, ℕ, ◌<◌, ◌≤◌, List, Option, refl, ap, subst, ◌∙◌, arith}
+use Rattle.std.proofs.Common.{◌≡◌, ℕ, ◌<◌, List, Option, refl, ap, subst, ◌∙◌, arith}
 use Rattle.letter_word.specs.declared.kinds.Kind.{Kind}
 use Rattle.cert_text.specs.Laws.{DocumentsAreDetermined}
 use Rattle.cert_text.specs.Parts.{Document}

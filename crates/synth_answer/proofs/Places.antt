@@ -1,5 +1,5 @@
 -- The places of logs, and the order in which they stand.
-use Rattle.std.proofs.Common.{◌≡◌, ℕ, zero, suc, ◌+◌, ◌<◌, ◌≤◌, ◌⊎◌, inl, inr, true, List, [], ◌∷◌, ◌++◌, All, Contains, IsTrue, map, get_or, refl, sym, ap, ◌∙◌, subst, arith, eq-eqb, add-zero}
+use Rattle.std.proofs.Common.{◌≡◌, ℕ, zero, suc, ◌+◌, ◌<◌, ◌≤◌, ◌⊎◌, inl, inr, List, [], ◌∷◌, ◌++◌, All, Contains, IsTrue, map, get_or, refl, sym, ap, ◌∙◌, subst, arith, eq-eqb, add-zero}
 use Rattle.std.proofs.lemmas.Bool.{lt-ltb}
 use Rattle.std.proofs.lemmas.List.Elements.{All-cons, All-head, All-nil, All-push, All-tail, All-weaker, Contains-append_left, Contains-push}
 use Rattle.letter_word.specs.declared.kinds.Side.{Side}
@@ -10,12 +10,11 @@ use Rattle.synth_engine.specs.Logs as engine
 use Rattle.cert_text.specs.declared.order.Order.{Order}
 use Rattle.cert_text.specs.declared.order.Order.TheVariants.{UpTo, AnyUpTo}
 use Rattle.cert_text.specs.declared.order.Place.{Place}
-use Rattle.cert_text.specs.Order.{AreInOrder, may_follow, place}
+use Rattle.cert_text.specs.Order.{AreInOrder, may_follow, place, place_of}
 use Rattle.document_check.proofs.HoldLemmas.{same_as_itself}
 use Rattle.cert_text.specs.Parts.{LogPart}
-use Rattle.synth_answer.specs.Holds.{place_of}
+use Rattle.document_check.specs.Facts.{sizes_to}
 use Rattle.text_ground.proofs.Lists.{le_cases}
-use Rattle.synth_answer.proofs.Held.{places_to}
 use Rattle.synth_answer.specs.Reply.{part_of}
 
 -- == from the search's sizes to places ==
@@ -27,7 +26,7 @@ pub map-append : {A B : Type 0} (f : A → B) (xs ys : List A) → map f (xs ++ 
 map-append f [] ys = refl
 map-append f (x ∷ xs) ys = ap (λ zs. f x ∷ zs) (map-append f xs ys)
 
-pub places_of_claims : (side : Side) (n : ℕ) → map place_at (engine.sizes_to side n) ≡ places_to side n
+pub places_of_claims : (side : Side) (n : ℕ) → map place_at (engine.sizes_to side n) ≡ sizes_to side n
 places_of_claims side zero = refl
 places_of_claims side (suc n) =
     map-append place_at (engine.sizes_to side n) (record { side = side; size = suc n } ∷ [])
@@ -37,27 +36,27 @@ places_of_parts : (logs : List SizeLog) → map place_of (map part_of logs) ≡ 
 places_of_parts [] = refl
 places_of_parts (l ∷ logs) = ap (λ ps. place l.side l.size ∷ ps) (places_of_parts logs)
 
-pub parts_at : (side : Side) (n : ℕ) (logs : List SizeLog) → map engine.place_of logs ≡ engine.sizes_to side n → map place_of (map part_of logs) ≡ places_to side n
+pub parts_at : (side : Side) (n : ℕ) (logs : List SizeLog) → map engine.place_of logs ≡ engine.sizes_to side n → map place_of (map part_of logs) ≡ sizes_to side n
 parts_at side n logs e = places_of_parts logs ∙ ap (map place_at) e ∙ places_of_claims side n
 
 pub parts_at_both : (side other : Side) (n m : ℕ) (logs : List SizeLog) → map engine.place_of logs ≡ engine.sizes_to side n ++ engine.sizes_to other m
-    → map place_of (map part_of logs) ≡ places_to side n ++ places_to other m
+    → map place_of (map part_of logs) ≡ sizes_to side n ++ sizes_to other m
 parts_at_both side other n m logs e =
     places_of_parts logs ∙ ap (map place_at) e ∙ map-append place_at (engine.sizes_to side n) (engine.sizes_to other m)
     ∙ ap (λ ps. ps ++ map place_at (engine.sizes_to other m)) (places_of_claims side n)
-    ∙ ap (λ ps. places_to side n ++ ps) (places_of_claims other m)
+    ∙ ap (λ ps. sizes_to side n ++ ps) (places_of_claims other m)
 
 -- == which places there are ==
 
-pub has_place : (side : Side) (n k : ℕ) → 0 < k → k ≤ n → Contains (places_to side n) (place side k)
+pub has_place : (side : Side) (n k : ℕ) → 0 < k → k ≤ n → Contains (sizes_to side n) (place side k)
 has_place side zero k some most = absurd (omega (arith, some, most))
 has_place side (suc n) k some most = placed (le_cases k n most) (has_place side n k some)
   where
-    placed : (k ≤ n) ⊎ (k ≡ suc n) → (k ≤ n → Contains (places_to side n) (place side k)) → Contains (places_to side n ++ place side (suc n) ∷ []) (place side k)
-    placed (inl less) before = Contains-append_left (places_to side n) (place side (suc n) ∷ []) (place side k) (before less)
+    placed : (k ≤ n) ⊎ (k ≡ suc n) → (k ≤ n → Contains (sizes_to side n) (place side k)) → Contains (sizes_to side n ++ place side (suc n) ∷ []) (place side k)
+    placed (inl less) before = Contains-append_left (sizes_to side n) (place side (suc n) ∷ []) (place side k) (before less)
     placed (inr same) before =
-        subst (λ j. Contains (places_to side n ++ place side (suc n) ∷ []) (place side j)) (sym same)
-        (Contains-push (places_to side n) (place side (suc n)))
+        subst (λ j. Contains (sizes_to side n ++ place side (suc n) ∷ []) (place side j)) (sym same)
+        (Contains-push (sizes_to side n) (place side (suc n)))
 
 -- the log of a place
 pub record LogAt (logs : List LogPart) (q : Place) : Type 0 where
@@ -85,7 +84,7 @@ push_place side s (suc n) =
     let e : suc s + n ≡ s + suc n = omega arith in
     ap (λ ps. place side (suc s) ∷ ps) (push_place side (suc s) n ∙ ap (λ j. places_from side (suc s) n ++ place side (suc j) ∷ []) e)
 
-from_start : (side : Side) (n : ℕ) → places_to side n ≡ places_from side 0 n
+from_start : (side : Side) (n : ℕ) → sizes_to side n ≡ places_from side 0 n
 from_start side zero = refl
 from_start side (suc n) =
     let e : 0 + n ≡ n = omega arith in
@@ -157,13 +156,13 @@ in_order_both max (suc n) m s (l ∷ logs) e end other =
     one_more (AnyUpTo max) (place System s) (place System (suc s)) l logs (first_of e) (follows_any System s max (omega (arith, end)))
     (in_order_both max n m (suc s) logs (rest_of e) (omega (arith, end)) other)
 
-pub in_order_side : (side : Side) (count : ℕ) (logs : List LogPart) → map place_of logs ≡ places_to side count → AreInOrder (UpTo side count) (place side 0) logs
+pub in_order_side : (side : Side) (count : ℕ) (logs : List LogPart) → map place_of logs ≡ sizes_to side count → AreInOrder (UpTo side count) (place side 0) logs
 in_order_side side count logs e = in_order_up_to side count count 0 logs (e ∙ from_start side count) (omega arith)
 
-pub in_order_all : (max n m : ℕ) (logs : List LogPart) → map place_of logs ≡ places_to System n ++ places_to Environment m → n ≤ max → m ≤ max
+pub in_order_all : (max n m : ℕ) (logs : List LogPart) → map place_of logs ≡ sizes_to System n ++ sizes_to Environment m → n ≤ max → m ≤ max
     → AreInOrder (AnyUpTo max) (place System 0) logs
 in_order_all max n m logs e end other =
-    in_order_both max n m 0 logs (e ∙ ap (λ ps. ps ++ places_to Environment m) (from_start System n) ∙ ap (λ ps. places_from System 0 n ++ ps) (from_start Environment m))
+    in_order_both max n m 0 logs (e ∙ ap (λ ps. ps ++ sizes_to Environment m) (from_start System n) ∙ ap (λ ps. places_from System 0 n ++ ps) (from_start Environment m))
     (omega (arith, end)) other
 
 -- == the sizes of the logs ==

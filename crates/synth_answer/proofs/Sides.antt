@@ -1,5 +1,5 @@
 -- What holds of a side's problem, carried to what follows.
-use Rattle.std.proofs.Common.{◌≡◌, List, All, Option, Some, None, IfSome, refl, sym, subst}
+use Rattle.std.proofs.Common.{◌≡◌, Option, Some, None, refl, sym, subst}
 use Rattle.letter_word.specs.declared.kinds.Side.{Side}
 use Rattle.letter_word.specs.declared.kinds.Side.TheVariants.{System, Environment}
 use Rattle.machine_model.specs.declared.problems.Problem.{Problem}
@@ -28,11 +28,6 @@ pub on_side : (s : Problem) (e : Option Problem) (side : Side) (P Q : Problem �
 on_side s e System P Q f h = f s h
 on_side s None Environment P Q f h = h
 on_side s (Some p) Environment P Q f h = f p h
-
-pub on_both : (s : Problem) (e : Option Problem) (side : Side) (P Q R : Problem → Type 0) → ((p : Problem) → P p → Q p → R p) → OfSide s e P side → OfSide s e Q side → OfSide s e R side
-on_both s e System P Q R f h k = f s h k
-on_both s None Environment P Q R f h k = h
-on_both s (Some p) Environment P Q R f h k = f p h k
 
 pub out_of : (s : Problem) (e : Option Problem) (side : Side) (P : Problem → Type 0) (X : Type 0) → ((p : Problem) → IsOf s e side p → P p → X) → OfSide s e P side → X
 out_of s e System P X f h = f s refl h

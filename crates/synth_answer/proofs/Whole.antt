@@ -1,7 +1,9 @@
 -- From the outcome of a search to the answer.
-use Rattle.std.proofs.Common.{◌≡◌, ◌==◌, ℕ, ◌+◌, ◌-◌, ◌<◌, ◌≤◌, ◌^◌, ◌⊎◌, inl, inr, Bool, true, false, List, ◌∷◌, ◌++◌, Option, Some, None, All, Any, Contains, IsTrue, IfSome, map, refl, sym, ap, ◌∙◌, subst, arith, is_some, if◌then◌else◌}
-use Rattle.std.proofs.lemmas.List.Elements.{All-contains, All-head, All-map, All-same, All-append, Contains-append_left, Contains-append_right}
+use Rattle.std.proofs.Common.{◌≡◌, ◌==◌, ℕ, ◌+◌, ◌-◌, ◌<◌, ◌≤◌, ◌^◌, inl, inr, Bool, true, false, List, ◌++◌, Option, Some, None, All, Contains, IsTrue, IfSome, map, refl, sym, ap, ◌∙◌, subst, arith, is_some, if◌then◌else◌}
+use Rattle.std.proofs.lemmas.List.Elements.{All-contains, All-map, All-same, All-append, Contains-append_left, Contains-append_right}
 use Rattle.std.specs.List.{list_all}
+use Rattle.std.specs.Option.{option_map_or}
+use Rattle.std.proofs.lemmas.Option.{none-some}
 use Rattle.letter_word.specs.Word.{Word}
 use Rattle.letter_word.specs.declared.kinds.Side.{Side}
 use Rattle.letter_word.specs.declared.kinds.Side.TheVariants.{System, Environment}
@@ -16,7 +18,7 @@ use Rattle.annotation_encode.specs.Counts.{counts_version}
 use Rattle.annotation_encode.specs.Laws.{HasNoAccepted}
 use Rattle.annotation_encode.specs.Variables.{variables_of}
 use Rattle.refutation_log.specs.declared.entries.Entry.{Entry}
-use Rattle.refutation_log.specs.Log.{IsClosed, IsFull}
+use Rattle.refutation_log.specs.Log.{IsClosed, IsFull, is_ended}
 use Rattle.refutation_log.specs.Teaches.{IsTaught}
 use Rattle.aiger_text.specs.Circuit.{Circuit, HasStates}
 use Rattle.aiger_text.specs.RoundTrip.{IsLineName, IsWritable}
@@ -31,42 +33,41 @@ use Rattle.size_search.specs.declared.size_log.SizeLog.{SizeLog}
 use Rattle.synth_engine.specs.declared.settings.Settings.{Settings}
 use Rattle.synth_engine.specs.Settings.{IsWithinBounds}
 use Rattle.synth_engine.specs.Searched.{allowed_of}
-use Rattle.synth_engine.specs.Logs.{IsLogOf, base_at, sizes_to}
+use Rattle.synth_engine.specs.Logs.{IsLogOf, base_at}
 use Rattle.synth_engine.specs.Logs as engine
-use Rattle.synth_engine.specs.Outcomes.{AreAllLogs, AreSmaller, IsFound, OfSide}
-use Rattle.synth_engine.specs.Outcomes as outcomes
-use Rattle.synth_engine.specs.declared.outcomes.Outcome.{Outcome}
-use Rattle.synth_engine.specs.declared.outcomes.Outcome.TheVariants as outcome
+use Rattle.synth_engine.specs.declared.outcomes.Found.{Found}
+use Rattle.synth_engine.specs.Outcomes.{AreAllSettled, CannotFill, GoesWith, IsFound, IsFoundWith, IsSettled, OfSide}
 use Rattle.program_replies.specs.declared.replies.Status.{Status}
-use Rattle.program_replies.specs.declared.replies.Status.TheVariants as status
 use Rattle.program_replies.specs.Statuses.{status_number}
 use Rattle.cert_text.specs.declared.documents.Verdict.{Verdict}
-use Rattle.cert_text.specs.declared.documents.Verdict.TheVariants.{Realizable, Unrealizable, Bounded, UnknownSizes, UnknownEntries}
-use Rattle.cert_text.specs.declared.order.Order.TheVariants.{UpTo, AnyUpTo}
+use Rattle.cert_text.specs.declared.documents.Verdict.TheVariants.{Machine, Unknown}
+use Rattle.cert_text.specs.declared.order.Order.{Order}
+use Rattle.cert_text.specs.declared.order.Order.TheVariants.{UpTo}
 use Rattle.cert_text.specs.declared.order.Place.{Place}
-use Rattle.cert_text.specs.Order.{AreInOrder, fits_max, fits_version, has_its_place, is_in_range, may_tell_found, order_of, place, start_of}
+use Rattle.cert_text.specs.Order.{AreInOrder, has_its_place, is_in_range, machine_of, may_tell_found, named_of, order_of, place, place_of, start_of, verdict_of}
 use Rattle.cert_text.specs.Parts.{Document, LogPart}
 use Rattle.cert_text.specs.Reading.{all_named}
 use Rattle.cert_text.specs.WellFormed.{IsFoundNumber, IsLogPart, IsWellFormed}
 use Rattle.cert_text.specs.States.{logs_at, numbered, written_comment_line}
-use Rattle.synth_answer.specs.Answer.{CanBeBeaten, DoesItsPart, HasLog, IsBounded, IsRealizable, IsRefuted, IsToldOn, IsUnrealizable, OfPrinted}
+use Rattle.synth_answer.specs.Answer.{CanBeBeaten, DoesItsPart, HasLog, IsRefuted, IsToldOn}
 use Rattle.synth_answer.specs.Answer as answer
-use Rattle.document_check.specs.Facts.{Facts}
+use Rattle.document_check.specs.Facts.{Facts, sizes_to, wanted_sizes}
 use Rattle.document_check.specs.Holds as check
-use Rattle.synth_answer.specs.Holds.{ForLog, IsClosedFor, IsClosedLog, IsEndedLog, IsFirstOpen, IsFullFor, IsFullLog, place_of, read_by, sizes_of, written_by}
-use Rattle.synth_answer.proofs.Held.{AreAsWanted, AreOfKind, HasHeadOf, HasNames, IsAllowedLog, held, machine_of, named_of, places_to, wanted_places}
+use Rattle.synth_answer.specs.Holds.{ForLog, IsClosedFor, IsClosedLog, IsEndedLog, IsFullFor, document_version, read_by, sizes_of, written_by}
+use Rattle.synth_answer.proofs.Held.{AreOfKind, HasHeadOf, HasNames, IsAllowedLog, held, sizes_below}
+use Rattle.synth_answer.proofs.OpenLogs.{all_closed, any_full, at_first, first_is, none_open, open_at}
 use Rattle.text_ground.specs.Ground.{AreGivenOn, Ground, facts_on, ground_with}
 use Rattle.synth_answer.specs.Printed.{IsPrinted, PrintedFor}
-use Rattle.synth_answer.specs.Reply.{IsCircuitWith, IsMachineText, IsShort, IsReplyTo, IsSearchedReply, IsTextOf, LawsHold, document_of, outcome_verdict, part_of}
+use Rattle.synth_answer.specs.Reply.{IsCircuitFor, IsCircuitOfFound, IsSearchedReply, IsShort, LawsHold, StatesIfGood, document_of, found_at, least_status, outcome_verdict, part_of, verdict_status}
 use Rattle.text_ground.specs.Problems.{AreProblemsFor, HaveAutomata}
-use Rattle.synth_answer.proofs.ListLemmas.{all_back, all_front, all_some, in_range, line_names}
-use Rattle.synth_answer.proofs.LogLemmas.{IsOfNoLine, all_parts_at, any_at, places_at, split_at}
+use Rattle.synth_answer.proofs.ListLemmas.{all_some, in_range, line_names}
+use Rattle.synth_answer.proofs.LogLemmas.{IsOfNoLine, all_parts_at, places_at}
 use Rattle.synth_answer.proofs.Meaning.{does_its_part, some_defeats, some_satisfies}
 use Rattle.text_ground.proofs.Meaning.{IsSideOf, each_can_lose, none_satisfies, sized_within}
-use Rattle.synth_answer.proofs.AsThree.{is_a_version, same_fits, same_found, same_order}
+use Rattle.synth_answer.proofs.AsThree.{all_have_logs, always_fits, is_a_version}
 use Rattle.synth_answer.proofs.Places.{IsClaimTo, claims_to, has_place, in_order_all, in_order_side, log_at, parts_at, parts_at_both, unmap}
-use Rattle.synth_answer.proofs.Sides.{IsOf, at_side, find, of_side, on_both, on_side, out_of}
-use Rattle.text_ground.proofs.Lists.{all_both, all_map, all_three, some_of}
+use Rattle.synth_answer.proofs.Sides.{IsOf, at_side, find, of_side, on_side, out_of}
+use Rattle.text_ground.proofs.Lists.{all_map, all_three, some_of}
 use Rattle.synth_answer.proofs.Sizes.{few_clauses, few_variables}
 
 -- what is known of a ground, with the names and the kind of a flat text, and of its problems
@@ -150,7 +151,7 @@ module _ (x : Expanded) (truth : Word → Bool) (nodes : List Node) (whole : For
   -- == the parts of a document ==
 
   abbrev pub IsHere : SizeLog → Type 0
-  IsHere l = OfSide s.system s.environment (λ p. IsLogOf p settings l) l.side
+  IsHere l = OfSide s.system s.environment (λ p. IsSettled p settings l) l.side
 
   one_part : (l : SizeLog) → FitsSize given settings.max l.side l.size → IsShort l → (p : Problem) → IsOf s.system s.environment l.side p → IsLogOf p settings l → IsLogPart (part_of l)
   one_part l fits short p of log =
@@ -171,40 +172,36 @@ module _ (x : Expanded) (truth : Word → Bool) (nodes : List Node) (whole : For
       }
 
   log_part : (l : SizeLog) → IsHere l → FitsSize given settings.max l.side l.size → IsShort l → IsLogPart (part_of l)
-  log_part l log fits short = out_of s.system s.environment l.side (λ p. IsLogOf p settings l) (IsLogPart (part_of l)) (one_part l fits short) log
+  log_part l here fits short = out_of s.system s.environment l.side (λ p. IsSettled p settings l) (IsLogPart (part_of l)) (λ p of h. one_part l fits short p of h.log) here
 
   head_part : (l : SizeLog) → IsHere l → ForLog given HasHeadOf (part_of l)
-  head_part l log = on_side s.system s.environment l.side (λ p. IsLogOf p settings l) (λ p. HasHeadOf p (part_of l)) (λ p h. record { vars = h.vars; base = h.base }) log
+  head_part l here = on_side s.system s.environment l.side (λ p. IsSettled p settings l) (λ p. HasHeadOf p (part_of l)) (λ p h. record { vars = h.log.vars; base = h.log.base }) here
 
   same_head : IsOfNoLine (ForLog given HasHeadOf)
   same_head l n h = on_side s.system s.environment l.side (λ p. HasHeadOf p l) (λ p. HasHeadOf p (record l { line = n })) (λ p q. record { vars = q.vars; base = q.base }) h
 
-  closed_part : (l : SizeLog) → IsHere l → OfSide s.system s.environment (λ p. engine.IsClosedLog p settings l) l.side → IsClosedLog given settings.entries (part_of l)
-  closed_part l log closed =
-      on_both s.system s.environment l.side (λ p. IsLogOf p settings l) (λ p. engine.IsClosedLog p settings l) (λ p. IsClosedFor settings.entries p (part_of l))
-      (λ p h c. subst (λ v. IsClosed v (base_at p l.size) settings.entries l.log.entries) h.vars c) log closed
-
-  full_part : (l : SizeLog) → IsHere l → OfSide s.system s.environment (λ p. engine.IsFullLog p settings l) l.side → IsFullLog given settings.entries (part_of l)
-  full_part l log full =
-      on_both s.system s.environment l.side (λ p. IsLogOf p settings l) (λ p. engine.IsFullLog p settings l) (λ p. IsFullFor settings.entries p (part_of l))
-      (λ p h c. subst (λ v. IsFull v (base_at p l.size) settings.entries l.log.entries) h.vars c) log full
-
-  ended_part : (l : SizeLog) → IsHere l
-      → OfSide s.system s.environment (λ p. engine.IsClosedLog p settings l) l.side ⊎ OfSide s.system s.environment (λ p. engine.IsFullLog p settings l) l.side
-      → IsEndedLog given settings.entries (part_of l)
-  ended_part l log (inl closed) = inl (closed_part l log closed)
-  ended_part l log (inr full) = inr (full_part l log full)
+  ended_part : (l : SizeLog) → IsHere l → IsEndedLog given settings.entries (part_of l)
+  ended_part l here =
+      let there = find s.system s.environment l.side (λ p. IsSettled p settings l) here in
+      let p = there.problem in
+      let vars = there.holds.log.vars in
+      elim there.holds.ended [
+        | inl closed ↦ inl (of_side s.system s.environment l.side (λ q. IsClosedFor settings.entries q (part_of l)) p there.of
+            (subst (λ v. IsClosed v (base_at p l.size) settings.entries l.log.entries) vars closed))
+        | inr full ↦ inr (of_side s.system s.environment l.side (λ q. IsFullFor settings.entries q (part_of l)) p there.of
+            (subst (λ v. IsFull v (base_at p l.size) settings.entries l.log.entries) vars full))
+      ]
 
   taught_part : (l : SizeLog) → IsHere l → ForLog given (λ p q. IsTaught (base_at p q.size) q.entries) (part_of l)
-  taught_part l log = on_side s.system s.environment l.side (λ p. IsLogOf p settings l) (λ p. IsTaught (base_at p l.size) l.log.entries) (λ p h. h.taught) log
+  taught_part l here = on_side s.system s.environment l.side (λ p. IsSettled p settings l) (λ p. IsTaught (base_at p l.size) l.log.entries) (λ p h. h.log.taught) here
 
   by_part : (l : SizeLog) → IsHere l → All (λ e. e.by ≤ settings.workers) l.log.entries
-  by_part l log = out_of s.system s.environment l.side (λ p. IsLogOf p settings l) (All (λ e. e.by ≤ settings.workers) l.log.entries) (λ p of h. h.by) log
+  by_part l here = out_of s.system s.environment l.side (λ p. IsSettled p settings l) (All (λ e. e.by ≤ settings.workers) l.log.entries) (λ p of h. h.log.by) here
 
   -- == the document ==
 
   abbrev pub before_lines : Verdict → Option Circuit → List SizeLog → Document
-  before_lines v c logs = document_of x.kind settings v c logs
+  before_lines v c logs = document_of x.kind settings v c (map part_of logs)
 
   abbrev pub doc : Verdict → Option Circuit → List SizeLog → Document
   doc v c logs = numbered (before_lines v c logs)
@@ -217,32 +214,57 @@ module _ (x : Expanded) (truth : Word → Bool) (nodes : List Node) (whole : For
   abbrev pub lined : Option Circuit → List SizeLog → List LogPart
   lined c logs = logs_at (first_line c) (map part_of logs)
 
+  -- which logs a document of this verdict wants
+  abbrev pub order : Verdict → Order
+  order v = order_of (document_version settings.counts) v settings.max 0
+
+  -- of which sizes logs are wanted
+  abbrev pub wanted : Order → List Place
+  wanted o = wanted_sizes o (sizes_of given settings.max System) (sizes_of given settings.max Environment)
+
+  side_most : (side : Side) → sizes_of given settings.max side ≤ settings.max
+  side_most System = (k.laws.sizes.allowed s.system settings.max).within
+  side_most Environment = by_problem s.environment
+    where
+      by_problem : (o : Option Problem) → allowed_of settings.max o ≤ settings.max
+      by_problem None = omega arith
+      by_problem (Some p) = (k.laws.sizes.allowed p settings.max).within
+
   -- what makes the document of a verdict well formed, and makes it hold
   pub record Suits (v : Verdict) (c : Option Circuit) (logs : List SizeLog) : Type 0 where
-    pub version : IsTrue (fits_version 3 v)
     pub has_place : IsTrue (has_its_place (is_some c) v)
     pub all_names : IfSome c (λ circuit. IsTrue (all_named circuit))
-    pub max : IsTrue (fits_max settings.max v)
-    pub found : IsFoundNumber (may_tell_found 3 v) settings.max 0
-    pub order : AreInOrder (order_of 3 v settings.max 0) (start_of (order_of 3 v settings.max 0)) (map part_of logs)
+    pub in_order : AreInOrder (order v) (start_of (order v)) (map part_of logs)
     pub names : IfSome (machine_of v) (λ m. IfSome c (HasNames given m.side))
-    pub number : IfSome (named_of v) (λ q. q.size ≤ sizes_of given settings.max q.side)
-    pub places : map place_of (map part_of logs) ≡ wanted_places given settings.max v
+    pub named : IfSome (named_of v) (λ q. FitsSize given settings.max q.side q.size)
+    pub places : map place_of (map part_of logs) ≡ wanted (order v)
     pub here : All IsHere logs
     pub fits : All (λ l. FitsSize given settings.max l.side l.size) logs
-    pub wanted : AreAsWanted given settings.entries (lined c logs) v
+    pub told : v ≡ verdict_of (machine_of v) (check.first_open (map part_of logs))
+
+  in_max : (o : Option Place) → IfSome o (λ q. FitsSize given settings.max q.side q.size) → option_map_or (λ (q : Place). is_in_range 1 settings.max q.size) o true ≡ true
+  in_max None fits = refl
+  in_max (Some q) fits =
+      let some = fits.some in
+      let most = fits.most in
+      let all = side_most q.side in
+      in_range 1 settings.max q.size (omega (arith, some)) (omega (arith, most, all))
+
+  none_found : (may : Bool) → IsFoundNumber may settings.max 0
+  none_found true = inl refl
+  none_found false = refl
 
   well_formed : (v : Verdict) (c : Option Circuit) (logs : List SizeLog) → Suits v c logs → All IsShort logs → IsWellFormed (before_lines v c logs)
   well_formed v c logs suits short = record {
     version = is_a_version settings.counts;
-    verdict = subst IsTrue (same_fits settings.counts v) suits.version;
+    verdict = always_fits settings.counts v;
     circuit = suits.has_place;
     named = suits.all_names;
     max = in_range 1 8 settings.max k.bounds.some_size k.bounds.most_size;
-    number = suits.max;
+    number = in_max (named_of v) suits.named;
     entries = k.bounds.most_entries;
-    found = subst (λ may. IsFoundNumber may settings.max 0) (same_found settings.counts v) suits.found;
-    order = subst (λ o. AreInOrder o (start_of o) (map part_of logs)) (same_order settings.counts v settings.max 0) suits.order;
+    found = none_found (may_tell_found (document_version settings.counts) v);
+    order = suits.in_order;
     logs = All-map IsLogPart part_of logs (all_three IsHere (λ l. FitsSize given settings.max l.side l.size) IsShort (λ l. IsLogPart (part_of l)) log_part logs suits.here suits.fits short);
   }
 
@@ -256,21 +278,34 @@ module _ (x : Expanded) (truth : Word → Bool) (nodes : List Node) (whole : For
     other_version = λ p is. (for_text.of_environment p is).version_is;
   }
 
+  ended_lines : (c : Option Circuit) (logs : List SizeLog) → All IsHere logs → All (IsEndedLog given settings.entries) (lined c logs)
+  ended_lines c logs here =
+      all_parts_at (IsEndedLog given settings.entries) (λ l n h. h) (first_line c) logs (all_map IsHere (λ l. IsEndedLog given settings.entries (part_of l)) ended_part logs here)
+
+  allowed_lines : (c : Option Circuit) (logs : List SizeLog) → All (λ l. FitsSize given settings.max l.side l.size) logs → All (IsAllowedLog given settings.max) (lined c logs)
+  allowed_lines c logs fits =
+      all_parts_at (IsAllowedLog given settings.max) (λ l n h. h) (first_line c) logs
+      (all_map (λ l. FitsSize given settings.max l.side l.size) (λ l. IsAllowedLog given settings.max (part_of l)) (λ l h. (h.some, h.most)) logs fits)
+
+  some_map : {A : Type 0} (o : Option A) (P Q : A → Type 0) → ((y : A) → P y → Q y) → IfSome o P → IfSome o Q
+  some_map None P Q f h = tt
+  some_map (Some y) P Q f h = f y h
+
   holds_for : (v : Verdict) (c : Option Circuit) (logs : List SizeLog) → Suits v c logs → check.HoldsFor given (doc v c logs)
   holds_for v c logs suits =
-      held settings.counts k.laws.sizes given x.kind settings.max settings.entries of_kind v c (lined c logs) (doc v c logs) suits.has_place suits.names suits.number
+      held settings.counts k.laws.sizes given x.kind settings.max settings.entries of_kind v c (lined c logs) (doc v c logs) suits.has_place suits.names
+      (some_map (named_of v) (λ q. FitsSize given settings.max q.side q.size) (λ q. q.size ≤ sizes_of given settings.max q.side) (λ q h. h.most) suits.named)
       (places_at (first_line c) (map part_of logs) ∙ suits.places)
       (all_parts_at (ForLog given HasHeadOf) same_head (first_line c) logs (all_map IsHere (λ l. ForLog given HasHeadOf (part_of l)) head_part logs suits.here))
-      (all_parts_at (IsAllowedLog given settings.max) (λ l n h. h) (first_line c) logs
-      (all_map (λ l. FitsSize given settings.max l.side l.size) (λ l. IsAllowedLog given settings.max (part_of l)) (λ l h. (h.some, h.most)) logs suits.fits))
-      suits.wanted
+      (allowed_lines c logs suits.fits) (ended_lines c logs suits.here)
+      (suits.told ∙ ap (verdict_of (machine_of v)) (sym (open_at (first_line c) (map part_of logs))))
 
-  printed : (v : Verdict) (c : Option Circuit) (logs : List SizeLog) (bytes : List ℕ) → Suits v c logs → IfSome c IsWritable
-      → IsTextOf x.kind settings v c logs bytes → IsPrinted given settings bytes (doc v c logs)
-  printed v c logs bytes suits writable made = record {
-    states = made.stated (well_formed v c logs suits made.short) writable;
+  printed : (v : Verdict) (c : Option Circuit) (logs : List SizeLog) (bytes : List ℕ) → Suits v c logs → IfSome c IsWritable → All IsShort logs
+      → StatesIfGood bytes (before_lines v c logs) → IsPrinted given settings bytes (doc v c logs)
+  printed v c logs bytes suits writable short made = record {
+    states = made (well_formed v c logs suits short) writable;
     holds = holds_for v c logs suits;
-    no_bad_line = λ n bad. k.laws.bad_lines.holding_has_none given bytes (doc v c logs) n (made.stated (well_formed v c logs suits made.short) writable) (holds_for v c logs suits) bad;
+    no_bad_line = λ n bad. k.laws.bad_lines.holding_has_none given bytes (doc v c logs) n (made (well_formed v c logs suits short) writable) (holds_for v c logs suits) bad;
     version = refl;
     kind = sym for_text.of_system.kind_is;
     max = refl;
@@ -339,10 +374,7 @@ module _ (x : Expanded) (truth : Word → Bool) (nodes : List Node) (whole : For
   plain_writes System = k.names.outputs_plain
   plain_writes Environment = k.names.inputs_plain
 
-  abbrev pub IsCircuitFor : Side → MachineModel → Circuit → Type 0
-  IsCircuitFor side m c = IsCircuitWith m (read_by side x.inputs x.outputs) (written_by side x.inputs x.outputs) c
-
-  can_be_written : (side : Side) (m : MachineModel) (c : Circuit) → IsCircuitFor side m c → IsWritable c
+  can_be_written : (side : Side) (m : MachineModel) (c : Circuit) → IsCircuitFor x side m c → IsWritable c
   can_be_written side m c made =
       let size = made.variables in
       record {
@@ -351,22 +383,11 @@ module _ (x : Expanded) (truth : Word → Bool) (nodes : List Node) (whole : For
         output_names = All-same (λ name. IfSome name IsLineName) c.output_names (map Some (written_by side x.inputs x.outputs)) made.outputs (line_names _ (plain_writes side));
       }
 
-  all_are_named : (side : Side) (m : MachineModel) (c : Circuit) → IsCircuitFor side m c → IsTrue (all_named c)
+  all_are_named : (side : Side) (m : MachineModel) (c : Circuit) → IsCircuitFor x side m c → IsTrue (all_named c)
   all_are_named side m c made =
       let reads : list_all is_some c.input_names ≡ true = ap (list_all is_some) made.inputs ∙ all_some (read_by side x.inputs x.outputs) in
       let writes : list_all is_some c.output_names ≡ true = ap (list_all is_some) made.outputs ∙ all_some (written_by side x.inputs x.outputs) in
       rw (reads, writes) refl
-
-  -- a verdict that tells a machine of this side and size
-  record TellsMachine (v : Verdict) (side : Side) (n : ℕ) : Type 0 where
-    pub version : IsTrue (fits_version 3 v)
-    pub has_place : IsTrue (has_its_place true v)
-    pub max : IsTrue (fits_max settings.max v)
-    pub found : IsFoundNumber (may_tell_found 3 v) settings.max 0
-    pub order : order_of 3 v settings.max 0 ≡ UpTo side (n - 1)
-    pub machine : machine_of v ≡ Some (place side n)
-    pub named : named_of v ≡ Some (place side n)
-    pub places : wanted_places given settings.max v ≡ places_to side (n - 1)
 
   fits_claim : (side : Side) (n : ℕ) → n ≤ sizes_of given settings.max side → (claim : Claim) → IsClaimTo side n claim → FitsSize given settings.max claim.side claim.size
   fits_claim side n most claim h =
@@ -377,22 +398,20 @@ module _ (x : Expanded) (truth : Word → Bool) (nodes : List Node) (whole : For
   size_of_found : (side : Side) (p : Problem) (m : MachineModel) → IsOf s.system s.environment side p → IsFound p settings m → size_of m ≤ sizes_of given settings.max side
   size_of_found side p m of found = subst (λ most. size_of m ≤ most) (sym (allowed_at side p of)) found.allowed
 
-  -- what holds of a machine's problem and of each of the smaller sizes' logs
-  to_sides : (side : Side) (p : Problem) → IsOf s.system s.environment side p → (P : Problem → SizeLog → Type 0) (logs : List SizeLog) → All (IsLogOf p settings) logs → All (P p) logs
-      → All (λ l. OfSide s.system s.environment (λ q. P q l) l.side) logs
-  to_sides side p of P logs each all =
-      all_both (IsLogOf p settings) (P p) (λ l. OfSide s.system s.environment (λ q. P q l) l.side)
-      (λ l log h. subst (OfSide s.system s.environment (λ q. P q l)) (sym (log.side ∙ (side_known side p of).of_side)) (of_side s.system s.environment side (λ q. P q l) p of h))
-      logs each all
+  module _ (side : Side) (p : Problem) (of : IsOf s.system s.environment side p) (m : MachineModel) (logs : List SizeLog) (kept : IsFoundWith p settings m logs) where
+    abbrev found : IsFound p settings m
+    found = kept.found
 
-  module _ (side : Side) (p : Problem) (of : IsOf s.system s.environment side p) (m : MachineModel) (logs : List SizeLog) (found : IsFound p settings m) (small : AreSmaller p settings m logs) where
     all_here : All IsHere logs
-    all_here = to_sides side p of (λ q l. IsLogOf q settings l) logs small.each small.each
+    all_here =
+        all_map (IsSettled p settings) IsHere
+        (λ l h. subst (OfSide s.system s.environment (λ q. IsSettled q settings l)) (sym (h.log.side ∙ (side_known side p of).of_side)) (of_side s.system s.environment side (λ q. IsSettled q settings l) p of h))
+        logs kept.smaller.each
 
-    claims : map engine.place_of logs ≡ sizes_to side (size_of m - 1)
-    claims = subst (λ other. map engine.place_of logs ≡ sizes_to other (size_of m - 1)) (side_known side p of).of_side small.places
+    claims : map engine.place_of logs ≡ engine.sizes_to side (size_of m - 1)
+    claims = subst (λ other. map engine.place_of logs ≡ engine.sizes_to other (size_of m - 1)) (side_known side p of).of_side kept.smaller.places
 
-    parts : map place_of (map part_of logs) ≡ places_to side (size_of m - 1)
+    parts : map place_of (map part_of logs) ≡ sizes_to side (size_of m - 1)
     parts = parts_at side (size_of m - 1) logs claims
 
     fewer : size_of m - 1 ≤ sizes_of given settings.max side
@@ -401,32 +420,38 @@ module _ (x : Expanded) (truth : Word → Bool) (nodes : List Node) (whole : For
     all_fit : All (λ l. FitsSize given settings.max l.side l.size) logs
     all_fit =
         unmap engine.place_of (λ claim. FitsSize given settings.max claim.side claim.size) logs
-        (All-same (λ claim. FitsSize given settings.max claim.side claim.size) (map engine.place_of logs) (sizes_to side (size_of m - 1)) claims
+        (All-same (λ claim. FitsSize given settings.max claim.side claim.size) (map engine.place_of logs) (engine.sizes_to side (size_of m - 1)) claims
         (all_map (IsClaimTo side (size_of m - 1)) (λ claim. FitsSize given settings.max claim.side claim.size) (fits_claim side (size_of m - 1) fewer)
-        (sizes_to side (size_of m - 1)) (claims_to side (size_of m - 1))))
+        (engine.sizes_to side (size_of m - 1)) (claims_to side (size_of m - 1))))
 
-    machine_suits : (v : Verdict) (c : Circuit) → TellsMachine v side (size_of m) → IsCircuitFor side m c → AreAsWanted given settings.entries (lined (Some c) logs) v → Suits v (Some c) logs
-    machine_suits v c tells made wanted = record {
-      version = tells.version;
-      has_place = tells.has_place;
+    -- what is said of the machine
+    abbrev said : Verdict
+    said = verdict_of (Some (place side (size_of m))) (check.first_open (map part_of logs))
+
+    at_fits : FitsSize given settings.max side (size_of m)
+    at_fits = record { some = found.some; most = size_of_found side p m of found }
+
+    order_is : order said ≡ UpTo side (size_of m - 1)
+    order_is = ap (λ b. UpTo side (if b then size_of m - 1 else 0)) (all_have_logs settings.counts side)
+
+    machine_suits : (c : Circuit) → IsCircuitFor x side m c → Suits said (Some c) logs
+    machine_suits c made = record {
+      has_place = refl;
       all_names = all_are_named side m c made;
-      max = tells.max;
-      found = tells.found;
-      order = subst (λ o. AreInOrder o (start_of o) (map part_of logs)) (sym tells.order) (in_order_side side (size_of m - 1) (map part_of logs) parts);
-      names = subst (λ o. IfSome o (λ q. HasNames given q.side c)) (sym tells.machine) (record { reads = made.inputs; writes = made.outputs });
-      number = subst (λ o. IfSome o (λ q. q.size ≤ sizes_of given settings.max q.side)) (sym tells.named) (size_of_found side p m of found);
-      places = parts ∙ sym tells.places;
+      in_order = subst (λ o. AreInOrder o (start_of o) (map part_of logs)) (sym order_is) (in_order_side side (size_of m - 1) (map part_of logs) parts);
+      names = record { reads = made.inputs; writes = made.outputs };
+      named = at_fits;
+      places = parts ∙ sizes_below given settings.max side (size_of m) at_fits.most ∙ ap wanted (sym order_is);
       here = all_here;
       fits = all_fit;
-      wanted = wanted;
+      told = refl;
     }
 
-    machine_printed : (v : Verdict) (bytes : List ℕ) → TellsMachine v side (size_of m) → (made : IsMachineText x settings side v m logs bytes)
-        → AreAsWanted given settings.entries (lined (Some made.circuit) logs) v → IsPrinted given settings bytes (doc v (Some made.circuit) logs)
-    machine_printed v bytes tells made wanted =
-        printed v (Some made.circuit) logs bytes (machine_suits v made.circuit tells made.of_machine wanted) (can_be_written side m made.circuit made.of_machine) made.text
+    machine_printed : (c : Circuit) (bytes : List ℕ) → IsCircuitFor x side m c → All IsShort logs → StatesIfGood bytes (before_lines said (Some c) logs)
+        → IsPrinted given settings bytes (doc said (Some c) logs)
+    machine_printed c bytes made short stated = printed said (Some c) logs bytes (machine_suits c made) (can_be_written side m c made) short stated
 
-    part_does : (c : Circuit) → IsCircuitFor side m c → DoesItsPart the_text side c
+    part_does : (c : Circuit) → IsCircuitFor x side m c → DoesItsPart the_text side c
     part_does c made = does_its_part k.laws the_text formula says side p (size_of m) m c (side_known side p of) found.accepted made
 
     fits_below : (n : ℕ) → 0 < n → n < size_of m → FitsSize given settings.max side n
@@ -436,357 +461,226 @@ module _ (x : Expanded) (truth : Word → Bool) (nodes : List Node) (whole : For
     log_below v c P all n some less =
         has_log v c logs side n P (subst (λ ps. Contains ps (place side n)) (sym parts) (has_place side (size_of m - 1) n some (omega (arith, less)))) all
 
-    all_closed : All (engine.IsClosedLog p settings) logs → (c : Option Circuit) → All (IsClosedLog given settings.entries) (lined c logs)
-    all_closed closed c =
-        all_parts_at (IsClosedLog given settings.entries) (λ l n h. h) (first_line c) logs
-        (all_both IsHere (λ l. OfSide s.system s.environment (λ q. engine.IsClosedLog q settings l) l.side) (λ l. IsClosedLog given settings.entries (part_of l)) closed_part
-        logs all_here (to_sides side p of (λ q l. engine.IsClosedLog q settings l) logs small.each closed))
+    all_ended : (c : Option Circuit) → All (IsEndedLog given settings.entries) (lined c logs)
+    all_ended c = ended_lines c logs all_here
 
-    is_smallest : (v : Verdict) (c : Option Circuit) → All (engine.IsClosedLog p settings) logs → IsSmallestOf p m
+    first_lined : (c : Option Circuit) (o : Option Place) → check.first_open (map part_of logs) ≡ o → check.first_open (lined c logs) ≡ o
+    first_lined c o is = open_at (first_line c) (map part_of logs) ∙ is
+
+    each_closed : check.first_open (map part_of logs) ≡ None → (c : Option Circuit) → All (IsClosedLog given settings.entries) (lined c logs)
+    each_closed none c = all_closed given settings.entries (lined c logs) (first_lined c None none) (all_ended c)
+
+    is_smallest : (v : Verdict) (c : Option Circuit) → check.first_open (map part_of logs) ≡ None → IsSmallestOf p m
     is_smallest v c closed = record {
       made = found.accepted.machine;
       looked_for = found.accepted.looked_for;
       accepted = found.accepted.accepted;
       none_smaller = λ n other some less made sought accepted.
-          let log = log_below v c (IsClosedLog given settings.entries) (all_closed closed c) n (omega (arith, some)) less in
+          let log = log_below v c (IsClosedLog given settings.entries) (each_closed closed c) n (omega (arith, some)) less in
           let none = at_side s.system s.environment side (λ q. HasNoAccepted (sized q n)) p of
           (closed_refutes log.log side n log.is_at log.holds (fits_below n (omega (arith, some)) less)) in
           none.none (record { machine = other; made = made; looked_for = sought; accepted = accepted });
     }
 
-    has_its_states : (v : Verdict) (c : Circuit) → All (engine.IsClosedLog p settings) logs → IsCircuitFor side m c → HasStates c (size_of m)
+    has_its_states : (v : Verdict) (c : Circuit) → check.first_open (map part_of logs) ≡ None → IsCircuitFor x side m c → HasStates c (size_of m)
     has_its_states v c closed made = (made.states.number (size_of m)).1 (k.laws.all_states p m (is_smallest v (Some c) closed))
-
-    in_max : IsTrue (is_in_range 1 settings.max (size_of m))
-    in_max =
-        let most = found.allowed in
-        let all = (k.laws.sizes.allowed p settings.max).within in
-        let some = found.some in
-        in_range 1 settings.max (size_of m) (omega (arith, some)) (omega (arith, most, all))
-
-    all_ended : All (λ l. engine.IsClosedLog p settings l ⊎ engine.IsFullLog p settings l) logs → (c : Option Circuit) → All (IsEndedLog given settings.entries) (lined c logs)
-    all_ended ended c =
-        all_parts_at (IsEndedLog given settings.entries) (λ l n h. h) (first_line c) logs
-        (all_both (IsLogOf p settings) (λ l. engine.IsClosedLog p settings l ⊎ engine.IsFullLog p settings l) (λ l. IsEndedLog given settings.entries (part_of l)) one_ended logs small.each ended)
-      where
-        at : (l : SizeLog) → IsLogOf p settings l → (P : Problem → SizeLog → Type 0) → P p l → OfSide s.system s.environment (λ q. P q l) l.side
-        at l log P h = subst (OfSide s.system s.environment (λ q. P q l)) (sym (log.side ∙ (side_known side p of).of_side)) (of_side s.system s.environment side (λ q. P q l) p of h)
-
-        one_ended : (l : SizeLog) → IsLogOf p settings l → engine.IsClosedLog p settings l ⊎ engine.IsFullLog p settings l → IsEndedLog given settings.entries (part_of l)
-        one_ended l log (inl closed) = inl (closed_part l (at l log (λ q l. IsLogOf q settings l) log) (at l log (λ q l. engine.IsClosedLog q settings l) closed))
-        one_ended l log (inr full) = inr (full_part l (at l log (λ q l. IsLogOf q settings l) log) (at l log (λ q l. engine.IsFullLog q settings l) full))
-
-    any_full : Any (engine.IsFullLog p settings) logs → (c : Option Circuit) → Any (IsFullLog given settings.entries) (lined c logs)
-    any_full (n, l, within, is, full) c =
-        let log : IsLogOf p settings l = subst (IsLogOf p settings) is (small.each n l within) in
-        let here = subst (OfSide s.system s.environment (λ q. IsLogOf q settings l)) (sym (log.side ∙ (side_known side p of).of_side)) (of_side s.system s.environment side (λ q. IsLogOf q settings l) p of log) in
-        let full_here = subst (OfSide s.system s.environment (λ q. engine.IsFullLog q settings l)) (sym (log.side ∙ (side_known side p of).of_side)) (of_side s.system s.environment side (λ q. engine.IsFullLog q settings l) p of full) in
-        any_at (IsFullLog given settings.entries) (λ l n h. h) (first_line c) logs (n, l, within, is, full_part l here full_here)
 
   -- == the answers with a machine ==
 
-  pub real : (m : MachineModel) (logs : List SizeLog) (bytes : List ℕ) → outcomes.IsSmallest s.system settings m logs
-      → IsMachineText x settings System (Realizable (size_of m)) m logs bytes → IsToldOn ground settings bytes 10 (Some (Realizable (size_of m)))
-  real m logs bytes least made =
-      let found = least.found in
-      let small = least.smaller in
-      let v = Realizable (size_of m) in
-      let c = made.circuit in
-      let closed = all_closed System s.system refl m logs found small least.closed (Some c) in
-      let tells : TellsMachine v System (size_of m) = record {
-        version = refl;
-        has_place = refl;
-        max = in_max System s.system refl m logs found small;
-        found = refl;
-        order = refl;
-        machine = refl;
-        named = refl;
-        places = refl;
-      } in
-      let is_printed = machine_printed System s.system refl m logs found small v bytes tells made closed in
+  pub with_least : (side : Side) (p : Problem) (of : IsOf s.system s.environment side p) (m : MachineModel) (logs : List SizeLog) (kept : IsFoundWith p settings m logs) (c : Circuit) (bytes : List ℕ)
+      → IsCircuitFor x side m c → check.first_open (map part_of logs) ≡ None → IsPrinted given settings bytes (doc (Machine side (size_of m) true) (Some c) logs)
+      → IsToldOn ground settings bytes (status_number (least_status side)) (Some (Machine side (size_of m) true))
+  with_least System p of m logs kept c bytes made none is_printed =
+      let v = Machine System (size_of m) true in
+      let closed = each_closed System p of m logs kept none (Some c) in
       record {
         answers = answer.realizable (printed_text v (Some c) logs bytes is_printed) (size_of m) c refl
             (record {
               verdict = refl;
               circuit = refl;
-              satisfies = part_does System s.system refl m logs found small c made.of_machine;
-              machine = some_satisfies k.laws the_text formula says s.system (size_of m) m (side_known System s.system refl) found.accepted;
-              runs = made.of_machine.every System;
-              states = has_its_states System s.system refl m logs found small v c least.closed made.of_machine;
-              smaller = λ n some less. is_refuted v (Some c) logs n (log_below System s.system refl m logs found small v (Some c) (IsClosedLog given settings.entries) closed n some less)
-                  (fits_below System s.system refl m logs found small n some less);
+              satisfies = part_does System p of m logs kept c made;
+              machine = some_satisfies k.laws the_text formula says p (size_of m) m (side_known System p of) kept.found.accepted;
+              runs = made.every System;
+              states = has_its_states System p of m logs kept v c none made;
+              smaller = λ n some less. is_refuted v (Some c) logs n (log_below System p of m logs kept v (Some c) (IsClosedLog given settings.entries) closed n some less)
+                  (fits_below System p of m logs kept n some less);
             });
         told = refl;
       }
-
-  pub unreal : (m : MachineModel) (logs : List SizeLog) (bytes : List ℕ) → OfSide s.system s.environment (λ p. outcomes.IsSmallest p settings m logs) Environment
-      → IsMachineText x settings Environment (Unrealizable (size_of m)) m logs bytes → IsToldOn ground settings bytes 20 (Some (Unrealizable (size_of m)))
-  unreal m logs bytes least made =
-      let there = find s.system s.environment Environment (λ p. outcomes.IsSmallest p settings m logs) least in
-      let p = there.problem in
-      let found = there.holds.found in
-      let small = there.holds.smaller in
-      let v = Unrealizable (size_of m) in
-      let c = made.circuit in
-      let closed = all_closed Environment p there.of m logs found small there.holds.closed (Some c) in
-      let tells : TellsMachine v Environment (size_of m) = record {
-        version = refl;
-        has_place = refl;
-        max = in_max Environment p there.of m logs found small;
-        found = refl;
-        order = refl;
-        machine = refl;
-        named = refl;
-        places = refl;
-      } in
-      let is_printed = machine_printed Environment p there.of m logs found small v bytes tells made closed in
+  with_least Environment p of m logs kept c bytes made none is_printed =
+      let v = Machine Environment (size_of m) true in
+      let closed = each_closed Environment p of m logs kept none (Some c) in
       record {
         answers = answer.unrealizable (printed_text v (Some c) logs bytes is_printed) (size_of m) c refl
             (record {
               verdict = refl;
               circuit = refl;
-              defeats = part_does Environment p there.of m logs found small c made.of_machine;
-              machine = some_defeats k.laws the_text formula says p (size_of m) m (side_known Environment p there.of) found.accepted;
-              runs = made.of_machine.every Environment;
-              states = has_its_states Environment p there.of m logs found small v c there.holds.closed made.of_machine;
-              smaller = λ n some less. can_be_beaten v (Some c) logs n (log_below Environment p there.of m logs found small v (Some c) (IsClosedLog given settings.entries) closed n some less)
-                  (fits_below Environment p there.of m logs found small n some less);
+              defeats = part_does Environment p of m logs kept c made;
+              machine = some_defeats k.laws the_text formula says p (size_of m) m (side_known Environment p of) kept.found.accepted;
+              runs = made.every Environment;
+              states = has_its_states Environment p of m logs kept v c none made;
+              smaller = λ n some less. can_be_beaten v (Some c) logs n (log_below Environment p of m logs kept v (Some c) (IsClosedLog given settings.entries) closed n some less)
+                  (fits_below Environment p of m logs kept n some less);
             });
         told = refl {a = Some v};
       }
 
-  pub bounded : (side : Side) (m : MachineModel) (logs : List SizeLog) (bytes : List ℕ) → OfSide s.system s.environment (λ p. outcomes.IsBounded p settings m logs) side
-      → (outcomes.CannotFill s.system s.environment settings → ⊥)
-      → IsMachineText x settings side (Bounded side (size_of m)) m logs bytes → IsToldOn ground settings bytes 11 (Some (Bounded side (size_of m)))
-  bounded side m logs bytes least can_fill made =
-      let there = find s.system s.environment side (λ p. outcomes.IsBounded p settings m logs) least in
-      let p = there.problem in
-      let found = there.holds.found in
-      let small = there.holds.smaller in
-      let v = Bounded side (size_of m) in
-      let c = made.circuit in
-      let ended = all_ended side p there.of m logs found small there.holds.decided (Some c) in
-      let full = any_full side p there.of m logs found small there.holds.full (Some c) in
-      let tells : TellsMachine v side (size_of m) = record {
-        version = refl;
-        has_place = refl;
-        max = in_max side p there.of m logs found small;
-        found = refl;
-        order = refl;
-        machine = refl;
-        named = refl;
-        places = refl;
-      } in
-      let is_printed = machine_printed side p there.of m logs found small v bytes tells made (ended, full) in
+  pub with_bounded : (side : Side) (p : Problem) (of : IsOf s.system s.environment side p) (m : MachineModel) (logs : List SizeLog) (kept : IsFoundWith p settings m logs) (c : Circuit) (bytes : List ℕ)
+      → IsCircuitFor x side m c → (q : Place) → check.first_open (map part_of logs) ≡ Some q → (CannotFill s.system s.environment settings → ⊥)
+      → IsPrinted given settings bytes (doc (Machine side (size_of m) false) (Some c) logs) → IsToldOn ground settings bytes 11 (Some (Machine side (size_of m) false))
+  with_bounded side p of m logs kept c bytes made q first can_fill is_printed =
+      let v = Machine side (size_of m) false in
+      let ended = all_ended side p of m logs kept (Some c) in
+      let full = first_is given settings.entries (lined (Some c) logs) q (first_lined side p of m logs kept (Some c) (Some q) first) ended in
       record {
         answers = answer.bounded (printed_text v (Some c) logs bytes is_printed) side (size_of m) c refl
             (record {
               verdict = refl;
               circuit = refl;
-              does = part_does side p there.of m logs found small c made.of_machine;
-              runs = made.of_machine.every side;
-              count = made.of_machine.states.some.0;
-              few = made.of_machine.states.some.1;
-              states = made.of_machine.states.some.2;
-              smaller = log_below side p there.of m logs found small v (Some c) (IsEndedLog given settings.entries) ended;
-              full = full;
+              does = part_does side p of m logs kept c made;
+              runs = made.every side;
+              count = made.states.some.0;
+              few = made.states.some.1;
+              states = made.states.some.2;
+              smaller = log_below side p of m logs kept v (Some c) (IsEndedLog given settings.entries) ended;
+              full = any_full given settings.entries (lined (Some c) logs) q full;
               can_fill = can_fill;
             });
         told = refl;
       }
 
+  -- what is told of a machine, by whether a log is open
+  with_machine : (side : Side) (p : Problem) (of : IsOf s.system s.environment side p) (m : MachineModel) (logs : List SizeLog) (kept : IsFoundWith p settings m logs) (c : Circuit) (bytes : List ℕ)
+      → IsCircuitFor x side m c → (o : Option Place) → check.first_open (map part_of logs) ≡ o → (CannotFill s.system s.environment settings → o ≡ None)
+      → IsPrinted given settings bytes (doc (verdict_of (Some (place side (size_of m))) o) (Some c) logs)
+      → IsToldOn ground settings bytes (status_number (verdict_status (verdict_of (Some (place side (size_of m))) o))) (Some (verdict_of (Some (place side (size_of m))) o))
+  with_machine side p of m logs kept c bytes made None first fills is_printed = with_least side p of m logs kept c bytes made first is_printed
+  with_machine side p of m logs kept c bytes made (Some q) first fills is_printed =
+      with_bounded side p of m logs kept c bytes made q first (λ cannot. none-some q (sym (fills cannot))) is_printed
+
   -- == documents without a machine ==
 
-  side_most : (side : Side) → sizes_of given settings.max side ≤ settings.max
-  side_most System = (k.laws.sizes.allowed s.system settings.max).within
-  side_most Environment = by_problem s.environment
-    where
-      by_problem : (o : Option Problem) → allowed_of settings.max o ≤ settings.max
-      by_problem None = omega arith
-      by_problem (Some p) = (k.laws.sizes.allowed p settings.max).within
-
-  module _ (logs : List SizeLog) (all : AreAllLogs s.system s.environment settings logs) where
-    parts_of_all : map place_of (map part_of logs) ≡ places_to System (sizes_of given settings.max System) ++ places_to Environment (sizes_of given settings.max Environment)
+  module _ (logs : List SizeLog) (all : AreAllSettled s.system s.environment settings logs) where
+    parts_of_all : map place_of (map part_of logs) ≡ sizes_to System (sizes_of given settings.max System) ++ sizes_to Environment (sizes_of given settings.max Environment)
     parts_of_all = parts_at_both System Environment (sizes_of given settings.max System) (sizes_of given settings.max Environment) logs all.places
 
-    claims_fit : (side : Side) → All (λ claim. FitsSize given settings.max claim.side claim.size) (sizes_to side (sizes_of given settings.max side))
+    claims_fit : (side : Side) → All (λ claim. FitsSize given settings.max claim.side claim.size) (engine.sizes_to side (sizes_of given settings.max side))
     claims_fit side =
         all_map (IsClaimTo side (sizes_of given settings.max side)) (λ claim. FitsSize given settings.max claim.side claim.size)
-        (fits_claim side (sizes_of given settings.max side) (omega arith)) (sizes_to side (sizes_of given settings.max side)) (claims_to side (sizes_of given settings.max side))
+        (fits_claim side (sizes_of given settings.max side) (omega arith)) (engine.sizes_to side (sizes_of given settings.max side)) (claims_to side (sizes_of given settings.max side))
 
     all_logs_fit : All (λ l. FitsSize given settings.max l.side l.size) logs
     all_logs_fit =
         unmap engine.place_of (λ claim. FitsSize given settings.max claim.side claim.size) logs
         (All-same (λ claim. FitsSize given settings.max claim.side claim.size) (map engine.place_of logs)
-        (sizes_to System (sizes_of given settings.max System) ++ sizes_to Environment (sizes_of given settings.max Environment)) all.places
-        (All-append (λ claim. FitsSize given settings.max claim.side claim.size) (sizes_to System (sizes_of given settings.max System))
-        (sizes_to Environment (sizes_of given settings.max Environment)) (claims_fit System) (claims_fit Environment)))
+        (engine.sizes_to System (sizes_of given settings.max System) ++ engine.sizes_to Environment (sizes_of given settings.max Environment)) all.places
+        (All-append (λ claim. FitsSize given settings.max claim.side claim.size) (engine.sizes_to System (sizes_of given settings.max System))
+        (engine.sizes_to Environment (sizes_of given settings.max Environment)) (claims_fit System) (claims_fit Environment)))
 
-    -- a verdict that tells no machine
-    record TellsNone (v : Verdict) : Type 0 where
-      pub version : IsTrue (fits_version 3 v)
-      pub has_place : IsTrue (has_its_place false v)
-      pub max : IsTrue (fits_max settings.max v)
-      pub found : IsFoundNumber (may_tell_found 3 v) settings.max 0
-      pub order : order_of 3 v settings.max 0 ≡ AnyUpTo settings.max
-      pub machine : machine_of v ≡ None
-      pub number : IfSome (named_of v) (λ q. q.size ≤ sizes_of given settings.max q.side)
-      pub places : wanted_places given settings.max v ≡ places_to System (sizes_of given settings.max System) ++ places_to Environment (sizes_of given settings.max Environment)
+    all_ended_lines : All (IsEndedLog given settings.entries) (lined None logs)
+    all_ended_lines = ended_lines None logs all.each
 
-    none_suits : (v : Verdict) → TellsNone v → AreAsWanted given settings.entries (lined None logs) v → Suits v None logs
-    none_suits v tells wanted = record {
-      version = tells.version;
-      has_place = tells.has_place;
+    lined_first : (o : Option Place) → check.first_open (map part_of logs) ≡ o → check.first_open (lined None logs) ≡ o
+    lined_first o is = open_at (first_line None) (map part_of logs) ∙ is
+
+    -- the first log that isn't closed is of an allowed size
+    open_fits : (o : Option Place) → check.first_open (map part_of logs) ≡ o → IfSome o (λ q. FitsSize given settings.max q.side q.size)
+    open_fits None is = tt
+    open_fits (Some q) is =
+        at_first given settings.entries (λ q. FitsSize given settings.max q.side q.size) (lined None logs) q
+        (first_is given settings.entries (lined None logs) q (lined_first (Some q) is) all_ended_lines)
+        (all_map (IsAllowedLog given settings.max) (λ l. FitsSize given settings.max l.side l.size) (λ l h. record { some = h.0; most = h.1 }) (lined None logs) (allowed_lines None logs all_logs_fit))
+
+    none_suits : Suits (Unknown (check.first_open (map part_of logs))) None logs
+    none_suits = record {
+      has_place = refl;
       all_names = tt;
-      max = tells.max;
-      found = tells.found;
-      order = subst (λ o. AreInOrder o (start_of o) (map part_of logs)) (sym tells.order)
-          (in_order_all settings.max (sizes_of given settings.max System) (sizes_of given settings.max Environment) (map part_of logs) parts_of_all (side_most System) (side_most Environment));
-      names = subst (λ o. IfSome o (λ q. Unit {0})) (sym tells.machine) tt;
-      number = tells.number;
-      places = parts_of_all ∙ sym tells.places;
+      in_order = in_order_all settings.max (sizes_of given settings.max System) (sizes_of given settings.max Environment) (map part_of logs) parts_of_all (side_most System) (side_most Environment);
+      names = tt;
+      named = open_fits (check.first_open (map part_of logs)) refl;
+      places = parts_of_all;
       here = all.each;
       fits = all_logs_fit;
-      wanted = wanted;
+      told = refl;
     }
-
-    none_printed : (v : Verdict) (bytes : List ℕ) → TellsNone v → IsTextOf x.kind settings v None logs bytes → AreAsWanted given settings.entries (lined None logs) v
-        → IsPrinted given settings bytes (doc v None logs)
-    none_printed v bytes tells made wanted = printed v None logs bytes (none_suits v tells wanted) tt made
 
     log_of : (v : Verdict) (side : Side) (P : LogPart → Type 0) → All P (lined None logs) → (n : ℕ) → 0 < n → n ≤ sizes_of given settings.max side → HasLog (doc v None logs) side n P
     log_of v side P holds n some most =
         has_log v None logs side n P (subst (λ ps. Contains ps (place side n)) (sym parts_of_all) (on_its_side side n some most)) holds
       where
         on_its_side : (side : Side) (n : ℕ) → 0 < n → n ≤ sizes_of given settings.max side
-            → Contains (places_to System (sizes_of given settings.max System) ++ places_to Environment (sizes_of given settings.max Environment)) (place side n)
+            → Contains (sizes_to System (sizes_of given settings.max System) ++ sizes_to Environment (sizes_of given settings.max Environment)) (place side n)
         on_its_side System n some most =
-            Contains-append_left (places_to System (sizes_of given settings.max System)) (places_to Environment (sizes_of given settings.max Environment)) (place System n)
+            Contains-append_left (sizes_to System (sizes_of given settings.max System)) (sizes_to Environment (sizes_of given settings.max Environment)) (place System n)
             (has_place System (sizes_of given settings.max System) n some most)
         on_its_side Environment n some most =
-            Contains-append_right (places_to System (sizes_of given settings.max System)) (places_to Environment (sizes_of given settings.max Environment)) (place Environment n)
+            Contains-append_right (sizes_to System (sizes_of given settings.max System)) (sizes_to Environment (sizes_of given settings.max Environment)) (place Environment n)
             (has_place Environment (sizes_of given settings.max Environment) n some most)
 
-    closed_lines : All (λ l. OfSide s.system s.environment (λ p. engine.IsClosedLog p settings l) l.side) logs → All (IsClosedLog given settings.entries) (lined None logs)
-    closed_lines closed =
-        all_parts_at (IsClosedLog given settings.entries) (λ l n h. h) (first_line None) logs
-        (all_both IsHere (λ l. OfSide s.system s.environment (λ q. engine.IsClosedLog q settings l) l.side) (λ l. IsClosedLog given settings.entries (part_of l)) closed_part logs all.each closed)
-
-    ended_lines : All (λ l. OfSide s.system s.environment (λ p. engine.IsClosedLog p settings l) l.side ⊎ OfSide s.system s.environment (λ p. engine.IsFullLog p settings l) l.side) logs
-        → All (IsEndedLog given settings.entries) (lined None logs)
-    ended_lines ended =
-        all_parts_at (IsEndedLog given settings.entries) (λ l n h. h) (first_line None) logs
-        (all_both IsHere (λ l. OfSide s.system s.environment (λ p. engine.IsClosedLog p settings l) l.side ⊎ OfSide s.system s.environment (λ p. engine.IsFullLog p settings l) l.side)
-        (λ l. IsEndedLog given settings.entries (part_of l)) ended_part logs all.each ended)
-
-  pub no_size : (logs : List SizeLog) (bytes : List ℕ) → outcomes.HasNoSize s.system s.environment settings logs
-      → IsTextOf x.kind settings UnknownSizes None logs bytes → IsToldOn ground settings bytes 30 (Some UnknownSizes)
-  no_size logs bytes none made =
-      let closed = closed_lines logs none.all none.closed in
-      let tells : TellsNone logs none.all UnknownSizes = record {
-        version = refl;
-        has_place = refl;
-        max = refl;
-        found = refl;
-        order = refl;
-        machine = refl;
-        number = tt;
-        places = refl;
-      } in
-      let is_printed = none_printed logs none.all UnknownSizes bytes tells made closed in
+  pub no_size : (logs : List SizeLog) (all : AreAllSettled s.system s.environment settings logs) (bytes : List ℕ) → check.first_open (map part_of logs) ≡ None
+      → IsPrinted given settings bytes (doc (Unknown None) None logs) → IsToldOn ground settings bytes 30 (Some (Unknown None))
+  no_size logs all bytes none is_printed =
+      let v = Unknown None in
+      let closed = all_closed given settings.entries (lined None logs) (lined_first logs all None none) (all_ended_lines logs all) in
       record {
-        answers = answer.no_size (printed_text UnknownSizes None logs bytes is_printed) refl
+        answers = answer.no_size (printed_text v None logs bytes is_printed) refl
             (record {
               verdict = refl;
-              system = λ n some most. is_refuted UnknownSizes None logs n (log_of logs none.all UnknownSizes System (IsClosedLog given settings.entries) closed n some most)
-                  (record { some = some; most = most });
-              environment = λ n some most. can_be_beaten UnknownSizes None logs n (log_of logs none.all UnknownSizes Environment (IsClosedLog given settings.entries) closed n some most)
-                  (record { some = some; most = most });
+              system = λ n some most. is_refuted v None logs n (log_of logs all v System (IsClosedLog given settings.entries) closed n some most) (record { some = some; most = most });
+              environment = λ n some most. can_be_beaten v None logs n (log_of logs all v Environment (IsClosedLog given settings.entries) closed n some most) (record { some = some; most = most });
             });
         told = refl;
       }
 
-  -- the log that the search names is the first of the document that isn't closed
-  first_open : (side : Side) (size : ℕ) (logs : List SizeLog) → outcomes.HasNoEntries s.system s.environment settings side size logs
-      → IsFirstOpen given settings.entries (place side size) (lined None logs)
-  first_open side size logs none =
-      let split = split_at (first_line None) none.before none.named none.after in
-      let each = All-same IsHere (none.before ++ none.named ∷ none.after) logs (sym none.split) none.all.each in
-      let here = All-head IsHere none.named none.after (all_back IsHere none.before (none.named ∷ none.after) each) in
+  pub no_entries : (logs : List SizeLog) (all : AreAllSettled s.system s.environment settings logs) (bytes : List ℕ) (q : Place) → check.first_open (map part_of logs) ≡ Some q
+      → (CannotFill s.system s.environment settings → ⊥) → IsPrinted given settings bytes (doc (Unknown (Some q)) None logs) → IsToldOn ground settings bytes 30 (Some (Unknown (Some q)))
+  no_entries logs all bytes q first can_fill is_printed =
+      let v = Unknown (Some q) in
+      let ended = all_ended_lines logs all in
       record {
-        before = lined None none.before;
-        named = record (part_of none.named) { line = split.place };
-        after = logs_at split.later (map part_of none.after);
-        split = ap (lined None) none.split ∙ split.split;
-        is_at = ap (λ claim. place claim.side claim.size) none.is_at;
-        full = full_part none.named here none.full;
-        first = all_parts_at (IsClosedLog given settings.entries) (λ l n h. h) (first_line None) none.before
-            (all_both IsHere (λ l. OfSide s.system s.environment (λ q. engine.IsClosedLog q settings l) l.side) (λ l. IsClosedLog given settings.entries (part_of l)) closed_part
-            none.before (all_front IsHere none.before (none.named ∷ none.after) each) none.first);
-      }
-
-  named_at : (side : Side) (size : ℕ) (logs : List SizeLog) → outcomes.HasNoEntries s.system s.environment settings side size logs → FitsSize given settings.max side size
-  named_at side size logs none =
-      let fits = All-same (λ l. FitsSize given settings.max l.side l.size) (none.before ++ none.named ∷ none.after) logs (sym none.split) (all_logs_fit logs none.all) in
-      let one = All-head (λ l. FitsSize given settings.max l.side l.size) none.named none.after
-      (all_back (λ l. FitsSize given settings.max l.side l.size) none.before (none.named ∷ none.after) fits) in
-      subst (λ claim. FitsSize given settings.max claim.side claim.size) none.is_at one
-
-  named_fits : (side : Side) (size : ℕ) → FitsSize given settings.max side size → IsTrue (is_in_range 1 settings.max size)
-  named_fits side size at =
-      let some = at.some in
-      let most = at.most in
-      let all = side_most side in
-      in_range 1 settings.max size (omega (arith, some)) (omega (arith, most, all))
-
-  pub no_entries : (side : Side) (size : ℕ) (logs : List SizeLog) (bytes : List ℕ) → outcomes.HasNoEntries s.system s.environment settings side size logs
-      → (outcomes.CannotFill s.system s.environment settings → ⊥)
-      → IsTextOf x.kind settings (UnknownEntries side size) None logs bytes → IsToldOn ground settings bytes 30 (Some (UnknownEntries side size))
-  no_entries side size logs bytes none can_fill made =
-      let v = UnknownEntries side size in
-      let ended = ended_lines logs none.all none.decided in
-      let named = first_open side size logs none in
-      let tells : TellsNone logs none.all v = record {
-        version = refl;
-        has_place = refl;
-        max = named_fits side size (named_at side size logs none);
-        found = refl;
-        order = refl;
-        machine = refl;
-        number = (named_at side size logs none).most;
-        places = refl;
-      } in
-      let is_printed = none_printed logs none.all v bytes tells made (ended, named) in
-      record {
-        answers = answer.no_entries (printed_text v None logs bytes is_printed) side size refl
+        answers = answer.no_entries (printed_text v None logs bytes is_printed) q.side q.size refl
             (record {
               verdict = refl;
-              named = named;
-              system = log_of logs none.all v System (IsEndedLog given settings.entries) ended;
-              environment = log_of logs none.all v Environment (IsEndedLog given settings.entries) ended;
+              named = first_is given settings.entries (lined None logs) q (lined_first logs all (Some q) first) ended;
+              system = log_of logs all v System (IsEndedLog given settings.entries) ended;
+              environment = log_of logs all v Environment (IsEndedLog given settings.entries) ended;
               can_fill = can_fill;
             });
         told = refl;
       }
 
+  without_machine : (logs : List SizeLog) (all : AreAllSettled s.system s.environment settings logs) (bytes : List ℕ) (o : Option Place) → check.first_open (map part_of logs) ≡ o
+      → (CannotFill s.system s.environment settings → o ≡ None) → IsPrinted given settings bytes (doc (Unknown o) None logs) → IsToldOn ground settings bytes 30 (Some (Unknown o))
+  without_machine logs all bytes None first fills is_printed = no_size logs all bytes first is_printed
+  without_machine logs all bytes (Some q) first fills is_printed = no_entries logs all bytes q first (λ cannot. none-some q (sym (fills cannot))) is_printed
+
   -- == the whole ==
+
+  -- where no log can be full none is open
+  none_when : (logs : List SizeLog) → (CannotFill s.system s.environment settings → All (λ l. is_ended l.log.entries ≡ true) logs)
+      → CannotFill s.system s.environment settings → check.first_open (map part_of logs) ≡ None
+  none_when logs decisive cannot = none_open (map part_of logs) (All-map (λ l. is_ended l.entries ≡ true) part_of logs (decisive cannot))
+
+  by_found : (found : Option Found) (logs : List SizeLog) (c : Option Circuit) (bytes : List ℕ) → GoesWith s.system s.environment settings logs found → IsCircuitOfFound x found c
+      → (CannotFill s.system s.environment settings → check.first_open (map part_of logs) ≡ None) → All IsShort logs
+      → StatesIfGood bytes (before_lines (verdict_of (found_at found) (check.first_open (map part_of logs))) c logs)
+      → IsToldOn ground settings bytes (status_number (verdict_status (verdict_of (found_at found) (check.first_open (map part_of logs))))) (Some (verdict_of (found_at found) (check.first_open (map part_of logs))))
+  by_found None logs None bytes all same fills short stated =
+      without_machine logs all bytes (check.first_open (map part_of logs)) refl fills
+      (printed (Unknown (check.first_open (map part_of logs))) None logs bytes (none_suits logs all) tt short stated)
+  by_found None logs (Some c) bytes all same fills short stated = absurd (none-some c (sym same))
+  by_found (Some f) logs None bytes goes made fills short stated = absurd made
+  by_found (Some f) logs (Some c) bytes goes made fills short stated =
+      let there = find s.system s.environment f.side (λ p. IsFoundWith p settings f.machine logs) goes in
+      with_machine f.side there.problem there.of f.machine logs there.holds c bytes made (check.first_open (map part_of logs)) refl fills
+      (machine_printed f.side there.problem there.of f.machine logs there.holds c bytes made short stated)
 
   pub told : (bytes : List ℕ) (ended : Status) (said : Verdict) → IsSearchedReply x s settings bytes ended said → IsToldOn ground settings bytes (status_number ended) (Some said)
   told bytes ended said r =
-      subst (λ v. IsToldOn ground settings bytes (status_number ended) (Some v)) r.told (by_outcome r.outcome r.real r.unreal r.bounded r.no_size r.no_entries r.decisive r.reply)
-    where
-      at_status : (n : ℕ) (told : Status) (v : Verdict) → ended ≡ told → status_number told ≡ n → IsToldOn ground settings bytes n (Some v) → IsToldOn ground settings bytes (status_number ended) (Some v)
-      at_status n told v is number a = subst (λ m. IsToldOn ground settings bytes m (Some v)) (sym (ap status_number is ∙ number)) a
-
-      by_outcome : (o : Outcome) → outcomes.OnReal (outcomes.IsSmallest s.system settings) o
-          → outcomes.OnUnreal (λ m logs. OfSide s.system s.environment (λ p. outcomes.IsSmallest p settings m logs) Environment) o
-          → outcomes.OnBounded (λ side m logs. OfSide s.system s.environment (λ p. outcomes.IsBounded p settings m logs) side) o
-          → outcomes.OnNoSize (outcomes.HasNoSize s.system s.environment settings) o
-          → outcomes.OnNoEntries (outcomes.HasNoEntries s.system s.environment settings) o
-          → (outcomes.CannotFill s.system s.environment settings → outcomes.IsDecisive o)
-          → IsReplyTo x settings o bytes ended → IsToldOn ground settings bytes (status_number ended) (Some (outcome_verdict o))
-      by_outcome (outcome.Real m logs) a b c d e decisive reply = at_status 10 status.Realizable (Realizable (size_of m)) reply.0 refl (real m logs.items bytes a reply.1)
-      by_outcome (outcome.Unreal m logs) a b c d e decisive reply = at_status 20 status.Unrealizable (Unrealizable (size_of m)) reply.0 refl (unreal m logs.items bytes b reply.1)
-      by_outcome (outcome.Bounded side m logs) a b c d e decisive reply = at_status 11 status.Bounded (Bounded side (size_of m)) reply.0 refl (bounded side m logs.items bytes c decisive reply.1)
-      by_outcome (outcome.NoSize logs) a b c d e decisive reply = at_status 30 status.Unknown UnknownSizes reply.0 refl (no_size logs.items bytes d reply.1)
-      by_outcome (outcome.NoEntries side size logs) a b c d e decisive reply = at_status 30 status.Unknown (UnknownEntries side size) reply.0 refl (no_entries side size logs.items bytes e decisive reply.1)
+      let o = r.outcome in
+      let reply = r.reply in
+      let stated : StatesIfGood bytes (before_lines (outcome_verdict o) reply.circuit o.logs.items) = subst (λ v. StatesIfGood bytes (before_lines v reply.circuit o.logs.items)) reply.said_is reply.stated in
+      let here : IsToldOn ground settings bytes (status_number (verdict_status (outcome_verdict o))) (Some (outcome_verdict o))
+      = by_found o.found o.logs.items reply.circuit bytes r.is_outcome.goes reply.of_found (none_when o.logs.items r.is_outcome.decisive) reply.short stated in
+      subst (λ t. IsToldOn ground settings bytes (status_number t) (Some said)) (sym reply.ended_is)
+      (subst (λ v. IsToldOn ground settings bytes (status_number (verdict_status v)) (Some v)) (sym reply.said_is) here)

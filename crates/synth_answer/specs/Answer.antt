@@ -1,5 +1,6 @@
 -- The answers of `synth`, each with its status (this project's own).
 use Rattle.std.specs.Prelude.{◌≡◌, ℕ, ◌<◌, ◌≤◌, Bool, true, false, List, Option, Some, None, Any, Contains}
+use Rattle.std.specs.Option.{option_map_or}
 use Rattle.letter_word.specs.declared.kinds.Kind.{Kind}
 use Rattle.letter_word.specs.declared.kinds.Side.{Side}
 use Rattle.letter_word.specs.declared.kinds.Side.TheVariants.{System, Environment}
@@ -12,12 +13,13 @@ use Rattle.satisfaction.specs.Satisfaction.{CircuitDefeats, CircuitSatisfies, De
 use Rattle.synth_engine.specs.declared.settings.Settings.{Settings}
 use Rattle.synth_engine.specs.Outcomes.{CannotFill}
 use Rattle.cert_text.specs.declared.documents.Verdict.{Verdict}
-use Rattle.cert_text.specs.declared.documents.Verdict.TheVariants.{Realizable, Unrealizable, Bounded, UnknownSizes, UnknownEntries}
-use Rattle.cert_text.specs.Order.{place}
+use Rattle.cert_text.specs.declared.documents.Verdict.TheVariants.{Machine, Unknown}
+use Rattle.cert_text.specs.declared.order.Place.{Place}
+use Rattle.cert_text.specs.Order.{machine_of, place, place_of}
 use Rattle.document_check.specs.Facts.{Facts}
 use Rattle.cert_text.specs.Parts.{Document, LogPart}
 use Rattle.program_replies.specs.Lines.{refusal_line}
-use Rattle.synth_answer.specs.Holds.{IsClosedLog, IsEndedLog, IsFirstOpen, IsFullLog, place_of, sizes_of}
+use Rattle.synth_answer.specs.Holds.{IsClosedLog, IsEndedLog, IsFirstOpen, IsFullLog, sizes_of}
 use Rattle.text_ground.specs.Ground.{Ground, IsGroundOf, facts_on}
 use Rattle.synth_answer.specs.Printed.{PrintedFor}
 
@@ -63,7 +65,7 @@ pub record SomeDefeats (x : Wanted) (n : ℕ) : Type 0 where
 
 -- a circuit of exactly n states that satisfies, as a machine of n states does, and no machine of fewer states does
 pub record IsRealizable (x : Wanted) (given : Facts) (d : Document) (n : ℕ) (c : Circuit) : Type 0 where
-  pub verdict : d.verdict ≡ Realizable n
+  pub verdict : d.verdict ≡ Machine System n true
   pub circuit : d.circuit ≡ Some c
   pub satisfies : CircuitSatisfies x c
   pub machine : SomeSatisfies x n
@@ -74,7 +76,7 @@ pub record IsRealizable (x : Wanted) (given : Facts) (d : Document) (n : ℕ) (c
 -- a circuit of the environment of exactly n states that defeats every machine, as a machine of n states does, and no machine of fewer
 -- states does
 pub record IsUnrealizable (x : Wanted) (given : Facts) (d : Document) (n : ℕ) (c : Circuit) : Type 0 where
-  pub verdict : d.verdict ≡ Unrealizable n
+  pub verdict : d.verdict ≡ Machine Environment n true
   pub circuit : d.circuit ≡ Some c
   pub defeats : CircuitDefeats x c
   pub machine : SomeDefeats x n
@@ -84,7 +86,7 @@ pub record IsUnrealizable (x : Wanted) (given : Facts) (d : Document) (n : ℕ) 
 
 -- a circuit of a side of at most n states, and not all smaller sizes are refuted: a log is full, which the limit allows
 pub record IsBounded (x : Wanted) (given : Facts) (settings : Settings) (d : Document) (side : Side) (n : ℕ) (c : Circuit) : Type 0 where
-  pub verdict : d.verdict ≡ Bounded side n
+  pub verdict : d.verdict ≡ Machine side n false
   pub circuit : d.circuit ≡ Some c
   pub does : DoesItsPart x side c
   pub runs : RunsOnEveryInput side c
@@ -97,13 +99,13 @@ pub record IsBounded (x : Wanted) (given : Facts) (settings : Settings) (d : Doc
 
 -- no machine of an allowed size of either side
 pub record HasNoSize (x : Wanted) (given : Facts) (d : Document) : Type 0 where
-  pub verdict : d.verdict ≡ UnknownSizes
+  pub verdict : d.verdict ≡ Unknown None
   pub system : (k : ℕ) → 0 < k → k ≤ sizes_of given d.max System → IsRefuted x given d k
   pub environment : (k : ℕ) → 0 < k → k ≤ sizes_of given d.max Environment → CanBeBeaten x given d k
 
 -- no machine was found, and the named log is full, and the first that isn't closed, which the limit allows
 pub record HasNoEntries (given : Facts) (settings : Settings) (d : Document) (side : Side) (n : ℕ) : Type 0 where
-  pub verdict : d.verdict ≡ UnknownEntries side n
+  pub verdict : d.verdict ≡ Unknown (Some (place side n))
   pub named : IsFirstOpen given d.entries (place side n) d.logs
   pub system : (k : ℕ) → 0 < k → k ≤ sizes_of given d.max System → HasLog d System k (IsEndedLog given d.entries)
   pub environment : (k : ℕ) → 0 < k → k ≤ sizes_of given d.max Environment → HasLog d Environment k (IsEndedLog given d.entries)
@@ -143,11 +145,7 @@ is_environment Environment = true
 
 -- whether a document of this verdict has a counter-machine
 abbrev pub verdict_defeats : Verdict → Bool
-verdict_defeats (Realizable n) = false
-verdict_defeats (Unrealizable n) = true
-verdict_defeats (Bounded side n) = is_environment side
-verdict_defeats UnknownSizes = false
-verdict_defeats (UnknownEntries side n) = false
+verdict_defeats verdict = option_map_or (λ (machine : Place). is_environment machine.side) (machine_of verdict) false
 
 -- whether there is a document, and it has one
 abbrev pub told_defeats : Option Verdict → Bool
@@ -158,11 +156,11 @@ told_defeats (Some verdict) = verdict_defeats verdict
 abbrev pub verdict_of : {IsFault : SpecCode → ℕ → Type 0} {IsGround : Option Kind → Ground → Type 0} {kind : Option Kind} {settings : Settings}
     {bytes : List ℕ} {status : ℕ} → AnswersFor IsFault IsGround kind settings bytes status → Option Verdict
 verdict_of (refused code position is fault line) = None
-verdict_of (realizable p n c is holds) = Some (Realizable n)
-verdict_of (unrealizable p n c is holds) = Some (Unrealizable n)
-verdict_of (bounded p side n c is holds) = Some (Bounded side n)
-verdict_of (no_size p is holds) = Some UnknownSizes
-verdict_of (no_entries p side n is holds) = Some (UnknownEntries side n)
+verdict_of (realizable p n c is holds) = Some (Machine System n true)
+verdict_of (unrealizable p n c is holds) = Some (Machine Environment n true)
+verdict_of (bounded p side n c is holds) = Some (Machine side n false)
+verdict_of (no_size p is holds) = Some (Unknown None)
+verdict_of (no_entries p side n is holds) = Some (Unknown (Some (place side n)))
 
 -- an answer defeats where its document has a counter-machine
 abbrev pub defeats : {IsFault : SpecCode → ℕ → Type 0} {IsGround : Option Kind → Ground → Type 0} {kind : Option Kind} {settings : Settings}

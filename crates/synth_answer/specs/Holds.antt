@@ -10,7 +10,7 @@ use Rattle.annotation_encode.specs.declared.counts.Counts.TheVariants.{Whole, Lo
 use Rattle.annotation_encode.specs.Variables.{variables_of}
 use Rattle.refutation_log.specs.Log.{IsClosed, IsFull}
 use Rattle.cert_text.specs.declared.order.Place.{Place}
-use Rattle.cert_text.specs.Order.{place}
+use Rattle.cert_text.specs.Order.{place_of}
 use Rattle.cert_text.specs.Parts.{LogPart}
 use Rattle.document_check.specs.Facts.{Facts}
 use Rattle.synth_engine.specs.Searched.{allowed_of}
@@ -43,9 +43,6 @@ written_by System inputs outputs = outputs
 written_by Environment inputs outputs = inputs
 
 -- == the logs ==
-
-abbrev pub place_of : LogPart → Place
-place_of l = place l.side l.size
 
 -- the log is closed over the problem's base clauses, or full
 abbrev pub IsClosedFor : Option ℕ → Problem → LogPart → Type 0

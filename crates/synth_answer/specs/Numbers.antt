@@ -1,12 +1,14 @@
 -- That what an answer says of machines doesn't depend on how its search was bounded (this project's own).
 use Rattle.std.specs.Prelude.{◌≡◌, ◌⊎◌, ◌<◌, ℕ, List, Option}
+use Rattle.std.specs.Option.{option_map_or}
 use Rattle.letter_word.specs.declared.kinds.Kind.{Kind}
 use Rattle.tlsf_syntax.specs.Text.{Text}
 use Rattle.tlsf_reader.specs.Reads.{Reads}
 use Rattle.tlsf_expand.specs.Expansion.{kind_of}
 use Rattle.synth_engine.specs.declared.settings.Settings.{Settings}
 use Rattle.cert_text.specs.declared.documents.Verdict.{Verdict}
-use Rattle.cert_text.specs.declared.documents.Verdict.TheVariants.{Realizable, Unrealizable, Bounded, UnknownSizes, UnknownEntries}
+use Rattle.cert_text.specs.declared.order.Place.{Place}
+use Rattle.cert_text.specs.Order.{machine_of}
 use Rattle.cert_text.specs.Parts.{Document}
 use Rattle.cert_text.specs.States.{States}
 use Rattle.satisfaction.specs.Wanted.{Wanted}
@@ -16,11 +18,7 @@ use Rattle.synth_answer.specs.Answer.{Answers}
 
 -- the number of states that a verdict tells, and 0 where it tells none
 abbrev pub told_number : Verdict → ℕ
-told_number (Realizable n) = n
-told_number (Unrealizable n) = n
-told_number (Bounded side n) = n
-told_number UnknownSizes = 0
-told_number (UnknownEntries side n) = 0
+told_number verdict = option_map_or (λ (machine : Place). machine.size) (machine_of verdict) 0
 
 -- both ask for machines of one kind: the given one, else the one that the text names
 abbrev pub AskAlike : List ℕ → Option Kind → Option Kind → Type 0

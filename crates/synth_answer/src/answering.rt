@@ -9,7 +9,7 @@ ghost use Rattle.program_replies.specs.Statuses.{status_number};
 ghost use Rattle.tlsf_expand.specs.FlatText.{spec_seen};
 ghost use Rattle.synth_answer.specs.Answer.{Answers, IsAnswerOn, IsTold, IsToldOn, is_environment, verdict_defeats};
 ghost use Rattle.text_ground.specs.Ground.{AreGivenOn, ground_with};
-ghost use Rattle.synth_answer.specs.Reply.{IsSearchedReply, outcome_verdict};
+ghost use Rattle.synth_answer.specs.Reply.{IsSearchedReply};
 ghost use Rattle.text_ground.specs.Problems.{AreProblemsFor};
 
 use crate::facts::laws_hold;
@@ -23,7 +23,7 @@ use spec_problems::{SideProblems, TextProblems};
 use std::alloc::{AllocError, Global};
 use std::sync::Wait;
 use std::thread::Threads;
-use synth_engine::{Outcome, Settings, search};
+use synth_engine::{Settings, search};
 use text_ground::{Problems, automata_are_kept, problems_or_refusal};
 use tlsf_expand::Spec;
 
@@ -162,32 +162,17 @@ fn searched<R: Threads + Wait + Sync, G: Gate + Sync>(
         environment,
     } = problems;
     let outcome = search(rt, alloc, system, environment, settings, gate)?;
-    let verdict = outcome_verdict(&outcome);
-    let reply = reply_to(alloc, spec, settings, outcome)?;
-    Ok((reply, verdict))
-}
-
-/// What is said of an outcome.
-fn outcome_verdict(outcome: &Outcome) -> Verdict
-    ensures { result ≡ outcome_verdict outcome.now }
-{
-    match outcome {
-        Outcome::Real { machine, .. } => Verdict::Realizable(machine.size()),
-        Outcome::Unreal { machine, .. } => Verdict::Unrealizable(machine.size()),
-        Outcome::Bounded { side, machine, .. } => Verdict::Bounded(*side, machine.size()),
-        Outcome::NoSize { .. } => Verdict::UnknownSizes,
-        Outcome::NoEntries { side, size, .. } => Verdict::UnknownEntries(*side, *size),
-    }
+    let answered = reply_to(alloc, spec, settings, outcome)?;
+    Ok(answered)
 }
 
 /// Whether a document of this verdict has a machine of the environment.
 fn verdict_defeats(verdict: Verdict) -> bool
     ensures { result ≡ verdict_defeats verdict }
 {
-    match verdict {
-        Verdict::Unrealizable(_) => true,
-        Verdict::Bounded(side, _) => is_environment(side),
-        Verdict::Realizable(_) | Verdict::UnknownSizes | Verdict::UnknownEntries(..) => false,
+    match verdict.machine() {
+        Some(machine) => is_environment(machine.side),
+        None => false,
     }
 }
 

@@ -1,7 +1,7 @@
 //! Documents over the logs of a search.
 ghost use Rattle.std.specs.Prelude.{◌≡◌, ◌<◌, ◌^◌, All, IfOk, length, map};
 ghost use Rattle.synth_answer.specs.Holds.{document_version};
-ghost use Rattle.synth_answer.specs.Reply.{IsShort, IsTextOf, part_of as part_seen};
+ghost use Rattle.synth_answer.specs.Reply.{IsShort, StatesIfGood, document_of, part_of as part_seen};
 
 use aiger_text::Circuit;
 use annotation_encode::Counts;
@@ -18,9 +18,9 @@ pub fn document_text(
     settings: Settings,
     verdict: Verdict,
     circuit: Option<Circuit>,
-    logs: Vec<SizeLog>,
+    logs: Vec<LogPart>,
 ) -> Result<Vec<u8>, AllocError>
-    ensures { IfOk result (λ bytes. IsTextOf kind settings verdict circuit logs.items bytes.items) }
+    ensures { IfOk result (λ bytes. StatesIfGood bytes.items (document_of kind settings verdict circuit logs.items)) }
 {
     let document = Document {
         version: document_version(settings.counts()),
@@ -30,7 +30,7 @@ pub fn document_text(
         entries: settings.entries(),
         found: 0,
         circuit,
-        logs: parts_of(alloc, logs)?,
+        logs,
         name_lines: Vec::new(alloc),
         comment_line: 0,
         verdict_line: 0,
@@ -50,7 +50,8 @@ fn document_version(counts: Counts) -> u32
     }
 }
 
-fn parts_of(alloc: Global, logs: Vec<SizeLog>) -> Result<Vec<LogPart>, AllocError>
+/// The logs of a search as those of a document.
+pub fn parts_of(alloc: Global, logs: Vec<SizeLog>) -> Result<Vec<LogPart>, AllocError>
     ensures parts { IfOk result (λ parts. parts.items ≡ map part_seen logs.items) }
     ensures short { IfOk result (λ parts. All IsShort logs.items) }
 {

@@ -1,113 +1,109 @@
 //! What is written for the outcome of a search.
-ghost use Rattle.std.specs.Prelude.{◌≡◌, ◌≤◌, IfOk, Some, length, map};
+ghost use Rattle.std.specs.Prelude.{◌≡◌, ◌≤◌, IfOk, Option, length, option_map};
+ghost use Rattle.std.specs.Option.{option_copied};
 ghost use Rattle.machine_model.specs.Machine.{size_of};
 ghost use Rattle.tlsf_expand.specs.FlatText.{spec_seen};
-ghost use Rattle.synth_answer.specs.Holds.{read_by, written_by};
-ghost use Rattle.synth_answer.specs.Reply.{FitsNames, HasFittingMachine, IsCircuitWith, IsMachineText, IsReplyTo};
+ghost use Rattle.synth_answer.specs.Reply.{FitsNames, FoundFits, IsCircuitFor, IsCircuitOfFound, IsCircuitWith, IsReplyTo, found_at, least_status, verdict_status};
 
-use crate::documents::document_text;
+use crate::documents::{document_text, parts_of};
 use aiger_text::{Circuit, runs_on_every_input};
-use cert_text::Verdict;
+use cert_text::{Place, Verdict};
+use document_check::first_open;
 use gate_build::circuit_of;
 use letter_word::Side;
 use machine_model::Machine;
 use program_replies::{Reply, Status};
-use size_search::SizeLog;
 use std::alloc::{AllocError, Global};
-use synth_engine::{Outcome, Settings};
+use synth_engine::{Found, Outcome, Settings};
 use text_base::Name;
 use tlsf_expand::Spec;
 
-/// The reply to an outcome, by the names and the kind of the text.
+/// The reply to an outcome, by the names and the kind of the text, and what it says.
 pub fn reply_to(
     alloc: Global,
     spec: &Spec,
     settings: Settings,
     outcome: Outcome,
-) -> Result<Reply, AllocError>
-    requires { HasFittingMachine (spec_seen spec.now).expanded outcome }
-    ensures { IfOk result (λ r. IsReplyTo (spec_seen spec.now).expanded settings outcome r.bytes.items r.status) }
+) -> Result<(Reply, Verdict), AllocError>
+    requires { FoundFits (spec_seen spec.now).expanded outcome.found }
+    ensures { IfOk result (λ r. IsReplyTo (spec_seen spec.now).expanded settings outcome r.0.bytes.items r.0.status r.1) }
 {
-    match outcome {
-        Outcome::Real { machine, logs } => {
-            let verdict = Verdict::Realizable(machine.size());
-            let bytes = machine_text(alloc, spec, settings, Side::System, verdict, &machine, logs)?;
-            Ok(Reply {
-                bytes,
-                status: Status::Realizable,
-            })
-        }
-        Outcome::Unreal { machine, logs } => {
-            let verdict = Verdict::Unrealizable(machine.size());
-            let bytes = machine_text(
-                alloc,
-                spec,
-                settings,
-                Side::Environment,
-                verdict,
-                &machine,
-                logs,
-            )?;
-            Ok(Reply {
-                bytes,
-                status: Status::Unrealizable,
-            })
-        }
-        Outcome::Bounded {
-            side,
-            machine,
-            logs,
-        } => {
-            let verdict = Verdict::Bounded(side, machine.size());
-            let bytes = machine_text(alloc, spec, settings, side, verdict, &machine, logs)?;
-            Ok(Reply {
-                bytes,
-                status: Status::Bounded,
-            })
-        }
-        Outcome::NoSize { logs } => {
-            let bytes = document_text(
-                alloc,
-                spec.kind,
-                settings,
-                Verdict::UnknownSizes,
-                None,
-                logs,
-            )?;
-            Ok(Reply {
-                bytes,
-                status: Status::Unknown,
-            })
-        }
-        Outcome::NoEntries { side, size, logs } => {
-            let verdict = Verdict::UnknownEntries(side, size);
-            let bytes = document_text(alloc, spec.kind, settings, verdict, None, logs)?;
-            Ok(Reply {
-                bytes,
-                status: Status::Unknown,
-            })
-        }
+    let Outcome { found, logs } = outcome;
+    let circuit = found_circuit(alloc, spec, &found)?;
+    let logs = parts_of(alloc, logs)?;
+    let verdict = Verdict::of(found_at(&found), first_open(&logs));
+    let bytes = document_text(alloc, spec.kind, settings, verdict, circuit, logs)?;
+    let status = verdict_status(verdict);
+    Ok((Reply { bytes, status }, verdict))
+}
+
+/// The side and the number of states of the machine that was found.
+fn found_at(found: &Option<Found>) -> Option<Place>
+    ensures { result ≡ found_at found.now }
+{
+    match found {
+        Some(found) => Some(Place {
+            side: found.side,
+            size: found.machine.size(),
+        }),
+        None => None,
     }
 }
 
-/// The document of a machine of a side.
-fn machine_text(
+/// The status of a document with this verdict.
+fn verdict_status(verdict: Verdict) -> Status
+    ensures { result ≡ verdict_status verdict }
+{
+    match verdict {
+        Verdict::Machine {
+            side,
+            least: true,
+            ..
+        } => least_status(side),
+        Verdict::Machine { .. } => Status::Bounded,
+        Verdict::Unknown(_) => Status::Unknown,
+    }
+}
+
+fn least_status(side: Side) -> Status
+    ensures { result ≡ least_status side }
+{
+    match side {
+        Side::System => Status::Realizable,
+        Side::Environment => Status::Unrealizable,
+    }
+}
+
+/// The circuit of the machine that was found.
+fn found_circuit(
     alloc: Global,
     spec: &Spec,
-    settings: Settings,
-    side: Side,
-    verdict: Verdict,
-    machine: &Machine,
-    logs: Vec<SizeLog>,
-) -> Result<Vec<u8>, AllocError>
-    requires { FitsNames (spec_seen spec.now).expanded side machine.now }
-    ensures { IfOk result (λ bytes. IsMachineText (spec_seen spec.now).expanded settings side verdict machine.now logs.items bytes.items) }
+    found: &Option<Found>,
+) -> Result<Option<Circuit>, AllocError>
+    requires { FoundFits (spec_seen spec.now).expanded found.now }
+    ensures { IfOk result (IsCircuitOfFound (spec_seen spec.now).expanded found.now) }
 {
-    let circuit = match side {
-        Side::System => named_circuit(alloc, machine, &spec.inputs, &spec.outputs)?,
-        Side::Environment => named_circuit(alloc, machine, &spec.outputs, &spec.inputs)?,
+    let Some(found) = found else {
+        return Ok(None);
     };
-    document_text(alloc, spec.kind, settings, verdict, Some(circuit), logs)
+    let circuit = side_circuit(alloc, spec, found.side, &found.machine)?;
+    Ok(Some(circuit))
+}
+
+/// The circuit of a side's machine, with the names of the text.
+fn side_circuit(
+    alloc: Global,
+    spec: &Spec,
+    side: Side,
+    machine: &Machine,
+) -> Result<Circuit, AllocError>
+    requires { FitsNames (spec_seen spec.now).expanded side machine.now }
+    ensures { IfOk result (IsCircuitFor (spec_seen spec.now).expanded side machine.now) }
+{
+    match side {
+        Side::System => named_circuit(alloc, machine, &spec.inputs, &spec.outputs),
+        Side::Environment => named_circuit(alloc, machine, &spec.outputs, &spec.inputs),
+    }
 }
 
 /// The circuit of a machine, with names of what it reads and of what it writes.

@@ -1,10 +1,9 @@
 -- The outcomes of settled sizes.
-use Rattle.std.proofs.Common.{◌≡◌, ℕ, zero, suc, ◌+◌, ◌-◌, ◌^◌, ◌<◌, ◌≤◌, ◌⊎◌, Bool, true, false, List, [], ◌∷◌, ◌++◌, All, map, length, get_or, refl, sym, ◌∙◌, ap, subst, arith, length-append, inl, inr, Global}
+use Rattle.std.proofs.Common.{◌≡◌, ℕ, zero, suc, ◌-◌, ◌^◌, ◌<◌, ◌≤◌, Bool, true, false, List, [], ◌∷◌, ◌++◌, All, map, length, get_or, refl, sym, ◌∙◌, ap, subst, arith, inl, inr, Global}
 use Rattle.std.specs.Prelude.{Vec, Option, Some, None, unwrap_or}
-use Rattle.std.proofs.lemmas.List.{get_or_append_left, length-map, map-append}
+use Rattle.std.proofs.lemmas.List.{length-map, map-append}
 use Rattle.std.proofs.lemmas.List.Elements.{All-append, All-cons, All-nil}
 use Rattle.std.proofs.Math.ListN.{get_or-map}
-use Rattle.std.proofs.Math.Seq.{get_or-append_seam}
 use Rattle.std.proofs.lemmas.Option.{same_Some, none-some}
 use Rattle.letter_word.specs.declared.kinds.Side.{Side}
 use Rattle.letter_word.specs.declared.kinds.Side.TheVariants.{System, Environment}
@@ -18,12 +17,11 @@ use Rattle.refutation_log.proofs.CodeLemmas.{never_full}
 use Rattle.size_board.specs.declared.events.Claim.{Claim}
 use Rattle.size_search.specs.declared.size_log.SizeLog.{SizeLog}
 use Rattle.synth_engine.specs.declared.settings.Settings.{Settings}
-use Rattle.synth_engine.specs.declared.outcomes.Outcome.TheVariants.{Bounded, NoEntries}
+use Rattle.synth_engine.specs.declared.outcomes.Found.{Found}
 use Rattle.synth_engine.specs.Searched.{allowed_of}
-use Rattle.synth_engine.specs.Logs.{HasNone, IsClosedLog, IsFullLog, IsLogOf, base_at, place_of, sizes_to}
-use Rattle.synth_engine.specs.Outcomes.{CannotFill, ClosedRefute, IsBounded, IsFound, IsOutOfReach, OfSide}
-use Rattle.synth_engine.specs.Settled.{AreSettled, FoundOrNot, IsFoundBelow, IsSettled}
-use Rattle.synth_engine.specs.Concluded.{AreAllSettled, IsFirstOpen, IsOutcomeOf, IsSettledBelow}
+use Rattle.synth_engine.specs.Logs.{IsClosedLog, IsFullLog, IsLogOf, base_at, place_of, sizes_to}
+use Rattle.synth_engine.specs.Outcomes.{AreAllSettled, AreSettled, CannotFill, IsFound, IsFoundWith, IsOutOfReach, IsOutcomeOf, IsSettled, OfSide}
+use Rattle.synth_engine.specs.Settled.{FoundOrNot, IsFoundBelow}
 
 -- A SIDE'S PROBLEM
 
@@ -49,49 +47,21 @@ at_side s e P System p by h = subst P (same_Some s p by) h
 at_side s None P Environment p by h = absurd h
 at_side s (Some q) P Environment p by h = subst P (same_Some q p by) h
 
-pub of_side_map : (s : Problem) (e : Option Problem) (P Q : Problem → Type 0) (side : Side) → ((p : Problem) → P p → Q p) → OfSide s e P side → OfSide s e Q side
-of_side_map s e P Q System f h = f s h
-of_side_map s None P Q Environment f h = absurd h
-of_side_map s (Some p) P Q Environment f h = f p h
-
 -- SETTLED LOGS
 
 true_false : (b : Bool) → b ≡ true → b ≡ false → ⊥
 true_false b t f = cc
 
-closed_here : (p : Problem) (settings : Settings) (l : SizeLog) → IsSettled p settings l → is_ended l.log.entries ≡ true → IsClosedLog p settings l
+pub closed_here : (p : Problem) (settings : Settings) (l : SizeLog) → IsSettled p settings l → is_ended l.log.entries ≡ true → IsClosedLog p settings l
 closed_here p settings l settled ended = record { legal = settled.log.legal; refutes = ended }
 
-full_here : (p : Problem) (settings : Settings) (l : SizeLog) → IsSettled p settings l → is_ended l.log.entries ≡ false → IsFullLog p settings l
+pub full_here : (p : Problem) (settings : Settings) (l : SizeLog) → IsSettled p settings l → is_ended l.log.entries ≡ false → IsFullLog p settings l
 full_here p settings l settled open_log =
     elim settled.ended [ inl closed ↦ absurd (true_false (is_ended l.log.entries) closed.refutes open_log) | inr full ↦ full ]
 
--- the first log that isn't closed stands in the list
-open_at : (logs : List SizeLog) (l : SizeLog) (first : IsFirstOpen logs l) → (length first.before < length logs) × ((d : SizeLog) → get_or logs (length first.before) d ≡ l)
-open_at logs l first =
-    let n : length logs ≡ length first.before + length (l ∷ first.after) = ap length first.split ∙ length-append first.before (l ∷ first.after) in
-    (omega arith, λ d. ap (λ xs. get_or xs (length first.before) d) first.split ∙ get_or-append_seam first.before l first.after d)
-
-at_open : (P : SizeLog → Type 0) (logs : List SizeLog) (l : SizeLog) → IsFirstOpen logs l → All P logs → P l
-at_open P logs l first all = let at = open_at logs l first in subst P (at.1 l) (all (length first.before) l at.0)
-
-before_open : (P : SizeLog → Type 0) (logs : List SizeLog) (l : SizeLog) (first : IsFirstOpen logs l) → All P logs → All P first.before
-before_open P logs l first all k d h =
-    let n : length logs ≡ length first.before + length (l ∷ first.after) = ap length first.split ∙ length-append first.before (l ∷ first.after) in
-    let at : get_or logs k d ≡ get_or first.before k d = ap (λ xs. get_or xs k d) first.split ∙ get_or_append_left first.before (l ∷ first.after) d k h in
-    subst P at (all k d (omega arith))
-
-pub bounded_of : (side : Side) (settings : Settings) (m : MachineModel) (logs : List SizeLog) (p : Problem) (l : SizeLog) → IsSettledBelow side settings m logs p → IsFirstOpen logs l
-    → IsBounded p settings m logs
-bounded_of side settings m logs p l below first =
-    let at = open_at logs l first in
-    let here : IsSettled p settings l = at_open (IsSettled p settings) logs l first below.smaller.each in
-    record {
-      found = below.found;
-      smaller = record { places = below.smaller.places; each = λ k d h. (below.smaller.each k d h).log };
-      decided = λ k d h. (below.smaller.each k d h).ended;
-      full = (length first.before, l, at.0, at.1 l, full_here p settings l here first.here);
-    }
+true_unless : (b : Bool) → (b ≡ false → ⊥) → b ≡ true
+true_unless true never = refl
+true_unless false never = absurd (never refl)
 
 -- THE SIZES OF LOGS
 
@@ -138,34 +108,21 @@ cannot_be_full s e settings Environment p l (inr r) by log full some most = neve
 
 -- OUTCOMES WITH A MACHINE
 
-module _ (s : Problem) (e : Option Problem) (settings : Settings) (m : MachineModel) where
-  refuted : (side : Side) (logs : List SizeLog) → OfSide s e (IsSettledBelow side settings m logs) side → ClosedRefute s e settings logs
-  refuted side logs h k d small =
-      let one = pick s e (IsSettledBelow side settings m logs) side h in
-      let l : SizeLog = get_or logs k d in
-      let settled : IsSettled one.0 settings l = one.2.smaller.each k d small in
-      let here : l.side ≡ side = settled.log.side ∙ one.2.of_side in
-      let Q : Problem → Type 0 = λ (p : Problem). IsClosedLog p settings l → HasNone p l.size in
-      subst (OfSide s e Q) (sym here) (put s e Q side one.0 one.1 settled.refutes)
-
-  pub bounded_outcome : (side : Side) (logs : Vec SizeLog Global) (l : SizeLog) → OfSide s e (IsSettledBelow side settings m logs.items) side → IsFirstOpen logs.items l
-      → IsOutcomeOf s e settings (Bounded side m logs)
-  bounded_outcome side logs l h first = record {
-    real = tt;
-    unreal = tt;
-    bounded = of_side_map s e (IsSettledBelow side settings m logs.items) (λ (p : Problem). IsBounded p settings m logs.items) side (λ p below. bounded_of side settings m logs.items p l below first) h;
-    no_size = tt;
-    no_entries = tt;
-    refuted = refuted side logs.items h;
-    decisive = λ cannot.
-        let one = pick s e (IsSettledBelow side settings m logs.items) side h in
-        let p = one.0 in
-        let settled : IsSettled p settings l = at_open (IsSettled p settings) logs.items l first one.2.smaller.each in
-        let range : IsInRange p.side (size_of m - 1) (place_of l) = at_open (λ x. IsInRange p.side (size_of m - 1) (place_of x)) logs.items l first (in_range p.side (size_of m - 1) logs.items one.2.smaller.places) in
-        let most : size_of m ≤ allowed_sizes p settings.max = one.2.found.allowed in
-        let low : l.size ≤ size_of m - 1 = range.most in
-        cannot_be_full s e settings side p l cannot one.1 settled.log (full_here p settings l settled first.here) range.some (omega arith);
-  }
+pub with_machine : (s : Problem) (e : Option Problem) (settings : Settings) (found : Found) (logs : Vec SizeLog Global)
+    → OfSide s e (λ p. IsFoundWith p settings found.machine logs.items) found.side → IsOutcomeOf s e settings (record { found = Some found; logs = logs })
+with_machine s e settings found logs h = record {
+  goes = h;
+  decisive = λ cannot k d small.
+      let one = pick s e (λ (p : Problem). IsFoundWith p settings found.machine logs.items) found.side h in
+      let p = one.0 in
+      let l : SizeLog = get_or logs.items k d in
+      let settled : IsSettled p settings l = one.2.smaller.each k d small in
+      let range : IsInRange p.side (size_of found.machine - 1) (place_of l) = in_range p.side (size_of found.machine - 1) logs.items one.2.smaller.places k d small in
+      let most : size_of found.machine ≤ allowed_sizes p settings.max = one.2.found.allowed in
+      let low : l.size ≤ size_of found.machine - 1 = range.most in
+      true_unless (is_ended l.log.entries)
+      (λ open_log. cannot_be_full s e settings found.side p l cannot one.1 settled.log (full_here p settings l settled open_log) range.some (omega arith));
+}
 
 -- OUTCOMES WITHOUT A MACHINE
 
@@ -195,76 +152,40 @@ module _ (s : Problem) (e : Option Problem) (settings : Settings) where
   unfolding AtSide
   all_allowed = All-append AtSide (sizes_to System (allowed_sizes s settings.max)) (sizes_to Environment (allowed_of settings.max e)) system_allowed (environment_allowed s e settings)
 
-  logs_refuted : (logs : List SizeLog) → AreAllSettled s e settings logs → ClosedRefute s e settings logs
-  logs_refuted logs all k d h =
-      of_side_map s e (λ (p : Problem). IsSettled p settings (get_or logs k d)) (λ (p : Problem). IsClosedLog p settings (get_or logs k d) → HasNone p (get_or logs k d).size) (get_or logs k d).side (λ p x. x.refutes) (all.each k d h)
-
-  -- closed or full, for a side
-  either_of : (l : SizeLog) (side : Side) → OfSide s e (λ p. IsSettled p settings l) side → OfSide s e (λ p. IsClosedLog p settings l) side ⊎ OfSide s e (λ p. IsFullLog p settings l) side
-  either_of l side h =
-      let one = pick s e (λ (p : Problem). IsSettled p settings l) side h in
-      elim one.2.ended [
-        | inl closed ↦ inl (put s e (λ (p : Problem). IsClosedLog p settings l) side one.0 one.1 closed)
-        | inr full ↦ inr (put s e (λ (p : Problem). IsFullLog p settings l) side one.0 one.1 full)
-      ]
-
-  pub no_entries_outcome : (logs : Vec SizeLog Global) (l : SizeLog) → AreAllSettled s e settings logs.items → IsFirstOpen logs.items l → IsOutcomeOf s e settings (NoEntries l.side l.size logs)
+  pub without_machine : (logs : Vec SizeLog Global) → AreAllSettled s e settings logs.items → IsOutcomeOf s e settings (record { found = None; logs = logs })
   unfolding AtSide
-  no_entries_outcome logs l all first =
-      let Settled : SizeLog → Type 0 = λ (x : SizeLog). OfSide s e (λ (p : Problem). IsSettled p settings x) x.side in
-      let here : Settled l = at_open Settled logs.items l first all.each in
-      let full : OfSide s e (λ (p : Problem). IsFullLog p settings l) l.side
-      = of_side_map s e (λ (p : Problem). IsSettled p settings l) (λ (p : Problem). IsFullLog p settings l) l.side (λ p x. full_here p settings l x first.here) here in
-      let before : All Settled first.before = before_open Settled logs.items l first all.each in
-      record {
-        real = tt;
-        unreal = tt;
-        bounded = tt;
-        no_size = tt;
-        no_entries = record {
-          all = record {
-            places = all.places;
-            each = λ k d h. of_side_map s e (λ (p : Problem). IsSettled p settings (get_or logs.items k d)) (λ (p : Problem). IsLogOf p settings (get_or logs.items k d)) (get_or logs.items k d).side (λ p x. x.log) (all.each k d h);
-          };
-          decided = λ k d h. either_of (get_or logs.items k d) (get_or logs.items k d).side (all.each k d h);
-          before = first.before;
-          named = l;
-          after = first.after;
-          split = first.split;
-          is_at = refl;
-          full = full;
-          first = λ k d h. of_side_map s e (λ (p : Problem). IsSettled p settings (get_or first.before k d)) (λ (p : Problem). IsClosedLog p settings (get_or first.before k d)) (get_or first.before k d).side
-              (λ p x. closed_here p settings (get_or first.before k d) x (first.first k d h)) (before k d h);
-        };
-        refuted = logs_refuted logs.items all;
-        decisive = λ cannot.
-            let one = pick s e (λ (p : Problem). IsSettled p settings l) l.side here in
-            let at : AtSide (place_of l) = at_open (λ (x : SizeLog). AtSide (place_of x)) logs.items l first (of_place AtSide logs.items (at_places AtSide logs.items _ all.places all_allowed)) in
-            let range = at_side s e (IsAllowedSize settings l.size) l.side one.0 one.1 at in
-            cannot_be_full s e settings l.side one.0 l cannot one.1 one.2.log (full_here one.0 settings l one.2 first.here) range.0 range.1;
-      }
+  without_machine logs all = record {
+    goes = all;
+    decisive = λ cannot k d small.
+        let l : SizeLog = get_or logs.items k d in
+        let one = pick s e (λ (p : Problem). IsSettled p settings l) l.side (all.each k d small) in
+        let at : AtSide (place_of l) = of_place AtSide logs.items (at_places AtSide logs.items _ all.places all_allowed) k d small in
+        let range = at_side s e (IsAllowedSize settings l.size) l.side one.0 one.1 at in
+        true_unless (is_ended l.log.entries)
+        (λ open_log. cannot_be_full s e settings l.side one.0 l cannot one.1 one.2.log (full_here one.0 settings l one.2 open_log) range.0 range.1);
+  }
 
 -- FROM SETTLED SIZES TO THESE
 
-pub found_below : (side : Side) (settings : Settings) (count : ℕ) (logs : List SizeLog) (o : Option MachineModel) (m : MachineModel) (p : Problem) → FoundOrNot p settings count logs o → o ≡ Some m
-    → p.side ≡ side → count ≤ allowed_sizes p settings.max → IsSettledBelow side settings m logs p
-found_below side settings count logs o m p h is of_side most =
+pub found_below : (settings : Settings) (count : ℕ) (logs : List SizeLog) (o : Option MachineModel) (m : MachineModel) (p : Problem) → FoundOrNot p settings count logs o → o ≡ Some m
+    → count ≤ allowed_sizes p settings.max → IsFoundWith p settings m logs
+found_below settings count logs o m p h is most =
     let here : IsFoundBelow p settings count logs m = subst (FoundOrNot p settings count logs) is h in
     let low : size_of m ≤ count = here.most in
-    record { of_side = of_side; found = record { accepted = here.accepted; some = here.some; allowed = omega arith }; smaller = here.smaller }
+    record { found = record { accepted = here.accepted; some = here.some; allowed = omega arith }; smaller = here.smaller }
 
 pub none_below : (settings : Settings) (count : ℕ) (logs : List SizeLog) (o : Option MachineModel) (p : Problem) → FoundOrNot p settings count logs o → ((m : MachineModel) → o ≡ Some m → ⊥)
     → AreSettled p settings count logs
 none_below settings count logs None p h none = h
 none_below settings count logs (Some m) p h none = absurd (none m refl)
 
-pub settled_below_of : (side : Side) (settings : Settings) (logs : List SizeLog) (o : Option MachineModel) (m : MachineModel) (p : Problem) → FoundOrNot p settings (size_of m - 1) logs o → IsFound p settings m
-    → p.side ≡ side → IsSettledBelow side settings (unwrap_or o m) logs p
-settled_below_of side settings logs None m p h found of_side = record { of_side = of_side; found = found; smaller = h }
-settled_below_of side settings logs (Some n) m p h found of_side =
+pub found_with : (settings : Settings) (logs : List SizeLog) (o : Option MachineModel) (m : MachineModel) (p : Problem) → FoundOrNot p settings (size_of m - 1) logs o → IsFound p settings m
+    → IsFoundWith p settings (unwrap_or o m) logs
+found_with settings logs None m p h found = record { found = found; smaller = h }
+found_with settings logs (Some n) m p h found =
     let low : size_of n ≤ size_of m - 1 = h.most in
     let most : size_of m ≤ allowed_sizes p settings.max = found.allowed in
-    record { of_side = of_side; found = record { accepted = h.accepted; some = h.some; allowed = omega arith }; smaller = h.smaller }
+    record { found = record { accepted = h.accepted; some = h.some; allowed = omega arith }; smaller = h.smaller }
 
 -- what is settled of the environment's sizes
 abbrev pub EnvironmentSettled : Option Problem → Settings → List SizeLog → Type 0
@@ -294,13 +215,13 @@ all_settled s e settings of_system of_environment logs side system environment i
 -- of the environment a machine was found, or its sizes are settled; there is nothing to be found where it has no problem
 pub environment_found : (s : Problem) (e : Option Problem) (settings : Settings) (logs : List SizeLog) (o : Option MachineModel) (m : MachineModel) → o ≡ Some m
     → ((p : Problem) → e ≡ Some p → (p.side ≡ Environment) × FoundOrNot p settings (allowed_sizes p settings.max) logs o) → (e ≡ None → FoundOrNot s settings 0 logs o)
-    → OfSide s e (IsSettledBelow Environment settings m logs) Environment
+    → OfSide s e (λ p. IsFoundWith p settings m logs) Environment
 environment_found s None settings logs o m is some none =
     let here : IsFoundBelow s settings 0 logs m = subst (FoundOrNot s settings 0 logs) is (none refl) in
     let low : size_of m ≤ 0 = here.most in
     let high : 0 < size_of m = here.some in
     absurd (omega arith)
-environment_found s (Some p) settings logs o m is some none = let x = some p refl in found_below Environment settings (allowed_sizes p settings.max) logs o m p x.1 is x.0 (omega arith)
+environment_found s (Some p) settings logs o m is some none = let x = some p refl in found_below settings (allowed_sizes p settings.max) logs o m p x.1 is (omega arith)
 
 pub environment_settled : (s : Problem) (e : Option Problem) (settings : Settings) (logs : List SizeLog) (o : Option MachineModel) → ((m : MachineModel) → o ≡ Some m → ⊥)
     → ((p : Problem) → e ≡ Some p → (p.side ≡ Environment) × FoundOrNot p settings (allowed_sizes p settings.max) logs o) → (e ≡ None → FoundOrNot s settings 0 logs o)

@@ -1,6 +1,6 @@
 -- From the plan of a search to its outcome.
 use Rattle.std.proofs.Common.{◌≡◌, ℕ, ◌+◌, ◌-◌, ◌<◌, ◌≤◌, List, [], ◌∷◌, ◌++◌, All, map, length, get_or, refl, sym, ◌∙◌, ap, subst, arith, length-append}
-use Rattle.std.specs.Prelude.{Option, Some, None, Result, Ok, Err, IfOk, IfSome, slice_get}
+use Rattle.std.specs.Prelude.{Option, Some, None, IfSome, slice_get}
 use Rattle.std.specs.Option.{ForSome, option_map}
 use Rattle.std.proofs.lemmas.List.{get_or_append_left, length-map}
 use Rattle.std.proofs.lemmas.Option.{slice_get-get_or, same_Some, none-some}
@@ -19,7 +19,7 @@ use Rattle.synth_engine.specs.declared.plans.Plan.{Plan}
 use Rattle.synth_engine.specs.declared.crews.Crew.{Crew}
 use Rattle.synth_engine.specs.declared.sizes.Sizes.{Sizes}
 use Rattle.synth_engine.specs.declared.settling.Unsettled.{Unsettled}
-use Rattle.synth_engine.specs.declared.workers.Winner.{Winner}
+use Rattle.synth_engine.specs.declared.outcomes.Found.{Found}
 use Rattle.synth_engine.specs.Searched.{IsSearched, allowed_of}
 use Rattle.synth_engine.specs.Outcomes.{IsFound, OfSide}
 use Rattle.synth_engine.specs.Tasks.{AreTasks, FitNames, IsCrewOf, IsTaskOf, SizesFit}
@@ -29,11 +29,6 @@ use Rattle.synth_engine.specs.Plans.{AreSizesOf, AreTasksOfAny, AreTasksUpTo, Ar
 use Rattle.synth_engine.specs.Concluded.{AreLeft, IsLeft, IsWinnerOf}
 use Rattle.synth_engine.proofs.HandLemmas.{front_of, last_of}
 use Rattle.synth_engine.proofs.PlanLemmas.{workers_push}
-
--- what holds of each answer holds of what follows from it
-pub if_ok : {X E : Type 0} (P Q : X → Type 0) (r : Result X E) → ((x : X) → P x → Q x) → IfOk r P → IfOk r Q
-if_ok P Q (Ok x) f h = f x h
-if_ok P Q (Err e) f h = tt
 
 -- THE PLAN
 
@@ -181,7 +176,7 @@ winner_size : (o : Option Sought) (n : ℕ) (m : MachineModel) → SideHas o n m
 winner_size None n m is = absurd is
 winner_size (Some x) n m is = size_pos m is.machine.shape
 
-pub winner_some : (names : Named) (w : Winner) → IsWinner names w → 0 < size_of w.machine
+pub winner_some : (names : Named) (w : Found) → IsWinner names w → 0 < size_of w.machine
 winner_some names w is = winner_size (sought_by names w.side) (size_of w.machine) w.machine is.accepted
 
 environment_length : (e : Option Problem) (settings : Settings) (count : ℕ) (tasks : List SizeTaskModel) → (e ≡ None → count ≡ 0) → AreTasksOfAny e settings count tasks → count ≡ length tasks
@@ -189,7 +184,7 @@ environment_length None settings count tasks none are = none refl ∙ sym are
 environment_length (Some p) settings count tasks none are = sym are.all
 
 -- there are tasks of its size and of each smaller one
-pub winner_within : (s : Problem) (e : Option Problem) (max : ℕ) (settings : Settings) (plan : Plan) (sizes : Sizes) (w : Winner) → IsPlanOf s e max plan → AreSizesOf plan settings sizes → IsWinner (named_of plan) w
+pub winner_within : (s : Problem) (e : Option Problem) (max : ℕ) (settings : Settings) (plan : Plan) (sizes : Sizes) (w : Found) → IsPlanOf s e max plan → AreSizesOf plan settings sizes → IsWinner (named_of plan) w
     → (w.side ≡ System → size_of w.machine ≤ length sizes.system.items) × (w.side ≡ Environment → size_of w.machine ≤ length sizes.environment.items)
 winner_within s e max settings plan sizes w is are winner = (
   λ side.
@@ -217,7 +212,7 @@ winner_at s e settings System m is most = found_of s settings m is most
 winner_at s None settings Environment m is most = absurd is
 winner_at s (Some p) settings Environment m is most = found_of p settings m is most
 
-pub winner_is : (s : Problem) (e : Option Problem) (settings : Settings) (plan : Plan) (o : Option Winner) → IsPlanOf s e settings.max plan → IfSome o (IsWinner (named_of plan)) → IsWinnerOf s e settings o
+pub winner_is : (s : Problem) (e : Option Problem) (settings : Settings) (plan : Plan) (o : Option Found) → IsPlanOf s e settings.max plan → IfSome o (IsWinner (named_of plan)) → IsWinnerOf s e settings o
 winner_is s e settings plan None is h = tt
 winner_is s e settings plan (Some w) is h =
     let here : IsWinner (named_of (plan_at s e settings.max)) w = subst (λ x. IsWinner (named_of x) w) (plan_is s e settings.max plan is) h in

@@ -20,7 +20,8 @@ use Rattle.synth_engine.specs.declared.settings.Settings.{Settings}
 use Rattle.synth_engine.specs.declared.settling.Answer.TheVariants.{Machine, Log}
 use Rattle.synth_engine.specs.Logs.{IsClosedLog, IsFullLog, base_at, place_of}
 use Rattle.synth_engine.specs.Tasks.{AreTasks, IsTaskOf}
-use Rattle.synth_engine.specs.Settled.{AreSettled, IsAnswerOf, IsFoundBelow, IsSettled}
+use Rattle.synth_engine.specs.Outcomes.{AreSettled, IsSettled}
+use Rattle.synth_engine.specs.Settled.{IsAnswerOf, IsFoundBelow}
 
 -- the signals of a problem, by what it says
 reads_from : Parts → ℕ

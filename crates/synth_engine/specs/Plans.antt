@@ -12,7 +12,7 @@ use Rattle.synth_engine.specs.declared.plans.Plan.{Plan}
 use Rattle.synth_engine.specs.declared.plans.Field.{Field}
 use Rattle.synth_engine.specs.declared.crews.Crew.{Crew}
 use Rattle.synth_engine.specs.declared.sizes.Sizes.{Sizes}
-use Rattle.synth_engine.specs.declared.workers.Winner.{Winner}
+use Rattle.synth_engine.specs.declared.outcomes.Found.{Found}
 use Rattle.synth_engine.specs.Searched.{allowed_of}
 use Rattle.synth_engine.specs.Tasks.{AreTasks, IsCrewOf}
 use Rattle.synth_engine.specs.Hands.{AreRacks, new_seats}
@@ -73,6 +73,6 @@ pub record AreWorkersOf (sizes : Sizes) (top : ℕ) (crews : List Crew) : Type 0
   pub numbers : (i : ℕ) (d : Crew) → i < length crews → (slice_index_or crews i d).number ≡ top - i
 
 -- A machine that a board kept: the side accepts it, and its size is allowed.
-pub record IsWinner (names : Named) (winner : Winner) : Type 0 where
+pub record IsWinner (names : Named) (winner : Found) : Type 0 where
   pub accepted : SideHas (sought_by names winner.side) (size_of winner.machine) winner.machine
   pub allowed : size_of winner.machine ≤ sizes_of names winner.side

@@ -1,4 +1,4 @@
-use Rattle.std.specs.Prelude.{◌≡◌, ℕ, ◌-◌, ◌<◌, ◌≤◌, ◌⊎◌, List, Option, Some, None, All, map, length}
+use Rattle.std.specs.Prelude.{◌≡◌, ℕ, ◌-◌, ◌<◌, ◌≤◌, ◌⊎◌, List, Option, Some, None, All, length}
 use Rattle.machine_model.specs.Machine.{MachineModel, size_of}
 use Rattle.machine_model.specs.Problem.{sized}
 use Rattle.machine_model.specs.declared.problems.Problem.{Problem}
@@ -11,7 +11,7 @@ use Rattle.synth_engine.specs.declared.settling.Answer.{Answer}
 use Rattle.synth_engine.specs.declared.settling.Answer.TheVariants.{Machine, Log}
 use Rattle.synth_engine.specs.declared.settling.Settled.{Settled}
 use Rattle.synth_engine.specs.declared.settling.Unsettled.{Unsettled}
-use Rattle.synth_engine.specs.Logs.{HasNone, IsClosedLog, IsFullLog, IsLogOf, place_of, sizes_to}
+use Rattle.synth_engine.specs.Outcomes.{AreSettled}
 use Rattle.synth_engine.specs.Hands.{AreCrewsFrom}
 
 -- All seats of the tasks that are left are there.
@@ -26,17 +26,6 @@ IsAnswerOf t (Machine machine) = IsAcceptedOf t.problem machine
 IsAnswerOf t (Log log) =
     IsSizeLog t.problem t.exchange.terms log × (IsClosedOn t.exchange.terms log.log.entries ⊎ IsFullOn t.exchange.terms log.log.entries)
     × (IsClosedOn t.exchange.terms log.log.entries → (m : MachineModel) → IsAcceptedOf t.problem m → ⊥)
-
--- A log of the problem that is closed or full. If it is closed, its size has no machine.
-pub record IsSettled (p : Problem) (settings : Settings) (l : SizeLog) : Type 0 where
-  pub log : IsLogOf p settings l
-  pub ended : IsClosedLog p settings l ⊎ IsFullLog p settings l
-  pub refutes : IsClosedLog p settings l → HasNone p l.size
-
--- The logs of the problem's first sizes, each settled.
-pub record AreSettled (p : Problem) (settings : Settings) (count : ℕ) (logs : List SizeLog) : Type 0 where
-  pub places : map place_of logs ≡ sizes_to p.side count
-  pub each : All (IsSettled p settings) logs
 
 -- A machine of at most so many states, with the logs of all smaller sizes.
 pub record IsFoundBelow (p : Problem) (settings : Settings) (count : ℕ) (logs : List SizeLog) (m : MachineModel) : Type 0 where

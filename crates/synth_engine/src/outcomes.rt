@@ -2,34 +2,18 @@ use letter_word::Side;
 use machine_model::Machine;
 use size_search::SizeLog;
 
-/// How a search ended. Logs stand by rising size, and where both sides have some, the system's come first.
+/// What a search found, and the logs of its sizes, each of which is closed or full. So the logs tell whether the machine is the least of
+/// its side, or that no allowed size has one.
 #[derive(Debug, Drop)]
-pub enum Outcome {
-    /// The system has this machine, and no smaller one: each smaller size has a closed log.
-    Real {
-        machine: Machine,
-        logs: Vec<SizeLog>,
-    },
-    /// The environment has this machine, and no smaller one: each smaller size has a closed log.
-    Unreal {
-        machine: Machine,
-        logs: Vec<SizeLog>,
-    },
-    /// The side has this machine, and maybe a smaller one: of its smaller sizes' logs at least one is full, and the others are closed.
-    Bounded {
-        side: Side,
-        machine: Machine,
-        logs: Vec<SizeLog>,
-    },
-    /// No machine was found, and each allowed size of both sides has a closed log.
-    NoSize {
-        logs: Vec<SizeLog>,
-    },
-    /// No machine was found, each allowed size has a closed log or a full one, and that of this side and size is full and the first that
-    /// isn't closed.
-    NoEntries {
-        side: Side,
-        size: u32,
-        logs: Vec<SizeLog>,
-    },
+pub struct Outcome {
+    pub found: Option<Found>,
+    /// With a machine those of its side's smaller sizes, else those of all allowed sizes, the system's first; by rising size.
+    pub logs: Vec<SizeLog>,
+}
+
+/// A machine, and the side that accepts it.
+#[derive(Debug, Drop)]
+pub struct Found {
+    pub side: Side,
+    pub machine: Machine,
 }

@@ -1,10 +1,10 @@
 //! The search.
-ghost use Rattle.std.specs.Prelude.{◌≡◌, ◌≤◌, Some, IfOk};
+ghost use Rattle.std.specs.Prelude.{IfOk};
 ghost use Rattle.std.specs.Option.{ForSome};
 ghost use Rattle.letter_word.specs.declared.kinds.Side.TheVariants.{System, Environment};
 ghost use Rattle.annotation_encode.specs.Counts.{counts_version};
 ghost use Rattle.synth_engine.specs.Searched.{IsSearched};
-ghost use Rattle.synth_engine.specs.Outcomes.{CannotFill, ClosedRefute, HasNoEntries, HasNoSize, IsBounded, IsDecisive, IsSmallest, OfSide, OnBounded, OnNoEntries, OnNoSize, OnReal, OnUnreal, logs_of};
+ghost use Rattle.synth_engine.specs.Outcomes.{IsOutcomeOf};
 
 use crate::concluding::conclude;
 use crate::crews::seats_by_side;
@@ -35,13 +35,7 @@ pub fn search<R: Threads + Wait + Sync, G: Gate + Sync>(
 ) -> Result<Outcome, AllocError>
     requires system { IsSearched (counts_version settings.counts) System system }
     requires environment { ForSome environment (IsSearched (counts_version settings.counts) Environment) }
-    ensures real { IfOk result (OnReal (IsSmallest system settings)) }
-    ensures unreal { IfOk result (OnUnreal (λ machine logs. OfSide system environment (λ p. IsSmallest p settings machine logs) Environment)) }
-    ensures bounded { IfOk result (OnBounded (λ side machine logs. OfSide system environment (λ p. IsBounded p settings machine logs) side)) }
-    ensures no_size { IfOk result (OnNoSize (HasNoSize system environment settings)) }
-    ensures no_entries { IfOk result (OnNoEntries (HasNoEntries system environment settings)) }
-    ensures refuted { IfOk result (λ outcome. ClosedRefute system environment settings (logs_of outcome)) }
-    ensures decisive { CannotFill system environment settings → IfOk result IsDecisive }
+    ensures { IfOk result (IsOutcomeOf system environment settings) }
 {
     let plan = Plan::new(system, environment, settings);
     let field = plan.open(rt, alloc, settings)?;
@@ -49,7 +43,7 @@ pub fn search<R: Threads + Wait + Sync, G: Gate + Sync>(
     let Some(mut own) = crews.pop() else {
         unreachable!()
     };
-    let (winner, mut crews) = run_workers::<Brand, R, G>(
+    let (found, mut crews) = run_workers::<Brand, R, G>(
         rt, alloc, plan, &sizes, &mut own, crews, gate,
     )?;
     crews.push(own)?;
@@ -62,5 +56,5 @@ pub fn search<R: Threads + Wait + Sync, G: Gate + Sync>(
         tasks: sizes.environment,
         crews: of_environment,
     };
-    conclude(rt, alloc, winner, system, environment)
+    conclude(rt, alloc, found, system, environment)
 }

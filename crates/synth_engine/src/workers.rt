@@ -6,10 +6,10 @@ ghost use Rattle.synth_engine.specs.Plans.{IsWinner};
 ghost use Rattle.synth_engine.specs.Tasks.{IsAllowed, IsCrewOf, IsVerdict, SizesFit};
 
 use crate::crews::{Crew, turn_on};
+use crate::outcomes::Found;
 use crate::plans::Plan;
 use crate::sizes::Sizes;
 use letter_word::Side;
-use machine_model::Machine;
 use outside_edge::Gate;
 use size_board::{Board, Claim, ProblemNames};
 use size_search::Decided;
@@ -136,13 +136,6 @@ impl<P: ProblemNames, R: Wait, G: Gate> Race<'_, '_, P, R, G> {
     }
 }
 
-/// A machine that was found, of the side that accepts it.
-#[derive(Drop)]
-pub struct Winner {
-    pub side: Side,
-    pub machine: Machine,
-}
-
 /// Lets the workers race, each in a thread of its own where one can be made, and then does what they left. Gives the workers back, and a
 /// machine if one was found.
 pub fn run_workers<'a, P: ProblemNames + Send + Sync, R: Threads + Wait + Sync, G: Gate + Sync>(
@@ -153,7 +146,7 @@ pub fn run_workers<'a, P: ProblemNames + Send + Sync, R: Threads + Wait + Sync, 
     own: &mut Crew,
     crews: Vec<Crew>,
     gate: &'a G,
-) -> Result<(Option<Winner>, Vec<Crew>), AllocError>
+) -> Result<(Option<Found>, Vec<Crew>), AllocError>
     requires named { AreNamed P.named plan.system plan.environment plan.system_sizes plan.environment_sizes }
     requires sizes { SizesFit P.named sizes.now }
     requires own { IsCrewOf sizes.now own.old }
@@ -192,7 +185,7 @@ pub fn run_workers<'a, P: ProblemNames + Send + Sync, R: Threads + Wait + Sync, 
 }
 
 /// The machine that a board kept, the system's if it has one.
-fn winner_of<P: ProblemNames>(board: Board<P>) -> Option<Winner>
+fn winner_of<P: ProblemNames>(board: Board<P>) -> Option<Found>
     ensures { IfSome result (IsWinner P.named) }
 {
     let side = match board.found(Side::System) {
@@ -200,5 +193,5 @@ fn winner_of<P: ProblemNames>(board: Board<P>) -> Option<Winner>
         None => Side::Environment,
     };
     let machine = board.into_found(side)?;
-    Some(Winner { side, machine })
+    Some(Found { side, machine })
 }

@@ -6,7 +6,7 @@ use Rattle.check_answer.proofs.answering.fault_for_solve.Goals as goal
 
 pub returns-in-Ok : goal.returns-in-Ok
 returns-in-Ok c = record {
-  none = λ code place fault. c.solve_texts_have_no_fault.ensures c.args.text.now (Some Mealy) c.in-Ok._known code place c.in-Ok.ensures.text fault;
+  none = λ code place fault. c.solve_texts_are_determined.ensures.no_fault c.args.text.now (Some Mealy) c.in-Ok._known code place c.in-Ok.ensures.text fault;
 }
 
 pub returns-in_ok-refusal-in-Err : goal.returns-in_ok-refusal-in-Err

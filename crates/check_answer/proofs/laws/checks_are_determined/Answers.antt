@@ -7,9 +7,8 @@ returns c =
       texts = c.problems_of_texts_are_determined.ensures;
       bad_lines = c.bad_lines_are_determined.ensures;
       documents = c.documents_are_determined.ensures;
-      trees = c.trees_are_determined.ensures;
-      whole = c.trees_have_no_fault.ensures;
-      faults = c.flat_faults_are_determined.ensures;
+      alike = c.alike_texts_check_alike.ensures;
+      solving = c.solve_texts_are_determined.ensures;
       solved = c.solved_are_determined.ensures;
       checks = c.solved_checks_are_determined.ensures;
     })

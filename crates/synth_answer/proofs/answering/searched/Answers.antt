@@ -1,7 +1,6 @@
-use Rattle.std.proofs.Common.{sym}
 use Rattle.annotation_encode.specs.Counts.{counts_version}
 use Rattle.tlsf_expand.specs.FlatText.{spec_seen}
-use Rattle.synth_answer.proofs.Fitting.{outcome_fits}
+use Rattle.synth_answer.proofs.Fitting.{found_fits}
 use Rattle.synth_answer.proofs.answering.searched.Goals as goal
 
 pub search-requires-clause-environment : goal.search-requires-clause-environment
@@ -16,22 +15,15 @@ search-requires-clause-system g c κs within =
 
 pub reply_to-requires : goal.reply_to-requires
 reply_to-requires g c =
-    let e = c.in_ok-outcome.ensures in
-    outcome_fits (counts_version c.args.settings.counts) (spec_seen c.args.spec.now).expanded c.args.problems c.requires.problems c.args.settings c.max-max.ensures.bounds.most_size c.sizes_rise.ensures c.in_ok-outcome.outcome e.real e.unreal e.bounded
+    let o = c.in_ok-outcome.outcome in
+    found_fits (counts_version c.args.settings.counts) (spec_seen c.args.spec.now).expanded c.args.problems c.requires.problems c.args.settings c.max-max.ensures.bounds.most_size c.sizes_rise.ensures
+    o.found o.logs.items c.in_ok-outcome.ensures.goes
 
 pub returns : goal.returns
-returns g c =
-    let e = c.in_ok-outcome.ensures in
-    record {
-      bounds = c.max-max.ensures.bounds;
-      automata = c.automata_are_kept.ensures;
-      outcome = c.in_ok-outcome.outcome;
-      real = e.real;
-      unreal = e.unreal;
-      bounded = e.bounded;
-      no_size = e.no_size;
-      no_entries = e.no_entries;
-      decisive = λ cannot. e.decisive cannot;
-      reply = c.in_ok-reply.ensures;
-      told = sym c.outcome_verdict-verdict.ensures;
-    }
+returns g c = record {
+  bounds = c.max-max.ensures.bounds;
+  automata = c.automata_are_kept.ensures;
+  outcome = c.in_ok-outcome.outcome;
+  is_outcome = c.in_ok-outcome.ensures;
+  reply = c.in_ok-answered.ensures;
+}

@@ -1,4 +1,4 @@
-use Rattle.std.proofs.Common.{◌≡◌, refl}
+use Rattle.std.proofs.Common.{refl}
 use Rattle.annotation_encode.specs.Counts.{counts_version}
 use Rattle.spec_problems.specs.OfText.{IsFirstFault}
 use Rattle.std.proofs.lemmas.Result.{IfOk-weaker}

@@ -7,7 +7,7 @@ use Rattle.synth_engine.specs.declared.settings.Settings.{Settings}
 use Rattle.synth_engine.specs.Tasks.{AreTasks}
 use Rattle.synth_engine.specs.Settled.{FoundOrNot}
 use Rattle.synth_engine.specs.Concluded.{AreLeft}
-use Rattle.synth_engine.proofs.ConcludedLemmas.{all_settled, environment_found, environment_settled, found_below, none_below}
+use Rattle.synth_engine.proofs.ConcludedLemmas.{all_settled, environment_found, environment_settled, found_below, none_below, with_machine, without_machine}
 use Rattle.synth_engine.proofs.PlanLemmas.{tasks_of_none}
 use Rattle.synth_engine.proofs.concluding.settle_all.Goals as goal
 use Rattle.synth_engine.proofs.concluding.settle_all.Goals.{In_ok-machine, In_ok-of_environment}
@@ -46,14 +46,13 @@ nothing_here g c s e settings left is =
 pub returns-in-Some : goal.returns-in-Some
 returns-in-Some g c = λ s e settings left.
     let here = system_here g (goal.at.returns-in-Some g c).In_ok-machine s e settings left in
-    let below = found_below System settings (allowed_sizes s settings.max) c.in_ok-machine.field-0.logs.items c.in_ok-machine.field-0.machine c.in-Some.machine s here c.in-Some.is
-    left.of_system.of_side (omega arith) in
-    c.with_machine.ensures s e settings below
+    with_machine s e settings (record { side = System; machine = c.in-Some.machine }) c.in_ok-machine.field-0.logs
+    (found_below settings (allowed_sizes s settings.max) c.in_ok-machine.field-0.logs.items c.in_ok-machine.field-0.machine c.in-Some.machine s here c.in-Some.is (omega arith))
 
 pub returns-in-Some-machine : goal.returns-in-Some-machine
 returns-in-Some-machine g c = λ s e settings left.
     let at = (goal.at.returns-in-Some-machine g c).In_ok-of_environment in
-    c.with_machine-in-Some-machine.ensures s e settings
+    with_machine s e settings (record { side = Environment; machine = c.in-Some-machine.machine }) c.in_ok-of_environment.of_environment.logs
     (environment_found s e settings c.in_ok-of_environment.of_environment.logs.items c.in_ok-of_environment.of_environment.machine c.in-Some-machine.machine c.in-Some-machine.is
     (environment_here g at s e settings left) (nothing_here g at s e settings left))
 
@@ -64,6 +63,6 @@ returns g c = λ s e settings left.
     let of_system = none_below settings (allowed_sizes s settings.max) c.in_ok-machine.field-0.logs.items c.in_ok-machine.field-0.machine s here c.in_default.not-Some in
     let of_environment = environment_settled s e settings c.in_ok-of_environment.of_environment.logs.items c.in_ok-of_environment.of_environment.machine c.in_default-machine.not-Some
     (environment_here g at s e settings left) (nothing_here g at s e settings left) in
-    c.without_machine.ensures s e settings
+    without_machine s e settings c.append.new.self
     (all_settled s e settings c.in_ok-machine.field-0.logs.items c.in_ok-of_environment.of_environment.logs.items c.append.new.self.items left.of_system.of_side of_system of_environment
     c.in_ok-append.ensures.items)

@@ -1,15 +1,10 @@
 use Rattle.std.proofs.Common.{◌≡◌, ◌+◌, length, refl, sym, ◌∙◌, arith}
-use Rattle.std.specs.Prelude.{IfOk}
-use Rattle.synth_engine.specs.declared.outcomes.Outcome.{Outcome}
-use Rattle.letter_word.specs.declared.kinds.Side.TheVariants.{Environment}
-use Rattle.synth_engine.specs.Outcomes.{ClosedRefute, HasNoEntries, HasNoSize, IsBounded, IsDecisive, IsSmallest, OfSide, OnBounded, OnNoEntries, OnNoSize, OnReal, OnUnreal, logs_of}
 use Rattle.synth_engine.specs.Plans.{AreSizesOf, AreWorkersOf, IsWinner, named_of}
-use Rattle.synth_engine.specs.Concluded.{IsOutcomeOf}
 use Rattle.synth_engine.proofs.HandLemmas.{push_count}
 use Rattle.synth_engine.proofs.PlanLemmas.{environment_crews, system_crews}
-use Rattle.synth_engine.proofs.SearchLemmas.{all_left, environment_seats, if_ok, plan_named, sizes_fit, system_seats, winner_is, winner_some, winner_within, workers_back, workers_pop}
+use Rattle.synth_engine.proofs.SearchLemmas.{all_left, environment_seats, plan_named, sizes_fit, system_seats, winner_is, winner_some, winner_within, workers_back, workers_pop}
 use Rattle.synth_engine.proofs.searching.search.Goals as goal
-use Rattle.synth_engine.proofs.searching.search.Goals.{After-conclude, In-Some, In_ok-of_system}
+use Rattle.synth_engine.proofs.searching.search.Goals.{In-Some, In_ok-of_system}
 
 -- the plan's sizes, and its workers
 sizes_are : (g : _) (c : In-Some g) → AreSizesOf c.new-plan.result c.args.settings c.in_ok-sizes.sizes
@@ -44,20 +39,20 @@ run_workers-requires-clause-crews g c κs within =
 back_are : (g : _) (c : In_ok-of_system g) → AreWorkersOf c.in_ok-sizes.sizes c.args.settings.workers c.push.new.self.items
 back_are g c =
     let popped : c.pop.new.self.len ≡ length c.pop.new.self.items = c.pop.new.self.ok.0 in
-    let raced : c.in_ok-winner.crews.len ≡ length c.in_ok-winner.crews.items = c.in_ok-winner.crews.ok.0 in
-    let count = c.in_ok-winner.ensures.count in
-    workers_back c.in_ok-sizes.sizes c.args.settings.workers c.in_ok-sizes.crews.items c.pop.new.self.items c.in_ok-winner.crews.items c.push.new.self.items c.in-Some.own c.run_workers.new.own
-    (rw c.in_ok-sizes.ensures.sizes c.in_ok-sizes.ensures.crews) c.in-Some.ensures.items c.in_ok-winner.ensures.crews (omega arith) (λ i d h. c.in_ok-winner.ensures.numbers i d (omega arith)) c.in_ok-winner.ensures.own
-    c.in_ok-winner.ensures.own_number c.in_ok-push.ensures.items
+    let raced : c.in_ok-found.crews.len ≡ length c.in_ok-found.crews.items = c.in_ok-found.crews.ok.0 in
+    let count = c.in_ok-found.ensures.count in
+    workers_back c.in_ok-sizes.sizes c.args.settings.workers c.in_ok-sizes.crews.items c.pop.new.self.items c.in_ok-found.crews.items c.push.new.self.items c.in-Some.own c.run_workers.new.own
+    (rw c.in_ok-sizes.ensures.sizes c.in_ok-sizes.ensures.crews) c.in-Some.ensures.items c.in_ok-found.ensures.crews (omega arith) (λ i d h. c.in_ok-found.ensures.numbers i d (omega arith)) c.in_ok-found.ensures.own
+    c.in_ok-found.ensures.own_number c.in_ok-push.ensures.items
 
 back_count : (g : _) (c : In_ok-of_system g) → length c.push.new.self.items ≡ c.args.settings.workers + 1
 back_count g c =
     let popped : c.pop.new.self.len ≡ length c.pop.new.self.items = c.pop.new.self.ok.0 in
-    let raced : c.in_ok-winner.crews.len ≡ length c.in_ok-winner.crews.items = c.in_ok-winner.crews.ok.0 in
-    let count = c.in_ok-winner.ensures.count in
+    let raced : c.in_ok-found.crews.len ≡ length c.in_ok-found.crews.items = c.in_ok-found.crews.ok.0 in
+    let count = c.in_ok-found.ensures.count in
     let all : length c.in_ok-sizes.crews.items ≡ c.args.settings.workers + 1 = c.in_ok-sizes.ensures.count in
     let one : length c.in_ok-sizes.crews.items ≡ length c.pop.new.self.items + 1 = push_count c.in_ok-sizes.crews.items c.pop.new.self.items c.in-Some.own c.in-Some.ensures.items in
-    let later : length c.push.new.self.items ≡ length c.in_ok-winner.crews.items + 1 = push_count c.push.new.self.items c.in_ok-winner.crews.items c.run_workers.new.own c.in_ok-push.ensures.items in
+    let later : length c.push.new.self.items ≡ length c.in_ok-found.crews.items + 1 = push_count c.push.new.self.items c.in_ok-found.crews.items c.run_workers.new.own c.in_ok-push.ensures.items in
     omega arith
 
 all_sizes : (g : _) (c : In_ok-of_system g) → AreSizesOf c.new-plan.result c.args.settings c.in_ok-sizes.sizes
@@ -75,50 +70,16 @@ conclude-requires-clause-environment g c =
     environment_seats c.new-plan.result c.args.settings c.in_ok-sizes.sizes c.push.new.self.items _ (all_sizes g at) (back_count g at)
     (environment_crews c.in_ok-sizes.sizes c.args.settings.workers c.push.new.self.items (back_are g at)) refl c.in_ok-of_system.ensures.environment
 
-pub conclude-requires-clause-winner : goal.conclude-requires-clause-winner
-conclude-requires-clause-winner g c = λ w is.
-    let at = (goal.at.conclude-requires-clause-winner g c).In_ok-of_system in
-    let winner : IsWinner (named_of c.new-plan.result) w = rw is at c.in_ok-winner.ensures.winner in
+pub conclude-requires-clause-found : goal.conclude-requires-clause-found
+conclude-requires-clause-found g c = λ w is.
+    let at = (goal.at.conclude-requires-clause-found g c).In_ok-of_system in
+    let winner : IsWinner (named_of c.new-plan.result) w = rw is at c.in_ok-found.ensures.winner in
     let within = winner_within c.args.system c.args.environment c.args.settings.max c.args.settings c.new-plan.result c.in_ok-sizes.sizes w c.new-plan.ensures (all_sizes g at) winner in
     (winner_some (named_of c.new-plan.result) w winner, within.0, within.1)
 
--- all that is promised
-outcome : (g : _) (c : After-conclude g) → IfOk c.conclude.result (IsOutcomeOf c.args.system c.args.environment c.args.settings)
-outcome g c =
+pub returns : goal.returns
+returns g c =
     c.conclude.ensures c.args.system c.args.environment c.args.settings
     (all_left c.args.system c.args.environment c.args.settings c.new-plan.result c.in_ok-sizes.sizes _ _ c.new-plan.ensures (rw c.in_ok-sizes.ensures.sizes c.in_ok-field.ensures.sizes) c.requires.system
     c.requires.environment refl refl)
-    (winner_is c.args.system c.args.environment c.args.settings c.new-plan.result c.in_ok-winner.winner c.new-plan.ensures c.in_ok-winner.ensures.winner)
-
-pub returns-clause-real : goal.returns-clause-real
-returns-clause-real g c =
-    if_ok (IsOutcomeOf c.args.system c.args.environment c.args.settings) (OnReal (IsSmallest c.args.system c.args.settings)) c.conclude.result (λ x is. is.real) (outcome g (goal.at.returns-clause-real g c).After-conclude)
-
-pub returns-clause-unreal : goal.returns-clause-unreal
-returns-clause-unreal g c =
-    if_ok (IsOutcomeOf c.args.system c.args.environment c.args.settings) (OnUnreal (λ machine logs. OfSide c.args.system c.args.environment (λ p. IsSmallest p c.args.settings machine logs) Environment)) c.conclude.result
-    (λ x is. is.unreal) (outcome g (goal.at.returns-clause-unreal g c).After-conclude)
-
-pub returns-clause-bounded : goal.returns-clause-bounded
-returns-clause-bounded g c =
-    if_ok (IsOutcomeOf c.args.system c.args.environment c.args.settings) (OnBounded (λ side machine logs. OfSide c.args.system c.args.environment (λ p. IsBounded p c.args.settings machine logs) side)) c.conclude.result
-    (λ x is. is.bounded) (outcome g (goal.at.returns-clause-bounded g c).After-conclude)
-
-pub returns-clause-no_size : goal.returns-clause-no_size
-returns-clause-no_size g c =
-    if_ok (IsOutcomeOf c.args.system c.args.environment c.args.settings) (OnNoSize (HasNoSize c.args.system c.args.environment c.args.settings)) c.conclude.result (λ x is. is.no_size)
-    (outcome g (goal.at.returns-clause-no_size g c).After-conclude)
-
-pub returns-clause-no_entries : goal.returns-clause-no_entries
-returns-clause-no_entries g c =
-    if_ok (IsOutcomeOf c.args.system c.args.environment c.args.settings) (OnNoEntries (HasNoEntries c.args.system c.args.environment c.args.settings)) c.conclude.result (λ x is. is.no_entries)
-    (outcome g (goal.at.returns-clause-no_entries g c).After-conclude)
-
-pub returns-clause-refuted : goal.returns-clause-refuted
-returns-clause-refuted g c =
-    if_ok (IsOutcomeOf c.args.system c.args.environment c.args.settings) (λ (x : Outcome). ClosedRefute c.args.system c.args.environment c.args.settings (logs_of x)) c.conclude.result (λ x is. is.refuted)
-    (outcome g (goal.at.returns-clause-refuted g c).After-conclude)
-
-pub returns-clause-decisive : goal.returns-clause-decisive
-returns-clause-decisive g c = λ cannot.
-    if_ok (IsOutcomeOf c.args.system c.args.environment c.args.settings) IsDecisive c.conclude.result (λ x is. is.decisive cannot) (outcome g (goal.at.returns-clause-decisive g c).After-conclude)
+    (winner_is c.args.system c.args.environment c.args.settings c.new-plan.result c.in_ok-found.found c.new-plan.ensures c.in_ok-found.ensures.winner)

@@ -2,7 +2,8 @@ use Rattle.std.proofs.Common.{◌≡◌, ◌+◌, length}
 use Rattle.machine_model.specs.declared.problems.Problem.{Problem}
 use Rattle.synth_engine.specs.declared.settings.Settings.{Settings}
 use Rattle.synth_engine.specs.Tasks.{AreTasks}
-use Rattle.synth_engine.specs.Settled.{AreSettled, HasItsSeats}
+use Rattle.synth_engine.specs.Outcomes.{AreSettled}
+use Rattle.synth_engine.specs.Settled.{HasItsSeats}
 use Rattle.synth_engine.proofs.settling.Unsettled.settle.Given as goal
 
 abbrev pub invariant-loop : goal.invariant-loop
