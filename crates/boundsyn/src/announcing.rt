@@ -1,6 +1,6 @@
 //! Who hears what `solve` tells, and says at once that something is found.
 
-use diagnostics::found_line;
+use diagnostics::{Phase, found_line, phase_line};
 use letter_word::Side;
 use solve_told::{Listener, News, Told};
 use std::alloc::Global;
@@ -16,17 +16,36 @@ pub struct Announcer<'a, R: Eprint> {
     pub told: Option<Told>,
     /// Whether a line was written.
     pub is_announced: bool,
+    /// Whether phases are told of, too.
+    pub tells_phases: bool,
 }
 
 impl<'a, R: Eprint> Announcer<'a, R> {
     /// Where there is no name nothing is written.
-    pub fn new(rt: &'a R, alloc: Global, name: Option<&'a str>) -> Announcer<'a, R> {
+    pub fn new(
+        rt: &'a R,
+        alloc: Global,
+        name: Option<&'a str>,
+        tells_phases: bool,
+    ) -> Announcer<'a, R> {
         Announcer {
             rt,
             alloc,
             name,
             told: None,
             is_announced: false,
+            tells_phases,
+        }
+    }
+
+    /// Writes that a phase begins, where that is wanted.
+    fn begin(&self, phase: Phase) -> io::Result<()> {
+        match self.name {
+            Some(name) if self.tells_phases => {
+                let line = phase_line(self.alloc, name, phase)?;
+                self.rt.eprint(line.as_str())
+            },
+            _ => Ok(()),
         }
     }
 
@@ -47,6 +66,12 @@ impl<'a, R: Eprint> Announcer<'a, R> {
 impl<'a, R: Eprint> Listener for Announcer<'a, R> {
     fn hear(&mut self, news: News) {
         match news {
+            News::Playing => {
+                let _ = self.begin(Phase::Playing);
+            },
+            News::Searching => {
+                let _ = self.begin(Phase::Searching);
+            },
             News::Found(side, states) => {
                 self.is_announced = self.announce(side, states).unwrap_or(false);
             },

@@ -1,4 +1,4 @@
-use diagnostics::{SizeTurns, progress_line};
+use diagnostics::{SizeTurns, batch_line, progress_line};
 use letter_word::Side;
 use outside_edge::{Gate, Moment};
 use std::alloc::{AllocError, Global};
@@ -7,10 +7,14 @@ use std::rt::Clock;
 use std::sync::atomic::{AtomicBool, AtomicU64, Ordering};
 use std::time::Instant;
 
-/// The logs of sizes 1 to 8 of both sides have numbers below this.
-const LOGS: usize = 18;
+/// The logs of sizes 1 to 16 of both sides have numbers below this.
+const LOGS: usize = 34;
 
-/// What is counted at one log.
+/// The most texts of a batch.
+const TEXTS: usize = 64;
+
+/// What is counted at one log, or, where many texts are answered, at one text: it has one turn once it is taken, and one entry once it is
+/// answered.
 #[derive(Drop)]
 struct Counts {
     turns: AtomicU64,
@@ -20,7 +24,7 @@ struct Counts {
 }
 
 /// A gate that holds nobody back, and remembers that somebody passed. Where lines are wanted it counts the turns and entries at each
-/// log, and whoever passes first after a second has gone by writes one to standard error.
+/// log, or which texts of a batch are taken and answered, and whoever passes first after a second has gone by writes one to standard error.
 #[derive(Drop)]
 pub struct CountingGate<'a, R: Clock + Eprint> {
     rt: &'a R,
@@ -28,6 +32,8 @@ pub struct CountingGate<'a, R: Clock + Eprint> {
     start: Option<Instant>,
     /// The most entries of a log, as far as lines tell of them.
     limit: Option<u64>,
+    /// How many files were taken, where they are a list and the texts of a batch.
+    batch: Option<&'a AtomicU64>,
     /// How many seconds have been told of.
     told: AtomicU64,
     is_passed: AtomicBool,
@@ -42,9 +48,11 @@ impl<'a, R: Clock + Eprint> CountingGate<'a, R> {
         alloc: Global,
         is_wanted: bool,
         limit: Option<u64>,
+        batch: Option<&'a AtomicU64>,
     ) -> Result<CountingGate<'a, R>, AllocError> {
-        let mut counts = Vec::with_capacity(alloc, LOGS)?;
-        for _ in 0..LOGS {
+        let places = if batch.is_some() { TEXTS } else { LOGS };
+        let mut counts = Vec::with_capacity(alloc, places)?;
+        for _ in 0..places {
             counts.push(Counts {
                 turns: AtomicU64::new(0),
                 told: AtomicU64::new(0),
@@ -61,6 +69,7 @@ impl<'a, R: Clock + Eprint> CountingGate<'a, R> {
             alloc,
             start,
             limit,
+            batch,
             told: AtomicU64::new(0),
             is_passed: AtomicBool::new(false),
             counts,
@@ -88,11 +97,29 @@ impl<'a, R: Clock + Eprint> CountingGate<'a, R> {
 
     /// Writes the line.
     fn tell(&self, seconds: u64) -> io::Result<()> {
-        let line = self.line(seconds)?;
+        let line = match self.batch {
+            Some(files) => self.line_of_texts(seconds, files)?,
+            None => self.line_of_logs(seconds)?,
+        };
         self.rt.eprint(line.as_str())
     }
 
-    fn line(&self, seconds: u64) -> Result<String, AllocError> {
+    /// The line on the texts of a batch, which are the files that were taken but the list.
+    fn line_of_texts(&self, seconds: u64, files: &AtomicU64) -> Result<String, AllocError> {
+        let texts = files.load(Ordering::SeqCst).saturating_sub(1);
+        let mut answered = 0usize;
+        let mut at_work = Vec::new(self.alloc);
+        for (place, counts) in (1usize..usize::MAX).zip(&self.counts) {
+            if counts.entries.load(Ordering::SeqCst) > 0 {
+                answered = answered.saturating_add(1);
+            } else if counts.turns.load(Ordering::SeqCst) > 0 && place as u64 <= texts {
+                at_work.push(place)?;
+            }
+        }
+        batch_line(self.alloc, seconds, answered, texts, &at_work)
+    }
+
+    fn line_of_logs(&self, seconds: u64) -> Result<String, AllocError> {
         let mut sizes = Vec::new(self.alloc);
         for (log, counts) in self.counts.iter().enumerate() {
             let all = counts.turns.load(Ordering::SeqCst);

@@ -4,15 +4,18 @@ ghost use Rattle.std.specs.Prelude.{◌≡◌};
 
 use diagnostics::{Heard, KeptFiles};
 use outside_edge::{Shelf, ShelfFault, Sink, SinkFault};
+use std::sync::atomic::{AtomicU64, Ordering};
 
-/// A shelf that hands on what another one gives, and keeps copies.
+/// A shelf that hands on what another one gives, keeps copies, and counts the files.
 #[derive(Drop)]
-pub struct KeepingShelf<H: Shelf> {
+pub struct KeepingShelf<'a, H: Shelf> {
     pub inner: H,
     pub kept: KeptFiles,
+    /// How often a file was taken whole.
+    pub taken: &'a AtomicU64,
 }
 
-impl<H: Shelf> Shelf for KeepingShelf<H> {
+impl<'a, H: Shelf> Shelf for KeepingShelf<'a, H> {
     ghost files = { λ shelf. H.files shelf.inner };
 
     ghost faults = { λ shelf name. H.faults shelf.inner name };
@@ -20,6 +23,7 @@ impl<H: Shelf> Shelf for KeepingShelf<H> {
     fn take(&mut self, name: &str, limit: u64, into: &mut Vec<u8>) -> Result<(), ShelfFault> {
         let start = into.len();
         let outcome = self.inner.take(name, limit, into);
+        self.taken.fetch_add(1, Ordering::SeqCst);
         let taken = into.get(start..).unwrap_or(b"");
         keep(&mut self.kept, name, outcome, taken);
         outcome

@@ -13,13 +13,14 @@ use counting_gate::CountingGate;
 use diagnostics::{Heard, KeptFiles, OwnWords, Seen, message, read_own_words};
 use listening::{HearingSink, KeepingShelf};
 use outside_edge::{FileShelf, StdSink};
-use program_words::read_wishes;
+use program_words::{Wishes, read_wishes};
 use std::alloc::{AllocError, Global};
 use std::env;
 use std::io::{Error, ErrorKind};
 use std::process::ExitCode;
 use std::rt::{Clock, Files};
 use std::sync::Wait;
+use std::sync::atomic::AtomicU64;
 use std::thread::Threads;
 
 /// The status where memory runs out before there are words.
@@ -96,22 +97,34 @@ fn seen_of_run<'a>(
     }
 }
 
+/// The most entries of a log, where all logs have the same.
+fn limit_of(wishes: &Wishes<'_>) -> Option<u64> {
+    match wishes.solving {
+        Some(solving) => solving.entries,
+        None => wishes.entries,
+    }
+}
+
 /// Runs the words, tells what own words want, and gives the exit status.
 fn run_words<R>(rt: &R, alloc: Global, words: &[String], own: OwnWords) -> Result<u8, AllocError>
 where
     R: Files + Print + Eprint + Clock + Threads + Wait + Sync,
 {
     let wishes = read_wishes(alloc, words);
-    let gate = CountingGate::new(rt, alloc, own.progress, wishes.entries)?;
+    let taken = AtomicU64::new(0);
+    let batch = if wishes.is_batch { Some(&taken) } else { None };
+    let gate = CountingGate::new(rt, alloc, own.progress, limit_of(&wishes), batch)?;
     let mut shelf = KeepingShelf {
         inner: FileShelf::new(rt, alloc),
         kept: KeptFiles::new(alloc),
+        taken: &taken,
     };
     let mut out = HearingSink {
         inner: StdSink::new(rt),
         heard: Heard::new(alloc, wishes.is_batch),
     };
-    let mut announcer = Announcer::new(rt, alloc, if own.quiet { None } else { wishes.spec });
+    let name = if own.quiet { None } else { wishes.spec };
+    let mut announcer = Announcer::new(rt, alloc, name, own.progress);
     let status = run(
         rt,
         alloc,

@@ -34,7 +34,7 @@ pub use heard::Heard;
 pub use kept::{KeptFile, KeptFiles};
 pub use messages::{Seen, message};
 pub use own_words::{OwnWords, read_own_words};
-pub use progress::{SizeTurns, progress_line};
+pub use progress::{Phase, SizeTurns, batch_line, phase_line, progress_line};
 pub use solved::found_line;
 
 /// The version of the program, which is that of the file VERSION.

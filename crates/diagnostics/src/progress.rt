@@ -1,4 +1,5 @@
 use letter_word::Side;
+use shown_text::push_shown;
 use std::alloc::{AllocError, Global};
 use std::fmt::Write;
 
@@ -75,4 +76,48 @@ fn piece(alloc: Global, turns: SizeTurns, limit: Option<u64>) -> Result<String, 
     }
     piece.push(';')?;
     Ok(piece)
+}
+
+/// What `solve` does with a text for a while.
+#[derive(Clone, Copy)]
+pub enum Phase {
+    /// Both sides play.
+    Playing,
+    /// Machines of small sizes are searched, since the games gave nothing to print.
+    Searching,
+}
+
+/// The line for the moment at which a phase begins.
+pub fn phase_line(alloc: Global, name: &str, phase: Phase) -> Result<String, AllocError> {
+    let mut line = String::new(alloc);
+    push_shown(alloc, name.as_bytes(), &mut line)?;
+    line.push_str(match phase {
+        Phase::Playing => ": the games begin\n",
+        Phase::Searching =>
+            ": the games give nothing to print; now searching small machines of both sides\n",
+    })?;
+    Ok(line)
+}
+
+/// The line on a batch that runs so many seconds: how many of its texts are answered, and on which lines of the list those stand that are
+/// at work.
+pub fn batch_line(
+    alloc: Global,
+    seconds: u64,
+    answered: usize,
+    texts: u64,
+    at_work: &[usize],
+) -> Result<String, AllocError> {
+    let mut line = format!(in alloc; "{seconds} s: texts answered {answered} of {texts}")?;
+    let first = if at_work.len() == 1 {
+        "; at work on line"
+    } else {
+        "; at work on lines"
+    };
+    for (number, place) in at_work.iter().enumerate() {
+        let before = if number == 0 { first } else { "," };
+        write!(line, "{before} {place}")?;
+    }
+    line.push('\n')?;
+    Ok(line)
 }

@@ -1,13 +1,15 @@
-//! Both sides of a text, played in turn.
+//! Both sides of a text, played by rounds.
 
 use crate::circuits::circuit_of;
 use crate::making::machine_of;
+use crate::sides::Sides;
 use aiger_text::Circuit;
 use game_arena::{Arena, Meter, Player, Stop};
 use letter_word::{Kind, Side};
 use machine_model::Automaton;
-use safety_game::{Budget, Rounds, Win};
+use safety_game::{Budget, Win};
 use std::alloc::{AllocError, Global};
+use std::thread::Threads;
 use text_base::Name;
 
 /// What is played for: the signals by their names, the kind of the system's machines, and for each side that plays an automaton that
@@ -51,21 +53,20 @@ pub enum End {
     Steps,
 }
 
-/// The first game of each side may take so many steps, or an eighth of the budget where that is less, so that each game has its turn.
-/// From round to round there are four times as many.
-const FIRST_SLICE: u64 = 50_000;
-
-/// Plays both sides in turn until one of them wins, no game is left that could be won, or the budget is used up. An error says that
-/// memory ran out.
-pub fn find(alloc: Global, contest: Contest<'_>, budget: Budget) -> Result<Outcome, AllocError> {
+/// Plays rounds of both sides until one of them wins, no game is left that could be won, or the budget is used up. Where there are two
+/// workers, each side has a thread of its own; what is found is the same. An error says that memory ran out.
+pub fn find<R: Threads>(
+    rt: &R,
+    alloc: Global,
+    contest: Contest<'_>,
+    budget: Budget,
+    workers: u32,
+) -> Result<Outcome, AllocError> {
     let mut left = budget;
     let system = contest.arena(alloc, Side::System, &mut left)?;
     let environment = contest.arena(alloc, Side::Environment, &mut left)?;
-    let mut sides = Vec::new(alloc);
-    for arena in system.iter().chain(&environment) {
-        sides.push(Rounds::new(alloc, arena)?)?;
-    }
-    match first_win(&mut sides, &mut left)? {
+    let mut sides = Sides::new(alloc, system.as_ref(), environment.as_ref())?;
+    match sides.first_win(rt, workers, &mut left)? {
         Some(win) => contest.found(alloc, win),
         None => Ok(Outcome::NoWin(end_of(left))),
     }
@@ -78,28 +79,6 @@ fn end_of(left: Budget) -> End {
     } else {
         End::Over
     }
-}
-
-/// Plays rounds of both sides until one wins.
-fn first_win<'a>(
-    sides: &mut [Rounds<'a>],
-    left: &mut Budget,
-) -> Result<Option<Win<'a>>, AllocError> {
-    let mut slice = FIRST_SLICE.min(left.steps / 8);
-    for _ in 0..64 {
-        let mut is_over = true;
-        for rounds in sides.iter_mut() {
-            if let Some(win) = rounds.play(left, slice)? {
-                return Ok(Some(win));
-            }
-            is_over = is_over && rounds.are_over();
-        }
-        if is_over || left.steps == 0 {
-            break;
-        }
-        slice = slice.saturating_mul(4);
-    }
-    Ok(None)
 }
 
 impl Contest<'_> {

@@ -1,4 +1,4 @@
-//! Games of both sides of a text. `find` plays them in turn, makes the win of the first that wins small, and gives a circuit of it, in
+//! Games of both sides of a text. `find` plays them by rounds, makes the win of the first that wins small, and gives a circuit of it, in
 //! which no table of all letters is made. Proved is that it is safe and returns; what it gives is tested by who uses it. It stands on
 //! safety_game for the games, and on aiger_text for circuits.
 #![tactic(auto)]
@@ -14,6 +14,7 @@ mod given_tables;
 mod great_positions;
 mod making;
 mod products;
+mod sides;
 mod spare_positions;
 
 pub use finding::{Contest, End, Found, Outcome, find};

@@ -26,7 +26,7 @@ fn main(rt: HostRuntime) -> anyhow::Result<()> {
         let count = input.read_until(b'\n', &mut line)?;
         if count == 0 || line.starts_with(HEADING) {
             if !heading.is_empty() {
-                push_row(alloc, &mut out, &heading, &text)?;
+                push_row(&rt, alloc, &mut out, &heading, &text)?;
             }
             heading.clear();
             text.clear();

@@ -7,13 +7,15 @@ use letter_word::Side;
 use machine_model::{Automaton, Edge, Problem};
 use spec_problems::{TextProblems, text_problems};
 use std::alloc::{AllocError, Global};
+use std::thread::Threads;
 
 const MOST_POSITIONS: usize = 100_000;
 
 const MOST_BYTES: usize = 1_000_000_000;
 
 /// A heading, and what comes of its text.
-pub(crate) fn push_row(
+pub(crate) fn push_row<R: Threads>(
+    rt: &R,
     alloc: Global,
     out: &mut Vec<u8>,
     heading: &[u8],
@@ -21,7 +23,7 @@ pub(crate) fn push_row(
 ) -> Result<(), AllocError> {
     out.extend_from_slice(heading)?;
     match text_problems(alloc, text, None, 1) {
-        Ok(problems) => push_play(alloc, out, Heading::of(heading), &problems),
+        Ok(problems) => push_play(rt, alloc, out, Heading::of(heading), &problems),
         Err(fault) => {
             let line = format!(in alloc; "{fault}\n")?;
             out.extend_from_slice(line.as_bytes())
@@ -29,8 +31,9 @@ pub(crate) fn push_row(
     }
 }
 
-/// Plays the sides that the heading names.
-fn push_play(
+/// Plays the sides that the heading names, with one worker and with two, which have to find the same.
+fn push_play<R: Threads>(
+    rt: &R,
     alloc: Global,
     out: &mut Vec<u8>,
     heading: Heading,
@@ -39,12 +42,31 @@ fn push_play(
     let system = told(alloc, text, Side::System, heading.slip)?;
     let environment = told(alloc, text, Side::Environment, heading.slip)?;
     let contest = contest(text, heading, system.as_ref(), environment.as_ref());
-    let Outcome::Found(found) = find(alloc, contest, budget(heading))? else {
+    let by_one = find(rt, alloc, contest, budget(heading), 1)?;
+    let by_two = find(rt, alloc, contest, budget(heading), 2)?;
+    if !are_alike(&by_one, &by_two) {
+        return out.extend_from_slice(b"two workers find something else\n");
+    }
+    let Outcome::Found(found) = by_one else {
         return out.extend_from_slice(b"nobody\n");
     };
     match problem_of(text, found.side) {
         Some(problem) => push_found(alloc, out, problem, &found, heading),
         None => out.extend_from_slice(b"a side that has no automaton\n"),
+    }
+}
+
+/// Whether two outcomes say the same.
+fn are_alike(one: &Outcome, other: &Outcome) -> bool {
+    match (one, other) {
+        (Outcome::Found(one), Outcome::Found(other)) => {
+            one.side == other.side
+                && one.states == other.states
+                && one.circuit.gates == other.circuit.gates
+        }
+        (Outcome::NoWin(one), Outcome::NoWin(other)) => one == other,
+        (Outcome::NoCircuit(one), Outcome::NoCircuit(other)) => one == other,
+        _ => false,
     }
 }
 

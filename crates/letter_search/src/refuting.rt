@@ -1,5 +1,6 @@
 //! One size after another.
 use crate::sizes::{SmallMachine, Trial, Tried};
+use outside_edge::Gate;
 use size_refutations::Ground;
 use solved_text::SizeLog;
 use std::alloc::{AllocError, Global};
@@ -48,6 +49,10 @@ const MOST_WORKERS: u32 = 64;
 /// Where no greatest size is given, a size, or a next list of its letters, is begun while its own base clauses and those of all closed logs are
 /// at most so many in all.
 const FEW_CLAUSES: u64 = 500_000;
+
+/// And it is begun only where the edges of the side's automaton, each with each of the letters, are at most so many. To look at them takes
+/// about a second.
+const FEW_LOOKS: u64 = 1 << 28;
 
 /// The sizes of one side, which are tried one after the other.
 #[derive(Drop)]
@@ -98,8 +103,8 @@ impl<'a, 'b> Sizes<'a, 'b> {
         self.trial().first_count().unwrap_or(u64::MAX)
     }
 
-    /// Tries the next size, if there is one.
-    pub fn step<R: Threads + Wait + Sync>(&mut self, rt: &R) {
+    /// Tries the next size, if there is one. Each worker passes the gate at each turn.
+    pub fn step<R: Threads + Wait + Sync, G: Gate + Sync>(&mut self, rt: &R, gate: &G) {
         if self.is_ended() {
             return;
         }
@@ -108,7 +113,7 @@ impl<'a, 'b> Sizes<'a, 'b> {
             return;
         }
         let size = self.next;
-        let end = match self.trial().tried(rt) {
+        let end = match self.trial().tried(rt, gate) {
             Ok(Tried::Refuted(log)) => self.keep(log),
             Ok(Tried::Found(machine)) => Some(Ended::Found(size, machine)),
             Ok(Tried::Full) => Some(Ended::Full(size)),
@@ -124,6 +129,10 @@ impl<'a, 'b> Sizes<'a, 'b> {
             ground: self.ground,
             size: self.next,
             clauses: self.left,
+            looks: match self.effort.max {
+                Some(_) => u64::MAX,
+                None => FEW_LOOKS,
+            },
             entries: self.effort.entries,
             workers: self.effort.workers.clamp(1, MOST_WORKERS),
         }
@@ -157,20 +166,22 @@ impl<'a, 'b> Sizes<'a, 'b> {
     }
 }
 
-/// Refutes the sizes 1, 2 and so on below a known one, as far as the effort goes. Where memory runs out, the logs so far are given.
-pub fn refute_sizes<R: Threads + Wait + Sync>(
+/// Refutes the sizes 1, 2 and so on below a known one, as far as the effort goes. Where memory runs out, the logs so far are given. Each worker passes the
+/// gate at each turn.
+pub fn refute_sizes<R: Threads + Wait + Sync, G: Gate + Sync>(
     rt: &R,
     alloc: Global,
     ground: &Ground<'_>,
     known: u32,
     effort: Effort,
+    gate: &G,
 ) -> Refutations {
     let mut sizes = Sizes::new(alloc, ground, known, effort);
     for _ in 0..MOST_STATES + 1 {
         if sizes.is_ended() {
             break;
         }
-        sizes.step(rt);
+        sizes.step(rt, gate);
     }
     sizes.into_refutations()
 }

@@ -7,10 +7,11 @@ use crate::decoding::Decoding;
 use crate::filling::{Filled, Filling};
 use crate::letters::{Choice, Chosen};
 use crate::tracks::Tracks;
-use crate::working::{Worked, search_clauses};
+use crate::working::{Passage, Worked, search_clauses};
 use clause_base::{Assignment, Cnf};
 use letter_word::Side;
 use machine_model::{Problem, Row};
+use outside_edge::Gate;
 use refutation_log::Entry;
 use size_refutations::Ground;
 use solved_text::SizeLog;
@@ -44,6 +45,8 @@ pub(crate) struct Trial<'a, 'b> {
     pub(crate) size: u32,
     /// The most base clauses.
     pub(crate) clauses: u64,
+    /// The most looks at an edge with a letter that counting them may take.
+    pub(crate) looks: u64,
     /// The most entries of a log.
     pub(crate) entries: Option<u64>,
     pub(crate) workers: u32,
@@ -61,10 +64,14 @@ const LISTS: u32 = 3;
 
 impl Trial<'_, '_> {
     /// Tries a size over few letters, over some more where these leave gaps, and then over all.
-    pub(crate) fn tried<R: Threads + Wait + Sync>(&self, rt: &R) -> Result<Tried, AllocError> {
+    pub(crate) fn tried<R: Threads + Wait + Sync, G: Gate + Sync>(
+        &self,
+        rt: &R,
+        gate: &G,
+    ) -> Result<Tried, AllocError> {
         let mut chosen = Chosen::first(self.alloc, self.ground.reads())?;
         for _ in 0..LISTS {
-            match self.tried_over(rt, chosen)? {
+            match self.tried_over(rt, gate, chosen)? {
                 Next::Ends(tried) => return Ok(tried),
                 Next::GoesOn(next) => chosen = next,
             }
@@ -78,15 +85,20 @@ impl Trial<'_, '_> {
         self.ground.count(self.size, &chosen.letters).ok()?
     }
 
-    fn tried_over<R: Threads + Wait + Sync>(
+    fn tried_over<R: Threads + Wait + Sync, G: Gate + Sync>(
         &self,
         rt: &R,
+        gate: &G,
         chosen: Chosen,
     ) -> Result<Next, AllocError> {
         let Some(base) = self.base_over(&chosen.letters)? else {
             return Ok(Next::Ends(Tried::TooLarge));
         };
-        match search_clauses(rt, self.alloc, &base, self.entries, self.workers)? {
+        let passage = Passage {
+            gate,
+            log: self.log_number(),
+        };
+        match search_clauses(rt, self.alloc, &base, self.entries, self.workers, passage)? {
             Worked::Refuted(entries) => {
                 let log = self.log_of(chosen, &base, entries);
                 Ok(Next::Ends(Tried::Refuted(log)))
@@ -100,11 +112,34 @@ impl Trial<'_, '_> {
     fn base_over(&self, letters: &[u32]) -> Result<Option<Cnf>, AllocError>
         ensures { IfOk result (λ made. IfSome made (λ base. IsFormula base.vars base.clauses.items)) }
     {
+        if self.looks_over(letters) > self.looks {
+            return Ok(None);
+        }
         match self.ground.count(self.size, letters)? {
             Some(count) if count <= self.clauses => {
                 self.ground.encoded(self.alloc, self.size, letters)
             }
             _ => Ok(None),
+        }
+    }
+
+    /// The number of the size's log, as gates count them.
+    fn log_number(&self) -> u32 {
+        let system = self.size.saturating_mul(2);
+        match self.ground.problem() {
+            Some(problem) if problem.side == Side::Environment => system.saturating_add(1),
+            _ => system,
+        }
+    }
+
+    /// How many looks at an edge with a letter it takes to count base clauses over some letters.
+    fn looks_over(&self, letters: &[u32]) -> u64 {
+        match self.ground.problem() {
+            Some(problem) => {
+                let edges = problem.automaton.edges().len() as u64;
+                edges.saturating_mul(letters.len() as u64)
+            }
+            None => 0,
         }
     }
 

@@ -7,6 +7,7 @@ ghost use Rattle.text_base.specs.Prefix.{IsPrefix};
 use clause_base::{Assignment, Cnf, Lit};
 use clause_solver::laws::work_goes_on;
 use clause_solver::{Turned, Worker};
+use outside_edge::{Gate, Moment};
 use refutation_log::{Entry, LogState, Turn};
 use std::alloc::{AllocError, Global};
 use std::sync::{Mutex, Wait};
@@ -99,14 +100,29 @@ fn has_other_variable(vars: u32, lits: &[Lit]) -> bool
     lits.iter().any(|lit| lit.var() > vars)
 }
 
+/// The gate that workers pass, and the number of their log.
+#[derive_where(Clone, Copy)]
+pub(crate) struct Passage<'a, G: Gate> {
+    pub(crate) gate: &'a G,
+    pub(crate) log: u32,
+}
+
+impl<G: Gate> Passage<'_, G> {
+    /// The caller passes as the first worker.
+    fn pass(&self, number: u32, moment: Moment) {
+        self.gate.pass(number.max(1), self.log, moment);
+    }
+}
+
 /// Searches until some values meet the base clauses, or the log is closed or full. One worker is the caller itself; more have a thread
-/// each, and the caller does what they leave.
-pub(crate) fn search_clauses<R: Threads + Wait + Sync>(
+/// each, and the caller does what they leave. Each passes the gate at each of its turns.
+pub(crate) fn search_clauses<R: Threads + Wait + Sync, G: Gate + Sync>(
     rt: &R,
     alloc: Global,
     base: &Cnf,
     most: Option<u64>,
     workers: u32,
+    passage: Passage<'_, G>,
 ) -> Result<Worked, AllocError>
     requires { IsFormula base.now.vars base.now.clauses.items }
 {
@@ -115,19 +131,20 @@ pub(crate) fn search_clauses<R: Threads + Wait + Sync>(
         met: None,
     });
     if workers > 1 {
-        run_workers(rt, alloc, base, &shared, workers)?;
+        run_workers(rt, alloc, base, &shared, workers, passage)?;
     }
-    work(rt, alloc, base, &shared, 0)?;
+    work(rt, alloc, base, &shared, 0, passage)?;
     shared.into_inner().into_worked()
 }
 
 /// Lets so many workers search, each in a thread of its own where one can be made.
-fn run_workers<R: Threads + Wait + Sync>(
+fn run_workers<R: Threads + Wait + Sync, G: Gate + Sync>(
     rt: &R,
     alloc: Global,
     base: &Cnf,
     shared: &Mutex<Shared>,
     workers: u32,
+    passage: Passage<'_, G>,
 ) -> Result<(), AllocError>
     requires { IsFormula base.now.vars base.now.clauses.items }
 {
@@ -140,18 +157,19 @@ fn run_workers<R: Threads + Wait + Sync>(
         numbers,
         &|number: u32| -> bool
             requires { IsFormula base.now.vars base.now.clauses.items }
-        { work(rt, alloc, base, shared, number).is_ok() },
+        { work(rt, alloc, base, shared, number, passage).is_ok() },
     )?;
     Ok(())
 }
 
 /// The work of one worker, until the clauses are decided.
-fn work<R: Wait>(
+fn work<R: Wait, G: Gate>(
     rt: &R,
     alloc: Global,
     base: &Cnf,
     shared: &Mutex<Shared>,
     number: u32,
+    passage: Passage<'_, G>,
 ) -> Result<(), AllocError>
     requires { IsFormula base.now.vars base.now.clauses.items }
 {
@@ -162,8 +180,11 @@ fn work<R: Wait>(
         if read(rt, shared, base.vars, &mut entries)? {
             return Ok(());
         }
+        passage.pass(number, Moment::AfterRead);
         let turned = worker.turn(alloc, base, &entries)?;
+        passage.pass(number, Moment::BeforeAppend);
         shared.lock(rt).take(turned)?;
+        passage.pass(number, Moment::AfterAppend);
     }
     unreachable!()
 }

@@ -5,6 +5,7 @@ use crate::wins::Win;
 use game_arena::{Arena, Meter, Stop};
 use game_moves::{Game, Positions};
 use std::alloc::{AllocError, Global};
+use std::sync::atomic::{AtomicBool, Ordering};
 
 /// What games may use.
 #[derive(Clone, Copy)]
@@ -66,23 +67,32 @@ impl<'a> Rounds<'a> {
         self.games.iter().all(|game| game.is_over)
     }
 
-    /// Plays each game that isn't over, up to the first win, and takes the steps off the budget. A game of the first bound has so many
-    /// steps, and one of each further bound half as many.
-    pub fn play(&mut self, budget: &mut Budget, slice: u64) -> Result<Option<Win<'a>>, AllocError> {
+    /// The steps that all games took.
+    pub fn used(&self) -> u64 {
+        self.used
+    }
+
+    /// Plays each game that isn't over, up to the first win, with at most the budget's steps for all. A game of the first bound has `slice`
+    /// steps, and one of each further bound half as many. Once `is_decided` is set, they end without a win.
+    pub fn play(
+        &mut self,
+        budget: Budget,
+        slice: u64,
+        is_decided: &AtomicBool,
+    ) -> Result<Option<Win<'a>>, AllocError> {
+        let before = self.used;
         for number in 0..self.games.len() {
             let Some(rules) = self.games.get(number).copied() else {
                 break;
             };
-            if rules.is_over || budget.steps == 0 {
-                continue;
-            }
-            let steps = steps_of(slice, rules.place).min(budget.steps);
-            let before = self.used;
-            let outcome = self.play_once(rules, Budget { steps, ..*budget });
-            budget.steps = budget
+            let left = budget
                 .steps
                 .saturating_sub(self.used.saturating_sub(before));
-            match outcome {
+            if rules.is_over || left == 0 || is_decided.load(Ordering::SeqCst) {
+                continue;
+            }
+            let steps = steps_of(slice, rules.place).min(left);
+            match self.play_once(rules, Budget { steps, ..budget }, is_decided) {
                 Ok(Some(win)) => return Ok(Some(win)),
                 Ok(None) => self.end_lost(rules.bound),
                 Err(Stop::Steps) => {}
@@ -110,13 +120,18 @@ impl<'a> Rounds<'a> {
     }
 
     /// One game: its win, or None where it is lost.
-    fn play_once(&mut self, rules: Rules, budget: Budget) -> Result<Option<Win<'a>>, Stop> {
+    fn play_once(
+        &mut self,
+        rules: Rules,
+        budget: Budget,
+        is_decided: &AtomicBool,
+    ) -> Result<Option<Win<'a>>, Stop> {
         let positions = Positions::new(self.alloc, budget.positions, budget.bytes);
         let most = rules.bound.saturating_add(1);
         let meter = Meter::new(budget.steps);
         let game = Game::new(self.alloc, self.arena, positions, most, meter)?;
         let mut search = Search::new(game, rules.is_widened);
-        let outcome = search.run();
+        let outcome = search.run(is_decided);
         self.used = self.used.saturating_add(search.game.meter.used());
         if !outcome? {
             return Ok(None);

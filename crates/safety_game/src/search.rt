@@ -5,6 +5,7 @@ use game_arena::tables::{is_in, mark};
 use game_arena::{Arena, Stop};
 use game_moves::{Candidate, Class};
 use std::alloc::AllocError;
+use std::sync::atomic::{AtomicBool, Ordering};
 
 /// Of the answers to a class so many are looked at for one that stays within what is there.
 const MOST_LOOKED_AT: usize = 400;
@@ -24,11 +25,14 @@ struct Plan {
 }
 
 impl Search<'_> {
-    /// Whether the start wins.
-    pub(crate) fn run(&mut self) -> Result<bool, Stop> {
+    /// Whether the start wins. Once `is_decided` is set, there are no more steps.
+    pub(crate) fn run(&mut self, is_decided: &AtomicBool) -> Result<bool, Stop> {
         let start = self.game.start()?;
         self.add_node(start)?;
         for _ in 0..u64::MAX {
+            if is_decided.load(Ordering::SeqCst) {
+                return Err(Stop::Steps);
+            }
             self.choose_anew()?;
             if !self.is_live(0) {
                 return Ok(false);

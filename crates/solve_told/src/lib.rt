@@ -8,6 +8,10 @@ use letter_word::Side;
 /// What is told while an answer is made.
 #[derive(Clone, Copy, Debug, PartialEq, Eq)]
 pub enum News {
+    /// A text is known, and its games begin.
+    Playing,
+    /// The games give nothing to print, so small machines are searched.
+    Searching,
     /// A strategy of this side is found, whose circuit reaches so many states, and its document passes the test. Smaller sizes are tried
     /// from now on.
     Found(Side, u32),
