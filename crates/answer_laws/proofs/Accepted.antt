@@ -12,7 +12,9 @@ use Rattle.tlsf_reader.specs.Reads.{TreesAreDetermined}
 use Rattle.tlsf_expand.specs.Expansion.{Expanded}
 use Rattle.tlsf_expand.specs.FlatText.{FlatText}
 use Rattle.flat_text.specs.FlatOf.{IsFlatOf}
+use Rattle.flat_text.specs.Kinds.{of_kind}
 use Rattle.flat_text.specs.Laws.{FlatTextsAreDetermined, FlatTextsHaveNoFault}
+use Rattle.flat_text.proofs.OfKinds.{kinds}
 use Rattle.dual_search.specs.Laws.{AnswersAreApart}
 use Rattle.aiger_text.specs.FileLaws.{FilesStateOneThing}
 use Rattle.annotation_encode.specs.Counts.{counts_version}
@@ -31,10 +33,8 @@ use Rattle.text_ground.specs.Ground.{Ground, given_by, interface_on}
 use Rattle.synth_answer.specs.Answer.{AnswersFor, refused, realizable, unrealizable, bounded, no_size, no_entries}
 use Rattle.synth_answer.specs.Holds.{document_version}
 use Rattle.synth_answer.specs.Printed.{Printed, PrintedFor}
-use Rattle.check_answer.specs.Answer.{CheckAnswers, GivenToCheck, accepted, accepted_line, bad_line, facts_to_check, of_solved, refused_as_larger}
+use Rattle.check_answer.specs.Answer.{CheckAnswers, GivenToCheck, accepted, accepted_line, bad_line, facts_to_check, of_solved}
 use Rattle.check_answer.specs.Answer as check
-use Rattle.check_answer.proofs.OfKind.{flat_of_kind, of_kind}
-use Rattle.text_ground.proofs.Meaning.{flat_by_its_kind}
 use Rattle.answer_laws.specs.Accepted.{IsAccepted, status_told}
 use Rattle.answer_laws.proofs.Grounds.{AreAlike, holds_on}
 use Rattle.answer_laws.proofs.NotSixth.{not_sixth}
@@ -94,7 +94,7 @@ module _ (laws : LawsHold) (text : List ℕ) (kind : Option Kind) (settings : Se
 
   no_fault : (code : SpecCode) (position : ℕ) → IsFirstFault text (Some Mealy) code position → ⊥
   no_fault code position (of_text _ _ fault) =
-      laws.no_fault SMALL_LIMITS text (Some Mealy) (of_kind Mealy flat) code position (flat_of_kind text flat.expanded.kind Mealy flat (flat_by_its_kind text kind flat is_flat)) fault
+      laws.no_fault SMALL_LIMITS text (Some Mealy) (of_kind Mealy flat) code position (kinds.by_other SMALL_LIMITS text flat.expanded.kind Mealy flat (kinds.by_its_kind SMALL_LIMITS text kind flat is_flat)) fault
   no_fault code position (of_problems other _ _ is fault) = no_form_fault other code position (alike (Some Mealy) other is) fault
 
   -- the document holds for what is given to `check`
@@ -109,7 +109,6 @@ module _ (laws : LawsHold) (text : List ℕ) (kind : Option Kind) (settings : Se
 
   checked : (line : List ℕ) (ended : ℕ) → CheckAnswers text bytes line ended → (ended ≡ 0) × (line ≡ accepted_line p.document.verdict p.document.kind)
   checked line ended (check.refused code position is fault why told) = absurd (no_fault code position fault)
-  checked line ended (refused_as_larger code position is g sixth fault told) = absurd (earlier sixth)
   checked line ended (bad_line g n is isnt first told) = absurd (laws.bad_lines.holding_has_none (facts_to_check g) bytes p.document n p.is_printed.states (holds g) first)
   checked line ended (accepted g d is isnt so told) =
       let same : d ≡ p.document = laws.documents.one_document bytes d p.document so.states p.is_printed.states in

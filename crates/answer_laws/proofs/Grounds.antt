@@ -13,13 +13,13 @@ use Rattle.machine_model.specs.declared.problems.Problem.{Problem}
 use Rattle.dual_search.specs.declared.automata.Automata.{Automata}
 use Rattle.dual_search.specs.Laws.{AnswersAreApart}
 use Rattle.cert_text.specs.Parts.{Document}
+use Rattle.document_check.specs.Alike.{AreSameShapes, shape_of}
 use Rattle.document_check.specs.Holds.{HoldsFor}
+use Rattle.document_check.proofs.Alike.{checks_alike}
 use Rattle.spec_problems.specs.declared.sides.Interface.{Interface}
 use Rattle.spec_problems.specs.declared.sides.SideProblems.{SideProblems}
 use Rattle.spec_problems.specs.OfFormula.{AreProblemsIn, IsEnvironmentOver, IsProblemOver}
 use Rattle.text_ground.specs.Ground.{AreProblemsOn, Ground, facts_on, interface_on}
-use Rattle.answer_laws.proofs.SameFacts.{holds_same}
-use Rattle.answer_laws.proofs.Shapes.{AreSameShapes, shape_of}
 
 module _ (x y : Interface) (inputs : x.inputs ≡ y.inputs) (outputs : x.outputs ≡ y.outputs) where
   one_shape : (side : Side) (kind other : Kind) (a b : AutomatonModel) (p q : Problem) → a ≡ b → IsProblemOver x side kind a p → IsProblemOver y side other b q
@@ -78,6 +78,4 @@ module _ (apart : AnswersAreApart) (g h : Ground) (alike : AreAlike g h) (v w : 
 
   pub holds_on : (d : Document) → HoldsFor (facts_on g s) d → HoldsFor (facts_on h t) d
   holds_on d is =
-      subst (λ (names : List (List ℕ)). HoldsFor (record { inputs = h.wanted.inputs; outputs = names; system = t.system; environment = t.environment }) d) alike.outputs
-      (subst (λ (names : List (List ℕ)). HoldsFor (record { inputs = names; outputs = g.wanted.outputs; system = t.system; environment = t.environment }) d) alike.inputs
-      (holds_same g.wanted.inputs g.wanted.outputs s.system t.system s.environment t.environment systems of_environments d is))
+      checks_alike.holds (facts_on g s) (facts_on h t) d (record { inputs = alike.inputs; outputs = alike.outputs; system = systems; environment = of_environments }) is

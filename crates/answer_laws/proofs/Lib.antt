@@ -1,7 +1,6 @@
-pub mod Shapes
-pub mod SameFacts
 pub mod Grounds
 pub mod Texts
 pub mod NotSixth
 pub mod Accepted
 pub mod Parts
+mod Solved

@@ -6,16 +6,15 @@ use Rattle.letter_word.specs.declared.kinds.Kind.{Kind}
 use Rattle.letter_word.specs.Word.{Word}
 use Rattle.tlsf_syntax.specs.Text.{Text}
 use Rattle.tlsf_reader.specs.Reads.{Reads, TreesAreDetermined}
-use Rattle.tlsf_expand.specs.Expansion.{expanded_as, kind_of}
-use Rattle.tlsf_expand.specs.FlatText.{FlatText, flat_in}
-use Rattle.tlsf_expand.specs.Results.{KeepsMeaning}
+use Rattle.tlsf_expand.specs.Expansion.{kind_of}
+use Rattle.tlsf_expand.specs.FlatText.{FlatText}
 use Rattle.flat_text.specs.FlatOf.{IsFlatOf}
+use Rattle.flat_text.specs.Kinds.{of_kind}
 use Rattle.flat_text.specs.Laws.{FlatTextsAreDetermined}
+use Rattle.flat_text.proofs.OfKinds.{kinds}
 use Rattle.text_ground.specs.Ground.{Ground, IsGroundOf, ground_with}
-use Rattle.text_ground.proofs.Meaning.{flat_by_its_kind}
 use Rattle.unreal_core.specs.declared.whole.Reduced.{Reduced}
 use Rattle.unreal_core.specs.Reduced.{reduced_in}
-use Rattle.check_answer.proofs.OfKind.{flat_of_kind, of_kind}
 use Rattle.core_answer.specs.Over.{IsCutGround, IsGroundOver, over_all, over_some, whole_with}
 use Rattle.answer_laws.proofs.Grounds.{AreAlike}
 
@@ -30,21 +29,14 @@ module _ (flats : FlatTextsAreDetermined) (text : List ℕ) where
       → of_kind other.expanded.kind flat ≡ other
   same_flat kind given flat other is are =
       flats SMALL_LIMITS text (Some other.expanded.kind) (of_kind other.expanded.kind flat) other
-      (flat_of_kind text flat.expanded.kind other.expanded.kind flat (flat_by_its_kind text kind flat is)) (flat_by_its_kind text given other are)
+      (kinds.by_other SMALL_LIMITS text flat.expanded.kind other.expanded.kind flat (kinds.by_its_kind SMALL_LIMITS text kind flat is))
+      (kinds.by_its_kind SMALL_LIMITS text given other are)
 
   -- the kind that a flat text has is the one that it was taken with
-  kind_by : (o : Option Kind) (tree : Text) (flat : FlatText) → Reads text tree → KeepsMeaning SMALL_LIMITS tree flat.formulas flat.expanded.whole
-      → flat_in (expanded_as SMALL_LIMITS o tree) ≡ Some flat → o ≡ Some flat.expanded.kind
-  kind_by None tree flat read meaning is = absurd cc
-  kind_by (Some kind) tree flat read meaning is =
-      let whole : IsFlatOf SMALL_LIMITS text (Some kind) flat = record { tree = tree; read = read; expanded = is; meaning = meaning } in
-      let same : flat ≡ of_kind kind flat = flats SMALL_LIMITS text (Some kind) flat (of_kind kind flat) whole (flat_of_kind text kind kind flat whole) in
-      ap (λ (x : FlatText). Some x.expanded.kind) (sym same)
-
   pub kind_taken : TreesAreDetermined → (kind : Option Kind) (flat : FlatText) → IsFlatOf SMALL_LIMITS text kind flat → (tree : Text) → Reads text tree
       → kind_of kind tree ≡ Some flat.expanded.kind
   kind_taken trees kind flat is tree read =
-      ap (kind_of kind) (trees text tree is.tree read is.read) ∙ kind_by (kind_of kind is.tree) is.tree flat is.read is.meaning is.expanded
+      ap (kind_of kind) (trees text tree is.tree read is.read) ∙ kinds.taken SMALL_LIMITS is.tree kind flat is.expanded
 
   -- == the ground of a text ==
 

@@ -9,14 +9,15 @@ use Rattle.spec_faults.specs.declared.code.SpecCode.{SpecCode}
 use Rattle.spec_problems.specs.declared.sides.SideProblems.{SideProblems}
 use Rattle.synth_engine.specs.declared.settings.Settings.{Settings}
 use Rattle.cert_text.specs.declared.documents.Verdict.{Verdict}
-use Rattle.cert_text.specs.declared.documents.Verdict.TheVariants.{Realizable, Unrealizable, Bounded, UnknownSizes, UnknownEntries}
 use Rattle.cert_text.specs.Parts.{Document}
 use Rattle.cert_text.specs.States.{States}
 use Rattle.document_check.specs.Holds.{HoldsFor}
 use Rattle.document_check.specs.FirstBad.{IsFirstBadFor}
 use Rattle.program_replies.specs.Lines.{refusal_line}
+use Rattle.program_replies.specs.Statuses.{status_number}
 use Rattle.text_ground.specs.Ground.{AreProblemsOn, Ground, facts_on}
 use Rattle.synth_answer.specs.Answer.{Answers}
+use Rattle.synth_answer.specs.Reply.{verdict_status}
 use Rattle.check_answer.specs.Answer.{CheckAnswers, accepted_line}
 use Rattle.batch_run.specs.Answers.{AreAnswers}
 use Rattle.batch_answer.specs.Batch.{BatchAnswers, Part}
@@ -27,11 +28,7 @@ use Rattle.core_answer.specs.Over.{IsGroundOver}
 
 -- the status with which a document of this verdict is answered
 abbrev pub status_told : Verdict → ℕ
-status_told (Realizable n) = 10
-status_told (Unrealizable n) = 20
-status_told (Bounded side n) = 11
-status_told UnknownSizes = 30
-status_told (UnknownEntries side n) = 30
+status_told verdict = status_number (verdict_status verdict)
 
 -- The bytes state a document, whose verdict goes with the status that they were printed with, and whose kind is the one that was given,
 -- else the text's own. Whatever `check` answers to the text and these bytes has status 0, and its line tells that verdict and that kind.

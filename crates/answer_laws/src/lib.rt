@@ -1,5 +1,5 @@
-//! Laws that join the answers of several commands. The contract above this layer is its law: what `synth`, `batch` and `core` print for a
-//! text, `check` accepts for that text. It stands on the crates that give these answers, and no code is in it.
+//! Laws that join the answers of several commands. The contract above this layer are its laws: what `synth`, `batch`, `core` and
+//! `solve` print for a text, `check` accepts for that text. It stands on the crates that give these answers, and no code is in it.
 #![tactic(auto)]
 
 pub mod laws;

@@ -2,7 +2,7 @@
 ghost use Rattle.std.specs.Prelude.{IfOk, IfSome};
 ghost use Rattle.program_replies.specs.Statuses.{status_number};
 ghost use Rattle.solve_answer.specs.Answer.{SolveAnswers};
-ghost use Rattle.solve_answer.specs.Parts.{AnswersEach, CanBePlayed};
+ghost use Rattle.solve_answer.specs.Parts.{AnswersEach, CanBePlayed, limits_of};
 
 use crate::documents::{strategy_document, unknown_text};
 use crate::finding::{Search, Strategy, find_strategy};
@@ -14,6 +14,7 @@ use crate::unwon::{Found, search_sizes};
 use game_machine::Budget;
 use letter_search::Refutations;
 use letter_word::Kind;
+use outside_edge::Gate;
 use program_replies::{Reply, Status, refusal};
 use solve_ground::{SolveText, solve_text};
 use solve_told::{Listener, News, RefutingEnd, Told, Withheld};
@@ -38,23 +39,24 @@ pub struct Solved {
 /// The answer to a text, whose machines are of the given kind, or of the text's TARGET: the line of its first fault with status 1, or a
 /// document of version 6, with status 10 where it has a controller, 20 where it has a counter-strategy, and 30 where neither was found.
 /// Where memory runs out in the games, neither was found; where it runs out in refuting sizes, the document has the logs so far. The listener
-/// hears of the first strategy before smaller sizes are tried.
+/// hears of the first strategy before smaller sizes are tried, and each worker passes the gate at each of its turns.
 ///
 /// It takes the time of both automata, of the games' budget, and of the circuit's states and pairs with each letter that is read, once to
 /// find the annotation and once to test it; and then that of the sizes that are tried, whose logs are tested, too.
-pub fn solve<R: Threads + Wait + Sync, L: Listener>(
+pub fn solve<R: Threads + Wait + Sync, G: Gate + Sync, L: Listener>(
     rt: &R,
     alloc: Global,
     text: &[u8],
     given: Option<Kind>,
     budget: Budget,
     refuting: Refuting,
+    gate: &G,
     listener: &mut L,
 ) -> Result<Solved, AllocError>
-    ensures { IfOk result (λ s. SolveAnswers text.now given refuting.max s.reply.bytes.items (status_number s.reply.status)) }
+    ensures { IfOk result (λ s. SolveAnswers text.now given (limits_of refuting) s.reply.bytes.items (status_number s.reply.status)) }
 {
     match solve_text(alloc, text, given) {
-        Ok(known) => answer(rt, alloc, &known, budget, refuting, listener),
+        Ok(known) => answer(rt, alloc, &known, budget, refuting, gate, listener),
         Err(fault) => Ok(Solved {
             reply: refusal(alloc, fault)?,
             told: Told::Refused,
@@ -63,65 +65,75 @@ pub fn solve<R: Threads + Wait + Sync, L: Listener>(
 }
 
 /// The answer to a text that is known.
-fn answer<R: Threads + Wait + Sync, L: Listener>(
+fn answer<R: Threads + Wait + Sync, G: Gate + Sync, L: Listener>(
     rt: &R,
     alloc: Global,
     text: &SolveText,
     budget: Budget,
     refuting: Refuting,
+    gate: &G,
     listener: &mut L,
 ) -> Result<Solved, AllocError>
     requires { CanBePlayed text.now }
-    ensures { IfOk result (λ s. AnswersEach text.now refuting.max s.reply) }
+    ensures { IfOk result (λ s. AnswersEach text.now refuting s.reply) }
 {
-    match find_any(rt, alloc, text, budget, refuting)? {
+    listener.hear(News::Playing);
+    match find_any(rt, alloc, text, budget, refuting, gate, listener)? {
         Found::Of(strategy, below) => {
-            of_strategy(rt, alloc, text, strategy, below, refuting, listener)
+            of_strategy(rt, alloc, text, strategy, below, refuting, gate, listener)
         }
-        Found::Without(told) => unknown(alloc, text, told, refuting.max),
+        Found::Without(told) => unknown(alloc, text, told, refuting),
     }
 }
 
 /// A strategy that the games give, or a small machine where they give nothing to print.
-fn find_any<R: Threads + Wait + Sync>(
+fn find_any<R: Threads + Wait + Sync, G: Gate + Sync, L: Listener>(
     rt: &R,
     alloc: Global,
     text: &SolveText,
     budget: Budget,
     refuting: Refuting,
+    gate: &G,
+    listener: &mut L,
 ) -> Result<Found, AllocError>
     requires { CanBePlayed text.now }
 {
-    match find_strategy(alloc, text, budget)? {
+    match find_strategy(rt, alloc, text, budget, refuting.workers)? {
         Search::Of(strategy) => Ok(Found::Of(strategy, None)),
-        Search::Without(told) => Ok(search_sizes(rt, alloc, text, told, refuting)),
+        Search::Without(told) => {
+            if refuting.max != Some(0) {
+                listener.hear(News::Searching);
+            }
+            Ok(search_sizes(rt, alloc, text, told, refuting, gate))
+        }
     }
 }
 
 /// The document of a strategy, where it is accepted, with the logs of smaller sizes.
-fn of_strategy<R: Threads + Wait + Sync, L: Listener>(
+fn of_strategy<R: Threads + Wait + Sync, G: Gate + Sync, L: Listener>(
     rt: &R,
     alloc: Global,
     text: &SolveText,
     strategy: Strategy,
     below: Option<Refutations>,
     refuting: Refuting,
+    gate: &G,
     listener: &mut L,
 ) -> Result<Solved, AllocError>
     requires { CanBePlayed text.now }
-    ensures { IfOk result (λ s. AnswersEach text.now refuting.max s.reply) }
+    ensures { IfOk result (λ s. AnswersEach text.now refuting s.reply) }
 {
     let side = strategy.side;
     let states = strategy.states;
     let document = strategy_document(alloc, text, strategy);
-    let reply = match tested(alloc, text, &document, refuting.max)? {
+    let reply = match tested(alloc, text, &document, refuting)? {
         Ok(reply) => reply,
         Err(line) => {
             return unknown(
                 alloc,
                 text,
                 Told::Withheld(side, Withheld::BadLine(line)),
-                refuting.max,
+                refuting,
             );
         }
     };
@@ -135,17 +147,17 @@ fn of_strategy<R: Threads + Wait + Sync, L: Listener>(
         states,
         document,
     };
-    let longer = with_logs(rt, alloc, text, plain, below, refuting);
+    let longer = with_logs(rt, alloc, text, plain, below, refuting, gate);
     let told = Told::Found(side, longer.states, longer.refuted);
-    let reply = better_of(text, refuting.max, longer.reply, reply);
+    let reply = better_of(text, refuting, longer.reply, reply);
     Ok(Solved { reply, told })
 }
 
 /// The better reply to a text, where there is one, or the one that there is.
-fn better_of(_text: &SolveText, _most: Option<u32>, better: Option<Reply>, reply: Reply) -> Reply
-    requires better { IfSome better (AnswersEach _text.now _most) }
-    requires other { AnswersEach _text.now _most reply }
-    ensures { AnswersEach _text.now _most result }
+fn better_of(_text: &SolveText, _refuting: Refuting, better: Option<Reply>, reply: Reply) -> Reply
+    requires better { IfSome better (AnswersEach _text.now _refuting) }
+    requires other { AnswersEach _text.now _refuting reply }
+    ensures { AnswersEach _text.now _refuting result }
 {
     match better {
         Some(better) => better,
@@ -158,9 +170,9 @@ fn unknown(
     alloc: Global,
     text: &SolveText,
     told: Told,
-    _most: Option<u32>,
+    _refuting: Refuting,
 ) -> Result<Solved, AllocError>
-    ensures { IfOk result (λ s. AnswersEach text.now _most s.reply) }
+    ensures { IfOk result (λ s. AnswersEach text.now _refuting s.reply) }
 {
     Ok(Solved {
         reply: Reply {

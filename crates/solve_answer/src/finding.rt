@@ -17,6 +17,7 @@ use reached_states::reached_states;
 use solve_ground::SolveText;
 use solve_told::{NotWon, RefutingEnd, Told, Unwon, Withheld};
 use std::alloc::{AllocError, Global};
+use std::thread::Threads;
 use text_limits::LARGE_LIMITS;
 
 /// The steps that the system may take before the environment's automaton is made.
@@ -47,15 +48,17 @@ pub(crate) enum Search {
     Without(Told),
 }
 
-/// The strategy of the side that wins within the budget, or why there is none.
-pub(crate) fn find_strategy(
+/// The strategy of the side that wins within the budget, or why there is none. Two workers play both sides at once.
+pub(crate) fn find_strategy<R: Threads>(
+    rt: &R,
     alloc: Global,
     text: &SolveText,
     budget: Budget,
+    workers: u32,
 ) -> Result<Search, AllocError>
     requires { CanBePlayed text.now }
 {
-    match who_wins(alloc, text, budget)? {
+    match who_wins(rt, alloc, text, budget, workers)? {
         Winner::Of(found) => annotated(alloc, text, found.side, found.circuit),
         Winner::Without(told) => Ok(Search::Without(told)),
     }
@@ -69,7 +72,13 @@ enum Winner {
 }
 
 /// Who wins the game of the text. The system plays alone at first, since where it wins soon the environment's automaton isn't needed.
-fn who_wins(alloc: Global, text: &SolveText, budget: Budget) -> Result<Winner, AllocError>
+fn who_wins<R: Threads>(
+    rt: &R,
+    alloc: Global,
+    text: &SolveText,
+    budget: Budget,
+    workers: u32,
+) -> Result<Winner, AllocError>
     requires { CanBePlayed text.now }
 {
     let system = automaton(alloc, &text.formulas, text.negated)?;
@@ -77,20 +86,30 @@ fn who_wins(alloc: Global, text: &SolveText, budget: Budget) -> Result<Winner, A
         steps: FIRST_STEPS.min(budget.steps),
         ..budget
     };
-    if let Winner::Of(found) = played(alloc, text, system.as_ref(), None, first) {
+    if let Winner::Of(found) = played(rt, alloc, text, system.as_ref(), None, first, workers) {
         return Ok(Winner::Of(found));
     }
     let environment = automaton(alloc, &text.formulas, text.normal)?;
-    Ok(played(alloc, text, system.as_ref(), environment.as_ref(), budget))
+    Ok(played(
+        rt,
+        alloc,
+        text,
+        system.as_ref(),
+        environment.as_ref(),
+        budget,
+        workers,
+    ))
 }
 
 /// Who wins the games of these automata. Where memory runs out in the games, neither side does.
-fn played(
+fn played<R: Threads>(
+    rt: &R,
     alloc: Global,
     text: &SolveText,
     system: Option<&Automaton>,
     environment: Option<&Automaton>,
     budget: Budget,
+    workers: u32,
 ) -> Winner {
     let contest = Contest {
         inputs: &text.inputs,
@@ -99,7 +118,7 @@ fn played(
         system,
         environment,
     };
-    match find(alloc, contest, budget) {
+    match find(rt, alloc, contest, budget, workers) {
         Ok(Outcome::Found(found)) => Winner::Of(found),
         Ok(Outcome::NoWin(end)) => unwon(system, environment, NotWon::Ended(end_of(end))),
         Ok(Outcome::NoCircuit(side)) => {

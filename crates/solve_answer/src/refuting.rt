@@ -3,10 +3,13 @@ ghost use Rattle.std.specs.Prelude.{IfOk};
 ghost use Rattle.solve_answer.specs.Parts.{CanBePlayed};
 
 use crate::finding::form_of;
+use crate::testing::is_short;
 use letter_search::{Effort, Ended, Refutations, refute_sizes};
 use letter_word::Side;
+use outside_edge::Gate;
 use size_refutations::{Ground, Sought};
 use solve_ground::SolveText;
+use solved_text::SizeLog;
 use std::alloc::{AllocError, Global};
 use std::sync::Wait;
 use std::thread::Threads;
@@ -32,6 +35,17 @@ impl Refuting {
     }
 }
 
+/// The logs before the first that has more entries than a log may have.
+pub(crate) fn short_logs(logs: Vec<SizeLog>, refuting: Refuting) -> Vec<SizeLog> {
+    let Some(most) = refuting.entries else {
+        return logs;
+    };
+    let mut logs = logs;
+    let short = logs.iter().take_while(|log| is_short(log, most)).count();
+    logs.truncate(short);
+    logs
+}
+
 /// What the logs of a side are tested against.
 pub(crate) fn ground_of(
     alloc: Global,
@@ -55,13 +69,14 @@ pub(crate) fn ground_of(
 }
 
 /// What comes of the sizes below a known one of a side.
-pub(crate) fn refuted<R: Threads + Wait + Sync>(
+pub(crate) fn refuted<R: Threads + Wait + Sync, G: Gate + Sync>(
     rt: &R,
     alloc: Global,
     text: &SolveText,
     side: Side,
     known: u32,
     refuting: Refuting,
+    gate: &G,
 ) -> Result<Refutations, AllocError>
     requires { CanBePlayed text.now }
 {
@@ -72,5 +87,5 @@ pub(crate) fn refuted<R: Threads + Wait + Sync>(
         });
     }
     let ground = ground_of(alloc, text, side)?;
-    Ok(refute_sizes(rt, alloc, &ground, known, refuting.effort()))
+    Ok(refute_sizes(rt, alloc, &ground, known, refuting.effort(), gate))
 }

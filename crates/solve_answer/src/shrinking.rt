@@ -4,12 +4,13 @@ ghost use Rattle.solve_answer.specs.Parts.{AnswersEach, CanBePlayed};
 
 use crate::documents::strategy_document;
 use crate::finding::{Search, Strategy, annotated};
-use crate::refuting::{Refuting, refuted};
+use crate::refuting::{Refuting, refuted, short_logs};
 use crate::testing::tested;
 use crate::told::{nothing, refuting_end, so_many};
 use game_machine::{GivenTable, table_circuit};
 use letter_search::{Ended, Refutations, SmallMachine};
 use letter_word::Side;
+use outside_edge::Gate;
 use program_replies::Reply;
 use solve_ground::SolveText;
 use solve_told::{Refuted, RefutingEnd};
@@ -36,19 +37,20 @@ pub(crate) struct Longer {
 }
 
 /// The same strategy, or a smaller one, with the logs of the sizes below it. Where memory runs out, nothing more is said than before.
-pub(crate) fn with_logs<R: Threads + Wait + Sync>(
+pub(crate) fn with_logs<R: Threads + Wait + Sync, G: Gate + Sync>(
     rt: &R,
     alloc: Global,
     text: &SolveText,
     plain: Plain,
     below: Option<Refutations>,
     refuting: Refuting,
+    gate: &G,
 ) -> Longer
     requires { CanBePlayed text.now }
-    ensures { IfSome result.reply (AnswersEach text.now refuting.max) }
+    ensures { IfSome result.reply (AnswersEach text.now refuting) }
 {
     let states = plain.states;
-    match make_longer(rt, alloc, text, plain, below, refuting) {
+    match make_longer(rt, alloc, text, plain, below, refuting, gate) {
         Ok(longer) => longer,
         Err(_) => Longer {
             reply: None,
@@ -58,26 +60,28 @@ pub(crate) fn with_logs<R: Threads + Wait + Sync>(
     }
 }
 
-fn make_longer<R: Threads + Wait + Sync>(
+fn make_longer<R: Threads + Wait + Sync, G: Gate + Sync>(
     rt: &R,
     alloc: Global,
     text: &SolveText,
     plain: Plain,
     below: Option<Refutations>,
     refuting: Refuting,
+    gate: &G,
 ) -> Result<Longer, AllocError>
     requires { CanBePlayed text.now }
-    ensures { IfOk result (λ l. IfSome l.reply (AnswersEach text.now refuting.max)) }
+    ensures { IfOk result (λ l. IfSome l.reply (AnswersEach text.now refuting)) }
 {
     let below = match below {
         Some(below) => below,
-        None => refuted(rt, alloc, text, plain.side, plain.states, refuting)?,
+        None => refuted(rt, alloc, text, plain.side, plain.states, refuting, gate)?,
     };
     let smaller = smaller_strategy(alloc, text, plain.side, &below.ended)?;
     let end = refuting_end(&below.ended);
+    let logs = short_logs(below.logs, refuting);
     match smaller {
-        Some(strategy) => shrunk(alloc, text, plain, strategy, below.logs, refuting),
-        None => kept(alloc, text, plain, below.logs, end, refuting),
+        Some(strategy) => shrunk(alloc, text, plain, strategy, logs, refuting),
+        None => kept(alloc, text, plain, logs, end, refuting),
     }
 }
 
@@ -91,13 +95,13 @@ fn shrunk(
     refuting: Refuting,
 ) -> Result<Longer, AllocError>
     requires { CanBePlayed text.now }
-    ensures { IfOk result (λ l. IfSome l.reply (AnswersEach text.now refuting.max)) }
+    ensures { IfOk result (λ l. IfSome l.reply (AnswersEach text.now refuting)) }
 {
     let states = strategy.states;
     let sizes = logs.len();
     let mut document = strategy_document(alloc, text, strategy);
     document.logs = logs;
-    match tested(alloc, text, &document, refuting.max)? {
+    match tested(alloc, text, &document, refuting)? {
         Ok(reply) => Ok(Longer {
             reply: Some(reply),
             states,
@@ -124,7 +128,7 @@ fn kept(
     refuting: Refuting,
 ) -> Result<Longer, AllocError>
     requires { CanBePlayed text.now }
-    ensures { IfOk result (λ l. IfSome l.reply (AnswersEach text.now refuting.max)) }
+    ensures { IfOk result (λ l. IfSome l.reply (AnswersEach text.now refuting)) }
 {
     let states = plain.states;
     let sizes = logs.len();
@@ -137,7 +141,7 @@ fn kept(
     }
     let mut document = plain.document;
     document.logs = logs;
-    match tested(alloc, text, &document, refuting.max)? {
+    match tested(alloc, text, &document, refuting)? {
         Ok(reply) => Ok(Longer {
             reply: Some(reply),
             states,

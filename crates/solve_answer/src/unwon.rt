@@ -7,6 +7,7 @@ use crate::shrinking::smaller_strategy;
 use crate::told::{nothing, refuting_end, so_many};
 use letter_search::{Ended, Refutations, Sizes};
 use letter_word::Side;
+use outside_edge::Gate;
 use solve_ground::SolveText;
 use solve_told::{NotWon, Refuted, RefutingEnd, Told, Unwon};
 use std::alloc::{AllocError, Global};
@@ -32,12 +33,13 @@ const NO_SIZE: u32 = 17;
 
 /// Searches sizes where the games give nothing to print: those of both sides by turns, or those of the side that wins. Where memory runs out,
 /// neither is found.
-pub(crate) fn search_sizes<R: Threads + Wait + Sync>(
+pub(crate) fn search_sizes<R: Threads + Wait + Sync, G: Gate + Sync>(
     rt: &R,
     alloc: Global,
     text: &SolveText,
     told: Told,
     refuting: Refuting,
+    gate: &G,
 ) -> Found
     requires { CanBePlayed text.now }
 {
@@ -46,9 +48,9 @@ pub(crate) fn search_sizes<R: Threads + Wait + Sync>(
     }
     match told {
         Told::Neither(system, environment) => {
-            of_both(rt, alloc, text, system.why, environment.why, refuting)
+            of_both(rt, alloc, text, system.why, environment.why, refuting, gate)
         }
-        Told::Withheld(side, _) => match of_winner(rt, alloc, text, side, refuting) {
+        Told::Withheld(side, _) => match of_winner(rt, alloc, text, side, refuting, gate) {
             Ok(Some(found)) => found,
             _ => Found::Without(told),
         },
@@ -57,16 +59,17 @@ pub(crate) fn search_sizes<R: Threads + Wait + Sync>(
 }
 
 /// The sizes of the side that wins, whose circuit isn't printed.
-fn of_winner<R: Threads + Wait + Sync>(
+fn of_winner<R: Threads + Wait + Sync, G: Gate + Sync>(
     rt: &R,
     alloc: Global,
     text: &SolveText,
     side: Side,
     refuting: Refuting,
+    gate: &G,
 ) -> Result<Option<Found>, AllocError>
     requires { CanBePlayed text.now }
 {
-    let found = refuted(rt, alloc, text, side, NO_SIZE, refuting)?;
+    let found = refuted(rt, alloc, text, side, NO_SIZE, refuting, gate)?;
     match smaller_strategy(alloc, text, side, &found.ended)? {
         Some(strategy) => Ok(Some(Found::Of(strategy, Some(all_below(found))))),
         None => Ok(None),
@@ -74,17 +77,18 @@ fn of_winner<R: Threads + Wait + Sync>(
 }
 
 /// The sizes of both sides, neither of which wins.
-fn of_both<R: Threads + Wait + Sync>(
+fn of_both<R: Threads + Wait + Sync, G: Gate + Sync>(
     rt: &R,
     alloc: Global,
     text: &SolveText,
     system: NotWon,
     environment: NotWon,
     refuting: Refuting,
+    gate: &G,
 ) -> Found
     requires { CanBePlayed text.now }
 {
-    match searched(rt, alloc, text, system, environment, refuting) {
+    match searched(rt, alloc, text, system, environment, refuting, gate) {
         Ok(found) => found,
         Err(_) => {
             let lost = nothing(RefutingEnd::NoMemory);
@@ -106,17 +110,18 @@ fn neither(system: NotWon, first: Refuted, environment: NotWon, second: Refuted)
     Told::Neither(system, environment)
 }
 
-fn searched<R: Threads + Wait + Sync>(
+fn searched<R: Threads + Wait + Sync, G: Gate + Sync>(
     rt: &R,
     alloc: Global,
     text: &SolveText,
     system: NotWon,
     environment: NotWon,
     refuting: Refuting,
+    gate: &G,
 ) -> Result<Found, AllocError>
     requires { CanBePlayed text.now }
 {
-    let both = tried(rt, alloc, text, refuting)?;
+    let both = tried(rt, alloc, text, refuting, gate)?;
     let first = refuted_in(&both.system);
     let second = refuted_in(&both.environment);
     let by_system = smaller_strategy(alloc, text, Side::System, &both.system.ended)?;
@@ -143,11 +148,12 @@ fn refuted_in(found: &Refutations) -> Refuted {
 }
 
 /// Tries the sizes of both sides by turns, the one with the smaller formula first, until one has a machine.
-fn tried<R: Threads + Wait + Sync>(
+fn tried<R: Threads + Wait + Sync, G: Gate + Sync>(
     rt: &R,
     alloc: Global,
     text: &SolveText,
     refuting: Refuting,
+    gate: &G,
 ) -> Result<Both, AllocError>
     requires { CanBePlayed text.now }
 {
@@ -156,7 +162,7 @@ fn tried<R: Threads + Wait + Sync>(
     let mut system = Sizes::new(alloc, &of_system, NO_SIZE, refuting.effort());
     let mut environment = Sizes::new(alloc, &of_environment, NO_SIZE, refuting.effort());
     for _ in 0..NO_SIZE {
-        if is_decided(rt, &mut system, &mut environment) {
+        if is_decided(rt, gate, &mut system, &mut environment) {
             break;
         }
     }
@@ -167,27 +173,29 @@ fn tried<R: Threads + Wait + Sync>(
 }
 
 /// Tries the next size of each side, and says whether one has a machine, or none is left.
-fn is_decided<R: Threads + Wait + Sync>(
+fn is_decided<R: Threads + Wait + Sync, G: Gate + Sync>(
     rt: &R,
+    gate: &G,
     system: &mut Sizes<'_, '_>,
     environment: &mut Sizes<'_, '_>,
 ) -> bool {
     if system.next_clauses() <= environment.next_clauses() {
-        step_both(rt, system, environment)
+        step_both(rt, gate, system, environment)
     } else {
-        step_both(rt, environment, system)
+        step_both(rt, gate, environment, system)
     }
 }
 
-fn step_both<R: Threads + Wait + Sync>(
+fn step_both<R: Threads + Wait + Sync, G: Gate + Sync>(
     rt: &R,
+    gate: &G,
     first: &mut Sizes<'_, '_>,
     second: &mut Sizes<'_, '_>,
 ) -> bool {
-    first.step(rt);
+    first.step(rt, gate);
     if first.has_found() {
         return true;
     }
-    second.step(rt);
+    second.step(rt, gate);
     second.has_found() || (first.is_ended() && second.is_ended())
 }

@@ -21,13 +21,13 @@ use Rattle.solve_batch.specs.SolvedBatch.{AskedOfEach, IsSolvedPart, IsSolvedRep
 module _ {E : Type 0} (asked : AskedOfEach) where
   -- the answer to all bytes of a text
   pub whole_answers : (text : TakenText) (bytes : Vec ℕ Global) (r : Result Reply E) → text ≡ Whole bytes
-      → IfOk r (λ reply. SolveAnswers bytes.items asked.given asked.most reply.bytes.items (status_number reply.status)) → IfOk r (IsSolvedReply asked text)
+      → IfOk r (λ reply. SolveAnswers bytes.items asked.given asked.limits reply.bytes.items (status_number reply.status)) → IfOk r (IsSolvedReply asked text)
   whole_answers text bytes (Err e) is answers = tt
   whole_answers text bytes (Ok reply) is answers = by text is
     where
       by : (t : TakenText) → t ≡ Whole bytes → IsSolvedReply asked t reply
       by t at = subst (λ u. IsSolvedReply asked u reply) (sym at)
-          (λ file same. subst (λ b. SolveAnswers b asked.given asked.most reply.bytes.items (status_number reply.status)) same answers)
+          (λ file same. subst (λ b. SolveAnswers b asked.given asked.limits reply.bytes.items (status_number reply.status)) same answers)
 
   -- the line of a text that is too long
   pub too_long_answers : (text : TakenText) (r : Result Reply E) → text ≡ TooLong
@@ -52,7 +52,7 @@ solved_answers names texts asked job replies bytes one_each is answered text fil
         let r = reply_at replies k part there in
         let answer = answered.each k t.text r.reply t.at r.at file t.is_text in
         subst (IsSolvedPart asked file) r.is
-        (subst (λ (a : AskedOfEach). SolveAnswers file a.given a.most r.reply.bytes.items (status_number r.reply.status)) is answer);
+        (subst (λ (a : AskedOfEach). SolveAnswers file a.given a.limits r.reply.bytes.items (status_number r.reply.status)) is answer);
   };
   text = text;
 }

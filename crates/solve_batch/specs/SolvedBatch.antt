@@ -7,16 +7,16 @@ use Rattle.batch_run.specs.Answers.{AreAnswers}
 use Rattle.batch_answer.specs.declared.texts.TakenText.{TakenText}
 use Rattle.batch_answer.specs.Batch.{Part, batch_text}
 use Rattle.batch_answer.specs.Taken.{IsText}
-use Rattle.solve_answer.specs.Answer.{SolveAnswers}
+use Rattle.solve_answer.specs.Answer.{LogLimits, SolveAnswers}
 
--- what is asked of each text: the given kind, and the greatest size that may be refuted, if one is given
+-- what is asked of each text: the given kind, and how far its document may refute
 pub record AskedOfEach : Type 0 where
   pub given : Option Kind
-  pub most : Option ℕ
+  pub limits : LogLimits
 
 -- the text alone has this answer
 abbrev pub IsSolvedPart : AskedOfEach → List ℕ → Part → Type 0
-IsSolvedPart asked text part = SolveAnswers text asked.given asked.most part.lines part.status
+IsSolvedPart asked text part = SolveAnswers text asked.given asked.limits part.lines part.status
 
 -- The bytes are a part for each text, under its name and in its place, which answers that text alone as `solve` does; last the line
 -- `end batch`.
@@ -31,4 +31,4 @@ pub record SolvedBatchAnswers (names texts : List (List ℕ)) (asked : AskedOfEa
 -- the reply answers each file that the text may be
 abbrev pub IsSolvedReply : AskedOfEach → TakenText → Reply → Type 0
 IsSolvedReply asked text reply =
-    (file : List ℕ) → IsText text file → SolveAnswers file asked.given asked.most reply.bytes.items (status_number reply.status)
+    (file : List ℕ) → IsText text file → SolveAnswers file asked.given asked.limits reply.bytes.items (status_number reply.status)

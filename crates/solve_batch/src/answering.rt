@@ -1,6 +1,7 @@
 //! The answer to many texts.
 ghost use Rattle.std.specs.Prelude.{◌≡◌, ◌^◌, ◌<◌, ◌≤◌, ℕ, List, IfOk, length};
 ghost use Rattle.batch_answer.specs.Taken.{AreTexts};
+ghost use Rattle.solve_answer.specs.Parts.{limits_of};
 ghost use Rattle.solve_batch.specs.SolvedBatch.{SolvedBatchAnswers};
 
 use crate::texts::Solving;
@@ -31,7 +32,7 @@ pub fn solve_batch<R: Threads + Wait + Sync, G: Gate + Sync>(
     requires few { length texts.now < 2 ^ 32 }
     requires workers { 1 ≤ refuting.workers }
     ensures done { IfOk result (λ r. r.status ≡ Status.Done) }
-    ensures answers { (files : List (List ℕ)) → AreTexts texts.now files → IfOk result (λ r. SolvedBatchAnswers names.now files (record { given = given; most = refuting.max }) r.bytes.items) }
+    ensures answers { (files : List (List ℕ)) → AreTexts texts.now files → IfOk result (λ r. SolvedBatchAnswers names.now files (record { given = given; limits = limits_of refuting }) r.bytes.items) }
 {
     let job = Solving::new(alloc, given, refuting);
     let replies = run_all(rt, alloc, &job, texts, refuting.workers, gate)?;

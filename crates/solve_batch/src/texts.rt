@@ -2,10 +2,12 @@
 ghost use Rattle.std.specs.Prelude.{◌≡◌, IfOk};
 ghost use Rattle.program_replies.specs.Statuses.{status_number};
 ghost use Rattle.solve_answer.specs.Answer.{SolveAnswers};
+ghost use Rattle.solve_answer.specs.Parts.{limits_of};
 
 use batch_answer::TakenText;
 use batch_run::Job;
 use letter_word::Kind;
+use outside_edge::OpenGate;
 use program_replies::{Reply, refused};
 use solve_answer::{GAME_BUDGET, Refuting, solve};
 use solve_told::NoListener;
@@ -18,7 +20,7 @@ use std::thread::Threads;
 /// The most bytes that a text may have.
 const LONGEST_TEXT: u64 = 1_048_576;
 
-/// The job of solving texts, each by the worker that takes it alone. A contract sees the kind that is given.
+/// The job of solving texts, each by the worker that takes it alone. A contract sees the kind that is given, and how far documents may refute.
 #[derive(Drop)]
 pub struct Solving {
     alloc: Global,
@@ -27,17 +29,18 @@ pub struct Solving {
 }
 
 impl Model for Solving {
+    ghost use Rattle.solve_answer.specs.Parts.{limits_of};
     ghost use Rattle.solve_batch.specs.SolvedBatch.{AskedOfEach};
 
     ghost Value = { AskedOfEach };
 
-    ghost view = { λ job. record { given = job.given; most = job.refuting.max } };
+    ghost view = { λ job. record { given = job.given; limits = limits_of job.refuting } };
 }
 
 impl Solving {
     /// With a kind in place of the texts' own, if one is given.
     pub fn new(alloc: Global, given: Option<Kind>, refuting: Refuting) -> Solving
-        ensures { result ≡ record { given = given; most = refuting.max } }
+        ensures { result ≡ record { given = given; limits = limits_of refuting } }
     {
         Solving {
             alloc,
@@ -51,7 +54,7 @@ impl Solving {
 
     /// The answer to all bytes of a text.
     fn solved<R: Threads + Wait + Sync>(&self, rt: &R, text: &[u8]) -> Result<Reply, AllocError>
-        ensures { IfOk result (λ r. SolveAnswers text.now self.now.given self.now.most r.bytes.items (status_number r.status)) }
+        ensures { IfOk result (λ r. SolveAnswers text.now self.now.given self.now.limits r.bytes.items (status_number r.status)) }
     {
         let solved = solve(
             rt,
@@ -60,6 +63,7 @@ impl Solving {
             self.given,
             GAME_BUDGET,
             self.refuting,
+            &OpenGate,
             &mut NoListener,
         )?;
         Ok(solved.reply)

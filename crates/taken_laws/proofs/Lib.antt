@@ -1,0 +1,6 @@
+mod Unshifted
+mod Forms
+mod Made
+mod Room
+mod Converted
+mod Taken
