@@ -1,7 +1,8 @@
 -- Nothing but its line answers a fault, or a bad line.
-use Rattle.std.proofs.Common.{◌≡◌, ◌<◌, ◌≤◌, ℕ, List, ◌∙◌, ap, arith, true, Option, Some}
+use Rattle.std.proofs.Common.{◌≡◌, ◌<◌, ◌≤◌, ℕ, List, ◌∙◌, ap, arith, true, Option, Some, None}
 use Rattle.text_limits.specs.declared.TheConstants.{SMALL_LIMITS}
 use Rattle.letter_word.specs.declared.kinds.Kind.{Kind}
+use Rattle.letter_word.specs.declared.kinds.Kind.TheVariants.{Mealy}
 use Rattle.spec_faults.specs.declared.code.SpecCode.{SpecCode}
 use Rattle.outside_edge.specs.Files.{Files, bytes_under}
 use Rattle.program_replies.specs.Lines.{line_refusal, refusal_line}
@@ -36,8 +37,9 @@ use Rattle.boundsyn_top.specs.Batch as batches
 use Rattle.boundsyn_top.specs.Files.{HoldsOfFile}
 use Rattle.boundsyn_top.specs.Commands.{AnswersAsked}
 use Rattle.boundsyn_top.specs.Faults as faults_of_check
-use Rattle.boundsyn_top.specs.Faults.{HasBadLine, HasFault, IsBadCertificate, IsBadCircuit, IsCheckFault, IsVerifyFault, RefusalsAreDetermined}
-use Rattle.boundsyn_top.specs.Solving.{SolveFaultsAreDetermined}
+use Rattle.boundsyn_top.specs.Faults.{HasBadLine, HasFault, HasSynthFault, IsBadCertificate, IsBadCircuit, IsCheckFault, IsSynthFault, IsVerifyFault, RefusalsAreDetermined}
+use Rattle.boundsyn_top.specs.Solving.{limits_by}
+use Rattle.solve_ground.specs.Laws.{SolveTextsAreDetermined}
 use Rattle.boundsyn_top.proofs.FileLemmas.{of_told}
 use Rattle.boundsyn_top.proofs.SolveLemmas.{solve_fault}
 
@@ -95,7 +97,7 @@ bad_list law told lines wanted bytes status n (batches.answered names texts ende
 
 module _ (problems : ProblemsOfTextsAreDetermined) (checks : ChecksAreDetermined) (expansions : ExpandAnswersAreDue) (truths : LassoAnswersAreDue)
     (verifications : VerificationsAreDetermined) (flats : FlatTextsAreDetermined) (faults : CoreFaultsAreDetermined) (lists : ListsAreDetermined)
-    (solvings : SolveFaultsAreDetermined) (environments : EnvironmentsAreDetermined) where
+    (solvings : SolveTextsAreDetermined) (environments : EnvironmentsAreDetermined) where
   verify_fault : (side : Side) (text circuit bytes : List ℕ) (status : ℕ) (code : SpecCode) (place : ℕ) → CircuitAnswers side text circuit bytes status →
       IsVerifyFault side text circuit code place → (status ≡ 1) × (bytes ≡ refusal_line code place)
   verify_fault System text circuit bytes status code place a fault =
@@ -113,8 +115,6 @@ module _ (problems : ProblemsOfTextsAreDetermined) (checks : ChecksAreDetermined
   check_fault : (text document bytes : List ℕ) (status : ℕ) (code : SpecCode) (place : ℕ) → CheckAnswers text document bytes status →
       IsCheckFault text document code place → (status ≡ 1) × (bytes ≡ refusal_line code place)
   check_fault text document bytes status code place a (faults_of_check.of_text _ _ fault untested) = checks.of_fault text document bytes status code place a fault untested
-  check_fault text document bytes status code place a (faults_of_check.of_larger _ _ given sixth fault) =
-      checks.of_larger_fault text document bytes status code place a given sixth fault
 
   bad_certificate : (text document bytes : List ℕ) (status n : ℕ) → CheckAnswers text document bytes status → IsBadCertificate text document n →
       (status ≡ 40) × (bytes ≡ line_refusal n)
@@ -146,8 +146,57 @@ module _ (problems : ProblemsOfTextsAreDetermined) (checks : ChecksAreDetermined
       (of_told files spec (λ text. CoreAnswers text kind wanted bytes status) a.answer) fault
   of_text files (batch list wanted) bytes status code place fault a = absurd fault
   of_text files (solve spec kind refutations) bytes status code place fault a =
-      solve_fault solvings (bytes_under files spec) kind refutations.max bytes status code place
-      (of_told files spec (λ text. SolveAnswers text kind refutations.max bytes status) a.answer) fault
+      solve_fault solvings (bytes_under files spec) kind (limits_by refutations) bytes status code place
+      (of_told files spec (λ text. SolveAnswers text kind (limits_by refutations) bytes status) a.answer) fault
+
+  -- the fault for which a text is refused is the one that it has as `synth` takes it
+  check_alike : (text document : List ℕ) (code code' : SpecCode) (place place' : ℕ) → IsCheckFault text document code place →
+      IsFirstFault text (Some Mealy) code' place' → (code ≡ code') × (place ≡ place')
+  check_alike text document code code' place place' (faults_of_check.of_text _ _ fault untested) own = problems.one_fault text (Some Mealy) code code' place place' fault own
+
+  verify_alike : (side : Side) (text circuit : List ℕ) (code code' : SpecCode) (place place' : ℕ) → IsVerifyFault side text circuit code place →
+      IsSynthFault side text code' place' → (code ≡ code') × (place ≡ place')
+  verify_alike System text circuit code code' place place' fault own = problems.one_fault text None code code' place place' fault.fault own
+  verify_alike Environment text circuit code code' place place' fault own = absurd own
+
+  one_synth : (side : Side) (text : List ℕ) (code code' : SpecCode) (place place' : ℕ) → IsSynthFault side text code place → IsSynthFault side text code' place' →
+      (code ≡ code') × (place ≡ place')
+  one_synth System text code code' place place' fault other = problems.one_fault text None code code' place place' fault other
+  one_synth Environment text code code' place place' fault other = absurd fault
+
+  of_unread : (files : Files) (asked : Asked) (code code' : SpecCode) (place place' : ℕ) → HasFault files asked code place →
+      HasSynthFault (Some files) asked code' place' → (code ≡ code') × (place ≡ place')
+  of_unread files (synth spec wanted kind) code code' place place' fault own = absurd own
+  of_unread files (check spec document) code code' place place' fault own =
+      check_alike (bytes_under files spec) (bytes_under files document) code code' place place' fault
+      (of_told files spec (λ text. IsFirstFault text (Some Mealy) code' place') own)
+  of_unread files (expand spec) code code' place place' fault own = absurd own
+  of_unread files (lasso spec word) code code' place place' fault own = absurd own
+  of_unread files (gen clients) code code' place place' fault own = absurd own
+  of_unread files (bench clients workers) code code' place place' fault own = absurd own
+  of_unread files (verify side spec circuit) code code' place place' fault own =
+      verify_alike side (bytes_under files spec) (bytes_under files circuit) code code' place place' fault
+      (of_told files spec (λ text. IsSynthFault side text code' place') own)
+  of_unread files (core spec wanted kind) code code' place place' fault own = absurd own
+  of_unread files (batch list wanted) code code' place place' fault own = absurd own
+  of_unread files (solve spec kind refutations) code code' place place' fault own = absurd own
+
+  one_unread : (files : Files) (asked : Asked) (code code' : SpecCode) (place place' : ℕ) → HasSynthFault (Some files) asked code place →
+      HasSynthFault (Some files) asked code' place' → (code ≡ code') × (place ≡ place')
+  one_unread files (synth spec wanted kind) code code' place place' fault own = absurd own
+  one_unread files (check spec document) code code' place place' fault own =
+      problems.one_fault (bytes_under files spec) (Some Mealy) code code' place place'
+      (of_told files spec (λ text. IsFirstFault text (Some Mealy) code place) fault) (of_told files spec (λ text. IsFirstFault text (Some Mealy) code' place') own)
+  one_unread files (expand spec) code code' place place' fault own = absurd own
+  one_unread files (lasso spec word) code code' place place' fault own = absurd own
+  one_unread files (gen clients) code code' place place' fault own = absurd own
+  one_unread files (bench clients workers) code code' place place' fault own = absurd own
+  one_unread files (verify side spec circuit) code code' place place' fault own =
+      one_synth side (bytes_under files spec) code code' place place'
+      (of_told files spec (λ text. IsSynthFault side text code place) fault) (of_told files spec (λ text. IsSynthFault side text code' place') own)
+  one_unread files (core spec wanted kind) code code' place place' fault own = absurd own
+  one_unread files (batch list wanted) code code' place place' fault own = absurd own
+  one_unread files (solve spec kind refutations) code code' place place' fault own = absurd own
 
   of_line : (files : Files) (asked : Asked) (bytes : List ℕ) (status n : ℕ) → HasBadLine files asked n →
       AnswersAsked (Some files) asked bytes status → (status ≡ 40) × (bytes ≡ line_refusal n)
@@ -174,4 +223,4 @@ module _ (problems : ProblemsOfTextsAreDetermined) (checks : ChecksAreDetermined
   of_line files (solve spec kind refutations) bytes status n bad a = absurd bad
 
   pub determined : RefusalsAreDetermined
-  determined = record { of_text = of_text; of_line = of_line }
+  determined = record { of_text = of_text; of_line = of_line; of_unread = of_unread; one_unread = one_unread }

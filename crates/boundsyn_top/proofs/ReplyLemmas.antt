@@ -1,6 +1,6 @@
 -- What makes a reply one of those that a command, and a run, may write.
 use Rattle.std.specs.Prelude.{Contains, IfOk, Result, Ok, Err, codes}
-use Rattle.std.proofs.Common.{◌≡◌, ◌≢◌, ℕ, List, [], ◌∷◌, ◌<◌, ◌≤◌, length, refl, sym, subst, arith, Option, Some, None}
+use Rattle.std.proofs.Common.{◌≡◌, ◌≢◌, ℕ, true, false, List, [], ◌∷◌, ◌<◌, ◌≤◌, length, refl, sym, subst, ◌∙◌, arith, Option, Some, None}
 use Rattle.text_limits.specs.declared.TheConstants.{SMALL_LIMITS}
 use Rattle.letter_word.specs.declared.kinds.Kind.{Kind}
 use Rattle.letter_word.specs.declared.kinds.Kind.TheVariants.{Mealy}
@@ -12,17 +12,20 @@ use Rattle.program_replies.specs.declared.replies.Status.{Status}
 use Rattle.program_replies.specs.declared.replies.Status.TheVariants.{CannotRead, Done, WordsRefused}
 use Rattle.program_replies.specs.Statuses.{status_number}
 use Rattle.program_replies.specs.Lines.{refusal_line}
+use Rattle.program_replies.specs.Refusals.{RefusedBy}
 use Rattle.program_words.specs.Settings.{Asked, EachText, Refutations, settings_of, batch, bench, check, core, expand, lasso, solve, synth, verify}
 use Rattle.cert_text.specs.declared.documents.Verdict.{Verdict}
 use Rattle.cert_text.specs.declared.documents.Verdict.TheVariants as verdict
 use Rattle.bench_answer.specs.Bench.{BenchAnswer, HasStatus}
+use Rattle.spec_faults.specs.declared.code.SpecCode.{SpecCode}
 use Rattle.spec_faults.specs.declared.code.SpecCode.TheVariants.{TooLong}
 use Rattle.tlsf_reader.specs.Faults.{IsReadingFault, most_bytes, too_long}
 use Rattle.tlsf_expand.specs.FlatText.{FlatText, spec_seen}
 use Rattle.flat_text.specs.FlatOf.{IsFlatFault, IsFlatOf, of_reading}
 use Rattle.flat_text.specs.Laws.{FlatTextsHaveNoFault}
 use Rattle.spec_problems.specs.Laws.{ProblemsOfTextsAreDetermined}
-use Rattle.spec_problems.specs.OfText.{of_text}
+use Rattle.spec_problems.specs.OfText.{IsFirstFault, of_text}
+use Rattle.spec_problems.specs.declared.texts.TextProblems.{TextProblems}
 use Rattle.synth_engine.specs.declared.settings.Settings.{Settings}
 use Rattle.synth_answer.specs.Answer.{Answers, realizable, unrealizable, bounded, no_size, no_entries}
 use Rattle.synth_answer.specs.Answer as synthesis
@@ -30,17 +33,17 @@ use Rattle.text_ground.specs.declared.texts.Problems.{Problems}
 use Rattle.text_ground.specs.declared.texts.Problems.TheVariants.{Of, Refused}
 use Rattle.check_answer.specs.Answer.{CheckAnswers}
 use Rattle.check_answer.specs.Answer as certificate
-use Rattle.check_answer.specs.Reply.{CanBeTested, IsForCertificates}
+use Rattle.check_answer.specs.Reply.{CanBeTested, IsForCertificates, IsForCheck}
 use Rattle.letter_word.specs.declared.kinds.Side.{Side}
 use Rattle.letter_word.specs.declared.kinds.Side.TheVariants.{Environment, System}
 use Rattle.solve_ground.specs.declared.texts.SolveText.{SolveText}
-use Rattle.verify_answer.specs.Reply.{IsTestable}
+use Rattle.verify_answer.specs.Reply.{IsForVerify, IsTestable}
 use Rattle.verify_answer.specs.Answer.{CircuitAnswers, TestAnswers, VerifyAnswers}
 use Rattle.verify_answer.specs.Answer as circuits
-use Rattle.core_answer.specs.Core.{CoreAnswers, IsCoreFault}
+use Rattle.core_answer.specs.Core.{CoreAnswers}
 use Rattle.core_answer.specs.Core as cores
 use Rattle.solve_ground.specs.SolveText as solving
-use Rattle.solve_answer.specs.Answer.{SolveAnswers}
+use Rattle.solve_answer.specs.Answer.{LogLimits, SolveAnswers}
 use Rattle.solve_answer.specs.Answer as solved
 use Rattle.batch_answer.specs.Laws.{ListsAreDetermined}
 use Rattle.batch_answer.specs.ListText.{IsFirstBadLineOfList, IsList}
@@ -54,15 +57,18 @@ use Rattle.boundsyn_top.specs.declared.output.Output.{Output}
 use Rattle.boundsyn_top.specs.declared.output.Output.TheVariants.{Whole}
 use Rattle.boundsyn_top.specs.Output.{IsExpansion, IsWholeOf, bytes_of, status_of}
 use Rattle.boundsyn_top.specs.Files as file
-use Rattle.boundsyn_top.specs.Files.{AreOfFile, HoldsOfFile, IsUntaken, RepliesByFile}
+use Rattle.boundsyn_top.specs.Files.{AreOfFile, HoldsOfFile, IsUntaken}
 use Rattle.boundsyn_top.specs.Commands.{MayAnswer, statuses_of}
 use Rattle.boundsyn_top.specs.Batch.{AreFilesOf, IsBadList, IsListRefusal, IsListed, ListAnswers, OneRose, RepliesByLines, RepliesByNames, TextsAnswers}
 use Rattle.boundsyn_top.specs.Batch as batches
-use Rattle.boundsyn_top.specs.Faults.{HasNone, TakesCertificates}
-use Rattle.boundsyn_top.specs.Takes.{GoesOn, TakesBehind, TakesFile, behind, first, first_file}
-use Rattle.boundsyn_top.specs.Steps.{ShelfStep}
-use Rattle.boundsyn_top.specs.Run.{Asks, IsForeign, IsOutputFor, IsOutputOf, IsReply, RepliesTo, answers, answered, cannot_read, unread, words_refused}
-use Rattle.boundsyn_top.proofs.FileLemmas.{some_bytes, too_long_text}
+use Rattle.boundsyn_top.specs.Faults.{HasNoSynthFault, HasNone, HasSynthFault, IsSynthFault, TakesCertificates}
+use Rattle.boundsyn_top.specs.Takes as takes
+use Rattle.boundsyn_top.specs.Takes.{GoesOn, TakesBehind, TakesFile, first_file}
+use Rattle.boundsyn_top.specs.Solving.{limits_by}
+use Rattle.boundsyn_top.specs.Steps.{IsUnchanged, ShelfStep}
+use Rattle.boundsyn_top.specs.Unread.{IsReadBehind, RepliesByFile, TellsUnread, behind, count_rose, first, of_fault, of_file, of_none}
+use Rattle.boundsyn_top.specs.Run.{Asks, IsForeign, IsOutputFor, IsOutputOf, IsReply, RepliesTo, answers, answered, cannot_read, of_files, of_unread, unread, words_refused}
+use Rattle.boundsyn_top.proofs.FileLemmas.{of_told, some_bytes, too_long_text}
 
 -- == the words ==
 
@@ -73,8 +79,8 @@ words_unasked words step bytes status none is ended = rw ended (words_refused re
 -- what a command replies is what a run may write
 reply_by : (words : List (List ℕ)) (step : ShelfStep) (asked : Asked) (bytes : List ℕ) (status : ℕ) →
     Asks words asked → RepliesTo step asked bytes status → IsReply words step bytes status
-reply_by words step asked bytes status asks (unread name taken rose status_is is) =
-    cannot_read status_is (record { asked = asked; asks = asks; name = name; taken = taken; rose = rose }) is
+reply_by words step asked bytes status asks (unread name failed status_is is) =
+    cannot_read status_is (record { asked = asked; asks = asks; name = name; unread = failed }) is
 reply_by words step asked bytes status asks (answers status_is answer) =
     answered (record { asked = asked; asks = asks; status_is = status_is; answer = answer })
 
@@ -92,7 +98,7 @@ untaken_by words told asked name is foreign = foreign asked (record { settings =
 
 -- a file that isn't taken isn't the first one
 pub not_first : (told : Option Files) (asked : Asked) (spec name : List ℕ) → first_file asked ≡ spec ∷ [] → (TakesFile told asked name → ⊥) → name ≢ spec
-not_first told asked spec name is other = λ same. other (first (subst (λ xs. Contains xs name) (sym is) (0, omega arith, sym same)))
+not_first told asked spec name is other = λ same. other (takes.first (subst (λ xs. Contains xs name) (sym is) (0, omega arith, sym same)))
 
 -- a certificate is taken for a text that isn't refused in any case
 pub takes_certificates : (text : List ℕ) (found : Problems) → ProblemsOfTextsAreDetermined → IsForCertificates text found → TakesCertificates text
@@ -130,6 +136,53 @@ verify_goes_on side None spec circuit text are none = record { unless = tt }
 verify_goes_on side (Some files) spec circuit text are none = record {
   unless = λ stops. (subst (λ t. HasNone (solving.IsSolveFault t None)) are none).none stops.code stops.place stops.fault;
 }
+
+-- a text that has no fault as `synth` takes it
+pub check_without_fault : (told : Option Files) (spec certificate text : List ℕ) → AreOfFile told spec text → HasNone (IsFirstFault text (Some Mealy)) →
+    HasNoSynthFault told (check spec certificate)
+check_without_fault None spec certificate text are none = record { none = tt }
+check_without_fault (Some files) spec certificate text are none = record {
+  none = record {
+    none = λ code place fault. none.none code place (subst (λ t. IsFirstFault t (Some Mealy) code place) (sym are)
+        (of_told files spec (λ t. IsFirstFault t (Some Mealy) code place) fault));
+  };
+}
+
+pub verify_without_fault : (side : Side) (told : Option Files) (spec circuit text : List ℕ) → AreOfFile told spec text → HasNone (IsSynthFault side text) →
+    HasNoSynthFault told (verify side spec circuit)
+verify_without_fault side None spec circuit text are none = record { none = tt }
+verify_without_fault side (Some files) spec circuit text are none = record {
+  none = record {
+    none = λ code place fault. none.none code place (subst (λ t. IsSynthFault side t code place) (sym are)
+        (of_told files spec (λ t. IsSynthFault side t code place) fault));
+  };
+}
+
+lasso_without_fault : (told : Option Files) (spec word : List ℕ) → HasNoSynthFault told (lasso spec word)
+lasso_without_fault None spec word = record { none = tt }
+lasso_without_fault (Some files) spec word = record { none = record { none = λ code place fault. fault } }
+
+list_without_fault : (told : Option Files) (list : List ℕ) (wanted : EachText) → HasNoSynthFault told (batch list wanted)
+list_without_fault None list wanted = record { none = tt }
+list_without_fault (Some files) list wanted = record { none = record { none = λ code place fault. fault } }
+
+-- == files that can't be read ==
+
+-- a file that can't be read, behind a text without a fault
+pub nothing_told : (Fault : SpecCode → ℕ → Type 0) (bytes : List ℕ) (status : Status) → HasNone Fault → bytes ≡ codes "cannot read\n" → status ≡ CannotRead →
+    TellsUnread Fault bytes (status_number status)
+nothing_told Fault bytes status none is ended = rw ended (of_none none refl is)
+
+-- or behind one with a fault
+pub fault_told : (Fault : SpecCode → ℕ → Type 0) (bytes : List ℕ) (status : ℕ) → RefusedBy Fault bytes status → TellsUnread Fault bytes status
+fault_told Fault bytes status refused = of_fault refused.code refused.place refused.fault refused.status_is refused.line
+
+-- problems leave no fault
+pub check_has_none : (text : List ℕ) (t : TextProblems) → ProblemsOfTextsAreDetermined → IsForCheck text t → HasNone (IsFirstFault text (Some Mealy))
+check_has_none text t law taken = record { none = λ code place fault. law.no_fault text (Some Mealy) 3 (spec_seen t.spec) t.problems code place taken.text_with.are fault }
+
+pub verify_has_none : (text : List ℕ) (t : TextProblems) → ProblemsOfTextsAreDetermined → IsForVerify text t → HasNone (IsSynthFault System text)
+verify_has_none text t law taken = record { none = λ code place fault. law.no_fault text None 2 (spec_seen t.spec) t.problems code place taken.text_with.are fault }
 
 -- a name of a list is taken, where the list has no bad line
 pub listed_taken : (told : Option Files) (list : List ℕ) (wanted : EachText) (lines name : List ℕ) → AreOfFile told list lines → IsListed lines name →
@@ -174,7 +227,6 @@ synth_status text kind settings bytes status (no_entries p side n is holds) = (4
 
 check_status : (text document bytes : List ℕ) (status : ℕ) → CheckAnswers text document bytes status → Contains (0 ∷ 1 ∷ 40 ∷ []) status
 check_status text document bytes status (certificate.refused code place is fault why line) = (1, omega arith, sym is)
-check_status text document bytes status (certificate.refused_as_larger code place is given sixth fault line) = (1, omega arith, sym is)
 check_status text document bytes status (certificate.bad_line given n is isnt bad line) = (2, omega arith, sym is)
 check_status text document bytes status (certificate.accepted given d is isnt holds line) = (0, omega arith, sym is)
 check_status text document bytes status (certificate.of_solved given (certificate.line_fails n is bad line)) = (2, omega arith, sym is)
@@ -190,11 +242,12 @@ lasso_status text word bytes status (lassos.bad_line spec n is flat bad line) = 
 lasso_status text word bytes status (lassos.told truth is holds line) = (0, omega arith, sym is)
 
 bench_status : (v : Verdict) (status : ℕ) → HasStatus v status → Contains (10 ∷ 20 ∷ 30 ∷ []) status
-bench_status (verdict.Realizable n) status is = (0, omega arith, sym is)
-bench_status (verdict.Unrealizable n) status is = (1, omega arith, sym is)
-bench_status (verdict.Bounded side n) status is = absurd is
-bench_status verdict.UnknownSizes status is = (2, omega arith, sym is)
-bench_status (verdict.UnknownEntries side n) status is = absurd is
+bench_status (verdict.Machine System n true) status is = (0, omega arith, sym is)
+bench_status (verdict.Machine Environment n true) status is = (1, omega arith, sym is)
+bench_status (verdict.Machine System n false) status is = absurd is
+bench_status (verdict.Machine Environment n false) status is = absurd is
+bench_status (verdict.Unknown None) status is = (2, omega arith, sym is)
+bench_status (verdict.Unknown (Some place)) status is = absurd is
 
 test_status : (side : Side) (text circuit : List ℕ) (t : SolveText) (bytes : List ℕ) (status : ℕ) → TestAnswers side text circuit t bytes status →
     Contains (0 ∷ 1 ∷ 40 ∷ []) status
@@ -226,12 +279,12 @@ core_status text kind settings bytes status (cores.refused code place is fault l
 core_status text kind settings bytes status (cores.spared flat is_flat few answer is) = synth_status text kind settings bytes status answer
 core_status text kind settings bytes status (cores.core is told) = (3, omega arith, sym is)
 
-solve_status : (text : List ℕ) (kind : Option Kind) (most : Option ℕ) (bytes : List ℕ) (status : ℕ) → SolveAnswers text kind most bytes status →
+solve_status : (text : List ℕ) (kind : Option Kind) (limits : LogLimits) (bytes : List ℕ) (status : ℕ) → SolveAnswers text kind limits bytes status →
     Contains (1 ∷ 10 ∷ 20 ∷ 30 ∷ []) status
-solve_status text kind most bytes status (solved.refused code place is fault line) = (0, omega arith, sym is)
-solve_status text kind most bytes status (solved.realizable n is prints) = (1, omega arith, sym is)
-solve_status text kind most bytes status (solved.unrealizable n is prints) = (2, omega arith, sym is)
-solve_status text kind most bytes status (solved.unknown is prints) = (3, omega arith, sym is)
+solve_status text kind limits bytes status (solved.refused code place is fault line) = (0, omega arith, sym is)
+solve_status text kind limits bytes status (solved.realizable n is prints) = (1, omega arith, sym is)
+solve_status text kind limits bytes status (solved.unrealizable n is prints) = (2, omega arith, sym is)
+solve_status text kind limits bytes status (solved.unknown is prints) = (3, omega arith, sym is)
 
 list_status : (told : Option Files) (lines : List ℕ) (wanted : EachText) (bytes : List ℕ) (status : ℕ) →
     ListAnswers told lines wanted bytes status → Contains (0 ∷ 40 ∷ []) status
@@ -244,17 +297,23 @@ module _ (step : ShelfStep) where
   rest_from told middle = record { files = told; before = middle; after = step.after }
 
   replies : (asked : Asked) (bytes : List ℕ) (status : ℕ) → Contains (statuses_of asked) status → MayAnswer step.files asked bytes status →
-      RepliesTo step asked bytes status
-  replies asked bytes status status_is may = answers status_is (record { answer = may })
+      IsReadBehind step asked → RepliesTo step asked bytes status
+  replies asked bytes status status_is may read = answers status_is (of_files read (record { answer = may }))
 
   -- a text that isn't taken, where the first fault of a text that is too long answers the command
+  untaken_unchanged : (asked : Asked) (spec : List ℕ) (bytes : List ℕ) (status : ℕ) → Contains (first_file asked) spec →
+      (IsUnchanged step → (text : List ℕ) → AreOfFile step.files spec text → most_bytes < length text → bytes ≡ refusal_line TooLong most_bytes → status ≡ 1 →
+      RepliesTo step asked bytes status) →
+      IsUntaken step spec bytes status → RepliesTo step asked bytes status
+  untaken_unchanged asked spec bytes status named longer (file.too_long long unchanged ended is) =
+      let t = too_long_text step.files spec most_bytes long in longer unchanged t.0 t.1 t.2 is ended
+  untaken_unchanged asked spec bytes status named longer (file.unread rose ended is) = unread spec (first named rose) ended is
+
   untaken : (asked : Asked) (spec : List ℕ) (bytes : List ℕ) (status : ℕ) → Contains (first_file asked) spec →
       ((text : List ℕ) → AreOfFile step.files spec text → most_bytes < length text → bytes ≡ refusal_line TooLong most_bytes → status ≡ 1 →
       RepliesTo step asked bytes status) →
       IsUntaken step spec bytes status → RepliesTo step asked bytes status
-  untaken asked spec bytes status named longer (file.too_long long ended is) =
-      let t = too_long_text step.files spec most_bytes long in longer t.0 t.1 t.2 is ended
-  untaken asked spec bytes status named longer (file.unread rose ended is) = unread spec (first named) rose ended is
+  untaken asked spec bytes status named longer = untaken_unchanged asked spec bytes status named (λ unchanged. longer)
 
   -- == synth ==
 
@@ -263,7 +322,7 @@ module _ (step : ShelfStep) where
       RepliesTo step (synth spec wanted kind) bytes status
   synth_answered spec text wanted kind bytes status are answer =
       replies (synth spec wanted kind) bytes status (synth_status text kind wanted bytes status answer)
-      (record { bytes = text; are_told = are; holds = answer })
+      (record { bytes = text; are_told = are; holds = answer }) tt
 
   pub synth_untaken : (spec : List ℕ) (wanted : Settings) (kind : Option Kind) (bytes : List ℕ) (status : ℕ) →
       IsUntaken step spec bytes status → RepliesTo step (synth spec wanted kind) bytes status
@@ -273,73 +332,87 @@ module _ (step : ShelfStep) where
       (synthesis.refused TooLong most_bytes ended (of_text TooLong most_bytes (of_reading TooLong most_bytes (too_long long))) is))
 
   -- whatever the other file is
-  pub whatever : (name : List ℕ) (Due : Type 0) (P : List ℕ → Type 0) (bytes : List ℕ) (status : ℕ) → ((lines : List ℕ) → P lines) →
-      RepliesByFile step name Due P bytes status
-  whatever name Due P bytes status all = let some = some_bytes step.files name in file.of_file (record { bytes = some.0; are_told = some.1; holds = all some.0 })
+  pub whatever : (name : List ℕ) (Due : Type 0) (Fault : SpecCode → ℕ → Type 0) (P : List ℕ → Type 0) (bytes : List ℕ) (status : ℕ) →
+      step.after name ≡ step.before name → ((lines : List ℕ) → P lines) → RepliesByFile step name Due Fault P bytes status
+  whatever name Due Fault P bytes status same all = let some = some_bytes step.files name in of_file same (record { bytes = some.0; are_told = some.1; holds = all some.0 })
 
-  pub of_bytes : (name lines : List ℕ) (Due : Type 0) (P : List ℕ → Type 0) (bytes : List ℕ) (status : ℕ) → AreOfFile step.files name lines → P lines →
-      RepliesByFile step name Due P bytes status
-  of_bytes name lines Due P bytes status are holds = file.of_file (record { bytes = lines; are_told = are; holds = holds })
-
-  pub unread_file : (name : List ℕ) (Due : Type 0) (P : List ℕ → Type 0) (bytes : List ℕ) (status : Status) → Due → Rose (step.before name) (step.after name) →
-      bytes ≡ codes "cannot read\n" → status ≡ CannotRead → RepliesByFile step name Due P bytes (status_number status)
-  unread_file name Due P bytes status due rose is ended = rw ended (file.count_rose due rose refl is)
+  pub of_bytes : (name lines : List ℕ) (Due : Type 0) (Fault : SpecCode → ℕ → Type 0) (P : List ℕ → Type 0) (bytes : List ℕ) (status : ℕ) →
+      step.after name ≡ step.before name → AreOfFile step.files name lines → P lines → RepliesByFile step name Due Fault P bytes status
+  of_bytes name lines Due Fault P bytes status same are holds = of_file same (record { bytes = lines; are_told = are; holds = holds })
 
   -- == a text and another file ==
 
   module _ (asked : Asked) (spec other : List ℕ) (A : List ℕ → List ℕ → List ℕ → ℕ → Type 0)
       (may : (bytes : List ℕ) (status : ℕ) → HoldsOfFile step.files spec (λ text. HoldsOfFile step.files other (λ lines. A text lines bytes status)) → MayAnswer step.files asked bytes status)
-      (statuses : (text lines bytes : List ℕ) (status : ℕ) → A text lines bytes status → Contains (statuses_of asked) status) where
-    both_answered : (text lines bytes : List ℕ) (status : ℕ) → AreOfFile step.files spec text → AreOfFile step.files other lines → A text lines bytes status →
-        RepliesTo step asked bytes status
-    both_answered text lines bytes status are are_lines answer =
+      (statuses : (text lines bytes : List ℕ) (status : ℕ) → A text lines bytes status → Contains (statuses_of asked) status)
+      (read : step.after other ≡ step.before other → IsReadBehind step asked) where
+    both_answered : (text lines bytes : List ℕ) (status : ℕ) → step.after other ≡ step.before other → AreOfFile step.files spec text →
+        AreOfFile step.files other lines → A text lines bytes status → RepliesTo step asked bytes status
+    both_answered text lines bytes status same are are_lines answer =
         replies asked bytes status (statuses text lines bytes status answer)
         (may bytes status (record { bytes = text; are_told = are; holds = record { bytes = lines; are_told = are_lines; holds = answer } }))
+        (read same)
 
     -- the text alone is refused
-    text_refused : (text bytes : List ℕ) (status : ℕ) → AreOfFile step.files spec text → ((lines : List ℕ) → A text lines bytes status) →
-        RepliesTo step asked bytes status
-    text_refused text bytes status are answer = let some = some_bytes step.files other in both_answered text some.0 bytes status are some.1 (answer some.0)
+    text_refused : (text bytes : List ℕ) (status : ℕ) → step.after other ≡ step.before other → AreOfFile step.files spec text →
+        ((lines : List ℕ) → A text lines bytes status) → RepliesTo step asked bytes status
+    text_refused text bytes status same are answer =
+        let some = some_bytes step.files other in both_answered text some.0 bytes status same are some.1 (answer some.0)
 
     text_untaken : Contains (first_file asked) spec →
         ((text lines bytes : List ℕ) (status : ℕ) → IsReadingFault text TooLong most_bytes → bytes ≡ refusal_line TooLong most_bytes → status ≡ 1 →
         A text lines bytes status) →
         (bytes : List ℕ) (status : ℕ) → IsUntaken step spec bytes status → RepliesTo step asked bytes status
     text_untaken named refuses bytes status =
-        untaken asked spec bytes status named
-        (λ text are long is ended. text_refused text bytes status are (λ lines. refuses text lines bytes status (too_long long) is ended))
+        untaken_unchanged asked spec bytes status named
+        (λ unchanged text are long is ended. text_refused text bytes status (unchanged other) are (λ lines. refuses text lines bytes status (too_long long) is ended))
 
-    by_file_here : (Due : Type 0) (middle : List ℕ → ℕ) (text bytes : List ℕ) (status : ℕ) → AreOfFile step.files spec text → (Due → TakesFile step.files asked other) →
-        ((any : List ℕ) → step.before any ≤ middle any) → RepliesByFile (rest_from step.files middle) other Due (λ lines. A text lines bytes status) bytes status →
-        RepliesTo step asked bytes status
-    by_file_here Due middle text bytes status are taken more (file.count_rose due rose ended is) =
-        unread other (taken due) (Rose-earlier (step.before other) (middle other) (step.after other) (more other) rose) ended is
-    by_file_here Due middle text bytes status are taken more (file.of_file h) = both_answered text h.bytes bytes status are h.are_told h.holds
+    -- behind a text that was taken, with its faults as `synth` takes it
+    module _ (Due : Type 0) (Fault : List ℕ → SpecCode → ℕ → Type 0) (taken : Due → TakesBehind step.files asked other)
+        (has : (code : SpecCode) (place : ℕ) → HoldsOfFile step.files spec (λ text. Fault text code place) → HasSynthFault step.files asked code place)
+        (refused : Contains (statuses_of asked) 1) (text : List ℕ) (are : AreOfFile step.files spec text)
+        (hasnt : HasNone (Fault text) → HasNoSynthFault step.files asked) where
+      unread_here : (bytes : List ℕ) (status : ℕ) → Due → Rose (step.before other) (step.after other) → TellsUnread (Fault text) bytes status → RepliesTo step asked bytes status
+      unread_here bytes status due rose (of_fault code place fault ended is) =
+          answers (subst (λ k. Contains (statuses_of asked) k) (sym ended) refused)
+          (of_unread code place (record {
+            fault = has code place (record { bytes = text; are_told = are; holds = fault });
+            name = other;
+            taken = taken due;
+            rose = rose;
+          }) ended is)
+      unread_here bytes status due rose (of_none none ended is) = unread other (behind (taken due) (hasnt none) rose) ended is
 
-    by_file : (Due : Type 0) (told : Option Files) (middle : List ℕ → ℕ) (text bytes : List ℕ) (status : ℕ) → told ≡ step.files → AreOfFile step.files spec text →
-        (Due → TakesFile step.files asked other) → ((any : List ℕ) → step.before any ≤ middle any) →
-        RepliesByFile (rest_from told middle) other Due (λ lines. A text lines bytes status) bytes status → RepliesTo step asked bytes status
-    by_file Due told middle text bytes status same are taken more replied =
-        by_file_here Due middle text bytes status are taken more
-        (subst (λ o. RepliesByFile (rest_from o middle) other Due (λ lines. A text lines bytes status) bytes status) same replied)
+      by_file_here : (middle : List ℕ → ℕ) (bytes : List ℕ) (status : ℕ) → middle other ≡ step.before other →
+          RepliesByFile (rest_from step.files middle) other Due (Fault text) (λ lines. A text lines bytes status) bytes status → RepliesTo step asked bytes status
+      by_file_here middle bytes status as_before (count_rose due rose tells) =
+          unread_here bytes status due (subst (λ n. Rose n (step.after other)) as_before rose) tells
+      by_file_here middle bytes status as_before (of_file same h) = both_answered text h.bytes bytes status (same ∙ as_before) are h.are_told h.holds
+
+      by_file : (told : Option Files) (middle : List ℕ → ℕ) (bytes : List ℕ) (status : ℕ) → told ≡ step.files → ((any : List ℕ) → middle any ≡ step.before any) →
+          RepliesByFile (rest_from told middle) other Due (Fault text) (λ lines. A text lines bytes status) bytes status → RepliesTo step asked bytes status
+      by_file told middle bytes status same as_before replied =
+          by_file_here middle bytes status (as_before other)
+          (subst (λ o. RepliesByFile (rest_from o middle) other Due (Fault text) (λ lines. A text lines bytes status) bytes status) same replied)
 
   -- == check ==
 
   pub check_untaken : (spec document : List ℕ) (bytes : List ℕ) (status : ℕ) →
       IsUntaken step spec bytes status → RepliesTo step (check spec document) bytes status
   check_untaken spec document =
-      text_untaken (check spec document) spec document CheckAnswers (λ bytes status h. h) check_status (0, omega arith, refl)
+      text_untaken (check spec document) spec document CheckAnswers (λ bytes status h. h) check_status (λ same. same) (0, omega arith, refl)
       (λ text lines bytes status fault is ended.
       certificate.refused TooLong most_bytes ended (of_text TooLong most_bytes (of_reading TooLong most_bytes fault))
       (certificate.refused_by_solve TooLong most_bytes (solving.of_reading TooLong most_bytes fault)) is)
 
   pub check_by_file : (told : Option Files) (middle : List ℕ → ℕ) (spec document text : List ℕ) (bytes : List ℕ) (status : ℕ) → told ≡ step.files →
-      AreOfFile step.files spec text → ((any : List ℕ) → step.before any ≤ middle any) →
-      RepliesByFile (rest_from told middle) document (TakesCertificates text) (λ lines. CheckAnswers text lines bytes status) bytes status →
+      AreOfFile step.files spec text → ((any : List ℕ) → middle any ≡ step.before any) →
+      RepliesByFile (rest_from told middle) document (TakesCertificates text) (IsFirstFault text (Some Mealy)) (λ lines. CheckAnswers text lines bytes status) bytes status →
       RepliesTo step (check spec document) bytes status
   check_by_file told middle spec document text bytes status same are =
-      by_file (check spec document) spec document CheckAnswers (λ bytes status h. h) check_status (TakesCertificates text) told middle text bytes status same are
-      (λ due. behind (refl, check_goes_on step.files spec document text are due))
+      by_file (check spec document) spec document CheckAnswers (λ bytes status h. h) check_status (λ read. read)
+      (TakesCertificates text) (λ t. IsFirstFault t (Some Mealy)) (λ due. (refl, check_goes_on step.files spec document text are due)) (λ code place h. h)
+      (1, omega arith, refl) text are (check_without_fault step.files spec document text are) told middle bytes status same
 
   -- == expand ==
 
@@ -347,7 +420,7 @@ module _ (step : ShelfStep) where
       IsOutputOf step (expand spec) output
   expand_answered spec text output are e = record {
     replies = replies (expand spec) (bytes_of output) (status_of output) (expand_status text (bytes_of output) (status_of output) e.answers)
-        (record { bytes = text; are_told = are; holds = e.answers });
+        (record { bytes = text; are_told = are; holds = e.answers }) tt;
     writable = e.writable;
   }
 
@@ -356,46 +429,48 @@ module _ (step : ShelfStep) where
   expand_untaken spec bytes status =
       untaken (expand spec) spec bytes status (0, omega arith, refl)
       (λ text are long is ended. replies (expand spec) bytes status (1, omega arith, sym ended)
-      (record { bytes = text; are_told = are; holds = expansion.refused TooLong most_bytes ended (of_reading TooLong most_bytes (too_long long)) is }))
+      (record { bytes = text; are_told = are; holds = expansion.refused TooLong most_bytes ended (of_reading TooLong most_bytes (too_long long)) is }) tt)
 
   -- == lasso ==
 
   pub lasso_untaken : (spec word : List ℕ) (bytes : List ℕ) (status : ℕ) →
       IsUntaken step spec bytes status → RepliesTo step (lasso spec word) bytes status
   lasso_untaken spec word =
-      text_untaken (lasso spec word) spec word LassoAnswers (λ bytes status h. h) lasso_status (0, omega arith, refl)
+      text_untaken (lasso spec word) spec word LassoAnswers (λ bytes status h. h) lasso_status (λ same. same) (0, omega arith, refl)
       (λ text lines bytes status fault is ended. lassos.refused TooLong most_bytes ended (of_reading TooLong most_bytes fault) is)
 
   pub lasso_by_file : (told : Option Files) (middle : List ℕ → ℕ) (spec word text : List ℕ) (bytes : List ℕ) (status : ℕ) → told ≡ step.files →
-      AreOfFile step.files spec text → ((any : List ℕ) → step.before any ≤ middle any) →
-      RepliesByFile (rest_from told middle) word (HasNone (IsFlatFault SMALL_LIMITS text None)) (λ lines. LassoAnswers text lines bytes status) bytes status →
+      AreOfFile step.files spec text → ((any : List ℕ) → middle any ≡ step.before any) →
+      RepliesByFile (rest_from told middle) word (HasNone (IsFlatFault SMALL_LIMITS text None)) (λ code place. ⊥) (λ lines. LassoAnswers text lines bytes status) bytes status →
       RepliesTo step (lasso spec word) bytes status
   lasso_by_file told middle spec word text bytes status same are =
-      by_file (lasso spec word) spec word LassoAnswers (λ bytes status h. h) lasso_status (HasNone (IsFlatFault SMALL_LIMITS text None)) told middle text bytes status same are
-      (λ due. behind (refl, lasso_goes_on step.files spec word text are due))
+      by_file (lasso spec word) spec word LassoAnswers (λ bytes status h. h) lasso_status (λ read. read)
+      (HasNone (IsFlatFault SMALL_LIMITS text None)) (λ t code place. ⊥) (λ due. (refl, lasso_goes_on step.files spec word text are due)) (λ code place h. h.holds)
+      (1, omega arith, refl) text are (λ none. lasso_without_fault step.files spec word) told middle bytes status same
 
   -- == gen and bench ==
 
   pub bench_answered : (clients workers : ℕ) (bytes : List ℕ) (status : ℕ) → BenchAnswer clients workers bytes status →
       RepliesTo step (bench clients workers) bytes status
   bench_answered clients workers bytes status answer =
-      replies (bench clients workers) bytes status (bench_status answer.verdict status answer.has_status) answer
+      replies (bench clients workers) bytes status (bench_status answer.verdict status answer.has_status) answer tt
 
   -- == verify ==
 
   pub verify_untaken : (side : Side) (spec circuit : List ℕ) (bytes : List ℕ) (status : ℕ) →
       IsUntaken step spec bytes status → RepliesTo step (verify side spec circuit) bytes status
   verify_untaken side spec circuit bytes status =
-      text_untaken (verify side spec circuit) spec circuit (CircuitAnswers side) (λ bytes status h. h) (verify_status side) (0, omega arith, refl)
+      text_untaken (verify side spec circuit) spec circuit (CircuitAnswers side) (λ bytes status h. h) (verify_status side) (λ same. same) (0, omega arith, refl)
       (λ text lines bytes status fault is ended. verify_too_long side text lines bytes status fault is ended) bytes status
 
   pub verify_by_file : (side : Side) (told : Option Files) (middle : List ℕ → ℕ) (spec circuit text : List ℕ) (bytes : List ℕ) (status : ℕ) → told ≡ step.files →
-      AreOfFile step.files spec text → ((any : List ℕ) → step.before any ≤ middle any) →
-      RepliesByFile (rest_from told middle) circuit (HasNone (solving.IsSolveFault text None)) (λ lines. CircuitAnswers side text lines bytes status) bytes status →
+      AreOfFile step.files spec text → ((any : List ℕ) → middle any ≡ step.before any) →
+      RepliesByFile (rest_from told middle) circuit (HasNone (solving.IsSolveFault text None)) (IsSynthFault side text) (λ lines. CircuitAnswers side text lines bytes status) bytes status →
       RepliesTo step (verify side spec circuit) bytes status
   verify_by_file side told middle spec circuit text bytes status same are =
-      by_file (verify side spec circuit) spec circuit (CircuitAnswers side) (λ bytes status h. h) (verify_status side) (HasNone (solving.IsSolveFault text None)) told middle text bytes status same are
-      (λ due. behind (refl, verify_goes_on side step.files spec circuit text are due))
+      by_file (verify side spec circuit) spec circuit (CircuitAnswers side) (λ bytes status h. h) (verify_status side) (λ read. read)
+      (HasNone (solving.IsSolveFault text None)) (IsSynthFault side) (λ due. (refl, verify_goes_on side step.files spec circuit text are due)) (λ code place h. h)
+      (1, omega arith, refl) text are (verify_without_fault side step.files spec circuit text are) told middle bytes status same
 
   -- == core ==
 
@@ -403,7 +478,7 @@ module _ (step : ShelfStep) where
       AreOfFile step.files spec text → CoreAnswers text kind wanted bytes status → RepliesTo step (core spec wanted kind) bytes status
   core_answered spec text wanted kind bytes status are answer =
       replies (core spec wanted kind) bytes status (core_status text kind wanted bytes status answer)
-      (record { bytes = text; are_told = are; holds = answer })
+      (record { bytes = text; are_told = are; holds = answer }) tt
 
   pub core_untaken : (spec : List ℕ) (wanted : Settings) (kind : Option Kind) (bytes : List ℕ) (status : ℕ) →
       IsUntaken step spec bytes status → RepliesTo step (core spec wanted kind) bytes status
@@ -416,9 +491,9 @@ module _ (step : ShelfStep) where
   -- == solve ==
 
   pub solve_answered : (spec text : List ℕ) (kind : Option Kind) (refutations : Refutations) (bytes : List ℕ) (status : ℕ) →
-      AreOfFile step.files spec text → SolveAnswers text kind refutations.max bytes status → RepliesTo step (solve spec kind refutations) bytes status
+      AreOfFile step.files spec text → SolveAnswers text kind (limits_by refutations) bytes status → RepliesTo step (solve spec kind refutations) bytes status
   solve_answered spec text kind refutations bytes status are answer =
-      replies (solve spec kind refutations) bytes status (solve_status text kind refutations.max bytes status answer) (record { bytes = text; are_told = are; holds = answer })
+      replies (solve spec kind refutations) bytes status (solve_status text kind (limits_by refutations) bytes status answer) (record { bytes = text; are_told = are; holds = answer }) tt
 
   pub solve_untaken : (spec : List ℕ) (kind : Option Kind) (refutations : Refutations) (bytes : List ℕ) (status : ℕ) →
       IsUntaken step spec bytes status → RepliesTo step (solve spec kind refutations) bytes status
@@ -432,17 +507,17 @@ module _ (step : ShelfStep) where
   -- the list couldn't be read
   pub list_unread : (list : List ℕ) (wanted : EachText) (bytes : List ℕ) (status : Status) → Rose (step.before list) (step.after list) →
       bytes ≡ codes "cannot read\n" → status ≡ CannotRead → RepliesTo step (batch list wanted) bytes (status_number status)
-  list_unread list wanted bytes status rose is ended = rw ended (unread list (first (0, omega arith, refl)) rose refl is)
+  list_unread list wanted bytes status rose is ended = rw ended (unread list (first (0, omega arith, refl) rose) refl is)
 
   by_lines_here : (middle : List ℕ → ℕ) (list : List ℕ) (wanted : EachText) (lines bytes : List ℕ) (status : ℕ) → AreOfFile step.files list lines →
       ((any : List ℕ) → step.before any ≤ middle any) → RepliesByLines (rest_from step.files middle) lines wanted bytes status →
       RepliesTo step (batch list wanted) bytes status
   by_lines_here middle list wanted lines bytes status are more (batches.text_rose name listed good rose ended is) =
-      unread name (behind (listed_taken step.files list wanted lines name are listed good))
-      (Rose-earlier (step.before name) (middle name) (step.after name) (more name) rose) ended is
+      unread name (behind (listed_taken step.files list wanted lines name are listed good) (list_without_fault step.files list wanted)
+      (Rose-earlier (step.before name) (middle name) (step.after name) (more name) rose)) ended is
   by_lines_here middle list wanted lines bytes status are more (batches.of_lines answer) =
       replies (batch list wanted) bytes status (list_status step.files lines wanted bytes status answer)
-      (record { bytes = lines; are_told = are; holds = answer })
+      (record { bytes = lines; are_told = are; holds = answer }) tt
 
   pub by_lines : (told : Option Files) (middle : List ℕ → ℕ) (list : List ℕ) (wanted : EachText) (lines bytes : List ℕ) (status : ℕ) → told ≡ step.files →
       AreOfFile step.files list lines → ((any : List ℕ) → step.before any ≤ middle any) →

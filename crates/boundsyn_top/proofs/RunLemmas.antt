@@ -11,25 +11,31 @@ use Rattle.outside_edge.specs.declared.sink.SinkFault.TheVariants.{Failed, NoMem
 use Rattle.outside_edge.proofs.GainLemmas.{gains_nothing}
 use Rattle.spec_faults.specs.declared.code.SpecCode.{SpecCode}
 use Rattle.program_replies.specs.Lines.{line_refusal, refusal_line}
+use Rattle.program_replies.proofs.RefusalLemmas.{one_refusal}
 use Rattle.program_words.specs.Settings.{Asked, synth, check, expand, lasso, gen, bench, verify, core, batch, solve}
 use Rattle.boundsyn_top.specs.Commands.{AnswersAsked, statuses_of}
-use Rattle.boundsyn_top.specs.Faults.{RefusalsAreDetermined}
-use Rattle.boundsyn_top.specs.Run.{AnswersWords, AskForNothing, Asks, EndsWith, Gained, GainedPart, IsEnding, IsForeign, IsReply, IsStopped, LineFails, ReadFailed, ReadsWell, TextFails, answered, answering, cannot_read, prevented, says, words_refused}
+use Rattle.boundsyn_top.specs.Faults.{HasSynthFault, RefusalsAreDetermined}
+use Rattle.boundsyn_top.specs.Run.{AnswersStep, AnswersWords, AskForNothing, Asks, EndsWith, Gained, GainedPart, IsEnding, IsForeign, IsReply, IsStopped, LineFails, ReadFailed, ReadsWell, TextFails, TextFailsUnread, answered, answering, cannot_read, of_files, of_unread, prevented, says, words_refused}
 use Rattle.boundsyn_top.specs.Steps.{ShelfStep}
 use Rattle.boundsyn_top.specs.Takes.{Stops, TakesBehind, TakesFile, behind, first, first_file}
+use Rattle.boundsyn_top.specs.Unread.{IsReadBehind, IsUnread}
+use Rattle.boundsyn_top.specs.Unread as reading
 
 -- the clauses of `run` that speak of its result, at plain values
 pub record Promise (words : List (List ℕ)) (step : ShelfStep)
     (written later : Option (List ℕ)) (faults faults_after result : ℕ) : Type 0 where
   pub statuses : Contains (2 ∷ 3 ∷ 4 ∷ 5 ∷ answering) result
-  pub answered : Contains answering result → Gained written later (λ bytes. AnswersWords words step.files bytes result)
+  pub answered : Contains answering result → Gained written later (λ bytes. AnswersWords words step bytes result)
   pub words_refused : result ≡ 2 → Gained written later (λ bytes. AskForNothing words × (bytes ≡ codes "words refused\n"))
   pub cannot_read : result ≡ 3 → Gained written later (λ bytes. ReadFailed words step × (bytes ≡ codes "cannot read\n"))
   pub cannot_write : result ≡ 4 → Rose faults faults_after
   pub cut_short : (result ≡ 4) ⊎ (result ≡ 5) → GainedPart written later (λ bytes status. IsReply words step bytes status)
   pub bad_words_are_refused : AskForNothing words → Contains (2 ∷ 4 ∷ 5 ∷ []) result
   pub fault_is_refused : (code : SpecCode) (place : ℕ) → TextFails words step.files code place → EndsWith written later (refusal_line code place) 1 result
-  pub bad_line_is_refused : (n : ℕ) → LineFails words step.files n → EndsWith written later (line_refusal n) 40 result
+  pub bad_line_is_refused : (n : ℕ) → LineFails words step.files n → ((code : SpecCode) (place : ℕ) → TextFailsUnread words step code place → ⊥)
+      → EndsWith written later (line_refusal n) 40 result
+  pub unread_fault_is_refused : (code : SpecCode) (place : ℕ) (fails : TextFailsUnread words step code place) → (IsReadBehind step fails.asked → ⊥)
+      → EndsWith written later (refusal_line code place) 1 result
   pub complete : (asked : Asked) → Asks words asked → ReadsWell step asked → (Rose faults faults_after → ⊥) → Contains (5 ∷ statuses_of asked) result
 
 -- words ask for one thing, or for nothing
@@ -157,7 +163,8 @@ module _ (words : List (List ℕ)) (step : ShelfStep) (written later : Option (L
     cut_short = λ e. absurd (no_cut n 2 n_is (λ h. omega arith) (λ h. omega arith) e);
     bad_words_are_refused = λ e. (0, omega arith, sym n_is);
     fault_is_refused = λ code place f. absurd (clash words f.asked f.asks none);
-    bad_line_is_refused = λ line f. absurd (clash words f.asked f.asks none);
+    bad_line_is_refused = λ line f plain. absurd (clash words f.asked f.asks none);
+    unread_fault_is_refused = λ code place f failed. absurd (clash words f.asked f.asks none);
     complete = λ asked asks well written_all. absurd (clash words asked asks none);
   }
 
@@ -172,29 +179,59 @@ module _ (words : List (List ℕ)) (step : ShelfStep) (written later : Option (L
     cut_short = λ e. absurd (no_cut n 3 n_is (λ h. omega arith) (λ h. omega arith) e);
     bad_words_are_refused = λ e. absurd (clash words rose.asked rose.asks e);
     fault_is_refused = λ code place f. prevented (0, omega arith, sym n_is);
-    bad_line_is_refused = λ line f. prevented (0, omega arith, sym n_is);
-    complete = λ asked asks well written_all. absurd (subst (λ a. ReadsWell step a) (one_asked words asked rose.asked asks rose.asks) well rose.name rose.taken rose.rose);
+    bad_line_is_refused = λ line f plain. prevented (0, omega arith, sym n_is);
+    unread_fault_is_refused = λ code place f failed. prevented (0, omega arith, sym n_is);
+    complete = λ asked asks well written_all. absurd (subst (λ a. ReadsWell step a) (one_asked words asked rose.asked asks rose.asks) well rose.name rose.unread);
   }
 
-  -- the answer, where the text has a fault or the other file a bad line
-  at_fault : RefusalsAreDetermined → (bytes : List ℕ) (n : ℕ) → AnswersWords words step.files bytes n →
-      (code : SpecCode) (place : ℕ) → TextFails words step.files code place → (n ≡ 1) × (bytes ≡ refusal_line code place)
-  at_fault law bytes n a code place f =
-      law.of_text f.files f.asked bytes n code place f.fault
-      (subst (λ x. AnswersAsked (Some f.files) x bytes n) (one_asked words a.asked f.asked a.asks f.asks)
-      (subst (λ o. AnswersAsked o a.asked bytes n) f.are_told a.answer))
+  -- the answer to the same command, of the files that are told
+  answer_to : (bytes : List ℕ) (n : ℕ) (a : AnswersWords words step bytes n) (asked : Asked) → Asks words asked → AnswersStep step asked bytes n
+  answer_to bytes n a asked asks = subst (λ x. AnswersStep step x bytes n) (one_asked words a.asked asked a.asks asks) a.answer
 
-  at_line : RefusalsAreDetermined → (bytes : List ℕ) (n : ℕ) → AnswersWords words step.files bytes n →
-      (line : ℕ) → LineFails words step.files line → (n ≡ 40) × (bytes ≡ line_refusal line)
-  at_line law bytes n a line f =
-      law.of_line f.files f.asked bytes n line f.bad
-      (subst (λ x. AnswersAsked (Some f.files) x bytes n) (one_asked words a.asked f.asked a.asks f.asks)
-      (subst (λ o. AnswersAsked o a.asked bytes n) f.are_told a.answer))
+  told_answer : (asked : Asked) (bytes : List ℕ) (n : ℕ) (files : Files) → step.files ≡ Some files → AnswersAsked step.files asked bytes n →
+      AnswersAsked (Some files) asked bytes n
+  told_answer asked bytes n files told answer = subst (λ o. AnswersAsked o asked bytes n) told answer
+
+  told_fault : (asked : Asked) (code : SpecCode) (place : ℕ) (files : Files) → step.files ≡ Some files → HasSynthFault step.files asked code place →
+      HasSynthFault (Some files) asked code place
+  told_fault asked code place files told fault = subst (λ o. HasSynthFault o asked code place) told fault
+
+  -- the line of a fault that is the one that was told
+  same_line : (bytes : List ℕ) (code told : SpecCode) (place at : ℕ) → (code ≡ told) × (place ≡ at) → bytes ≡ refusal_line told at → bytes ≡ refusal_line code place
+  same_line bytes code told place at same is = is ∙ sym (one_refusal code told place at same.0 same.1)
+
+  -- the answer, where the text has a fault or the other file a bad line
+  fault_by : RefusalsAreDetermined → (bytes : List ℕ) (n : ℕ) (code : SpecCode) (place : ℕ) (f : TextFails words step.files code place) →
+      AnswersStep step f.asked bytes n → (n ≡ 1) × (bytes ≡ refusal_line code place)
+  fault_by law bytes n code place f (of_files read answer) =
+      law.of_text f.files f.asked bytes n code place f.fault (told_answer f.asked bytes n f.files f.are_told answer)
+  fault_by law bytes n code place f (of_unread told at unread ended is) = (
+    ended,
+    same_line bytes code told place at
+        (law.of_unread f.files f.asked code told place at f.fault (told_fault f.asked told at f.files f.are_told unread.fault)) is,
+  )
+
+  line_by : RefusalsAreDetermined → (bytes : List ℕ) (n line : ℕ) (f : LineFails words step.files line) →
+      ((code : SpecCode) (place : ℕ) → TextFailsUnread words step code place → ⊥) → AnswersStep step f.asked bytes n → (n ≡ 40) × (bytes ≡ line_refusal line)
+  line_by law bytes n line f plain (of_files read answer) =
+      law.of_line f.files f.asked bytes n line f.bad (told_answer f.asked bytes n f.files f.are_told answer)
+  line_by law bytes n line f plain (of_unread code place unread ended is) =
+      absurd (plain code place (record { asked = f.asked; asks = f.asks; files = f.files; are_told = f.are_told; fault = unread }))
+
+  unread_by : RefusalsAreDetermined → (bytes : List ℕ) (n : ℕ) (code : SpecCode) (place : ℕ) (f : TextFailsUnread words step code place) →
+      (IsReadBehind step f.asked → ⊥) → AnswersStep step f.asked bytes n → (n ≡ 1) × (bytes ≡ refusal_line code place)
+  unread_by law bytes n code place f failed (of_files read answer) = absurd (failed read)
+  unread_by law bytes n code place f failed (of_unread told at unread ended is) = (
+    ended,
+    same_line bytes code told place at
+        (law.one_unread f.files f.asked code told place at (told_fault f.asked code place f.files f.are_told f.fault.fault)
+        (told_fault f.asked told at f.files f.are_told unread.fault)) is,
+  )
 
   ends : (bytes line : List ℕ) (n status : ℕ) → Gains written later bytes → (n ≡ status) × (bytes ≡ line) → EndsWith written later line status n
   ends bytes line n status gained e = says e.0 (subst (λ b. Gains written later b) e.1 gained)
 
-  whole_answer : RefusalsAreDetermined → (bytes : List ℕ) (n : ℕ) → Gains written later bytes → AnswersWords words step.files bytes n →
+  whole_answer : RefusalsAreDetermined → (bytes : List ℕ) (n : ℕ) → Gains written later bytes → AnswersWords words step bytes n →
       Promise words step written later faults faults_after n
   whole_answer law bytes n gained a =
       let is = is_answering a.asked n a.status_is in
@@ -206,8 +243,10 @@ module _ (words : List (List ℕ)) (step : ShelfStep) (written later : Option (L
         cannot_write = λ e. absurd (is.no_4 e);
         cut_short = λ e. absurd (no_cut n n refl is.no_4 is.no_5 e);
         bad_words_are_refused = λ e. absurd (clash words a.asked a.asks e);
-        fault_is_refused = λ code place f. ends bytes (refusal_line code place) n 1 gained (at_fault law bytes n a code place f);
-        bad_line_is_refused = λ line f. ends bytes (line_refusal line) n 40 gained (at_line law bytes n a line f);
+        fault_is_refused = λ code place f. ends bytes (refusal_line code place) n 1 gained (fault_by law bytes n code place f (answer_to bytes n a f.asked f.asks));
+        bad_line_is_refused = λ line f plain. ends bytes (line_refusal line) n 40 gained (line_by law bytes n line f plain (answer_to bytes n a f.asked f.asks));
+        unread_fault_is_refused = λ code place f failed.
+            ends bytes (refusal_line code place) n 1 gained (unread_by law bytes n code place f failed (answer_to bytes n a f.asked f.asks));
         complete = λ asked asks well written_all. subst (λ x. Contains (5 ∷ statuses_of x) n) (one_asked words a.asked asked a.asks asks) (among_own a.asked n a.status_is);
       }
 
@@ -238,7 +277,8 @@ module _ (words : List (List ℕ)) (step : ShelfStep) (written later : Option (L
     cut_short = λ e. part;
     bad_words_are_refused = λ e. (1, omega arith, sym n_is);
     fault_is_refused = λ code place f. prevented (1, omega arith, sym n_is);
-    bad_line_is_refused = λ line f. prevented (1, omega arith, sym n_is);
+    bad_line_is_refused = λ line f plain. prevented (1, omega arith, sym n_is);
+    unread_fault_is_refused = λ code place f failed. prevented (1, omega arith, sym n_is);
     complete = λ asked asks well written_all. absurd (written_all rose);
   }
 
@@ -254,7 +294,8 @@ module _ (words : List (List ℕ)) (step : ShelfStep) (written later : Option (L
     cut_short = λ e. part;
     bad_words_are_refused = λ e. (2, omega arith, sym n_is);
     fault_is_refused = λ code place f. prevented (2, omega arith, sym n_is);
-    bad_line_is_refused = λ line f. prevented (2, omega arith, sym n_is);
+    bad_line_is_refused = λ line f plain. prevented (2, omega arith, sym n_is);
+    unread_fault_is_refused = λ code place f failed. prevented (2, omega arith, sym n_is);
     complete = λ asked asks well written_all. (0, omega arith, sym n_is);
   }
 
@@ -303,3 +344,8 @@ refused_alone words told stopped name other = λ asked asks taken.
 pub none_rose : Rose 0 0 → ⊥
 none_rose (inl lt) = omega arith
 none_rose (inr both) = omega (arith, both.0)
+
+-- where no count rose each file could be read
+pub none_unread : (step : ShelfStep) (asked : Asked) (name : List ℕ) → step.before name ≡ 0 → step.after name ≡ 0 → IsUnread step asked name → ⊥
+none_unread step asked name old new (reading.first named rose) = none_rose (subst (λ n. Rose 0 n) new (subst (λ n. Rose n (step.after name)) old rose))
+none_unread step asked name old new (reading.behind taken none rose) = none_rose (subst (λ n. Rose 0 n) new (subst (λ n. Rose n (step.after name)) old rose))

@@ -12,7 +12,7 @@ use Rattle.program_words.specs.Settings.{EachText, searched, solved}
 use Rattle.solve_batch.specs.SolvedBatch.{SolvedBatchAnswers}
 use Rattle.boundsyn_top.specs.declared.batches.ListWish.{ListWish}
 use Rattle.boundsyn_top.specs.declared.batches.ListWish.TheVariants as wish
-use Rattle.boundsyn_top.specs.Solving.{refutations_by}
+use Rattle.boundsyn_top.specs.Solving.{limits_by, refutations_by}
 use Rattle.batch_answer.specs.declared.list.ListFault.{ListFault}
 use Rattle.batch_answer.specs.declared.list.ListFault.TheVariants as fault
 use Rattle.batch_answer.specs.declared.texts.TakenText.{TakenText}
@@ -68,7 +68,7 @@ HasWorkers (wish.Solve kind refuting) = 1 ≤ refuting.workers
 -- the bytes answer the texts of these names, each by what is done with it
 abbrev pub TextsAnswers : List (List ℕ) → List (List ℕ) → EachText → List ℕ → Type 0
 TextsAnswers names texts (searched settings) bytes = BatchAnswers names texts settings bytes
-TextsAnswers names texts (solved kind refutations) bytes = SolvedBatchAnswers names texts (record { given = kind; most = refutations.max }) bytes
+TextsAnswers names texts (solved kind refutations) bytes = SolvedBatchAnswers names texts (record { given = kind; limits = limits_by refutations }) bytes
 
 -- The bytes and the status that answer a list: the line of its first bad line, or the answers to the texts that it names.
 pub data ListAnswers (told : Option Files) (lines : List ℕ) (wanted : EachText) (bytes : List ℕ) (status : ℕ) : Type 0 where

@@ -13,6 +13,7 @@ use Rattle.core_answer.specs.Core.{CoreAnswers}
 use Rattle.solve_answer.specs.Answer.{SolveAnswers}
 use Rattle.boundsyn_top.specs.Files.{HoldsOfFile}
 use Rattle.boundsyn_top.specs.Batch.{ListAnswers}
+use Rattle.boundsyn_top.specs.Solving.{limits_by}
 
 -- the statuses with which it answers
 abbrev pub statuses_of : Asked → List ℕ
@@ -41,7 +42,7 @@ MayAnswer told (verify side spec circuit) bytes status =
     HoldsOfFile told spec (λ text. HoldsOfFile told circuit (λ lines. CircuitAnswers side text lines bytes status))
 MayAnswer told (core spec wanted kind) bytes status = HoldsOfFile told spec (λ text. CoreAnswers text kind wanted bytes status)
 MayAnswer told (batch list wanted) bytes status = HoldsOfFile told list (λ lines. ListAnswers told lines wanted bytes status)
-MayAnswer told (solve spec kind refutations) bytes status = HoldsOfFile told spec (λ text. SolveAnswers text kind refutations.max bytes status)
+MayAnswer told (solve spec kind refutations) bytes status = HoldsOfFile told spec (λ text. SolveAnswers text kind (limits_by refutations) bytes status)
 
 -- the bytes and the status that answer what was asked
 pub record AnswersAsked (told : Option Files) (asked : Asked) (bytes : List ℕ) (status : ℕ) : Type 0 where

@@ -1,5 +1,5 @@
 -- What keeps a command from its work: the first fault of its text, or the first bad line of its list or its other file (this project's own).
-use Rattle.std.specs.Prelude.{◌≡◌, ℕ, Some, None, List}
+use Rattle.std.specs.Prelude.{◌≡◌, ℕ, Option, Some, None, List, IfSome}
 use Rattle.text_limits.specs.declared.TheConstants.{SMALL_LIMITS}
 use Rattle.letter_word.specs.declared.kinds.Kind.TheVariants.{Mealy}
 use Rattle.letter_word.specs.declared.kinds.Side.{Side}
@@ -26,13 +26,12 @@ use Rattle.outside_edge.specs.Files.{Files, bytes_under}
 use Rattle.program_replies.specs.Lines.{line_refusal, refusal_line}
 use Rattle.program_words.specs.Settings.{Asked, synth, check, expand, lasso, gen, bench, verify, core, batch, solve}
 use Rattle.boundsyn_top.specs.Commands.{AnswersAsked}
+use Rattle.boundsyn_top.specs.Files.{HoldsOfFile}
 
 -- The fault for which `check` refuses a text with a certificate, taken as with a kind that is given: the text's first one, but where the
--- certificate is of version 6 and the text has none as `solve` takes it; and of version 6 also one that the text has only so.
+-- certificate is of version 6 and the text has none as `solve` takes it.
 pub data IsCheckFault (text certificate : List ℕ) : SpecCode → ℕ → Type 0 where
   of_text : (code : SpecCode) (place : ℕ) → IsFirstFault text (Some Mealy) code place → IsUntested text certificate
-      → IsCheckFault text certificate code place
-  of_larger : (code : SpecCode) (place : ℕ) → GivenToCheck text → IsSixth certificate → IsSolveFault text (Some Mealy) code place
       → IsCheckFault text certificate code place
 
 -- The fault for which `verify` refuses a text with the file of a circuit that plays the system: the text's first one, unless the circuit's
@@ -61,9 +60,32 @@ HasFault files (core spec wanted kind) code place = IsCoreFault (bytes_under fil
 HasFault files (batch list wanted) code place = ⊥
 HasFault files (solve spec kind refutations) code place = IsSolveFault (bytes_under files spec) kind code place
 
+-- The fault that a text has as `synth` takes it, for which `verify` refuses it where the circuit's file can't be read. With a circuit that plays the
+-- environment there is none, since the text is taken as `solve` takes it whatever the circuit is.
+abbrev pub IsSynthFault : Side → List ℕ → SpecCode → ℕ → Type 0
+IsSynthFault System text code place = IsFirstFault text None code place
+IsSynthFault Environment text code place = ⊥
+
+-- The same of each command: of `check` with a kind that is given, and none of those that take a text in one way, whatever their other file is.
+abbrev pub HasSynthFault : Option Files → Asked → SpecCode → ℕ → Type 0
+HasSynthFault told (synth spec wanted kind) code place = ⊥
+HasSynthFault told (check spec certificate) code place = HoldsOfFile told spec (λ text. IsFirstFault text (Some Mealy) code place)
+HasSynthFault told (expand spec) code place = ⊥
+HasSynthFault told (lasso spec word) code place = ⊥
+HasSynthFault told (gen clients) code place = ⊥
+HasSynthFault told (bench clients workers) code place = ⊥
+HasSynthFault told (verify side spec circuit) code place = HoldsOfFile told spec (λ text. IsSynthFault side text code place)
+HasSynthFault told (core spec wanted kind) code place = ⊥
+HasSynthFault told (batch list wanted) code place = ⊥
+HasSynthFault told (solve spec kind refutations) code place = ⊥
+
 -- there is none of these faults
 pub record HasNone (Fault : SpecCode → ℕ → Type 0) : Type 0 where
   pub none : (code : SpecCode) (place : ℕ) → Fault code place → ⊥
+
+-- the text has no such fault, where that is told
+pub record HasNoSynthFault (told : Option Files) (asked : Asked) : Type 0 where
+  pub none : IfSome told (λ files. HasNone (HasSynthFault (Some files) asked))
 
 -- `check` refuses the text whatever the certificate is: it has a fault, and one as `solve` takes it too
 pub record IsRefusedAnyway (text : List ℕ) : Type 0 where
@@ -126,9 +148,13 @@ HasBadLine files (core spec wanted kind) n = ⊥
 HasBadLine files (batch list wanted) n = IsFirstBadLineOfList (bytes_under files list) n
 HasBadLine files (solve spec kind refutations) n = ⊥
 
--- nothing but its line answers a fault, or a bad line
+-- Nothing but its line answers a fault, or a bad line. A fault that a text has as `synth` takes it is the one for which it is refused, if it is.
 pub record RefusalsAreDetermined : Type 0 where
   pub of_text : (files : Files) (asked : Asked) (bytes : List ℕ) (status : ℕ) (code : SpecCode) (place : ℕ) → HasFault files asked code place
       → AnswersAsked (Some files) asked bytes status → (status ≡ 1) × (bytes ≡ refusal_line code place)
   pub of_line : (files : Files) (asked : Asked) (bytes : List ℕ) (status n : ℕ) → HasBadLine files asked n
       → AnswersAsked (Some files) asked bytes status → (status ≡ 40) × (bytes ≡ line_refusal n)
+  pub of_unread : (files : Files) (asked : Asked) (code code' : SpecCode) (place place' : ℕ) → HasFault files asked code place
+      → HasSynthFault (Some files) asked code' place' → (code ≡ code') × (place ≡ place')
+  pub one_unread : (files : Files) (asked : Asked) (code code' : SpecCode) (place place' : ℕ) → HasSynthFault (Some files) asked code place
+      → HasSynthFault (Some files) asked code' place' → (code ≡ code') × (place ≡ place')

@@ -1,12 +1,12 @@
 -- Files that a command takes (this project's own).
-use Rattle.std.specs.Prelude.{◌≡◌, ℕ, ◌<◌, Option, List, IfSome, codes, length}
+use Rattle.std.specs.Prelude.{◌≡◌, ⊤, ℕ, ◌<◌, Option, List, IfSome, codes, length}
 use Rattle.outside_edge.specs.Faults.{Rose}
 use Rattle.outside_edge.specs.Files.{Files, bytes_under}
 use Rattle.spec_faults.specs.declared.code.SpecCode.TheVariants.{TooLong}
 use Rattle.tlsf_reader.specs.Faults.{most_bytes}
 use Rattle.program_replies.specs.Lines.{refusal_line}
 use Rattle.program_replies.specs.Statuses.{status_number}
-use Rattle.boundsyn_top.specs.Steps.{ShelfStep}
+use Rattle.boundsyn_top.specs.Steps.{IsUnchanged, ShelfStep}
 use Rattle.boundsyn_top.specs.declared.files.Taken.{Taken}
 use Rattle.boundsyn_top.specs.declared.files.Taken.TheVariants.{Whole, Refused}
 
@@ -22,7 +22,7 @@ pub record HoldsOfFile (told : Option Files) (name : List ℕ) (P : List ℕ →
 
 -- the reply where a text isn't taken: it has more bytes than a text may have, or its count of faults rose
 pub data IsUntaken (step : ShelfStep) (name bytes : List ℕ) (status : ℕ) : Type 0 where
-  too_long : IfSome step.files (λ files. most_bytes < length (bytes_under files name)) → status ≡ 1 → bytes ≡ refusal_line TooLong most_bytes
+  too_long : IfSome step.files (λ files. most_bytes < length (bytes_under files name)) → IsUnchanged step → status ≡ 1 → bytes ≡ refusal_line TooLong most_bytes
       → IsUntaken step name bytes status
   unread : Rose (step.before name) (step.after name) → status ≡ 3 → bytes ≡ codes "cannot read\n"
       → IsUntaken step name bytes status
@@ -32,9 +32,7 @@ abbrev pub IsTakenText : ShelfStep → List ℕ → Taken → Type 0
 IsTakenText step name (Whole bytes) = AreOfFile step.files name bytes.items
 IsTakenText step name (Refused reply) = IsUntaken step name reply.bytes.items (status_number reply.status)
 
--- The reply that a file of any length gives: the line where it was due to be taken and its count of faults rose, or what something
--- holds of with its bytes.
-pub data RepliesByFile (step : ShelfStep) (name : List ℕ) (Due : Type 0) (P : List ℕ → Type 0) (bytes : List ℕ) (status : ℕ) : Type 0 where
-  count_rose : Due → Rose (step.before name) (step.after name) → status ≡ 3 → bytes ≡ codes "cannot read\n"
-      → RepliesByFile step name Due P bytes status
-  of_file : HoldsOfFile step.files name P → RepliesByFile step name Due P bytes status
+-- where a text is taken, no count rose
+abbrev pub IsTakenUnchanged : ShelfStep → Taken → Type 0
+IsTakenUnchanged step (Whole bytes) = IsUnchanged step
+IsTakenUnchanged step (Refused reply) = ⊤

@@ -6,5 +6,6 @@ pub mod Batch
 pub mod Commands
 pub mod Faults
 pub mod Takes
+pub mod Unread
 pub mod Run
 pub mod Printed

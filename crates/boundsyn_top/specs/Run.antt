@@ -1,11 +1,11 @@
 -- What one run of the program may write, and with which status it ends (this project's own).
 use Rattle.std.specs.Prelude.{◌≡◌, ℕ, ◌⊎◌, Option, Some, None, List, [], ◌∷◌, Contains, codes, Result, Ok, Err}
-use Rattle.outside_edge.specs.Faults.{Rose}
 use Rattle.outside_edge.specs.Files.{Files}
 use Rattle.outside_edge.specs.Bytes.{Gains, GainsFront}
 use Rattle.outside_edge.specs.declared.sink.SinkFault.{SinkFault}
 use Rattle.outside_edge.specs.declared.sink.SinkFault.TheVariants.{Failed, NoMemory}
 use Rattle.spec_faults.specs.declared.code.SpecCode.{SpecCode}
+use Rattle.program_replies.specs.Lines.{refusal_line}
 use Rattle.program_words.specs.Settings.{Asked, settings_of}
 use Rattle.boundsyn_top.specs.declared.output.Output.{Output}
 use Rattle.boundsyn_top.specs.Output.{IsWritable, bytes_of, status_of}
@@ -13,6 +13,7 @@ use Rattle.boundsyn_top.specs.Commands.{AnswersAsked, statuses_of}
 use Rattle.boundsyn_top.specs.Faults.{HasBadLine, HasFault}
 use Rattle.boundsyn_top.specs.Steps.{ShelfStep}
 use Rattle.boundsyn_top.specs.Takes.{Stops, TakesFile}
+use Rattle.boundsyn_top.specs.Unread.{IsReadBehind, IsUnread, IsUnreadFault}
 
 -- == the words ==
 
@@ -26,26 +27,30 @@ pub record AskForNothing (words : List (List ℕ)) : Type 0 where
 
 -- == what is replied ==
 
--- the shelf's count rose of a file that the command takes
+-- the shelf's count rose of a file that the command takes, and no fault of the text is told in its place
 pub record ReadFailed (words : List (List ℕ)) (step : ShelfStep) : Type 0 where
   pub asked : Asked
   pub asks : Asks words asked
   pub name : List ℕ
-  pub taken : TakesFile step.files asked name
-  pub rose : Rose (step.before name) (step.after name)
+  pub unread : IsUnread step asked name
+
+-- What answers a command: what answers its files, or the line of a fault of its text where a file behind it couldn't be read.
+pub data AnswersStep (step : ShelfStep) (asked : Asked) (bytes : List ℕ) (status : ℕ) : Type 0 where
+  of_files : IsReadBehind step asked → AnswersAsked step.files asked bytes status → AnswersStep step asked bytes status
+  of_unread : (code : SpecCode) (place : ℕ) → IsUnreadFault step asked code place → status ≡ 1 → bytes ≡ refusal_line code place →
+      AnswersStep step asked bytes status
 
 -- What a command replies: the line of a file of it that couldn't be read, or its answer.
 pub data RepliesTo (step : ShelfStep) (asked : Asked) (bytes : List ℕ) (status : ℕ) : Type 0 where
-  unread : (name : List ℕ) → TakesFile step.files asked name → Rose (step.before name) (step.after name) → status ≡ 3 → bytes ≡ codes "cannot read\n" →
-      RepliesTo step asked bytes status
-  answers : Contains (statuses_of asked) status → AnswersAsked step.files asked bytes status → RepliesTo step asked bytes status
+  unread : (name : List ℕ) → IsUnread step asked name → status ≡ 3 → bytes ≡ codes "cannot read\n" → RepliesTo step asked bytes status
+  answers : Contains (statuses_of asked) status → AnswersStep step asked bytes status → RepliesTo step asked bytes status
 
 -- the answer to what the words ask for
-pub record AnswersWords (words : List (List ℕ)) (told : Option Files) (bytes : List ℕ) (status : ℕ) : Type 0 where
+pub record AnswersWords (words : List (List ℕ)) (step : ShelfStep) (bytes : List ℕ) (status : ℕ) : Type 0 where
   pub asked : Asked
   pub asks : Asks words asked
   pub status_is : Contains (statuses_of asked) status
-  pub answer : AnswersAsked told asked bytes status
+  pub answer : AnswersStep step asked bytes status
 
 -- What a run writes whole, with its status: the answer, or the line of refused words or of a file that couldn't be read.
 pub data IsReply (words : List (List ℕ)) (step : ShelfStep) (bytes : List ℕ) (status : ℕ) : Type 0 where
@@ -53,7 +58,7 @@ pub data IsReply (words : List (List ℕ)) (step : ShelfStep) (bytes : List ℕ)
       IsReply words step bytes status
   cannot_read : status ≡ 3 → ReadFailed words step → bytes ≡ codes "cannot read\n" →
       IsReply words step bytes status
-  answered : AnswersWords words step.files bytes status → IsReply words step bytes status
+  answered : AnswersWords words step bytes status → IsReply words step bytes status
 
 -- what is written is a command's reply
 pub record IsOutputOf (step : ShelfStep) (asked : Asked) (output : Output) : Type 0 where
@@ -112,9 +117,17 @@ pub record LineFails (words : List (List ℕ)) (told : Option Files) (n : ℕ) :
   pub are_told : told ≡ Some files
   pub bad : HasBadLine files asked n
 
--- no count rose of a file that the command takes
+-- a file behind the text that the words name couldn't be read, and the text has this fault, which is told in its place
+pub record TextFailsUnread (words : List (List ℕ)) (step : ShelfStep) (code : SpecCode) (place : ℕ) : Type 0 where
+  pub asked : Asked
+  pub asks : Asks words asked
+  pub files : Files
+  pub are_told : step.files ≡ Some files
+  pub fault : IsUnreadFault step asked code place
+
+-- no count rose of a file that the command takes, but one in whose place a fault is told
 abbrev pub ReadsWell : ShelfStep → Asked → Type 0
-ReadsWell step asked = (name : List ℕ) → TakesFile step.files asked name → Rose (step.before name) (step.after name) → ⊥
+ReadsWell step asked = (name : List ℕ) → IsUnread step asked name → ⊥
 
 -- the words ask for no command that takes the file
 abbrev pub IsForeign : List (List ℕ) → Option Files → List ℕ → Type 0

@@ -1,5 +1,5 @@
 -- What a command does to a shelf (this project's own).
-use Rattle.std.specs.Prelude.{ℕ, Option, List}
+use Rattle.std.specs.Prelude.{◌≡◌, ℕ, Option, List}
 use Rattle.outside_edge.specs.Files.{Files}
 
 -- the files that the shelf tells, and how often taking each name had failed before, and has failed after
@@ -11,3 +11,7 @@ pub record ShelfStep : Type 0 where
 -- the step from one state of a shelf to a later one
 abbrev pub step_of : {S : Type 0} → (S → Option Files) → (S → List ℕ → ℕ) → S → S → ShelfStep
 step_of files faults old new = record { files = files old; before = faults old; after = faults new }
+
+-- no count of it rose
+abbrev pub IsUnchanged : ShelfStep → Type 0
+IsUnchanged step = (name : List ℕ) → step.after name ≡ step.before name

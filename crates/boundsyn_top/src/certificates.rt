@@ -1,14 +1,16 @@
 //! The reply to `check`.
-ghost use Rattle.std.specs.Prelude.{◌≡◌, ◌≢◌, ℕ, List, IfOk};
+ghost use Rattle.std.specs.Prelude.{◌≡◌, ◌≢◌, ℕ, List, Some, IfOk};
 ghost use Rattle.check_answer.specs.Answer.{CheckAnswers};
 ghost use Rattle.check_answer.specs.Reply.{CanBeTested, IsForCertificates};
+ghost use Rattle.letter_word.specs.declared.kinds.Kind.TheVariants.{Mealy};
 ghost use Rattle.program_replies.specs.Statuses.{status_number};
 ghost use Rattle.program_words.specs.Settings.{check};
+ghost use Rattle.spec_problems.specs.OfText.{IsFirstFault};
 ghost use Rattle.boundsyn_top.specs.Faults.{TakesCertificates};
-ghost use Rattle.boundsyn_top.specs.Files.{RepliesByFile};
 ghost use Rattle.boundsyn_top.specs.Run.{IsOutputOf};
 ghost use Rattle.boundsyn_top.specs.Steps.{step_of};
 ghost use Rattle.boundsyn_top.specs.Takes.{TakesFile};
+ghost use Rattle.boundsyn_top.specs.Unread.{RepliesByFile, TellsUnread};
 
 use crate::files::{Taken, cannot_read, take_parts, take_text};
 use crate::output::{Output, whole_output};
@@ -54,7 +56,7 @@ where
     R: Threads + Wait + Sync,
     H: Shelf,
     ensures reply { IfOk result (λ r. RepliesByFile (step_of H.files H.faults shelf.old shelf.new) certificate.now
-        (TakesCertificates text.now) (λ document. CheckAnswers text.now document r.bytes.items (status_number r.status)) r.bytes.items (status_number r.status)) }
+        (TakesCertificates text.now) (IsFirstFault text.now (Some Mealy)) (λ document. CheckAnswers text.now document r.bytes.items (status_number r.status)) r.bytes.items (status_number r.status)) }
     ensures files { H.files shelf.new ≡ H.files shelf.old }
     ensures other_files { (name : List ℕ) → (TakesCertificates text.now → name ≢ certificate.now) → H.faults shelf.new name ≡ H.faults shelf.old name }
 {
@@ -80,12 +82,24 @@ where
     requires { CanBeTested found }
     ensures reply { IsForCertificates text.now found → TakesCertificates text.now
         → IfOk result (λ r. RepliesByFile (step_of H.files H.faults shelf.old shelf.new) certificate.now
-        (TakesCertificates text.now) (λ document. CheckAnswers text.now document r.bytes.items (status_number r.status)) r.bytes.items (status_number r.status)) }
+        (TakesCertificates text.now) (IsFirstFault text.now (Some Mealy)) (λ document. CheckAnswers text.now document r.bytes.items (status_number r.status)) r.bytes.items (status_number r.status)) }
     ensures files { H.files shelf.new ≡ H.files shelf.old }
     ensures other_files { (name : List ℕ) → name ≢ certificate.now → H.faults shelf.new name ≡ H.faults shelf.old name }
 {
     match take_parts(alloc, shelf, certificate)? {
         Some(document) => check_answer(rt, alloc, text, found, &document),
-        None => cannot_read(alloc),
+        None => unread_document(alloc, found),
+    }
+}
+
+/// The reply to a text that is found so, where the document can't be read: the line of the text's fault, if it has one.
+fn unread_document(alloc: Global, found: Problems) -> Result<Reply, AllocError>
+    ensures { (text : List ℕ) → IsForCertificates text found
+        → IfOk result (λ r. TellsUnread (IsFirstFault text (Some Mealy)) r.bytes.items (status_number r.status)) }
+{
+    problems_of_texts_are_determined();
+    match found {
+        Problems::Of(_problems) => cannot_read(alloc),
+        Problems::Refused(reply) => Ok(reply),
     }
 }

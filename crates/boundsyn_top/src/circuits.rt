@@ -1,15 +1,16 @@
 //! The reply to `verify`.
 ghost use Rattle.std.specs.Prelude.{◌≡◌, ◌≢◌, ℕ, List, None, IfOk};
+ghost use Rattle.letter_word.specs.declared.kinds.Side.TheVariants.{System};
 ghost use Rattle.program_replies.specs.Statuses.{status_number};
 ghost use Rattle.program_words.specs.Settings.{verify};
 ghost use Rattle.solve_ground.specs.SolveText.{IsSolveFault};
 ghost use Rattle.verify_answer.specs.Answer.{CircuitAnswers};
 ghost use Rattle.verify_answer.specs.Reply.{IsReadyFor, IsTestable};
-ghost use Rattle.boundsyn_top.specs.Faults.{HasNone};
-ghost use Rattle.boundsyn_top.specs.Files.{RepliesByFile};
+ghost use Rattle.boundsyn_top.specs.Faults.{HasNone, IsSynthFault};
 ghost use Rattle.boundsyn_top.specs.Run.{IsOutputOf};
 ghost use Rattle.boundsyn_top.specs.Steps.{step_of};
 ghost use Rattle.boundsyn_top.specs.Takes.{TakesFile};
+ghost use Rattle.boundsyn_top.specs.Unread.{RepliesByFile, TellsUnread};
 
 use crate::files::{Taken, cannot_read, take_text, take_whole};
 use crate::output::{Output, whole_output};
@@ -17,8 +18,10 @@ use letter_word::Side;
 use outside_edge::Shelf;
 use program_replies::Reply;
 use solve_ground::SolveText;
+use spec_problems::laws::problems_of_texts_are_determined;
 use std::alloc::{AllocError, Global};
-use verify_answer::{TextForVerify, text_for_verify, verify_answer};
+use text_ground::Problems;
+use verify_answer::{TextForVerify, problems_for_verify, text_for_verify, verify_answer};
 
 /// Verifies a circuit that plays this side against a text. The circuit is taken only where the text has no fault as `solve` takes it.
 pub(crate) fn verify_circuit<H: Shelf>(
@@ -47,7 +50,7 @@ fn verify_by<H: Shelf>(
     circuit: &str,
 ) -> Result<Reply, AllocError>
     ensures reply { IfOk result (λ r. RepliesByFile (step_of H.files H.faults shelf.old shelf.new) circuit.now
-        (HasNone (IsSolveFault text.now None)) (λ lines. CircuitAnswers side text.now lines r.bytes.items (status_number r.status)) r.bytes.items (status_number r.status)) }
+        (HasNone (IsSolveFault text.now None)) (IsSynthFault side text.now) (λ lines. CircuitAnswers side text.now lines r.bytes.items (status_number r.status)) r.bytes.items (status_number r.status)) }
     ensures files { H.files shelf.new ≡ H.files shelf.old }
     ensures other_files { (name : List ℕ) → (HasNone (IsSolveFault text.now None) → name ≢ circuit.now) → H.faults shelf.new name ≡ H.faults shelf.old name }
 {
@@ -70,12 +73,34 @@ fn verified<H: Shelf>(
     requires { IsReadyFor known.now }
     ensures reply { IsTestable text.now known.now → HasNone (IsSolveFault text.now None)
         → IfOk result (λ r. RepliesByFile (step_of H.files H.faults shelf.old shelf.new) circuit.now
-        (HasNone (IsSolveFault text.now None)) (λ lines. CircuitAnswers side text.now lines r.bytes.items (status_number r.status)) r.bytes.items (status_number r.status)) }
+        (HasNone (IsSolveFault text.now None)) (IsSynthFault side text.now) (λ lines. CircuitAnswers side text.now lines r.bytes.items (status_number r.status)) r.bytes.items (status_number r.status)) }
     ensures files { H.files shelf.new ≡ H.files shelf.old }
     ensures other_files { (name : List ℕ) → name ≢ circuit.now → H.faults shelf.new name ≡ H.faults shelf.old name }
 {
     match take_whole(alloc, shelf, circuit)? {
         Some(lines) => verify_answer(alloc, side, text, known, &lines),
-        None => cannot_read(alloc),
+        None => unread_circuit(alloc, side, text),
+    }
+}
+
+/// The reply to a text where the circuit can't be read: the line of the fault that the text has as `synth` takes it, if it has one and the
+/// circuit was to play the system.
+fn unread_circuit(alloc: Global, side: Side, text: &[u8]) -> Result<Reply, AllocError>
+    ensures { IfOk result (λ r. TellsUnread (IsSynthFault side text.now) r.bytes.items (status_number r.status)) }
+{
+    match side {
+        Side::System => unread_system(alloc, text),
+        Side::Environment => cannot_read(alloc),
+    }
+}
+
+/// The same where it was to play the system.
+fn unread_system(alloc: Global, text: &[u8]) -> Result<Reply, AllocError>
+    ensures { IfOk result (λ r. TellsUnread (IsSynthFault System text.now) r.bytes.items (status_number r.status)) }
+{
+    problems_of_texts_are_determined();
+    match problems_for_verify(alloc, text)? {
+        Problems::Of(_problems) => cannot_read(alloc),
+        Problems::Refused(reply) => Ok(reply),
     }
 }

@@ -1,9 +1,9 @@
 //! Files that a command takes.
-ghost use Rattle.std.specs.Prelude.{◌≡◌, ◌≢◌, ◌≤◌, ℕ, List, codes, IfOk, MatchOption};
+ghost use Rattle.std.specs.Prelude.{◌≡◌, ◌≢◌, ◌≤◌, ℕ, List, codes, IfOk, IfSome, MatchOption};
 ghost use Rattle.outside_edge.specs.Faults.{Rose};
 ghost use Rattle.program_replies.specs.Lines.{refusal_line};
-ghost use Rattle.boundsyn_top.specs.Files.{AreOfFile, IsTakenText};
-ghost use Rattle.boundsyn_top.specs.Steps.{step_of};
+ghost use Rattle.boundsyn_top.specs.Files.{AreOfFile, IsTakenText, IsTakenUnchanged};
+ghost use Rattle.boundsyn_top.specs.Steps.{IsUnchanged, step_of};
 
 use outside_edge::{Shelf, ShelfFault};
 use program_replies::{Reply, Status, refused, whole};
@@ -32,6 +32,7 @@ pub(crate) fn take_text<H: Shelf>(
     name: &str,
 ) -> Result<Taken, AllocError>
     ensures taken { IfOk result (IsTakenText (step_of H.files H.faults shelf.old shelf.new) name.now) }
+    ensures unchanged { IfOk result (IsTakenUnchanged (step_of H.files H.faults shelf.old shelf.new)) }
     ensures files { H.files shelf.new ≡ H.files shelf.old }
     ensures others { (other : List ℕ) → other ≢ name.now → H.faults shelf.new other ≡ H.faults shelf.old other }
     ensures never_falls { (any : List ℕ) → H.faults shelf.old any ≤ H.faults shelf.new any }
@@ -53,6 +54,7 @@ pub(crate) fn take_whole<H: Shelf>(
 ) -> Result<Option<Vec<u8>>, AllocError>
     ensures taken { IfOk result (λ taken. MatchOption taken (Rose (H.faults shelf.old name.now) (H.faults shelf.new name.now))
         (λ bytes. AreOfFile (H.files shelf.old) name.now bytes.items)) }
+    ensures unchanged { IfOk result (λ taken. IfSome taken (λ _. IsUnchanged (step_of H.files H.faults shelf.old shelf.new))) }
     ensures files { H.files shelf.new ≡ H.files shelf.old }
     ensures others { (other : List ℕ) → other ≢ name.now → H.faults shelf.new other ≡ H.faults shelf.old other }
     ensures never_falls { (any : List ℕ) → H.faults shelf.old any ≤ H.faults shelf.new any }
@@ -74,6 +76,7 @@ pub(crate) fn take_parts<H: Shelf>(
 ) -> Result<Option<Vec<u8>>, AllocError>
     ensures taken { IfOk result (λ taken. MatchOption taken (Rose (H.faults shelf.old name.now) (H.faults shelf.new name.now))
         (λ bytes. AreOfFile (H.files shelf.old) name.now bytes.items)) }
+    ensures unchanged { IfOk result (λ taken. IfSome taken (λ _. IsUnchanged (step_of H.files H.faults shelf.old shelf.new))) }
     ensures files { H.files shelf.new ≡ H.files shelf.old }
     ensures others { (other : List ℕ) → other ≢ name.now → H.faults shelf.new other ≡ H.faults shelf.old other }
 {

@@ -9,11 +9,11 @@ ghost use Rattle.program_replies.specs.Statuses.{status_number};
 ghost use Rattle.program_words.specs.Settings.{expand, lasso};
 ghost use Rattle.tlsf_expand.specs.FlatText.{spec_seen};
 ghost use Rattle.boundsyn_top.specs.Faults.{HasNone};
-ghost use Rattle.boundsyn_top.specs.Files.{RepliesByFile};
 ghost use Rattle.boundsyn_top.specs.Output.{IsExpansion};
 ghost use Rattle.boundsyn_top.specs.Run.{IsOutputOf};
 ghost use Rattle.boundsyn_top.specs.Steps.{step_of};
 ghost use Rattle.boundsyn_top.specs.Takes.{TakesFile};
+ghost use Rattle.boundsyn_top.specs.Unread.{RepliesByFile};
 
 use crate::files::{Taken, cannot_read, take_text, take_whole};
 use crate::output::{Output, whole_output};
@@ -74,7 +74,7 @@ fn tell_by<H: Shelf>(
     word: &str,
 ) -> Result<Reply, AllocError>
     ensures reply { IfOk result (λ r. RepliesByFile (step_of H.files H.faults shelf.old shelf.new) word.now
-        (HasNone (IsFlatFault SMALL_LIMITS text.now None)) (λ lines. LassoAnswers text.now lines r.bytes.items (status_number r.status)) r.bytes.items (status_number r.status)) }
+        (HasNone (IsFlatFault SMALL_LIMITS text.now None)) (λ code place. ⊥) (λ lines. LassoAnswers text.now lines r.bytes.items (status_number r.status)) r.bytes.items (status_number r.status)) }
     ensures files { H.files shelf.new ≡ H.files shelf.old }
     ensures other_files { (name : List ℕ) → (HasNone (IsFlatFault SMALL_LIMITS text.now None) → name ≢ word.now) → H.faults shelf.new name ≡ H.faults shelf.old name }
 {
@@ -96,7 +96,7 @@ fn told<H: Shelf>(
     requires stands { Stands flat.now.formulas flat.now.whole }
     ensures reply { (text : List ℕ) → IsFlatOf SMALL_LIMITS text None (spec_seen flat.now) → HasNone (IsFlatFault SMALL_LIMITS text None)
         → IfOk result (λ r. RepliesByFile (step_of H.files H.faults shelf.old shelf.new) word.now
-        (HasNone (IsFlatFault SMALL_LIMITS text None)) (λ lines. LassoAnswers text lines r.bytes.items (status_number r.status)) r.bytes.items (status_number r.status)) }
+        (HasNone (IsFlatFault SMALL_LIMITS text None)) (λ code place. ⊥) (λ lines. LassoAnswers text lines r.bytes.items (status_number r.status)) r.bytes.items (status_number r.status)) }
     ensures files { H.files shelf.new ≡ H.files shelf.old }
     ensures other_files { (name : List ℕ) → name ≢ word.now → H.faults shelf.new name ≡ H.faults shelf.old name }
 {

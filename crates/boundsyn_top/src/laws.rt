@@ -3,20 +3,20 @@ ghost use Rattle.std.specs.Prelude.{◌∷◌, map, string_bytes, Contains};
 ghost use Rattle.program_words.specs.Settings.{Asked};
 ghost use Rattle.synth_answer.specs.Numbers.{NoSmallerCircuits, VerdictsAreDetermined};
 ghost use Rattle.answer_laws.specs.Accepted.{PrintedIsAccepted};
+ghost use Rattle.answer_laws.specs.Solved.{SolutionsAreAccepted};
 ghost use Rattle.boundsyn_top.specs.Commands.{statuses_of};
 ghost use Rattle.boundsyn_top.specs.Faults.{RefusalsAreDetermined};
 ghost use Rattle.boundsyn_top.specs.Printed.{PrintedRunsAreAccepted};
 ghost use Rattle.boundsyn_top.specs.Run.{Asks};
-ghost use Rattle.boundsyn_top.specs.Solving.{SolveFaultsAreDetermined, SolveVerdictsAgree};
+ghost use Rattle.boundsyn_top.specs.Solving.{SolveVerdictsAgree};
+ghost use Rattle.solve_ground.specs.Laws.{SolveTextsAreDetermined};
 
 use crate::run;
 use batch_answer::laws::lists_are_determined;
 use check_answer::laws::checks_are_determined;
 use core_answer::laws::core_faults_are_determined;
 use flat_answer::laws::{expand_answers_are_due, lasso_answers_are_due};
-use flat_text::laws::{
-    flat_faults_are_determined, flat_texts_are_determined, flat_texts_have_no_fault,
-};
+use flat_text::laws::flat_texts_are_determined;
 use outside_edge::{Gate, PlainShelf, PlainSink};
 use solve_check::laws::never_both;
 use solve_told::Listener;
@@ -24,7 +24,7 @@ use spec_problems::laws::problems_of_texts_are_determined;
 use std::alloc::Global;
 use std::sync::Wait;
 use std::thread::Threads;
-use tlsf_reader::laws::{trees_are_determined, trees_have_no_fault};
+use tlsf_reader::laws::trees_are_determined;
 use verify_answer::laws::{environments_are_determined, verifications_are_determined};
 
 /// Nothing but its line answers the first fault of a text, or the first bad line of a list or of another file.
@@ -43,14 +43,11 @@ pub fn refusals_are_determined()
     environments_are_determined();
 }
 
-/// A text has at most one first fault as `solve` takes it, and none where it can be taken.
+/// A text is one thing as `solve` takes it, or has one first fault, and never both.
 pub fn solve_faults_are_determined()
-    ensures { SolveFaultsAreDetermined }
+    ensures { SolveTextsAreDetermined }
 {
-    trees_are_determined();
-    trees_have_no_fault();
-    flat_faults_are_determined();
-    flat_texts_have_no_fault();
+    solve_ground::laws::solve_texts_are_determined();
 }
 
 /// No two answers of `solve` to one text and kind are of status 10 and of status 20.
@@ -78,13 +75,15 @@ pub fn no_smaller_circuits()
 }
 
 /// What `synth`, `batch` and `core` print for a text, `check` accepts for it, with the line of the verdict and the kind that are printed,
-/// whether a kind was given or not, and so does a run of a run's output. In the documents inside an answer of `core` no line is bad for
-/// the text with their guarantees.
+/// whether a kind was given or not, and what `solve` and `batch --solve` print for it, with the line of the document that is printed. So
+/// does a run of a run's output. In the documents inside an answer of `core` no line is bad for the text with their guarantees.
 pub fn printed_is_accepted()
     ensures answers { PrintedIsAccepted }
+    ensures solutions { SolutionsAreAccepted }
     ensures runs { PrintedRunsAreAccepted }
 {
     answer_laws::laws::printed_is_accepted();
+    answer_laws::laws::solutions_are_accepted();
 }
 
 /// Over a shelf and a sink that never fail, words that ask for something get an answer, or memory was wanted.

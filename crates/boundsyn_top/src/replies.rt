@@ -131,7 +131,7 @@ where
                 entries,
                 workers,
             };
-            solve_spec(rt, alloc, shelf, spec, kind, refuting, listener)
+            solve_spec(rt, alloc, shelf, spec, kind, refuting, gate, listener)
         },
     }
 }

@@ -3,6 +3,7 @@ ghost use Rattle.std.specs.Prelude.{◌≡◌, ◌≢◌, ℕ, List, IfOk};
 ghost use Rattle.program_replies.specs.Statuses.{status_number};
 ghost use Rattle.program_words.specs.Settings.{solve};
 ghost use Rattle.solve_answer.specs.Answer.{SolveAnswers};
+ghost use Rattle.solve_answer.specs.Parts.{limits_of};
 ghost use Rattle.boundsyn_top.specs.Run.{IsOutputOf};
 ghost use Rattle.boundsyn_top.specs.Solving.{refutations_by};
 ghost use Rattle.boundsyn_top.specs.Steps.{step_of};
@@ -10,7 +11,7 @@ ghost use Rattle.boundsyn_top.specs.Steps.{step_of};
 use crate::files::{Taken, take_text};
 use crate::output::{Output, whole_output};
 use letter_word::Kind;
-use outside_edge::Shelf;
+use outside_edge::{Gate, Shelf};
 use program_replies::Reply;
 use solve_answer::{GAME_BUDGET, Refuting, solve};
 use solve_told::{Listener, News};
@@ -19,44 +20,50 @@ use std::sync::Wait;
 use std::thread::Threads;
 
 /// Finds a controller of a text, or a counter-strategy, refutes smaller ones, and prints what its test accepts.
-pub(crate) fn solve_spec<R, H, L>(
+pub(crate) fn solve_spec<R, H, G, L>(
     rt: &R,
     alloc: Global,
     shelf: &mut H,
     spec: &str,
     kind: Option<Kind>,
     refuting: Refuting,
+    gate: &G,
     listener: &mut L,
 ) -> Result<Output, AllocError>
 where
     R: Threads + Wait + Sync,
     H: Shelf,
+    G: Gate + Sync,
     L: Listener,
     ensures output { IfOk result (IsOutputOf (step_of H.files H.faults shelf.old shelf.new) (solve spec.now kind (refutations_by refuting))) }
     ensures files { H.files shelf.new ≡ H.files shelf.old }
     ensures other_files { (name : List ℕ) → name ≢ spec.now → H.faults shelf.new name ≡ H.faults shelf.old name }
 {
     match take_text(alloc, shelf, spec)? {
-        Taken::Whole(text) => whole_output(solved(rt, alloc, &text, kind, refuting, listener)),
+        Taken::Whole(text) => whole_output(solved(
+            rt, alloc, &text, kind, refuting, gate, listener,
+        )),
         Taken::Refused(reply) => Ok(Output::Whole(reply)),
     }
 }
 
 /// Answers a text. The listener hears what is told beside the answer, too.
-fn solved<R, L>(
+fn solved<R, G, L>(
     rt: &R,
     alloc: Global,
     text: &[u8],
     kind: Option<Kind>,
     refuting: Refuting,
+    gate: &G,
     listener: &mut L,
 ) -> Result<Reply, AllocError>
 where
     R: Threads + Wait + Sync,
+    G: Gate + Sync,
     L: Listener,
-    ensures { IfOk result (λ r. SolveAnswers text.now kind refuting.max r.bytes.items (status_number r.status)) }
+    ensures { IfOk result (λ r. SolveAnswers text.now kind (limits_of refuting) r.bytes.items (status_number r.status)) }
 {
-    let solved = solve(rt, alloc, text, kind, GAME_BUDGET, refuting, listener)?;
+    let solved = solve(rt, alloc, text, kind, GAME_BUDGET, refuting, gate, listener)?;
     listener.hear(News::Answered(solved.told));
     Ok(solved.reply)
 }

@@ -6,9 +6,10 @@ ghost use Rattle.program_replies.specs.Statuses.{status_number};
 ghost use Rattle.program_words.specs.Settings.{Asked};
 ghost use Rattle.spec_faults.specs.declared.code.SpecCode.{SpecCode};
 ghost use Rattle.boundsyn_top.specs.Commands.{statuses_of};
-ghost use Rattle.boundsyn_top.specs.Run.{AnswersWords, AskForNothing, Asks, EndsWith, Gained, GainedPart, IsEnding, IsForeign, IsReply, IsStopped, LineFails, ReadFailed, ReadsWell, TextFails, answering};
+ghost use Rattle.boundsyn_top.specs.Run.{AnswersWords, AskForNothing, Asks, EndsWith, Gained, GainedPart, IsEnding, IsForeign, IsReply, IsStopped, LineFails, ReadFailed, ReadsWell, TextFails, TextFailsUnread, answering};
 ghost use Rattle.boundsyn_top.specs.Steps.{step_of};
 ghost use Rattle.boundsyn_top.specs.Takes.{first_file};
+ghost use Rattle.boundsyn_top.specs.Unread.{IsReadBehind};
 
 use crate::laws::refusals_are_determined;
 use crate::output::put_output;
@@ -25,8 +26,8 @@ use std::thread::Threads;
 /// hears; nothing is promised of it.
 ///
 /// 0: done, accepted or verified. 10, 11, 20, 30: what `solve`, `synth` or `core` found. 1: the text is refused. 40: the list or the other file is
-/// refused at a line. 2: the words are refused. 3: a file that was due couldn't be read. 4: not all could be written. 5: memory was
-/// wanted.
+/// refused at a line. 2: the words are refused. 3: a file that was due couldn't be read, and no fault of the text is told in its place. 4: not
+/// all could be written. 5: memory was wanted.
 pub fn run<R, H, K, G, L>(
     rt: &R,
     alloc: Global,
@@ -46,7 +47,7 @@ where
 
     // What is written whole.
     ensures answered { Contains answering result → Gained (K.written out.old) (K.written out.new)
-        (λ bytes. AnswersWords (map string_bytes words.now) (H.files shelf.old) bytes result) }
+        (λ bytes. AnswersWords (map string_bytes words.now) (step_of H.files H.faults shelf.old shelf.new) bytes result) }
     ensures words_refused { result ≡ 2 → Gained (K.written out.old) (K.written out.new)
         (λ bytes. AskForNothing (map string_bytes words.now) × (bytes ≡ codes "words refused\n")) }
     ensures cannot_read { result ≡ 3 → Gained (K.written out.old) (K.written out.new)
@@ -62,7 +63,12 @@ where
     ensures fault_is_refused { (code : SpecCode) (place : ℕ) → TextFails (map string_bytes words.now) (H.files shelf.old) code place
         → EndsWith (K.written out.old) (K.written out.new) (refusal_line code place) 1 result }
     ensures bad_line_is_refused { (n : ℕ) → LineFails (map string_bytes words.now) (H.files shelf.old) n
+        → ((code : SpecCode) (place : ℕ) → ¬ TextFailsUnread (map string_bytes words.now) (step_of H.files H.faults shelf.old shelf.new) code place)
         → EndsWith (K.written out.old) (K.written out.new) (line_refusal n) 40 result }
+    ensures unread_fault_is_refused { (code : SpecCode) (place : ℕ)
+        (fails : TextFailsUnread (map string_bytes words.now) (step_of H.files H.faults shelf.old shelf.new) code place)
+        → ¬ IsReadBehind (step_of H.files H.faults shelf.old shelf.new) fails.asked
+        → EndsWith (K.written out.old) (K.written out.new) (refusal_line code place) 1 result }
     ensures complete { (asked : Asked) → Asks (map string_bytes words.now) asked → ReadsWell (step_of H.files H.faults shelf.old shelf.new) asked
         → ¬ Rose (K.faults out.old) (K.faults out.new) → Contains (5 ∷ statuses_of asked) result }
 

@@ -1,6 +1,6 @@
 use Rattle.std.proofs.Common.{◌≡◌, ◌∙◌, take}
 use Rattle.std.proofs.lemmas.List.{take_all}
-use Rattle.boundsyn_top.proofs.BatchLemmas.{TakesOne, listed_at, listed_more, one_rose, others_more, taken_more, taken_none}
+use Rattle.boundsyn_top.proofs.BatchLemmas.{listed_at, listed_more, one_rose, others_more, taken_more, taken_none}
 use Rattle.boundsyn_top.proofs.batches.take_texts.Goals as goal
 
 pub loop-name-init : goal.loop-name-init

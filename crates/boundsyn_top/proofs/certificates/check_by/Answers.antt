@@ -1,4 +1,4 @@
-use Rattle.std.proofs.Common.{rules}
+use Rattle.std.proofs.Common.{refl, rules}
 use Rattle.boundsyn_top.proofs.ReplyLemmas.{can_be_tested, takes_certificates, whatever}
 use Rattle.boundsyn_top.proofs.certificates.check_by.Goals as goal
 
@@ -18,4 +18,4 @@ returns-in-Taken-clause-other_files g c = λ name differs.
 pub returns-in-Refused-clause-reply : goal.returns-in-Refused-clause-reply
 returns-in-Refused-clause-reply g c =
     let all = rw c.in-Refused.is at c.in_ok-found.ensures in
-    whatever _ c.args.certificate.now _ _ _ _ all
+    whatever _ c.args.certificate.now _ _ _ _ _ refl all

@@ -12,7 +12,7 @@ returns-in-Whole-clause-output g c =
     whole_is _ c.check_by.result c.whole_output.result c.whole_output.ensures
     (IfOk-weaker c.check_by.result _ _
     (λ r by_file. whole_of _ (check c.args.spec.now c.args.certificate.now) r (check_by_file _ _ (g.H.Shelf.faults c.take_text.new.shelf) c.args.spec.now
-    c.args.certificate.now c.in-Whole.text.items r.bytes.items (status_number r.status) c.take_text.ensures.files are c.take_text.ensures.never_falls
+    c.args.certificate.now c.in-Whole.text.items r.bytes.items (status_number r.status) c.take_text.ensures.files are (rw c.in-Whole.is at c.in_ok-text.ensures.unchanged)
     (rw c.deref.ensures.value at by_file)))
     c.check_by.ensures.reply)
 

@@ -1,3 +1,4 @@
+use Rattle.std.proofs.Common.{refl}
 use Rattle.boundsyn_top.proofs.ReplyLemmas.{taken_without_fault, whatever}
 use Rattle.boundsyn_top.proofs.circuits.verify_by.Goals as goal
 
@@ -14,4 +15,4 @@ returns-in-Taken-clause-other_files g c = λ name differs.
 pub returns-in-Refused-clause-reply : goal.returns-in-Refused-clause-reply
 returns-in-Refused-clause-reply g c =
     let all = rw c.in-Refused.is at c.in_ok-found.ensures in
-    whatever _ c.args.circuit.now _ _ _ _ all
+    whatever _ c.args.circuit.now _ _ _ _ _ refl all

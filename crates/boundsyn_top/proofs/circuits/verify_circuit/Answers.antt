@@ -12,7 +12,7 @@ returns-in-Whole-clause-output g c =
     whole_is _ c.verify_by.result c.whole_output.result c.whole_output.ensures
     (IfOk-weaker c.verify_by.result _ _
     (λ r by_file. whole_of _ (verify c.args.side c.args.spec.now c.args.circuit.now) r (verify_by_file _ c.args.side _ (g.H.Shelf.faults c.take_text.new.shelf) c.args.spec.now
-    c.args.circuit.now c.in-Whole.text.items r.bytes.items (status_number r.status) c.take_text.ensures.files are c.take_text.ensures.never_falls
+    c.args.circuit.now c.in-Whole.text.items r.bytes.items (status_number r.status) c.take_text.ensures.files are (rw c.in-Whole.is at c.in_ok-text.ensures.unchanged)
     (rw c.deref.ensures.value at by_file)))
     c.verify_by.ensures.reply)
 

@@ -1,3 +1,4 @@
+use Rattle.std.proofs.Common.{refl}
 use Rattle.tlsf_expand.specs.FlatText.{spec_seen}
 use Rattle.boundsyn_top.proofs.ReplyLemmas.{flat_without_fault, whatever}
 use Rattle.boundsyn_top.proofs.flat.tell_by.Goals as goal
@@ -15,4 +16,4 @@ returns-in-Flat-clause-other_files g c = λ name differs.
 pub returns-in-Refused-clause-reply : goal.returns-in-Refused-clause-reply
 returns-in-Refused-clause-reply g c =
     let all = rw c.in-Refused.is at c.in_ok-flat.ensures.refused_to_words in
-    whatever _ c.args.word.now _ _ _ _ all
+    whatever _ c.args.word.now _ _ _ _ _ refl all
