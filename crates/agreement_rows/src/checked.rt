@@ -32,7 +32,7 @@ pub(crate) fn checked(problem: Problem) -> Option<Problem>
     if problem.inputs > 8 || problem.outputs > 8 {
         return None;
     }
-    if problem.size == 0 || problem.size > 8 || problem.version == 0 || problem.version > 2 {
+    if problem.size == 0 || problem.size > 8 || problem.counting.is_local() {
         return None;
     }
     if problem.automaton.states() > 2000 {

@@ -3,7 +3,7 @@ ghost use Rattle.std.specs.Prelude.{◌<◌, ◌≤◌, length};
 
 use anyhow::bail;
 use letter_word::{Cube, Kind, Side};
-use machine_model::{Automaton, Edge, Machine, Problem, Row};
+use machine_model::{Automaton, Counting, Edge, Machine, Problem, Row};
 use product_bound::laws::numbered;
 use rand_core::utils::NextWord;
 use rand_pcg::Pcg32;
@@ -73,8 +73,7 @@ pub(crate) fn random_problem(
         },
         kind: if is_mealy { Kind::Mealy } else { Kind::Moore },
         size,
-        version: 2,
-        components: None,
+        counting: Counting::AllRejecting { numbered: true },
     })
 }
 

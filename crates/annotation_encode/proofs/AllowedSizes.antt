@@ -1,13 +1,13 @@
 -- For more states there are no fewer base clauses, so the sizes that have a count are those from 1 on.
 use Rattle.std.proofs.Common.{◌≡◌, ℕ, zero, suc, ◌+◌, ◌-◌, ◌*◌, ◌^◌, ◌<◌, ◌≤◌, ◌⊎◌, inl, inr, Bool, true, false, not, List, [], ◌∷◌, Some, None, length, refl, sym, ap, ◌∙◌, subst, arith, cond}
-use Rattle.std.specs.Prelude.{◌==◌, ◌&&◌, is_some, nat_le}
+use Rattle.std.specs.Prelude.{◌==◌, ◌&&◌, is_some}
 use Rattle.std.specs.List.{flat_map}
 use Rattle.std.proofs.Math.Nat.{mul-le-mul}
 use Rattle.std.proofs.lemmas.Bool.{cases_eq, cases_lt, cond-true, cond-false}
 use Rattle.std.proofs.lemmas.List.{length-append}
 use Rattle.letter_word.specs.declared.cubes.Cube.{Cube}
 use Rattle.machine_model.specs.Automaton.{rejects, states_of}
-use Rattle.machine_model.specs.Problem.{automaton_of, reads_of, sized}
+use Rattle.machine_model.specs.Problem.{automaton_of, counts_locally, numbers_states, reads_of, sized}
 use Rattle.machine_model.specs.declared.automata.Edge.{Edge}
 use Rattle.machine_model.specs.declared.problems.Problem.{Problem}
 use Rattle.product_bound.specs.Annotation.{leaves, rejecting_at}
@@ -44,7 +44,7 @@ module _ (p : Problem) (n m : ℕ) (more : n ≤ m) where
       go false = omega (arith, product)
 
   chains_rise : chain_count (sized p n) ≤ chain_count (sized p m)
-  chains_rise = go (p.version == 3)
+  chains_rise = go (counts_locally p)
     where
       go : (b : Bool) → cond b (n * (n * counted_before p (states_of (automaton_of p)))) 0 ≤ cond b (m * (m * counted_before p (states_of (automaton_of p)))) 0
       go true = mul-le-mul more (mul-le-mul more (let same : counted_before p (states_of (automaton_of p)) ≤ counted_before p (states_of (automaton_of p)) = omega arith in same))
@@ -54,7 +54,7 @@ module _ (p : Problem) (n m : ℕ) (more : n ≤ m) where
   rows_rise = mul-le-mul more (let same : letter_count p ≤ letter_count p = omega arith in same)
 
   orders_rise : order_count (sized p n) ≤ order_count (sized p m)
-  orders_rise = go (nat_le 2 p.version)
+  orders_rise = go (numbers_states p)
     where
       go : (b : Bool) → cond b (row_count (sized p n) * (n - 2)) 0 ≤ cond b (row_count (sized p m) * (m - 2)) 0
       go true = mul-le-mul rows_rise (omega arith)

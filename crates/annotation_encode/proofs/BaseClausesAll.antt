@@ -1,16 +1,15 @@
 -- What holds of each kind of base clause holds of all, and the other way round.
 use Rattle.std.proofs.Common.{◌≡◌, ℕ, ◌+◌, ◌-◌, ◌<◌, ◌≤◌, Bool, true, false, List, [], ◌∷◌, ◌++◌, refl, sym, ap, ◌∙◌, subst, arith, cond}
-use Rattle.std.specs.Prelude.{All, Contains, ◌==◌, nat_le}
+use Rattle.std.specs.Prelude.{All, Contains}
 use Rattle.std.specs.List.{flat_map}
-use Rattle.std.proofs.lemmas.Bool.Decides.{Decides-eqb}
 use Rattle.std.proofs.lemmas.List.{append_assoc}
 use Rattle.std.proofs.lemmas.List.Elements.{All-append, All-cons, All-contains, All-nil, Contains-append_left, Contains-append_right}
-use Rattle.std.proofs.lemmas.Bool.{cond-true, cond-false, le-leb, leb-true}
+use Rattle.std.proofs.lemmas.Bool.{cond-true, cond-false}
 use Rattle.clause_base.proofs.Members.{Contains-head, Contains-later}
 use Rattle.clause_base.specs.Literal.{Literal}
 use Rattle.clause_base.specs.Clause.{IsWithin}
 use Rattle.machine_model.specs.Automaton.{IsAutomaton, JoinsStates, states_of}
-use Rattle.machine_model.specs.Problem.{IsProblem, automaton_of}
+use Rattle.machine_model.specs.Problem.{IsProblem, automaton_of, counts_locally, numbers_states}
 use Rattle.machine_model.specs.declared.automata.Edge.{Edge}
 use Rattle.machine_model.specs.declared.problems.Problem.{Problem}
 use Rattle.product_bound.specs.Annotation.{bound_at}
@@ -25,8 +24,8 @@ pub record HoldsOfKinds (p : Problem) (P : List Literal → Type 0) : Type 0 whe
   pub start : P (start_clause p)
   pub steps : (e : Edge) (t i to c : ℕ) → Contains (automaton_of p).edges e → t < p.size → i < letter_count p → fits_read p e.cube i ≡ true → to < p.size
       → is_idle p e t to ≡ false → c < step_count p e → P (step_clause p e t i to c)
-  pub chains : (t q c : ℕ) → p.version ≡ 3 → t < p.size → q < states_of (automaton_of p) → c < bound_at p q → P (chain_clause p t q c)
-  pub orders : (place to : ℕ) → 2 ≤ p.version → place < row_count p → 2 ≤ to → to < p.size → P (order_clause p place to)
+  pub chains : (t q c : ℕ) → counts_locally p ≡ true → t < p.size → q < states_of (automaton_of p) → c < bound_at p q → P (chain_clause p t q c)
+  pub orders : (place to : ℕ) → numbers_states p ≡ true → place < row_count p → 2 ≤ to → to < p.size → P (order_clause p place to)
 
 module _ (p : Problem) (P : List Literal → Type 0) (kinds : HoldsOfKinds p P) where
   single : (lits : List Literal) → P lits → All P (lits ∷ [])
@@ -51,23 +50,21 @@ module _ (p : Problem) (P : List Literal → Type 0) (kinds : HoldsOfKinds p P) 
       All-each_below P p.size (λ t. state_clauses p e t) (λ t ht. All-each_below P (letter_count p) (λ i. letter_clauses p e t i) (λ i hi. all_letters e t i there ht hi))
 
   all_chains : All P (chain_clauses p)
-  all_chains = go (p.version == 3) refl
+  all_chains = go (counts_locally p) refl
     where
-      go : (b : Bool) → (p.version == 3) ≡ b → All P (cond b (each_below p.size (λ t. state_chains p t)) [])
+      go : (b : Bool) → counts_locally p ≡ b → All P (cond b (each_below p.size (λ t. state_chains p t)) [])
       go true h =
-          let three : p.version ≡ 3 = (Decides-eqb p.version 3).0 h in
           All-each_below P p.size (λ t. state_chains p t) (λ t ht. All-each_below P (states_of (automaton_of p)) (λ q. pair_chains p t q)
-          (λ q hq. All-each_below P (bound_at p q) (λ c. chain_clause p t q c ∷ []) (λ c hc. single (chain_clause p t q c) (kinds.chains t q c three ht hq hc))))
+          (λ q hq. All-each_below P (bound_at p q) (λ c. chain_clause p t q c ∷ []) (λ c hc. single (chain_clause p t q c) (kinds.chains t q c h ht hq hc))))
       go false h = All-nil P
 
   all_orders : All P (order_clauses p)
-  all_orders = go (nat_le 2 p.version) refl
+  all_orders = go (numbers_states p) refl
     where
-      go : (b : Bool) → nat_le 2 p.version ≡ b → All P (cond b (each_below (row_count p) (λ place. row_orders p place)) [])
+      go : (b : Bool) → numbers_states p ≡ b → All P (cond b (each_below (row_count p) (λ place. row_orders p place)) [])
       go true h =
-          let two : 2 ≤ p.version = leb-true 2 p.version h in
           All-each_below P (row_count p) (λ place. row_orders p place) (λ place hp. All-each_below P (p.size - 2) (λ k. order_clause p place (k + 2) ∷ [])
-          (λ k less. single (order_clause p place (k + 2)) (kinds.orders place (k + 2) two hp (omega arith) (omega arith))))
+          (λ k less. single (order_clause p place (k + 2)) (kinds.orders place (k + 2) h hp (omega arith) (omega arith))))
       go false h = All-nil P
 
   pub all_base : All P (base_clauses p)
@@ -78,7 +75,7 @@ module _ (p : Problem) (P : List Literal → Type 0) (kinds : HoldsOfKinds p P) 
       (All-append P (flat_map (edge_clauses p) (automaton_of p).edges) (chain_clauses p ++ order_clauses p) (All-flat_map P (edge_clauses p) (automaton_of p).edges all_edges)
       (All-append P (chain_clauses p) (order_clauses p) all_chains all_orders)))
 
--- each clause of a kind that is a base clause in either version
+-- each clause of a kind that is a base clause
 in_rows : (p : Problem) (place : ℕ) → place < row_count p → Contains (base_clauses p) (row_clause p place)
 in_rows p place h =
     Contains-append_left (row_clauses p) (start_clause p ∷ (flat_map (edge_clauses p) (automaton_of p).edges ++ (chain_clauses p ++ order_clauses p))) (row_clause p place)
@@ -115,23 +112,23 @@ behind_edges p lits there =
     (Contains-later (start_clause p) (flat_map (edge_clauses p) (automaton_of p).edges ++ (chain_clauses p ++ order_clauses p)) lits
     (Contains-append_right (flat_map (edge_clauses p) (automaton_of p).edges) (chain_clauses p ++ order_clauses p) lits there))
 
-in_chains : (p : Problem) (t q c : ℕ) → p.version ≡ 3 → t < p.size → q < states_of (automaton_of p) → c < bound_at p q → Contains (base_clauses p) (chain_clause p t q c)
-in_chains p t q c three ht hq hc =
+in_chains : (p : Problem) (t q c : ℕ) → counts_locally p ≡ true → t < p.size → q < states_of (automaton_of p) → c < bound_at p q → Contains (base_clauses p) (chain_clause p t q c)
+in_chains p t q c local ht hq hc =
     let pair : Contains (pair_chains p t q) (chain_clause p t q c) = in_each (bound_at p q) c (λ c. chain_clause p t q c ∷ []) (chain_clause p t q c) hc (Contains-head (chain_clause p t q c) []) in
     let state : Contains (state_chains p t) (chain_clause p t q c) = in_each (states_of (automaton_of p)) q (λ q. pair_chains p t q) (chain_clause p t q c) hq pair in
     let all : Contains (chain_clauses p) (chain_clause p t q c)
-    = subst (λ cs. Contains cs (chain_clause p t q c)) (sym (cond-true (p.version == 3) (each_below p.size (λ t. state_chains p t)) [] ((Decides-eqb p.version 3).1 three)))
+    = subst (λ cs. Contains cs (chain_clause p t q c)) (sym (cond-true (counts_locally p) (each_below p.size (λ t. state_chains p t)) [] local))
     (in_each p.size t (λ t. state_chains p t) (chain_clause p t q c) ht state) in
     behind_edges p (chain_clause p t q c) (Contains-append_left (chain_clauses p) (order_clauses p) (chain_clause p t q c) all)
 
-in_orders : (p : Problem) (place to : ℕ) → 2 ≤ p.version → place < row_count p → 2 ≤ to → to < p.size → Contains (base_clauses p) (order_clause p place to)
-in_orders p place to two hp least hto =
+in_orders : (p : Problem) (place to : ℕ) → numbers_states p ≡ true → place < row_count p → 2 ≤ to → to < p.size → Contains (base_clauses p) (order_clause p place to)
+in_orders p place to numbered hp least hto =
     let back : (to - 2) + 2 ≡ to = omega arith in
     let row : Contains (row_orders p place) (order_clause p place to)
     = subst (λ k. Contains (row_orders p place) (order_clause p place k)) back
     (in_each (p.size - 2) (to - 2) (λ k. order_clause p place (k + 2) ∷ []) (order_clause p place ((to - 2) + 2)) (omega arith) (Contains-head (order_clause p place ((to - 2) + 2)) [])) in
     let all : Contains (order_clauses p) (order_clause p place to)
-    = subst (λ cs. Contains cs (order_clause p place to)) (sym (cond-true (nat_le 2 p.version) (each_below (row_count p) (λ place. row_orders p place)) [] (le-leb 2 p.version two)))
+    = subst (λ cs. Contains cs (order_clause p place to)) (sym (cond-true (numbers_states p) (each_below (row_count p) (λ place. row_orders p place)) [] numbered))
     (in_each (row_count p) place (λ place. row_orders p place) (order_clause p place to) hp row) in
     behind_edges p (order_clause p place to) (Contains-append_right (chain_clauses p) (order_clauses p) (order_clause p place to) all)
 
@@ -140,8 +137,8 @@ kinds_hold p P all = record {
   rows = λ place h. All-contains P (base_clauses p) (row_clause p place) all (in_rows p place h);
   start = All-contains P (base_clauses p) (start_clause p) all (in_start p);
   steps = λ e t i to c there ht hi fits hto busy hc. All-contains P (base_clauses p) (step_clause p e t i to c) all (in_steps p e t i to c there ht hi fits hto busy hc);
-  chains = λ t q c three ht hq hc. All-contains P (base_clauses p) (chain_clause p t q c) all (in_chains p t q c three ht hq hc);
-  orders = λ place to two hp least hto. All-contains P (base_clauses p) (order_clause p place to) all (in_orders p place to two hp least hto);
+  chains = λ t q c local ht hq hc. All-contains P (base_clauses p) (chain_clause p t q c) all (in_chains p t q c local ht hq hc);
+  orders = λ place to numbered hp least hto. All-contains P (base_clauses p) (order_clause p place to) all (in_orders p place to numbered hp least hto);
 }
 
 -- no variable passes the number of variables
@@ -152,8 +149,8 @@ base_within p problem made = all_base p (IsWithin (variables_of p)) (record {
   steps = λ e t i to c there ht hi fits hto busy hc.
       let joins : JoinsStates (states_of (automaton_of p)) e = All-contains (JoinsStates (states_of (automaton_of p))) (automaton_of p).edges e made.edges there in
       (step-rises p e t i to c joins ht hi hto hc busy).within;
-  chains = λ t q c three ht hq hc. (chain-rises p t q c ht hq hc).within;
-  orders = λ place to two hp least hto. (order-rises p place to hp least hto).within;
+  chains = λ t q c local ht hq hc. (chain-rises p t q c ht hq hc).within;
+  orders = λ place to numbered hp least hto. (order-rises p place to hp least hto).within;
 })
 
 -- the parts, added one after the other to an empty list

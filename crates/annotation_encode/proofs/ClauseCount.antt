@@ -15,7 +15,7 @@ use Rattle.letter_word.specs.Signals.{has}
 use Rattle.letter_word.specs.declared.cubes.Cube.{Cube}
 use Rattle.letter_word.proofs.Sets.{has-past}
 use Rattle.machine_model.specs.Automaton.{rejects, states_of}
-use Rattle.machine_model.specs.Problem.{automaton_of, reads_of}
+use Rattle.machine_model.specs.Problem.{automaton_of, counts_locally, numbers_states, reads_of}
 use Rattle.machine_model.specs.declared.automata.Edge.{Edge}
 use Rattle.machine_model.specs.declared.problems.Problem.{Problem}
 use Rattle.product_bound.specs.Annotation.{bound_at, rejecting_at}
@@ -233,31 +233,31 @@ length-state_chains p t =
     ∙ sum_first-times p.size (rejecting_at p) (states_of (automaton_of p))
 
 pub length-chains : (p : Problem) → length (chain_clauses p) ≡ chain_count p
-length-chains p = go (p.version == 3) refl
+length-chains p = go (counts_locally p) refl
   where
-    go : (b : Bool) → (p.version == 3) ≡ b → length (cond (p.version == 3) (each_below p.size (λ t. state_chains p t)) [])
-        ≡ cond (p.version == 3) (p.size * (p.size * counted_before p (states_of (automaton_of p)))) 0
+    go : (b : Bool) → counts_locally p ≡ b → length (cond (counts_locally p) (each_below p.size (λ t. state_chains p t)) [])
+        ≡ cond (counts_locally p) (p.size * (p.size * counted_before p (states_of (automaton_of p)))) 0
     go true h =
-        ap length (cond-true (p.version == 3) (each_below p.size (λ t. state_chains p t)) [] h)
+        ap length (cond-true (counts_locally p) (each_below p.size (λ t. state_chains p t)) [] h)
         ∙ length-each_below p.size (p.size * counted_before p (states_of (automaton_of p))) (λ t. state_chains p t) (λ t less. length-state_chains p t)
-        ∙ sym (cond-true (p.version == 3) (p.size * (p.size * counted_before p (states_of (automaton_of p)))) 0 h)
+        ∙ sym (cond-true (counts_locally p) (p.size * (p.size * counted_before p (states_of (automaton_of p)))) 0 h)
     go false h =
-        ap length (cond-false (p.version == 3) (each_below p.size (λ t. state_chains p t)) [] h)
-        ∙ sym (cond-false (p.version == 3) (p.size * (p.size * counted_before p (states_of (automaton_of p)))) 0 h)
+        ap length (cond-false (counts_locally p) (each_below p.size (λ t. state_chains p t)) [] h)
+        ∙ sym (cond-false (counts_locally p) (p.size * (p.size * counted_before p (states_of (automaton_of p)))) 0 h)
 
 pub length-orders : (p : Problem) → length (order_clauses p) ≡ order_count p
-length-orders p = go (nat_le 2 p.version) refl
+length-orders p = go (numbers_states p) refl
   where
-    go : (b : Bool) → nat_le 2 p.version ≡ b
-        → length (cond (nat_le 2 p.version) (each_below (row_count p) (λ place. row_orders p place)) []) ≡ cond (nat_le 2 p.version) (row_count p * (p.size - 2)) 0
+    go : (b : Bool) → numbers_states p ≡ b
+        → length (cond (numbers_states p) (each_below (row_count p) (λ place. row_orders p place)) []) ≡ cond (numbers_states p) (row_count p * (p.size - 2)) 0
     go true h =
-        ap length (cond-true (nat_le 2 p.version) (each_below (row_count p) (λ place. row_orders p place)) [] h)
+        ap length (cond-true (numbers_states p) (each_below (row_count p) (λ place. row_orders p place)) [] h)
         ∙ length-each_below (row_count p) (p.size - 2) (λ place. row_orders p place)
         (λ place less. length-each_below (p.size - 2) 1 (λ k. order_clause p place (k + 2) ∷ []) (λ k less. refl) ∙ (let z : (p.size - 2) * 1 ≡ p.size - 2 = omega arith in z))
-        ∙ sym (cond-true (nat_le 2 p.version) (row_count p * (p.size - 2)) 0 h)
+        ∙ sym (cond-true (numbers_states p) (row_count p * (p.size - 2)) 0 h)
     go false h =
-        ap length (cond-false (nat_le 2 p.version) (each_below (row_count p) (λ place. row_orders p place)) [] h)
-        ∙ sym (cond-false (nat_le 2 p.version) (row_count p * (p.size - 2)) 0 h)
+        ap length (cond-false (numbers_states p) (each_below (row_count p) (λ place. row_orders p place)) [] h)
+        ∙ sym (cond-false (numbers_states p) (row_count p * (p.size - 2)) 0 h)
 
 -- how many base clauses are about no edge
 abbrev pub beside_edges : Problem → ℕ

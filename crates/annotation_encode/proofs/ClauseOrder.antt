@@ -1,14 +1,13 @@
 -- The literals of each base clause stand by rising variable, and none passes the number of variables.
 use Rattle.std.proofs.Common.{subst, ◌≡◌, ℕ, zero, suc, ◌+◌, ◌-◌, ◌*◌, ◌<◌, ◌≤◌, Bool, true, false, not, ◌&&◌, List, [], ◌∷◌, ◌++◌, get_or, refl, sym, ap, ◌∙◌, arith, cond, inl, inr}
-use Rattle.std.specs.Prelude.{◌==◌, nat_le, nat_lt, count_by}
+use Rattle.std.specs.Prelude.{nat_le, nat_lt, count_by}
 use Rattle.std.proofs.lemmas.Bool.{cases_eq, cases_lt, eq-eqb, leb-true}
 use Rattle.std.proofs.lemmas.Bool.Decides.{Decides-ltb}
 use Rattle.std.proofs.Math.Nat.{mul-le-mul_right}
-use Rattle.clause_base.specs.Literal.{Literal}
 use Rattle.letter_word.specs.Signals.{has}
 use Rattle.letter_word.specs.declared.cubes.Cube.{Cube}
 use Rattle.machine_model.specs.Automaton.{IsAutomaton, JoinsStates, rejects, states_of}
-use Rattle.machine_model.specs.Problem.{IsProblem, automaton_of, writes_of}
+use Rattle.machine_model.specs.Problem.{IsProblem, automaton_of, counts_locally, writes_of}
 use Rattle.machine_model.specs.declared.automata.Edge.{Edge}
 use Rattle.machine_model.specs.declared.problems.Problem.{Problem}
 use Rattle.machine_model.specs.Components.{local_count}
@@ -48,7 +47,7 @@ counted (x ∷ xs) (suc q) e =
     omega (arith, step, rest)
 
 pub start_small : (p : Problem) → IsProblem p → start_number p ≤ bound_at p 0
-start_small p problem = by_version (p.version == 3)
+start_small p problem = by_version (counts_locally p)
   where
     by_rise : (b : Bool) → rejects (automaton_of p) 0 ≡ b → cond b 1 0 ≤ p.size * rejecting_count (automaton_of p)
     by_rise false e = omega arith

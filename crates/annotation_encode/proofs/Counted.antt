@@ -1,17 +1,17 @@
 -- How many rejecting states are counted, and where the numbers of a pair begin.
-use Rattle.std.proofs.Common.{◌≡◌, ℕ, zero, suc, ◌+◌, ◌*◌, ◌<◌, ◌≤◌, Bool, true, false, not, List, [], ◌∷◌, ◌++◌, length, refl, sym, ap, ◌∙◌, subst, arith, cond, inl, inr}
-use Rattle.std.specs.Prelude.{◌==◌, ◌&&◌, ◌||◌, count_by}
-use Rattle.std.proofs.lemmas.Bool.{cases_eq, cases_lt, cond-true, cond-false, eq-eqb, ne_eqb}
+use Rattle.std.proofs.Common.{◌≡◌, ℕ, zero, suc, ◌+◌, ◌*◌, ◌<◌, ◌≤◌, Bool, true, false, not, List, [], ◌∷◌, length, refl, ap, ◌∙◌, arith, cond, inl, inr}
+use Rattle.std.specs.Prelude.{◌&&◌, count_by}
+use Rattle.std.proofs.lemmas.Bool.{cases_eq, cases_lt, cond-true, cond-false}
 use Rattle.std.proofs.lemmas.List.{length-append}
 use Rattle.std.proofs.lemmas.List.Sums.{sum_by-cons}
 use mathlib.Core.Bool.{and-false}
-use Rattle.machine_model.specs.Automaton.{AutomatonModel, IsAutomaton, rejects, states_of}
+use Rattle.machine_model.specs.Automaton.{AutomatonModel, IsAutomaton, states_of}
 use Rattle.machine_model.specs.Components.{ComponentsClass, local_before, local_count}
-use Rattle.machine_model.specs.Problem.{IsProblem, automaton_of}
+use Rattle.machine_model.specs.Problem.{automaton_of, counts_locally}
 use Rattle.machine_model.specs.declared.automata.Edge.{Edge}
 use Rattle.machine_model.specs.declared.problems.Problem.{Problem}
 use Rattle.machine_model.proofs.Classes.{joined_self}
-use Rattle.product_bound.specs.Annotation.{bound_at, bound_of, leaves, number_after, rejecting_at, rejecting_count, rise_at, start_number}
+use Rattle.product_bound.specs.Annotation.{bound_at, leaves, number_after, rejecting_at, rejecting_count, rise_at}
 use Rattle.annotation_encode.specs.BaseClauses.{each_below, step_count}
 use Rattle.annotation_encode.specs.Variables.{WholeNumbers, counted_before, number_count, numbers_before, state_numbers, sum_first}
 
@@ -47,32 +47,26 @@ length-each_sum zero f size each = refl
 length-each_sum (suc n) f size each =
     length-append (each_below n f) (f n) ∙ (λ i. length-each_sum n f size (λ k h. each k (omega arith)) i + each n (omega arith) i)
 
-local_at : (p : Problem) (q : ℕ) → (p.version == 3) ≡ true → rejecting_at p q ≡ local_count (automaton_of p) q
-local_at p q h = cond-true (p.version == 3) (local_count (automaton_of p) q) (rejecting_count (automaton_of p)) h
-
-whole_at : (p : Problem) (q : ℕ) → (p.version == 3) ≡ false → rejecting_at p q ≡ rejecting_count (automaton_of p)
-whole_at p q h = cond-false (p.version == 3) (local_count (automaton_of p) q) (rejecting_count (automaton_of p)) h
-
 sum_is_before : (a : AutomatonModel) (q : ℕ) → sum_first (local_count a) q ≡ local_before a q
 unfolding sum_first local_before
 sum_is_before a zero = refl
 sum_is_before a (suc q) = ap (λ n. n + local_count a q) (sum_is_before a q)
 
-pub local_counted : (p : Problem) (q : ℕ) → p.version ≡ 3 → rejecting_at p q ≡ local_count (automaton_of p) q
-local_counted p q three = local_at p q (eq-eqb p.version 3 three)
+pub local_counted : (p : Problem) (q : ℕ) → counts_locally p ≡ true → rejecting_at p q ≡ local_count (automaton_of p) q
+local_counted p q local = cond-true (counts_locally p) (local_count (automaton_of p) q) (rejecting_count (automaton_of p)) local
 
-pub whole_counted : (p : Problem) (q : ℕ) → (p.version ≡ 3 → ⊥) → rejecting_at p q ≡ rejecting_count (automaton_of p)
-whole_counted p q other = whole_at p q (ne_eqb p.version 3 other)
+pub whole_counted : (p : Problem) (q : ℕ) → counts_locally p ≡ false → rejecting_at p q ≡ rejecting_count (automaton_of p)
+whole_counted p q whole = cond-false (counts_locally p) (local_count (automaton_of p) q) (rejecting_count (automaton_of p)) whole
 
-pub local_sum : (p : Problem) (q : ℕ) → p.version ≡ 3 → counted_before p q ≡ local_before (automaton_of p) q
-local_sum p q three = sum_first-same (rejecting_at p) (local_count (automaton_of p)) q (λ k _. local_counted p k three) ∙ sum_is_before (automaton_of p) q
+pub local_sum : (p : Problem) (q : ℕ) → counts_locally p ≡ true → counted_before p q ≡ local_before (automaton_of p) q
+local_sum p q local = sum_first-same (rejecting_at p) (local_count (automaton_of p)) q (λ k _. local_counted p k local) ∙ sum_is_before (automaton_of p) q
 
-pub whole_sum : (p : Problem) (q : ℕ) → (p.version ≡ 3 → ⊥) → counted_before p q ≡ q * rejecting_count (automaton_of p)
-whole_sum p q other =
-    sum_first-same (rejecting_at p) (λ _. rejecting_count (automaton_of p)) q (λ k _. whole_counted p k other) ∙ constant_sum (rejecting_count (automaton_of p)) q
+pub whole_sum : (p : Problem) (q : ℕ) → counts_locally p ≡ false → counted_before p q ≡ q * rejecting_count (automaton_of p)
+whole_sum p q whole =
+    sum_first-same (rejecting_at p) (λ _. rejecting_count (automaton_of p)) q (λ k _. whole_counted p k whole) ∙ constant_sum (rejecting_count (automaton_of p)) q
 
 pub whole_numbers : WholeNumbers
-whole_numbers p q other = ap (λ n. p.size * n + q) (whole_sum p q other) ∙ (let e : p.size * (q * rejecting_count (automaton_of p)) + q ≡ q * (p.size * rejecting_count (automaton_of p) + 1) = omega arith in e)
+whole_numbers p q whole = ap (λ n. p.size * n + q) (whole_sum p q whole) ∙ (let e : p.size * (q * rejecting_count (automaton_of p)) + q ≡ q * (p.size * rejecting_count (automaton_of p) + 1) = omega arith in e)
 
 -- no more are counted than there are states
 counted_most : (xs : List Bool) → count_by (λ x. x) xs ≤ length xs
@@ -91,7 +85,7 @@ pub whole_few : (p : Problem) → rejecting_count (automaton_of p) ≤ states_of
 whole_few p = counted_most (automaton_of p).rejecting
 
 pub few_at : (p : Problem) (q : ℕ) → ComponentsClass → IsAutomaton (automaton_of p) → states_of (automaton_of p) ≤ 2000 → rejecting_at p q ≤ 2000
-few_at p q classes made few = go (p.version == 3)
+few_at p q classes made few = go (counts_locally p)
   where
     local : local_count (automaton_of p) q ≤ states_of (automaton_of p)
     local = (classes (automaton_of p) made).few q
@@ -137,7 +131,7 @@ same_number p q c r d hc hd e =
     ]
 
 pub stays : (p : Problem) (q : ℕ) → leaves p q q ≡ false
-stays p q = ap (λ b. (p.version == 3) && not b) (joined_self (automaton_of p) q) ∙ and-false (p.version == 3)
+stays p q = ap (λ b. counts_locally p && not b) (joined_self (automaton_of p) q) ∙ and-false (counts_locally p)
 
 -- numbers behind an edge
 pub after_stays : (p : Problem) (q r c : ℕ) → leaves p q r ≡ false → number_after p q r c ≡ c + rise_at (automaton_of p) r

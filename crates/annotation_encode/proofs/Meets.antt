@@ -21,7 +21,7 @@ use Rattle.machine_model.specs.Automaton.{HasEdge, IsAutomaton, JoinsStates, sta
 use Rattle.machine_model.specs.Course.{letter_of}
 use Rattle.machine_model.specs.Machine.{IsMachine, MachineModel, next_of, size_of, writes_of}
 use Rattle.machine_model.specs.Problem as looked_for
-use Rattle.machine_model.specs.Problem.{IsMachineOf, IsProblem, NamesSignals, automaton_of, reads_of}
+use Rattle.machine_model.specs.Problem.{IsMachineOf, IsProblem, NamesSignals, automaton_of, numbers_states, reads_of}
 use Rattle.machine_model.specs.Run.{joined}
 use Rattle.machine_model.specs.declared.automata.Edge.{Edge}
 use Rattle.machine_model.specs.declared.machines.Row.{Row}
@@ -362,7 +362,7 @@ module _ (p : Problem) (m : MachineModel) (numbers : List (Option ℕ)) (values 
           letters_back : 2 ^ m.reads ≡ letter_count p
           letters_back = sym letters
 
-  pub all_met : (2 ≤ p.version → IsNumbered m) → meets values (base_clauses p) ≡ true
+  pub all_met : (numbers_states p ≡ true → IsNumbered m) → meets values (base_clauses p) ≡ true
   all_met numbered =
       let kinds : HoldsOfKinds p (λ clause. is_true_clause values clause ≡ true) = record {
         rows = rows_met;

@@ -7,7 +7,7 @@ use Rattle.letter_word.specs.declared.kinds.Side.{Side}
 use Rattle.letter_word.specs.declared.kinds.Side.TheVariants.{System, Environment}
 use Rattle.letter_word.specs.Below.{all_below}
 use Rattle.machine_model.specs.Automaton.{rejects, states_of}
-use Rattle.machine_model.specs.Problem.{automaton_of, reads_of, writes_of}
+use Rattle.machine_model.specs.Problem.{automaton_of, reads_of, writes_of, counts_locally, numbers_states}
 use Rattle.machine_model.specs.declared.automata.Edge.{Edge}
 use Rattle.machine_model.specs.declared.problems.Problem.{Problem}
 use Rattle.product_bound.specs.Annotation.{bound_at, leaves, number_after, start_number}
@@ -64,8 +64,8 @@ row_clauses p = each_below (row_count p) (λ place. row_clause p place ∷ [])
 abbrev pub start_clause : Problem → List Literal
 start_clause p = is (var_count p 0 0 (start_number p)) ∷ []
 
--- 3. Along each edge that fits what the machine reads and writes numbers don't fall, and rise into a rejecting state; in
--- version 3 behind an edge that leaves a component there is some number.
+-- 3. Along each edge that fits what the machine reads and writes numbers don't fall, and rise into a rejecting state; where
+-- they are counted anew behind an edge there is some number.
 
 -- whether a signal that is set, or isn't, is as the cube wants it
 abbrev pub signal_fits : Cube → ℕ → Bool → Bool
@@ -122,7 +122,7 @@ state_clauses p e t = each_below (letter_count p) (λ i. letter_clauses p e t i)
 abbrev pub edge_clauses : Problem → Edge → List (List Literal)
 edge_clauses p e = each_below p.size (λ t. state_clauses p e t)
 
--- 4. In version 3 a pair that reaches a number reaches the one before it.
+-- 4. Where numbers count by component a pair that reaches a number reaches the one before it.
 abbrev pub chain_clause : Problem → ℕ → ℕ → ℕ → List Literal
 chain_clause p t q c = is (var_count p t q c) ∷ isnt (var_count p t q (suc c)) ∷ []
 
@@ -133,9 +133,9 @@ abbrev pub state_chains : Problem → ℕ → List (List Literal)
 state_chains p t = each_below (states_of (automaton_of p)) (λ q. pair_chains p t q)
 
 abbrev pub chain_clauses : Problem → List (List Literal)
-chain_clauses p = if p.version == 3 then each_below p.size (λ t. state_chains p t) else []
+chain_clauses p = if counts_locally p then each_below p.size (λ t. state_chains p t) else []
 
--- 5. From version 2 on a row moves to a state from 2 on only where a row before it moves to the state before that one.
+-- 5. Where states are numbered a row moves to a state from 2 on only where a row before it moves to the state before that one.
 abbrev pub order_clause : Problem → ℕ → ℕ → List Literal
 order_clause p place to = each_below place (λ k. is (row_move p k (to - 1)) ∷ []) ++ isnt (row_move p place to) ∷ []
 
@@ -143,7 +143,7 @@ abbrev pub row_orders : Problem → ℕ → List (List Literal)
 row_orders p place = each_below (p.size - 2) (λ k. order_clause p place (k + 2) ∷ [])
 
 abbrev pub order_clauses : Problem → List (List Literal)
-order_clauses p = if nat_le 2 p.version then each_below (row_count p) (λ place. row_orders p place) else []
+order_clauses p = if numbers_states p then each_below (row_count p) (λ place. row_orders p place) else []
 
 -- all of them, in this order
 abbrev pub base_clauses : Problem → List (List Literal)

@@ -2,15 +2,15 @@ use Rattle.std.specs.Prelude.{◌≡◌, ◌==◌, ℕ, zero, suc, ◌+◌, ◌-
 use Rattle.letter_word.specs.Signals.{has}
 use Rattle.letter_word.specs.declared.cubes.Cube.{Cube}
 use Rattle.machine_model.specs.Automaton.{rejects, states_of}
-use Rattle.machine_model.specs.Problem.{automaton_of, sized}
+use Rattle.machine_model.specs.Problem.{automaton_of, sized, counts_locally, numbers_states}
 use Rattle.machine_model.specs.declared.automata.Edge.{Edge}
 use Rattle.machine_model.specs.declared.problems.Problem.{Problem}
 use Rattle.annotation_encode.specs.BaseClauses.{base_clauses, read_signal, row_count}
 use Rattle.annotation_encode.specs.Variables.{counted_before}
 
--- how many base clauses a problem may have: a million, and in version 3 four million (limits of this project)
+-- how many base clauses a problem may have: a million, and where numbers count by component four million (limits of this project)
 abbrev pub most_clauses : Problem → ℕ
-most_clauses p = if p.version == 3 then 4000000 else 1000000
+most_clauses p = if counts_locally p then 4000000 else 1000000
 
 -- the number of base clauses, unless it passes that limit
 abbrev pub count_of : Problem → Option ℕ
@@ -50,8 +50,8 @@ target_count p e = if (e.from == e.to) && not (rejects (automaton_of p) e.to) th
 
 -- how many clauses chain a pair's numbers
 abbrev pub chain_count : Problem → ℕ
-chain_count p = if p.version == 3 then (p.size * (p.size * counted_before p (states_of (automaton_of p)))) else 0
+chain_count p = if counts_locally p then (p.size * (p.size * counted_before p (states_of (automaton_of p)))) else 0
 
 -- how many clauses order the states
 abbrev pub order_count : Problem → ℕ
-order_count p = if nat_le 2 p.version then (row_count p * (p.size - 2)) else 0
+order_count p = if numbers_states p then (row_count p * (p.size - 2)) else 0

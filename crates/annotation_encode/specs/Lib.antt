@@ -3,4 +3,3 @@ pub mod BaseClauses
 pub mod Assigned
 pub mod Count
 pub mod Laws
-pub mod Counts

@@ -1,8 +1,8 @@
-use Rattle.std.specs.Prelude.{◌≡◌, ℕ, zero, suc, ◌+◌, ◌*◌, ◌^◌}
+use Rattle.std.specs.Prelude.{◌≡◌, ℕ, false, zero, suc, ◌+◌, ◌*◌, ◌^◌}
 use Rattle.letter_word.specs.declared.kinds.Kind.{Kind}
 use Rattle.letter_word.specs.declared.kinds.Kind.TheVariants.{Mealy, Moore}
 use Rattle.machine_model.specs.Automaton.{states_of}
-use Rattle.machine_model.specs.Problem.{automaton_of, reads_of, writes_of}
+use Rattle.machine_model.specs.Problem.{automaton_of, counts_locally, reads_of, writes_of}
 use Rattle.machine_model.specs.declared.problems.Problem.{Problem}
 use Rattle.product_bound.specs.Annotation.{bound_at, bound_of, rejecting_at}
 
@@ -74,4 +74,4 @@ variables_of p = move_count p + write_count p + p.size * state_numbers p
 
 -- where all rejecting states are counted in each state, each pair has one number more than the bound (this project's own)
 abbrev pub WholeNumbers : Type 0
-WholeNumbers = (p : Problem) (q : ℕ) → (p.version ≡ 3 → ⊥) → numbers_before p q ≡ q * (bound_of p + 1)
+WholeNumbers = (p : Problem) (q : ℕ) → counts_locally p ≡ false → numbers_before p q ≡ q * (bound_of p + 1)

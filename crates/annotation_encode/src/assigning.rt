@@ -1,6 +1,6 @@
 ghost use Rattle.std.specs.Prelude.{◌≡◌, ◌+◌, ◌^◌, ◌<◌, ◌≤◌, ◌++◌, ◌∷◌, [], true, IfOk, OnOk, length};
 ghost use Rattle.clause_base.specs.Truth.{meets};
-ghost use Rattle.machine_model.specs.Problem.{IsMachineOf, IsProblem};
+ghost use Rattle.machine_model.specs.Problem.{IsMachineOf, IsProblem, numbers_states};
 ghost use Rattle.product_bound.specs.Annotation.{IsValidAnnotation, places_of};
 ghost use Rattle.product_bound.specs.Numbered.{IsNumbered};
 ghost use Rattle.annotation_encode.specs.Assigned.{IsAssignmentOf, machine_value, machine_values, move_value, reaches, state_values, write_value, written_at};
@@ -15,8 +15,8 @@ use product_bound::Annotation;
 use std::alloc::{AllocError, Global};
 
 /// The assignment of a machine and a valid annotation of it: of the moves and the writes those of the machine alone are
-/// true, and of the numbers each up to the pair's. It meets every base clause. From version 2 on the machine has
-/// to be numbered.
+/// true, and of the numbers each up to the pair's. It meets every base clause. Where states are numbered
+/// those of the machine have to be.
 ///
 /// Takes a few steps for each variable.
 pub fn assignment_of(
@@ -29,7 +29,7 @@ pub fn assignment_of(
     requires machine { IsMachineOf problem.now machine.now }
     requires places { length annotation.now.numbers.items ≡ places_of problem.now }
     requires valid { IsValidAnnotation problem.now machine.now annotation.now.numbers.items }
-    requires numbered { 2 ≤ problem.now.version → IsNumbered machine.now }
+    requires numbered { numbers_states problem.now ≡ true → IsNumbered machine.now }
     ensures assigned { IfOk result (λ assignment. IsAssignmentOf problem.now machine.now annotation.now.numbers.items assignment.values.items) }
     ensures met { IfOk result (λ assignment. meets assignment.values.items (base_clauses problem.now) ≡ true) }
 {

@@ -122,7 +122,9 @@ impl Encoding<'_> {
         requires { 0 < states_of (automaton_of self.now.numbering.problem.now) }
         ensures { result ≡ start_number self.now.numbering.problem.now }
     {
-        if self.numbering.problem.version != 3 && self.numbering.problem.automaton.is_rejecting(0) {
+        if !self.numbering.problem.counting.is_local()
+            && self.numbering.problem.automaton.is_rejecting(0)
+        {
             1
         } else {
             0
@@ -355,12 +357,12 @@ impl Encoding<'_> {
         Ok(())
     }
 
-    /// In version 3 a pair that reaches a number reaches the one before it.
+    /// Where numbers count by component a pair that reaches a number reaches the one before it.
     fn push_chain_clauses(&self, clauses: &mut Vec<Clause>) -> Result<(), AllocError>
         requires { IsProblem self.now.numbering.problem.now }
         ensures { OnOk result (clauses.new.items ≡ clauses.old.items ++ chain_clauses self.now.numbering.problem.now) }
     {
-        if self.numbering.problem.version != 3 {
+        if !self.numbering.problem.counting.is_local() {
             return Ok(());
         }
         for t in 0..self.numbering.problem.size {
@@ -399,12 +401,12 @@ impl Encoding<'_> {
         Ok(())
     }
 
-    /// From version 2 on states are named in the order of their numbers.
+    /// Where states are numbered they are named in the order of their numbers.
     fn push_order_clauses(&self, clauses: &mut Vec<Clause>) -> Result<(), AllocError>
         requires { IsProblem self.now.numbering.problem.now }
         ensures { OnOk result (clauses.new.items ≡ clauses.old.items ++ order_clauses self.now.numbering.problem.now) }
     {
-        if self.numbering.problem.version < 2 {
+        if !self.numbering.problem.counting.is_numbered() {
             return Ok(());
         }
         for place in 0..row_count(self.numbering.problem) {

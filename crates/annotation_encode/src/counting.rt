@@ -10,19 +10,20 @@ use letter_word::{Cube, Letter};
 use machine_model::{Edge, Problem};
 use product_bound::leaves;
 
-/// The greatest number of base clauses of a problem that is worked on: 1,000,000, and in version 3 4,000,000.
+/// The greatest number of base clauses of a problem that is worked on: 1,000,000, and where numbers count by component
+/// 4,000,000.
 fn most_clauses(problem: &Problem) -> u64
     ensures value { result ≡ most_clauses problem.now }
     ensures small { result ≤ 4000000 }
 {
-    if problem.version == 3 {
+    if problem.counting.is_local() {
         4_000_000
     } else {
         1_000_000
     }
 }
 
-/// The number of base clauses, or None where it passes 1,000,000, in version 3 4,000,000.
+/// The number of base clauses, or None where it passes 1,000,000, and where numbers count by component 4,000,000.
 ///
 /// The clauses aren't listed to find it: it takes as many steps as there are edges and read signals, multiplied. It takes
 /// no memory.
@@ -97,7 +98,7 @@ fn chain_count(problem: &Problem, numbering: Numbering<'_>, size: u32) -> u32
     ensures value { result ≡ chain_count (sized problem.now size) }
     ensures small { result ≤ 256000000 }
 {
-    if problem.version != 3 {
+    if !problem.counting.is_local() {
         return 0;
     }
     size * (size * numbering.counted_before(problem.automaton.states()))
@@ -136,7 +137,7 @@ fn order_count(problem: &Problem, size: u32) -> u32
     ensures value { result ≡ order_count (sized problem.now size) }
     ensures small { result ≤ 12288 }
 {
-    if problem.version < 2 {
+    if !problem.counting.is_numbered() {
         return 0;
     }
     let later = later_states(size);

@@ -4,20 +4,18 @@
 //! side accepts some machine of the problem some assignment meets them all: `assignment_of` gives that of a machine and
 //! a valid annotation. `count` is their number, and
 //! `allowed_sizes` the number of sizes for which there aren't too many. `variables`, `var_move`, `var_write` and `var_count` are the numbers of
-//! the variables, and no two variables of different meaning are the same. `Counts` says which version of the clauses is meant. It stands on product_bound and clause_base.
+//! the variables, and no two variables of different meaning are the same. It stands on product_bound and clause_base.
 #![tactic(auto)]
 
 mod assigning;
 mod clauses;
 mod counting;
-mod counts;
 pub mod laws;
 mod numbering;
 
 pub use assigning::assignment_of;
 pub use clauses::encode;
 pub use counting::{allowed_sizes, count};
-pub use counts::Counts;
 pub use numbering::{
     Numbering, letter_count, row_count, var_count, var_move, var_write, variables,
 };

@@ -8,7 +8,6 @@ ghost use Rattle.annotation_encode.specs.Variables.{counted_before, letter_count
 use letter_word::Kind;
 use machine_model::Problem;
 use machine_model::laws::components_are_classes;
-use product_bound::counted_by;
 
 /// A problem with the number of its rejecting states, which is found once.
 #[derive(Clone, Copy)]
@@ -38,7 +37,7 @@ impl<'a> Numbering<'a> {
     {
         components_are_classes();
         let _states = self.problem.automaton.states();
-        match counted_by(self.problem) {
+        match self.problem.components() {
             Some(components) => components.count(q),
             None => self.rejecting,
         }
@@ -53,7 +52,7 @@ impl<'a> Numbering<'a> {
     {
         components_are_classes();
         let _states = self.problem.automaton.states();
-        match counted_by(self.problem) {
+        match self.problem.components() {
             Some(components) => components.before(q),
             None => q * self.rejecting,
         }

@@ -17,9 +17,8 @@ use Rattle.flat_text.specs.Laws.{FlatTextsAreDetermined, FlatTextsHaveNoFault}
 use Rattle.flat_text.proofs.OfKinds.{kinds}
 use Rattle.dual_search.specs.Laws.{AnswersAreApart}
 use Rattle.aiger_text.specs.FileLaws.{FilesStateOneThing}
-use Rattle.annotation_encode.specs.Counts.{counts_version}
-use Rattle.annotation_encode.specs.declared.counts.Counts.{Counts}
-use Rattle.annotation_encode.specs.declared.counts.Counts.TheVariants.{Whole, Local}
+use Rattle.machine_model.specs.declared.counting.Counts.{Counts}
+use Rattle.machine_model.specs.declared.counting.Counts.TheVariants.{Whole, Local}
 use Rattle.synth_engine.specs.declared.settings.Settings.{Settings}
 use Rattle.spec_problems.specs.Laws.{ProblemsOfFormulasAreDetermined}
 use Rattle.spec_problems.specs.OfFormula.{IsFormFault}
@@ -87,7 +86,7 @@ module _ (laws : LawsHold) (text : List ℕ) (kind : Option Kind) (settings : Se
   no_form_fault : (other : FlatText) (code : SpecCode) (position : ℕ) → AreAlike p.ground (ground_at other p.ground.wanted.means)
       → IsFormFault (tree_at other.formulas other.expanded.whole) other.formulas code position → ⊥
   no_form_fault other code position same fault =
-      laws.forms.no_fault (interface_on (counts_version settings.counts) p.ground) (tree_at p.ground.formulas p.ground.whole) p.ground.formulas p.later p.problems code position
+      laws.forms.no_fault (interface_on settings.counts p.ground) (tree_at p.ground.formulas p.ground.whole) p.ground.formulas p.later p.problems code position
       p.are_problems
       (subst (λ (id : FormulaId). IsFormFault (tree_at p.ground.formulas id) p.ground.formulas code position) (sym same.whole)
       (subst (λ (nodes : List Node). IsFormFault (tree_at nodes other.expanded.whole) nodes code position) (sym same.formulas) fault))
@@ -102,7 +101,7 @@ module _ (laws : LawsHold) (text : List ℕ) (kind : Option Kind) (settings : Se
   holds g =
       subst (λ (x : Expanded). HoldsFor (given_by (record { expanded = x; formulas = g.spec.formulas }) g.problems) p.document) (sym g.are_problems.same)
       (holds_on laws.apart p.ground (ground_at g.are_problems.flat p.ground.wanted.means) (alike (Some Mealy) g.are_problems.flat g.are_problems.is_flat)
-      (counts_version settings.counts) 3 p.later g.spec.formulas p.problems g.problems p.are_problems g.are_problems.problems p.document p.is_printed.holds)
+      settings.counts Local p.later g.spec.formulas p.problems g.problems p.are_problems g.are_problems.problems p.document p.is_printed.holds)
 
   earlier : IsSixth bytes → ⊥
   earlier = not_sixth laws.files bytes p.document (version_told p.document.version settings.counts p.is_printed.version) p.is_printed.states

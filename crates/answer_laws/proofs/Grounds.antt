@@ -1,5 +1,5 @@
 -- A document that holds over a ground holds over each that has the same names and the same formula in the same list, with whatever kind
--- and version of the problems.
+-- of the problems, and whatever their numbers count.
 use Rattle.std.proofs.Common.{◌≡◌, ℕ, Option, Some, None, List, length, sym, ap, subst, ◌∙◌}
 use Rattle.letter_word.specs.declared.kinds.Kind.{Kind}
 use Rattle.letter_word.specs.declared.kinds.Side.{Side}
@@ -49,7 +49,7 @@ pub record AreAlike (g h : Ground) : Type 0 where
   pub formulas : g.formulas ≡ h.formulas
   pub whole : g.whole ≡ h.whole
 
-module _ (apart : AnswersAreApart) (g h : Ground) (alike : AreAlike g h) (v w : ℕ) (later more : List Node) (s t : SideProblems)
+module _ (apart : AnswersAreApart) (g h : Ground) (alike : AreAlike g h) (v w : Counts) (later more : List Node) (s t : SideProblems)
     (are : AreProblemsOn v g later s) (so : AreProblemsOn w h more t) where
   -- the problems of the other ground, over the formula of the first
   there : AreProblemsIn (interface_on w h) (tree_at g.formulas g.whole) g.formulas more t

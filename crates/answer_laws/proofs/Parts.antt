@@ -4,7 +4,6 @@ use Rattle.std.specs.Prelude.{◌≢◌}
 use Rattle.letter_word.specs.declared.kinds.Kind.{Kind}
 use Rattle.synth_engine.specs.declared.settings.Settings.{Settings}
 use Rattle.synth_engine.specs.Settings.{alone}
-use Rattle.annotation_encode.specs.Counts.{counts_version}
 use Rattle.ltl_formula.specs.declared.nodes.Node.{Node}
 use Rattle.spec_problems.specs.declared.sides.SideProblems.{SideProblems}
 use Rattle.document_check.specs.Holds.{HoldsFor}
@@ -20,6 +19,7 @@ use Rattle.answer_laws.specs.Accepted.{HasGoodParts, IsAccepted, IsGoodOver, IsR
 use Rattle.answer_laws.proofs.Accepted.{LawsHold, is_accepted, printed_in}
 use Rattle.answer_laws.proofs.Grounds.{holds_on}
 use Rattle.answer_laws.proofs.Texts.{alike_over}
+use Rattle.machine_model.specs.declared.counting.Counts.{Counts}
 
 -- each number with other bytes of which something follows
 each_has : (P Q : ℕ → List ℕ → Type 0) → ((n : ℕ) (bytes : List ℕ) → P n bytes → Q n bytes) → (ns : List ℕ) (others : List (List ℕ)) → EachHas P ns others → EachHas Q ns others
@@ -34,16 +34,16 @@ module _ (laws : LawsHold) where
   module _ (text : List ℕ) (keep : List Bool) (kind : Option Kind) (settings : Settings) (bytes : List ℕ) where
     good_over : PrintedFor (IsGroundOver text keep) kind settings bytes → IsGoodOver text keep bytes
     good_over p =
-        let holds : (given : Option Kind) (version : ℕ) (g : Ground) (later : List Node) (s : SideProblems) → IsGroundOver text keep given g → AreProblemsOn version g later s
+        let holds : (given : Option Kind) (counts : Counts) (g : Ground) (later : List Node) (s : SideProblems) → IsGroundOver text keep given g → AreProblemsOn counts g later s
         → HoldsFor (facts_on g s) p.document =
-        λ given version g later s is are. holds_on laws.apart p.ground g (alike_over laws.flats text keep kind given p.ground g p.is_ground is)
-        (counts_version settings.counts) version p.later later p.problems s p.are_problems are p.document p.is_printed.holds in
+        λ given counts g later s is are. holds_on laws.apart p.ground g (alike_over laws.flats text keep kind given p.ground g p.is_ground is)
+        settings.counts counts p.later later p.problems s p.are_problems are p.document p.is_printed.holds in
         record {
           document = p.document;
           states = p.is_printed.states;
           holds = holds;
-          no_bad_line = λ given version g later s n is are first.
-              laws.bad_lines.holding_has_none (facts_on g s) bytes p.document n p.is_printed.states (holds given version g later s is are) first;
+          no_bad_line = λ given counts g later s n is are first.
+              laws.bad_lines.holding_has_none (facts_on g s) bytes p.document n p.is_printed.states (holds given counts g later s is are) first;
         }
 
     module _ (status : ℕ) where

@@ -23,6 +23,7 @@ use Rattle.batch_run.specs.Answers.{AreAnswers}
 use Rattle.batch_answer.specs.Batch.{BatchAnswers, Part}
 use Rattle.core_answer.specs.Core.{CoreAnswers, EachHas, IsCore, numbers, without}
 use Rattle.core_answer.specs.Over.{IsGroundOver}
+use Rattle.machine_model.specs.declared.counting.Counts.{Counts}
 
 -- == a document that is printed for a text ==
 
@@ -47,14 +48,14 @@ pub record PartIsAccepted (text : List ℕ) (part : Part) : Type 0 where
 -- == a document over some guarantees ==
 
 -- The bytes state a document that holds for the text with these guarantees, and no line of them is bad, with whatever kind the text is
--- taken, and whatever the version of the problems is that are made of its list of formulas: the document's own count.
+-- taken, and whatever the numbers of the problems count that are made of its list of formulas: the document's own count.
 pub record IsGoodOver (text : List ℕ) (keep : List Bool) (bytes : List ℕ) : Type 0 where
   pub document : Document
   pub states : States bytes document
-  pub holds : (given : Option Kind) (version : ℕ) (g : Ground) (later : List Node) (s : SideProblems) → IsGroundOver text keep given g
-      → AreProblemsOn version g later s → HoldsFor (facts_on g s) document
-  pub no_bad_line : (given : Option Kind) (version : ℕ) (g : Ground) (later : List Node) (s : SideProblems) (n : ℕ) → IsGroundOver text keep given g
-      → AreProblemsOn version g later s → IsFirstBadFor (facts_on g s) bytes n → ⊥
+  pub holds : (given : Option Kind) (counts : Counts) (g : Ground) (later : List Node) (s : SideProblems) → IsGroundOver text keep given g
+      → AreProblemsOn counts g later s → HoldsFor (facts_on g s) document
+  pub no_bad_line : (given : Option Kind) (counts : Counts) (g : Ground) (later : List Node) (s : SideProblems) (n : ℕ) → IsGroundOver text keep given g
+      → AreProblemsOn counts g later s → IsFirstBadFor (facts_on g s) bytes n → ⊥
 
 -- the line of a refusal, or such a document
 pub data IsRefusedOrGood (text : List ℕ) (keep : List Bool) (bytes : List ℕ) : Type 0 where

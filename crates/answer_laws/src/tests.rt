@@ -4,9 +4,9 @@ ghost use Rattle.program_replies.specs.Statuses.{status_number};
 ghost use Rattle.check_answer.specs.Answer.{CheckAnswers};
 
 use crate::laws::printed_is_accepted;
-use annotation_encode::Counts;
 use check_answer::{TextForCheck, check_answer, text_for_check};
 use letter_word::Kind;
+use machine_model::Counts;
 use outside_edge::OpenGate;
 use program_replies::{Reply, Status};
 use std::alloc::{AllocError, Global};

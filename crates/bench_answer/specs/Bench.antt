@@ -3,7 +3,7 @@ use Rattle.std.specs.Prelude.{◌≡◌, ℕ, ◌++◌, true, false, List, Some,
 use Rattle.letter_word.specs.declared.kinds.Side.{Side}
 use Rattle.letter_word.specs.declared.kinds.Side.TheVariants.{System, Environment}
 use Rattle.arbiter_text.specs.Arbiter.{generated_text}
-use Rattle.annotation_encode.specs.declared.counts.Counts.TheVariants.{Whole}
+use Rattle.machine_model.specs.declared.counting.Counts.TheVariants.{Whole}
 use Rattle.synth_engine.specs.declared.settings.Settings.{Settings}
 use Rattle.cert_text.specs.declared.documents.Verdict.{Verdict}
 use Rattle.cert_text.specs.declared.documents.Verdict.TheVariants.{Machine, Unknown}

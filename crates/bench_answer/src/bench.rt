@@ -3,10 +3,10 @@ ghost use Rattle.std.specs.Prelude.{◌≡◌, ◌≤◌, IfOk};
 ghost use Rattle.program_replies.specs.Statuses.{status_number};
 ghost use Rattle.bench_answer.specs.Bench.{BenchAnswer, least_word, lines_of, states_of, word_of};
 
-use annotation_encode::Counts;
 use arbiter_text::write_arbiter;
 use cert_text::Verdict;
 use letter_word::Side;
+use machine_model::Counts;
 use outside_edge::Gate;
 use program_replies::Reply;
 use std::alloc::{AllocError, Global};

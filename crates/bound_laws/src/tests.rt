@@ -13,9 +13,9 @@ ghost use Rattle.synth_answer.specs.Numbers.{AskAlike, told_number};
 ghost use Rattle.text_ground.specs.Ground.{IsWantedBy};
 
 use crate::laws::answers_agree;
-use annotation_encode::Counts;
 use cert_text::Verdict;
 use letter_word::{Kind, Side};
+use machine_model::Counts;
 use outside_edge::OpenGate;
 use solve_check::{Acceptance, Checked, check_solved};
 use solve_ground::solve_text;

@@ -33,7 +33,7 @@ use Rattle.cert_text.specs.declared.order.Order.TheVariants.{UpTo, AnyUpTo}
 use Rattle.cert_text.specs.Order.{order_of, place_of}
 use Rattle.cert_text.specs.Parts.{Document, LogPart}
 use Rattle.cert_text.specs.States.{States}
-use Rattle.document_check.specs.Facts.{Facts, allowed_at, clause_version, for_side, problem_at, sizes_to, wanted_sizes}
+use Rattle.document_check.specs.Facts.{Facts, allowed_at, counting_for, for_side, problem_at, sizes_to, wanted_sizes}
 use Rattle.document_check.specs.Holds.{AllHold, HoldsAt, HoldsFor, IsLogOfSome, may_be_full}
 use Rattle.document_check.specs.Laws.{AllRefute, ClosedLogsRefuteSizes}
 use Rattle.document_check.specs.Shown.{AreFacts, IsProblemAt, IsSize}
@@ -47,6 +47,7 @@ use Rattle.text_ground.proofs.Lists.{all_three, some_of}
 use Rattle.check_answer.specs.Answer.{HasNoMachine, IsAcceptedDocument}
 use Rattle.check_answer.specs.Reply.{IsForCheck}
 use Rattle.check_answer.proofs.Told.{says_of_sizes}
+use Rattle.machine_model.specs.declared.counting.Counts.TheVariants.{Local}
 
 -- == the sizes of logs ==
 
@@ -119,7 +120,7 @@ module _ (text : List ℕ) (t : TextProblems) (k : Context text t) where
   are_facts : AreFacts given
   are_facts = k.taken.facts
 
-  for_text : AreProblemsFor 3 spec.expanded s
+  for_text : AreProblemsFor Local spec.expanded s
   for_text = are_problems_for 3 text (Some Mealy) spec s k.taken.meet k.taken.text_with.are
 
   -- what the text wants of machines of this kind
@@ -143,10 +144,10 @@ module _ (text : List ℕ) (t : TextProblems) (k : Context text t) where
 
   module _ (kind : Kind) (version n : ℕ) (some : 1 ≤ n) (few : n ≤ 8) where
     abbrev systems : Problem
-    systems = record s.system { kind = kind; size = n; version = clause_version version }
+    systems = record s.system { kind = kind; size = n; counting = counting_for version (automaton_of s.system) }
 
     abbrev environments : Problem → Problem
-    environments p = record p { kind = other_kind kind; size = n; version = clause_version version }
+    environments p = record p { kind = other_kind kind; size = n; counting = counting_for version (automaton_of p) }
 
     system_known : IsSideOf (wanted_with kind) formula System systems
     system_known = record {

@@ -36,10 +36,11 @@ use Rattle.solve_check.specs.Checked.{IsReady}
 use Rattle.check_answer.specs.Answer.{CheckAnswers, GivenToCheck, IsTakenBySolve, SolvedAnswers}
 use Rattle.check_answer.specs.Answer as answer
 use Rattle.check_answer.specs.Reply.{IsAcceptance, IsForCertificates, IsForCheck, IsHeaderOf, IsLineRefusal, IsRefusedAlone}
+use Rattle.machine_model.specs.declared.counting.Counts.TheVariants.{Local}
 use Rattle.check_answer.proofs.Accepted.{Context, is_accepted}
 
 -- a text's problems are what `check` tests against
-pub for_certificates : (text : List ℕ) (t : TextProblems) → AreOfText 3 text (Some Mealy) (Of t) → AreProblems t.problems → IsForCheck text t
+pub for_certificates : (text : List ℕ) (t : TextProblems) → AreOfText Local text (Some Mealy) (Of t) → AreProblems t.problems → IsForCheck text t
 for_certificates text t of_text meet = record {
   text_with = of_text;
   facts = facts_are text (Some Mealy) (spec_seen t.spec) t.problems of_text.are meet;

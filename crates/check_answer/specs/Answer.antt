@@ -31,6 +31,7 @@ use Rattle.solve_check.specs.Asked.{IsAsked}
 use Rattle.solve_check.specs.Checked.{IsAcceptedAs}
 use Rattle.solve_check.specs.FirstBad.{IsFirstBadSolved}
 use Rattle.solve_check.specs.Line as solved
+use Rattle.machine_model.specs.declared.counting.Counts.TheVariants.{Local}
 
 -- == the line of a document that is accepted ==
 
@@ -57,7 +58,7 @@ accepted_line verdict kind = codes "accepted " ++ verdict_words verdict ++ codes
 pub record GivenToCheck (text : List ℕ) : Type 0 where
   pub spec : FlatText
   pub problems : SideProblems
-  pub are_problems : AreProblemsOf text (Some Mealy) 3 spec problems
+  pub are_problems : AreProblemsOf text (Some Mealy) Local spec problems
 
 -- what the text gives to the test of documents
 abbrev pub facts_to_check : {text : List ℕ} → GivenToCheck text → Facts

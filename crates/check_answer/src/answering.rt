@@ -10,6 +10,7 @@ ghost use Rattle.check_answer.specs.Reply.{AreForCheck, CanBeTested, IsFaultForS
 use crate::earlier::earlier_answer;
 use crate::solved::solved_answer;
 use letter_word::Kind;
+use machine_model::Counts;
 use program_replies::{Reply, refusal};
 use solve_ground::laws::solve_texts_are_determined;
 use solve_ground::solve_text;
@@ -32,7 +33,7 @@ pub enum TextForCheck {
 pub fn text_for_check(alloc: Global, text: &[u8]) -> Result<TextForCheck, AllocError>
     ensures { IfOk result (AreForCheck text.now) }
 {
-    match problems_or_refusal(alloc, text, Some(Kind::Mealy), 3)? {
+    match problems_or_refusal(alloc, text, Some(Kind::Mealy), Counts::Local)? {
         Problems::Of(found) => Ok(TextForCheck::Taken(Problems::Of(found))),
         Problems::Refused(reply) => refused_for_check(alloc, text, reply),
     }

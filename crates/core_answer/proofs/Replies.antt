@@ -4,7 +4,6 @@ use Rattle.ltl_formula.specs.declared.nodes.FormulaId.{FormulaId}
 use Rattle.ltl_formula.specs.declared.nodes.Node.{Node}
 use Rattle.ltl_formula.specs.Nodes.{tree_at}
 use Rattle.letter_word.specs.Word.{Word}
-use Rattle.annotation_encode.specs.Counts.{counts_version}
 use Rattle.tlsf_expand.specs.Expansion.{Expanded}
 use Rattle.program_replies.specs.Statuses.{status_number}
 use Rattle.spec_problems.specs.declared.sides.SideProblems.{SideProblems}
@@ -18,9 +17,9 @@ use Rattle.unreal_core.specs.declared.whole.Reduced.{Reduced}
 use Rattle.core_answer.specs.Reply.{IsReducedReply, reduced_answered}
 
 module _ (x : Expanded) (r : Reduced) (settings : Settings) (s : SideProblems) (later : List Node)
-    (are : AreProblemsIn (interface_of (counts_version settings.counts) x) (tree_at r.formulas r.whole) r.formulas later s) (accept : AcceptBySide (tree_at r.formulas r.whole) s) where
+    (are : AreProblemsIn (interface_of settings.counts x) (tree_at r.formulas r.whole) r.formulas later s) (accept : AcceptBySide (tree_at r.formulas r.whole) s) where
   pub answered_on : {E : Type 0} (result : Result Answered E)
-      → ((truth : Word → Bool) (nodes : List Node) (whole : FormulaId) → AreGivenOn (counts_version settings.counts) (ground_with x truth nodes whole) s
+      → ((truth : Word → Bool) (nodes : List Node) (whole : FormulaId) → AreGivenOn settings.counts (ground_with x truth nodes whole) s
       → IfOk result (λ a. IsAnswerOn (ground_with x truth nodes whole) settings a.reply.bytes.items (status_number a.reply.status) a.defeats))
       → IfOk result (λ a. IsReducedReply x r settings a.reply.bytes.items a.reply.status a.defeats)
   answered_on (Ok a) h = reduced_answered (λ truth says. h truth r.formulas r.whole (record {

@@ -7,7 +7,6 @@ ghost use Rattle.tlsf_expand.specs.FlatText.{spec_seen};
 ghost use Rattle.flat_text.specs.FlatNames.{HasPlainNames};
 ghost use Rattle.program_replies.specs.declared.replies.Status.TheVariants as ended;
 ghost use Rattle.program_replies.specs.Statuses.{status_number};
-ghost use Rattle.annotation_encode.specs.Counts.{counts_version};
 ghost use Rattle.text_ground.specs.Problems.{AreProblemsFor};
 ghost use Rattle.text_ground.specs.Texts.{IsTextWith};
 ghost use Rattle.tlsf_expand.specs.Standing.{SectionsStand};
@@ -51,7 +50,7 @@ pub fn core_answer<R: Threads + Wait + Sync, G: Gate + Sync>(
     ensures { IfOk result (λ r. CoreAnswers text.now kind settings r.bytes.items (status_number r.status)) }
 {
     sections_of_texts_stand();
-    match problems_or_refusal(alloc, text, kind, settings.version())? {
+    match problems_or_refusal(alloc, text, kind, settings.counts())? {
         Problems::Of(found) => text_answer(rt, alloc, found, settings, gate),
         Problems::Refused(reply) => Ok(reply),
     }
@@ -65,11 +64,11 @@ fn text_answer<R: Threads + Wait + Sync, G: Gate + Sync>(
     settings: Settings,
     gate: &G,
 ) -> Result<Reply, AllocError>
-    requires problems { AreProblemsFor (counts_version settings.counts) (spec_seen found.spec).expanded found.problems }
+    requires problems { AreProblemsFor settings.counts (spec_seen found.spec).expanded found.problems }
     requires stand { SectionsStand (spec_seen found.spec).formulas (spec_seen found.spec).expanded.sections }
     requires few { HasFewSignals SMALL_LIMITS (length found.spec.inputs.items) (length found.spec.outputs.items) found.spec.formulas }
     requires names { HasPlainNames (spec_seen found.spec).expanded }
-    ensures { (text : List ℕ) (kind : Option AKind) → IsTextWith (counts_version settings.counts) text kind (spec_seen found.spec) found.problems
+    ensures { (text : List ℕ) (kind : Option AKind) → IsTextWith settings.counts text kind (spec_seen found.spec) found.problems
         → IfOk result (λ r. CoreAnswers text kind settings r.bytes.items (status_number r.status)) }
 {
     sections_of_texts_stand();

@@ -2,7 +2,6 @@
 ghost use Rattle.std.specs.Prelude.{◌≡◌, ◌≤◌, ℕ, List, Option, false, IfOk, length};
 ghost use Rattle.text_limits.specs.declared.TheConstants.{SMALL_LIMITS};
 ghost use Rattle.letter_word.specs.declared.kinds.Kind.{Kind as AKind};
-ghost use Rattle.annotation_encode.specs.Counts.{counts_version};
 ghost use Rattle.ltl_formula.specs.Nodes.{Stands};
 ghost use Rattle.tlsf_expand.specs.FewSignals.{HasFewSignals};
 ghost use Rattle.tlsf_expand.specs.FlatText.{spec_seen};
@@ -78,13 +77,13 @@ fn reduced_answer<R: Threads + Wait + Sync, G: Gate + Sync>(
 fn interface(spec: &Spec, settings: Settings) -> Interface
     requires inputs { length spec.now.inputs.items ≤ 8 }
     requires outputs { length spec.now.outputs.items ≤ 8 }
-    ensures { result ≡ interface_of (counts_version settings.counts) (spec_seen spec.now).expanded }
+    ensures { result ≡ interface_of settings.counts (spec_seen spec.now).expanded }
 {
     Interface {
         inputs: spec.inputs.len() as u32,
         outputs: spec.outputs.len() as u32,
         kind: spec.kind,
-        version: settings.version(),
+        counts: settings.counts(),
     }
 }
 

@@ -1,14 +1,23 @@
 -- Problems that say the same.
 use Rattle.std.proofs.Common.{◌≡◌, ℕ, zero, suc, ◌≤◌, ◌==◌, ◌&&◌, Bool, true, false, cond, Option, Some, None, List, refl, sym, ap, subst, ◌∙◌, inl, inr}
 use Rattle.std.specs.Prelude.{is_some, IfSome, option_map, unwrap_or}
+use Rattle.std.proofs.Common.{◌≡◌, ℕ, zero, suc, ◌+◌, ◌≤◌, ◌==◌, ◌&&◌, Bool, true, false, cond, Option, Some, None, List, length, refl, sym, ap, subst, ◌∙◌, inl, inr, ◌⊎◌}
+use Rattle.std.specs.Prelude.{is_some, nat_le, not, All, IfSome, option_map, unwrap_or}
 use Rattle.std.specs.Option.{option_map_or}
 use Rattle.clause_base.specs.Literal.{Literal}
 use Rattle.letter_word.specs.declared.kinds.Kind.{Kind}
 use Rattle.letter_word.specs.declared.kinds.Side.{Side}
 use Rattle.letter_word.specs.declared.kinds.Side.TheVariants.{System, Environment}
 use Rattle.letter_word.specs.Kinds.{other_kind}
+use Rattle.machine_model.specs.Automaton.{AutomatonModel}
+use Rattle.machine_model.specs.Components.{components_of}
+use Rattle.machine_model.specs.Counting.{CountsBy, CountsIn}
+use Rattle.machine_model.specs.declared.counting.Counting.{Counting}
+use Rattle.machine_model.specs.declared.counting.Counting.TheVariants.{AllRejecting, ByComponent}
 use Rattle.machine_model.specs.declared.problems.Problem.{Problem}
-use Rattle.machine_model.specs.Problem.{IsProblem, IsVersion, Parts, parts_of, sized}
+use Rattle.machine_model.proofs.ComponentsOf.{components_are}
+use Rattle.machine_model.proofs.CountingLemmas.{counts_in_by}
+use Rattle.machine_model.specs.Problem.{IsProblem, Parts, automaton_of, parts_of, sized}
 use Rattle.machine_model.proofs.PartsLemmas.{alike, kept_at}
 use Rattle.annotation_encode.specs.BaseClauses.{base_clauses}
 use Rattle.annotation_encode.specs.Count.{allowed_sizes, count_of}
@@ -17,7 +26,7 @@ use Rattle.annotation_encode.proofs.Further.{equal_clauses}
 use Rattle.refutation_log.specs.Log.{IsLegal}
 use Rattle.log_checker.specs.Faults.{IsLogFault}
 use Rattle.cert_text.specs.Parts.{LogPart}
-use Rattle.document_check.specs.Facts.{Facts, allowed_at, clause_version, problem_at}
+use Rattle.document_check.specs.Facts.{Facts, allowed_at, counting_for, problem_at}
 use Rattle.document_check.specs.FirstBad.{has_numbers, LogFails, other_numbers, bad_entry, left_open, is_good}
 use Rattle.document_check.specs.Shown.{AreFacts, IsInEachVersion, IsProblemAt}
 
@@ -66,16 +75,19 @@ module _ (full : Bool) (limit : Option ℕ) (l : LogPart) (q p : Problem) (same 
 
 -- ---- the problems are problems
 
-a_version : (version : ℕ) → IsVersion (clause_version version)
-a_version version = by (version == 1) (version == 5)
-  where
-    by : (first fifth : Bool) → IsVersion (cond first 1 (cond fifth 3 2))
-    by true fifth = inl refl
-    by false true = inr (inr refl)
-    by false false = inr (inl refl)
+-- what a problem's numbers count by component is what is computed
+pub computed : (a : AutomatonModel) (counting : Counting) → CountsBy a counting → counting ≡ ByComponent (components_of a)
+computed a counting by = by.by ∙ ap ByComponent (components_are a by.components by.right)
+
+pub counting_is : (version : ℕ) (a : AutomatonModel) (counting : Counting) → CountsBy a counting → (cond (version == 5) counting (AllRejecting (not (version == 1)))) ≡ counting_for version a
+counting_is version a counting by = ap (λ c. cond (version == 5) c (AllRejecting (not (version == 1)))) (computed a counting by)
+
+counted_in : (a : AutomatonModel) (counting : Counting) (fifth numbered : Bool) → CountsBy a counting → CountsIn a (cond fifth counting (AllRejecting numbered))
+counted_in a counting true numbered by = counts_in_by a counting by
+counted_in a counting false numbered by = record { right = λ components is. absurd (let e : AllRejecting numbered ≡ ByComponent components = is in cc) }
 
 module _ (kind : Kind) (version size : ℕ) (some : 1 ≤ size) (few : size ≤ 8) where
-  again : (p : Problem) → IsInEachVersion p → IsProblem (record p { kind = kind; size = size; version = clause_version version })
+  again : (p : Problem) → IsInEachVersion p → IsProblem (record p { kind = kind; size = size; counting = counting_for version (automaton_of p) })
   again p is = record {
     inputs = is.problem.inputs;
     outputs = is.problem.outputs;
@@ -83,22 +95,21 @@ module _ (kind : Kind) (version size : ℕ) (some : 1 ≤ size) (few : size ≤ 
     size = few;
     states = is.problem.states;
     signals = is.problem.signals;
-    version = a_version version;
-    components = λ third. record { components = is.components.components; made = is.components.made; right = is.components.right };
+    counting = subst (CountsIn (automaton_of p)) (counting_is version (automaton_of p) p.counting is.counting) (counted_in (automaton_of p) p.counting (version == 5) (not (version == 1)) is.counting);
   }
 
   moved : (p q : Problem) → parts_of q ≡ parts_of p → IsProblem p → IsProblem q
   moved p q same is = (alike p q (sym same)).problem is
 
 environment_by : (kind : Kind) (version size : ℕ) → 1 ≤ size → size ≤ 8 → (o : Option Problem) (q : Problem) → IfSome o IsInEachVersion
-    → IsProblemAt (option_map (λ (p : Problem). record p { kind = other_kind kind; size = size; version = clause_version version }) o) (Some q) → IsProblem q
+    → IsProblemAt (option_map (λ (p : Problem). record p { kind = other_kind kind; size = size; counting = counting_for version (automaton_of p) }) o) (Some q) → IsProblem q
 environment_by kind version size some few None q all is = absurd is
 environment_by kind version size some few (Some p) q all is =
-    moved (other_kind kind) version size some few (record p { kind = other_kind kind; size = size; version = clause_version version }) q is (again (other_kind kind) version size some few p all)
+    moved (other_kind kind) version size some few (record p { kind = other_kind kind; size = size; counting = counting_for version (automaton_of p) }) q is (again (other_kind kind) version size some few p all)
 
 -- a problem that says what a text's does is one
 pub is_problem : (facts : Facts) (kind : Kind) (version : ℕ) (side : Side) (size : ℕ) (q : Problem) → AreFacts facts → 1 ≤ size → size ≤ 8
     → IsProblemAt (problem_at facts kind version side size) (Some q) → IsProblem q
 is_problem facts kind version System size q are some few is =
-    moved kind version size some few (record facts.system { kind = kind; size = size; version = clause_version version }) q is (again kind version size some few facts.system are.system)
+    moved kind version size some few (record facts.system { kind = kind; size = size; counting = counting_for version (automaton_of facts.system) }) q is (again kind version size some few facts.system are.system)
 is_problem facts kind version Environment size q are some few is = environment_by kind version size some few facts.environment q are.environment is

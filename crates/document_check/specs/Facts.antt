@@ -5,6 +5,11 @@ use Rattle.letter_word.specs.declared.kinds.Kind.{Kind}
 use Rattle.letter_word.specs.declared.kinds.Side.{Side}
 use Rattle.letter_word.specs.declared.kinds.Side.TheVariants.{System, Environment}
 use Rattle.letter_word.specs.Kinds.{other_kind}
+use Rattle.machine_model.specs.Automaton.{AutomatonModel}
+use Rattle.machine_model.specs.Components.{components_of}
+use Rattle.machine_model.specs.Problem.{automaton_of}
+use Rattle.machine_model.specs.declared.counting.Counting.{Counting}
+use Rattle.machine_model.specs.declared.counting.Counting.TheVariants.{AllRejecting, ByComponent}
 use Rattle.machine_model.specs.declared.problems.Problem.{Problem}
 use Rattle.annotation_encode.specs.Count.{allowed_sizes}
 use Rattle.cert_text.specs.declared.documents.Verdict.{Verdict}
@@ -15,7 +20,7 @@ use Rattle.cert_text.specs.declared.order.Place.{Place}
 use Rattle.cert_text.specs.Order.{machine_of, place}
 
 -- The names of the inputs and outputs, and the problem of the system and of the environment, if it has one. Their kinds, sizes and
--- versions aren't looked at: those are the document's.
+-- what their numbers count aren't looked at: those are the document's.
 pub record Facts : Type 0 where
   pub inputs : List (List ℕ)
   pub outputs : List (List ℕ)
@@ -26,15 +31,16 @@ pub record Facts : Type 0 where
 abbrev pub names_in : Facts → Names
 names_in facts = record { inputs = facts.inputs; outputs = facts.outputs }
 
--- the version of the base clauses of a document's version
-abbrev pub clause_version : ℕ → ℕ
-clause_version version = if version == 1 then 1 else (if version == 5 then 3 else 2)
+-- what numbers count in the base clauses of a document's version: in version 5 they count by component, in the others all rejecting
+-- states; states of machines are numbered but in version 1
+abbrev pub counting_for : ℕ → AutomatonModel → Counting
+counting_for version a = if version == 5 then ByComponent (components_of a) else AllRejecting (not (version == 1))
 
 -- the problem of one size of one side, for a document of this kind and version
 abbrev pub problem_at : Facts → Kind → ℕ → Side → ℕ → Option Problem
-problem_at facts kind version System size = Some (record facts.system { kind = kind; size = size; version = clause_version version })
+problem_at facts kind version System size = Some (record facts.system { kind = kind; size = size; counting = counting_for version (automaton_of facts.system) })
 problem_at facts kind version Environment size =
-    option_map (λ (p : Problem). record p { kind = other_kind kind; size = size; version = clause_version version }) facts.environment
+    option_map (λ (p : Problem). record p { kind = other_kind kind; size = size; counting = counting_for version (automaton_of p) }) facts.environment
 
 -- the number of a side's allowed sizes
 abbrev pub allowed_at : Facts → Kind → ℕ → ℕ → Side → ℕ

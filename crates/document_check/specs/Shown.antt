@@ -2,7 +2,8 @@
 use Rattle.std.specs.Prelude.{◌≡◌, ◌+◌, ◌<◌, ◌≤◌, ◌^◌, ⊤, List, [], ◌∷◌, ℕ, Option, Some, None, All, IfSome, length}
 use Rattle.std.specs.Option.{option_copied}
 use Rattle.machine_model.specs.declared.problems.Problem.{Problem}
-use Rattle.machine_model.specs.Problem.{HasComponents, IsProblem, parts_of}
+use Rattle.machine_model.specs.Counting.{CountsBy}
+use Rattle.machine_model.specs.Problem.{IsProblem, automaton_of, parts_of}
 use Rattle.refutation_log.specs.Text.{IsWritable}
 use Rattle.cert_text.specs.Parts.{LogPart}
 use Rattle.document_check.specs.declared.facts.TextFacts.{TextFacts}
@@ -12,10 +13,10 @@ use Rattle.document_check.specs.Facts.{Facts}
 abbrev pub facts_of : TextFacts → Facts
 facts_of t = record { inputs = t.inputs.now; outputs = t.outputs.now; system = t.system.now; environment = option_copied t.environment }
 
--- a problem within the limits of the calls that take one, in each version: its components are at hand
+-- a problem within the limits of the calls that take one, for documents of each version: its numbers count by component
 pub record IsInEachVersion (p : Problem) : Type 0 where
   pub problem : IsProblem p
-  pub components : HasComponents p
+  pub counting : CountsBy (automaton_of p) p.counting
 
 -- both problems are such
 pub record AreFacts (facts : Facts) : Type 0 where

@@ -2,6 +2,11 @@
 ghost use Rattle.std.specs.Prelude.{◌≡◌, ◌++◌, ◌≤◌, ◌^◌, All, IfOk, OnOk, option_map};
 ghost use Rattle.machine_model.specs.Problem.{IsProblem, IsVersion, parts_of};
 ghost use Rattle.document_check.specs.Facts.{allowed_at, clause_version, for_side, names_in, problem_at, sizes_to, wanted_sizes};
+ghost use Rattle.std.specs.Prelude.{◌≡◌, ◌==◌, ◌++◌, ◌≤◌, ◌^◌, All, IfOk, OnOk, not, option_map, if◌then◌else◌};
+ghost use Rattle.machine_model.specs.Counting.{CountsBy};
+ghost use Rattle.machine_model.specs.Problem.{IsProblem, automaton_of, parts_of};
+ghost use Rattle.machine_model.specs.declared.counting.Counting.TheVariants.{AllRejecting};
+ghost use Rattle.document_check.specs.Facts.{allowed_at, counting_for, names_in, problem_at, sizes_to, wanted_sizes};
 ghost use Rattle.circuit_names.specs.Names.{names_of};
 ghost use Rattle.document_check.specs.FirstBad.{asked_in as asked_of};
 ghost use Rattle.document_check.specs.Shown.{AreFacts, facts_of, IsProblemAt, IsSize};
@@ -10,7 +15,7 @@ use annotation_encode::allowed_sizes;
 use cert_text::{Header, Order, Place, Verdict};
 use circuit_names::TextNames;
 use letter_word::{Kind, Side};
-use machine_model::Problem;
+use machine_model::{Counting, Problem};
 use std::alloc::{AllocError, Global};
 use text_base::Name;
 
@@ -70,6 +75,7 @@ impl<'a> TextFacts<'a> {
         side: Side,
         size: u32,
     ) -> Result<Option<Problem>, AllocError>
+        requires { AreFacts (facts_of self) }
         ensures { IfOk result (IsProblemAt (problem_at (facts_of self.entry) kind version side size)) }
     {
         match side {
@@ -107,14 +113,15 @@ impl<'a> TextFacts<'a> {
     }
 }
 
-/// The same problem for another kind, size and version.
+/// The same problem for another kind and size, with what numbers count in documents of a version.
 fn problem_for(
     problem: &Problem,
     kind: Kind,
     version: u32,
     size: u32,
 ) -> Result<Problem, AllocError>
-    ensures { IfOk result (λ p. parts_of p ≡ parts_of (record problem.now { kind = kind; size = size; version = clause_version version })) }
+    requires { CountsBy (automaton_of problem.now) problem.now.counting }
+    ensures { IfOk result (λ p. parts_of p ≡ parts_of (record problem.now { kind = kind; size = size; counting = counting_for version (automaton_of problem.now) })) }
 {
     let sized = problem.sized(size)?;
     Ok(Problem {
@@ -124,20 +131,18 @@ fn problem_for(
         side: sized.side,
         kind,
         size: sized.size,
-        version: clause_version(version),
-        components: sized.components,
+        counting: counting_for(version, sized.counting),
     })
 }
 
-/// The version of the base clauses of a document's version, which is from 1 to 5: 1 for 1, 3 for 5, else 2.
-pub fn clause_version(version: u32) -> u32
-    ensures value { result ≡ clause_version version }
-    ensures version { IsVersion result }
+/// What numbers count in the base clauses of a document's version, where these count by component.
+fn counting_for(version: u32, counting: Counting) -> Counting
+    ensures { result ≡ (if version == 5 then counting else AllRejecting (not (version == 1))) }
 {
     match version {
-        1 => 1,
-        5 => 3,
-        _ => 2,
+        1 => Counting::AllRejecting { numbered: false },
+        5 => counting,
+        _ => Counting::AllRejecting { numbered: true },
     }
 }
 

@@ -4,7 +4,7 @@ use crate::headings::{Heading, Sides, Slip};
 use crate::tests::passes;
 use game_machine::{Budget, Contest, Found, Outcome, find};
 use letter_word::Side;
-use machine_model::{Automaton, Edge, Problem};
+use machine_model::{Automaton, Counts, Edge, Problem};
 use spec_problems::{TextProblems, text_problems};
 use std::alloc::{AllocError, Global};
 use std::thread::Threads;
@@ -22,7 +22,7 @@ pub(crate) fn push_row<R: Threads>(
     text: &[u8],
 ) -> Result<(), AllocError> {
     out.extend_from_slice(heading)?;
-    match text_problems(alloc, text, None, 1) {
+    match text_problems(alloc, text, None, Counts::Whole) {
         Ok(problems) => push_play(rt, alloc, out, Heading::of(heading), &problems),
         Err(fault) => {
             let line = format!(in alloc; "{fault}\n")?;

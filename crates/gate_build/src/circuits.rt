@@ -1,8 +1,9 @@
 ghost use Rattle.std.specs.Prelude.{◌≡◌, ℕ, ◌+◌, ◌*◌, ◌^◌, ◌<◌, ◌≤◌, ◌++◌, Some, IfOk, OnOk, All, length, map};
 ghost use Rattle.std.specs.List.{range_with_len};
-ghost use Rattle.machine_model.specs.Machine.{IsKeptMachine, size_of};
+ghost use Rattle.machine_model.specs.Machine.{IsMachine, size_of};
 ghost use Rattle.aiger_text.specs.Circuit.{IsCircuitOfKind};
 ghost use Rattle.gate_build.specs.Laws.{HasTheRunsOf, HasTheStatesOf};
+ghost use Rattle.gate_build.specs.Limits.{IsSmallMachine};
 ghost use Rattle.gate_build.specs.Table.{all_of, first_gate, gates_from, latches_with, literals_from};
 ghost use Rattle.gate_build.specs.Bits.{AreFunctionsOf, IsSplit, bit_in, bit_of};
 ghost use Rattle.gate_build.specs.Table as table;
@@ -15,7 +16,7 @@ use machine_model::Machine;
 use std::alloc::{AllocError, Global};
 use text_base::Name;
 
-/// The circuit of a machine of at most 8 states, whose inputs and outputs have these names. Its latches are the bits of
+/// The circuit of a machine of at most 8 states, 8 read and 8 written signals, whose inputs and outputs have these names. Its latches are the bits of
 /// the machine's state, and its runs are the machine's. It takes time linear in the rows, a row for each code and each
 /// letter that is read, times the bits of a row, those of the next state and those that are written.
 pub fn circuit_of(
@@ -24,7 +25,7 @@ pub fn circuit_of(
     read_names: &[Name],
     write_names: &[Name],
 ) -> Result<Circuit, AllocError>
-    requires few { size_of machine.now ≤ 8 }
+    requires small { IsSmallMachine machine.now }
     requires reads { length read_names.now ≡ machine.now.reads }
     requires writes { length write_names.now ≡ machine.now.writes }
     ensures value { IfOk result (λ c. c ≡ table.circuit_of machine.now read_names.now write_names.now) }
@@ -40,9 +41,9 @@ pub fn circuit_of(
 
 /// The literals on which functions are split: those of the latches, and of the inputs behind them.
 fn split_literals(alloc: Global, machine: &Machine) -> Result<Vec<u32>, AllocError>
-    requires few { size_of machine.now ≤ 8 }
+    requires { IsSmallMachine machine.now }
     ensures split { IfOk result (λ v. IsSplit machine.now v.items) }
-    ensures kept { IsKeptMachine machine.now }
+    ensures made { IsMachine machine.now }
 {
     let reads = machine.reads();
     let latches = latches_for(machine.size());
@@ -61,7 +62,7 @@ struct Functions {
 }
 
 fn functions_of(alloc: Global, machine: &Machine, split_on: &[u32]) -> Result<Functions, AllocError>
-    requires few { size_of machine.now ≤ 8 }
+    requires small { IsSmallMachine machine.now }
     requires split { IsSplit machine.now split_on.now }
     ensures { IfOk result (AreFunctionsOf machine.now) }
 {
@@ -103,7 +104,7 @@ fn put_together(
     read_names: &[Name],
     write_names: &[Name],
 ) -> Result<Circuit, AllocError>
-    requires few { size_of machine.now ≤ 8 }
+    requires small { IsSmallMachine machine.now }
     requires reads { length read_names.now ≡ machine.now.reads }
     requires writes { length write_names.now ≡ machine.now.writes }
     requires functions { AreFunctionsOf machine.now functions }

@@ -13,7 +13,7 @@ use std::test::Fail;
 fn problem(rt: &HostRuntime, size: u32, version: u32) -> Result<Problem, Fail>
     ensures { IfOk result IsProblem }
 {
-    let problem = checked(delay(rt, size, version.min(2))?).ok_or("a problem within the limits")?;
+    let problem = checked(delay(rt, size, version >= 2)?).ok_or("a problem within the limits")?;
     if version < 3 {
         return Ok(problem);
     }

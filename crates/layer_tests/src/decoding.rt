@@ -65,7 +65,7 @@ fn decoded(rt: &HostRuntime, digits: &[u8]) -> Result<Vec<u8>, Fail> {
         values: bits(rt, digits)?,
     };
     let cnf = encode(rt.alloc(), &problem)?;
-    if assignment.values.len() != variables(&problem) as usize || problem.version >= 2 {
+    if assignment.values.len() != variables(&problem) as usize || problem.counting.is_numbered() {
         return Ok(Vec::new(rt.alloc()));
     }
     if !is_met(&assignment.values, &cnf.clauses) {

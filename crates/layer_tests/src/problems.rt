@@ -4,7 +4,7 @@ ghost use Rattle.std.specs.Bool.{OnFalse};
 ghost use Rattle.machine_model.specs.Problem.{IsProblem};
 
 use letter_word::{Cube, Kind, Side};
-use machine_model::{Automaton, Edge, Machine, Problem};
+use machine_model::{Automaton, Counting, Edge, Machine, Problem};
 use std::sync::Arc;
 use std::test::Fail;
 
@@ -53,7 +53,7 @@ pub(crate) fn checked(problem: Problem) -> Option<Problem>
     if problem.inputs > 8 || problem.outputs > 8 {
         return None;
     }
-    if problem.size == 0 || problem.size > 8 || problem.version == 0 || problem.version > 2 {
+    if problem.size == 0 || problem.size > 8 || problem.counting.is_local() {
         return None;
     }
     if problem.automaton.states() > 2000 {
@@ -70,7 +70,7 @@ pub(crate) fn checked(problem: Problem) -> Option<Problem>
 }
 
 /// The system's problem for the specification G ((r -> X g) && (!r -> X !g)).
-pub(crate) fn delay(rt: &HostRuntime, size: u32, version: u32) -> Result<Problem, Fail> {
+pub(crate) fn delay(rt: &HostRuntime, size: u32, numbered: bool) -> Result<Problem, Fail> {
     let edges = [
         edge(0, R, 1),
         edge(0, NOT_R, 2),
@@ -87,8 +87,7 @@ pub(crate) fn delay(rt: &HostRuntime, size: u32, version: u32) -> Result<Problem
         side: Side::System,
         kind: Kind::Mealy,
         size,
-        version,
-        components: None,
+        counting: Counting::AllRejecting { numbered },
     })
 }
 
@@ -120,8 +119,7 @@ pub(crate) fn wire(rt: &HostRuntime) -> Result<Problem, Fail> {
         side: Side::System,
         kind: Kind::Mealy,
         size: 1,
-        version: 1,
-        components: None,
+        counting: Counting::AllRejecting { numbered: false },
     })
 }
 

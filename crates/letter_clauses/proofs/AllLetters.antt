@@ -1,14 +1,15 @@
 -- Over all letters the variables and the clauses are those of version 3.
-use Rattle.std.proofs.Common.{◌≡◌, ℕ, zero, suc, ◌+◌, ◌*◌, ◌^◌, ◌<◌, List, [], ◌∷◌, ◌++◌, length, cond, refl, sym, ap, ◌∙◌, arith}
-use Rattle.std.specs.Prelude.{◌==◌, nat_le}
+use Rattle.std.proofs.Common.{◌≡◌, ℕ, zero, suc, ◌+◌, ◌*◌, ◌^◌, ◌<◌, List, [], ◌∷◌, ◌++◌, length, cond, true, refl, sym, ap, ◌∙◌, arith}
+use Rattle.std.specs.Prelude.{nat_le}
 use Rattle.std.specs.List.{flat_map}
-use Rattle.std.proofs.lemmas.Bool.{cond-true, eq-eqb, le-leb}
+use Rattle.std.proofs.lemmas.Bool.{cond-true}
 use Rattle.std.proofs.lemmas.List.FromFn.{get_or-range_with_len, length-range_with_len}
 use Rattle.letter_word.specs.Signals.{has}
 use Rattle.letter_word.specs.declared.cubes.Cube.{Cube}
 use Rattle.machine_model.specs.Automaton.{states_of}
-use Rattle.machine_model.specs.Problem.{automaton_of, reads_of, writes_of}
+use Rattle.machine_model.specs.Problem.{automaton_of, counts_locally, numbers_states, reads_of, writes_of}
 use Rattle.machine_model.specs.declared.automata.Edge.{Edge}
+use Rattle.machine_model.proofs.CountingLemmas.{numbered_too}
 use Rattle.machine_model.specs.declared.problems.Problem.{Problem}
 use Rattle.product_bound.specs.Annotation.{bound_at, number_after, start_number}
 use Rattle.annotation_encode.specs.BaseClauses.{each_below, fits_read, in_order, is, is_idle, isnt, row_clause, row_move, row_orders, step_count, written_signal}
@@ -24,7 +25,7 @@ each_below-same : {A : Type 0} (n : ℕ) (f g : ℕ → List A) → ((k : ℕ) �
 each_below-same zero f g same = refl
 each_below-same (suc n) f g same = λ i. each_below-same n f g (λ k h. same k (omega arith)) i ++ same n (omega arith) i
 
-module _ (p : Problem) (letters : List ℕ) (count : length letters ≡ letter_count p) (each : (k : ℕ) → k < letter_count p → letter_at letters k ≡ k) (version : p.version ≡ 3) where
+module _ (p : Problem) (letters : List ℕ) (count : length letters ≡ letter_count p) (each : (k : ℕ) → k < letter_count p → letter_at letters k ≡ k) (local : counts_locally p ≡ true) where
   move_is : (t k to : ℕ) → var_move p letters t k to ≡ places.var_move p t k to
   move_is t k to = ap (λ n. row_move p (t * n + k) to) count
 
@@ -77,12 +78,12 @@ module _ (p : Problem) (letters : List ℕ) (count : length letters ≡ letter_c
   chains_are : chain_clauses p letters ≡ three.chain_clauses p
   chains_are =
       (λ j. each_below p.size (λ t. each_below (states_of (automaton_of p)) (λ q. each_below (bound_at p q) (λ c. chain_is t q c j ∷ []))))
-      ∙ sym (cond-true (p.version == 3) (each_below p.size (λ t. three.state_chains p t)) [] (eq-eqb p.version 3 version))
+      ∙ sym (cond-true (counts_locally p) (each_below p.size (λ t. three.state_chains p t)) [] local)
 
   orders_are : order_clauses p letters ≡ three.order_clauses p
   orders_are =
       ap (λ n. each_below (p.size * n) (λ place. row_orders p place)) count
-      ∙ sym (cond-true (nat_le 2 p.version) (each_below (three.row_count p) (λ place. row_orders p place)) [] (le-leb 2 p.version (omega (arith, version))))
+      ∙ sym (cond-true (numbers_states p) (each_below (three.row_count p) (λ place. row_orders p place)) [] (numbered_too p.counting local))
 
   base_is : base_clauses p letters ≡ three.base_clauses p
   base_is = λ j. rows_are j ++ (start_is j ∷ (flat_map (λ e. edge_is e j) (automaton_of p).edges ++ (chains_are j ++ orders_are j)))
@@ -90,9 +91,9 @@ module _ (p : Problem) (letters : List ℕ) (count : length letters ≡ letter_c
   pub of_version_three : (variables_of p letters ≡ places.variables_of p) × (base_clauses p letters ≡ three.base_clauses p)
   of_version_three = (variables_are, base_is)
 
-pub all_letters_are_version_three : (p : Problem) → p.version ≡ 3 → AreOfVersionThree p
-all_letters_are_version_three p version =
-    let both = of_version_three p (all_letters p) (length-range_with_len 0 (2 ^ reads_of p)) (λ k h. at k h) version in
+pub all_letters_are_version_three : (p : Problem) → counts_locally p ≡ true → AreOfVersionThree p
+all_letters_are_version_three p local =
+    let both = of_version_three p (all_letters p) (length-range_with_len 0 (2 ^ reads_of p)) (λ k h. at k h) local in
     record { variables = both.0; clauses = both.1 }
   where
     at : (k : ℕ) → k < letter_count p → letter_at (all_letters p) k ≡ k

@@ -7,7 +7,7 @@ use Rattle.letter_word.specs.declared.kinds.Side.{Side}
 use Rattle.letter_word.specs.declared.kinds.Side.TheVariants.{Environment, System}
 use Rattle.machine_model.specs.Automaton.{IsAutomaton, states_of}
 use Rattle.machine_model.specs.Components.{ComponentsClass, ComponentsModel, local_count}
-use Rattle.machine_model.specs.Problem.{automaton_of, reads_of, writes_of}
+use Rattle.machine_model.specs.Problem.{automaton_of, reads_of, writes_of, counts_locally}
 use Rattle.machine_model.specs.declared.problems.Problem.{Problem}
 use Rattle.product_bound.specs.Annotation.{rejecting_at}
 use Rattle.annotation_encode.specs.Variables.{counted_before, state_numbers, sum_first}
@@ -71,16 +71,16 @@ counted_rise p q (suc r) h = elim (cases_eq q (suc r)) [
   | inr ne ↦ let before : counted_before p q ≤ counted_before p r = counted_rise p q r (omega (arith, h, ne)) in omega (arith, before)
 ]
 
-pub few_at : (p : Problem) (q : ℕ) → ComponentsClass → IsAutomaton (automaton_of p) → p.version ≡ 3 → states_of (automaton_of p) ≤ 20000 → rejecting_at p q ≤ 20000
-few_at p q classes made version few =
+pub few_at : (p : Problem) (q : ℕ) → ComponentsClass → IsAutomaton (automaton_of p) → counts_locally p ≡ true → states_of (automaton_of p) ≤ 20000 → rejecting_at p q ≤ 20000
+few_at p q classes made counts few =
     let local : local_count (automaton_of p) q ≤ states_of (automaton_of p) = (classes (automaton_of p) made).few q in
-    let same : rejecting_at p q ≡ local_count (automaton_of p) q = local_counted p q version in
+    let same : rejecting_at p q ≡ local_count (automaton_of p) q = local_counted p q counts in
     omega (arith, local, same, few)
 
-pub few_before : (p : Problem) (q : ℕ) → ComponentsClass → IsAutomaton (automaton_of p) → p.version ≡ 3 → states_of (automaton_of p) ≤ 20000 → counted_before p q ≤ 20000 * q
-few_before p q classes made version few = sum_first-most (rejecting_at p) q 20000 (λ k _. few_at p k classes made version few)
+pub few_before : (p : Problem) (q : ℕ) → ComponentsClass → IsAutomaton (automaton_of p) → counts_locally p ≡ true → states_of (automaton_of p) ≤ 20000 → counted_before p q ≤ 20000 * q
+few_before p q classes made counts few = sum_first-most (rejecting_at p) q 20000 (λ k _. few_at p k classes made counts few)
 
-module _ (p : Problem) (components : ComponentsModel) (letters : List ℕ) (small : IsSmallSize p components letters) where
+module _ (p : Problem) (letters : List ℕ) (small : IsSmallSize p letters) where
   numbers_small : p.size * counted_before p (states_of (automaton_of p)) ≤ 4000000
   numbers_small =
       let some : 1 ≤ p.size = small.within.problem.some in

@@ -1,12 +1,12 @@
 -- The literals of each base clause stand by rising variable, and none passes the number of variables.
 use Rattle.std.proofs.Common.{subst, ◌≡◌, ℕ, suc, ◌+◌, ◌-◌, ◌*◌, ◌<◌, ◌≤◌, Bool, true, false, not, ◌&&◌, List, [], ◌∷◌, ◌++◌, length, refl, sym, ◌∙◌, arith, cond, inl, inr}
-use Rattle.std.specs.Prelude.{◌==◌, nat_le, nat_lt}
+use Rattle.std.specs.Prelude.{nat_le, nat_lt}
 use Rattle.std.proofs.lemmas.Bool.{cases_eq, cases_lt, cond-true, eq-eqb, leb-true}
 use Rattle.std.proofs.lemmas.Bool.Decides.{Decides-ltb}
 use Rattle.letter_word.specs.Signals.{has}
 use Rattle.letter_word.specs.declared.cubes.Cube.{Cube}
 use Rattle.machine_model.specs.Automaton.{IsAutomaton, JoinsStates, rejects, states_of}
-use Rattle.machine_model.specs.Problem.{automaton_of, writes_of}
+use Rattle.machine_model.specs.Problem.{automaton_of, writes_of, counts_locally}
 use Rattle.machine_model.specs.declared.automata.Edge.{Edge}
 use Rattle.machine_model.specs.declared.problems.Problem.{Problem}
 use Rattle.product_bound.specs.Annotation.{bound_at, leaves, number_after, rise_at, start_number}
@@ -30,8 +30,8 @@ module _ (p : Problem) (letters : List ℕ) where
       Rises-wider (place * p.size + 0) 0 (place * p.size + p.size) (variables_of p letters) (row_clause p place) (omega arith) (omega (arith, end)) each
 
   -- numbers begin at 0
-  pub start_none : p.version ≡ 3 → start_number p ≡ 0
-  start_none three = cond-true (p.version == 3) 0 (rise_at (automaton_of p) 0) (eq-eqb p.version 3 three)
+  pub start_none : counts_locally p ≡ true → start_number p ≡ 0
+  start_none local = cond-true (counts_locally p) 0 (rise_at (automaton_of p) 0) local
 
   pub start_small : IsLetterProblem p letters → start_number p ≤ bound_at p 0
   start_small problem = let none : start_number p ≡ 0 = start_none problem.local in omega (arith, none)

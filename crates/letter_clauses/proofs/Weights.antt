@@ -481,8 +481,8 @@ module _ (p : Problem) (letters : List ℕ) where
   too_many (inr many) = count_none (inr (begins (literals_of (base_clauses p letters)) (literals_beside p letters) (literals_of (flat_map (edge_clauses p letters) (automaton_of p).edges)) most_literals literals-base many))
 
 -- so an allowed size has few enough numbers
-pub small_size : (p : Problem) (components : ComponentsModel) (letters : List ℕ) → IsLetterSize p components letters → is_allowed p letters ≡ true → IsSmallSize p components letters
-small_size p components letters size allowed = record { within = size; few = few_chains p letters allowed }
+pub small_size : (p : Problem) (letters : List ℕ) → IsLetterSize p letters → is_allowed p letters ≡ true → IsSmallSize p letters
+small_size p letters size allowed = record { within = size; few = few_chains p letters allowed }
 
 -- what a test of both limits says
 pub many_of : (a x b y : ℕ) → (nat_lt a x || nat_lt b y) ≡ true → (a < x) ⊎ (b < y)

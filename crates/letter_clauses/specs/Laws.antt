@@ -1,8 +1,8 @@
-use Rattle.std.specs.Prelude.{◌≡◌, ℕ, ◌^◌, Bool, false, List, Option}
+use Rattle.std.specs.Prelude.{◌≡◌, ℕ, ◌^◌, Bool, false, true, List, Option}
 use Rattle.std.specs.List.{range_with_len}
 use Rattle.clause_base.specs.Truth.{meets}
 use Rattle.machine_model.specs.Automaton.{IsAutomaton}
-use Rattle.machine_model.specs.Problem.{automaton_of, reads_of}
+use Rattle.machine_model.specs.Problem.{automaton_of, counts_locally, reads_of}
 use Rattle.machine_model.specs.declared.problems.Problem.{Problem}
 use Rattle.refutation_log.specs.Log.{IsClosed}
 use Rattle.refutation_log.specs.declared.entries.Entry.{Entry}
@@ -42,4 +42,4 @@ pub record AreOfVersionThree (p : Problem) : Type 0 where
   pub clauses : base_clauses p (all_letters p) ≡ version_three.base_clauses p
 
 abbrev pub AllLettersAreVersionThree : Type 0
-AllLettersAreVersionThree = (p : Problem) → p.version ≡ 3 → AreOfVersionThree p
+AllLettersAreVersionThree = (p : Problem) → counts_locally p ≡ true → AreOfVersionThree p

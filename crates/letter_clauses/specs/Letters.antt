@@ -1,7 +1,7 @@
-use Rattle.std.specs.Prelude.{◌≡◌, ◌≢◌, ℕ, ◌+◌, ◌*◌, ◌^◌, ◌<◌, ◌≤◌, List, [], All, AllPairs, slice_index}
+use Rattle.std.specs.Prelude.{◌≡◌, ◌≢◌, true, ℕ, ◌+◌, ◌*◌, ◌^◌, ◌<◌, ◌≤◌, List, [], All, AllPairs, slice_index}
 use Rattle.machine_model.specs.Automaton.{states_of}
-use Rattle.machine_model.specs.Components.{AreComponentsOf, ComponentsModel}
-use Rattle.machine_model.specs.Problem.{NamesSignals, automaton_of, reads_of}
+use Rattle.machine_model.specs.Counting.{CountsIn}
+use Rattle.machine_model.specs.Problem.{NamesSignals, automaton_of, counts_locally, reads_of}
 use Rattle.machine_model.specs.declared.problems.Problem.{Problem}
 use Rattle.annotation_encode.specs.Variables.{counted_before}
 
@@ -26,15 +26,15 @@ pub record IsLetterProblem (p : Problem) (letters : List ℕ) : Type 0 where
   pub size : p.size ≤ 16
   pub states : states_of (automaton_of p) ≤ 20000
   pub signals : All (NamesSignals (p.inputs + p.outputs)) (automaton_of p).edges
-  pub local : p.version ≡ 3
+  pub local : counts_locally p ≡ true
   pub list : IsLetterList (reads_of p) letters
 
--- the same with the components by which its numbers are counted
-pub record IsLetterSize (p : Problem) (components : ComponentsModel) (letters : List ℕ) : Type 0 where
+-- the same, with numbers that count by the automaton's components
+pub record IsLetterSize (p : Problem) (letters : List ℕ) : Type 0 where
   pub problem : IsLetterProblem p letters
-  pub right : AreComponentsOf (automaton_of p) components
+  pub counting : CountsIn (automaton_of p) p.counting
 
 -- and so few numbers that each variable has one of 32 bits, as where the clauses are few enough
-pub record IsSmallSize (p : Problem) (components : ComponentsModel) (letters : List ℕ) : Type 0 where
-  pub within : IsLetterSize p components letters
+pub record IsSmallSize (p : Problem) (letters : List ℕ) : Type 0 where
+  pub within : IsLetterSize p letters
   pub few : p.size * (p.size * counted_before p (states_of (automaton_of p))) ≤ 4000000

@@ -23,7 +23,7 @@ impl LetterSize<'_> {
     /// The number of variables.
     #[tactic(auto, using(crate::proofs::Weights::small_size))]
     pub fn variables(&self) -> u32
-        requires size { IsLetterSize self.now.problem.now self.now.components.now self.now.letters.now }
+        requires size { IsLetterSize self.now.problem.now self.now.letters.now }
         requires allowed { is_allowed self.now.problem.now self.now.letters.now ≡ true }
         ensures value { result ≡ variables_of self.now.problem.now self.now.letters.now }
         ensures small { result ≤ 2 ^ 30 }
@@ -36,7 +36,7 @@ impl LetterSize<'_> {
     /// Takes time and memory for its literals alone, and for each edge as many steps as there are rows.
     #[tactic(auto, using(crate::proofs::Weights::small_size))]
     pub fn encode(&self, alloc: Global) -> Result<Cnf, AllocError>
-        requires size { IsLetterSize self.now.problem.now self.now.components.now self.now.letters.now }
+        requires size { IsLetterSize self.now.problem.now self.now.letters.now }
         requires allowed { is_allowed self.now.problem.now self.now.letters.now ≡ true }
         ensures vars { IfOk result (λ cnf. cnf.vars ≡ variables_of self.now.problem.now self.now.letters.now) }
         ensures clauses { IfOk result (λ cnf. cnf.clauses.items ≡ base_clauses self.now.problem.now self.now.letters.now) }
@@ -69,7 +69,7 @@ struct Encoding<'a> {
 impl Encoding<'_> {
     /// An empty list with room for all clauses, where the problem is within the limit on their number.
     fn room(&self) -> Result<Vec<Clause>, AllocError>
-        requires { IsSmallSize self.now.size.problem.now self.now.size.components.now self.now.size.letters.now }
+        requires { IsSmallSize self.now.size.problem.now self.now.size.letters.now }
         ensures { IfOk result (λ clauses. clauses.items ≡ []) }
     {
         match self.size.count() {
@@ -80,7 +80,7 @@ impl Encoding<'_> {
 
     /// Adds a clause, whose literals stand by rising variable.
     fn push_clause(&self, lits: &[Lit], clauses: &mut Vec<Clause>) -> Result<(), AllocError>
-        requires problem { IsSmallSize self.now.size.problem.now self.now.size.components.now self.now.size.letters.now }
+        requires problem { IsSmallSize self.now.size.problem.now self.now.size.letters.now }
         requires clause { IsClause lits.now }
         requires within { IsWithin (variables_of self.now.size.problem.now self.now.size.letters.now) lits.now }
         ensures { OnOk result (clauses.new.items ≡ clauses.old.items ++ lits.now ∷ []) }
@@ -98,7 +98,7 @@ impl Encoding<'_> {
 
     /// From each row the machine moves to some state.
     fn push_row_clauses(&self, clauses: &mut Vec<Clause>) -> Result<(), AllocError>
-        requires { IsSmallSize self.now.size.problem.now self.now.size.components.now self.now.size.letters.now }
+        requires { IsSmallSize self.now.size.problem.now self.now.size.letters.now }
         ensures { OnOk result (clauses.new.items ≡ clauses.old.items ++ row_clauses self.now.size.problem.now self.now.size.letters.now) }
     {
         for place in 0..self.size.row_count() {
@@ -109,7 +109,7 @@ impl Encoding<'_> {
     }
 
     fn row_literals(&self, place: u32) -> Result<Vec<Lit>, AllocError>
-        requires problem { IsSmallSize self.now.size.problem.now self.now.size.components.now self.now.size.letters.now }
+        requires problem { IsSmallSize self.now.size.problem.now self.now.size.letters.now }
         requires row { place < row_count self.now.size.problem.now self.now.size.letters.now }
         ensures { IfOk result (λ lits. lits.items ≡ row_clause self.now.size.problem.now place) }
     {
@@ -122,7 +122,7 @@ impl Encoding<'_> {
 
     /// The first pair has a number.
     fn push_start_clause(&self, clauses: &mut Vec<Clause>) -> Result<(), AllocError>
-        requires { IsSmallSize self.now.size.problem.now self.now.size.components.now self.now.size.letters.now }
+        requires { IsSmallSize self.now.size.problem.now self.now.size.letters.now }
         ensures { OnOk result (clauses.new.items ≡ clauses.old.items ++ start_clause self.now.size.problem.now self.now.size.letters.now ∷ []) }
     {
         let _states = self.size.problem.automaton.states();
@@ -132,7 +132,7 @@ impl Encoding<'_> {
 
     /// The least number behind an edge from a pair with this number.
     fn number_after(&self, edge: Edge, number: u32) -> u32
-        requires problem { IsSmallSize self.now.size.problem.now self.now.size.components.now self.now.size.letters.now }
+        requires problem { IsSmallSize self.now.size.problem.now self.now.size.letters.now }
         requires edge { JoinsStates (states_of (automaton_of self.now.size.problem.now)) edge }
         requires number { number ≤ 2 ^ 29 }
         ensures { result ≡ number_after self.now.size.problem.now edge.from edge.to number }
@@ -149,7 +149,7 @@ impl Encoding<'_> {
 
     /// Along each edge numbers don't fall, and rise into a rejecting state.
     fn push_edge_clauses(&self, clauses: &mut Vec<Clause>) -> Result<(), AllocError>
-        requires { IsSmallSize self.now.size.problem.now self.now.size.components.now self.now.size.letters.now }
+        requires { IsSmallSize self.now.size.problem.now self.now.size.letters.now }
         ensures { OnOk result (clauses.new.items ≡ clauses.old.items ++ flat_map (edge_clauses self.now.size.problem.now self.now.size.letters.now) (automaton_of self.now.size.problem.now).edges) }
     {
         let edges = self.size.problem.automaton.edges();
@@ -160,7 +160,7 @@ impl Encoding<'_> {
     }
 
     fn push_clauses_of_edge(&self, edge: Edge, clauses: &mut Vec<Clause>) -> Result<(), AllocError>
-        requires problem { IsSmallSize self.now.size.problem.now self.now.size.components.now self.now.size.letters.now }
+        requires problem { IsSmallSize self.now.size.problem.now self.now.size.letters.now }
         requires edge { JoinsStates (states_of (automaton_of self.now.size.problem.now)) edge }
         ensures { OnOk result (clauses.new.items ≡ clauses.old.items ++ edge_clauses self.now.size.problem.now self.now.size.letters.now edge) }
     {
@@ -176,7 +176,7 @@ impl Encoding<'_> {
         t: u32,
         clauses: &mut Vec<Clause>,
     ) -> Result<(), AllocError>
-        requires problem { IsSmallSize self.now.size.problem.now self.now.size.components.now self.now.size.letters.now }
+        requires problem { IsSmallSize self.now.size.problem.now self.now.size.letters.now }
         requires edge { JoinsStates (states_of (automaton_of self.now.size.problem.now)) edge }
         requires state { t < self.now.size.problem.now.size }
         ensures { OnOk result (clauses.new.items ≡ clauses.old.items ++ state_clauses self.now.size.problem.now self.now.size.letters.now edge t) }
@@ -194,7 +194,7 @@ impl Encoding<'_> {
         letter: u32,
         clauses: &mut Vec<Clause>,
     ) -> Result<(), AllocError>
-        requires problem { IsSmallSize self.now.size.problem.now self.now.size.components.now self.now.size.letters.now }
+        requires problem { IsSmallSize self.now.size.problem.now self.now.size.letters.now }
         requires edge { JoinsStates (states_of (automaton_of self.now.size.problem.now)) edge }
         requires state { t < self.now.size.problem.now.size }
         requires letter { letter < length self.now.size.letters.now }
@@ -217,7 +217,7 @@ impl Encoding<'_> {
         to: u32,
         clauses: &mut Vec<Clause>,
     ) -> Result<(), AllocError>
-        requires problem { IsSmallSize self.now.size.problem.now self.now.size.components.now self.now.size.letters.now }
+        requires problem { IsSmallSize self.now.size.problem.now self.now.size.letters.now }
         requires edge { JoinsStates (states_of (automaton_of self.now.size.problem.now)) edge }
         requires state { t < self.now.size.problem.now.size }
         requires letter { letter < length self.now.size.letters.now }
@@ -247,7 +247,7 @@ impl Encoding<'_> {
 
     /// For how many numbers a step along the edge has clauses.
     fn step_count(&self, edge: Edge) -> u32
-        requires problem { IsSmallSize self.now.size.problem.now self.now.size.components.now self.now.size.letters.now }
+        requires problem { IsSmallSize self.now.size.problem.now self.now.size.letters.now }
         requires edge { JoinsStates (states_of (automaton_of self.now.size.problem.now)) edge }
         ensures { result ≡ step_count self.now.size.problem.now edge }
     {
@@ -266,7 +266,7 @@ impl Encoding<'_> {
         letter: u32,
         to: u32,
     ) -> Result<Vec<Lit>, AllocError>
-        requires problem { IsSmallSize self.now.size.problem.now self.now.size.components.now self.now.size.letters.now }
+        requires problem { IsSmallSize self.now.size.problem.now self.now.size.letters.now }
         requires state { t < self.now.size.problem.now.size }
         requires letter { letter < length self.now.size.letters.now }
         requires target { to < self.now.size.problem.now.size }
@@ -286,7 +286,7 @@ impl Encoding<'_> {
         letter: u32,
         lits: &mut Vec<Lit>,
     ) -> Result<(), AllocError>
-        requires problem { IsSmallSize self.now.size.problem.now self.now.size.components.now self.now.size.letters.now }
+        requires problem { IsSmallSize self.now.size.problem.now self.now.size.letters.now }
         requires state { t < self.now.size.problem.now.size }
         requires letter { letter < length self.now.size.letters.now }
         ensures { OnOk result (lits.new.items ≡ lits.old.items ++ write_literals self.now.size.problem.now self.now.size.letters.now cube t letter) }
@@ -305,7 +305,7 @@ impl Encoding<'_> {
         signal: u32,
         lits: &mut Vec<Lit>,
     ) -> Result<(), AllocError>
-        requires problem { IsSmallSize self.now.size.problem.now self.now.size.components.now self.now.size.letters.now }
+        requires problem { IsSmallSize self.now.size.problem.now self.now.size.letters.now }
         requires state { t < self.now.size.problem.now.size }
         requires letter { letter < length self.now.size.letters.now }
         requires signal { signal < writes_of self.now.size.problem.now }
@@ -332,7 +332,7 @@ impl Encoding<'_> {
         count: u32,
         lits: &mut Vec<Lit>,
     ) -> Result<(), AllocError>
-        requires problem { IsSmallSize self.now.size.problem.now self.now.size.components.now self.now.size.letters.now }
+        requires problem { IsSmallSize self.now.size.problem.now self.now.size.letters.now }
         requires edge { JoinsStates (states_of (automaton_of self.now.size.problem.now)) edge }
         requires state { t < self.now.size.problem.now.size }
         requires target { to < self.now.size.problem.now.size }
@@ -358,7 +358,7 @@ impl Encoding<'_> {
 
     /// A pair that reaches a number reaches the one before it.
     fn push_chain_clauses(&self, clauses: &mut Vec<Clause>) -> Result<(), AllocError>
-        requires { IsSmallSize self.now.size.problem.now self.now.size.components.now self.now.size.letters.now }
+        requires { IsSmallSize self.now.size.problem.now self.now.size.letters.now }
         ensures { OnOk result (clauses.new.items ≡ clauses.old.items ++ chain_clauses self.now.size.problem.now self.now.size.letters.now) }
     {
         for t in 0..self.size.problem.size {
@@ -368,7 +368,7 @@ impl Encoding<'_> {
     }
 
     fn push_chains_of_state(&self, t: u32, clauses: &mut Vec<Clause>) -> Result<(), AllocError>
-        requires problem { IsSmallSize self.now.size.problem.now self.now.size.components.now self.now.size.letters.now }
+        requires problem { IsSmallSize self.now.size.problem.now self.now.size.letters.now }
         requires state { t < self.now.size.problem.now.size }
         ensures { OnOk result (clauses.new.items ≡ clauses.old.items ++ state_chains self.now.size.problem.now self.now.size.letters.now t) }
     {
@@ -384,7 +384,7 @@ impl Encoding<'_> {
         q: u32,
         clauses: &mut Vec<Clause>,
     ) -> Result<(), AllocError>
-        requires problem { IsSmallSize self.now.size.problem.now self.now.size.components.now self.now.size.letters.now }
+        requires problem { IsSmallSize self.now.size.problem.now self.now.size.letters.now }
         requires state { t < self.now.size.problem.now.size }
         requires pair { q < states_of (automaton_of self.now.size.problem.now) }
         ensures { OnOk result (clauses.new.items ≡ clauses.old.items ++ pair_chains self.now.size.problem.now self.now.size.letters.now t q) }
@@ -399,7 +399,7 @@ impl Encoding<'_> {
 
     /// States are named in the order of their numbers.
     fn push_order_clauses(&self, clauses: &mut Vec<Clause>) -> Result<(), AllocError>
-        requires { IsSmallSize self.now.size.problem.now self.now.size.components.now self.now.size.letters.now }
+        requires { IsSmallSize self.now.size.problem.now self.now.size.letters.now }
         ensures { OnOk result (clauses.new.items ≡ clauses.old.items ++ order_clauses self.now.size.problem.now self.now.size.letters.now) }
     {
         for place in 0..self.size.row_count() {
@@ -409,7 +409,7 @@ impl Encoding<'_> {
     }
 
     fn push_orders_of_row(&self, place: u32, clauses: &mut Vec<Clause>) -> Result<(), AllocError>
-        requires problem { IsSmallSize self.now.size.problem.now self.now.size.components.now self.now.size.letters.now }
+        requires problem { IsSmallSize self.now.size.problem.now self.now.size.letters.now }
         requires row { place < row_count self.now.size.problem.now self.now.size.letters.now }
         ensures { OnOk result (clauses.new.items ≡ clauses.old.items ++ row_orders self.now.size.problem.now place) }
     {
@@ -421,7 +421,7 @@ impl Encoding<'_> {
     }
 
     fn order_literals(&self, place: u32, to: u32) -> Result<Vec<Lit>, AllocError>
-        requires problem { IsSmallSize self.now.size.problem.now self.now.size.components.now self.now.size.letters.now }
+        requires problem { IsSmallSize self.now.size.problem.now self.now.size.letters.now }
         requires row { place < row_count self.now.size.problem.now self.now.size.letters.now }
         requires from_two { 2 ≤ to }
         requires target { to < self.now.size.problem.now.size }
@@ -438,7 +438,7 @@ impl Encoding<'_> {
 
 /// Whether a read letter fits the cube's read signals.
 pub(crate) fn fits_read(size: LetterSize<'_>, cube: Cube, letter: u32) -> bool
-    requires { IsLetterSize size.problem.now size.components.now size.letters.now }
+    requires { IsLetterSize size.problem.now size.letters.now }
     ensures { result ≡ fits_read size.entry.problem.now cube letter }
 {
     for signal in 0..size.problem.reads() {

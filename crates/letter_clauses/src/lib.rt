@@ -2,7 +2,7 @@
 //! letters. So they are fewer, and what refutes them refutes the problem's size.
 //!
 //! The contract above this layer: `laws::closed_logs_refute`, and of a `LetterSize` `count` and `encode`, exactly the number of clauses and
-//! the clauses of the definition. It stands on product_bound, annotation_encode, local_counts and refutation_log.
+//! the clauses of the definition. It stands on product_bound, annotation_encode and refutation_log.
 #![tactic(auto)]
 
 mod clauses;

@@ -1,8 +1,7 @@
 //! An automaton as numbers go along its edges.
 use letter_word::Cube;
-use local_counts::LocalCounts;
-use machine_model::Automaton;
 use machine_model::laws::components_are_classes;
+use machine_model::{Automaton, Components};
 use std::alloc::{AllocError, Global};
 
 /// The most states whose components are found.
@@ -46,7 +45,7 @@ impl Tracks {
         if automaton.states() > MOST_STATES {
             return Ok(None);
         }
-        let components = LocalCounts::of(alloc, automaton)?;
+        let components = Components::of(alloc, automaton)?;
         let mut edges = Vec::new(alloc);
         for edge in automaton.edges() {
             edges.push(Track {

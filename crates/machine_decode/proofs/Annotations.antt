@@ -17,7 +17,7 @@ use Rattle.machine_model.specs.Automaton.{IsAutomaton, JoinsStates, rejects, sta
 use Rattle.machine_model.specs.Course.{letter_of}
 use Rattle.machine_model.specs.Machine.{IsMachine, MachineModel, next_of, size_of, writes_of}
 use Rattle.machine_model.specs.Problem as looked_for
-use Rattle.machine_model.specs.Problem.{IsMachineOf, IsProblem, automaton_of, reads_of}
+use Rattle.machine_model.specs.Problem.{IsMachineOf, IsProblem, automaton_of, counts_locally, reads_of}
 use Rattle.machine_model.specs.declared.automata.Edge.{Edge}
 use Rattle.machine_model.specs.declared.problems.Problem.{Problem}
 use Rattle.machine_model.specs.Components.{JoinedIsReached, are_joined}
@@ -95,11 +95,11 @@ module _ (p : Problem) (values : List Bool) (some : 1 ≤ p.size) (start : start
     start_is : HasNumber p numbers 0 0 (start_number p)
     start_is = reached 0 0 (start_number p) some made.some start (alone (value_of values (var_count p 0 0 (start_number p))) kinds.start)
 
-    -- in version 3 a pair that reaches a number reaches 0
-    down : (t q c : ℕ) → p.version ≡ 3 → t < p.size → q < states_of (automaton_of p) → c ≤ bound_at p q → value_of values (var_count p t q c) ≡ true → value_of values (var_count p t q 0) ≡ true
-    down t q zero three ht hq hc here = here
-    down t q (suc c) three ht hq hc here =
-        down t q c three ht hq (omega arith) (before (value_of values (var_count p t q c)) (value_of values (var_count p t q (suc c))) (kinds.chains t q c three ht hq (omega arith)) here)
+    -- where numbers count by component a pair that reaches a number reaches 0
+    down : (t q c : ℕ) → counts_locally p ≡ true → t < p.size → q < states_of (automaton_of p) → c ≤ bound_at p q → value_of values (var_count p t q c) ≡ true → value_of values (var_count p t q 0) ≡ true
+    down t q zero local ht hq hc here = here
+    down t q (suc c) local ht hq hc here =
+        down t q c local ht hq (omega arith) (before (value_of values (var_count p t q c)) (value_of values (var_count p t q (suc c))) (kinds.chains t q c local ht hq (omega arith)) here)
       where
         before : (a b : Bool) → (a || (not b || false)) ≡ true → b ≡ true → a ≡ true
         before true b h e = refl
@@ -193,9 +193,9 @@ module _ (p : Problem) (values : List Bool) (some : 1 ≤ p.size) (start : start
                   by_clause c busy (omega (arith, counts, hc)) true_here
               by_leaving true leaving =
                   let one : step_count p e ≡ 1 = cond-true (leaves p e.from e.to) 1 (number_count p e.from) leaving in
-                  let three : p.version ≡ 3 = (Decides-eqb p.version 3).0 (and_parts (p.version == 3) (not (are_joined (automaton_of p) e.from e.to)) leaving).0 in
+                  let local : counts_locally p ≡ true = (and_parts (counts_locally p) (not (are_joined (automaton_of p) e.from e.to)) leaving).0 in
                   let same : number_after p e.from e.to 0 ≡ number_after p e.from e.to c = after_leaves p e.from e.to 0 leaving ∙ sym (after_leaves p e.from e.to c leaving) in
-                  subst (λ n. HasNumber p numbers to e.to n) same (by_clause 0 busy (omega (arith, one)) (down t e.from c three ht joins.from hc true_here))
+                  subst (λ n. HasNumber p numbers to e.to n) same (by_clause 0 busy (omega (arith, one)) (down t e.from c local ht joins.from hc true_here))
           by_idle true idle =
               let same_t : (t == to) ≡ true = first_so (t == to) ((e.from == e.to) && not (rejects (automaton_of p) e.to)) idle in
               let rest : ((e.from == e.to) && not (rejects (automaton_of p) e.to)) ≡ true = second_so (t == to) ((e.from == e.to) && not (rejects (automaton_of p) e.to)) idle in

@@ -15,3 +15,8 @@ pub mod Classes
 pub mod StateBits
 pub mod Closure
 pub mod Naming
+pub mod Passing
+pub mod Leading
+pub mod NamesBelow
+pub mod CountingLemmas
+pub mod ComponentsOf

@@ -129,7 +129,7 @@ before_none : (a : AutomatonModel) → local_before a 0 ≡ 0
 unfolding local_before
 before_none a = refl
 
-pub counts_small : (a : AutomatonModel) (counts : List ℕ) → AreCounted a counts → states_of a ≤ 2000 → (k d : ℕ) → k < length counts → get_or counts k d ≤ 2000
+pub counts_small : (a : AutomatonModel) (counts : List ℕ) → AreCounted a counts → states_of a ≤ 20000 → (k d : ℕ) → k < length counts → get_or counts k d ≤ 20000
 counts_small a counts counted few k d h =
     let same : get_or counts k d ≡ get_or counts k 0 = get_or_default counts k d 0 h in
     let is : get_or counts k 0 ≡ local_count a k = counted.at k (omega (arith, counted.places)) in

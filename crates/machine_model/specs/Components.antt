@@ -1,5 +1,5 @@
-use Rattle.std.specs.Prelude.{◌≡◌, ◌↔◌, ◌==◌, ℕ, zero, suc, ◌+◌, ◌<◌, ◌≤◌, Bool, true, ◌&&◌, ◌||◌, List, Contains, length, slice_index_or, if◌then◌else◌}
-use Rattle.std.specs.List.{list_any}
+use Rattle.std.specs.Prelude.{◌≡◌, ◌↔◌, ◌==◌, ℕ, zero, suc, ◌+◌, ◌<◌, ◌≤◌, Bool, true, ◌&&◌, ◌||◌, List, Contains, length, map, nat_lt, slice_index_or, if◌then◌else◌}
+use Rattle.std.specs.List.{list_any, range_with_len}
 use Rattle.machine_model.specs.Automaton.{AutomatonModel, IsAutomaton, rejects, states_of}
 use Rattle.machine_model.specs.declared.automata.Edge.{Edge}
 
@@ -56,6 +56,19 @@ pub record AreComponentsOf (a : AutomatonModel) (c : ComponentsModel) : Type 0 w
   pub counts : (q : ℕ) → q < states_of a → slice_index_or c.counts q 0 ≡ local_count a q
   pub before : (q : ℕ) → q ≤ states_of a → slice_index_or c.before q 0 ≡ local_before a q
 
+-- the least number below n that passes a test, or n
+unfoldable pub least_below : (ℕ → Bool) → ℕ → ℕ
+least_below test zero = zero
+least_below test (suc n) = if nat_lt (least_below test n) n then least_below test n else (if test n then n else suc n)
+
+-- the components of the automaton, computed
+abbrev pub components_of : AutomatonModel → ComponentsModel
+components_of a = record {
+  names = map (λ q. least_below (are_joined a q) q) (range_with_len 0 (states_of a));
+  counts = map (local_count a) (range_with_len 0 (states_of a));
+  before = map (local_before a) (range_with_len 0 (states_of a + 1));
+}
+
 -- a path of n edges from state q to state r, whatever the letters
 abbrev pub EdgePath : AutomatonModel → ℕ → ℕ → ℕ → Type 0
 EdgePath a zero q r = q ≡ r
@@ -87,3 +100,11 @@ ComponentsClass = (a : AutomatonModel) → IsAutomaton a → ComponentsAreClasse
 -- an automaton has these components alone
 abbrev pub ComponentsAreDetermined : Type 0
 ComponentsAreDetermined = (a : AutomatonModel) (c d : ComponentsModel) → AreComponentsOf a c → AreComponentsOf a d → c ≡ d
+
+-- what an automaton's components are is computed, and each automaton has them
+pub record ComponentsAreComputed (a : AutomatonModel) : Type 0 where
+  pub are : IsAutomaton a → AreComponentsOf a (components_of a)
+  pub alone : (c : ComponentsModel) → AreComponentsOf a c → c ≡ components_of a
+
+abbrev pub ComponentsCompute : Type 0
+ComponentsCompute = (a : AutomatonModel) → ComponentsAreComputed a

@@ -3,9 +3,11 @@ pub mod Run
 pub mod Course
 pub mod Automaton
 pub mod Components
+pub mod Counting
 pub mod Reached
 pub mod Named
 pub mod Accepts
 pub mod Problem
 pub mod Laws
 pub mod Example
+pub mod Marked

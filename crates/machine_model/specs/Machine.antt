@@ -57,12 +57,12 @@ pub record IsMachine (m : MachineModel) : Type 0 where
   pub letters : WritesAreLetters m
   pub moore : m.kind ≡ Moore → WritesByState m
 
--- a machine that the program keeps: one of at most 8 read and 8 written signals and fewer than 2 ^ 32 rows
+-- a machine that the program keeps: one of at most 16 read and 16 written signals and fewer than 2 ^ 32 rows
 -- (limits of this project)
 pub record IsKeptMachine (m : MachineModel) : Type 0 where
   pub machine : IsMachine m
-  pub reads : m.reads ≤ 8
-  pub writes : m.writes ≤ 8
+  pub reads : m.reads ≤ 16
+  pub writes : m.writes ≤ 16
   pub rows : length m.table < 2 ^ 32
 
 -- the table is empty, or ends within a state's rows

@@ -1,21 +1,26 @@
-use Rattle.std.specs.Prelude.{◌≡◌, ℕ, ◌+◌, ◌^◌, ◌<◌, ◌≤◌, ◌⊎◌, All, Option, Some, option_map}
+use Rattle.std.specs.Prelude.{◌≡◌, ℕ, ◌+◌, ◌^◌, ◌<◌, ◌≤◌, All, Bool}
 use Rattle.std.specs.Arc.{arc_value}
 use Rattle.letter_word.specs.declared.kinds.Kind.{Kind}
 use Rattle.letter_word.specs.declared.kinds.Side.{Side}
 use Rattle.letter_word.specs.declared.kinds.Side.TheVariants.{System, Environment}
 use Rattle.machine_model.specs.Machine.{MachineModel, size_of}
 use Rattle.machine_model.specs.Automaton.{AutomatonModel, states_of}
-use Rattle.machine_model.specs.Components.{AreComponentsOf, ComponentsModel}
+use Rattle.machine_model.specs.Counting.{CountsIn, is_local, is_numbered}
 use Rattle.machine_model.specs.declared.automata.Edge.{Edge}
+use Rattle.machine_model.specs.declared.counting.Counting.{Counting}
 use Rattle.machine_model.specs.declared.problems.Problem.{Problem}
 
 -- the automaton of the problem's side
 abbrev pub automaton_of : Problem → AutomatonModel
 automaton_of p = arc_value p.automaton
 
--- the components of that automaton, where they are made
-abbrev pub components_of : Problem → Option ComponentsModel
-components_of p = option_map arc_value p.components
+-- whether its annotations count by component
+abbrev pub counts_locally : Problem → Bool
+counts_locally p = is_local p.counting
+
+-- whether its machines' states are numbered
+abbrev pub numbers_states : Problem → Bool
+numbers_states p = is_numbered p.counting
 
 -- what a problem says, apart from where its automaton is kept
 pub record Parts : Type 0 where
@@ -25,8 +30,7 @@ pub record Parts : Type 0 where
   pub side : Side
   pub kind : Kind
   pub size : ℕ
-  pub version : ℕ
-  pub components : Option ComponentsModel
+  pub counting : Counting
 
 abbrev pub parts_of : Problem → Parts
 parts_of p = record {
@@ -36,8 +40,7 @@ parts_of p = record {
   side = p.side;
   kind = p.kind;
   size = p.size;
-  version = p.version;
-  components = components_of p;
+  counting = p.counting;
 }
 
 -- the same problem for another number of states
@@ -57,17 +60,6 @@ pub record NamesSignals (n : ℕ) (e : Edge) : Type 0 where
   pub must : e.cube.must < 2 ^ n
   pub none_of : e.cube.not < 2 ^ n
 
--- a version of the base clauses: in version 1 states of the machine have no order, from version 2 on they are numbered, and
--- in version 3 annotations count by component (this project's own)
-abbrev pub IsVersion : ℕ → Type 0
-IsVersion v = (v ≡ 1) ⊎ (v ≡ 2) ⊎ (v ≡ 3)
-
--- the components of the problem's automaton are at hand
-pub record HasComponents (p : Problem) : Type 0 where
-  pub components : ComponentsModel
-  pub made : components_of p ≡ Some components
-  pub right : AreComponentsOf (automaton_of p) components
-
 -- a problem within the limits of every call that takes one (this project's own)
 pub record IsProblem (p : Problem) : Type 0 where
   pub inputs : p.inputs ≤ 8
@@ -76,8 +68,7 @@ pub record IsProblem (p : Problem) : Type 0 where
   pub size : p.size ≤ 8
   pub states : states_of (automaton_of p) ≤ 2000
   pub signals : All (NamesSignals (p.inputs + p.outputs)) (automaton_of p).edges
-  pub version : IsVersion p.version
-  pub components : p.version ≡ 3 → HasComponents p
+  pub counting : CountsIn (automaton_of p) p.counting
 
 -- a machine that the problem looks for: of its kind, its size and its signals
 pub record IsMachineOf (p : Problem) (m : MachineModel) : Type 0 where

@@ -1,48 +1,71 @@
 ghost use Rattle.std.specs.Prelude.{◌≡◌, ◌<◌, ◌≤◌, ◌&&◌, All, IfOk, length, slice_index_or};
 ghost use Rattle.machine_model.specs.Automaton.{rejects, states_of};
 ghost use Rattle.machine_model.specs.Components.{AreComponentsOf, are_joined, local_count, rejecting_below};
-ghost use Rattle.machine_model.specs.Named.{AreCounted, AreNamed, AreSums, AreTurning, IsLeastBelow, lead_both_ways};
+ghost use Rattle.machine_model.specs.Named.{AreCounted, AreNamed, AreSums, AreTurning};
 
 use crate::automata::Automaton;
-use crate::reached::{StateSet, reached_from};
+use crate::names::names;
 use std::alloc::{AllocError, Global};
 use std::marker::Model;
+use std::sync::Arc;
 
 /// The strongly connected components of an automaton, and how many rejecting states a run that stays in one can meet.
+/// They are shared, not copied.
 #[derive(Debug, Drop)]
 pub struct Components {
+    tables: Arc<Tables>,
+}
+
+#[derive(Debug, Drop)]
+struct Tables {
     names: Vec<u32>,
     counts: Vec<u32>,
     before: Vec<u32>,
 }
 
 impl Model for Components {
+    ghost use Rattle.std.specs.Arc.{arc_value};
     ghost use Rattle.machine_model.specs.Components.{ComponentsModel};
 
     ghost Value = { ComponentsModel };
 
-    ghost view = { λ c. record { names = c.names.items; counts = c.counts.items; before = c.before.items } };
+    ghost view = { λ c. record {
+      names = (arc_value c.tables).names.items;
+      counts = (arc_value c.tables).counts.items;
+      before = (arc_value c.tables).before.items;
+    } };
 }
 
 impl Components {
     ghost use Rattle.machine_model.specs.Components.{have_one_name};
 
-    /// The components of an automaton of at most 2,000 states.
+    /// The components of an automaton of at most 20,000 states.
     ///
-    /// Takes a step for each edge, and for each pair of states that a path leads between one for each 64 of 2,048 states;
-    /// half a megabyte at most.
+    /// Takes as long as it takes to name them, and for each state as many steps as there are states.
     pub fn of(alloc: Global, automaton: &Automaton) -> Result<Components, AllocError>
-        requires { states_of automaton.now ≤ 2000 }
+        requires { states_of automaton.now ≤ 20000 }
         ensures { IfOk result (AreComponentsOf automaton.now) }
     {
         let names = names(alloc, automaton)?;
         let turning = turning(alloc, automaton, &names)?;
         let counts = counts(alloc, automaton, &names, &turning)?;
         let before = sums(alloc, &counts)?;
-        Ok(Components {
+        let tables = Tables {
             names,
             counts,
             before,
+        };
+        Ok(Components {
+            tables: Arc::new(alloc, tables)?,
+        })
+    }
+
+    /// The same components, shared. An error means that they have as many owners as can be counted.
+    pub fn try_clone(&self) -> Result<Components, AllocError>
+        ensures { IfOk result (λ components. components ≡ self.now) }
+    {
+        Ok(Components {
+            tables: Arc::try_clone(&self.tables)?,
         })
     }
 
@@ -52,7 +75,7 @@ impl Components {
         requires second { r < length self.now.names }
         ensures { result ≡ have_one_name self.now q r }
     {
-        self.names[q as usize] == self.names[r as usize]
+        self.tables.names[q as usize] == self.tables.names[r as usize]
     }
 
     /// How many rejecting states a run that stays in the component of state `q` can meet.
@@ -60,7 +83,7 @@ impl Components {
         requires { q < length self.now.counts }
         ensures { result ≡ slice_index_or self.now.counts q 0 }
     {
-        self.counts[q as usize]
+        self.tables.counts[q as usize]
     }
 
     /// The sum of these numbers over the first `q` states.
@@ -68,44 +91,8 @@ impl Components {
         requires { q < length self.now.before }
         ensures { result ≡ slice_index_or self.now.before q 0 }
     {
-        self.before[q as usize]
+        self.tables.before[q as usize]
     }
-}
-
-/// A name of each state's component: the least of its states.
-fn names(alloc: Global, automaton: &Automaton) -> Result<Vec<u32>, AllocError>
-    requires { states_of automaton.now ≤ 2000 }
-    ensures { IfOk result (λ names. AreNamed automaton.now names.items) }
-{
-    let sets = reached_from(alloc, automaton)?;
-    let mut names = Vec::new(alloc);
-    for q in 0..automaton.states() {
-        names.push(least_joined(&sets, q))?;
-    }
-    Ok(names)
-}
-
-/// The least state that leads to state `q` and is led to by it, or `q` itself.
-fn least_joined(sets: &[StateSet], q: u32) -> u32
-    requires few { length sets.now ≤ 2000 }
-    requires place { q < length sets.now }
-    ensures { IsLeastBelow (lead_both_ways sets.now q) q result }
-{
-    for r in 0..q {
-        if are_joined(sets, q, r) {
-            return r;
-        }
-    }
-    q
-}
-
-fn are_joined(sets: &[StateSet], q: u32, r: u32) -> bool
-    requires few { length sets.now ≤ 2000 }
-    requires first { q < length sets.now }
-    requires second { r < length sets.now }
-    ensures { result ≡ lead_both_ways sets.now q r }
-{
-    sets[q as usize].has(r) && sets[r as usize].has(q)
 }
 
 /// For each state that is a name, whether an edge leads from its component into itself.
@@ -181,8 +168,8 @@ fn rejects_beside(automaton: &Automaton, names: &[u32], q: u32, r: u32) -> bool
 
 /// For each number of counts, from 0 on, the sum of so many.
 fn sums(alloc: Global, counts: &[u32]) -> Result<Vec<u32>, AllocError>
-    requires few { length counts.now ≤ 2000 }
-    requires small { All (λ count. count ≤ 2000) counts.now }
+    requires few { length counts.now ≤ 20000 }
+    requires small { All (λ count. count ≤ 20000) counts.now }
     ensures { IfOk result (λ sums. AreSums counts.now sums.items) }
 {
     let mut sums = Vec::new(alloc);

@@ -1,7 +1,8 @@
 //! Laws of run lassos, of accepted words and of problems. Each is the contract of a function that does nothing.
 
 ghost use Rattle.machine_model.specs.Laws.{EveryReadLassoHasARun, RunsAreDetermined, MooreWritesBeforeReading, RunsStayWithin, RunsUnroll, AcceptanceIsOfTheWord, AcceptanceIsOfTheReadWord};
-ghost use Rattle.machine_model.specs.Components.{ComponentsAreDetermined, ComponentsClass, JoinedIsReached};
+ghost use Rattle.machine_model.specs.Components.{ComponentsAreDetermined, ComponentsClass, ComponentsCompute, JoinedIsReached};
+ghost use Rattle.machine_model.specs.Counting.{CountingIsDetermined};
 ghost use Rattle.machine_model.specs.Example.{ExampleAccepts};
 ghost use Rattle.machine_model.specs.Problem.{EqualPartsAreAlike};
 
@@ -58,6 +59,16 @@ pub fn components_are_classes()
 /// An automaton has one list of components.
 pub fn components_are_determined()
     ensures { ComponentsAreDetermined }
+{}
+
+/// An automaton has the components that are computed, and no others.
+pub fn components_are_computed()
+    ensures { ComponentsCompute }
+{}
+
+/// What numbers are to count in an automaton they count one way.
+pub fn counting_is_determined()
+    ensures { CountingIsDetermined }
 {}
 
 /// What a small automaton accepts, by the definition.

@@ -6,14 +6,18 @@
 
 mod automata;
 mod components;
+mod counting;
 pub mod laws;
 mod machines;
+mod marks;
+mod names;
 mod problems;
 mod reached;
 mod runs;
 
 pub use automata::{Automaton, AutomatonFault, Edge};
 pub use components::Components;
+pub use counting::{Counting, Counts};
 pub use machines::{Machine, MachineFault, Row};
 pub use problems::Problem;
 pub use runs::{RunLasso, run_lasso, whole_letter};

@@ -69,8 +69,8 @@ impl Machine {
         writes: u32,
         table: Vec<Row>,
     ) -> Result<Machine, MachineFault>
-        requires reads { reads ≤ 8 }
-        requires writes { writes ≤ 8 }
+        requires reads { reads ≤ 16 }
+        requires writes { writes ≤ 16 }
         requires rows { vec_len table < 2 ^ 32 }
         ensures parts { IfOk result (λ m. m ≡ record { kind = kind; reads = reads; writes = writes; table = table.items }) }
         ensures made { IfOk result IsKeptMachine }
@@ -153,7 +153,7 @@ impl Machine {
 
 /// The number of letters of some signals.
 pub(crate) fn letter_count(signals: u32) -> u32
-    requires { signals ≤ 8 }
+    requires { signals ≤ 16 }
     ensures value { result ≡ 2 ^ signals }
     ensures some { 0 < result }
 {
@@ -162,8 +162,8 @@ pub(crate) fn letter_count(signals: u32) -> u32
 
 /// The first fault of a table.
 fn table_fault(kind: Kind, reads: u32, writes: u32, table: &[Row]) -> Option<MachineFault>
-    requires reads { reads ≤ 8 }
-    requires writes { writes ≤ 8 }
+    requires reads { reads ≤ 16 }
+    requires writes { writes ≤ 16 }
     requires rows { length table.now < 2 ^ 32 }
     ensures none { IfNone result (IsMachine (record { kind = kind; reads = reads; writes = writes; table = table.now })) }
     ensures some { IfSome result (IsRefused (record { kind = kind; reads = reads; writes = writes; table = table.now })) }

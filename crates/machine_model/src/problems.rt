@@ -1,8 +1,8 @@
-ghost use Rattle.std.specs.Prelude.{◌≡◌, IfOk, option_map};
-ghost use Rattle.std.specs.Arc.{arc_value};
+ghost use Rattle.std.specs.Prelude.{◌≡◌, IfNone, IfOk, IfSome, false, true};
 
 use crate::automata::Automaton;
 use crate::components::Components;
+use crate::counting::{Counting, Counts};
 use letter_word::{Kind, Side};
 use std::alloc::{AllocError, Global};
 use std::sync::Arc;
@@ -22,14 +22,14 @@ pub struct Problem {
     pub kind: Kind,
     /// The number of the machine's states, from 1 to 8.
     pub size: u32,
-    /// The version of the base clauses, from 1 to 3.
-    pub version: u32,
-    /// The automaton's components, which version 3 needs.
-    pub components: Option<Arc<Components>>,
+    /// What the numbers of annotations count in the automaton, and whether the machine's states are numbered.
+    pub counting: Counting,
 }
 
 impl Problem {
-    ghost use Rattle.machine_model.specs.Problem.{IsProblem, components_of, parts_of, reads_of, sized, writes_of};
+    ghost use Rattle.machine_model.specs.Components.{AreComponentsOf};
+    ghost use Rattle.machine_model.specs.Counting.{CountsIn};
+    ghost use Rattle.machine_model.specs.Problem.{IsProblem, automaton_of, counts_locally, parts_of, reads_of, sized, writes_of};
 
     /// The same problem for another number of states. The automaton is shared, and nothing is copied: an error means that
     /// it has as many owners as can be counted.
@@ -43,35 +43,35 @@ impl Problem {
             side: self.side,
             kind: self.kind,
             size,
-            version: self.version,
-            components: self.shared_components()?,
+            counting: self.counting.try_clone()?,
         })
     }
 
-    fn shared_components(&self) -> Result<Option<Arc<Components>>, AllocError>
-        ensures { IfOk result (λ shared. option_map arc_value shared ≡ components_of self.now) }
-    {
-        match &self.components {
-            Some(components) => Ok(Some(Arc::try_clone(components)?)),
-            None => Ok(None),
-        }
-    }
-
-    /// The same problem over base clauses of version 3, for which the automaton's components are found where it isn't yet.
+    /// The same problem, with numbers that count by component, for which the automaton's components are found where they don't yet.
     pub fn by_component(self, alloc: Global) -> Result<Problem, AllocError>
         requires { IsProblem self }
         ensures problem { IfOk result IsProblem }
-        ensures same { IfOk result (λ p. p ≡ record self { version = 3; components = p.components }) }
+        ensures same { IfOk result (λ p. p ≡ record self { counting = p.counting }) }
+        ensures local { IfOk result (λ p. counts_locally p ≡ true) }
     {
-        if self.version == 3 {
+        if self.counting.is_local() {
             return Ok(self);
         }
-        let components = Components::of(alloc, &self.automaton)?;
-        Ok(Problem {
-            version: 3,
-            components: Some(Arc::new(alloc, components)?),
-            ..self
-        })
+        let counting = Counts::Local.over(alloc, &self.automaton)?;
+        Ok(Problem { counting, ..self })
+    }
+
+    /// The components by which annotations count, if they do.
+    pub fn components(&self) -> Option<&Components>
+        requires { CountsIn (automaton_of self.now) self.now.counting }
+        ensures whole { IfNone result (counts_locally self.now ≡ false) }
+        ensures local { IfSome result (λ _. counts_locally self.now ≡ true) }
+        ensures right { IfSome result (λ components. AreComponentsOf (automaton_of self.now) components.now) }
+    {
+        match &self.counting {
+            Counting::AllRejecting { .. } => None,
+            Counting::ByComponent(components) => Some(components),
+        }
     }
 
     /// The number of signals that the machine reads.

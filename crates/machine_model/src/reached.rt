@@ -5,6 +5,9 @@ ghost use Rattle.machine_model.specs.Reached.{AreAlone, ArePassedOn, AreReached,
 use crate::automata::Automaton;
 use std::alloc::{AllocError, Global};
 
+/// Of how many states sets are kept at most.
+pub(crate) const MOST_STATES: u32 = 2_000;
+
 const WORDS: usize = 32;
 
 /// A set of states below 2,048.

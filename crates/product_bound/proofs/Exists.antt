@@ -1,6 +1,6 @@
 -- A machine has a valid annotation, or a rejecting run.
 use Rattle.std.proofs.Common.{◌≡◌, ℕ, suc, ◌+◌, ◌*◌, ◌^◌, ◌<◌, ◌≤◌, ◌⊎◌, inl, inr, List, [], ◌∷◌, false, refl, sym, ap, ◌∙◌, subst, arith}
-use Rattle.std.specs.Prelude.{All, Contains, ◌==◌}
+use Rattle.std.specs.Prelude.{All, Contains}
 use Rattle.std.proofs.lemmas.Bool.{cases_Bool, cases_lt}
 use Rattle.std.proofs.lemmas.List.Elements.{All-contains}
 use Rattle.letter_word.specs.Cube.{Fits}
@@ -9,7 +9,7 @@ use Rattle.machine_model.specs.Automaton.{HasEdge, IsAutomaton, JoinsStates, sta
 use Rattle.machine_model.specs.Components.{ComponentsClass}
 use Rattle.machine_model.specs.Course.{letter_of}
 use Rattle.machine_model.specs.Machine.{MachineModel, IsMachine, next_of, size_of}
-use Rattle.machine_model.specs.Problem.{IsMachineOf, automaton_of}
+use Rattle.machine_model.specs.Problem.{IsMachineOf, automaton_of, counts_locally}
 use Rattle.machine_model.specs.declared.automata.Edge.{Edge}
 use Rattle.machine_model.specs.declared.problems.Problem.{Problem}
 use Rattle.product_bound.specs.Annotation.{bound_of, number_after, places_of, rise_at}
@@ -191,7 +191,7 @@ module _ (p : Problem) (m : MachineModel) (classes : ComponentsClass) (made : Is
         rw (← rise-place p (next_of m t read) r hr) enough
 
     -- where all rejecting states are counted
-    whole : (p.version == 3) ≡ false → AreLevels p m found.level
+    whole : counts_locally p ≡ false → AreLevels p m found.level
     whole version = record {
       bounded = λ t q c ht hq e. rw (whole_bound p q version) (small (place p t q) c (found.sound.found (place p t q) c e));
       start = rw (whole_start p version) first;
@@ -202,7 +202,7 @@ module _ (p : Problem) (m : MachineModel) (classes : ComponentsClass) (made : Is
     }
 
     annotation : HasValidAnnotation p m
-    annotation = elim (cases_Bool (p.version == 3)) [
+    annotation = elim (cases_Bool (counts_locally p)) [
       | inr version ↦ annotation_by_levels p m made machine fits some found.level (whole version)
       | inl version ↦
           let has : 0 < found.level (place p 0 0) = omega (arith, first) in

@@ -2,7 +2,7 @@
 -- the number of pairs with a rejecting state of its component whose level is at most its own: an edge within a component
 -- keeps what was counted, and into a rejecting state counts that state's pair, which was not counted before.
 use Rattle.std.proofs.Common.{◌≡◌, ℕ, zero, suc, ◌+◌, ◌*◌, ◌%◌, ◌^◌, ◌<◌, ◌≤◌, inl, inr, refl, sym, ap, ◌∙◌, subst, arith, Bool, true, false, cond}
-use Rattle.std.specs.Prelude.{Contains, ◌==◌, ◌&&◌, nat_le, nat_lt}
+use Rattle.std.specs.Prelude.{Contains, ◌&&◌, nat_le, nat_lt}
 use Rattle.std.proofs.Math.Nat.{mod-lt}
 use Rattle.std.proofs.lemmas.Bool.{and_from, and_parts, and_right, cases_Bool, cond-true, cond-false, le-leb, lt-leb, lt-ltb, le-ltb, leb-true, cases_lt}
 use Rattle.std.proofs.lemmas.List.Folds.{list_any_at}
@@ -11,7 +11,7 @@ use Rattle.machine_model.specs.Automaton.{AutomatonModel, HasEdge, IsAutomaton, 
 use Rattle.machine_model.specs.Components.{ComponentsAreClasses, are_joined, local_count, rejecting_below, turns}
 use Rattle.machine_model.specs.Course.{letter_of}
 use Rattle.machine_model.specs.Machine.{MachineModel, IsMachine, next_of}
-use Rattle.machine_model.specs.Problem.{IsMachineOf, automaton_of}
+use Rattle.machine_model.specs.Problem.{IsMachineOf, automaton_of, counts_locally}
 use Rattle.machine_model.specs.declared.automata.Edge.{Edge}
 use Rattle.machine_model.specs.declared.problems.Problem.{Problem}
 use Rattle.product_bound.specs.Annotation.{number_after, places_of, rise_at, start_number}
@@ -146,7 +146,7 @@ module _ (p : Problem) (classes : ComponentsAreClasses (automaton_of p)) (made :
         (λ w _. weight_le (is_counted q most w) (is_counted r (level (place p t r)) w) (still_counted q r most (level (place p t r)) w hq hr joined (omega (arith, rises))))
         (counted_here (rejects (automaton_of p) r) refl)
 
-  module _ (m : MachineModel) (machine : IsMachine m) (fits : IsMachineOf p m) (local : (p.version == 3) ≡ true) (start : 0 < level (place p 0 0)) (rises : Rises p m level) where
+  module _ (m : MachineModel) (machine : IsMachine m) (fits : IsMachineOf p m) (local : counts_locally p ≡ true) (start : 0 < level (place p 0 0)) (rises : Rises p m level) where
     -- along an edge within a component
     within : (t q read r : ℕ) → t < p.size → q < states_of (automaton_of p) → r < states_of (automaton_of p) → read < 2 ^ m.reads → HasEdge (automaton_of p) (letter_of p.side m t read) q r
         → 0 < level (place p t q) → are_joined (automaton_of p) q r ≡ true

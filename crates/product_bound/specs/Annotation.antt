@@ -1,9 +1,9 @@
-use Rattle.std.specs.Prelude.{◌≡◌, ◌==◌, ℕ, ◌+◌, ◌*◌, ◌^◌, ◌<◌, ◌≤◌, Bool, true, not, ◌&&◌, List, Option, Some, None, count_by, slice_index_or, if◌then◌else◌}
+use Rattle.std.specs.Prelude.{◌≡◌, ℕ, ◌+◌, ◌*◌, ◌^◌, ◌<◌, ◌≤◌, Bool, not, ◌&&◌, List, Option, Some, None, count_by, slice_index_or, if◌then◌else◌}
 use Rattle.machine_model.specs.Automaton.{AutomatonModel, HasEdge, rejects, states_of}
-use Rattle.machine_model.specs.Components.{AreComponentsOf, ComponentsModel, are_joined, local_count}
+use Rattle.machine_model.specs.Components.{are_joined, local_count}
 use Rattle.machine_model.specs.Course.{letter_of}
 use Rattle.machine_model.specs.Machine.{MachineModel, next_of}
-use Rattle.machine_model.specs.Problem.{automaton_of}
+use Rattle.machine_model.specs.Problem.{automaton_of, counts_locally}
 use Rattle.machine_model.specs.declared.problems.Problem.{Problem}
 
 -- how much a number rises at an edge into a state: 1 where the state is rejecting, else 0 (bounded synthesis of
@@ -20,28 +20,23 @@ rejecting_count a = count_by (λ is_rejecting. is_rejecting) a.rejecting
 abbrev pub bound_of : Problem → ℕ
 bound_of p = p.size * rejecting_count (automaton_of p)
 
--- how many rejecting states an annotation counts in state q: all of them, or in version 3 those that a run that stays in
+-- how many rejecting states an annotation counts in state q: all of them, or where it counts by component those that a run that stays in
 -- its component can meet (the same source; counting inside a component is usual where bounded synthesis is implemented)
 abbrev pub rejecting_at : Problem → ℕ → ℕ
-rejecting_at p q = if p.version == 3 then local_count (automaton_of p) q else rejecting_count (automaton_of p)
-
--- these are the components by which numbers are counted, in version 3
-pub record IsCountedBy (p : Problem) (components : ComponentsModel) : Type 0 where
-  pub version : (p.version == 3) ≡ true
-  pub right : AreComponentsOf (automaton_of p) components
+rejecting_at p q = if counts_locally p then local_count (automaton_of p) q else rejecting_count (automaton_of p)
 
 -- the greatest number that a pair of the automaton's state q may have: the number of pairs of a machine's state and a
 -- rejecting state that is counted in q (the same source)
 abbrev pub bound_at : Problem → ℕ → ℕ
 bound_at p q = p.size * rejecting_at p q
 
--- whether numbers are counted anew at an edge from state q to state r: in version 3, where it leaves q's component
+-- whether numbers are counted anew at an edge from state q to state r: where they count by component and it leaves q's
 abbrev pub leaves : Problem → ℕ → ℕ → Bool
-leaves p q r = (p.version == 3) && not (are_joined (automaton_of p) q r)
+leaves p q r = counts_locally p && not (are_joined (automaton_of p) q r)
 
 -- the least number of the first pair, which counts a rejecting start where all are counted
 abbrev pub start_number : Problem → ℕ
-start_number p = if p.version == 3 then 0 else rise_at (automaton_of p) 0
+start_number p = if counts_locally p then 0 else rise_at (automaton_of p) 0
 
 -- the least number of a pair of state r behind a pair of state q with this number
 abbrev pub number_after : Problem → ℕ → ℕ → ℕ → ℕ
@@ -62,9 +57,9 @@ pub record HasNumber (p : Problem) (numbers : List (Option ℕ)) (t q least : �
   pub enough : least ≤ number
 
 -- a valid annotation: no number passes the bound of its state, the first pair has a number that counts a rejecting start,
--- and along each edge that fits what the machine reads and writes numbers don't fall, and rise into a rejecting state; in
--- version 3 they do so along edges within a component, and behind another edge there is some number (bounded synthesis of
--- Finkbeiner and Schewe)
+-- and along each edge that fits what the machine reads and writes numbers don't fall, and rise into a rejecting state; where
+-- they count by component they do so along edges within one, and behind another edge there is some number (bounded synthesis
+-- of Finkbeiner and Schewe)
 pub record IsValidAnnotation (p : Problem) (m : MachineModel) (numbers : List (Option ℕ)) : Type 0 where
   pub bounded : (t q c : ℕ) → t < p.size → q < states_of (automaton_of p) → number_at p numbers t q ≡ Some c → c ≤ bound_at p q
   pub start : HasNumber p numbers 0 0 (start_number p)

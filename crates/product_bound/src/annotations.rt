@@ -1,12 +1,12 @@
-ghost use Rattle.std.specs.Prelude.{◌≡◌, ◌==◌, ◌↔◌, ◌^◌, ◌<◌, ◌≤◌, IfNone, IfSome, IsTrue, false, length};
+ghost use Rattle.std.specs.Prelude.{◌≡◌, ◌↔◌, ◌^◌, ◌<◌, ◌≤◌, IsTrue, length};
 ghost use Rattle.machine_model.specs.Accepts.{SideAccepts};
 ghost use Rattle.machine_model.specs.Automaton.{states_of};
 ghost use Rattle.machine_model.specs.Problem.{IsMachineOf, IsProblem, automaton_of};
-ghost use Rattle.product_bound.specs.Annotation.{HasNumber, IsCountedBy, IsValidAnnotation, bound_at, bound_of, leaves, number_after, number_at, places_of, rejecting_at, rise_at, start_number};
+ghost use Rattle.product_bound.specs.Annotation.{HasNumber, IsValidAnnotation, bound_at, bound_of, leaves, number_after, number_at, places_of, rejecting_at, rise_at, start_number};
 ghost use Rattle.product_bound.specs.Kept.{AreWithin, IsStateWithin, IsWithinBound, KeepsEdges, KeepsLetters, KeepsNumber, KeepsStates};
 
 use machine_model::laws::{components_are_classes, joined_is_reached};
-use machine_model::{Automaton, Components, Machine, Problem, whole_letter};
+use machine_model::{Automaton, Machine, Problem, whole_letter};
 
 /// How often rejecting states may have been met where the machine and the automaton are in two states at once.
 ///
@@ -38,8 +38,8 @@ pub fn bound_at(problem: &Problem, q: u32) -> u32
     problem.size * rejecting_at(problem, q)
 }
 
-/// How many rejecting states are counted in state `q`: all of them, or in version 3 those that a run that stays in its
-/// component can meet.
+/// How many rejecting states are counted in state `q`: all of them, or, where numbers count by component, those that a run
+/// that stays in its component can meet.
 pub fn rejecting_at(problem: &Problem, q: u32) -> u32
     requires problem { IsProblem problem.now }
     requires state { q < states_of (automaton_of problem.now) }
@@ -48,43 +48,28 @@ pub fn rejecting_at(problem: &Problem, q: u32) -> u32
 {
     components_are_classes();
     let _states = problem.automaton.states();
-    match counted_by(problem) {
+    match problem.components() {
         Some(components) => components.count(q),
         None => problem.automaton.rejecting_count(),
     }
 }
 
-/// Whether numbers are counted anew at an edge from state `q` to state `r`: in version 3, where it leaves a component.
+/// Whether numbers are counted anew at an edge from state `q` to state `r`: where they count by component and it leaves one.
 pub fn leaves(problem: &Problem, q: u32, r: u32) -> bool
     requires problem { IsProblem problem.now }
     requires from { q < states_of (automaton_of problem.now) }
     requires to { r < states_of (automaton_of problem.now) }
     ensures { result ≡ leaves problem.now q r }
 {
-    match counted_by(problem) {
+    match problem.components() {
         Some(components) => !components.are_joined(q, r),
         None => false,
     }
 }
 
-/// The components by which numbers are counted, in version 3.
-pub fn counted_by(problem: &Problem) -> Option<&Components>
-    requires { IsProblem problem.now }
-    ensures whole { IfNone result ((problem.now.version == 3) ≡ false) }
-    ensures local { IfSome result (λ components. IsCountedBy problem.now components.now) }
-{
-    if problem.version != 3 {
-        return None;
-    }
-    match &problem.components {
-        Some(components) => Some(&**components),
-        None => unreachable!(),
-    }
-}
-
 /// Whether the annotation is valid: numbers are within the bounds of their states, the first pair has one that counts a
 /// rejecting start, and along each edge that fits what the machine reads and writes they don't fall, and rise into a
-/// rejecting state. In version 3 numbers are counted anew behind an edge that leaves a component, and at the start.
+/// rejecting state. Where they count by component they are counted anew behind an edge that leaves one, and at the start.
 ///
 /// Takes as many steps as there are edges, states of the machine and read letters, multiplied, and at most one for each two
 /// states of the automaton. It takes no memory.
@@ -168,7 +153,7 @@ fn start_number(problem: &Problem) -> u32
     requires { 0 < states_of (automaton_of problem.now) }
     ensures { result ≡ start_number problem.now }
 {
-    if problem.version == 3 {
+    if problem.counting.is_local() {
         0
     } else {
         rise_at(&problem.automaton, 0)

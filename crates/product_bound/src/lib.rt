@@ -10,4 +10,4 @@
 mod annotations;
 pub mod laws;
 
-pub use annotations::{Annotation, bound_at, bound_of, counted_by, is_valid, leaves, rejecting_at};
+pub use annotations::{Annotation, bound_at, bound_of, is_valid, leaves, rejecting_at};

@@ -6,8 +6,8 @@ use Rattle.letter_word.specs.declared.kinds.Kind.{Kind}
 use Rattle.letter_word.specs.declared.kinds.Kind.TheVariants.{Mealy, Moore}
 use Rattle.letter_word.specs.declared.kinds.Side.{Side}
 use Rattle.letter_word.specs.declared.kinds.Side.TheVariants.{System, Environment}
-use Rattle.annotation_encode.specs.declared.counts.Counts.{Counts}
-use Rattle.annotation_encode.specs.declared.counts.Counts.TheVariants.{Whole, Local}
+use Rattle.machine_model.specs.declared.counting.Counts.{Counts}
+use Rattle.machine_model.specs.declared.counting.Counts.TheVariants.{Whole, Local}
 use Rattle.clap.specs.Walk.{Row, Text, first_of}
 use Rattle.clap.specs.Simple.{subcommand_of}
 use Rattle.clap.specs.Faults.{fault_of}

@@ -11,10 +11,10 @@ use crate::ranges::{
     MOST_REFUTED, USUAL_ENTRIES,
 };
 use crate::settings::Settings;
-use annotation_encode::Counts;
 use clap::ArgMatches;
 use clap::error::ErrorKind;
 use letter_word::{Kind, Side};
+use machine_model::Counts;
 use std::alloc::{AllocError, Global};
 use synth_engine::Settings as Search;
 

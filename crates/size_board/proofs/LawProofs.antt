@@ -1,8 +1,8 @@
 use Rattle.std.proofs.Common.{◌≡◌, ℕ, ◌+◌, ◌<◌, ◌≤◌, Option, Some, None, refl, sym, ap, subst, arith}
 use Rattle.letter_word.specs.declared.kinds.Side.{Side}
 use Rattle.machine_model.specs.Machine.{MachineModel, size_of}
-use Rattle.size_board.specs.Names.{Named, IsSearchable, KnowsComponents, SideHas, sizes_of, sought_by, sought_of}
-use Rattle.machine_model.specs.Problem.{HasComponents, IsProblem, sized}
+use Rattle.size_board.specs.Names.{Named, IsSearchable, SideHas, sizes_of, sought_by, sought_of}
+use Rattle.machine_model.specs.Problem.{IsProblem, sized}
 use Rattle.machine_model.specs.declared.problems.Problem.{Problem}
 use Rattle.std.specs.Option.{option_map_or}
 use Rattle.size_board.specs.Board.{BoardModel, IsSound, high_of, machine_of}
@@ -36,8 +36,7 @@ sized_problem p n s some few = record {
   size = few;
   states = s.states;
   signals = s.signals;
-  version = s.version;
-  components = λ third. let known : KnowsComponents (sought_of p) = s.components third in record { components = known.components; made = known.made; right = known.right };
+  counting = s.counting;
 }
 
 searchable : (p : Problem) → IsProblem p → IsSearchable (sought_of p)
@@ -46,8 +45,7 @@ searchable p is = record {
   outputs = is.outputs;
   states = is.states;
   signals = is.signals;
-  version = is.version;
-  components = λ third. let has : HasComponents p = is.components third in record { components = has.components; made = has.made; right = has.right };
+  counting = is.counting;
 }
 
 pub sought_is_problem : SoughtIsProblem
@@ -61,7 +59,6 @@ sought_is_problem = record {
     side = (same i).side;
     kind = (same i).kind;
     size = size i;
-    version = (same i).version;
-    components = (same i).components;
+    counting = (same i).counting;
   };
 }

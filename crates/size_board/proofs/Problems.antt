@@ -27,7 +27,7 @@ module _ (names : Named) (system : Problem) (environment : Option Problem) (syst
 pub problem_at : (names : Named) (side : Side) (n : ℕ) (p q : Problem) → IsProblemOn names side p → 0 < n → n ≤ 8 → parts_of q ≡ parts_of (sized p n) → IsProblemAt names side n q
 problem_at names side n p q on some few parts = record {
   sought = on.sought ∙ λ i. let x = sym parts i in
-      Some (record { automaton = x.automaton; inputs = x.inputs; outputs = x.outputs; side = x.side; kind = x.kind; version = x.version; components = x.components });
+      Some (record { automaton = x.automaton; inputs = x.inputs; outputs = x.outputs; side = x.side; kind = x.kind; counting = x.counting });
   side_is = (λ i. (parts i).side) ∙ on.side_is;
   size_is = λ i. (parts i).size;
   problem = (alike (sized p n) q (sym parts)).problem (on.problem n some few);

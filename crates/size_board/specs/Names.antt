@@ -1,4 +1,4 @@
-use Rattle.std.specs.Prelude.{◌≡◌, ℕ, ◌+◌, ◌<◌, ◌≤◌, All, Option, Some, None, []}
+use Rattle.std.specs.Prelude.{◌≡◌, ℕ, ◌+◌, ◌<◌, ◌≤◌, All, Option, Some, None, [], false}
 use Rattle.std.specs.Option.{option_map}
 use Rattle.letter_word.specs.declared.kinds.Kind.{Kind}
 use Rattle.letter_word.specs.declared.kinds.Kind.TheVariants.{Mealy}
@@ -7,20 +7,21 @@ use Rattle.letter_word.specs.declared.kinds.Side.TheVariants.{System, Environmen
 use Rattle.machine_model.specs.Machine.{MachineModel, IsMachine, size_of}
 use Rattle.machine_model.specs.Automaton.{AutomatonModel, states_of}
 use Rattle.machine_model.specs.Accepts.{SideAccepts}
-use Rattle.machine_model.specs.Components.{AreComponentsOf, ComponentsModel}
-use Rattle.machine_model.specs.Problem.{IsProblem, IsVersion, NamesSignals, automaton_of, components_of, sized}
+use Rattle.machine_model.specs.Counting.{CountsIn}
+use Rattle.machine_model.specs.Problem.{IsProblem, NamesSignals, automaton_of, sized}
+use Rattle.machine_model.specs.declared.counting.Counting.{Counting}
+use Rattle.machine_model.specs.declared.counting.Counting.TheVariants.{AllRejecting}
 use Rattle.machine_model.specs.declared.problems.Problem.{Problem}
 
 -- what a side looks for, whatever the number of states: a machine of this kind over these inputs and outputs that the
--- side's automaton accepts, by base clauses of this version (bounded synthesis of Finkbeiner and Schewe)
+-- side's automaton accepts, by base clauses whose numbers count so (bounded synthesis of Finkbeiner and Schewe)
 pub record Sought : Type 0 where
   pub automaton : AutomatonModel
   pub inputs : ℕ
   pub outputs : ℕ
   pub side : Side
   pub kind : Kind
-  pub version : ℕ
-  pub components : Option ComponentsModel
+  pub counting : Counting
 
 -- what a problem looks for: all of it but its size
 abbrev pub sought_of : Problem → Sought
@@ -30,8 +31,7 @@ sought_of p = record {
   outputs = p.outputs;
   side = p.side;
   kind = p.kind;
-  version = p.version;
-  components = components_of p;
+  counting = p.counting;
 }
 
 -- how many signals the machines that are sought read and write
@@ -41,20 +41,13 @@ reads_of s = elim s.side [ System ↦ s.inputs | Environment ↦ s.outputs ]
 abbrev pub writes_of : Sought → ℕ
 writes_of s = elim s.side [ System ↦ s.outputs | Environment ↦ s.inputs ]
 
--- the components of its automaton are at hand
-pub record KnowsComponents (s : Sought) : Type 0 where
-  pub components : ComponentsModel
-  pub made : s.components ≡ Some components
-  pub right : AreComponentsOf s.automaton components
-
 -- what is sought is within the limits of a problem, whose size apart
 pub record IsSearchable (s : Sought) : Type 0 where
   pub inputs : s.inputs ≤ 8
   pub outputs : s.outputs ≤ 8
   pub states : states_of s.automaton ≤ 2000
   pub signals : All (NamesSignals (s.inputs + s.outputs)) s.automaton.edges
-  pub version : IsVersion s.version
-  pub components : s.version ≡ 3 → KnowsComponents s
+  pub counting : CountsIn s.automaton s.counting
 
 -- what a board is about: what the system looks for, what the environment looks for, if it looks for anything, and
 -- the numbers of allowed sizes, which are the sizes from 1 on (this project's own)
@@ -124,7 +117,7 @@ pub record IsProblemAt (names : Named) (side : Side) (size : ℕ) (p : Problem) 
 -- names of nothing
 abbrev pub no_names : Named
 no_names = record {
-  system = record { automaton = record { edges = []; rejecting = [] }; inputs = 0; outputs = 0; side = System; kind = Mealy; version = 1; components = None };
+  system = record { automaton = record { edges = []; rejecting = [] }; inputs = 0; outputs = 0; side = System; kind = Mealy; counting = AllRejecting false };
   environment = None;
   system_sizes = 0;
   environment_sizes = 0;

@@ -12,7 +12,6 @@ use Rattle.letter_clauses.specs.Letters.{IsLetterSize}
 use Rattle.solved_text.specs.declared.letters.Letters.{Letters}
 use Rattle.solved_text.specs.declared.letters.Letters.TheVariants.{All, Few}
 use Rattle.solved_text.specs.Parts.{SizeLog}
-use Rattle.size_refutations.specs.declared.grounds.Search.{Search}
 use Rattle.size_refutations.specs.FirstBad.{FailsOver, LogFails, other_letters, over_problem}
 use Rattle.size_refutations.specs.Ground.{HasNoAutomaton, IsSizeOf, LogGround}
 use Rattle.size_refutations.specs.Heads.{are_few, are_letters, is_list, is_number_of_states, letters_named}
@@ -27,7 +26,7 @@ and_not : (b : Bool) → (b && false) ≡ false
 and_not true = refl
 and_not false = refl
 
-module _ (g : LogGround) (s : Search) (l : SizeLog) (p : Problem) (is : IsSearchOf g s) (same : IsSizedAs s l.size p) where
+module _ (g : LogGround) (s : Problem) (l : SizeLog) (p : Problem) (is : IsSearchOf g s) (same : IsSizedAs s l.size p) where
   its_size : IsSizeOf g l.size p
   its_size = size_is g s l.size p is same
 
@@ -55,19 +54,19 @@ module _ (g : LogGround) (s : Search) (l : SizeLog) (p : Problem) (is : IsSearch
           over_problem p first its_size (and_from (is_number_of_states l.size) (are_letters (reads_of p) l.letters) states (ap (are_letters (reads_of p)) named ∙ few))
           (subst (λ (x : List ℕ). FailsOver p x l first) (sym (ap (letters_named (reads_of p)) named)) fails)
 
-      pub size_few : IsLetterSize p s.components letters
+      pub size_few : IsLetterSize p letters
       size_few = letter_size g s l.size p is same letters states (few_letters (reads_of p) letters few).list
 
-  pub size_all : is_number_of_states l.size ≡ true → IsLetterSize p s.components (range_with_len 0 (2 ^ reads_of p))
+  pub size_all : is_number_of_states l.size ≡ true → IsLetterSize p (range_with_len 0 (2 ^ reads_of p))
   size_all states = letter_size g s l.size p is same (range_with_len 0 (2 ^ reads_of p)) states (all_letters_listed (reads_of p))
 
 -- ---- what is counted
 
 -- a problem has the parts of the search's for its own number of states
-pub sized_here : (s : Search) (n : ℕ) (p : Problem) → IsSizedAs s n p → IsSizedAs s p.size p
+pub sized_here : (s : Problem) (n : ℕ) (p : Problem) → IsSizedAs s n p → IsSizedAs s p.size p
 sized_here s n p same =
     let size : p.size ≡ n = ap (λ (x : Parts). x.size) same in
-    subst (λ (k : ℕ). parts_of p ≡ parts_of (sized s.problem k)) (sym size) same
+    subst (λ (k : ℕ). parts_of p ≡ parts_of (sized s k)) (sym size) same
 
 pub not_counted : (p : Problem) (letters : List ℕ) → may_be_counted p letters ≡ false → None ≡ clause_count p letters
 not_counted p letters e = sym (ap (λ (b : Bool). cond b (count_of p letters) None) e)
@@ -88,8 +87,8 @@ none_of : (o : Option ℕ) → is_some o ≡ false → o ≡ None
 none_of None is = refl
 none_of (Some n) is = absurd (cc)
 
-module _ (g : LogGround) (s : Search) (p : Problem) (is : IsSearchOf g s) (same : IsSizedAs s p.size p) (letters : List ℕ) where
-  pub size_counted : may_be_counted p letters ≡ true → IsLetterSize p s.components letters
+module _ (g : LogGround) (s : Problem) (p : Problem) (is : IsSearchOf g s) (same : IsSizedAs s p.size p) (letters : List ℕ) where
+  pub size_counted : may_be_counted p letters ≡ true → IsLetterSize p letters
   size_counted may =
       let both = and_parts (is_number_of_states p.size) (is_list (reads_of p) letters) may in
       letter_size g s p.size p is same letters both.0 (listed (reads_of p) letters both.1)
@@ -97,7 +96,7 @@ module _ (g : LogGround) (s : Search) (p : Problem) (is : IsSearchOf g s) (same 
   both_of : is_some (clause_count p letters) ≡ true → (may_be_counted p letters ≡ true) × (is_allowed p letters ≡ true)
   both_of some = counted_by (may_be_counted p letters) (is_allowed p letters) (length (base_clauses p letters)) some
 
-  pub size_allowed : (o : Option ℕ) → o ≡ clause_count p letters → is_some o ≡ true → IsLetterSize p s.components letters
+  pub size_allowed : (o : Option ℕ) → o ≡ clause_count p letters → is_some o ≡ true → IsLetterSize p letters
   size_allowed o e some = size_counted (both_of (ap is_some (sym e) ∙ some)).0
 
   pub is_allowed_so : (o : Option ℕ) → o ≡ clause_count p letters → is_some o ≡ true → is_allowed p letters ≡ true
@@ -106,7 +105,7 @@ module _ (g : LogGround) (s : Search) (p : Problem) (is : IsSearchOf g s) (same 
   pub none_listed : (o : Option ℕ) → o ≡ clause_count p letters → is_some o ≡ false → clause_count p letters ≡ None
   none_listed o e none = sym e ∙ none_of o none
 
-module _ (g : LogGround) (s : Search) (n : ℕ) (p : Problem) (is : IsSearchOf g s) (same : IsSizedAs s n p) (letters : List ℕ) where
+module _ (g : LogGround) (s : Problem) (n : ℕ) (p : Problem) (is : IsSearchOf g s) (same : IsSizedAs s n p) (letters : List ℕ) where
   pub count_is : (o : Option ℕ) → o ≡ clause_count p letters → IsCountOf g n letters o
   count_is o e = sizes.over_problem p o (size_is g s n p is same) e
 
@@ -118,5 +117,5 @@ module _ (g : LogGround) (s : Search) (n : ℕ) (p : Problem) (is : IsSearchOf g
 
 -- ---- a ground that has no automaton
 
-pub has_none : (g h : LogGround) (kept : Option Search) → g ≡ h → IsKept g kept → kept ≡ None → HasNoAutomaton h
+pub has_none : (g h : LogGround) (kept : Option Problem) → g ≡ h → IsKept g kept → kept ≡ None → HasNoAutomaton h
 has_none g h kept same is none = subst HasNoAutomaton same (subst (IsSearched g) none is.searched)

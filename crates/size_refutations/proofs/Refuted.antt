@@ -15,6 +15,7 @@ use Rattle.text_limits.specs.declared.TheConstants.{LARGE_LIMITS}
 use Rattle.machine_model.specs.Machine.{MachineModel}
 use Rattle.machine_model.specs.Problem.{IsMachineOf, NamesSignals, automaton_of, reads_of, writes_of}
 use Rattle.machine_model.specs.declared.problems.Problem.{Problem}
+use Rattle.machine_model.proofs.CountingLemmas.{counts_locally_by}
 use Rattle.machine_model.specs.Run.{IsRun, IsRunLasso}
 use Rattle.cobuchi_build.specs.Built.{AcceptsExactly}
 use Rattle.cobuchi_build.specs.Laws.{TheAutomatonAcceptsExactly}
@@ -92,7 +93,7 @@ module _ (keep : AutomataKeepLimits) (exactly : TheAutomatonAcceptsExactly) (ref
         size = omega (arith, states, few);
         states = keep.states Covering.Reduced LARGE_LIMITS.automaton g.nodes g.form (automaton_of h.problem) size.automaton.automaton size.automaton.within;
         signals = subst (λ (n : ℕ). All (NamesSignals n) (automaton_of h.problem).edges) both size.automaton.signals;
-        local = size.version_is;
+        local = counts_locally_by (automaton_of h.problem) h.problem.counting size.counting;
         list = are_listed (reads_of h.problem) l.letters h.letters;
       }
 

@@ -3,7 +3,9 @@ use Rattle.std.proofs.Common.{◌≡◌, ℕ, Option, None, List, length, sym, a
 use Rattle.clause_base.specs.Literal.{Literal}
 use Rattle.obligation_sets.specs.declared.sets.Covering.{Covering}
 use Rattle.machine_model.specs.declared.problems.Problem.{Problem}
-use Rattle.machine_model.specs.Problem.{Parts, automaton_of, components_of, parts_of}
+use Rattle.machine_model.specs.Counting.{CountsBy}
+use Rattle.machine_model.specs.Problem.{Parts, automaton_of, parts_of}
+use Rattle.machine_model.proofs.CountingLemmas.{one_counting}
 use Rattle.machine_model.proofs.PartsLemmas.{kept_at}
 use Rattle.cobuchi_build.specs.Laws.{OneAutomatonPerFormula}
 use Rattle.refutation_log.specs.Log.{IsLegal}
@@ -23,8 +25,7 @@ same_parts one g size p q x y =
     let side : p.side ≡ q.side = x.of_side ∙ sym y.of_side in
     let kind : p.kind ≡ q.kind = x.kind_is ∙ sym y.kind_is in
     let size : p.size ≡ q.size = x.states ∙ sym y.states in
-    let version : p.version ≡ q.version = x.version_is ∙ sym y.version_is in
-    let components : components_of p ≡ components_of q = x.components ∙ sym y.components in
+    let counting : p.counting ≡ q.counting = one_counting (automaton_of q) p.counting q.counting (subst (λ b. CountsBy b p.counting) a x.counting) y.counting in
     λ i. record {
       automaton = a i;
       inputs = inputs i;
@@ -32,8 +33,7 @@ same_parts one g size p q x y =
       side = side i;
       kind = kind i;
       size = size i;
-      version = version i;
-      components = components i;
+      counting = counting i;
     }
 
 module _ (p q : Problem) (same : parts_of p ≡ parts_of q) (l : SizeLog) where

@@ -4,11 +4,11 @@ use Rattle.std.specs.Prelude.{All}
 use Rattle.letter_word.specs.declared.kinds.Side.{Side}
 use Rattle.letter_word.specs.declared.kinds.Side.TheVariants.{System, Environment}
 use Rattle.machine_model.specs.Automaton.{AutomatonModel, states_of}
-use Rattle.machine_model.specs.Components.{AreComponentsOf}
+use Rattle.machine_model.specs.Counting.{CountsBy}
 use Rattle.machine_model.specs.Problem.{NamesSignals, Parts, automaton_of, parts_of, reads_of, sized}
 use Rattle.machine_model.specs.declared.problems.Problem.{Problem}
+use Rattle.machine_model.proofs.CountingLemmas.{counts_in_by, counts_locally_by}
 use Rattle.letter_clauses.specs.Letters.{IsLetterList, IsLetterSize}
-use Rattle.size_refutations.specs.declared.grounds.Search.{Search}
 use Rattle.size_refutations.specs.Ground.{IsAutomatonFor, IsSizeOf, LogGround}
 use Rattle.size_refutations.specs.Heads.{is_number_of_states}
 use Rattle.size_refutations.specs.Parts.{IsSearchOf}
@@ -18,8 +18,8 @@ few_by : (inputs outputs : ℕ) (side : Side) → inputs ≤ 16 → outputs ≤ 
 few_by inputs outputs System i o = i
 few_by inputs outputs Environment i o = o
 
-module _ (g : LogGround) (s : Search) (n : ℕ) (p : Problem) (is : IsSearchOf g s) (same : parts_of p ≡ parts_of (sized s.problem n)) where
-  same_automaton : automaton_of p ≡ automaton_of s.problem
+module _ (g : LogGround) (s : Problem) (n : ℕ) (p : Problem) (is : IsSearchOf g s) (same : parts_of p ≡ parts_of (sized s n)) where
+  same_automaton : automaton_of p ≡ automaton_of s
   same_automaton = ap (λ (x : Parts). x.automaton) same
 
   pub size_is : IsSizeOf g n p
@@ -30,8 +30,7 @@ module _ (g : LogGround) (s : Search) (n : ℕ) (p : Problem) (is : IsSearchOf g
     of_side = ap (λ (x : Parts). x.side) same ∙ is.problem.of_side;
     kind_is = ap (λ (x : Parts). x.kind) same ∙ is.problem.kind_is;
     states = ap (λ (x : Parts). x.size) same;
-    version_is = ap (λ (x : Parts). x.version) same ∙ is.problem.version_is;
-    components = ap (λ (x : Parts). x.components) same ∙ is.problem.components;
+    counting = subst (λ (x : Parts). CountsBy x.automaton x.counting) (sym same) is.problem.counting;
   }
 
   pub few_reads : reads_of p ≤ 16
@@ -42,7 +41,7 @@ module _ (g : LogGround) (s : Search) (n : ℕ) (p : Problem) (is : IsSearchOf g
       let o : g.outputs ≤ 16 = is.few_outputs in
       few_by p.inputs p.outputs p.side (omega (arith, inputs, i)) (omega (arith, outputs, o))
 
-  pub letter_size : (letters : List ℕ) → is_number_of_states n ≡ true → IsLetterList (reads_of p) letters → IsLetterSize p s.components letters
+  pub letter_size : (letters : List ℕ) → is_number_of_states n ≡ true → IsLetterList (reads_of p) letters → IsLetterSize p letters
   letter_size letters states list =
       let few = states_of_test n states in
       let size : p.size ≡ n = size_is.states in
@@ -61,8 +60,8 @@ module _ (g : LogGround) (s : Search) (n : ℕ) (p : Problem) (is : IsSearchOf g
           size = omega (arith, size, most);
           states = subst (λ (a : AutomatonModel). states_of a ≤ 20000) (sym same_automaton) is.states;
           signals = subst (λ (k : ℕ). All (NamesSignals k) (automaton_of p).edges) both size_is.automaton.signals;
-          local = size_is.version_is;
+          local = counts_locally_by (automaton_of p) p.counting size_is.counting;
           list = list;
         };
-        right = subst (λ (a : AutomatonModel). AreComponentsOf a s.components) (sym same_automaton) is.components;
+        counting = counts_in_by (automaton_of p) p.counting size_is.counting;
       }

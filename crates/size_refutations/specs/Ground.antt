@@ -1,6 +1,6 @@
 -- What the logs of one side are tested against: the problem of each size over the automaton of the side's form (bounded synthesis of
 -- Finkbeiner and Schewe; that the covers are reduced ones, and the limits, are this project's own).
-use Rattle.std.specs.Prelude.{◌≡◌, ℕ, ◌+◌, List, None, All}
+use Rattle.std.specs.Prelude.{◌≡◌, ℕ, ◌+◌, List, All}
 use Rattle.letter_word.specs.declared.kinds.Kind.{Kind}
 use Rattle.letter_word.specs.declared.kinds.Side.{Side}
 use Rattle.letter_word.specs.declared.kinds.Side.TheVariants.{System, Environment}
@@ -8,7 +8,8 @@ use Rattle.ltl_formula.specs.declared.nodes.FormulaId.{FormulaId}
 use Rattle.ltl_formula.specs.declared.nodes.Node.{Node}
 use Rattle.obligation_sets.specs.declared.sets.Covering.{Covering}
 use Rattle.machine_model.specs.Automaton.{AutomatonModel, IsAutomaton}
-use Rattle.machine_model.specs.Problem.{NamesSignals, automaton_of, components_of}
+use Rattle.machine_model.specs.Counting.{CountsBy}
+use Rattle.machine_model.specs.Problem.{NamesSignals, automaton_of}
 use Rattle.machine_model.specs.declared.problems.Problem.{Problem}
 use Rattle.cobuchi_build.specs.Built.{IsAutomatonOf, PassesLimit}
 use Rattle.text_limits.specs.declared.TheConstants.{LARGE_LIMITS}
@@ -46,7 +47,7 @@ pub data HasNoAutomaton (g : LogGround) : Type 0 where
   too_large : IsTooLarge g → HasNoAutomaton g
   other_signals : (a : AutomatonModel) → IsAutomatonOf Covering.Reduced g.nodes g.form a → (NamesItsSignals g a → ⊥) → HasNoAutomaton g
 
--- the search for a machine of so many states with which the side wins, counted by component, whose components are kept elsewhere
+-- the search for a machine of so many states with which the side wins, whose numbers count by component
 pub record IsSizeOf (g : LogGround) (size : ℕ) (p : Problem) : Type 0 where
   pub automaton : IsAutomatonFor g (automaton_of p)
   pub inputs : p.inputs ≡ g.inputs
@@ -54,5 +55,4 @@ pub record IsSizeOf (g : LogGround) (size : ℕ) (p : Problem) : Type 0 where
   pub of_side : p.side ≡ g.side
   pub kind_is : p.kind ≡ g.kind
   pub states : p.size ≡ size
-  pub version_is : p.version ≡ 3
-  pub components : components_of p ≡ None
+  pub counting : CountsBy (automaton_of p) p.counting

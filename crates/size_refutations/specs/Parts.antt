@@ -3,7 +3,6 @@ use Rattle.std.specs.Prelude.{◌≡◌, ℕ, ◌+◌, ◌<◌, ◌≤◌, ◌^�
 use Rattle.ltl_formula.specs.NormalForm.{IsNormal}
 use Rattle.ltl_formula.specs.Nodes.{Stands, tree_at}
 use Rattle.machine_model.specs.Automaton.{AutomatonModel, states_of}
-use Rattle.machine_model.specs.Components.{AreComponentsOf}
 use Rattle.machine_model.specs.Problem.{automaton_of, parts_of, sized}
 use Rattle.machine_model.specs.declared.problems.Problem.{Problem}
 use Rattle.refutation_log.specs.Log.{is_ended}
@@ -11,7 +10,6 @@ use Rattle.log_checker.specs.declared.faults.LogFault.{LogFault}
 use Rattle.log_checker.specs.declared.faults.LogFault.TheVariants.{BadHint, NotFalsified, Repeated, NotClosed, AfterEnd, OverLimit, NoMemory}
 use Rattle.log_checker.specs.Hinted.{AreWithin}
 use Rattle.solved_text.specs.Parts.{SizeLog}
-use Rattle.size_refutations.specs.declared.grounds.Search.{Search}
 use Rattle.size_refutations.specs.declared.grounds.Sought.{Sought}
 use Rattle.size_refutations.specs.Ground.{HasNoAutomaton, IsAutomatonFor, IsSizeOf, LogGround}
 
@@ -30,25 +28,24 @@ abbrev pub IsAutomatonOrNone : LogGround → Option AutomatonModel → Type 0
 IsAutomatonOrNone g None = HasNoAutomaton g
 IsAutomatonOrNone g (Some a) = IsAutomatonFor g a
 
--- the problem of the ground's machines of one state, with its automaton's components
-pub record IsSearchOf (g : LogGround) (s : Search) : Type 0 where
+-- the problem of the ground's machines of one state
+pub record IsSearchOf (g : LogGround) (s : Problem) : Type 0 where
   pub few_inputs : g.inputs ≤ 16
   pub few_outputs : g.outputs ≤ 16
-  pub problem : IsSizeOf g 1 s.problem
-  pub states : states_of (automaton_of s.problem) ≤ 20000
-  pub components : AreComponentsOf (automaton_of s.problem) s.components
+  pub problem : IsSizeOf g 1 s
+  pub states : states_of (automaton_of s) ≤ 20000
 
 -- a problem has the parts of a search's problem, for so many states
-abbrev pub IsSizedAs : Search → ℕ → Problem → Type 0
-IsSizedAs s n p = parts_of p ≡ parts_of (sized s.problem n)
+abbrev pub IsSizedAs : Problem → ℕ → Problem → Type 0
+IsSizedAs s n p = parts_of p ≡ parts_of (sized s n)
 
 -- what is kept of a ground is its search, or none where it has no automaton
-abbrev pub IsSearched : LogGround → Option Search → Type 0
+abbrev pub IsSearched : LogGround → Option Problem → Type 0
 IsSearched g None = HasNoAutomaton g
 IsSearched g (Some s) = IsSearchOf g s
 
 -- what is kept of a ground, whose signals are few
-pub record IsKept (g : LogGround) (kept : Option Search) : Type 0 where
+pub record IsKept (g : LogGround) (kept : Option Problem) : Type 0 where
   pub few_inputs : g.inputs ≤ 16
   pub few_outputs : g.outputs ≤ 16
   pub searched : IsSearched g kept

@@ -15,9 +15,8 @@ use crate::sizes::{clauses_at, count_at};
 use clause_base::Cnf;
 use cobuchi_build::{BuildFault, build};
 use letter_word::{Kind, Side};
-use local_counts::LocalCounts;
 use ltl_formula::{FormulaId, Formulas};
-use machine_model::{Automaton, Edge, Problem};
+use machine_model::{Automaton, Counts, Edge, Problem};
 use obligation_sets::Covering;
 use solved_text::SizeLog;
 use std::alloc::{AllocError, Global};
@@ -40,19 +39,12 @@ pub struct Sought<'a> {
     pub outputs: u32,
 }
 
-/// The problem of the side's machines of one state, with the components by which numbers are counted.
-#[derive(Drop)]
-pub(crate) struct Search {
-    pub(crate) problem: Problem,
-    pub(crate) components: LocalCounts,
-}
-
 /// What the logs of one side are tested against, made once for all of them. Seen by contracts as the form and what goes with it.
 #[derive(Drop)]
 pub struct Ground<'a> {
     sought: Sought<'a>,
-    /// None where the side's automaton passes a limit.
-    search: Option<Search>,
+    /// The problem of the side's machines of one state. None where the side's automaton passes a limit.
+    search: Option<Problem>,
 }
 
 impl<'a> Model for Ground<'a> {
@@ -106,7 +98,7 @@ impl<'a> Ground<'a> {
         ensures none { result ≡ None → HasNoAutomaton self.now }
     {
         match &self.search {
-            Some(search) => Some(&search.problem),
+            Some(search) => Some(search),
             None => None,
         }
     }
@@ -140,19 +132,15 @@ impl<'a> Ground<'a> {
 }
 
 /// The search of a side, if it has an automaton.
-fn search_for(alloc: Global, sought: Sought<'_>) -> Result<Option<Search>, AllocError>
+fn search_for(alloc: Global, sought: Sought<'_>) -> Result<Option<Problem>, AllocError>
     requires { IsSought (ground_of sought) }
     ensures { IfOk result (IsSearched (ground_of sought.entry)) }
 {
     let Some(automaton) = automaton_for(alloc, sought)? else {
         return Ok(None);
     };
-    let components = LocalCounts::of(alloc, &automaton)?;
     let problem = problem_over(alloc, sought, automaton)?;
-    Ok(Some(Search {
-        problem,
-        components,
-    }))
+    Ok(Some(problem))
 }
 
 /// The automaton of a side, if it has one.
@@ -188,10 +176,12 @@ fn problem_over(
     sought: Sought<'_>,
     automaton: Automaton,
 ) -> Result<Problem, AllocError>
-    requires { IsAutomatonFor (ground_of sought) automaton }
+    requires automaton { IsAutomatonFor (ground_of sought) automaton }
+    requires few { states_of automaton ≤ 20000 }
     ensures size { IfOk result (IsSizeOf (ground_of sought.entry) 1) }
     ensures kept { IfOk result (λ problem. automaton_of problem ≡ automaton) }
 {
+    let counting = Counts::Local.over(alloc, &automaton)?;
     Ok(Problem {
         automaton: Arc::new(alloc, automaton)?,
         inputs: sought.inputs,
@@ -199,8 +189,7 @@ fn problem_over(
         side: sought.side,
         kind: sought.kind,
         size: 1,
-        version: 3,
-        components: None,
+        counting,
     })
 }
 

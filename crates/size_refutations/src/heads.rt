@@ -63,7 +63,7 @@ pub(crate) fn all_letters(alloc: Global, signals: u32) -> Result<Vec<u32>, Alloc
 
 /// Whether a log's size is allowed over some letters, and its head has the numbers of that size.
 pub(crate) fn has_numbers(size: LetterSize<'_>, log: &SizeLog) -> bool
-    requires { IsLetterSize size.problem.now size.components.now size.letters.now }
+    requires { IsLetterSize size.problem.now size.letters.now }
     ensures { result ≡ has_its_numbers size.entry.problem.now size.entry.letters.now log.now }
 {
     match size.count() {

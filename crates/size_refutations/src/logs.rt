@@ -10,7 +10,7 @@ ghost use Rattle.size_refutations.specs.FirstBad.{FailsOver, LogFails};
 ghost use Rattle.size_refutations.specs.Heads.{is_number_of_states as is_states};
 ghost use Rattle.size_refutations.specs.Parts.{IsReadLog, IsSearchOf, IsSizedAs, NamesEntry, entry_named, ground_of, line_behind};
 
-use crate::grounds::{Search, Sought};
+use crate::grounds::Sought;
 use crate::heads::{all_letters, are_few, has_numbers, is_number_of_states};
 use letter_clauses::LetterSize;
 use log_checker::{LogFault, check_open};
@@ -23,14 +23,14 @@ use std::alloc::{AllocError, Global};
 pub(crate) fn searched_line(
     alloc: Global,
     sought: Sought<'_>,
-    search: &Search,
+    search: &Problem,
     log: &SizeLog,
 ) -> Result<Option<u64>, AllocError>
     requires search { IsSearchOf (ground_of sought) search.now }
     requires log { IsReadLog log.now }
     ensures { IfOk result (LogFails (ground_of sought.entry) log.now) }
 {
-    let problem = search.problem.sized(log.size)?;
+    let problem = search.sized(log.size)?;
     sized_line(alloc, sought, search, &problem, log)
 }
 
@@ -38,7 +38,7 @@ pub(crate) fn searched_line(
 fn sized_line(
     alloc: Global,
     sought: Sought<'_>,
-    search: &Search,
+    search: &Problem,
     problem: &Problem,
     log: &SizeLog,
 ) -> Result<Option<u64>, AllocError>
@@ -60,7 +60,7 @@ fn sized_line(
 fn line_over_all(
     alloc: Global,
     sought: Sought<'_>,
-    search: &Search,
+    search: &Problem,
     problem: &Problem,
     log: &SizeLog,
 ) -> Result<Option<u64>, AllocError>
@@ -73,7 +73,6 @@ fn line_over_all(
     let letters = all_letters(alloc, problem.reads())?;
     let size = LetterSize {
         problem,
-        components: &search.components,
         letters: &letters,
     };
     line_over(alloc, size, log)
@@ -83,7 +82,7 @@ fn line_over_all(
 fn line_over_few(
     alloc: Global,
     sought: Sought<'_>,
-    search: &Search,
+    search: &Problem,
     problem: &Problem,
     letters: &[u32],
     log: &SizeLog,
@@ -98,17 +97,13 @@ fn line_over_few(
     if !are_few(problem.reads(), letters) {
         return Ok(Some(log.line));
     }
-    let size = LetterSize {
-        problem,
-        components: &search.components,
-        letters,
-    };
+    let size = LetterSize { problem, letters };
     line_over(alloc, size, log)
 }
 
 /// The line at which a log fails over a problem and letters.
 fn line_over(alloc: Global, size: LetterSize<'_>, log: &SizeLog) -> Result<Option<u64>, AllocError>
-    requires size { IsLetterSize size.problem.now size.components.now size.letters.now }
+    requires size { IsLetterSize size.problem.now size.letters.now }
     requires log { IsReadLog log.now }
     ensures { IfOk result (FailsOver size.entry.problem.now size.entry.letters.now log.now) }
 {

@@ -5,7 +5,7 @@ ghost use Rattle.machine_model.specs.Problem.{reads_of};
 ghost use Rattle.size_refutations.specs.Parts.{IsSearchOf, IsSizedAs, ground_of};
 ghost use Rattle.size_refutations.specs.Sizes.{AreClausesAt, AreClausesOver, IsCountOf, clause_count, may_be_counted as may_count};
 
-use crate::grounds::{Search, Sought};
+use crate::grounds::Sought;
 use crate::heads::{is_list, is_number_of_states};
 use clause_base::Cnf;
 use letter_clauses::LetterSize;
@@ -15,14 +15,14 @@ use std::alloc::{AllocError, Global};
 /// The number of base clauses of a size over letters, where they are allowed.
 pub(crate) fn count_at(
     sought: Sought<'_>,
-    search: &Search,
+    search: &Problem,
     size: u32,
     letters: &[u32],
 ) -> Result<Option<u64>, AllocError>
     requires { IsSearchOf (ground_of sought) search.now }
     ensures { IfOk result (IsCountOf (ground_of sought.entry) size letters.now) }
 {
-    let problem = search.problem.sized(size)?;
+    let problem = search.sized(size)?;
     let count = count_over(sought, search, &problem, letters);
     Ok(count)
 }
@@ -30,7 +30,7 @@ pub(crate) fn count_at(
 /// The number of a problem's base clauses over letters, where they are allowed.
 fn count_over(
     sought: Sought<'_>,
-    search: &Search,
+    search: &Problem,
     problem: &Problem,
     letters: &[u32],
 ) -> Option<u64>
@@ -41,11 +41,7 @@ fn count_over(
     if !may_be_counted(problem, letters) {
         return None;
     }
-    let over = LetterSize {
-        problem,
-        components: &search.components,
-        letters,
-    };
+    let over = LetterSize { problem, letters };
     over.count()
 }
 
@@ -53,7 +49,7 @@ fn count_over(
 pub(crate) fn clauses_at(
     alloc: Global,
     sought: Sought<'_>,
-    search: &Search,
+    search: &Problem,
     size: u32,
     letters: &[u32],
 ) -> Result<Option<Cnf>, AllocError>
@@ -61,7 +57,7 @@ pub(crate) fn clauses_at(
     ensures clauses { IfOk result (AreClausesAt (ground_of sought.entry) size letters.now) }
     ensures formula { IfOk result (λ made. IfSome made (λ base. IsFormula base.vars base.clauses.items)) }
 {
-    let problem = search.problem.sized(size)?;
+    let problem = search.sized(size)?;
     clauses_over(alloc, sought, search, &problem, letters)
 }
 
@@ -69,7 +65,7 @@ pub(crate) fn clauses_at(
 fn clauses_over(
     alloc: Global,
     sought: Sought<'_>,
-    search: &Search,
+    search: &Problem,
     problem: &Problem,
     letters: &[u32],
 ) -> Result<Option<Cnf>, AllocError>
@@ -81,11 +77,7 @@ fn clauses_over(
     if count_over(sought, search, problem, letters).is_none() {
         return Ok(None);
     }
-    let over = LetterSize {
-        problem,
-        components: &search.components,
-        letters,
-    };
+    let over = LetterSize { problem, letters };
     let base = over.encode(alloc)?;
     Ok(Some(base))
 }

@@ -10,11 +10,10 @@ use Rattle.ltl_formula.specs.Added.{Built}
 use Rattle.ltl_formula.specs.Nodes.{tree_at}
 use Rattle.ltl_formula.specs.Tree.{Tree}
 use Rattle.machine_model.specs.declared.problems.Problem.{Problem}
-use Rattle.std.proofs.lemmas.Bool.{cases_eq}
 use Rattle.machine_model.specs.Automaton.{AutomatonModel}
-use Rattle.machine_model.specs.Components.{AreComponentsOf}
-use Rattle.machine_model.specs.Problem.{automaton_of, components_of, HasComponents}
-use Rattle.machine_model.proofs.Naming.{one_components}
+use Rattle.machine_model.specs.Counting.{IsCountedAs}
+use Rattle.machine_model.specs.declared.counting.Counts.{Counts}
+use Rattle.machine_model.proofs.CountingLemmas.{one_counted}
 use Rattle.dual_search.specs.declared.automata.Automata.{Automata}
 use Rattle.dual_search.proofs.Sides.{answers_are_apart}
 use Rattle.spec_faults.specs.declared.code.SpecCode.{SpecCode}
@@ -30,18 +29,6 @@ use Rattle.spec_problems.specs.OfFormula.{IsProblemOver, IsEnvironmentOver, AreP
 use Rattle.spec_problems.specs.OfText.{AreProblemsOf, interface_of, IsFirstFault, of_text, of_problems}
 use Rattle.spec_problems.specs.Laws.{IsSameProblem, IsSameIfAny, AreSameProblems, ProblemsOfFormulasAreDetermined, ProblemsOfTextsAreDetermined}
 
-one_of_components : (x : Interface) (p q : Problem) → automaton_of p ≡ automaton_of q → ((x.version ≡ 3 → ⊥) → components_of p ≡ None) → (x.version ≡ 3 → HasComponents p)
-    → ((x.version ≡ 3 → ⊥) → components_of q ≡ None) → (x.version ≡ 3 → HasComponents q) → components_of p ≡ components_of q
-one_of_components x p q same whole counted whole' counted' = elim (cases_eq x.version 3) [
-  | inl third ↦
-      let mine : HasComponents p = counted third in
-      let yours : HasComponents q = counted' third in
-      mine.made
-      ∙ ap Some (one_components (automaton_of q) mine.components yours.components (subst (λ a. AreComponentsOf a mine.components) same mine.right) yours.right)
-      ∙ sym yours.made
-  | inr other ↦ whole other ∙ sym (whole' other)
-]
-
 same_problem : (x : Interface) (side : Side) (kind : Kind) (a b : AutomatonModel) (p q : Problem) → a ≡ b → IsProblemOver x side kind a p → IsProblemOver x side kind b q → IsSameProblem p q
 same_problem x side kind a b p q e h g = record {
   automaton = h.automaton ∙ e ∙ sym g.automaton;
@@ -50,8 +37,7 @@ same_problem x side kind a b p q e h g = record {
   side = h.side ∙ sym g.side;
   kind = h.kind ∙ sym g.kind;
   size = h.size ∙ sym g.size;
-  version = h.version ∙ sym g.version;
-  components = one_of_components x p q (h.automaton ∙ e ∙ sym g.automaton) h.whole h.counted g.whole g.counted;
+  counting = one_counted x.counts b p.counting q.counting (subst (λ c. IsCountedAs x.counts c p.counting) e h.counting) g.counting;
 }
 
 same_if_any : (x : Interface) (o : Option AutomatonModel) (e f : Option Problem) → IsEnvironmentOver x o e → IsEnvironmentOver x o f → IsSameIfAny e f
@@ -92,34 +78,34 @@ same_flat : (text : List ℕ) (kind : Option Kind) (flat flat' : FlatText) → I
 same_flat text kind flat flat' a b = one_flat determined SMALL_LIMITS text kind flat flat' a b
 
 -- the problems of one flat text, at an equal one
-moved : (version : ℕ) (flat flat' : FlatText) (new : List Node) (s : SideProblems) → flat' ≡ flat → AreProblemsIn (interface_of version flat'.expanded) (tree_at flat'.formulas flat'.expanded.whole) flat'.formulas new s
-    → AreProblemsIn (interface_of version flat.expanded) (tree_at flat.formulas flat.expanded.whole) flat.formulas new s
-moved version flat flat' new s e h = subst (λ (x : FlatText). AreProblemsIn (interface_of version x.expanded) (tree_at x.formulas x.expanded.whole) x.formulas new s) e h
+moved : (counts : Counts) (flat flat' : FlatText) (new : List Node) (s : SideProblems) → flat' ≡ flat → AreProblemsIn (interface_of counts flat'.expanded) (tree_at flat'.formulas flat'.expanded.whole) flat'.formulas new s
+    → AreProblemsIn (interface_of counts flat.expanded) (tree_at flat.formulas flat.expanded.whole) flat.formulas new s
+moved counts flat flat' new s e h = subst (λ (x : FlatText). AreProblemsIn (interface_of counts x.expanded) (tree_at x.formulas x.expanded.whole) x.formulas new s) e h
 
 same_list : (x : Interface) (f : Tree) (old new new' : List Node) (s t : SideProblems) → AreProblemsIn x f old new s → AreProblemsIn x f old new' t → new ≡ new'
 same_list x f old new new' s t h g =
     let built : ◌≡◌ {A = Built} (record { nodes = new; made = Some h.are_automata.normal }) (record { nodes = new'; made = Some g.are_automata.normal }) = sym h.are_automata.forms.of_normal ∙ g.are_automata.forms.of_normal in
     ap (λ (b : Built). b.nodes) built
 
-one_text : (text : List ℕ) (kind : Option Kind) (version : ℕ) (spec spec' : FlatText) (s t : SideProblems) → AreProblemsOf text kind version spec s → AreProblemsOf text kind version spec' t → spec ≡ spec'
-one_text text kind version spec spec' s t h g =
+one_text : (text : List ℕ) (kind : Option Kind) (counts : Counts) (spec spec' : FlatText) (s t : SideProblems) → AreProblemsOf text kind counts spec s → AreProblemsOf text kind counts spec' t → spec ≡ spec'
+one_text text kind counts spec spec' s t h g =
     let flats : g.flat ≡ h.flat = same_flat text kind g.flat h.flat g.is_flat h.is_flat in
     let texts : spec.expanded ≡ spec'.expanded = h.same ∙ sym (ap (λ (x : FlatText). x.expanded) flats) ∙ sym g.same in
-    let lists : spec.formulas ≡ spec'.formulas = same_list _ _ h.flat.formulas spec.formulas spec'.formulas s t h.problems (moved version h.flat g.flat spec'.formulas t flats g.problems) in
+    let lists : spec.formulas ≡ spec'.formulas = same_list _ _ h.flat.formulas spec.formulas spec'.formulas s t h.problems (moved counts h.flat g.flat spec'.formulas t flats g.problems) in
     λ i. record { expanded = texts i; formulas = lists i }
 
-one_text_pair : (text : List ℕ) (kind : Option Kind) (version : ℕ) (spec spec' : FlatText) (s t : SideProblems) → AreProblemsOf text kind version spec s → AreProblemsOf text kind version spec' t → AreSameProblems s t
-one_text_pair text kind version spec spec' s t h g =
+one_text_pair : (text : List ℕ) (kind : Option Kind) (counts : Counts) (spec spec' : FlatText) (s t : SideProblems) → AreProblemsOf text kind counts spec s → AreProblemsOf text kind counts spec' t → AreSameProblems s t
+one_text_pair text kind counts spec spec' s t h g =
     let flats : g.flat ≡ h.flat = same_flat text kind g.flat h.flat g.is_flat h.is_flat in
-    one_pair _ _ h.flat.formulas spec.formulas spec'.formulas s t h.problems (moved version h.flat g.flat spec'.formulas t flats g.problems)
+    one_pair _ _ h.flat.formulas spec.formulas spec'.formulas s t h.problems (moved counts h.flat g.flat spec'.formulas t flats g.problems)
 
 fault_moved : (flat flat' : FlatText) (code : SpecCode) (place : ℕ) → flat' ≡ flat → IsFormFault (tree_at flat'.formulas flat'.expanded.whole) flat'.formulas code place
     → IsFormFault (tree_at flat.formulas flat.expanded.whole) flat.formulas code place
 fault_moved flat flat' code place e h = subst (λ (x : FlatText). IsFormFault (tree_at x.formulas x.expanded.whole) x.formulas code place) e h
 
-text_apart : (text : List ℕ) (kind : Option Kind) (version : ℕ) (spec : FlatText) (s : SideProblems) (code : SpecCode) (place : ℕ) → AreProblemsOf text kind version spec s → IsFirstFault text kind code place → ⊥
-text_apart text kind version spec s _ _ h (of_text code place fault) = no_flat_fault determined no_reading_fault SMALL_LIMITS text kind h.flat code place h.is_flat fault
-text_apart text kind version spec s _ _ h (of_problems flat code place is fault) =
+text_apart : (text : List ℕ) (kind : Option Kind) (counts : Counts) (spec : FlatText) (s : SideProblems) (code : SpecCode) (place : ℕ) → AreProblemsOf text kind counts spec s → IsFirstFault text kind code place → ⊥
+text_apart text kind counts spec s _ _ h (of_text code place fault) = no_flat_fault determined no_reading_fault SMALL_LIMITS text kind h.flat code place h.is_flat fault
+text_apart text kind counts spec s _ _ h (of_problems flat code place is fault) =
     form_apart _ _ h.flat.formulas spec.formulas s code place h.problems (fault_moved h.flat flat code place (same_flat text kind flat h.flat is h.is_flat) fault)
 
 one_first_fault : (text : List ℕ) (kind : Option Kind) (code code' : SpecCode) (place place' : ℕ) → IsFirstFault text kind code place → IsFirstFault text kind code' place' → (code ≡ code') × (place ≡ place')

@@ -7,7 +7,9 @@ use Rattle.letter_word.specs.declared.kinds.Side.{Side}
 use Rattle.ltl_formula.specs.declared.nodes.Node.{Node}
 use Rattle.std.specs.Prelude.{List}
 use Rattle.machine_model.specs.Automaton.{AutomatonModel, states_of}
-use Rattle.machine_model.specs.Problem.{automaton_of, IsProblem, IsVersion, NamesSignals}
+use Rattle.machine_model.specs.Counting.{CountsIn}
+use Rattle.machine_model.proofs.CountingLemmas.{counts_in}
+use Rattle.machine_model.specs.Problem.{automaton_of, IsProblem, NamesSignals}
 use Rattle.machine_model.specs.declared.problems.Problem.{Problem}
 use Rattle.dual_search.specs.Limits.{FitsProblem, FitProblemsOf}
 use Rattle.dual_search.specs.declared.automata.Automata.{Automata}
@@ -16,7 +18,7 @@ use Rattle.spec_problems.specs.declared.sides.Interface.{Interface}
 use Rattle.spec_problems.specs.declared.sides.SideProblems.{SideProblems}
 use Rattle.spec_problems.specs.OfFormula.{AreProblems, AreProblemsOver, IsEnvironmentOver, IsProblemOver}
 
-module _ (x : Interface) (inputs : x.inputs ≤ 8) (outputs : x.outputs ≤ 8) (version : IsVersion x.version) where
+module _ (x : Interface) (inputs : x.inputs ≤ 8) (outputs : x.outputs ≤ 8) where
   problem_within : (side : Side) (kind : Kind) (a : AutomatonModel) (p : Problem) → FitsProblem (x.inputs + x.outputs) a → IsProblemOver x side kind a p → IsProblem p
   problem_within side kind a p fits over = record {
     inputs = subst (λ n. n ≤ 8) (sym over.inputs) inputs;
@@ -27,8 +29,7 @@ module _ (x : Interface) (inputs : x.inputs ≤ 8) (outputs : x.outputs ≤ 8) (
     signals =
         subst (λ b. All (NamesSignals (p.inputs + p.outputs)) b.edges) (sym over.automaton)
         (subst (λ n. All (NamesSignals (n + p.outputs)) a.edges) (sym over.inputs) (subst (λ n. All (NamesSignals (x.inputs + n)) a.edges) (sym over.outputs) fits.signals));
-    version = subst IsVersion (sym over.version) version;
-    components = λ third. over.counted (sym over.version ∙ third);
+    counting = subst (λ b. CountsIn b p.counting) (sym over.automaton) (counts_in x.counts a p.counting over.counting);
   }
 
   environment_within : (o : Option AutomatonModel) (e : Option Problem) → IfSome o (FitsProblem (x.inputs + x.outputs)) → IsEnvironmentOver x o e → IfSome e IsProblem
@@ -37,10 +38,10 @@ module _ (x : Interface) (inputs : x.inputs ≤ 8) (outputs : x.outputs ≤ 8) (
   environment_within (Some a) None fits over = absurd over
   environment_within (Some a) (Some p) fits over = problem_within _ _ a p fits over
 
-pub problems_within : (x : Interface) (nodes : List Node) (a : Automata) (s : SideProblems) → HasFewSignals SMALL_LIMITS x.inputs x.outputs nodes → IsVersion x.version → FitProblemsOf nodes a → AreProblemsOver x a s → AreProblems s
-problems_within x nodes a s few version fit over =
+pub problems_within : (x : Interface) (nodes : List Node) (a : Automata) (s : SideProblems) → HasFewSignals SMALL_LIMITS x.inputs x.outputs nodes → FitProblemsOf nodes a → AreProblemsOver x a s → AreProblems s
+problems_within x nodes a s few fit over =
     let fits = fit.fit (x.inputs + x.outputs) few.below in
     record {
-      is_system = problem_within x few.few_inputs few.few_outputs version _ _ a.system s.system fits.of_system over.of_system;
-      is_environment = environment_within x few.few_inputs few.few_outputs version a.environment s.environment fits.of_environment over.of_environment;
+      is_system = problem_within x few.few_inputs few.few_outputs _ _ a.system s.system fits.of_system over.of_system;
+      is_environment = environment_within x few.few_inputs few.few_outputs a.environment s.environment fits.of_environment over.of_environment;
     }

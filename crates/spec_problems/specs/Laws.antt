@@ -4,7 +4,8 @@ use Rattle.letter_word.specs.declared.kinds.Kind.{Kind}
 use Rattle.ltl_formula.specs.declared.nodes.Node.{Node}
 use Rattle.ltl_formula.specs.Tree.{Tree}
 use Rattle.machine_model.specs.declared.problems.Problem.{Problem}
-use Rattle.machine_model.specs.Problem.{automaton_of, components_of}
+use Rattle.machine_model.specs.declared.counting.Counts.{Counts}
+use Rattle.machine_model.specs.Problem.{automaton_of}
 use Rattle.spec_faults.specs.declared.code.SpecCode.{SpecCode}
 use Rattle.tlsf_expand.specs.FlatText.{FlatText}
 use Rattle.spec_problems.specs.declared.sides.Interface.{Interface}
@@ -20,8 +21,7 @@ pub record IsSameProblem (p q : Problem) : Type 0 where
   pub side : p.side ≡ q.side
   pub kind : p.kind ≡ q.kind
   pub size : p.size ≡ q.size
-  pub version : p.version ≡ q.version
-  pub components : components_of p ≡ components_of q
+  pub counting : p.counting ≡ q.counting
 
 abbrev pub IsSameIfAny : Option Problem → Option Problem → Type 0
 IsSameIfAny None None = Unit {0}
@@ -41,7 +41,7 @@ pub record ProblemsOfFormulasAreDetermined : Type 0 where
 
 -- a text has one flat form with one pair of problems, or one first fault
 pub record ProblemsOfTextsAreDetermined : Type 0 where
-  pub one_text : (text : List ℕ) (kind : Option Kind) (version : ℕ) (spec spec' : FlatText) (s t : SideProblems) → AreProblemsOf text kind version spec s → AreProblemsOf text kind version spec' t → spec ≡ spec'
-  pub one : (text : List ℕ) (kind : Option Kind) (version : ℕ) (spec spec' : FlatText) (s t : SideProblems) → AreProblemsOf text kind version spec s → AreProblemsOf text kind version spec' t → AreSameProblems s t
-  pub no_fault : (text : List ℕ) (kind : Option Kind) (version : ℕ) (spec : FlatText) (s : SideProblems) (code : SpecCode) (place : ℕ) → AreProblemsOf text kind version spec s → IsFirstFault text kind code place → ⊥
+  pub one_text : (text : List ℕ) (kind : Option Kind) (counts : Counts) (spec spec' : FlatText) (s t : SideProblems) → AreProblemsOf text kind counts spec s → AreProblemsOf text kind counts spec' t → spec ≡ spec'
+  pub one : (text : List ℕ) (kind : Option Kind) (counts : Counts) (spec spec' : FlatText) (s t : SideProblems) → AreProblemsOf text kind counts spec s → AreProblemsOf text kind counts spec' t → AreSameProblems s t
+  pub no_fault : (text : List ℕ) (kind : Option Kind) (counts : Counts) (spec : FlatText) (s : SideProblems) (code : SpecCode) (place : ℕ) → AreProblemsOf text kind counts spec s → IsFirstFault text kind code place → ⊥
   pub one_fault : (text : List ℕ) (kind : Option Kind) (code code' : SpecCode) (place place' : ℕ) → IsFirstFault text kind code place → IsFirstFault text kind code' place' → (code ≡ code') × (place ≡ place')

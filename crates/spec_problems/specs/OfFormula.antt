@@ -9,7 +9,8 @@ use Rattle.ltl_formula.specs.declared.nodes.Node.{Node}
 use Rattle.ltl_formula.specs.Tree.{Tree}
 use Rattle.machine_model.specs.declared.problems.Problem.{Problem}
 use Rattle.machine_model.specs.Automaton.{AutomatonModel}
-use Rattle.machine_model.specs.Problem.{automaton_of, components_of, HasComponents, IsProblem}
+use Rattle.machine_model.specs.Counting.{IsCountedAs}
+use Rattle.machine_model.specs.Problem.{automaton_of, IsProblem}
 use Rattle.dual_search.specs.declared.automata.Automata.{Automata}
 use Rattle.dual_search.specs.BothForms.{both_forms}
 use Rattle.dual_search.specs.Sides.{AcceptsWhere, AreAutomataOf, SystemPassesLimit}
@@ -20,8 +21,7 @@ use Rattle.cobuchi_build.specs.declared.building.BuildFault.{BuildFault}
 use Rattle.spec_problems.specs.declared.sides.Interface.{Interface}
 use Rattle.spec_problems.specs.declared.sides.SideProblems.{SideProblems}
 
--- the problem of a side for machines of one state, over this automaton, whose components are at hand exactly for base clauses of
--- version 3
+-- the problem of a side for machines of one state, over this automaton, in which numbers count what they are to
 pub record IsProblemOver (x : Interface) (whose : Side) (machines : Kind) (a : AutomatonModel) (p : Problem) : Type 0 where
   pub automaton : automaton_of p ≡ a
   pub inputs : p.inputs ≡ x.inputs
@@ -29,9 +29,7 @@ pub record IsProblemOver (x : Interface) (whose : Side) (machines : Kind) (a : A
   pub side : p.side ≡ whose
   pub kind : p.kind ≡ machines
   pub size : p.size ≡ 1
-  pub version : p.version ≡ x.version
-  pub whole : (x.version ≡ 3 → ⊥) → components_of p ≡ None
-  pub counted : x.version ≡ 3 → HasComponents p
+  pub counting : IsCountedAs x.counts a p.counting
 
 -- the environment has a problem exactly where its automaton passes no limit; its machines are of the other kind
 abbrev pub IsEnvironmentOver : Interface → Option AutomatonModel → Option Problem → Type 0

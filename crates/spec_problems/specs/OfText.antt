@@ -6,6 +6,7 @@ use Rattle.letter_word.specs.declared.kinds.Kind.{Kind}
 use Rattle.ltl_formula.specs.declared.nodes.FormulaId.{FormulaId}
 use Rattle.ltl_formula.specs.declared.nodes.Node.{Node}
 use Rattle.ltl_formula.specs.Nodes.{tree_at}
+use Rattle.machine_model.specs.declared.counting.Counts.{Counts}
 use Rattle.spec_faults.specs.declared.code.SpecCode.{SpecCode}
 use Rattle.tlsf_syntax.specs.Text.{Text}
 use Rattle.tlsf_reader.specs.Reads.{Reads}
@@ -18,16 +19,16 @@ use Rattle.spec_problems.specs.declared.sides.SideProblems.{SideProblems}
 use Rattle.spec_problems.specs.OfFormula.{AreProblemsIn, IsFormFault}
 
 -- what both problems of a text share
-abbrev pub interface_of : ℕ → Expanded → Interface
-interface_of version x = record { inputs = length x.inputs; outputs = length x.outputs; kind = x.kind; version = version }
+abbrev pub interface_of : Counts → Expanded → Interface
+interface_of counts x = record { inputs = length x.inputs; outputs = length x.outputs; kind = x.kind; counts = counts }
 
 -- The text is this one, flat, in whose list the normal forms of the whole stand too, and these are the problems of the whole. A kind
 -- that is given stands for those that the text names.
-pub record AreProblemsOf (text : List ℕ) (kind : Option Kind) (version : ℕ) (spec : FlatText) (s : SideProblems) : Type 0 where
+pub record AreProblemsOf (text : List ℕ) (kind : Option Kind) (counts : Counts) (spec : FlatText) (s : SideProblems) : Type 0 where
   pub flat : FlatText
   pub is_flat : IsFlatOf SMALL_LIMITS text kind flat
   pub same : spec.expanded ≡ flat.expanded
-  pub problems : AreProblemsIn (interface_of version flat.expanded) (tree_at flat.formulas flat.expanded.whole) flat.formulas spec.formulas s
+  pub problems : AreProblemsIn (interface_of counts flat.expanded) (tree_at flat.formulas flat.expanded.whole) flat.formulas spec.formulas s
 
 -- the text's first fault: that of reading or expansion, and where it has a flat text, that of normal forms and automata
 pub data IsFirstFault (text : List ℕ) (kind : Option Kind) : SpecCode → ℕ → Type 0 where

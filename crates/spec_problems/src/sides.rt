@@ -1,13 +1,10 @@
 //! The problems of both sides of a formula.
 
-ghost use Rattle.std.specs.Prelude.{◌≡◌, ℕ, ◌≤◌, None, Err, IfOk, IfSome, IsSome, OnOk};
-ghost use Rattle.std.specs.Arc.{arc_value};
+ghost use Rattle.std.specs.Prelude.{◌≡◌, ℕ, ◌≤◌, Err, IfOk, IfSome, OnOk};
 ghost use Rattle.text_limits.specs.declared.TheConstants.{SMALL_LIMITS};
 ghost use Rattle.ltl_formula.specs.ListSignals.{KeepsSignals};
 ghost use Rattle.ltl_formula.specs.Nodes.{Grows, IsNodeList, Stands, tree_at};
 ghost use Rattle.machine_model.specs.Automaton.{states_of};
-ghost use Rattle.machine_model.specs.Components.{AreComponentsOf};
-ghost use Rattle.machine_model.specs.Problem.{IsVersion};
 ghost use Rattle.spec_faults.specs.declared.code.SpecCode.{SpecCode as Code};
 ghost use Rattle.spec_faults.specs.declared.code.SpecFault.TheVariants.{At};
 ghost use Rattle.tlsf_expand.specs.FewSignals.{HasFewSignals};
@@ -17,7 +14,7 @@ use cobuchi_build::BuildFault;
 use dual_search::{Automata, problems};
 use letter_word::{Kind, Side};
 use ltl_formula::{FormulaId, Formulas};
-use machine_model::{Automaton, Components, Problem};
+use machine_model::{Automaton, Counts, Problem};
 use spec_faults::{SpecCode, SpecFault};
 use std::alloc::{AllocError, Global};
 use std::sync::Arc;
@@ -31,8 +28,8 @@ pub struct Interface {
     pub outputs: u32,
     /// The kind of the system's machines. Those of the environment are of the other one.
     pub kind: Kind,
-    /// The version of the base clauses, from 1 to 3.
-    pub version: u32,
+    /// What the numbers of annotations are to count.
+    pub counts: Counts,
 }
 
 /// The problems of both sides of a formula, for machines of one state.
@@ -55,7 +52,6 @@ pub fn problems_of(
 ) -> Result<SideProblems, SpecFault>
     requires stands { Stands formulas.old whole }
     requires few { HasFewSignals SMALL_LIMITS interface.inputs interface.outputs formulas.old }
-    requires version { IsVersion interface.version }
     ensures problems { IfOk result (AreProblemsIn interface (tree_at formulas.old whole) formulas.old formulas.new) }
     ensures meet { IfOk result AreProblems }
     ensures accept { IfOk result (AcceptBySide (tree_at formulas.old whole)) }
@@ -147,7 +143,7 @@ fn problem(
     requires { states_of automaton ≤ 2000 }
     ensures { IfOk result (IsProblemOver interface side kind automaton) }
 {
-    let components = components(alloc, interface.version, &automaton)?;
+    let counting = interface.counts.over(alloc, &automaton)?;
     Ok(Problem {
         automaton: Arc::new(alloc, automaton)?,
         inputs: interface.inputs,
@@ -155,25 +151,6 @@ fn problem(
         side,
         kind,
         size: 1,
-        version: interface.version,
-        components,
+        counting,
     })
-}
-
-/// The automaton's components, where base clauses of this version count by them.
-fn components(
-    alloc: Global,
-    version: u32,
-    automaton: &Automaton,
-) -> Result<Option<Arc<Components>>, AllocError>
-    requires { states_of automaton.now ≤ 2000 }
-    ensures whole { IfOk result (λ made. (version ≡ 3 → ⊥) → made ≡ None) }
-    ensures counted { IfOk result (λ made. version ≡ 3 → IfSome made (λ components. AreComponentsOf automaton.now (arc_value components))) }
-    ensures some { IfOk result (λ made. version ≡ 3 → IsSome made) }
-{
-    if version != 3 {
-        return Ok(None);
-    }
-    let components = Components::of(alloc, automaton)?;
-    Ok(Some(Arc::new(alloc, components)?))
 }

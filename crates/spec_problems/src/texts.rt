@@ -3,7 +3,6 @@
 ghost use Rattle.std.specs.Prelude.{◌≡◌, ℕ, Err, IfOk, length};
 ghost use Rattle.text_limits.specs.declared.TheConstants.{SMALL_LIMITS};
 ghost use Rattle.ltl_formula.specs.Nodes.{IsNodeList, tree_at};
-ghost use Rattle.machine_model.specs.Problem.{IsVersion};
 ghost use Rattle.spec_faults.specs.declared.code.SpecCode.{SpecCode as Code};
 ghost use Rattle.spec_faults.specs.declared.code.SpecFault.TheVariants.{At};
 ghost use Rattle.tlsf_expand.specs.FewSignals.{HasFewSignals};
@@ -15,6 +14,7 @@ ghost use Rattle.spec_problems.specs.OfText.{AreProblemsOf, IsFirstFault, SaysWh
 use crate::sides::{Interface, SideProblems, problems_of};
 use flat_text::expand_text;
 use letter_word::Kind;
+use machine_model::Counts;
 use spec_faults::SpecFault;
 use std::alloc::Global;
 use text_limits::SMALL_LIMITS;
@@ -28,16 +28,15 @@ pub struct TextProblems {
     pub problems: SideProblems,
 }
 
-/// The problems of both sides of a text, over base clauses of this version, or the text's first fault. A kind that is given
+/// The problems of both sides of a text, whose numbers count so, or the text's first fault. A kind that is given
 /// stands for those that the text names.
 pub fn text_problems(
     alloc: Global,
     text: &[u8],
     kind: Option<Kind>,
-    version: u32,
+    counts: Counts,
 ) -> Result<TextProblems, SpecFault>
-    requires { IsVersion version }
-    ensures problems { IfOk result (λ t. AreProblemsOf text.now kind version (spec_seen t.spec) t.problems) }
+    ensures problems { IfOk result (λ t. AreProblemsOf text.now kind counts (spec_seen t.spec) t.problems) }
     ensures meet { IfOk result (λ t. AreProblems t.problems) }
     ensures accept { IfOk result (λ t. AcceptBySide (tree_at t.spec.formulas t.spec.whole) t.problems) }
     ensures means { IfOk result (λ t. SaysWhat text.now t.spec.formulas t.spec.whole) }
@@ -54,7 +53,7 @@ pub fn text_problems(
         inputs: spec.inputs.len() as u32,
         outputs: spec.outputs.len() as u32,
         kind: spec.kind,
-        version,
+        counts,
     };
     match problems_of(alloc, &mut spec.formulas, spec.whole, interface) {
         Ok(problems) => Ok(TextProblems { spec, problems }),

@@ -1,5 +1,8 @@
 //! The files of a document's logs.
 
+ghost use Rattle.std.specs.Prelude.{◌≡◌, ◌==◌, if◌then◌else◌};
+ghost use Rattle.machine_model.specs.Problem.{IsProblem};
+ghost use Rattle.machine_model.specs.declared.counting.Counts.TheVariants.{Local, Whole};
 ghost use Rattle.spec_problems.specs.OfFormula.{AreProblems};
 
 use crate::dimacs::push_formula;
@@ -10,6 +13,7 @@ use cert_text::{Document, LogPart};
 use clause_base::Cnf;
 use document_check::clause_version;
 use letter_word::Side;
+use machine_model::{Counting, Counts, Problem};
 use machine_table::{ShowFault, Shown};
 use program_replies::refused;
 use spec_faults::SpecFault;
@@ -45,15 +49,56 @@ fn files_of_document(
     document: &Document,
     text: &[u8],
 ) -> Result<Vec<ProofFile>, TextFault> {
-    let version = clause_version(document.version);
-    let text = match text_problems(alloc, text, Some(document.kind), version) {
+    let text = match text_problems(
+        alloc,
+        text,
+        Some(document.kind),
+        counts_in(document.version),
+    ) {
         Ok(text) => text,
         Err(SpecFault::NoMemory) => return Err(TextFault::NotShown(ShowFault::NoMemory)),
         Err(SpecFault::At { code, place }) => {
             return Err(TextFault::Refused(refused(alloc, code, place)?.bytes));
         }
     };
+    if document.version == 1 {
+        return files_of(alloc, &unnumbered(text.problems), &document.logs);
+    }
     files_of(alloc, &text.problems, &document.logs)
+}
+
+/// What numbers count in the base clauses of a document's version.
+fn counts_in(version: u32) -> Counts
+    ensures { result ≡ (if version == 5 then Local else Whole) }
+{
+    match version {
+        5 => Counts::Local,
+        _ => Counts::Whole,
+    }
+}
+
+/// The problems for machines whose states stand in any order, as documents of version 1 take them.
+fn unnumbered(problems: SideProblems) -> SideProblems
+    requires { AreProblems problems }
+    ensures { AreProblems result }
+{
+    SideProblems {
+        system: in_any_order(problems.system),
+        environment: match problems.environment {
+            Some(problem) => Some(in_any_order(problem)),
+            None => None,
+        },
+    }
+}
+
+fn in_any_order(problem: Problem) -> Problem
+    requires { IsProblem problem }
+    ensures { IsProblem result }
+{
+    Problem {
+        counting: Counting::AllRejecting { numbered: false },
+        ..problem
+    }
 }
 
 fn files_of(

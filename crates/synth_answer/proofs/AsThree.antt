@@ -2,9 +2,11 @@
 use Rattle.std.proofs.Common.{◌≡◌, true, false, refl}
 use Rattle.letter_word.specs.declared.kinds.Side.{Side}
 use Rattle.letter_word.specs.declared.kinds.Side.TheVariants.{System, Environment}
-use Rattle.annotation_encode.specs.Counts.{counts_version}
-use Rattle.annotation_encode.specs.declared.counts.Counts.{Counts}
-use Rattle.annotation_encode.specs.declared.counts.Counts.TheVariants.{Whole, Local}
+use Rattle.machine_model.specs.Automaton.{AutomatonModel}
+use Rattle.machine_model.specs.Counting.{IsCountedAs}
+use Rattle.machine_model.specs.declared.counting.Counting.{Counting}
+use Rattle.machine_model.specs.declared.counting.Counts.{Counts}
+use Rattle.machine_model.specs.declared.counting.Counts.TheVariants.{Whole, Local}
 use Rattle.cert_text.specs.declared.documents.Verdict.{Verdict}
 use Rattle.cert_text.specs.declared.documents.Verdict.TheVariants.{Machine, Unknown}
 use Rattle.cert_text.specs.Order.{fits_version, has_logs, is_version}
@@ -15,9 +17,10 @@ pub is_a_version : (counts : Counts) → is_version (document_version counts) �
 is_a_version Whole = refl
 is_a_version Local = refl
 
-pub same_clauses : (counts : Counts) → clause_version (document_version counts) ≡ counts_version counts
-same_clauses Whole = refl
-same_clauses Local = refl
+-- problems whose numbers count as the settings say are counted as the document's version wants it
+pub same_counting : (counts : Counts) (a : AutomatonModel) (counting : Counting) → IsCountedAs counts a counting → counting_for (document_version counts) a ≡ counting
+same_counting Whole a counting is = sym is
+same_counting Local a counting is = sym (computed a counting is)
 
 -- each verdict may be told
 pub always_fits : (counts : Counts) (v : Verdict) → fits_version (document_version counts) v ≡ true

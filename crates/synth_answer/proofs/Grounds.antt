@@ -2,7 +2,6 @@
 use Rattle.std.proofs.Common.{◌≡◌, ℕ, Bool, List, Option, Some, refl, sym, ap, ◌∙◌, subst}
 use Rattle.letter_word.specs.declared.kinds.Kind.{Kind}
 use Rattle.spec_faults.specs.declared.code.SpecCode.{SpecCode}
-use Rattle.annotation_encode.specs.Counts.{counts_version}
 use Rattle.synth_engine.specs.declared.settings.Settings.{Settings}
 use Rattle.synth_answer.specs.Answer.{AnswersFor, IsAnswerFor, IsAnswerOn, IsToldFor, IsToldOn, refused, realizable, unrealizable, bounded, no_size, no_entries, defeats, told_defeats, verdict_defeats, verdict_of}
 use Rattle.cert_text.specs.declared.documents.Verdict.{Verdict}
@@ -66,7 +65,7 @@ abbrev pub printed_spec : {text : List ℕ} {kind : Option Kind} {settings : Set
 printed_spec p = record { expanded = p.is_ground.is_wanted.flat.expanded; formulas = p.later }
 
 -- a document that is printed for a text has the text's problems
-pub printed_problems : (text : List ℕ) (kind : Option Kind) (settings : Settings) (bytes : List ℕ) (p : Printed text kind settings bytes) → AreProblemsOf text kind (counts_version settings.counts) (printed_spec p) p.problems
+pub printed_problems : (text : List ℕ) (kind : Option Kind) (settings : Settings) (bytes : List ℕ) (p : Printed text kind settings bytes) → AreProblemsOf text kind settings.counts (printed_spec p) p.problems
 printed_problems text kind settings bytes p =
     let is = p.is_ground in
     let x = is.is_wanted.flat.expanded in
@@ -79,5 +78,5 @@ printed_problems text kind settings bytes p =
       flat = is.is_wanted.flat;
       is_flat = is.is_wanted.is_flat;
       same = refl;
-      problems = subst (λ g. AreProblemsOn (counts_version settings.counts) g p.later p.problems) same p.are_problems;
+      problems = subst (λ g. AreProblemsOn settings.counts g p.later p.problems) same p.are_problems;
     }

@@ -8,11 +8,10 @@ use Rattle.letter_word.specs.declared.kinds.Kind.{Kind}
 use Rattle.letter_word.specs.declared.kinds.Side.{Side}
 use Rattle.letter_word.specs.declared.kinds.Side.TheVariants.{System, Environment}
 use Rattle.letter_word.specs.Kinds.{other_kind}
-use Rattle.machine_model.specs.Problem.{sized}
+use Rattle.machine_model.specs.Problem.{sized, automaton_of}
 use Rattle.machine_model.specs.declared.problems.Problem.{Problem}
 use Rattle.annotation_encode.specs.Count.{SizesRise, allowed_sizes}
-use Rattle.annotation_encode.specs.Counts.{counts_version}
-use Rattle.annotation_encode.specs.declared.counts.Counts.{Counts}
+use Rattle.machine_model.specs.declared.counting.Counts.{Counts}
 use Rattle.annotation_encode.specs.Variables.{variables_of}
 use Rattle.aiger_text.specs.Circuit.{Circuit}
 use Rattle.cert_text.specs.declared.documents.Verdict.{Verdict}
@@ -47,10 +46,10 @@ pub record HasHeadOf (p : Problem) (l : LogPart) : Type 0 where
 pub record AreOfKind (x : Facts) (kind : Kind) (counts : Counts) : Type 0 where
   pub kind_is : x.system.kind ≡ kind
   pub size : x.system.size ≡ 1
-  pub version : x.system.version ≡ counts_version counts
+  pub counted : IsCountedAs counts (automaton_of x.system) x.system.counting
   pub other_kind_is : ForSome x.environment (λ p. p.kind ≡ other_kind kind)
   pub other_size : ForSome x.environment (λ p. p.size ≡ 1)
-  pub other_version : ForSome x.environment (λ p. p.version ≡ counts_version counts)
+  pub other_counted : ForSome x.environment (λ p. IsCountedAs counts (automaton_of p) p.counting)
 
 -- == names ==
 
@@ -90,31 +89,31 @@ sizes_below x max side n h =
 
 -- == the problems of sizes ==
 
-same_at : (counts : Counts) (p : Problem) (kind : Kind) (n : ℕ) → p.kind ≡ kind → p.version ≡ counts_version counts
-    → record p { kind = kind; size = n; version = clause_version (document_version counts) } ≡ sized p n
+same_at : (counts : Counts) (p : Problem) (kind : Kind) (n : ℕ) → p.kind ≡ kind → IsCountedAs counts (automaton_of p) p.counting
+    → record p { kind = kind; size = n; counting = counting_for (document_version counts) (automaton_of p) } ≡ sized p n
 same_at counts p kind n k v =
-    ap (λ y. record p { kind = y; size = n; version = clause_version (document_version counts) }) (sym k)
-    ∙ ap (λ y. record p { size = n; version = y }) (same_clauses counts ∙ sym v)
+    ap (λ y. record p { kind = y; size = n; counting = counting_for (document_version counts) (automaton_of p) }) (sym k)
+    ∙ ap (λ y. record p { size = n; counting = y }) (same_counting counts (automaton_of p) p.counting v)
 
-same_one : (counts : Counts) (p : Problem) (kind : Kind) → p.kind ≡ kind → p.version ≡ counts_version counts → p.size ≡ 1
-    → record p { kind = kind; size = 1; version = clause_version (document_version counts) } ≡ p
+same_one : (counts : Counts) (p : Problem) (kind : Kind) → p.kind ≡ kind → IsCountedAs counts (automaton_of p) p.counting → p.size ≡ 1
+    → record p { kind = kind; size = 1; counting = counting_for (document_version counts) (automaton_of p) } ≡ p
 same_one counts p kind k v one = same_at counts p kind 1 k v ∙ ap (λ y. record p { size = y }) (sym one)
 
 allowed_holds : (counts : Counts) (x : Facts) (kind : Kind) (max : ℕ) (side : Side) → AreOfKind x kind counts → sizes_of x max side ≡ allowed_at x kind (document_version counts) max side
-allowed_holds counts x kind max System of = ap (λ p. allowed_sizes p max) (sym (same_one counts x.system kind of.kind_is of.version of.size))
-allowed_holds counts x kind max Environment of = by_problem x.environment of.other_kind_is of.other_version of.other_size
+allowed_holds counts x kind max System of = ap (λ p. allowed_sizes p max) (sym (same_one counts x.system kind of.kind_is of.counted of.size))
+allowed_holds counts x kind max Environment of = by_problem x.environment of.other_kind_is of.other_counted of.other_size
   where
-    by_problem : (e : Option Problem) → ForSome e (λ p. p.kind ≡ other_kind kind) → ForSome e (λ p. p.version ≡ counts_version counts) → ForSome e (λ p. p.size ≡ 1)
+    by_problem : (e : Option Problem) → ForSome e (λ p. p.kind ≡ other_kind kind) → ForSome e (λ p. IsCountedAs counts (automaton_of p) p.counting) → ForSome e (λ p. p.size ≡ 1)
         → sizes_of (record x { environment = e }) max Environment ≡ allowed_at (record x { environment = e }) kind (document_version counts) max Environment
     by_problem None k v one = refl
     by_problem (Some p) k v one = ap (λ q. allowed_sizes q max) (sym (same_one counts p (other_kind kind) (k p refl) (v p refl) (one p refl)))
 
 some_log : (counts : Counts) (x : Facts) (kind : Kind) (full : Bool) (limit : Option ℕ) (l : LogPart) (side : Side) (n : ℕ) → AreOfKind x kind counts
     → OfSide x.system x.environment (λ p. check.IsLogOf full limit l (sized p n)) side → check.IsLogOfSome full limit l (problem_at x kind (document_version counts) side n)
-some_log counts x kind full limit l System n of h = subst (check.IsLogOf full limit l) (sym (same_at counts x.system kind n of.kind_is of.version)) h
-some_log counts x kind full limit l Environment n of h = by_problem x.environment of.other_kind_is of.other_version h
+some_log counts x kind full limit l System n of h = subst (check.IsLogOf full limit l) (sym (same_at counts x.system kind n of.kind_is of.counted)) h
+some_log counts x kind full limit l Environment n of h = by_problem x.environment of.other_kind_is of.other_counted h
   where
-    by_problem : (e : Option Problem) → ForSome e (λ p. p.kind ≡ other_kind kind) → ForSome e (λ p. p.version ≡ counts_version counts)
+    by_problem : (e : Option Problem) → ForSome e (λ p. p.kind ≡ other_kind kind) → ForSome e (λ p. IsCountedAs counts (automaton_of p) p.counting)
         → OfSide x.system e (λ p. check.IsLogOf full limit l (sized p n)) Environment → check.IsLogOfSome full limit l (problem_at (record x { environment = e }) kind (document_version counts) Environment n)
     by_problem None k v h = absurd h
     by_problem (Some p) k v h = subst (check.IsLogOf full limit l) (sym (same_at counts p (other_kind kind) n (k p refl) (v p refl))) h

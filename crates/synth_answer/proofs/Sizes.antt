@@ -8,7 +8,7 @@ use Rattle.letter_word.specs.declared.kinds.Side.{Side}
 use Rattle.letter_word.specs.declared.kinds.Side.TheVariants.{System, Environment}
 use Rattle.machine_model.specs.Automaton.{IsAutomaton, states_of}
 use Rattle.machine_model.specs.Components.{ComponentsClass}
-use Rattle.machine_model.specs.Problem.{IsProblem, automaton_of, reads_of, sized, writes_of}
+use Rattle.machine_model.specs.Problem.{IsProblem, automaton_of, reads_of, sized, writes_of, counts_locally}
 use Rattle.machine_model.specs.declared.problems.Problem.{Problem}
 use Rattle.annotation_encode.specs.BaseClauses.{base_clauses}
 use Rattle.annotation_encode.specs.Count.{count_of, most_clauses}
@@ -56,7 +56,7 @@ test_passed true n e = refl
 test_passed false n e = absurd (cc)
 
 most_is : (p : Problem) → most_clauses p ≤ 4000000
-most_is p = go (p.version == 3)
+most_is p = go (counts_locally p)
   where
     go : (b : Bool) → (if b then 4000000 else 1000000) ≤ 4000000
     go true = omega arith

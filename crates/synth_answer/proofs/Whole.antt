@@ -14,7 +14,6 @@ use Rattle.machine_model.specs.Machine.{MachineModel, size_of}
 use Rattle.machine_model.specs.Problem.{IsProblem, automaton_of, sized}
 use Rattle.machine_model.specs.declared.problems.Problem.{Problem}
 use Rattle.annotation_encode.specs.Count.{allowed_sizes}
-use Rattle.annotation_encode.specs.Counts.{counts_version}
 use Rattle.annotation_encode.specs.Laws.{HasNoAccepted}
 use Rattle.annotation_encode.specs.Variables.{variables_of}
 use Rattle.refutation_log.specs.declared.entries.Entry.{Entry}
@@ -74,8 +73,8 @@ use Rattle.synth_answer.proofs.Sizes.{few_clauses, few_variables}
 pub record Context (x : Expanded) (truth : Word → Bool) (nodes : List Node) (whole : FormulaId) (settings : Settings) (s : SideProblems) : Type 0 where
   pub laws : LawsHold
   pub bounds : IsWithinBounds settings
-  pub given : AreGivenOn (counts_version settings.counts) (ground_with x truth nodes whole) s
-  pub for_text : AreProblemsFor (counts_version settings.counts) x s
+  pub given : AreGivenOn settings.counts (ground_with x truth nodes whole) s
+  pub for_text : AreProblemsFor settings.counts x s
   pub names : HasPlainNames x
   pub automata : HaveAutomata s
 
@@ -101,7 +100,7 @@ module _ (x : Expanded) (truth : Word → Bool) (nodes : List Node) (whole : For
   pub says : Says formula the_text
   says = k.given.says
 
-  for_text : AreProblemsFor (counts_version settings.counts) x s
+  for_text : AreProblemsFor settings.counts x s
   for_text = k.for_text
 
   pub side_known : (side : Side) (p : Problem) → IsOf s.system s.environment side p → IsSideOf the_text formula side p
@@ -272,10 +271,10 @@ module _ (x : Expanded) (truth : Word → Bool) (nodes : List Node) (whole : For
   of_kind = record {
     kind_is = for_text.of_system.kind_is;
     size = for_text.of_system.size;
-    version = for_text.of_system.version_is;
+    counted = for_text.of_system.counted;
     other_kind_is = λ p is. (for_text.of_environment p is).kind_is;
     other_size = λ p is. (for_text.of_environment p is).size;
-    other_version = λ p is. (for_text.of_environment p is).version_is;
+    other_counted = λ p is. (for_text.of_environment p is).counted;
   }
 
   ended_lines : (c : Option Circuit) (logs : List SizeLog) → All IsHere logs → All (IsEndedLog given settings.entries) (lined c logs)

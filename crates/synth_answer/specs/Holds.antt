@@ -5,8 +5,8 @@ use Rattle.letter_word.specs.declared.kinds.Side.TheVariants.{System, Environmen
 use Rattle.machine_model.specs.Problem.{sized}
 use Rattle.machine_model.specs.declared.problems.Problem.{Problem}
 use Rattle.annotation_encode.specs.Count.{allowed_sizes}
-use Rattle.annotation_encode.specs.declared.counts.Counts.{Counts}
-use Rattle.annotation_encode.specs.declared.counts.Counts.TheVariants.{Whole, Local}
+use Rattle.machine_model.specs.declared.counting.Counts.{Counts}
+use Rattle.machine_model.specs.declared.counting.Counts.TheVariants.{Whole, Local}
 use Rattle.annotation_encode.specs.Variables.{variables_of}
 use Rattle.refutation_log.specs.Log.{IsClosed, IsFull}
 use Rattle.cert_text.specs.declared.order.Place.{Place}

@@ -2,7 +2,6 @@
 use Rattle.std.specs.Prelude.{◌≡◌, ℕ, ◌≤◌, List, Option, Some, All}
 use Rattle.letter_word.specs.declared.kinds.Kind.{Kind}
 use Rattle.ltl_formula.specs.declared.nodes.Node.{Node}
-use Rattle.annotation_encode.specs.Counts.{counts_version}
 use Rattle.refutation_log.specs.Teaches.{IsTaught}
 use Rattle.spec_problems.specs.declared.sides.SideProblems.{SideProblems}
 use Rattle.synth_engine.specs.declared.settings.Settings.{Settings}
@@ -36,7 +35,7 @@ pub record PrintedFor (IsGround : Option Kind → Ground → Type 0) (kind : Opt
   pub is_ground : IsGround kind ground
   pub later : List Node
   pub problems : SideProblems
-  pub are_problems : AreProblemsOn (counts_version settings.counts) ground later problems
+  pub are_problems : AreProblemsOn settings.counts ground later problems
   pub document : Document
   pub by_its_kind : IsGround (Some document.kind) ground
   pub is_printed : IsPrinted (facts_on ground problems) settings bytes document

@@ -3,7 +3,6 @@ ghost use Rattle.std.specs.Prelude.{◌≡◌, Bool, IfOk, List, Some};
 ghost use Rattle.letter_word.specs.Word.{Word};
 ghost use Rattle.ltl_formula.specs.declared.nodes.FormulaId.{FormulaId as Id};
 ghost use Rattle.ltl_formula.specs.declared.nodes.Node.{Node};
-ghost use Rattle.annotation_encode.specs.Counts.{counts_version};
 ghost use Rattle.flat_text.specs.FlatNames.{HasPlainNames};
 ghost use Rattle.program_replies.specs.Statuses.{status_number};
 ghost use Rattle.tlsf_expand.specs.FlatText.{spec_seen};
@@ -72,7 +71,7 @@ pub fn told_answer<R: Threads + Wait + Sync, G: Gate + Sync>(
 ) -> Result<Told, AllocError>
     ensures { IfOk result (λ t. IsTold text.now kind settings t.reply.bytes.items (status_number t.reply.status) t.verdict) }
 {
-    match problems_or_refusal(alloc, text, kind, settings.version())? {
+    match problems_or_refusal(alloc, text, kind, settings.counts())? {
         Problems::Of(found) => document(rt, alloc, found, settings, gate),
         Problems::Refused(reply) => Ok(Told {
             reply,
@@ -91,9 +90,9 @@ pub fn answer_on<R: Threads + Wait + Sync, G: Gate + Sync>(
     settings: Settings,
     gate: &G,
 ) -> Result<Answered, AllocError>
-    requires problems { AreProblemsFor (counts_version settings.counts) (spec_seen spec.now).expanded problems }
+    requires problems { AreProblemsFor settings.counts (spec_seen spec.now).expanded problems }
     requires names { HasPlainNames (spec_seen spec.now).expanded }
-    ensures { (truth : Word → Bool) (nodes : List Node) (whole : Id) → AreGivenOn (counts_version settings.counts) (ground_with (spec_seen spec.now).expanded truth nodes whole) problems
+    ensures { (truth : Word → Bool) (nodes : List Node) (whole : Id) → AreGivenOn settings.counts (ground_with (spec_seen spec.now).expanded truth nodes whole) problems
         → IfOk result (λ a. IsAnswerOn (ground_with (spec_seen spec.now).expanded truth nodes whole) settings a.reply.bytes.items (status_number a.reply.status) a.defeats) }
 {
     let (reply, verdict) = document_on(rt, alloc, spec, problems, settings, gate)?;
@@ -111,9 +110,9 @@ fn document<R: Threads + Wait + Sync, G: Gate + Sync>(
     settings: Settings,
     gate: &G,
 ) -> Result<Told, AllocError>
-    requires problems { AreProblemsFor (counts_version settings.counts) (spec_seen found.spec).expanded found.problems }
+    requires problems { AreProblemsFor settings.counts (spec_seen found.spec).expanded found.problems }
     requires names { HasPlainNames (spec_seen found.spec).expanded }
-    ensures { (truth : Word → Bool) (nodes : List Node) (whole : Id) → AreGivenOn (counts_version settings.counts) (ground_with (spec_seen found.spec).expanded truth nodes whole) found.problems
+    ensures { (truth : Word → Bool) (nodes : List Node) (whole : Id) → AreGivenOn settings.counts (ground_with (spec_seen found.spec).expanded truth nodes whole) found.problems
         → IfOk result (λ t. IsToldOn (ground_with (spec_seen found.spec).expanded truth nodes whole) settings t.reply.bytes.items (status_number t.reply.status) t.verdict) }
 {
     let TextProblems { spec, problems } = found;
@@ -133,9 +132,9 @@ fn document_on<R: Threads + Wait + Sync, G: Gate + Sync>(
     settings: Settings,
     gate: &G,
 ) -> Result<(Reply, Verdict), AllocError>
-    requires problems { AreProblemsFor (counts_version settings.counts) (spec_seen spec.now).expanded problems }
+    requires problems { AreProblemsFor settings.counts (spec_seen spec.now).expanded problems }
     requires names { HasPlainNames (spec_seen spec.now).expanded }
-    ensures { (truth : Word → Bool) (nodes : List Node) (whole : Id) → AreGivenOn (counts_version settings.counts) (ground_with (spec_seen spec.now).expanded truth nodes whole) problems
+    ensures { (truth : Word → Bool) (nodes : List Node) (whole : Id) → AreGivenOn settings.counts (ground_with (spec_seen spec.now).expanded truth nodes whole) problems
         → IfOk result (λ r. IsToldOn (ground_with (spec_seen spec.now).expanded truth nodes whole) settings r.0.bytes.items (status_number r.0.status) (Some r.1)) }
 {
     laws_hold();
@@ -151,7 +150,7 @@ fn searched<R: Threads + Wait + Sync, G: Gate + Sync>(
     settings: Settings,
     gate: &G,
 ) -> Result<(Reply, Verdict), AllocError>
-    requires problems { AreProblemsFor (counts_version settings.counts) (spec_seen spec.now).expanded problems }
+    requires problems { AreProblemsFor settings.counts (spec_seen spec.now).expanded problems }
     ensures { IfOk result (λ r. IsSearchedReply (spec_seen spec.now).expanded problems settings r.0.bytes.items r.0.status r.1) }
 {
     automata_are_kept(&problems);

@@ -4,9 +4,9 @@ ghost use Rattle.synth_answer.specs.Holds.{document_version};
 ghost use Rattle.synth_answer.specs.Reply.{IsShort, StatesIfGood, document_of, part_of as part_seen};
 
 use aiger_text::Circuit;
-use annotation_encode::Counts;
 use cert_text::{Document, LogPart, Verdict, write_document};
 use letter_word::Kind;
+use machine_model::Counts;
 use size_search::SizeLog;
 use std::alloc::{AllocError, Global};
 use synth_engine::Settings;

@@ -6,7 +6,7 @@ use Rattle.std.proofs.lemmas.Bool.{cases_lt}
 use Rattle.std.proofs.lemmas.List.{ext_get_or, get_or_append_left, get_or_push, length-map, same_from_push}
 use Rattle.std.proofs.lemmas.List.Elements.{All-append, All-cons, All-nil}
 use Rattle.std.proofs.lemmas.Option.{get_or_from_slice_get, slice_get-get_or}
-use Rattle.machine_model.specs.Problem.{HasComponents, IsProblem, parts_of, sized}
+use Rattle.machine_model.specs.Problem.{IsProblem, parts_of, sized}
 use Rattle.machine_model.proofs.PartsLemmas.{alike}
 use Rattle.machine_model.specs.declared.problems.Problem.{Problem}
 use Rattle.annotation_encode.specs.BaseClauses.{base_clauses}
@@ -183,8 +183,7 @@ problems_are p count ps problem few down k d h =
       size = omega arith;
       states = problem.states;
       signals = problem.signals;
-      version = problem.version;
-      components = λ third. let has : HasComponents p = problem.components third in record { components = has.components; made = has.made; right = has.right };
+      counting = problem.counting;
     } in
     (alike (sized p (count - k)) q (sym same)).problem here
 

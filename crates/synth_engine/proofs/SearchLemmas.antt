@@ -8,6 +8,7 @@ use Rattle.letter_word.specs.declared.kinds.Side.{Side}
 use Rattle.letter_word.specs.declared.kinds.Side.TheVariants.{System, Environment}
 use Rattle.machine_model.specs.Machine.{MachineModel, size_of}
 use Rattle.machine_model.specs.Problem.{IsProblem, Parts, parts_of, sized}
+use Rattle.machine_model.specs.declared.counting.Counts.{Counts}
 use Rattle.machine_model.specs.declared.problems.Problem.{Problem}
 use Rattle.machine_model.proofs.Tables.{size_pos}
 use Rattle.annotation_encode.specs.Count.{allowed_sizes}
@@ -42,7 +43,7 @@ plan_is s e max plan is = λ i. record { system = is.system_is i; environment = 
 searchable : (p : Problem) → IsProblem p → IsSearchable (sought_of p)
 searchable p is = sought_is_problem.searchable p is
 
-environment_searchable : {v : ℕ} (e : Option Problem) → ForSome e (IsSearched v Environment) → (x : Sought) → option_map sought_of e ≡ Some x → IsSearchable x × (x.side ≡ Environment)
+environment_searchable : {v : Counts} (e : Option Problem) → ForSome e (IsSearched v Environment) → (x : Sought) → option_map sought_of e ≡ Some x → IsSearchable x × (x.side ≡ Environment)
 environment_searchable None is x at = absurd (none-some x at)
 environment_searchable (Some p) is x at =
     let P : Sought → Type 0 = λ (y : Sought). IsSearchable y × (y.side ≡ Environment) in
@@ -50,7 +51,7 @@ environment_searchable (Some p) is x at =
     subst P (same_Some (sought_of p) x at) (searchable p here.within, here.of_side)
 
 -- a board of the plan may be made
-pub plan_named : {v : ℕ} (s : Problem) (e : Option Problem) (max : ℕ) (plan : Plan) → IsPlanOf s e max plan → IsSearched v System s → ForSome e (IsSearched v Environment)
+pub plan_named : {v : Counts} (s : Problem) (e : Option Problem) (max : ℕ) (plan : Plan) → IsPlanOf s e max plan → IsSearched v System s → ForSome e (IsSearched v Environment)
     → AreNamed (named_of plan) plan.system plan.environment plan.system_sizes plan.environment_sizes
 unfolding plan_at
 plan_named s e max plan is system environment =
@@ -76,7 +77,7 @@ plan_named s e max plan is system environment =
 -- TASKS
 
 sought_from : Parts → Sought
-sought_from x = record { automaton = x.automaton; inputs = x.inputs; outputs = x.outputs; side = x.side; kind = x.kind; version = x.version; components = x.components }
+sought_from x = record { automaton = x.automaton; inputs = x.inputs; outputs = x.outputs; side = x.side; kind = x.kind; counting = x.counting }
 
 same_sought : (p q : Problem) → parts_of p ≡ parts_of q → sought_of p ≡ sought_of q
 unfolding sought_from
@@ -220,14 +221,14 @@ winner_is s e settings plan (Some w) is h =
 
 -- WHAT IS LEFT TO BE SETTLED
 
-environment_left : {v : ℕ} (s : Problem) (e : Option Problem) (settings : Settings) (u : Unsettled) → ForSome e (IsSearched v Environment) → AreTasksOfAny e settings (allowed_of settings.max e) u.tasks.items
+environment_left : {v : Counts} (s : Problem) (e : Option Problem) (settings : Settings) (u : Unsettled) → ForSome e (IsSearched v Environment) → AreTasksOfAny e settings (allowed_of settings.max e) u.tasks.items
     → ((p : Problem) → e ≡ Some p → IsLeft Environment settings u p) × (e ≡ None → length u.tasks.items ≡ 0)
 environment_left s None settings u is are = (λ p at. absurd (none-some p at), λ none. are)
 environment_left s (Some q) settings u is are =
     let here : IsLeft Environment settings u q = record { of_side = (is q refl).of_side; tasks = are } in
     (λ p at. subst (IsLeft Environment settings u) (same_Some q p at) here, λ none. absurd (none-some q (sym none)))
 
-pub all_left : {v : ℕ} (s : Problem) (e : Option Problem) (settings : Settings) (plan : Plan) (sizes : Sizes) (us ue : Unsettled) → IsPlanOf s e settings.max plan → AreSizesOf plan settings sizes → IsSearched v System s
+pub all_left : {v : Counts} (s : Problem) (e : Option Problem) (settings : Settings) (plan : Plan) (sizes : Sizes) (us ue : Unsettled) → IsPlanOf s e settings.max plan → AreSizesOf plan settings sizes → IsSearched v System s
     → ForSome e (IsSearched v Environment) → us.tasks ≡ sizes.system → ue.tasks ≡ sizes.environment → AreLeft s e settings us ue
 unfolding plan_at
 all_left s e settings plan sizes us ue is are system environment system_is environment_is =

@@ -1,6 +1,6 @@
 -- What bounds a search (this project's own).
 use Rattle.std.specs.Prelude.{ℕ, ◌≤◌, Option, IfSome}
-use Rattle.annotation_encode.specs.declared.counts.Counts.{Counts}
+use Rattle.machine_model.specs.declared.counting.Counts.{Counts}
 
 -- the greatest number of states, the greatest number of entries of a log, if there is a limit, how many workers run beside the caller, and what
 -- annotations count

@@ -2,7 +2,6 @@
 ghost use Rattle.std.specs.Prelude.{IfOk};
 ghost use Rattle.std.specs.Option.{ForSome};
 ghost use Rattle.letter_word.specs.declared.kinds.Side.TheVariants.{System, Environment};
-ghost use Rattle.annotation_encode.specs.Counts.{counts_version};
 ghost use Rattle.synth_engine.specs.Searched.{IsSearched};
 ghost use Rattle.synth_engine.specs.Outcomes.{IsOutcomeOf};
 
@@ -33,8 +32,8 @@ pub fn search<R: Threads + Wait + Sync, G: Gate + Sync>(
     settings: Settings,
     gate: &G,
 ) -> Result<Outcome, AllocError>
-    requires system { IsSearched (counts_version settings.counts) System system }
-    requires environment { ForSome environment (IsSearched (counts_version settings.counts) Environment) }
+    requires system { IsSearched settings.counts System system }
+    requires environment { ForSome environment (IsSearched settings.counts Environment) }
     ensures { IfOk result (IsOutcomeOf system environment settings) }
 {
     let plan = Plan::new(system, environment, settings);

@@ -1,7 +1,7 @@
 //! What bounds a search.
 ghost use Rattle.std.specs.Prelude.{◌≡◌, ◌≤◌, IfSome};
 
-use annotation_encode::Counts;
+use machine_model::Counts;
 use std::marker::Model;
 
 /// What bounds a search. Contracts see the record of its four values.
@@ -26,7 +26,6 @@ impl Model for Settings {
 }
 
 impl Settings {
-    ghost use Rattle.annotation_encode.specs.Counts.{counts_version};
     ghost use Rattle.synth_engine.specs.Settings.{IsWithinBounds, alone};
 
     /// With these values.
@@ -75,13 +74,6 @@ impl Settings {
         ensures bounds { IsWithinBounds self }
     {
         self.counts
-    }
-
-    /// The version of the base clauses.
-    pub fn version(self) -> u32
-        ensures { result ≡ counts_version self.counts }
-    {
-        self.counts.version()
     }
 
     /// The same without workers beside the caller.

@@ -13,7 +13,9 @@ use Rattle.letter_word.specs.Word.{Word}
 use Rattle.machine_model.specs.Accepts.{SideAccepts}
 use Rattle.machine_model.specs.Automaton.{AutomatonModel, IsAutomaton}
 use Rattle.machine_model.specs.Machine.{IsMachine, MachineModel, size_of}
-use Rattle.machine_model.specs.Problem.{HasComponents, IsMachineOf, IsProblem, automaton_of, reads_of, sized, writes_of}
+use Rattle.machine_model.specs.Counting.{IsCountedAs}
+use Rattle.machine_model.specs.declared.counting.Counts.{Counts}
+use Rattle.machine_model.specs.Problem.{IsMachineOf, IsProblem, automaton_of, reads_of, sized, writes_of}
 use Rattle.machine_model.specs.Run.{IsRunLasso}
 use Rattle.machine_model.specs.declared.problems.Problem.{Problem}
 use Rattle.annotation_encode.specs.Laws.{HasNoAccepted}
@@ -42,7 +44,7 @@ wanted_of x tree = record { inputs = x.inputs; outputs = x.outputs; kind = x.kin
 
 -- == its problems ==
 
-one_for : (v : ℕ) (x : Expanded) (side : Side) (machines : Kind) (a : AutomatonModel) (p : Problem) → IsProblem p → IsProblemOver (interface_of v x) side machines a p → IsProblemFor v x side machines p
+one_for : (v : Counts) (x : Expanded) (side : Side) (machines : Kind) (a : AutomatonModel) (p : Problem) → IsProblem p → IsProblemOver (interface_of v x) side machines a p → IsProblemFor v x side machines p
 one_for v x side machines a p within over = record {
   within = within;
   inputs = over.inputs;
@@ -50,10 +52,10 @@ one_for v x side machines a p within over = record {
   of_side = over.side;
   kind_is = over.kind;
   size = over.size;
-  version_is = over.version;
+  counted = subst (λ b. IsCountedAs v b p.counting) (sym over.automaton) over.counting;
 }
 
-environment_for : (v : ℕ) (x : Expanded) (a : Option AutomatonModel) (e : Option Problem) → IsEnvironmentOver (interface_of v x) a e → IfSome e IsProblem
+environment_for : (v : Counts) (x : Expanded) (a : Option AutomatonModel) (e : Option Problem) → IsEnvironmentOver (interface_of v x) a e → IfSome e IsProblem
     → (p : Problem) → e ≡ Some p → IsProblemFor v x Environment (other_kind x.kind) p
 environment_for v x None None over within p is = absurd (cc)
 environment_for v x None (Some q) over within p is = absurd over
@@ -62,13 +64,13 @@ environment_for v x (Some a) (Some q) over within p is =
     some_of (IsProblemFor v x Environment (other_kind x.kind)) (Some q) p (one_for v x Environment (other_kind x.kind) a q within over) is
 
 -- the problems of a formula, with the numbers of names and the kind of a flat text
-pub problems_for : (v : ℕ) (x : Expanded) (a : Automata) (s : SideProblems) → AreProblems s → AreProblemsOver (interface_of v x) a s → AreProblemsFor v x s
+pub problems_for : (v : Counts) (x : Expanded) (a : Automata) (s : SideProblems) → AreProblems s → AreProblemsOver (interface_of v x) a s → AreProblemsFor v x s
 problems_for v x a s meet over = record {
   of_system = one_for v x System x.kind a.system s.system meet.is_system over.of_system;
   of_environment = environment_for v x a.environment s.environment over.of_environment meet.is_environment;
 }
 
-pub are_problems_for : (v : ℕ) (text : List ℕ) (kind : Option Kind) (spec : FlatText) (s : SideProblems) → AreProblems s → AreProblemsOf text kind v spec s → AreProblemsFor v spec.expanded s
+pub are_problems_for : (v : Counts) (text : List ℕ) (kind : Option Kind) (spec : FlatText) (s : SideProblems) → AreProblems s → AreProblemsOf text kind v spec s → AreProblemsFor v spec.expanded s
 are_problems_for v text kind spec s meet are =
     subst (λ x. AreProblemsFor v x s) (sym are.same) (problems_for v are.flat.expanded are.problems.automata s meet are.problems.problems)
 
@@ -98,19 +100,19 @@ ground_at text kind spec flat says is same = record {
   whole = refl;
 }
 
-pub is_ground : (v : ℕ) (text : List ℕ) (kind : Option Kind) (spec : FlatText) (s : SideProblems) (says : SaysWhat text spec.formulas spec.expanded.whole)
+pub is_ground : (v : Counts) (text : List ℕ) (kind : Option Kind) (spec : FlatText) (s : SideProblems) (says : SaysWhat text spec.formulas spec.expanded.whole)
     (are : AreProblemsOf text kind v spec s) → IsGroundOf text kind (text_ground spec are.flat says)
 is_ground v text kind spec s says are = ground_at text kind spec are.flat says are.is_flat are.same
 
 -- it is the same where the text is taken with the kind that it has
-pub ground_by_its_kind : (v : ℕ) (text : List ℕ) (kind : Option Kind) (spec : FlatText) (s : SideProblems) (says : SaysWhat text spec.formulas spec.expanded.whole)
+pub ground_by_its_kind : (v : Counts) (text : List ℕ) (kind : Option Kind) (spec : FlatText) (s : SideProblems) (says : SaysWhat text spec.formulas spec.expanded.whole)
     (are : AreProblemsOf text kind v spec s) → IsGroundOf text (Some spec.expanded.kind) (text_ground spec are.flat says)
 ground_by_its_kind v text kind spec s says are =
     ground_at text (Some spec.expanded.kind) spec are.flat says
     (subst (λ (x : Expanded). IsFlatOf SMALL_LIMITS text (Some x.kind) are.flat) (sym are.same) (kinds.by_its_kind SMALL_LIMITS text kind are.flat are.is_flat)) are.same
 
 -- the problems of the text stand on it
-pub given_on : (v : ℕ) (text : List ℕ) (kind : Option Kind) (spec : FlatText) (s : SideProblems) (says : SaysWhat text spec.formulas spec.expanded.whole)
+pub given_on : (v : Counts) (text : List ℕ) (kind : Option Kind) (spec : FlatText) (s : SideProblems) (says : SaysWhat text spec.formulas spec.expanded.whole)
     (are : AreProblemsOf text kind v spec s) → AcceptBySide (tree_at spec.formulas spec.expanded.whole) s → AreGivenOn v (text_ground spec are.flat says) s
 given_on v text kind spec s says are accept = record {
   later = spec.formulas;
@@ -160,8 +162,7 @@ sized_within p n within some most = record {
   size = most;
   states = within.states;
   signals = within.signals;
-  version = within.version;
-  components = λ third. let has : HasComponents p = within.components third in record { components = has.components; made = has.made; right = has.right };
+  counting = within.counting;
 }
 
 module _ (laws : SidesMean) (x : Wanted) (f : Tree) (says : Says f x) where

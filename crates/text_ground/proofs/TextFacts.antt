@@ -1,8 +1,10 @@
 -- What a text gives to the test of documents.
 use Rattle.std.proofs.Common.{◌≡◌, ℕ, List, Option, Some, None, IfSome, refl, ap}
 use Rattle.letter_word.specs.declared.kinds.Kind.{Kind}
+use Rattle.machine_model.specs.declared.counting.Counts.TheVariants.{Local}
 use Rattle.machine_model.specs.declared.problems.Problem.{Problem}
 use Rattle.machine_model.specs.Automaton.{AutomatonModel}
+use Rattle.machine_model.specs.Counting.{CountsBy, IsCountedAs}
 use Rattle.machine_model.specs.Problem.{IsProblem}
 use Rattle.tlsf_expand.specs.FlatText.{FlatText}
 use Rattle.spec_problems.specs.declared.sides.Interface.{Interface}
@@ -14,16 +16,22 @@ use Rattle.document_check.specs.Alike.{AreAlike, AreSameShapes, shape_of}
 use Rattle.document_check.specs.Shown.{AreFacts, IsInEachVersion}
 use Rattle.text_ground.specs.Ground.{given_by}
 
-of_environment : (x : Interface) → x.version ≡ 3 → (a : Option AutomatonModel) (o : Option Problem) → IsEnvironmentOver x a o → IfSome o IsProblem → IfSome o IsInEachVersion
-of_environment x third a None over is = tt
-of_environment x third None (Some p) over is = absurd over
-of_environment x third (Some a) (Some p) over is = record { problem = is; components = over.counted third }
+of_environment : (x : Interface) → x.counts ≡ Local → (a : Option AutomatonModel) (o : Option Problem) → IsEnvironmentOver x a o → IfSome o IsProblem → IfSome o IsInEachVersion
+of_environment x local None None over is = tt
+of_environment x local None (Some p) over is = absurd over
+of_environment x local (Some a) None over is = tt
+of_environment x local (Some a) (Some p) over is = record {
+  problem = is;
+  counting = subst (λ b. CountsBy b p.counting) (sym over.automaton) (subst (λ counts. IsCountedAs counts a p.counting) local over.counting);
+}
 
--- the problems over base clauses of version 3 may be given to it
-pub facts_are : (text : List ℕ) (kind : Option Kind) (spec : FlatText) (s : SideProblems) → AreProblemsOf text kind 3 spec s → AreProblems s → AreFacts (given_by spec s)
+pub facts_are : (text : List ℕ) (kind : Option Kind) (spec : FlatText) (s : SideProblems) → AreProblemsOf text kind Local spec s → AreProblems s → AreFacts (given_by spec s)
 facts_are text kind spec s of_text are = record {
-  system = record { problem = are.is_system; components = of_text.problems.problems.of_system.counted refl };
-  environment = of_environment (interface_of 3 of_text.flat.expanded) refl of_text.problems.automata.environment s.environment of_text.problems.problems.of_environment are.is_environment;
+  system = record {
+    problem = are.is_system;
+    counting = subst (λ b. CountsBy b s.system.counting) (sym of_text.problems.problems.of_system.automaton) of_text.problems.problems.of_system.counting;
+  };
+  environment = of_environment (interface_of Local of_text.flat.expanded) refl of_text.problems.automata.environment s.environment of_text.problems.problems.of_environment are.is_environment;
 }
 
 same_shape : (p q : Problem) → IsSameProblem p q → shape_of p ≡ shape_of q

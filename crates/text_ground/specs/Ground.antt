@@ -14,6 +14,7 @@ use Rattle.tlsf_expand.specs.Expansion.{Expanded}
 use Rattle.tlsf_expand.specs.Meaning.{means}
 use Rattle.tlsf_expand.specs.FlatText.{FlatText}
 use Rattle.flat_text.specs.FlatOf.{IsFlatOf}
+use Rattle.machine_model.specs.declared.counting.Counts.{Counts}
 use Rattle.spec_problems.specs.declared.sides.Interface.{Interface}
 use Rattle.spec_problems.specs.declared.sides.SideProblems.{SideProblems}
 use Rattle.spec_problems.specs.OfFormula.{AcceptBySide, AreProblemsIn}
@@ -29,13 +30,13 @@ pub record Ground : Type 0 where
 abbrev pub formula_on : Ground → Tree
 formula_on g = tree_at g.formulas g.whole
 
--- what both problems share, over base clauses of this version
-abbrev pub interface_on : ℕ → Ground → Interface
-interface_on version g = record { inputs = length g.wanted.inputs; outputs = length g.wanted.outputs; kind = g.wanted.kind; version = version }
+-- what both problems share, whose numbers count so
+abbrev pub interface_on : Counts → Ground → Interface
+interface_on counts g = record { inputs = length g.wanted.inputs; outputs = length g.wanted.outputs; kind = g.wanted.kind; counts = counts }
 
 -- these are the problems of both sides; the later list has the normal forms too
-abbrev pub AreProblemsOn : ℕ → Ground → List Node → SideProblems → Type 0
-AreProblemsOn version g later s = AreProblemsIn (interface_on version g) (formula_on g) g.formulas later s
+abbrev pub AreProblemsOn : Counts → Ground → List Node → SideProblems → Type 0
+AreProblemsOn counts g later s = AreProblemsIn (interface_on counts g) (formula_on g) g.formulas later s
 
 -- what a document is checked against
 abbrev pub facts_on : Ground → SideProblems → Facts
@@ -54,10 +55,10 @@ ground_with x truth nodes id = record {
   whole = id;
 }
 
--- the problems are those of the ground over base clauses of this version, and their automata accept by what is wanted
-pub record AreGivenOn (version : ℕ) (g : Ground) (s : SideProblems) : Type 0 where
+-- the problems are those of the ground, whose numbers count so, and their automata accept by what is wanted
+pub record AreGivenOn (counts : Counts) (g : Ground) (s : SideProblems) : Type 0 where
   pub later : List Node
-  pub are_problems : AreProblemsOn version g later s
+  pub are_problems : AreProblemsOn counts g later s
   pub formula : Tree
   pub accept : AcceptBySide formula s
   pub says : Says formula g.wanted

@@ -2,6 +2,7 @@
 use Rattle.std.specs.Prelude.{ℕ, List, Option}
 use Rattle.letter_word.specs.declared.kinds.Kind.{Kind}
 use Rattle.ltl_formula.specs.Nodes.{tree_at}
+use Rattle.machine_model.specs.declared.counting.Counts.{Counts}
 use Rattle.tlsf_expand.specs.FlatText.{FlatText, spec_seen}
 use Rattle.spec_problems.specs.declared.sides.SideProblems.{SideProblems}
 use Rattle.spec_problems.specs.declared.texts.TextProblems.{TextProblems}
@@ -12,17 +13,17 @@ use Rattle.program_replies.specs.Statuses.{status_number}
 use Rattle.text_ground.specs.declared.texts.Problems.{Problems}
 use Rattle.text_ground.specs.declared.texts.Problems.TheVariants.{Of, Refused}
 
--- a text's flat form with the problems of its two sides over base clauses of this version, what their automata accept, and what the text
+-- a text's flat form with the problems of its two sides, whose numbers count so, what their automata accept, and what the text
 -- says
-pub record IsTextWith (version : ℕ) (text : List ℕ) (kind : Option Kind) (spec : FlatText) (s : SideProblems) : Type 0 where
-  pub are : AreProblemsOf text kind version spec s
+pub record IsTextWith (counts : Counts) (text : List ℕ) (kind : Option Kind) (spec : FlatText) (s : SideProblems) : Type 0 where
+  pub are : AreProblemsOf text kind counts spec s
   pub accept : AcceptBySide (tree_at spec.formulas spec.expanded.whole) s
   pub says : SaysWhat text spec.formulas spec.expanded.whole
 
 -- a text's problems, or the reply to its first fault
-abbrev pub AreOfText : ℕ → List ℕ → Option Kind → Problems → Type 0
-AreOfText version text kind (Of t) = IsTextWith version text kind (spec_seen t.spec) t.problems
-AreOfText version text kind (Refused reply) = RefusedBy (IsFirstFault text kind) reply.bytes.items (status_number reply.status)
+abbrev pub AreOfText : Counts → List ℕ → Option Kind → Problems → Type 0
+AreOfText counts text kind (Of t) = IsTextWith counts text kind (spec_seen t.spec) t.problems
+AreOfText counts text kind (Refused reply) = RefusedBy (IsFirstFault text kind) reply.bytes.items (status_number reply.status)
 
 -- if there are problems, this holds of them
 abbrev pub IfProblems : (TextProblems → Type 0) → Problems → Type 0

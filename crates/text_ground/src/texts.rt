@@ -2,7 +2,7 @@
 ghost use Rattle.std.specs.Prelude.{◌≡◌, IfOk, length};
 ghost use Rattle.text_limits.specs.declared.TheConstants.{SMALL_LIMITS};
 ghost use Rattle.machine_model.specs.Automaton.{IsAutomaton};
-ghost use Rattle.machine_model.specs.Problem.{IsVersion, automaton_of};
+ghost use Rattle.machine_model.specs.Problem.{automaton_of};
 ghost use Rattle.tlsf_expand.specs.FewSignals.{HasFewSignals};
 ghost use Rattle.tlsf_expand.specs.FlatText.{spec_seen};
 ghost use Rattle.flat_text.specs.FlatNames.{HasPlainNames};
@@ -14,7 +14,7 @@ ghost use Rattle.text_ground.specs.Texts.{AreOfText, IfProblems};
 
 use document_check::TextFacts;
 use letter_word::Kind;
-use machine_model::Problem;
+use machine_model::{Counts, Problem};
 use program_replies::{Reply, refusal};
 use spec_problems::{SideProblems, TextProblems, text_problems};
 use std::alloc::{AllocError, Global};
@@ -28,21 +28,20 @@ pub enum Problems {
     Refused(Reply),
 }
 
-/// The problems of a text over base clauses of this version, or the line of its first fault with status 1. A kind that is given stands for
-/// those that the text names.
+/// The problems of a text, whose numbers count so, or the line of its first fault with status 1. A kind that is given stands for those that
+/// the text names.
 pub fn problems_or_refusal(
     alloc: Global,
     text: &[u8],
     kind: Option<Kind>,
-    version: u32,
+    counts: Counts,
 ) -> Result<Problems, AllocError>
-    requires { IsVersion version }
-    ensures text { IfOk result (AreOfText version text.now kind) }
+    ensures text { IfOk result (AreOfText counts text.now kind) }
     ensures meet { IfOk result (IfProblems (λ t. AreProblems t.problems)) }
     ensures few { IfOk result (IfProblems (λ t. HasFewSignals SMALL_LIMITS (length t.spec.inputs.items) (length t.spec.outputs.items) t.spec.formulas)) }
     ensures names { IfOk result (IfProblems (λ t. HasPlainNames (spec_seen t.spec).expanded)) }
 {
-    match text_problems(alloc, text, kind, version) {
+    match text_problems(alloc, text, kind, counts) {
         Ok(problems) => Ok(Problems::Of(problems)),
         Err(fault) => Ok(Problems::Refused(refusal(alloc, fault)?)),
     }

@@ -28,9 +28,10 @@ use Rattle.verify_answer.specs.Reply.{AreForVerify, AreReady, IsForVerify, IsSho
 use Rattle.verify_answer.specs.Verified.{HasSignals, IsSatisfying}
 use Rattle.verify_answer.proofs.Naming.{kind_named, run_unnamed}
 use Rattle.verify_answer.proofs.Signals.{has_signals}
+use Rattle.machine_model.specs.declared.counting.Counts.TheVariants.{Whole}
 
 -- what the text gives to the test of circuits is ready
-ready : (text : List ℕ) (spec : FlatText) (s : SideProblems) → AreProblemsOf text None 2 spec s → AreProblems s → AreReady (given_by spec s)
+ready : (text : List ℕ) (spec : FlatText) (s : SideProblems) → AreProblemsOf text None Whole spec s → AreProblems s → AreReady (given_by spec s)
 ready text spec s are meet = record {
   problem = meet.is_system;
   inputs = are.problems.problems.of_system.inputs ∙ sym (ap (λ x. length x.inputs) are.same);
@@ -38,7 +39,7 @@ ready text spec s are meet = record {
 }
 
 -- a text's problems for `verify`, or the line of its first fault
-pub for_verify : {E : Type 0} (text : List ℕ) (found : Result Problems E) → IfOk found (AreOfText 2 text None) → IfOk found (IfProblems (λ t. AreProblems t.problems))
+pub for_verify : {E : Type 0} (text : List ℕ) (found : Result Problems E) → IfOk found (AreOfText Whole text None) → IfOk found (IfProblems (λ t. AreProblems t.problems))
     → IfOk found (AreForVerify text)
 for_verify text (Ok (Of t)) of_text meet = record { text_with = of_text; ready = ready text (spec_seen t.spec) t.problems of_text.are meet }
 for_verify text (Ok (Refused reply)) r meet = r

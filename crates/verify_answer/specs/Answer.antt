@@ -19,6 +19,7 @@ use Rattle.circuit_check.specs.FirstBad.{IsFirstBad}
 use Rattle.circuit_check.specs.Forms.{NamesStates}
 use Rattle.verify_answer.specs.FirstBad.{IsFirstBadOfCircuit}
 use Rattle.verify_answer.specs.Verified.{IsVerified, IsVerifiedFor}
+use Rattle.machine_model.specs.declared.counting.Counts.TheVariants.{Whole}
 
 -- == an annotation over the system's automaton ==
 
@@ -31,7 +32,7 @@ verified_line Moore = codes "verified as Moore\n"
 pub record GivenToVerify (text : List ℕ) : Type 0 where
   pub spec : FlatText
   pub problems : SideProblems
-  pub are_problems : AreProblemsOf text None 2 spec problems
+  pub are_problems : AreProblemsOf text None Whole spec problems
 
 -- what the text gives to the test of circuits
 abbrev pub facts_to_verify : {text : List ℕ} → GivenToVerify text → Facts

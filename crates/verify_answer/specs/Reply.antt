@@ -33,6 +33,7 @@ use Rattle.circuit_check.specs.Duty.{IsReady}
 use Rattle.verify_answer.specs.declared.texts.TextForVerify.{TextForVerify}
 use Rattle.verify_answer.specs.declared.texts.TextForVerify.TheVariants as told
 use Rattle.verify_answer.specs.Answer.{CircuitAnswers, owed_to}
+use Rattle.machine_model.specs.declared.counting.Counts.TheVariants.{Whole}
 
 -- what a text gives to the test of circuits is within the limits, and its problem is over its inputs and outputs
 pub record AreReady (facts : Facts) : Type 0 where
@@ -42,7 +43,7 @@ pub record AreReady (facts : Facts) : Type 0 where
 
 -- a text that was read and expanded, with the kind that it names, and its problems
 pub record IsForVerify (text : List ℕ) (t : TextProblems) : Type 0 where
-  pub text_with : IsTextWith 2 text None (spec_seen t.spec) t.problems
+  pub text_with : IsTextWith Whole text None (spec_seen t.spec) t.problems
   pub ready : AreReady (given_by (spec_seen t.spec) t.problems)
 
 -- a text's problems, or the reply to its first fault

@@ -7,6 +7,7 @@ ghost use Rattle.verify_answer.specs.Reply.{AreForVerify, IsRefusedAnyway, IsRef
 
 use letter_word::Side;
 use limit_laws::laws::small_texts_are_taken;
+use machine_model::Counts;
 use program_replies::{Reply, refusal};
 use solve_ground::laws::solve_texts_are_determined;
 use solve_ground::{SolveText, solve_text};
@@ -81,5 +82,5 @@ fn own_refusal(alloc: Global, text: &[u8], fault: SpecFault) -> Result<Reply, Al
 pub fn problems_for_verify(alloc: Global, text: &[u8]) -> Result<Problems, AllocError>
     ensures { IfOk result (AreForVerify text.now) }
 {
-    problems_or_refusal(alloc, text, None, 2)
+    problems_or_refusal(alloc, text, None, Counts::Whole)
 }

@@ -2,13 +2,11 @@ use Rattle.std.proofs.Common.{◌≡◌, ℕ, ◌+◌, ◌^◌, ◌<◌, ◌≤�
 use Rattle.std.specs.Prelude.{All}
 use Rattle.std.proofs.lemmas.Bool.{cases_eq}
 use Rattle.machine_model.specs.Automaton.{AutomatonModel, states_of}
-use Rattle.machine_model.specs.Problem.{IsVersion, automaton_of}
+use Rattle.machine_model.specs.Problem.{automaton_of}
 use Rattle.machine_model.specs.declared.automata.Edge.{Edge}
 use Rattle.machine_model.specs.declared.problems.Problem.{Problem}
 use Rattle.agreement_rows.proofs.checked.checked.Goals as goal
-
-version_is : (v : ℕ) → 1 ≤ v → v ≤ 2 → IsVersion v
-version_is v least most = elim (cases_eq v 1) [ inl e ↦ inl e | inr ne ↦ inr (inl (omega arith)) ]
+use Rattle.machine_model.specs.Counting.{is_local}
 
 pub returns : goal.returns
 returns c =
@@ -26,6 +24,5 @@ returns c =
       size = omega arith;
       states = subst (λ (a : AutomatonModel). states_of a ≤ 2000) c.deref.ensures (omega (arith, c.states.ensures.value, c.if-states-gt2000.false));
       signals = λ k d h. record { must = musts k d h; none_of = nots k d h };
-      version = version_is c.args.problem.version (omega arith) (omega arith);
-      components = λ third. absurd (omega arith);
+      counting = record { right = λ components by. absurd (let e : true ≡ false = sym (ap is_local by) ∙ sym c.is_local.ensures ∙ c.if-is_local.false in cc) };
     }

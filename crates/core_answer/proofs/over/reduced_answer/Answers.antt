@@ -1,7 +1,6 @@
 use Rattle.std.proofs.Common.{Err, ap, subst}
 use Rattle.std.proofs.lemmas.Result.{IfOk-weaker}
 use Rattle.ltl_formula.specs.Nodes.{tree_at}
-use Rattle.annotation_encode.specs.Counts.{counts_version}
 use Rattle.tlsf_expand.specs.FlatText.{spec_seen}
 use Rattle.spec_problems.specs.OfFormula.{AreProblemsIn, AreProblemsOver}
 use Rattle.text_ground.proofs.Meaning.{problems_for}
@@ -13,7 +12,7 @@ pub answer_on-requires-clause-problems : goal.answer_on-requires-clause-problems
 answer_on-requires-clause-problems g c κs within =
     let e = c.in-Ok.ensures in
     let over = subst (λ i. AreProblemsOver i e.problems.automata c.in-Ok.problems) c.interface.ensures e.problems.problems in
-    problems_for (counts_version c.args.settings.counts) (spec_seen c.args.spec.now).expanded e.problems.automata c.in-Ok.problems e.meet over
+    problems_for c.args.settings.counts (spec_seen c.args.spec.now).expanded e.problems.automata c.in-Ok.problems e.meet over
 
 pub returns-in-Ok : goal.returns-in-Ok
 returns-in-Ok g c =

@@ -15,19 +15,19 @@ of_made r P made holds given = IfOk-weaker r (λ c. c ≡ made) P (λ c e. subst
 pub returns-clause-runs : goal.returns-clause-runs
 returns-clause-runs c =
     of_made c.put_together.result (HasTheRunsOf c.args.machine.now) _
-    (has_the_runs c.args.machine.now c.args.read_names.now c.args.write_names.now c.requires.reads c.requires.writes c.split_literals.ensures.kept.machine c.requires.few) c.put_together.ensures
+    (has_the_runs c.args.machine.now c.args.read_names.now c.args.write_names.now c.requires.reads c.requires.writes c.split_literals.ensures.made c.requires.small.states) c.put_together.ensures
 
 pub returns-clause-kind : goal.returns-clause-kind
 returns-clause-kind c =
     of_made c.put_together.result (IsCircuitOfKind c.args.machine.now.kind) _
-    (is_of_kind c.args.machine.now c.args.read_names.now c.args.write_names.now c.requires.reads c.requires.writes c.split_literals.ensures.kept.machine c.requires.few) c.put_together.ensures
+    (is_of_kind c.args.machine.now c.args.read_names.now c.args.write_names.now c.requires.reads c.requires.writes c.split_literals.ensures.made c.requires.small.states) c.put_together.ensures
 
 pub returns-clause-states : goal.returns-clause-states
 returns-clause-states c =
     of_made c.put_together.result (HasTheStatesOf c.args.machine.now) _
-    (has_the_states c.args.machine.now c.args.read_names.now c.args.write_names.now c.requires.reads c.requires.writes c.split_literals.ensures.kept.machine c.requires.few) c.put_together.ensures
+    (has_the_states c.args.machine.now c.args.read_names.now c.args.write_names.now c.requires.reads c.requires.writes c.split_literals.ensures.made c.requires.small.states) c.put_together.ensures
 
 pub returns-clause-variables : goal.returns-clause-variables
 returns-clause-variables c =
     of_made c.put_together.result (λ x. x.variables ≤ 67562) _
-    (few_variables c.args.machine.now c.args.read_names.now c.args.write_names.now c.requires.reads c.requires.writes c.split_literals.ensures.kept) c.put_together.ensures
+    (few_variables c.args.machine.now c.args.read_names.now c.args.write_names.now c.requires.reads c.requires.writes c.requires.small) c.put_together.ensures

@@ -14,7 +14,7 @@ use Rattle.gate_build.proofs.circuits.put_together.Goals.{After-len, In_ok-names
 few_gates : (c : After-len) → c.len.result ≤ 67562
 few_gates c =
     let few : c.args.machine.now.reads + latches_of c.args.machine.now + length (outputs_of c.args.machine.now).gates ≤ 67562 =
-    few_variables c.args.machine.now c.args.read_names.now c.args.write_names.now c.requires.reads c.requires.writes c.reads-reads.ensures.kept in
+    few_variables c.args.machine.now c.args.read_names.now c.args.write_names.now c.requires.reads c.requires.writes c.requires.small in
     omega (arith, few, length-made c.args.machine.now c.args.functions c.requires.functions, c.len.ensures, c.args.functions.gates.ok.0)
 
 pub overflow_cast-len : goal.overflow_cast-len
@@ -23,12 +23,12 @@ overflow_cast-len c = let few : c.len.result ≤ 67562 = few_gates (goal.at.over
 pub overflow_add-reads-2 : goal.overflow_add-reads-2
 overflow_add-reads-2 c =
     let few : c.len.result ≤ 67562 = few_gates (goal.at.overflow_add-reads-2 c).After-len in
-    let reads : c.args.machine.now.reads ≤ 8 = c.reads-reads.ensures.kept.reads in
+    let reads : c.args.machine.now.reads ≤ 8 = c.requires.small.reads in
     omega (arith, few, reads, c.reads-reads.ensures.value, c.latches_for-latches.ensures.few)
 
 pub latch_list-requires : goal.latch_list-requires
 latch_list-requires c =
-    let reads : c.args.machine.now.reads ≤ 8 = c.reads-reads.ensures.kept.reads in
+    let reads : c.args.machine.now.reads ≤ 8 = c.requires.small.reads in
     let latches : latches_of c.args.machine.now ≤ 3 = few_latches (size_of c.args.machine.now) in
     let nexts : length c.deref.result.now ≡ latches_of c.args.machine.now =
     ap length (c.deref.ensures.value ∙ c.requires.functions.nexts) ∙ (nexts_good c.args.machine.now c.args.read_names.now c.args.write_names.now c.requires.reads c.requires.writes).places in

@@ -17,7 +17,7 @@ is_split m xs reads is =
 
 pub returns-clause-split : goal.returns-clause-split
 returns-clause-split c =
-    is_split c.args.machine.now _ c.reads-reads.ensures.kept.reads
+    is_split c.args.machine.now _ c.requires.reads
     (c.in_ok-extend_from_slice.ensures.items
     ∙ ap (λ xs. xs ++ c.deref.result.now) (c.in_ok-split_on.ensures ∙ ap (λ n. literals_from n c.latches_for-latches.result) c.reads-reads.ensures.value ∙ ap (literals_from c.args.machine.now.reads) (c.latches_for-latches.ensures.value ∙ ap latches_for c.size.ensures.value))
     ∙ ap (λ xs. literals_from c.args.machine.now.reads (latches_of c.args.machine.now) ++ xs) (c.deref.ensures.value ∙ c.in_ok-inputs.ensures ∙ ap (literals_from 0) c.reads-reads.ensures.value))

@@ -7,5 +7,5 @@ invariant-loop-count l = record {
   places : length l.sums.items ≡ l.count-index + 1;
   at : (k : ℕ) → k ≤ l.count-index → get_or l.sums.items k 0 ≡ sum (take k l.counts);
   here : l.sum ≡ sum (take l.count-index l.counts);
-  small : l.sum ≤ 2000 * l.count-index;
+  small : l.sum ≤ 20000 * l.count-index;
 }

@@ -11,4 +11,4 @@ returns-in-Err-clause-fault c = λ code place e.
 
 pub returns-in-Ok-sides-clause-meet : goal.returns-in-Ok-sides-clause-meet
 returns-in-Ok-sides-clause-meet c =
-    problems_within c.args.interface c.args.formulas.now c.in-Ok.automata c.in-Ok-sides.sides c.requires.few c.requires.version c.in-Ok.ensures.limits c.in-Ok-sides.ensures
+    problems_within c.args.interface c.args.formulas.now c.in-Ok.automata c.in-Ok-sides.sides c.requires.few c.in-Ok.ensures.limits c.in-Ok-sides.ensures

@@ -1,4 +1,3 @@
-use Rattle.annotation_encode.specs.Counts.{counts_version}
 use Rattle.tlsf_expand.specs.FlatText.{spec_seen}
 use Rattle.synth_answer.proofs.Fitting.{found_fits}
 use Rattle.synth_answer.proofs.answering.searched.Goals as goal
@@ -16,7 +15,7 @@ search-requires-clause-system g c κs within =
 pub reply_to-requires : goal.reply_to-requires
 reply_to-requires g c =
     let o = c.in_ok-outcome.outcome in
-    found_fits (counts_version c.args.settings.counts) (spec_seen c.args.spec.now).expanded c.args.problems c.requires.problems c.args.settings c.max-max.ensures.bounds.most_size c.sizes_rise.ensures
+    found_fits c.args.settings.counts (spec_seen c.args.spec.now).expanded c.args.problems c.requires.problems c.args.settings c.max-max.ensures.bounds.most_size c.sizes_rise.ensures
     o.found o.logs.items c.in_ok-outcome.ensures.goes
 
 pub returns : goal.returns

@@ -1,7 +1,4 @@
-use Rattle.std.proofs.Common.{◌≡◌, ◌*◌, ◌≤◌, true, false, ap, ◌∙◌, sym, subst}
-use Rattle.std.specs.Prelude.{◌==◌}
-use Rattle.std.proofs.lemmas.Bool.{eq-eqb}
-use Rattle.std.proofs.lemmas.Bool.Decides.{Decides-eqb}
+use Rattle.std.proofs.Common.{◌≡◌, ◌*◌, ◌≤◌, ap, ◌∙◌, sym, subst}
 use Rattle.machine_model.specs.Automaton.{IsAutomaton}
 use Rattle.machine_model.specs.Problem.{automaton_of}
 use Rattle.machine_model.specs.declared.problems.Problem.{Problem}
@@ -13,8 +10,7 @@ use Rattle.annotation_encode.proofs.numbering.Numbering.counted_before.Goals.{Af
 sum_is : (c : After-before-in-Some) → c.before-in-Some.result ≡ counted_before c.args.self.now.problem.now c.args.q
 sum_is c =
     let p : Problem = c.args.self.now.problem.now in
-    let by = c.in-Some.ensures.local in
-    c.before-in-Some.ensures ∙ by.right.before c.args.q c.requires.state ∙ sym (local_sum p c.args.q ((Decides-eqb p.version 3).0 by.version))
+    c.before-in-Some.ensures ∙ c.in-Some.ensures.right.before c.args.q c.requires.state ∙ sym (local_sum p c.args.q c.in-Some.ensures.local)
 
 pub returns-in-Some-clause-value : goal.returns-in-Some-clause-value
 returns-in-Some-clause-value c = sum_is c
@@ -28,6 +24,5 @@ returns-in-Some-clause-small c =
 pub returns-in-None-clause-value : goal.returns-in-None-clause-value
 returns-in-None-clause-value c =
     let p : Problem = c.args.self.now.problem.now in
-    let other : (p.version == 3) ≡ false = c.in-None.ensures.whole in
     ap (λ n. c.args.q * n) c.args.self.now.rejecting_is
-    ∙ sym (whole_sum p c.args.q (λ third. let both : true ≡ false = sym (eq-eqb p.version 3 third) ∙ other in cc))
+    ∙ sym (whole_sum p c.args.q c.in-None.ensures.whole)

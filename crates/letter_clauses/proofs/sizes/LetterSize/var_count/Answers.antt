@@ -10,7 +10,7 @@ small : (c : After-numbers_before) → c.move_count.result + c.write_count.resul
 small c =
     let p : Problem = c.args.self.now.problem.now in
     let b : c.args.pair.0 * state_numbers p + (numbers_before p c.args.pair.1 + c.args.c) < p.size * state_numbers p = count_below p c.args.pair.0 c.args.pair.1 c.args.c c.requires.state c.requires.pair c.requires.number in
-    let all : p.size * state_numbers p ≤ 4320000 = all_numbers_small p c.args.self.now.components.now c.args.self.now.letters.now c.requires.size in
+    let all : p.size * state_numbers p ≤ 4320000 = all_numbers_small p c.args.self.now.letters.now c.requires.size in
     let rows : c.args.pair.0 * c.state_numbers.result ≡ c.args.pair.0 * state_numbers p = ap (λ n. c.args.pair.0 * n) c.state_numbers.ensures.value in
     omega (arith, b, all, rows, c.numbers_before.ensures.value, c.move_count.ensures.small, c.write_count.ensures.small)
 

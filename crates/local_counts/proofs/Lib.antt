@@ -1,4 +1,0 @@
-pub mod Passing
-pub mod Leading
-pub mod NamesBelow
-pub mod Summing

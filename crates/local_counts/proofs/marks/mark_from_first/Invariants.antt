@@ -1,6 +1,0 @@
-use Rattle.std.proofs.Common.{take}
-use Rattle.local_counts.specs.Marked.{IsPass}
-use Rattle.local_counts.proofs.marks.mark_from_first.Given as goal
-
-abbrev pub invariant-loop-edge : goal.invariant-loop-edge
-invariant-loop-edge l = IsPass l.way (take l.edge-index l.automaton.edges) l.fn.marks l.marks l.grows

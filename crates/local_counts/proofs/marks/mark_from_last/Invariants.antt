@@ -1,6 +1,0 @@
-use Rattle.std.proofs.Common.{drop}
-use Rattle.local_counts.specs.Marked.{IsPass}
-use Rattle.local_counts.proofs.marks.mark_from_last.Given as goal
-
-abbrev pub invariant-loop-place : goal.invariant-loop-place
-invariant-loop-place l = IsPass l.way (drop l.place l.automaton.edges) l.fn.marks l.marks l.grows
