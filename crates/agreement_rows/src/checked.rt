@@ -3,7 +3,7 @@ ghost use Rattle.std.specs.Prelude.{◌≡◌, ◌^◌, ◌<◌, ◌≤◌, All,
 ghost use Rattle.std.specs.Bool.{OnFalse};
 ghost use Rattle.machine_model.specs.Problem.{IsMachineOf, IsProblem};
 
-use letter_word::Kind;
+use letters_and_lassos::Kind;
 use machine_model::{Edge, Machine, Problem};
 
 fn has_far_must(edges: &[Edge], letters: u32) -> bool

@@ -1,12 +1,12 @@
 //! Whether the base clauses can be met with a machine that is fixed.
 ghost use Rattle.std.specs.Prelude.{◌≡◌};
-ghost use Rattle.clause_base.specs.Truth.{is_true_clause, is_true_literal};
+ghost use Rattle.propositional_logic.specs.Truth.{is_true_clause, is_true_literal};
 ghost use Rattle.machine_model.specs.Problem.{IsMachineOf, IsProblem};
 
 use crate::products::letter_count;
 use annotation_encode::{encode, var_count, var_move, var_write};
-use clause_base::{Clause, Lit};
 use machine_model::{Machine, Problem};
+use propositional_logic::{Clause, Lit};
 use std::alloc::Global;
 
 /// More rounds than numbers can rise in all.

@@ -2,7 +2,7 @@
 ghost use Rattle.std.specs.Prelude.{◌<◌, ◌≤◌, length};
 
 use anyhow::bail;
-use letter_word::{Cube, Kind, Side};
+use letters_and_lassos::{Cube, Kind, Side};
 use machine_model::{Automaton, Counting, Edge, Machine, Problem, Row};
 use product_bound::laws::numbered;
 use rand_core::utils::NextWord;

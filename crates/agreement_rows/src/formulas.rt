@@ -3,7 +3,7 @@ ghost use Rattle.std.specs.Prelude.{IfOk};
 ghost use Rattle.ltl_formula.specs.Nodes.{Stands};
 
 use anyhow::{Context, bail};
-use letter_word::{Lasso, Letter};
+use letters_and_lassos::{Lasso, Letter};
 use ltl_formula::{FormulaId, Formulas, Node};
 use rand_core::utils::NextWord;
 use rand_pcg::Pcg32;

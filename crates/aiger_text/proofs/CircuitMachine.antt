@@ -5,13 +5,13 @@ use Rattle.std.proofs.Math.Nat.{mul_comm, mul-div_left}
 use Rattle.std.proofs.lemmas.Nat.{pow_pos, div-mul-add, mod-mul-add, mul-add-lt}
 use Rattle.std.proofs.lemmas.List.{length-map, get_or-map, get_or_default}
 use Rattle.std.proofs.lemmas.List.FromFn.{length-map-range_with_len, get_or-map-range_with_len}
-use Rattle.letter_word.specs.declared.kinds.Kind.TheVariants.{Mealy}
-use Rattle.letter_word.specs.declared.kinds.Side.{Side}
-use Rattle.letter_word.specs.declared.kinds.Side.TheVariants.{System, Environment}
-use Rattle.letter_word.specs.declared.letters.Letter.{Letter}
-use Rattle.letter_word.specs.Word.{Word, IsLassoOver, lasso_len, letter_at, nth_letter, next}
-use Rattle.letter_word.specs.Signals.{has}
-use Rattle.letter_word.proofs.Bits.{number_of-lt, has-number_of, has-none}
+use Rattle.letters_and_lassos.specs.declared.kinds.Kind.TheVariants.{Mealy}
+use Rattle.letters_and_lassos.specs.declared.kinds.Side.{Side}
+use Rattle.letters_and_lassos.specs.declared.kinds.Side.TheVariants.{System, Environment}
+use Rattle.letters_and_lassos.specs.declared.letters.Letter.{Letter}
+use Rattle.letters_and_lassos.specs.Word.{Word, IsLassoOver, lasso_len, letter_at, nth_letter, next}
+use Rattle.letters_and_lassos.specs.Signals.{has}
+use Rattle.letters_and_lassos.proofs.Bits.{number_of-lt, has-number_of, has-none}
 use Rattle.machine_model.specs.declared.machines.Row.{Row}
 use Rattle.machine_model.specs.Machine.{MachineModel, IsMachine, size_of, row_of}
 use Rattle.machine_model.specs.Run.{IsRunLasso, read_part, written_part}
@@ -25,7 +25,7 @@ use Rattle.aiger_text.specs.CircuitType.{IsCircuit, IsOrder}
 use Rattle.aiger_text.specs.Step.{HasValues}
 use Rattle.aiger_text.proofs.Putting.{no_latch}
 use Rattle.aiger_text.proofs.Bits.{bits_of, length-bits_of, get_or-bits_of, has-div, has-mod}
-use Rattle.letter_word.specs.Bits.{number_of}
+use Rattle.letters_and_lassos.specs.Bits.{number_of}
 use Rattle.aiger_text.proofs.Valuations.{HasValuation, valuation_of}
 
 -- one of two values, and the other where the first flag is set

@@ -4,7 +4,7 @@ use Rattle.std.specs.List.{list_all}
 use Rattle.std.specs.Char.{is_ascii_digit}
 use Rattle.std.proofs.lemmas.Bool.{le-leb, le-ltb, ltb-false, eqb-true, leb-false, and_left, and_right}
 use Rattle.std.specs.Cmp.{first_so, second_so}
-use Rattle.text_base.specs.Numerals.{decimal_value}
+use Rattle.names_and_numbers.specs.Numerals.{decimal_value}
 use Rattle.aiger_text.specs.declared.counts.Counts.{Counts}
 use Rattle.aiger_text.specs.declared.faults.CircuitFault.{CircuitFault}
 use Rattle.aiger_text.specs.declared.faults.CircuitFault.TheVariants.{BadHeader, Unsupported, TooLarge}

@@ -8,8 +8,8 @@ use Rattle.std.proofs.lemmas.List.{get_or_append_left}
 use Rattle.std.proofs.Math.Seq.{take-append_seam, drop-append-add, get_or-append_seam}
 use Rattle.std.proofs.lemmas.List.Elements.{All-append, All-cons}
 use Rattle.std.proofs.lemmas.List.Splits.{slice_split_none, slice_split_at}
-use Rattle.text_base.specs.Numerals.{decimal_value, IsNumeralOf}
-use Rattle.text_base.proofs.NumeralLemmas.{decimal_is_numeral, digits_are}
+use Rattle.names_and_numbers.specs.Numerals.{decimal_value, IsNumeralOf}
+use Rattle.names_and_numbers.proofs.NumeralLemmas.{decimal_is_numeral, digits_are}
 use Rattle.aiger_text.specs.Words.{is_byte, cut_at, leads_well, is_numeral, number_within}
 use Rattle.aiger_text.specs.CircuitText.{numbers_line}
 use Rattle.aiger_text.specs.CircuitFile.{words_of, numbers_of}

@@ -6,12 +6,12 @@ use Rattle.std.proofs.lemmas.List.{get_or-map, length-append, length-map, map-ap
 use Rattle.std.proofs.lemmas.List.Elements.{All-map}
 use Rattle.std.proofs.lemmas.Nat.{mul-add-lt, pow-add, pow_pos}
 use Rattle.std.proofs.lemmas.Nat.Bits.{bit_at_cat_high, bit_at_cat_low}
-use Rattle.letter_word.specs.declared.kinds.Side.{Side}
-use Rattle.letter_word.specs.declared.kinds.Side.TheVariants.{Environment, System}
-use Rattle.letter_word.specs.declared.letters.Letter.{Letter}
-use Rattle.letter_word.specs.Signals.{has}
-use Rattle.letter_word.specs.Word.{IsLassoOver, Word, lasso_len, letter_at, next, no_signals}
-use Rattle.letter_word.proofs.Positions.{letter_below}
+use Rattle.letters_and_lassos.specs.declared.kinds.Side.{Side}
+use Rattle.letters_and_lassos.specs.declared.kinds.Side.TheVariants.{Environment, System}
+use Rattle.letters_and_lassos.specs.declared.letters.Letter.{Letter}
+use Rattle.letters_and_lassos.specs.Signals.{has}
+use Rattle.letters_and_lassos.specs.Word.{IsLassoOver, Word, lasso_len, letter_at, next, no_signals}
+use Rattle.letters_and_lassos.proofs.Positions.{letter_below}
 use Rattle.aiger_text.specs.Circuit.{Circuit, HasStatesFor, IsCircuitRun, Occurs, OccursFor, Valuation}
 use Rattle.aiger_text.specs.Laws.{EitherSideHasTheStates}
 use Rattle.aiger_text.proofs.Bits.{has-div, has-mod}

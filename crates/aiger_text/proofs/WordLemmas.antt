@@ -5,9 +5,9 @@ use Rattle.std.specs.Char.{is_ascii_digit}
 use Rattle.std.proofs.lemmas.List.Sums.{take_while-cons}
 use Rattle.std.proofs.lemmas.Bool.{le-leb, lt-leb}
 use Rattle.std.specs.Cmp.{second_so}
-use Rattle.text_base.specs.declared.number.NumberFault.{NumberFault}
-use Rattle.text_base.specs.declared.number.NumberFault.TheVariants.{NoDigits, Range}
-use Rattle.text_base.specs.Numerals.{digit_run, decimal_value}
+use Rattle.names_and_numbers.specs.declared.number.NumberFault.{NumberFault}
+use Rattle.names_and_numbers.specs.declared.number.NumberFault.TheVariants.{NoDigits, Range}
+use Rattle.names_and_numbers.specs.Numerals.{digit_run, decimal_value}
 use Rattle.aiger_text.specs.Words.{leads_well, is_numeral, number_within}
 
 -- a list of which each element passes is its own longest run of such

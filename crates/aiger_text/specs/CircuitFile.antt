@@ -13,7 +13,7 @@ use Rattle.aiger_text.specs.declared.faults.CircuitFault.TheVariants.{BadHeader,
 use Rattle.aiger_text.specs.Circuit.{Circuit}
 use Rattle.aiger_text.specs.Walks.{IsOnCycle, IsFirstCycle}
 use Rattle.aiger_text.specs.CircuitText.{Symbol}
-use Rattle.text_base.specs.Numerals.{decimal_value}
+use Rattle.names_and_numbers.specs.Numerals.{decimal_value}
 use Rattle.aiger_text.specs.Words.{is_byte, cut_at, is_numeral, number_within}
 
 abbrev pub lines_of : List ℕ → List (List ℕ)

@@ -1,8 +1,8 @@
 -- Laws of circuits (AIGER 1.9).
 use Rattle.std.specs.Prelude.{◌≡◌, ◌↔◌, ℕ, ◌+◌, ◌<◌, Bool, List, length}
-use Rattle.letter_word.specs.declared.kinds.Side.{Side}
-use Rattle.letter_word.specs.Word.{Word, SameWord, nth_letter}
-use Rattle.letter_word.specs.Signals.{has}
+use Rattle.letters_and_lassos.specs.declared.kinds.Side.{Side}
+use Rattle.letters_and_lassos.specs.Word.{Word, SameWord, nth_letter}
+use Rattle.letters_and_lassos.specs.Signals.{has}
 use Rattle.aiger_text.specs.Circuit.{Circuit, HasStates, HasStatesFor, IsCircuitRun, Occurs, OccursFor, Valuation, first_read, literal_value}
 use Rattle.aiger_text.specs.CircuitType.{IsDefined}
 use Rattle.aiger_text.specs.Step.{HasValues}

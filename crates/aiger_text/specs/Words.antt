@@ -2,7 +2,7 @@
 use Rattle.std.specs.Prelude.{ℕ, ◌+◌, ◌==◌, take, drop, option_map, Bool, true, false, not, ◌&&◌, Option, Some, None, List, [], ◌∷◌, nat_le, option_and_then, if◌then◌else◌}
 use Rattle.std.specs.List.{position_from, list_all}
 use Rattle.std.specs.Char.{is_ascii_digit}
-use Rattle.text_base.specs.Numerals.{decimal_value}
+use Rattle.names_and_numbers.specs.Numerals.{decimal_value}
 
 abbrev pub is_byte : ℕ → ℕ → Bool
 is_byte separator b = b == separator

@@ -1,9 +1,9 @@
 ghost use Rattle.std.specs.Prelude.{◌≡◌, IfOk};
 ghost use Rattle.aiger_text.specs.CircuitType.{ArePlaces};
 
+use names_and_numbers::Name;
 use std::alloc::{AllocError, Global};
 use std::marker::Model;
-use text_base::Name;
 
 /// A latch: its literal, the literal of its next value, and its first value.
 #[derive(Clone, Copy, Debug, PartialEq, Eq)]

@@ -3,7 +3,7 @@
 ghost use Rattle.std.specs.Prelude.{◌≡◌, ◌+◌, ◌<◌, ◌≤◌, IfOk, IfErr, IsTrue, Ok, length, ◌==◌, ◌||◌, ◌&&◌, map, min, nat_lt, true, [], slice_index_or, option_map};
 ghost use Rattle.std.specs.List.{list_all};
 ghost use Rattle.std.specs.Char.{is_ascii_digit};
-ghost use Rattle.text_base.specs.Numerals.{decimal_value};
+ghost use Rattle.names_and_numbers.specs.Numerals.{decimal_value};
 ghost use Rattle.aiger_text.specs.Words.{is_numeral};
 ghost use Rattle.aiger_text.specs.Columns.{digit_at};
 ghost use Rattle.aiger_text.specs.CircuitFile.{words_of, behind_mark, header_of, header_of_words, counts_in};

@@ -1,6 +1,6 @@
 //! Laws of circuits. Each is the contract of a function that does nothing.
 
-ghost use Rattle.letter_word.specs.declared.kinds.Side.{Side};
+ghost use Rattle.letters_and_lassos.specs.declared.kinds.Side.{Side};
 ghost use Rattle.aiger_text.specs.Circuit.{RunsOnEveryInput};
 ghost use Rattle.aiger_text.specs.FileLaws.{FilesStateOneThing, FilesHaveOneFault, FaultsStateNothing};
 ghost use Rattle.aiger_text.specs.Laws.{EitherSideHasTheStates, ValuationsAgree, RunsAreDetermined};

@@ -7,8 +7,8 @@ ghost use Rattle.aiger_text.specs.Labels.{named, shown_symbol, shown_ending, Hav
 
 use crate::faults::CircuitFault;
 use crate::words::{cut_at, number_within};
+use names_and_numbers::Name;
 use std::alloc::{AllocError, Global};
-use text_base::Name;
 
 /// What a symbol line names.
 #[derive(Clone, Copy, Debug, PartialEq, Eq)]

@@ -5,7 +5,7 @@ ghost use Rattle.std.specs.List.{list_all, position_from};
 ghost use Rattle.std.specs.Char.{is_ascii_digit};
 ghost use Rattle.aiger_text.specs.Words.{cut_at, is_byte, leads_well, is_numeral, number_within};
 
-use text_base::{Cursor, read_number};
+use names_and_numbers::{Cursor, read_number};
 
 /// What stands before the first separator and what stands behind it, where there is one.
 pub fn cut_at(bytes: &[u8], separator: u8) -> Option<(&[u8], &[u8])>

@@ -5,8 +5,8 @@ ghost use Rattle.aiger_text.specs.RoundTrip.{IsWritable, StatesOnly, written_fil
 use crate::circuits::{Circuit, Gate, Latch};
 use crate::laws::written_is_read;
 use crate::symbols::Named;
+use names_and_numbers::{Name, push_number};
 use std::alloc::{AllocError, Global};
-use text_base::{Name, push_number};
 
 /// Appends the circuit's text: a line for the counts, for each input, latch, output and gate, and for each
 /// name that it has. A reset of 0 is left out. After want of memory `out` is as before. What was written into an

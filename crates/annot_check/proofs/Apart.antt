@@ -1,8 +1,8 @@
 -- A list of pairs has at most one cause, and a valid one has none.
 use Rattle.std.proofs.Common.{◌≡◌, ℕ, ◌<◌, List, refl, ap, subst, arith, inl, inr}
 use Rattle.std.proofs.lemmas.Bool.{cases_eq, cases_lt}
-use Rattle.letter_word.specs.declared.kinds.Kind.{Kind}
-use Rattle.letter_word.specs.declared.kinds.Side.{Side}
+use Rattle.letters_and_lassos.specs.declared.kinds.Kind.{Kind}
+use Rattle.letters_and_lassos.specs.declared.kinds.Side.{Side}
 use Rattle.machine_model.specs.Automaton.{AutomatonModel}
 use Rattle.aiger_text.specs.Circuit.{Circuit}
 use Rattle.annot_check.specs.declared.pairs.Pair.{Pair}

@@ -4,9 +4,9 @@ use Rattle.std.proofs.lemmas.Bool.{cases_lt}
 use Rattle.std.proofs.lemmas.List.{get_or_append_left, length-append, length-drop, get_or-map, get_or-set_other, get_or-set_same, get_or_default, length-map, length-set, same_lists}
 use Rattle.std.proofs.Math.Pow.{pow_mono}
 use Rattle.std.proofs.Math.Seq.{get_or-append_seam}
-use Rattle.letter_word.specs.declared.kinds.Side.{Side}
-use Rattle.letter_word.specs.declared.letters.Letter.{Letter}
-use Rattle.letter_word.specs.Signals.{has}
+use Rattle.letters_and_lassos.specs.declared.kinds.Side.{Side}
+use Rattle.letters_and_lassos.specs.declared.letters.Letter.{Letter}
+use Rattle.letters_and_lassos.specs.Signals.{has}
 use Rattle.aiger_text.specs.declared.circuits.Latch.{Latch}
 use Rattle.aiger_text.specs.Circuit.{Circuit, literal_value, literal_values}
 use Rattle.aiger_text.specs.CircuitType.{IsCircuit, IsDefined}
@@ -20,8 +20,8 @@ use Rattle.annot_check.specs.declared.steps.Reaction.{Reaction}
 use Rattle.annot_check.specs.declared.steps.Reactions.{Reactions}
 use Rattle.annot_check.specs.Place.{same_code}
 use Rattle.annot_check.specs.Steps.{AreReactions, GivesInputs, IsReaction, read_of, whole_of}
-use Rattle.letter_word.specs.Bits.{number_of}
-use Rattle.letter_word.proofs.Bits.{same_number, number_of-lt}
+use Rattle.letters_and_lassos.specs.Bits.{number_of}
+use Rattle.letters_and_lassos.proofs.Bits.{same_number, number_of-lt}
 use Rattle.annot_check.specs.Valid.{Goes}
 use Rattle.annot_check.proofs.Letters.{HasParts, each_signal, read_signals, whole_parts}
 use Rattle.annot_check.proofs.Lists.{map-All}

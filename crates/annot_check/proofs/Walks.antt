@@ -1,11 +1,11 @@
 -- The numbers of the pairs along a run of a circuit.
 use Rattle.std.proofs.Common.{◌≡◌, ℕ, zero, suc, ◌+◌, ◌<◌, ◌≤◌, Bool, true, false, IsTrue, cond, List, length, map, refl, subst, sym, arith}
 use Rattle.std.specs.Prelude.{sum_by}
-use Rattle.letter_word.specs.declared.kinds.Kind.{Kind}
-use Rattle.letter_word.specs.declared.kinds.Side.{Side}
-use Rattle.letter_word.specs.declared.letters.Letter.{Letter}
-use Rattle.letter_word.specs.Word.{Word, HasRing, lasso_len, letter_at, next}
-use Rattle.letter_word.proofs.Positions.{next_within, letter_below}
+use Rattle.letters_and_lassos.specs.declared.kinds.Kind.{Kind}
+use Rattle.letters_and_lassos.specs.declared.kinds.Side.{Side}
+use Rattle.letters_and_lassos.specs.declared.letters.Letter.{Letter}
+use Rattle.letters_and_lassos.specs.Word.{Word, HasRing, lasso_len, letter_at, next}
+use Rattle.letters_and_lassos.proofs.Positions.{next_within, letter_below}
 use Rattle.machine_model.specs.Automaton.{AutomatonModel, HasEdge, rejects}
 use Rattle.machine_model.specs.Accepts.{Accepts, Path}
 use Rattle.aiger_text.specs.declared.circuits.Latch.{Latch}

@@ -1,9 +1,9 @@
 -- Why a list of pairs isn't valid: of the causes the first that applies (this project's own).
 use Rattle.std.specs.Prelude.{◌≡◌, ℕ, ◌+◌, ◌/◌, ◌<◌, Bool, List, length, All, slice_index, slice_index_or}
-use Rattle.letter_word.specs.declared.kinds.Kind.{Kind}
-use Rattle.letter_word.specs.declared.kinds.Kind.TheVariants.{Moore}
-use Rattle.letter_word.specs.declared.kinds.Side.{Side}
-use Rattle.letter_word.specs.declared.letters.Letter.{Letter}
+use Rattle.letters_and_lassos.specs.declared.kinds.Kind.{Kind}
+use Rattle.letters_and_lassos.specs.declared.kinds.Kind.TheVariants.{Moore}
+use Rattle.letters_and_lassos.specs.declared.kinds.Side.{Side}
+use Rattle.letters_and_lassos.specs.declared.letters.Letter.{Letter}
 use Rattle.machine_model.specs.Automaton.{AutomatonModel, HasEdge}
 use Rattle.aiger_text.specs.Circuit.{Circuit}
 use Rattle.annot_check.specs.declared.pairs.Pair.{Pair}

@@ -1,8 +1,8 @@
 -- Laws of valid lists of pairs.
 use Rattle.std.specs.Prelude.{◌≡◌, ℕ, Bool, true, false, List}
-use Rattle.letter_word.specs.declared.kinds.Kind.{Kind}
-use Rattle.letter_word.specs.declared.kinds.Side.{Side}
-use Rattle.letter_word.specs.Word.{Word, HasRing}
+use Rattle.letters_and_lassos.specs.declared.kinds.Kind.{Kind}
+use Rattle.letters_and_lassos.specs.declared.kinds.Side.{Side}
+use Rattle.letters_and_lassos.specs.Word.{Word, HasRing}
 use Rattle.machine_model.specs.Automaton.{AutomatonModel}
 use Rattle.machine_model.specs.Accepts.{Accepts}
 use Rattle.aiger_text.specs.Circuit.{Circuit, Valuation, IsCircuitOfKind, IsCircuitRun}

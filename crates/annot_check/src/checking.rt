@@ -2,7 +2,7 @@
 
 ghost use Rattle.std.specs.Prelude.{◌≡◌, IfErr, IfOk, MatchOption, OnOk};
 ghost use Rattle.std.specs.Bool.{MatchBool};
-ghost use Rattle.letter_word.specs.declared.kinds.Kind.TheVariants.{Moore};
+ghost use Rattle.letters_and_lassos.specs.declared.kinds.Kind.TheVariants.{Moore};
 ghost use Rattle.annot_check.specs.Causes.{CanBeChecked, IsCause, IsFirstByInput, IsOfKind};
 ghost use Rattle.annot_check.specs.Valid.{IsValidPairList};
 
@@ -12,7 +12,7 @@ use crate::pairs::PairList;
 use crate::product::Product;
 use crate::reads::first_by_input;
 use aiger_text::Circuit;
-use letter_word::{Kind, Side};
+use letters_and_lassos::{Kind, Side};
 use machine_model::Automaton;
 use std::alloc::{AllocError, Global};
 

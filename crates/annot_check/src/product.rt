@@ -16,7 +16,7 @@ use crate::pairs::{Code, Pair};
 use crate::steps::{Reactions, all_reactions, latches_of};
 use aiger_text::{Circuit, CircuitState};
 use indexmap::IndexSet;
-use letter_word::{Letter, Side};
+use letters_and_lassos::{Letter, Side};
 use machine_model::{Automaton, Edge};
 use std::alloc::{AllocError, Global};
 

@@ -9,10 +9,10 @@ use crate::graph::{Graph, MOST_PAIRS, reached};
 use crate::lasso::{bad_run, push_run};
 use aiger_text::{Circuit, CircuitFile, read_circuit};
 use machine_model::Automaton;
+use names_and_numbers::push_number;
 use program_replies::{Reply, Status, refused_at_line};
 use spec_problems::TextProblems;
 use std::alloc::{AllocError, Global};
-use text_base::push_number;
 use text_ground::Problems;
 use verify_answer::{listed_answer, problems_for_verify};
 

@@ -2,9 +2,9 @@
 
 use crate::components::{first_way, is_rejecting, number_of, way_at};
 use crate::graph::{Graph, Way};
-use letter_word::Letter;
+use letters_and_lassos::Letter;
+use names_and_numbers::Name;
 use std::alloc::{AllocError, Global};
-use text_base::Name;
 
 /// The letters of a run, its stem and its ring.
 #[derive(Drop)]

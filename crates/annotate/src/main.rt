@@ -10,7 +10,7 @@ mod lasso;
 
 use annotation::{Outcome, annotate};
 use diagnostics::{Heard, KeptFiles, Seen, message};
-use outside_edge::{FileShelf, Shelf, ShelfFault};
+use input_output::{FileShelf, Shelf, ShelfFault};
 use program_replies::{Reply, Status};
 use shown_text::push_shown;
 use std::alloc::{AllocError, Global};

@@ -5,7 +5,7 @@ use Rattle.std.specs.List.{flat_map}
 use Rattle.std.proofs.Math.Nat.{mul-le-mul}
 use Rattle.std.proofs.lemmas.Bool.{cases_eq, cases_lt, cond-true, cond-false}
 use Rattle.std.proofs.lemmas.List.{length-append}
-use Rattle.letter_word.specs.declared.cubes.Cube.{Cube}
+use Rattle.letters_and_lassos.specs.declared.cubes.Cube.{Cube}
 use Rattle.machine_model.specs.Automaton.{rejects, states_of}
 use Rattle.machine_model.specs.Problem.{automaton_of, counts_locally, numbers_states, reads_of, sized}
 use Rattle.machine_model.specs.declared.automata.Edge.{Edge}

@@ -5,9 +5,9 @@ use Rattle.std.specs.List.{flat_map}
 use Rattle.std.proofs.lemmas.List.{append_assoc}
 use Rattle.std.proofs.lemmas.List.Elements.{All-append, All-cons, All-contains, All-nil, Contains-append_left, Contains-append_right}
 use Rattle.std.proofs.lemmas.Bool.{cond-true, cond-false}
-use Rattle.clause_base.proofs.Members.{Contains-head, Contains-later}
-use Rattle.clause_base.specs.Literal.{Literal}
-use Rattle.clause_base.specs.Clause.{IsWithin}
+use Rattle.propositional_logic.proofs.Members.{Contains-head, Contains-later}
+use Rattle.propositional_logic.specs.Literal.{Literal}
+use Rattle.propositional_logic.specs.Clause.{IsWithin}
 use Rattle.machine_model.specs.Automaton.{IsAutomaton, JoinsStates, states_of}
 use Rattle.machine_model.specs.Problem.{IsProblem, automaton_of, counts_locally, numbers_states}
 use Rattle.machine_model.specs.declared.automata.Edge.{Edge}

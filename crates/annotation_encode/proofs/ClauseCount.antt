@@ -10,17 +10,17 @@ use Rattle.std.proofs.lemmas.List.Concat.{flat_map-append}
 use Rattle.std.proofs.lemmas.List.Folds.{length-flat_map-take}
 use Rattle.std.proofs.lemmas.Nat.Bits.{bit_at_cat_high}
 use mathlib.Core.Bool.{and-true, and-false}
-use Rattle.clause_base.specs.Literal.{Literal}
-use Rattle.letter_word.specs.Signals.{has}
-use Rattle.letter_word.specs.declared.cubes.Cube.{Cube}
-use Rattle.letter_word.proofs.Sets.{has-past}
+use Rattle.propositional_logic.specs.Literal.{Literal}
+use Rattle.letters_and_lassos.specs.Signals.{has}
+use Rattle.letters_and_lassos.specs.declared.cubes.Cube.{Cube}
+use Rattle.letters_and_lassos.proofs.Sets.{has-past}
 use Rattle.machine_model.specs.Automaton.{rejects, states_of}
 use Rattle.machine_model.specs.Problem.{automaton_of, counts_locally, numbers_states, reads_of}
 use Rattle.machine_model.specs.declared.automata.Edge.{Edge}
 use Rattle.machine_model.specs.declared.problems.Problem.{Problem}
 use Rattle.product_bound.specs.Annotation.{bound_at, rejecting_at}
 use Rattle.annotation_encode.specs.BaseClauses.{base_clauses, chain_clause, chain_clauses, each_below, edge_clauses, fits_read, is_idle, letter_clauses, order_clause, order_clauses, pair_chains, read_signal, row_clause, row_clauses, row_count, row_orders, signal_fits, start_clause, state_chains, state_clauses, step_clause, step_clauses, step_count}
-use Rattle.letter_word.specs.Below.{all_below}
+use Rattle.letters_and_lassos.specs.Below.{all_below}
 use Rattle.annotation_encode.specs.Count.{chain_count, count_of, free_below, is_free, most_clauses, order_count, target_count}
 use Rattle.annotation_encode.specs.Variables.{counted_before, letter_count}
 use Rattle.annotation_encode.proofs.Counted.{length-each_sum, sum_first-times}

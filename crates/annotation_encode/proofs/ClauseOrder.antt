@@ -4,8 +4,8 @@ use Rattle.std.specs.Prelude.{nat_le, nat_lt, count_by}
 use Rattle.std.proofs.lemmas.Bool.{cases_eq, cases_lt, eq-eqb, leb-true}
 use Rattle.std.proofs.lemmas.Bool.Decides.{Decides-ltb}
 use Rattle.std.proofs.Math.Nat.{mul-le-mul_right}
-use Rattle.letter_word.specs.Signals.{has}
-use Rattle.letter_word.specs.declared.cubes.Cube.{Cube}
+use Rattle.letters_and_lassos.specs.Signals.{has}
+use Rattle.letters_and_lassos.specs.declared.cubes.Cube.{Cube}
 use Rattle.machine_model.specs.Automaton.{IsAutomaton, JoinsStates, rejects, states_of}
 use Rattle.machine_model.specs.Problem.{IsProblem, automaton_of, counts_locally, writes_of}
 use Rattle.machine_model.specs.declared.automata.Edge.{Edge}

@@ -1,6 +1,6 @@
 -- Where a side accepts some machine of a problem, some assignment meets all base clauses: that of its numbered form.
 use Rattle.std.proofs.Common.{◌≡◌, ℕ, inl, inr, true, false, List, sym, ap, ◌∙◌, subst}
-use Rattle.clause_base.specs.Literal.{Literal}
+use Rattle.propositional_logic.specs.Literal.{Literal}
 use Rattle.machine_model.specs.Accepts.{SideAccepts}
 use Rattle.machine_model.specs.Automaton.{IsAutomaton}
 use Rattle.machine_model.specs.Machine.{MachineModel}

@@ -3,12 +3,12 @@ use Rattle.std.proofs.Common.{◌≡◌, ℕ, ◌+◌, ◌-◌, ◌*◌, ◌^◌
 use Rattle.std.specs.Prelude.{◌==◌}
 use Rattle.std.proofs.lemmas.Bool.{cases_lt}
 use Rattle.std.proofs.lemmas.Nat.Bits.{bit_at_cat_high, bit_at_cat_low}
-use Rattle.letter_word.specs.Cube.{Fits}
-use Rattle.letter_word.specs.Signals.{has}
-use Rattle.letter_word.specs.declared.cubes.Cube.{Cube}
-use Rattle.letter_word.specs.declared.kinds.Side.{Side}
-use Rattle.letter_word.specs.declared.kinds.Side.TheVariants.{Environment, System}
-use Rattle.letter_word.proofs.Sets.{has-past}
+use Rattle.letters_and_lassos.specs.Cube.{Fits}
+use Rattle.letters_and_lassos.specs.Signals.{has}
+use Rattle.letters_and_lassos.specs.declared.cubes.Cube.{Cube}
+use Rattle.letters_and_lassos.specs.declared.kinds.Side.{Side}
+use Rattle.letters_and_lassos.specs.declared.kinds.Side.TheVariants.{Environment, System}
+use Rattle.letters_and_lassos.proofs.Sets.{has-past}
 use Rattle.annotation_encode.specs.BaseClauses.{read_signal_of, signal_fits, written_signal_of}
 
 -- the letter of what is read and what is written, by the numbers of signals

@@ -5,11 +5,11 @@ use Rattle.std.specs.List.{flat_map, list_any}
 use Rattle.std.proofs.lemmas.Bool.{cases_eq}
 use Rattle.std.proofs.lemmas.List.{append_assoc, length-append}
 use Rattle.std.proofs.lemmas.List.Elements.{All-append, Contains-append_left, Contains-append_right}
-use Rattle.clause_base.proofs.Members.{Contains-cases, Contains-head, Contains-later, Contains-none}
+use Rattle.propositional_logic.proofs.Members.{Contains-cases, Contains-head, Contains-later, Contains-none}
 use Rattle.std.proofs.lemmas.List.Folds.{list_any-append}
 use mathlib.Core.Bool.{and-false, or-true}
 use Rattle.annotation_encode.specs.BaseClauses.{each_below}
-use Rattle.letter_word.specs.Below.{all_below}
+use Rattle.letters_and_lassos.specs.Below.{all_below}
 
 pub each_below-more : {A : Type 0} (n : ℕ) (f : ℕ → List A) → each_below (n + 1) f ≡ each_below n f ++ f n
 each_below-more n f = let e : n + 1 ≡ suc n = omega arith in ap (λ k. each_below k f) e

@@ -9,14 +9,14 @@ use Rattle.std.proofs.lemmas.List.{take_more}
 use Rattle.std.proofs.lemmas.List.Elements.{All-contains}
 use Rattle.std.proofs.lemmas.List.Folds.{list_any-append}
 use Rattle.std.proofs.lemmas.Nat.{div-add-mod', pow_pos}
-use Rattle.clause_base.specs.Literal.{Literal}
-use Rattle.clause_base.proofs.Tests.{Decides-all}
-use Rattle.clause_base.specs.Truth.{is_true_clause, is_true_literal, meets, value_of}
-use Rattle.letter_word.specs.Cube.{Fits}
-use Rattle.letter_word.specs.Signals.{has}
-use Rattle.letter_word.specs.declared.cubes.Cube.{Cube}
-use Rattle.letter_word.specs.declared.kinds.Side.{Side}
-use Rattle.letter_word.specs.declared.kinds.Side.TheVariants.{Environment, System}
+use Rattle.propositional_logic.specs.Literal.{Literal}
+use Rattle.propositional_logic.proofs.Tests.{Decides-all}
+use Rattle.propositional_logic.specs.Truth.{is_true_clause, is_true_literal, meets, value_of}
+use Rattle.letters_and_lassos.specs.Cube.{Fits}
+use Rattle.letters_and_lassos.specs.Signals.{has}
+use Rattle.letters_and_lassos.specs.declared.cubes.Cube.{Cube}
+use Rattle.letters_and_lassos.specs.declared.kinds.Side.{Side}
+use Rattle.letters_and_lassos.specs.declared.kinds.Side.TheVariants.{Environment, System}
 use Rattle.machine_model.specs.Automaton.{HasEdge, IsAutomaton, JoinsStates, states_of}
 use Rattle.machine_model.specs.Course.{letter_of}
 use Rattle.machine_model.specs.Machine.{IsMachine, MachineModel, next_of, size_of, writes_of}

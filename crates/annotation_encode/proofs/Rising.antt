@@ -1,8 +1,8 @@
 -- Lists of literals whose variables rise between two numbers.
 use Rattle.std.proofs.Common.{◌≡◌, ℕ, zero, suc, ◌+◌, ◌<◌, ◌≤◌, List, [], ◌∷◌, ◌++◌, get_or, ap, subst, arith}
 use Rattle.std.proofs.lemmas.List.Elements.{All-append}
-use Rattle.clause_base.specs.Literal.{Literal}
-use Rattle.clause_base.specs.Clause.{HasBadVariable, IsRisingFrom, IsWithin}
+use Rattle.propositional_logic.specs.Literal.{Literal}
+use Rattle.propositional_logic.specs.Clause.{HasBadVariable, IsRisingFrom, IsWithin}
 use Rattle.annotation_encode.specs.BaseClauses.{each_below}
 
 -- the variables rise above `low`, and none passes `high`

@@ -1,9 +1,9 @@
 use Rattle.std.specs.Prelude.{◌≡◌, ◌==◌, ℕ, ◌+◌, ◌-◌, ◌/◌, ◌%◌, ◌<◌, ◌≤◌, Bool, false, List, Option, Some, None, length, map, nat_le, nat_lt, [], ◌∷◌, ◌++◌, if◌then◌else◌}
 use Rattle.std.specs.List.{range_with_len}
-use Rattle.clause_base.specs.Truth.{value_of}
-use Rattle.letter_word.specs.Signals.{has}
-use Rattle.letter_word.specs.declared.kinds.Kind.{Kind}
-use Rattle.letter_word.specs.declared.kinds.Kind.TheVariants.{Mealy, Moore}
+use Rattle.propositional_logic.specs.Truth.{value_of}
+use Rattle.letters_and_lassos.specs.Signals.{has}
+use Rattle.letters_and_lassos.specs.declared.kinds.Kind.{Kind}
+use Rattle.letters_and_lassos.specs.declared.kinds.Kind.TheVariants.{Mealy, Moore}
 use Rattle.machine_model.specs.Automaton.{states_of}
 use Rattle.machine_model.specs.Machine.{MachineModel, next_of, writes_of}
 use Rattle.machine_model.specs.Problem.{automaton_of}

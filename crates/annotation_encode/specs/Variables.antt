@@ -1,6 +1,6 @@
 use Rattle.std.specs.Prelude.{◌≡◌, ℕ, false, zero, suc, ◌+◌, ◌*◌, ◌^◌}
-use Rattle.letter_word.specs.declared.kinds.Kind.{Kind}
-use Rattle.letter_word.specs.declared.kinds.Kind.TheVariants.{Mealy, Moore}
+use Rattle.letters_and_lassos.specs.declared.kinds.Kind.{Kind}
+use Rattle.letters_and_lassos.specs.declared.kinds.Kind.TheVariants.{Mealy, Moore}
 use Rattle.machine_model.specs.Automaton.{states_of}
 use Rattle.machine_model.specs.Problem.{automaton_of, counts_locally, reads_of, writes_of}
 use Rattle.machine_model.specs.declared.problems.Problem.{Problem}

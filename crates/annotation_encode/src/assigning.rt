@@ -1,5 +1,5 @@
 ghost use Rattle.std.specs.Prelude.{◌≡◌, ◌+◌, ◌^◌, ◌<◌, ◌≤◌, ◌++◌, ◌∷◌, [], true, IfOk, OnOk, length};
-ghost use Rattle.clause_base.specs.Truth.{meets};
+ghost use Rattle.propositional_logic.specs.Truth.{meets};
 ghost use Rattle.machine_model.specs.Problem.{IsMachineOf, IsProblem, numbers_states};
 ghost use Rattle.product_bound.specs.Annotation.{IsValidAnnotation, places_of};
 ghost use Rattle.product_bound.specs.Numbered.{IsNumbered};
@@ -8,10 +8,10 @@ ghost use Rattle.annotation_encode.specs.BaseClauses.{base_clauses, each_below};
 ghost use Rattle.annotation_encode.specs.Variables.{letter_count, move_count, write_count, write_places};
 
 use crate::numbering::{Numbering, letter_count, move_count, write_count};
-use clause_base::Assignment;
-use letter_word::{Kind, Letter};
+use letters_and_lassos::{Kind, Letter};
 use machine_model::{Machine, Problem};
 use product_bound::Annotation;
+use propositional_logic::Assignment;
 use std::alloc::{AllocError, Global};
 
 /// The assignment of a machine and a valid annotation of it: of the moves and the writes those of the machine alone are

@@ -1,21 +1,21 @@
 ghost use Rattle.std.specs.Prelude.{◌≡◌, ◌+◌, ◌-◌, ◌*◌, ◌^◌, ◌<◌, ◌≤◌, ◌++◌, ◌∷◌, [], IfOk, OnOk};
 ghost use Rattle.std.specs.List.{flat_map};
-ghost use Rattle.clause_base.specs.Clause.{IsClause, IsFormula, IsWithin};
+ghost use Rattle.propositional_logic.specs.Clause.{IsClause, IsFormula, IsWithin};
 ghost use Rattle.machine_model.specs.Automaton.{JoinsStates, states_of};
 ghost use Rattle.machine_model.specs.Problem.{IsProblem, automaton_of, reads_of, writes_of};
 ghost use Rattle.product_bound.specs.Annotation.{bound_at, number_after, start_number};
 ghost use Rattle.annotation_encode.specs.BaseClauses.{base_clauses, chain_clauses, count_literals, each_below, edge_clauses, fits_read, is_idle, isnt, letter_clauses, order_clause, order_clauses, pair_chains, row_clause, row_clauses, row_count, read_signal, row_orders, signal_fits, start_clause, state_chains, state_clauses, step_clauses, step_count, write_literal, write_literals, written_signal};
-ghost use Rattle.letter_word.specs.Below.{all_below};
+ghost use Rattle.letters_and_lassos.specs.Below.{all_below};
 ghost use Rattle.annotation_encode.specs.Laws.{HasAccepted, IsMetBySome};
 ghost use Rattle.annotation_encode.specs.Variables.{letter_count, row_place, var_move, variables_of};
 
 use crate::counting::count;
 use crate::numbering::{Numbering, letter_count, row_count, row_move, var_move, var_write};
-use clause_base::{Clause, ClauseFault, Cnf, Lit};
-use letter_word::{Cube, Letter, Side};
+use letters_and_lassos::{Cube, Letter, Side};
 use machine_model::{Edge, Problem};
 use product_bound::laws::accepted_is_annotated;
 use product_bound::leaves;
+use propositional_logic::{Clause, ClauseFault, Cnf, Lit};
 use std::alloc::{AllocError, Global};
 
 /// The base clauses of a problem, in their order.

@@ -6,7 +6,7 @@ ghost use Rattle.annotation_encode.specs.Count.{allowed_sizes, chain_count, coun
 
 use crate::clauses::read_signal;
 use crate::numbering::{Numbering, letter_count};
-use letter_word::{Cube, Letter};
+use letters_and_lassos::{Cube, Letter};
 use machine_model::{Edge, Problem};
 use product_bound::leaves;
 

@@ -4,7 +4,7 @@
 //! side accepts some machine of the problem some assignment meets them all: `assignment_of` gives that of a machine and
 //! a valid annotation. `count` is their number, and
 //! `allowed_sizes` the number of sizes for which there aren't too many. `variables`, `var_move`, `var_write` and `var_count` are the numbers of
-//! the variables, and no two variables of different meaning are the same. It stands on product_bound and clause_base.
+//! the variables, and no two variables of different meaning are the same. It stands on product_bound and propositional_logic.
 #![tactic(auto)]
 
 mod assigning;

@@ -5,7 +5,7 @@ ghost use Rattle.product_bound.specs.Annotation.{bound_at, rejecting_at, rejecti
 ghost use Rattle.annotation_encode.specs.BaseClauses.{row_count, row_move};
 ghost use Rattle.annotation_encode.specs.Variables.{counted_before, letter_count, move_count, numbers_before, row_place, state_numbers, var_count, var_move, var_write, variables_of, write_count, write_place, write_places};
 
-use letter_word::Kind;
+use letters_and_lassos::Kind;
 use machine_model::Problem;
 use machine_model::laws::components_are_classes;
 

@@ -6,10 +6,10 @@ use crate::states::MetStates;
 use crate::stops::{Limit, Stop};
 use aiger_text::Circuit;
 use cobuchi_build::State;
-use letter_word::Side;
+use letters_and_lassos::Side;
 use ltl_formula::{FormulaId, Formulas};
+use names_and_numbers::push_number;
 use std::alloc::{AllocError, Global};
-use text_base::push_number;
 
 /// What an annotation is of.
 #[derive(Clone, Copy)]

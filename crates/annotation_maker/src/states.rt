@@ -6,7 +6,7 @@ ghost use Rattle.ltl_formula.specs.Nodes.{Stands};
 use crate::stops::{Limit, Stop};
 use cobuchi_build::{State, untils_of};
 use indexmap::{IndexMap, IndexSet};
-use letter_word::Cube;
+use letters_and_lassos::Cube;
 use ltl_formula::{FormulaId, Formulas};
 use obligation_sets::{Cover, CoverFault, Covering, ObligationSet, covers};
 use std::alloc::Global;

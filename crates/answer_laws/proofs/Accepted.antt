@@ -2,8 +2,8 @@
 use Rattle.std.proofs.Common.{◌≡◌, ℕ, ◌⊎◌, inl, inr, Option, Some, List, sym, ap, subst, ◌∙◌}
 use Rattle.std.specs.Prelude.{◌≢◌}
 use Rattle.text_limits.specs.declared.TheConstants.{SMALL_LIMITS}
-use Rattle.letter_word.specs.declared.kinds.Kind.{Kind}
-use Rattle.letter_word.specs.declared.kinds.Kind.TheVariants.{Mealy}
+use Rattle.letters_and_lassos.specs.declared.kinds.Kind.{Kind}
+use Rattle.letters_and_lassos.specs.declared.kinds.Kind.TheVariants.{Mealy}
 use Rattle.ltl_formula.specs.declared.nodes.FormulaId.{FormulaId}
 use Rattle.ltl_formula.specs.declared.nodes.Node.{Node}
 use Rattle.ltl_formula.specs.Nodes.{tree_at}
@@ -15,7 +15,7 @@ use Rattle.flat_text.specs.FlatOf.{IsFlatOf}
 use Rattle.flat_text.specs.Kinds.{of_kind}
 use Rattle.flat_text.specs.Laws.{FlatTextsAreDetermined, FlatTextsHaveNoFault}
 use Rattle.flat_text.proofs.OfKinds.{kinds}
-use Rattle.dual_search.specs.Laws.{AnswersAreApart}
+use Rattle.side_automata.specs.Laws.{AnswersAreApart}
 use Rattle.aiger_text.specs.FileLaws.{FilesStateOneThing}
 use Rattle.machine_model.specs.declared.counting.Counts.{Counts}
 use Rattle.machine_model.specs.declared.counting.Counts.TheVariants.{Whole, Local}
@@ -23,8 +23,8 @@ use Rattle.synth_engine.specs.declared.settings.Settings.{Settings}
 use Rattle.spec_problems.specs.Laws.{ProblemsOfFormulasAreDetermined}
 use Rattle.spec_problems.specs.OfFormula.{IsFormFault}
 use Rattle.spec_problems.specs.OfText.{IsFirstFault, of_problems, of_text}
-use Rattle.cert_text.specs.Laws.{DocumentsAreDetermined}
-use Rattle.cert_text.specs.Parts.{Document}
+use Rattle.document_text.specs.Laws.{DocumentsAreDetermined}
+use Rattle.document_text.specs.Parts.{Document}
 use Rattle.document_check.specs.Holds.{HoldsFor}
 use Rattle.document_check.specs.Laws.{BadLinesAreDetermined}
 use Rattle.solved_text.specs.Reading.{IsSixth}

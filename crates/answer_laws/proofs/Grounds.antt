@@ -1,18 +1,18 @@
 -- A document that holds over a ground holds over each that has the same names and the same formula in the same list, with whatever kind
 -- of the problems, and whatever their numbers count.
 use Rattle.std.proofs.Common.{◌≡◌, ℕ, Option, Some, None, List, length, sym, ap, subst, ◌∙◌}
-use Rattle.letter_word.specs.declared.kinds.Kind.{Kind}
-use Rattle.letter_word.specs.declared.kinds.Side.{Side}
-use Rattle.letter_word.specs.declared.kinds.Side.TheVariants.{System, Environment}
-use Rattle.letter_word.specs.Kinds.{other_kind}
+use Rattle.letters_and_lassos.specs.declared.kinds.Kind.{Kind}
+use Rattle.letters_and_lassos.specs.declared.kinds.Side.{Side}
+use Rattle.letters_and_lassos.specs.declared.kinds.Side.TheVariants.{System, Environment}
+use Rattle.letters_and_lassos.specs.Kinds.{other_kind}
 use Rattle.ltl_formula.specs.declared.nodes.FormulaId.{FormulaId}
 use Rattle.ltl_formula.specs.declared.nodes.Node.{Node}
 use Rattle.ltl_formula.specs.Nodes.{tree_at}
 use Rattle.machine_model.specs.Automaton.{AutomatonModel}
 use Rattle.machine_model.specs.declared.problems.Problem.{Problem}
-use Rattle.dual_search.specs.declared.automata.Automata.{Automata}
-use Rattle.dual_search.specs.Laws.{AnswersAreApart}
-use Rattle.cert_text.specs.Parts.{Document}
+use Rattle.side_automata.specs.declared.automata.Automata.{Automata}
+use Rattle.side_automata.specs.Laws.{AnswersAreApart}
+use Rattle.document_text.specs.Parts.{Document}
 use Rattle.document_check.specs.Alike.{AreSameShapes, shape_of}
 use Rattle.document_check.specs.Holds.{HoldsFor}
 use Rattle.document_check.proofs.Alike.{checks_alike}

@@ -7,13 +7,13 @@ use Rattle.aiger_text.specs.Circuit.{Circuit}
 use Rattle.aiger_text.specs.CircuitFile.{File}
 use Rattle.aiger_text.specs.CircuitFile as circuit
 use Rattle.aiger_text.specs.FileLaws.{FilesStateOneThing}
-use Rattle.cert_text.specs.Header.{behind}
-use Rattle.cert_text.specs.Lines.{body_text}
-use Rattle.cert_text.specs.Parts.{Document}
-use Rattle.cert_text.specs.Reading.{begins_without_circuit}
-use Rattle.cert_text.specs.States.{HasText, States}
-use Rattle.cert_text.proofs.CommentLine.{begins_with_circuit}
-use Rattle.cert_text.proofs.LineRead.{behind_is}
+use Rattle.document_text.specs.Header.{behind}
+use Rattle.document_text.specs.Lines.{body_text}
+use Rattle.document_text.specs.Parts.{Document}
+use Rattle.document_text.specs.Reading.{begins_without_circuit}
+use Rattle.document_text.specs.States.{HasText, States}
+use Rattle.document_text.proofs.CommentLine.{begins_with_circuit}
+use Rattle.document_text.proofs.LineRead.{behind_is}
 use Rattle.solved_text.specs.Lines.{version_text}
 use Rattle.solved_text.specs.Reading.{IsSixth, alone, begins_sixth, commented}
 

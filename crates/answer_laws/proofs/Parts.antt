@@ -1,7 +1,7 @@
 -- Documents inside the answers of `core` and of `batch`.
 use Rattle.std.proofs.Common.{◌≡◌, ℕ, Bool, true, true≢false, Option, None, List, [], ◌∷◌, sym}
 use Rattle.std.specs.Prelude.{◌≢◌}
-use Rattle.letter_word.specs.declared.kinds.Kind.{Kind}
+use Rattle.letters_and_lassos.specs.declared.kinds.Kind.{Kind}
 use Rattle.synth_engine.specs.declared.settings.Settings.{Settings}
 use Rattle.synth_engine.specs.Settings.{alone}
 use Rattle.ltl_formula.specs.declared.nodes.Node.{Node}

@@ -3,11 +3,11 @@ use Rattle.std.proofs.Common.{◌≡◌, ℕ, Bool, true, false, Option, Some, N
 use Rattle.std.specs.Prelude.{◌≢◌, is_some, option_and_then, option_map, unwrap_or}
 use Rattle.std.specs.Bool.{beq}
 use Rattle.std.proofs.lemmas.Bool.{and_parts}
-use Rattle.letter_word.specs.declared.kinds.Kind.{Kind}
-use Rattle.letter_word.specs.declared.kinds.Kind.TheVariants.{Mealy, Moore}
-use Rattle.letter_word.specs.contracts.kinds.KindPartialEq.TheImpl.{ghosts as kind_ghosts}
+use Rattle.letters_and_lassos.specs.declared.kinds.Kind.{Kind}
+use Rattle.letters_and_lassos.specs.declared.kinds.Kind.TheVariants.{Mealy, Moore}
+use Rattle.letters_and_lassos.specs.contracts.kinds.KindPartialEq.TheImpl.{ghosts as kind_ghosts}
 use Rattle.spec_faults.specs.declared.code.SpecCode.{SpecCode}
-use Rattle.cert_text.specs.Reading.{circuit_in}
+use Rattle.document_text.specs.Reading.{circuit_in}
 use Rattle.solved_text.specs.declared.documents.Verdict.{Verdict}
 use Rattle.solved_text.specs.declared.header.Header.{Header}
 use Rattle.solved_text.specs.Laws.{SolvedAreDetermined}

@@ -2,8 +2,8 @@
 use Rattle.std.proofs.Common.{◌≡◌, ℕ, Bool, true≢false, Option, Some, None, List, sym, ap, ◌∙◌}
 use Rattle.std.proofs.lemmas.Option.{same_Some}
 use Rattle.text_limits.specs.declared.TheConstants.{SMALL_LIMITS}
-use Rattle.letter_word.specs.declared.kinds.Kind.{Kind}
-use Rattle.letter_word.specs.Word.{Word}
+use Rattle.letters_and_lassos.specs.declared.kinds.Kind.{Kind}
+use Rattle.letters_and_lassos.specs.Word.{Word}
 use Rattle.tlsf_syntax.specs.Text.{Text}
 use Rattle.tlsf_reader.specs.Reads.{Reads, TreesAreDetermined}
 use Rattle.tlsf_expand.specs.Expansion.{kind_of}
@@ -13,8 +13,8 @@ use Rattle.flat_text.specs.Kinds.{of_kind}
 use Rattle.flat_text.specs.Laws.{FlatTextsAreDetermined}
 use Rattle.flat_text.proofs.OfKinds.{kinds}
 use Rattle.text_ground.specs.Ground.{Ground, IsGroundOf, ground_with}
-use Rattle.unreal_core.specs.declared.whole.Reduced.{Reduced}
-use Rattle.unreal_core.specs.Reduced.{reduced_in}
+use Rattle.unrealizable_core.specs.declared.whole.Reduced.{Reduced}
+use Rattle.unrealizable_core.specs.Reduced.{reduced_in}
 use Rattle.core_answer.specs.Over.{IsCutGround, IsGroundOver, over_all, over_some, whole_with}
 use Rattle.answer_laws.proofs.Grounds.{AreAlike}
 

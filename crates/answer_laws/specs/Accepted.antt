@@ -1,6 +1,6 @@
 -- What `check` says of the documents that `synth`, `batch` and `core` print (this project's own).
 use Rattle.std.specs.Prelude.{◌≡◌, ◌≢◌, ℕ, Bool, List, Option, Some, None}
-use Rattle.letter_word.specs.declared.kinds.Kind.{Kind}
+use Rattle.letters_and_lassos.specs.declared.kinds.Kind.{Kind}
 use Rattle.ltl_formula.specs.declared.nodes.Node.{Node}
 use Rattle.tlsf_syntax.specs.Text.{Text}
 use Rattle.tlsf_reader.specs.Reads.{Reads}
@@ -8,9 +8,9 @@ use Rattle.tlsf_expand.specs.Expansion.{kind_of}
 use Rattle.spec_faults.specs.declared.code.SpecCode.{SpecCode}
 use Rattle.spec_problems.specs.declared.sides.SideProblems.{SideProblems}
 use Rattle.synth_engine.specs.declared.settings.Settings.{Settings}
-use Rattle.cert_text.specs.declared.documents.Verdict.{Verdict}
-use Rattle.cert_text.specs.Parts.{Document}
-use Rattle.cert_text.specs.States.{States}
+use Rattle.document_text.specs.declared.documents.Verdict.{Verdict}
+use Rattle.document_text.specs.Parts.{Document}
+use Rattle.document_text.specs.States.{States}
 use Rattle.document_check.specs.Holds.{HoldsFor}
 use Rattle.document_check.specs.FirstBad.{IsFirstBadFor}
 use Rattle.program_replies.specs.Lines.{refusal_line}

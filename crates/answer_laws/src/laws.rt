@@ -3,11 +3,11 @@ ghost use Rattle.answer_laws.specs.Accepted.{PrintedIsAccepted};
 ghost use Rattle.answer_laws.specs.Solved.{SolutionsAreAccepted};
 
 use aiger_text::files_state_one_thing;
-use cert_text::laws::documents_are_determined;
 use check_answer::laws::checks_are_determined;
 use document_check::laws::bad_lines_are_determined;
-use dual_search::laws::answers_are_apart;
+use document_text::laws::documents_are_determined;
 use flat_text::laws::{flat_texts_are_determined, flat_texts_have_no_fault};
+use side_automata::laws::answers_are_apart;
 use solve_ground::laws::solve_texts_are_determined;
 use solved_text::laws::solved_are_determined;
 use spec_problems::laws::problems_of_formulas_are_determined;

@@ -5,9 +5,9 @@ ghost use Rattle.check_answer.specs.Answer.{CheckAnswers};
 
 use crate::laws::printed_is_accepted;
 use check_answer::{TextForCheck, check_answer, text_for_check};
-use letter_word::Kind;
+use input_output::OpenGate;
+use letters_and_lassos::Kind;
 use machine_model::Counts;
-use outside_edge::OpenGate;
 use program_replies::{Reply, Status};
 use std::alloc::{AllocError, Global};
 use std::sync::Wait;

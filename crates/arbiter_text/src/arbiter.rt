@@ -1,8 +1,8 @@
 ghost use Rattle.std.specs.Prelude.{◌≡◌, ◌++◌, take, vec_len, decimal, OnOk, OnErr};
 ghost use Rattle.arbiter_text.specs.Arbiter.{before_number, behind_number, generated_text};
 
+use names_and_numbers::push_number;
 use std::alloc::AllocError;
-use text_base::push_number;
 
 /// Appends the text of an arbiter of that many clients: each asks by an input, each has an output for its grant,
 /// at most one grant is given at a time, and each request is granted. Where there is no room, `out` is as it was.

@@ -1,7 +1,7 @@
 //! The text of an arbiter of any number of clients.
 //!
 //! `write_arbiter` appends exactly the bytes that the definition in `specs/` gives, a specification in TLSF in which only
-//! the number of clients changes. Stands on `text_base` for the number's digits.
+//! the number of clients changes. Stands on `names_and_numbers` for the number's digits.
 #![tactic(auto)]
 
 mod arbiter;

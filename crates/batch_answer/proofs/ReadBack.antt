@@ -9,7 +9,7 @@ use Rattle.std.proofs.lemmas.List.Sums.{count_by-le-length}
 use Rattle.std.proofs.lemmas.Fmt.{decimal_injective}
 use Rattle.std.proofs.lemmas.Grind.{common_steps}
 use Rattle.std.proofs.lemmas.Bool.{and_parts}
-use Rattle.text_base.proofs.NumeralLemmas.{decimal_is_numeral}
+use Rattle.names_and_numbers.proofs.NumeralLemmas.{decimal_is_numeral}
 use Rattle.batch_run.specs.Answers.{AreAnswers}
 use Rattle.synth_engine.specs.declared.settings.Settings.{Settings}
 use Rattle.synth_engine.specs.Settings.{alone}

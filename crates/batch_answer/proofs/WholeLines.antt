@@ -6,9 +6,9 @@ use Rattle.std.proofs.lemmas.List.{append_assoc, take-append-drop}
 use Rattle.spec_faults.specs.declared.code.SpecCode.{SpecCode}
 use Rattle.spec_faults.specs.Codes.{name_of, number_of}
 use Rattle.program_replies.specs.Lines.{refusal_line}
-use Rattle.cert_text.specs.Parts.{Document}
-use Rattle.cert_text.specs.Lines.{body_text, end_text, header_text, part_text}
-use Rattle.cert_text.specs.States.{HasText}
+use Rattle.document_text.specs.Parts.{Document}
+use Rattle.document_text.specs.Lines.{body_text, end_text, header_text, part_text}
+use Rattle.document_text.specs.States.{HasText}
 use Rattle.synth_answer.specs.Printed.{Printed}
 use Rattle.synth_answer.specs.Answer.{Answers, refused, realizable, unrealizable, bounded, no_size, no_entries}
 use Rattle.batch_answer.specs.Batch.{AreLines}

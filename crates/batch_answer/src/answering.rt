@@ -7,7 +7,7 @@ use crate::file_name::FileName;
 use crate::parts::batch_text;
 use crate::texts::{Answering, TakenText};
 use batch_run::run_all;
-use outside_edge::Gate;
+use input_output::Gate;
 use program_replies::{Reply, Status};
 use std::alloc::{AllocError, Global};
 use std::sync::Wait;

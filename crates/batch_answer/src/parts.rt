@@ -3,9 +3,9 @@ ghost use Rattle.std.specs.Prelude.{◌≡◌, ◌++◌, IfOk, OnOk, length, map
 ghost use Rattle.batch_answer.specs.Batch.{batch_text as whole_text, part_of, part_text};
 
 use crate::file_name::FileName;
+use names_and_numbers::push_number;
 use program_replies::{Reply, line_count};
 use std::alloc::{AllocError, Global};
-use text_base::push_number;
 
 /// A part for each reply, under the name of its text, and the last line.
 pub fn batch_text(

@@ -2,7 +2,7 @@
 ghost use Rattle.std.specs.Prelude.{◌≡◌};
 
 use batch_run::Job;
-use outside_edge::OpenGate;
+use input_output::OpenGate;
 use program_replies::{Reply, refused};
 use spec_faults::SpecCode;
 use std::alloc::{AllocError, Global};

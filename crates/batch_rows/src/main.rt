@@ -8,8 +8,8 @@ mod notes;
 
 use batch_run::run_all;
 use doubles::Doubles;
+use input_output::{Gate, HoldGate, OpenGate};
 use notes::NoteGate;
-use outside_edge::{Gate, HoldGate, OpenGate};
 use std::alloc::Global;
 use std::io;
 use std::sync::Wait;

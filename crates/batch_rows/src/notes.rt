@@ -1,5 +1,5 @@
 //! A gate that notes what it is passed with.
-use outside_edge::{Gate, Moment};
+use input_output::{Gate, Moment};
 use std::io;
 use std::sync::atomic::{AtomicU64, Ordering};
 

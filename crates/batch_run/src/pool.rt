@@ -6,7 +6,7 @@ use crate::batch::Batch;
 use crate::claims::{Claims, PlaceCount};
 use crate::job::Job;
 use crate::placed::Placed;
-use outside_edge::{Gate, Moment};
+use input_output::{Gate, Moment};
 use std::alloc::AllocError;
 use std::sync::{Mutex, Wait};
 use std::thread::Threads;

@@ -8,7 +8,7 @@ use crate::claims::{Claims, PlaceCount};
 use crate::job::Job;
 use crate::placed::Placed;
 use crate::pool::Pool;
-use outside_edge::Gate;
+use input_output::Gate;
 use std::alloc::{AllocError, Global};
 use std::marker::Brand;
 use std::sync::{Mutex, Wait};

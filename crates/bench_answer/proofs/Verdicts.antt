@@ -1,9 +1,9 @@
 -- What a search without a limit may answer.
 use Rattle.std.proofs.Common.{◌≡◌, ℕ, List, Option, Some, None, inl, ap, ◌∙◌, subst}
-use Rattle.letter_word.specs.declared.kinds.Kind.{Kind}
+use Rattle.letters_and_lassos.specs.declared.kinds.Kind.{Kind}
 use Rattle.arbiter_text.specs.Arbiter.{generated_text}
 use Rattle.synth_engine.specs.declared.settings.Settings.{Settings}
-use Rattle.cert_text.specs.declared.documents.Verdict.{Verdict}
+use Rattle.document_text.specs.declared.documents.Verdict.{Verdict}
 use Rattle.synth_answer.specs.Answer.{Answers, IsTold, refused, realizable, unrealizable, bounded, no_size, no_entries, verdict_of}
 use Rattle.synth_answer.specs.Printed.{Printed}
 use Rattle.bench_answer.specs.Bench.{BenchAnswer, HasStatus, HasVerdict, bounds_of, lines_of}

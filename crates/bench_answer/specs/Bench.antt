@@ -1,14 +1,14 @@
 -- The answer of `bench` (this project's own).
 use Rattle.std.specs.Prelude.{◌≡◌, ℕ, ◌++◌, true, false, List, Some, None, codes, decimal, if◌then◌else◌}
-use Rattle.letter_word.specs.declared.kinds.Side.{Side}
-use Rattle.letter_word.specs.declared.kinds.Side.TheVariants.{System, Environment}
+use Rattle.letters_and_lassos.specs.declared.kinds.Side.{Side}
+use Rattle.letters_and_lassos.specs.declared.kinds.Side.TheVariants.{System, Environment}
 use Rattle.arbiter_text.specs.Arbiter.{generated_text}
 use Rattle.machine_model.specs.declared.counting.Counts.TheVariants.{Whole}
 use Rattle.synth_engine.specs.declared.settings.Settings.{Settings}
-use Rattle.cert_text.specs.declared.documents.Verdict.{Verdict}
-use Rattle.cert_text.specs.declared.documents.Verdict.TheVariants.{Machine, Unknown}
-use Rattle.cert_text.specs.Parts.{Document}
-use Rattle.cert_text.specs.States.{States}
+use Rattle.document_text.specs.declared.documents.Verdict.{Verdict}
+use Rattle.document_text.specs.declared.documents.Verdict.TheVariants.{Machine, Unknown}
+use Rattle.document_text.specs.Parts.{Document}
+use Rattle.document_text.specs.States.{States}
 use Rattle.synth_answer.specs.Answer.{Answers}
 
 -- how the search is bounded: the usual greatest size, no limit on the entries of a log, and all rejecting states are counted

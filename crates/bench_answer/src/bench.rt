@@ -4,17 +4,17 @@ ghost use Rattle.program_replies.specs.Statuses.{status_number};
 ghost use Rattle.bench_answer.specs.Bench.{BenchAnswer, least_word, lines_of, states_of, word_of};
 
 use arbiter_text::write_arbiter;
-use cert_text::Verdict;
-use letter_word::Side;
+use document_text::Verdict;
+use input_output::Gate;
+use letters_and_lassos::Side;
 use machine_model::Counts;
-use outside_edge::Gate;
+use names_and_numbers::push_number;
 use program_replies::Reply;
 use std::alloc::{AllocError, Global};
 use std::sync::Wait;
 use std::thread::Threads;
 use synth_answer::told_answer;
 use synth_engine::Settings;
-use text_base::push_number;
 
 /// The answer to the text of an arbiter of that many clients, searched up to 4 states without a limit on entries: the lines
 /// `clients K`, `verdict V` and `states N` with status 10, 20 or 30. N is 0 where no machine of an allowed size exists.

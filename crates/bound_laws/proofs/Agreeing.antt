@@ -1,10 +1,10 @@
 -- An answer of `synth` and an accepted document of version 6.
 use Rattle.std.proofs.Common.{◌≡◌, ℕ, List, Option, length, refl, sym, ap, subst, ◌∙◌}
 use Rattle.text_limits.specs.declared.TheConstants.{SMALL_LIMITS}
-use Rattle.letter_word.specs.declared.kinds.Kind.{Kind}
-use Rattle.cert_text.specs.Laws.{DocumentsAreDetermined}
-use Rattle.cert_text.specs.Parts.{Document}
-use Rattle.cert_text.specs.States.{States}
+use Rattle.letters_and_lassos.specs.declared.kinds.Kind.{Kind}
+use Rattle.document_text.specs.Laws.{DocumentsAreDetermined}
+use Rattle.document_text.specs.Parts.{Document}
+use Rattle.document_text.specs.States.{States}
 use Rattle.circuit_machines.specs.Laws.{CircuitsAreMachines}
 use Rattle.tlsf_expand.specs.Expansion.{expanded_as}
 use Rattle.tlsf_expand.specs.FlatText.{flat_in}

@@ -2,8 +2,8 @@
 use Rattle.std.proofs.Common.{◌≡◌, ℕ, length, sym, ap, ◌∙◌, true≢false}
 use Rattle.std.specs.Prelude.{List, Option, Some, map}
 use Rattle.std.proofs.lemmas.List.{length-map}
-use Rattle.letter_word.specs.declared.kinds.Side.TheVariants.{System}
-use Rattle.letter_word.specs.Kinds.{other_kind}
+use Rattle.letters_and_lassos.specs.declared.kinds.Side.TheVariants.{System}
+use Rattle.letters_and_lassos.specs.Kinds.{other_kind}
 use Rattle.machine_model.specs.Machine.{MachineModel}
 use Rattle.aiger_text.specs.Circuit.{Circuit, HasStates}
 use Rattle.aiger_text.specs.CircuitType.{IsCircuit}

@@ -1,9 +1,9 @@
 -- What `synth` and `solve` say of one text agrees (bounded synthesis of Finkbeiner and Schewe).
 use Rattle.std.specs.Prelude.{◌≡◌, ℕ, List, Option, length}
-use Rattle.letter_word.specs.declared.kinds.Kind.{Kind}
+use Rattle.letters_and_lassos.specs.declared.kinds.Kind.{Kind}
 use Rattle.synth_engine.specs.declared.settings.Settings.{Settings}
-use Rattle.cert_text.specs.Parts.{Document}
-use Rattle.cert_text.specs.States.{States}
+use Rattle.document_text.specs.Parts.{Document}
+use Rattle.document_text.specs.States.{States}
 use Rattle.synth_answer.specs.Answer.{Answers}
 use Rattle.synth_answer.specs.Numbers.{AskAlike, told_number}
 use Rattle.solved_text.specs.declared.documents.Verdict.TheVariants.{Realizable, Unrealizable}

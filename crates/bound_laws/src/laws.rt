@@ -1,8 +1,8 @@
 //! Laws of answers, each the contract of a function that does nothing.
 ghost use Rattle.bound_laws.specs.Laws.{AnswersAgree};
 
-use cert_text::laws::documents_are_determined;
 use circuit_machines::laws::circuits_are_machines;
+use document_text::laws::documents_are_determined;
 use limit_laws::laws::taken_texts_want_the_same;
 use solve_check::laws::least_lie_between;
 

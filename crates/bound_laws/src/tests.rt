@@ -1,7 +1,7 @@
 //! The laws at real answers: what a clause says of the answers that its helper makes is proved by the law, and which answers these are is seen.
 ghost use Rattle.std.specs.Prelude.{◌≡◌, ◌<◌, ℕ, IfOk, IfSome};
-ghost use Rattle.cert_text.specs.Parts.{Document};
-ghost use Rattle.cert_text.specs.States.{States};
+ghost use Rattle.document_text.specs.Parts.{Document};
+ghost use Rattle.document_text.specs.States.{States};
 ghost use Rattle.circuit_laws.specs.Laws.{NoCircuitSatisfies};
 ghost use Rattle.program_replies.specs.Statuses.{status_number};
 ghost use Rattle.satisfaction.specs.Wanted.{Wanted as AWanted};
@@ -13,10 +13,10 @@ ghost use Rattle.synth_answer.specs.Numbers.{AskAlike, told_number};
 ghost use Rattle.text_ground.specs.Ground.{IsWantedBy};
 
 use crate::laws::answers_agree;
-use cert_text::Verdict;
-use letter_word::{Kind, Side};
+use document_text::Verdict;
+use input_output::OpenGate;
+use letters_and_lassos::{Kind, Side};
 use machine_model::Counts;
-use outside_edge::OpenGate;
 use solve_check::{Acceptance, Checked, check_solved};
 use solve_ground::solve_text;
 use std::alloc::{AllocError, Global};

@@ -1,7 +1,7 @@
 //! Who hears what `solve` tells, and says at once that something is found.
 
 use diagnostics::{Phase, found_line, phase_line};
-use letter_word::Side;
+use letters_and_lassos::Side;
 use solve_told::{Listener, News, Told};
 use std::alloc::Global;
 use std::io;

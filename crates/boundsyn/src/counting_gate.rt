@@ -1,6 +1,6 @@
 use diagnostics::{SizeTurns, batch_line, progress_line};
-use letter_word::Side;
-use outside_edge::{Gate, Moment};
+use input_output::{Gate, Moment};
+use letters_and_lassos::Side;
 use std::alloc::{AllocError, Global};
 use std::io;
 use std::rt::Clock;

@@ -3,7 +3,7 @@
 ghost use Rattle.std.specs.Prelude.{◌≡◌};
 
 use diagnostics::{Heard, KeptFiles};
-use outside_edge::{Shelf, ShelfFault, Sink, SinkFault};
+use input_output::{Shelf, ShelfFault, Sink, SinkFault};
 use std::sync::atomic::{AtomicU64, Ordering};
 
 /// A shelf that hands on what another one gives, keeps copies, and counts the files.

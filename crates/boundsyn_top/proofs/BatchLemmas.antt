@@ -4,9 +4,9 @@ use Rattle.std.specs.List.{AllZip}
 use Rattle.std.proofs.Common.{◌≡◌, ◌+◌, ◌<◌, ◌≤◌, ℕ, suc, List, [], ◌∷◌, ◌++◌, get_or, length, map, take, refl, sym, subst, ap, ap₂, ◌∙◌, arith, Option, Some, None}
 use Rattle.std.proofs.lemmas.List.{take_more}
 use Rattle.std.proofs.lemmas.List.Elements.{Contains-get_or}
-use Rattle.outside_edge.specs.Faults.{Rose}
-use Rattle.outside_edge.specs.Files.{Files, bytes_under}
-use Rattle.outside_edge.proofs.EdgeLemmas.{Rose-earlier}
+use Rattle.input_output.specs.Faults.{Rose}
+use Rattle.input_output.specs.Files.{Files, bytes_under}
+use Rattle.input_output.proofs.EdgeLemmas.{Rose-earlier}
 use Rattle.batch_answer.specs.Taken.{AreTexts}
 use Rattle.batch_answer.specs.declared.texts.TakenText.{TakenText}
 use Rattle.boundsyn_top.specs.Batch.{AreFilesOf, IsTakenAs, OneRose}

@@ -2,7 +2,7 @@
 use Rattle.std.specs.Prelude.{IfSome}
 use Rattle.std.proofs.Common.{◌<◌, ℕ, suc, List, [], length, replicate, refl, subst, arith, Option, Some, None}
 use Rattle.std.proofs.lemmas.List.{length-replicate}
-use Rattle.outside_edge.specs.Files.{Files, bytes_under}
+use Rattle.input_output.specs.Files.{Files, bytes_under}
 use Rattle.boundsyn_top.specs.Files.{AreOfFile, HoldsOfFile}
 
 -- a text of one byte too many

@@ -2,8 +2,8 @@
 use Rattle.std.proofs.Common.{◌≡◌, ℕ, List, Option, Some, ap, subst, ◌∙◌}
 use Rattle.std.specs.Prelude.{◌≢◌, option_map, slice_get}
 use Rattle.std.proofs.lemmas.Option.{slice_get-map}
-use Rattle.letter_word.specs.declared.kinds.Kind.{Kind}
-use Rattle.outside_edge.specs.Files.{Files, bytes_under}
+use Rattle.letters_and_lassos.specs.declared.kinds.Kind.{Kind}
+use Rattle.input_output.specs.Files.{Files, bytes_under}
 use Rattle.synth_engine.specs.declared.settings.Settings.{Settings}
 use Rattle.synth_answer.specs.Answer.{Answers}
 use Rattle.check_answer.specs.Answer.{CheckAnswers}

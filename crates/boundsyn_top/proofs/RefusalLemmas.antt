@@ -1,10 +1,10 @@
 -- Nothing but its line answers a fault, or a bad line.
 use Rattle.std.proofs.Common.{◌≡◌, ◌<◌, ◌≤◌, ℕ, List, ◌∙◌, ap, arith, true, Option, Some, None}
 use Rattle.text_limits.specs.declared.TheConstants.{SMALL_LIMITS}
-use Rattle.letter_word.specs.declared.kinds.Kind.{Kind}
-use Rattle.letter_word.specs.declared.kinds.Kind.TheVariants.{Mealy}
+use Rattle.letters_and_lassos.specs.declared.kinds.Kind.{Kind}
+use Rattle.letters_and_lassos.specs.declared.kinds.Kind.TheVariants.{Mealy}
 use Rattle.spec_faults.specs.declared.code.SpecCode.{SpecCode}
-use Rattle.outside_edge.specs.Files.{Files, bytes_under}
+use Rattle.input_output.specs.Files.{Files, bytes_under}
 use Rattle.program_replies.specs.Lines.{line_refusal, refusal_line}
 use Rattle.program_replies.proofs.RefusalLemmas.{one_refusal}
 use Rattle.program_words.specs.Settings.{Asked, EachText, batch, bench, check, core, expand, gen, lasso, solve, synth, verify}
@@ -22,8 +22,8 @@ use Rattle.flat_answer.specs.Expand.{ExpandAnswers}
 use Rattle.flat_answer.specs.Lasso.{LassoAnswers}
 use Rattle.flat_answer.specs.Laws.{ExpandAnswersAreDue, LassoAnswersAreDue}
 use Rattle.flat_text.specs.Laws.{FlatTextsAreDetermined}
-use Rattle.letter_word.specs.declared.kinds.Side.{Side}
-use Rattle.letter_word.specs.declared.kinds.Side.TheVariants.{Environment, System}
+use Rattle.letters_and_lassos.specs.declared.kinds.Side.{Side}
+use Rattle.letters_and_lassos.specs.declared.kinds.Side.TheVariants.{Environment, System}
 use Rattle.verify_answer.specs.Answer.{CircuitAnswers}
 use Rattle.verify_answer.specs.Laws.{EnvironmentsAreDetermined, VerificationsAreDetermined}
 use Rattle.core_answer.specs.Core.{CoreAnswers, IsCoreFault, guarantees_in}

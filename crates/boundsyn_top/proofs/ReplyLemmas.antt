@@ -2,11 +2,11 @@
 use Rattle.std.specs.Prelude.{Contains, IfOk, Result, Ok, Err, codes}
 use Rattle.std.proofs.Common.{◌≡◌, ◌≢◌, ℕ, true, false, List, [], ◌∷◌, ◌<◌, ◌≤◌, length, refl, sym, subst, ◌∙◌, arith, Option, Some, None}
 use Rattle.text_limits.specs.declared.TheConstants.{SMALL_LIMITS}
-use Rattle.letter_word.specs.declared.kinds.Kind.{Kind}
-use Rattle.letter_word.specs.declared.kinds.Kind.TheVariants.{Mealy}
-use Rattle.outside_edge.specs.Faults.{Rose}
-use Rattle.outside_edge.specs.Files.{Files}
-use Rattle.outside_edge.proofs.EdgeLemmas.{Rose-earlier}
+use Rattle.letters_and_lassos.specs.declared.kinds.Kind.{Kind}
+use Rattle.letters_and_lassos.specs.declared.kinds.Kind.TheVariants.{Mealy}
+use Rattle.input_output.specs.Faults.{Rose}
+use Rattle.input_output.specs.Files.{Files}
+use Rattle.input_output.proofs.EdgeLemmas.{Rose-earlier}
 use Rattle.program_replies.specs.declared.replies.Reply.{Reply}
 use Rattle.program_replies.specs.declared.replies.Status.{Status}
 use Rattle.program_replies.specs.declared.replies.Status.TheVariants.{CannotRead, Done, WordsRefused}
@@ -14,8 +14,8 @@ use Rattle.program_replies.specs.Statuses.{status_number}
 use Rattle.program_replies.specs.Lines.{refusal_line}
 use Rattle.program_replies.specs.Refusals.{RefusedBy}
 use Rattle.program_words.specs.Settings.{Asked, EachText, Refutations, settings_of, batch, bench, check, core, expand, lasso, solve, synth, verify}
-use Rattle.cert_text.specs.declared.documents.Verdict.{Verdict}
-use Rattle.cert_text.specs.declared.documents.Verdict.TheVariants as verdict
+use Rattle.document_text.specs.declared.documents.Verdict.{Verdict}
+use Rattle.document_text.specs.declared.documents.Verdict.TheVariants as verdict
 use Rattle.bench_answer.specs.Bench.{BenchAnswer, HasStatus}
 use Rattle.spec_faults.specs.declared.code.SpecCode.{SpecCode}
 use Rattle.spec_faults.specs.declared.code.SpecCode.TheVariants.{TooLong}
@@ -34,8 +34,8 @@ use Rattle.text_ground.specs.declared.texts.Problems.TheVariants.{Of, Refused}
 use Rattle.check_answer.specs.Answer.{CheckAnswers}
 use Rattle.check_answer.specs.Answer as certificate
 use Rattle.check_answer.specs.Reply.{CanBeTested, IsForCertificates, IsForCheck}
-use Rattle.letter_word.specs.declared.kinds.Side.{Side}
-use Rattle.letter_word.specs.declared.kinds.Side.TheVariants.{Environment, System}
+use Rattle.letters_and_lassos.specs.declared.kinds.Side.{Side}
+use Rattle.letters_and_lassos.specs.declared.kinds.Side.TheVariants.{Environment, System}
 use Rattle.solve_ground.specs.declared.texts.SolveText.{SolveText}
 use Rattle.verify_answer.specs.Reply.{IsForVerify, IsTestable}
 use Rattle.verify_answer.specs.Answer.{CircuitAnswers, TestAnswers, VerifyAnswers}

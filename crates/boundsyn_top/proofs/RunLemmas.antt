@@ -3,12 +3,12 @@ use Rattle.std.specs.Prelude.{Contains, ◌⊎◌, codes, Result, Ok, Err, OnOk,
 use Rattle.std.proofs.Common.{◌≡◌, ◌<◌, ℕ, List, [], ◌∷◌, refl, sym, ◌∙◌, subst, arith, inl, inr, Option, Some, None}
 use Rattle.std.proofs.lemmas.List.Elements.{All-contains, All-cons, All-nil, Contains-append_right}
 use Rattle.std.specs.List.{All}
-use Rattle.outside_edge.specs.Faults.{Rose}
-use Rattle.outside_edge.specs.Files.{Files}
-use Rattle.outside_edge.specs.Bytes.{Gains, GainsFront}
-use Rattle.outside_edge.specs.declared.sink.SinkFault.{SinkFault}
-use Rattle.outside_edge.specs.declared.sink.SinkFault.TheVariants.{Failed, NoMemory}
-use Rattle.outside_edge.proofs.GainLemmas.{gains_nothing}
+use Rattle.input_output.specs.Faults.{Rose}
+use Rattle.input_output.specs.Files.{Files}
+use Rattle.input_output.specs.Bytes.{Gains, GainsFront}
+use Rattle.input_output.specs.declared.sink.SinkFault.{SinkFault}
+use Rattle.input_output.specs.declared.sink.SinkFault.TheVariants.{Failed, NoMemory}
+use Rattle.input_output.proofs.GainLemmas.{gains_nothing}
 use Rattle.spec_faults.specs.declared.code.SpecCode.{SpecCode}
 use Rattle.program_replies.specs.Lines.{line_refusal, refusal_line}
 use Rattle.program_replies.proofs.RefusalLemmas.{one_refusal}

@@ -1,7 +1,7 @@
 -- The answer to a list of texts, and what is taken for it (this project's own).
 use Rattle.std.specs.Prelude.{◌≡◌, ◌≤◌, ℕ, Option, List, IfSome, Contains, codes, map}
-use Rattle.outside_edge.specs.Faults.{Rose}
-use Rattle.outside_edge.specs.Files.{Files, bytes_under}
+use Rattle.input_output.specs.Faults.{Rose}
+use Rattle.input_output.specs.Files.{Files, bytes_under}
 use Rattle.program_replies.specs.declared.replies.Status.{Status}
 use Rattle.program_replies.specs.declared.replies.Status.TheVariants.{LineRefused}
 use Rattle.program_replies.specs.Lines.{line_refusal}

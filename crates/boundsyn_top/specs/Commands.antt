@@ -1,6 +1,6 @@
 -- What each command may write whole, and with which status (this project's own).
 use Rattle.std.specs.Prelude.{◌≡◌, ℕ, Option, List, [], ◌∷◌}
-use Rattle.outside_edge.specs.Files.{Files}
+use Rattle.input_output.specs.Files.{Files}
 use Rattle.program_words.specs.Settings.{Asked, synth, check, expand, lasso, gen, bench, verify, core, batch, solve}
 use Rattle.arbiter_text.specs.Arbiter.{generated_text}
 use Rattle.synth_answer.specs.Answer.{Answers}

@@ -1,9 +1,9 @@
 -- What keeps a command from its work: the first fault of its text, or the first bad line of its list or its other file (this project's own).
 use Rattle.std.specs.Prelude.{◌≡◌, ℕ, Option, Some, None, List, IfSome}
 use Rattle.text_limits.specs.declared.TheConstants.{SMALL_LIMITS}
-use Rattle.letter_word.specs.declared.kinds.Kind.TheVariants.{Mealy}
-use Rattle.letter_word.specs.declared.kinds.Side.{Side}
-use Rattle.letter_word.specs.declared.kinds.Side.TheVariants.{System, Environment}
+use Rattle.letters_and_lassos.specs.declared.kinds.Kind.TheVariants.{Mealy}
+use Rattle.letters_and_lassos.specs.declared.kinds.Side.{Side}
+use Rattle.letters_and_lassos.specs.declared.kinds.Side.TheVariants.{System, Environment}
 use Rattle.spec_faults.specs.declared.code.SpecCode.{SpecCode}
 use Rattle.flat_text.specs.FlatOf.{IsFlatFault, IsFlatOf}
 use Rattle.spec_problems.specs.OfText.{IsFirstFault}
@@ -22,7 +22,7 @@ use Rattle.solve_ground.specs.SolveText.{IsSolveFault}
 use Rattle.batch_answer.specs.ListText.{IsFirstBadLineOfList}
 use Rattle.flat_lines.specs.FlatLines.{all_names}
 use Rattle.tlsf_expand.specs.FlatText.{FlatText}
-use Rattle.outside_edge.specs.Files.{Files, bytes_under}
+use Rattle.input_output.specs.Files.{Files, bytes_under}
 use Rattle.program_replies.specs.Lines.{line_refusal, refusal_line}
 use Rattle.program_words.specs.Settings.{Asked, synth, check, expand, lasso, gen, bench, verify, core, batch, solve}
 use Rattle.boundsyn_top.specs.Commands.{AnswersAsked}

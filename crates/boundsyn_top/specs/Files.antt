@@ -1,7 +1,7 @@
 -- Files that a command takes (this project's own).
 use Rattle.std.specs.Prelude.{◌≡◌, ⊤, ℕ, ◌<◌, Option, List, IfSome, codes, length}
-use Rattle.outside_edge.specs.Faults.{Rose}
-use Rattle.outside_edge.specs.Files.{Files, bytes_under}
+use Rattle.input_output.specs.Faults.{Rose}
+use Rattle.input_output.specs.Files.{Files, bytes_under}
 use Rattle.spec_faults.specs.declared.code.SpecCode.TheVariants.{TooLong}
 use Rattle.tlsf_reader.specs.Faults.{most_bytes}
 use Rattle.program_replies.specs.Lines.{refusal_line}

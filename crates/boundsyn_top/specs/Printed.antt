@@ -1,10 +1,10 @@
 -- What a run of `check` answers of what another run printed (this project's own).
 use Rattle.std.specs.Prelude.{◌≡◌, ◌≢◌, ℕ, List, Option, Some, slice_get}
-use Rattle.letter_word.specs.declared.kinds.Kind.{Kind}
-use Rattle.outside_edge.specs.Files.{Files, bytes_under}
+use Rattle.letters_and_lassos.specs.declared.kinds.Kind.{Kind}
+use Rattle.input_output.specs.Files.{Files, bytes_under}
 use Rattle.synth_engine.specs.declared.settings.Settings.{Settings}
-use Rattle.cert_text.specs.Parts.{Document}
-use Rattle.cert_text.specs.States.{States}
+use Rattle.document_text.specs.Parts.{Document}
+use Rattle.document_text.specs.States.{States}
 use Rattle.check_answer.specs.Answer.{accepted_line}
 use Rattle.batch_answer.specs.Batch.{BatchAnswers, Part}
 use Rattle.solved_text.specs.Parts as solved

@@ -1,9 +1,9 @@
 -- What one run of the program may write, and with which status it ends (this project's own).
 use Rattle.std.specs.Prelude.{◌≡◌, ℕ, ◌⊎◌, Option, Some, None, List, [], ◌∷◌, Contains, codes, Result, Ok, Err}
-use Rattle.outside_edge.specs.Files.{Files}
-use Rattle.outside_edge.specs.Bytes.{Gains, GainsFront}
-use Rattle.outside_edge.specs.declared.sink.SinkFault.{SinkFault}
-use Rattle.outside_edge.specs.declared.sink.SinkFault.TheVariants.{Failed, NoMemory}
+use Rattle.input_output.specs.Files.{Files}
+use Rattle.input_output.specs.Bytes.{Gains, GainsFront}
+use Rattle.input_output.specs.declared.sink.SinkFault.{SinkFault}
+use Rattle.input_output.specs.declared.sink.SinkFault.TheVariants.{Failed, NoMemory}
 use Rattle.spec_faults.specs.declared.code.SpecCode.{SpecCode}
 use Rattle.program_replies.specs.Lines.{refusal_line}
 use Rattle.program_words.specs.Settings.{Asked, settings_of}

@@ -1,6 +1,6 @@
 -- What `solve` is asked for, and laws of what it answers (this project's own).
 use Rattle.std.specs.Prelude.{ℕ, List, Option}
-use Rattle.letter_word.specs.declared.kinds.Kind.{Kind}
+use Rattle.letters_and_lassos.specs.declared.kinds.Kind.{Kind}
 use Rattle.solve_answer.specs.declared.refuting.Refuting.{Refuting}
 use Rattle.solve_answer.specs.Answer.{LogLimits, SolveAnswers}
 use Rattle.program_words.specs.Settings.{Refutations}

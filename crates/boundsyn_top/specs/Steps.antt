@@ -1,6 +1,6 @@
 -- What a command does to a shelf (this project's own).
 use Rattle.std.specs.Prelude.{◌≡◌, ℕ, Option, List}
-use Rattle.outside_edge.specs.Files.{Files}
+use Rattle.input_output.specs.Files.{Files}
 
 -- the files that the shelf tells, and how often taking each name had failed before, and has failed after
 pub record ShelfStep : Type 0 where

@@ -1,7 +1,7 @@
 -- Which files a command takes (this project's own): first that of its text or its list, and then others, unless the first one is refused.
 use Rattle.std.specs.Prelude.{◌≡◌, ℕ, Option, List, [], ◌∷◌, IfSome, Contains}
 use Rattle.spec_faults.specs.declared.code.SpecCode.{SpecCode}
-use Rattle.outside_edge.specs.Files.{Files, bytes_under}
+use Rattle.input_output.specs.Files.{Files, bytes_under}
 use Rattle.program_words.specs.Settings.{Asked, synth, check, expand, lasso, gen, bench, verify, core, batch, solve}
 use Rattle.boundsyn_top.specs.Batch.{IsBadList, IsListed}
 use Rattle.boundsyn_top.specs.Faults.{HasFault, IsRefusedAnyway, IsRefusedBySolve}

@@ -3,7 +3,7 @@
 -- file that isn't one for `solve`.
 use Rattle.std.specs.Prelude.{◌≡◌, ⊤, ℕ, List, Contains, codes}
 use Rattle.spec_faults.specs.declared.code.SpecCode.{SpecCode}
-use Rattle.outside_edge.specs.Faults.{Rose}
+use Rattle.input_output.specs.Faults.{Rose}
 use Rattle.program_replies.specs.Lines.{refusal_line}
 use Rattle.program_words.specs.Settings.{Asked, synth, check, expand, lasso, gen, bench, verify, core, batch, solve}
 use Rattle.boundsyn_top.specs.Faults.{HasNoSynthFault, HasNone, HasSynthFault}

@@ -7,7 +7,7 @@ ghost use Rattle.boundsyn_top.specs.Steps.{ShelfStep};
 use crate::output::{Output, whole_output};
 use arbiter_text::write_arbiter;
 use bench_answer::bench_answer;
-use outside_edge::Gate;
+use input_output::Gate;
 use program_replies::{Reply, Status};
 use std::alloc::{AllocError, Global};
 use std::sync::Wait;

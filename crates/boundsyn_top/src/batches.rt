@@ -1,7 +1,7 @@
 //! The reply to `batch`.
 ghost use Rattle.std.specs.Prelude.{◌≡◌, ◌≢◌, ◌^◌, ◌<◌, ◌≤◌, ℕ, List, Contains, IfOk, MatchOption, length};
 ghost use Rattle.std.specs.List.{AllZip};
-ghost use Rattle.outside_edge.specs.Faults.{Rose};
+ghost use Rattle.input_output.specs.Faults.{Rose};
 ghost use Rattle.program_replies.specs.Statuses.{status_number};
 ghost use Rattle.program_words.specs.Settings.{batch};
 ghost use Rattle.batch_answer.specs.ListText.{IsList};
@@ -15,8 +15,8 @@ use crate::files::{LONGEST_TEXT, cannot_read, take_whole};
 use crate::output::{Output, whole_output};
 use batch_answer::laws::lists_are_determined;
 use batch_answer::{FileName, ListFault, TakenText, batch_answer, read_list};
-use letter_word::Kind;
-use outside_edge::{Gate, Shelf, ShelfFault};
+use input_output::{Gate, Shelf, ShelfFault};
+use letters_and_lassos::Kind;
 use program_replies::{Reply, Status, refused_at_line};
 use solve_answer::Refuting;
 use solve_batch::solve_batch;

@@ -2,7 +2,7 @@
 ghost use Rattle.std.specs.Prelude.{◌≡◌, ◌≢◌, ℕ, List, Some, IfOk};
 ghost use Rattle.check_answer.specs.Answer.{CheckAnswers};
 ghost use Rattle.check_answer.specs.Reply.{CanBeTested, IsForCertificates};
-ghost use Rattle.letter_word.specs.declared.kinds.Kind.TheVariants.{Mealy};
+ghost use Rattle.letters_and_lassos.specs.declared.kinds.Kind.TheVariants.{Mealy};
 ghost use Rattle.program_replies.specs.Statuses.{status_number};
 ghost use Rattle.program_words.specs.Settings.{check};
 ghost use Rattle.spec_problems.specs.OfText.{IsFirstFault};
@@ -15,7 +15,7 @@ ghost use Rattle.boundsyn_top.specs.Unread.{RepliesByFile, TellsUnread};
 use crate::files::{Taken, cannot_read, take_parts, take_text};
 use crate::output::{Output, whole_output};
 use check_answer::{TextForCheck, check_answer, text_for_check};
-use outside_edge::Shelf;
+use input_output::Shelf;
 use program_replies::Reply;
 use spec_problems::laws::problems_of_texts_are_determined;
 use std::alloc::{AllocError, Global};

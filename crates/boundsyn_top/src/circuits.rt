@@ -1,6 +1,6 @@
 //! The reply to `verify`.
 ghost use Rattle.std.specs.Prelude.{◌≡◌, ◌≢◌, ℕ, List, None, IfOk};
-ghost use Rattle.letter_word.specs.declared.kinds.Side.TheVariants.{System};
+ghost use Rattle.letters_and_lassos.specs.declared.kinds.Side.TheVariants.{System};
 ghost use Rattle.program_replies.specs.Statuses.{status_number};
 ghost use Rattle.program_words.specs.Settings.{verify};
 ghost use Rattle.solve_ground.specs.SolveText.{IsSolveFault};
@@ -14,8 +14,8 @@ ghost use Rattle.boundsyn_top.specs.Unread.{RepliesByFile, TellsUnread};
 
 use crate::files::{Taken, cannot_read, take_text, take_whole};
 use crate::output::{Output, whole_output};
-use letter_word::Side;
-use outside_edge::Shelf;
+use input_output::Shelf;
+use letters_and_lassos::Side;
 use program_replies::Reply;
 use solve_ground::SolveText;
 use spec_problems::laws::problems_of_texts_are_determined;

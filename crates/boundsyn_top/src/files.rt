@@ -1,11 +1,11 @@
 //! Files that a command takes.
 ghost use Rattle.std.specs.Prelude.{◌≡◌, ◌≢◌, ◌≤◌, ℕ, List, codes, IfOk, IfSome, MatchOption};
-ghost use Rattle.outside_edge.specs.Faults.{Rose};
+ghost use Rattle.input_output.specs.Faults.{Rose};
 ghost use Rattle.program_replies.specs.Lines.{refusal_line};
 ghost use Rattle.boundsyn_top.specs.Files.{AreOfFile, IsTakenText, IsTakenUnchanged};
 ghost use Rattle.boundsyn_top.specs.Steps.{IsUnchanged, step_of};
 
-use outside_edge::{Shelf, ShelfFault};
+use input_output::{Shelf, ShelfFault};
 use program_replies::{Reply, Status, refused, whole};
 use spec_faults::SpecCode;
 use std::alloc::{AllocError, Global};

@@ -19,7 +19,7 @@ use crate::files::{Taken, cannot_read, take_text, take_whole};
 use crate::output::{Output, whole_output};
 use flat_answer::{Expansion, expanded, lasso_answer};
 use flat_text::laws::flat_texts_have_no_fault;
-use outside_edge::Shelf;
+use input_output::Shelf;
 use program_replies::Reply;
 use std::alloc::{AllocError, Global};
 use tlsf_expand::Spec;

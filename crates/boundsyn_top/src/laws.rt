@@ -17,7 +17,7 @@ use check_answer::laws::checks_are_determined;
 use core_answer::laws::core_faults_are_determined;
 use flat_answer::laws::{expand_answers_are_due, lasso_answers_are_due};
 use flat_text::laws::flat_texts_are_determined;
-use outside_edge::{Gate, PlainShelf, PlainSink};
+use input_output::{Gate, PlainShelf, PlainSink};
 use solve_check::laws::never_both;
 use solve_told::Listener;
 use spec_problems::laws::problems_of_texts_are_determined;

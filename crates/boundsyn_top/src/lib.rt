@@ -2,7 +2,7 @@
 //!
 //! `run` carries the headline: what it writes whole, with its status, is the answer to what the words ask for, and only a fault
 //! from outside or want of memory keeps it from that. The answers of commands are definitions of the crates that give them.
-//! Stands on those crates, on program_words for the words and on outside_edge for files and for what is written.
+//! Stands on those crates, on program_words for the words and on input_output for files and for what is written.
 #![tactic(auto)]
 
 mod arbiters;

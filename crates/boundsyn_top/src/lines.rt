@@ -1,9 +1,9 @@
 //! Lines into a sink.
 ghost use Rattle.std.specs.Prelude.{◌≡◌, ◌<◌, ◌≤◌, length, OnOk, OnErr, IsErrOf};
-ghost use Rattle.outside_edge.specs.Faults.{Rose};
-ghost use Rattle.outside_edge.specs.Bytes.{Gains, GainsFront};
+ghost use Rattle.input_output.specs.Faults.{Rose};
+ghost use Rattle.input_output.specs.Bytes.{Gains, GainsFront};
 
-use outside_edge::{Sink, SinkFault};
+use input_output::{Sink, SinkFault};
 
 /// Writes the bytes, each line with its end by one call.
 pub fn put_lines<K: Sink>(out: &mut K, bytes: &[u8]) -> Result<(), SinkFault>

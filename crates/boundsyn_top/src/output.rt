@@ -1,12 +1,12 @@
 //! What a run writes.
 ghost use Rattle.std.specs.Prelude.{OnOk, OnErr, IsErrOf};
-ghost use Rattle.outside_edge.specs.Faults.{Rose};
-ghost use Rattle.outside_edge.specs.Bytes.{Gains, GainsFront};
+ghost use Rattle.input_output.specs.Faults.{Rose};
+ghost use Rattle.input_output.specs.Bytes.{Gains, GainsFront};
 ghost use Rattle.boundsyn_top.specs.Output.{IsWholeOf, IsWritable, bytes_of};
 
 use crate::lines::put_lines;
 use flat_lines::put_flat;
-use outside_edge::{Sink, SinkFault};
+use input_output::{Sink, SinkFault};
 use program_replies::{Reply, Status};
 use std::alloc::{AllocError, Global};
 use tlsf_expand::Spec;

@@ -14,7 +14,7 @@ use crate::flat::{expand_spec, tell_truth};
 use crate::output::{Output, whole_output};
 use crate::solving::solve_spec;
 use crate::synthesis::synthesize;
-use outside_edge::{Gate, Shelf};
+use input_output::{Gate, Shelf};
 use program_replies::{Reply, Status, whole};
 use program_words::{Settings, WordsFault, read_words};
 use solve_answer::Refuting;

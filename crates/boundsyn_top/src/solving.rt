@@ -10,8 +10,8 @@ ghost use Rattle.boundsyn_top.specs.Steps.{step_of};
 
 use crate::files::{Taken, take_text};
 use crate::output::{Output, whole_output};
-use letter_word::Kind;
-use outside_edge::{Gate, Shelf};
+use input_output::{Gate, Shelf};
+use letters_and_lassos::Kind;
 use program_replies::Reply;
 use solve_answer::{GAME_BUDGET, Refuting, solve};
 use solve_told::{Listener, News};

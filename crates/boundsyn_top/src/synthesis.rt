@@ -6,8 +6,8 @@ ghost use Rattle.boundsyn_top.specs.Steps.{step_of};
 
 use crate::files::{Taken, take_text};
 use crate::output::{Output, whole_output};
-use letter_word::Kind;
-use outside_edge::{Gate, Shelf};
+use input_output::{Gate, Shelf};
+use letters_and_lassos::Kind;
 use std::alloc::{AllocError, Global};
 use std::sync::Wait;
 use std::thread::Threads;

@@ -1,6 +1,6 @@
 //! The top call.
 ghost use Rattle.std.specs.Prelude.{◌≡◌, ◌⊎◌, ℕ, List, [], ◌∷◌, map, codes, string_bytes, Contains};
-ghost use Rattle.outside_edge.specs.Faults.{Rose};
+ghost use Rattle.input_output.specs.Faults.{Rose};
 ghost use Rattle.program_replies.specs.Lines.{line_refusal, refusal_line};
 ghost use Rattle.program_replies.specs.Statuses.{status_number};
 ghost use Rattle.program_words.specs.Settings.{Asked};
@@ -14,7 +14,7 @@ ghost use Rattle.boundsyn_top.specs.Unread.{IsReadBehind};
 use crate::laws::refusals_are_determined;
 use crate::output::put_output;
 use crate::replies::reply_to;
-use outside_edge::{Gate, Shelf, Sink, SinkFault};
+use input_output::{Gate, Shelf, Sink, SinkFault};
 use program_replies::Status;
 use solve_told::Listener;
 use std::alloc::Global;

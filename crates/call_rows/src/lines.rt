@@ -1,7 +1,7 @@
 //! What is printed.
 
+use names_and_numbers::Name;
 use std::alloc::{AllocError, Global};
-use text_base::Name;
 
 /// The bytes of what is printed so far.
 #[derive(Drop)]

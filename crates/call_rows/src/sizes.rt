@@ -5,8 +5,8 @@ ghost use Rattle.solve_ground.specs.SolveText.{IsSolveText};
 
 use crate::lines::Lines;
 use crate::push_fault;
-use clause_base::{Clause, Cnf};
-use letter_word::Side;
+use letters_and_lassos::Side;
+use propositional_logic::{Clause, Cnf};
 use size_refutations::{Ground, Sought};
 use solve_ground::{SolveText, solve_text};
 use std::alloc::{AllocError, Global};

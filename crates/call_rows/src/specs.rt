@@ -2,8 +2,8 @@
 
 use crate::lines::Lines;
 use ltl_formula::{FormulaId, Formulas};
+use names_and_numbers::Name;
 use std::alloc::AllocError;
-use text_base::Name;
 use tlsf_expand::Spec;
 
 /// `word`, then a blank and a name for each signal.

@@ -5,11 +5,11 @@ use Rattle.std.specs.Option.{option_map_or}
 use Rattle.std.proofs.Math.Nat.{min-le_right}
 use Rattle.std.proofs.lemmas.Bool.{leb-true, and_parts}
 use Rattle.std.proofs.lemmas.List.Elements.{All-append, All-cons, All-head, All-nil, All-same, All-tail}
-use Rattle.letter_word.specs.declared.kinds.Kind.{Kind}
-use Rattle.letter_word.specs.declared.kinds.Kind.TheVariants.{Mealy}
-use Rattle.letter_word.specs.declared.kinds.Side.{Side}
-use Rattle.letter_word.specs.declared.kinds.Side.TheVariants.{System, Environment}
-use Rattle.letter_word.specs.Kinds.{other_kind}
+use Rattle.letters_and_lassos.specs.declared.kinds.Kind.{Kind}
+use Rattle.letters_and_lassos.specs.declared.kinds.Kind.TheVariants.{Mealy}
+use Rattle.letters_and_lassos.specs.declared.kinds.Side.{Side}
+use Rattle.letters_and_lassos.specs.declared.kinds.Side.TheVariants.{System, Environment}
+use Rattle.letters_and_lassos.specs.Kinds.{other_kind}
 use Rattle.ltl_formula.specs.Tree.{Tree}
 use Rattle.ltl_formula.specs.Nodes.{tree_at}
 use Rattle.machine_model.specs.declared.problems.Problem.{Problem}
@@ -18,7 +18,7 @@ use Rattle.machine_model.specs.Problem.{IsProblem, automaton_of}
 use Rattle.annotation_encode.specs.Count.{SizesRise, allowed_sizes}
 use Rattle.annotation_encode.specs.Laws.{HasNoAccepted}
 use Rattle.refutation_log.specs.Log.{is_ended}
-use Rattle.dual_search.specs.Sides.{AcceptsWhere}
+use Rattle.side_automata.specs.Sides.{AcceptsWhere}
 use Rattle.tlsf_expand.specs.FlatText.{FlatText, spec_seen}
 use Rattle.text_limits.specs.declared.TheConstants.{SMALL_LIMITS}
 use Rattle.flat_text.specs.Kinds.{of_kind}
@@ -27,12 +27,12 @@ use Rattle.spec_problems.specs.declared.sides.SideProblems.{SideProblems}
 use Rattle.spec_problems.specs.declared.texts.TextProblems.{TextProblems}
 use Rattle.satisfaction.specs.Satisfaction.{EachCanLose}
 use Rattle.satisfaction.specs.Wanted.{Says, Wanted}
-use Rattle.cert_text.specs.declared.documents.Verdict.{Verdict}
-use Rattle.cert_text.specs.declared.order.Order.{Order}
-use Rattle.cert_text.specs.declared.order.Order.TheVariants.{UpTo, AnyUpTo}
-use Rattle.cert_text.specs.Order.{order_of, place_of}
-use Rattle.cert_text.specs.Parts.{Document, LogPart}
-use Rattle.cert_text.specs.States.{States}
+use Rattle.document_text.specs.declared.documents.Verdict.{Verdict}
+use Rattle.document_text.specs.declared.order.Order.{Order}
+use Rattle.document_text.specs.declared.order.Order.TheVariants.{UpTo, AnyUpTo}
+use Rattle.document_text.specs.Order.{order_of, place_of}
+use Rattle.document_text.specs.Parts.{Document, LogPart}
+use Rattle.document_text.specs.States.{States}
 use Rattle.document_check.specs.Facts.{Facts, allowed_at, counting_for, for_side, problem_at, sizes_to, wanted_sizes}
 use Rattle.document_check.specs.Holds.{AllHold, HoldsAt, HoldsFor, IsLogOfSome, may_be_full}
 use Rattle.document_check.specs.Laws.{AllRefute, ClosedLogsRefuteSizes}

@@ -1,7 +1,7 @@
 -- From a reply to the answer.
 use Rattle.std.proofs.Common.{◌≡◌, ℕ, List, Option, Some, refl, ap, subst}
-use Rattle.letter_word.specs.declared.kinds.Kind.{Kind}
-use Rattle.letter_word.specs.declared.kinds.Kind.TheVariants.{Mealy}
+use Rattle.letters_and_lassos.specs.declared.kinds.Kind.{Kind}
+use Rattle.letters_and_lassos.specs.declared.kinds.Kind.TheVariants.{Mealy}
 use Rattle.spec_faults.specs.declared.code.SpecCode.{SpecCode}
 use Rattle.spec_faults.specs.declared.code.SpecFault.{SpecFault}
 use Rattle.spec_faults.specs.declared.code.SpecFault.TheVariants.{At, NoMemory}
@@ -10,10 +10,10 @@ use Rattle.spec_problems.specs.declared.texts.TextProblems.{TextProblems}
 use Rattle.spec_problems.specs.OfFormula.{AreProblems}
 use Rattle.spec_problems.specs.Laws.{ProblemsOfTextsAreDetermined}
 use Rattle.spec_problems.specs.OfText.{IsFirstFault}
-use Rattle.cert_text.specs.declared.documents.DocumentFault.{DocumentFault}
-use Rattle.cert_text.specs.declared.documents.DocumentFault.TheVariants as fault
-use Rattle.cert_text.specs.Parts.{Document}
-use Rattle.cert_text.specs.States.{States}
+use Rattle.document_text.specs.declared.documents.DocumentFault.{DocumentFault}
+use Rattle.document_text.specs.declared.documents.DocumentFault.TheVariants as fault
+use Rattle.document_text.specs.Parts.{Document}
+use Rattle.document_text.specs.States.{States}
 use Rattle.document_check.specs.Facts.{Facts}
 use Rattle.document_check.specs.FirstBad.{IsFirstBadFor}
 use Rattle.document_check.specs.Holds.{HoldsFor}

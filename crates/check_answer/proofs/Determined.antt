@@ -1,12 +1,12 @@
 -- A text and a certificate have one answer.
 use Rattle.std.proofs.Common.{◌≡◌, ℕ, ◌⊎◌, inl, inr, List, Some, ap, length, sym, subst, ◌∙◌}
-use Rattle.letter_word.specs.declared.kinds.Kind.TheVariants.{Mealy}
+use Rattle.letters_and_lassos.specs.declared.kinds.Kind.TheVariants.{Mealy}
 use Rattle.spec_faults.specs.declared.code.SpecCode.{SpecCode}
 use Rattle.spec_problems.specs.Laws.{ProblemsOfTextsAreDetermined}
 use Rattle.spec_problems.specs.OfText.{IsFirstFault}
-use Rattle.cert_text.specs.Laws.{DocumentsAreDetermined}
-use Rattle.cert_text.specs.Parts.{Document}
-use Rattle.cert_text.specs.States.{States}
+use Rattle.document_text.specs.Laws.{DocumentsAreDetermined}
+use Rattle.document_text.specs.Parts.{Document}
+use Rattle.document_text.specs.States.{States}
 use Rattle.document_check.specs.FirstBad.{IsFirstBadFor}
 use Rattle.document_check.specs.Holds.{HoldsFor}
 use Rattle.document_check.specs.Laws.{AlikeTextsCheckAlike, BadLinesAreDetermined}

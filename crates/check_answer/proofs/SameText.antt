@@ -1,11 +1,11 @@
 -- Texts as `solve` takes them that say the same, wherever their names are kept, have the same first bad lines.
 use Rattle.std.proofs.Common.{◌≡◌, ℕ, Option, Some, None, List, length, refl, ap, subst, ◌∙◌, if◌then◌else◌}
 use Rattle.std.specs.Prelude.{is_some, option_and_then}
-use Rattle.letter_word.specs.declared.kinds.Kind.{Kind}
-use Rattle.letter_word.specs.declared.kinds.Side.{Side}
-use Rattle.letter_word.specs.declared.kinds.Side.TheVariants.{System, Environment}
-use Rattle.cert_text.specs.declared.reading.CircuitPart.{CircuitPart}
-use Rattle.cert_text.specs.declared.reading.CircuitPart.TheVariants.{Absent, Faulty, Stated}
+use Rattle.letters_and_lassos.specs.declared.kinds.Kind.{Kind}
+use Rattle.letters_and_lassos.specs.declared.kinds.Side.{Side}
+use Rattle.letters_and_lassos.specs.declared.kinds.Side.TheVariants.{System, Environment}
+use Rattle.document_text.specs.declared.reading.CircuitPart.{CircuitPart}
+use Rattle.document_text.specs.declared.reading.CircuitPart.TheVariants.{Absent, Faulty, Stated}
 use Rattle.circuit_names.specs.Lines.{earliest, faulty_line, stated_line}
 use Rattle.circuit_names.specs.Names.{Names}
 use Rattle.named_annotation.specs.Laws.{IsNamedCause}

@@ -2,8 +2,8 @@
 use Rattle.std.proofs.Common.{◌≡◌, ℕ, true, List, Option, Some, None, refl}
 use Rattle.std.specs.Prelude.{◌&&◌, is_some}
 use Rattle.std.specs.Bool.{beq}
-use Rattle.letter_word.specs.declared.kinds.Kind.{Kind}
-use Rattle.letter_word.specs.contracts.kinds.KindPartialEq.TheImpl.{ghosts as kind_ghosts}
+use Rattle.letters_and_lassos.specs.declared.kinds.Kind.{Kind}
+use Rattle.letters_and_lassos.specs.contracts.kinds.KindPartialEq.TheImpl.{ghosts as kind_ghosts}
 use Rattle.solve_ground.specs.declared.texts.SolveText.{SolveText}
 use Rattle.solve_ground.specs.Laws.{IsSameText, SolveTextsAreDetermined}
 use Rattle.solve_ground.specs.SolveText.{IsSolveText}

@@ -4,18 +4,18 @@ use Rattle.std.specs.Prelude.{min}
 use Rattle.std.proofs.Math.Nat.{le-min}
 use Rattle.std.proofs.lemmas.Bool.{leb-true}
 use Rattle.std.proofs.lemmas.List.Elements.{All-contains, All-map, All-same, Contains-append_left, Contains-append_right, Contains-push}
-use Rattle.letter_word.specs.declared.kinds.Kind.{Kind}
-use Rattle.letter_word.specs.declared.kinds.Side.{Side}
-use Rattle.letter_word.specs.declared.kinds.Side.TheVariants.{System, Environment}
+use Rattle.letters_and_lassos.specs.declared.kinds.Kind.{Kind}
+use Rattle.letters_and_lassos.specs.declared.kinds.Side.{Side}
+use Rattle.letters_and_lassos.specs.declared.kinds.Side.TheVariants.{System, Environment}
 use Rattle.machine_model.specs.declared.problems.Problem.{Problem}
 use Rattle.refutation_log.specs.Log.{is_ended}
 use Rattle.satisfaction.specs.Wanted.{Wanted}
-use Rattle.cert_text.specs.declared.documents.Verdict.{Verdict}
-use Rattle.cert_text.specs.declared.documents.Verdict.TheVariants.{Machine, Unknown}
-use Rattle.cert_text.specs.Parts.{LogPart}
-use Rattle.cert_text.specs.declared.order.Place.{Place}
-use Rattle.cert_text.specs.Order.{may_tell_found, order_found, order_of, place, place_of}
-use Rattle.cert_text.specs.WellFormed.{IsFoundNumber}
+use Rattle.document_text.specs.declared.documents.Verdict.{Verdict}
+use Rattle.document_text.specs.declared.documents.Verdict.TheVariants.{Machine, Unknown}
+use Rattle.document_text.specs.Parts.{LogPart}
+use Rattle.document_text.specs.declared.order.Place.{Place}
+use Rattle.document_text.specs.Order.{may_tell_found, order_found, order_of, place, place_of}
+use Rattle.document_text.specs.WellFormed.{IsFoundNumber}
 use Rattle.document_check.specs.Facts.{Facts, for_side, problem_at, sizes_to, wanted_sizes}
 use Rattle.document_check.specs.Holds.{HoldsAt, IsLogOfSome, is_allowed, may_be_full}
 use Rattle.text_ground.proofs.Lists.{le_cases}

@@ -1,10 +1,10 @@
 -- The answer of `check` to a text and a certificate (this project's own).
 use Rattle.std.specs.Prelude.{◌≡◌, ℕ, ◌<◌, ◌≤◌, ⊤, Bool, true, false, Option, List, ◌++◌, Some, None, All, IsTrue, codes, decimal}
-use Rattle.letter_word.specs.declared.kinds.Kind.{Kind}
-use Rattle.letter_word.specs.declared.kinds.Kind.TheVariants.{Mealy}
-use Rattle.letter_word.specs.Kinds.{kind_word}
-use Rattle.letter_word.specs.declared.kinds.Side.{Side}
-use Rattle.letter_word.specs.declared.kinds.Side.TheVariants.{System, Environment}
+use Rattle.letters_and_lassos.specs.declared.kinds.Kind.{Kind}
+use Rattle.letters_and_lassos.specs.declared.kinds.Kind.TheVariants.{Mealy}
+use Rattle.letters_and_lassos.specs.Kinds.{kind_word}
+use Rattle.letters_and_lassos.specs.declared.kinds.Side.{Side}
+use Rattle.letters_and_lassos.specs.declared.kinds.Side.TheVariants.{System, Environment}
 use Rattle.refutation_log.specs.Log.{is_ended}
 use Rattle.spec_faults.specs.declared.code.SpecCode.{SpecCode}
 use Rattle.tlsf_expand.specs.FlatText.{FlatText}
@@ -12,11 +12,11 @@ use Rattle.spec_problems.specs.declared.sides.SideProblems.{SideProblems}
 use Rattle.spec_problems.specs.OfText.{AreProblemsOf, IsFirstFault}
 use Rattle.satisfaction.specs.Wanted.{Wanted}
 use Rattle.satisfaction.specs.Satisfaction.{EachCanLose, NoneSatisfies}
-use Rattle.cert_text.specs.declared.documents.Verdict.{Verdict}
-use Rattle.cert_text.specs.declared.documents.Verdict.TheVariants.{Machine, Unknown}
-use Rattle.cert_text.specs.Order.{has_logs}
-use Rattle.cert_text.specs.Parts.{Document}
-use Rattle.cert_text.specs.States.{States}
+use Rattle.document_text.specs.declared.documents.Verdict.{Verdict}
+use Rattle.document_text.specs.declared.documents.Verdict.TheVariants.{Machine, Unknown}
+use Rattle.document_text.specs.Order.{has_logs}
+use Rattle.document_text.specs.Parts.{Document}
+use Rattle.document_text.specs.States.{States}
 use Rattle.document_check.specs.Facts.{Facts, allowed_at}
 use Rattle.document_check.specs.Holds.{HoldsFor}
 use Rattle.document_check.specs.FirstBad.{IsFirstBadFor}

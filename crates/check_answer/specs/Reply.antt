@@ -1,13 +1,13 @@
 -- How the answers of `check` are made (this project's own).
 use Rattle.std.specs.Prelude.{◌≡◌, ⊤, ℕ, List, Option, Some, MatchOption}
-use Rattle.letter_word.specs.declared.kinds.Kind.{Kind}
-use Rattle.letter_word.specs.declared.kinds.Kind.TheVariants.{Mealy}
+use Rattle.letters_and_lassos.specs.declared.kinds.Kind.{Kind}
+use Rattle.letters_and_lassos.specs.declared.kinds.Kind.TheVariants.{Mealy}
 use Rattle.tlsf_expand.specs.FlatText.{spec_seen}
 use Rattle.spec_problems.specs.declared.texts.TextProblems.{TextProblems}
 use Rattle.spec_problems.specs.OfFormula.{AreProblems}
-use Rattle.cert_text.specs.declared.documents.DocumentFault.{DocumentFault}
-use Rattle.cert_text.specs.declared.documents.DocumentFault.TheVariants as fault
-use Rattle.cert_text.specs.declared.documents.Verdict.{Verdict}
+use Rattle.document_text.specs.declared.documents.DocumentFault.{DocumentFault}
+use Rattle.document_text.specs.declared.documents.DocumentFault.TheVariants as fault
+use Rattle.document_text.specs.declared.documents.Verdict.{Verdict}
 use Rattle.document_check.specs.Facts.{Facts}
 use Rattle.document_check.specs.Shown.{AreFacts}
 use Rattle.text_ground.specs.declared.texts.Problems.{Problems}

@@ -1,6 +1,6 @@
 //! The answer to a text and a certificate.
 ghost use Rattle.std.specs.Prelude.{IfOk, Some};
-ghost use Rattle.letter_word.specs.declared.kinds.Kind.TheVariants.{Mealy};
+ghost use Rattle.letters_and_lassos.specs.declared.kinds.Kind.TheVariants.{Mealy};
 ghost use Rattle.program_replies.specs.Refusals.{RefusedBy};
 ghost use Rattle.program_replies.specs.Statuses.{status_number};
 ghost use Rattle.spec_problems.specs.OfText.{IsFirstFault};
@@ -9,7 +9,7 @@ ghost use Rattle.check_answer.specs.Reply.{AreForCheck, CanBeTested, IsFaultForS
 
 use crate::earlier::earlier_answer;
 use crate::solved::solved_answer;
-use letter_word::Kind;
+use letters_and_lassos::Kind;
 use machine_model::Counts;
 use program_replies::{Reply, refusal};
 use solve_ground::laws::solve_texts_are_determined;

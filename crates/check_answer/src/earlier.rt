@@ -8,9 +8,9 @@ ghost use Rattle.check_answer.specs.Reply.{CanBeTested, IsForCertificates, IsFor
 
 use crate::lines::acceptance;
 use annotation_encode::laws::sizes_rise;
-use cert_text::DocumentFault;
 use document_check::check_document;
 use document_check::laws::closed_logs_refute_sizes;
+use document_text::DocumentFault;
 use program_replies::{Reply, refused_at_line};
 use spec_problems::TextProblems;
 use std::alloc::{AllocError, Global};

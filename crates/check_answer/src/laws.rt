@@ -1,8 +1,8 @@
 //! Laws of the answers, each the contract of a function that does nothing.
 ghost use Rattle.check_answer.specs.Laws.{ChecksAreDetermined};
 
-use cert_text::laws::documents_are_determined;
 use document_check::laws::{alike_texts_check_alike, bad_lines_are_determined};
+use document_text::laws::documents_are_determined;
 use solve_check::laws::solved_checks_are_determined;
 use solve_ground::laws::solve_texts_are_determined;
 use solved_text::laws::solved_are_determined;

@@ -3,11 +3,11 @@ ghost use Rattle.std.specs.Prelude.{◌≡◌, ◌++◌, decimal, IfOk, OnOk};
 ghost use Rattle.check_answer.specs.Answer.{machine_words as words_of_machine, verdict_words};
 ghost use Rattle.check_answer.specs.Reply.{IsAcceptance};
 
-use cert_text::Verdict;
-use letter_word::{Kind, Side};
+use document_text::Verdict;
+use letters_and_lassos::{Kind, Side};
+use names_and_numbers::push_number;
 use program_replies::{Reply, Status};
 use std::alloc::{AllocError, Global};
-use text_base::push_number;
 
 /// The reply to a document that holds, with this verdict and kind.
 pub(crate) fn acceptance(alloc: Global, verdict: Verdict, kind: Kind) -> Result<Reply, AllocError>

@@ -1,6 +1,6 @@
 //! The answer to a certificate of version 6.
 ghost use Rattle.std.specs.Prelude.{◌≡◌, ℕ, List, Option, IfOk};
-ghost use Rattle.letter_word.specs.declared.kinds.Kind.{Kind as AKind};
+ghost use Rattle.letters_and_lassos.specs.declared.kinds.Kind.{Kind as AKind};
 ghost use Rattle.text_ground.specs.declared.texts.Problems.{Problems as FoundProblems};
 ghost use Rattle.program_replies.specs.Statuses.{status_number};
 ghost use Rattle.solve_ground.specs.SolveText.{IsSolveText};

@@ -7,7 +7,7 @@ use Rattle.aiger_text.specs.FileLaws.{FaultsStateNothing, FilesHaveOneFault, Fil
 use Rattle.annot_check.specs.declared.faults.AnnotFault.{AnnotFault}
 use Rattle.annot_check.specs.declared.faults.AnnotFault.TheVariants.{NoMemory}
 use Rattle.annot_check.proofs.Apart.{causes_are_apart}
-use Rattle.cert_text.specs.Reading.{fault_line}
+use Rattle.document_text.specs.Reading.{fault_line}
 use Rattle.circuit_names.specs.Lines.{earliest, faulty_line}
 use Rattle.named_annotation.specs.Laws.{NamedReadingsAreApart}
 use Rattle.named_annotation.specs.NamedStates.{Named}

@@ -4,8 +4,8 @@ use Rattle.std.specs.Prelude.{◌↔◌, IsTrue, option_map, unwrap_or}
 use Rattle.aiger_text.specs.declared.faults.CircuitFault.{CircuitFault}
 use Rattle.aiger_text.specs.CircuitFile.{File, IsFirstFault, States}
 use Rattle.aiger_text.specs.FileLaws.{FilesStateOneThing}
-use Rattle.cert_text.specs.Reading.{fault_line}
-use Rattle.cert_text.proofs.CommentLine.{comment_fits}
+use Rattle.document_text.specs.Reading.{fault_line}
+use Rattle.document_text.proofs.CommentLine.{comment_fits}
 use Rattle.circuit_names.specs.Lines.{earliest, faulty_line}
 use Rattle.circuit_names.proofs.Fitting.{some_earliest}
 use Rattle.named_annotation.specs.NamedStates.{Named}

@@ -1,5 +1,5 @@
 use circuit_names::TextNames;
-use letter_word::{Kind, Side};
+use letters_and_lassos::{Kind, Side};
 use ltl_formula::{FormulaId, Formulas};
 
 /// What a circuit owes to a text whose side it plays.

@@ -4,7 +4,7 @@ ghost use Rattle.aiger_text.specs.declared.faults.CircuitFault.TheVariants.{NoMe
 ghost use Rattle.aiger_text.specs.CircuitFile.{IsFirstFault, States};
 ghost use Rattle.aiger_text.specs.CircuitType.{IsCircuit};
 ghost use Rattle.annot_check.specs.declared.faults.AnnotFault.TheVariants.{BadLine};
-ghost use Rattle.cert_text.specs.Reading.{fault_line as line_of_fault};
+ghost use Rattle.document_text.specs.Reading.{fault_line as line_of_fault};
 ghost use Rattle.circuit_check.specs.Duty.{IsReady, owed_by};
 ghost use Rattle.circuit_check.specs.FirstBad.{HasComment, cause_line as line_of_cause, output_line as line_of_output};
 ghost use Rattle.circuit_check.specs.Parts.{CanBeTested, IsFoundOf, IsToldOf, IsWithin};
@@ -15,7 +15,7 @@ use aiger_text::{Circuit, CircuitFault, CircuitFile, read_circuit, runs_on_every
 use annot_check::AnnotFault;
 use annot_check::laws::valid_lists_show_kind;
 use circuit_names::{earliest, faulty_line, stated_line};
-use letter_word::Side;
+use letters_and_lassos::Side;
 use named_annotation::laws::valid_named_lists_show;
 use named_annotation::{NamedAnnotation, check_named_annotation, read_named_annotation};
 use std::alloc::{AllocError, Global};

@@ -1,16 +1,16 @@
 use Rattle.std.proofs.Common.{◌≡◌, ℕ, ◌<◌, false, length, refl, sym, ap, subst, ◌∙◌}
 use Rattle.std.specs.Prelude.{Option, Some, List, map}
 use Rattle.std.proofs.lemmas.List.{length-map}
-use Rattle.letter_word.specs.declared.kinds.Kind.{Kind}
-use Rattle.letter_word.specs.declared.kinds.Kind.TheVariants.{Mealy, Moore}
-use Rattle.letter_word.specs.declared.kinds.Side.TheVariants.{Environment, System}
-use Rattle.letter_word.specs.Kinds.{other_kind}
-use Rattle.letter_word.specs.Word.{Word}
+use Rattle.letters_and_lassos.specs.declared.kinds.Kind.{Kind}
+use Rattle.letters_and_lassos.specs.declared.kinds.Kind.TheVariants.{Mealy, Moore}
+use Rattle.letters_and_lassos.specs.declared.kinds.Side.TheVariants.{Environment, System}
+use Rattle.letters_and_lassos.specs.Kinds.{other_kind}
+use Rattle.letters_and_lassos.specs.Word.{Word}
 use Rattle.machine_model.specs.Machine.{MachineModel, size_of}
 use Rattle.machine_model.specs.Run.{ArePartners, IsPlay}
 use Rattle.machine_model.proofs.Tables.{size_pos}
-use Rattle.dual_search.specs.Laws.{EveryPairHasAPlay}
-use Rattle.dual_search.proofs.Repeats.{is_machine, is_play, repeats}
+use Rattle.side_automata.specs.Laws.{EveryPairHasAPlay}
+use Rattle.side_automata.proofs.Repeats.{is_machine, is_play, repeats}
 use Rattle.aiger_text.specs.Circuit.{Circuit, HasStates}
 use Rattle.aiger_text.specs.CircuitType.{IsCircuit}
 use Rattle.gate_build.specs.Laws.{IsRunOfCircuit}

@@ -1,8 +1,8 @@
 -- What circuits owe, by what machines of their sizes owe (bounded synthesis of Finkbeiner and Schewe; AIGER 1.9).
 use Rattle.std.specs.Prelude.{◌≡◌, ◌↔◌, ℕ, ◌<◌, ◌≤◌, false, map, Some}
-use Rattle.letter_word.specs.declared.kinds.Side.TheVariants.{Environment}
-use Rattle.letter_word.specs.Kinds.{other_kind}
-use Rattle.letter_word.specs.Word.{Word}
+use Rattle.letters_and_lassos.specs.declared.kinds.Side.TheVariants.{Environment}
+use Rattle.letters_and_lassos.specs.Kinds.{other_kind}
+use Rattle.letters_and_lassos.specs.Word.{Word}
 use Rattle.aiger_text.specs.Circuit.{Circuit, HasStates, IsCircuitOfKind}
 use Rattle.aiger_text.specs.CircuitType.{IsCircuit}
 use Rattle.gate_build.specs.Laws.{IsRunOfCircuit}

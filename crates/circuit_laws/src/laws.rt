@@ -3,8 +3,8 @@
 ghost use Rattle.circuit_laws.specs.Laws.{LosingCircuitsDefeat, NoMachineNoCircuit, NoMachineNoDefeat, NoSmallCircuitDefeats, NoSmallCircuitSatisfies};
 
 use circuit_machines::laws::{circuits_are_machines, circuits_have_states};
-use dual_search::laws::every_pair_has_a_play;
 use satisfaction::laws::defeating_cannot_lose;
+use side_automata::laws::every_pair_has_a_play;
 
 /// Where no machine of some size satisfies, no circuit with so many states does.
 pub fn no_machine_no_circuit()

@@ -6,15 +6,15 @@ use Rattle.std.proofs.Math.Nat.{div-lt_iff_lt-mul, mod-lt, mul_comm}
 use Rattle.std.proofs.lemmas.Nat.{pow-add, pow_pos}
 use Rattle.std.proofs.lemmas.List.{ext_get_or, get_or-map, length-map}
 use Rattle.std.proofs.lemmas.List.FromFn.{get_or-map-range_with_len, length-map-range_with_len}
-use Rattle.letter_word.specs.declared.kinds.Kind.TheVariants.{Mealy}
-use Rattle.letter_word.specs.declared.kinds.Side.{Side}
-use Rattle.letter_word.specs.declared.kinds.Side.TheVariants.{Environment, System}
-use Rattle.letter_word.specs.declared.letters.Letter.{Letter}
-use Rattle.letter_word.specs.Bits.{number_of}
-use Rattle.letter_word.specs.Signals.{has}
-use Rattle.letter_word.specs.Word.{Word, lasso_len, letter_at, next}
-use Rattle.letter_word.proofs.Bits.{has-none, has-number_of, number_of-lt, same_number}
-use Rattle.letter_word.proofs.Positions.{letter_below, next_within}
+use Rattle.letters_and_lassos.specs.declared.kinds.Kind.TheVariants.{Mealy}
+use Rattle.letters_and_lassos.specs.declared.kinds.Side.{Side}
+use Rattle.letters_and_lassos.specs.declared.kinds.Side.TheVariants.{Environment, System}
+use Rattle.letters_and_lassos.specs.declared.letters.Letter.{Letter}
+use Rattle.letters_and_lassos.specs.Bits.{number_of}
+use Rattle.letters_and_lassos.specs.Signals.{has}
+use Rattle.letters_and_lassos.specs.Word.{Word, lasso_len, letter_at, next}
+use Rattle.letters_and_lassos.proofs.Bits.{has-none, has-number_of, number_of-lt, same_number}
+use Rattle.letters_and_lassos.proofs.Positions.{letter_below, next_within}
 use Rattle.machine_model.specs.declared.machines.Row.{Row}
 use Rattle.machine_model.specs.Machine.{IsMachine, MachineModel, next_of, row_of, size_of, writes_of}
 use Rattle.machine_model.specs.Run.{IsRunLasso, read_part, written_part}

@@ -2,8 +2,8 @@
 use Rattle.std.proofs.Common.{◌≡◌, ℕ, ◌<◌, ◌≤◌, Bool, List, [], length, get_or, sym, ap, subst, ◌∙◌, arith}
 use Rattle.std.specs.Prelude.{map, Contains}
 use Rattle.std.proofs.lemmas.List.{get_or-map, length-map}
-use Rattle.letter_word.specs.declared.kinds.Side.TheVariants.{System}
-use Rattle.letter_word.specs.Word.{letter_at}
+use Rattle.letters_and_lassos.specs.declared.kinds.Side.TheVariants.{System}
+use Rattle.letters_and_lassos.specs.Word.{letter_at}
 use Rattle.machine_model.specs.Machine.{MachineModel, size_of}
 use Rattle.machine_model.specs.Run.{read_part}
 use Rattle.machine_model.proofs.Determined.{stays_within}

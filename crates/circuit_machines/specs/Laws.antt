@@ -1,6 +1,6 @@
 -- The machines of circuits (AIGER 1.9; textbooks of automata: Mealy and Moore machines).
 use Rattle.std.specs.Prelude.{◌≡◌, ℕ, length}
-use Rattle.letter_word.specs.declared.kinds.Kind.{Kind}
+use Rattle.letters_and_lassos.specs.declared.kinds.Kind.{Kind}
 use Rattle.machine_model.specs.Machine.{IsMachine, MachineModel, size_of}
 use Rattle.aiger_text.specs.Circuit.{Circuit, HasStates, IsCircuitOfKind}
 use Rattle.aiger_text.specs.CircuitType.{IsCircuit}

@@ -1,7 +1,7 @@
 -- Laws of the names of circuits (this project's own).
 use Rattle.std.specs.Prelude.{◌≡◌, ◌↔◌, true, None, is_some}
 use Rattle.std.specs.List.{list_all}
-use Rattle.letter_word.specs.declared.kinds.Side.{Side}
+use Rattle.letters_and_lassos.specs.declared.kinds.Side.{Side}
 use Rattle.aiger_text.specs.Circuit.{Circuit}
 use Rattle.aiger_text.specs.CircuitFile.{File}
 use Rattle.circuit_names.specs.Lines.{stated_line}

@@ -1,8 +1,8 @@
 -- The names of a text's signals, as a circuit of either side has them (this project's own).
 use Rattle.std.specs.Prelude.{◌≡◌, ℕ, List, Option, Some, IfSome, map}
 use Rattle.std.specs.List.{AllZip}
-use Rattle.letter_word.specs.declared.kinds.Side.{Side}
-use Rattle.letter_word.specs.declared.kinds.Side.TheVariants.{System, Environment}
+use Rattle.letters_and_lassos.specs.declared.kinds.Side.{Side}
+use Rattle.letters_and_lassos.specs.declared.kinds.Side.TheVariants.{System, Environment}
 use Rattle.aiger_text.specs.Circuit.{Circuit}
 use Rattle.circuit_names.specs.declared.names.TextNames.{TextNames}
 

@@ -7,8 +7,8 @@ ghost use Rattle.circuit_names.specs.Names.{names_of};
 
 use crate::names::TextNames;
 use aiger_text::{CircuitFile, cut_at, number_within};
-use letter_word::Side;
-use text_base::Name;
+use letters_and_lassos::Side;
+use names_and_numbers::Name;
 
 /// The smaller one of two lines, where they are there.
 pub fn earliest(a: Option<u64>, b: Option<u64>) -> Option<u64>

@@ -2,8 +2,8 @@
 ghost use Rattle.std.specs.Prelude.{◌≡◌};
 ghost use Rattle.circuit_names.specs.Names.{names_of, read_names, written_names};
 
-use letter_word::Side;
-use text_base::Name;
+use letters_and_lassos::Side;
+use names_and_numbers::Name;
 
 /// The names of a text's inputs and outputs, in their order.
 #[derive(Clone, Copy)]

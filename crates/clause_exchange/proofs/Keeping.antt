@@ -12,8 +12,8 @@ use Rattle.clause_exchange.specs.declared.views.Terms.{Terms}
 use Rattle.clause_exchange.specs.declared.views.Part.{Part}
 use Rattle.clause_exchange.specs.declared.views.View.{View}
 use Rattle.clause_exchange.specs.declared.views.View.TheVariants.{Resting, Begun}
-use Rattle.text_base.specs.Prefix.{IsPrefix}
-use Rattle.text_base.proofs.PrefixLemmas.{IsPrefix-refl}
+use Rattle.names_and_numbers.specs.Prefix.{IsPrefix}
+use Rattle.names_and_numbers.proofs.PrefixLemmas.{IsPrefix-refl}
 use Rattle.clause_exchange.specs.SharedLog.{IsLogOn}
 use Rattle.clause_exchange.specs.Rule.{view_parts, in_turn, count_of, total, HasRoom, IsPartOf, IsKnown, IsHome, IsOut, Keeps}
 use Rattle.clause_exchange.specs.Steps.{Place, idle, begun, IsOpenTo, Begins, IsMoved, moved, taken, given}

@@ -5,7 +5,7 @@ use Rattle.std.proofs.lemmas.List.{append-nil, take_more}
 use Rattle.std.proofs.lemmas.Option.{slice_get_within, get_or_from_slice_get}
 use Rattle.std.specs.declared.alloc.AllocError.{AllocError}
 use Rattle.atomic_table.specs.Seated.{TableId}
-use Rattle.clause_base.specs.Clause.{IsWithin}
+use Rattle.propositional_logic.specs.Clause.{IsWithin}
 use Rattle.refutation_log.specs.declared.entries.Entry.{Entry}
 use Rattle.refutation_log.specs.declared.turns.Turn.TheVariants.{Append}
 use Rattle.refutation_log.specs.declared.turns.Reply.{Reply}
@@ -21,8 +21,8 @@ use Rattle.refutation_log.proofs.TeachLemmas.{taught-push}
 use Rattle.refutation_log.proofs.Lists.{take-append_all, take_drop}
 use Rattle.clause_exchange.specs.declared.exchange.Refused.{Refused}
 use Rattle.clause_exchange.specs.declared.views.Part.{Part}
-use Rattle.text_base.specs.Prefix.{IsPrefix}
-use Rattle.text_base.proofs.PrefixLemmas.{IsPrefix-refl, IsPrefix-trans}
+use Rattle.names_and_numbers.specs.Prefix.{IsPrefix}
+use Rattle.names_and_numbers.proofs.PrefixLemmas.{IsPrefix-refl, IsPrefix-trans}
 use Rattle.clause_exchange.specs.SharedLog.{PassView, IsLogOn, IsAfterTurn, IsOffered}
 use Rattle.clause_exchange.specs.Rule.{HasRoom}
 use Rattle.clause_exchange.specs.Steps.{Place, idle, begun, Begins, IsOpenTo, IsMoved, moved}

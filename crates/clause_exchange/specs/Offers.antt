@@ -5,7 +5,7 @@ use Rattle.refutation_log.specs.declared.turns.Reply.{Reply}
 use Rattle.refutation_log.specs.State.{Log}
 use Rattle.refutation_log.specs.Turn.{reply_of, log_after}
 use Rattle.clause_exchange.specs.declared.exchange.Refused.{Refused}
-use Rattle.text_base.specs.Prefix.{IsPrefix}
+use Rattle.names_and_numbers.specs.Prefix.{IsPrefix}
 use Rattle.clause_exchange.specs.Rule.{HasRoom}
 
 -- What an offer leaves of the log: the log of the turn, with its reply, or the same log, where there is no limit and no memory.

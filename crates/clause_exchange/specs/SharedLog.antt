@@ -1,5 +1,5 @@
 use Rattle.std.specs.Prelude.{◌≡◌, ℕ, ◌<◌, List, [], All}
-use Rattle.text_base.specs.Prefix.{IsPrefix}
+use Rattle.names_and_numbers.specs.Prefix.{IsPrefix}
 use Rattle.atomic_table.specs.Seated.{TableId}
 use Rattle.refutation_log.specs.declared.entries.Entry.{Entry}
 use Rattle.refutation_log.specs.declared.turns.Turn.TheVariants.{Append}

@@ -6,7 +6,7 @@ use Rattle.refutation_log.specs.Teaches.{entries_by}
 use Rattle.clause_exchange.specs.declared.views.Part.{Part}
 use Rattle.clause_exchange.specs.declared.views.View.{View}
 use Rattle.clause_exchange.specs.declared.views.View.TheVariants.{Resting, Begun}
-use Rattle.text_base.specs.Prefix.{IsPrefix}
+use Rattle.names_and_numbers.specs.Prefix.{IsPrefix}
 use Rattle.clause_exchange.specs.SharedLog.{IsLogOn}
 use Rattle.clause_exchange.specs.Rule.{HasRoom, IsPartOf, view_parts}
 

@@ -1,11 +1,11 @@
 //! The shared log and its passes.
 ghost use Rattle.std.specs.Prelude.{◌≡◌, ℕ, suc, ◌<◌, ◌≤◌, [], ◌∷◌, ◌++◌, Some, None, IfOk, IfErr, OnOk, OnErr, All, Contains, map, length, slice_get};
 ghost use Rattle.std.specs.Arc.{arc_value};
-ghost use Rattle.clause_base.specs.Clause.{IsWithin, IsFormula};
+ghost use Rattle.propositional_logic.specs.Clause.{IsWithin, IsFormula};
 ghost use Rattle.refutation_log.specs.Entry.{clauses_of, AreSorted};
 ghost use Rattle.refutation_log.specs.Follows.{Follows};
 ghost use Rattle.refutation_log.specs.Teaches.{Teaches};
-ghost use Rattle.text_base.specs.Prefix.{IsPrefix};
+ghost use Rattle.names_and_numbers.specs.Prefix.{IsPrefix};
 ghost use Rattle.clause_exchange.specs.SharedLog.{IsLogOn, IsAfterTurn, IsOffered, HoldsAllOf, new_pass};
 ghost use Rattle.clause_exchange.specs.Rule.{HasRoom, in_turn, view_parts};
 ghost use Rattle.clause_exchange.specs.Opening.{exchange_of, holding, part_seen, IsDealer, IsDealt, IsGathered};
@@ -13,7 +13,7 @@ ghost use Rattle.clause_exchange.specs.Opening.{exchange_of, holding, part_seen,
 use crate::turns::{Place, Words, begin, copy, end, offer};
 use crate::views::{Deal, Gather, OneAtATime, Setup, View};
 use atomic_table::{Seat, Table};
-use clause_base::Cnf;
+use propositional_logic::Cnf;
 use refutation_log::{Entry, LogState, Reply};
 use std::alloc::{AllocError, Global};
 use std::marker::Model;

@@ -3,7 +3,7 @@ ghost use Rattle.std.specs.Prelude.{◌≡◌, ◌<◌, List, Option, Some, None
 ghost use Rattle.refutation_log.specs.State.{Log, KeepsLog};
 ghost use Rattle.refutation_log.specs.declared.entries.Entry.{Entry as EntryView};
 ghost use Rattle.clause_exchange.specs.declared.views.Part.{Part as PartView};
-ghost use Rattle.text_base.specs.Prefix.{IsPrefix};
+ghost use Rattle.names_and_numbers.specs.Prefix.{IsPrefix};
 ghost use Rattle.clause_exchange.specs.Rule.{HasRoom};
 ghost use Rattle.clause_exchange.specs.Steps.{idle, begun, Begins, IsMoved, moved};
 ghost use Rattle.clause_exchange.specs.Offers.{IsOfferedTo, IsCopiedOf};

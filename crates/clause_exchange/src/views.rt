@@ -1,6 +1,6 @@
 //! What a seat at the table knows, and the rule between any two steps. No value of these types is made but `Setup`.
 use atomic_table::{Join, Play, Split, TableRule};
-use clause_base::{Clause, Cnf};
+use propositional_logic::{Clause, Cnf};
 use refutation_log::{Entry, LogState};
 use std::collections::LinkedList;
 use std::sync::Arc;

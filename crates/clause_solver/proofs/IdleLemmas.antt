@@ -4,10 +4,10 @@ use Rattle.std.proofs.lemmas.Bool.{cases_lt}
 use Rattle.std.proofs.lemmas.List.{take_more}
 use Rattle.std.proofs.lemmas.List.Elements.{All-contains, All-push, All-weaker, Contains-push, Contains-append_left, filter-append}
 use Rattle.std.proofs.lemmas.Option.{slice_get_within, get_or_from_slice_get}
-use Rattle.clause_base.specs.Literal.{Literal, negated}
-use Rattle.clause_base.specs.Partial.{is_false_in, is_falsified, unfalsified, lone_of, unit_of}
-use Rattle.clause_base.proofs.Members.{filter-none}
-use Rattle.clause_base.proofs.Tests.{fails, unit_is, Decides-is_true_in, Decides-is_falsified}
+use Rattle.propositional_logic.specs.Literal.{Literal, negated}
+use Rattle.propositional_logic.specs.Partial.{is_false_in, is_falsified, unfalsified, lone_of, unit_of}
+use Rattle.propositional_logic.proofs.Members.{filter-none}
+use Rattle.propositional_logic.proofs.Tests.{fails, unit_is, Decides-is_true_in, Decides-is_falsified}
 use Rattle.refutation_log.specs.declared.entries.Entry.{Entry}
 use Rattle.unit_propagate.specs.declared.marks.Mark.{Mark}
 use Rattle.unit_propagate.specs.Trail.{IsFree, IsTrail, literals_of}

@@ -6,13 +6,13 @@ use Rattle.std.proofs.lemmas.Bool.{cases_lt}
 use Rattle.std.proofs.lemmas.List.{take_all, take_more}
 use Rattle.std.proofs.lemmas.List.Elements.{All-contains, All-push}
 use Rattle.std.proofs.lemmas.Option.{slice_get-get_or}
-use Rattle.clause_base.specs.Literal.{Literal, negated, sign_eq}
-use Rattle.clause_base.specs.Clause.{IsClause, IsWithin}
-use Rattle.clause_base.specs.Partial.{is_false_in, is_falsified}
-use Rattle.clause_base.specs.Truth.{value_of, is_true_literal, is_true_clause, meets}
-use Rattle.clause_base.proofs.Members.{Contains-head, Contains-later}
-use Rattle.clause_base.proofs.Rising.{rising_above}
-use Rattle.clause_base.proofs.Tests.{any_holds, Decides-all, Decides-is_true_in}
+use Rattle.propositional_logic.specs.Literal.{Literal, negated, sign_eq}
+use Rattle.propositional_logic.specs.Clause.{IsClause, IsWithin}
+use Rattle.propositional_logic.specs.Partial.{is_false_in, is_falsified}
+use Rattle.propositional_logic.specs.Truth.{value_of, is_true_literal, is_true_clause, meets}
+use Rattle.propositional_logic.proofs.Members.{Contains-head, Contains-later}
+use Rattle.propositional_logic.proofs.Rising.{rising_above}
+use Rattle.propositional_logic.proofs.Tests.{any_holds, Decides-all, Decides-is_true_in}
 use Rattle.unit_propagate.specs.declared.marks.Mark.{Mark}
 use Rattle.unit_propagate.specs.Trail.{IsFree, literals_of}
 use Rattle.unit_propagate.specs.Quiet.{IsQuiet}

@@ -1,10 +1,10 @@
 -- A clause that teaches contains no clause of the list.
 use Rattle.std.proofs.Common.{◌≡◌, ◌≢◌, Bool, true, false, List, [], ◌∷◌, inl, inr, Contains, refl, sym, subst, ◌∙◌, true≢false}
-use Rattle.clause_base.specs.Literal.{Literal, negated}
-use Rattle.clause_base.specs.Clause.{IsClause}
-use Rattle.clause_base.specs.Partial.{is_true_in, IsUnitIn}
-use Rattle.clause_base.proofs.Members.{Contains-head, Contains-none}
-use Rattle.clause_base.proofs.Tests.{Decides-is_true_in, Decides-is_falsified, unit_found}
+use Rattle.propositional_logic.specs.Literal.{Literal, negated}
+use Rattle.propositional_logic.specs.Clause.{IsClause}
+use Rattle.propositional_logic.specs.Partial.{is_true_in, IsUnitIn}
+use Rattle.propositional_logic.proofs.Members.{Contains-head, Contains-none}
+use Rattle.propositional_logic.proofs.Tests.{Decides-is_true_in, Decides-is_falsified, unit_found}
 use Rattle.refutation_log.specs.Teaches.{IsQuietBut, Teaches}
 use Rattle.unit_propagate.proofs.Places.{All-from_contains}
 use Rattle.clause_solver.specs.Laws.{TeachingClausesAreNew}

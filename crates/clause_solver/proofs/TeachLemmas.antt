@@ -3,11 +3,11 @@ use Rattle.std.proofs.Common.{◌≡◌, ◌≢◌, ℕ, suc, zero, ◌+◌, ◌
 use Rattle.std.proofs.lemmas.Bool.{cases_lt}
 use Rattle.std.proofs.lemmas.Bool.Decides.{Decides-eqb}
 use Rattle.std.proofs.lemmas.List.Elements.{All-contains}
-use Rattle.clause_base.specs.Literal.{Literal, negated}
-use Rattle.clause_base.specs.Clause.{IsWithin}
-use Rattle.clause_base.specs.Partial.{is_falsified}
-use Rattle.clause_base.proofs.Members.{Contains-head, Contains-none, Contains-cases, Contains-filter, filter-Contains}
-use Rattle.clause_base.proofs.Tests.{Decides-is_falsified}
+use Rattle.propositional_logic.specs.Literal.{Literal, negated}
+use Rattle.propositional_logic.specs.Clause.{IsWithin}
+use Rattle.propositional_logic.specs.Partial.{is_falsified}
+use Rattle.propositional_logic.proofs.Members.{Contains-head, Contains-none, Contains-cases, Contains-filter, filter-Contains}
+use Rattle.propositional_logic.proofs.Tests.{Decides-is_falsified}
 use Rattle.refutation_log.specs.Teaches.{IsQuietBut, Teaches}
 use Rattle.unit_propagate.specs.declared.marks.Mark.{Mark}
 use Rattle.unit_propagate.specs.Trail.{IsTrail, highest_level, literals_of}

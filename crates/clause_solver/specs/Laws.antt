@@ -1,6 +1,6 @@
 use Rattle.std.specs.Prelude.{◌≢◌, ℕ, List, [], ◌++◌, Contains}
-use Rattle.clause_base.specs.Literal.{Literal}
-use Rattle.clause_base.specs.Clause.{IsClause}
+use Rattle.propositional_logic.specs.Literal.{Literal}
+use Rattle.propositional_logic.specs.Clause.{IsClause}
 use Rattle.refutation_log.specs.declared.entries.Entry.{Entry}
 use Rattle.refutation_log.specs.Teaches.{Teaches}
 use Rattle.unit_propagate.specs.declared.marks.Mark.{Mark}

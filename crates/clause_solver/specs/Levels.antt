@@ -1,6 +1,6 @@
 use Rattle.std.specs.Prelude.{◌≡◌, ℕ, ◌<◌, false, List, None, filter, nat_le}
-use Rattle.clause_base.specs.Literal.{Literal}
-use Rattle.clause_base.specs.Partial.{is_falsified, unit_of}
+use Rattle.propositional_logic.specs.Literal.{Literal}
+use Rattle.propositional_logic.specs.Partial.{is_falsified, unit_of}
 use Rattle.unit_propagate.specs.declared.marks.Mark.{Mark}
 use Rattle.unit_propagate.specs.Trail.{literals_of}
 use Rattle.unit_propagate.specs.Quiet.{IsQuiet}

@@ -4,7 +4,7 @@ ghost use Rattle.unit_propagate.specs.Trail.{IsFree};
 ghost use Rattle.clause_solver.specs.Free.{IsTotal};
 
 use crate::order::Order;
-use clause_base::Lit;
+use propositional_logic::Lit;
 use unit_propagate::Trail;
 
 /// The literal to be assumed next, of a variable without a value; none where each has one.

@@ -1,5 +1,5 @@
 ghost use Rattle.std.specs.Prelude.{◌≡◌, ℕ, true, ◌++◌, IfOk, All};
-ghost use Rattle.clause_base.specs.Clause.{IsFormula, IsWithin};
+ghost use Rattle.propositional_logic.specs.Clause.{IsFormula, IsWithin};
 ghost use Rattle.refutation_log.specs.Entry.{clauses_of};
 ghost use Rattle.refutation_log.specs.Follows.{is_falsified_named};
 ghost use Rattle.unit_propagate.specs.Trail.{literals_of, highest_level};
@@ -8,8 +8,8 @@ ghost use Rattle.clause_solver.specs.Levels.{IsQuietBelow};
 ghost use Rattle.clause_solver.specs.Turned.{IsLesson};
 
 use crate::order::Order;
-use clause_base::Cnf;
 use conflict_learn::{clause_of, learn};
+use propositional_logic::Cnf;
 use refutation_log::{Entry, SharedClause};
 use std::alloc::{AllocError, Global};
 use unit_propagate::Trail;

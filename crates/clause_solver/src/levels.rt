@@ -1,9 +1,9 @@
 ghost use Rattle.std.specs.Prelude.{◌≡◌, ℕ, ◌<◌, ◌≤◌, false, All, Contains};
-ghost use Rattle.clause_base.specs.Partial.{is_false_in};
+ghost use Rattle.propositional_logic.specs.Partial.{is_false_in};
 ghost use Rattle.unit_propagate.specs.Trail.{literals_of};
 ghost use Rattle.clause_solver.specs.Levels.{up_to, IsIdleBelow};
 
-use clause_base::{Clause, Lit};
+use propositional_logic::{Clause, Lit};
 use refutation_log::Entry;
 use unit_propagate::Trail;
 

@@ -1,13 +1,13 @@
 ghost use Rattle.std.specs.Prelude.{◌≡◌, ℕ, ◌<◌, ◌≤◌, [], ◌++◌, IfOk, All, Contains, length};
-ghost use Rattle.clause_base.specs.Clause.{IsFormula};
-ghost use Rattle.clause_base.specs.Truth.{value_of};
+ghost use Rattle.propositional_logic.specs.Clause.{IsFormula};
+ghost use Rattle.propositional_logic.specs.Truth.{value_of};
 ghost use Rattle.refutation_log.specs.Entry.{clauses_of};
 ghost use Rattle.unit_propagate.specs.Trail.{literals_of};
 ghost use Rattle.unit_propagate.specs.Quiet.{IsQuiet};
 ghost use Rattle.clause_solver.specs.Free.{IsTotal};
 ghost use Rattle.clause_solver.specs.Turned.{IsModel};
 
-use clause_base::{Assignment, Cnf};
+use propositional_logic::{Assignment, Cnf};
 use std::alloc::{AllocError, Global};
 use unit_propagate::Trail;
 

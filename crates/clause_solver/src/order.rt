@@ -1,6 +1,6 @@
 ghost use Rattle.std.specs.Prelude.{◌<◌, IfSome};
 
-use clause_base::Lit;
+use propositional_logic::Lit;
 use std::alloc::{AllocError, Global};
 
 /// An activity above this is scaled down, with all others.

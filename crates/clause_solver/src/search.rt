@@ -1,5 +1,5 @@
 ghost use Rattle.std.specs.Prelude.{◌≡◌, ◌<◌, [], ◌++◌, None, Ok, IfOk, IfSome, All, length};
-ghost use Rattle.clause_base.specs.Clause.{IsFormula, IsWithin};
+ghost use Rattle.propositional_logic.specs.Clause.{IsFormula, IsWithin};
 ghost use Rattle.clause_solver.specs.Free.{free_count};
 ghost use Rattle.clause_solver.specs.Turned.{IsTurn};
 ghost use Rattle.clause_solver.specs.Worker.{IsSearching};
@@ -12,7 +12,7 @@ use crate::models::model_of;
 use crate::order::Order;
 use crate::restarts::{Restarts, levels_in};
 use crate::worker::Turned;
-use clause_base::Cnf;
+use propositional_logic::Cnf;
 use refutation_log::Entry;
 use std::alloc::{AllocError, Global};
 use unit_propagate::{Propagated, Trail};

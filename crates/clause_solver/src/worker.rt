@@ -1,10 +1,10 @@
 ghost use Rattle.std.specs.Prelude.{◌≡◌, [], IfOk, All};
-ghost use Rattle.clause_base.specs.Clause.{IsFormula, IsWithin};
+ghost use Rattle.propositional_logic.specs.Clause.{IsFormula, IsWithin};
 ghost use Rattle.clause_solver.specs.Turned.{IsTurn};
 ghost use Rattle.clause_solver.specs.Worker.{WorkerModel, IsWorkingOn};
 
 use crate::search::Search;
-use clause_base::{Assignment, Cnf};
+use propositional_logic::{Assignment, Cnf};
 use refutation_log::Entry;
 use std::alloc::{AllocError, Global};
 use std::marker::Model;

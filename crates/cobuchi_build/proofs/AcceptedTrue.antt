@@ -1,8 +1,8 @@
 use Rattle.std.proofs.Common.{◌≡◌, ◌⊎◌, inl, inr, ℕ, zero, suc, ◌<◌, ◌≤◌, Bool, true, false, not, ◌&&◌, List, [], ◌∷◌, length, refl, sym, ◌∙◌, ap, subst, arith}
 use Rattle.std.specs.Prelude.{Contains}
 use Rattle.std.proofs.lemmas.Bool.{and_from, both_ways, false_from_ne_true, not-true, not_from_false, or_left, or_right}
-use Rattle.letter_word.specs.Word.{Word, HasRing, after, lasso_len, letter_at, next}
-use Rattle.letter_word.proofs.Positions.{next_within}
+use Rattle.letters_and_lassos.specs.Word.{Word, HasRing, after, lasso_len, letter_at, next}
+use Rattle.letters_and_lassos.proofs.Positions.{next_within}
 use Rattle.ltl_formula.specs.Laws.{Comes}
 use Rattle.ltl_formula.specs.declared.nodes.FormulaId.{FormulaId}
 use Rattle.ltl_formula.specs.declared.nodes.Node.{Node}

@@ -3,8 +3,8 @@ use Rattle.std.specs.Prelude.{Contains}
 use Rattle.std.proofs.lemmas.Bool.{eqb-true}
 use Rattle.std.proofs.lemmas.List.{get_or-map}
 use Rattle.std.proofs.lemmas.Option.{get_or_from_slice_get, slice_get_within}
-use Rattle.letter_word.specs.Word.{Word, HasRing, lasso_len, after}
-use Rattle.letter_word.proofs.Positions.{after_within}
+use Rattle.letters_and_lassos.specs.Word.{Word, HasRing, lasso_len, after}
+use Rattle.letters_and_lassos.proofs.Positions.{after_within}
 use Rattle.ltl_formula.specs.declared.nodes.FormulaId.{FormulaId}
 use Rattle.ltl_formula.specs.declared.nodes.Node.{Node}
 use Rattle.ltl_formula.specs.declared.nodes.Node.TheVariants.{Until}

@@ -5,8 +5,8 @@ use Rattle.std.proofs.lemmas.Bool.{cases_Bool, cond-true, cond-false, false≢tr
 use Rattle.std.proofs.lemmas.List.{append-nil, length-append}
 use Rattle.std.proofs.lemmas.List.Elements.{Contains-append_left}
 use Rattle.std.proofs.lemmas.Option.{slice_get-get_or}
-use Rattle.text_base.specs.Prefix.{IsPrefix}
-use Rattle.text_base.proofs.PrefixLemmas.{slice_get-append}
+use Rattle.names_and_numbers.specs.Prefix.{IsPrefix}
+use Rattle.names_and_numbers.proofs.PrefixLemmas.{slice_get-append}
 use Rattle.indexmap.specs.IndexSet.{insert_key}
 
 pub IsPrefix-length : {X : Type 0} (xs ys : List X) → IsPrefix xs ys → length xs ≤ length ys

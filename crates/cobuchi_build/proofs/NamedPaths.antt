@@ -7,9 +7,9 @@ use Rattle.std.proofs.lemmas.List.{get_or-drop, length-drop}
 use Rattle.std.proofs.lemmas.List.Elements.{All-cons, All-contains, All-nil}
 use Rattle.std.proofs.lemmas.List.Folds.{Any-from_list_any}
 use Rattle.std.proofs.lemmas.List.Sums.{passes_at_first}
-use Rattle.letter_word.specs.Cube.{Fits}
-use Rattle.letter_word.specs.Word.{Word, HasRing, after, lasso_len, letter_at, next}
-use Rattle.letter_word.proofs.Positions.{after-suc, first_position, next_within}
+use Rattle.letters_and_lassos.specs.Cube.{Fits}
+use Rattle.letters_and_lassos.specs.Word.{Word, HasRing, after, lasso_len, letter_at, next}
+use Rattle.letters_and_lassos.proofs.Positions.{after-suc, first_position, next_within}
 use Rattle.ltl_formula.specs.Laws.{Comes}
 use Rattle.ltl_formula.specs.declared.nodes.FormulaId.{FormulaId}
 use Rattle.ltl_formula.specs.declared.nodes.Node.{Node}

@@ -12,8 +12,8 @@ use Rattle.cobuchi_build.specs.Built.{IsFinished, automaton_from}
 use Rattle.cobuchi_build.specs.Explored.{Explored, expanding, explored, meeting, next_round, same_edge, same_state}
 use Rattle.cobuchi_build.specs.Laws.{OneAutomatonPerFormula}
 use Rattle.cobuchi_build.specs.Occurring.{untils_of}
-use Rattle.text_base.specs.Prefix.{IsPrefix}
-use Rattle.text_base.proofs.PrefixLemmas.{IsPrefix-refl, IsPrefix-trans}
+use Rattle.names_and_numbers.specs.Prefix.{IsPrefix}
+use Rattle.names_and_numbers.proofs.PrefixLemmas.{IsPrefix-refl, IsPrefix-trans}
 use Rattle.cobuchi_build.proofs.Growth.{insert_key-more}
 
 -- what was found has grown

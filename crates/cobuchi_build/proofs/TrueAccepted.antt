@@ -3,8 +3,8 @@ use Rattle.std.proofs.Common.{◌≡◌, ℕ, zero, suc, ◌+◌, ◌-◌, ◌*�
 use Rattle.std.proofs.lemmas.Bool.{cases_eq, eq-eqb}
 use Rattle.std.proofs.lemmas.List.{get_or-map}
 use Rattle.std.proofs.lemmas.Option.{get_or_from_slice_get, slice_get_within}
-use Rattle.letter_word.specs.Word.{Word, HasRing, after, lasso_len, nth_letter}
-use Rattle.letter_word.proofs.Positions.{after-suc, after_within, first_position}
+use Rattle.letters_and_lassos.specs.Word.{Word, HasRing, after, lasso_len, nth_letter}
+use Rattle.letters_and_lassos.proofs.Positions.{after-suc, after_within, first_position}
 use Rattle.ltl_formula.specs.declared.nodes.FormulaId.{FormulaId}
 use Rattle.ltl_formula.specs.declared.nodes.Node.{Node}
 use Rattle.obligation_sets.specs.declared.sets.Covering.{Covering}

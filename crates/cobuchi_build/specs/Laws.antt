@@ -3,7 +3,7 @@ use Rattle.ltl_formula.specs.declared.nodes.FormulaId.{FormulaId}
 use Rattle.ltl_formula.specs.declared.nodes.Node.{Node}
 use Rattle.ltl_formula.specs.NormalForm.{IsNormal}
 use Rattle.ltl_formula.specs.Nodes.{IsNodeList, Stands, tree_at}
-use Rattle.letter_word.specs.Word.{Word, HasRing}
+use Rattle.letters_and_lassos.specs.Word.{Word, HasRing}
 use Rattle.ltl_formula.specs.Truth.{holds}
 use Rattle.obligation_sets.specs.declared.sets.Covering.{Covering}
 use Rattle.machine_model.specs.Automaton.{AutomatonModel}

@@ -1,7 +1,7 @@
 use Rattle.std.specs.Prelude.{◌≡◌, ◌<◌, ℕ, suc, List, Contains, length}
-use Rattle.letter_word.specs.Cube.{Fits}
-use Rattle.letter_word.specs.Word.{Word, nth_letter}
-use Rattle.letter_word.specs.declared.letters.Letter.{Letter}
+use Rattle.letters_and_lassos.specs.Cube.{Fits}
+use Rattle.letters_and_lassos.specs.Word.{Word, nth_letter}
+use Rattle.letters_and_lassos.specs.declared.letters.Letter.{Letter}
 use Rattle.ltl_formula.specs.declared.nodes.FormulaId.{FormulaId}
 use Rattle.ltl_formula.specs.declared.nodes.Node.{Node}
 use Rattle.obligation_sets.specs.declared.sets.Covering.{Covering}

@@ -4,11 +4,11 @@ use Rattle.std.specs.Option.{option_map_or, option_and_then}
 use Rattle.std.proofs.lemmas.List.{reverse-append, length-take}
 use Rattle.std.proofs.lemmas.List.Elements.{All-contains, Contains-push, Contains-append_left, Contains-push_cases}
 use Rattle.std.proofs.lemmas.Option.{slice_get_within}
-use Rattle.clause_base.specs.Literal.{Literal, negated}
-use Rattle.clause_base.specs.Clause.{IsClause}
-use Rattle.clause_base.specs.Partial.{is_falsified, unit_of}
-use Rattle.clause_base.proofs.Members.{Contains-head, Contains-later, Contains-none, Contains-cases}
-use Rattle.clause_base.proofs.Tests.{Decides-is_falsified, unit_found}
+use Rattle.propositional_logic.specs.Literal.{Literal, negated}
+use Rattle.propositional_logic.specs.Clause.{IsClause}
+use Rattle.propositional_logic.specs.Partial.{is_falsified, unit_of}
+use Rattle.propositional_logic.proofs.Members.{Contains-head, Contains-later, Contains-none, Contains-cases}
+use Rattle.propositional_logic.proofs.Tests.{Decides-is_falsified, unit_found}
 use Rattle.refutation_log.specs.Follows.{clause_named, is_falsified_named, leads_to_conflict}
 use Rattle.unit_propagate.specs.declared.marks.Mark.{Mark}
 use Rattle.unit_propagate.specs.Trail.{IsTrail, literals_of}

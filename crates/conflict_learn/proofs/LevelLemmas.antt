@@ -3,10 +3,10 @@ use Rattle.std.proofs.Common.{◌≡◌, ◌≢◌, ℕ, suc, zero, ◌<◌, ◌
 use Rattle.std.proofs.lemmas.Bool.Decides.{Decides-eqb}
 use Rattle.std.proofs.lemmas.Bool.{cases_lt}
 use Rattle.std.proofs.lemmas.List.Elements.{All-contains, All-tail}
-use Rattle.clause_base.specs.Literal.{Literal}
-use Rattle.clause_base.specs.Clause.{IsRisingFrom}
-use Rattle.clause_base.proofs.Members.{Contains-head, Contains-later, Contains-none, Contains-cases, filter-none}
-use Rattle.clause_base.proofs.Rising.{rising_above}
+use Rattle.propositional_logic.specs.Literal.{Literal}
+use Rattle.propositional_logic.specs.Clause.{IsRisingFrom}
+use Rattle.propositional_logic.proofs.Members.{Contains-head, Contains-later, Contains-none, Contains-cases, filter-none}
+use Rattle.propositional_logic.proofs.Rising.{rising_above}
 use Rattle.unit_propagate.specs.declared.marks.Mark.{Mark}
 use Rattle.unit_propagate.specs.Trail.{IsTrail}
 use Rattle.unit_propagate.proofs.Places.{Contains-slice_get, AllPairs-slice_get}

@@ -1,6 +1,6 @@
 use Rattle.std.specs.Prelude.{◌≡◌, ◌≢◌, ℕ, ◌<◌, ◌≤◌, ◌⊎◌, true, List, [], ◌∷◌, Some, All, Contains, length, reverse, slice_get}
-use Rattle.clause_base.specs.Literal.{Literal, negated}
-use Rattle.clause_base.specs.Clause.{IsClause}
+use Rattle.propositional_logic.specs.Literal.{Literal, negated}
+use Rattle.propositional_logic.specs.Clause.{IsClause}
 use Rattle.refutation_log.specs.Follows.{clause_named, leads_to_conflict}
 use Rattle.unit_propagate.specs.declared.marks.Mark.{Mark}
 use Rattle.unit_propagate.specs.Trail.{literals_of}

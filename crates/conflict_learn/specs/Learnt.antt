@@ -1,6 +1,6 @@
 use Rattle.std.specs.Prelude.{◌≡◌, ℕ, ◌<◌, ◌≤◌, max, true, nat_eq, if◌then◌else◌, List, [], ◌∷◌, All, filter, length}
-use Rattle.clause_base.specs.Literal.{Literal}
-use Rattle.clause_base.specs.Partial.{is_falsified}
+use Rattle.propositional_logic.specs.Literal.{Literal}
+use Rattle.propositional_logic.specs.Partial.{is_falsified}
 use Rattle.unit_propagate.specs.declared.marks.Mark.{Mark}
 use Rattle.unit_propagate.specs.Trail.{literals_of}
 

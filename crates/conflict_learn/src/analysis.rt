@@ -1,6 +1,6 @@
 ghost use Rattle.std.specs.Prelude.{◌≡◌, ℕ, ◌<◌, ◌≤◌, ◌⊎◌, ◌++◌, ◌∷◌, [], List, true, Some, All, Contains, length, slice_get, IfSome, IfNone, IfOk, OnOk, OnErr};
-ghost use Rattle.clause_base.specs.Literal.{Literal, negated};
-ghost use Rattle.clause_base.specs.Partial.{is_falsified};
+ghost use Rattle.propositional_logic.specs.Literal.{Literal, negated};
+ghost use Rattle.propositional_logic.specs.Partial.{is_falsified};
 ghost use Rattle.refutation_log.specs.Entry.{clauses_of};
 ghost use Rattle.refutation_log.specs.Follows.{clause_named};
 ghost use Rattle.unit_propagate.specs.declared.marks.Mark.{Mark};
@@ -11,7 +11,7 @@ ghost use Rattle.conflict_learn.specs.Analysis.{HasFalsifier, FalsifiesOne, AreU
 
 use crate::implications::Implications;
 use crate::places::Places;
-use clause_base::{Cnf, Lit};
+use propositional_logic::{Cnf, Lit};
 use refutation_log::Entry;
 use std::alloc::{AllocError, Global};
 use unit_propagate::{Trail, clause_at};

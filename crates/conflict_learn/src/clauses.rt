@@ -2,7 +2,7 @@ ghost use Rattle.std.specs.Prelude.{◌≡◌, ◌++◌, Some, None, IfSome, IfN
 ghost use Rattle.refutation_log.specs.Entry.{clauses_of};
 ghost use Rattle.refutation_log.specs.Follows.{clause_named};
 
-use clause_base::{Clause, Cnf};
+use propositional_logic::{Clause, Cnf};
 use refutation_log::Entry;
 use unit_propagate::clause_at;
 

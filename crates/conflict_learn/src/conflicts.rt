@@ -1,14 +1,14 @@
 ghost use Rattle.std.specs.Prelude.{◌≡◌, ℕ, true, ◌++◌, List, Some, IfOk, All, reverse};
-ghost use Rattle.clause_base.specs.Clause.{IsClauseOf, IsFormula, IsTautology, IsWithin};
+ghost use Rattle.propositional_logic.specs.Clause.{IsClauseOf, IsFormula, IsTautology, IsWithin};
 ghost use Rattle.refutation_log.specs.Entry.{clauses_of};
 ghost use Rattle.refutation_log.specs.Follows.{clause_named, is_falsified_named, Follows};
 ghost use Rattle.unit_propagate.specs.Trail.{literals_of};
 ghost use Rattle.unit_propagate.specs.Sound.{IsSound};
 ghost use Rattle.conflict_learn.specs.Learnt.{IsLearnt};
-ghost use Rattle.clause_base.specs.Literal.{Literal};
+ghost use Rattle.propositional_logic.specs.Literal.{Literal};
 
 use crate::analysis::{Analysis, highest_level};
-use clause_base::{Clause, ClauseFault, Cnf, Lit};
+use propositional_logic::{Clause, ClauseFault, Cnf, Lit};
 use refutation_log::{Entry, Hints};
 use std::alloc::{AllocError, Global};
 use unit_propagate::{Trail, clause_at};

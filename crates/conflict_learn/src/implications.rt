@@ -1,6 +1,6 @@
 use crate::clauses::clause_of;
 use crate::places::Places;
-use clause_base::{Clause, Cnf};
+use propositional_logic::{Clause, Cnf};
 use refutation_log::Entry;
 use std::alloc::{AllocError, Global};
 use unit_propagate::Trail;

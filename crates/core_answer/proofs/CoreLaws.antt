@@ -1,8 +1,8 @@
 -- Faults are determined, and what is told can't be met.
 use Rattle.std.proofs.Common.{◌≡◌, ℕ, Bool, true, false, List, Option, refl, sym, ◌∙◌}
-use Rattle.letter_word.specs.declared.kinds.Kind.{Kind}
-use Rattle.letter_word.specs.declared.kinds.Side.{Side}
-use Rattle.letter_word.specs.declared.kinds.Side.TheVariants.{System, Environment}
+use Rattle.letters_and_lassos.specs.declared.kinds.Kind.{Kind}
+use Rattle.letters_and_lassos.specs.declared.kinds.Side.{Side}
+use Rattle.letters_and_lassos.specs.declared.kinds.Side.TheVariants.{System, Environment}
 use Rattle.machine_model.specs.Machine.{MachineModel}
 use Rattle.aiger_text.specs.Circuit.{Circuit}
 use Rattle.spec_faults.specs.declared.code.SpecCode.{SpecCode}

@@ -8,7 +8,7 @@ use Rattle.ltl_formula.specs.Added.{Built}
 use Rattle.ltl_formula.specs.Nodes.{Grows, IsNodeList}
 use Rattle.ltl_formula.specs.Tree.{SignalsBelow, Tree}
 use Rattle.ltl_formula.proofs.Lists.{Grows-trans}
-use Rattle.dual_search.specs.BothForms.{AreForms, both_forms}
+use Rattle.side_automata.specs.BothForms.{AreForms, both_forms}
 use Rattle.ltl_normal.specs.NormalNodes.{form_in}
 use Rattle.ltl_normal.proofs.Building.{Builds-form_in, go_on-Some}
 

@@ -1,8 +1,8 @@
 -- What is told over some of a text's guarantees.
 use Rattle.std.proofs.Common.{◌≡◌, ℕ, Bool, false, List, Option, Some, refl, sym, ap, subst, ◌∙◌}
 use Rattle.text_limits.specs.declared.TheConstants.{SMALL_LIMITS}
-use Rattle.letter_word.specs.declared.kinds.Kind.{Kind}
-use Rattle.letter_word.specs.Word.{Word}
+use Rattle.letters_and_lassos.specs.declared.kinds.Kind.{Kind}
+use Rattle.letters_and_lassos.specs.Word.{Word}
 use Rattle.ltl_formula.specs.declared.faults.AddFault.{AddFault}
 use Rattle.spec_faults.specs.declared.code.SpecCode.{SpecCode}
 use Rattle.spec_faults.specs.declared.code.SpecCode.TheVariants.{TooManyNodes}
@@ -18,11 +18,11 @@ use Rattle.synth_engine.specs.declared.settings.Settings.{Settings}
 use Rattle.synth_answer.specs.Answer.{refused}
 use Rattle.text_ground.specs.Ground.{Ground, ground_with}
 use Rattle.synth_answer.proofs.Grounds.{answer_for}
-use Rattle.unreal_core.specs.declared.whole.Reduced.{Reduced}
-use Rattle.unreal_core.specs.Reduced.{kept_sections, reduced, reduced_in}
+use Rattle.unrealizable_core.specs.declared.whole.Reduced.{Reduced}
+use Rattle.unrealizable_core.specs.Reduced.{kept_sections, reduced, reduced_in}
 use Rattle.tlsf_expand.specs.Standing.{truths_of}
-use Rattle.unreal_core.specs.Truths.{SaysWhole}
-use Rattle.unreal_core.proofs.CutMeaning.{cut_texts_mean, kept_later}
+use Rattle.unrealizable_core.specs.Truths.{SaysWhole}
+use Rattle.unrealizable_core.proofs.CutMeaning.{cut_texts_mean, kept_later}
 use Rattle.core_answer.specs.Core.{IsToldOver}
 use Rattle.core_answer.specs.Known.{IsTextIn}
 use Rattle.core_answer.specs.Over.{IsCutGround, IsFaultOver, IsGroundOver, are_all, of_list, of_problems, over_some, whole_with}

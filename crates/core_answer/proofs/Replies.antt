@@ -3,7 +3,7 @@ use Rattle.std.proofs.Common.{Bool, List, Result, Ok, Err, IfOk}
 use Rattle.ltl_formula.specs.declared.nodes.FormulaId.{FormulaId}
 use Rattle.ltl_formula.specs.declared.nodes.Node.{Node}
 use Rattle.ltl_formula.specs.Nodes.{tree_at}
-use Rattle.letter_word.specs.Word.{Word}
+use Rattle.letters_and_lassos.specs.Word.{Word}
 use Rattle.tlsf_expand.specs.Expansion.{Expanded}
 use Rattle.program_replies.specs.Statuses.{status_number}
 use Rattle.spec_problems.specs.declared.sides.SideProblems.{SideProblems}
@@ -13,7 +13,7 @@ use Rattle.synth_engine.specs.declared.settings.Settings.{Settings}
 use Rattle.synth_answer.specs.declared.answering.Answered.{Answered}
 use Rattle.synth_answer.specs.Answer.{IsAnswerOn}
 use Rattle.text_ground.specs.Ground.{AreGivenOn, ground_with}
-use Rattle.unreal_core.specs.declared.whole.Reduced.{Reduced}
+use Rattle.unrealizable_core.specs.declared.whole.Reduced.{Reduced}
 use Rattle.core_answer.specs.Reply.{IsReducedReply, reduced_answered}
 
 module _ (x : Expanded) (r : Reduced) (settings : Settings) (s : SideProblems) (later : List Node)

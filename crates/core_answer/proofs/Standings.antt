@@ -2,10 +2,10 @@
 use Rattle.std.proofs.Common.{◌≡◌, ℕ, zero, suc, ◌+◌, ◌<◌, ◌≤◌, Bool, true, false, List, [], ◌∷◌, ◌++◌, length, get_or, map, set, replicate, refl, sym, ap, ◌∙◌, arith}
 use Rattle.std.proofs.lemmas.List.{map-set}
 use Rattle.std.proofs.Math.Seq.{map-set_same}
-use Rattle.unreal_core.specs.declared.shrink.Standing.{Standing}
-use Rattle.unreal_core.specs.declared.shrink.Standing.TheVariants.{Open, Needed, Dropped}
-use Rattle.unreal_core.specs.Laws.{is_kept, kept_in}
-use Rattle.unreal_core.specs.Shrink.{reopened}
+use Rattle.unrealizable_core.specs.declared.shrink.Standing.{Standing}
+use Rattle.unrealizable_core.specs.declared.shrink.Standing.TheVariants.{Open, Needed, Dropped}
+use Rattle.unrealizable_core.specs.Laws.{is_kept, kept_in}
+use Rattle.unrealizable_core.specs.Shrink.{reopened}
 use Rattle.core_answer.specs.Core.{EachHas, numbers_from}
 use Rattle.core_answer.specs.Known.{needed_from}
 use Rattle.core_answer.specs.Over.{are_all}

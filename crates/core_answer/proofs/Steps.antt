@@ -1,18 +1,18 @@
 -- One more guarantee is asked about.
 use Rattle.std.proofs.Common.{◌≡◌, ℕ, ◌+◌, ◌-◌, ◌<◌, ◌≤◌, Bool, true, false, List, [], ◌∷◌, ◌++◌, Option, Some, Vec, Global, length, get_or, map, set, replicate, sym, ap, subst, ◌∙◌, arith}
 use Rattle.std.proofs.lemmas.List.{length-map, length-replicate}
-use Rattle.letter_word.specs.declared.kinds.Kind.{Kind}
+use Rattle.letters_and_lassos.specs.declared.kinds.Kind.{Kind}
 use Rattle.tlsf_expand.specs.FlatText.{FlatText}
 use Rattle.synth_engine.specs.declared.settings.Settings.{Settings}
-use Rattle.unreal_core.specs.declared.shrink.Standing.{Standing}
-use Rattle.unreal_core.specs.declared.shrink.Standing.TheVariants.{Open, Needed, Dropped}
-use Rattle.unreal_core.specs.Laws.{is_kept, kept_in}
-use Rattle.unreal_core.specs.Shrink.{IsFirstOpenGuarantee, IsKeptGuarantee, IsNeeded, answered, asked, told, told_about}
+use Rattle.unrealizable_core.specs.declared.shrink.Standing.{Standing}
+use Rattle.unrealizable_core.specs.declared.shrink.Standing.TheVariants.{Open, Needed, Dropped}
+use Rattle.unrealizable_core.specs.Laws.{is_kept, kept_in}
+use Rattle.unrealizable_core.specs.Shrink.{IsFirstOpenGuarantee, IsKeptGuarantee, IsNeeded, answered, asked, told, told_about}
 use Rattle.core_answer.specs.Core.{AreSpared, EachHas, IsToldOver, Tells, numbers, without}
 use Rattle.core_answer.specs.Known.{IsShrunk, IsTextIn, needed_from}
 use Rattle.core_answer.specs.Over.{are_all}
 use Rattle.core_answer.specs.Taken.{document_taken, others_taken}
-use Rattle.unreal_core.proofs.Standings.{answered_long}
+use Rattle.unrealizable_core.proofs.Standings.{answered_long}
 use Rattle.core_answer.proofs.Standings.{all_kept_needed, dropped_kept, each_more, fresh_kept, fresh_needed, needed_kept, not_all, one_more_needed, reopened_none}
 
 module _ (text : List ℕ) (kind : Option Kind) (settings : Settings) where

@@ -1,7 +1,7 @@
 -- What is told of a whole text.
 use Rattle.std.proofs.Common.{◌≡◌, ℕ, ◌<◌, ◌≤◌, Bool, true, false, List, Option, Some, Result, Ok, Err, IfOk, length, replicate, sym, ap, subst, ◌∙◌}
 use Rattle.text_limits.specs.declared.TheConstants.{SMALL_LIMITS}
-use Rattle.letter_word.specs.declared.kinds.Kind.{Kind}
+use Rattle.letters_and_lassos.specs.declared.kinds.Kind.{Kind}
 use Rattle.ltl_formula.proofs.Lists.{signals_are_below}
 use Rattle.std.proofs.lemmas.Result.{IfOk-weaker}
 use Rattle.spec_faults.specs.declared.code.SpecCode.TheVariants.{TooManyGuarantees}
@@ -22,10 +22,10 @@ use Rattle.text_ground.specs.Texts.{IsTextWith}
 use Rattle.synth_answer.proofs.Grounds.{answer_for}
 use Rattle.flat_text.proofs.OfKinds.{kinds}
 use Rattle.text_ground.proofs.Meaning.{given_on, ground_by_its_kind, is_ground, text_ground}
-use Rattle.unreal_core.specs.WholeLaws.{SectionsOfTextsStand}
+use Rattle.unrealizable_core.specs.WholeLaws.{SectionsOfTextsStand}
 use Rattle.tlsf_expand.specs.Standing.{SectionsStand}
 use Rattle.tlsf_expand.proofs.Expanded.{sections_stand_later}
-use Rattle.unreal_core.proofs.Texts.{list_of_text}
+use Rattle.unrealizable_core.proofs.Texts.{list_of_text}
 use Rattle.core_answer.specs.Core.{CoreAnswers, IsCore, IsCoreFault, IsToldCore, IsToldOver, Tells, core, guarantees_in, spared, too_many}
 use Rattle.core_answer.specs.Known.{IsTextIn}
 use Rattle.core_answer.specs.Over.{IsFaultOver, IsGroundOver, over_all}

@@ -1,14 +1,14 @@
 -- What is known of a text while its guarantees are left out one at a time (this project's own).
 use Rattle.std.specs.Prelude.{◌≡◌, ℕ, ◌+◌, true, List, [], ◌∷◌, Option, Some}
 use Rattle.text_limits.specs.declared.TheConstants.{SMALL_LIMITS}
-use Rattle.letter_word.specs.declared.kinds.Kind.{Kind}
+use Rattle.letters_and_lassos.specs.declared.kinds.Kind.{Kind}
 use Rattle.ltl_formula.specs.Nodes.{Grows}
 use Rattle.tlsf_expand.specs.FlatText.{FlatText}
 use Rattle.flat_text.specs.FlatOf.{IsFlatOf}
 use Rattle.synth_engine.specs.declared.settings.Settings.{Settings}
-use Rattle.unreal_core.specs.declared.shrink.Standing.{Standing}
-use Rattle.unreal_core.specs.declared.shrink.Standing.TheVariants.{Open, Needed, Dropped}
-use Rattle.unreal_core.specs.Laws.{kept_in}
+use Rattle.unrealizable_core.specs.declared.shrink.Standing.{Standing}
+use Rattle.unrealizable_core.specs.declared.shrink.Standing.TheVariants.{Open, Needed, Dropped}
+use Rattle.unrealizable_core.specs.Laws.{kept_in}
 use Rattle.tlsf_expand.specs.Standing.{SectionsStand}
 use Rattle.core_answer.specs.Core.{AreSpared, Tells}
 

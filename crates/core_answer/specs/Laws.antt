@@ -1,6 +1,6 @@
 -- Laws of the answers of `core` (this project's own).
 use Rattle.std.specs.Prelude.{◌≡◌, ℕ, List, Option}
-use Rattle.letter_word.specs.declared.kinds.Kind.{Kind}
+use Rattle.letters_and_lassos.specs.declared.kinds.Kind.{Kind}
 use Rattle.machine_model.specs.Machine.{MachineModel}
 use Rattle.spec_faults.specs.declared.code.SpecCode.{SpecCode}
 use Rattle.satisfaction.specs.Satisfaction.{Satisfies}

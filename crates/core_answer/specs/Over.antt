@@ -3,8 +3,8 @@
 use Rattle.std.specs.Prelude.{◌≡◌, ℕ, Bool, true, false, List, Option, Some}
 use Rattle.std.specs.List.{list_all}
 use Rattle.text_limits.specs.declared.TheConstants.{SMALL_LIMITS}
-use Rattle.letter_word.specs.declared.kinds.Kind.{Kind}
-use Rattle.letter_word.specs.Word.{Word}
+use Rattle.letters_and_lassos.specs.declared.kinds.Kind.{Kind}
+use Rattle.letters_and_lassos.specs.Word.{Word}
 use Rattle.ltl_formula.specs.declared.nodes.FormulaId.{FormulaId}
 use Rattle.spec_faults.specs.declared.code.SpecCode.{SpecCode}
 use Rattle.spec_faults.specs.declared.code.SpecCode.TheVariants.{TooManyNodes}
@@ -18,8 +18,8 @@ use Rattle.spec_problems.specs.OfFormula.{IsFormFault}
 use Rattle.spec_problems.specs.OfText.{IsFirstFault}
 use Rattle.satisfaction.specs.Wanted.{Wanted}
 use Rattle.text_ground.specs.Ground.{Ground, IsGroundOf, formula_on}
-use Rattle.unreal_core.specs.Cut.{cut}
-use Rattle.unreal_core.specs.Reduced.{kept_sections, reduced, reduced_in}
+use Rattle.unrealizable_core.specs.Cut.{cut}
+use Rattle.unrealizable_core.specs.Reduced.{kept_sections, reduced, reduced_in}
 
 abbrev pub are_all : List Bool → Bool
 are_all keep = list_all (λ k. k) keep

@@ -1,6 +1,6 @@
 -- What is replied over the formula of the whole in a list of its own (this project's own).
 use Rattle.std.specs.Prelude.{◌≡◌, ℕ, Bool, false, List}
-use Rattle.letter_word.specs.Word.{Word}
+use Rattle.letters_and_lassos.specs.Word.{Word}
 use Rattle.ltl_formula.specs.declared.faults.AddFault.{AddFault}
 use Rattle.ltl_formula.specs.Nodes.{tree_at}
 use Rattle.tlsf_expand.specs.Expansion.{Expanded}
@@ -15,7 +15,7 @@ use Rattle.synth_engine.specs.declared.settings.Settings.{Settings}
 use Rattle.synth_answer.specs.Answer.{IsAnswerOn}
 use Rattle.text_ground.specs.Ground.{ground_with}
 use Rattle.program_replies.specs.Refusals.{IsRefusal}
-use Rattle.unreal_core.specs.declared.whole.Reduced.{Reduced}
+use Rattle.unrealizable_core.specs.declared.whole.Reduced.{Reduced}
 
 -- a list without room is refused at byte 0
 abbrev pub list_fault : AddFault → SpecFault

@@ -1,7 +1,7 @@
 //! The answer to a text.
 ghost use Rattle.std.specs.Prelude.{◌≡◌, ◌≤◌, ℕ, List, Option, true, false, IfOk, length, replicate};
 ghost use Rattle.text_limits.specs.declared.TheConstants.{SMALL_LIMITS};
-ghost use Rattle.letter_word.specs.declared.kinds.Kind.{Kind as AKind};
+ghost use Rattle.letters_and_lassos.specs.declared.kinds.Kind.{Kind as AKind};
 ghost use Rattle.tlsf_expand.specs.FewSignals.{HasFewSignals};
 ghost use Rattle.tlsf_expand.specs.FlatText.{spec_seen};
 ghost use Rattle.flat_text.specs.FlatNames.{HasPlainNames};
@@ -15,8 +15,8 @@ ghost use Rattle.core_answer.specs.Known.{IsTextIn};
 
 use crate::lines::core_text;
 use crate::shrinking::{kept, shrunk};
-use letter_word::Kind;
-use outside_edge::Gate;
+use input_output::Gate;
+use letters_and_lassos::Kind;
 use program_replies::{Reply, Status, refused};
 use spec_faults::SpecCode;
 use spec_problems::TextProblems;
@@ -28,7 +28,7 @@ use synth_answer::answer_on;
 use synth_engine::Settings;
 use text_ground::{Problems, problems_or_refusal};
 use tlsf_expand::Spec;
-use unreal_core::laws::sections_of_texts_stand;
+use unrealizable_core::laws::sections_of_texts_stand;
 
 /// The most guarantees that are searched.
 const MOST_GUARANTEES: usize = 64;

@@ -2,7 +2,7 @@
 //!
 //! The contract above this layer: `core_answer` gives what `CoreAnswers` says of the text. It is the line of its first fault, the answer
 //! of `synth` where that has no counter-machine, or guarantees with a document that defeats over them, and for each of them what
-//! comes without it. It stands on synth_answer for what answers a text with some of its guarantees, and on unreal_core for their formulas
+//! comes without it. It stands on synth_answer for what answers a text with some of its guarantees, and on unrealizable_core for their formulas
 //! and for which guarantee is left out next.
 #![tactic(auto)]
 

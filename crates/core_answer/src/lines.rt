@@ -2,9 +2,9 @@
 ghost use Rattle.std.specs.Prelude.{◌≡◌, ◌++◌, ◌∷◌, [], if◌then◌else◌, IfOk, OnOk, codes, map, slice_index_or};
 ghost use Rattle.core_answer.specs.Core.{core_lines, document_part, guarantee_lines, numbered_line, numbers, without_parts};
 
+use names_and_numbers::push_number;
 use program_replies::line_count;
 use std::alloc::{AllocError, Global};
-use text_base::push_number;
 
 /// The guarantees that are kept, with the document over them, and for each of them what comes without it.
 pub(crate) fn core_text(

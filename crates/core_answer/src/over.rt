@@ -1,7 +1,7 @@
 //! A text with some of its guarantees, answered.
 ghost use Rattle.std.specs.Prelude.{◌≡◌, ◌≤◌, ℕ, List, Option, false, IfOk, length};
 ghost use Rattle.text_limits.specs.declared.TheConstants.{SMALL_LIMITS};
-ghost use Rattle.letter_word.specs.declared.kinds.Kind.{Kind as AKind};
+ghost use Rattle.letters_and_lassos.specs.declared.kinds.Kind.{Kind as AKind};
 ghost use Rattle.ltl_formula.specs.Nodes.{Stands};
 ghost use Rattle.tlsf_expand.specs.FewSignals.{HasFewSignals};
 ghost use Rattle.tlsf_expand.specs.FlatText.{spec_seen};
@@ -14,8 +14,8 @@ ghost use Rattle.core_answer.specs.Known.{IsTextIn};
 ghost use Rattle.core_answer.specs.Over.{are_all};
 ghost use Rattle.core_answer.specs.Reply.{IsReducedReply, IsRefusedReply, list_fault};
 
+use input_output::Gate;
 use ltl_formula::AddFault;
-use outside_edge::Gate;
 use program_replies::refusal;
 use spec_faults::{SpecCode, SpecFault};
 use spec_problems::{Interface, problems_of};
@@ -25,7 +25,7 @@ use std::thread::Threads;
 use synth_answer::{Answered, answer_on};
 use synth_engine::Settings;
 use tlsf_expand::Spec;
-use unreal_core::{Reduced, whole_of};
+use unrealizable_core::{Reduced, whole_of};
 
 /// What answers a text with these of its guarantees, which aren't all.
 pub(crate) fn answer_over<R: Threads + Wait + Sync, G: Gate + Sync>(

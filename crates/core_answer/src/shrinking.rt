@@ -1,27 +1,27 @@
 //! Guarantees of a text left out one at a time, until those that are kept can't be met together.
 ghost use Rattle.std.specs.Prelude.{◌≡◌, ◌<◌, ◌≤◌, ℕ, List, [], None, Option, false, true, IfOk, IsSome, OnOk, length, map, replicate, slice_index_or};
 ghost use Rattle.text_limits.specs.declared.TheConstants.{SMALL_LIMITS};
-ghost use Rattle.letter_word.specs.declared.kinds.Kind.{Kind as AKind};
+ghost use Rattle.letters_and_lassos.specs.declared.kinds.Kind.{Kind as AKind};
 ghost use Rattle.tlsf_expand.specs.FewSignals.{HasFewSignals};
 ghost use Rattle.tlsf_expand.specs.FlatText.{spec_seen};
 ghost use Rattle.flat_text.specs.FlatNames.{HasPlainNames};
-ghost use Rattle.unreal_core.specs.Laws.{kept_in};
+ghost use Rattle.unrealizable_core.specs.Laws.{kept_in};
 ghost use Rattle.tlsf_expand.specs.Standing.{SectionsStand};
-ghost use Rattle.unreal_core.specs.Shrink.{asked, told};
+ghost use Rattle.unrealizable_core.specs.Shrink.{asked, told};
 ghost use Rattle.core_answer.specs.Core.{Tells};
 ghost use Rattle.core_answer.specs.Known.{IsShrunk, IsTextIn};
 ghost use Rattle.core_answer.specs.Taken.{document_taken, others_taken};
 
 use crate::over::answer_over;
+use input_output::Gate;
 use ltl_formula::FormulaId;
-use outside_edge::Gate;
 use std::alloc::{AllocError, Global};
 use std::sync::Wait;
 use std::thread::Threads;
 use synth_answer::Answered;
 use synth_engine::Settings;
 use tlsf_expand::Spec;
-use unreal_core::Shrink;
+use unrealizable_core::Shrink;
 
 /// Guarantees of which a document shows that they can't be met together.
 #[derive(Drop)]

@@ -1,6 +1,6 @@
 use crate::line_rules::cut_word;
 use crate::text_faults::TextFault;
-use letter_word::{Kind, Side};
+use letters_and_lassos::{Kind, Side};
 use solve_told::Told;
 use spec_faults::SpecCode;
 use std::alloc::{AllocError, Global};

@@ -6,7 +6,7 @@ use crate::solved::{SOLVED_VERSION, Solved, push_solved, push_unsolved};
 use crate::text_faults::{RefusedBy, Source, push_text_fault};
 use crate::unknown::push_unknown;
 use crate::wrong_words::push_wrong_words;
-use letter_word::Side;
+use letters_and_lassos::Side;
 use program_replies::Status;
 use program_words::{Solving, read_wishes};
 use shown_text::first_messages;

@@ -1,4 +1,4 @@
-use letter_word::Side;
+use letters_and_lassos::Side;
 use shown_text::push_shown;
 use std::alloc::{AllocError, Global};
 use std::fmt::Write;

@@ -2,7 +2,7 @@
 
 use crate::heard::Answer;
 use crate::unknown::{Count, Next, push_easier, push_next};
-use letter_word::{Kind, Side};
+use letters_and_lassos::{Kind, Side};
 use program_words::{MOST_ENTRIES, MOST_REFUTED, Solving, USUAL_ENTRIES};
 use shown_text::push_shown;
 use solve_told::{End, Limit, NotWon, Refuted, RefutingEnd, Told, Unwon, Withheld};

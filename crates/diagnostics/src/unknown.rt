@@ -1,5 +1,5 @@
 use crate::heard::{Answer, Log, Verdict};
-use letter_word::{Kind, Side};
+use letters_and_lassos::{Kind, Side};
 use program_words::{MOST_ALONE, MOST_ENTRIES};
 use std::alloc::{AllocError, Global};
 use std::fmt::Write;

@@ -2,11 +2,11 @@
 use Rattle.std.proofs.Common.{◌≡◌, ◌≤◌, ℕ, zero, suc, Bool, cond, Option, Some, None, List, [], ◌∷◌, refl, sym, ap, subst, ◌∙◌}
 use Rattle.std.specs.Prelude.{IfSome, IsTrue, MatchOption, is_some, option_map}
 use Rattle.std.specs.Option.{option_map_or, option_or}
-use Rattle.clause_base.specs.Literal.{Literal}
-use Rattle.letter_word.specs.declared.kinds.Kind.{Kind}
-use Rattle.letter_word.specs.declared.kinds.Side.{Side}
-use Rattle.letter_word.specs.declared.kinds.Side.TheVariants.{System, Environment}
-use Rattle.letter_word.specs.Kinds.{other_kind}
+use Rattle.propositional_logic.specs.Literal.{Literal}
+use Rattle.letters_and_lassos.specs.declared.kinds.Kind.{Kind}
+use Rattle.letters_and_lassos.specs.declared.kinds.Side.{Side}
+use Rattle.letters_and_lassos.specs.declared.kinds.Side.TheVariants.{System, Environment}
+use Rattle.letters_and_lassos.specs.Kinds.{other_kind}
 use Rattle.machine_model.specs.declared.problems.Problem.{Problem}
 use Rattle.annotation_encode.specs.BaseClauses.{base_clauses}
 use Rattle.annotation_encode.specs.Count.{allowed_sizes, count_of}
@@ -14,16 +14,16 @@ use Rattle.annotation_encode.specs.Variables.{variables_of}
 use Rattle.refutation_log.specs.Log.{IsLegal}
 use Rattle.log_checker.specs.Faults.{IsLogFault}
 use Rattle.aiger_text.specs.Circuit.{Circuit}
-use Rattle.cert_text.specs.declared.header.Header.{Header}
-use Rattle.cert_text.specs.declared.reading.CircuitPart.{CircuitPart}
-use Rattle.cert_text.specs.declared.reading.CircuitPart.TheVariants.{Absent, Faulty, Stated}
-use Rattle.cert_text.specs.Parts.{Document, LogPart}
-use Rattle.cert_text.specs.Reading.{DocumentLines}
-use Rattle.cert_text.proofs.LogsLemmas.{some_same}
+use Rattle.document_text.specs.declared.header.Header.{Header}
+use Rattle.document_text.specs.declared.reading.CircuitPart.{CircuitPart}
+use Rattle.document_text.specs.declared.reading.CircuitPart.TheVariants.{Absent, Faulty, Stated}
+use Rattle.document_text.specs.Parts.{Document, LogPart}
+use Rattle.document_text.specs.Reading.{DocumentLines}
+use Rattle.document_text.proofs.LogsLemmas.{some_same}
 use Rattle.circuit_names.specs.Lines.{earliest}
 use Rattle.document_check.specs.declared.facts.Asked.{Asked}
-use Rattle.cert_text.specs.declared.order.Place.{Place}
-use Rattle.cert_text.specs.Order.{order_of}
+use Rattle.document_text.specs.declared.order.Place.{Place}
+use Rattle.document_text.specs.Order.{order_of}
 use Rattle.document_check.specs.Alike.{AreAlike, AreSameShapes, Shape, shape_of}
 use Rattle.document_check.specs.Facts.{Facts, allowed_at, circuit_side, clause_version, problem_at, wanted_sizes}
 use Rattle.document_check.specs.FirstBad.{FailsBehind, FailsIn, IsFirstBadFor, LogFails, LogsFail, LogsFailIn, all_there, another, asked_in, bad_entry, circuit_line, end_line, has_numbers, is_good, last_line, left_open, no_problem, number_line, one_fails, one_good, one_missing, one_more, other_numbers, wanted_in}

@@ -1,7 +1,7 @@
 -- What a header asks for.
 use Rattle.std.proofs.Common.{◌≡◌, Some, ap, ◌∙◌}
-use Rattle.cert_text.specs.declared.header.Header.{Header}
-use Rattle.cert_text.proofs.HeadRead.{step, last_step}
+use Rattle.document_text.specs.declared.header.Header.{Header}
+use Rattle.document_text.proofs.HeadRead.{step, last_step}
 use Rattle.document_check.specs.declared.facts.Asked.{Asked}
 use Rattle.document_check.specs.FirstBad.{asked_in}
 

@@ -2,10 +2,10 @@
 use Rattle.std.proofs.Common.{◌≡◌, ℕ, Option, Some, None, List, ap, ◌∙◌}
 use Rattle.std.specs.Prelude.{drop}
 use Rattle.aiger_text.specs.CircuitFile.{File}
-use Rattle.cert_text.specs.declared.reading.CircuitPart.TheVariants.{Faulty}
-use Rattle.cert_text.specs.Parts.{Document}
-use Rattle.cert_text.specs.Reading.{DocumentLines, Reads, without_circuit, of_fault, uncommented, commented, ReadsBehind, unnamed, named, circuit_in, document_of}
-use Rattle.cert_text.proofs.HeadRead.{step, last_step}
+use Rattle.document_text.specs.declared.reading.CircuitPart.TheVariants.{Faulty}
+use Rattle.document_text.specs.Parts.{Document}
+use Rattle.document_text.specs.Reading.{DocumentLines, Reads, without_circuit, of_fault, uncommented, commented, ReadsBehind, unnamed, named, circuit_in, document_of}
+use Rattle.document_text.proofs.HeadRead.{step, last_step}
 use Rattle.document_check.specs.declared.facts.Asked.{Asked}
 use Rattle.document_check.specs.FirstBad.{asked_in}
 

@@ -1,18 +1,18 @@
 -- At most one line is the first bad one.
 use Rattle.std.proofs.Common.{◌≡◌, ℕ, ◌+◌, Bool, Option, Some, None, List, [], ◌∷◌, refl, sym, ap, subst, ◌∙◌, true≢false}
 use Rattle.std.specs.Prelude.{MatchOption, unwrap_or}
-use Rattle.letter_word.specs.declared.kinds.Kind.{Kind}
+use Rattle.letters_and_lassos.specs.declared.kinds.Kind.{Kind}
 use Rattle.machine_model.specs.declared.problems.Problem.{Problem}
 use Rattle.annotation_encode.specs.BaseClauses.{base_clauses}
 use Rattle.annotation_encode.specs.Variables.{variables_of}
 use Rattle.log_checker.specs.declared.faults.LogFault.{LogFault}
 use Rattle.log_checker.proofs.FaultLemmas.{one_fault, legal_has_none}
-use Rattle.cert_text.specs.Parts.{LogPart}
-use Rattle.cert_text.specs.Reading.{DocumentLines}
-use Rattle.cert_text.proofs.LogsLemmas.{some_none, some_same}
-use Rattle.cert_text.proofs.ReadingLemmas.{reads_same}
+use Rattle.document_text.specs.Parts.{LogPart}
+use Rattle.document_text.specs.Reading.{DocumentLines}
+use Rattle.document_text.proofs.LogsLemmas.{some_none, some_same}
+use Rattle.document_text.proofs.ReadingLemmas.{reads_same}
 use Rattle.document_check.specs.declared.facts.Asked.{Asked}
-use Rattle.cert_text.specs.declared.order.Place.{Place}
+use Rattle.document_text.specs.declared.order.Place.{Place}
 use Rattle.document_check.specs.Facts.{Facts, problem_at}
 use Rattle.document_check.specs.Holds.{may_be_full}
 use Rattle.document_check.specs.FirstBad.{asked_in, circuit_line, end_line, entry_of, environment_sizes, Fails, FailsBehind, IsFirstBadFor, last_line, LogFails, other_numbers, bad_entry, left_open, is_good, LogsFail, all_there, one_missing, one_more, another, no_problem, one_fails, one_good, number_line, system_sizes, wanted_in}

@@ -3,9 +3,9 @@ use Rattle.std.proofs.Common.{◌≡◌, ℕ, ◌+◌, ◌≤◌, ◌==◌, Bool
 use Rattle.std.specs.Prelude.{map, MatchOption, IfSome, nat_le}
 use Rattle.std.specs.Option.{option_or, option_map_or}
 use Rattle.std.proofs.lemmas.Bool.{eqb-true, eq-eqb, le-leb, leb-true, and_parts, and_from}
-use Rattle.letter_word.specs.declared.kinds.Kind.{Kind}
-use Rattle.letter_word.specs.declared.kinds.Side.{Side}
-use Rattle.letter_word.specs.declared.kinds.Side.TheVariants.{System, Environment}
+use Rattle.letters_and_lassos.specs.declared.kinds.Kind.{Kind}
+use Rattle.letters_and_lassos.specs.declared.kinds.Side.{Side}
+use Rattle.letters_and_lassos.specs.declared.kinds.Side.TheVariants.{System, Environment}
 use Rattle.machine_model.specs.declared.problems.Problem.{Problem}
 use Rattle.annotation_encode.specs.BaseClauses.{base_clauses}
 use Rattle.annotation_encode.specs.Count.{count_of}
@@ -15,18 +15,18 @@ use Rattle.refutation_log.specs.Log.{is_ended, IsLegal, IsFull, IsWithinLimit}
 use Rattle.refutation_log.specs.Turn.{is_at_limit}
 use Rattle.log_checker.proofs.FaultLemmas.{legal_has_none}
 use Rattle.aiger_text.specs.Circuit.{Circuit}
-use Rattle.cert_text.specs.declared.documents.Verdict.{Verdict}
-use Rattle.cert_text.specs.declared.reading.CircuitPart.{CircuitPart}
-use Rattle.cert_text.specs.declared.reading.CircuitPart.TheVariants.{Absent, Faulty, Stated}
-use Rattle.cert_text.specs.Order.{order_of, place_of}
-use Rattle.cert_text.specs.Parts.{LogPart, Document}
-use Rattle.letter_word.specs.contracts.kinds.SidePartialEq.TheImpl.{ghosts as side_ghosts}
-use Rattle.cert_text.specs.Reading.{DocumentLines, Reads, all_named, circuit_in}
-use Rattle.cert_text.specs.States.{States}
-use Rattle.cert_text.proofs.LogsLemmas.{some_none}
-use Rattle.cert_text.proofs.Whole.{all_good}
+use Rattle.document_text.specs.declared.documents.Verdict.{Verdict}
+use Rattle.document_text.specs.declared.reading.CircuitPart.{CircuitPart}
+use Rattle.document_text.specs.declared.reading.CircuitPart.TheVariants.{Absent, Faulty, Stated}
+use Rattle.document_text.specs.Order.{order_of, place_of}
+use Rattle.document_text.specs.Parts.{LogPart, Document}
+use Rattle.letters_and_lassos.specs.contracts.kinds.SidePartialEq.TheImpl.{ghosts as side_ghosts}
+use Rattle.document_text.specs.Reading.{DocumentLines, Reads, all_named, circuit_in}
+use Rattle.document_text.specs.States.{States}
+use Rattle.document_text.proofs.LogsLemmas.{some_none}
+use Rattle.document_text.proofs.Whole.{all_good}
 use Rattle.document_check.specs.declared.facts.Asked.{Asked}
-use Rattle.cert_text.specs.declared.order.Place.{Place}
+use Rattle.document_text.specs.declared.order.Place.{Place}
 use Rattle.document_check.specs.Facts.{Facts, names_in, problem_at, wanted_sizes, circuit_side}
 use Rattle.document_check.specs.Holds.{AllHold, first_open, HasNames, HoldsAt, HoldsFor, is_allowed, IsAsWanted, IsLogOf, IsLogOfSome, may_be_full, names_open}
 use Rattle.document_check.specs.FirstBad.{circuit_line, end_line, environment_sizes, Fails, FailsBehind, has_numbers, IsFirstBadFor, is_size_of, last_line, LogFails, other_numbers, bad_entry, left_open, is_good, LogsFail, all_there, one_missing, one_more, another, no_problem, one_fails, one_good, LogsFailIn, number_line, side_in, stated_line, suffices, system_sizes, wanted_in}

@@ -1,6 +1,6 @@
 -- The line at which a log fails.
 use Rattle.std.proofs.Common.{◌≡◌, ℕ, ◌+◌, ◌<◌, Bool, true, false, Option, Some, None, List, length, refl, sym, ap, subst, ◌∙◌, arith}
-use Rattle.clause_base.specs.Literal.{Literal}
+use Rattle.propositional_logic.specs.Literal.{Literal}
 use Rattle.machine_model.specs.declared.problems.Problem.{Problem}
 use Rattle.annotation_encode.specs.BaseClauses.{base_clauses}
 use Rattle.annotation_encode.specs.Variables.{variables_of}
@@ -10,7 +10,7 @@ use Rattle.log_checker.specs.declared.faults.LogFault.{LogFault}
 use Rattle.log_checker.specs.declared.faults.LogFault.TheVariants.{BadHint, NotFalsified, Repeated, NotClosed, AfterEnd, OverLimit, NoMemory}
 use Rattle.log_checker.specs.Faults.{IsLogFault}
 use Rattle.log_checker.specs.Causes.{IsOpenFault}
-use Rattle.cert_text.specs.Parts.{LogPart}
+use Rattle.document_text.specs.Parts.{LogPart}
 use Rattle.document_check.specs.FirstBad.{entry_of, has_numbers, suffices, LogFails, bad_entry, left_open, is_good}
 use Rattle.document_check.proofs.FaultNumbers.{names_entry}
 

@@ -2,11 +2,11 @@
 use Rattle.std.proofs.Common.{◌≡◌, ℕ, suc, ◌≤◌, ◌==◌, Bool, true, false, Option, Some, None, List, [], ◌∷◌, refl, sym, ap, subst, arith}
 use Rattle.std.specs.Prelude.{All, unwrap_or}
 use Rattle.std.proofs.lemmas.Bool.{eqb-true, and_parts}
-use Rattle.letter_word.specs.contracts.kinds.SidePartialEq.TheImpl.{ghosts as side_ghosts}
-use Rattle.letter_word.specs.declared.kinds.Kind.{Kind}
+use Rattle.letters_and_lassos.specs.contracts.kinds.SidePartialEq.TheImpl.{ghosts as side_ghosts}
+use Rattle.letters_and_lassos.specs.declared.kinds.Kind.{Kind}
 use Rattle.machine_model.specs.declared.problems.Problem.{Problem}
-use Rattle.cert_text.specs.Parts.{LogPart}
-use Rattle.cert_text.specs.declared.order.Place.{Place}
+use Rattle.document_text.specs.Parts.{LogPart}
+use Rattle.document_text.specs.declared.order.Place.{Place}
 use Rattle.document_check.specs.Facts.{Facts, problem_at}
 use Rattle.document_check.specs.FirstBad.{is_size_of, LogFails, LogsFail, all_there, one_missing, one_more, another, no_problem, one_fails, one_good}
 use Rattle.document_check.specs.Shown.{IsProblemAt, IsSize, line_of_first, uncons}

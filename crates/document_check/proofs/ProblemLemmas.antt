@@ -4,11 +4,11 @@ use Rattle.std.specs.Prelude.{is_some, IfSome, option_map, unwrap_or}
 use Rattle.std.proofs.Common.{◌≡◌, ℕ, zero, suc, ◌+◌, ◌≤◌, ◌==◌, ◌&&◌, Bool, true, false, cond, Option, Some, None, List, length, refl, sym, ap, subst, ◌∙◌, inl, inr, ◌⊎◌}
 use Rattle.std.specs.Prelude.{is_some, nat_le, not, All, IfSome, option_map, unwrap_or}
 use Rattle.std.specs.Option.{option_map_or}
-use Rattle.clause_base.specs.Literal.{Literal}
-use Rattle.letter_word.specs.declared.kinds.Kind.{Kind}
-use Rattle.letter_word.specs.declared.kinds.Side.{Side}
-use Rattle.letter_word.specs.declared.kinds.Side.TheVariants.{System, Environment}
-use Rattle.letter_word.specs.Kinds.{other_kind}
+use Rattle.propositional_logic.specs.Literal.{Literal}
+use Rattle.letters_and_lassos.specs.declared.kinds.Kind.{Kind}
+use Rattle.letters_and_lassos.specs.declared.kinds.Side.{Side}
+use Rattle.letters_and_lassos.specs.declared.kinds.Side.TheVariants.{System, Environment}
+use Rattle.letters_and_lassos.specs.Kinds.{other_kind}
 use Rattle.machine_model.specs.Automaton.{AutomatonModel}
 use Rattle.machine_model.specs.Components.{components_of}
 use Rattle.machine_model.specs.Counting.{CountsBy, CountsIn}
@@ -25,7 +25,7 @@ use Rattle.annotation_encode.specs.Variables.{variables_of}
 use Rattle.annotation_encode.proofs.Further.{equal_clauses}
 use Rattle.refutation_log.specs.Log.{IsLegal}
 use Rattle.log_checker.specs.Faults.{IsLogFault}
-use Rattle.cert_text.specs.Parts.{LogPart}
+use Rattle.document_text.specs.Parts.{LogPart}
 use Rattle.document_check.specs.Facts.{Facts, allowed_at, counting_for, problem_at}
 use Rattle.document_check.specs.FirstBad.{has_numbers, LogFails, other_numbers, bad_entry, left_open, is_good}
 use Rattle.document_check.specs.Shown.{AreFacts, IsInEachVersion, IsProblemAt}

@@ -3,22 +3,22 @@ use Rattle.std.proofs.Common.{◌≡◌, ℕ, ◌+◌, ◌^◌, ◌<◌, ◌≤�
 use Rattle.std.specs.Prelude.{All, IfSome, codes}
 use Rattle.std.proofs.lemmas.List.{length-append}
 use Rattle.std.proofs.lemmas.List.Elements.{All-cons}
-use Rattle.letter_word.specs.declared.kinds.Kind.{Kind}
+use Rattle.letters_and_lassos.specs.declared.kinds.Kind.{Kind}
 use Rattle.refutation_log.specs.declared.entries.Entry.{Entry}
 use Rattle.aiger_text.specs.CircuitFile.{File}
-use Rattle.cert_text.specs.declared.documents.Verdict.{Verdict}
-use Rattle.cert_text.specs.declared.header.Header.{Header}
-use Rattle.cert_text.specs.declared.logs.Head.{Head}
-use Rattle.cert_text.specs.declared.order.Order.{Order}
-use Rattle.cert_text.specs.declared.order.Place.{Place}
-use Rattle.cert_text.specs.Order.{fits_max, has_its_place, may_tell_found, start_of}
-use Rattle.cert_text.specs.Header.{HeaderRead, entries_in, found_at, found_in, front, header_of, kind_in, max_in, on_entries, on_found, on_kind, on_max, on_verdict, on_version, verdict_in, version_in}
-use Rattle.cert_text.specs.Logs.{LogsRead, ReadsLogs, ended, no_head, stopped, whole, AreFirstEntries, next_head, part_of}
-use Rattle.cert_text.specs.Reading.{BodyRead, DocumentLines, ReadsBody, of_header, of_logs, ReadsBehind, unnamed, named, Reads, without_circuit, of_fault, uncommented, commented, line_count, order_in}
-use Rattle.cert_text.proofs.LineRead.{front_is, range_is}
-use Rattle.cert_text.proofs.EntriesLemmas.{stated_length}
-use Rattle.cert_text.proofs.HeaderWhole.{good_header, lines_text}
-use Rattle.cert_text.proofs.CommentLine.{comment_fits}
+use Rattle.document_text.specs.declared.documents.Verdict.{Verdict}
+use Rattle.document_text.specs.declared.header.Header.{Header}
+use Rattle.document_text.specs.declared.logs.Head.{Head}
+use Rattle.document_text.specs.declared.order.Order.{Order}
+use Rattle.document_text.specs.declared.order.Place.{Place}
+use Rattle.document_text.specs.Order.{fits_max, has_its_place, may_tell_found, start_of}
+use Rattle.document_text.specs.Header.{HeaderRead, entries_in, found_at, found_in, front, header_of, kind_in, max_in, on_entries, on_found, on_kind, on_max, on_verdict, on_version, verdict_in, version_in}
+use Rattle.document_text.specs.Logs.{LogsRead, ReadsLogs, ended, no_head, stopped, whole, AreFirstEntries, next_head, part_of}
+use Rattle.document_text.specs.Reading.{BodyRead, DocumentLines, ReadsBody, of_header, of_logs, ReadsBehind, unnamed, named, Reads, without_circuit, of_fault, uncommented, commented, line_count, order_in}
+use Rattle.document_text.proofs.LineRead.{front_is, range_is}
+use Rattle.document_text.proofs.EntriesLemmas.{stated_length}
+use Rattle.document_text.proofs.HeaderWhole.{good_header, lines_text}
+use Rattle.document_text.proofs.CommentLine.{comment_fits}
 use Rattle.document_check.specs.Shown.{IsReadable}
 
 -- ---- logs can be tested

@@ -1,8 +1,8 @@
 -- Closed logs of a document that holds refute their sizes.
 use Rattle.std.proofs.Common.{◌≡◌, ℕ, Bool, true, false, Option, Some, None, List, [], ◌∷◌, sym, ◌∙◌, inl, inr}
 use Rattle.std.specs.Prelude.{IfSome}
-use Rattle.clause_base.specs.Literal.{Literal}
-use Rattle.letter_word.specs.declared.kinds.Kind.{Kind}
+use Rattle.propositional_logic.specs.Literal.{Literal}
+use Rattle.letters_and_lassos.specs.declared.kinds.Kind.{Kind}
 use Rattle.machine_model.specs.declared.problems.Problem.{Problem}
 use Rattle.machine_model.specs.Automaton.{IsAutomaton}
 use Rattle.machine_model.specs.Problem.{IsProblem, automaton_of}
@@ -12,7 +12,7 @@ use Rattle.annotation_encode.specs.Variables.{variables_of}
 use Rattle.refutation_log.specs.declared.entries.Entry.{Entry}
 use Rattle.refutation_log.specs.Log.{is_ended, IsClosed}
 use Rattle.size_laws.specs.Refuted.{ClosedLogsRefute}
-use Rattle.cert_text.specs.Parts.{LogPart}
+use Rattle.document_text.specs.Parts.{LogPart}
 use Rattle.document_check.specs.Facts.{Facts, problem_at}
 use Rattle.document_check.specs.Holds.{AllHold, IsAsWanted, IsLogOfSome, may_be_full}
 use Rattle.document_check.specs.Laws.{AllRefute, ClosedLogsRefuteSizes}

@@ -2,8 +2,8 @@
 use Rattle.std.proofs.Common.{◌≡◌, ℕ, suc, ◌+◌, ◌≤◌, List, [], ◌∷◌, ◌++◌, sym, ap, subst, ◌∙◌, arith, append_assoc}
 use Rattle.std.specs.Prelude.{All}
 use Rattle.std.proofs.lemmas.List.Elements.{All-push}
-use Rattle.letter_word.specs.declared.kinds.Side.{Side}
-use Rattle.cert_text.specs.declared.order.Place.{Place}
+use Rattle.letters_and_lassos.specs.declared.kinds.Side.{Side}
+use Rattle.document_text.specs.declared.order.Place.{Place}
 use Rattle.document_check.specs.Facts.{sizes_to}
 use Rattle.document_check.specs.Shown.{IsSize}
 

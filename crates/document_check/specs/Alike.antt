@@ -1,7 +1,7 @@
 -- What the test of documents sees of a text (this project's own): its names, and of each side the automaton and the signals. The problems'
 -- kinds, sizes and versions are the document's, and components are for the code alone.
 use Rattle.std.specs.Prelude.{◌≡◌, ℕ, Option, Some, None}
-use Rattle.letter_word.specs.declared.kinds.Side.{Side}
+use Rattle.letters_and_lassos.specs.declared.kinds.Side.{Side}
 use Rattle.machine_model.specs.Automaton.{AutomatonModel}
 use Rattle.machine_model.specs.Problem.{automaton_of}
 use Rattle.machine_model.specs.declared.problems.Problem.{Problem}

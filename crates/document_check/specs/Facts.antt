@@ -1,10 +1,10 @@
 -- What a document is checked against: the names of a text, and the problems of its two sides (this project's own).
 use Rattle.std.specs.Prelude.{◌==◌, ℕ, zero, suc, Option, Some, List, [], ◌∷◌, ◌++◌, min, option_map, if◌then◌else◌}
 use Rattle.std.specs.Option.{option_map_or}
-use Rattle.letter_word.specs.declared.kinds.Kind.{Kind}
-use Rattle.letter_word.specs.declared.kinds.Side.{Side}
-use Rattle.letter_word.specs.declared.kinds.Side.TheVariants.{System, Environment}
-use Rattle.letter_word.specs.Kinds.{other_kind}
+use Rattle.letters_and_lassos.specs.declared.kinds.Kind.{Kind}
+use Rattle.letters_and_lassos.specs.declared.kinds.Side.{Side}
+use Rattle.letters_and_lassos.specs.declared.kinds.Side.TheVariants.{System, Environment}
+use Rattle.letters_and_lassos.specs.Kinds.{other_kind}
 use Rattle.machine_model.specs.Automaton.{AutomatonModel}
 use Rattle.machine_model.specs.Components.{components_of}
 use Rattle.machine_model.specs.Problem.{automaton_of}
@@ -12,12 +12,12 @@ use Rattle.machine_model.specs.declared.counting.Counting.{Counting}
 use Rattle.machine_model.specs.declared.counting.Counting.TheVariants.{AllRejecting, ByComponent}
 use Rattle.machine_model.specs.declared.problems.Problem.{Problem}
 use Rattle.annotation_encode.specs.Count.{allowed_sizes}
-use Rattle.cert_text.specs.declared.documents.Verdict.{Verdict}
-use Rattle.cert_text.specs.declared.order.Order.{Order}
-use Rattle.cert_text.specs.declared.order.Order.TheVariants.{UpTo, AnyUpTo}
+use Rattle.document_text.specs.declared.documents.Verdict.{Verdict}
+use Rattle.document_text.specs.declared.order.Order.{Order}
+use Rattle.document_text.specs.declared.order.Order.TheVariants.{UpTo, AnyUpTo}
 use Rattle.circuit_names.specs.Names.{Names}
-use Rattle.cert_text.specs.declared.order.Place.{Place}
-use Rattle.cert_text.specs.Order.{machine_of, place}
+use Rattle.document_text.specs.declared.order.Place.{Place}
+use Rattle.document_text.specs.Order.{machine_of, place}
 
 -- The names of the inputs and outputs, and the problem of the system and of the environment, if it has one. Their kinds, sizes and
 -- what their numbers count aren't looked at: those are the document's.

@@ -2,9 +2,9 @@
 -- smallest of these lines is the first bad one. What a verdict says of the logs is tested last.
 use Rattle.std.specs.Prelude.{◌≡◌, ◌==◌, ℕ, ◌+◌, Bool, true, false, ◌&&◌, ◌||◌, Option, Some, None, List, [], ◌∷◌, length, nat_le, MatchOption, option_map, option_and_then, if◌then◌else◌}
 use Rattle.std.specs.Option.{option_or, option_map_or}
-use Rattle.letter_word.specs.declared.kinds.Kind.{Kind}
-use Rattle.letter_word.specs.declared.kinds.Side.{Side}
-use Rattle.letter_word.specs.declared.kinds.Side.TheVariants.{System, Environment}
+use Rattle.letters_and_lassos.specs.declared.kinds.Kind.{Kind}
+use Rattle.letters_and_lassos.specs.declared.kinds.Side.{Side}
+use Rattle.letters_and_lassos.specs.declared.kinds.Side.TheVariants.{System, Environment}
 use Rattle.machine_model.specs.declared.problems.Problem.{Problem}
 use Rattle.annotation_encode.specs.BaseClauses.{base_clauses}
 use Rattle.annotation_encode.specs.Count.{count_of}
@@ -16,18 +16,18 @@ use Rattle.log_checker.specs.declared.faults.LogFault.{LogFault}
 use Rattle.log_checker.specs.declared.faults.LogFault.TheVariants.{BadHint, NotFalsified, Repeated, NotClosed, AfterEnd, OverLimit, NoMemory}
 use Rattle.log_checker.specs.Faults.{IsLogFault}
 use Rattle.aiger_text.specs.CircuitFile.{File}
-use Rattle.cert_text.specs.declared.documents.Verdict.{Verdict}
-use Rattle.cert_text.specs.declared.header.Header.{Header}
-use Rattle.cert_text.specs.declared.reading.CircuitPart.{CircuitPart}
-use Rattle.cert_text.specs.declared.reading.CircuitPart.TheVariants.{Absent, Faulty, Stated}
-use Rattle.cert_text.specs.Parts.{LogPart}
-use Rattle.letter_word.specs.contracts.kinds.SidePartialEq.TheImpl.{ghosts as side_ghosts}
-use Rattle.cert_text.specs.Order.{order_of}
-use Rattle.cert_text.specs.Reading.{DocumentLines, Reads}
+use Rattle.document_text.specs.declared.documents.Verdict.{Verdict}
+use Rattle.document_text.specs.declared.header.Header.{Header}
+use Rattle.document_text.specs.declared.reading.CircuitPart.{CircuitPart}
+use Rattle.document_text.specs.declared.reading.CircuitPart.TheVariants.{Absent, Faulty, Stated}
+use Rattle.document_text.specs.Parts.{LogPart}
+use Rattle.letters_and_lassos.specs.contracts.kinds.SidePartialEq.TheImpl.{ghosts as side_ghosts}
+use Rattle.document_text.specs.Order.{order_of}
+use Rattle.document_text.specs.Reading.{DocumentLines, Reads}
 use Rattle.document_check.specs.declared.facts.Asked.{Asked}
 use Rattle.circuit_names.specs.Lines as names
 use Rattle.circuit_names.specs.Lines.{earliest}
-use Rattle.cert_text.specs.declared.order.Place.{Place}
+use Rattle.document_text.specs.declared.order.Place.{Place}
 use Rattle.document_check.specs.Facts.{Facts, names_in, problem_at, allowed_at, wanted_sizes, circuit_side}
 use Rattle.document_check.specs.Holds.{is_allowed, may_be_full, first_open, names_open}
 

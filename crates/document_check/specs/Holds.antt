@@ -1,10 +1,10 @@
 -- When a document holds for a text (this project's own).
 use Rattle.std.specs.Prelude.{◌≡◌, ℕ, ◌≤◌, ◌⊎◌, ⊤, Bool, true, false, not, Option, Some, None, List, [], ◌∷◌, map, IsTrue, IfSome, nat_le, is_some, if◌then◌else◌}
 use Rattle.std.specs.Option.{option_map_or}
-use Rattle.clause_base.specs.Literal.{Literal}
-use Rattle.letter_word.specs.declared.kinds.Kind.{Kind}
-use Rattle.letter_word.specs.declared.kinds.Side.{Side}
-use Rattle.letter_word.specs.declared.kinds.Side.TheVariants.{System, Environment}
+use Rattle.propositional_logic.specs.Literal.{Literal}
+use Rattle.letters_and_lassos.specs.declared.kinds.Kind.{Kind}
+use Rattle.letters_and_lassos.specs.declared.kinds.Side.{Side}
+use Rattle.letters_and_lassos.specs.declared.kinds.Side.TheVariants.{System, Environment}
 use Rattle.machine_model.specs.declared.problems.Problem.{Problem}
 use Rattle.annotation_encode.specs.BaseClauses.{base_clauses}
 use Rattle.annotation_encode.specs.Count.{count_of}
@@ -12,12 +12,12 @@ use Rattle.annotation_encode.specs.Variables.{variables_of}
 use Rattle.refutation_log.specs.declared.entries.Entry.{Entry}
 use Rattle.refutation_log.specs.Log.{is_ended, IsClosed, IsFull}
 use Rattle.aiger_text.specs.Circuit.{Circuit}
-use Rattle.cert_text.specs.declared.documents.Verdict.{Verdict}
-use Rattle.cert_text.specs.declared.documents.Verdict.TheVariants.{Machine, Unknown}
-use Rattle.cert_text.specs.Parts.{LogPart, Document}
-use Rattle.cert_text.specs.Order.{machine_of, named_of, order_of, place_of, verdict_of}
-use Rattle.cert_text.specs.contracts.documents.VerdictPartialEq.TheImpl.{ghosts as verdict_ghosts}
-use Rattle.cert_text.specs.declared.order.Place.{Place}
+use Rattle.document_text.specs.declared.documents.Verdict.{Verdict}
+use Rattle.document_text.specs.declared.documents.Verdict.TheVariants.{Machine, Unknown}
+use Rattle.document_text.specs.Parts.{LogPart, Document}
+use Rattle.document_text.specs.Order.{machine_of, named_of, order_of, place_of, verdict_of}
+use Rattle.document_text.specs.contracts.documents.VerdictPartialEq.TheImpl.{ghosts as verdict_ghosts}
+use Rattle.document_text.specs.declared.order.Place.{Place}
 use Rattle.circuit_names.specs.Names as names
 use Rattle.document_check.specs.Facts.{Facts, names_in, problem_at, allowed_at, for_side, wanted_sizes, circuit_side}
 

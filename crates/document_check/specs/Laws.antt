@@ -1,12 +1,12 @@
 -- Laws of documents and texts (this project's own).
 use Rattle.std.specs.Prelude.{◌≡◌, ℕ, ⊤, true, List, [], ◌∷◌, IfSome}
-use Rattle.letter_word.specs.declared.kinds.Kind.{Kind}
+use Rattle.letters_and_lassos.specs.declared.kinds.Kind.{Kind}
 use Rattle.machine_model.specs.Automaton.{IsAutomaton}
 use Rattle.machine_model.specs.Problem.{IsProblem, automaton_of}
 use Rattle.annotation_encode.specs.Laws.{HasNoAccepted}
 use Rattle.refutation_log.specs.Log.{is_ended}
-use Rattle.cert_text.specs.Parts.{LogPart, Document}
-use Rattle.cert_text.specs.States.{States}
+use Rattle.document_text.specs.Parts.{LogPart, Document}
+use Rattle.document_text.specs.States.{States}
 use Rattle.document_check.specs.Alike.{AreAlike}
 use Rattle.document_check.specs.Facts.{Facts, problem_at}
 use Rattle.document_check.specs.Holds.{HoldsFor}

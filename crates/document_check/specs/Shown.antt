@@ -5,9 +5,9 @@ use Rattle.machine_model.specs.declared.problems.Problem.{Problem}
 use Rattle.machine_model.specs.Counting.{CountsBy}
 use Rattle.machine_model.specs.Problem.{IsProblem, automaton_of, parts_of}
 use Rattle.refutation_log.specs.Text.{IsWritable}
-use Rattle.cert_text.specs.Parts.{LogPart}
+use Rattle.document_text.specs.Parts.{LogPart}
 use Rattle.document_check.specs.declared.facts.TextFacts.{TextFacts}
-use Rattle.cert_text.specs.declared.order.Place.{Place}
+use Rattle.document_text.specs.declared.order.Place.{Place}
 use Rattle.document_check.specs.Facts.{Facts}
 
 abbrev pub facts_of : TextFacts → Facts

@@ -1,8 +1,8 @@
 //! A document against a text, as a whole.
 ghost use Rattle.std.specs.Prelude.{◌≡◌, ◌+◌, ◌<◌, ◌≤◌, ◌^◌, ℕ, All, IfOk, IsErrOf};
-ghost use Rattle.cert_text.specs.declared.documents.DocumentFault.TheVariants.{BadLine};
-ghost use Rattle.cert_text.specs.Reading.{Reads};
-ghost use Rattle.cert_text.specs.States.{States};
+ghost use Rattle.document_text.specs.declared.documents.DocumentFault.TheVariants.{BadLine};
+ghost use Rattle.document_text.specs.Reading.{Reads};
+ghost use Rattle.document_text.specs.States.{States};
 ghost use Rattle.document_check.specs.Holds.{HoldsFor, is_allowed as number_allowed};
 ghost use Rattle.document_check.specs.FirstBad.{end_line as line_of_end, environment_sizes, Fails, FailsIn, IsFirstBadFor, last_line as line_of_last, line_behind as line_behind_logs, LogsFailIn, number_line as line_of_number, system_sizes};
 ghost use Rattle.document_check.specs.Shown.{AreFacts, facts_of, IsReadable};
@@ -10,9 +10,11 @@ ghost use Rattle.document_check.specs.Shown.{AreFacts, facts_of, IsReadable};
 use crate::circuits::circuit_line;
 use crate::facts::{Asked, TextFacts, asked_in, for_side, wanted_sizes};
 use crate::logs::{Wanted, logs_line, may_be_full, names_open};
-use cert_text::{Document, DocumentFault, DocumentLines, LogPart, Verdict, order_of, read_lines};
 use circuit_names::earliest;
-use letter_word::Side;
+use document_text::{
+    Document, DocumentFault, DocumentLines, LogPart, Verdict, order_of, read_lines,
+};
+use letters_and_lassos::Side;
 use std::alloc::{AllocError, Global};
 use std::thread::Threads;
 

@@ -6,8 +6,8 @@ ghost use Rattle.document_check.specs.Shown.{facts_of};
 
 use crate::facts::TextFacts;
 use aiger_text::CircuitFile;
-use cert_text::{CircuitPart, Header, Verdict};
-use letter_word::Side;
+use document_text::{CircuitPart, Header, Verdict};
+use letters_and_lassos::Side;
 
 /// The line at which a document's circuit fails for a text, apart from its own fault and from missing names.
 pub fn circuit_line(

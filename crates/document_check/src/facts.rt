@@ -12,12 +12,12 @@ ghost use Rattle.document_check.specs.FirstBad.{asked_in as asked_of};
 ghost use Rattle.document_check.specs.Shown.{AreFacts, facts_of, IsProblemAt, IsSize};
 
 use annotation_encode::allowed_sizes;
-use cert_text::{Header, Order, Place, Verdict};
 use circuit_names::TextNames;
-use letter_word::{Kind, Side};
+use document_text::{Header, Order, Place, Verdict};
+use letters_and_lassos::{Kind, Side};
 use machine_model::{Counting, Problem};
+use names_and_numbers::Name;
 use std::alloc::{AllocError, Global};
-use text_base::Name;
 
 /// What a document is checked against. The kinds, sizes and versions of the problems aren't looked at: a document has its own.
 /// Their components are at hand for a document that counts by component.

@@ -1,7 +1,7 @@
 //! Documents checked against a text: whether their logs stand over the base clauses of this very text, and what else must fit.
 //!
 //! `check_document` gives the document that bytes state, where it holds for the text, or the first line that fails. Its yes says of
-//! each log that it is legal and closed, or full where that is allowed. Stands on cert_text, annotation_encode and log_checker.
+//! each log that it is legal and closed, or full where that is allowed. Stands on document_text, annotation_encode and log_checker.
 #![tactic(auto)]
 
 mod check;

@@ -10,8 +10,8 @@ ghost use Rattle.document_check.specs.Shown.{AreFacts, facts_of, IsReadable, IsS
 
 use crate::facts::TextFacts;
 use annotation_encode::{count, encode, variables};
-use cert_text::{LogPart, Place, Verdict};
-use letter_word::Kind;
+use document_text::{LogPart, Place, Verdict};
+use letters_and_lassos::Kind;
 use log_checker::{LogFault, check_open_split};
 use machine_model::Problem;
 use refutation_log::Entry;

@@ -1,7 +1,7 @@
 -- What a reply answers.
 use Rattle.std.proofs.Common.{◌≡◌, ℕ, Bool, List, None, ◌∙◌}
 use Rattle.text_limits.specs.declared.TheConstants.{SMALL_LIMITS}
-use Rattle.letter_word.specs.Word.{Word}
+use Rattle.letters_and_lassos.specs.Word.{Word}
 use Rattle.ltl_formula.specs.Nodes.{tree_at}
 use Rattle.ltl_formula.specs.Truth.{holds}
 use Rattle.tlsf_expand.specs.FlatText.{FlatText}

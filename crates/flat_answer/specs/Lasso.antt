@@ -1,7 +1,7 @@
 -- The answer of `lasso` to a text and a word (this project's own). No kind is given, so those that the text names count.
 use Rattle.std.specs.Prelude.{◌≡◌, ℕ, Bool, true, false, List, None, codes}
 use Rattle.text_limits.specs.declared.TheConstants.{SMALL_LIMITS}
-use Rattle.letter_word.specs.Word.{Word}
+use Rattle.letters_and_lassos.specs.Word.{Word}
 use Rattle.spec_faults.specs.declared.code.SpecCode.{SpecCode}
 use Rattle.tlsf_syntax.specs.Text.{Text}
 use Rattle.tlsf_reader.specs.Reads.{Reads}

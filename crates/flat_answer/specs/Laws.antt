@@ -1,7 +1,7 @@
 -- Laws of the answers, by which each comes exactly where it is due.
 use Rattle.std.specs.Prelude.{◌≡◌, ℕ, List, [], ◌∷◌, None, Contains}
 use Rattle.text_limits.specs.declared.TheConstants.{SMALL_LIMITS}
-use Rattle.letter_word.specs.Word.{Word}
+use Rattle.letters_and_lassos.specs.Word.{Word}
 use Rattle.spec_faults.specs.declared.code.SpecCode.{SpecCode}
 use Rattle.tlsf_syntax.specs.Text.{Text}
 use Rattle.tlsf_reader.specs.Reads.{Reads}

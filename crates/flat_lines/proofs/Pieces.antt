@@ -1,8 +1,8 @@
 -- What a sink gained by the pieces of a list, one after another.
 use Rattle.std.proofs.Common.{◌≡◌, ℕ, ◌+◌, ◌<◌, List, [], ◌∷◌, ◌++◌, length, take, drop, flat_map, Option, Result, Ok, Err, OnErr, arith, refl, sym, ap, ◌∙◌, take-append-drop, slice_index_or}
 use Rattle.std.proofs.lemmas.Grind.{common_steps, flat_map-append}
-use Rattle.outside_edge.specs.Bytes.{Gains, GainsFront}
-use Rattle.outside_edge.proofs.GainLemmas.{front_more, gains_nothing}
+use Rattle.input_output.specs.Bytes.{Gains, GainsFront}
+use Rattle.input_output.proofs.GainLemmas.{front_more, gains_nothing}
 
 -- nothing is a front of what is to be written
 pub nothing_yet : {T E : Type 0} (r : Result T E) (a : Option (List ℕ)) (bytes : List ℕ) → OnErr r (GainsFront a a bytes)

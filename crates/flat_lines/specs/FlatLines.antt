@@ -1,8 +1,8 @@
 -- A flat text written out (this project's own): its kind, the names of its signals, and a line for each formula of each
 -- section.
 use Rattle.std.specs.Prelude.{ℕ, Bool, List, [], ◌∷◌, ◌++◌, All, codes, flat_map, length, map, if◌then◌else◌}
-use Rattle.letter_word.specs.declared.kinds.Kind.{Kind}
-use Rattle.letter_word.specs.Kinds.{kind_word}
+use Rattle.letters_and_lassos.specs.declared.kinds.Kind.{Kind}
+use Rattle.letters_and_lassos.specs.Kinds.{kind_word}
 use Rattle.ltl_formula.specs.declared.nodes.Node.{Node}
 use Rattle.ltl_formula.specs.Nodes.{IsNodeList, Stands, tree_at}
 use Rattle.ltl_formula.specs.ListSignals.{HasSignalsBelow}

@@ -1,7 +1,7 @@
 -- Laws of written flat texts.
 use Rattle.std.specs.Prelude.{◌≡◌, Option, Some}
 use Rattle.text_limits.specs.declared.Limits.{Limits}
-use Rattle.letter_word.specs.declared.kinds.Kind.{Kind}
+use Rattle.letters_and_lassos.specs.declared.kinds.Kind.{Kind}
 use Rattle.tlsf_syntax.specs.Text.{Text}
 use Rattle.tlsf_expand.specs.Expansion.{expanded}
 use Rattle.tlsf_expand.specs.FlatText.{FlatText, flat_in}

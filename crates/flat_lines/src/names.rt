@@ -4,8 +4,8 @@ ghost use Rattle.std.specs.Prelude.{◌≡◌, ◌++◌, ◌∷◌, flat_map, If
 ghost use Rattle.flat_lines.specs.FlatLines.{all_names, names_line};
 ghost use Rattle.tlsf_expand.specs.FlatText.{spec_seen};
 
+use names_and_numbers::Name;
 use std::alloc::{AllocError, Global};
-use text_base::Name;
 use tlsf_expand::Spec;
 
 /// The names of all signals, by their numbers: those of the inputs, and then those of the outputs.

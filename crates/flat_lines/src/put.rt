@@ -1,17 +1,17 @@
 ghost use Rattle.std.specs.Prelude.{◌≡◌, ◌++◌, ◌∷◌, [], All, flat_map, IfOk, OnOk, OnErr, IsErrOf};
 ghost use Rattle.flat_lines.specs.FlatLines.{CanBeWritten, LineStands, all_names, ended_line, flat_bytes, kind_line, line_of};
 ghost use Rattle.ltl_formula.specs.Nodes.{IsNodeList};
-ghost use Rattle.outside_edge.specs.Bytes.{Gains, GainsFront};
-ghost use Rattle.outside_edge.specs.Faults.{Rose};
+ghost use Rattle.input_output.specs.Bytes.{Gains, GainsFront};
+ghost use Rattle.input_output.specs.Faults.{Rose};
 ghost use Rattle.tlsf_expand.specs.FlatText.{spec_seen};
 
 use crate::lines::{Line, lines_in, section_word};
 use crate::names::{all_names, write_names};
-use letter_word::Kind;
+use input_output::{Sink, SinkFault};
+use letters_and_lassos::Kind;
 use ltl_formula::write_formula;
-use outside_edge::{Sink, SinkFault};
+use names_and_numbers::Name;
 use std::alloc::{AllocError, Global};
-use text_base::Name;
 use tlsf_expand::Spec;
 
 /// Writes a flat text, each line with its end by one call: the kind, with `strict` behind it for strict semantics; the names

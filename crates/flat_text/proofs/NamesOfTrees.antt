@@ -7,8 +7,8 @@ use Rattle.std.proofs.lemmas.Bool.{false≢true, leb-true}
 use Rattle.std.proofs.lemmas.List.Folds.{list_all-append}
 use Rattle.std.proofs.lemmas.List.Elements.{All-append, All-cons, All-nil}
 use Rattle.text_limits.specs.declared.Limits.{Limits}
-use Rattle.letter_word.specs.declared.kinds.Kind.{Kind}
-use Rattle.text_base.proofs.NumeralLemmas.{decimal_is_numeral, digits_are}
+use Rattle.letters_and_lassos.specs.declared.kinds.Kind.{Kind}
+use Rattle.names_and_numbers.proofs.NumeralLemmas.{decimal_is_numeral, digits_are}
 use Rattle.tlsf_tokens.specs.Words.{is_blank}
 use Rattle.spec_faults.specs.declared.code.SpecCode.{SpecCode}
 use Rattle.spec_faults.specs.declared.code.SpecCode.TheVariants.{TooManySignals}

@@ -3,7 +3,7 @@ use Rattle.std.proofs.Common.{◌≡◌, ℕ, List, Option, None, Some, refl, sy
 use Rattle.std.specs.Prelude.{option_map}
 use Rattle.std.proofs.lemmas.Option.{same_Some}
 use Rattle.text_limits.specs.declared.Limits.{Limits}
-use Rattle.letter_word.specs.declared.kinds.Kind.{Kind}
+use Rattle.letters_and_lassos.specs.declared.kinds.Kind.{Kind}
 use Rattle.ltl_formula.specs.declared.nodes.FormulaId.{FormulaId}
 use Rattle.tlsf_values.specs.declared.work.Work.{Work}
 use Rattle.tlsf_values.specs.Outcomes.{Outcome, fails, gives, go_on}

@@ -1,7 +1,7 @@
 -- A text has at most one first fault.
 use Rattle.std.proofs.Common.{◌≡◌, ◌<◌, ◌≤◌, ℕ, List, [], length, Option, None, Some, refl, sym, ◌∙◌, ap, subst, arith}
 use Rattle.text_limits.specs.declared.Limits.{Limits}
-use Rattle.letter_word.specs.declared.kinds.Kind.{Kind}
+use Rattle.letters_and_lassos.specs.declared.kinds.Kind.{Kind}
 use Rattle.spec_faults.specs.declared.code.SpecCode.{SpecCode}
 use Rattle.tlsf_syntax.specs.Nesting.{first_deep}
 use Rattle.tlsf_syntax.specs.Tree.{Written}

@@ -1,7 +1,7 @@
 -- The answer of the call, from those of reading and of expansion.
 use Rattle.std.proofs.Common.{◌≡◌, ℕ, List, Option, sym, ap, subst, ◌∙◌, Result, Ok, Err, IfOk}
 use Rattle.text_limits.specs.declared.Limits.{Limits}
-use Rattle.letter_word.specs.declared.kinds.Kind.{Kind}
+use Rattle.letters_and_lassos.specs.declared.kinds.Kind.{Kind}
 use Rattle.spec_faults.specs.declared.code.SpecCode.{SpecCode}
 use Rattle.spec_faults.specs.declared.code.SpecFault.{SpecFault}
 use Rattle.spec_faults.specs.declared.code.SpecFault.TheVariants.{At}

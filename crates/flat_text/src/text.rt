@@ -8,7 +8,7 @@ ghost use Rattle.tlsf_expand.specs.FlatText.{spec_seen};
 ghost use Rattle.spec_faults.specs.declared.code.SpecCode.{SpecCode as Code};
 ghost use Rattle.spec_faults.specs.declared.code.SpecFault.TheVariants.{At};
 
-use letter_word::Kind;
+use letters_and_lassos::Kind;
 use spec_faults::SpecFault;
 use std::alloc::Global;
 use text_limits::Limits;

@@ -5,7 +5,7 @@ use crate::literals::Literals;
 use crate::stops::{Meter, Stop};
 use crate::tables::{at, is_in, mark};
 use indexmap::IndexSet;
-use letter_word::{Kind, Side};
+use letters_and_lassos::{Kind, Side};
 use machine_model::Automaton;
 use std::alloc::{AllocError, Global};
 

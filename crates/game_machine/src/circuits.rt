@@ -4,8 +4,8 @@ use crate::class_machines::ClassMachine;
 use crate::functions::{Bit, Functions, code_bits, signals_of};
 use aiger_text::{Circuit, CircuitFault, read_circuit};
 use game_arena::{Meter, Stop};
+use names_and_numbers::{Name, push_number};
 use std::alloc::{AllocError, Global};
-use text_base::{Name, push_number};
 
 /// The literals of a circuit's functions: of the next state's bits, and of the signals that are written.
 #[derive(Drop)]

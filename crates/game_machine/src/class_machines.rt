@@ -4,7 +4,7 @@ use game_arena::tables::at;
 use game_arena::{Literals, Player, Stop};
 use game_moves::Reading;
 use indexmap::IndexSet;
-use letter_word::Kind;
+use letters_and_lassos::Kind;
 use safety_game::{Win, WinNode};
 use std::alloc::{AllocError, Global};
 

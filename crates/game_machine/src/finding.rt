@@ -5,12 +5,12 @@ use crate::making::machine_of;
 use crate::sides::Sides;
 use aiger_text::Circuit;
 use game_arena::{Arena, Meter, Player, Stop};
-use letter_word::{Kind, Side};
+use letters_and_lassos::{Kind, Side};
 use machine_model::Automaton;
+use names_and_numbers::Name;
 use safety_game::{Budget, Win};
 use std::alloc::{AllocError, Global};
 use std::thread::Threads;
-use text_base::Name;
 
 /// What is played for: the signals by their names, the kind of the system's machines, and for each side that plays an automaton that
 /// accepts what the side has to keep away from. In its letters the inputs come before the outputs; there are at most 32 signals.

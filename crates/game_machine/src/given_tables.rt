@@ -4,10 +4,10 @@ use crate::circuits::circuit_of;
 use crate::class_machines::{ClassMachine, Move};
 use aiger_text::Circuit;
 use game_arena::{Literals, Player, Stop};
-use letter_word::{Kind, Side};
+use letters_and_lassos::{Kind, Side};
 use machine_model::Row;
+use names_and_numbers::Name;
 use std::alloc::{AllocError, Global};
-use text_base::Name;
 
 /// A machine as a table. The start is state 0.
 #[derive(Clone, Copy)]

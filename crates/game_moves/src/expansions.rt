@@ -7,7 +7,7 @@ use crate::write_splits::{least_answers, write_classes};
 use game_arena::tables::{at, is_in, mark};
 use game_arena::{Arena, Literals, Meter, Stop};
 use indexmap::IndexSet;
-use letter_word::Kind;
+use letters_and_lassos::Kind;
 use std::alloc::{AllocError, Global};
 
 /// An answer: what is written, and the positions of which one comes next.

@@ -1,7 +1,7 @@
 //! Headings of rows.
 
 use aiger_text::cut_at;
-use text_base::{Cursor, read_number};
+use names_and_numbers::{Cursor, read_number};
 
 /// What is said of a text: `==== STEPS GATES SIDES SLIP NAME`.
 #[derive(Clone, Copy)]

@@ -3,7 +3,7 @@
 use crate::headings::{Heading, Sides, Slip};
 use crate::tests::passes;
 use game_machine::{Budget, Contest, Found, Outcome, find};
-use letter_word::Side;
+use letters_and_lassos::Side;
 use machine_model::{Automaton, Counts, Edge, Problem};
 use spec_problems::{TextProblems, text_problems};
 use std::alloc::{AllocError, Global};

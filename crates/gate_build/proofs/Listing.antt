@@ -5,11 +5,11 @@ use Rattle.std.proofs.lemmas.Bool.{cases_eq, cases_lt}
 use Rattle.std.proofs.lemmas.List.{get_or_append_left, get_or_default, get_or_push, length_push}
 use Rattle.std.proofs.lemmas.List.Elements.{All-push}
 use Rattle.std.proofs.lemmas.Nat.{pow_pos}
-use Rattle.letter_word.specs.declared.kinds.Side.{Side}
-use Rattle.letter_word.specs.declared.kinds.Side.TheVariants.{System}
-use Rattle.letter_word.specs.declared.letters.Letter.{Letter}
-use Rattle.letter_word.specs.Word.{IsLassoOver, Word, after, lasso_len, letter_at, no_signals}
-use Rattle.letter_word.proofs.Positions.{after-own, after-suc, after_within}
+use Rattle.letters_and_lassos.specs.declared.kinds.Side.{Side}
+use Rattle.letters_and_lassos.specs.declared.kinds.Side.TheVariants.{System}
+use Rattle.letters_and_lassos.specs.declared.letters.Letter.{Letter}
+use Rattle.letters_and_lassos.specs.Word.{IsLassoOver, Word, after, lasso_len, letter_at, no_signals}
+use Rattle.letters_and_lassos.proofs.Positions.{after-own, after-suc, after_within}
 use Rattle.machine_model.specs.Machine.{IsMachine, MachineModel, next_of, size_of}
 use Rattle.machine_model.specs.Run.{IsRunLasso, read_lasso, read_part}
 use Rattle.machine_model.specs.Course.{read_at, state_after}

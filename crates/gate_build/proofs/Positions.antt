@@ -4,14 +4,14 @@ use Rattle.std.specs.Prelude.{map}
 use Rattle.std.proofs.lemmas.Bool.{cases_lt, cond-true, cond_both, leb-true, lt-ltb}
 use Rattle.std.proofs.lemmas.Nat.{div-mul-add, mod-mul-add, mul-add-lt, pow-add}
 use Rattle.std.proofs.lemmas.List.{length-map, get_or-map, get_or_append_left, get_or-append_right}
-use Rattle.letter_word.specs.Signals.{has}
-use Rattle.letter_word.proofs.Bits.{number_of-lt, has-number_of, same_number}
+use Rattle.letters_and_lassos.specs.Signals.{has}
+use Rattle.letters_and_lassos.proofs.Bits.{number_of-lt, has-number_of, same_number}
 use Rattle.machine_model.specs.Machine.{MachineModel, next_of, size_of, writes_of}
 use Rattle.aiger_text.specs.declared.circuits.Latch.{Latch}
 use Rattle.aiger_text.specs.declared.circuits.Gate.{Gate}
 use Rattle.aiger_text.specs.Circuit.{Circuit, GatesAgree, Valuation, literal_value}
 use Rattle.aiger_text.proofs.Bits.{has-div, has-mod}
-use Rattle.letter_word.specs.Bits.{number_of}
+use Rattle.letters_and_lassos.specs.Bits.{number_of}
 use Rattle.aiger_text.proofs.Gates.{no_gate}
 use Rattle.aiger_text.proofs.Putting.{no_latch}
 use Rattle.gate_build.specs.declared.gates.Operands.{Operands}

@@ -6,13 +6,13 @@ use Rattle.std.proofs.Math.Nat.{div-lt_iff_lt-mul, mod-lt, mul_comm}
 use Rattle.std.proofs.lemmas.Nat.{pow-add, pow_pos}
 use Rattle.std.proofs.lemmas.List.{get_or-map, get_or_default, length-map}
 use Rattle.std.proofs.lemmas.List.FromFn.{get_or-map-range_with_len, get_or-range_with_len, length-map-range_with_len, length-range_with_len}
-use Rattle.letter_word.specs.declared.kinds.Side.{Side}
-use Rattle.letter_word.specs.declared.kinds.Side.TheVariants.{System, Environment}
-use Rattle.letter_word.specs.declared.letters.Letter.{Letter}
-use Rattle.letter_word.specs.Signals.{has}
-use Rattle.letter_word.specs.Word.{Word, IsLassoOver, after, lasso_len, letter_at, next}
-use Rattle.letter_word.proofs.Positions.{after-own, after-suc, after_within, letter_below, next_within}
-use Rattle.letter_word.proofs.Bits.{number_of-lt, has-number_of, has-none, same_number}
+use Rattle.letters_and_lassos.specs.declared.kinds.Side.{Side}
+use Rattle.letters_and_lassos.specs.declared.kinds.Side.TheVariants.{System, Environment}
+use Rattle.letters_and_lassos.specs.declared.letters.Letter.{Letter}
+use Rattle.letters_and_lassos.specs.Signals.{has}
+use Rattle.letters_and_lassos.specs.Word.{Word, IsLassoOver, after, lasso_len, letter_at, next}
+use Rattle.letters_and_lassos.proofs.Positions.{after-own, after-suc, after_within, letter_below, next_within}
+use Rattle.letters_and_lassos.proofs.Bits.{number_of-lt, has-number_of, has-none, same_number}
 use Rattle.machine_model.specs.Machine.{MachineModel, IsMachine, next_of, size_of, writes_of}
 use Rattle.machine_model.specs.Run.{IsRunLasso, read_part, written_part}
 use Rattle.machine_model.specs.Laws.{StaysWithin}
@@ -22,7 +22,7 @@ use Rattle.aiger_text.specs.declared.circuits.Latch.{Latch}
 use Rattle.aiger_text.specs.Circuit.{Circuit, IsCircuitRun, Valuation, first_read, first_written, latch_values, literal_value}
 use Rattle.aiger_text.specs.CircuitType.{IsOrder}
 use Rattle.aiger_text.proofs.Bits.{bits_of, get_or-bits_of, has-div, has-mod, length-bits_of}
-use Rattle.letter_word.specs.Bits.{number_of}
+use Rattle.letters_and_lassos.specs.Bits.{number_of}
 use Rattle.aiger_text.proofs.Orders.{order_of_sorted}
 use Rattle.aiger_text.proofs.Putting.{no_latch}
 use Rattle.aiger_text.proofs.Valuations.{HasValuation, valuation_of}

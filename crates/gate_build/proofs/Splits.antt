@@ -5,7 +5,7 @@ use Rattle.std.proofs.Math.Nat.{pow-suc, mul_comm}
 use Rattle.std.proofs.Math.Seq.{drop-length}
 use Rattle.std.proofs.lemmas.Nat.{pow_pos}
 use Rattle.aiger_text.specs.Circuit.{Valuation, literal_value}
-use Rattle.letter_word.specs.Bits.{number_of}
+use Rattle.letters_and_lassos.specs.Bits.{number_of}
 use Rattle.gate_build.specs.declared.gates.Operands.{Operands}
 use Rattle.gate_build.specs.Gates.{Built, ite_of, split_of}
 use Rattle.gate_build.proofs.Meaning.{Agree, AreOrdered, IsGood, agree_before, good_ite, good_kept, good_then, still_means, still_within}

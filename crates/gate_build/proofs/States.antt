@@ -2,19 +2,19 @@
 use Rattle.std.proofs.Common.{◌≡◌, ℕ, ◌^◌, ◌<◌, ◌≤◌, Bool, false, List, [], length, get_or, refl, sym, ap, subst, ◌∙◌, arith}
 use Rattle.std.specs.Prelude.{map, Contains}
 use Rattle.std.proofs.lemmas.List.{ext_get_or, get_or-map, length-map}
-use Rattle.letter_word.specs.declared.kinds.Kind.{Kind}
-use Rattle.letter_word.specs.declared.kinds.Kind.TheVariants.{Mealy, Moore}
-use Rattle.letter_word.specs.declared.kinds.Side.TheVariants.{System}
-use Rattle.letter_word.specs.Signals.{has}
-use Rattle.letter_word.specs.Word.{Word, lasso_len, letter_at}
-use Rattle.letter_word.proofs.Bits.{number_of-lt, has-number_of, same_number}
+use Rattle.letters_and_lassos.specs.declared.kinds.Kind.{Kind}
+use Rattle.letters_and_lassos.specs.declared.kinds.Kind.TheVariants.{Mealy, Moore}
+use Rattle.letters_and_lassos.specs.declared.kinds.Side.TheVariants.{System}
+use Rattle.letters_and_lassos.specs.Signals.{has}
+use Rattle.letters_and_lassos.specs.Word.{Word, lasso_len, letter_at}
+use Rattle.letters_and_lassos.proofs.Bits.{number_of-lt, has-number_of, same_number}
 use Rattle.machine_model.specs.Machine.{MachineModel, IsMachine, size_of, writes_of}
 use Rattle.machine_model.specs.Run.{read_part}
 use Rattle.machine_model.proofs.Determined.{stays_within}
 use Rattle.aiger_text.specs.declared.circuits.Latch.{Latch}
 use Rattle.aiger_text.specs.Circuit.{Circuit, HasStates, IsCircuitOfKind, IsCircuitRun, IsMooreCircuit, Occurs, Valuation, latch_values, literal_value}
 use Rattle.aiger_text.proofs.Bits.{get_or-bits_of, length-bits_of}
-use Rattle.letter_word.specs.Bits.{number_of}
+use Rattle.letters_and_lassos.specs.Bits.{number_of}
 use Rattle.aiger_text.proofs.Putting.{no_latch}
 use Rattle.gate_build.specs.Laws.{HasTheStatesOf, IsMet, MeetsStates, code_of}
 use Rattle.gate_build.specs.Table.{circuit_of, latches_of}

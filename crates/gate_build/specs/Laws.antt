@@ -1,10 +1,10 @@
 -- What the circuit of a machine does (this project's own; runs of machines and of circuits are of textbooks and of AIGER 1.9).
 use Rattle.std.specs.Prelude.{◌≡◌, ◌≢◌, ℕ, ◌<◌, ◌≤◌, ◌↔◌, Bool, List, All, Contains, length, map, slice_index}
 use Rattle.std.specs.List.{range_with_len}
-use Rattle.letter_word.specs.declared.kinds.Side.{Side}
-use Rattle.letter_word.specs.declared.kinds.Side.TheVariants.{System}
-use Rattle.letter_word.specs.Word.{Word, lasso_len}
-use Rattle.letter_word.specs.Signals.{has}
+use Rattle.letters_and_lassos.specs.declared.kinds.Side.{Side}
+use Rattle.letters_and_lassos.specs.declared.kinds.Side.TheVariants.{System}
+use Rattle.letters_and_lassos.specs.Word.{Word, lasso_len}
+use Rattle.letters_and_lassos.specs.Signals.{has}
 use Rattle.machine_model.specs.Accepts.{SideAccepts}
 use Rattle.machine_model.specs.Machine.{IsMachine, MachineModel, size_of}
 use Rattle.machine_model.specs.Problem.{IsMachineOf, automaton_of, sized}

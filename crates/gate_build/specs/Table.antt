@@ -1,7 +1,7 @@
 -- The circuit of a machine's table (this project's own; AIGER 1.9).
 use Rattle.std.specs.Prelude.{ℕ, zero, suc, ◌+◌, ◌*◌, ◌/◌, ◌%◌, ◌^◌, Bool, false, nat_le, nat_lt, Some, List, [], ◌∷◌, ◌++◌, length, map, slice_index, slice_index_or, if◌then◌else◌}
 use Rattle.std.specs.List.{range_with_len}
-use Rattle.letter_word.specs.Signals.{has}
+use Rattle.letters_and_lassos.specs.Signals.{has}
 use Rattle.machine_model.specs.Machine.{MachineModel, next_of, size_of, writes_of}
 use Rattle.aiger_text.specs.declared.circuits.Latch.{Latch}
 use Rattle.aiger_text.specs.declared.circuits.Gate.{Gate}

@@ -13,8 +13,8 @@ use crate::tables::{Bit, latches_for, split};
 use aiger_text::{Circuit, Gate, Latch};
 use indexmap::IndexSet;
 use machine_model::Machine;
+use names_and_numbers::Name;
 use std::alloc::{AllocError, Global};
-use text_base::Name;
 
 /// The circuit of a machine of at most 8 states, 8 read and 8 written signals, whose inputs and outputs have these names. Its latches are the bits of
 /// the machine's state, and its runs are the machine's. It takes time linear in the rows, a row for each code and each

@@ -6,7 +6,7 @@ ghost use Rattle.gate_build.specs.Bits.{bit_of};
 
 use crate::gates::{Operands, ite};
 use indexmap::IndexSet;
-use letter_word::Letter;
+use letters_and_lassos::Letter;
 use machine_model::Machine;
 use std::alloc::AllocError;
 

@@ -7,10 +7,10 @@ use Rattle.std.proofs.lemmas.List.Elements.{All-cons, All-nil}
 use Rattle.std.proofs.lemmas.Nat.{mod_below, mul-add-lt, shr_below}
 use Rattle.std.proofs.lemmas.Nat.Bits.{bit_at_cat_low, bit_at_cat_high, bit_at-lt, same_from_bits}
 use Rattle.std.proofs.Math.Seq.{get_or-append_right}
-use Rattle.letter_word.specs.declared.letters.Letter.{Letter}
-use Rattle.letter_word.specs.Signals.{has}
-use Rattle.letter_word.specs.Word.{Word, HasRing, IsLassoOver, SameWord, lasso_len, next, after, letter_at, nth_letter, no_signals}
-use Rattle.letter_word.proofs.Positions.{next-last, next-inner, after_within, after-suc, first_position}
+use Rattle.letters_and_lassos.specs.declared.letters.Letter.{Letter}
+use Rattle.letters_and_lassos.specs.Signals.{has}
+use Rattle.letters_and_lassos.specs.Word.{Word, HasRing, IsLassoOver, SameWord, lasso_len, next, after, letter_at, nth_letter, no_signals}
+use Rattle.letters_and_lassos.proofs.Positions.{next-last, next-inner, after_within, after-suc, first_position}
 use Rattle.kind_conversion.specs.declared.shifts.Shift.{Shift}
 use Rattle.kind_conversion.specs.declared.shifts.Shift.TheVariants.{Inputs, Outputs}
 use Rattle.kind_conversion.specs.Shifts.{is_shifted}

@@ -1,9 +1,9 @@
 -- Truth of shifted forms.
 use Rattle.std.proofs.Common.{◌≡◌, ℕ, ◌<◌, Bool, true, false, cond, refl, sym, ap, ◌∙◌, arith}
 use Rattle.std.specs.Prelude.{not}
-use Rattle.letter_word.specs.Signals.{has}
-use Rattle.letter_word.specs.Word.{Word, HasRing, lasso_len, next, after, letter_at}
-use Rattle.letter_word.proofs.Positions.{next_within, after_within}
+use Rattle.letters_and_lassos.specs.Signals.{has}
+use Rattle.letters_and_lassos.specs.Word.{Word, HasRing, lasso_len, next, after, letter_at}
+use Rattle.letters_and_lassos.proofs.Positions.{next_within, after_within}
 use Rattle.ltl_formula.specs.Tree.{Tree}
 use Rattle.ltl_formula.specs.Tree.Tree.{truth, falsity, signal, negation, next_time, finally, globally, conjunction, disjunction, implication, equivalence, until, release, weak_until}
 use Rattle.ltl_formula.specs.Truth.{until_at, release_at, holds}

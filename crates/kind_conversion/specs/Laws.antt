@@ -1,5 +1,5 @@
 use Rattle.std.specs.Prelude.{◌≡◌, ℕ, ◌<◌, ◌≤◌, List, Some, length}
-use Rattle.letter_word.specs.Word.{Word, HasRing, IsLassoOver, SameWord, lasso_len}
+use Rattle.letters_and_lassos.specs.Word.{Word, HasRing, IsLassoOver, SameWord, lasso_len}
 use Rattle.ltl_formula.specs.declared.nodes.FormulaId.{FormulaId}
 use Rattle.ltl_formula.specs.declared.nodes.Node.{Node}
 use Rattle.ltl_formula.specs.ListSignals.{KeepsSignals}

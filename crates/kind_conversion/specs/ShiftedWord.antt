@@ -1,7 +1,7 @@
 use Rattle.std.specs.Prelude.{◌≡◌, ℕ, suc, ◌+◌, ◌*◌, ◌/◌, ◌%◌, ◌^◌, List, [], ◌∷◌, slice_index_or, if◌then◌else◌}
-use Rattle.letter_word.specs.declared.letters.Letter.{Letter}
-use Rattle.letter_word.specs.Signals.{has}
-use Rattle.letter_word.specs.Word.{Word, nth_letter, no_signals}
+use Rattle.letters_and_lassos.specs.declared.letters.Letter.{Letter}
+use Rattle.letters_and_lassos.specs.Signals.{has}
+use Rattle.letters_and_lassos.specs.Word.{Word, nth_letter, no_signals}
 use Rattle.kind_conversion.specs.declared.shifts.Shift.{Shift}
 use Rattle.kind_conversion.specs.declared.shifts.Shift.TheVariants.{Inputs, Outputs}
 use Rattle.kind_conversion.specs.Shifts.{is_shifted}

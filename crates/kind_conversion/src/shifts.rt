@@ -1,7 +1,7 @@
 ghost use Rattle.std.specs.Prelude.{◌≡◌};
 ghost use Rattle.kind_conversion.specs.Shifts.{is_shifted, shift_of};
 
-use letter_word::Kind;
+use letters_and_lassos::Kind;
 
 /// Which signals are taken from the next position.
 #[derive(Clone, Copy, Debug, PartialEq, Eq)]

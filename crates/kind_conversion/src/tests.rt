@@ -3,7 +3,7 @@
 use crate::conversion::{ConvertedList, converted};
 use crate::shifts::{Shift, shift_of};
 use lasso_eval::holds_at;
-use letter_word::{Kind, Lasso, Letter};
+use letters_and_lassos::{Kind, Lasso, Letter};
 use ltl_formula::{FormulaId, Formulas, MAX_NODES, Node};
 use std::alloc::{AllocError, Global};
 use std::test::Fail;

@@ -1,7 +1,7 @@
 use Rattle.std.proofs.Common.{◌≡◌, ℕ, suc, ◌+◌, ◌-◌, ◌<◌, ◌≤◌, Bool, false, eqb, ◌&&◌, ◌||◌, inl, inr, List, [], length, refl, sym, ap, subst, ◌∙◌, arith}
 use Rattle.std.proofs.lemmas.Bool.{cond-false, cases_eq, ne_eqb}
-use Rattle.letter_word.specs.Word.{Word, HasRing, lasso_len, next, after}
-use Rattle.letter_word.proofs.Positions.{after_within, next-inner}
+use Rattle.letters_and_lassos.specs.Word.{Word, HasRing, lasso_len, next, after}
+use Rattle.letters_and_lassos.proofs.Positions.{after_within, next-inner}
 use Rattle.ltl_formula.specs.Truth.{until_at, until_within, release_at}
 use Rattle.ltl_formula.proofs.Ahead.{until_within-suc, until_at-ring, until_at-unfold}
 use Rattle.ltl_formula.proofs.Futures.{until_at-agree, release_at-agree}

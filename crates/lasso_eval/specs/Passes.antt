@@ -1,5 +1,5 @@
 use Rattle.std.specs.Prelude.{◌≡◌, ℕ, ◌<◌, ◌≤◌, ◌==◌, Bool, List, length, if◌then◌else◌}
-use Rattle.letter_word.specs.Word.{Word, lasso_len}
+use Rattle.letters_and_lassos.specs.Word.{Word, lasso_len}
 use Rattle.ltl_formula.specs.Truth.{until_at}
 use Rattle.lasso_eval.specs.Rows.{row_truth}
 

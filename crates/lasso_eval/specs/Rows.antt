@@ -1,6 +1,6 @@
 use Rattle.std.specs.Prelude.{◌≡◌, ℕ, ◌<◌, Bool, false, not, ◌&&◌, ◌||◌, List, [], length, slice_index_or}
 use Rattle.std.specs.Bool.{beq}
-use Rattle.letter_word.specs.Word.{Word, lasso_len}
+use Rattle.letters_and_lassos.specs.Word.{Word, lasso_len}
 use Rattle.ltl_formula.specs.declared.nodes.Node.{Node}
 use Rattle.ltl_formula.specs.Nodes.{tree_at}
 use Rattle.ltl_formula.specs.Truth.{holds}

@@ -1,11 +1,11 @@
 ghost use Rattle.std.specs.Prelude.{◌≡◌, ◌<◌, [], IfOk, length, slice_index_or};
-ghost use Rattle.letter_word.specs.Word.{lasso_len};
+ghost use Rattle.letters_and_lassos.specs.Word.{lasso_len};
 ghost use Rattle.ltl_formula.specs.Nodes.{Stands, tree_at};
 ghost use Rattle.ltl_formula.specs.Truth.{holds};
 ghost use Rattle.lasso_eval.specs.Rows.{IsRow, IsTable};
 
 use crate::rows::{Pairing, Row};
-use letter_word::Lasso;
+use letters_and_lassos::Lasso;
 use ltl_formula::{FormulaId, Formulas, Node};
 use std::alloc::{AllocError, Global};
 

@@ -1,9 +1,9 @@
 ghost use Rattle.std.specs.Prelude.{◌≡◌, ◌<◌, ◌||◌, ◌&&◌, IfOk, false, length, not, true};
-ghost use Rattle.letter_word.specs.Signals.{has};
-ghost use Rattle.letter_word.specs.Word.{HasRing, lasso_len, letter_at, next};
+ghost use Rattle.letters_and_lassos.specs.Signals.{has};
+ghost use Rattle.letters_and_lassos.specs.Word.{HasRing, lasso_len, letter_at, next};
 ghost use Rattle.ltl_formula.specs.Truth.{release_at, until_at};
 
-use letter_word::Lasso;
+use letters_and_lassos::Lasso;
 use std::alloc::{AllocError, Global};
 use std::marker::Model;
 

@@ -8,10 +8,10 @@ use Rattle.std.specs.Str.{bytes_eq}
 use Rattle.std.proofs.lemmas.Bool.{eqb-true, eqb-false}
 use Rattle.std.proofs.lemmas.Nat.Bits.{bit_at_or, bit_at-lt, bit_at-pow_other, bit_at-pow_same}
 use mathlib.Core.Bool.{or-true, or-false, or_assoc}
-use Rattle.letter_word.specs.declared.letters.Letter.{Letter}
-use Rattle.letter_word.specs.Signals.{has}
-use Rattle.letter_word.specs.Word.{no_signals}
-use Rattle.letter_word.proofs.Bits.{has-none}
+use Rattle.letters_and_lassos.specs.declared.letters.Letter.{Letter}
+use Rattle.letters_and_lassos.specs.Signals.{has}
+use Rattle.letters_and_lassos.specs.Word.{no_signals}
+use Rattle.letters_and_lassos.proofs.Bits.{has-none}
 use Rattle.lasso_word.specs.Lines.{parts_at}
 use Rattle.lasso_word.specs.WordText.{with_all_named, with_signal}
 use Rattle.lasso_word.specs.Stated.{LettersHaveTheirNames, names_signal}

@@ -8,8 +8,8 @@ use Rattle.std.proofs.lemmas.List.Elements.{All-cons, All-head, All-tail}
 use Rattle.std.proofs.lemmas.List.Splits.{join_with_byte-slice_split}
 use Rattle.lasso_word.proofs.Readings.{read_line}
 use Rattle.std.specs.List.{join_with_byte}
-use Rattle.letter_word.specs.declared.letters.Letter.{Letter}
-use Rattle.letter_word.specs.Word.{Word, lasso_len}
+use Rattle.letters_and_lassos.specs.declared.letters.Letter.{Letter}
+use Rattle.letters_and_lassos.specs.Word.{Word, lasso_len}
 use Rattle.lasso_word.specs.Lines.{parts_at}
 use Rattle.lasso_word.specs.WordText.{SoFar, StatesWord, WordReading, word, bad_line, first_line, letter_of, most_letters, nothing_read, read_from, read_lines, reading_of, with_letter, word_of}
 use Rattle.lasso_word.specs.Stated.{IsTextOfWord, ReadingsAreApart, WordsAreStated}

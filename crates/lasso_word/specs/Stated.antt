@@ -3,9 +3,9 @@ use Rattle.std.specs.Prelude.{◌==◌, Bool, false, position, if◌then◌else�
 use Rattle.std.specs.List.{list_any}
 use Rattle.std.specs.Option.{option_map_or}
 use Rattle.std.specs.Str.{bytes_eq}
-use Rattle.letter_word.specs.declared.letters.Letter.{Letter}
-use Rattle.letter_word.specs.Signals.{has}
-use Rattle.letter_word.specs.Word.{Word, lasso_len}
+use Rattle.letters_and_lassos.specs.declared.letters.Letter.{Letter}
+use Rattle.letters_and_lassos.specs.Signals.{has}
+use Rattle.letters_and_lassos.specs.Word.{Word, lasso_len}
 use Rattle.lasso_word.specs.Lines.{parts_at}
 use Rattle.lasso_word.specs.WordText.{StatesWord, IsFirstBadWordLine, letter_of, most_letters}
 

@@ -2,13 +2,13 @@
 
 ghost use Rattle.std.specs.Prelude.{◌≡◌, ◌≤◌, ◌<◌, ◌^◌, length, position, IfSome};
 ghost use Rattle.std.specs.Str.{bytes_eq};
-ghost use Rattle.letter_word.specs.Word.{no_signals};
+ghost use Rattle.letters_and_lassos.specs.Word.{no_signals};
 ghost use Rattle.lasso_word.specs.Lines.{parts_at};
 ghost use Rattle.lasso_word.specs.WordText.{letter_of, with_all_named, with_named, with_signal};
 
 use crate::lines::cut_at;
-use letter_word::Letter;
-use text_base::Name;
+use letters_and_lassos::Letter;
+use names_and_numbers::Name;
 
 /// The letter that a line states, if it states one.
 pub(crate) fn letter_of(line: &[u8], names: &[Name]) -> Option<Letter>

@@ -5,10 +5,10 @@ ghost use Rattle.lasso_word.specs.WordText.{IsFirstBadWordLine, StatesWord, bad_
 
 use crate::letters::letter_of;
 use crate::lines::cut_at;
-use letter_word::{Lasso, Letter};
+use letters_and_lassos::{Lasso, Letter};
+use names_and_numbers::Name;
 use std::alloc::{AllocError, AllocFailed, Global};
 use std::marker::Model;
-use text_base::Name;
 
 /// Why bytes are no text of a word.
 #[derive(Clone, Copy)]

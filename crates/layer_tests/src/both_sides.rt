@@ -1,9 +1,9 @@
 //! The automata of both sides.
 use crate::formula_texts::formula;
-use dual_search::{Automata, problems};
-use letter_word::Cube;
+use letters_and_lassos::Cube;
 use ltl_formula::Formulas;
 use machine_model::{Automaton, Edge};
+use side_automata::{Automata, problems};
 use std::alloc::Global;
 use std::fmt::Write;
 use std::test::Fail;

@@ -1,11 +1,11 @@
 //! What the checker says of logs, by both of its forms.
 ghost use Rattle.std.specs.Prelude.{All};
 ghost use Rattle.std.specs.Bool.{OnTrue};
-ghost use Rattle.clause_base.specs.Clause.{IsWithin};
+ghost use Rattle.propositional_logic.specs.Clause.{IsWithin};
 ghost use Rattle.log_checker.specs.Hinted.{AreWithin};
 
-use clause_base::{Clause, Cnf, Lit};
 use log_checker::{LogFault, check_log, check_log_split, check_open, check_open_split};
+use propositional_logic::{Clause, Cnf, Lit};
 use refutation_log::{Entry, read_log};
 use std::alloc::Global;
 use std::fmt::Write;

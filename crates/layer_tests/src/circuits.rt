@@ -3,11 +3,11 @@ ghost use Rattle.std.specs.Prelude.{◌≡◌, ◌<◌, ◌≤◌, IfOk, length,
 
 use aiger_text::write_circuit;
 use gate_build::circuit_of;
-use letter_word::Kind;
+use letters_and_lassos::Kind;
 use machine_model::{Machine, Row};
+use names_and_numbers::Name;
 use std::alloc::{AllocError, Global};
 use std::test::Fail;
-use text_base::Name;
 
 /// The machine of these rows (next, writes), which writes one signal.
 fn machine(alloc: Global, kind: Kind, reads: u32, rows: &[(u32, u32)]) -> Result<Machine, Fail>

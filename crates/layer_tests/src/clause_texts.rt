@@ -1,9 +1,9 @@
 //! Formulas as texts: a letter is a literal over the variables 1 to 12, `a` for 1 and `A` for its negation, and a word is a clause.
 ghost use Rattle.std.specs.Prelude.{◌≡◌, ◌<◌, ◌≤◌, All, IfOk, IfSome};
-ghost use Rattle.clause_base.specs.Clause.{IsFormula, IsWithin};
+ghost use Rattle.propositional_logic.specs.Clause.{IsFormula, IsWithin};
 ghost use Rattle.unit_propagate.specs.Trail.{IsFree};
 
-use clause_base::{Clause, Cnf, Lit};
+use propositional_logic::{Clause, Cnf, Lit};
 use std::alloc::Global;
 use std::test::Fail;
 use unit_propagate::Trail;

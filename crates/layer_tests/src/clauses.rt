@@ -4,8 +4,8 @@ ghost use Rattle.machine_model.specs.Problem.{IsProblem};
 
 use crate::problems::{checked, delay};
 use annotation_encode::{count, encode};
-use clause_base::Clause;
 use machine_model::Problem;
+use propositional_logic::Clause;
 use std::fmt::Write;
 use std::test::Fail;
 

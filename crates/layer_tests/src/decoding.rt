@@ -1,11 +1,11 @@
 //! Assignments of a problem whose clauses are known.
 ghost use Rattle.std.specs.Prelude.{◌≡◌};
-ghost use Rattle.clause_base.specs.Truth.{is_true_clause, is_true_literal, meets};
+ghost use Rattle.propositional_logic.specs.Truth.{is_true_clause, is_true_literal, meets};
 
 use crate::problems::{checked, digit, rows_of, wire};
 use annotation_encode::{assignment_of, encode, variables};
-use clause_base::{Assignment, Clause, Lit};
 use machine_decode::{Decoded, decode};
+use propositional_logic::{Assignment, Clause, Lit};
 use std::test::Fail;
 
 fn is_true(values: &[bool], lit: Lit) -> bool

@@ -1,5 +1,5 @@
 //! A shelf over files of the system.
-use outside_edge::{FileShelf, Shelf, ShelfFault};
+use input_output::{FileShelf, Shelf, ShelfFault};
 use std::fs;
 use std::test::Fail;
 

@@ -1,5 +1,5 @@
 //! What a gate says of its waits.
-use outside_edge::{Gate, HoldGate, Moment};
+use input_output::{Gate, HoldGate, Moment};
 
 #[test]
 fn a_gate_is_met_by_two_waits_that_end(rt: HostRuntime) {

@@ -1,10 +1,10 @@
 //! What is learnt from small conflicts.
 ghost use Rattle.std.specs.Prelude.{◌≡◌};
-ghost use Rattle.clause_base.specs.Clause.{IsFormula};
+ghost use Rattle.propositional_logic.specs.Clause.{IsFormula};
 
 use crate::clause_texts::{VARS, formula, free_var, letter};
-use clause_base::{Cnf, Lit};
 use conflict_learn::{Learned, learn};
+use propositional_logic::{Cnf, Lit};
 use std::alloc::{AllocError, Global};
 use std::test::Fail;
 use unit_propagate::{Propagated, Trail};

@@ -1,7 +1,7 @@
 //! Long logs: checked by both forms, and searched by hashing.
 use crate::check_log::{ask, clause};
-use clause_base::{Clause, Cnf, Lit};
 use log_checker::LogFault;
+use propositional_logic::{Clause, Cnf, Lit};
 use refutation_log::{Entry, Hints, LogState, Reply, SharedClause, Turn};
 use std::alloc::Global;
 use std::test::Fail;

@@ -3,7 +3,7 @@ ghost use Rattle.std.specs.Prelude.{◌≡◌, ◌^◌, ◌<◌, ◌≤◌, All,
 ghost use Rattle.std.specs.Bool.{OnFalse};
 ghost use Rattle.machine_model.specs.Problem.{IsProblem};
 
-use letter_word::{Cube, Kind, Side};
+use letters_and_lassos::{Cube, Kind, Side};
 use machine_model::{Automaton, Counting, Edge, Machine, Problem};
 use std::sync::Arc;
 use std::test::Fail;

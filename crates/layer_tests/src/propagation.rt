@@ -1,9 +1,9 @@
 //! Watched literals beside a plain program that scans all clauses.
 ghost use Rattle.std.specs.Prelude.{◌≡◌};
-ghost use Rattle.clause_base.specs.Clause.{IsFormula};
+ghost use Rattle.propositional_logic.specs.Clause.{IsFormula};
 
 use crate::clause_texts::{VARS, formula, free_var};
-use clause_base::{Clause, Cnf, Lit};
+use propositional_logic::{Clause, Cnf, Lit};
 use std::alloc::{AllocError, Global};
 use std::test::Fail;
 use unit_propagate::{Propagated, Trail};

@@ -2,7 +2,7 @@
 ghost use Rattle.std.specs.Prelude.{◌<◌, All, IfOk};
 
 use crate::problems::digit;
-use letter_word::{Kind, Lasso, Letter, Side};
+use letters_and_lassos::{Kind, Lasso, Letter, Side};
 use machine_model::{Machine, Row, RunLasso, run_lasso};
 use std::test::Fail;
 

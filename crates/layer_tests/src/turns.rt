@@ -1,13 +1,13 @@
 //! Two workers that take turns on one log.
 ghost use Rattle.std.specs.Prelude.{◌≡◌, ◌++◌, List, All, IfOk};
-ghost use Rattle.clause_base.specs.Clause.{IsFormula, IsWithin};
+ghost use Rattle.propositional_logic.specs.Clause.{IsFormula, IsWithin};
 ghost use Rattle.refutation_log.specs.declared.entries.Entry.{Entry};
 ghost use Rattle.clause_solver.specs.Worker.{IsWorkingOn};
 
 use crate::clause_texts::formula;
-use clause_base::Cnf;
 use clause_solver::laws::work_goes_on;
 use clause_solver::{Turned, Worker};
+use propositional_logic::Cnf;
 use refutation_log::Entry;
 use std::alloc::Global;
 use std::test::Fail;

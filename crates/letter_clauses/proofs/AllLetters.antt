@@ -4,8 +4,8 @@ use Rattle.std.specs.Prelude.{nat_le}
 use Rattle.std.specs.List.{flat_map}
 use Rattle.std.proofs.lemmas.Bool.{cond-true}
 use Rattle.std.proofs.lemmas.List.FromFn.{get_or-range_with_len, length-range_with_len}
-use Rattle.letter_word.specs.Signals.{has}
-use Rattle.letter_word.specs.declared.cubes.Cube.{Cube}
+use Rattle.letters_and_lassos.specs.Signals.{has}
+use Rattle.letters_and_lassos.specs.declared.cubes.Cube.{Cube}
 use Rattle.machine_model.specs.Automaton.{states_of}
 use Rattle.machine_model.specs.Problem.{automaton_of, counts_locally, numbers_states, reads_of, writes_of}
 use Rattle.machine_model.specs.declared.automata.Edge.{Edge}

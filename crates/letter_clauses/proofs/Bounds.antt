@@ -3,8 +3,8 @@ use Rattle.std.proofs.Common.{◌≡◌, ℕ, zero, suc, ◌+◌, ◌-◌, ◌*�
 use Rattle.std.specs.Prelude.{All, AllPairs}
 use Rattle.std.proofs.Math.Nat.{mul-le-mul, pow-le-pow_right}
 use Rattle.std.proofs.lemmas.Bool.{cases_eq}
-use Rattle.letter_word.specs.declared.kinds.Side.{Side}
-use Rattle.letter_word.specs.declared.kinds.Side.TheVariants.{Environment, System}
+use Rattle.letters_and_lassos.specs.declared.kinds.Side.{Side}
+use Rattle.letters_and_lassos.specs.declared.kinds.Side.TheVariants.{Environment, System}
 use Rattle.machine_model.specs.Automaton.{IsAutomaton, states_of}
 use Rattle.machine_model.specs.Components.{ComponentsClass, ComponentsModel, local_count}
 use Rattle.machine_model.specs.Problem.{automaton_of, reads_of, writes_of, counts_locally}

@@ -1,6 +1,6 @@
 -- Where a side accepts some machine of a problem, some assignment meets all base clauses over any letters.
 use Rattle.std.proofs.Common.{◌≡◌, ℕ, ◌^◌, ◌<◌, ◌≤◌, inl, inr, Bool, true, false, List, Option, [], ◌∷◌, length, refl, sym, ◌∙◌, subst, arith}
-use Rattle.clause_base.specs.Truth.{meets}
+use Rattle.propositional_logic.specs.Truth.{meets}
 use Rattle.machine_model.specs.Automaton.{IsAutomaton}
 use Rattle.machine_model.specs.Components.{ComponentsClass}
 use Rattle.machine_model.specs.Machine.{IsMachine, MachineModel, next_of, size_of}

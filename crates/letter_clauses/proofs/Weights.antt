@@ -9,9 +9,9 @@ use Rattle.std.proofs.lemmas.List.{append-nil, length-append, take_all, take_mor
 use Rattle.std.proofs.lemmas.List.Concat.{flat_map-append}
 use Rattle.std.proofs.lemmas.List.Sums.{sum_by-append, sum_by-cons}
 use mathlib.Core.Bool.{and-false}
-use Rattle.clause_base.specs.Literal.{Literal}
-use Rattle.letter_word.specs.Signals.{has}
-use Rattle.letter_word.specs.declared.cubes.Cube.{Cube}
+use Rattle.propositional_logic.specs.Literal.{Literal}
+use Rattle.letters_and_lassos.specs.Signals.{has}
+use Rattle.letters_and_lassos.specs.declared.cubes.Cube.{Cube}
 use Rattle.machine_model.specs.Automaton.{rejects, states_of}
 use Rattle.machine_model.specs.Components.{ComponentsModel}
 use Rattle.machine_model.specs.Problem.{automaton_of, reads_of, writes_of}

@@ -1,8 +1,8 @@
 use Rattle.std.specs.Prelude.{ℕ, suc, List, [], ◌∷◌, ◌++◌, length, nat_le, if◌then◌else◌}
 use Rattle.std.specs.List.{flat_map}
-use Rattle.clause_base.specs.Literal.{Literal}
-use Rattle.letter_word.specs.Signals.{has}
-use Rattle.letter_word.specs.declared.cubes.Cube.{Cube}
+use Rattle.propositional_logic.specs.Literal.{Literal}
+use Rattle.letters_and_lassos.specs.Signals.{has}
+use Rattle.letters_and_lassos.specs.declared.cubes.Cube.{Cube}
 use Rattle.machine_model.specs.Automaton.{states_of}
 use Rattle.machine_model.specs.Problem.{automaton_of, writes_of}
 use Rattle.machine_model.specs.declared.automata.Edge.{Edge}

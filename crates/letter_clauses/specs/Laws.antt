@@ -1,6 +1,6 @@
 use Rattle.std.specs.Prelude.{◌≡◌, ℕ, ◌^◌, Bool, false, true, List, Option}
 use Rattle.std.specs.List.{range_with_len}
-use Rattle.clause_base.specs.Truth.{meets}
+use Rattle.propositional_logic.specs.Truth.{meets}
 use Rattle.machine_model.specs.Automaton.{IsAutomaton}
 use Rattle.machine_model.specs.Problem.{automaton_of, counts_locally, reads_of}
 use Rattle.machine_model.specs.declared.problems.Problem.{Problem}

@@ -1,7 +1,7 @@
 ghost use Rattle.std.specs.Prelude.{◌≡◌, ◌+◌, ◌-◌, ◌*◌, ◌^◌, ◌<◌, ◌≤◌, ◌++◌, ◌∷◌, [], true, IfOk, OnOk, length};
 ghost use Rattle.std.specs.List.{flat_map};
-ghost use Rattle.clause_base.specs.Clause.{IsClause, IsFormula, IsWithin};
-ghost use Rattle.letter_word.specs.Below.{all_below};
+ghost use Rattle.propositional_logic.specs.Clause.{IsClause, IsFormula, IsWithin};
+ghost use Rattle.letters_and_lassos.specs.Below.{all_below};
 ghost use Rattle.machine_model.specs.Automaton.{JoinsStates, states_of};
 ghost use Rattle.machine_model.specs.Problem.{automaton_of, reads_of, writes_of};
 ghost use Rattle.product_bound.specs.Annotation.{bound_at, number_after};
@@ -13,10 +13,10 @@ ghost use Rattle.letter_clauses.specs.Letters.{IsLetterSize, IsSmallSize, letter
 ghost use Rattle.letter_clauses.specs.Variables.{row_count, var_move, variables_of};
 
 use crate::sizes::LetterSize;
-use clause_base::{Clause, ClauseFault, Cnf, Lit};
-use letter_word::{Cube, Letter};
+use letters_and_lassos::{Cube, Letter};
 use machine_model::Edge;
 use machine_model::laws::components_are_classes;
+use propositional_logic::{Clause, ClauseFault, Cnf, Lit};
 use std::alloc::{AllocError, Global};
 
 impl LetterSize<'_> {

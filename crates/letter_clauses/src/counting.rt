@@ -11,7 +11,7 @@ ghost use Rattle.letter_clauses.specs.Variables.{row_count};
 
 use crate::clauses::fits_read;
 use crate::sizes::LetterSize;
-use letter_word::{Cube, Letter};
+use letters_and_lassos::{Cube, Letter};
 use machine_model::Edge;
 use machine_model::laws::components_are_classes;
 

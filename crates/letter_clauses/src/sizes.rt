@@ -8,7 +8,7 @@ ghost use Rattle.annotation_encode.specs.Variables.{counted_before, numbers_befo
 ghost use Rattle.letter_clauses.specs.Letters.{IsLetterSize, IsSmallSize};
 ghost use Rattle.letter_clauses.specs.Variables.{move_count, row_count, row_place, var_count, var_move, var_write, variables_of, write_count};
 
-use letter_word::{Kind, Side};
+use letters_and_lassos::{Kind, Side};
 use machine_model::laws::components_are_classes;
 use machine_model::{Components, Problem};
 

@@ -1,6 +1,6 @@
 -- The law from both of its halves.
 use Rattle.std.proofs.Common.{◌≡◌, ◌≤◌, Bool, true, false, List, refl, sym, ap, ◌∙◌}
-use Rattle.clause_base.specs.Truth.{meets}
+use Rattle.propositional_logic.specs.Truth.{meets}
 use Rattle.machine_model.specs.Components.{JoinedIsReached}
 use Rattle.machine_model.specs.declared.problems.Problem.{Problem}
 use Rattle.product_bound.specs.Annotation.{bound_at, start_number}

@@ -3,7 +3,7 @@ use Rattle.std.proofs.Common.{◌≡◌, ℕ, zero, suc, ◌+◌, ◌-◌, ◌<�
 use Rattle.std.specs.List.{range_with_len}
 use Rattle.std.proofs.lemmas.Bool.{cases_eq}
 use Rattle.std.proofs.lemmas.List.FromFn.{get_or-map-range_with_len, length-map-range_with_len}
-use Rattle.clause_base.specs.Truth.{value_of}
+use Rattle.propositional_logic.specs.Truth.{value_of}
 use Rattle.machine_model.specs.declared.machines.Row.{Row}
 use Rattle.machine_model.specs.declared.problems.Problem.{Problem}
 use Rattle.machine_model.proofs.Tables.{no_row}

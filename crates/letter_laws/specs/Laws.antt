@@ -1,6 +1,6 @@
 -- What the base clauses of version 4 say over all letters, within the limits of version 4 (bounded synthesis of Finkbeiner and Schewe).
 use Rattle.std.specs.Prelude.{◌≡◌, ◌↔◌, ℕ, Bool, true, false, List, Option}
-use Rattle.clause_base.specs.Truth.{meets}
+use Rattle.propositional_logic.specs.Truth.{meets}
 use Rattle.machine_model.specs.Accepts.{SideAccepts}
 use Rattle.machine_model.specs.Automaton.{IsAutomaton}
 use Rattle.machine_model.specs.Machine.{IsMachine, MachineModel}

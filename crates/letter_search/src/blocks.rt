@@ -1,5 +1,5 @@
 //! Which letters a machine may write.
-use letter_word::Cube;
+use letters_and_lassos::Cube;
 use std::alloc::{AllocError, Global};
 
 /// Which signals are read, and which are written.

@@ -1,6 +1,6 @@
 //! What values of variables say of a machine and of its numbers.
 use crate::tracks::Tracks;
-use letter_word::Kind;
+use letters_and_lassos::Kind;
 use machine_model::Row;
 use std::alloc::{AllocError, Global};
 

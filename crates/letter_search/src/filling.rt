@@ -3,7 +3,7 @@ use crate::blocks::{Block, Places, Steps, blocked_at, least_free};
 use crate::decoding::Decoding;
 use crate::letters::letter_count;
 use crate::tracks::{Track, Tracks};
-use letter_word::Kind;
+use letters_and_lassos::Kind;
 use machine_model::Row;
 use std::alloc::{AllocError, Global};
 

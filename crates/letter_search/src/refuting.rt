@@ -1,6 +1,6 @@
 //! One size after another.
 use crate::sizes::{SmallMachine, Trial, Tried};
-use outside_edge::Gate;
+use input_output::Gate;
 use size_refutations::Ground;
 use solved_text::SizeLog;
 use std::alloc::{AllocError, Global};

@@ -1,6 +1,6 @@
 //! One size, over one list of letters after another.
 ghost use Rattle.std.specs.Prelude.{IfOk, IfSome};
-ghost use Rattle.clause_base.specs.Clause.{IsFormula};
+ghost use Rattle.propositional_logic.specs.Clause.{IsFormula};
 
 use crate::blocks::{Places, Span};
 use crate::decoding::Decoding;
@@ -8,10 +8,10 @@ use crate::filling::{Filled, Filling};
 use crate::letters::{Choice, Chosen};
 use crate::tracks::Tracks;
 use crate::working::{Passage, Worked, search_clauses};
-use clause_base::{Assignment, Cnf};
-use letter_word::Side;
+use input_output::Gate;
+use letters_and_lassos::Side;
 use machine_model::{Problem, Row};
-use outside_edge::Gate;
+use propositional_logic::{Assignment, Cnf};
 use refutation_log::Entry;
 use size_refutations::Ground;
 use solved_text::SizeLog;

@@ -1,5 +1,5 @@
 //! An automaton as numbers go along its edges.
-use letter_word::Cube;
+use letters_and_lassos::Cube;
 use machine_model::laws::components_are_classes;
 use machine_model::{Automaton, Components};
 use std::alloc::{AllocError, Global};

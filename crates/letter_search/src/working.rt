@@ -1,13 +1,13 @@
 //! Workers on one list of base clauses, over one log that they share.
 ghost use Rattle.std.specs.Prelude.{◌<◌, All, IfOk, OnOk, length};
 ghost use Rattle.std.specs.Bool.{OnFalse};
-ghost use Rattle.clause_base.specs.Clause.{IsFormula, IsWithin};
-ghost use Rattle.text_base.specs.Prefix.{IsPrefix};
+ghost use Rattle.propositional_logic.specs.Clause.{IsFormula, IsWithin};
+ghost use Rattle.names_and_numbers.specs.Prefix.{IsPrefix};
 
-use clause_base::{Assignment, Cnf, Lit};
 use clause_solver::laws::work_goes_on;
 use clause_solver::{Turned, Worker};
-use outside_edge::{Gate, Moment};
+use input_output::{Gate, Moment};
+use propositional_logic::{Assignment, Cnf, Lit};
 use refutation_log::{Entry, LogState, Turn};
 use std::alloc::{AllocError, Global};
 use std::sync::{Mutex, Wait};

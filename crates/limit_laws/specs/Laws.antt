@@ -1,8 +1,8 @@
 -- Laws of limits: wider ones take no text away, and mean the same (this project's own).
 use Rattle.std.specs.Prelude.{◌≡◌, Option, None}
 use Rattle.text_limits.specs.declared.Limits.{Limits}
-use Rattle.letter_word.specs.declared.kinds.Kind.{Kind}
-use Rattle.letter_word.specs.Word.{Word}
+use Rattle.letters_and_lassos.specs.declared.kinds.Kind.{Kind}
+use Rattle.letters_and_lassos.specs.Word.{Word}
 use Rattle.tlsf_syntax.specs.Text.{Text}
 use Rattle.tlsf_expand.specs.Expansion.{expanded, flat_fault}
 use Rattle.tlsf_expand.specs.FlatText.{flat_in}

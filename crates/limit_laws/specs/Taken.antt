@@ -1,7 +1,7 @@
 -- Texts that `synth` takes are taken by `solve`, and want the same (this project's own).
 use Rattle.std.specs.Prelude.{◌≡◌, ℕ, List, Option}
-use Rattle.letter_word.specs.Word.{Word, HasRing}
-use Rattle.letter_word.specs.declared.kinds.Kind.{Kind}
+use Rattle.letters_and_lassos.specs.Word.{Word, HasRing}
+use Rattle.letters_and_lassos.specs.declared.kinds.Kind.{Kind}
 use Rattle.spec_faults.specs.declared.code.SpecCode.{SpecCode}
 use Rattle.satisfaction.specs.Wanted.{Wanted}
 use Rattle.tlsf_expand.specs.FlatText.{FlatText}

@@ -10,10 +10,10 @@ use Rattle.std.proofs.lemmas.List.Folds.{list_any_none, list_any-from_Any}
 use Rattle.std.proofs.lemmas.Option.{slice_get_cases}
 use Rattle.std.proofs.Math.Seq.{take-suc, take-length}
 use Rattle.std.proofs.lemmas.Bool.{cases_lt, false_from_ne_true}
-use Rattle.clause_base.specs.Literal.{Literal, negated}
-use Rattle.clause_base.specs.Clause.{IsWithin, clause_eq}
-use Rattle.clause_base.specs.Partial.{is_falsified}
-use Rattle.clause_base.specs.Equality.{Decides-clause_eq}
+use Rattle.propositional_logic.specs.Literal.{Literal, negated}
+use Rattle.propositional_logic.specs.Clause.{IsWithin, clause_eq}
+use Rattle.propositional_logic.specs.Partial.{is_falsified}
+use Rattle.propositional_logic.specs.Equality.{Decides-clause_eq}
 use Rattle.refutation_log.specs.declared.entries.Entry.{Entry}
 use Rattle.refutation_log.specs.Entry.{clauses_of}
 use Rattle.refutation_log.specs.Follows.{Follows, leads_to_conflict, clause_named, unit_named}

@@ -7,10 +7,10 @@ use Rattle.std.proofs.lemmas.Bool.Decides.{Decides-eqb}
 use Rattle.std.proofs.lemmas.List.{reverse-append, get_or-set_same, get_or-set_other, get_or_default}
 use Rattle.std.proofs.lemmas.List.Elements.{All-head, All-tail}
 use mathlib.Core.Bool.{and-true, and-false}
-use Rattle.clause_base.specs.Literal.{Literal, sign_eq, literal_eq}
-use Rattle.clause_base.specs.Partial.{is_true_in, is_false_in, unfalsified, is_falsified, lone_of, unit_of}
+use Rattle.propositional_logic.specs.Literal.{Literal, sign_eq, literal_eq}
+use Rattle.propositional_logic.specs.Partial.{is_true_in, is_false_in, unfalsified, is_falsified, lone_of, unit_of}
 use Rattle.log_checker.specs.Marked.{IsMarked}
-use Rattle.clause_base.specs.Codes.{code_of}
+use Rattle.propositional_logic.specs.Codes.{code_of}
 
 -- ---- places of literals
 

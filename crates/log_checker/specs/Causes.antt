@@ -1,5 +1,5 @@
 use Rattle.std.specs.Prelude.{◌≡◌, ℕ, ⊤, List, Option, Some, None, length}
-use Rattle.clause_base.specs.Literal.{Literal}
+use Rattle.propositional_logic.specs.Literal.{Literal}
 use Rattle.refutation_log.specs.declared.entries.Entry.{Entry}
 use Rattle.log_checker.specs.declared.faults.LogFault.{LogFault}
 use Rattle.log_checker.specs.declared.faults.LogFault.TheVariants.{BadHint, NotFalsified, Repeated, NotClosed, AfterEnd, OverLimit, NoMemory}

@@ -1,6 +1,6 @@
 use Rattle.std.specs.Prelude.{ℕ, All, List}
-use Rattle.clause_base.specs.Literal.{Literal}
-use Rattle.clause_base.specs.Clause.{IsWithin, IsFormula}
+use Rattle.propositional_logic.specs.Literal.{Literal}
+use Rattle.propositional_logic.specs.Clause.{IsWithin, IsFormula}
 use Rattle.refutation_log.specs.declared.entries.Entry.{Entry}
 
 -- No variable of the entries' clauses passes vars: the condition of a call that checks a log over a formula (this project's own).

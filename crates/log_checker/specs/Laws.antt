@@ -1,5 +1,5 @@
 use Rattle.std.specs.Prelude.{◌≡◌, ℕ, List, Option, length}
-use Rattle.clause_base.specs.Literal.{Literal}
+use Rattle.propositional_logic.specs.Literal.{Literal}
 use Rattle.refutation_log.specs.declared.entries.Entry.{Entry}
 use Rattle.refutation_log.specs.Log.{IsLegal, IsClosed}
 use Rattle.log_checker.specs.declared.faults.LogFault.{LogFault}

@@ -1,7 +1,7 @@
 use Rattle.std.specs.Prelude.{◌≡◌, ℕ, ◌+◌, ◌*◌, ◌≤◌, Bool, false, nat_eq, List, All, map, length, slice_index_or}
 use Rattle.std.specs.List.{list_any}
-use Rattle.clause_base.specs.Literal.{Literal}
-use Rattle.clause_base.specs.Codes.{code_of}
+use Rattle.propositional_logic.specs.Literal.{Literal}
+use Rattle.propositional_logic.specs.Codes.{code_of}
 
 -- The literals that are true, over the variables 1 to vars: a partial assignment as the checker keeps it, the latest first.
 pub record Trues : Type 0 where

@@ -1,5 +1,5 @@
 ghost use Rattle.std.specs.Prelude.{◌≡◌, ℕ, ◌≤◌, false, Bool, List, IfOk, IsOk, IsErrOf, length};
-ghost use Rattle.clause_base.specs.Truth.{meets};
+ghost use Rattle.propositional_logic.specs.Truth.{meets};
 ghost use Rattle.refutation_log.specs.Log.{IsLegal, IsClosed, is_ended as is_ended_log};
 ghost use Rattle.log_checker.specs.declared.faults.LogFault.{LogFault as Fault};
 ghost use Rattle.log_checker.specs.Faults.{entry_fault, follow_fault, IsFirstOf};
@@ -10,7 +10,7 @@ use crate::LogFault;
 use crate::hints::first_follow_fault;
 use crate::places::first_place_fault;
 use crate::split::first_follow_fault_split;
-use clause_base::Cnf;
+use propositional_logic::Cnf;
 use refutation_log::Entry;
 use std::alloc::{AllocError, Global};
 use std::thread::Threads;

@@ -1,5 +1,5 @@
 ghost use Rattle.std.specs.Prelude.{◌≡◌, ℕ, ◌≤◌, [], ◌++◌, List, IfOk, OnOk, IfSome, Some, None, option_map, length};
-ghost use Rattle.clause_base.specs.Clause.{IsWithin};
+ghost use Rattle.propositional_logic.specs.Clause.{IsWithin};
 ghost use Rattle.refutation_log.specs.Entry.{clauses_of};
 ghost use Rattle.refutation_log.specs.Follows.{clause_named as named_clause, unit_named as named_unit};
 ghost use Rattle.log_checker.specs.Faults.{hints_fault as fault_of_hints, last_hint_fault as fault_of_last_hint, follow_fault as fault_of_entry, IsFirstOf};
@@ -7,7 +7,7 @@ ghost use Rattle.log_checker.specs.Hinted.{IsCheckable};
 
 use crate::LogFault;
 use crate::marks::Marks;
-use clause_base::{Clause, Cnf, Lit};
+use propositional_logic::{Clause, Cnf, Lit};
 use refutation_log::Entry;
 use std::alloc::{AllocError, Global};
 

@@ -1,11 +1,11 @@
 ghost use Rattle.std.specs.Prelude.{◌≡◌, ℕ, ◌≤◌, ◌<◌, ◌+◌, ◌*◌, [], ◌∷◌, List, IfOk, OnOk, OnErr, IfSome, IfNone, map, reverse, Some, drop, length};
-ghost use Rattle.clause_base.specs.Literal.{Literal, negated};
-ghost use Rattle.clause_base.specs.Clause.{IsWithin};
-ghost use Rattle.clause_base.specs.Partial.{is_true_in, is_falsified, unit_of, unfalsified};
+ghost use Rattle.propositional_logic.specs.Literal.{Literal, negated};
+ghost use Rattle.propositional_logic.specs.Clause.{IsWithin};
+ghost use Rattle.propositional_logic.specs.Partial.{is_true_in, is_falsified, unit_of, unfalsified};
 ghost use Rattle.log_checker.specs.Marked.{Trues, IsMarked};
-ghost use Rattle.clause_base.specs.Codes.{code_of};
+ghost use Rattle.propositional_logic.specs.Codes.{code_of};
 
-use clause_base::{Clause, Lit};
+use propositional_logic::{Clause, Lit};
 use std::alloc::{AllocError, Global};
 use std::marker::Model;
 

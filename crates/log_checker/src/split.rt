@@ -5,7 +5,7 @@ ghost use Rattle.log_checker.specs.Pieces.{start_of as start_of_piece, IsOfPiece
 
 use crate::LogFault;
 use crate::hints::first_follow_fault;
-use clause_base::Cnf;
+use propositional_logic::Cnf;
 use rayon::prelude::*;
 use refutation_log::Entry;
 use std::alloc::{AllocError, Global};

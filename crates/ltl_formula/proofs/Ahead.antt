@@ -2,11 +2,11 @@ use Rattle.std.proofs.Common.{◌≡◌, ℕ, zero, suc, ◌+◌, ◌-◌, ◌<�
 use Rattle.std.specs.Prelude.{not}
 use Rattle.std.proofs.lemmas.Bool.{and_parts, and_from, or_cases, or_left, or_right, cases_eq, cases_lt}
 use Rattle.std.specs.Cmp.{both_ways}
-use Rattle.letter_word.specs.Word.{Word, HasRing, lasso_len, next, after}
-use Rattle.letter_word.proofs.Positions.{next-last, next-inner, next_within, after_within, after-add, after_forward, after_round}
+use Rattle.letters_and_lassos.specs.Word.{Word, HasRing, lasso_len, next, after}
+use Rattle.letters_and_lassos.proofs.Positions.{next-last, next-inner, next_within, after_within, after-add, after_forward, after_round}
 use Rattle.ltl_formula.specs.Truth.{until_within, until_at, release_at}
-use Rattle.letter_word.specs.Below.{all_below}
-use Rattle.letter_word.proofs.Below.{all_below-from, all_below-gives}
+use Rattle.letters_and_lassos.specs.Below.{all_below}
+use Rattle.letters_and_lassos.proofs.Below.{all_below-from, all_below-gives}
 use Rattle.ltl_formula.specs.Laws.{ComesAt, Comes}
 use Rattle.ltl_formula.proofs.Tests.{some_below-from, some_below-gives, not-or-not}
 

@@ -2,10 +2,10 @@ use Rattle.std.proofs.Common.{◌≡◌, ℕ, zero, suc, ◌<◌, Bool, true, fa
 use Rattle.std.specs.Prelude.{not, IsTrue, ◌↔◌}
 use Rattle.std.proofs.lemmas.Bool.{not-true, cases_Bool, true≢false}
 use Rattle.std.specs.Cmp.{both_ways}
-use Rattle.letter_word.specs.Word.{Word, HasRing, SameWord, SameFuture, lasso_len, next, after, unrolled_of, unrolled_times}
-use Rattle.letter_word.specs.Signals.{has}
-use Rattle.letter_word.proofs.Positions.{next_within, after_within, SameFuture-after, first_position}
-use Rattle.letter_word.proofs.Unrolled.{unrolling_keeps_the_word}
+use Rattle.letters_and_lassos.specs.Word.{Word, HasRing, SameWord, SameFuture, lasso_len, next, after, unrolled_of, unrolled_times}
+use Rattle.letters_and_lassos.specs.Signals.{has}
+use Rattle.letters_and_lassos.proofs.Positions.{next_within, after_within, SameFuture-after, first_position}
+use Rattle.letters_and_lassos.proofs.Unrolled.{unrolling_keeps_the_word}
 use Rattle.ltl_formula.specs.Tree.{Tree}
 use Rattle.ltl_formula.specs.Tree.Tree.{truth, falsity, signal, negation, next_time, finally, globally, conjunction, disjunction, implication, equivalence, until, release, weak_until}
 use Rattle.ltl_formula.specs.Truth.{until_at, release_at, holds}

@@ -1,5 +1,5 @@
 use Rattle.std.specs.Prelude.{◌≡◌, ◌↔◌, ℕ, ◌<◌, Bool, true, ◌&&◌, ◌||◌, IsTrue, List}
-use Rattle.letter_word.specs.Word.{Word, HasRing, SameWord, SameFuture, lasso_len, next, after, unrolled_times}
+use Rattle.letters_and_lassos.specs.Word.{Word, HasRing, SameWord, SameFuture, lasso_len, next, after, unrolled_times}
 use Rattle.ltl_formula.specs.declared.nodes.FormulaId.{FormulaId}
 use Rattle.ltl_formula.specs.declared.nodes.Node.{Node}
 use Rattle.ltl_formula.specs.Tree.{Tree, SignalsBelow}

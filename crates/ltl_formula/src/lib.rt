@@ -1,7 +1,7 @@
 //! Flat formulas of linear temporal logic: a list of different nodes in which parts stand before
 //! wholes, and the trees that the list stands for. Truth on a lasso (`holds`) speaks of the trees alone.
 //! The contract above this layer: one id per node, and no `add` changes the tree of an id that stood.
-//! It stands on letter_word for lassos, text_base for names and indexmap for the list of different nodes.
+//! It stands on letters_and_lassos for lassos, names_and_numbers for names and indexmap for the list of different nodes.
 #![tactic(auto)]
 
 mod faults;

@@ -6,8 +6,8 @@ ghost use Rattle.ltl_formula.specs.Written.{Writes};
 
 use crate::formulas::Formulas;
 use crate::nodes::{FormulaId, MAX_NODES, Node};
+use names_and_numbers::Name;
 use std::alloc::AllocError;
-use text_base::Name;
 
 /// The most bytes of a text that is written.
 const LONGEST: usize = 1 << 27;

@@ -5,8 +5,8 @@ use Rattle.std.proofs.lemmas.Bool.{cases_Bool, cases_order, trueâ‰¢false, falseâ
 use Rattle.std.proofs.lemmas.Option.{none-some, same_Some}
 use Rattle.std.specs.Cmp.{both_ways}
 use mathlib.Core.Bool.{not-not}
-use Rattle.letter_word.specs.Word.{Word, HasRing, lasso_len, next, after}
-use Rattle.letter_word.proofs.Positions.{next_within, after_within}
+use Rattle.letters_and_lassos.specs.Word.{Word, HasRing, lasso_len, next, after}
+use Rattle.letters_and_lassos.proofs.Positions.{next_within, after_within}
 use Rattle.ltl_formula.specs.Tree.{Tree}
 use Rattle.ltl_formula.specs.Tree.Tree.{truth, falsity, signal, negation, next_time, finally, globally, conjunction, disjunction, implication, equivalence, until, release, weak_until}
 use Rattle.ltl_formula.specs.Truth.{until_at, release_at, holds}

@@ -1,5 +1,5 @@
 use Rattle.std.specs.Prelude.{◌≡◌, ℕ, ◌<◌, not}
-use Rattle.letter_word.specs.Word.{Word, HasRing, lasso_len}
+use Rattle.letters_and_lassos.specs.Word.{Word, HasRing, lasso_len}
 use Rattle.ltl_formula.specs.Tree.{Tree}
 use Rattle.ltl_formula.specs.Truth.{holds}
 

@@ -6,12 +6,12 @@ use Rattle.std.proofs.lemmas.Bool.{and_parts, cases_lt, cond-false, cond-true, c
 use Rattle.std.proofs.lemmas.Bool.Decides.{Decides-eqb}
 use Rattle.std.proofs.lemmas.List.Elements.{All-contains}
 use Rattle.std.proofs.lemmas.List.Folds.{list_any-append}
-use Rattle.clause_base.specs.Literal.{Literal}
-use Rattle.clause_base.specs.Truth.{is_true_clause, is_true_literal, meets, value_of}
-use Rattle.clause_base.proofs.Tests.{Decides-all}
-use Rattle.letter_word.specs.Cube.{Fits}
-use Rattle.letter_word.specs.Signals.{has}
-use Rattle.letter_word.proofs.Below.{all_below-from}
+use Rattle.propositional_logic.specs.Literal.{Literal}
+use Rattle.propositional_logic.specs.Truth.{is_true_clause, is_true_literal, meets, value_of}
+use Rattle.propositional_logic.proofs.Tests.{Decides-all}
+use Rattle.letters_and_lassos.specs.Cube.{Fits}
+use Rattle.letters_and_lassos.specs.Signals.{has}
+use Rattle.letters_and_lassos.proofs.Below.{all_below-from}
 use Rattle.machine_model.specs.Accepts.{SideAccepts}
 use Rattle.machine_model.specs.Automaton.{IsAutomaton, JoinsStates, rejects, states_of}
 use Rattle.machine_model.specs.Course.{letter_of}

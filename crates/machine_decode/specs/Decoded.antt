@@ -1,6 +1,6 @@
 use Rattle.std.specs.Prelude.{◌≡◌, ℕ, ◌<◌, ◌≤◌, Bool, true, false, List, Option, Some, None, length}
-use Rattle.clause_base.specs.Truth.{value_of}
-use Rattle.letter_word.specs.Signals.{has}
+use Rattle.propositional_logic.specs.Truth.{value_of}
+use Rattle.letters_and_lassos.specs.Signals.{has}
 use Rattle.machine_model.specs.Automaton.{states_of}
 use Rattle.machine_model.specs.Machine.{MachineModel, next_of, writes_of}
 use Rattle.machine_model.specs.Problem as looked_for

@@ -1,5 +1,5 @@
 ghost use Rattle.std.specs.Prelude.{◌≡◌, ◌+◌, ◌/◌, ◌%◌, ◌^◌, ◌<◌, ◌≤◌, Some, true, IfOk, length, vec_len, if◌then◌else◌};
-ghost use Rattle.clause_base.specs.Truth.{meets, value_of};
+ghost use Rattle.propositional_logic.specs.Truth.{meets, value_of};
 ghost use Rattle.machine_model.specs.Accepts.{SideAccepts};
 ghost use Rattle.machine_model.specs.Automaton.{states_of};
 ghost use Rattle.machine_model.specs.Machine.{IsMachine};
@@ -11,10 +11,10 @@ ghost use Rattle.machine_decode.specs.Decoded.{IsDecoded, IsLeastMove};
 ghost use Rattle.machine_decode.specs.Written.{AreRows, HasMoves, IsRow, greatest_from, letter_from, numbers_of, pair_number, written_of};
 
 use annotation_encode::{Numbering, letter_count, row_count, var_move, var_write};
-use clause_base::Assignment;
 use machine_model::laws::joined_is_reached;
 use machine_model::{Machine, Problem, Row};
 use product_bound::Annotation;
+use propositional_logic::Assignment;
 use std::alloc::{AllocError, Global};
 
 /// A machine, and a valid annotation of it.

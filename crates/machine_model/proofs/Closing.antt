@@ -1,10 +1,10 @@
 use Rattle.std.proofs.Common.{◌≡◌, ℕ, zero, suc, ◌+◌, ◌^◌, ◌<◌, List, length, get_or, take, drop, refl, sym, ap, ◌∙◌, arith, inl, inr}
 use Rattle.std.proofs.lemmas.Bool.{cases_eq}
 use Rattle.std.proofs.lemmas.List.{length-take-le, length-drop, take-append-drop}
-use Rattle.letter_word.specs.declared.letters.Letter.{Letter}
-use Rattle.letter_word.specs.declared.kinds.Side.{Side}
-use Rattle.letter_word.specs.Word.{Word, HasRing, IsLassoOver, SameWord, lasso_len, next, after, letter_at, no_signals}
-use Rattle.letter_word.proofs.Positions.{next-last, next-inner, after-suc, after_within, letter_below}
+use Rattle.letters_and_lassos.specs.declared.letters.Letter.{Letter}
+use Rattle.letters_and_lassos.specs.declared.kinds.Side.{Side}
+use Rattle.letters_and_lassos.specs.Word.{Word, HasRing, IsLassoOver, SameWord, lasso_len, next, after, letter_at, no_signals}
+use Rattle.letters_and_lassos.proofs.Positions.{next-last, next-inner, after-suc, after_within, letter_below}
 use Rattle.machine_model.specs.Machine.{MachineModel, IsMachine, size_of, next_of, writes_of}
 use Rattle.machine_model.specs.Run.{IsRunLasso, read_part, written_part, read_lasso}
 use Rattle.machine_model.specs.Course.{IsCourse, read_at, state_after}

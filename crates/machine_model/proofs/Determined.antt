@@ -2,11 +2,11 @@ use Rattle.std.proofs.Common.{◌≡◌, ℕ, zero, suc, ◌+◌, ◌^◌, ◌<�
 use Rattle.std.proofs.lemmas.Nat.{mul-add-lt, pow-add}
 use Rattle.std.proofs.lemmas.List.{length-map, get_or-map, get_or_default, get_or_append_left, get_or-append-add}
 use Rattle.std.proofs.Math.Nat.{mul_comm}
-use Rattle.letter_word.specs.declared.letters.Letter.{Letter}
-use Rattle.letter_word.specs.declared.kinds.Side.{Side}
-use Rattle.letter_word.specs.declared.kinds.Side.TheVariants.{System, Environment}
-use Rattle.letter_word.specs.Word.{Word, IsLassoOver, lasso_len, after, letter_at, nth_letter, no_signals}
-use Rattle.letter_word.proofs.Positions.{after-own, after-suc, after_within, first_position}
+use Rattle.letters_and_lassos.specs.declared.letters.Letter.{Letter}
+use Rattle.letters_and_lassos.specs.declared.kinds.Side.{Side}
+use Rattle.letters_and_lassos.specs.declared.kinds.Side.TheVariants.{System, Environment}
+use Rattle.letters_and_lassos.specs.Word.{Word, IsLassoOver, lasso_len, after, letter_at, nth_letter, no_signals}
+use Rattle.letters_and_lassos.proofs.Positions.{after-own, after-suc, after_within, first_position}
 use Rattle.machine_model.specs.Machine.{MachineModel, IsMachine, size_of, next_of, writes_of}
 use Rattle.machine_model.specs.Run.{IsRunLasso, joined, read_part, written_part, read_lasso}
 use Rattle.machine_model.specs.Course.{read_at, state_after}

@@ -1,11 +1,11 @@
 use Rattle.std.proofs.Common.{◌≡◌, ℕ, zero, suc, ◌<◌, [], ◌∷◌, get_or, refl, sym, ap, subst, ◌∙◌, arith}
 use Rattle.std.specs.Prelude.{IsTrue}
-use Rattle.letter_word.specs.declared.letters.Letter.{Letter}
-use Rattle.letter_word.specs.declared.cubes.Cube.{Cube}
-use Rattle.letter_word.specs.Signals.{has}
-use Rattle.letter_word.specs.Cube.{Fits}
-use Rattle.letter_word.proofs.Sets.{has-zero}
-use Rattle.letter_word.specs.Word.{letter_at}
+use Rattle.letters_and_lassos.specs.declared.letters.Letter.{Letter}
+use Rattle.letters_and_lassos.specs.declared.cubes.Cube.{Cube}
+use Rattle.letters_and_lassos.specs.Signals.{has}
+use Rattle.letters_and_lassos.specs.Cube.{Fits}
+use Rattle.letters_and_lassos.proofs.Sets.{has-zero}
+use Rattle.letters_and_lassos.specs.Word.{letter_at}
 use Rattle.machine_model.specs.Automaton.{HasEdge}
 use Rattle.machine_model.specs.Example.{ExampleAccepts, round_on, always}
 use Rattle.machine_model.specs.declared.automata.Edge.{Edge}

@@ -1,6 +1,6 @@
 use Rattle.std.proofs.Common.{◌≡◌, ℕ, zero, suc, ◌+◌, ◌-◌, ◌<◌, refl, sym, subst, arith, zero-add}
-use Rattle.letter_word.specs.Word.{Word, HasRing, SameWord, SameFuture, lasso_len, next, after}
-use Rattle.letter_word.proofs.Positions.{after_within, SameFuture-after, first_position}
+use Rattle.letters_and_lassos.specs.Word.{Word, HasRing, SameWord, SameFuture, lasso_len, next, after}
+use Rattle.letters_and_lassos.proofs.Positions.{after_within, SameFuture-after, first_position}
 use Rattle.machine_model.specs.Automaton.{AutomatonModel, HasEdge}
 use Rattle.machine_model.specs.Accepts.{Path, Accepts}
 use Rattle.machine_model.specs.Laws.{AcceptanceIsOfTheWord}

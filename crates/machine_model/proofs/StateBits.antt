@@ -7,8 +7,8 @@ use Rattle.std.proofs.lemmas.Bool.{and_parts, cases_eq, cases_lt, eq-eqb, eqb-tr
 use Rattle.std.proofs.lemmas.Bool.Decides.{same_from_decides}
 use Rattle.std.proofs.lemmas.List.{get_or_past}
 use Rattle.std.proofs.lemmas.Nat.Bits.{bit_at-zero, bit_at_set_other, bit_at_set_same}
-use Rattle.letter_word.specs.Signals.{has}
-use Rattle.letter_word.proofs.Sets.{has-bit_or, has-either}
+use Rattle.letters_and_lassos.specs.Signals.{has}
+use Rattle.letters_and_lassos.proofs.Sets.{has-bit_or, has-either}
 use Rattle.machine_model.specs.Reached.{HasAlso, HasOnly, IsPassed, is_in}
 
 pub has_or : (a b k : ℕ) → has (bit_or a b) k ≡ (has a k || has b k)

@@ -1,8 +1,8 @@
 use Rattle.std.proofs.Common.{◌≡◌, ℕ, ◌+◌, ◌-◌, ◌<◌, ◌≤◌, List, ◌++◌, length, get_or, drop, refl, sym, ap, subst, ◌∙◌, arith, inl, inr}
 use Rattle.std.proofs.lemmas.Bool.{cases_eq, cases_lt}
 use Rattle.std.proofs.lemmas.List.{length-append, length-drop, get_or_append_left, get_or-append_right, get_or-drop}
-use Rattle.letter_word.specs.Word.{Word, HasRing, lasso_len, next, letter_at, no_signals, unrolled_of}
-use Rattle.letter_word.proofs.Positions.{next-last, next-inner, first_position}
+use Rattle.letters_and_lassos.specs.Word.{Word, HasRing, lasso_len, next, letter_at, no_signals, unrolled_of}
+use Rattle.letters_and_lassos.proofs.Positions.{next-last, next-inner, first_position}
 use Rattle.machine_model.specs.Laws.{RunsUnroll}
 
 -- a position of the unrolled lasso stands for a position of the lasso: it has its letter and its state, and so has its next

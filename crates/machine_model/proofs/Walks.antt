@@ -1,10 +1,10 @@
 use Rattle.std.proofs.Common.{◌≡◌, ℕ, ◌+◌, ◌<◌, List, [], length, get_or, set, replicate, refl, sym, ap, ◌∙◌, arith, inl, inr, Option, Some, None}
 use Rattle.std.proofs.lemmas.Bool.{cases_eq}
 use Rattle.std.proofs.lemmas.List.{get_or-set_same, get_or-set_other, length-set, length-replicate, get_or-replicate}
-use Rattle.letter_word.specs.declared.letters.Letter.{Letter}
-use Rattle.letter_word.specs.declared.kinds.Side.{Side}
-use Rattle.letter_word.specs.Word.{Word, HasRing, after, lasso_len}
-use Rattle.letter_word.proofs.Positions.{after-own, after-add, after_forward, after_round}
+use Rattle.letters_and_lassos.specs.declared.letters.Letter.{Letter}
+use Rattle.letters_and_lassos.specs.declared.kinds.Side.{Side}
+use Rattle.letters_and_lassos.specs.Word.{Word, HasRing, after, lasso_len}
+use Rattle.letters_and_lassos.proofs.Positions.{after-own, after-add, after_forward, after_round}
 use Rattle.machine_model.specs.Machine.{MachineModel, size_of}
 use Rattle.machine_model.specs.Course.{IsCourse, state_after}
 use Rattle.machine_model.proofs.Closing.{Closes}

@@ -1,6 +1,6 @@
 use Rattle.std.specs.Prelude.{◌≡◌, ℕ, zero, suc, IsTrue}
-use Rattle.letter_word.specs.declared.kinds.Side.{Side}
-use Rattle.letter_word.specs.Word.{Word, next, letter_at}
+use Rattle.letters_and_lassos.specs.declared.kinds.Side.{Side}
+use Rattle.letters_and_lassos.specs.Word.{Word, next, letter_at}
 use Rattle.machine_model.specs.Machine.{MachineModel}
 use Rattle.machine_model.specs.Run.{IsRun}
 use Rattle.machine_model.specs.Automaton.{AutomatonModel, HasEdge, rejects}

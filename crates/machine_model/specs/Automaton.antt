@@ -1,7 +1,7 @@
 use Rattle.std.specs.Prelude.{ℕ, ◌^◌, ◌<◌, ◌≤◌, ◌⊎◌, Bool, false, List, length, All, Any, Contains, slice_index_or}
-use Rattle.letter_word.specs.declared.letters.Letter.{Letter}
-use Rattle.letter_word.specs.declared.cubes.Cube.{Cube}
-use Rattle.letter_word.specs.Cube.{Fits}
+use Rattle.letters_and_lassos.specs.declared.letters.Letter.{Letter}
+use Rattle.letters_and_lassos.specs.declared.cubes.Cube.{Cube}
+use Rattle.letters_and_lassos.specs.Cube.{Fits}
 use Rattle.machine_model.specs.declared.automata.Edge.{Edge}
 
 -- a universal co-Büchi automaton: its edges, and for each state whether it is rejecting; the start is state 0

@@ -1,7 +1,7 @@
 use Rattle.std.specs.Prelude.{◌≡◌, ℕ, zero, suc, ◌<◌, List, length, slice_index, slice_index_or}
-use Rattle.letter_word.specs.declared.letters.Letter.{Letter}
-use Rattle.letter_word.specs.declared.kinds.Side.{Side}
-use Rattle.letter_word.specs.Word.{Word, no_signals, nth_letter}
+use Rattle.letters_and_lassos.specs.declared.letters.Letter.{Letter}
+use Rattle.letters_and_lassos.specs.declared.kinds.Side.{Side}
+use Rattle.letters_and_lassos.specs.Word.{Word, no_signals, nth_letter}
 use Rattle.machine_model.specs.Machine.{MachineModel, next_of, writes_of, size_of}
 use Rattle.machine_model.specs.Run.{joined}
 

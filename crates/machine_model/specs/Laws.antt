@@ -1,7 +1,7 @@
 use Rattle.std.specs.Prelude.{◌≡◌, ℕ, ◌+◌, ◌<◌, List, ◌++◌, All, drop, length}
-use Rattle.letter_word.specs.declared.kinds.Kind.TheVariants.{Moore}
-use Rattle.letter_word.specs.declared.kinds.Side.{Side}
-use Rattle.letter_word.specs.Word.{Word, HasRing, IsLassoOver, SameWord, nth_letter, unrolled_of}
+use Rattle.letters_and_lassos.specs.declared.kinds.Kind.TheVariants.{Moore}
+use Rattle.letters_and_lassos.specs.declared.kinds.Side.{Side}
+use Rattle.letters_and_lassos.specs.Word.{Word, HasRing, IsLassoOver, SameWord, nth_letter, unrolled_of}
 use Rattle.machine_model.specs.Machine.{MachineModel, IsMachine, size_of}
 use Rattle.machine_model.specs.Run.{IsRunLasso, read_lasso, written_part}
 use Rattle.machine_model.specs.Automaton.{AutomatonModel}

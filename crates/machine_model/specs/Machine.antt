@@ -1,6 +1,6 @@
 use Rattle.std.specs.Prelude.{◌≡◌, ◌≢◌, ℕ, ◌+◌, ◌*◌, ◌/◌, ◌%◌, ◌^◌, ◌<◌, ◌≤◌, ◌⊎◌, List, [], length, Any, slice_index_or}
-use Rattle.letter_word.specs.declared.kinds.Kind.{Kind}
-use Rattle.letter_word.specs.declared.kinds.Kind.TheVariants.{Moore}
+use Rattle.letters_and_lassos.specs.declared.kinds.Kind.{Kind}
+use Rattle.letters_and_lassos.specs.declared.kinds.Kind.TheVariants.{Moore}
 use Rattle.machine_model.specs.declared.machines.Row.{Row}
 use Rattle.machine_model.specs.declared.machines.MachineFault.{MachineFault}
 use Rattle.machine_model.specs.declared.machines.MachineFault.TheVariants.{WrongShape, NextOut, WriteOut, NotMoore}

@@ -1,6 +1,6 @@
 use Rattle.std.specs.Prelude.{◌≡◌, ◌==◌, ℕ, ◌/◌, ◌%◌, ◌<◌, Bool, ◌&&◌, ◌||◌, List, [], length, slice_index_or}
 use Rattle.std.specs.List.{list_any}
-use Rattle.letter_word.specs.Signals.{has}
+use Rattle.letters_and_lassos.specs.Signals.{has}
 use Rattle.machine_model.specs.Automaton.{AutomatonModel, states_of}
 use Rattle.machine_model.specs.Components.{is_reached}
 use Rattle.machine_model.specs.declared.automata.Edge.{Edge}

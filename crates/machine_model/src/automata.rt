@@ -2,7 +2,7 @@ ghost use Rattle.std.specs.Prelude.{◌≡◌, ◌≢◌, ◌↔◌, ◌^◌, �
 ghost use Rattle.std.specs.Bool.{OnTrue, OnFalse};
 ghost use Rattle.machine_model.specs.Automaton.{JoinsStates};
 
-use letter_word::Cube;
+use letters_and_lassos::Cube;
 use std::marker::Model;
 
 /// An edge of an automaton: it leads from a state to a state on the letters that fit its cube.

@@ -1,7 +1,7 @@
 //! Machines, co-Büchi automata, and what a run, a play, an accepted word and an accepted machine are.
 //! A machine is a kind and a table; its run lassos are lassos of whole letters with a state at each
 //! position. The contract above this layer: every lasso of read letters has a run, and only one word
-//! of it; being accepted is a property of the word. It stands on letter_word. The laws are in `laws`.
+//! of it; being accepted is a property of the word. It stands on letters_and_lassos. The laws are in `laws`.
 #![tactic(auto)]
 
 mod automata;

@@ -3,7 +3,7 @@ ghost use Rattle.std.specs.Bool.{OnTrue, OnFalse};
 ghost use Rattle.machine_model.specs.Machine.{MachineModel, IsMachine, IsRefused, writes_in};
 ghost use Rattle.machine_model.specs.declared.machines.MachineFault.{MachineFault};
 
-use letter_word::Kind;
+use letters_and_lassos::Kind;
 use std::alloc::AllocError;
 use std::marker::Model;
 

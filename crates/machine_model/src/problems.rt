@@ -3,7 +3,7 @@ ghost use Rattle.std.specs.Prelude.{◌≡◌, IfNone, IfOk, IfSome, false, true
 use crate::automata::Automaton;
 use crate::components::Components;
 use crate::counting::{Counting, Counts};
-use letter_word::{Kind, Side};
+use letters_and_lassos::{Kind, Side};
 use std::alloc::{AllocError, Global};
 use std::sync::Arc;
 

@@ -1,11 +1,11 @@
 ghost use Rattle.std.specs.Prelude.{◌≡◌, ℕ, ◌+◌, ◌^◌, ◌<◌, ◌≤◌, [], All, IfOk, OnOk, length};
-ghost use Rattle.letter_word.specs.Word.{IsLassoOver, SameWord, after, lasso_len};
+ghost use Rattle.letters_and_lassos.specs.Word.{IsLassoOver, SameWord, after, lasso_len};
 ghost use Rattle.machine_model.specs.Machine.{size_of, next_of};
 ghost use Rattle.machine_model.specs.Run.{IsRunLasso, read_lasso, joined};
 ghost use Rattle.machine_model.specs.Course.{IsCourse, letter_of};
 
 use crate::machines::{Machine, letter_count};
-use letter_word::{Lasso, Letter, Side};
+use letters_and_lassos::{Lasso, Letter, Side};
 use std::alloc::{AllocError, Global};
 
 /// A run of a machine: a lasso of whole letters, inputs below outputs, with a state at each position.

@@ -3,7 +3,7 @@
 use crate::machines::Answer;
 use circuit_steps::{has, letters_with, signal_bit};
 use indexmap::IndexSet;
-use letter_word::Letter;
+use letters_and_lassos::Letter;
 use std::alloc::{AllocError, Global};
 
 /// The most letters: those of 16 signals.

@@ -2,7 +2,7 @@
 //! reached, and what is answered in each to each letter of the inputs.
 //!
 //! `read_shown` reads, `Machine::of_circuit` explores a circuit by its steps, and writes the letters with one answer as few cubes. `Text` is what
-//! views write into. It promises safety alone. Stands on cert_text and
+//! views write into. It promises safety alone. Stands on document_text and
 //! solved_text for documents and on aiger_text for circuits.
 #![tactic(auto)]
 

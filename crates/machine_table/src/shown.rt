@@ -7,8 +7,8 @@ use crate::machines::Machine;
 use crate::outputs::{Found, find, is_output};
 use crate::solved::{SolvedDocument, read_sixth};
 use aiger_text::{Circuit, CircuitFault, read_circuit};
-use cert_text::{Document, DocumentFault, read_document};
-use letter_word::{Kind, Side};
+use document_text::{Document, DocumentFault, read_document};
+use letters_and_lassos::{Kind, Side};
 use solved_text::is_sixth;
 use std::alloc::Global;
 

@@ -1,7 +1,7 @@
 //! The logs of a document of any version.
 
 use crate::shown::Shown;
-use letter_word::Side;
+use letters_and_lassos::Side;
 use refutation_log::Entry;
 use solved_text::Letters;
 

@@ -2,10 +2,10 @@
 
 use crate::cubes::Cube;
 use crate::texts::Text;
-use letter_word::Letter;
+use letters_and_lassos::Letter;
+use names_and_numbers::Name;
 use std::alloc::{AllocError, Global};
 use std::fmt::Write;
-use text_base::Name;
 
 /// The names of the signals of one sort; one without a name is called by the letter of its sort and its place.
 pub(crate) fn names_of(

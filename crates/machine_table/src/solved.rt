@@ -2,8 +2,8 @@
 
 use crate::faults::ShowFault;
 use aiger_text::Circuit;
-use cert_text::CircuitPart;
-use letter_word::{Kind, Side};
+use document_text::CircuitPart;
+use letters_and_lassos::{Kind, Side};
 use solved_text::{SizeLog, SolvedLines, Verdict, read_solved};
 use std::alloc::Global;
 

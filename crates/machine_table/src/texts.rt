@@ -1,8 +1,8 @@
 //! A text that is being written.
 
 use crate::faults::ShowFault;
+use names_and_numbers::push_number;
 use std::alloc::Global;
-use text_base::push_number;
 
 /// The most bytes of a text: 64 MB.
 const MOST_BYTES: usize = 64_000_000;

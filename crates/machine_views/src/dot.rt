@@ -1,6 +1,6 @@
 //! A machine as a graph for Graphviz.
 
-use letter_word::Letter;
+use letters_and_lassos::Letter;
 use machine_table::{Edge, Machine, Part, Row, Text, escaped, put_cube, put_letter};
 use std::alloc::{AllocError, Global};
 

@@ -1,6 +1,6 @@
 //! A machine as an automaton in the Hanoi Omega-Automata format, version 1.
 
-use letter_word::Letter;
+use letters_and_lassos::Letter;
 use machine_table::{Answer, Cube, Machine, Part, Row, ShowFault, Text, escaped, has_twice};
 use std::alloc::Global;
 

@@ -2,8 +2,8 @@
 
 use crate::logs::{Ending, LogSummary, side_name};
 use crate::solved::put_letters;
-use cert_text::{Document, Verdict};
-use letter_word::Side;
+use document_text::{Document, Verdict};
+use letters_and_lassos::Side;
 use machine_table::{
     Cube, Edge, Machine, Part, ShowFault, Shown, ShownLog, SolvedDocument, Text, escaped,
     escaped_text, has_twice,

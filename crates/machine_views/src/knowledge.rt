@@ -2,8 +2,8 @@
 
 use crate::logs::{Ending, ending_of};
 use crate::solved;
-use cert_text::Verdict;
-use letter_word::Side;
+use document_text::Verdict;
+use letters_and_lassos::Side;
 use machine_table::{Part, Shown, ShownLog, Text};
 
 /// Puts what is known of the machine.

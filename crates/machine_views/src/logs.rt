@@ -1,6 +1,6 @@
 //! What is told of a log.
 
-use letter_word::Side;
+use letters_and_lassos::Side;
 use machine_table::ShownLog;
 use refutation_log::Entry;
 use std::alloc::{AllocError, Global};

@@ -1,10 +1,10 @@
 //! Which signals of two machines are the same.
 
 use circuit_steps::signal_bit;
-use letter_word::Letter;
+use letters_and_lassos::Letter;
 use machine_table::ShowFault;
+use names_and_numbers::Name;
 use std::alloc::Global;
-use text_base::Name;
 
 /// For each signal of a list its place in another list.
 #[derive(Drop)]

@@ -3,7 +3,7 @@
 use crate::json::{SIGNS, put_text, put_texts};
 use crate::knowledge::{put_known, put_size};
 use crate::page_text::{back, front};
-use letter_word::Side;
+use letters_and_lassos::Side;
 use machine_table::{Edge, Machine, Part, ShowFault, Shown, Text, escaped, put_digits, put_levels};
 use spec_texts::Told;
 use std::alloc::{AllocError, Global};

@@ -4,7 +4,7 @@ use crate::matching::Matching;
 use aiger_text::Circuit;
 use circuit_steps::{few, signal_bit};
 use indexmap::IndexSet;
-use letter_word::{Lasso, Letter};
+use letters_and_lassos::{Lasso, Letter};
 use machine_table::{Machine, ShowFault};
 use std::alloc::Global;
 

@@ -5,7 +5,7 @@ use crate::runs::{Step, steps_on};
 use crate::vcd::put_vcd;
 use crate::wave::put_wave;
 use circuit_steps::signal_bit;
-use letter_word::{Lasso, Letter};
+use letters_and_lassos::{Lasso, Letter};
 use machine_table::{Machine, ShowFault, Shown, Text, put_letter};
 use std::alloc::{AllocError, Global};
 

@@ -1,6 +1,6 @@
 //! What a machine does on a word.
 
-use letter_word::{Lasso, Letter};
+use letters_and_lassos::{Lasso, Letter};
 use machine_table::Machine;
 use std::alloc::{AllocError, Global};
 

@@ -1,7 +1,7 @@
 //! A machine as a module of SMV, whose inputs are free, with a formula that it should satisfy.
 
 use crate::smv_conditions::{put_output, put_steps};
-use letter_word::Side;
+use letters_and_lassos::Side;
 use machine_table::{Machine, Part, ShowFault, Shown, Text, has_twice, labels_of};
 use spec_texts::{SmvNames, TextFault, put_smv_formula};
 use std::alloc::Global;

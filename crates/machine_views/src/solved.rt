@@ -1,6 +1,6 @@
 //! What a document of version 6 says in sentences.
 
-use letter_word::{Kind, Side};
+use letters_and_lassos::{Kind, Side};
 use machine_table::{Part, SolvedDocument, Text};
 use solved_text::{Letters, Verdict};
 

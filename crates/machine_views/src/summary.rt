@@ -3,8 +3,8 @@
 use crate::logs::{Ending, LogSummary};
 use crate::solved;
 use aiger_text::Circuit;
-use cert_text::{Document, Verdict};
-use letter_word::{Kind, Side};
+use document_text::{Document, Verdict};
+use letters_and_lassos::{Kind, Side};
 use machine_table::{Machine, Part, ShowFault, Shown, ShownLog, SolvedDocument, Text, put_words};
 use std::alloc::{AllocError, Global};
 

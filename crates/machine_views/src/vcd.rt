@@ -1,7 +1,7 @@
 //! A run as a value change dump (IEEE 1364), which waveform viewers open.
 
 use crate::runs::Step;
-use letter_word::Letter;
+use letters_and_lassos::Letter;
 use machine_table::{Machine, Part, Text, escaped};
 use std::alloc::{AllocError, Global};
 

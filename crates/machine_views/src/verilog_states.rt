@@ -2,7 +2,7 @@
 
 use crate::ports::Ports;
 use crate::verilog::Names;
-use letter_word::Letter;
+use letters_and_lassos::Letter;
 use machine_table::{Answer, Edge, Part, Row, Text, put_cube};
 use std::alloc::{AllocError, Global};
 

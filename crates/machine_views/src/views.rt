@@ -11,11 +11,11 @@ use crate::vcd::put_vcd;
 use crate::verilog::{ModuleView, put_verilog};
 use crate::wave::put_wave;
 use lasso_word::{WordFault, read_word};
-use letter_word::Lasso;
+use letters_and_lassos::Lasso;
 use machine_table::{ShowFault, Shown, Text};
+use names_and_numbers::Name;
 use spec_texts::{TextFault, Told};
 use std::alloc::Global;
-use text_base::Name;
 
 /// What is shown of a document or of a circuit.
 #[derive(Clone, Copy)]

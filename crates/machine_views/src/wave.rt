@@ -1,7 +1,7 @@
 //! A run as lines of text, one for each signal.
 
 use crate::runs::Step;
-use letter_word::Letter;
+use letters_and_lassos::Letter;
 use machine_table::{Machine, Text};
 
 /// What stands before the states.

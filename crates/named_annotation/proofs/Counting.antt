@@ -2,10 +2,10 @@
 use Rattle.std.proofs.Common.{◌≡◌, ℕ, zero, suc, ◌+◌, ◌-◌, ◌<◌, ◌≤◌, Bool, true, false, IsTrue, cond, List, length, get_or, refl, sym, ap, subst, ◌∙◌, arith}
 use Rattle.std.specs.Prelude.{All, Contains, sum_by}
 use Rattle.std.proofs.lemmas.Bool.{eq-eqb}
-use Rattle.letter_word.specs.declared.kinds.Kind.{Kind}
-use Rattle.letter_word.specs.declared.kinds.Side.{Side}
-use Rattle.letter_word.specs.Word.{Word, HasRing, after, lasso_len, next, nth_letter}
-use Rattle.letter_word.proofs.Positions.{after-suc, after_within}
+use Rattle.letters_and_lassos.specs.declared.kinds.Kind.{Kind}
+use Rattle.letters_and_lassos.specs.declared.kinds.Side.{Side}
+use Rattle.letters_and_lassos.specs.Word.{Word, HasRing, after, lasso_len, next, nth_letter}
+use Rattle.letters_and_lassos.proofs.Positions.{after-suc, after_within}
 use Rattle.ltl_formula.specs.declared.nodes.FormulaId.{FormulaId}
 use Rattle.ltl_formula.specs.declared.nodes.Node.{Node}
 use Rattle.ltl_formula.specs.Nodes.{IsNodeList, Stands as IsFormula, tree_at}

@@ -7,7 +7,7 @@ ghost use Rattle.named_annotation.specs.Laws.{IsNamedCause, IsValidNamed};
 use crate::reading::NamedAnnotation;
 use aiger_text::Circuit;
 use annot_check::{AnnotFault, check_annotation};
-use letter_word::{Kind, Side};
+use letters_and_lassos::{Kind, Side};
 use std::alloc::Global;
 
 /// Whether an annotation over named states is valid for a circuit that plays this side and its own kind, or else the first cause for

@@ -2,9 +2,9 @@ use Rattle.std.proofs.Common.{◌≡◌, ℕ, ◌*◌, ◌%◌, ◌^◌, ◌<◌
 use Rattle.std.specs.Prelude.{bit_or}
 use Rattle.std.proofs.lemmas.Bool.{false≢true}
 use Rattle.std.proofs.Math.Pow.{pow-lt}
-use Rattle.letter_word.specs.Signals.{has, AreApart}
+use Rattle.letters_and_lassos.specs.Signals.{has, AreApart}
 use Rattle.ltl_formula.specs.declared.nodes.TheConstants.{MAX_SIGNALS}
-use Rattle.letter_word.specs.declared.cubes.Cube.{Cube}
+use Rattle.letters_and_lassos.specs.declared.cubes.Cube.{Cube}
 use Rattle.obligation_sets.specs.Apart.{apart_must, apart_not}
 use Rattle.obligation_sets.specs.Cubes.{wanting, wanting_at, forbidding, forbidding_at}
 

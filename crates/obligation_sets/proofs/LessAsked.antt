@@ -7,8 +7,8 @@ use Rattle.std.proofs.lemmas.Bool.{and_from, and_parts, both_ways, cond-false, e
 use Rattle.std.proofs.lemmas.Nat.{and_assoc}
 use Rattle.std.proofs.lemmas.Nat.Bits.{bit_at_and, same_from_bits}
 use Rattle.indexmap.specs.IndexSet.{insert_key}
-use Rattle.letter_word.specs.Signals.{has}
-use Rattle.letter_word.proofs.Sets.{has-bit_and}
+use Rattle.letters_and_lassos.specs.Signals.{has}
+use Rattle.letters_and_lassos.proofs.Sets.{has-bit_and}
 use Rattle.ltl_formula.specs.declared.nodes.FormulaId.{FormulaId}
 use Rattle.ltl_formula.specs.declared.nodes.Node.{Node}
 use Rattle.ltl_formula.proofs.NodeEquality.{same_id_of}

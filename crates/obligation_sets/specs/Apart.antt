@@ -3,8 +3,8 @@ use Rattle.std.specs.Prelude.{IsTrue, bit_or}
 use Rattle.std.specs.Int.{bit_at}
 use Rattle.std.proofs.lemmas.Bool.{eqb-true, eq-eqb, cases_eq, both_ways}
 use Rattle.std.proofs.lemmas.Nat.Bits.{bit_at_or, bit_at-lt, bit_at-zero, bit_at-pow_same, bit_at-pow_other}
-use Rattle.letter_word.specs.Signals.{has, AreApart}
-use Rattle.letter_word.specs.declared.cubes.Cube.{Cube}
+use Rattle.letters_and_lassos.specs.Signals.{has, AreApart}
+use Rattle.letters_and_lassos.specs.declared.cubes.Cube.{Cube}
 
 -- a set with signal j added has what it had, and j
 pub has-added : (s j k : ℕ) → IsTrue (has (bit_or s (2 ^ j)) k) → IsTrue (has s k) ⊎ (k ≡ j)

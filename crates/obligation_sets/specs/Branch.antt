@@ -1,5 +1,5 @@
 use Rattle.std.specs.Prelude.{Bool, List}
-use Rattle.letter_word.specs.declared.cubes.Cube.{Cube}
+use Rattle.letters_and_lassos.specs.declared.cubes.Cube.{Cube}
 use Rattle.ltl_formula.specs.declared.nodes.FormulaId.{FormulaId}
 
 -- one way to meet obligations: what is still to be met at this position, first things first; what was taken off that

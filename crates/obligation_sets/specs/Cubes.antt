@@ -1,7 +1,7 @@
 use Rattle.std.specs.Prelude.{◌≡◌, ℕ, ◌^◌, Bool, true, false, Option, Some, None, bit_or}
 use Rattle.std.proofs.Common.{refl}
-use Rattle.letter_word.specs.Signals.{has}
-use Rattle.letter_word.specs.declared.cubes.Cube.{Cube}
+use Rattle.letters_and_lassos.specs.Signals.{has}
+use Rattle.letters_and_lassos.specs.declared.cubes.Cube.{Cube}
 use Rattle.obligation_sets.specs.Apart.{apart_must, apart_none, apart_not}
 
 -- the cube that also wants the signal, where it isn't known to be forbidden

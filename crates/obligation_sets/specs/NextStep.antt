@@ -1,6 +1,6 @@
 use Rattle.std.specs.Prelude.{◌≡◌, ◌<◌, ℕ, false, List, All, Contains, IsTrue, length}
-use Rattle.letter_word.specs.Cube.{Fits}
-use Rattle.letter_word.specs.Word.{Word, HasRing, lasso_len, letter_at, next}
+use Rattle.letters_and_lassos.specs.Cube.{Fits}
+use Rattle.letters_and_lassos.specs.Word.{Word, HasRing, lasso_len, letter_at, next}
 use Rattle.ltl_formula.specs.declared.nodes.FormulaId.{FormulaId}
 use Rattle.ltl_formula.specs.declared.nodes.Node.{Node}
 use Rattle.ltl_formula.specs.Nodes.{IsNodeList, Stands, tree_at}

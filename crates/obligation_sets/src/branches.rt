@@ -9,7 +9,7 @@ ghost use Rattle.obligation_sets.specs.OpenWork.{open_work};
 ghost use Rattle.obligation_sets.specs.Reduced.{cover_by, implied_by, implied_parts, left_by, without};
 
 use crate::sets::{Cover, Covering, ObligationSet};
-use letter_word::{Cube, Letter};
+use letters_and_lassos::{Cube, Letter};
 use ltl_formula::{FormulaId, Formulas, Node};
 use std::alloc::{AllocError, Global};
 use std::marker::Model;

@@ -2,7 +2,7 @@
 //! the next position, and the untils that were put off. Reduced covers leave no more than they must, and the minimal
 //! ones stay. The contract above this layer: the covers are the list of the definition, and a set holds at a position
 //! exactly where some cover's cube fits there and its next set holds at the next position. It stands on ltl_formula,
-//! letter_word and indexmap. The laws are in `laws`.
+//! letters_and_lassos and indexmap. The laws are in `laws`.
 #![tactic(auto)]
 
 mod asking;

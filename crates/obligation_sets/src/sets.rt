@@ -1,6 +1,6 @@
 ghost use Rattle.std.specs.Prelude.{◌≡◌};
 
-use letter_word::Cube;
+use letters_and_lassos::Cube;
 use ltl_formula::FormulaId;
 use std::hash::{Hash, Hasher};
 use std::marker::Model;

@@ -3,9 +3,9 @@ use Rattle.std.proofs.Common.{◌≡◌, ℕ, zero, suc, ◌+◌, ◌-◌, ◌^�
 use Rattle.std.specs.Prelude.{All, IsTrue}
 use Rattle.std.proofs.lemmas.Bool.{cases_eq}
 use Rattle.std.proofs.lemmas.List.{get_or_default, get_or-map, get_or-take, length-map, length-take, length-drop, map-append, take-append-drop, take-take}
-use Rattle.letter_word.specs.Word.{Word, lasso_len, next, after, letter_at, no_signals}
-use Rattle.letter_word.specs.declared.letters.Letter.{Letter}
-use Rattle.letter_word.proofs.Positions.{next_within, next-inner, next-last, after-own, after_round}
+use Rattle.letters_and_lassos.specs.Word.{Word, lasso_len, next, after, letter_at, no_signals}
+use Rattle.letters_and_lassos.specs.declared.letters.Letter.{Letter}
+use Rattle.letters_and_lassos.proofs.Positions.{next_within, next-inner, next-last, after-own, after_round}
 use Rattle.machine_model.specs.Accepts.{Accepts, Path}
 use Rattle.machine_model.specs.Automaton.{HasEdge, rejects}
 use Rattle.machine_model.specs.Course.{letter_of}

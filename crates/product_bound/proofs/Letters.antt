@@ -3,10 +3,10 @@ use Rattle.std.proofs.Common.{ℕ, ◌<◌, ◌⊎◌, inl, inr}
 use Rattle.std.specs.Prelude.{bit_and}
 use Rattle.std.proofs.lemmas.Bool.{cases_eq}
 use Rattle.std.proofs.lemmas.List.Elements.{All-contains}
-use Rattle.letter_word.specs.declared.cubes.Cube.{Cube}
-use Rattle.letter_word.specs.declared.letters.Letter.{Letter}
-use Rattle.letter_word.specs.Cube.{Fits}
-use Rattle.letter_word.proofs.Sets.{apart, apart_empty, covers, covered}
+use Rattle.letters_and_lassos.specs.declared.cubes.Cube.{Cube}
+use Rattle.letters_and_lassos.specs.declared.letters.Letter.{Letter}
+use Rattle.letters_and_lassos.specs.Cube.{Fits}
+use Rattle.letters_and_lassos.proofs.Sets.{apart, apart_empty, covers, covered}
 use Rattle.machine_model.specs.Automaton.{AutomatonModel, HasEdge, IsAutomaton, JoinsStates, states_of}
 
 pub to_within : (a : AutomatonModel) (letter : Letter) (q r : ℕ) → IsAutomaton a → HasEdge a letter q r → r < states_of a

@@ -1,7 +1,7 @@
 -- Paths of the automaton, whatever the letters.
 use Rattle.std.proofs.Common.{ℕ, zero, suc, refl, sym, subst}
-use Rattle.letter_word.specs.Word.{Word, next}
-use Rattle.letter_word.specs.declared.letters.Letter.{Letter}
+use Rattle.letters_and_lassos.specs.Word.{Word, next}
+use Rattle.letters_and_lassos.specs.declared.letters.Letter.{Letter}
 use Rattle.machine_model.specs.Accepts.{Path}
 use Rattle.machine_model.specs.Automaton.{AutomatonModel, HasEdge}
 use Rattle.machine_model.specs.Components.{EdgePath, Reaches}

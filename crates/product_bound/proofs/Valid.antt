@@ -1,8 +1,8 @@
 -- Along a run of a machine with a valid annotation each pair has a number, and along a cycle, which stays in a component,
 -- numbers never fall, and rise at each edge into a rejecting state.
 use Rattle.std.proofs.Common.{◌≡◌, ℕ, zero, suc, ◌+◌, ◌<◌, ◌≤◌, List, length, sym, ap, ◌∙◌, subst, arith, Option, Some, cond, false, slice_index}
-use Rattle.letter_word.specs.Word.{Word, lasso_len, next, letter_at}
-use Rattle.letter_word.proofs.Positions.{next_within, next-inner}
+use Rattle.letters_and_lassos.specs.Word.{Word, lasso_len, next, letter_at}
+use Rattle.letters_and_lassos.proofs.Positions.{next_within, next-inner}
 use Rattle.machine_model.specs.Accepts.{Accepts, Path}
 use Rattle.machine_model.specs.Automaton.{HasEdge, IsAutomaton, states_of}
 use Rattle.machine_model.specs.Course.{letter_of}

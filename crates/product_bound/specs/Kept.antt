@@ -1,5 +1,5 @@
 use Rattle.std.specs.Prelude.{◌≡◌, ℕ, ◌^◌, ◌<◌, ◌≤◌, All, List, Option, Some}
-use Rattle.letter_word.specs.Cube.{Fits}
+use Rattle.letters_and_lassos.specs.Cube.{Fits}
 use Rattle.machine_model.specs.Course.{letter_of}
 use Rattle.machine_model.specs.Machine.{MachineModel, next_of}
 use Rattle.machine_model.specs.Automaton.{states_of}

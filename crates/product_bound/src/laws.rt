@@ -8,7 +8,7 @@ ghost use Rattle.product_bound.specs.Laws.{AcceptedIsAnnotated, AcceptedOrReject
 ghost use Rattle.product_bound.specs.Numbered.{named_before, numbered_of, numbered_row, place_in};
 
 use crate::annotations::letter_count;
-use letter_word::{Lasso, Letter};
+use letters_and_lassos::{Lasso, Letter};
 use machine_model::laws::{components_are_classes, joined_is_reached};
 use machine_model::{Machine, Problem, Row, RunLasso, whole_letter};
 use std::alloc::{AllocError, Global};

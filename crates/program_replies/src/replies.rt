@@ -4,9 +4,9 @@ ghost use Rattle.spec_faults.specs.Codes.{name_of, number_of};
 ghost use Rattle.program_replies.specs.Lines.{line_count, line_refusal, refusal_line};
 ghost use Rattle.program_replies.specs.Refusals.{IsRefusal};
 
+use names_and_numbers::push_number;
 use spec_faults::{SpecCode, SpecFault};
 use std::alloc::{AllocError, Global};
-use text_base::push_number;
 
 /// With which status the program ends.
 #[derive(Clone, Copy)]

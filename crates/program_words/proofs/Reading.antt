@@ -4,10 +4,10 @@ use Rattle.std.proofs.lemmas.Grind.{common_steps}
 use Rattle.std.specs.Char.{is_ascii_digit}
 use Rattle.std.specs.List.{list_all}
 use Rattle.std.specs.Result.{result_ok}
-use Rattle.text_base.specs.Numerals.{decimal_value, digit_run}
-use Rattle.text_base.specs.declared.number.NumberFault.{NumberFault}
-use Rattle.text_base.specs.declared.number.NumberFault.TheVariants.{NoDigits, Range}
-use Rattle.text_base.proofs.NumeralLemmas.{digit_run-append, digits_are}
+use Rattle.names_and_numbers.specs.Numerals.{decimal_value, digit_run}
+use Rattle.names_and_numbers.specs.declared.number.NumberFault.{NumberFault}
+use Rattle.names_and_numbers.specs.declared.number.NumberFault.TheVariants.{NoDigits, Range}
+use Rattle.names_and_numbers.proofs.NumeralLemmas.{digit_run-append, digits_are}
 use Rattle.program_words.specs.Numbers.{is_numeral, value_within}
 
 -- digits are the whole run

@@ -2,7 +2,7 @@
 use Rattle.std.specs.Prelude.{◌==◌, ◌&&◌, ◌||◌, ℕ, Bool, Option, Some, None, List, not, length, slice_index, nat_le, nat_lt, option_and_then, if◌then◌else◌}
 use Rattle.std.specs.Char.{is_ascii_digit}
 use Rattle.std.specs.List.{list_all}
-use Rattle.text_base.specs.Numerals.{decimal_value}
+use Rattle.names_and_numbers.specs.Numerals.{decimal_value}
 
 -- decimal digits, at least one, and no leading zero but in 0 itself
 abbrev pub is_numeral : List ℕ → Bool

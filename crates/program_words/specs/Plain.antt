@@ -4,7 +4,7 @@
 use Rattle.std.specs.Prelude.{◌≡◌, ◌==◌, ◌⊎◌, Bool, false, not, List, [], ◌∷◌, ◌++◌, Some, IsTrue, codes, find, option_map}
 use Rattle.std.specs.List.{list_any}
 use Rattle.std.specs.Str.{bytes_eq}
-use Rattle.letter_word.specs.declared.kinds.Side.TheVariants.{System, Environment}
+use Rattle.letters_and_lassos.specs.declared.kinds.Side.TheVariants.{System, Environment}
 use Rattle.clap.specs.Walk.{Text}
 use Rattle.program_words.specs.Numbers.{number_in}
 use Rattle.program_words.specs.Settings.{Given, synth_asked, bench_asked, core_asked, batch_asked, solve_asked, check, expand, gen, lasso, verify, settings_of}

@@ -1,7 +1,7 @@
 //! The words of the command line.
 //!
 //! `read_words` gives exactly the settings that the words ask for, or refuses them; which words ask for what is
-//! `settings_of` in `specs/`. `COMMANDS` is the table of the commands for who tells of them. Stands on `clap`, whose matches are all that is read, and on `text_base` for numbers.
+//! `settings_of` in `specs/`. `COMMANDS` is the table of the commands for who tells of them. Stands on `clap`, whose matches are all that is read, and on `names_and_numbers` for numbers.
 #![tactic(auto)]
 
 mod command_line;

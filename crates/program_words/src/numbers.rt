@@ -4,7 +4,7 @@ ghost use Rattle.std.specs.Char.{is_ascii_digit};
 ghost use Rattle.std.specs.List.{list_all};
 ghost use Rattle.program_words.specs.Numbers.{is_numeral, number_in, value_within};
 
-use text_base::{Cursor, read_number};
+use names_and_numbers::{Cursor, read_number};
 
 /// The number that a word is, if it is one from the least to the most.
 pub(crate) fn number_in(text: &str, least: u32, most: u32) -> Option<u32>

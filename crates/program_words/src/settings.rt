@@ -1,4 +1,4 @@
-use letter_word::{Kind, Side};
+use letters_and_lassos::{Kind, Side};
 use synth_engine::Settings as Search;
 
 /// What the words ask for. Names are those of files. A search has 1 to 8 workers; where many texts are searched, at most 4 and as many

@@ -1,6 +1,6 @@
 ghost use Rattle.std.specs.Prelude.{◌≡◌, ◌≢◌, Some, None, codes, if◌then◌else◌, map, option_map, option_and_then, string_bytes, is_some, IfOk, IfSome, IsErrOf, ◌≤◌};
 ghost use Rattle.std.specs.Str.{bytes_eq};
-ghost use Rattle.letter_word.specs.declared.kinds.Side.TheVariants.{Environment, System};
+ghost use Rattle.letters_and_lassos.specs.declared.kinds.Side.TheVariants.{Environment, System};
 ghost use Rattle.clap.specs.Words.{first_of, found_of, rows_of, subcommand_rows_of};
 ghost use Rattle.program_words.specs.Settings.{asked_by, asked_of, batch_asked, bench_asked, check_asked, core_asked, counts_asked, counts_in, expand_asked, gen_asked, given_in, IsInRange, IsSearchInRange, kind_asked, kind_in, lasso_asked, limit_in, limit_or, number_or, refuted_count, refuted_limit, search_asked, search_list_asked, settings_of, side_asked, solve_asked, solve_list_asked, synth_asked, verify_asked};
 
@@ -13,7 +13,7 @@ use crate::ranges::{
 use crate::settings::Settings;
 use clap::ArgMatches;
 use clap::error::ErrorKind;
-use letter_word::{Kind, Side};
+use letters_and_lassos::{Kind, Side};
 use machine_model::Counts;
 use std::alloc::{AllocError, Global};
 use synth_engine::Settings as Search;

@@ -6,10 +6,10 @@ use Rattle.std.proofs.lemmas.List.Elements.{All-nil, All-cons}
 use Rattle.std.proofs.lemmas.Option.{slice_get_within}
 use Rattle.std.proofs.lemmas.Bool.Decides.{Decides-eqb}
 use Rattle.std.proofs.lemmas.Bool.{or_parts}
-use Rattle.clause_base.specs.Literal.{Literal, negated}
-use Rattle.clause_base.specs.Truth.{is_true_literal, is_true_clause, meets}
-use Rattle.clause_base.specs.Partial.{is_falsified, unit_of, AgreesWith}
-use Rattle.clause_base.proofs.Tests.{is_true_literal-negated, falsified_is_false, unit_is_true}
+use Rattle.propositional_logic.specs.Literal.{Literal, negated}
+use Rattle.propositional_logic.specs.Truth.{is_true_literal, is_true_clause, meets}
+use Rattle.propositional_logic.specs.Partial.{is_falsified, unit_of, AgreesWith}
+use Rattle.propositional_logic.proofs.Tests.{is_true_literal-negated, falsified_is_false, unit_is_true}
 use Rattle.refutation_log.specs.Follows.{clause_named, unit_named, leads_to_conflict, Follows}
 use Rattle.refutation_log.proofs.Lists.{slice_get-append}
 

@@ -13,10 +13,10 @@ use Rattle.std.proofs.lemmas.Option.{slice_get_cases, slice_get_within, slice_ge
 use Rattle.std.proofs.Math.Seq.{take-suc, take-length}
 use Rattle.std.proofs.lemmas.Bool.{cases_lt}
 use borrow.Author.Tests.{ltb-false, leb-false}
-use Rattle.clause_base.specs.Literal.{Literal}
-use Rattle.clause_base.specs.Clause.{clause_eq, IsWithin}
-use Rattle.clause_base.specs.Truth.{is_true_clause, meets}
-use Rattle.clause_base.specs.Equality.{Decides-clause_eq}
+use Rattle.propositional_logic.specs.Literal.{Literal}
+use Rattle.propositional_logic.specs.Clause.{clause_eq, IsWithin}
+use Rattle.propositional_logic.specs.Truth.{is_true_clause, meets}
+use Rattle.propositional_logic.specs.Equality.{Decides-clause_eq}
 use Rattle.refutation_log.specs.declared.entries.Entry.{Entry}
 use Rattle.refutation_log.specs.declared.turns.Turn.{Turn}
 use Rattle.refutation_log.specs.declared.turns.Turn.TheVariants.{Append, Read}

@@ -6,10 +6,10 @@ use Rattle.std.specs.List.{flat_map}
 use Rattle.std.proofs.lemmas.List.{append_cancel_left}
 use Rattle.std.proofs.lemmas.List.Elements.{All-push}
 use Rattle.std.proofs.lemmas.Grind.{flat_map-append}
-use Rattle.clause_base.specs.Literal.{Literal}
-use Rattle.clause_base.specs.Clause.{IsClause, IsClauseOf, IsWithin, clause_eq}
-use Rattle.clause_base.specs.Equality.{Decides-clause_eq}
-use Rattle.clause_base.proofs.Rising.{rising_one}
+use Rattle.propositional_logic.specs.Literal.{Literal}
+use Rattle.propositional_logic.specs.Clause.{IsClause, IsClauseOf, IsWithin, clause_eq}
+use Rattle.propositional_logic.specs.Equality.{Decides-clause_eq}
+use Rattle.propositional_logic.proofs.Rising.{rising_one}
 use Rattle.refutation_log.specs.declared.entries.Entry.{Entry}
 use Rattle.refutation_log.specs.Text.{literal_word, hint_word, entry_line, IsWritable}
 use Rattle.refutation_log.specs.Read.{StatesEntry, StatesEntries, StatesNumber, IsLiteral, StatesLiteral, StatesLiterals, IsHint, StatesHint, StatesHints}

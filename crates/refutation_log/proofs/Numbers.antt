@@ -9,11 +9,11 @@ use Rattle.std.specs.Cmp.{first_so, second_so}
 use Rattle.std.proofs.lemmas.Option.{slice_get-get_or}
 use Rattle.std.proofs.lemmas.List.{take-append-drop, length-drop, take_all}
 use Rattle.std.proofs.Math.Seq.{drop-append_seam}
-use Rattle.text_base.specs.declared.number.NumberFault.{NumberFault}
-use Rattle.text_base.specs.declared.number.NumberFault.TheVariants.{NoDigits, Range}
-use Rattle.text_base.specs.Numerals.{digit_run, decimal_value}
-use Rattle.text_base.specs.Reading.{Reading, moved}
-use Rattle.text_base.proofs.NumeralLemmas.{all_digits-digit_run, decimal_is_numeral, numeral_is_decimal}
+use Rattle.names_and_numbers.specs.declared.number.NumberFault.{NumberFault}
+use Rattle.names_and_numbers.specs.declared.number.NumberFault.TheVariants.{NoDigits, Range}
+use Rattle.names_and_numbers.specs.Numerals.{digit_run, decimal_value}
+use Rattle.names_and_numbers.specs.Reading.{Reading, moved}
+use Rattle.names_and_numbers.proofs.NumeralLemmas.{all_digits-digit_run, decimal_is_numeral, numeral_is_decimal}
 use Rattle.refutation_log.specs.Read.{StatesNumber}
 use Rattle.refutation_log.proofs.Words.{run_of_number}
 

@@ -3,8 +3,8 @@ use Rattle.std.proofs.Common.{◌≡◌, ℕ, ◌<◌, inl, inr, ⊎_elim, nat_e
 use Rattle.std.specs.Prelude.{Contains}
 use Rattle.std.proofs.lemmas.List.Elements.{Contains-append_left, Contains-append_right, Contains-append_cases}
 use Rattle.std.proofs.lemmas.Option.{slice_get_within}
-use Rattle.clause_base.specs.Literal.{Literal}
-use Rattle.clause_base.proofs.Members.{Contains-head, Contains-later, Contains-cases}
+use Rattle.propositional_logic.specs.Literal.{Literal}
+use Rattle.propositional_logic.proofs.Members.{Contains-head, Contains-later, Contains-cases}
 use Rattle.refutation_log.specs.declared.entries.Entry.{Entry}
 use Rattle.refutation_log.specs.Entry.{clauses_of}
 use Rattle.refutation_log.specs.Teaches.{IsQuietBut, Teaches, entries_by, IsTaught}

@@ -4,10 +4,10 @@ use Rattle.std.specs.Prelude.{All, if◌then◌else◌}
 use Rattle.std.specs.List.{flat_map}
 use Rattle.std.proofs.lemmas.List.{append_cancel_left}
 use Rattle.std.proofs.lemmas.List.Elements.{All-head, All-tail, All-cons, All-nil, All-weaker}
-use Rattle.text_base.specs.Numerals.{digit_run, decimal_value, NoDigitNext}
-use Rattle.text_base.proofs.NumeralLemmas.{digit_run-append, decimal_is_numeral, numeral_is_decimal}
-use Rattle.clause_base.specs.Literal.{Literal}
-use Rattle.clause_base.specs.Clause.{IsClause, IsRisingFrom, IsWithin}
+use Rattle.names_and_numbers.specs.Numerals.{digit_run, decimal_value, NoDigitNext}
+use Rattle.names_and_numbers.proofs.NumeralLemmas.{digit_run-append, decimal_is_numeral, numeral_is_decimal}
+use Rattle.propositional_logic.specs.Literal.{Literal}
+use Rattle.propositional_logic.specs.Clause.{IsClause, IsRisingFrom, IsWithin}
 use Rattle.refutation_log.specs.declared.entries.Entry.{Entry}
 use Rattle.refutation_log.specs.Text.{literal_word, hint_word}
 use Rattle.refutation_log.specs.Read.{StatesEntry, StatesNumber, IsLiteral, StatesLiterals, IsHint, StatesHints}

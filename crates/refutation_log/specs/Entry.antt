@@ -1,6 +1,6 @@
 use Rattle.std.specs.Prelude.{List, All, map}
-use Rattle.clause_base.specs.Literal.{Literal}
-use Rattle.clause_base.specs.Clause.{IsClause}
+use Rattle.propositional_logic.specs.Literal.{Literal}
+use Rattle.propositional_logic.specs.Clause.{IsClause}
 use Rattle.refutation_log.specs.declared.entries.Entry.{Entry}
 
 -- The clauses of a list of entries, in its order (this project's own).

@@ -1,7 +1,7 @@
 use Rattle.std.specs.Prelude.{◌≡◌, ℕ, ◌-◌, Bool, true, false, nat_eq, if◌then◌else◌, List, [], ◌∷◌, Option, None, map, slice_get}
 use Rattle.std.specs.Option.{option_and_then, option_map_or}
-use Rattle.clause_base.specs.Literal.{Literal, negated}
-use Rattle.clause_base.specs.Partial.{is_falsified, unit_of}
+use Rattle.propositional_logic.specs.Literal.{Literal, negated}
+use Rattle.propositional_logic.specs.Partial.{is_falsified, unit_of}
 
 -- The clause that a number names: the first one has number 1 (this project's own).
 abbrev pub clause_named : List (List Literal) → ℕ → Option (List Literal)

@@ -1,7 +1,7 @@
 use Rattle.std.specs.Prelude.{◌≡◌, ◌≢◌, ℕ, ◌+◌, ◌<◌, ◌≤◌, ◌^◌, List, [], ◌∷◌, ◌++◌, Option, Some, None, All, decimal, length}
 use Rattle.std.specs.Borrow.{Bor}
 use Rattle.std.specs.List.{flat_map}
-use Rattle.clause_base.specs.Literal.{Literal}
+use Rattle.propositional_logic.specs.Literal.{Literal}
 use Rattle.refutation_log.specs.declared.entries.Entry.{Entry}
 use Rattle.refutation_log.specs.Text.{literal_word, hint_word, entry_line, log_text, IsWritable}
 

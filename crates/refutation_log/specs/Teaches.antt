@@ -1,6 +1,6 @@
 use Rattle.std.specs.Prelude.{◌≡◌, ◌≢◌, ℕ, false, nat_eq, List, [], ◌++◌, ◌⊎◌, Some, None, Contains, filter, take, slice_get}
-use Rattle.clause_base.specs.Literal.{Literal, negated}
-use Rattle.clause_base.specs.Partial.{is_falsified, unit_of}
+use Rattle.propositional_logic.specs.Literal.{Literal, negated}
+use Rattle.propositional_logic.specs.Partial.{is_falsified, unit_of}
 use Rattle.refutation_log.specs.declared.entries.Entry.{Entry}
 use Rattle.refutation_log.specs.Entry.{clauses_of}
 

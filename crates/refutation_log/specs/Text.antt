@@ -1,7 +1,7 @@
 use Rattle.std.specs.Prelude.{◌≡◌, ℕ, ◌^◌, ◌<◌, List, [], ◌∷◌, ◌++◌, if◌then◌else◌, decimal, All}
 use Rattle.std.specs.List.{flat_map}
-use Rattle.clause_base.specs.Literal.{Literal}
-use Rattle.clause_base.specs.Clause.{IsClause, IsWithin}
+use Rattle.propositional_logic.specs.Literal.{Literal}
+use Rattle.propositional_logic.specs.Clause.{IsClause, IsWithin}
 use Rattle.refutation_log.specs.declared.entries.Entry.{Entry}
 
 -- A literal in an entry line: `-` for not, its variable's number, a space (as in DIMACS).

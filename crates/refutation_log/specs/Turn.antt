@@ -1,7 +1,7 @@
 use Rattle.std.specs.Prelude.{ℕ, ⊤, Bool, false, nat_le, if◌then◌else◌, List, [], ◌∷◌, ◌++◌, Option, Some, None, position, length, take}
 use Rattle.std.specs.Option.{option_map_or}
-use Rattle.clause_base.specs.Literal.{Literal}
-use Rattle.clause_base.specs.Clause.{clause_eq, IsWithin}
+use Rattle.propositional_logic.specs.Literal.{Literal}
+use Rattle.propositional_logic.specs.Clause.{clause_eq, IsWithin}
 use Rattle.refutation_log.specs.declared.entries.Entry.{Entry}
 use Rattle.refutation_log.specs.declared.turns.Turn.{Turn}
 use Rattle.refutation_log.specs.declared.turns.Turn.TheVariants.{Append, Read}

@@ -3,11 +3,11 @@ ghost use Rattle.std.specs.Arc.{arc_slice_items, arc_value};
 ghost use Rattle.std.specs.Cmp.Lexicographic.{pointwise};
 ghost use Rattle.std.specs.Cmp.Rules.{comparing, hashing};
 ghost use Rattle.std.proofs.Common.{rules};
-ghost use Rattle.clause_base.specs.Literal.{Literal};
-ghost use Rattle.clause_base.specs.Clause.{IsClause, clause_eq};
-ghost use Rattle.clause_base.specs.Equality.{clause_eq-partial, clause_eq-equivalence, clause_eq-hashed, clause_writes};
+ghost use Rattle.propositional_logic.specs.Literal.{Literal};
+ghost use Rattle.propositional_logic.specs.Clause.{IsClause, clause_eq};
+ghost use Rattle.propositional_logic.specs.Equality.{clause_eq-partial, clause_eq-equivalence, clause_eq-hashed, clause_writes};
 
-use clause_base::{Clause, Lit};
+use propositional_logic::{Clause, Lit};
 use std::alloc::{AllocError, Global};
 use std::hash::{Hash, Hasher};
 use std::marker::Model;

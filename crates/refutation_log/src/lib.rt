@@ -2,7 +2,7 @@
 //!
 //! `specs/` says when a clause follows, when a log is legal, closed and full, and what a turn on a log does. `LogState` is a log
 //! on which each call is one such turn, which takes no memory where room was made before; `laws` says that a log stays legal over
-//! every list of sound turns, and that no assignment meets the clauses that a closed log refutes. Stands on clause_base and text_base.
+//! every list of sound turns, and that no assignment meets the clauses that a closed log refutes. Stands on propositional_logic and names_and_numbers.
 #![tactic(auto)]
 
 mod entries;

@@ -1,13 +1,13 @@
 ghost use Rattle.std.specs.Bool.{OnTrue};
 ghost use Rattle.std.specs.Prelude.{if◌then◌else◌, [], ◌∷◌, ◌≢◌, nat_lt, nat_eq, slice_index, length, ◌&&◌, ◌≡◌, ◌++◌, ◌-◌, ◌^◌, ℕ, List, All, IfOk, IfSome, IfNone, IsErrOf, Err, ◌<◌};
 ghost use Rattle.refutation_log.specs.declared.read.LogTextFault.TheVariants.{BadLine, WrongCount, NoMemory};
-ghost use Rattle.clause_base.specs.Clause.{IsClause, IsWithin};
+ghost use Rattle.propositional_logic.specs.Clause.{IsClause, IsWithin};
 ghost use Rattle.refutation_log.specs.Read.{StatesEntry, IsReadAs, IsBadLine, IsTooShort, IsReadBy, StatesNumber, StatesLiteral, StatesLiterals, StatesHint, StatesHints};
 
 use crate::{Entry, Hints, SharedClause};
-use clause_base::{Clause, ClauseFault, Lit};
+use names_and_numbers::{Cursor, read_number};
+use propositional_logic::{Clause, ClauseFault, Lit};
 use std::alloc::{AllocError, AllocFailed, Global};
-use text_base::{Cursor, read_number};
 
 /// The entries of a text of entry lines, and how many bytes their lines are.
 #[derive(Debug, Drop)]

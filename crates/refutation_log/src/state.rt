@@ -1,6 +1,6 @@
 ghost use Rattle.std.specs.Prelude.{◌≡◌, ℕ, ◌+◌, ◌^◌, ◌<◌, ◌≤◌, ◌&&◌, not, List, [], ◌∷◌, ◌++◌, Some, None, length, map, slice_get, IfOk, IsOk, OnOk};
 ghost use Rattle.indexmap.specs.IndexMap.{spare};
-ghost use Rattle.clause_base.specs.Clause.{IsClause};
+ghost use Rattle.propositional_logic.specs.Clause.{IsClause};
 ghost use Rattle.refutation_log.specs.declared.turns.Turn.TheVariants.{Append};
 ghost use Rattle.refutation_log.specs.Entry.{AreSorted};
 ghost use Rattle.refutation_log.specs.Log.{is_ended};

@@ -1,14 +1,14 @@
 ghost use Rattle.std.specs.Prelude.{◌≡◌, ◌++◌, OnOk, OnErr, ◌∷◌, []};
 ghost use Rattle.std.specs.List.{flat_map};
-ghost use Rattle.text_base.specs.Prefix.{IsPrefix};
+ghost use Rattle.names_and_numbers.specs.Prefix.{IsPrefix};
 ghost use Rattle.refutation_log.specs.Text.{literal_word, hint_word, entry_line, log_text};
 ghost use Rattle.refutation_log.specs.Read.{IsReadBack};
 ghost use Rattle.refutation_log.specs.Shown.{shown};
 
 use crate::{Entry, EntryRef, Hints, LogState, SharedClause};
-use clause_base::Lit;
+use names_and_numbers::push_number;
+use propositional_logic::Lit;
 use std::alloc::AllocError;
-use text_base::push_number;
 
 /// Appends the entry lines of a log. After want of memory `out` is as before.
 pub fn write_log(log: &LogState, out: &mut Vec<u8>) -> Result<(), AllocError>

@@ -1,16 +1,16 @@
 use Rattle.std.proofs.Common.{◌≡◌, ◌≢◌, true, false, refl, sym, ◌∙◌, subst}
-use Rattle.letter_word.specs.declared.kinds.Kind.{Kind}
-use Rattle.letter_word.specs.declared.kinds.Kind.TheVariants.{Mealy, Moore}
-use Rattle.letter_word.specs.declared.kinds.Side.TheVariants.{System, Environment}
-use Rattle.letter_word.specs.Kinds.{other_kind}
-use Rattle.letter_word.specs.Word.{Word}
+use Rattle.letters_and_lassos.specs.declared.kinds.Kind.{Kind}
+use Rattle.letters_and_lassos.specs.declared.kinds.Kind.TheVariants.{Mealy, Moore}
+use Rattle.letters_and_lassos.specs.declared.kinds.Side.TheVariants.{System, Environment}
+use Rattle.letters_and_lassos.specs.Kinds.{other_kind}
+use Rattle.letters_and_lassos.specs.Word.{Word}
 use Rattle.ltl_formula.specs.Tree.{Tree}
 use Rattle.machine_model.specs.Machine.{MachineModel, IsMachine}
 use Rattle.machine_model.specs.Run.{ArePartners, IsPlay, IsRun}
-use Rattle.dual_search.specs.Defeat.{DefeatsAll, EachRunMakes}
-use Rattle.dual_search.proofs.Repeats.{is_machine, is_play, repeats}
-use Rattle.dual_search.proofs.Repeats.{are_partners as repeating}
-use Rattle.dual_search.proofs.Defeats.{accepted_counter_machines_defeat, accepted_machines_make}
+use Rattle.side_automata.specs.Defeat.{DefeatsAll, EachRunMakes}
+use Rattle.side_automata.proofs.Repeats.{is_machine, is_play, repeats}
+use Rattle.side_automata.proofs.Repeats.{are_partners as repeating}
+use Rattle.side_automata.proofs.Defeats.{accepted_counter_machines_defeat, accepted_machines_make}
 use Rattle.aiger_text.specs.Circuit.{IsCircuitOfKind}
 use Rattle.satisfaction.specs.Wanted.{Wanted, Says}
 use Rattle.satisfaction.specs.Satisfaction.{IsSystemFor, IsEnvironmentFor, Satisfies, Defeats, CanLose, CircuitSatisfies, CircuitDefeats}

@@ -1,8 +1,8 @@
 -- Laws of what machines and circuits owe.
 use Rattle.std.specs.Prelude.{◌≡◌, ◌↔◌, true, false, map, Some}
-use Rattle.letter_word.specs.declared.kinds.Side.TheVariants.{System, Environment}
-use Rattle.letter_word.specs.Kinds.{other_kind}
-use Rattle.letter_word.specs.Word.{Word}
+use Rattle.letters_and_lassos.specs.declared.kinds.Side.TheVariants.{System, Environment}
+use Rattle.letters_and_lassos.specs.Kinds.{other_kind}
+use Rattle.letters_and_lassos.specs.Word.{Word}
 use Rattle.ltl_formula.specs.Tree.{Tree}
 use Rattle.machine_model.specs.Machine.{MachineModel}
 use Rattle.machine_model.specs.Run.{IsRun}
@@ -10,7 +10,7 @@ use Rattle.machine_model.specs.Automaton.{AutomatonModel}
 use Rattle.machine_model.specs.Accepts.{Accepts, SideAccepts}
 use Rattle.aiger_text.specs.Circuit.{Circuit, IsCircuitOfKind}
 use Rattle.gate_build.specs.Laws.{HasTheRunsOf}
-use Rattle.dual_search.specs.Sides.{AcceptsWhere}
+use Rattle.side_automata.specs.Sides.{AcceptsWhere}
 use Rattle.satisfaction.specs.Wanted.{Wanted, Says}
 use Rattle.satisfaction.specs.Satisfaction.{IsSystemFor, IsEnvironmentFor, Satisfies, Defeats, CanLose, CircuitSatisfies, CircuitDefeats}
 

@@ -1,9 +1,9 @@
 -- What machines and circuits owe to what is wanted (bounded synthesis of Finkbeiner and Schewe; the duality of Mealy and Moore
 -- machines).
 use Rattle.std.specs.Prelude.{◌≡◌, ℕ, true, false, length, map, Some}
-use Rattle.letter_word.specs.declared.kinds.Side.TheVariants.{System, Environment}
-use Rattle.letter_word.specs.Kinds.{other_kind}
-use Rattle.letter_word.specs.Word.{Word}
+use Rattle.letters_and_lassos.specs.declared.kinds.Side.TheVariants.{System, Environment}
+use Rattle.letters_and_lassos.specs.Kinds.{other_kind}
+use Rattle.letters_and_lassos.specs.Word.{Word}
 use Rattle.machine_model.specs.Machine.{MachineModel, IsMachine, size_of}
 use Rattle.machine_model.specs.Run.{IsPlay, IsRun}
 use Rattle.aiger_text.specs.Circuit.{Circuit, IsCircuitOfKind}

@@ -1,7 +1,7 @@
 -- What a text asks of machines, however it is written (this project's own).
 use Rattle.std.specs.Prelude.{◌≡◌, ℕ, Bool, List}
-use Rattle.letter_word.specs.declared.kinds.Kind.{Kind}
-use Rattle.letter_word.specs.Word.{Word}
+use Rattle.letters_and_lassos.specs.declared.kinds.Kind.{Kind}
+use Rattle.letters_and_lassos.specs.Word.{Word}
 use Rattle.ltl_formula.specs.Tree.{Tree}
 use Rattle.ltl_formula.specs.Truth.{holds}
 

@@ -2,8 +2,8 @@ use Rattle.std.proofs.Common.{◌≡◌, ℕ, ◌+◌, ◌*◌, ◌<◌, ◌≤�
 use Rattle.std.proofs.lemmas.Bool.{cond_both, cases_lt, cases_eq, and_parts, and_cases, ltb-true, ltb-false, leb-true}
 use Rattle.std.specs.Bool.{IsTrue}
 use Rattle.std.specs.Prelude.{nat_lt, IfNone, IfSome}
-use Rattle.letter_word.specs.declared.kinds.Side.{Side}
-use Rattle.letter_word.specs.declared.kinds.Side.TheVariants.{System, Environment}
+use Rattle.letters_and_lassos.specs.declared.kinds.Side.{Side}
+use Rattle.letters_and_lassos.specs.declared.kinds.Side.TheVariants.{System, Environment}
 use Rattle.size_board.specs.declared.events.Claim.{Claim}
 use Rattle.size_board.specs.Names.{Named, sizes_of}
 use Rattle.size_board.specs.Board.{BoardModel, IsFirstOpenSize, is_open, state_of}

@@ -1,5 +1,5 @@
 use Rattle.std.proofs.Common.{◌≡◌, ℕ, ◌+◌, ◌<◌, ◌≤◌, Option, Some, None, refl, sym, ap, subst, arith}
-use Rattle.letter_word.specs.declared.kinds.Side.{Side}
+use Rattle.letters_and_lassos.specs.declared.kinds.Side.{Side}
 use Rattle.machine_model.specs.Machine.{MachineModel, size_of}
 use Rattle.size_board.specs.Names.{Named, IsSearchable, SideHas, sizes_of, sought_by, sought_of}
 use Rattle.machine_model.specs.Problem.{IsProblem, sized}

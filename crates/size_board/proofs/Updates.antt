@@ -1,5 +1,5 @@
 use Rattle.std.proofs.Common.{◌≡◌, ℕ, ◌+◌, ◌<◌, ◌≤◌, ◌^◌, List, length, get_or, ap, arith}
-use Rattle.letter_word.specs.declared.kinds.Side.{Side}
+use Rattle.letters_and_lassos.specs.declared.kinds.Side.{Side}
 use Rattle.size_board.specs.declared.events.SizeState.{SizeState}
 use Rattle.size_board.specs.declared.events.Event.{Event}
 use Rattle.size_board.specs.States.{after_event, fresh, replay}

@@ -1,7 +1,7 @@
 use Rattle.std.specs.Prelude.{ℕ, ◌+◌, ◌-◌, ◌==◌, ◌&&◌, Bool, true, false, List, if◌then◌else◌}
 use Rattle.std.specs.List.{fold}
-use Rattle.letter_word.specs.declared.kinds.Side.{Side}
-use Rattle.letter_word.specs.contracts.kinds.SidePartialEq.TheImpl.{ghosts as side_ghosts}
+use Rattle.letters_and_lassos.specs.declared.kinds.Side.{Side}
+use Rattle.letters_and_lassos.specs.contracts.kinds.SidePartialEq.TheImpl.{ghosts as side_ghosts}
 use Rattle.size_board.specs.declared.events.Claim.{Claim}
 use Rattle.size_board.specs.declared.events.SizeState.{SizeState}
 use Rattle.size_board.specs.declared.events.Event.{Event}

@@ -1,6 +1,6 @@
 ghost use Rattle.std.specs.Prelude.{◌≡◌, ◌≢◌, ◌↔◌, ℕ, ◌+◌, ◌-◌, ◌^◌, ◌<◌, ◌≤◌, [], ◌∷◌, ◌++◌, None, OnOk, OnErr, IfOk, IfSome, IfNone, IsTrue, false, length, slice_index_or};
 ghost use Rattle.std.specs.Option.{option_map, option_copied, ForSome};
-ghost use Rattle.letter_word.specs.declared.kinds.Side.TheVariants.{System, Environment};
+ghost use Rattle.letters_and_lassos.specs.declared.kinds.Side.TheVariants.{System, Environment};
 ghost use Rattle.machine_model.specs.Machine.{size_of};
 ghost use Rattle.size_board.specs.States.{after_event, fresh, place_of, replay};
 ghost use Rattle.size_board.specs.Kept.{AreStates};
@@ -8,7 +8,7 @@ ghost use Rattle.size_board.specs.Board.{smaller};
 
 use crate::events::{Claim, Event, SizeState};
 use crate::names::ProblemNames;
-use letter_word::Side;
+use letters_and_lassos::Side;
 use machine_model::{Machine, Problem};
 use std::alloc::{AllocError, Global};
 use std::marker::{Model, PhantomData};

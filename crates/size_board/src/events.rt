@@ -1,7 +1,7 @@
 ghost use Rattle.std.specs.Prelude.{◌≡◌, ℕ, ◌+◌, ◌^◌, ◌<◌};
 ghost use Rattle.size_board.specs.States.{after_event, changed, is_at, place_of};
 
-use letter_word::Side;
+use letters_and_lassos::Side;
 
 /// A size of a side, as a worker claims it.
 #[derive(Clone, Copy, Debug, PartialEq, Eq)]

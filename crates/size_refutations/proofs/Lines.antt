@@ -3,7 +3,7 @@ use Rattle.std.proofs.Common.{◌≡◌, ℕ, ◌^◌, ◌&&◌, Bool, true, fal
 use Rattle.std.specs.Prelude.{is_some}
 use Rattle.std.specs.List.{range_with_len}
 use Rattle.std.proofs.lemmas.Bool.{and_from, and_parts}
-use Rattle.clause_base.specs.declared.formula.Cnf.{Cnf}
+use Rattle.propositional_logic.specs.declared.formula.Cnf.{Cnf}
 use Rattle.machine_model.specs.Problem.{Parts, parts_of, reads_of, sized}
 use Rattle.machine_model.specs.declared.problems.Problem.{Problem}
 use Rattle.letter_clauses.specs.BaseClauses.{base_clauses}

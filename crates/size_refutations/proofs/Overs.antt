@@ -1,6 +1,6 @@
 -- The line at which a log fails over a problem and letters.
 use Rattle.std.proofs.Common.{◌≡◌, ℕ, ◌+◌, ◌<◌, Bool, true, false, cond, Option, Some, None, List, length, refl, sym, subst, ◌∙◌, arith}
-use Rattle.clause_base.specs.Literal.{Literal}
+use Rattle.propositional_logic.specs.Literal.{Literal}
 use Rattle.machine_model.specs.declared.problems.Problem.{Problem}
 use Rattle.refutation_log.specs.declared.entries.Entry.{Entry}
 use Rattle.refutation_log.specs.Log.{is_ended, IsLegal}

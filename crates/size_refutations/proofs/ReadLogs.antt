@@ -5,11 +5,11 @@ use Rattle.std.proofs.lemmas.List.{length-append}
 use Rattle.std.proofs.lemmas.List.Elements.{All-cons}
 use Rattle.refutation_log.specs.declared.entries.Entry.{Entry}
 use Rattle.aiger_text.specs.CircuitFile.{File}
-use Rattle.cert_text.specs.Header.{front}
-use Rattle.cert_text.specs.Logs.{AreFirstEntries}
-use Rattle.cert_text.proofs.CommentLine.{comment_fits}
-use Rattle.cert_text.proofs.EntriesLemmas.{stated_length}
-use Rattle.cert_text.proofs.LineRead.{front_is}
+use Rattle.document_text.specs.Header.{front}
+use Rattle.document_text.specs.Logs.{AreFirstEntries}
+use Rattle.document_text.proofs.CommentLine.{comment_fits}
+use Rattle.document_text.proofs.EntriesLemmas.{stated_length}
+use Rattle.document_text.proofs.LineRead.{front_is}
 use Rattle.solved_text.specs.declared.heads.Head.{Head}
 use Rattle.solved_text.specs.Header.{header_of}
 use Rattle.solved_text.specs.Logs.{LogsRead, ReadsLogs, ended, no_head, stopped, whole, head_in, log_of}

@@ -1,6 +1,6 @@
 -- Two problems of one ground and size say the same, and so do their tests of a log.
 use Rattle.std.proofs.Common.{◌≡◌, ℕ, Option, None, List, length, sym, ap, subst, ◌∙◌}
-use Rattle.clause_base.specs.Literal.{Literal}
+use Rattle.propositional_logic.specs.Literal.{Literal}
 use Rattle.obligation_sets.specs.declared.sets.Covering.{Covering}
 use Rattle.machine_model.specs.declared.problems.Problem.{Problem}
 use Rattle.machine_model.specs.Counting.{CountsBy}

@@ -1,8 +1,8 @@
 -- What is kept of a ground gives the problem of each size.
 use Rattle.std.proofs.Common.{◌≡◌, ℕ, ◌+◌, ◌≤◌, true, List, sym, ap, subst, ◌∙◌, arith}
 use Rattle.std.specs.Prelude.{All}
-use Rattle.letter_word.specs.declared.kinds.Side.{Side}
-use Rattle.letter_word.specs.declared.kinds.Side.TheVariants.{System, Environment}
+use Rattle.letters_and_lassos.specs.declared.kinds.Side.{Side}
+use Rattle.letters_and_lassos.specs.declared.kinds.Side.TheVariants.{System, Environment}
 use Rattle.machine_model.specs.Automaton.{AutomatonModel, states_of}
 use Rattle.machine_model.specs.Counting.{CountsBy}
 use Rattle.machine_model.specs.Problem.{NamesSignals, Parts, automaton_of, parts_of, reads_of, sized}

@@ -1,6 +1,6 @@
 -- The base clauses of each size over any list of letters, as a search takes them (this project's own).
 use Rattle.std.specs.Prelude.{◌≡◌, ℕ, ◌&&◌, Bool, true, List, Option, Some, None, is_some, if◌then◌else◌}
-use Rattle.clause_base.specs.declared.formula.Cnf.{Cnf}
+use Rattle.propositional_logic.specs.declared.formula.Cnf.{Cnf}
 use Rattle.machine_model.specs.Problem.{reads_of}
 use Rattle.machine_model.specs.declared.problems.Problem.{Problem}
 use Rattle.letter_clauses.specs.BaseClauses.{base_clauses}

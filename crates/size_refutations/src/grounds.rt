@@ -2,7 +2,7 @@
 ghost use Rattle.std.specs.Prelude.{◌≡◌, ◌≤◌, ◌+◌, All, IfOk, IfSome, None};
 ghost use Rattle.std.specs.Arc.{arc_value};
 ghost use Rattle.std.specs.Bool.{OnFalse, OnTrue};
-ghost use Rattle.clause_base.specs.Clause.{IsFormula};
+ghost use Rattle.propositional_logic.specs.Clause.{IsFormula};
 ghost use Rattle.machine_model.specs.Automaton.{states_of};
 ghost use Rattle.machine_model.specs.Problem.{NamesSignals, automaton_of};
 ghost use Rattle.size_refutations.specs.FirstBad.{LogFails};
@@ -12,12 +12,12 @@ ghost use Rattle.size_refutations.specs.Sizes.{AreClausesAt, IsCountOf};
 
 use crate::logs::searched_line;
 use crate::sizes::{clauses_at, count_at};
-use clause_base::Cnf;
 use cobuchi_build::{BuildFault, build};
-use letter_word::{Kind, Side};
+use letters_and_lassos::{Kind, Side};
 use ltl_formula::{FormulaId, Formulas};
 use machine_model::{Automaton, Counts, Edge, Problem};
 use obligation_sets::Covering;
+use propositional_logic::Cnf;
 use solved_text::SizeLog;
 use std::alloc::{AllocError, Global};
 use std::marker::Model;

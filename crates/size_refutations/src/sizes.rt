@@ -1,15 +1,15 @@
 //! The base clauses of one size over letters.
 ghost use Rattle.std.specs.Prelude.{◌≡◌, ◌≤◌, IfOk, IfSome};
-ghost use Rattle.clause_base.specs.Clause.{IsFormula};
+ghost use Rattle.propositional_logic.specs.Clause.{IsFormula};
 ghost use Rattle.machine_model.specs.Problem.{reads_of};
 ghost use Rattle.size_refutations.specs.Parts.{IsSearchOf, IsSizedAs, ground_of};
 ghost use Rattle.size_refutations.specs.Sizes.{AreClausesAt, AreClausesOver, IsCountOf, clause_count, may_be_counted as may_count};
 
 use crate::grounds::Sought;
 use crate::heads::{is_list, is_number_of_states};
-use clause_base::Cnf;
 use letter_clauses::LetterSize;
 use machine_model::Problem;
+use propositional_logic::Cnf;
 use std::alloc::{AllocError, Global};
 
 /// The number of base clauses of a size over letters, where they are allowed.

@@ -7,10 +7,10 @@ use Rattle.std.proofs.lemmas.List.Elements.{Contains-get_or, Contains-append_lef
 use Rattle.std.proofs.lemmas.List.Quantifiers.{position-Some}
 use Rattle.std.proofs.lemmas.Option.{slice_get-get_or}
 use borrow.Author.Tests.{ltb-true, ltb-false}
-use Rattle.clause_base.specs.Literal.{Literal}
-use Rattle.clause_base.specs.Clause.{clause_eq, IsClause}
-use Rattle.clause_base.specs.Equality.{Decides-clause_eq}
-use Rattle.clause_base.proofs.Members.{Contains-head, Contains-later, Contains-cases}
+use Rattle.propositional_logic.specs.Literal.{Literal}
+use Rattle.propositional_logic.specs.Clause.{clause_eq, IsClause}
+use Rattle.propositional_logic.specs.Equality.{Decides-clause_eq}
+use Rattle.propositional_logic.proofs.Members.{Contains-head, Contains-later, Contains-cases}
 use Rattle.refutation_log.specs.declared.entries.Entry.{Entry}
 use Rattle.refutation_log.specs.declared.turns.Turn.TheVariants.{Append}
 use Rattle.refutation_log.specs.declared.turns.Reply.{Reply}
@@ -21,7 +21,7 @@ use Rattle.refutation_log.specs.Teaches.{IsQuietBut, Teaches, entries_by}
 use Rattle.refutation_log.specs.Turn.{place_of, is_at_limit, reply_to_new, reply_of, log_after, log_replied}
 use Rattle.refutation_log.proofs.StateLemmas.{is_ended-last, is_empty_clause-length}
 use Rattle.refutation_log.proofs.LegalLemmas.{get_or-clauses}
-use Rattle.text_base.specs.Prefix.{IsPrefix}
+use Rattle.names_and_numbers.specs.Prefix.{IsPrefix}
 use Rattle.clause_solver.proofs.NewLemmas.{teaching_clauses_are_new}
 
 -- ---- an entry was offered to a log

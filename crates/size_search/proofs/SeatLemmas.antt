@@ -2,10 +2,10 @@
 use Rattle.std.proofs.Common.{◌≡◌, ℕ, List, [], ◌∷◌, ◌++◌, Option, Some, None, slice_get, length, ◌<◌, refl, sym, subst, ap, ◌∙◌, arith}
 use Rattle.std.proofs.lemmas.Option.{slice_get_within}
 use Rattle.std.specs.Prelude.{IfSome}
-use Rattle.clause_base.specs.Literal.{Literal}
+use Rattle.propositional_logic.specs.Literal.{Literal}
 use Rattle.refutation_log.specs.declared.entries.Entry.{Entry}
-use Rattle.text_base.specs.Prefix.{IsPrefix}
-use Rattle.text_base.proofs.PrefixLemmas.{IsPrefix-refl, IsPrefix-trans}
+use Rattle.names_and_numbers.specs.Prefix.{IsPrefix}
+use Rattle.names_and_numbers.proofs.PrefixLemmas.{IsPrefix-refl, IsPrefix-trans}
 use Rattle.clause_exchange.specs.SharedLog.{IsAfterTurn, PassView, SharedLog, new_pass}
 use Rattle.clause_solver.specs.Worker.{WorkerModel, IsWorkingOn}
 use Rattle.clause_solver.proofs.WorkLemmas.{work_goes_on}

@@ -3,10 +3,10 @@ use Rattle.std.proofs.Common.{◌≡◌, ℕ, ◌-◌, ◌<◌, ◌≤◌, nat_l
 use Rattle.std.proofs.lemmas.List.{append-nil, get_or_append_left}
 use Rattle.std.proofs.lemmas.Option.{slice_get-get_or}
 use borrow.Author.Tests.{ltb-true, ltb-false}
-use Rattle.clause_base.specs.Literal.{Literal}
-use Rattle.clause_base.specs.declared.formula.Cnf.{Cnf}
-use Rattle.clause_base.specs.Truth.{meets}
-use Rattle.clause_base.specs.Clause.{IsFormula}
+use Rattle.propositional_logic.specs.Literal.{Literal}
+use Rattle.propositional_logic.specs.declared.formula.Cnf.{Cnf}
+use Rattle.propositional_logic.specs.Truth.{meets}
+use Rattle.propositional_logic.specs.Clause.{IsFormula}
 use Rattle.machine_model.specs.Machine.{MachineModel}
 use Rattle.machine_model.specs.Automaton.{IsAutomaton}
 use Rattle.machine_model.specs.Problem.{IsProblem, automaton_of}
@@ -19,7 +19,7 @@ use Rattle.refutation_log.specs.Log.{is_empty_clause, is_ended, IsWithinLimit}
 use Rattle.refutation_log.proofs.LegalLemmas.{closed_refutes}
 use Rattle.refutation_log.proofs.StateLemmas.{is_ended-last}
 use Rattle.clause_exchange.specs.declared.views.Terms.{Terms}
-use Rattle.text_base.specs.Prefix.{IsPrefix}
+use Rattle.names_and_numbers.specs.Prefix.{IsPrefix}
 use Rattle.clause_exchange.specs.SharedLog.{IsAfterTurn, IsLogOn, PassView, SharedLog}
 use Rattle.size_search.specs.Task.{SizeTaskModel, IsKept}
 use Rattle.size_search.specs.Decided.{IsAcceptedOf, IsClosedOn}

@@ -1,6 +1,6 @@
 use Rattle.std.specs.Prelude.{◌≡◌, List}
 use Rattle.refutation_log.specs.declared.entries.Entry.{Entry}
-use Rattle.text_base.specs.Prefix.{IsPrefix}
+use Rattle.names_and_numbers.specs.Prefix.{IsPrefix}
 use Rattle.clause_exchange.specs.SharedLog.{PassView}
 use Rattle.clause_solver.specs.Worker.{WorkerModel, IsWorkingOn}
 

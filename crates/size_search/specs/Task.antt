@@ -1,6 +1,6 @@
 use Rattle.std.specs.Prelude.{◌≡◌, ℕ, Option}
-use Rattle.clause_base.specs.declared.formula.Cnf.{Cnf}
-use Rattle.clause_base.specs.Clause.{IsFormula}
+use Rattle.propositional_logic.specs.declared.formula.Cnf.{Cnf}
+use Rattle.propositional_logic.specs.Clause.{IsFormula}
 use Rattle.machine_model.specs.Automaton.{IsAutomaton}
 use Rattle.machine_model.specs.Problem.{IsProblem, automaton_of}
 use Rattle.machine_model.specs.declared.problems.Problem.{Problem}

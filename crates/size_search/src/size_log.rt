@@ -1,4 +1,4 @@
-use letter_word::Side;
+use letters_and_lassos::Side;
 use refutation_log::LogState;
 
 /// The log of a size of one side.

@@ -4,16 +4,16 @@ use Rattle.std.proofs.lemmas.Bool.{and_from}
 use Rattle.std.proofs.lemmas.List.Elements.{All-nil}
 use Rattle.std.specs.Prelude.{All, is_some, option_and_then, option_map, unwrap_or}
 use Rattle.std.specs.Bool.{OnTrue, beq}
-use Rattle.letter_word.specs.declared.kinds.Kind.{Kind}
-use Rattle.letter_word.specs.declared.kinds.Kind.TheVariants.{Mealy, Moore}
-use Rattle.letter_word.specs.contracts.kinds.KindPartialEq.TheImpl.{ghosts as kind_ghosts}
+use Rattle.letters_and_lassos.specs.declared.kinds.Kind.{Kind}
+use Rattle.letters_and_lassos.specs.declared.kinds.Kind.TheVariants.{Mealy, Moore}
+use Rattle.letters_and_lassos.specs.contracts.kinds.KindPartialEq.TheImpl.{ghosts as kind_ghosts}
 use Rattle.program_replies.specs.Refusals.{RefusedBy}
 use Rattle.program_replies.specs.Statuses.{status_number}
 use Rattle.solve_ground.specs.declared.texts.SolveText.{SolveText}
 use Rattle.solve_ground.specs.SolveText.{IsSolveFault, IsSolveText}
 use Rattle.solved_text.specs.declared.documents.Verdict.{Verdict}
 use Rattle.solved_text.specs.declared.documents.Verdict.TheVariants.{Realizable, Unrealizable, Unknown}
-use Rattle.cert_text.specs.Reading.{circuit_in}
+use Rattle.document_text.specs.Reading.{circuit_in}
 use Rattle.solved_text.specs.Laws.{SolvedAreDetermined}
 use Rattle.solved_text.specs.Lines.{document_text}
 use Rattle.solved_text.specs.Parts.{Document, SizeLog}

@@ -1,7 +1,7 @@
 -- The answer of `solve` to a text, with its status (this project's own). Nothing is said of how a circuit was found: the document that
 -- is printed is one that the test of documents accepts, and what that means is said there.
 use Rattle.std.specs.Prelude.{◌≡◌, ◌≤◌, ℕ, List, Option, All, IfSome, length}
-use Rattle.letter_word.specs.declared.kinds.Kind.{Kind}
+use Rattle.letters_and_lassos.specs.declared.kinds.Kind.{Kind}
 use Rattle.spec_faults.specs.declared.code.SpecCode.{SpecCode}
 use Rattle.program_replies.specs.Lines.{refusal_line}
 use Rattle.solve_ground.specs.SolveText.{IsSolveFault}

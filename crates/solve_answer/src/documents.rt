@@ -4,7 +4,7 @@ ghost use Rattle.solved_text.specs.Lines.{document_text};
 ghost use Rattle.solve_answer.specs.Parts.{unknown_document};
 
 use crate::finding::Strategy;
-use letter_word::Side;
+use letters_and_lassos::Side;
 use solve_ground::SolveText;
 use solved_text::{Document, Verdict, write_solved};
 use std::alloc::{AllocError, Global};

@@ -9,7 +9,7 @@ use aiger_text::Circuit;
 use annotation_maker::{Made, Maker, annotation_of};
 use cobuchi_build::{BuildFault, build};
 use game_machine::{Budget, Contest, Found, Outcome, find};
-use letter_word::Side;
+use letters_and_lassos::Side;
 use ltl_formula::{FormulaId, Formulas};
 use machine_model::Automaton;
 use obligation_sets::Covering;

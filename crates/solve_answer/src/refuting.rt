@@ -4,9 +4,9 @@ ghost use Rattle.solve_answer.specs.Parts.{CanBePlayed};
 
 use crate::finding::form_of;
 use crate::testing::is_short;
+use input_output::Gate;
 use letter_search::{Effort, Ended, Refutations, refute_sizes};
-use letter_word::Side;
-use outside_edge::Gate;
+use letters_and_lassos::Side;
 use size_refutations::{Ground, Sought};
 use solve_ground::SolveText;
 use solved_text::SizeLog;

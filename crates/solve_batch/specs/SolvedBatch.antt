@@ -1,6 +1,6 @@
 -- The answer of `batch --solve` (this project's own).
 use Rattle.std.specs.Prelude.{◌≡◌, ℕ, List, Option, length}
-use Rattle.letter_word.specs.declared.kinds.Kind.{Kind}
+use Rattle.letters_and_lassos.specs.declared.kinds.Kind.{Kind}
 use Rattle.program_replies.specs.declared.replies.Reply.{Reply}
 use Rattle.program_replies.specs.Statuses.{status_number}
 use Rattle.batch_run.specs.Answers.{AreAnswers}

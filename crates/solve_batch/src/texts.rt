@@ -6,8 +6,8 @@ ghost use Rattle.solve_answer.specs.Parts.{limits_of};
 
 use batch_answer::TakenText;
 use batch_run::Job;
-use letter_word::Kind;
-use outside_edge::OpenGate;
+use input_output::OpenGate;
+use letters_and_lassos::Kind;
 use program_replies::{Reply, refused};
 use solve_answer::{GAME_BUDGET, Refuting, solve};
 use solve_told::NoListener;

@@ -3,12 +3,12 @@ use Rattle.std.proofs.Common.{◌≡◌, ℕ, ◌<◌, ◌≤◌, true, Option, 
 use Rattle.std.proofs.lemmas.Bool.{and_parts}
 use Rattle.std.specs.Prelude.{IfSome, Some, is_some, map}
 use Rattle.std.specs.Bool.{beq}
-use Rattle.letter_word.specs.declared.kinds.Kind.{Kind}
-use Rattle.letter_word.specs.declared.kinds.Kind.TheVariants.{Mealy, Moore}
-use Rattle.letter_word.specs.declared.kinds.Side.{Side}
-use Rattle.letter_word.specs.declared.kinds.Side.TheVariants.{System, Environment}
-use Rattle.letter_word.specs.contracts.kinds.KindPartialEq.TheImpl.{ghosts as kind_ghosts}
-use Rattle.letter_word.specs.Kinds.{other_kind}
+use Rattle.letters_and_lassos.specs.declared.kinds.Kind.{Kind}
+use Rattle.letters_and_lassos.specs.declared.kinds.Kind.TheVariants.{Mealy, Moore}
+use Rattle.letters_and_lassos.specs.declared.kinds.Side.{Side}
+use Rattle.letters_and_lassos.specs.declared.kinds.Side.TheVariants.{System, Environment}
+use Rattle.letters_and_lassos.specs.contracts.kinds.KindPartialEq.TheImpl.{ghosts as kind_ghosts}
+use Rattle.letters_and_lassos.specs.Kinds.{other_kind}
 use Rattle.aiger_text.specs.Circuit.{Circuit, IsCircuitOfKind}
 use Rattle.named_annotation.specs.Laws.{IsNeverTrue}
 use Rattle.satisfaction.specs.Satisfaction.{EachCanLose, NoneSatisfies}

@@ -1,9 +1,9 @@
 -- What the test of a document answers, from what its parts find.
 use Rattle.std.proofs.Common.{◌≡◌, ℕ, Option, Some, None, List, length, sym, ap, subst, ◌∙◌}
 use Rattle.std.specs.Prelude.{IfSome, MatchOption, unwrap_or}
-use Rattle.letter_word.specs.declared.kinds.Kind.{Kind}
+use Rattle.letters_and_lassos.specs.declared.kinds.Kind.{Kind}
 use Rattle.aiger_text.specs.Circuit.{Circuit}
-use Rattle.cert_text.specs.Reading.{circuit_in}
+use Rattle.document_text.specs.Reading.{circuit_in}
 use Rattle.size_refutations.specs.Laws.{LogsAreDetermined}
 use Rattle.solve_ground.specs.declared.texts.SolveText.{SolveText}
 use Rattle.solve_ground.specs.SolveText.{IsSolveText}

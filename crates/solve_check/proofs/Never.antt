@@ -2,8 +2,8 @@
 use Rattle.std.proofs.Common.{◌≡◌, ℕ, length, sym, ap, ◌∙◌, true≢false}
 use Rattle.std.specs.Prelude.{Option, Some, List, map}
 use Rattle.std.proofs.lemmas.List.{length-map}
-use Rattle.letter_word.specs.declared.kinds.Side.TheVariants.{System}
-use Rattle.letter_word.specs.Word.{HasRing, Word}
+use Rattle.letters_and_lassos.specs.declared.kinds.Side.TheVariants.{System}
+use Rattle.letters_and_lassos.specs.Word.{HasRing, Word}
 use Rattle.aiger_text.specs.Circuit.{Circuit, HasStates}
 use Rattle.aiger_text.specs.CircuitType.{IsCircuit}
 use Rattle.circuit_machines.specs.Laws.{CircuitsAreMachines, HasMachine}

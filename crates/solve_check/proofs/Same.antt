@@ -3,9 +3,9 @@ use Rattle.std.proofs.Common.{◌≡◌, ℕ, Bool, true, false, length, refl, s
 use Rattle.std.proofs.lemmas.Bool.{and_parts}
 use Rattle.std.specs.Prelude.{List, Option, Some, None, is_some, option_map, unwrap_or}
 use Rattle.std.specs.Bool.{beq}
-use Rattle.letter_word.specs.declared.kinds.Kind.{Kind}
-use Rattle.letter_word.specs.contracts.kinds.KindPartialEq.TheImpl.{ghosts as kind_ghosts}
-use Rattle.letter_word.specs.Word.{HasRing, Word}
+use Rattle.letters_and_lassos.specs.declared.kinds.Kind.{Kind}
+use Rattle.letters_and_lassos.specs.contracts.kinds.KindPartialEq.TheImpl.{ghosts as kind_ghosts}
+use Rattle.letters_and_lassos.specs.Word.{HasRing, Word}
 use Rattle.text_limits.specs.declared.TheConstants.{LARGE_LIMITS}
 use Rattle.kind_conversion.specs.declared.shifts.Shift.{Shift}
 use Rattle.tlsf_syntax.specs.Text.{Text}

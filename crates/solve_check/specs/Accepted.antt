@@ -1,8 +1,8 @@
 -- What it means that a document of version 6 is accepted, whoever wrote it: by the meaning of the text as it is written, of a converted
 -- one by that of the shifted word (bounded synthesis of Finkbeiner and Schewe; the duality of Mealy and Moore machines).
 use Rattle.std.specs.Prelude.{◌≡◌, ℕ, ◌<◌, ◌≤◌, ⊤, List, Option, Some, length}
-use Rattle.letter_word.specs.declared.kinds.Kind.{Kind}
-use Rattle.letter_word.specs.declared.kinds.Side.TheVariants.{System, Environment}
+use Rattle.letters_and_lassos.specs.declared.kinds.Kind.{Kind}
+use Rattle.letters_and_lassos.specs.declared.kinds.Side.TheVariants.{System, Environment}
 use Rattle.aiger_text.specs.Circuit.{Circuit, HasStates, RunsOnEveryInput}
 use Rattle.aiger_text.specs.CircuitType.{IsCircuit}
 use Rattle.circuit_laws.specs.Laws.{NoCircuitDefeats, NoCircuitSatisfies}

@@ -1,6 +1,6 @@
 -- What the test of a document answers (this project's own).
 use Rattle.std.specs.Prelude.{◌≡◌, ◌≤◌, ⊤, ℕ, List, Option, length}
-use Rattle.letter_word.specs.declared.kinds.Kind.{Kind}
+use Rattle.letters_and_lassos.specs.declared.kinds.Kind.{Kind}
 use Rattle.ltl_formula.specs.NormalForm.{IsNormal}
 use Rattle.ltl_formula.specs.Nodes.{Stands, tree_at}
 use Rattle.solve_ground.specs.declared.texts.SolveText.{SolveText}

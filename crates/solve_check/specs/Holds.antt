@@ -1,7 +1,7 @@
 -- When a document of version 6 holds for a text (this project's own; bounded synthesis of Finkbeiner and Schewe).
 use Rattle.std.specs.Prelude.{◌≡◌, ℕ, ⊤, true, List, Some, All, length}
-use Rattle.letter_word.specs.declared.kinds.Side.{Side}
-use Rattle.letter_word.specs.declared.kinds.Side.TheVariants.{System, Environment}
+use Rattle.letters_and_lassos.specs.declared.kinds.Side.{Side}
+use Rattle.letters_and_lassos.specs.declared.kinds.Side.TheVariants.{System, Environment}
 use Rattle.aiger_text.specs.Circuit.{Circuit, HasStates}
 use Rattle.circuit_names.specs.Names.{HasNames}
 use Rattle.named_annotation.specs.Laws.{IsValidNamed}

@@ -1,6 +1,6 @@
 -- Laws of documents of version 6 against texts (this project's own).
 use Rattle.std.specs.Prelude.{◌≡◌, ℕ, ◌<◌, ◌≤◌, List, Option}
-use Rattle.letter_word.specs.declared.kinds.Kind.{Kind}
+use Rattle.letters_and_lassos.specs.declared.kinds.Kind.{Kind}
 use Rattle.machine_model.specs.Machine.{MachineModel, size_of}
 use Rattle.satisfaction.specs.Wanted.{Wanted}
 use Rattle.satisfaction.specs.Satisfaction.{Defeats, EachCanLose, NoneSatisfies, Satisfies}

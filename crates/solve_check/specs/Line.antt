@@ -1,7 +1,7 @@
 -- The line that tells of a document of version 6 that is accepted (this project's own).
 use Rattle.std.specs.Prelude.{◌==◌, ℕ, ◌+◌, Option, Some, None, List, [], ◌++◌, codes, decimal, length, if◌then◌else◌}
-use Rattle.letter_word.specs.declared.kinds.Kind.{Kind}
-use Rattle.letter_word.specs.Kinds.{kind_word}
+use Rattle.letters_and_lassos.specs.declared.kinds.Kind.{Kind}
+use Rattle.letters_and_lassos.specs.Kinds.{kind_word}
 use Rattle.solve_ground.specs.declared.texts.SolveText.{SolveText}
 use Rattle.solved_text.specs.declared.documents.Verdict.{Verdict}
 use Rattle.solved_text.specs.declared.documents.Verdict.TheVariants.{Realizable, Unrealizable, Unknown}

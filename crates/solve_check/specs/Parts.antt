@@ -1,7 +1,7 @@
 -- What the parts of the code have of a document and of a text (this project's own).
 use Rattle.std.specs.Prelude.{◌≡◌, ◌≢◌, ℕ, ◌+◌, ◌<◌, ◌≤◌, ◌^◌, ⊤, true, Option, Some, None, Ok, List, length, MatchOption}
-use Rattle.letter_word.specs.declared.kinds.Kind.{Kind}
-use Rattle.letter_word.specs.declared.kinds.Side.{Side}
+use Rattle.letters_and_lassos.specs.declared.kinds.Kind.{Kind}
+use Rattle.letters_and_lassos.specs.declared.kinds.Side.{Side}
 use Rattle.aiger_text.specs.Circuit.{Circuit, RunsOnEveryInput}
 use Rattle.aiger_text.specs.CircuitType.{IsCircuit}
 use Rattle.annot_check.specs.declared.faults.AnnotFault.{AnnotFault}

@@ -1,6 +1,6 @@
 -- The logs of a document of version 6 against its text (this project's own).
 use Rattle.std.specs.Prelude.{ℕ, Option, Some, None, List, [], ◌∷◌, length}
-use Rattle.letter_word.specs.declared.kinds.Side.{Side}
+use Rattle.letters_and_lassos.specs.declared.kinds.Side.{Side}
 use Rattle.size_refutations.specs.FirstBad.{LogFails}
 use Rattle.size_refutations.specs.Ground.{LogGround}
 use Rattle.solve_ground.specs.declared.texts.SolveText.{SolveText}

@@ -3,11 +3,11 @@ ghost use Rattle.std.specs.Prelude.{◌≡◌, ◌++◌, IfOk, OnOk, decimal};
 ghost use Rattle.solve_check.specs.Line.{accepted_line as line_of_acceptance, fewer_words, semantics_words, sizes_words, verdict_words};
 ghost use Rattle.solve_check.specs.Parts.{TellsOf};
 
-use letter_word::Kind;
+use letters_and_lassos::Kind;
+use names_and_numbers::push_number;
 use solve_ground::SolveText;
 use solved_text::{SolvedLines, Verdict};
 use std::alloc::{AllocError, Global};
-use text_base::push_number;
 
 /// What is told of a document that holds for a text.
 #[derive(Clone, Copy)]

@@ -7,7 +7,7 @@ ghost use Rattle.solve_check.specs.Asked.{CannotBeConverted, IsAskedText, kind_s
 ghost use Rattle.solve_check.specs.Parts.{IsConvertedFor};
 
 use crate::given::is_taken_so;
-use letter_word::Kind;
+use letters_and_lassos::Kind;
 use solve_ground::{SolveText, solve_text};
 use solved_text::Header;
 use spec_faults::SpecFault;

@@ -1,6 +1,6 @@
 //! A document against a text, as a whole.
 ghost use Rattle.std.specs.Prelude.{ℕ, List, Option, IfOk};
-ghost use Rattle.letter_word.specs.declared.kinds.Kind.{Kind as AKind};
+ghost use Rattle.letters_and_lassos.specs.declared.kinds.Kind.{Kind as AKind};
 ghost use Rattle.solve_ground.specs.SolveText.{IsSolveText};
 ghost use Rattle.solve_check.specs.Checked.{IsCheckedFor, IsMeantOf, IsReady};
 ghost use Rattle.solve_check.specs.Parts.{AreLaws, IsTested};

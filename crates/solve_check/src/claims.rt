@@ -1,7 +1,7 @@
 //! What an annotation claims, of lines of which none fails.
 ghost use Rattle.std.specs.Prelude.{◌≡◌, ◌≢◌, ◌+◌, ◌<◌, IfOk, IfSome, length};
 ghost use Rattle.annot_check.specs.declared.faults.AnnotFault.TheVariants.{NoMemory};
-ghost use Rattle.cert_text.specs.Reading.{circuit_in};
+ghost use Rattle.document_text.specs.Reading.{circuit_in};
 ghost use Rattle.solve_check.specs.FirstBad.{cause_line as line_of_cause, output_line as line_of_output};
 ghost use Rattle.solve_check.specs.Parts.{CanBeTested, IsClaimed, IsReadingOf, IsSound, IsToldOf, IsWithin, annotated_seen};
 
@@ -10,7 +10,7 @@ use crate::given::kind_for;
 use aiger_text::{Circuit, runs_on_every_input};
 use annot_check::AnnotFault;
 use annot_check::laws::valid_lists_show_kind;
-use cert_text::CircuitPart;
+use document_text::CircuitPart;
 use named_annotation::{NamedAnnotation, check_named_annotation};
 use solve_ground::SolveText;
 use solved_text::SolvedLines;

@@ -4,7 +4,7 @@ ghost use Rattle.circuit_names.specs.Names.{names_of as names_shown};
 ghost use Rattle.solve_check.specs.Given.{form_for as form_of_side, is_taken_so as taken_as_said, kind_for as kind_of_side, names_in};
 
 use circuit_names::TextNames;
-use letter_word::{Kind, Side};
+use letters_and_lassos::{Kind, Side};
 use ltl_formula::FormulaId;
 use solve_ground::SolveText;
 

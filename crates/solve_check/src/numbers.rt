@@ -5,7 +5,7 @@ ghost use Rattle.solve_check.specs.FirstBad.{NumberFails, NumberFailsIn, counted
 ghost use Rattle.solve_check.specs.Parts.{counted_seen};
 
 use aiger_text::Circuit;
-use cert_text::CircuitPart;
+use document_text::CircuitPart;
 use reached_states::reached_states;
 use solved_text::{SolvedLines, Verdict};
 use std::alloc::{AllocError, Global};

@@ -5,7 +5,7 @@ ghost use Rattle.solve_check.specs.Checked.{IsReady};
 ghost use Rattle.solve_check.specs.SizeLogs.{LogsFail, ground_for};
 
 use crate::given::{form_for, kind_for};
-use letter_word::Side;
+use letters_and_lassos::Side;
 use size_refutations::{Ground, Sought};
 use solve_ground::SolveText;
 use solved_text::SizeLog;

@@ -3,8 +3,8 @@ use Rattle.std.proofs.Common.{◌≡◌, ℕ, List, Option, Some, None, refl, sy
 use Rattle.std.specs.Prelude.{option_map}
 use Rattle.std.proofs.lemmas.Option.{same_Some}
 use Rattle.text_limits.specs.declared.TheConstants.{LARGE_LIMITS}
-use Rattle.letter_word.specs.declared.kinds.Kind.{Kind}
-use Rattle.letter_word.specs.declared.kinds.Kind.TheVariants.{Mealy}
+use Rattle.letters_and_lassos.specs.declared.kinds.Kind.{Kind}
+use Rattle.letters_and_lassos.specs.declared.kinds.Kind.TheVariants.{Mealy}
 use Rattle.spec_faults.specs.declared.code.SpecCode.{SpecCode}
 use Rattle.tlsf_values.specs.Outcomes.{Outcome, fails, gives}
 use Rattle.tlsf_syntax.specs.Text.{Text}

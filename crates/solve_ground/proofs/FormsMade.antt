@@ -1,6 +1,6 @@
 -- Both forms of a formula, made one after the other.
 use Rattle.std.proofs.Common.{◌≡◌, ℕ, true, false, List, Option, Some, None, sym, ap, subst, ◌∙◌}
-use Rattle.letter_word.proofs.Positions.{first_position}
+use Rattle.letters_and_lassos.proofs.Positions.{first_position}
 use Rattle.ltl_formula.specs.declared.nodes.FormulaId.{FormulaId}
 use Rattle.ltl_formula.specs.declared.nodes.Node.{Node}
 use Rattle.ltl_formula.specs.Added.{Built}

@@ -1,8 +1,8 @@
 -- The answer of the call, from those of reading, of expansion and of the forms.
 use Rattle.std.proofs.Common.{◌≡◌, ℕ, not, List, length, Option, Some, None, Result, Ok, Err, IfOk, refl, sym, ap, subst, ◌∙◌, arith}
 use Rattle.std.proofs.lemmas.Option.{same_Some}
-use Rattle.letter_word.specs.declared.kinds.Kind.{Kind}
-use Rattle.letter_word.specs.Word.{Word, HasRing}
+use Rattle.letters_and_lassos.specs.declared.kinds.Kind.{Kind}
+use Rattle.letters_and_lassos.specs.Word.{Word, HasRing}
 use Rattle.ltl_formula.specs.Nodes.{tree_at}
 use Rattle.ltl_formula.specs.Truth.{holds}
 use Rattle.spec_faults.specs.declared.code.SpecCode.{SpecCode}

@@ -1,7 +1,7 @@
 -- The list in which both forms of a text's whole are made, as `solve` takes it (this project's own).
 use Rattle.std.specs.Prelude.{ℕ, true, false, List, Option, Some, None, length, option_and_then}
-use Rattle.letter_word.specs.declared.kinds.Side.{Side}
-use Rattle.letter_word.specs.declared.kinds.Side.TheVariants.{System, Environment}
+use Rattle.letters_and_lassos.specs.declared.kinds.Side.{Side}
+use Rattle.letters_and_lassos.specs.declared.kinds.Side.TheVariants.{System, Environment}
 use Rattle.ltl_formula.specs.declared.nodes.FormulaId.{FormulaId}
 use Rattle.ltl_formula.specs.declared.nodes.Node.{Node}
 use Rattle.ltl_formula.specs.Added.{Built}

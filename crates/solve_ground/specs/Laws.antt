@@ -1,6 +1,6 @@
 -- Laws of texts as `solve` takes them (this project's own).
 use Rattle.std.specs.Prelude.{◌≡◌, ℕ, List, Option, Some}
-use Rattle.letter_word.specs.declared.kinds.Kind.{Kind}
+use Rattle.letters_and_lassos.specs.declared.kinds.Kind.{Kind}
 use Rattle.spec_faults.specs.declared.code.SpecCode.{SpecCode}
 use Rattle.solve_ground.specs.declared.texts.SolveText.{SolveText}
 use Rattle.solve_ground.specs.SolveText.{IsSolveFault, IsSolveText, forms_seen}

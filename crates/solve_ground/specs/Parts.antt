@@ -1,13 +1,13 @@
 -- What the parts of the code answer (this project's own).
 use Rattle.std.specs.Prelude.{◌≡◌, ℕ, not, Option, Some, None, length}
-use Rattle.letter_word.specs.Word.{Word, HasRing}
+use Rattle.letters_and_lassos.specs.Word.{Word, HasRing}
 use Rattle.ltl_formula.specs.NormalForm.{IsNormal}
 use Rattle.ltl_formula.specs.Nodes.{IsNodeList, Stands, tree_at}
 use Rattle.ltl_formula.specs.Tree.{Tree}
 use Rattle.ltl_formula.specs.Truth.{holds}
 use Rattle.kind_conversion.specs.declared.conversion.ConvertedList.{ConvertedList}
 use Rattle.kind_conversion.specs.declared.shifts.Shift.{Shift}
-use Rattle.letter_word.specs.declared.kinds.Kind.{Kind}
+use Rattle.letters_and_lassos.specs.declared.kinds.Kind.{Kind}
 use Rattle.ltl_formula.specs.declared.faults.AddFault.{AddFault}
 use Rattle.spec_faults.specs.declared.code.SpecCode.{SpecCode}
 use Rattle.spec_faults.specs.declared.code.SpecCode.TheVariants.{TooManyNodes}

@@ -1,8 +1,8 @@
 -- How `solve` takes a text: of which kind the machines are, and of which word the written text speaks (TLSF 1.1; that a given kind
 -- stands for SEMANTICS and TARGET both is this project's own).
 use Rattle.std.specs.Prelude.{◌≡◌, ℕ, List, Option, Some, None, length, option_map}
-use Rattle.letter_word.specs.declared.kinds.Kind.{Kind}
-use Rattle.letter_word.specs.Word.{Word, HasRing}
+use Rattle.letters_and_lassos.specs.declared.kinds.Kind.{Kind}
+use Rattle.letters_and_lassos.specs.Word.{Word, HasRing}
 use Rattle.tlsf_syntax.specs.Text.{Text}
 use Rattle.tlsf_reader.specs.Reads.{Reads}
 use Rattle.tlsf_expand.specs.Meaning.{means}

@@ -4,7 +4,7 @@ ghost use Rattle.tlsf_syntax.specs.Seen.{text_seen};
 ghost use Rattle.solve_ground.specs.Taken.{converted_from, taken_kind as kind_taken, taken_shift as shift_taken};
 
 use kind_conversion::{Shift, shift_of};
-use letter_word::Kind;
+use letters_and_lassos::Kind;
 use tlsf_syntax::SpecTree;
 
 /// The kind of the system's machines.

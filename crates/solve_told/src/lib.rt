@@ -3,7 +3,7 @@
 //! solve_answer fills it in and diagnostics puts it into words. It stands below both, so that messages don't stand on what finds machines.
 #![tactic(auto)]
 
-use letter_word::Side;
+use letters_and_lassos::Side;
 
 /// What is told while an answer is made.
 #[derive(Clone, Copy, Debug, PartialEq, Eq)]

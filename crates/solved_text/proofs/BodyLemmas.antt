@@ -4,8 +4,8 @@ use Rattle.std.specs.Prelude.{IfSome}
 use Rattle.std.specs.Option.{option_copied}
 use Rattle.std.proofs.lemmas.List.{length-append}
 use Rattle.aiger_text.specs.CircuitFile.{File}
-use Rattle.cert_text.specs.declared.reading.CircuitPart.TheVariants.{Stated}
-use Rattle.cert_text.specs.Reading.{all_named}
+use Rattle.document_text.specs.declared.reading.CircuitPart.TheVariants.{Stated}
+use Rattle.document_text.specs.Reading.{all_named}
 use Rattle.solved_text.specs.Header.{HeaderRead, header_of}
 use Rattle.solved_text.specs.Logs.{LogsRead, ReadsLogs}
 use Rattle.solved_text.specs.Reading.{ReadsBehind, RestRead, SolvedLines, lines_with, no_rest, unnamed}

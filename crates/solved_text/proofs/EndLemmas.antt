@@ -6,7 +6,7 @@ use Rattle.std.specs.Str.{bytes_eq}
 use Rattle.std.proofs.lemmas.List.Splits.{join_with_byte-slice_split}
 use Rattle.aiger_text.specs.Words.{cut_at}
 use Rattle.aiger_text.proofs.Scanning.{cuts, no_cut, has_piece, HasPiece}
-use Rattle.cert_text.specs.Logs.{bad_behind}
+use Rattle.document_text.specs.Logs.{bad_behind}
 use Rattle.solved_text.specs.Annotation.{bad_behind_end, pieces_of}
 
 -- a line with more pieces behind it

@@ -6,9 +6,9 @@ use Rattle.std.proofs.lemmas.List.Elements.{All-append, All-cons}
 use Rattle.aiger_text.specs.Words.{is_byte, cut_at, number_within}
 use Rattle.aiger_text.specs.CircuitText.{numbers_line}
 use Rattle.aiger_text.proofs.Numbers.{Lacks, AreSmall, cut_at-seam, decimal-lacks, number_within-decimal, line-lacks}
-use Rattle.cert_text.specs.Header.{behind}
-use Rattle.cert_text.proofs.LineRead.{cut_is, number_is, follows_words, words_read, words_lack}
-use Rattle.cert_text.proofs.HeadRead.{step, last_step}
+use Rattle.document_text.specs.Header.{behind}
+use Rattle.document_text.proofs.LineRead.{cut_is, number_is, follows_words, words_read, words_lack}
+use Rattle.document_text.proofs.HeadRead.{step, last_step}
 use Rattle.solved_text.specs.declared.heads.Head.{Head}
 use Rattle.solved_text.specs.declared.heads.HeadNumbers.{HeadNumbers}
 use Rattle.solved_text.specs.Lines.{head_line, letters_word}

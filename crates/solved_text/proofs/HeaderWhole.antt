@@ -5,16 +5,16 @@ use Rattle.std.specs.Option.{option_or}
 use Rattle.std.specs.Str.{bytes_eq}
 use Rattle.std.specs.Cmp.Lexicographic.{bytes_decides}
 use Rattle.std.proofs.lemmas.Bool.{and_parts}
-use Rattle.letter_word.specs.declared.kinds.Kind.{Kind}
-use Rattle.letter_word.specs.declared.kinds.Kind.TheVariants.{Mealy, Moore}
+use Rattle.letters_and_lassos.specs.declared.kinds.Kind.{Kind}
+use Rattle.letters_and_lassos.specs.declared.kinds.Kind.TheVariants.{Mealy, Moore}
 use Rattle.aiger_text.specs.Words.{number_within}
 use Rattle.aiger_text.specs.CircuitText.{text_of_lines}
 use Rattle.aiger_text.proofs.Numbers.{Lacks, number_within-decimal}
-use Rattle.cert_text.specs.Header.{behind, front, kind_in, number_behind}
-use Rattle.cert_text.specs.Lines.{kind_line, end_text}
-use Rattle.cert_text.proofs.LineRead.{behind_is, behind_words, capped_read, front_is, front_read, follows_words, number_behind_is, number_is, text_lacks, words_lack, words_read}
-use Rattle.cert_text.proofs.HeadRead.{last_step}
-use Rattle.cert_text.proofs.HeaderWhole.{first_line, in_range_bounds, kind_is, kind_lacks, kind_read}
+use Rattle.document_text.specs.Header.{behind, front, kind_in, number_behind}
+use Rattle.document_text.specs.Lines.{kind_line, end_text}
+use Rattle.document_text.proofs.LineRead.{behind_is, behind_words, capped_read, front_is, front_read, follows_words, number_behind_is, number_is, text_lacks, words_lack, words_read}
+use Rattle.document_text.proofs.HeadRead.{last_step}
+use Rattle.document_text.proofs.HeaderWhole.{first_line, in_range_bounds, kind_is, kind_lacks, kind_read}
 use Rattle.solved_text.specs.declared.documents.Verdict.{Verdict}
 use Rattle.solved_text.specs.declared.documents.Verdict.TheVariants.{Realizable, Unrealizable, Unknown}
 use Rattle.solved_text.specs.declared.header.Header.{Header}

@@ -12,9 +12,9 @@ use Rattle.std.proofs.lemmas.List.Splits.{join_with_byte-slice_split, length-sli
 use Rattle.aiger_text.specs.Words.{is_byte, cut_at}
 use Rattle.aiger_text.proofs.Numbers.{Lacks, all_digits, decimal-lacks}
 use Rattle.aiger_text.proofs.Scanning.{cuts, no_cut}
-use Rattle.cert_text.specs.Header.{in_range}
-use Rattle.cert_text.proofs.LineRead.{in_range_is, in_range_read}
-use Rattle.cert_text.proofs.HeadRead.{last_step}
+use Rattle.document_text.specs.Header.{in_range}
+use Rattle.document_text.proofs.LineRead.{in_range_is, in_range_read}
+use Rattle.document_text.proofs.HeadRead.{last_step}
 use Rattle.solved_text.specs.declared.letters.Letters.{Letters}
 use Rattle.solved_text.specs.declared.letters.Letters.TheVariants.{All as AllLetters, Few}
 use Rattle.solved_text.specs.Lines.{letters_word}

@@ -5,10 +5,10 @@ use Rattle.std.proofs.lemmas.List.Elements.{All-cons}
 use Rattle.refutation_log.specs.declared.entries.Entry.{Entry}
 use Rattle.refutation_log.specs.Text.{log_text}
 use Rattle.aiger_text.specs.CircuitText.{text_of_lines}
-use Rattle.cert_text.specs.Header.{front}
-use Rattle.cert_text.specs.Logs.{AreFirstEntries}
-use Rattle.cert_text.proofs.LineRead.{front_is, front_read}
-use Rattle.cert_text.proofs.HeaderWhole.{first_line}
+use Rattle.document_text.specs.Header.{front}
+use Rattle.document_text.specs.Logs.{AreFirstEntries}
+use Rattle.document_text.proofs.LineRead.{front_is, front_read}
+use Rattle.document_text.proofs.HeaderWhole.{first_line}
 use Rattle.solved_text.specs.declared.heads.Head.{Head}
 use Rattle.solved_text.specs.Parts.{SizeLog}
 use Rattle.solved_text.specs.Lines.{head_line, log_part}

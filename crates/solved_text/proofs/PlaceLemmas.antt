@@ -3,7 +3,7 @@ use Rattle.std.proofs.Common.{◌≡◌, ℕ, ◌+◌, ◌-◌, ◌^◌, ◌<◌
 use Rattle.std.specs.Prelude.{IfSome}
 use Rattle.std.proofs.lemmas.List.{length-drop}
 use Rattle.aiger_text.specs.CircuitFile.{File}
-use Rattle.cert_text.proofs.CommentLine.{comment_fits}
+use Rattle.document_text.proofs.CommentLine.{comment_fits}
 use Rattle.solved_text.specs.Annotation.{AnnotationText, has_head}
 use Rattle.solved_text.specs.Header.{HeaderRead, header_of}
 use Rattle.solved_text.specs.Logs.{LogsRead}

@@ -4,7 +4,7 @@ use Rattle.aiger_text.specs.declared.faults.CircuitFault.{CircuitFault}
 use Rattle.aiger_text.specs.CircuitFile.{File, IsFirstFault}
 use Rattle.aiger_text.specs.CircuitFile as circuit
 use Rattle.aiger_text.proofs.FileFacts.{files_state_one_thing, faults_state_nothing}
-use Rattle.cert_text.proofs.LogsLemmas.{some_none, some_same}
+use Rattle.document_text.proofs.LogsLemmas.{some_none, some_same}
 use Rattle.solved_text.specs.Reading.{IsSixth, alone, commented, begins_sixth}
 
 module _ (bytes : List ℕ) (not_first : begins_sixth bytes ≡ false) where

@@ -3,9 +3,9 @@ use Rattle.std.specs.Prelude.{ℕ, ◌+◌, Bool, Option, Some, None, List, [], 
 use Rattle.std.specs.List.{slice_split, join_with_byte}
 use Rattle.std.specs.Str.{bytes_eq}
 use Rattle.aiger_text.specs.Words.{is_byte}
-use Rattle.cert_text.specs.Header.{behind, front}
-use Rattle.cert_text.specs.Lines.{end_text}
-use Rattle.cert_text.specs.Logs.{bad_behind}
+use Rattle.document_text.specs.Header.{behind, front}
+use Rattle.document_text.specs.Lines.{end_text}
+use Rattle.document_text.specs.Logs.{bad_behind}
 
 -- the pieces between line ends; the last one isn't ended
 abbrev pub pieces_of : List ℕ → List (List ℕ)

@@ -2,10 +2,10 @@
 use Rattle.std.specs.Prelude.{ℕ, ◌+◌, ◌-◌, Bool, true, false, not, ◌&&◌, Option, Some, None, List, [], codes, option_map, option_and_then, if◌then◌else◌}
 use Rattle.std.specs.Option.{option_or}
 use Rattle.std.specs.Str.{bytes_eq}
-use Rattle.letter_word.specs.declared.kinds.Kind.{Kind}
+use Rattle.letters_and_lassos.specs.declared.kinds.Kind.{Kind}
 use Rattle.aiger_text.specs.Words.{number_within}
-use Rattle.cert_text.specs.Header.{behind, front, kind_in, number_behind}
-use Rattle.cert_text.specs.Order.{is_in_range}
+use Rattle.document_text.specs.Header.{behind, front, kind_in, number_behind}
+use Rattle.document_text.specs.Order.{is_in_range}
 use Rattle.solved_text.specs.declared.documents.Verdict.{Verdict}
 use Rattle.solved_text.specs.declared.documents.Verdict.TheVariants.{Realizable, Unrealizable, Unknown}
 use Rattle.solved_text.specs.declared.header.Header.{Header}

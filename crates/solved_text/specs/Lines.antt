@@ -2,11 +2,11 @@
 -- and then the lines below. Numbers have no leading zeros, one space stands between words, and each line is ended by LF.
 use Rattle.std.specs.Prelude.{ℕ, Bool, true, false, List, [], ◌∷◌, ◌++◌, length, map, codes, decimal, flat_map}
 use Rattle.std.specs.List.{join_with_byte}
-use Rattle.letter_word.specs.declared.kinds.Kind.{Kind}
-use Rattle.letter_word.specs.declared.kinds.Kind.TheVariants.{Mealy, Moore}
+use Rattle.letters_and_lassos.specs.declared.kinds.Kind.{Kind}
+use Rattle.letters_and_lassos.specs.declared.kinds.Kind.TheVariants.{Mealy, Moore}
 use Rattle.refutation_log.specs.Text.{log_text}
 use Rattle.aiger_text.specs.CircuitText.{numbers_line, text_of_lines}
-use Rattle.cert_text.specs.Lines.{circuit_part, end_text, kind_line}
+use Rattle.document_text.specs.Lines.{circuit_part, end_text, kind_line}
 use Rattle.solved_text.specs.declared.documents.Verdict.{Verdict}
 use Rattle.solved_text.specs.declared.documents.Verdict.TheVariants.{Realizable, Unrealizable, Unknown}
 use Rattle.solved_text.specs.declared.letters.Letters.{Letters}

@@ -5,8 +5,8 @@ use Rattle.std.specs.Option.{option_map_or}
 use Rattle.std.specs.Str.{bytes_eq}
 use Rattle.refutation_log.specs.declared.entries.Entry.{Entry}
 use Rattle.aiger_text.specs.Words.{cut_at, is_byte, number_within}
-use Rattle.cert_text.specs.Header.{behind, front, in_range}
-use Rattle.cert_text.specs.Logs.{AreFirstEntries}
+use Rattle.document_text.specs.Header.{behind, front, in_range}
+use Rattle.document_text.specs.Logs.{AreFirstEntries}
 use Rattle.solved_text.specs.declared.heads.Head.{Head}
 use Rattle.solved_text.specs.declared.heads.HeadNumbers.{HeadNumbers}
 use Rattle.solved_text.specs.declared.letters.Letters.{Letters}

@@ -1,6 +1,6 @@
 -- What the lines of a document of version 6 hold, with lists in place of vectors (this project's own).
 use Rattle.std.specs.Prelude.{ℕ, Bool, Option, List}
-use Rattle.letter_word.specs.declared.kinds.Kind.{Kind}
+use Rattle.letters_and_lassos.specs.declared.kinds.Kind.{Kind}
 use Rattle.refutation_log.specs.declared.entries.Entry.{Entry}
 use Rattle.aiger_text.specs.Circuit.{Circuit}
 use Rattle.solved_text.specs.declared.documents.Verdict.{Verdict}

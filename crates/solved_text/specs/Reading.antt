@@ -5,10 +5,10 @@ use Rattle.std.specs.Option.{option_map_or}
 use Rattle.aiger_text.specs.declared.faults.CircuitFault.{CircuitFault}
 use Rattle.aiger_text.specs.CircuitFile.{File, IsFirstFault}
 use Rattle.aiger_text.specs.CircuitFile as circuit
-use Rattle.cert_text.specs.declared.reading.CircuitPart.{CircuitPart}
-use Rattle.cert_text.specs.declared.reading.CircuitPart.TheVariants.{Absent, Faulty, Stated}
-use Rattle.cert_text.specs.Header.{behind}
-use Rattle.cert_text.specs.Reading.{all_named, begins_without_circuit, circuit_in, fault_line}
+use Rattle.document_text.specs.declared.reading.CircuitPart.{CircuitPart}
+use Rattle.document_text.specs.declared.reading.CircuitPart.TheVariants.{Absent, Faulty, Stated}
+use Rattle.document_text.specs.Header.{behind}
+use Rattle.document_text.specs.Reading.{all_named, begins_without_circuit, circuit_in, fault_line}
 use Rattle.solved_text.specs.declared.annotation.AnnotationPlace.{AnnotationPlace}
 use Rattle.solved_text.specs.declared.header.Header.{Header}
 use Rattle.solved_text.specs.Parts.{SizeLog, Document}

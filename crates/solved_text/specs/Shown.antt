@@ -6,7 +6,7 @@ use Rattle.solved_text.specs.declared.header.HeaderRead.{HeaderRead}
 use Rattle.solved_text.specs.declared.logs.LogsRead.{LogsRead}
 use Rattle.solved_text.specs.declared.reading.BodyRead.{BodyRead}
 use Rattle.solved_text.specs.declared.reading.RestRead.{RestRead}
-use Rattle.cert_text.specs.Logs.{AreFirstEntries}
+use Rattle.document_text.specs.Logs.{AreFirstEntries}
 use Rattle.solved_text.specs.declared.heads.Head.{Head}
 use Rattle.solved_text.specs.Parts.{SizeLog}
 use Rattle.solved_text.specs.Logs.{log_of}

@@ -4,7 +4,7 @@ use Rattle.refutation_log.specs.Text.{IsWritable}
 use Rattle.aiger_text.specs.Circuit.{Circuit}
 use Rattle.aiger_text.specs.CircuitFile.{File}
 use Rattle.aiger_text.specs.CircuitFile as circuit
-use Rattle.cert_text.specs.Reading.{all_named}
+use Rattle.document_text.specs.Reading.{all_named}
 use Rattle.solved_text.specs.declared.documents.Verdict.{Verdict}
 use Rattle.solved_text.specs.declared.documents.Verdict.TheVariants.{Realizable, Unrealizable, Unknown}
 use Rattle.solved_text.specs.declared.letters.Letters.{Letters}

@@ -1,12 +1,12 @@
 //! Where a document's annotation stands, and what may stand behind it.
 ghost use Rattle.std.specs.Prelude.{◌≡◌, ◌+◌, ◌<◌, ◌^◌, codes, length, option_map};
-ghost use Rattle.cert_text.specs.Header.{behind as behind_front, front};
+ghost use Rattle.document_text.specs.Header.{behind as behind_front, front};
 ghost use Rattle.solved_text.specs.Annotation.{annotation_at as annotation_in_line, bad_at_end as bad_with_end, bad_behind_end as bad_behind_pieces, bad_of_annotation as bad_with_annotation, has_head as begins_annotation, pieces_of};
-ghost use Rattle.cert_text.specs.Logs.{bad_behind as bad_of_rest};
+ghost use Rattle.document_text.specs.Logs.{bad_behind as bad_of_rest};
 ghost use Rattle.solved_text.specs.Shown.{shown_annotation};
 
 use aiger_text::cut_at;
-use cert_text::behind;
+use document_text::behind;
 
 /// Where the head of a document's annotation stands.
 #[derive(Clone, Copy, Debug)]

@@ -1,6 +1,6 @@
 use crate::letters::Letters;
 use aiger_text::Circuit;
-use letter_word::Kind;
+use letters_and_lassos::Kind;
 use refutation_log::Entry;
 use std::marker::Model;
 

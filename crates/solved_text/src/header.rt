@@ -1,15 +1,15 @@
 //! The lines of a document before its logs.
 ghost use Rattle.std.specs.Prelude.{◌≡◌, ◌+◌, ◌-◌, ◌<◌, ◌^◌, option_map};
 ghost use Rattle.std.specs.Option.{option_copied};
-ghost use Rattle.cert_text.specs.Header.{behind as behind_front, front, kind_in, number_behind as number_after};
+ghost use Rattle.document_text.specs.Header.{behind as behind_front, front, kind_in, number_behind as number_after};
 ghost use Rattle.solved_text.specs.Lines.{semantics_text};
 ghost use Rattle.solved_text.specs.Header.{bad_at as with_bad, has_its_place, header_of, is_number_of_states, may_stand, no_header, on_kind, on_refuted, on_semantics, on_verdict, refuted_at as with_refuted, refuted_in, tells_states, verdict_in as verdict_of_line};
 ghost use Rattle.solved_text.specs.Shown.{shown_header};
 
 use crate::documents::Verdict;
 use aiger_text::{cut_at, number_within};
-use cert_text::{behind, capped, kind_at};
-use letter_word::Kind;
+use document_text::{behind, capped, kind_at};
+use letters_and_lassos::Kind;
 
 /// The most states that a document tells of.
 const MOST_STATES: u32 = 65_536;

@@ -1,12 +1,12 @@
 //! The heads of logs.
 ghost use Rattle.std.specs.Prelude.{◌≡◌, IfOk, option_map};
-ghost use Rattle.cert_text.specs.Header.{front};
+ghost use Rattle.document_text.specs.Header.{front};
 ghost use Rattle.solved_text.specs.Logs.{head_in as head_of_line, head_of, log_of, numbers_for as numbers_of_line, numbers_of as numbers_of_text};
 
 use crate::documents::SizeLog;
 use crate::letters::{Letters, letters_in};
 use aiger_text::{cut_at, number_within};
-use cert_text::behind;
+use document_text::behind;
 use refutation_log::Entry;
 use std::alloc::{AllocError, Global};
 

@@ -3,7 +3,7 @@ ghost use Rattle.std.specs.Prelude.{◌≡◌, ◌<◌, IfOk, option_map};
 ghost use Rattle.solved_text.specs.Logs.{letters_in as letters_of_word, numbers_in as numbers_of_word};
 
 use aiger_text::cut_at;
-use cert_text::in_range;
+use document_text::in_range;
 use std::alloc::{AllocError, Global};
 use std::marker::Model;
 

@@ -2,7 +2,7 @@
 //!
 //! `is_sixth` says which bytes are such a document's, `read_solved` gives what their lines state and the first line that isn't what is
 //! wanted there, as far as that needs no text, and `write_solved` writes exactly a document's lines. What the annotation's lines state
-//! is read elsewhere, from the place that is given of it. Stands on cert_text, which has the lines that all versions share.
+//! is read elsewhere, from the place that is given of it. Stands on document_text, which has the lines that all versions share.
 #![tactic(auto)]
 
 mod annotation;

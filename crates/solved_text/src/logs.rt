@@ -5,7 +5,7 @@ ghost use Rattle.solved_text.specs.Shown.{IsLogAt, shown_logs};
 
 use crate::documents::SizeLog;
 use crate::heads::{Head, next_head};
-use cert_text::{FirstEntries, first_entries};
+use document_text::{FirstEntries, first_entries};
 use std::alloc::{AllocError, Global};
 
 /// What was read of a document's logs, the line behind that, and the bytes from there on; none where that line is bad.

@@ -12,7 +12,7 @@ use crate::documents::SizeLog;
 use crate::header::{Header, read_header};
 use crate::logs::{LogsRead, read_logs};
 use aiger_text::{CircuitFile, read_circuit};
-use cert_text::{CircuitPart, all_named, behind, fault_line};
+use document_text::{CircuitPart, all_named, behind, fault_line};
 use std::alloc::{AllocError, Global};
 use std::marker::Model;
 

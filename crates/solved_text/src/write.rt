@@ -2,16 +2,16 @@
 ghost use Rattle.std.specs.Prelude.{◌≡◌, ◌++◌, ◌∷◌, [], OnOk, OnErr, IfOk, decimal, flat_map, length, map};
 ghost use Rattle.std.specs.List.{join_with_byte};
 ghost use Rattle.aiger_text.specs.CircuitText.{numbers_line, text_of_lines};
-ghost use Rattle.cert_text.specs.Lines.{circuit_part, kind_line};
+ghost use Rattle.document_text.specs.Lines.{circuit_part, kind_line};
 ghost use Rattle.solved_text.specs.Lines.{body_text, document_text, head_line, header_text, letters_word, log_part, refuted_line, rest_text, semantics_part, verdict_line};
 
 use crate::documents::{Document, SizeLog, Verdict};
 use crate::letters::Letters;
 use aiger_text::{Circuit, write_circuit};
-use letter_word::Kind;
+use letters_and_lassos::Kind;
+use names_and_numbers::push_number;
 use refutation_log::write_entries;
 use std::alloc::{AllocError, Global};
-use text_base::push_number;
 
 /// Appends a document's lines: its circuit with the names that it has and the line `c`, where there is a circuit, the lines of the
 /// header, and the logs and the annotation, or the line `end`. After want of memory `out` is as before.

@@ -1,10 +1,10 @@
 -- A formula and a text have one answer.
 use Rattle.std.proofs.Common.{◌≡◌, ◌⊎◌, inl, inr, ℕ, List, Option, Some, None, refl, sym, ap, subst, ◌∙◌}
 use Rattle.text_limits.specs.declared.TheConstants.{SMALL_LIMITS}
-use Rattle.letter_word.specs.declared.kinds.Kind.{Kind}
-use Rattle.letter_word.specs.declared.kinds.Side.{Side}
-use Rattle.letter_word.specs.declared.kinds.Side.TheVariants.{System, Environment}
-use Rattle.letter_word.specs.Kinds.{other_kind}
+use Rattle.letters_and_lassos.specs.declared.kinds.Kind.{Kind}
+use Rattle.letters_and_lassos.specs.declared.kinds.Side.{Side}
+use Rattle.letters_and_lassos.specs.declared.kinds.Side.TheVariants.{System, Environment}
+use Rattle.letters_and_lassos.specs.Kinds.{other_kind}
 use Rattle.ltl_formula.specs.declared.nodes.Node.{Node}
 use Rattle.ltl_formula.specs.Added.{Built}
 use Rattle.ltl_formula.specs.Nodes.{tree_at}
@@ -14,8 +14,8 @@ use Rattle.machine_model.specs.Automaton.{AutomatonModel}
 use Rattle.machine_model.specs.Counting.{IsCountedAs}
 use Rattle.machine_model.specs.declared.counting.Counts.{Counts}
 use Rattle.machine_model.proofs.CountingLemmas.{one_counted}
-use Rattle.dual_search.specs.declared.automata.Automata.{Automata}
-use Rattle.dual_search.proofs.Sides.{answers_are_apart}
+use Rattle.side_automata.specs.declared.automata.Automata.{Automata}
+use Rattle.side_automata.proofs.Sides.{answers_are_apart}
 use Rattle.spec_faults.specs.declared.code.SpecCode.{SpecCode}
 use Rattle.tlsf_expand.specs.FlatText.{FlatText}
 use Rattle.tlsf_reader.proofs.OneTree.{determined}

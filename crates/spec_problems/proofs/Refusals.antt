@@ -4,8 +4,8 @@ use Rattle.ltl_formula.specs.declared.nodes.Node.{Node}
 use Rattle.ltl_formula.specs.Added.{Built}
 use Rattle.ltl_formula.specs.Tree.{Tree}
 use Rattle.cobuchi_build.specs.declared.building.BuildFault.{BuildFault}
-use Rattle.dual_search.specs.BothForms.{both_forms}
-use Rattle.dual_search.specs.Sides.{SystemPassesLimit}
+use Rattle.side_automata.specs.BothForms.{both_forms}
+use Rattle.side_automata.specs.Sides.{SystemPassesLimit}
 use Rattle.spec_faults.specs.declared.code.SpecCode.{SpecCode}
 use Rattle.spec_faults.specs.declared.code.SpecCode.TheVariants.{TooManyNodes, AutomatonTooLarge}
 use Rattle.spec_faults.specs.declared.code.SpecFault.{SpecFault}

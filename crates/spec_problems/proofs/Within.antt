@@ -2,8 +2,8 @@
 use Rattle.std.proofs.Common.{◌≡◌, ◌≤◌, ◌+◌, ℕ, Option, Some, None, All, sym, subst, ◌∙◌, arith}
 use Rattle.std.specs.Prelude.{IfSome}
 use Rattle.text_limits.specs.declared.TheConstants.{SMALL_LIMITS}
-use Rattle.letter_word.specs.declared.kinds.Kind.{Kind}
-use Rattle.letter_word.specs.declared.kinds.Side.{Side}
+use Rattle.letters_and_lassos.specs.declared.kinds.Kind.{Kind}
+use Rattle.letters_and_lassos.specs.declared.kinds.Side.{Side}
 use Rattle.ltl_formula.specs.declared.nodes.Node.{Node}
 use Rattle.std.specs.Prelude.{List}
 use Rattle.machine_model.specs.Automaton.{AutomatonModel, states_of}
@@ -11,8 +11,8 @@ use Rattle.machine_model.specs.Counting.{CountsIn}
 use Rattle.machine_model.proofs.CountingLemmas.{counts_in}
 use Rattle.machine_model.specs.Problem.{automaton_of, IsProblem, NamesSignals}
 use Rattle.machine_model.specs.declared.problems.Problem.{Problem}
-use Rattle.dual_search.specs.Limits.{FitsProblem, FitProblemsOf}
-use Rattle.dual_search.specs.declared.automata.Automata.{Automata}
+use Rattle.side_automata.specs.Limits.{FitsProblem, FitProblemsOf}
+use Rattle.side_automata.specs.declared.automata.Automata.{Automata}
 use Rattle.tlsf_expand.specs.FewSignals.{HasFewSignals}
 use Rattle.spec_problems.specs.declared.sides.Interface.{Interface}
 use Rattle.spec_problems.specs.declared.sides.SideProblems.{SideProblems}

@@ -1,6 +1,6 @@
 -- Laws of the problems of formulas and texts.
 use Rattle.std.specs.Prelude.{◌≡◌, ℕ, List, Option, Some, None}
-use Rattle.letter_word.specs.declared.kinds.Kind.{Kind}
+use Rattle.letters_and_lassos.specs.declared.kinds.Kind.{Kind}
 use Rattle.ltl_formula.specs.declared.nodes.Node.{Node}
 use Rattle.ltl_formula.specs.Tree.{Tree}
 use Rattle.machine_model.specs.declared.problems.Problem.{Problem}

@@ -1,19 +1,19 @@
 -- The problems of both sides of a formula, or the fault for which there are none: bounded synthesis of Finkbeiner and Schewe, with
 -- this project's limits.
 use Rattle.std.specs.Prelude.{◌≡◌, ℕ, true, false, List, Option, Some, None, IfSome}
-use Rattle.letter_word.specs.declared.kinds.Kind.{Kind}
-use Rattle.letter_word.specs.declared.kinds.Side.{Side}
-use Rattle.letter_word.specs.declared.kinds.Side.TheVariants.{System, Environment}
-use Rattle.letter_word.specs.Kinds.{other_kind}
+use Rattle.letters_and_lassos.specs.declared.kinds.Kind.{Kind}
+use Rattle.letters_and_lassos.specs.declared.kinds.Side.{Side}
+use Rattle.letters_and_lassos.specs.declared.kinds.Side.TheVariants.{System, Environment}
+use Rattle.letters_and_lassos.specs.Kinds.{other_kind}
 use Rattle.ltl_formula.specs.declared.nodes.Node.{Node}
 use Rattle.ltl_formula.specs.Tree.{Tree}
 use Rattle.machine_model.specs.declared.problems.Problem.{Problem}
 use Rattle.machine_model.specs.Automaton.{AutomatonModel}
 use Rattle.machine_model.specs.Counting.{IsCountedAs}
 use Rattle.machine_model.specs.Problem.{automaton_of, IsProblem}
-use Rattle.dual_search.specs.declared.automata.Automata.{Automata}
-use Rattle.dual_search.specs.BothForms.{both_forms}
-use Rattle.dual_search.specs.Sides.{AcceptsWhere, AreAutomataOf, SystemPassesLimit}
+use Rattle.side_automata.specs.declared.automata.Automata.{Automata}
+use Rattle.side_automata.specs.BothForms.{both_forms}
+use Rattle.side_automata.specs.Sides.{AcceptsWhere, AreAutomataOf, SystemPassesLimit}
 use Rattle.spec_faults.specs.declared.code.SpecCode.{SpecCode}
 use Rattle.spec_faults.specs.declared.code.SpecCode.TheVariants.{TooManyNodes, AutomatonTooLarge}
 use Rattle.spec_faults.specs.declared.code.SpecFault.{SpecFault}

@@ -11,10 +11,10 @@ ghost use Rattle.tlsf_expand.specs.FewSignals.{HasFewSignals};
 ghost use Rattle.spec_problems.specs.OfFormula.{AcceptBySide, AreProblems, AreProblemsIn, AreProblemsOver, IsEnvironmentOver, IsFormFault, IsProblemOver, refusal_of};
 
 use cobuchi_build::BuildFault;
-use dual_search::{Automata, problems};
-use letter_word::{Kind, Side};
+use letters_and_lassos::{Kind, Side};
 use ltl_formula::{FormulaId, Formulas};
 use machine_model::{Automaton, Counts, Problem};
+use side_automata::{Automata, problems};
 use spec_faults::{SpecCode, SpecFault};
 use std::alloc::{AllocError, Global};
 use std::sync::Arc;

@@ -13,7 +13,7 @@ ghost use Rattle.spec_problems.specs.OfText.{AreProblemsOf, IsFirstFault, SaysWh
 
 use crate::sides::{Interface, SideProblems, problems_of};
 use flat_text::expand_text;
-use letter_word::Kind;
+use letters_and_lassos::Kind;
 use machine_model::Counts;
 use spec_faults::SpecFault;
 use std::alloc::Global;

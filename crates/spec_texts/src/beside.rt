@@ -10,7 +10,7 @@ use flat_answer::{Expansion, expanded};
 use flat_lines::laws::expanded_can_be_written;
 use flat_text::expand_text;
 use kind_conversion::{Shift, shift_of};
-use letter_word::Kind;
+use letters_and_lassos::Kind;
 use machine_table::{ShowFault, Shown};
 use program_replies::refused;
 use spec_faults::SpecFault;

@@ -1,6 +1,6 @@
-use clause_base::{Clause, Cnf, Lit};
+use names_and_numbers::push_number;
+use propositional_logic::{Clause, Cnf, Lit};
 use std::alloc::AllocError;
-use text_base::push_number;
 
 /// Appends a formula in DIMACS form: a head line, and a line for each clause.
 pub fn push_formula(base: &Cnf, out: &mut Vec<u8>) -> Result<(), AllocError> {

@@ -1,9 +1,9 @@
 //! The entries of a log in LRAT, and their clauses in DRAT.
 
 use crate::dimacs::{push_clause, push_literal};
+use names_and_numbers::push_number;
 use refutation_log::Entry;
 use std::alloc::AllocError;
-use text_base::push_number;
 
 /// Each entry with its number, which comes behind those of the base clauses, and its hints.
 pub(crate) fn push_lrat(base: u64, entries: &[Entry], out: &mut Vec<u8>) -> Result<(), AllocError> {

@@ -8,12 +8,12 @@ ghost use Rattle.tlsf_expand.specs.FlatText.{spec_seen};
 
 use crate::plain_names::{LTL_WORDS, plain_names};
 use flat_lines::all_names;
-use letter_word::Kind;
+use letters_and_lassos::Kind;
 use ltl_formula::laws::signals_of_lists_are_kept;
 use ltl_formula::write_formula;
 use machine_table::Text;
+use names_and_numbers::Name;
 use std::alloc::{AllocError, Global};
-use text_base::Name;
 use tlsf_expand::Spec;
 
 const MEALY: &str = "# Mealy: outputs may be of the inputs of the same step\n";

@@ -5,9 +5,9 @@ ghost use Rattle.machine_model.specs.Problem.{IsProblem};
 ghost use Rattle.spec_problems.specs.OfFormula.{AreProblems};
 
 use annotation_encode::encode;
-use clause_base::Cnf;
-use letter_word::Side;
+use letters_and_lassos::Side;
 use machine_model::Problem;
+use propositional_logic::Cnf;
 use spec_problems::SideProblems;
 use std::alloc::{AllocError, Global};
 

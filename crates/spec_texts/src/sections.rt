@@ -4,8 +4,8 @@ ghost use Rattle.flat_lines.specs.FlatLines.{CanBeWritten};
 ghost use Rattle.tlsf_expand.specs.FlatText.{spec_seen};
 
 use flat_lines::put_flat;
+use input_output::PlainSink;
 use machine_table::Text;
-use outside_edge::PlainSink;
 use std::alloc::{AllocError, Global};
 use tlsf_expand::Spec;
 

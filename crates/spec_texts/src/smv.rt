@@ -5,7 +5,7 @@ ghost use Rattle.ltl_formula.specs.Nodes.{Stands};
 
 use ltl_formula::{FormulaId, Formulas, Node};
 use machine_table::Text;
-use text_base::Name;
+use names_and_numbers::Name;
 
 /// Puts a formula, with these names for its signals.
 #[cycle(smv)]

@@ -8,8 +8,8 @@ use crate::plain_names::{SMV_WORDS, plain_names};
 use crate::smv::put_smv;
 use flat_lines::all_names;
 use machine_table::{ShowFault, Shown, Text};
+use names_and_numbers::Name;
 use std::alloc::{AllocError, Global};
-use text_base::Name;
 use tlsf_expand::Spec;
 
 /// Names that SMV takes, for the inputs and the outputs of a machine.

@@ -10,10 +10,10 @@ use crate::sections::{
     ASSERT, ASSUME, FlatLines, GUARANTEE, INITIALLY, PRESET, REQUIRE, put_opened,
 };
 use flat_lines::all_names;
-use letter_word::Kind;
+use letters_and_lassos::Kind;
 use machine_table::{Part, Text};
+use names_and_numbers::Name;
 use std::alloc::{AllocError, Global};
-use text_base::Name;
 use tlsf_expand::Spec;
 
 const NO_APART: &str =

@@ -9,8 +9,8 @@ use crate::sections::FlatLines;
 use flat_lines::all_names;
 use kind_conversion::Shift;
 use machine_table::Shown;
+use names_and_numbers::Name;
 use std::alloc::{AllocError, Global};
-use text_base::Name;
 use tlsf_expand::Spec;
 use tlsf_tokens::{Symbol, tokens};
 

@@ -1,15 +1,15 @@
 -- A document over base clauses that count by component is one of version 3 in all but its base clauses.
 use Rattle.std.proofs.Common.{◌≡◌, true, false, refl}
-use Rattle.letter_word.specs.declared.kinds.Side.{Side}
-use Rattle.letter_word.specs.declared.kinds.Side.TheVariants.{System, Environment}
+use Rattle.letters_and_lassos.specs.declared.kinds.Side.{Side}
+use Rattle.letters_and_lassos.specs.declared.kinds.Side.TheVariants.{System, Environment}
 use Rattle.machine_model.specs.Automaton.{AutomatonModel}
 use Rattle.machine_model.specs.Counting.{IsCountedAs}
 use Rattle.machine_model.specs.declared.counting.Counting.{Counting}
 use Rattle.machine_model.specs.declared.counting.Counts.{Counts}
 use Rattle.machine_model.specs.declared.counting.Counts.TheVariants.{Whole, Local}
-use Rattle.cert_text.specs.declared.documents.Verdict.{Verdict}
-use Rattle.cert_text.specs.declared.documents.Verdict.TheVariants.{Machine, Unknown}
-use Rattle.cert_text.specs.Order.{fits_version, has_logs, is_version}
+use Rattle.document_text.specs.declared.documents.Verdict.{Verdict}
+use Rattle.document_text.specs.declared.documents.Verdict.TheVariants.{Machine, Unknown}
+use Rattle.document_text.specs.Order.{fits_version, has_logs, is_version}
 use Rattle.document_check.specs.Facts.{clause_version}
 use Rattle.synth_answer.specs.Holds.{document_version}
 

@@ -1,10 +1,10 @@
 -- From a document over a ground to an answer to what has that ground.
 use Rattle.std.proofs.Common.{◌≡◌, ℕ, Bool, List, Option, Some, refl, sym, ap, ◌∙◌, subst}
-use Rattle.letter_word.specs.declared.kinds.Kind.{Kind}
+use Rattle.letters_and_lassos.specs.declared.kinds.Kind.{Kind}
 use Rattle.spec_faults.specs.declared.code.SpecCode.{SpecCode}
 use Rattle.synth_engine.specs.declared.settings.Settings.{Settings}
 use Rattle.synth_answer.specs.Answer.{AnswersFor, IsAnswerFor, IsAnswerOn, IsToldFor, IsToldOn, refused, realizable, unrealizable, bounded, no_size, no_entries, defeats, told_defeats, verdict_defeats, verdict_of}
-use Rattle.cert_text.specs.declared.documents.Verdict.{Verdict}
+use Rattle.document_text.specs.declared.documents.Verdict.{Verdict}
 use Rattle.tlsf_expand.specs.FlatText.{FlatText}
 use Rattle.spec_problems.specs.OfText.{AreProblemsOf}
 use Rattle.text_ground.specs.Ground.{AreProblemsOn, Ground, ground_with}

@@ -4,23 +4,23 @@ use Rattle.std.specs.Prelude.{nat_le}
 use Rattle.std.specs.Option.{ForSome, option_map_or}
 use Rattle.std.proofs.lemmas.Bool.{le-leb}
 use Rattle.std.proofs.lemmas.List.Elements.{All-head, All-tail}
-use Rattle.letter_word.specs.declared.kinds.Kind.{Kind}
-use Rattle.letter_word.specs.declared.kinds.Side.{Side}
-use Rattle.letter_word.specs.declared.kinds.Side.TheVariants.{System, Environment}
-use Rattle.letter_word.specs.Kinds.{other_kind}
+use Rattle.letters_and_lassos.specs.declared.kinds.Kind.{Kind}
+use Rattle.letters_and_lassos.specs.declared.kinds.Side.{Side}
+use Rattle.letters_and_lassos.specs.declared.kinds.Side.TheVariants.{System, Environment}
+use Rattle.letters_and_lassos.specs.Kinds.{other_kind}
 use Rattle.machine_model.specs.Problem.{sized, automaton_of}
 use Rattle.machine_model.specs.declared.problems.Problem.{Problem}
 use Rattle.annotation_encode.specs.Count.{SizesRise, allowed_sizes}
 use Rattle.machine_model.specs.declared.counting.Counts.{Counts}
 use Rattle.annotation_encode.specs.Variables.{variables_of}
 use Rattle.aiger_text.specs.Circuit.{Circuit}
-use Rattle.cert_text.specs.declared.documents.Verdict.{Verdict}
-use Rattle.cert_text.specs.declared.documents.Verdict.TheVariants.{Machine, Unknown}
-use Rattle.cert_text.specs.contracts.documents.VerdictPartialEq.TheImpl.{ghosts as verdict_ghosts}
-use Rattle.cert_text.specs.declared.order.Order.TheVariants.{UpTo}
-use Rattle.cert_text.specs.declared.order.Place.{Place}
-use Rattle.cert_text.specs.Order.{has_its_place, machine_of, named_of, order_of, place_of, verdict_of}
-use Rattle.cert_text.specs.Parts.{Document, LogPart}
+use Rattle.document_text.specs.declared.documents.Verdict.{Verdict}
+use Rattle.document_text.specs.declared.documents.Verdict.TheVariants.{Machine, Unknown}
+use Rattle.document_text.specs.contracts.documents.VerdictPartialEq.TheImpl.{ghosts as verdict_ghosts}
+use Rattle.document_text.specs.declared.order.Order.TheVariants.{UpTo}
+use Rattle.document_text.specs.declared.order.Place.{Place}
+use Rattle.document_text.specs.Order.{has_its_place, machine_of, named_of, order_of, place_of, verdict_of}
+use Rattle.document_text.specs.Parts.{Document, LogPart}
 use Rattle.document_check.specs.Facts.{Facts, allowed_at, circuit_side, clause_version, for_side, problem_at, sizes_to, wanted_sizes}
 use Rattle.document_check.specs.Holds as check
 use Rattle.synth_engine.specs.Searched.{allowed_of}

@@ -5,7 +5,7 @@ use Rattle.std.proofs.lemmas.List.Elements.{All-map}
 use Rattle.std.specs.List.{list_all}
 use Rattle.aiger_text.specs.RoundTrip.{IsLineName}
 use Rattle.flat_text.specs.FlatNames.{IsOneWord}
-use Rattle.cert_text.specs.Order.{is_in_range}
+use Rattle.document_text.specs.Order.{is_in_range}
 use Rattle.text_ground.proofs.Lists.{all_map}
 
 pub in_range : (least most n : ℕ) → least ≤ n → n ≤ most → IsTrue (is_in_range least most n)

@@ -2,9 +2,9 @@
 use Rattle.std.proofs.Common.{◌≡◌, ℕ, ◌+◌, List, [], ◌∷◌, All, length, map, refl, ap}
 use Rattle.std.proofs.lemmas.List.Elements.{All-cons, All-head, All-map, All-tail}
 use Rattle.size_search.specs.declared.size_log.SizeLog.{SizeLog}
-use Rattle.cert_text.specs.Parts.{LogPart}
-use Rattle.cert_text.specs.States.{logs_at}
-use Rattle.cert_text.specs.Order.{place_of}
+use Rattle.document_text.specs.Parts.{LogPart}
+use Rattle.document_text.specs.States.{logs_at}
+use Rattle.document_text.specs.Order.{place_of}
 use Rattle.synth_answer.specs.Reply.{part_of}
 
 -- it makes no difference in which line the head stands

@@ -1,7 +1,7 @@
 -- What accepted machines and their circuits do for a text.
 use Rattle.std.proofs.Common.{ℕ, subst}
-use Rattle.letter_word.specs.declared.kinds.Side.{Side}
-use Rattle.letter_word.specs.declared.kinds.Side.TheVariants.{System, Environment}
+use Rattle.letters_and_lassos.specs.declared.kinds.Side.{Side}
+use Rattle.letters_and_lassos.specs.declared.kinds.Side.TheVariants.{System, Environment}
 use Rattle.ltl_formula.specs.Tree.{Tree}
 use Rattle.machine_model.specs.Accepts.{SideAccepts}
 use Rattle.machine_model.specs.Machine.{MachineModel}

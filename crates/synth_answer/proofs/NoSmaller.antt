@@ -1,9 +1,9 @@
 -- No circuit with fewer states than an answer tells does what its side owes.
 use Rattle.std.proofs.Common.{◌≡◌, ℕ, ◌<◌, List, Option, refl, ap, subst, ◌∙◌, arith}
-use Rattle.letter_word.specs.declared.kinds.Kind.{Kind}
-use Rattle.cert_text.specs.Laws.{DocumentsAreDetermined}
-use Rattle.cert_text.specs.Parts.{Document}
-use Rattle.cert_text.specs.States.{States}
+use Rattle.letters_and_lassos.specs.declared.kinds.Kind.{Kind}
+use Rattle.document_text.specs.Laws.{DocumentsAreDetermined}
+use Rattle.document_text.specs.Parts.{Document}
+use Rattle.document_text.specs.States.{States}
 use Rattle.tlsf_reader.specs.Reads.{TreesAreDetermined}
 use Rattle.satisfaction.specs.Wanted.{Wanted}
 use Rattle.circuit_laws.specs.Laws.{NoCircuitDefeats, NoCircuitSatisfies, NoSmallCircuitDefeats, NoSmallCircuitSatisfies}

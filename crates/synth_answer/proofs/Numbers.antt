@@ -4,13 +4,13 @@ use Rattle.std.specs.Prelude.{unwrap_or}
 use Rattle.std.proofs.lemmas.Bool.{cases_lt}
 use Rattle.std.proofs.lemmas.List.{nil_from_length}
 use Rattle.text_limits.specs.declared.TheConstants.{SMALL_LIMITS}
-use Rattle.letter_word.specs.declared.kinds.Kind.{Kind}
+use Rattle.letters_and_lassos.specs.declared.kinds.Kind.{Kind}
 use Rattle.synth_engine.specs.declared.settings.Settings.{Settings}
-use Rattle.letter_word.specs.Word.{Word}
+use Rattle.letters_and_lassos.specs.Word.{Word}
 use Rattle.machine_model.specs.Machine.{MachineModel, IsMachine, size_of}
-use Rattle.cert_text.specs.Laws.{DocumentsAreDetermined}
-use Rattle.cert_text.specs.Parts.{Document}
-use Rattle.cert_text.specs.States.{States}
+use Rattle.document_text.specs.Laws.{DocumentsAreDetermined}
+use Rattle.document_text.specs.Parts.{Document}
+use Rattle.document_text.specs.States.{States}
 use Rattle.tlsf_expand.specs.Expansion.{expanded, expanded_as, kind_of}
 use Rattle.tlsf_expand.specs.FlatText.{FlatText, flat_in}
 use Rattle.tlsf_expand.specs.Meaning.{means}

@@ -4,13 +4,13 @@ use Rattle.std.proofs.lemmas.Bool.{cond-true, cond-false}
 use Rattle.std.proofs.lemmas.List.Elements.{All-cons, All-head, All-nil, All-tail}
 use Rattle.std.proofs.lemmas.Option.{same_Some, none-some}
 use Rattle.refutation_log.specs.Log.{is_ended}
-use Rattle.cert_text.specs.contracts.documents.VerdictPartialEq.TheImpl.{ghosts as verdict_ghosts}
-use Rattle.cert_text.specs.declared.documents.Verdict.{Verdict}
-use Rattle.cert_text.specs.declared.documents.Verdict.TheVariants.{Machine, Unknown}
-use Rattle.cert_text.specs.declared.order.Place.{Place}
-use Rattle.cert_text.specs.Order.{place_of, verdict_of}
-use Rattle.cert_text.specs.Parts.{LogPart}
-use Rattle.cert_text.specs.States.{logs_at}
+use Rattle.document_text.specs.contracts.documents.VerdictPartialEq.TheImpl.{ghosts as verdict_ghosts}
+use Rattle.document_text.specs.declared.documents.Verdict.{Verdict}
+use Rattle.document_text.specs.declared.documents.Verdict.TheVariants.{Machine, Unknown}
+use Rattle.document_text.specs.declared.order.Place.{Place}
+use Rattle.document_text.specs.Order.{place_of, verdict_of}
+use Rattle.document_text.specs.Parts.{LogPart}
+use Rattle.document_text.specs.States.{logs_at}
 use Rattle.document_check.specs.Facts.{Facts}
 use Rattle.document_check.specs.Holds.{first_open, may_be_full}
 use Rattle.document_check.proofs.HoldLemmas.{same_as_itself}

@@ -2,17 +2,17 @@
 use Rattle.std.proofs.Common.{◌≡◌, ℕ, zero, suc, ◌+◌, ◌<◌, ◌≤◌, ◌⊎◌, inl, inr, List, [], ◌∷◌, ◌++◌, All, Contains, IsTrue, map, get_or, refl, sym, ap, ◌∙◌, subst, arith, eq-eqb, add-zero}
 use Rattle.std.proofs.lemmas.Bool.{lt-ltb}
 use Rattle.std.proofs.lemmas.List.Elements.{All-cons, All-head, All-nil, All-push, All-tail, All-weaker, Contains-append_left, Contains-push}
-use Rattle.letter_word.specs.declared.kinds.Side.{Side}
-use Rattle.letter_word.specs.declared.kinds.Side.TheVariants.{System, Environment}
+use Rattle.letters_and_lassos.specs.declared.kinds.Side.{Side}
+use Rattle.letters_and_lassos.specs.declared.kinds.Side.TheVariants.{System, Environment}
 use Rattle.size_board.specs.declared.events.Claim.{Claim}
 use Rattle.size_search.specs.declared.size_log.SizeLog.{SizeLog}
 use Rattle.synth_engine.specs.Logs as engine
-use Rattle.cert_text.specs.declared.order.Order.{Order}
-use Rattle.cert_text.specs.declared.order.Order.TheVariants.{UpTo, AnyUpTo}
-use Rattle.cert_text.specs.declared.order.Place.{Place}
-use Rattle.cert_text.specs.Order.{AreInOrder, may_follow, place, place_of}
+use Rattle.document_text.specs.declared.order.Order.{Order}
+use Rattle.document_text.specs.declared.order.Order.TheVariants.{UpTo, AnyUpTo}
+use Rattle.document_text.specs.declared.order.Place.{Place}
+use Rattle.document_text.specs.Order.{AreInOrder, may_follow, place, place_of}
 use Rattle.document_check.proofs.HoldLemmas.{same_as_itself}
-use Rattle.cert_text.specs.Parts.{LogPart}
+use Rattle.document_text.specs.Parts.{LogPart}
 use Rattle.document_check.specs.Facts.{sizes_to}
 use Rattle.text_ground.proofs.Lists.{le_cases}
 use Rattle.synth_answer.specs.Reply.{part_of}

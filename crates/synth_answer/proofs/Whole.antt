@@ -4,9 +4,9 @@ use Rattle.std.proofs.lemmas.List.Elements.{All-contains, All-map, All-same, All
 use Rattle.std.specs.List.{list_all}
 use Rattle.std.specs.Option.{option_map_or}
 use Rattle.std.proofs.lemmas.Option.{none-some}
-use Rattle.letter_word.specs.Word.{Word}
-use Rattle.letter_word.specs.declared.kinds.Side.{Side}
-use Rattle.letter_word.specs.declared.kinds.Side.TheVariants.{System, Environment}
+use Rattle.letters_and_lassos.specs.Word.{Word}
+use Rattle.letters_and_lassos.specs.declared.kinds.Side.{Side}
+use Rattle.letters_and_lassos.specs.declared.kinds.Side.TheVariants.{System, Environment}
 use Rattle.ltl_formula.specs.Tree.{Tree}
 use Rattle.ltl_formula.specs.declared.nodes.FormulaId.{FormulaId}
 use Rattle.ltl_formula.specs.declared.nodes.Node.{Node}
@@ -22,7 +22,7 @@ use Rattle.refutation_log.specs.Teaches.{IsTaught}
 use Rattle.aiger_text.specs.Circuit.{Circuit, HasStates}
 use Rattle.aiger_text.specs.RoundTrip.{IsLineName, IsWritable}
 use Rattle.gate_build.specs.Laws.{IsSmallestOf}
-use Rattle.dual_search.specs.Sides.{AcceptsWhere}
+use Rattle.side_automata.specs.Sides.{AcceptsWhere}
 use Rattle.tlsf_expand.specs.Expansion.{Expanded}
 use Rattle.flat_text.specs.FlatNames.{HasPlainNames, IsOneWord}
 use Rattle.spec_problems.specs.declared.sides.SideProblems.{SideProblems}
@@ -38,16 +38,16 @@ use Rattle.synth_engine.specs.declared.outcomes.Found.{Found}
 use Rattle.synth_engine.specs.Outcomes.{AreAllSettled, CannotFill, GoesWith, IsFound, IsFoundWith, IsSettled, OfSide}
 use Rattle.program_replies.specs.declared.replies.Status.{Status}
 use Rattle.program_replies.specs.Statuses.{status_number}
-use Rattle.cert_text.specs.declared.documents.Verdict.{Verdict}
-use Rattle.cert_text.specs.declared.documents.Verdict.TheVariants.{Machine, Unknown}
-use Rattle.cert_text.specs.declared.order.Order.{Order}
-use Rattle.cert_text.specs.declared.order.Order.TheVariants.{UpTo}
-use Rattle.cert_text.specs.declared.order.Place.{Place}
-use Rattle.cert_text.specs.Order.{AreInOrder, has_its_place, is_in_range, machine_of, may_tell_found, named_of, order_of, place, place_of, start_of, verdict_of}
-use Rattle.cert_text.specs.Parts.{Document, LogPart}
-use Rattle.cert_text.specs.Reading.{all_named}
-use Rattle.cert_text.specs.WellFormed.{IsFoundNumber, IsLogPart, IsWellFormed}
-use Rattle.cert_text.specs.States.{logs_at, numbered, written_comment_line}
+use Rattle.document_text.specs.declared.documents.Verdict.{Verdict}
+use Rattle.document_text.specs.declared.documents.Verdict.TheVariants.{Machine, Unknown}
+use Rattle.document_text.specs.declared.order.Order.{Order}
+use Rattle.document_text.specs.declared.order.Order.TheVariants.{UpTo}
+use Rattle.document_text.specs.declared.order.Place.{Place}
+use Rattle.document_text.specs.Order.{AreInOrder, has_its_place, is_in_range, machine_of, may_tell_found, named_of, order_of, place, place_of, start_of, verdict_of}
+use Rattle.document_text.specs.Parts.{Document, LogPart}
+use Rattle.document_text.specs.Reading.{all_named}
+use Rattle.document_text.specs.WellFormed.{IsFoundNumber, IsLogPart, IsWellFormed}
+use Rattle.document_text.specs.States.{logs_at, numbered, written_comment_line}
 use Rattle.synth_answer.specs.Answer.{CanBeBeaten, DoesItsPart, HasLog, IsRefuted, IsToldOn}
 use Rattle.synth_answer.specs.Answer as answer
 use Rattle.document_check.specs.Facts.{Facts, sizes_to, wanted_sizes}

@@ -1,9 +1,9 @@
 -- The answers of `synth`, each with its status (this project's own).
 use Rattle.std.specs.Prelude.{◌≡◌, ℕ, ◌<◌, ◌≤◌, Bool, true, false, List, Option, Some, None, Any, Contains}
 use Rattle.std.specs.Option.{option_map_or}
-use Rattle.letter_word.specs.declared.kinds.Kind.{Kind}
-use Rattle.letter_word.specs.declared.kinds.Side.{Side}
-use Rattle.letter_word.specs.declared.kinds.Side.TheVariants.{System, Environment}
+use Rattle.letters_and_lassos.specs.declared.kinds.Kind.{Kind}
+use Rattle.letters_and_lassos.specs.declared.kinds.Side.{Side}
+use Rattle.letters_and_lassos.specs.declared.kinds.Side.TheVariants.{System, Environment}
 use Rattle.machine_model.specs.Machine.{MachineModel, size_of}
 use Rattle.aiger_text.specs.Circuit.{Circuit, HasStates, RunsOnEveryInput}
 use Rattle.spec_faults.specs.declared.code.SpecCode.{SpecCode}
@@ -12,12 +12,12 @@ use Rattle.satisfaction.specs.Wanted.{Wanted}
 use Rattle.satisfaction.specs.Satisfaction.{CircuitDefeats, CircuitSatisfies, Defeats, EachCanLose, NoneSatisfies, Satisfies}
 use Rattle.synth_engine.specs.declared.settings.Settings.{Settings}
 use Rattle.synth_engine.specs.Outcomes.{CannotFill}
-use Rattle.cert_text.specs.declared.documents.Verdict.{Verdict}
-use Rattle.cert_text.specs.declared.documents.Verdict.TheVariants.{Machine, Unknown}
-use Rattle.cert_text.specs.declared.order.Place.{Place}
-use Rattle.cert_text.specs.Order.{machine_of, place, place_of}
+use Rattle.document_text.specs.declared.documents.Verdict.{Verdict}
+use Rattle.document_text.specs.declared.documents.Verdict.TheVariants.{Machine, Unknown}
+use Rattle.document_text.specs.declared.order.Place.{Place}
+use Rattle.document_text.specs.Order.{machine_of, place, place_of}
 use Rattle.document_check.specs.Facts.{Facts}
-use Rattle.cert_text.specs.Parts.{Document, LogPart}
+use Rattle.document_text.specs.Parts.{Document, LogPart}
 use Rattle.program_replies.specs.Lines.{refusal_line}
 use Rattle.synth_answer.specs.Holds.{IsClosedLog, IsEndedLog, IsFirstOpen, IsFullLog, sizes_of}
 use Rattle.text_ground.specs.Ground.{Ground, IsGroundOf, facts_on}

@@ -1,7 +1,7 @@
 -- The logs of a document, as a text's problems see them (this project's own).
 use Rattle.std.specs.Prelude.{◌≡◌, ℕ, ◌⊎◌, List, ◌∷◌, ◌++◌, Option, All}
-use Rattle.letter_word.specs.declared.kinds.Side.{Side}
-use Rattle.letter_word.specs.declared.kinds.Side.TheVariants.{System, Environment}
+use Rattle.letters_and_lassos.specs.declared.kinds.Side.{Side}
+use Rattle.letters_and_lassos.specs.declared.kinds.Side.TheVariants.{System, Environment}
 use Rattle.machine_model.specs.Problem.{sized}
 use Rattle.machine_model.specs.declared.problems.Problem.{Problem}
 use Rattle.annotation_encode.specs.Count.{allowed_sizes}
@@ -9,9 +9,9 @@ use Rattle.machine_model.specs.declared.counting.Counts.{Counts}
 use Rattle.machine_model.specs.declared.counting.Counts.TheVariants.{Whole, Local}
 use Rattle.annotation_encode.specs.Variables.{variables_of}
 use Rattle.refutation_log.specs.Log.{IsClosed, IsFull}
-use Rattle.cert_text.specs.declared.order.Place.{Place}
-use Rattle.cert_text.specs.Order.{place_of}
-use Rattle.cert_text.specs.Parts.{LogPart}
+use Rattle.document_text.specs.declared.order.Place.{Place}
+use Rattle.document_text.specs.Order.{place_of}
+use Rattle.document_text.specs.Parts.{LogPart}
 use Rattle.document_check.specs.Facts.{Facts}
 use Rattle.synth_engine.specs.Searched.{allowed_of}
 use Rattle.synth_engine.specs.Logs.{base_at}

@@ -1,16 +1,16 @@
 -- That what an answer says of machines doesn't depend on how its search was bounded (this project's own).
 use Rattle.std.specs.Prelude.{◌≡◌, ◌⊎◌, ◌<◌, ℕ, List, Option}
 use Rattle.std.specs.Option.{option_map_or}
-use Rattle.letter_word.specs.declared.kinds.Kind.{Kind}
+use Rattle.letters_and_lassos.specs.declared.kinds.Kind.{Kind}
 use Rattle.tlsf_syntax.specs.Text.{Text}
 use Rattle.tlsf_reader.specs.Reads.{Reads}
 use Rattle.tlsf_expand.specs.Expansion.{kind_of}
 use Rattle.synth_engine.specs.declared.settings.Settings.{Settings}
-use Rattle.cert_text.specs.declared.documents.Verdict.{Verdict}
-use Rattle.cert_text.specs.declared.order.Place.{Place}
-use Rattle.cert_text.specs.Order.{machine_of}
-use Rattle.cert_text.specs.Parts.{Document}
-use Rattle.cert_text.specs.States.{States}
+use Rattle.document_text.specs.declared.documents.Verdict.{Verdict}
+use Rattle.document_text.specs.declared.order.Place.{Place}
+use Rattle.document_text.specs.Order.{machine_of}
+use Rattle.document_text.specs.Parts.{Document}
+use Rattle.document_text.specs.States.{States}
 use Rattle.satisfaction.specs.Wanted.{Wanted}
 use Rattle.circuit_laws.specs.Laws.{NoCircuitDefeats, NoCircuitSatisfies}
 use Rattle.text_ground.specs.Ground.{IsWantedBy}

@@ -1,13 +1,13 @@
 -- What is printed as an answer: a document that holds for what it stands on (this project's own).
 use Rattle.std.specs.Prelude.{◌≡◌, ℕ, ◌≤◌, List, Option, Some, All}
-use Rattle.letter_word.specs.declared.kinds.Kind.{Kind}
+use Rattle.letters_and_lassos.specs.declared.kinds.Kind.{Kind}
 use Rattle.ltl_formula.specs.declared.nodes.Node.{Node}
 use Rattle.refutation_log.specs.Teaches.{IsTaught}
 use Rattle.spec_problems.specs.declared.sides.SideProblems.{SideProblems}
 use Rattle.synth_engine.specs.declared.settings.Settings.{Settings}
 use Rattle.synth_engine.specs.Logs.{base_at}
-use Rattle.cert_text.specs.Parts.{Document}
-use Rattle.cert_text.specs.States.{States}
+use Rattle.document_text.specs.Parts.{Document}
+use Rattle.document_text.specs.States.{States}
 use Rattle.document_check.specs.Facts.{Facts}
 use Rattle.document_check.specs.Holds.{HoldsFor}
 use Rattle.document_check.specs.FirstBad.{IsFirstBadFor}

@@ -1,8 +1,8 @@
 -- How the outcome of a search is written (this project's own).
 use Rattle.std.specs.Prelude.{◌≡◌, ℕ, ◌≤◌, ◌<◌, ◌^◌, List, [], Option, Some, None, All, IfSome, length, map, option_map, if◌then◌else◌}
-use Rattle.letter_word.specs.declared.kinds.Kind.{Kind}
-use Rattle.letter_word.specs.declared.kinds.Side.{Side}
-use Rattle.letter_word.specs.declared.kinds.Side.TheVariants.{System, Environment}
+use Rattle.letters_and_lassos.specs.declared.kinds.Kind.{Kind}
+use Rattle.letters_and_lassos.specs.declared.kinds.Side.{Side}
+use Rattle.letters_and_lassos.specs.declared.kinds.Side.TheVariants.{System, Environment}
 use Rattle.machine_model.specs.Machine.{MachineModel, size_of}
 use Rattle.machine_model.specs.Components.{ComponentsClass}
 use Rattle.aiger_text.specs.Circuit.{Circuit, IsCircuitOfKind, RunsOnEveryInput}
@@ -22,13 +22,13 @@ use Rattle.synth_engine.specs.Settings.{IsWithinBounds}
 use Rattle.synth_engine.specs.declared.outcomes.Outcome.{Outcome}
 use Rattle.synth_engine.specs.declared.outcomes.Found.{Found}
 use Rattle.synth_engine.specs.Outcomes.{IsOutcomeOf}
-use Rattle.cert_text.specs.declared.documents.Verdict.{Verdict}
-use Rattle.cert_text.specs.declared.documents.Verdict.TheVariants.{Machine, Unknown}
-use Rattle.cert_text.specs.declared.order.Place.{Place}
-use Rattle.cert_text.specs.Order.{place, verdict_of}
-use Rattle.cert_text.specs.Parts.{Document, LogPart}
-use Rattle.cert_text.specs.WellFormed.{IsWellFormed}
-use Rattle.cert_text.specs.States.{States, numbered}
+use Rattle.document_text.specs.declared.documents.Verdict.{Verdict}
+use Rattle.document_text.specs.declared.documents.Verdict.TheVariants.{Machine, Unknown}
+use Rattle.document_text.specs.declared.order.Place.{Place}
+use Rattle.document_text.specs.Order.{place, verdict_of}
+use Rattle.document_text.specs.Parts.{Document, LogPart}
+use Rattle.document_text.specs.WellFormed.{IsWellFormed}
+use Rattle.document_text.specs.States.{States, numbered}
 use Rattle.program_replies.specs.declared.replies.Status.{Status}
 use Rattle.program_replies.specs.declared.replies.Status.TheVariants as status
 use Rattle.text_ground.specs.Laws.{SidesMean}

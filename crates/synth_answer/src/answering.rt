@@ -1,6 +1,6 @@
 //! The answer to a text, and to problems that stand on some ground.
 ghost use Rattle.std.specs.Prelude.{◌≡◌, Bool, IfOk, List, Some};
-ghost use Rattle.letter_word.specs.Word.{Word};
+ghost use Rattle.letters_and_lassos.specs.Word.{Word};
 ghost use Rattle.ltl_formula.specs.declared.nodes.FormulaId.{FormulaId as Id};
 ghost use Rattle.ltl_formula.specs.declared.nodes.Node.{Node};
 ghost use Rattle.flat_text.specs.FlatNames.{HasPlainNames};
@@ -14,9 +14,9 @@ ghost use Rattle.text_ground.specs.Problems.{AreProblemsFor};
 use crate::facts::laws_hold;
 use crate::outcomes::reply_to;
 use annotation_encode::laws::sizes_rise;
-use cert_text::Verdict;
-use letter_word::{Kind, Side};
-use outside_edge::Gate;
+use document_text::Verdict;
+use input_output::Gate;
+use letters_and_lassos::{Kind, Side};
 use program_replies::Reply;
 use spec_problems::{SideProblems, TextProblems};
 use std::alloc::{AllocError, Global};

@@ -4,8 +4,8 @@ ghost use Rattle.synth_answer.specs.Holds.{document_version};
 ghost use Rattle.synth_answer.specs.Reply.{IsShort, StatesIfGood, document_of, part_of as part_seen};
 
 use aiger_text::Circuit;
-use cert_text::{Document, LogPart, Verdict, write_document};
-use letter_word::Kind;
+use document_text::{Document, LogPart, Verdict, write_document};
+use letters_and_lassos::Kind;
 use machine_model::Counts;
 use size_search::SizeLog;
 use std::alloc::{AllocError, Global};

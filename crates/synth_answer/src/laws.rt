@@ -1,8 +1,8 @@
 //! What no bound of a search changes.
 ghost use Rattle.synth_answer.specs.Numbers.{NoSmallerCircuits, VerdictsAreDetermined};
 
-use cert_text::laws::documents_are_determined;
 use circuit_laws::laws::{no_small_circuit_defeats, no_small_circuit_satisfies};
+use document_text::laws::documents_are_determined;
 use satisfaction::laws::defeating_cannot_lose;
 use tlsf_reader::laws::trees_are_determined;
 

@@ -7,15 +7,15 @@ ghost use Rattle.synth_answer.specs.Reply.{FitsNames, FoundFits, IsCircuitFor, I
 
 use crate::documents::{document_text, parts_of};
 use aiger_text::{Circuit, runs_on_every_input};
-use cert_text::{Place, Verdict};
 use document_check::first_open;
+use document_text::{Place, Verdict};
 use gate_build::circuit_of;
-use letter_word::Side;
+use letters_and_lassos::Side;
 use machine_model::Machine;
+use names_and_numbers::Name;
 use program_replies::{Reply, Status};
 use std::alloc::{AllocError, Global};
 use synth_engine::{Found, Outcome, Settings};
-use text_base::Name;
 use tlsf_expand::Spec;
 
 /// The reply to an outcome, by the names and the kind of the text, and what it says.

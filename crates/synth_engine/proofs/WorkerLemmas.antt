@@ -4,7 +4,7 @@ use Rattle.std.specs.Prelude.{Vec, Option, Some, None, Result, Ok, Err, IfOk, If
 use Rattle.std.proofs.Math.Seq.{map-set_same}
 use Rattle.std.proofs.lemmas.List.{get_or-map, length-map, with_items_is}
 use Rattle.std.specs.Vec.{with_items}
-use Rattle.letter_word.specs.declared.kinds.Side.{Side}
+use Rattle.letters_and_lassos.specs.declared.kinds.Side.{Side}
 use Rattle.refutation_log.specs.declared.entries.Entry.{Entry}
 use Rattle.clause_exchange.specs.SharedLog.{PassView, SharedLog}
 use Rattle.size_board.specs.Names.{Named, sizes_of}

@@ -1,7 +1,7 @@
 -- What is settled behind the race of the workers (this project's own).
 use Rattle.std.specs.Prelude.{◌≡◌, Option, Some, None, length}
-use Rattle.letter_word.specs.declared.kinds.Side.{Side}
-use Rattle.letter_word.specs.declared.kinds.Side.TheVariants.{System, Environment}
+use Rattle.letters_and_lassos.specs.declared.kinds.Side.{Side}
+use Rattle.letters_and_lassos.specs.declared.kinds.Side.TheVariants.{System, Environment}
 use Rattle.machine_model.specs.declared.problems.Problem.{Problem}
 use Rattle.annotation_encode.specs.Count.{allowed_sizes}
 use Rattle.synth_engine.specs.declared.settings.Settings.{Settings}

@@ -1,6 +1,6 @@
 use Rattle.std.specs.Prelude.{◌≡◌, ℕ, zero, suc, ◌≤◌, List, [], ◌∷◌, ◌++◌, All, length}
-use Rattle.clause_base.specs.Literal.{Literal}
-use Rattle.letter_word.specs.declared.kinds.Side.{Side}
+use Rattle.propositional_logic.specs.Literal.{Literal}
+use Rattle.letters_and_lassos.specs.declared.kinds.Side.{Side}
 use Rattle.machine_model.specs.Machine.{MachineModel}
 use Rattle.machine_model.specs.Problem.{sized}
 use Rattle.machine_model.specs.declared.problems.Problem.{Problem}

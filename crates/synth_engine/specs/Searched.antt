@@ -1,6 +1,6 @@
 use Rattle.std.specs.Prelude.{◌≡◌, ℕ, Option}
 use Rattle.std.specs.Option.{option_map_or}
-use Rattle.letter_word.specs.declared.kinds.Side.{Side}
+use Rattle.letters_and_lassos.specs.declared.kinds.Side.{Side}
 use Rattle.machine_model.specs.Counting.{IsCountedAs}
 use Rattle.machine_model.specs.Problem.{IsProblem, automaton_of}
 use Rattle.machine_model.specs.declared.counting.Counts.{Counts}

@@ -1,7 +1,7 @@
 //! The outcome that settled sizes give.
 ghost use Rattle.std.specs.Prelude.{◌≡◌, ◌<◌, ◌≤◌, Option, IfOk, length};
 ghost use Rattle.std.specs.Option.{ForSome};
-ghost use Rattle.letter_word.specs.declared.kinds.Side.TheVariants.{System, Environment};
+ghost use Rattle.letters_and_lassos.specs.declared.kinds.Side.TheVariants.{System, Environment};
 ghost use Rattle.machine_model.specs.Machine.{size_of};
 ghost use Rattle.machine_model.specs.declared.problems.Problem.{Problem as ProblemView};
 ghost use Rattle.synth_engine.specs.declared.settings.Settings.{Settings as SettingsView};
@@ -11,7 +11,7 @@ ghost use Rattle.synth_engine.specs.Concluded.{AreLeft, IsLeft, IsWinnerOf};
 
 use crate::outcomes::{Found, Outcome};
 use crate::settling::{Settled, Unsettled};
-use letter_word::Side;
+use letters_and_lassos::Side;
 use std::alloc::{AllocError, Global};
 use std::sync::Wait;
 

@@ -10,7 +10,7 @@ use crate::hands::draw;
 use crate::plans::Field;
 use crate::settings::Settings;
 use crate::sizes::Sizes;
-use outside_edge::Gate;
+use input_output::Gate;
 use size_search::{Decided, Seat, SizeTask};
 use std::alloc::{AllocError, Global};
 use std::sync::Wait;

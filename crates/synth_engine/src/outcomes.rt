@@ -1,4 +1,4 @@
-use letter_word::Side;
+use letters_and_lassos::Side;
 use machine_model::Machine;
 use size_search::SizeLog;
 

@@ -3,7 +3,7 @@ ghost use Rattle.std.specs.Prelude.{◌≡◌, ℕ, ◌+◌, ◌<◌, ◌≤◌,
 ghost use Rattle.std.specs.List.{AllZip};
 ghost use Rattle.machine_model.specs.declared.problems.Problem.{Problem as ProblemView};
 ghost use Rattle.std.specs.Option.{ForSome};
-ghost use Rattle.letter_word.specs.declared.kinds.Side.TheVariants.{System, Environment};
+ghost use Rattle.letters_and_lassos.specs.declared.kinds.Side.TheVariants.{System, Environment};
 ghost use Rattle.machine_model.specs.Problem.{IsProblem};
 ghost use Rattle.synth_engine.specs.Hands.{AreRacks};
 ghost use Rattle.synth_engine.specs.Plans.{AreProblemsDown, AreTasksUpTo, IsFieldOf, IsOpenedFor, IsPlanOf};

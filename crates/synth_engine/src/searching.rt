@@ -1,7 +1,7 @@
 //! The search.
 ghost use Rattle.std.specs.Prelude.{IfOk};
 ghost use Rattle.std.specs.Option.{ForSome};
-ghost use Rattle.letter_word.specs.declared.kinds.Side.TheVariants.{System, Environment};
+ghost use Rattle.letters_and_lassos.specs.declared.kinds.Side.TheVariants.{System, Environment};
 ghost use Rattle.synth_engine.specs.Searched.{IsSearched};
 ghost use Rattle.synth_engine.specs.Outcomes.{IsOutcomeOf};
 
@@ -12,8 +12,8 @@ use crate::plans::Plan;
 use crate::settings::Settings;
 use crate::settling::Unsettled;
 use crate::workers::run_workers;
+use input_output::Gate;
 use machine_model::Problem;
-use outside_edge::Gate;
 use std::alloc::{AllocError, Global};
 use std::marker::Brand;
 use std::sync::Wait;

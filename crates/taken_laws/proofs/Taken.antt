@@ -1,7 +1,7 @@
 -- A text that is taken by its own kinds, with the kind of its machines given.
 use Rattle.std.proofs.Common.{◌≡◌, ℕ, ◌<◌, List, length, Option, None, Some, refl, sym, ap, subst, ◌∙◌, arith}
 use Rattle.std.specs.Prelude.{option_and_then, option_map, unwrap_or}
-use Rattle.letter_word.specs.declared.kinds.Kind.{Kind}
+use Rattle.letters_and_lassos.specs.declared.kinds.Kind.{Kind}
 use Rattle.ltl_formula.specs.Nodes.{IsNodeList}
 use Rattle.spec_faults.specs.declared.code.SpecCode.{SpecCode}
 use Rattle.text_limits.specs.declared.TheConstants.{LARGE_LIMITS}

@@ -1,15 +1,15 @@
 -- What a text's problems say of machines.
 use Rattle.std.proofs.Common.{◌≡◌, ℕ, ◌≤◌, Bool, true, false, List, Option, Some, None, IfSome, length, refl, sym, ap, ◌∙◌, subst}
 use Rattle.text_limits.specs.declared.TheConstants.{SMALL_LIMITS}
-use Rattle.letter_word.specs.declared.kinds.Kind.{Kind}
-use Rattle.letter_word.specs.declared.kinds.Side.{Side}
-use Rattle.letter_word.specs.declared.kinds.Side.TheVariants.{System, Environment}
-use Rattle.letter_word.specs.Kinds.{other_kind}
+use Rattle.letters_and_lassos.specs.declared.kinds.Kind.{Kind}
+use Rattle.letters_and_lassos.specs.declared.kinds.Side.{Side}
+use Rattle.letters_and_lassos.specs.declared.kinds.Side.TheVariants.{System, Environment}
+use Rattle.letters_and_lassos.specs.Kinds.{other_kind}
 use Rattle.ltl_formula.specs.declared.nodes.FormulaId.{FormulaId}
 use Rattle.ltl_formula.specs.declared.nodes.Node.{Node}
 use Rattle.ltl_formula.specs.Nodes.{tree_at}
 use Rattle.ltl_formula.specs.Tree.{Tree}
-use Rattle.letter_word.specs.Word.{Word}
+use Rattle.letters_and_lassos.specs.Word.{Word}
 use Rattle.machine_model.specs.Accepts.{SideAccepts}
 use Rattle.machine_model.specs.Automaton.{AutomatonModel, IsAutomaton}
 use Rattle.machine_model.specs.Machine.{IsMachine, MachineModel, size_of}
@@ -19,8 +19,8 @@ use Rattle.machine_model.specs.Problem.{IsMachineOf, IsProblem, automaton_of, re
 use Rattle.machine_model.specs.Run.{IsRunLasso}
 use Rattle.machine_model.specs.declared.problems.Problem.{Problem}
 use Rattle.annotation_encode.specs.Laws.{HasNoAccepted}
-use Rattle.dual_search.specs.declared.automata.Automata.{Automata}
-use Rattle.dual_search.specs.Sides.{AcceptsWhere}
+use Rattle.side_automata.specs.declared.automata.Automata.{Automata}
+use Rattle.side_automata.specs.Sides.{AcceptsWhere}
 use Rattle.tlsf_expand.specs.Expansion.{Expanded}
 use Rattle.tlsf_expand.specs.Meaning.{means}
 use Rattle.tlsf_expand.specs.FlatText.{FlatText}

@@ -2,8 +2,8 @@
 -- (this project's own).
 use Rattle.std.specs.Prelude.{◌≡◌, ℕ, Bool, List, Option, length}
 use Rattle.text_limits.specs.declared.TheConstants.{SMALL_LIMITS}
-use Rattle.letter_word.specs.declared.kinds.Kind.{Kind}
-use Rattle.letter_word.specs.Word.{Word}
+use Rattle.letters_and_lassos.specs.declared.kinds.Kind.{Kind}
+use Rattle.letters_and_lassos.specs.Word.{Word}
 use Rattle.ltl_formula.specs.declared.nodes.FormulaId.{FormulaId}
 use Rattle.ltl_formula.specs.declared.nodes.Node.{Node}
 use Rattle.ltl_formula.specs.Nodes.{tree_at}

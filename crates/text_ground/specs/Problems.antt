@@ -1,10 +1,10 @@
 -- The problems of both sides of a flat text, as a search or a test takes them (this project's own).
 use Rattle.std.specs.Prelude.{◌≡◌, length}
 use Rattle.std.specs.Option.{ForSome}
-use Rattle.letter_word.specs.declared.kinds.Kind.{Kind}
-use Rattle.letter_word.specs.declared.kinds.Side.{Side}
-use Rattle.letter_word.specs.declared.kinds.Side.TheVariants.{System, Environment}
-use Rattle.letter_word.specs.Kinds.{other_kind}
+use Rattle.letters_and_lassos.specs.declared.kinds.Kind.{Kind}
+use Rattle.letters_and_lassos.specs.declared.kinds.Side.{Side}
+use Rattle.letters_and_lassos.specs.declared.kinds.Side.TheVariants.{System, Environment}
+use Rattle.letters_and_lassos.specs.Kinds.{other_kind}
 use Rattle.machine_model.specs.Automaton.{IsAutomaton}
 use Rattle.machine_model.specs.Counting.{IsCountedAs}
 use Rattle.machine_model.specs.Problem.{IsProblem, automaton_of}

@@ -1,6 +1,6 @@
 -- A text that is read before anything else: its problems, or the reply to its first fault (this project's own).
 use Rattle.std.specs.Prelude.{ℕ, List, Option}
-use Rattle.letter_word.specs.declared.kinds.Kind.{Kind}
+use Rattle.letters_and_lassos.specs.declared.kinds.Kind.{Kind}
 use Rattle.ltl_formula.specs.Nodes.{tree_at}
 use Rattle.machine_model.specs.declared.counting.Counts.{Counts}
 use Rattle.tlsf_expand.specs.FlatText.{FlatText, spec_seen}

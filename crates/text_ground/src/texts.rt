@@ -13,7 +13,7 @@ ghost use Rattle.text_ground.specs.Problems.{HaveAutomata};
 ghost use Rattle.text_ground.specs.Texts.{AreOfText, IfProblems};
 
 use document_check::TextFacts;
-use letter_word::Kind;
+use letters_and_lassos::Kind;
 use machine_model::{Counts, Problem};
 use program_replies::{Reply, refusal};
 use spec_problems::{SideProblems, TextProblems, text_problems};

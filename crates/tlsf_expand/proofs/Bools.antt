@@ -4,7 +4,7 @@ use Rattle.std.specs.Prelude.{not, ◌&&◌, ◌||◌}
 use Rattle.std.specs.Bool.{beq}
 use mathlib.Core.Bool.{or_assoc, and-true, or-false}
 use Rattle.ltl_formula.specs.Truth.{some_below}
-use Rattle.letter_word.specs.Below.{all_below}
+use Rattle.letters_and_lassos.specs.Below.{all_below}
 
 pub and_regroup : (x y z : Bool) → ((x && y) && z) ≡ (x && (y && z))
 and_regroup true y z = refl

@@ -2,7 +2,7 @@
 use Rattle.std.proofs.Common.{◌≡◌, ℕ, Bool, true, false, List, refl, ap, subst}
 use Rattle.std.specs.Prelude.{not, ◌&&◌, ◌||◌}
 use Rattle.std.specs.Bool.{beq}
-use Rattle.letter_word.specs.Word.{Word, next}
+use Rattle.letters_and_lassos.specs.Word.{Word, next}
 use Rattle.ltl_formula.specs.declared.nodes.FormulaId.{FormulaId}
 use Rattle.ltl_formula.specs.declared.nodes.Node.{Node}
 use Rattle.ltl_formula.specs.Tree.{Tree}

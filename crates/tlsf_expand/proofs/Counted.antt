@@ -3,12 +3,12 @@ use Rattle.std.proofs.Common.{◌≡◌, ℕ, zero, suc, ◌+◌, ◌-◌, ◌<�
 use Rattle.std.specs.Prelude.{◌&&◌, ◌||◌, nat_le}
 use Rattle.std.proofs.lemmas.Bool.{leb-true, leb-false}
 use mathlib.Core.Bool.{or_assoc, and-true, or-false}
-use Rattle.letter_word.specs.Word.{Word, next, after}
-use Rattle.letter_word.proofs.Positions.{after-suc}
+use Rattle.letters_and_lassos.specs.Word.{Word, next, after}
+use Rattle.letters_and_lassos.proofs.Positions.{after-suc}
 use Rattle.ltl_formula.specs.declared.nodes.FormulaId.{FormulaId}
 use Rattle.ltl_formula.specs.declared.nodes.Node.{Node}
 use Rattle.ltl_formula.specs.Truth.{some_below}
-use Rattle.letter_word.specs.Below.{all_below}
+use Rattle.letters_and_lassos.specs.Below.{all_below}
 use Rattle.ltl_formula.proofs.Lists.{Grows-refl}
 use Rattle.tlsf_values.specs.declared.work.TheConstants.{MOST_EVALUATIONS}
 use Rattle.tlsf_values.specs.declared.work.Work.{Work}

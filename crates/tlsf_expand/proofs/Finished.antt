@@ -1,7 +1,7 @@
 -- What the steps of the call make of a text: its expansion, or the fault of the first step that has one.
 use Rattle.std.proofs.Common.{◌≡◌, List, Option, Some, length, ap, ◌∙◌}
 use Rattle.text_limits.specs.declared.Limits.{Limits}
-use Rattle.letter_word.specs.declared.kinds.Kind.{Kind}
+use Rattle.letters_and_lassos.specs.declared.kinds.Kind.{Kind}
 use Rattle.ltl_formula.specs.declared.nodes.FormulaId.{FormulaId}
 use Rattle.spec_faults.specs.declared.code.SpecFault.{SpecFault}
 use Rattle.spec_faults.specs.declared.code.SpecFault.TheVariants.{NoMemory, At}

@@ -1,8 +1,8 @@
 -- Nodes that are made have the truths that their operators say of their parts'.
 use Rattle.std.proofs.Common.{◌≡◌, ℕ, ◌<◌, Bool, true, false, List, refl, ap, ◌∙◌}
 use Rattle.std.specs.Prelude.{not, ◌&&◌, ◌||◌}
-use Rattle.letter_word.specs.Word.{Word, next, letter_at}
-use Rattle.letter_word.specs.Signals.{has}
+use Rattle.letters_and_lassos.specs.Word.{Word, next, letter_at}
+use Rattle.letters_and_lassos.specs.Signals.{has}
 use Rattle.ltl_formula.specs.declared.nodes.FormulaId.{FormulaId}
 use Rattle.ltl_formula.specs.declared.nodes.Node.{Node}
 use Rattle.ltl_formula.specs.declared.nodes.Node.TheVariants as node

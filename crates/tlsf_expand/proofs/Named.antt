@@ -1,7 +1,7 @@
 -- Names: what a name stands for is alike in values and in senses.
 use Rattle.std.proofs.Common.{ℕ, zero, suc, ◌+◌, ◌<◌, ◌≤◌, Bool, true, false, List, [], ◌∷◌, ◌++◌, Some, arith}
 use Rattle.std.specs.Prelude.{find, if◌then◌else◌, slice_index_or}
-use Rattle.letter_word.specs.Word.{Word}
+use Rattle.letters_and_lassos.specs.Word.{Word}
 use Rattle.ltl_formula.specs.declared.nodes.Node.{Node}
 use Rattle.tlsf_syntax.specs.Tree.{Tree, Trees, no_trees, tree, Named, Body, plain, Definition, parameter, function, enumeration, Member}
 use Rattle.tlsf_values.specs.declared.value.Value.{Value}

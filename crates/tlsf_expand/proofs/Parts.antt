@@ -5,8 +5,8 @@ use Rattle.std.proofs.lemmas.Int.{ints}
 use Rattle.std.proofs.lemmas.List.{append-nil}
 use Rattle.std.specs.Prelude.{◌&&◌, pos, negsuc, int_le, int_lt, unsigned_abs}
 use Rattle.std.specs.Ordering.{int_eq}
-use Rattle.letter_word.specs.Word.{Word, letter_at}
-use Rattle.letter_word.specs.Signals.{has}
+use Rattle.letters_and_lassos.specs.Word.{Word, letter_at}
+use Rattle.letters_and_lassos.specs.Signals.{has}
 use Rattle.ltl_formula.specs.declared.nodes.Node.{Node}
 use Rattle.spec_faults.specs.declared.code.SpecCode.{SpecCode}
 use Rattle.spec_faults.specs.declared.code.SpecCode.TheVariants.{WrongSort}

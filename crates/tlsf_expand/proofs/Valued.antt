@@ -4,8 +4,8 @@ use Rattle.std.proofs.lemmas.Bool.{and_parts, eqb-true}
 use Rattle.std.specs.Prelude.{not, ◌&&◌, ◌||◌, ◌==◌}
 use Rattle.std.specs.Bool.{beq}
 use mathlib.Core.Bool.{or_assoc, and-true, or-false}
-use Rattle.letter_word.specs.Word.{Word, letter_at}
-use Rattle.letter_word.specs.Signals.{has}
+use Rattle.letters_and_lassos.specs.Word.{Word, letter_at}
+use Rattle.letters_and_lassos.specs.Signals.{has}
 use Rattle.ltl_formula.specs.declared.nodes.FormulaId.{FormulaId}
 use Rattle.ltl_formula.specs.declared.nodes.Node.{Node}
 use Rattle.ltl_formula.specs.Nodes.{Grows}

@@ -1,7 +1,7 @@
 -- The limit on signals, and which of them formulas speak of: this project's profile of TLSF 1.1.
 use Rattle.std.specs.Prelude.{◌≡◌, ◌≤◌, ◌+◌, ℕ, List, Option, length}
 use Rattle.text_limits.specs.declared.Limits.{Limits}
-use Rattle.letter_word.specs.declared.kinds.Kind.{Kind}
+use Rattle.letters_and_lassos.specs.declared.kinds.Kind.{Kind}
 use Rattle.ltl_formula.specs.declared.nodes.Node.{Node}
 use Rattle.ltl_formula.specs.ListSignals.{HasSignalsBelow}
 use Rattle.tlsf_values.specs.declared.work.Work.{Work}

@@ -1,8 +1,8 @@
 -- Laws of expansion.
 use Rattle.std.specs.Prelude.{◌≡◌, Option}
 use Rattle.text_limits.specs.declared.Limits.{Limits}
-use Rattle.letter_word.specs.declared.kinds.Kind.{Kind}
-use Rattle.letter_word.specs.Word.{Word}
+use Rattle.letters_and_lassos.specs.declared.kinds.Kind.{Kind}
+use Rattle.letters_and_lassos.specs.Word.{Word}
 use Rattle.ltl_formula.specs.Nodes.{IsNodeList, Stands, tree_at}
 use Rattle.ltl_formula.specs.Truth.{holds}
 use Rattle.tlsf_values.specs.declared.work.Work.{Work}

@@ -3,7 +3,7 @@
 use Rattle.std.specs.Prelude.{ℕ, Bool, true, false, not, ◌&&◌, List, []}
 use Rattle.std.specs.List.{list_all}
 use Rattle.text_limits.specs.declared.Limits.{Limits}
-use Rattle.letter_word.specs.Word.{Word}
+use Rattle.letters_and_lassos.specs.Word.{Word}
 use Rattle.tlsf_syntax.specs.Tree.{Tree}
 use Rattle.tlsf_values.specs.Outcomes.{Outcome, gives, fails}
 use Rattle.tlsf_values.specs.Names.{Names}

@@ -1,8 +1,8 @@
 -- Worked rows: texts with their flat sections, their first faults or their meaning, written out by hand.
 use Rattle.std.specs.Prelude.{◌≡◌, ℕ, ◌-◌, ◌^◌, Bool, true, false, List, [], ◌∷◌, Option, None, Some, pos, negsuc, codes}
 use Rattle.text_limits.specs.declared.TheConstants.{SMALL_LIMITS}
-use Rattle.letter_word.specs.Word.{Word}
-use Rattle.letter_word.specs.declared.kinds.Kind.TheVariants.{Mealy, Moore}
+use Rattle.letters_and_lassos.specs.Word.{Word}
+use Rattle.letters_and_lassos.specs.declared.kinds.Kind.TheVariants.{Mealy, Moore}
 use Rattle.ltl_formula.specs.declared.nodes.Node.{Node}
 use Rattle.ltl_formula.specs.declared.nodes.Node.TheVariants as node
 use Rattle.spec_faults.specs.declared.code.SpecCode.{SpecCode}

@@ -5,10 +5,10 @@ use Rattle.std.specs.Prelude.{ℕ, suc, ◌+◌, ◌-◌, Bool, true, false, not
 use Rattle.std.specs.Bool.{beq}
 use Rattle.std.specs.List.{list_all, list_any}
 use Rattle.std.specs.Ordering.{int_eq}
-use Rattle.letter_word.specs.Signals.{has}
-use Rattle.letter_word.specs.Word.{Word, next, after, letter_at}
+use Rattle.letters_and_lassos.specs.Signals.{has}
+use Rattle.letters_and_lassos.specs.Word.{Word, next, after, letter_at}
 use Rattle.ltl_formula.specs.Truth.{some_below, until_at, release_at}
-use Rattle.letter_word.specs.Below.{all_below}
+use Rattle.letters_and_lassos.specs.Below.{all_below}
 use Rattle.tlsf_syntax.specs.declared.expr.Op.{Op}
 use Rattle.tlsf_syntax.specs.declared.expr.Op.TheVariants as op
 use Rattle.tlsf_syntax.specs.Tree.{Pattern}

@@ -1,7 +1,7 @@
 -- Formulas of a text's sections that stand in a list, and what they say of a lasso.
 use Rattle.std.specs.Prelude.{◌≡◌, ℕ, Bool, List, All, map}
 use Rattle.std.specs.List.{list_all}
-use Rattle.letter_word.specs.Word.{Word}
+use Rattle.letters_and_lassos.specs.Word.{Word}
 use Rattle.ltl_formula.specs.declared.nodes.FormulaId.{FormulaId}
 use Rattle.ltl_formula.specs.declared.nodes.Node.{Node}
 use Rattle.ltl_formula.specs.Nodes.{Stands, tree_at}

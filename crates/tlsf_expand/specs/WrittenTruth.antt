@@ -2,8 +2,8 @@
 -- A call is its body with its arguments bound; an argument that is a formula is bound to its truths at the positions. Linear
 -- temporal logic, over this project's profile of TLSF 1.1.
 use Rattle.std.specs.Prelude.{ℕ, zero, suc, ◌-◌, Bool, true, false, if◌then◌else◌, List, [], ◌∷◌, map, Option, None, Some, ℤ}
-use Rattle.letter_word.specs.Signals.{has}
-use Rattle.letter_word.specs.Word.{Word, letter_at}
+use Rattle.letters_and_lassos.specs.Signals.{has}
+use Rattle.letters_and_lassos.specs.Word.{Word, letter_at}
 use Rattle.tlsf_syntax.specs.declared.expr.Op.{Op}
 use Rattle.tlsf_syntax.specs.Tree.{Tree, Trees, Links, Ranges, Named, number, truth, named, call, index, size_of, paren, set, steps, chain, pair, prefix, count, window, big, no_trees, tree, no_links, link, no_ranges, members, between, Body, plain, guarded, Alternative}
 use Rattle.tlsf_values.specs.declared.work.TheConstants.{MOST_DEPTH}

@@ -6,7 +6,7 @@ ghost use Rattle.tlsf_expand.specs.Signals.{other_width, uneven_in, uneven_value
 ghost use Rattle.tlsf_values.specs.Patterns.{all_values};
 ghost use Rattle.tlsf_syntax.specs.Seen.{definition_seen, member_seen, pattern_seen};
 
-use text_base::Name;
+use names_and_numbers::Name;
 use tlsf_syntax::{Definition, Member, Pattern};
 
 /// The width of an enumeration with these members is that of its first value.

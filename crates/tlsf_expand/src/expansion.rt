@@ -10,7 +10,7 @@ use crate::sections::flat_sections;
 use crate::signals::declared_signals;
 use crate::spec::Spec;
 use crate::whole::whole_formula;
-use letter_word::Kind;
+use letters_and_lassos::Kind;
 use ltl_formula::Formulas;
 use spec_faults::{SpecCode, SpecFault, fault};
 use std::alloc::Global;

@@ -9,9 +9,9 @@ ghost use Rattle.tlsf_values.specs.Results.{IsCheckedAs, IsOutcomeAs};
 ghost use Rattle.tlsf_syntax.specs.Seen.{word_seen};
 
 use crate::enumerations::{members_named, uneven_value, width};
+use names_and_numbers::{Name, push_number};
 use spec_faults::{SpecCode, SpecFault, fault};
 use std::alloc::{AllocError, Global};
-use text_base::{Name, push_number};
 use tlsf_syntax::{Declaration, Member, Shape, SpecTree, Word};
 use tlsf_values::{Names, Value, Work};
 

@@ -1,8 +1,8 @@
 //! The flat form of a text.
 
-use letter_word::Kind;
+use letters_and_lassos::Kind;
 use ltl_formula::{FormulaId, Formulas};
-use text_base::Name;
+use names_and_numbers::Name;
 use tlsf_syntax::Sections;
 
 /// A text expanded.

@@ -8,9 +8,9 @@ ghost use Rattle.tlsf_reader.specs.TextView.{each, block_view, field_view, part_
 ghost use Rattle.tlsf_syntax.specs.Seen.{expr_seen, definition_seen, info_seen, text_seen};
 
 use crate::written::{Block, Field, Part, Written};
-use letter_word::Kind;
+use letters_and_lassos::Kind;
+use names_and_numbers::Name;
 use std::alloc::{AllocError, Global};
-use text_base::Name;
 use tlsf_syntax::{Definition, Expr, Info, Sections, SpecTree};
 use tlsf_tokens::Section;
 

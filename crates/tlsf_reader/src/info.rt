@@ -14,9 +14,9 @@ use crate::lexeme::Lexeme;
 use crate::node;
 use crate::rest::Refusal;
 use crate::written::Field;
-use letter_word::Kind;
+use letters_and_lassos::Kind;
+use names_and_numbers::Name;
 use std::alloc::Global;
-use text_base::Name;
 use tlsf_syntax::Word;
 use tlsf_tokens::Symbol;
 

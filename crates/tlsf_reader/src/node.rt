@@ -10,8 +10,8 @@ ghost use Rattle.tlsf_reader.specs.Descent.{IsBuilt};
 
 use crate::lexeme::Lexeme;
 use crate::rest::Refusal;
+use names_and_numbers::Name;
 use std::alloc::Global;
-use text_base::Name;
 use tlsf_syntax::{Expr, Form, Link, Op, Range, Span, Word};
 
 /// Where an expression is written.

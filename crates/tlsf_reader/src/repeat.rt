@@ -13,8 +13,8 @@ use crate::least::least;
 use crate::lexeme::Lexeme;
 use crate::written::{Block, Part, Written};
 use indexmap::IndexSet;
+use names_and_numbers::Name;
 use std::alloc::{AllocError, Global};
-use text_base::Name;
 use tlsf_syntax::{Declaration, Definition, Member, Word};
 use tlsf_tokens::{Section, Symbol};
 

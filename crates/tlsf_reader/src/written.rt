@@ -1,7 +1,7 @@
 //! A text as it is written: its parts one after another, whether or not one is given twice.
 
-use letter_word::Kind;
-use text_base::Name;
+use letters_and_lassos::Kind;
+use names_and_numbers::Name;
 use tlsf_syntax::{Declaration, Definition, Expr, Word};
 use tlsf_tokens::Section;
 

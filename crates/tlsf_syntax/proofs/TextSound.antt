@@ -5,8 +5,8 @@ use Rattle.std.specs.Option.{is_some}
 use Rattle.std.specs.Str.{bytes_eq}
 use Rattle.std.proofs.lemmas.Bool.{eqb-true}
 use Rattle.std.proofs.lemmas.Slice.Eq.{bytes_eq-Decides}
-use Rattle.letter_word.specs.declared.kinds.Kind.{Kind}
-use Rattle.letter_word.specs.declared.kinds.Kind.TheVariants.{Mealy, Moore}
+use Rattle.letters_and_lassos.specs.declared.kinds.Kind.{Kind}
+use Rattle.letters_and_lassos.specs.declared.kinds.Kind.TheVariants.{Mealy, Moore}
 use Rattle.tlsf_tokens.specs.declared.symbol.Symbol.{Symbol}
 use Rattle.tlsf_tokens.specs.declared.symbol.Symbol.TheVariants as symbol
 use Rattle.tlsf_syntax.specs.Tree.{Named, Tree, Alternative, Body, plain, guarded, Pattern, Member, Definition, parameter, function, enumeration, single, bus, typed, Declaration, Field, title, description, semantics, target, tags, Block, parameters, definitions, Part, inputs, outputs, section, Written}

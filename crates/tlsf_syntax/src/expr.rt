@@ -1,6 +1,6 @@
 //! Written expressions.
 
-use text_base::Name;
+use names_and_numbers::Name;
 
 /// Where something is written: its first byte, and the byte after its last.
 #[derive(Clone, Copy, Debug, PartialEq, Eq)]

@@ -1,7 +1,7 @@
 //! TLSF's syntax: the written tree of a text, the grammar that says which lists of lexemes derive which trees, and written nesting, a
 //! number of each symbol that bounds how deep a reader has to go. The grammar and its laws are definitions over plain trees, and
 //! `Seen` in `specs/` says which plain tree the code's is; `first_too_deep` finds the first symbol whose number passes the limit. It
-//! stands on tlsf_tokens, text_base and letter_word.
+//! stands on tlsf_tokens, names_and_numbers and letters_and_lassos.
 #![tactic(auto)]
 
 mod expr;

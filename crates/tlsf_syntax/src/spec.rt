@@ -2,8 +2,8 @@
 
 use crate::expr::{Expr, Span, Word};
 use crate::sections::Sections;
-use letter_word::Kind;
-use text_base::Name;
+use letters_and_lassos::Kind;
+use names_and_numbers::Name;
 
 /// What a whole text says.
 #[derive(Debug, Drop)]

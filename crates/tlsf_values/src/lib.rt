@@ -1,6 +1,6 @@
 //! The values of written expressions. What an expression's value is, and which fault comes first where it has none,
 //! is a definition in `specs/`: one recursion on the depth that is left, over plain trees.
-//! It stands on tlsf_syntax for the written tree and its plain form, spec_faults for the numbered faults, text_base for
+//! It stands on tlsf_syntax for the written tree and its plain form, spec_faults for the numbered faults, names_and_numbers for
 //! names, and ltl_formula for the list of flat formulas.
 #![tactic(auto)]
 

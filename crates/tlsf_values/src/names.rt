@@ -6,9 +6,9 @@ ghost use Rattle.tlsf_values.specs.Names.{bus_at, is_declared, is_enumeration, p
 ghost use Rattle.tlsf_values.specs.NamesSeen.{entry_seen, names_seen, range_seen};
 
 use crate::patterns::BusRange;
+use names_and_numbers::Name;
 use std::alloc::{AllocError, Global};
 use std::collections::HashMap;
-use text_base::Name;
 use tlsf_syntax::{Body, Definition, Expr, Member, Pattern, Word};
 
 /// What one name means. Buses and members of enumerations go by their places.

@@ -10,9 +10,9 @@ ghost use Rattle.tlsf_values.specs.declared.value.Value.TheVariants.{Number};
 
 use crate::names::{Entry, Names};
 use crate::value::Value;
+use names_and_numbers::Name;
 use std::alloc::{AllocError, Global};
 use std::marker::Model;
-use text_base::Name;
 use tlsf_syntax::{Alternative, Body, Expr, Word};
 
 /// A bound name with its value.

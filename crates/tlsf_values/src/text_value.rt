@@ -13,9 +13,9 @@ use crate::scope::Scope;
 use crate::value::Value;
 use crate::work::{MOST_DEPTH, Work};
 use ltl_formula::{AddFault, FormulaId, Formulas, MAX_NODES};
+use names_and_numbers::Name;
 use spec_faults::SpecFault;
 use std::alloc::{AllocError, Global};
-use text_base::Name;
 use text_limits::Limits;
 use tlsf_syntax::{Expr, SpecTree};
 

@@ -2,7 +2,7 @@
 
 use crate::runs::{Ended, File, NO_FAULTS, run_through};
 use crate::told::{numbered, push_ended, push_status, verdict_line};
-use outside_edge::{Gate, HoldGate, Moment, ShareGate};
+use input_output::{Gate, HoldGate, Moment, ShareGate};
 use std::alloc::{AllocError, Global};
 use std::sync::Wait;
 use std::thread::Threads;

@@ -2,12 +2,12 @@
 
 use crate::gates::RowGate;
 use boundsyn_top::run;
-use outside_edge::{FileBytes, MemoryShelf, MemorySink};
+use input_output::{FileBytes, MemoryShelf, MemorySink};
+use names_and_numbers::Name;
 use solve_told::NoListener;
 use std::alloc::{AllocError, Global};
 use std::sync::Wait;
 use std::thread::Threads;
-use text_base::Name;
 
 /// A file of the rows.
 #[derive(Drop)]

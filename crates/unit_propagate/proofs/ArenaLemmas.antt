@@ -6,10 +6,10 @@ use Rattle.std.proofs.lemmas.List.Quantifiers.{all_pairs_push}
 use Rattle.std.proofs.lemmas.Option.{slice_get_within, slice_get-get_or, get_or_from_slice_get, slice_get-map}
 use Rattle.std.specs.Option.{option_map}
 use Rattle.std.specs.Prelude.{Result, Ok, Err, OnOk, AllPairs}
-use Rattle.clause_base.specs.Literal.{Literal}
+use Rattle.propositional_logic.specs.Literal.{Literal}
 use Rattle.unit_propagate.specs.declared.arena.Span.{Span}
 use Rattle.std.proofs.lemmas.Bool.Decides.{Decides-eqb}
-use Rattle.clause_base.specs.Codes.{code_of, decoded, code_of-decoded}
+use Rattle.propositional_logic.specs.Codes.{code_of, decoded, code_of-decoded}
 use Rattle.refutation_log.proofs.Lists.{slice_get-append}
 use Rattle.unit_propagate.specs.Arena.{ArenaModel, part_at, parts_at, starts_of, index_of, AreSpans, AreHeaded, Closes, Pushes, AddsClause, TakesOff}
 use Rattle.unit_propagate.proofs.Places.{All-slice_get, All-front, AllPairs-front, AllPairs-last, slice_get-last, slice_get-front, slice_get-set_other, slice_get-within_take}

@@ -1,8 +1,8 @@
 -- Going back to a level.
 use Rattle.std.proofs.Common.{◌≡◌, ℕ, ◌<◌, ◌≤◌, min, Bool, true, false, List, ◌++◌, Some, filter, nat_le, slice_get, length, Contains, refl, sym, subst, ap, ◌∙◌, arith}
 use borrow.Author.Tests.{leb-true, leb-false}
-use Rattle.clause_base.specs.Literal.{Literal}
-use Rattle.clause_base.proofs.Members.{Contains-filter, filter-Contains}
+use Rattle.propositional_logic.specs.Literal.{Literal}
+use Rattle.propositional_logic.proofs.Members.{Contains-filter, filter-Contains}
 use Rattle.refutation_log.proofs.Lists.{slice_get-append}
 use Rattle.unit_propagate.specs.declared.marks.Mark.{Mark}
 use Rattle.unit_propagate.specs.declared.propagator.Propagator.{Propagator}

@@ -1,7 +1,7 @@
 -- The numbers of literals.
 use Rattle.std.proofs.Common.{◌≡◌, ℕ, ◌+◌, ◌*◌, ◌^◌, ◌<◌, ◌≤◌, Bool, true, false, cond, arith}
-use Rattle.clause_base.specs.Literal.{Literal}
-use Rattle.clause_base.specs.Codes.{code_of}
+use Rattle.propositional_logic.specs.Literal.{Literal}
+use Rattle.propositional_logic.specs.Codes.{code_of}
 use Rattle.unit_propagate.specs.Marks.{room_of}
 
 -- two literals have different numbers

@@ -5,8 +5,8 @@ use Rattle.std.proofs.lemmas.List.{take-take, length-take}
 use Rattle.std.proofs.lemmas.List.Kept.{AllPairs-filter}
 use Rattle.std.proofs.lemmas.Option.{slice_get_within}
 use borrow.Author.Tests.{leb-true, leb-false}
-use Rattle.clause_base.specs.Literal.{Literal}
-use Rattle.clause_base.proofs.Members.{filter-none}
+use Rattle.propositional_logic.specs.Literal.{Literal}
+use Rattle.propositional_logic.proofs.Members.{filter-none}
 use Rattle.refutation_log.proofs.Lists.{slice_get-append}
 use Rattle.refutation_log.proofs.FollowsLemmas.{clause_named-append}
 use Rattle.unit_propagate.specs.declared.marks.Mark.{Mark}

@@ -2,7 +2,7 @@
 use Rattle.std.proofs.Common.{◌≡◌, ℕ, ◌<◌, min, List, take, length, Contains, arith}
 use Rattle.std.proofs.lemmas.List.{length-take}
 use Rattle.std.proofs.lemmas.Option.{slice_get_within}
-use Rattle.clause_base.specs.Literal.{Literal, negated}
+use Rattle.propositional_logic.specs.Literal.{Literal, negated}
 use Rattle.unit_propagate.specs.declared.marks.Mark.{Mark}
 use Rattle.unit_propagate.specs.declared.propagator.Propagator.{Propagator}
 use Rattle.unit_propagate.specs.Trail.{literals_of}

@@ -10,11 +10,11 @@ use Rattle.std.proofs.lemmas.List.Sums.{sum_by-set}
 use Rattle.std.proofs.lemmas.Option.{slice_get_within, slice_get-get_or, get_or_from_slice_get}
 use Rattle.std.proofs.lemmas.Bool.Decides.{Decides-eqb}
 use Rattle.refutation_log.proofs.Lists.{slice_get-append, slice_get-push}
-use Rattle.clause_base.proofs.Members.{Contains-none}
-use Rattle.clause_base.specs.Literal.{Literal}
+use Rattle.propositional_logic.proofs.Members.{Contains-none}
+use Rattle.propositional_logic.specs.Literal.{Literal}
 use Rattle.unit_propagate.specs.declared.marks.Mark.{Mark}
 use Rattle.unit_propagate.specs.declared.marks.Slot.{Slot}
-use Rattle.clause_base.specs.Codes.{code_of}
+use Rattle.propositional_logic.specs.Codes.{code_of}
 use Rattle.unit_propagate.specs.Trail.{IsFree, IsTrail, highest_level, literals_of}
 use Rattle.unit_propagate.specs.Marks.{IsMarks, room_of, vacant}
 use Rattle.unit_propagate.proofs.Places.{slice_get-last, slice_get-set_same, slice_get-set_other, slice_get-replicate, All-front, All-from_slice_get, All-slice_get, AllPairs-last}

@@ -6,10 +6,10 @@ use Rattle.std.proofs.lemmas.List.{length_push, length-set, map-append}
 use Rattle.std.proofs.lemmas.List.Elements.{All-push, All-weaker, All-contains, Contains-append_left, Contains-push}
 use Rattle.std.proofs.lemmas.Option.{slice_get_within}
 use Rattle.std.proofs.lemmas.Bool.Decides.{Decides-eqb}
-use Rattle.clause_base.specs.Literal.{Literal, negated, literal_eq}
-use Rattle.clause_base.specs.Equality.{Decides-literal_eq}
-use Rattle.clause_base.specs.Partial.{is_falsified}
-use Rattle.clause_base.proofs.Tests.{Decides-is_falsified, fails}
+use Rattle.propositional_logic.specs.Literal.{Literal, negated, literal_eq}
+use Rattle.propositional_logic.specs.Equality.{Decides-literal_eq}
+use Rattle.propositional_logic.specs.Partial.{is_falsified}
+use Rattle.propositional_logic.proofs.Tests.{Decides-is_falsified, fails}
 use Rattle.refutation_log.specs.Follows.{clause_named, is_falsified_named}
 use Rattle.refutation_log.proofs.Lists.{slice_get-push, take-append, take-append_all}
 use Rattle.unit_propagate.specs.declared.marks.Mark.{Mark}
@@ -19,7 +19,7 @@ use Rattle.unit_propagate.specs.Trail.{IsFree, highest_level, literals_of}
 use Rattle.unit_propagate.specs.Sound.{IsReason, Extends}
 use Rattle.unit_propagate.specs.Marks.{MarkList}
 use Rattle.unit_propagate.specs.Watched.{IsWatching, IsWatched, HasTrue}
-use Rattle.clause_base.specs.Codes.{code_of}
+use Rattle.propositional_logic.specs.Codes.{code_of}
 use Rattle.unit_propagate.specs.Rows.{row_at}
 use Rattle.unit_propagate.specs.Watches.{WatchList, Guard, Stands, Keeps, Cuts}
 use Rattle.unit_propagate.specs.Propagator.{IsKept, StandsAt, IsVisiting, IsVisited, Goes, Stays}

@@ -5,10 +5,10 @@ use Rattle.std.proofs.lemmas.List.{length_push, length-set}
 use Rattle.std.proofs.lemmas.List.Elements.{All-contains, All-nil, All-cons, All-weaker, Contains-append_left, Contains-push}
 use Rattle.std.proofs.lemmas.List.Kept.{AllPairs-filter}
 use Rattle.std.proofs.lemmas.Option.{slice_get_within}
-use Rattle.clause_base.specs.Literal.{Literal, negated, literal_eq}
-use Rattle.clause_base.specs.Clause.{IsWithin, IsClause, IsRisingFrom}
-use Rattle.clause_base.proofs.Members.{Contains-head, Contains-later, Contains-cases, Contains-filter, filter-Contains}
-use Rattle.clause_base.specs.Equality.{Decides-literal_eq}
+use Rattle.propositional_logic.specs.Literal.{Literal, negated, literal_eq}
+use Rattle.propositional_logic.specs.Clause.{IsWithin, IsClause, IsRisingFrom}
+use Rattle.propositional_logic.proofs.Members.{Contains-head, Contains-later, Contains-cases, Contains-filter, filter-Contains}
+use Rattle.propositional_logic.specs.Equality.{Decides-literal_eq}
 use Rattle.refutation_log.proofs.Lists.{slice_get-push, slice_get-append}
 use Rattle.unit_propagate.specs.declared.marks.Mark.{Mark}
 use Rattle.unit_propagate.specs.declared.propagator.Propagator.{Propagator}
@@ -16,7 +16,7 @@ use Rattle.unit_propagate.specs.declared.rows.Watcher.{Watcher}
 use Rattle.unit_propagate.specs.Trail.{IsTrail, highest_level, literals_of}
 use Rattle.unit_propagate.specs.Marks.{MarkList, room_of}
 use Rattle.unit_propagate.specs.Watched.{IsWatching, IsWatchOf, IsWatched}
-use Rattle.clause_base.specs.Codes.{code_of}
+use Rattle.propositional_logic.specs.Codes.{code_of}
 use Rattle.unit_propagate.specs.Rows.{row_at}
 use Rattle.unit_propagate.specs.Watches.{WatchList, IsListed, Guard, Rewatches, CanRewatch, Adds, AddsAlone, KeepsWatches, RowsGrow, IsSide, Stands, exchanged, ordered, differs}
 use Rattle.unit_propagate.specs.Propagator.{IsKept, StandsAt, IsVisiting, Goes, Stays}

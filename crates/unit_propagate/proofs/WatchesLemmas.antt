@@ -1,10 +1,10 @@
 -- Watching clauses.
 use Rattle.std.proofs.Common.{◌≡◌, ℕ, filter, List, [], ◌∷◌, ◌++◌, inl, inr, Some, slice_get, length, Contains, refl, sym, subst}
 use Rattle.std.specs.Prelude.{slice_set}
-use Rattle.clause_base.specs.Literal.{Literal}
-use Rattle.clause_base.proofs.Members.{Contains-head, Contains-later}
+use Rattle.propositional_logic.specs.Literal.{Literal}
+use Rattle.propositional_logic.proofs.Members.{Contains-head, Contains-later}
 use Rattle.unit_propagate.specs.declared.rows.Watcher.{Watcher}
-use Rattle.clause_base.specs.Codes.{code_of}
+use Rattle.propositional_logic.specs.Codes.{code_of}
 use Rattle.unit_propagate.specs.Rows.{row_at, AddsTo, SetsAt, CutsOut}
 use Rattle.unit_propagate.specs.Watches.{WatchList, Adds, Rewatches, CanRewatch, Keeps, Cuts, ordered, exchanged, Stands, differs}
 use Rattle.unit_propagate.proofs.RowsLemmas.{RowsGrow-trans, RowsGrow-adds, added_there}

@@ -1,7 +1,7 @@
 use Rattle.std.specs.Prelude.{◌≡◌, ℕ, ◌+◌, ◌-◌, ◌^◌, ◌<◌, ◌≤◌, nat_eq, List, [], ◌∷◌, ◌++◌, Some, All, AllPairs, map, take, drop, length, slice_get, slice_set}
 use Rattle.std.proofs.Common.{suc, cond}
-use Rattle.clause_base.specs.Literal.{Literal}
-use Rattle.clause_base.specs.Codes.{decoded}
+use Rattle.propositional_logic.specs.Literal.{Literal}
+use Rattle.propositional_logic.specs.Codes.{decoded}
 use Rattle.unit_propagate.specs.declared.arena.Span.{Span}
 
 -- The literals at a span of an array.

@@ -1,5 +1,5 @@
 use Rattle.std.specs.Prelude.{ℕ, List, [], ◌++◌, filter, nat_le}
-use Rattle.clause_base.specs.Literal.{Literal}
+use Rattle.propositional_logic.specs.Literal.{Literal}
 use Rattle.unit_propagate.specs.declared.marks.Mark.{Mark}
 use Rattle.unit_propagate.specs.Sound.{IsSound}
 use Rattle.unit_propagate.specs.Watched.{IsWatching}

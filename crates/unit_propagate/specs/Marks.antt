@@ -1,7 +1,7 @@
 use Rattle.std.specs.Prelude.{◌≡◌, ℕ, ◌+◌, ◌*◌, ◌^◌, ◌<◌, ◌≤◌, Bool, true, List, Option, Some, None, All, Contains, min, length, slice_get}
 use Rattle.std.specs.List.{sum_by}
-use Rattle.clause_base.specs.Literal.{Literal}
-use Rattle.clause_base.specs.Codes.{code_of}
+use Rattle.propositional_logic.specs.Literal.{Literal}
+use Rattle.propositional_logic.specs.Codes.{code_of}
 use Rattle.unit_propagate.specs.declared.marks.Mark.{Mark}
 use Rattle.unit_propagate.specs.declared.marks.Slot.{Slot}
 use Rattle.unit_propagate.specs.Trail.{IsFree, IsTrail, literals_of}

@@ -1,5 +1,5 @@
 use Rattle.std.specs.Prelude.{◌≡◌, ◌≢◌, ℕ, ◌<◌, ◌≤◌, List, ◌++◌, Some, None, All, AllPairs, Contains, length, take, slice_get}
-use Rattle.clause_base.specs.Literal.{Literal, negated}
+use Rattle.propositional_logic.specs.Literal.{Literal, negated}
 use Rattle.refutation_log.specs.Follows.{clause_named}
 use Rattle.unit_propagate.specs.declared.marks.Mark.{Mark}
 use Rattle.unit_propagate.specs.Trail.{literals_of, highest_level}

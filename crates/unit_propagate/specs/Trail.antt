@@ -1,5 +1,5 @@
 use Rattle.std.specs.Prelude.{◌≢◌, ℕ, ◌<◌, ◌≤◌, max, List, [], ◌∷◌, All, AllPairs, map}
-use Rattle.clause_base.specs.Literal.{Literal}
+use Rattle.propositional_logic.specs.Literal.{Literal}
 use Rattle.unit_propagate.specs.declared.marks.Mark.{Mark}
 
 -- A `Mark` is a literal on the trail, with its level. Its reason is the number of the clause by which propagation added it; a literal

@@ -1,8 +1,8 @@
 use Rattle.std.specs.Prelude.{◌≡◌, ◌≢◌, ℕ, ◌+◌, ◌*◌, ◌^◌, ◌<◌, ◌≤◌, ◌⊎◌, Bool, false, not, if◌then◌else◌, List, [], ◌∷◌, ◌++◌, Some, All, Contains, map, length, filter, slice_get, slice_set}
-use Rattle.clause_base.specs.Literal.{Literal, negated, literal_eq}
+use Rattle.propositional_logic.specs.Literal.{Literal, negated, literal_eq}
 use Rattle.unit_propagate.specs.declared.marks.Mark.{Mark}
 use Rattle.unit_propagate.specs.declared.rows.Watcher.{Watcher}
-use Rattle.clause_base.specs.Codes.{code_of}
+use Rattle.propositional_logic.specs.Codes.{code_of}
 use Rattle.unit_propagate.specs.Rows.{row_at, AddsTo, SetsAt, CutsOut}
 use Rattle.unit_propagate.specs.Arena.{IsPlace, index_of}
 use Rattle.unit_propagate.specs.Watched.{IsWatched}

@@ -1,10 +1,10 @@
 ghost use Rattle.std.specs.Prelude.{◌≡◌, ℕ, ◌+◌, ◌<◌, ◌≤◌, ◌^◌, List, [], ◌∷◌, ◌++◌, Some, filter, length, slice_get, slice_set, IfOk, IfSome, IfNone, OnOk, OnErr};
-ghost use Rattle.clause_base.specs.Literal.{Literal};
-ghost use Rattle.clause_base.specs.Codes.{code_of, decoded};
+ghost use Rattle.propositional_logic.specs.Literal.{Literal};
+ghost use Rattle.propositional_logic.specs.Codes.{code_of, decoded};
 ghost use Rattle.unit_propagate.specs.Arena.{IsPlace, Closes, Pushes, AddsClause, TakesOff, index_of};
 ghost use Rattle.unit_propagate.specs.Watches.{ordered, exchanged, differs as differs_from};
 
-use clause_base::Lit;
+use propositional_logic::Lit;
 use std::alloc::{AllocError, Global};
 use std::marker::Model;
 

@@ -1,7 +1,7 @@
 ghost use Rattle.std.specs.Prelude.{◌≡◌, ◌++◌, ◌<◌, ◌+◌, ◌^◌, Some, length, slice_get};
 ghost use Rattle.refutation_log.specs.Entry.{clauses_of};
 
-use clause_base::{Clause, Cnf};
+use propositional_logic::{Clause, Cnf};
 use refutation_log::Entry;
 
 /// The number of the base clauses and the entries.

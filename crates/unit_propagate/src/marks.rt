@@ -1,10 +1,10 @@
 ghost use Rattle.std.specs.Prelude.{◌≡◌, ℕ, ◌+◌, ◌^◌, ◌<◌, ◌≤◌, [], ◌∷◌, ◌++◌, List, Some, None, IfOk, IfSome, IfNone, All, Contains, length, filter, nat_le, slice_get, vec_capacity};
 ghost use Rattle.std.specs.Bool.{OnTrue, OnFalse};
-ghost use Rattle.clause_base.specs.Literal.{negated};
+ghost use Rattle.propositional_logic.specs.Literal.{negated};
 ghost use Rattle.unit_propagate.specs.Trail.{IsFree, IsTrail, highest_level, literals_of};
 ghost use Rattle.unit_propagate.specs.Marks.{MarkList, IsMarks, room_of};
 
-use clause_base::Lit;
+use propositional_logic::Lit;
 use std::alloc::{AllocError, Global};
 use std::marker::Model;
 

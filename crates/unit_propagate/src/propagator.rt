@@ -1,7 +1,7 @@
 ghost use Rattle.std.specs.Prelude.{◌≡◌, ◌≢◌, ℕ, ◌+◌, ◌*◌, ◌<◌, ◌≤◌, ◌^◌, ◌⊎◌, true, false, List, [], ◌∷◌, ◌++◌, None, Some, Ok, All, Contains, length, filter, nat_le, slice_get, IfOk, IfSome, IfNone, OnOk, OnErr};
 ghost use Rattle.std.specs.Bool.{OnTrue, OnFalse};
-ghost use Rattle.clause_base.specs.Literal.{Literal, negated};
-ghost use Rattle.clause_base.specs.Clause.{IsClause, IsWithin};
+ghost use Rattle.propositional_logic.specs.Literal.{Literal, negated};
+ghost use Rattle.propositional_logic.specs.Clause.{IsClause, IsWithin};
 ghost use Rattle.refutation_log.specs.Follows.{is_falsified_named};
 ghost use Rattle.unit_propagate.specs.declared.marks.Mark.{Mark};
 ghost use Rattle.unit_propagate.specs.declared.rows.Watcher.{Watcher};
@@ -14,7 +14,7 @@ ghost use Rattle.unit_propagate.specs.Watches.{IsFalsifier, IsSide};
 use crate::clauses::{clause_at, clause_count};
 use crate::marks::Marks;
 use crate::watches::Watches;
-use clause_base::{Clause, Cnf, Lit};
+use propositional_logic::{Clause, Cnf, Lit};
 use refutation_log::Entry;
 use std::alloc::{AllocError, Global};
 
@@ -181,7 +181,7 @@ impl Propagator {
     ghost use Rattle.unit_propagate.specs.declared.propagator.Propagator.{Propagator};
     ghost use Rattle.unit_propagate.specs.Sound.{IsReason};
     ghost use Rattle.unit_propagate.specs.Watched.{IsWatching};
-    ghost use Rattle.clause_base.specs.Codes.{code_of};
+    ghost use Rattle.propositional_logic.specs.Codes.{code_of};
     ghost use Rattle.unit_propagate.specs.Rows.{row_at};
     ghost use Rattle.unit_propagate.specs.Propagator.{clauses_in, IsKept, IsVisiting, IsVisited, Goes, Stays, AreUnitsTrue};
 

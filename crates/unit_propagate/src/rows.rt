@@ -1,7 +1,7 @@
 ghost use Rattle.std.specs.Prelude.{◌≡◌, ◌<◌, ◌≤◌, List, [], length, map, replicate, slice_get, IsSome, Some, ◌^◌, IfOk, OnOk, OnErr};
 ghost use Rattle.unit_propagate.specs.Rows.{row_at, AddsTo, AddsBoth, SetsAt, CutsOut};
 
-use clause_base::Lit;
+use propositional_logic::Lit;
 use std::alloc::{AllocError, Global};
 use std::marker::Model;
 

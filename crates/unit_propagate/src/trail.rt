@@ -1,5 +1,5 @@
 ghost use Rattle.std.specs.Prelude.{◌≡◌, ℕ, true, ◌+◌, ◌<◌, ◌≤◌, [], ◌∷◌, ◌++◌, Some, None, Ok, IfOk, IfSome, IfNone, OnOk, All, Contains, length, filter, nat_le, slice_get};
-ghost use Rattle.clause_base.specs.Clause.{IsFormula, IsWithin};
+ghost use Rattle.propositional_logic.specs.Clause.{IsFormula, IsWithin};
 ghost use Rattle.refutation_log.specs.Entry.{clauses_of};
 ghost use Rattle.refutation_log.specs.Follows.{is_falsified_named};
 ghost use Rattle.unit_propagate.specs.declared.trail.Propagated.TheVariants.{Quiet, Falsified};
@@ -11,7 +11,7 @@ ghost use Rattle.unit_propagate.specs.Watched.{IsWatching, AreLookedAt};
 ghost use Rattle.unit_propagate.specs.Propagator.{IsKept};
 
 use crate::propagator::Propagator;
-use clause_base::{Cnf, Lit};
+use propositional_logic::{Cnf, Lit};
 use refutation_log::Entry;
 use std::alloc::{AllocError, Global};
 use std::marker::Model;

@@ -1,13 +1,13 @@
 ghost use Rattle.std.specs.Prelude.{◌≡◌, ◌≢◌, ℕ, ◌+◌, ◌*◌, ◌<◌, ◌≤◌, ◌^◌, List, [], ◌∷◌, replicate, length, slice_get, IfOk, IfSome, IfNone, OnOk, OnErr, Some, IsSome};
-ghost use Rattle.clause_base.specs.Literal.{Literal};
-ghost use Rattle.clause_base.specs.Codes.{code_of};
+ghost use Rattle.propositional_logic.specs.Literal.{Literal};
+ghost use Rattle.propositional_logic.specs.Codes.{code_of};
 ghost use Rattle.unit_propagate.specs.declared.rows.Watcher.{Watcher};
 ghost use Rattle.unit_propagate.specs.Rows.{row_at};
 ghost use Rattle.unit_propagate.specs.Watches.{WatchList, Adds, AddsAlone, KeepsWatches, Rewatches, CanRewatch, Keeps, Cuts, ordered};
 
 use crate::arena::Arena;
 use crate::rows::{Rows, Watcher};
-use clause_base::Lit;
+use propositional_logic::Lit;
 use std::alloc::{AllocError, Global};
 use std::marker::Model;
 

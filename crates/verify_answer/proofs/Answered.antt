@@ -1,7 +1,7 @@
 -- From what was found to the answer.
 use Rattle.std.proofs.Common.{◌≡◌, ℕ, None, List, Result, Ok, Err, IfOk, length, refl, sym, ap, ◌∙◌}
 use Rattle.text_limits.specs.declared.TheConstants.{SMALL_LIMITS}
-use Rattle.letter_word.specs.declared.kinds.Side.TheVariants.{System}
+use Rattle.letters_and_lassos.specs.declared.kinds.Side.TheVariants.{System}
 use Rattle.aiger_text.specs.Circuit.{Circuit, RunsOnEveryInput}
 use Rattle.tlsf_expand.specs.Meaning.{means}
 use Rattle.tlsf_expand.specs.FlatText.{FlatText, spec_seen}

@@ -1,7 +1,7 @@
 -- A text and a file have one answer.
 use Rattle.std.proofs.Common.{◌≡◌, ℕ, ◌⊎◌, inl, inr, None, List, ap, subst, ◌∙◌}
-use Rattle.letter_word.specs.declared.kinds.Side.{Side}
-use Rattle.letter_word.specs.declared.kinds.Side.TheVariants.{System, Environment}
+use Rattle.letters_and_lassos.specs.declared.kinds.Side.{Side}
+use Rattle.letters_and_lassos.specs.declared.kinds.Side.TheVariants.{System, Environment}
 use Rattle.spec_faults.specs.declared.code.SpecCode.{SpecCode}
 use Rattle.tlsf_expand.specs.FlatText.{FlatText}
 use Rattle.spec_problems.specs.Laws.{AreSameProblems, ProblemsOfTextsAreDetermined}

@@ -1,8 +1,8 @@
 -- Of a file at most one line is the first bad one, and none where its annotation is valid.
 use Rattle.std.proofs.Common.{◌≡◌, ℕ, ◌+◌, Option, Some, None, List, [], length, drop, sym, ap, subst, ◌∙◌}
 use Rattle.std.specs.Prelude.{option_map, unwrap_or}
-use Rattle.letter_word.specs.declared.kinds.Kind.{Kind}
-use Rattle.letter_word.specs.declared.kinds.Side.TheVariants.{System}
+use Rattle.letters_and_lassos.specs.declared.kinds.Kind.{Kind}
+use Rattle.letters_and_lassos.specs.declared.kinds.Side.TheVariants.{System}
 use Rattle.machine_model.specs.declared.problems.Problem.{Problem}
 use Rattle.machine_model.specs.Automaton.{AutomatonModel, states_of}
 use Rattle.machine_model.specs.Problem.{automaton_of}
@@ -16,7 +16,7 @@ use Rattle.annot_check.specs.Causes.{IsCause}
 use Rattle.annot_check.specs.Pairs.{Listed}
 use Rattle.annot_check.specs.Stated.{ReadingsAreApart}
 use Rattle.annot_check.proofs.Apart.{causes_are_apart}
-use Rattle.cert_text.specs.Reading.{fault_line}
+use Rattle.document_text.specs.Reading.{fault_line}
 use Rattle.document_check.specs.Facts.{Facts}
 use Rattle.circuit_names.specs.Lines.{earliest}
 use Rattle.document_check.specs.FirstBad.{faulty_line, stated_line}

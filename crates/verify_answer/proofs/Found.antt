@@ -3,7 +3,7 @@ use Rattle.std.proofs.Common.{◌≡◌, ℕ, Option, Some, None, List, sym, ap,
 use Rattle.aiger_text.specs.declared.faults.CircuitFault.{CircuitFault}
 use Rattle.aiger_text.specs.CircuitFile.{File, IsFirstFault}
 use Rattle.annot_check.specs.Pairs.{Listed}
-use Rattle.cert_text.specs.Reading.{fault_line}
+use Rattle.document_text.specs.Reading.{fault_line}
 use Rattle.document_check.specs.Facts.{Facts}
 use Rattle.circuit_names.specs.Lines.{earliest}
 use Rattle.circuit_names.proofs.Fitting.{some_earliest}

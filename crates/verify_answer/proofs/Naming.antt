@@ -1,11 +1,11 @@
 -- A circuit's names make no difference to its runs, to its kind and to what it keeps.
 use Rattle.std.proofs.Common.{◌≡◌, ℕ, List, [], ◌∷◌, length, suc, refl, ap, sym, ◌∙◌}
 use Rattle.std.specs.Prelude.{Some, map}
-use Rattle.letter_word.specs.declared.kinds.Kind.{Kind}
-use Rattle.letter_word.specs.declared.kinds.Kind.TheVariants.{Mealy, Moore}
-use Rattle.letter_word.specs.declared.kinds.Side.{Side}
-use Rattle.letter_word.specs.declared.kinds.Side.TheVariants.{System, Environment}
-use Rattle.letter_word.specs.Word.{Word}
+use Rattle.letters_and_lassos.specs.declared.kinds.Kind.{Kind}
+use Rattle.letters_and_lassos.specs.declared.kinds.Kind.TheVariants.{Mealy, Moore}
+use Rattle.letters_and_lassos.specs.declared.kinds.Side.{Side}
+use Rattle.letters_and_lassos.specs.declared.kinds.Side.TheVariants.{System, Environment}
+use Rattle.letters_and_lassos.specs.Word.{Word}
 use Rattle.aiger_text.specs.Circuit.{Circuit, IsCircuitOfKind, IsCircuitRun, Valuation}
 use Rattle.aiger_text.specs.CircuitType.{IsCircuit}
 use Rattle.verify_answer.specs.Verified.{HasSignals, named_as}

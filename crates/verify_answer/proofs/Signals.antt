@@ -2,7 +2,7 @@
 use Rattle.std.proofs.Common.{◌≡◌, ◌≤◌, None, List, length, sym, ◌∙◌, arith}
 use Rattle.std.specs.Prelude.{All}
 use Rattle.std.proofs.lemmas.Slice.Zip.{AllZip-long}
-use Rattle.letter_word.specs.declared.kinds.Side.TheVariants.{System}
+use Rattle.letters_and_lassos.specs.declared.kinds.Side.TheVariants.{System}
 use Rattle.aiger_text.specs.CircuitFile.{File}
 use Rattle.aiger_text.specs.CircuitType.{IsCircuit}
 use Rattle.annot_check.specs.declared.pairs.Pair.{Pair}

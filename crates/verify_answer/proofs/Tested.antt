@@ -1,10 +1,10 @@
 -- From what was found out of a file whose annotation names its states to the answer.
 use Rattle.std.proofs.Common.{◌≡◌, ◌≢◌, ℕ, ◌≤◌, Bool, true, false, None, List, length, refl, sym, ap, subst, ◌∙◌, arith}
 use Rattle.std.specs.Prelude.{not}
-use Rattle.letter_word.specs.declared.kinds.Kind.{Kind}
-use Rattle.letter_word.specs.declared.kinds.Side.{Side}
-use Rattle.letter_word.specs.declared.kinds.Side.TheVariants.{System, Environment}
-use Rattle.letter_word.specs.Kinds.{other_kind}
+use Rattle.letters_and_lassos.specs.declared.kinds.Kind.{Kind}
+use Rattle.letters_and_lassos.specs.declared.kinds.Side.{Side}
+use Rattle.letters_and_lassos.specs.declared.kinds.Side.TheVariants.{System, Environment}
+use Rattle.letters_and_lassos.specs.Kinds.{other_kind}
 use Rattle.aiger_text.specs.Circuit.{Circuit, IsCircuitOfKind}
 use Rattle.circuit_laws.specs.Laws.{LosingCircuitsDefeat}
 use Rattle.circuit_check.specs.FirstBad.{IsFirstBad}

@@ -1,13 +1,13 @@
 -- The first line at which a circuit's file with an annotation fails for a text (this project's own). The circuit is tested as that of
 -- a document, but that names may be missing; then the annotation in its comment is, whose lines are counted on from the line `c`.
 use Rattle.std.specs.Prelude.{◌≡◌, ℕ, ◌+◌, List, Option, Some, None, length, drop, option_map}
-use Rattle.letter_word.specs.declared.kinds.Side.TheVariants.{System}
+use Rattle.letters_and_lassos.specs.declared.kinds.Side.TheVariants.{System}
 use Rattle.machine_model.specs.Automaton.{AutomatonModel, states_of}
 use Rattle.machine_model.specs.Problem.{automaton_of}
 use Rattle.aiger_text.specs.declared.faults.CircuitFault.{CircuitFault}
 use Rattle.aiger_text.specs.Circuit.{Circuit}
 use Rattle.aiger_text.specs.CircuitFile.{File, IsFirstFault, States}
-use Rattle.cert_text.specs.Reading.{fault_line}
+use Rattle.document_text.specs.Reading.{fault_line}
 use Rattle.document_check.specs.Facts.{Facts}
 use Rattle.circuit_names.specs.Lines.{earliest}
 use Rattle.document_check.specs.FirstBad.{faulty_line, stated_line}

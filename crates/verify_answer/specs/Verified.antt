@@ -1,8 +1,8 @@
 -- What a circuit of another maker owes to a text (this project's own; bounded synthesis of Finkbeiner and Schewe).
 use Rattle.std.specs.Prelude.{◌≡◌, ℕ, List, Some, None, length, map}
 use Rattle.std.specs.List.{AllZip}
-use Rattle.letter_word.specs.declared.kinds.Side.{Side}
-use Rattle.letter_word.specs.declared.kinds.Side.TheVariants.{System, Environment}
+use Rattle.letters_and_lassos.specs.declared.kinds.Side.{Side}
+use Rattle.letters_and_lassos.specs.declared.kinds.Side.TheVariants.{System, Environment}
 use Rattle.aiger_text.specs.Circuit.{Circuit, RunsOnEveryInput}
 use Rattle.aiger_text.specs.CircuitFile.{File}
 use Rattle.circuit_names.specs.Names.{IsNameIfAny}

@@ -10,7 +10,7 @@ use crate::listed::listed_answer;
 use crate::named::tested;
 use crate::texts::problems_for_verify;
 use circuit_check::names_states;
-use letter_word::Side;
+use letters_and_lassos::Side;
 use program_replies::Reply;
 use solve_ground::SolveText;
 use std::alloc::{AllocError, Global};

@@ -6,7 +6,7 @@ ghost use Rattle.aiger_text.specs.CircuitFile.{IsFirstFault, States};
 ghost use Rattle.aiger_text.specs.CircuitType.{IsCircuit};
 ghost use Rattle.annot_check.specs.Causes.{CanBeChecked};
 ghost use Rattle.annot_check.specs.declared.faults.AnnotFault.TheVariants.{BadLine};
-ghost use Rattle.cert_text.specs.Reading.{fault_line as line_of_fault};
+ghost use Rattle.document_text.specs.Reading.{fault_line as line_of_fault};
 ghost use Rattle.document_check.specs.Shown.{facts_of as facts_seen};
 ghost use Rattle.tlsf_expand.specs.FlatText.{spec_seen};
 ghost use Rattle.program_replies.specs.declared.replies.Status.TheVariants as ended;
@@ -21,7 +21,7 @@ use aiger_text::{Circuit, CircuitFault, CircuitFile, read_circuit, runs_on_every
 use annot_check::laws::valid_lists_satisfy;
 use annot_check::{AnnotFault, PairList, check_annotation, read_annotation};
 use document_check::{TextFacts, earliest, faulty_line, stated_line};
-use letter_word::{Kind, Side};
+use letters_and_lassos::{Kind, Side};
 use program_replies::{Reply, Status, refused_at_line, whole};
 use spec_problems::TextProblems;
 use std::alloc::{AllocError, Global};

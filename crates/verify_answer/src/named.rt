@@ -9,7 +9,7 @@ ghost use Rattle.verify_answer.specs.Reply.{IsReadyFor};
 use circuit_check::{Duty, first_bad_line};
 use circuit_laws::laws::losing_circuits_defeat;
 use circuit_names::TextNames;
-use letter_word::{Kind, Side};
+use letters_and_lassos::{Kind, Side};
 use program_replies::{Reply, Status, refused_at_line};
 use solve_ground::SolveText;
 use std::alloc::{AllocError, Global};

@@ -5,7 +5,7 @@ ghost use Rattle.program_replies.specs.Statuses.{status_number};
 ghost use Rattle.solve_ground.specs.SolveText.{IsSolveFault};
 ghost use Rattle.verify_answer.specs.Reply.{AreForVerify, IsRefusedAnyway, IsRefusedFor, IsSolveRefusal, IsTextFor};
 
-use letter_word::Side;
+use letters_and_lassos::Side;
 use limit_laws::laws::small_texts_are_taken;
 use machine_model::Counts;
 use program_replies::{Reply, refusal};

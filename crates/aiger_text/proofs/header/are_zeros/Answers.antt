@@ -1,7 +1,7 @@
 use Rattle.std.proofs.Common.{◌≡◌, ◌<◌, List, ℕ, [], None, Bor, length, get_or, true, ap, sym, ◌∙◌, arith}
 use Rattle.std.specs.Prelude.{map, ◌==◌}
 use Rattle.std.proofs.lemmas.List.{get_or-map, length-map}
-use Rattle.text_base.specs.Numerals.{decimal_value}
+use Rattle.names_and_numbers.specs.Numerals.{decimal_value}
 use Rattle.aiger_text.specs.Words.{is_numeral, number_within}
 use Rattle.aiger_text.proofs.HeaderLemmas.{holds_at, fails_at, not_zero}
 use Rattle.aiger_text.proofs.header.are_zeros.Goals as goal

@@ -1,5 +1,5 @@
 use Rattle.std.proofs.Common.{◌≡◌, drop}
-use Rattle.letter_word.specs.Bits.{number_of}
+use Rattle.letters_and_lassos.specs.Bits.{number_of}
 use Rattle.annot_check.proofs.steps.written_number.Given as goal
 
 abbrev pub invariant-loop-k : goal.invariant-loop-k

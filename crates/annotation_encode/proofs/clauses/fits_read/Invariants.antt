@@ -1,7 +1,7 @@
 use Rattle.std.proofs.Common.{◌≡◌, true}
-use Rattle.letter_word.specs.Signals.{has}
+use Rattle.letters_and_lassos.specs.Signals.{has}
 use Rattle.annotation_encode.specs.BaseClauses.{read_signal, signal_fits}
-use Rattle.letter_word.specs.Below.{all_below}
+use Rattle.letters_and_lassos.specs.Below.{all_below}
 use Rattle.annotation_encode.proofs.clauses.fits_read.Given as goal
 
 abbrev pub invariant-loop-signal : goal.invariant-loop-signal

@@ -1,7 +1,7 @@
 use Rattle.std.proofs.Common.{ap, ℕ, List, Option, refl, subst, sym, ◌≡◌, ◌∙◌}
-use Rattle.letter_word.specs.declared.kinds.Kind.{Kind}
-use Rattle.cert_text.specs.Parts.{Document}
-use Rattle.cert_text.specs.States.{States}
+use Rattle.letters_and_lassos.specs.declared.kinds.Kind.{Kind}
+use Rattle.document_text.specs.Parts.{Document}
+use Rattle.document_text.specs.States.{States}
 use Rattle.synth_engine.specs.declared.settings.Settings.{Settings}
 use Rattle.synth_answer.specs.Answer.{Answers}
 use Rattle.synth_answer.specs.Numbers.{told_number}

@@ -1,6 +1,6 @@
 use Rattle.std.proofs.Common.{Some}
 use Rattle.std.proofs.lemmas.Result.{IfOk-weaker}
-use Rattle.letter_word.specs.declared.kinds.Kind.TheVariants.{Mealy}
+use Rattle.letters_and_lassos.specs.declared.kinds.Kind.TheVariants.{Mealy}
 use Rattle.program_replies.specs.Statuses.{status_number}
 use Rattle.spec_problems.specs.OfText.{IsFirstFault}
 use Rattle.boundsyn_top.proofs.ReplyLemmas.{check_has_none, fault_told, nothing_told}

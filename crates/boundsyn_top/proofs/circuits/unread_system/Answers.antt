@@ -1,5 +1,5 @@
 use Rattle.std.proofs.lemmas.Result.{IfOk-weaker}
-use Rattle.letter_word.specs.declared.kinds.Side.TheVariants.{System}
+use Rattle.letters_and_lassos.specs.declared.kinds.Side.TheVariants.{System}
 use Rattle.program_replies.specs.Statuses.{status_number}
 use Rattle.boundsyn_top.specs.Faults.{IsSynthFault}
 use Rattle.boundsyn_top.proofs.ReplyLemmas.{fault_told, nothing_told, verify_has_none}

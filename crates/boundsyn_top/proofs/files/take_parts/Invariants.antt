@@ -1,6 +1,6 @@
 use Rattle.std.proofs.Common.{◌≡◌, ◌≢◌, ◌-◌, ◌^◌, ℕ, List, take, length}
 use Rattle.std.specs.Prelude.{IfSome}
-use Rattle.outside_edge.specs.Files.{bytes_under}
+use Rattle.input_output.specs.Files.{bytes_under}
 use Rattle.boundsyn_top.proofs.files.take_parts.Given as goal
 
 -- so far a front of the file was taken, and no count rose

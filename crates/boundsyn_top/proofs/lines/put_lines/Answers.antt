@@ -1,6 +1,6 @@
 use Rattle.std.proofs.Common.{◌≡◌, ◌++◌, ◌∙◌, ap, append_assoc}
-use Rattle.outside_edge.proofs.EdgeLemmas.{Gains-append}
-use Rattle.outside_edge.proofs.GainLemmas.{front_more, front_of_fault}
+use Rattle.input_output.proofs.EdgeLemmas.{Gains-append}
+use Rattle.input_output.proofs.GainLemmas.{front_more, front_of_fault}
 use Rattle.boundsyn_top.proofs.SinkLemmas.{cut_joins}
 use Rattle.boundsyn_top.proofs.lines.put_lines.Goals as goal
 

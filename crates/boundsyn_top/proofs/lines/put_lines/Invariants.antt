@@ -1,5 +1,5 @@
 use Rattle.std.proofs.Common.{◌≡◌, ◌++◌, ℕ, List, length}
-use Rattle.outside_edge.specs.Bytes.{Gains}
+use Rattle.input_output.specs.Bytes.{Gains}
 use Rattle.boundsyn_top.proofs.lines.put_lines.Given as goal
 
 -- the lines so far were written and no fault occurred, and the others are left

@@ -1,5 +1,5 @@
 use Rattle.std.proofs.Common.{Err, Some, ap}
-use Rattle.letter_word.specs.declared.kinds.Kind.TheVariants.{Mealy}
+use Rattle.letters_and_lassos.specs.declared.kinds.Kind.TheVariants.{Mealy}
 use Rattle.solve_ground.specs.SolveText.{IsSolveFault}
 use Rattle.program_replies.proofs.RefusalLemmas.{refused_by}
 use Rattle.check_answer.proofs.answering.fault_for_solve.Goals as goal

@@ -1,7 +1,7 @@
 use Rattle.std.proofs.Common.{rules, Err, sym, ap, subst}
 use Rattle.std.proofs.lemmas.Result.{IfOk-weaker}
 use Rattle.program_replies.specs.Statuses.{status_number}
-use Rattle.cert_text.specs.Parts.{Document}
+use Rattle.document_text.specs.Parts.{Document}
 use Rattle.document_check.specs.Shown.{AreFacts, facts_of}
 use Rattle.check_answer.specs.Answer.{CheckAnswers}
 use Rattle.check_answer.specs.Reply.{IsAcceptance, IsLineRefusal}

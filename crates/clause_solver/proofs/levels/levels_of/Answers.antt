@@ -1,6 +1,6 @@
 use Rattle.std.proofs.Common.{◌≡◌, ap, sym, ◌∙◌}
 use Rattle.std.proofs.lemmas.Option.{slice_get_within}
-use Rattle.clause_base.specs.Equality.{Decides-literal_eq}
+use Rattle.propositional_logic.specs.Equality.{Decides-literal_eq}
 use Rattle.unit_propagate.specs.declared.marks.Mark.{Mark}
 use Rattle.unit_propagate.proofs.TrailLemmas.{at_place}
 use Rattle.clause_solver.proofs.IdleLemmas.{free_not_false, true_not_false, true_from_level, below_not_false}

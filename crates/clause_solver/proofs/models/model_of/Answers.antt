@@ -1,5 +1,5 @@
 use Rattle.std.proofs.Common.{◌∙◌, ap, sym}
-use Rattle.clause_base.specs.Truth.{meets}
+use Rattle.propositional_logic.specs.Truth.{meets}
 use Rattle.clause_solver.proofs.ModelLemmas.{next_true, all_met}
 use Rattle.clause_solver.proofs.models.model_of.Goals as goal
 

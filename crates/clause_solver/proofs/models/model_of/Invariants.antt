@@ -1,6 +1,6 @@
 use Rattle.std.proofs.Common.{◌≡◌, true, List, All, take}
-use Rattle.clause_base.specs.Literal.{Literal}
-use Rattle.clause_base.specs.Truth.{is_true_clause}
+use Rattle.propositional_logic.specs.Literal.{Literal}
+use Rattle.propositional_logic.specs.Truth.{is_true_clause}
 use Rattle.clause_solver.proofs.models.model_of.Given as goal
 
 abbrev pub invariant-loop-clause : goal.invariant-loop-clause

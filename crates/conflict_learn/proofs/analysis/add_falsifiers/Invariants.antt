@@ -1,5 +1,5 @@
 use Rattle.std.proofs.Common.{ℕ, ◌⊎◌, Contains, take}
-use Rattle.clause_base.specs.Literal.{Literal, negated}
+use Rattle.propositional_logic.specs.Literal.{Literal, negated}
 use Rattle.unit_propagate.specs.Trail.{literals_of}
 use Rattle.conflict_learn.specs.Analysis.{HasFalsifier, FalsifiesOne}
 use Rattle.conflict_learn.proofs.analysis.add_falsifiers.Given as goal

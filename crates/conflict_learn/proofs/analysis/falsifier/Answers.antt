@@ -1,7 +1,7 @@
 use Rattle.std.proofs.Common.{sym, ◌∙◌}
 use Rattle.std.proofs.lemmas.Option.{slice_get_within}
-use Rattle.clause_base.specs.Literal.{negated}
-use Rattle.clause_base.specs.Equality.{Decides-literal_eq}
+use Rattle.propositional_logic.specs.Literal.{negated}
+use Rattle.propositional_logic.specs.Equality.{Decides-literal_eq}
 use Rattle.unit_propagate.specs.declared.marks.Mark.{Mark}
 use Rattle.unit_propagate.proofs.TrailLemmas.{free-no_literal, one_sign, at_place}
 use Rattle.conflict_learn.proofs.analysis.falsifier.Goals as goal

@@ -1,6 +1,6 @@
 use Rattle.std.proofs.Common.{◌≡◌, List, Some, ◌++◌, length, reverse, ap, sym, subst, ◌∙◌}
-use Rattle.clause_base.specs.Literal.{Literal}
-use Rattle.clause_base.specs.Clause.{IsClauseOf, IsWithin, IsTautology}
+use Rattle.propositional_logic.specs.Literal.{Literal}
+use Rattle.propositional_logic.specs.Clause.{IsClauseOf, IsWithin, IsTautology}
 use Rattle.refutation_log.specs.Entry.{clauses_of}
 use Rattle.refutation_log.specs.Follows.{Follows, clause_named}
 use Rattle.unit_propagate.specs.Trail.{literals_of}

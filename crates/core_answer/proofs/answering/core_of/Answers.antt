@@ -1,7 +1,7 @@
 use Rattle.std.proofs.Common.{IfOk, map, ◌∙◌, subst}
 use Rattle.std.proofs.lemmas.List.{length-map}
-use Rattle.unreal_core.specs.Laws.{is_kept, kept_in}
-use Rattle.unreal_core.proofs.Standings.{all_needed, none_asked}
+use Rattle.unrealizable_core.specs.Laws.{is_kept, kept_in}
+use Rattle.unrealizable_core.proofs.Standings.{all_needed, none_asked}
 use Rattle.core_answer.specs.Core.{core_lines}
 use Rattle.core_answer.specs.Known.{IsShrunk}
 use Rattle.core_answer.proofs.Steps.{at_last}

@@ -1,5 +1,5 @@
 use Rattle.std.proofs.Common.{◌≡◌, ◌++◌, drop}
-use Rattle.unreal_core.specs.Laws.{kept_in}
+use Rattle.unrealizable_core.specs.Laws.{kept_in}
 use Rattle.core_answer.proofs.shrinking.kept.Given as goal
 
 abbrev pub invariant-loop-place : goal.invariant-loop-place

@@ -2,9 +2,9 @@ use Rattle.std.proofs.Common.{◌≡◌, ◌-◌, ◌<◌, false, IfOk, length, 
 use Rattle.std.proofs.lemmas.List.{length-map, length-set}
 use Rattle.tlsf_expand.specs.FlatText.{spec_seen}
 use Rattle.program_replies.specs.Statuses.{status_number}
-use Rattle.unreal_core.specs.declared.shrink.Standing.TheVariants.{Open}
-use Rattle.unreal_core.specs.Laws.{is_kept, kept_in}
-use Rattle.unreal_core.proofs.Questions.{answers_lower, weight}
+use Rattle.unrealizable_core.specs.declared.shrink.Standing.TheVariants.{Open}
+use Rattle.unrealizable_core.specs.Laws.{is_kept, kept_in}
+use Rattle.unrealizable_core.proofs.Questions.{answers_lower, weight}
 use Rattle.core_answer.specs.Core.{IsToldOver, without}
 use Rattle.core_answer.specs.Over.{are_all}
 use Rattle.core_answer.proofs.Steps.{IsSoFar, at_start, next_step}

@@ -1,5 +1,5 @@
 use Rattle.tlsf_expand.specs.FlatText.{spec_seen}
-use Rattle.unreal_core.proofs.Questions.{weight}
+use Rattle.unrealizable_core.proofs.Questions.{weight}
 use Rattle.core_answer.proofs.Steps.{IsSoFar}
 use Rattle.core_answer.proofs.shrinking.shrunk.Given as goal
 

@@ -1,6 +1,6 @@
 use Rattle.std.proofs.Common.{◌≡◌, ℕ, ◌^◌, ◌<◌, ◌≤◌, Option, Some, length, sym, ap, subst, ◌∙◌, arith, rules}
 use Rattle.std.specs.Prelude.{IfSome}
-use Rattle.cert_text.specs.Reading.{DocumentLines}
+use Rattle.document_text.specs.Reading.{DocumentLines}
 use Rattle.document_check.proofs.ReadFacts.{reads_fit}
 use Rattle.document_check.proofs.AskedLemmas.{asked_is}
 use Rattle.document_check.specs.FirstBad.{asked_in}

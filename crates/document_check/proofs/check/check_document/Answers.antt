@@ -1,5 +1,5 @@
 use Rattle.std.proofs.Common.{None, sym, ◌∙◌}
-use Rattle.cert_text.proofs.Whole.{good_lines, has_document}
+use Rattle.document_text.proofs.Whole.{good_lines, has_document}
 use Rattle.document_check.specs.FirstBad.{Fails}
 use Rattle.document_check.specs.Shown.{facts_of}
 use Rattle.document_check.proofs.DocumentLemmas.{document_is}

@@ -1,6 +1,6 @@
 use Rattle.std.proofs.Common.{◌≡◌, ◌^◌, ◌<◌, List, length, sym, subst, rules}
 use Rattle.std.specs.Prelude.{All}
-use Rattle.cert_text.specs.Parts.{LogPart}
+use Rattle.document_text.specs.Parts.{LogPart}
 use Rattle.document_check.specs.Shown.{IsReadable}
 use Rattle.document_check.proofs.ReadFacts.{reads_fit}
 use Rattle.document_check.proofs.check.logs_in.Goals as goal

@@ -1,6 +1,6 @@
 use Rattle.std.proofs.Common.{◌≡◌, Some, None, Option, sym, ap, subst, ◌∙◌}
 use Rattle.machine_model.specs.declared.problems.Problem.{Problem}
-use Rattle.cert_text.specs.Parts.{LogPart}
+use Rattle.document_text.specs.Parts.{LogPart}
 use Rattle.document_check.specs.Facts.{problem_at}
 use Rattle.document_check.specs.Shown.{facts_of, IsProblemAt, IsReadable, IsSize}
 use Rattle.document_check.proofs.ProblemLemmas.{is_problem}

@@ -1,6 +1,6 @@
 use Rattle.std.proofs.Common.{◌≡◌, flat_map, take}
 use Rattle.tlsf_expand.specs.FlatText.{spec_seen}
-use Rattle.outside_edge.specs.Bytes.{Gains}
+use Rattle.input_output.specs.Bytes.{Gains}
 use Rattle.flat_lines.specs.FlatLines.{ended_line}
 use Rattle.flat_lines.proofs.put.put_lines.Given as goal
 

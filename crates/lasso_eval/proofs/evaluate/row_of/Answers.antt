@@ -1,6 +1,6 @@
 use Rattle.std.proofs.Common.{ap, sym, ◌∙◌, ◌||◌, false, true}
-use Rattle.letter_word.specs.Word.{lasso_len, next}
-use Rattle.letter_word.proofs.Positions.{next_within}
+use Rattle.letters_and_lassos.specs.Word.{lasso_len, next}
+use Rattle.letters_and_lassos.proofs.Positions.{next_within}
 use Rattle.ltl_formula.specs.Nodes.{tree_at}
 use Rattle.ltl_formula.specs.Truth.{holds, until_at, release_at}
 use Rattle.lasso_eval.specs.Rows.{row_truth}

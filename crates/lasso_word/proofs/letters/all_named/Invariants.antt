@@ -1,5 +1,5 @@
 use Rattle.std.proofs.Common.{◌≡◌, length}
-use Rattle.letter_word.specs.Word.{no_signals}
+use Rattle.letters_and_lassos.specs.Word.{no_signals}
 use Rattle.lasso_word.specs.Lines.{parts_at}
 use Rattle.lasso_word.specs.WordText.{with_all_named}
 use Rattle.lasso_word.proofs.letters.all_named.Given as goal

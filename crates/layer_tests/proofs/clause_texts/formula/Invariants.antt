@@ -1,5 +1,5 @@
 use Rattle.std.proofs.Common.{All}
-use Rattle.clause_base.specs.Clause.{IsWithin}
+use Rattle.propositional_logic.specs.Clause.{IsWithin}
 use Rattle.layer_tests.proofs.clause_texts.formula.Given as goal
 
 abbrev pub invariant-loop-word : goal.invariant-loop-word

@@ -1,5 +1,5 @@
 use Rattle.std.proofs.Common.{◌≡◌, All}
-use Rattle.clause_base.specs.Clause.{IsWithin}
+use Rattle.propositional_logic.specs.Clause.{IsWithin}
 use Rattle.refutation_log.specs.declared.entries.Entry.{Entry}
 use Rattle.clause_solver.specs.Worker.{IsWorkingOn}
 use Rattle.layer_tests.proofs.turns.turns.Given as goal

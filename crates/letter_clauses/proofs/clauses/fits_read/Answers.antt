@@ -1,5 +1,5 @@
 use Rattle.std.proofs.Common.{rules, ◌≡◌, false, sym, ◌∙◌}
-use Rattle.letter_word.specs.Signals.{has}
+use Rattle.letters_and_lassos.specs.Signals.{has}
 use Rattle.annotation_encode.specs.BaseClauses.{read_signal, signal_fits}
 use Rattle.machine_model.specs.Problem.{reads_of}
 use Rattle.annotation_encode.proofs.Lists.{all_below-fails, all_below-more}

@@ -1,5 +1,5 @@
 use Rattle.std.proofs.Common.{◌≡◌, ℕ, ◌<◌, false}
-use Rattle.clause_base.specs.Truth.{value_of}
+use Rattle.propositional_logic.specs.Truth.{value_of}
 use Rattle.annotation_encode.specs.BaseClauses.{row_move}
 use Rattle.machine_decode.proofs.decoding.least_move.Given as goal
 

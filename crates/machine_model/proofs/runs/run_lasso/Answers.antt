@@ -1,7 +1,7 @@
 use Rattle.std.proofs.Common.{◌≡◌, ◌+◌, ◌<◌, length, replicate, arith, ◌∙◌, sym, ap, rules, None}
 use Rattle.std.proofs.lemmas.List.{get_or_read}
-use Rattle.letter_word.specs.Word.{lasso_len}
-use Rattle.letter_word.proofs.Positions.{after-own}
+use Rattle.letters_and_lassos.specs.Word.{lasso_len}
+use Rattle.letters_and_lassos.proofs.Positions.{after-own}
 use Rattle.machine_model.proofs.Tables.{size_pos}
 use Rattle.machine_model.proofs.Closing.{Closes, cut, run-cut, same-cut}
 use Rattle.machine_model.proofs.Walks.{IsWalk, course_start, along_ring, walk_start, walk_more, walk_closes}

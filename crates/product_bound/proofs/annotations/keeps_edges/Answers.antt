@@ -4,7 +4,7 @@ use Rattle.std.proofs.lemmas.Bool.{true≢false}
 use Rattle.std.proofs.lemmas.List.{take_all}
 use Rattle.std.proofs.lemmas.List.Elements.{All-more, All-same}
 use Rattle.machine_model.specs.Problem.{automaton_of}
-use Rattle.letter_word.specs.Cube.{Fits}
+use Rattle.letters_and_lassos.specs.Cube.{Fits}
 use Rattle.machine_model.specs.declared.automata.Edge.{Edge}
 use Rattle.product_bound.specs.Kept.{KeepsEdge, KeepsNumber}
 use Rattle.product_bound.proofs.annotations.keeps_edges.Goals as goal

@@ -1,7 +1,7 @@
 use Rattle.std.proofs.Common.{◌∙◌, Err, sym, ap}
 use Rattle.std.specs.Cmp.Lexicographic.{pointwise}
-use Rattle.clause_base.specs.Literal.{literal_eq}
-use Rattle.clause_base.proofs.Rising.{no_tautology}
+use Rattle.propositional_logic.specs.Literal.{literal_eq}
+use Rattle.propositional_logic.proofs.Rising.{no_tautology}
 use Rattle.refutation_log.proofs.LineLemmas.{same_clause, other_clause}
 use Rattle.refutation_log.proofs.read.clause_as_written.Goals as goal
 

@@ -1,4 +1,4 @@
-use Rattle.letter_word.specs.declared.kinds.Side.TheVariants.{System, Environment}
+use Rattle.letters_and_lassos.specs.declared.kinds.Side.TheVariants.{System, Environment}
 use Rattle.size_board.proofs.Updates.{claims_fit}
 use Rattle.size_board.proofs.boards.record.Goals as goal
 

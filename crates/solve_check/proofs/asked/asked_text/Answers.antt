@@ -1,7 +1,7 @@
 use Rattle.std.proofs.Common.{◌≡◌, Some, None, rules, subst}
 use Rattle.std.specs.Prelude.{IfOk, Option, MatchOption}
 use Rattle.std.proofs.lemmas.Result.{IfOk-weaker}
-use Rattle.letter_word.specs.declared.kinds.Kind.{Kind}
+use Rattle.letters_and_lassos.specs.declared.kinds.Kind.{Kind}
 use Rattle.solve_ground.specs.declared.texts.SolveText.{SolveText}
 use Rattle.solve_ground.specs.SolveText.{IsSolveText}
 use Rattle.solve_check.specs.Asked.{CannotBeConverted, IsAskedText, as_given, converted, in_vain, kind_said}

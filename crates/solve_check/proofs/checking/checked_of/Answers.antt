@@ -1,6 +1,6 @@
 use Rattle.std.proofs.Common.{rules, ◌≡◌, None, subst}
 use Rattle.std.specs.Prelude.{IfSome}
-use Rattle.cert_text.specs.Reading.{circuit_in}
+use Rattle.document_text.specs.Reading.{circuit_in}
 use Rattle.solved_text.specs.Reading.{SolvedLines}
 use Rattle.solve_check.specs.FirstBad.{LinesFail}
 use Rattle.solve_check.specs.Parts.{IsClaimed, IsSound}

@@ -1,8 +1,8 @@
 use Rattle.std.proofs.Common.{sym, subst}
 use Rattle.std.specs.Prelude.{IfSome}
 use Rattle.aiger_text.specs.CircuitFile.{File}
-use Rattle.cert_text.specs.declared.reading.CircuitPart.{CircuitPart}
-use Rattle.cert_text.specs.Reading.{circuit_in}
+use Rattle.document_text.specs.declared.reading.CircuitPart.{CircuitPart}
+use Rattle.document_text.specs.Reading.{circuit_in}
 use Rattle.solve_check.specs.Parts.{IsSound}
 use Rattle.solve_check.proofs.claims.circuit_is_sound.Goals as goal
 

@@ -1,5 +1,5 @@
 use Rattle.std.proofs.Common.{◌≡◌, ℕ, Option, List, sym, ap, subst, ◌∙◌}
-use Rattle.letter_word.specs.declared.kinds.Side.{Side}
+use Rattle.letters_and_lassos.specs.declared.kinds.Side.{Side}
 use Rattle.circuit_names.specs.Lines.{earliest}
 use Rattle.solved_text.specs.Parts.{SizeLog}
 use Rattle.solved_text.specs.Reading.{SolvedLines}

@@ -1,5 +1,5 @@
 use Rattle.std.proofs.Common.{◌≡◌, ◌+◌, ◌≤◌, Some, [], ◌∷◌, ◌++◌, length, sym, arith, rules}
-use Rattle.cert_text.specs.Header.{front}
+use Rattle.document_text.specs.Header.{front}
 use Rattle.solved_text.specs.Logs.{head_in}
 use Rattle.solved_text.proofs.LogLemmas.{goes_ended, goes_no_head, goes_stopped, goes_whole, lines_fit}
 use Rattle.solved_text.proofs.logs.read_logs.Goals as goal

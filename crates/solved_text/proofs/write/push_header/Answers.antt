@@ -1,5 +1,5 @@
 use Rattle.std.proofs.Common.{rules}
-use Rattle.cert_text.specs.Lines.{kind_line}
+use Rattle.document_text.specs.Lines.{kind_line}
 use Rattle.solved_text.specs.Lines.{semantics_part, verdict_line, version_text}
 use Rattle.solved_text.proofs.WriteLemmas.{header_parts}
 use Rattle.solved_text.proofs.write.push_header.Goals as goal

@@ -2,7 +2,7 @@ use Rattle.std.proofs.Common.{◌≡◌, length, subst, arith}
 use Rattle.std.specs.Prelude.{Option, Some, None}
 use Rattle.machine_model.specs.declared.problems.Problem.{Problem}
 use Rattle.annotation_encode.specs.Count.{allowed_sizes}
-use Rattle.letter_word.specs.declared.kinds.Side.TheVariants.{System, Environment}
+use Rattle.letters_and_lassos.specs.declared.kinds.Side.TheVariants.{System, Environment}
 use Rattle.synth_engine.specs.declared.settings.Settings.{Settings}
 use Rattle.synth_engine.specs.Tasks.{AreTasks}
 use Rattle.synth_engine.specs.Settled.{FoundOrNot}

@@ -1,5 +1,5 @@
 use Rattle.std.proofs.Common.{◌≡◌, ◌+◌, ◌∷◌, [], length, ap, ◌∙◌}
-use Rattle.clause_base.specs.Codes.{decoded}
+use Rattle.propositional_logic.specs.Codes.{decoded}
 use Rattle.unit_propagate.proofs.ArenaLemmas.{pushed_result}
 use Rattle.unit_propagate.proofs.arena.push_single.Goals as goal
 

@@ -1,6 +1,6 @@
 use Rattle.std.proofs.Common.{◌≡◌, ◌≢◌, false, sym, ap, ◌∙◌, true≢false}
-use Rattle.clause_base.specs.Literal.{Literal, negated, literal_eq}
-use Rattle.clause_base.specs.Equality.{Decides-literal_eq}
+use Rattle.propositional_logic.specs.Literal.{Literal, negated, literal_eq}
+use Rattle.propositional_logic.specs.Equality.{Decides-literal_eq}
 use Rattle.unit_propagate.proofs.TrailLemmas.{free-no_literal}
 use Rattle.unit_propagate.proofs.FalsifierLemmas.{value_of}
 use Rattle.unit_propagate.proofs.propagator.falsifier.Goals as goal

@@ -1,5 +1,5 @@
 use Rattle.std.proofs.Common.{◌≡◌, ℕ, ◌<◌, ◌≤◌, Some, Contains, slice_get}
-use Rattle.clause_base.specs.Literal.{Literal, negated}
+use Rattle.propositional_logic.specs.Literal.{Literal, negated}
 use Rattle.unit_propagate.specs.Trail.{literals_of}
 use Rattle.unit_propagate.proofs.propagator.open_literal.Given as goal
 

@@ -1,5 +1,5 @@
 use Rattle.std.proofs.Common.{◌≢◌, All, Contains, take}
-use Rattle.clause_base.specs.Literal.{negated}
+use Rattle.propositional_logic.specs.Literal.{negated}
 use Rattle.unit_propagate.specs.Trail.{literals_of}
 use Rattle.unit_propagate.proofs.propagator.other_unfalsified.Given as goal
 

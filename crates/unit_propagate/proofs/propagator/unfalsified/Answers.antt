@@ -1,6 +1,6 @@
 use Rattle.std.proofs.Common.{Contains, subst, arith}
 use Rattle.std.proofs.lemmas.List.Elements.{All-more}
-use Rattle.clause_base.specs.Literal.{Literal, negated}
+use Rattle.propositional_logic.specs.Literal.{Literal, negated}
 use Rattle.unit_propagate.specs.Trail.{literals_of}
 use Rattle.unit_propagate.proofs.Places.{All-to_end}
 use Rattle.unit_propagate.proofs.propagator.unfalsified.Goals as goal

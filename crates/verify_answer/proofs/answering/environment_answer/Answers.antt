@@ -1,5 +1,5 @@
 use Rattle.std.proofs.lemmas.Result.{IfOk-weaker}
-use Rattle.letter_word.specs.declared.kinds.Side.TheVariants.{Environment}
+use Rattle.letters_and_lassos.specs.declared.kinds.Side.TheVariants.{Environment}
 use Rattle.program_replies.specs.Statuses.{status_number}
 use Rattle.verify_answer.specs.Answer.{EnvironmentAnswers, TestAnswers, of_text}
 use Rattle.verify_answer.proofs.answering.environment_answer.Goals as goal

@@ -1,5 +1,5 @@
 use Rattle.std.proofs.lemmas.Result.{IfOk-weaker}
-use Rattle.letter_word.specs.declared.kinds.Side.TheVariants.{System}
+use Rattle.letters_and_lassos.specs.declared.kinds.Side.TheVariants.{System}
 use Rattle.program_replies.specs.Statuses.{status_number}
 use Rattle.verify_answer.specs.Answer.{TestAnswers, VerifyAnswers, of_states}
 use Rattle.verify_answer.proofs.answering.system_answer.Goals as goal

@@ -1,6 +1,6 @@
 use Rattle.std.proofs.Common.{subst, sym}
 use Rattle.std.specs.Prelude.{IfOk}
-use Rattle.letter_word.specs.declared.kinds.Side.{Side}
+use Rattle.letters_and_lassos.specs.declared.kinds.Side.{Side}
 use Rattle.program_replies.specs.Statuses.{status_number}
 use Rattle.verify_answer.specs.Answer.{CircuitAnswers}
 use Rattle.verify_answer.proofs.answering.verify_answer.Goals as goal

@@ -1,5 +1,5 @@
 use Rattle.std.proofs.Common.{◌≡◌, None, sym, subst, ◌∙◌, rules}
-use Rattle.letter_word.specs.declared.kinds.Side.TheVariants.{System}
+use Rattle.letters_and_lassos.specs.declared.kinds.Side.TheVariants.{System}
 use Rattle.aiger_text.specs.CircuitFile.{File}
 use Rattle.document_check.specs.Shown.{facts_of}
 use Rattle.document_check.specs.FirstBad.{stated_line}

@@ -1,5 +1,5 @@
 use Rattle.std.proofs.Common.{subst}
-use Rattle.letter_word.specs.declared.kinds.Side.TheVariants.{System}
+use Rattle.letters_and_lassos.specs.declared.kinds.Side.TheVariants.{System}
 use Rattle.machine_model.specs.Automaton.{AutomatonModel}
 use Rattle.annot_check.specs.Valid.{IsValidPairList}
 use Rattle.aiger_text.specs.CircuitFile.{File}

@@ -1,6 +1,6 @@
 use Rattle.std.proofs.Common.{subst, sym}
 use Rattle.std.proofs.lemmas.Result.{IfOk-weaker}
-use Rattle.letter_word.specs.declared.kinds.Side.{Side}
+use Rattle.letters_and_lassos.specs.declared.kinds.Side.{Side}
 use Rattle.verify_answer.specs.Reply.{IsRefusedAnyway, IsRefusedFor}
 use Rattle.verify_answer.proofs.Tested.{environment_refused, system_refused}
 use Rattle.verify_answer.proofs.texts.refused_text.Goals as goal

@@ -1,7 +1,7 @@
 use Rattle.std.proofs.Common.{◌≡◌, List, ◌++◌, ◌∷◌, [], ap, ◌∙◌, sym, subst}
-use Rattle.clause_base.specs.Literal.{Literal}
-use Rattle.clause_base.specs.Clause.{IsWithin}
-use Rattle.clause_base.proofs.Rising.{no_tautology, rising_one}
+use Rattle.propositional_logic.specs.Literal.{Literal}
+use Rattle.propositional_logic.specs.Clause.{IsWithin}
+use Rattle.propositional_logic.proofs.Rising.{no_tautology, rising_one}
 use Rattle.annotation_encode.proofs.Rising.{none_bad}
 use Rattle.annotation_encode.proofs.clauses.Encoding.push_clause.Goals as goal
 

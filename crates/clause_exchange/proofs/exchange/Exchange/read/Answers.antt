@@ -1,7 +1,7 @@
 use Rattle.std.proofs.Common.{◌≡◌, List, OnOk, OnErr, sym, refl, ap, ◌∙◌, subst}
 use Rattle.refutation_log.specs.declared.entries.Entry.{Entry}
-use Rattle.text_base.specs.Prefix.{IsPrefix}
-use Rattle.text_base.proofs.PrefixLemmas.{IsPrefix-trans}
+use Rattle.names_and_numbers.specs.Prefix.{IsPrefix}
+use Rattle.names_and_numbers.proofs.PrefixLemmas.{IsPrefix-trans}
 use Rattle.clause_exchange.specs.SharedLog.{PassView}
 use Rattle.clause_exchange.specs.Steps.{Begins, idle, moved}
 use Rattle.clause_exchange.specs.Opening.{part_seen}

@@ -1,5 +1,5 @@
 use Rattle.std.proofs.Common.{false, subst}
-use Rattle.letter_word.specs.Word.{lasso_len}
+use Rattle.letters_and_lassos.specs.Word.{lasso_len}
 use Rattle.ltl_formula.specs.Truth.{release_at}
 use Rattle.lasso_eval.specs.Rows.{IsRow, row_truth}
 use Rattle.lasso_eval.proofs.RowFacts.{rows-like, release-same, IsRow-self}

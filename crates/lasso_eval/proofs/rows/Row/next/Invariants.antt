@@ -1,5 +1,5 @@
 use Rattle.lasso_eval.specs.Rows.{IsRow, row_truth}
-use Rattle.letter_word.specs.Word.{next}
+use Rattle.letters_and_lassos.specs.Word.{next}
 use Rattle.lasso_eval.proofs.rows.Row.next.Given as goal
 
 abbrev pub invariant-loop-i : goal.invariant-loop-i

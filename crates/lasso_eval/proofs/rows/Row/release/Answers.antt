@@ -1,6 +1,6 @@
 use Rattle.std.proofs.Common.{ap, subst, ◌∙◌}
 use Rattle.std.specs.Prelude.{not, IfOk}
-use Rattle.letter_word.specs.Word.{lasso_len}
+use Rattle.letters_and_lassos.specs.Word.{lasso_len}
 use Rattle.ltl_formula.specs.Truth.{release_at}
 use Rattle.lasso_eval.specs.Rows.{IsRow, row_truth}
 use Rattle.lasso_eval.proofs.RowFacts.{rows-like, until-same}

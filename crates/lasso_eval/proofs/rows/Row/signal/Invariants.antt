@@ -1,6 +1,6 @@
 use Rattle.lasso_eval.specs.Rows.{IsRow}
-use Rattle.letter_word.specs.Signals.{has}
-use Rattle.letter_word.specs.Word.{letter_at}
+use Rattle.letters_and_lassos.specs.Signals.{has}
+use Rattle.letters_and_lassos.specs.Word.{letter_at}
 use Rattle.lasso_eval.proofs.rows.Row.signal.Given as goal
 
 abbrev pub invariant-loop-i : goal.invariant-loop-i

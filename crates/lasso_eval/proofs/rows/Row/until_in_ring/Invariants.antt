@@ -1,5 +1,5 @@
 use Rattle.std.proofs.Common.{◌≡◌, ◌-◌, ◌≤◌, length}
-use Rattle.letter_word.specs.Word.{lasso_len}
+use Rattle.letters_and_lassos.specs.Word.{lasso_len}
 use Rattle.ltl_formula.specs.Truth.{until_within}
 use Rattle.lasso_eval.specs.Rows.{row_truth}
 use Rattle.lasso_eval.proofs.rows.Row.until_in_ring.Given as goal

@@ -1,5 +1,5 @@
 use Rattle.std.proofs.Common.{◌≡◌, ℕ, List, [], ◌∷◌, subst, sym, rules}
-use Rattle.clause_base.specs.Clause.{IsWithin}
+use Rattle.propositional_logic.specs.Clause.{IsWithin}
 use Rattle.machine_model.specs.declared.problems.Problem.{Problem}
 use Rattle.letter_clauses.specs.BaseClauses.{chain_clause}
 use Rattle.letter_clauses.specs.Variables.{variables_of}

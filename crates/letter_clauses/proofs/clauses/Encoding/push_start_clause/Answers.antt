@@ -1,6 +1,6 @@
 use Rattle.std.proofs.Common.{◌≡◌, List, OnOk, ◌∷◌, ◌++◌, [], ap, ◌∙◌, sym, subst}
-use Rattle.clause_base.specs.Clause.{IsWithin}
-use Rattle.clause_base.specs.Literal.{Literal}
+use Rattle.propositional_logic.specs.Clause.{IsWithin}
+use Rattle.propositional_logic.specs.Literal.{Literal}
 use Rattle.machine_model.specs.Automaton.{IsAutomaton}
 use Rattle.machine_model.specs.Problem.{automaton_of}
 use Rattle.annotation_encode.specs.BaseClauses.{is}

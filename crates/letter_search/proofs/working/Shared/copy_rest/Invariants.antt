@@ -1,7 +1,7 @@
 use Rattle.std.proofs.Common.{All}
-use Rattle.clause_base.specs.Clause.{IsWithin}
+use Rattle.propositional_logic.specs.Clause.{IsWithin}
 use Rattle.refutation_log.specs.declared.entries.Entry.{Entry}
-use Rattle.text_base.specs.Prefix.{IsPrefix}
+use Rattle.names_and_numbers.specs.Prefix.{IsPrefix}
 use Rattle.letter_search.proofs.working.Shared.copy_rest.Given as goal
 
 abbrev pub invariant-loop-i : goal.invariant-loop-i

@@ -1,5 +1,5 @@
 use Rattle.std.proofs.Common.{◌≡◌, drop}
-use Rattle.clause_base.specs.Partial.{is_falsified}
+use Rattle.propositional_logic.specs.Partial.{is_falsified}
 use Rattle.log_checker.proofs.marks.Marks.are_false.Given as goal
 
 abbrev pub invariant-loop-lit : goal.invariant-loop-lit

@@ -1,5 +1,5 @@
 use Rattle.std.proofs.Common.{◌≡◌, drop}
-use Rattle.clause_base.specs.Partial.{unfalsified}
+use Rattle.propositional_logic.specs.Partial.{unfalsified}
 use Rattle.log_checker.proofs.marks.Marks.next_unfalsified.Given as goal
 
 abbrev pub invariant-loop-i : goal.invariant-loop-i

@@ -1,5 +1,5 @@
 use Rattle.std.proofs.Common.{◌≡◌, drop, map}
-use Rattle.clause_base.specs.Literal.{negated}
+use Rattle.propositional_logic.specs.Literal.{negated}
 use Rattle.log_checker.proofs.marks.Marks.oppose.Given as goal
 
 abbrev pub invariant-loop-i : goal.invariant-loop-i

@@ -1,6 +1,6 @@
 use Rattle.std.specs.Prelude.{position}
 use Rattle.std.proofs.Common.{◌∙◌, ap}
-use Rattle.clause_base.specs.Clause.{clause_eq}
+use Rattle.propositional_logic.specs.Clause.{clause_eq}
 use Rattle.refutation_log.proofs.StateLemmas.{keys_are_clauses}
 use Rattle.refutation_log.proofs.state.LogState.place_of.Goals as goal
 

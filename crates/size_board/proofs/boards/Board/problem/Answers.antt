@@ -1,5 +1,5 @@
 use Rattle.std.proofs.Common.{IfSome, sym, subst}
-use Rattle.letter_word.specs.declared.kinds.Side.{Side}
+use Rattle.letters_and_lassos.specs.declared.kinds.Side.{Side}
 use Rattle.size_board.specs.Names.{IsProblemOn}
 use Rattle.size_board.proofs.Problems.{environment_on}
 use Rattle.size_board.proofs.boards.Board.problem.Goals as goal

@@ -4,7 +4,7 @@ use Rattle.refutation_log.specs.Entry.{clauses_of}
 use Rattle.refutation_log.specs.Log.{is_ended}
 use Rattle.refutation_log.specs.Teaches.{Teaches, entries_by}
 use Rattle.refutation_log.proofs.TeachLemmas.{teaches-own}
-use Rattle.text_base.specs.Prefix.{IsPrefix}
+use Rattle.names_and_numbers.specs.Prefix.{IsPrefix}
 use Rattle.clause_exchange.specs.SharedLog.{IsOffered, PassView}
 use Rattle.size_search.specs.Seat.{GoesOn}
 use Rattle.size_search.specs.Task.{SizeTaskModel, IsKept}

@@ -1,6 +1,6 @@
 use Rattle.std.proofs.Common.{◌≡◌, true, refl, sym, subst, ap, ◌∙◌}
 use Rattle.std.specs.Arc.{arc_value}
-use Rattle.clause_base.specs.declared.formula.Cnf.{Cnf}
+use Rattle.propositional_logic.specs.declared.formula.Cnf.{Cnf}
 use Rattle.machine_model.specs.Machine.{MachineModel}
 use Rattle.machine_model.specs.declared.problems.Problem.{Problem}
 use Rattle.refutation_log.specs.Log.{is_ended}

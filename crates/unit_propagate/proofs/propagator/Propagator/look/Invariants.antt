@@ -1,5 +1,5 @@
 use Rattle.std.proofs.Common.{◌≡◌, ◌≤◌, ◌-◌, length}
-use Rattle.clause_base.specs.Codes.{code_of}
+use Rattle.propositional_logic.specs.Codes.{code_of}
 use Rattle.unit_propagate.specs.Rows.{row_at}
 use Rattle.unit_propagate.specs.Propagator.{clauses_in, IsVisiting, Goes, Stays}
 use Rattle.unit_propagate.proofs.propagator.Propagator.look.Given as goal

@@ -1,6 +1,6 @@
 use Rattle.std.proofs.Common.{◌+◌, Some, refl, ap}
 use Rattle.std.proofs.lemmas.Option.{slice_get_within}
-use Rattle.clause_base.specs.Codes.{code_of}
+use Rattle.propositional_logic.specs.Codes.{code_of}
 use Rattle.unit_propagate.specs.Rows.{row_at}
 use Rattle.unit_propagate.specs.Propagator.{clauses_in}
 use Rattle.unit_propagate.proofs.PropagatorLemmas.{valueless, Goes-push, Goes-trans, Stays-same, Stays-trans, IsVisiting-push, stays_visiting, stays_goes, stays_stays, stays_row}

@@ -1,11 +1,11 @@
 use Rattle.std.proofs.Common.{◌≡◌, ◌<◌, ◌≤◌, ◌+◌, ◌∙◌, Some, Ok, slice_get, length, sym, ap, subst, Contains, arith}
 use Rattle.std.proofs.lemmas.Option.{slice_get_within}
-use Rattle.clause_base.specs.Literal.{Literal}
+use Rattle.propositional_logic.specs.Literal.{Literal}
 use Rattle.unit_propagate.specs.declared.marks.Mark.{Mark}
 use Rattle.unit_propagate.specs.Propagator.{IsVisited}
 use Rattle.unit_propagate.proofs.Places.{All-slice_get}
 use Rattle.unit_propagate.proofs.PropagatorLemmas.{Goes-trans, Goes-advance}
-use Rattle.clause_base.specs.Literal.{negated}
+use Rattle.propositional_logic.specs.Literal.{negated}
 use Rattle.unit_propagate.specs.Trail.{literals_of}
 use Rattle.unit_propagate.specs.Propagator.{clauses_in}
 use Rattle.unit_propagate.proofs.TrailLemmas.{at_place}

@@ -1,7 +1,7 @@
 use Rattle.std.proofs.Common.{length, sym}
 use Rattle.unit_propagate.specs.Trail.{literals_of}
 use Rattle.unit_propagate.specs.Propagator.{clauses_in}
-use Rattle.clause_base.specs.Clause.{IsWithin}
+use Rattle.propositional_logic.specs.Clause.{IsWithin}
 use Rattle.unit_propagate.proofs.Places.{All-slice_get}
 use Rattle.unit_propagate.proofs.PropagatorLemmas.{falsified_at}
 use Rattle.unit_propagate.proofs.StepLemmas.{list_fits}

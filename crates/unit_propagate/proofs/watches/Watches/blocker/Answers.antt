@@ -1,5 +1,5 @@
 use Rattle.std.proofs.Common.{sym}
-use Rattle.clause_base.specs.Codes.{code_of}
+use Rattle.propositional_logic.specs.Codes.{code_of}
 use Rattle.unit_propagate.proofs.NumberedLemmas.{blocker_shown}
 use Rattle.unit_propagate.proofs.watches.Watches.blocker.Goals as goal
 

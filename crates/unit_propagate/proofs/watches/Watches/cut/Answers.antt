@@ -1,4 +1,4 @@
-use Rattle.clause_base.specs.Codes.{code_of}
+use Rattle.propositional_logic.specs.Codes.{code_of}
 use Rattle.unit_propagate.proofs.NumberedLemmas.{Cuts-shown}
 use Rattle.unit_propagate.proofs.watches.Watches.cut.Goals as goal
 

@@ -1,4 +1,4 @@
-use Rattle.clause_base.specs.Codes.{code_of}
+use Rattle.propositional_logic.specs.Codes.{code_of}
 use Rattle.unit_propagate.proofs.NumberedLemmas.{Keeps-shown}
 use Rattle.unit_propagate.proofs.watches.Watches.keep.Goals as goal
 

@@ -1,7 +1,0 @@
-use Rattle.std.proofs.Common.{drop}
-use Rattle.clause_base.specs.Clause.{IsRisingFrom, IsClause}
-use Rattle.clause_base.proofs.clauses.is_rising.Given as goal
-
--- where the rest rises from the last variable seen, all of them rise
-abbrev pub invariant-loop-lit : goal.invariant-loop-lit
-invariant-loop-lit l = IsRisingFrom l.last (drop l.lit-index l.lits) → IsClause l.lits

@@ -1,7 +1,0 @@
-use Rattle.std.proofs.Common.{rules}
-use Rattle.std.proofs.lemmas.List.Sorted.{IsNonDecreasingBy-from_sort_by_key}
-use Rattle.clause_base.specs.Literal.{Literal}
-use Rattle.clause_base.proofs.clauses.sorted_by_variable.Goals as goal
-
-pub returns-clause-in_order : goal.returns-clause-in_order
-returns-clause-in_order c = IsNonDecreasingBy-from_sort_by_key (λ (l : Literal). l.var) _ c.sort_unstable_by_key.ensures.sorted (λ a r q k. search rules)

@@ -1,6 +1,0 @@
-use Rattle.std.proofs.Common.{[]}
-use Rattle.clause_base.proofs.Totals.{agrees, one_each}
-use Rattle.clause_base.proofs.laws.assignments_are_total.Goals as goal
-
-pub returns : goal.returns
-returns c = record { agrees = agrees []; one_each = one_each }

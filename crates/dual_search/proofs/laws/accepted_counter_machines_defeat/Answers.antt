@@ -1,5 +1,0 @@
-use Rattle.dual_search.proofs.Defeats.{accepted_counter_machines_defeat}
-use Rattle.dual_search.proofs.laws.accepted_counter_machines_defeat.Goals as goal
-
-pub returns : goal.returns
-returns c = accepted_counter_machines_defeat

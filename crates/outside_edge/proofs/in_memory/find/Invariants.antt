@@ -1,7 +1,0 @@
-use Rattle.std.proofs.Common.{◌≡◌, drop}
-use Rattle.outside_edge.specs.Files.{files_of}
-use Rattle.outside_edge.proofs.in_memory.find.Given as goal
-
--- no file so far has the name
-abbrev pub invariant-loop-file : goal.invariant-loop-file
-invariant-loop-file l = files_of (drop l.file-index l.files) l.name ≡ files_of l.files l.name

@@ -1,5 +1,0 @@
-use Rattle.unreal_core.proofs.CutMeaning.{cut_texts_mean}
-use Rattle.unreal_core.proofs.laws.cut_texts_mean.Goals as goal
-
-pub returns : goal.returns
-returns c = cut_texts_mean

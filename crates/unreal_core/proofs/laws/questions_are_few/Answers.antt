@@ -1,5 +1,0 @@
-use Rattle.unreal_core.proofs.Questions.{questions_are_few}
-use Rattle.unreal_core.proofs.laws.questions_are_few.Goals as goal
-
-pub returns : goal.returns
-returns c = questions_are_few

@@ -1,6 +1,0 @@
-use Rattle.std.proofs.Common.{◌≡◌, ◌++◌, drop}
-use Rattle.unreal_core.specs.Reduced.{kept}
-use Rattle.unreal_core.proofs.whole.kept.Given as goal
-
-abbrev pub invariant-loop-place : goal.invariant-loop-place
-invariant-loop-place l = kept l.keep l.ids ≡ l.list.items ++ kept (drop l.place l.keep) (drop l.place l.ids)
