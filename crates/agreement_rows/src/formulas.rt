@@ -1,6 +1,6 @@
 //! Formulas and lassos that are drawn.
 ghost use Rattle.std.specs.Prelude.{IfOk};
-ghost use Rattle.ltl_formula.specs.Nodes.{Stands};
+ghost use Rattle.ltl_formula.specs.Nodes.{IsNodeIn};
 
 use anyhow::{Context, bail};
 use letters_and_lassos::{Lasso, Letter};
@@ -31,7 +31,7 @@ fn node_of(operator: u32, a: FormulaId, b: FormulaId) -> Node {
 }
 
 fn add(formulas: &mut Formulas, node: Node) -> anyhow::Result<FormulaId>
-    ensures { IfOk result (λ id. Stands formulas.new id) }
+    ensures { IfOk result (λ id. IsNodeIn formulas.new id) }
 {
     if !formulas.can_add(node) {
         bail!("a part is missing");
@@ -48,7 +48,7 @@ fn add_drawn(
     random: &mut Pcg32,
     last: FormulaId,
 ) -> anyhow::Result<FormulaId>
-    ensures { IfOk result (λ id. Stands formulas.new id) }
+    ensures { IfOk result (λ id. IsNodeIn formulas.new id) }
 {
     let near = random.next_word() % 3;
     let far = random.next_word();
@@ -62,7 +62,7 @@ pub(crate) fn random_formula(
     formulas: &mut Formulas,
     random: &mut Pcg32,
 ) -> anyhow::Result<FormulaId>
-    ensures { IfOk result (λ id. Stands formulas.new id) }
+    ensures { IfOk result (λ id. IsNodeIn formulas.new id) }
 {
     add(formulas, Node::Signal(0))?;
     let mut last = add(formulas, Node::Signal(1))?;

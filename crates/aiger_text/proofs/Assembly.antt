@@ -15,7 +15,7 @@ use Rattle.aiger_text.specs.declared.symbols.Named.TheVariants.{AnInput, ALatch,
 use Rattle.aiger_text.specs.CircuitType.{IsCircuit, IsDefined, DependsOn, defined_literals, used_literals, gate_at}
 use Rattle.aiger_text.specs.CircuitText.{Symbol}
 use Rattle.aiger_text.specs.CircuitFile.{Draft, Parts, Names, Ending, defines, is_known, circuit_of, undefined_line, and_then, ending_from, with_symbol, symbol_in, named_at, lines_for, is_nil, Body, no_names, counts_in, header_of, circuit_parts, parts_of_lines, parts_behind, on_line, lines_of}
-use Rattle.aiger_text.specs.Sound.{InRange, IsOwn, IsSound, times_by, how_often}
+use Rattle.aiger_text.specs.Sound.{InRange, IsOwn, IsSoundDraft, times_by, how_often}
 use Rattle.aiger_text.specs.declared.counts.Counts.{Counts}
 use Rattle.aiger_text.specs.Words.{cut_at}
 use Rattle.aiger_text.specs.Walks.{HaveVariables}
@@ -33,7 +33,7 @@ all_operands P (g ∷ gates) lefts rights (suc zero) d h = rights 0 g (omega ari
 all_operands P (g ∷ gates) lefts rights (suc (suc k)) d h =
     all_operands P gates (λ i x hi. lefts (suc i) x (omega arith)) (λ i x hi. rights (suc i) x (omega arith)) k d (omega arith)
 
-module _ (p : Parts) (sound : IsSound p.draft) where
+module _ (p : Parts) (sound : IsSoundDraft p.draft) where
   abbrev d : Draft
   d = p.draft
 
@@ -130,7 +130,7 @@ ending_keeps names n (line ∷ next ∷ rest) e is =
     by false (Err fault) is first others = absurd (cc)
 
 -- gates of a sound draft have different variables
-pub have_variables : (d : Draft) → IsSound d → HaveVariables d.gates (d.counts.variables + 1)
+pub have_variables : (d : Draft) → IsSoundDraft d → HaveVariables d.gates (d.counts.variables + 1)
 have_variables d sound = record {
   room = λ k h. let within : (gate_at d.gates k).literal ≤ 2 * d.counts.variables + 1 = (sound.gates k no_gate h).own.within in omega arith;
   apart = λ i k less h e.

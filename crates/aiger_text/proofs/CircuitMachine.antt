@@ -25,7 +25,7 @@ use Rattle.aiger_text.specs.CircuitType.{IsCircuit, IsOrder}
 use Rattle.aiger_text.specs.Step.{HasValues}
 use Rattle.aiger_text.proofs.Putting.{no_latch}
 use Rattle.aiger_text.proofs.Bits.{bits_of, length-bits_of, get_or-bits_of, has-div, has-mod}
-use Rattle.letters_and_lassos.specs.Bits.{number_of}
+use Rattle.letters_and_lassos.specs.Bits.{binary_value}
 use Rattle.aiger_text.proofs.Valuations.{HasValuation, valuation_of}
 
 -- one of two values, and the other where the first flag is set
@@ -52,7 +52,7 @@ module _ (c : Circuit) where
   decode t = map (λ k. flipped (reset_at k) (has t k)) (range_with_len 0 (length c.latches))
 
   abbrev pub encode : List Bool → ℕ
-  encode bits = number_of (map (λ k. flipped (reset_at k) (get_or bits k false)) (range_with_len 0 (length c.latches)))
+  encode bits = binary_value (map (λ k. flipped (reset_at k) (get_or bits k false)) (range_with_len 0 (length c.latches)))
 
   pub length-decode : (t : ℕ) → length (decode t) ≡ length c.latches
   length-decode t = length-map-range_with_len (λ k. flipped (reset_at k) (has t k)) 0 (length c.latches)
@@ -88,7 +88,7 @@ module _ (c : Circuit) (circuit : IsCircuit c) (order : List ℕ) (sorted : IsOr
   abbrev row_on : ℕ → ℕ → Row
   row_on t a = record {
     next = encode c (map (λ (latch : Latch). literal_value (chosen a t).values latch.next) c.latches);
-    writes = number_of (output_values c (chosen a t).values);
+    writes = binary_value (output_values c (chosen a t).values);
   }
 
   abbrev row_at : ℕ → Row

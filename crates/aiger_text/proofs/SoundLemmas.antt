@@ -7,7 +7,7 @@ use Rattle.std.proofs.lemmas.List.Elements.{All-push, All-append, All-map, Conta
 use Rattle.aiger_text.specs.declared.circuits.Latch.{Latch}
 use Rattle.aiger_text.specs.declared.circuits.Gate.{Gate}
 use Rattle.aiger_text.specs.CircuitFile.{Draft, defines}
-use Rattle.aiger_text.specs.Sound.{InRange, IsOwn, IsOwnLatch, IsOwnGate, IsSound, times_by, how_often}
+use Rattle.aiger_text.specs.Sound.{InRange, IsOwn, IsOwnLatch, IsOwnGate, IsSoundDraft, times_by, how_often}
 
 -- counts of a longer list
 times-append : {X : Type 0} (f : X → ℕ) (v : ℕ) (xs ys : List X) → times_by f v (xs ++ ys) ≡ times_by f v xs + times_by f v ys
@@ -53,8 +53,8 @@ once_more d literal v new before = by (eqb (literal / 2) v) refl
         omega (arith, none)
     by false e = omega (arith, before)
 
-module _ (d : Draft) (sound : IsSound d) where
-  pub sound_input : (literal : ℕ) → IsOwn d.counts literal → defines d (literal / 2) ≡ false → length d.inputs < d.counts.inputs → IsSound (record d { inputs = d.inputs ++ literal ∷ [] })
+module _ (d : Draft) (sound : IsSoundDraft d) where
+  pub sound_input : (literal : ℕ) → IsOwn d.counts literal → defines d (literal / 2) ≡ false → length d.inputs < d.counts.inputs → IsSoundDraft (record d { inputs = d.inputs ++ literal ∷ [] })
   sound_input literal own new room = record {
     inputs = All-push (IsOwn d.counts) d.inputs literal sound.inputs own;
     latches = sound.latches;
@@ -69,7 +69,7 @@ module _ (d : Draft) (sound : IsSound d) where
     gate_count = sound.gate_count;
   }
 
-  pub sound_latch : (latch : Latch) → IsOwnLatch d.counts latch → defines d (latch.literal / 2) ≡ false → length d.latches < d.counts.latches → IsSound (record d { latches = d.latches ++ latch ∷ [] })
+  pub sound_latch : (latch : Latch) → IsOwnLatch d.counts latch → defines d (latch.literal / 2) ≡ false → length d.latches < d.counts.latches → IsSoundDraft (record d { latches = d.latches ++ latch ∷ [] })
   sound_latch latch own new room = record {
     inputs = sound.inputs;
     latches = All-push (IsOwnLatch d.counts) d.latches latch sound.latches own;
@@ -84,7 +84,7 @@ module _ (d : Draft) (sound : IsSound d) where
     gate_count = sound.gate_count;
   }
 
-  pub sound_output : (literal : ℕ) → InRange d.counts literal → IsSound (record d { outputs = d.outputs ++ literal ∷ [] })
+  pub sound_output : (literal : ℕ) → InRange d.counts literal → IsSoundDraft (record d { outputs = d.outputs ++ literal ∷ [] })
   sound_output literal range = record {
     inputs = sound.inputs;
     latches = sound.latches;
@@ -96,7 +96,7 @@ module _ (d : Draft) (sound : IsSound d) where
     gate_count = sound.gate_count;
   }
 
-  pub sound_gate : (gate : Gate) → IsOwnGate d.counts gate → defines d (gate.literal / 2) ≡ false → length d.gates < d.counts.gates → IsSound (record d { gates = d.gates ++ gate ∷ [] })
+  pub sound_gate : (gate : Gate) → IsOwnGate d.counts gate → defines d (gate.literal / 2) ≡ false → length d.gates < d.counts.gates → IsSoundDraft (record d { gates = d.gates ++ gate ∷ [] })
   sound_gate gate own new room = record {
     inputs = sound.inputs;
     latches = sound.latches;
@@ -147,7 +147,7 @@ found {X = X} f v (x ∷ xs) h = by (eqb (f x / 2) v) refl h (λ rest. found f v
         let within : r.0 < length xs = r.1.0 in
         (suc r.0, (omega arith, r.1.1))
 
-module _ (d : Draft) (sound : IsSound d) where
+module _ (d : Draft) (sound : IsSoundDraft d) where
   abbrev latch_literals : List ℕ
   latch_literals = map (λ (latch : Latch). latch.literal) d.latches
 

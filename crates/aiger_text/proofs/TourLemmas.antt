@@ -12,7 +12,7 @@ use Rattle.aiger_text.specs.declared.groups.Stage.TheVariants.{New, Open, Done}
 use Rattle.aiger_text.specs.CircuitType.{gate_at}
 use Rattle.aiger_text.specs.CircuitType.DependsOn.{through}
 use Rattle.aiger_text.specs.Walks.{Uses}
-use Rattle.aiger_text.specs.Groups.{IsTour, IsGreatest, IsDone, Leads, Cuts, Goes, stage_at, is_done, weight, left_to_do}
+use Rattle.aiger_text.specs.Groups.{IsTour, IsGreatest, IsDone, Leads, CutsGroup, Goes, stage_at, is_done, weight, left_to_do}
 use Rattle.aiger_text.proofs.WalkLemmas.{depends}
 use Rattle.aiger_text.proofs.GroupLemmas.{rises_push, last_greatest}
 
@@ -234,7 +234,7 @@ module _ (gates : List Gate) (stages : List Stage) (opened path starts : List �
         omega (arith, sum, three, length_push path n, length_push starts n)
 
   -- == groups are joined ==
-  module _ (t s p h : ℕ) (top : IsGreatest path t) (last : IsGreatest starts s) (fewer : List ℕ) (cuts : Cuts starts fewer p) (within : h < length gates)
+  module _ (t s p h : ℕ) (top : IsGreatest path t) (last : IsGreatest starts s) (fewer : List ℕ) (cuts : CutsGroup starts fewer p) (within : h < length gates)
       (uses : Uses gates (op t) h) (is : stage_at stages h ≡ Open p) (low : p < s) where
     named : op p ≡ h
     named = (tour.listed h p is).1

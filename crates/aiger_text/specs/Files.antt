@@ -5,7 +5,7 @@ use Rattle.aiger_text.specs.CircuitFile as file
 use Rattle.aiger_text.specs.CircuitFile.{circuit_parts}
 use Rattle.aiger_text.specs.Statements.{stated, IsMarked}
 use Rattle.aiger_text.specs.Labels.{shown_ending}
-use Rattle.aiger_text.specs.Sound.{IsSound}
+use Rattle.aiger_text.specs.Sound.{IsSoundDraft}
 
 abbrev pub shown_parts : Parts → file.Parts
 shown_parts p = record { draft = stated p.statements; ending = shown_ending p.ending }
@@ -14,7 +14,7 @@ shown_parts p = record { draft = stated p.statements; ending = shown_ending p.en
 pub record IsRead (bytes : List ℕ) (p : Parts) : Type 0 where
   pub parts : circuit_parts bytes ≡ Ok (shown_parts p)
   pub marked : IsMarked p.statements
-  pub sound : IsSound (stated p.statements)
+  pub sound : IsSoundDraft (stated p.statements)
   pub room : p.statements.counts.inputs + (p.statements.counts.latches + p.statements.counts.gates) ≤ p.statements.counts.variables
   pub input_names : length p.ending.labels.inputs.items ≡ length p.statements.inputs.items
   pub output_names : length p.ending.labels.outputs.items ≡ length p.statements.outputs.items

@@ -101,7 +101,7 @@ pub record Goes (old new : List Stage) : Type 0 where
   pub no_new : (k : ℕ) → stage_at new k ≡ New → stage_at old k ≡ New
 
 -- those of the starts that are at most this one
-pub record Cuts (old new : List ℕ) (most : ℕ) : Type 0 where
+pub record CutsGroup (old new : List ℕ) (most : ℕ) : Type 0 where
   pub from_old : (x : ℕ) → Contains new x → Contains old x
   pub stay : (x : ℕ) → Contains old x → x ≤ most → Contains new x
   pub at_most : (x : ℕ) → Contains new x → x ≤ most

@@ -34,7 +34,7 @@ abbrev pub how_often : Draft → ℕ → ℕ
 how_often d v = times_by (λ literal. literal) v d.inputs + (times_by (λ latch. latch.literal) v d.latches + times_by (λ gate. gate.literal) v d.gates)
 
 -- literals are in range, no variable is defined twice, and there are no more lines than the header counts
-pub record IsSound (d : Draft) : Type 0 where
+pub record IsSoundDraft (d : Draft) : Type 0 where
   pub inputs : All (IsOwn d.counts) d.inputs
   pub latches : All (IsOwnLatch d.counts) d.latches
   pub outputs : All (InRange d.counts) d.outputs

@@ -2,7 +2,7 @@
 
 ghost use Rattle.std.specs.Prelude.{◌≡◌, ◌+◌, ◌*◌, ◌/◌, ◌≤◌, [], OnOk, IfErr, IfOk, IfSome, Ok, length, false, ◌<◌};
 ghost use Rattle.aiger_text.specs.CircuitFile.{defines, definable_in, literal_in, latch_in, gate_in, with_input, with_latch, with_output, with_gate, with_line, and_then, is_whole, no_lines, body_from, lines_of};
-ghost use Rattle.aiger_text.specs.Sound.{IsSound, total};
+ghost use Rattle.aiger_text.specs.Sound.{IsSoundDraft, total};
 ghost use Rattle.aiger_text.specs.Statements.{stated, shown, IsMarked, IsFaultOf};
 
 use crate::circuits::{Gate, Latch};
@@ -29,7 +29,7 @@ impl Statements {
         requires { counts.variables ≤ 100000 }
         ensures none { IfOk result (λ s. stated s ≡ no_lines counts) }
         ensures marked { IfOk result IsMarked }
-        ensures sound { IfOk result (λ s. IsSound (stated s)) }
+        ensures sound { IfOk result (λ s. IsSoundDraft (stated s)) }
     {
         Ok(Statements {
             counts,
@@ -54,9 +54,9 @@ impl Statements {
 
     fn take_input(&mut self, number: u64, line: &[u8]) -> Result<(), CircuitFault>
         requires marked { IsMarked self.old }
-        requires sound { IsSound (stated self.old) }
+        requires sound { IsSoundDraft (stated self.old) }
         requires room { length self.old.inputs.items < self.old.counts.inputs }
-        ensures sound { OnOk result (IsSound (stated self.new)) }
+        ensures sound { OnOk result (IsSoundDraft (stated self.new)) }
         ensures counts { self.new.counts ≡ self.old.counts }
         ensures total { OnOk result (total (stated self.new) ≡ total (stated self.old) + 1) }
         ensures ok { OnOk result (with_input (stated self.old) number (definable_in self.old.counts line.now) ≡ Ok (stated self.new)) }
@@ -76,9 +76,9 @@ impl Statements {
 
     fn take_latch(&mut self, number: u64, line: &[u8]) -> Result<(), CircuitFault>
         requires marked { IsMarked self.old }
-        requires sound { IsSound (stated self.old) }
+        requires sound { IsSoundDraft (stated self.old) }
         requires room { length self.old.latches.items < self.old.counts.latches }
-        ensures sound { OnOk result (IsSound (stated self.new)) }
+        ensures sound { OnOk result (IsSoundDraft (stated self.new)) }
         ensures counts { self.new.counts ≡ self.old.counts }
         ensures total { OnOk result (total (stated self.new) ≡ total (stated self.old) + 1) }
         ensures ok { OnOk result (and_then (with_latch (stated self.old) number) (latch_in self.old.counts number line.now) ≡ Ok (stated self.new)) }
@@ -99,8 +99,8 @@ impl Statements {
 
     fn take_output(&mut self, number: u64, line: &[u8]) -> Result<(), CircuitFault>
         requires marked { IsMarked self.old }
-        requires sound { IsSound (stated self.old) }
-        ensures sound { OnOk result (IsSound (stated self.new)) }
+        requires sound { IsSoundDraft (stated self.old) }
+        ensures sound { OnOk result (IsSoundDraft (stated self.new)) }
         ensures counts { self.new.counts ≡ self.old.counts }
         ensures total { OnOk result (total (stated self.new) ≡ total (stated self.old) + 1) }
         ensures ok { OnOk result (with_output (stated self.old) number (literal_in self.old.counts line.now) ≡ Ok (stated self.new)) }
@@ -116,9 +116,9 @@ impl Statements {
 
     fn take_gate(&mut self, number: u64, line: &[u8]) -> Result<(), CircuitFault>
         requires marked { IsMarked self.old }
-        requires sound { IsSound (stated self.old) }
+        requires sound { IsSoundDraft (stated self.old) }
         requires room { length self.old.gates.items < self.old.counts.gates }
-        ensures sound { OnOk result (IsSound (stated self.new)) }
+        ensures sound { OnOk result (IsSoundDraft (stated self.new)) }
         ensures counts { self.new.counts ≡ self.old.counts }
         ensures total { OnOk result (total (stated self.new) ≡ total (stated self.old) + 1) }
         ensures ok { OnOk result (with_gate (stated self.old) number (gate_in self.old.counts line.now) ≡ Ok (stated self.new)) }
@@ -139,9 +139,9 @@ impl Statements {
     /// Takes the next line, which states an input, a latch, an output or a gate.
     fn take_line(&mut self, number: u64, line: &[u8]) -> Result<(), CircuitFault>
         requires marked { IsMarked self.old }
-        requires sound { IsSound (stated self.old) }
+        requires sound { IsSoundDraft (stated self.old) }
         requires wanted { is_whole (stated self.old) ≡ false }
-        ensures sound { OnOk result (IsSound (stated self.new)) }
+        ensures sound { OnOk result (IsSoundDraft (stated self.new)) }
         ensures counts { self.new.counts ≡ self.old.counts }
         ensures total { OnOk result (total (stated self.new) ≡ total (stated self.old) + 1) }
         ensures ok { OnOk result (with_line (stated self.old) number line.now ≡ Ok (stated self.new)) }
@@ -188,7 +188,7 @@ pub(crate) fn read_body(
     ensures ok { IfOk result (λ body. body_from (no_lines counts) 2 (lines_of text.now) ≡ Ok (shown body)) }
     ensures number { IfOk result (λ body. body.number + length body.rest.now ≤ length text.now + 2) }
     ensures marked { IfOk result (λ body. IsMarked body.statements) }
-    ensures sound { IfOk result (λ body. IsSound (stated body.statements)) }
+    ensures sound { IfOk result (λ body. IsSoundDraft (stated body.statements)) }
     ensures counts { IfOk result (λ body. body.statements.counts ≡ counts) }
     ensures total { IfOk result (λ body. total (stated body.statements) ≤ length text.now + 2) }
     ensures err { IfErr result (IsFaultOf (body_from (no_lines counts) 2 (lines_of text.now))) }

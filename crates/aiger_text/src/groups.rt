@@ -6,7 +6,7 @@ ghost use Rattle.aiger_text.specs.declared.groups.Stage.TheVariants.{New, Open, 
 ghost use Rattle.aiger_text.specs.declared.groups.Wish.TheVariants.{Nothing, Join};
 ghost use Rattle.aiger_text.specs.CircuitType.{gate_at};
 ghost use Rattle.aiger_text.specs.Walks.{Finds, Uses, IsOnCycle, IsFirstCycle};
-ghost use Rattle.aiger_text.specs.Groups.{IsFirstDone, IsTour, IsGreatest, IsDone, AtOperand, AtGate, Closes, Goes, Cuts, Rises, stage_at, left_to_do};
+ghost use Rattle.aiger_text.specs.Groups.{IsFirstDone, IsTour, IsGreatest, IsDone, AtOperand, AtGate, Closes, Goes, CutsGroup, Rises, stage_at, left_to_do};
 
 use crate::circuits::Gate;
 use crate::walks::gate_of;
@@ -136,7 +136,7 @@ fn last_of(numbers: &[usize]) -> Option<usize>
 /// Takes away the starts that are greater than a place.
 fn cut_starts(starts: &mut Vec<usize>, most: usize)
     requires { Rises starts.old.items }
-    ensures { Cuts starts.old.items starts.new.items most }
+    ensures { CutsGroup starts.old.items starts.new.items most }
 {
     while let Some(start) = last_of(starts) {
         if start <= most {

@@ -6,7 +6,7 @@ ghost use Rattle.aiger_text.specs.CircuitType.{DependsOn, IsCircuit, IsOrder};
 ghost use Rattle.aiger_text.specs.Walks.{Finds, IsFirstCycle};
 ghost use Rattle.aiger_text.specs.CircuitFile.{States, IsFirstFault, circuit_parts, no_names, undefined_line, gate_line_number, circuit_of, file_of};
 ghost use Rattle.aiger_text.specs.Statements.{stated, IsFaultOf};
-ghost use Rattle.aiger_text.specs.Sound.{IsSound, total};
+ghost use Rattle.aiger_text.specs.Sound.{IsSoundDraft, total};
 ghost use Rattle.aiger_text.specs.Labels.{named, HavePlaces};
 ghost use Rattle.aiger_text.specs.Files.{shown_parts, IsRead};
 
@@ -108,7 +108,7 @@ fn gate_line_number(statements: &Statements, gate: usize) -> u64
 
 /// The places of the gates in an order in which they can be worked out; refused at the first gate that depends on itself.
 fn gate_order(alloc: Global, statements: &Statements) -> Result<Vec<usize>, CircuitFault>
-    requires sound { IsSound (stated statements.now) }
+    requires sound { IsSoundDraft (stated statements.now) }
     requires size { statements.now.counts.variables ≤ 100000 }
     requires lines { total (stated statements.now) < 2 ^ 64 }
     ensures order { IfOk result (λ order. IsOrder statements.now.gates.items order.items) }

@@ -5,7 +5,7 @@ use Rattle.std.proofs.lemmas.Bool.{cases_lt}
 use Rattle.std.proofs.lemmas.Nat.{div-mul-add, mod-mul-add, pow-add, pow_pos}
 use Rattle.letters_and_lassos.specs.declared.kinds.Side.{Side}
 use Rattle.letters_and_lassos.specs.declared.kinds.Side.TheVariants.{System, Environment}
-use Rattle.letters_and_lassos.specs.Bits.{number_of}
+use Rattle.letters_and_lassos.specs.Bits.{binary_value}
 use Rattle.letters_and_lassos.specs.Signals.{has}
 use Rattle.letters_and_lassos.proofs.Bits.{has-number_of, number_of-lt}
 use Rattle.aiger_text.specs.Circuit.{Circuit, first_read, first_written}
@@ -40,23 +40,23 @@ pub record HasParts (side : Side) (c : Circuit) (letter read : ℕ) (written : L
   pub within : letter < 2 ^ (length c.inputs + length c.outputs)
 
 pub whole_parts : (side : Side) (c : Circuit) (read : ℕ) (written : List Bool) → read < 2 ^ length c.inputs → length written ≡ length c.outputs
-    → HasParts side c (whole_of side c read (number_of written)) read written
+    → HasParts side c (whole_of side c read (binary_value written)) read written
 whole_parts System c read written small count =
-    let few : number_of written < 2 ^ length c.outputs = subst (λ n. number_of written < 2 ^ n) count (number_of-lt written) in
+    let few : binary_value written < 2 ^ length c.outputs = subst (λ n. binary_value written < 2 ^ n) count (number_of-lt written) in
     record {
-      reads = λ k h. from_none (whole_of System c read (number_of written)) k ∙ has-low (length c.inputs) (length c.outputs) read (number_of written) small few k h;
-      writes = λ k h. has-high (length c.inputs) (length c.outputs) read (number_of written) small few k ∙ has-number_of written k (rw count h);
-      within = both-lt (length c.inputs) (length c.outputs) read (number_of written) small few;
+      reads = λ k h. from_none (whole_of System c read (binary_value written)) k ∙ has-low (length c.inputs) (length c.outputs) read (binary_value written) small few k h;
+      writes = λ k h. has-high (length c.inputs) (length c.outputs) read (binary_value written) small few k ∙ has-number_of written k (rw count h);
+      within = both-lt (length c.inputs) (length c.outputs) read (binary_value written) small few;
     }
 whole_parts Environment c read written small count =
-    let few : number_of written < 2 ^ length c.outputs = subst (λ n. number_of written < 2 ^ n) count (number_of-lt written) in
+    let few : binary_value written < 2 ^ length c.outputs = subst (λ n. binary_value written < 2 ^ n) count (number_of-lt written) in
     let turned : length c.outputs + length c.inputs ≡ length c.inputs + length c.outputs = omega arith in
     record {
-      reads = λ k h. has-high (length c.outputs) (length c.inputs) (number_of written) read few small k;
+      reads = λ k h. has-high (length c.outputs) (length c.inputs) (binary_value written) read few small k;
       writes = λ k h.
-          from_none (whole_of Environment c read (number_of written)) k
-          ∙ has-low (length c.outputs) (length c.inputs) (number_of written) read few small k h ∙ has-number_of written k (rw count h);
-      within = subst (λ n. whole_of Environment c read (number_of written) < 2 ^ n) turned (both-lt (length c.outputs) (length c.inputs) (number_of written) read few small);
+          from_none (whole_of Environment c read (binary_value written)) k
+          ∙ has-low (length c.outputs) (length c.inputs) (binary_value written) read few small k h ∙ has-number_of written k (rw count h);
+      within = subst (λ n. whole_of Environment c read (binary_value written) < 2 ^ n) turned (both-lt (length c.outputs) (length c.inputs) (binary_value written) read few small);
     }
 
 -- what is read of a letter has the letter's signals

@@ -9,8 +9,8 @@ use Rattle.std.proofs.lemmas.List.Elements.{Contains-append_left, Contains-push,
 use Rattle.annot_check.specs.declared.pairs.Pair.{Pair}
 use Rattle.annot_check.specs.declared.numbers.Place.{Place}
 use Rattle.annot_check.specs.Place.{same_code}
-use Rattle.annot_check.specs.Pairs.{Stands}
-use Rattle.annot_check.specs.Numbers.{Adds, AtLeast, Knows, place_eq, place_of}
+use Rattle.annot_check.specs.Pairs.{PairStands}
+use Rattle.annot_check.specs.Numbers.{Adds, AtLeast, Knows, place_eq, pair_place}
 
 place_of_parts : (p q : Place) → p.code ≡ q.code → p.state ≡ q.state → p ≡ q
 place_of_parts p q e f = λ i. record { code = e i; state = f i }
@@ -31,46 +31,46 @@ pub place_itself : (p : Place) → place_eq p p ≡ true
 place_itself p = itself_parts p
 
 -- the numbers with that of one pair more
-module _ (old new : Place → Option ℕ) (pair : Pair) (number : ℕ) (own : pair.number ≤ number) (over : IfSome (old (place_of pair)) (λ n. n ≤ number))
-    (one_of : (number ≡ pair.number) ⊎ (old (place_of pair) ≡ Some number))
-    (puts : (q : Place) → new q ≡ cond (place_eq (place_of pair) q) (Some number) (old q)) where
+module _ (old new : Place → Option ℕ) (pair : Pair) (number : ℕ) (own : pair.number ≤ number) (over : IfSome (old (pair_place pair)) (λ n. n ≤ number))
+    (one_of : (number ≡ pair.number) ⊎ (old (pair_place pair) ≡ Some number))
+    (puts : (q : Place) → new q ≡ cond (place_eq (pair_place pair) q) (Some number) (old q)) where
   -- at the place itself
-  here : new (place_of pair) ≡ Some number
-  here = puts (place_of pair) ∙ ap (λ b. cond b (Some number) (old (place_of pair))) (place_itself (place_of pair))
+  here : new (pair_place pair) ≡ Some number
+  here = puts (pair_place pair) ∙ ap (λ b. cond b (Some number) (old (pair_place pair))) (place_itself (pair_place pair))
 
-  kept_here : (least : ℕ) → AtLeast (old (place_of pair)) least → least ≤ number
-  kept_here least h = by (old (place_of pair)) over h
+  kept_here : (least : ℕ) → AtLeast (old (pair_place pair)) least → least ≤ number
+  kept_here least h = by (old (pair_place pair)) over h
     where
       by : (o : Option ℕ) → IfSome o (λ n. n ≤ number) → AtLeast o least → least ≤ number
       by None le h = absurd h
       by (Some n) le h = omega (arith, le, h)
 
-  from_here : (least : ℕ) → least ≤ number → AtLeast (old (place_of pair)) least ⊎ (least ≤ pair.number)
+  from_here : (least : ℕ) → least ≤ number → AtLeast (old (pair_place pair)) least ⊎ (least ≤ pair.number)
   from_here least h = elim one_of [
     | inl is ↦ inr (omega arith)
     | inr there ↦ inl (subst (λ o. AtLeast o least) (sym there) h)
   ]
 
   kept : (q : Place) (least : ℕ) → AtLeast (old q) least → AtLeast (new q) least
-  kept q least h = by (place_eq (place_of pair) q) refl
+  kept q least h = by (place_eq (pair_place pair) q) refl
     where
-      by : (b : Bool) → place_eq (place_of pair) q ≡ b → AtLeast (new q) least
+      by : (b : Bool) → place_eq (pair_place pair) q ≡ b → AtLeast (new q) least
       by true e =
-          let one : place_of pair ≡ q = same_place (place_of pair) q e in
+          let one : pair_place pair ≡ q = same_place (pair_place pair) q e in
           subst (λ p. AtLeast (new p) least) one (subst (λ o. AtLeast o least) (sym here) (kept_here least (subst (λ p. AtLeast (old p) least) (sym one) h)))
       by false e = subst (λ o. AtLeast o least) (sym (puts q ∙ ap (λ b. cond b (Some number) (old q)) e)) h
 
-  added : (q : Place) (least : ℕ) → q ≡ place_of pair → least ≤ pair.number → AtLeast (new q) least
+  added : (q : Place) (least : ℕ) → q ≡ pair_place pair → least ≤ pair.number → AtLeast (new q) least
   added q least one le =
       let enough : least ≤ number = (omega arith) in
       subst (λ p. AtLeast (new p) least) (sym one) (subst (λ o. AtLeast o least) (sym here) enough)
 
-  no_other : (q : Place) (least : ℕ) → AtLeast (new q) least → AtLeast (old q) least ⊎ ((q ≡ place_of pair) × (least ≤ pair.number))
-  no_other q least h = by (place_eq (place_of pair) q) refl
+  no_other : (q : Place) (least : ℕ) → AtLeast (new q) least → AtLeast (old q) least ⊎ ((q ≡ pair_place pair) × (least ≤ pair.number))
+  no_other q least h = by (place_eq (pair_place pair) q) refl
     where
-      by : (b : Bool) → place_eq (place_of pair) q ≡ b → AtLeast (old q) least ⊎ ((q ≡ place_of pair) × (least ≤ pair.number))
+      by : (b : Bool) → place_eq (pair_place pair) q ≡ b → AtLeast (old q) least ⊎ ((q ≡ pair_place pair) × (least ≤ pair.number))
       by true e =
-          let one : place_of pair ≡ q = same_place (place_of pair) q e in
+          let one : pair_place pair ≡ q = same_place (pair_place pair) q e in
           elim (from_here least (subst (λ o. AtLeast o least) here (subst (λ p. AtLeast (new p) least) (sym one) h))) [
             | inl there ↦ inl (subst (λ p. AtLeast (old p) least) one there)
             | inr le ↦ inr (sym one, le)
@@ -84,7 +84,7 @@ module _ (old new : Place → Option ℕ) (pair : Pair) (number : ℕ) (own : pa
 pub knows_push : (old new : Place → Option ℕ) (pairs : List Pair) (pair : Pair) → Knows old pairs → Adds old new pair → Knows new (pairs ++ pair ∷ [])
 knows_push old new pairs pair knows adds = record {
   finds = λ q least h. elim (adds.no_other q least h) [
-    | inl before ↦ (let s : Stands pairs q.code q.state least = knows.finds q least before in
+    | inl before ↦ (let s : PairStands pairs q.code q.state least = knows.finds q least before in
         record { pair = s.pair; among = Contains-append_left pairs (pair ∷ []) s.pair s.among; code_is = s.code_is; state_is = s.state_is; enough = s.enough })
     | inr own ↦ record {
       pair = pair;

@@ -11,7 +11,7 @@ use Rattle.aiger_text.proofs.Scanning.{cuts, no_cut}
 use Rattle.annot_check.specs.declared.pairs.Pair.{Pair}
 use Rattle.annot_check.specs.declared.numbers.Place.{Place}
 use Rattle.annot_check.specs.Pairs.{Listed}
-use Rattle.annot_check.specs.Numbers.{place_eq, place_of}
+use Rattle.annot_check.specs.Numbers.{place_eq, pair_place}
 use Rattle.annot_check.specs.AnnotationText.{Headed, behind_head, count_of, head_from, is_taken, list_behind, listed_in, pair_in, pairs_in, pieces_of, reading_of}
 use Rattle.annot_check.specs.Readings.{is_held, next_of}
 
@@ -142,11 +142,11 @@ any_map : {X Y : Type 0} (f : Y → Bool) (g : X → Y) (xs : List X) → list_a
 any_map f g [] = refl
 any_map f g (x ∷ xs) = ap (λ b. f (g x) || b) (any_map f g xs)
 
-pub taken_is : (pair : Pair) (pairs : List Pair) (keys : List Place) → keys ≡ map place_of pairs → is_held pair keys ≡ is_taken pair pairs
-taken_is pair pairs keys is = ap (list_any (place_eq (place_of pair))) is ∙ any_map (place_eq (place_of pair)) place_of pairs
+pub taken_is : (pair : Pair) (pairs : List Pair) (keys : List Place) → keys ≡ map pair_place pairs → is_held pair keys ≡ is_taken pair pairs
+taken_is pair pairs keys is = ap (list_any (place_eq (pair_place pair))) is ∙ any_map (place_eq (pair_place pair)) pair_place pairs
 
 -- a line that states no pair, one whose place isn't free, and one that is taken
-module _ (latches states : ℕ) (line : List ℕ) (pairs : List Pair) (keys : List Place) (keyed : keys ≡ map place_of pairs) where
+module _ (latches states : ℕ) (line : List ℕ) (pairs : List Pair) (keys : List Place) (keyed : keys ≡ map pair_place pairs) where
   next_is : (pair : Pair) (b : Bool) → pair_in latches states line ≡ Some pair → is_held pair keys ≡ b
       → next_of latches states pairs line ≡ (if b then None else Some (pairs ++ pair ∷ []))
   next_is pair b some held =

@@ -20,7 +20,7 @@ use Rattle.annot_check.specs.declared.steps.Reaction.{Reaction}
 use Rattle.annot_check.specs.declared.steps.Reactions.{Reactions}
 use Rattle.annot_check.specs.Place.{same_code}
 use Rattle.annot_check.specs.Steps.{AreReactions, GivesInputs, IsReaction, read_of, whole_of}
-use Rattle.letters_and_lassos.specs.Bits.{number_of}
+use Rattle.letters_and_lassos.specs.Bits.{binary_value}
 use Rattle.letters_and_lassos.proofs.Bits.{same_number, number_of-lt}
 use Rattle.annot_check.specs.Valid.{Goes}
 use Rattle.annot_check.proofs.Letters.{HasParts, each_signal, read_signals, whole_parts}
@@ -32,7 +32,7 @@ module _ (side : Side) (c : Circuit) (circuit : IsCircuit c) (agree : Valuations
     (inputs : (k : ℕ) → k < length c.inputs → get_or before.inputs k false ≡ has read k)
     (latches : before.latches ≡ code) (step : IsStep c before after) where
   abbrev letter : ℕ
-  letter = whole_of side c read (number_of after.outputs)
+  letter = whole_of side c read (binary_value after.outputs)
 
   outputs-length : length after.outputs ≡ length c.outputs
   outputs-length = ap (λ (xs : List Bool). length xs) step.writes ∙ length-map c.outputs (literal_value step.values)
@@ -155,14 +155,14 @@ set_all old now code n count all g =
     g.same ∙ ap (λ (xs : List Bool). (let t : StateModel = record old { latches = xs } in t)) one
 
 -- a number of few bits is small
-pub small_number : (bits : List Bool) (k n : ℕ) → length bits < 17 → n ≡ number_of (drop k bits) → n < 65536
+pub small_number : (bits : List Bool) (k n : ℕ) → length bits < 17 → n ≡ binary_value (drop k bits) → n < 65536
 small_number bits k n few is =
-    let less : number_of (drop k bits) < 2 ^ length (drop k bits) = number_of-lt (drop k bits) in
+    let less : binary_value (drop k bits) < 2 ^ length (drop k bits) = number_of-lt (drop k bits) in
     let short : length (drop k bits) ≤ 16 = (let d : length (drop k bits) ≡ length bits - k = length-drop k bits in omega (arith, d, few)) in
     let most : 2 ^ length (drop k bits) ≤ 2 ^ 16 = pow_mono short in
     omega (arith, is, less, most)
 
-pub whole_number : (bits : List Bool) (k n count : ℕ) → length bits ≡ count → k ≤ 0 → n ≡ number_of (drop k bits) → n < 2 ^ count
+pub whole_number : (bits : List Bool) (k n count : ℕ) → length bits ≡ count → k ≤ 0 → n ≡ binary_value (drop k bits) → n < 2 ^ count
 whole_number bits zero n count is low same = subst (λ m. n < 2 ^ m) is (rw same (number_of-lt bits))
 whole_number bits (suc k) n count is low same = absurd (omega arith)
 

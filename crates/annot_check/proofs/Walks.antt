@@ -11,13 +11,13 @@ use Rattle.machine_model.specs.Accepts.{Accepts, Path}
 use Rattle.aiger_text.specs.declared.circuits.Latch.{Latch}
 use Rattle.aiger_text.specs.Circuit.{Circuit, Valuation, IsCircuitRun, latch_values, literal_value}
 use Rattle.annot_check.specs.declared.pairs.Pair.{Pair}
-use Rattle.annot_check.specs.Pairs.{Stands, weight}
+use Rattle.annot_check.specs.Pairs.{PairStands, weight}
 use Rattle.annot_check.specs.Valid.{Goes, IsValidPairList, KeepsRule}
 use Rattle.annot_check.specs.Laws.{ValidListsShow}
 use Rattle.annot_check.proofs.Lists.{map-All, All-Contains, Contains-sum}
 
 -- a number that is enough for more is enough
-pub Stands-less : (pairs : List Pair) (code : List Bool) (state more less : ℕ) → less ≤ more → Stands pairs code state more → Stands pairs code state less
+pub Stands-less : (pairs : List Pair) (code : List Bool) (state more less : ℕ) → less ≤ more → PairStands pairs code state more → PairStands pairs code state less
 Stands-less pairs code state more less le s = record {
   pair = s.pair;
   among = s.among;
@@ -27,7 +27,7 @@ Stands-less pairs code state more less le s = record {
 }
 
 -- no number passes the sum of all
-pub Stands-bounded : (pairs : List Pair) (code : List Bool) (state least : ℕ) → Stands pairs code state least → least ≤ sum_by (λ (p : Pair). p.number) pairs
+pub Stands-bounded : (pairs : List Pair) (code : List Bool) (state least : ℕ) → PairStands pairs code state least → least ≤ sum_by (λ (p : Pair). p.number) pairs
 Stands-bounded pairs code state least s =
     let enough : least ≤ s.pair.number = s.enough in
     let bound : s.pair.number ≤ sum_by (λ (p : Pair). p.number) pairs = Contains-sum (λ (p : Pair). p.number) pairs s.pair s.among in
@@ -52,8 +52,8 @@ module _ (side : Side) (c : Circuit) (w : Word) (values : ℕ → Valuation) (ru
 
 -- and of such a step and an edge, from a pair that stands
 pub Stands-step : (side : Side) (c : Circuit) (kind : Kind) (a : AutomatonModel) (pairs : List Pair) → IsValidPairList side c kind a pairs
-    → (code after : List Bool) (letter : Letter) (q r least : ℕ) → Goes side c code letter after → Stands pairs code q least → HasEdge a letter q r
-    → Stands pairs after r (least + weight a r)
+    → (code after : List Bool) (letter : Letter) (q r least : ℕ) → Goes side c code letter after → PairStands pairs code q least → HasEdge a letter q r
+    → PairStands pairs after r (least + weight a r)
 Stands-step side c kind a pairs valid code after letter q r least goes at edge =
     let from : HasEdge a letter at.pair.state r = subst (λ s. HasEdge a letter s r) (sym at.state_is) edge in
     let move : Goes side c at.pair.code letter after = subst (λ (x : List Bool). Goes side c x letter after) (sym at.code_is) goes in
@@ -65,7 +65,7 @@ module _ (side : Side) (c : Circuit) (kind : Kind) (a : AutomatonModel) (pairs :
     (w : Word) (values : ℕ → Valuation) (run : IsCircuitRun side c w values) where
   -- the pair of the latches at a position and of a state stands
   abbrev At : ℕ → ℕ → ℕ → Type 0
-  At i q least = Stands pairs (latch_values c (values i)) q least
+  At i q least = PairStands pairs (latch_values c (values i)) q least
 
   inside : (i : ℕ) → i < lasso_len w → next w i < lasso_len w
   inside i h = next_within w i run.lasso.ring h
@@ -92,7 +92,7 @@ module _ (side : Side) (c : Circuit) (kind : Kind) (a : AutomatonModel) (pairs :
   start : At 0 0 0
   start =
       Stands-less pairs (latch_values c (values 0)) 0 (weight a 0) 0 (omega arith)
-      (subst (λ (code : List Bool). Stands pairs code 0 (weight a 0)) (resets side c w values run) valid.start)
+      (subst (λ (code : List Bool). PairStands pairs code 0 (weight a 0)) (resets side c w values run) valid.start)
 
   module _ (accepted : Accepts a w) where
     counts : weight a accepted.state ≡ 1

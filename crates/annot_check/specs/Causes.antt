@@ -9,7 +9,7 @@ use Rattle.aiger_text.specs.Circuit.{Circuit}
 use Rattle.annot_check.specs.declared.pairs.Pair.{Pair}
 use Rattle.annot_check.specs.declared.faults.AnnotFault.{AnnotFault}
 use Rattle.annot_check.specs.declared.faults.AnnotFault.TheVariants.{NoMemory, BadLine, NoStart, NotMoore, Broken}
-use Rattle.annot_check.specs.Pairs.{Stands, weight}
+use Rattle.annot_check.specs.Pairs.{PairStands, weight}
 use Rattle.annot_check.specs.Valid.{Goes, KeepsRule, LeadsToInput, StartStands, WritesByLatches}
 
 -- the circuit and the automaton go from the pair to one that doesn't stand, or with too small a number
@@ -19,7 +19,7 @@ pub record BreaksRule (side : Side) (c : Circuit) (a : AutomatonModel) (pairs : 
   pub state : ℕ
   pub goes : Goes side c pair.code letter next
   pub edge : HasEdge a letter pair.state state
-  pub missing : Stands pairs next state (pair.number + weight a state) → ⊥
+  pub missing : PairStands pairs next state (pair.number + weight a state) → ⊥
 
 -- the first output whose literal leads to an input
 pub record IsFirstByInput (c : Circuit) (o : ℕ) : Type 0 where

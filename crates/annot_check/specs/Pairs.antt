@@ -10,7 +10,7 @@ pub record Listed : Type 0 where
   pub head_line : ℕ
 
 -- the pair of these latch values and this state stands, with a number of at least `least`
-pub record Stands (pairs : List Pair) (code : List Bool) (state least : ℕ) : Type 0 where
+pub record PairStands (pairs : List Pair) (code : List Bool) (state least : ℕ) : Type 0 where
   pub pair : Pair
   pub among : Contains pairs pair
   pub code_is : pair.code ≡ code

@@ -10,7 +10,7 @@ use Rattle.annot_check.specs.declared.reading.PairLines.{PairLines}
 use Rattle.annot_check.specs.declared.reading.Taken.{Taken}
 use Rattle.annot_check.specs.Pairs.{Listed}
 use Rattle.annot_check.specs.AnnotationText.{Headed, is_taken, listed_in, pair_in, pieces_of}
-use Rattle.annot_check.specs.Numbers.{place_eq, place_of}
+use Rattle.annot_check.specs.Numbers.{place_eq, pair_place}
 
 -- the refusals of a text
 abbrev pub IsReadFault : AnnotFault → Type 0
@@ -34,9 +34,9 @@ next_of latches states done line = option_and_then (λ pair. if is_taken pair do
 
 -- whether the place of a pair is among these
 abbrev pub is_held : Pair → List Place → Bool
-is_held pair places = list_any (place_eq (place_of pair)) places
+is_held pair places = list_any (place_eq (pair_place pair)) places
 
 -- the places are those of the pairs, whose codes are of so many latches
 pub record IsIndexed (latches : ℕ) (taken : Taken) : Type 0 where
-  pub keys : taken.places.keys ≡ map place_of taken.pairs.items
+  pub keys : taken.places.keys ≡ map pair_place taken.pairs.items
   pub codes : All (λ (pair : Pair). length pair.code ≡ latches) taken.pairs.items

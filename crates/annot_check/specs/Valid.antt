@@ -9,7 +9,7 @@ use Rattle.machine_model.specs.Automaton.{AutomatonModel, HasEdge}
 use Rattle.aiger_text.specs.declared.circuits.Gate.{Gate}
 use Rattle.aiger_text.specs.Circuit.{Circuit, Valuation, AreSignals, GatesAgree, first_read, first_written, latch_values, literal_value}
 use Rattle.annot_check.specs.declared.pairs.Pair.{Pair}
-use Rattle.annot_check.specs.Pairs.{Stands, weight}
+use Rattle.annot_check.specs.Pairs.{PairStands, weight}
 
 -- With these values of its latches the circuit, which plays this side, reads the letter's signals of its inputs and writes those of its
 -- outputs, and the latches then have the values `next`. The letter has no other signal.
@@ -24,13 +24,13 @@ pub record Goes (side : Side) (c : Circuit) (code : List Bool) (letter : Letter)
 
 -- the start: the pair of the resets and of state 0 stands, and its number counts that state where it is rejecting
 abbrev pub StartStands : Circuit → AutomatonModel → List Pair → Type 0
-StartStands c a pairs = Stands pairs (map (λ latch. latch.reset) c.latches) 0 (weight a 0)
+StartStands c a pairs = PairStands pairs (map (λ latch. latch.reset) c.latches) 0 (weight a 0)
 
 -- Wherever the circuit and the automaton go from a pair, the pair that they reach stands; its number isn't below the one that they
 -- come from, and is above it where the state is rejecting.
 pub record KeepsRule (side : Side) (c : Circuit) (a : AutomatonModel) (pairs : List Pair) (pair : Pair) : Type 0 where
   pub rule : (letter : Letter) (next : List Bool) (state : ℕ) → Goes side c pair.code letter next → HasEdge a letter pair.state state
-      → Stands pairs next state (pair.number + weight a state)
+      → PairStands pairs next state (pair.number + weight a state)
 
 -- a variable leads to an input where it is one, or a gate with an operand that leads to one
 pub data LeadsToInput (c : Circuit) : ℕ → Type 0 where

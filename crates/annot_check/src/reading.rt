@@ -4,7 +4,7 @@ ghost use Rattle.std.specs.Prelude.{◌≡◌, ◌==◌, ◌||◌, ◌+◌, ◌-
 ghost use Rattle.annot_check.specs.declared.pairs.Pair.{Pair as APair};
 ghost use Rattle.annot_check.specs.declared.faults.AnnotFault.TheVariants.{BadLine};
 ghost use Rattle.annot_check.specs.AnnotationText.{IsFirstBadAnnotationLine, StatesPairs, behind_head, head_from, pairs_in, pieces_of, reading_of};
-ghost use Rattle.annot_check.specs.Numbers.{place_of};
+ghost use Rattle.annot_check.specs.Numbers.{pair_place};
 ghost use Rattle.annot_check.specs.Readings.{IsIndexed, IsReadFault, headed_of, is_held, left_of, next_of};
 
 use crate::faults::AnnotFault;
@@ -149,7 +149,7 @@ impl Taken {
 /// Adds the place of a pair, and says whether it is new.
 fn insert_place(places: &mut IndexSet<Place>, pair: &Pair) -> Result<bool, AllocError>
     ensures new { IfOk result (λ new. new ≡ not (is_held pair.now places.old.keys)) }
-    ensures keys { OnOk result (places.new.keys ≡ (if is_held pair.now places.old.keys then places.old.keys else places.old.keys ++ place_of pair.now ∷ [])) }
+    ensures keys { OnOk result (places.new.keys ≡ (if is_held pair.now places.old.keys then places.old.keys else places.old.keys ++ pair_place pair.now ∷ [])) }
 {
     let new = places.insert(Place::of(pair)?)?;
     Ok(new)

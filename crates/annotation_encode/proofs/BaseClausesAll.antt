@@ -7,7 +7,7 @@ use Rattle.std.proofs.lemmas.List.Elements.{All-append, All-cons, All-contains, 
 use Rattle.std.proofs.lemmas.Bool.{cond-true, cond-false}
 use Rattle.propositional_logic.proofs.Members.{Contains-head, Contains-later}
 use Rattle.propositional_logic.specs.Literal.{Literal}
-use Rattle.propositional_logic.specs.Clause.{IsWithin}
+use Rattle.propositional_logic.specs.Clause.{IsWithinVariables}
 use Rattle.machine_model.specs.Automaton.{IsAutomaton, JoinsStates, states_of}
 use Rattle.machine_model.specs.Problem.{IsProblem, automaton_of, counts_locally, numbers_states}
 use Rattle.machine_model.specs.declared.automata.Edge.{Edge}
@@ -142,8 +142,8 @@ kinds_hold p P all = record {
 }
 
 -- no variable passes the number of variables
-pub base_within : (p : Problem) → IsProblem p → IsAutomaton (automaton_of p) → All (IsWithin (variables_of p)) (base_clauses p)
-base_within p problem made = all_base p (IsWithin (variables_of p)) (record {
+pub base_within : (p : Problem) → IsProblem p → IsAutomaton (automaton_of p) → All (IsWithinVariables (variables_of p)) (base_clauses p)
+base_within p problem made = all_base p (IsWithinVariables (variables_of p)) (record {
   rows = λ place h. (row-rises p place h).within;
   start = (start-rises p problem made).within;
   steps = λ e t i to c there ht hi fits hto busy hc.

@@ -22,7 +22,7 @@ use Rattle.machine_model.specs.Course.{letter_of}
 use Rattle.machine_model.specs.Machine.{IsMachine, MachineModel, next_of, size_of, writes_of}
 use Rattle.machine_model.specs.Problem as looked_for
 use Rattle.machine_model.specs.Problem.{IsMachineOf, IsProblem, NamesSignals, automaton_of, numbers_states, reads_of}
-use Rattle.machine_model.specs.Run.{joined}
+use Rattle.machine_model.specs.Run.{joined_letter}
 use Rattle.machine_model.specs.declared.automata.Edge.{Edge}
 use Rattle.machine_model.specs.declared.machines.Row.{Row}
 use Rattle.machine_model.specs.declared.problems.Problem.{Problem}
@@ -76,7 +76,7 @@ writes_same System a b = refl
 writes_same Environment a b = refl
 
 pub joined_same : (side : Side) (m : MachineModel) (inputs outputs read written : ℕ) → m.reads ≡ reads_at side inputs outputs → m.writes ≡ writes_at side inputs outputs
-    → joined_at side inputs outputs read written ≡ joined side m read written
+    → joined_at side inputs outputs read written ≡ joined_letter side m read written
 joined_same System m inputs outputs read written r w = ap (λ n. written * 2 ^ n + read) (sym r)
 joined_same Environment m inputs outputs read written r w = ap (λ n. read * 2 ^ n + written) (sym w)
 

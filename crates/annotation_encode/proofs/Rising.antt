@@ -2,15 +2,15 @@
 use Rattle.std.proofs.Common.{◌≡◌, ℕ, zero, suc, ◌+◌, ◌<◌, ◌≤◌, List, [], ◌∷◌, ◌++◌, get_or, ap, subst, arith}
 use Rattle.std.proofs.lemmas.List.Elements.{All-append}
 use Rattle.propositional_logic.specs.Literal.{Literal}
-use Rattle.propositional_logic.specs.Clause.{HasBadVariable, IsRisingFrom, IsWithin}
+use Rattle.propositional_logic.specs.Clause.{HasBadVariable, IsRisingFrom, IsWithinVariables}
 use Rattle.annotation_encode.specs.BaseClauses.{each_below}
 
 -- the variables rise above `low`, and none passes `high`
 pub record Rises (low high : ℕ) (lits : List Literal) : Type 0 where
   pub rising : IsRisingFrom low lits
-  pub within : IsWithin high lits
+  pub within : IsWithinVariables high lits
 
-none_within : (high : ℕ) → IsWithin high []
+none_within : (high : ℕ) → IsWithinVariables high []
 none_within high k d h = absurd (omega arith)
 
 pub Rises-none : (low high : ℕ) → Rises low high []
@@ -19,7 +19,7 @@ Rises-none low high = record { rising = tt; within = none_within high }
 pub Rises-one : (low high : ℕ) (l : Literal) → low < l.var → l.var ≤ high → Rises low high (l ∷ [])
 Rises-one low high l from to = record { rising = (from, tt); within = one }
   where
-    one : IsWithin high (l ∷ [])
+    one : IsWithinVariables high (l ∷ [])
     one zero d h = to
     one (suc k) d h = absurd (omega arith)
 
@@ -27,13 +27,13 @@ rising_lower : (low mid : ℕ) (lits : List Literal) → low ≤ mid → IsRisin
 rising_lower low mid [] h r = tt
 rising_lower low mid (l ∷ ls) h r = let from : mid < l.var = r.0 in (omega (arith, from, h), r.1)
 
-within_higher : (mid high : ℕ) (lits : List Literal) → mid ≤ high → IsWithin mid lits → IsWithin high lits
+within_higher : (mid high : ℕ) (lits : List Literal) → mid ≤ high → IsWithinVariables mid lits → IsWithinVariables high lits
 within_higher mid high lits h w k d less = let at = w k d less in omega (arith, at, h)
 
 pub Rises-wider : (low low' high high' : ℕ) (lits : List Literal) → low' ≤ low → high ≤ high' → Rises low high lits → Rises low' high' lits
 Rises-wider low low' high high' lits a b r = record { rising = rising_lower low' low lits a r.rising; within = within_higher high high' lits b r.within }
 
-rising_join : (low mid : ℕ) (xs ys : List Literal) → low ≤ mid → IsRisingFrom low xs → IsWithin mid xs → IsRisingFrom mid ys → IsRisingFrom low (xs ++ ys)
+rising_join : (low mid : ℕ) (xs ys : List Literal) → low ≤ mid → IsRisingFrom low xs → IsWithinVariables mid xs → IsRisingFrom mid ys → IsRisingFrom low (xs ++ ys)
 rising_join low mid [] ys h rx wx ry = rising_lower low mid ys h ry
 rising_join low mid (x ∷ xs) ys h rx wx ry =
     let first : x.var ≤ mid = wx 0 x (omega arith) in
@@ -64,7 +64,7 @@ Rises-each_below n f at steps each = (go n (λ k h. steps k h) (λ k h. each k h
 pub Rises-pair : (low high : ℕ) (a b : Literal) → low < a.var → a.var < b.var → b.var ≤ high → Rises low high (a ∷ b ∷ [])
 Rises-pair low high a b x y z = Rises-append low a.var high (a ∷ []) (b ∷ []) (omega arith) (omega arith) (Rises-one low a.var a x (omega arith)) (Rises-one a.var high b y z)
 
-pub none_bad : (vars : ℕ) (lits : List Literal) → IsWithin vars lits → HasBadVariable vars lits → ⊥
+pub none_bad : (vars : ℕ) (lits : List Literal) → IsWithinVariables vars lits → HasBadVariable vars lits → ⊥
 none_bad vars lits within (k, l, h, e, above) =
     let at : (get_or lits k l).var ≤ vars = within k l h in
     let same : (get_or lits k l).var ≡ l.var = ap (λ (x : Literal). x.var) e in

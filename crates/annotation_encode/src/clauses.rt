@@ -1,6 +1,6 @@
 ghost use Rattle.std.specs.Prelude.{◌≡◌, ◌+◌, ◌-◌, ◌*◌, ◌^◌, ◌<◌, ◌≤◌, ◌++◌, ◌∷◌, [], IfOk, OnOk};
 ghost use Rattle.std.specs.List.{flat_map};
-ghost use Rattle.propositional_logic.specs.Clause.{IsClause, IsFormula, IsWithin};
+ghost use Rattle.propositional_logic.specs.Clause.{IsClause, IsFormula, IsWithinVariables};
 ghost use Rattle.machine_model.specs.Automaton.{JoinsStates, states_of};
 ghost use Rattle.machine_model.specs.Problem.{IsProblem, automaton_of, reads_of, writes_of};
 ghost use Rattle.product_bound.specs.Annotation.{bound_at, number_after, start_number};
@@ -69,7 +69,7 @@ impl Encoding<'_> {
     fn push_clause(&self, lits: &[Lit], clauses: &mut Vec<Clause>) -> Result<(), AllocError>
         requires problem { IsProblem self.now.numbering.problem.now }
         requires clause { IsClause lits.now }
-        requires within { IsWithin (variables_of self.now.numbering.problem.now) lits.now }
+        requires within { IsWithinVariables (variables_of self.now.numbering.problem.now) lits.now }
         ensures { OnOk result (clauses.new.items ≡ clauses.old.items ++ lits.now ∷ []) }
     {
         match Clause::new(self.alloc, self.numbering.variables(), lits) {

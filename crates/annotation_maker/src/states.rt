@@ -1,7 +1,7 @@
 //! States of a formula's automaton, named by what they are, as they are met.
 
 ghost use Rattle.std.specs.Prelude.{◌≡◌, All, true};
-ghost use Rattle.ltl_formula.specs.Nodes.{Stands};
+ghost use Rattle.ltl_formula.specs.Nodes.{IsNodeIn};
 
 use crate::stops::{Limit, Stop};
 use cobuchi_build::{State, untils_of};
@@ -150,7 +150,7 @@ fn covers_of(alloc: Global, formulas: &Formulas, set: &ObligationSet) -> Result<
 
 /// Whether all these formulas are in the list.
 fn all_stand(formulas: &Formulas, ids: &[FormulaId]) -> bool
-    ensures { result ≡ true → All (Stands formulas.now) ids.now }
+    ensures { result ≡ true → All (IsNodeIn formulas.now) ids.now }
 {
     ids.iter().all(|id| (id.0 as usize) < formulas.len())
 }

@@ -4,7 +4,7 @@ use Rattle.std.specs.Prelude.{Option, Some, None, codes, decimal}
 use Rattle.std.specs.List.{flat_map}
 use Rattle.std.proofs.lemmas.List.{append_assoc, take-append-drop}
 use Rattle.spec_faults.specs.declared.code.SpecCode.{SpecCode}
-use Rattle.spec_faults.specs.Codes.{name_of, number_of}
+use Rattle.spec_faults.specs.Codes.{name_of, code_number}
 use Rattle.program_replies.specs.Lines.{refusal_line}
 use Rattle.document_text.specs.Parts.{Document}
 use Rattle.document_text.specs.Lines.{body_text, end_text, header_text, part_text}
@@ -22,7 +22,7 @@ lines_behind (x ∷ y ∷ front) byte bytes are = lines_behind (y ∷ front) byt
 
 refusal_is_lines : (code : SpecCode) (position : ℕ) → AreLines (refusal_line code position)
 refusal_is_lines code position =
-    lines_behind (codes "refused " ++ decimal (number_of code) ++ codes " " ++ name_of code ++ codes " at " ++ decimal position) 10 [] refl
+    lines_behind (codes "refused " ++ decimal (code_number code) ++ codes " " ++ name_of code ++ codes " at " ++ decimal position) 10 [] refl
 
 body_is_lines : (front : List ℕ) (d : Document) → AreLines (front ++ body_text d)
 body_is_lines front d =

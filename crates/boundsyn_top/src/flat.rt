@@ -2,7 +2,7 @@
 ghost use Rattle.std.specs.Prelude.{◌≡◌, ◌≢◌, ℕ, List, None, IfOk, length};
 ghost use Rattle.text_limits.specs.declared.TheConstants.{SMALL_LIMITS};
 ghost use Rattle.flat_answer.specs.Lasso.{LassoAnswers};
-ghost use Rattle.ltl_formula.specs.Nodes.{Stands};
+ghost use Rattle.ltl_formula.specs.Nodes.{IsNodeIn};
 ghost use Rattle.tlsf_expand.specs.FewSignals.{HasFewSignals};
 ghost use Rattle.flat_text.specs.FlatOf.{IsFlatFault, IsFlatOf};
 ghost use Rattle.program_replies.specs.Statuses.{status_number};
@@ -93,7 +93,7 @@ fn told<H: Shelf>(
     word: &str,
 ) -> Result<Reply, AllocError>
     requires few { HasFewSignals SMALL_LIMITS (length flat.now.inputs.items) (length flat.now.outputs.items) flat.now.formulas }
-    requires stands { Stands flat.now.formulas flat.now.whole }
+    requires stands { IsNodeIn flat.now.formulas flat.now.whole }
     ensures reply { (text : List ℕ) → IsFlatOf SMALL_LIMITS text None (spec_seen flat.now) → HasNone (IsFlatFault SMALL_LIMITS text None)
         → IfOk result (λ r. RepliesByFile (step_of H.files H.faults shelf.old shelf.new) word.now
         (HasNone (IsFlatFault SMALL_LIMITS text None)) (λ code place. ⊥) (λ lines. LassoAnswers text lines r.bytes.items (status_number r.status)) r.bytes.items (status_number r.status)) }

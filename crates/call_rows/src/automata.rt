@@ -1,6 +1,6 @@
 //! How large the automata of a text are, over plain covers and over reduced ones.
 ghost use Rattle.ltl_formula.specs.NormalForm.{IsNormal};
-ghost use Rattle.ltl_formula.specs.Nodes.{Stands, tree_at};
+ghost use Rattle.ltl_formula.specs.Nodes.{IsNodeIn, tree_at};
 
 use crate::lines::Lines;
 use crate::push_fault;
@@ -19,7 +19,7 @@ fn push_automaton(
     f: FormulaId,
     covering: Covering,
 ) -> Result<(), AllocError>
-    requires stands { Stands formulas.now f }
+    requires stands { IsNodeIn formulas.now f }
     requires normal { IsNormal (tree_at formulas.now f) }
 {
     let line = match build(lines.alloc, formulas, f, covering, SMALL_LIMITS.automaton) {
@@ -43,7 +43,7 @@ fn push_side(
     formulas: &Formulas,
     f: FormulaId,
 ) -> Result<(), AllocError>
-    requires stands { Stands formulas.now f }
+    requires stands { IsNodeIn formulas.now f }
     requires normal { IsNormal (tree_at formulas.now f) }
 {
     push_automaton(lines, side, formulas, f, Covering::Plain)?;

@@ -30,7 +30,7 @@ use Rattle.satisfaction.specs.Wanted.{Says, Wanted}
 use Rattle.document_text.specs.declared.documents.Verdict.{Verdict}
 use Rattle.document_text.specs.declared.order.Order.{Order}
 use Rattle.document_text.specs.declared.order.Order.TheVariants.{UpTo, AnyUpTo}
-use Rattle.document_text.specs.Order.{order_of, place_of}
+use Rattle.document_text.specs.Order.{order_of, log_place}
 use Rattle.document_text.specs.Parts.{Document, LogPart}
 use Rattle.document_text.specs.States.{States}
 use Rattle.document_check.specs.Facts.{Facts, allowed_at, counting_for, for_side, problem_at, sizes_to, wanted_sizes}
@@ -72,10 +72,10 @@ module _ (system environment : ℕ) (few_systems : system ≤ 8) (few_environmen
   wanted_fit (UpTo side count) = smaller_fit side count (for_side side system environment) (few_for side)
   wanted_fit (AnyUpTo max) = all_fit
 
-logs_fit : (logs : List LogPart) → All IsSize (map place_of logs) → All (λ l. IsSize (place_of l)) logs
-logs_fit [] all = All-nil (λ l. IsSize (place_of l))
+logs_fit : (logs : List LogPart) → All IsSize (map log_place logs) → All (λ l. IsSize (log_place l)) logs
+logs_fit [] all = All-nil (λ l. IsSize (log_place l))
 logs_fit (l ∷ logs) all =
-    All-cons (λ l. IsSize (place_of l)) l logs (All-head IsSize (place_of l) (map place_of logs) all) (logs_fit logs (All-tail IsSize (place_of l) (map place_of logs) all))
+    All-cons (λ l. IsSize (log_place l)) l logs (All-head IsSize (log_place l) (map log_place logs) all) (logs_fit logs (All-tail IsSize (log_place l) (map log_place logs) all))
 
 -- == each log of a list ==
 
@@ -207,12 +207,12 @@ module _ (text : List ℕ) (t : TextProblems) (k : Context text t) where
 
     logs_refuted : All (λ l. is_ended l.entries ≡ true → HasNoMachine (wanted_with d.kind) l.side l.size) d.logs
     logs_refuted =
-        all_three (λ l. IsSize (place_of l)) (HoldsAt given d.kind d.version (may_be_full d.verdict) d.entries)
+        all_three (λ l. IsSize (log_place l)) (HoldsAt given d.kind d.version (may_be_full d.verdict) d.entries)
         (λ l. is_ended l.entries ≡ true → Refuted (problem_at given d.kind d.version l.side l.size))
         (λ l. is_ended l.entries ≡ true → HasNoMachine (wanted_with d.kind) l.side l.size)
         (λ l size log refuted ended. no_machine d.kind d.version l.size size.some size.few (may_be_full d.verdict) d.entries l l.side log (refuted ended))
         d.logs
-        (logs_fit d.logs (All-same IsSize (map place_of d.logs) (wanted_sizes (order_of d.version d.verdict d.max d.found) systems_allowed environments_allowed) holds.sizes
+        (logs_fit d.logs (All-same IsSize (map log_place d.logs) (wanted_sizes (order_of d.version d.verdict d.max d.found) systems_allowed environments_allowed) holds.sizes
         (wanted_fit systems_allowed environments_allowed (few_allowed System) (few_allowed Environment) (order_of d.version d.verdict d.max d.found))))
         (each_holds given d.kind d.version (may_be_full d.verdict) d.entries d.logs holds.logs)
         (each_refutes given d.kind d.version d.logs (k.refute given d holds))

@@ -14,7 +14,7 @@ use Rattle.document_text.specs.declared.documents.Verdict.{Verdict}
 use Rattle.document_text.specs.declared.documents.Verdict.TheVariants.{Machine, Unknown}
 use Rattle.document_text.specs.Parts.{LogPart}
 use Rattle.document_text.specs.declared.order.Place.{Place}
-use Rattle.document_text.specs.Order.{may_tell_found, order_found, order_of, place, place_of}
+use Rattle.document_text.specs.Order.{may_tell_found, order_found, order_of, place, log_place}
 use Rattle.document_text.specs.WellFormed.{IsFoundNumber}
 use Rattle.document_check.specs.Facts.{Facts, for_side, problem_at, sizes_to, wanted_sizes}
 use Rattle.document_check.specs.Holds.{HoldsAt, IsLogOfSome, is_allowed, may_be_full}
@@ -42,11 +42,11 @@ module _ (x : Wanted) (given : Facts) (kind : Kind) (version : ℕ) (limit : Opt
   HasNone size = HasNoMachine x size.side size.size
 
   -- where each log must be closed, the sizes of all are without a machine
-  each_none : (sizes : List Place) → map place_of logs ≡ sizes → All (HoldsAt given kind version false limit) logs → All HasNone sizes
+  each_none : (sizes : List Place) → map log_place logs ≡ sizes → All (HoldsAt given kind version false limit) logs → All HasNone sizes
   each_none sizes are holds =
-      All-same HasNone sizes (map place_of logs) (sym are)
-      (All-map HasNone place_of logs
-      (all_both (HoldsAt given kind version false limit) (λ l. is_ended l.entries ≡ true → HasNoMachine x l.side l.size) (λ l. HasNone (place_of l))
+      All-same HasNone sizes (map log_place logs) (sym are)
+      (All-map HasNone log_place logs
+      (all_both (HoldsAt given kind version false limit) (λ l. is_ended l.entries ≡ true → HasNoMachine x l.side l.size) (λ l. HasNone (log_place l))
       (λ l log none. none (ended limit l (problem_at given kind version l.side l.size) log)) logs holds refuted))
 
   below : (side : Side) (n most k : ℕ) → n ≤ most → 0 < k → k < n → Contains (sizes_to side (min (n - 1) most)) (place side k)
@@ -55,20 +55,20 @@ module _ (x : Wanted) (given : Facts) (kind : Kind) (version : ℕ) (limit : Opt
       let high : k ≤ most = omega (arith, less, allowed) in
       has_size side (min (n - 1) most) k some (le-min low high)
 
-  pub says_of_sizes : (v : Verdict) → IsFoundNumber (may_tell_found version v) max found → map place_of logs ≡ wanted_sizes (order_of version v max found) system environment
+  pub says_of_sizes : (v : Verdict) → IsFoundNumber (may_tell_found version v) max found → map log_place logs ≡ wanted_sizes (order_of version v max found) system environment
       → All (HoldsAt given kind version (may_be_full v) limit) logs → IsTrue (is_allowed v system environment) → SaysOfSizes x version system environment v
   says_of_sizes (Machine side n true) none are holds allowed = λ yes_is k some less.
       let most : ℕ = for_side side system environment in
       let sizes : List Place = sizes_to side (min (n - 1) most) in
       All-contains HasNone sizes (place side k)
-      (each_none sizes (subst (λ (b : Bool). map place_of logs ≡ sizes_to side (min (if b then n - 1 else 0) most)) yes_is are) holds)
+      (each_none sizes (subst (λ (b : Bool). map log_place logs ≡ sizes_to side (min (if b then n - 1 else 0) most)) yes_is are) holds)
       (below side n most k (leb-true n most allowed) some less)
   says_of_sizes (Machine side n false) none are holds allowed = tt
   says_of_sizes (Unknown None) none are holds allowed =
       let systems : List Place = sizes_to System system in
       let environments : List Place = sizes_to Environment environment in
       let all : All HasNone (systems ++ environments)
-      = each_none (systems ++ environments) (subst (λ n. map place_of logs ≡ wanted_sizes (order_found max n) system environment) none are) holds in (
+      = each_none (systems ++ environments) (subst (λ n. map log_place logs ≡ wanted_sizes (order_found max n) system environment) none are) holds in (
         (λ k some most. All-contains HasNone (systems ++ environments) (place System k) all (Contains-append_left systems environments (place System k) (has_size System system k some most))),
         (λ k some most. All-contains HasNone (systems ++ environments) (place Environment k) all (Contains-append_right systems environments (place Environment k) (has_size Environment environment k some most))),
       )

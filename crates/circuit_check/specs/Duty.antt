@@ -4,7 +4,7 @@ use Rattle.letters_and_lassos.specs.declared.kinds.Kind.{Kind}
 use Rattle.letters_and_lassos.specs.declared.kinds.Side.{Side}
 use Rattle.ltl_formula.specs.declared.nodes.FormulaId.{FormulaId}
 use Rattle.ltl_formula.specs.declared.nodes.Node.{Node}
-use Rattle.ltl_formula.specs.Nodes.{IsNodeList, Stands, tree_at}
+use Rattle.ltl_formula.specs.Nodes.{IsNodeList, IsNodeIn, tree_at}
 use Rattle.ltl_formula.specs.NormalForm.{IsNormal}
 use Rattle.circuit_names.specs.Names.{Names, names_of}
 use Rattle.circuit_check.specs.declared.duty.Duty.{Duty}
@@ -30,7 +30,7 @@ owed_by duty = record {
 -- the formula stands in the list, in normal form, and the signals are few
 pub record IsReady (owed : Owed) : Type 0 where
   pub list : IsNodeList owed.nodes
-  pub stands : Stands owed.nodes owed.form
+  pub stands : IsNodeIn owed.nodes owed.form
   pub normal : IsNormal (tree_at owed.nodes owed.form)
   pub few_inputs : length owed.names.inputs < 17
   pub few_outputs : length owed.names.outputs < 17

@@ -12,12 +12,12 @@ use Rattle.circuit_check.specs.Duty.{Owed}
 use Rattle.circuit_check.specs.FirstBad.{Annotates, IsCauseFor, IsFirstBad, IsValidFor, cause_line}
 
 -- an output or a pair that a cause names is there
-abbrev pub IsWithin : File → Named → AnnotFault → Type 0
-IsWithin file named NoMemory = ⊤
-IsWithin file named (BadLine n) = ⊥
-IsWithin file named NoStart = ⊤
-IsWithin file named (NotMoore o) = o < length file.circuit.outputs
-IsWithin file named (Broken j) = j < length named.list.pairs
+abbrev pub IsFaultWithinFile : File → Named → AnnotFault → Type 0
+IsFaultWithinFile file named NoMemory = ⊤
+IsFaultWithinFile file named (BadLine n) = ⊥
+IsFaultWithinFile file named NoStart = ⊤
+IsFaultWithinFile file named (NotMoore o) = o < length file.circuit.outputs
+IsFaultWithinFile file named (Broken j) = j < length named.list.pairs
 
 -- the pairs can be checked for the circuit, and the lines have numbers
 pub record CanBeTested (file : File) (named : Named) : Type 0 where

@@ -7,7 +7,7 @@ ghost use Rattle.annot_check.specs.declared.faults.AnnotFault.TheVariants.{BadLi
 ghost use Rattle.document_text.specs.Reading.{fault_line as line_of_fault};
 ghost use Rattle.circuit_check.specs.Duty.{IsReady, owed_by};
 ghost use Rattle.circuit_check.specs.FirstBad.{HasComment, cause_line as line_of_cause, output_line as line_of_output};
-ghost use Rattle.circuit_check.specs.Parts.{CanBeTested, IsFoundOf, IsToldOf, IsWithin};
+ghost use Rattle.circuit_check.specs.Parts.{CanBeTested, IsFoundOf, IsToldOf, IsFaultWithinFile};
 
 use crate::duty::Duty;
 use crate::forms::comment_of;
@@ -171,7 +171,7 @@ fn cause_line(
     named: &NamedAnnotation,
     fault: AnnotFault,
 ) -> Result<u64, AllocError>
-    requires within { IsWithin file.now named.now fault }
+    requires within { IsFaultWithinFile file.now named.now fault }
     requires tested { CanBeTested file.now named.now }
     ensures line { IfOk result (λ line. line ≡ line_of_cause file.now named.now fault) }
     ensures some { IfOk result (λ _. fault ≢ AnnotFault.NoMemory) }

@@ -10,7 +10,7 @@ use Rattle.letters_and_lassos.specs.declared.kinds.Kind.TheVariants.{Mealy}
 use Rattle.letters_and_lassos.specs.declared.kinds.Side.{Side}
 use Rattle.letters_and_lassos.specs.declared.kinds.Side.TheVariants.{Environment, System}
 use Rattle.letters_and_lassos.specs.declared.letters.Letter.{Letter}
-use Rattle.letters_and_lassos.specs.Bits.{number_of}
+use Rattle.letters_and_lassos.specs.Bits.{binary_value}
 use Rattle.letters_and_lassos.specs.Signals.{has}
 use Rattle.letters_and_lassos.specs.Word.{Word, lasso_len, letter_at, next}
 use Rattle.letters_and_lassos.proofs.Bits.{has-none, has-number_of, number_of-lt, same_number}
@@ -96,7 +96,7 @@ module _ (c : Circuit) (circuit : IsCircuit c) (order : List ℕ) (sorted : IsOr
   abbrev pub row_on : ℕ → ℕ → Row
   row_on t a = record {
     next = encode c (map (λ (latch : Latch). literal_value (chosen a t).values latch.next) c.latches);
-    writes = number_of (output_values c (chosen a t).values);
+    writes = binary_value (output_values c (chosen a t).values);
   }
 
   -- its states are the codes of all values of the latches

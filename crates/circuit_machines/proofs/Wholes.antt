@@ -9,7 +9,7 @@ use Rattle.letters_and_lassos.specs.declared.kinds.Kind.TheVariants.{Mealy, Moor
 use Rattle.letters_and_lassos.specs.declared.kinds.Side.{Side}
 use Rattle.letters_and_lassos.specs.declared.kinds.Side.TheVariants.{System}
 use Rattle.letters_and_lassos.specs.declared.letters.Letter.{Letter}
-use Rattle.letters_and_lassos.specs.Bits.{number_of}
+use Rattle.letters_and_lassos.specs.Bits.{binary_value}
 use Rattle.letters_and_lassos.specs.Word.{IsLassoOver, Word, after, lasso_len, letter_at, no_signals}
 use Rattle.letters_and_lassos.proofs.Positions.{after-own, after_within}
 use Rattle.machine_model.specs.declared.machines.Row.{Row}
@@ -108,7 +108,7 @@ module _ (c : Circuit) (circuit : IsCircuit c) (order : List ℕ) (sorted : IsOr
   same_written moore t a b r small_a small_b =
       let one : ReadsIn t a = reads_in t r a small_a in
       let other : ReadsIn t b = reads_in t r b small_b in
-      ap number_of
+      ap binary_value
       (sym one.writes ∙ moore.same_outputs one.word other.word one.values_are other.values_are one.at other.at one.run other.run one.within other.within (one.holds ∙ sym other.holds)
       ∙ other.writes)
 

@@ -5,7 +5,7 @@ use Rattle.std.proofs.lemmas.List.{append-nil, take_more}
 use Rattle.std.proofs.lemmas.Option.{slice_get_within, get_or_from_slice_get}
 use Rattle.std.specs.declared.alloc.AllocError.{AllocError}
 use Rattle.atomic_table.specs.Seated.{TableId}
-use Rattle.propositional_logic.specs.Clause.{IsWithin}
+use Rattle.propositional_logic.specs.Clause.{IsWithinVariables}
 use Rattle.refutation_log.specs.declared.entries.Entry.{Entry}
 use Rattle.refutation_log.specs.declared.turns.Turn.TheVariants.{Append}
 use Rattle.refutation_log.specs.declared.turns.Reply.{Reply}
@@ -51,7 +51,7 @@ moved_same part value left opens same room = record {
 -- The entry that a pass offers, in its conditions.
 pub record IsSound (part : Part) (e : Entry) : Type 0 where
   pub by_is : e.by ≡ part.number
-  pub within : IsWithin part.terms.vars e.clause
+  pub within : IsWithinVariables part.terms.vars e.clause
   pub follows : Follows (part.terms.base ++ clauses_of part.seen) e.clause e.hints
   pub teaches : Teaches (part.terms.base ++ clauses_of part.own) e.clause
 

@@ -1,7 +1,7 @@
 //! The shared log and its passes.
 ghost use Rattle.std.specs.Prelude.{◌≡◌, ℕ, suc, ◌<◌, ◌≤◌, [], ◌∷◌, ◌++◌, Some, None, IfOk, IfErr, OnOk, OnErr, All, Contains, map, length, slice_get};
 ghost use Rattle.std.specs.Arc.{arc_value};
-ghost use Rattle.propositional_logic.specs.Clause.{IsWithin, IsFormula};
+ghost use Rattle.propositional_logic.specs.Clause.{IsWithinVariables, IsFormula};
 ghost use Rattle.refutation_log.specs.Entry.{clauses_of, AreSorted};
 ghost use Rattle.refutation_log.specs.Follows.{Follows};
 ghost use Rattle.refutation_log.specs.Teaches.{Teaches};
@@ -123,7 +123,7 @@ impl Exchange {
     pub fn append<R: Wait>(&self, rt: &R, pass: &mut Pass, entry: Entry) -> Result<Reply, Refused>
         requires exchange { pass.old.exchange ≡ self.now }
         requires by { entry.by ≡ pass.old.number }
-        requires within { IsWithin self.now.terms.vars entry.clause }
+        requires within { IsWithinVariables self.now.terms.vars entry.clause }
         requires follows { Follows (self.now.terms.base ++ clauses_of pass.old.seen) entry.clause entry.hints }
         requires teaches { Teaches (self.now.terms.base ++ clauses_of pass.old.own) entry.clause }
         ensures turn { IsAfterTurn pass.old pass.new }

@@ -7,7 +7,7 @@ use Rattle.std.proofs.lemmas.List.{take_all, take_more}
 use Rattle.std.proofs.lemmas.List.Elements.{All-contains, All-push}
 use Rattle.std.proofs.lemmas.Option.{slice_get-get_or}
 use Rattle.propositional_logic.specs.Literal.{Literal, negated, sign_eq}
-use Rattle.propositional_logic.specs.Clause.{IsClause, IsWithin}
+use Rattle.propositional_logic.specs.Clause.{IsClause, IsWithinVariables}
 use Rattle.propositional_logic.specs.Partial.{is_false_in, is_falsified}
 use Rattle.propositional_logic.specs.Truth.{value_of, is_true_literal, is_true_clause, meets}
 use Rattle.propositional_logic.proofs.Members.{Contains-head, Contains-later}
@@ -81,7 +81,7 @@ true_unless_false marks values l there open_now = by (is_true_literal values l) 
         let c : Contains (literals_of marks) (negated l) = subst (λ b. Contains (literals_of marks) (record { var = l.var; positive = b })) s there in
         absurd (true≢false (sym ((Decides-is_true_in (literals_of marks) (negated l)).1 c) ∙ open_now))
 
-pub true_clause : (vars : ℕ) (marks : List Mark) (values : List Bool) (clause : List Literal) → AreValues marks vars values → IsClause clause → IsWithin vars clause → is_falsified (literals_of marks) clause ≡ false
+pub true_clause : (vars : ℕ) (marks : List Mark) (values : List Bool) (clause : List Literal) → AreValues marks vars values → IsClause clause → IsWithinVariables vars clause → is_falsified (literals_of marks) clause ≡ false
     → is_true_clause values clause ≡ true
 true_clause vars marks values clause v sorted within open_now =
     let k = not_all (is_false_in (literals_of marks)) clause open_now in
@@ -107,7 +107,7 @@ total_more marks n t last var low high free = elim (cases_lt n var) [
 
 -- one clause more is true
 pub next_true : (vars : ℕ) (marks : List Mark) (values : List Bool) (base clauses : List (List Literal)) (i : ℕ) (c : List Literal) → clauses ≡ base → i < length clauses → c ≡ get_or clauses i c
-    → AreValues marks vars values → All (IsWithin vars) base → IsQuiet base (literals_of marks) → IsClause c
+    → AreValues marks vars values → All (IsWithinVariables vars) base → IsQuiet base (literals_of marks) → IsClause c
     → All (λ d. is_true_clause values d ≡ true) (take i clauses) → All (λ d. is_true_clause values d ≡ true) (take (i + 1) clauses)
 next_true vars marks values base clauses i c same lt at v within quiet sorted all =
     let found : slice_get clauses i ≡ Some c = slice_get-get_or clauses i c lt ∙ ap Some (sym at) in
@@ -115,4 +115,4 @@ next_true vars marks values base clauses i c same lt at v within quiet sorted al
     let more : take (i + 1) clauses ≡ take i clauses ++ c ∷ [] = take_more clauses i c lt ∙ ap (λ x. take i clauses ++ x ∷ []) (sym at) in
     subst (All (λ d. is_true_clause values d ≡ true)) (sym more)
     (All-push (λ d. is_true_clause values d ≡ true) (take i clauses) c all
-    (true_clause vars marks values c v sorted (All-contains (IsWithin vars) base c within member) (quiet.not_falsified c member)))
+    (true_clause vars marks values c v sorted (All-contains (IsWithinVariables vars) base c within member) (quiet.not_falsified c member)))

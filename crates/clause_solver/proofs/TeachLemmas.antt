@@ -4,7 +4,7 @@ use Rattle.std.proofs.lemmas.Bool.{cases_lt}
 use Rattle.std.proofs.lemmas.Bool.Decides.{Decides-eqb}
 use Rattle.std.proofs.lemmas.List.Elements.{All-contains}
 use Rattle.propositional_logic.specs.Literal.{Literal, negated}
-use Rattle.propositional_logic.specs.Clause.{IsWithin}
+use Rattle.propositional_logic.specs.Clause.{IsWithinVariables}
 use Rattle.propositional_logic.specs.Partial.{is_falsified}
 use Rattle.propositional_logic.proofs.Members.{Contains-head, Contains-none, Contains-cases, Contains-filter, filter-Contains}
 use Rattle.propositional_logic.proofs.Tests.{Decides-is_falsified}
@@ -52,7 +52,7 @@ falsifier_of vars marks clause l t f c =
     (k.0, k.1, k.2, level_of_mark vars marks k.0 l.var t k.1 (ap (λ (x : Literal). x.var) k.2))
 
 -- no variable of a falsified clause passes those of the trail
-pub falsified_within : (vars : ℕ) (marks : List Mark) (clause : List Literal) → IsTrail vars marks → is_falsified (literals_of marks) clause ≡ true → IsWithin vars clause
+pub falsified_within : (vars : ℕ) (marks : List Mark) (clause : List Literal) → IsTrail vars marks → is_falsified (literals_of marks) clause ≡ true → IsWithinVariables vars clause
 falsified_within vars marks clause t f = All-from_contains (λ (l : Literal). l.var ≤ vars) clause (λ l c.
     let m = falsifier_of vars marks clause l t f c in
     let w : m.0.lit.var ≤ vars = (All-contains (λ (x : Mark). (0 < x.lit.var) × (x.lit.var ≤ vars)) marks m.0 t.within m.1).1 in

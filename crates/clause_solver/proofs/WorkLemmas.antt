@@ -4,14 +4,14 @@ use Rattle.std.proofs.lemmas.List.{append_assoc, map-append, take-append-drop, t
 use Rattle.std.proofs.lemmas.List.Elements.{All-contains, All-push, Contains-append_left, Contains-append_cases}
 use Rattle.propositional_logic.specs.declared.formula.Cnf.{Cnf}
 use Rattle.propositional_logic.specs.Literal.{Literal}
-use Rattle.propositional_logic.specs.Clause.{IsWithin}
+use Rattle.propositional_logic.specs.Clause.{IsWithinVariables}
 use Rattle.propositional_logic.proofs.Members.{Contains-head, Contains-later, Contains-none, Contains-cases}
 use Rattle.refutation_log.specs.declared.entries.Entry.{Entry}
 use Rattle.refutation_log.specs.Entry.{clauses_of}
 use Rattle.refutation_log.proofs.Lists.{take-append}
 use Rattle.unit_propagate.specs.declared.marks.Mark.{Mark}
 use Rattle.unit_propagate.specs.Trail.{TrailModel, IsFree, highest_level, literals_of}
-use Rattle.unit_propagate.specs.Sound.{IsSound, Extends}
+use Rattle.unit_propagate.specs.Sound.{AreSoundMarks, Extends}
 use Rattle.unit_propagate.specs.Quiet.{IsQuiet}
 use Rattle.unit_propagate.specs.Watched.{IsWatching}
 use Rattle.unit_propagate.proofs.LawsLemmas.{empty_trails_begin, IsSound-append, IsWatching-append, going_back_keeps_sound}
@@ -38,7 +38,7 @@ work_goes_on = record {
   longer = λ base seen more worker w. record {
     count = (let n : length (seen ++ more) ≡ length seen + length more = length-append seen more in let c : worker.shown ≤ length seen = w.count in omega arith);
     watching = subst (λ cs. IsWatching cs worker.trail.watched) (longer_clauses base seen more) (IsWatching-append (base ++ clauses_of seen) (clauses_of more) worker.trail.watched w.watching);
-    sound = subst (λ cs. IsSound cs worker.trail.marks) (longer_clauses base seen more) (IsSound-append (base ++ clauses_of seen) (clauses_of more) worker.trail.marks w.sound);
+    sound = subst (λ cs. AreSoundMarks cs worker.trail.marks) (longer_clauses base seen more) (IsSound-append (base ++ clauses_of seen) (clauses_of more) worker.trail.marks w.sound);
     quiet = subst (λ es. IsQuietBelow (highest_level worker.trail.marks) (base ++ clauses_of es) worker.trail.marks) (sym (take-append worker.shown seen more w.count)) w.quiet;
   };
 }
@@ -50,7 +50,7 @@ pub all_quiet : (base : List (List Literal)) (seen : List Entry) (trail : TrailM
 all_quiet base seen trail s =
     subst (λ es. IsQuietBelow (highest_level trail.marks) (base ++ clauses_of es) trail.marks) (take_all (length seen) seen (omega arith)) s.quiet
 
-pub searching_all : (base : List (List Literal)) (seen : List Entry) (trail : TrailModel) → IsWatching (base ++ clauses_of seen) trail.watched → IsSound (base ++ clauses_of seen) trail.marks
+pub searching_all : (base : List (List Literal)) (seen : List Entry) (trail : TrailModel) → IsWatching (base ++ clauses_of seen) trail.watched → AreSoundMarks (base ++ clauses_of seen) trail.marks
     → IsQuietBelow (highest_level trail.marks) (base ++ clauses_of seen) trail.marks → IsSearching base seen trail (length seen)
 searching_all base seen trail w s q = record {
   count = omega arith;
@@ -61,7 +61,7 @@ searching_all base seen trail w s q = record {
 
 -- propagation
 pub searching_propagate : (base : List (List Literal)) (seen : List Entry) (old new : TrailModel) → IsSearching base seen old (length seen) → Extends (base ++ clauses_of seen) old.marks new.marks
-    → (IsSound (base ++ clauses_of seen) old.marks → IsSound (base ++ clauses_of seen) new.marks) → IsWatching (base ++ clauses_of seen) new.watched → IsSearching base seen new (length seen)
+    → (AreSoundMarks (base ++ clauses_of seen) old.marks → AreSoundMarks (base ++ clauses_of seen) new.marks) → IsWatching (base ++ clauses_of seen) new.watched → IsSearching base seen new (length seen)
 searching_propagate base seen old new s x sound w =
     searching_all base seen new w (sound s.sound) (quiet_extends (base ++ clauses_of seen) (base ++ clauses_of seen) old.marks new.marks x (all_quiet base seen old s))
 
@@ -119,8 +119,8 @@ fewer_free vars clauses old middle new lit level x low high free is =
 
 -- a caller appends what the worker has learnt, and goes on
 pub goes_on_with : (number : ℕ) (base : Cnf) (seen seen' after : List Entry) (worker : WorkerModel) (entry : Entry) → seen' ≡ seen → IsLesson number base.vars (base.clauses.items ++ clauses_of seen') entry
-    → after ≡ seen ++ entry ∷ [] → All (λ e. IsWithin base.vars e.clause) seen → IsWorkingOn base.clauses.items seen' worker → All (λ e. IsWithin base.vars e.clause) after × IsWorkingOn base.clauses.items after worker
+    → after ≡ seen ++ entry ∷ [] → All (λ e. IsWithinVariables base.vars e.clause) seen → IsWorkingOn base.clauses.items seen' worker → All (λ e. IsWithinVariables base.vars e.clause) after × IsWorkingOn base.clauses.items after worker
 goes_on_with number base seen seen' after worker entry same lesson is within w = (
-  subst (All (λ (e : Entry). IsWithin base.vars e.clause)) (sym is) (All-push (λ (e : Entry). IsWithin base.vars e.clause) seen entry within lesson.within),
+  subst (All (λ (e : Entry). IsWithinVariables base.vars e.clause)) (sym is) (All-push (λ (e : Entry). IsWithinVariables base.vars e.clause) seen entry within lesson.within),
   subst (λ es. IsWorkingOn base.clauses.items es worker) (sym is) (work_goes_on.longer base.clauses.items seen (entry ∷ []) worker (subst (λ es. IsWorkingOn base.clauses.items es worker) same w)),
 )

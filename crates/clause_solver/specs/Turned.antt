@@ -1,7 +1,7 @@
 use Rattle.std.specs.Prelude.{◌≡◌, ℕ, Bool, true, List, ◌++◌, length}
 use Rattle.propositional_logic.specs.declared.formula.Cnf.{Cnf}
 use Rattle.propositional_logic.specs.Literal.{Literal}
-use Rattle.propositional_logic.specs.Clause.{IsWithin}
+use Rattle.propositional_logic.specs.Clause.{IsWithinVariables}
 use Rattle.propositional_logic.specs.Truth.{meets}
 use Rattle.refutation_log.specs.declared.entries.Entry.{Entry}
 use Rattle.refutation_log.specs.Entry.{clauses_of}
@@ -19,7 +19,7 @@ pub record IsModel (vars : ℕ) (base : List (List Literal)) (values : List Bool
 -- hints and teaches (this project's own).
 pub record IsLesson (number vars : ℕ) (clauses : List (List Literal)) (entry : Entry) : Type 0 where
   pub worker : entry.by ≡ number
-  pub within : IsWithin vars entry.clause
+  pub within : IsWithinVariables vars entry.clause
   pub follows : Follows clauses entry.clause entry.hints
   pub teaches : Teaches clauses entry.clause
 

@@ -3,7 +3,7 @@ use Rattle.propositional_logic.specs.Literal.{Literal}
 use Rattle.refutation_log.specs.declared.entries.Entry.{Entry}
 use Rattle.refutation_log.specs.Entry.{clauses_of}
 use Rattle.unit_propagate.specs.Trail.{TrailModel, highest_level}
-use Rattle.unit_propagate.specs.Sound.{IsSound}
+use Rattle.unit_propagate.specs.Sound.{AreSoundMarks}
 use Rattle.unit_propagate.specs.Watched.{IsWatching}
 use Rattle.clause_solver.specs.Levels.{IsQuietBelow}
 
@@ -19,7 +19,7 @@ pub record WorkerModel : Type 0 where
 pub record IsSearching (base : List (List Literal)) (seen : List Entry) (trail : TrailModel) (shown : ℕ) : Type 0 where
   pub count : shown ≤ length seen
   pub watching : IsWatching (base ++ clauses_of seen) trail.watched
-  pub sound : IsSound (base ++ clauses_of seen) trail.marks
+  pub sound : AreSoundMarks (base ++ clauses_of seen) trail.marks
   pub quiet : IsQuietBelow (highest_level trail.marks) (base ++ clauses_of (take shown seen)) trail.marks
 
 -- A worker works on base clauses and entries: its earlier turns were on the same base clauses and on first entries of these, or it is

@@ -1,9 +1,9 @@
 ghost use Rattle.std.specs.Prelude.{◌≡◌, ℕ, true, ◌++◌, IfOk, All};
-ghost use Rattle.propositional_logic.specs.Clause.{IsFormula, IsWithin};
+ghost use Rattle.propositional_logic.specs.Clause.{IsFormula, IsWithinVariables};
 ghost use Rattle.refutation_log.specs.Entry.{clauses_of};
 ghost use Rattle.refutation_log.specs.Follows.{is_falsified_named};
 ghost use Rattle.unit_propagate.specs.Trail.{literals_of, highest_level};
-ghost use Rattle.unit_propagate.specs.Sound.{IsSound};
+ghost use Rattle.unit_propagate.specs.Sound.{AreSoundMarks};
 ghost use Rattle.clause_solver.specs.Levels.{IsQuietBelow};
 ghost use Rattle.clause_solver.specs.Turned.{IsLesson};
 
@@ -25,9 +25,9 @@ pub fn lesson(
 ) -> Result<Entry, AllocError>
     requires variables { base.now.vars ≡ trail.now.vars }
     requires formula { IsFormula base.now.vars base.now.clauses.items }
-    requires within { All (λ e. IsWithin base.now.vars e.clause) seen.now }
+    requires within { All (λ e. IsWithinVariables base.now.vars e.clause) seen.now }
     requires falsified { is_falsified_named (base.now.clauses.items ++ clauses_of seen.now) (literals_of trail.now.marks) falsified ≡ true }
-    requires sound { IsSound (base.now.clauses.items ++ clauses_of seen.now) trail.now.marks }
+    requires sound { AreSoundMarks (base.now.clauses.items ++ clauses_of seen.now) trail.now.marks }
     requires quiet { IsQuietBelow (highest_level trail.now.marks) (base.now.clauses.items ++ clauses_of seen.now) trail.now.marks }
     ensures { IfOk result (IsLesson worker base.now.vars (base.now.clauses.items ++ clauses_of seen.now)) }
 {

@@ -1,5 +1,5 @@
 ghost use Rattle.std.specs.Prelude.{◌≡◌, ◌<◌, [], ◌++◌, None, Ok, IfOk, IfSome, All, length};
-ghost use Rattle.propositional_logic.specs.Clause.{IsFormula, IsWithin};
+ghost use Rattle.propositional_logic.specs.Clause.{IsFormula, IsWithinVariables};
 ghost use Rattle.clause_solver.specs.Free.{free_count};
 ghost use Rattle.clause_solver.specs.Turned.{IsTurn};
 ghost use Rattle.clause_solver.specs.Worker.{IsSearching};
@@ -48,7 +48,7 @@ impl Search {
     pub fn turn(&mut self, alloc: Global, base: &Cnf, seen: &[Entry]) -> Result<Turned, AllocError>
         requires variables { base.now.vars ≡ self.old.trail.vars }
         requires formula { IsFormula base.now.vars base.now.clauses.items }
-        requires within { All (λ e. IsWithin base.now.vars e.clause) seen.now }
+        requires within { All (λ e. IsWithinVariables base.now.vars e.clause) seen.now }
         requires searching { IsSearching base.now.clauses.items seen.now self.old.trail self.old.shown }
         ensures turned { IfOk result (IsTurn self.old.number base.now seen.now) }
         ensures searching { IsSearching base.now.clauses.items seen.now self.new.trail self.new.shown }
@@ -72,7 +72,7 @@ impl Search {
     ) -> Result<Option<Turned>, AllocError>
         requires variables { base.now.vars ≡ self.old.trail.vars }
         requires formula { IsFormula base.now.vars base.now.clauses.items }
-        requires within { All (λ e. IsWithin base.now.vars e.clause) seen.now }
+        requires within { All (λ e. IsWithinVariables base.now.vars e.clause) seen.now }
         requires searching { IsSearching base.now.clauses.items seen.now self.old.trail (length seen.now) }
         ensures turned { IfOk result (λ o. IfSome o (IsTurn self.old.number base.now seen.now)) }
         ensures searching { IsSearching base.now.clauses.items seen.now self.new.trail (length seen.now) }

@@ -1,5 +1,5 @@
 ghost use Rattle.std.specs.Prelude.{◌≡◌, [], IfOk, All};
-ghost use Rattle.propositional_logic.specs.Clause.{IsFormula, IsWithin};
+ghost use Rattle.propositional_logic.specs.Clause.{IsFormula, IsWithinVariables};
 ghost use Rattle.clause_solver.specs.Turned.{IsTurn};
 ghost use Rattle.clause_solver.specs.Worker.{WorkerModel, IsWorkingOn};
 
@@ -49,7 +49,7 @@ impl Worker {
     pub fn turn(&mut self, alloc: Global, base: &Cnf, seen: &[Entry]) -> Result<Turned, AllocError>
         requires variables { base.now.vars ≡ self.old.trail.vars }
         requires formula { IsFormula base.now.vars base.now.clauses.items }
-        requires within { All (λ e. IsWithin base.now.vars e.clause) seen.now }
+        requires within { All (λ e. IsWithinVariables base.now.vars e.clause) seen.now }
 
         // A caller gives the same base clauses at each turn, and at least the entries of the turns before, which come first.
         requires working { IsWorkingOn base.now.clauses.items seen.now self.old }

@@ -7,7 +7,7 @@ use Rattle.ltl_formula.specs.Laws.{Comes}
 use Rattle.ltl_formula.specs.declared.nodes.FormulaId.{FormulaId}
 use Rattle.ltl_formula.specs.declared.nodes.Node.{Node}
 use Rattle.ltl_formula.specs.declared.nodes.Node.TheVariants.{True, False, Signal, Not, Next, Finally, Globally, And, Or, Implies, Equiv, Until, Release, WeakUntil}
-use Rattle.ltl_formula.specs.Nodes.{IsNodeList, PartsBelow, Stands, node_at, tree_at, tree_of, trees_of}
+use Rattle.ltl_formula.specs.Nodes.{IsNodeList, PartsBelow, IsNodeIn, node_at, tree_at, tree_of, trees_of}
 use Rattle.ltl_formula.specs.Truth.{holds, release_at, until_at}
 use Rattle.ltl_formula.proofs.Ahead.{until_at-gives, until_at-unfold}
 use Rattle.ltl_formula.proofs.Trees.{tree_at-node}
@@ -168,11 +168,11 @@ module _ (covering : Covering) (ns : List Node) (list : IsNodeList ns) (untils :
             refute (j, at) = both_ways (B (after w i j)) (not-true (B (after w i j)) at.comes) (stays j i s l done (λ k less. not-true (A (after w i k)) (at.before k less)))
 
     -- the truth of the formula by its node
-    module _ (i : ℕ) (s : State) (l : Live i s) (done : taken i s l f) (stands : Stands ns f) where
+    module _ (i : ℕ) (s : State) (l : Live i s) (done : taken i s l f) (stands : IsNodeIn ns f) where
       abbrev occurs_part : (node : Node) → node_at ns f.0 ≡ node → (g : FormulaId) → Contains (operands_of node) g → OccursIn ns root g
       occurs_part node is g c = part f g occurs (subst (λ (n : Node). Contains (operands_of n) g) (sym is) c)
 
-      one : (g : FormulaId) → Stands ns g → now i g ≡ value (letter_at w i) (now i) (now (next w i)) g (node_at ns g.0)
+      one : (g : FormulaId) → IsNodeIn ns g → now i g ≡ value (letter_at w i) (now i) (now (next w i)) g (node_at ns g.0)
       one = (one_step ns w ring i l.within list).means
 
       seen_holds : (node : Node) → node_at ns f.0 ≡ node → (g : FormulaId) → g.0 < f.0 → Contains (operands_of node) g → Seen l.move.leaf g → now i g ≡ true
@@ -216,7 +216,7 @@ module _ (covering : Covering) (ns : List Node) (list : IsNodeList ns) (untils :
   are_true : (n : ℕ) → AreTrue n
   are_true zero g less occurs i s l done = absurd (omega arith)
   are_true (suc n) g less occurs i s l done =
-      let stands : Stands ns g = rw l.move.below.places.done at (has_id-within l.move.leaf.done g done) in
+      let stands : IsNodeIn ns g = rw l.move.below.places.done at (has_id-within l.move.leaf.done g done) in
       holds_by g occurs (λ f small o j t k d. are_true n f (omega arith) o j t k d) i s l done stands (node_at ns g.0) refl (list.parts_first g.0) (backed i s l g done)
 
   -- what is in the set of a state from which the base is reached holds there

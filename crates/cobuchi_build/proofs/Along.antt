@@ -8,7 +8,7 @@ use Rattle.ltl_formula.specs.declared.nodes.FormulaId.{FormulaId}
 use Rattle.ltl_formula.specs.declared.nodes.Node.{Node}
 use Rattle.ltl_formula.specs.declared.nodes.TheConstants.{MAX_NODES}
 use Rattle.ltl_formula.specs.NormalForm.{IsNormal}
-use Rattle.ltl_formula.specs.Nodes.{IsNodeList, Stands, node_at, tree_at}
+use Rattle.ltl_formula.specs.Nodes.{IsNodeList, IsNodeIn, node_at, tree_at}
 use Rattle.obligation_sets.specs.declared.sets.Cover.{Cover}
 use Rattle.obligation_sets.specs.declared.sets.Covering.{Covering}
 use Rattle.obligation_sets.specs.Covers.{set_leaves}
@@ -23,7 +23,7 @@ use Rattle.cobuchi_build.specs.declared.building.BuildFault.{BuildFault}
 use Rattle.text_limits.specs.declared.AutomatonLimits.{AutomatonLimits}
 use Rattle.cobuchi_build.specs.declared.exploring.State.{State}
 use Rattle.cobuchi_build.specs.Built.{IsAutomatonOf, IsFinished, IsTooLarge, PassesLimit, fault_of}
-use Rattle.cobuchi_build.specs.Explored.{Explored, expanding, explored, meeting, next_round, start_of, state_after}
+use Rattle.cobuchi_build.specs.Explored.{Explored, expanding, explored, meeting, next_round, start_state, state_after}
 use Rattle.cobuchi_build.specs.Occurring.{is_until, marked_down, occurring, operands_of, untils_of, with_parts}
 use Rattle.cobuchi_build.specs.Sizes.{HasRoom, HasTooMany}
 use Rattle.cobuchi_build.proofs.Growth.{IsPrefix-at, IsPrefix-before, IsPrefix-length}
@@ -31,8 +31,8 @@ use Rattle.cobuchi_build.proofs.Rounds.{GrowsTo, GrowsTo-refl, closed_upto, expl
 use Rattle.cobuchi_build.proofs.Sound.{FromCover, IsGood, IsSound, contains_at, explored_sound}
 use Rattle.obligation_sets.proofs.Flags.{fold_length}
 
-pub start_normal : (ns : List Node) (f : FormulaId) → Stands ns f → IsNormal (tree_at ns f) → AreNormal ns (f ∷ [])
-start_normal ns f stands normal = All-cons (λ g. Stands ns g × IsNormal (tree_at ns g)) f [] (stands, normal) (All-nil (λ g. Stands ns g × IsNormal (tree_at ns g)))
+pub start_normal : (ns : List Node) (f : FormulaId) → IsNodeIn ns f → IsNormal (tree_at ns f) → AreNormal ns (f ∷ [])
+start_normal ns f stands normal = All-cons (λ g. IsNodeIn ns g × IsNormal (tree_at ns g)) f [] (stands, normal) (All-nil (λ g. IsNodeIn ns g × IsNormal (tree_at ns g)))
 
 -- no state at all is allowed
 pub none_allowed : (covering : Covering) (limits : AutomatonLimits) (ns : List Node) (f : FormulaId) → limits.states ≡ 0 → PassesLimit covering limits ns f
@@ -44,14 +44,14 @@ pub record IsAlong (covering : Covering) (limits : AutomatonLimits) (ns : List N
   pub room : HasRoom limits found
   pub leaves : (q : ℕ) (s : State) → q < number → slice_get found.states q ≡ Some s → length (set_leaves ns s.set) ≤ 100000
 
-pub along_start : (covering : Covering) (limits : AutomatonLimits) → 0 < limits.states → (ns : List Node) (untils : List FormulaId) (f : FormulaId) (found : Explored) → found ≡ record { states = start_of f ∷ []; edges = [] } → IsAlong covering limits ns untils f 0 found
+pub along_start : (covering : Covering) (limits : AutomatonLimits) → 0 < limits.states → (ns : List Node) (untils : List FormulaId) (f : FormulaId) (found : Explored) → found ≡ record { states = start_state f ∷ []; edges = [] } → IsAlong covering limits ns untils f 0 found
 along_start covering limits some ns untils f found e = record {
   met = e;
   room = subst (HasRoom limits) (sym e) (record { states = omega arith; edges = omega arith });
   leaves = λ q s less at. absurd (omega arith);
 }
 
-module _ (covering : Covering) (limits : AutomatonLimits) (ns : List Node) (list : IsNodeList ns) (f : FormulaId) (stands : Stands ns f) (normal : IsNormal (tree_at ns f)) (untils : List FormulaId) (number : ℕ) (found : Explored) (along : IsAlong covering limits ns untils f number found) where
+module _ (covering : Covering) (limits : AutomatonLimits) (ns : List Node) (list : IsNodeList ns) (f : FormulaId) (stands : IsNodeIn ns f) (normal : IsNormal (tree_at ns f)) (untils : List FormulaId) (number : ℕ) (found : Explored) (along : IsAlong covering limits ns untils f number found) where
   sound : IsSound covering ns untils f number found
   sound = subst (λ (x : Explored). IsSound covering ns untils f number x) (sym along.met) (explored_sound covering ns untils list f (start_normal ns f stands normal) number)
 
@@ -59,8 +59,8 @@ module _ (covering : Covering) (limits : AutomatonLimits) (ns : List Node) (list
     state_good : IsGood covering ns untils state
     state_good = All-contains (IsGood covering ns untils) found.states state sound.good (contains_at found.states number state at)
 
-    pub state_stands : All (Stands ns) state.set
-    state_stands = All-weaker (λ g. Stands ns g × IsNormal (tree_at ns g)) (Stands ns) (λ g h. h.0) state.set state_good.normal
+    pub state_stands : All (IsNodeIn ns) state.set
+    state_stands = All-weaker (λ g. IsNodeIn ns g × IsNormal (tree_at ns g)) (IsNodeIn ns) (λ g h. h.0) state.set state_good.normal
 
     pub state_counter : state.counter ≤ length untils
     state_counter = state_good.counter
@@ -109,7 +109,7 @@ module _ (covering : Covering) (limits : AutomatonLimits) (ns : List Node) (list
     left_none : length found.states ≤ number
     left_none =
         elim (cases_lt number (length found.states)) [
-          | inl less ↦ absurd (let r : Some (get_or found.states number (start_of f)) ≡ None = sym (slice_get-get_or found.states number (start_of f) less) ∙ none in let contra : ⊥ = cc in contra)
+          | inl less ↦ absurd (let r : Some (get_or found.states number (start_state f)) ≡ None = sym (slice_get-get_or found.states number (start_state f) less) ∙ none in let contra : ⊥ = cc in contra)
           | inr more ↦ more
         ]
 
@@ -202,7 +202,7 @@ built_is covering ns f found untils m a edges rejecting finished same count e r 
 }
 
 -- there is a state, and each edge joins states
-pub no_fault : (covering : Covering) (ns : List Node) (f : FormulaId) (found : Explored) (m : ℕ) (edges : List Edge) (rejecting : List Bool) → IsNodeList ns → Stands ns f → IsNormal (tree_at ns f) → IsFinished covering ns f found → edges ≡ found.edges → rejecting ≡ map (λ state. state.counter == m) found.states → (fault : AutomatonFault) → (fault ≡ AutomatonFault.Empty → rejecting ≡ []) → (fault ≡ AutomatonFault.BadEdge → HasBadEdge (record { edges = edges; rejecting = rejecting })) → ⊥
+pub no_fault : (covering : Covering) (ns : List Node) (f : FormulaId) (found : Explored) (m : ℕ) (edges : List Edge) (rejecting : List Bool) → IsNodeList ns → IsNodeIn ns f → IsNormal (tree_at ns f) → IsFinished covering ns f found → edges ≡ found.edges → rejecting ≡ map (λ state. state.counter == m) found.states → (fault : AutomatonFault) → (fault ≡ AutomatonFault.Empty → rejecting ≡ []) → (fault ≡ AutomatonFault.BadEdge → HasBadEdge (record { edges = edges; rejecting = rejecting })) → ⊥
 no_fault covering ns f found m edges rejecting list stands normal finished e r fault empty bad = by fault refl
   where
     sound_end : IsSound covering ns (untils_of ns f) f finished.rounds found
@@ -224,6 +224,6 @@ no_fault covering ns f found m edges rejecting list stands normal finished e r f
     by AutomatonFault.Empty is =
         let none : rejecting ≡ [] = empty is in
         let no_states : length rejecting ≡ 0 = ap length none in
-        let some : 0 < length found.states = slice_get_within found.states 0 (start_of f) sound_end.start in
+        let some : 0 < length found.states = slice_get_within found.states 0 (start_state f) sound_end.start in
         omega (arith, count)
     by AutomatonFault.BadEdge is = let h : HasBadEdge (record { edges = edges; rejecting = rejecting }) = bad is in ends h.1 (h.0, h.2, h.3) h.4

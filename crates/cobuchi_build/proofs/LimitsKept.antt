@@ -9,7 +9,7 @@ use Rattle.ltl_formula.specs.declared.nodes.FormulaId.{FormulaId}
 use Rattle.ltl_formula.specs.declared.nodes.Node.{Node}
 use Rattle.ltl_formula.specs.ListSignals.{HasSignalsBelow}
 use Rattle.ltl_formula.specs.NormalForm.{IsNormal}
-use Rattle.ltl_formula.specs.Nodes.{IsNodeList, Stands, tree_at}
+use Rattle.ltl_formula.specs.Nodes.{IsNodeList, IsNodeIn, tree_at}
 use Rattle.obligation_sets.specs.declared.sets.Covering.{Covering}
 use Rattle.obligation_sets.specs.Reduced.{covers_by}
 use Rattle.text_limits.specs.declared.AutomatonLimits.{AutomatonLimits}
@@ -27,7 +27,7 @@ use Rattle.cobuchi_build.specs.Occurring.{untils_of}
 use Rattle.cobuchi_build.proofs.Along.{start_normal}
 use Rattle.cobuchi_build.proofs.Sound.{FromCover, IsSound, explored_sound}
 
-edge_named : (covering : Covering) (n : ℕ) (ns : List Node) → HasSignalsBelow n ns → (f : FormulaId) (rounds : ℕ) → IsNodeList ns → Stands ns f → IsNormal (tree_at ns f)
+edge_named : (covering : Covering) (n : ℕ) (ns : List Node) → HasSignalsBelow n ns → (f : FormulaId) (rounds : ℕ) → IsNodeList ns → IsNodeIn ns f → IsNormal (tree_at ns f)
     → (e : Edge) → Contains (explored covering ns (untils_of ns f) f rounds).edges e → NamesSignals n e
 edge_named covering n ns below f rounds list stands normal e there =
     let sound : IsSound covering ns (untils_of ns f) f rounds (explored covering ns (untils_of ns f) f rounds) = explored_sound covering ns (untils_of ns f) list f (start_normal ns f stands normal) rounds in
@@ -38,7 +38,7 @@ edge_named covering n ns below f rounds list stands normal e there =
       none_of = subst (λ (c : Cube). c.not < 2 ^ n) (sym from.cube) named.none_of;
     }
 
-signals_named : (covering : Covering) (ns : List Node) (f : FormulaId) (a : AutomatonModel) → IsNodeList ns → Stands ns f → IsNormal (tree_at ns f) → IsAutomatonOf covering ns f a → NamesSignalsOf ns a
+signals_named : (covering : Covering) (ns : List Node) (f : FormulaId) (a : AutomatonModel) → IsNodeList ns → IsNodeIn ns f → IsNormal (tree_at ns f) → IsAutomatonOf covering ns f a → NamesSignalsOf ns a
 signals_named covering ns f a list stands normal is = record {
   named = λ n below.
       subst (λ (x : AutomatonModel). All (NamesSignals n) x.edges) (sym (is.is ∙ ap (automaton_from (untils_of ns f)) is.finished.is))

@@ -15,7 +15,7 @@ use Rattle.ltl_formula.specs.Nodes.{IsNodeList}
 use Rattle.obligation_sets.specs.declared.sets.Cover.{Cover}
 use Rattle.obligation_sets.specs.declared.sets.Covering.{Covering}
 use Rattle.obligation_sets.specs.Branch.{Branch}
-use Rattle.obligation_sets.specs.Covers.{start_of}
+use Rattle.obligation_sets.specs.Covers.{start_branch}
 use Rattle.obligation_sets.specs.Reduced.{cover_by, covers_by}
 use Rattle.obligation_sets.specs.Ids.{has_id, ids_of, is_among, same_id}
 use Rattle.obligation_sets.proofs.BackedLeaves.{LeafOf, Seen}
@@ -66,7 +66,7 @@ module _ (covering : Covering) (ns : List Node) (list : IsNodeList ns) (untils :
   -- a step from a state at a position: the leaf of one of its covers, whose cube fits the letter
   pub record Move (i : ℕ) (s t : State) : Type 0 where
     pub leaf : Branch
-    pub below : LeafOf ns list (start_of ns s.set) leaf
+    pub below : LeafOf ns list (start_branch ns s.set) leaf
     pub fits : Fits leaf.cube (letter_at w i)
     pub target : t ≡ state_after untils s.counter (cover_by covering ns leaf)
 
@@ -82,8 +82,8 @@ module _ (covering : Covering) (ns : List Node) (list : IsNodeList ns) (untils :
   -- each formula that the state's set asks for is taken up in the step
   pub done_in : (i : ℕ) (s t : State) (m : Move i s t) (f : FormulaId) → AsksFor ns s.set f → has_id m.leaf.done f ≡ true
   done_in i s t m f asks =
-      asked_done ns m.leaf (seen_done (start_of ns s.set) m.leaf m.below) m.below.goes.backed s.set
-      (λ g there. seen_done (start_of ns s.set) m.leaf m.below g (m.below.goes.grown.parts g (inr there))) f asks
+      asked_done ns m.leaf (seen_done (start_branch ns s.set) m.leaf m.below) m.below.goes.backed s.set
+      (λ g there. seen_done (start_branch ns s.set) m.leaf m.below g (m.below.goes.grown.parts g (inr there))) f asks
 
   -- what the leaf leaves the next state's set asks for
   pub left_in : (i : ℕ) (s t : State) (m : Move i s t) (f : FormulaId) → has_id m.leaf.next f ≡ true → AsksFor ns t.set f

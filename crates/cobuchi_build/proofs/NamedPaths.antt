@@ -25,7 +25,7 @@ use Rattle.obligation_sets.specs.NextStep.{AreNormal, HasFittingCover, SecondPar
 use Rattle.obligation_sets.proofs.Kept.{next_normal}
 use Rattle.obligation_sets.proofs.NextStep.{covers_are_the_next_step}
 use Rattle.cobuchi_build.specs.declared.exploring.State.{State}
-use Rattle.cobuchi_build.specs.Explored.{counter_after, start_of, state_after}
+use Rattle.cobuchi_build.specs.Explored.{counter_after, start_state, state_after}
 use Rattle.cobuchi_build.specs.Laws.{TrueFormulasHavePaths}
 use Rattle.cobuchi_build.specs.Occurring.{untils_of}
 use Rattle.cobuchi_build.specs.Paths.{ComesToEnd, IsStep}
@@ -236,7 +236,7 @@ pub true_formulas_have_paths : TrueFormulasHavePaths
 true_formulas_have_paths covering ns f w list stands normal ring true_at_start =
     let first : Pair covering ns list (untils_of ns f) w ring f = record {
       position = 0;
-      state = start_of f;
+      state = start_state f;
       within = first_position w ring;
       true_here = All-cons (λ g. IsTrue (holds w (tree_at ns g) 0)) f [] true_at_start (All-nil (λ g. IsTrue (holds w (tree_at ns g) 0)));
       normal = start_normal ns f stands normal;

@@ -6,7 +6,7 @@ use Rattle.std.proofs.lemmas.List.Elements.{All-contains, filter_passes}
 use Rattle.ltl_formula.specs.declared.nodes.FormulaId.{FormulaId}
 use Rattle.ltl_formula.specs.declared.nodes.Node.{Node}
 use Rattle.ltl_formula.specs.declared.nodes.Node.TheVariants.{True, False, Signal, Not, Next, Finally, Globally, And, Or, Implies, Equiv, Until, Release, WeakUntil}
-use Rattle.ltl_formula.specs.Nodes.{IsNodeList, PartsBelow, Stands, node_at}
+use Rattle.ltl_formula.specs.Nodes.{IsNodeList, PartsBelow, IsNodeIn, node_at}
 use Rattle.obligation_sets.specs.Ids.{has_id, ids_from, ids_of, with_id}
 use Rattle.obligation_sets.proofs.Flags.{all-cases, all-here, all-keeps, fold_length, has_id-none, with_id-cases, with_id-here}
 use Rattle.obligation_sets.proofs.IdLists.{flag_of_id, id, id_of_flag}
@@ -82,7 +82,7 @@ module _ (ns : List Node) (list : IsNodeList ns) (f : FormulaId) where
   marked zero flags within m = m
   marked (suc n) flags within m = marked n (cond (get_or flags n false) (with_parts flags (node_at ns n)) flags) (omega arith) (marked_by n flags (omega arith) m (get_or flags n false) refl)
 
-  module _ (stands : Stands ns f) where
+  module _ (stands : IsNodeIn ns f) where
     all_marked : IsMarked 0 (occurring ns f)
     all_marked =
         let len : length (replicate (length ns) false) ≡ length ns = length-replicate (length ns) false in

@@ -20,7 +20,7 @@ use Rattle.obligation_sets.proofs.Lists.{Contains-cons_cases, Contains-here, Con
 use Rattle.obligation_sets.proofs.NextStep.{All-from_contains}
 use Rattle.machine_model.specs.declared.automata.Edge.{Edge}
 use Rattle.cobuchi_build.specs.declared.exploring.State.{State}
-use Rattle.cobuchi_build.specs.Explored.{Explored, counter_after, expanding, explored, meeting, same_edge, same_state, start_of, state_after}
+use Rattle.cobuchi_build.specs.Explored.{Explored, counter_after, expanding, explored, meeting, same_edge, same_state, start_state, state_after}
 use Rattle.cobuchi_build.proofs.Growth.{IsPrefix-at, IsPrefix-before, IsPrefix-contains, insert_key-at}
 use Rattle.obligation_sets.proofs.Kept.{next_normal}
 use Rattle.cobuchi_build.proofs.Rounds.{GrowsTo, fold_grows}
@@ -185,7 +185,7 @@ module _ (covering : Covering) (ns : List Node) (untils : List FormulaId) where
 
   -- what holds of all that was met once the states with numbers below n were expanded
   pub record IsSound (f : FormulaId) (n : ℕ) (found : Explored) : Type 0 where
-    pub start : slice_get found.states 0 ≡ Some (start_of f)
+    pub start : slice_get found.states 0 ≡ Some (start_state f)
     pub edges : (e : Edge) → Contains found.edges e → FromCover found e
     pub covers : (q : ℕ) (s : State) → q < n → slice_get found.states q ≡ Some s → (c : Cover) → Contains (covers_by covering ns s.set) c → HasCover found q s.counter c
     pub good : All IsGood found.states
@@ -210,7 +210,7 @@ module _ (covering : Covering) (ns : List Node) (untils : List FormulaId) where
         let grown : GrowsTo found new = fold_grows untils n state.counter found (covers_by covering ns state.set) in
         let good : IsGood state = All-at n state is sound.good in
         record {
-          start = IsPrefix-at found.states new.states 0 (start_of f) grown.states sound.start;
+          start = IsPrefix-at found.states new.states 0 (start_state f) grown.states sound.start;
           edges = λ e h.
               elim (fold_edges n state.counter found (covers_by covering ns state.set) e h) [
                 | inl old ↦ FromCover-grown found new e grown (sound.edges e old)
@@ -252,6 +252,6 @@ module _ (covering : Covering) (ns : List Node) (untils : List FormulaId) where
       start = refl;
       edges = λ e h. absurd (Contains-none e h);
       covers = λ q s less at c there. absurd (omega arith);
-      good = All-cons IsGood (start_of f) [] (record { normal = normal; counter = omega arith }) (All-nil IsGood);
+      good = All-cons IsGood (start_state f) [] (record { normal = normal; counter = omega arith }) (All-nil IsGood);
     }
     explored_sound normal (suc n) = sound_round n (explored covering ns untils f n) (explored_sound normal n) (slice_get (explored covering ns untils f n).states n) refl

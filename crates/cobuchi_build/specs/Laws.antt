@@ -2,7 +2,7 @@ use Rattle.std.specs.Prelude.{◌≡◌, List, IsTrue}
 use Rattle.ltl_formula.specs.declared.nodes.FormulaId.{FormulaId}
 use Rattle.ltl_formula.specs.declared.nodes.Node.{Node}
 use Rattle.ltl_formula.specs.NormalForm.{IsNormal}
-use Rattle.ltl_formula.specs.Nodes.{IsNodeList, Stands, tree_at}
+use Rattle.ltl_formula.specs.Nodes.{IsNodeList, IsNodeIn, tree_at}
 use Rattle.letters_and_lassos.specs.Word.{Word, HasRing}
 use Rattle.ltl_formula.specs.Truth.{holds}
 use Rattle.obligation_sets.specs.declared.sets.Covering.{Covering}
@@ -14,13 +14,13 @@ use Rattle.cobuchi_build.specs.Paths.{HasPath}
 -- the automaton of a formula in normal form, over plain or reduced covers, accepts exactly the lassos on which the formula is true
 abbrev pub TheAutomatonAcceptsExactly : Type 0
 TheAutomatonAcceptsExactly =
-    (covering : Covering) (ns : List Node) (f : FormulaId) (a : AutomatonModel) → IsNodeList ns → Stands ns f → IsNormal (tree_at ns f)
+    (covering : Covering) (ns : List Node) (f : FormulaId) (a : AutomatonModel) → IsNodeList ns → IsNodeIn ns f → IsNormal (tree_at ns f)
     → IsAutomatonOf covering ns f a → AcceptsExactly ns f a
 
 -- where a formula in normal form is true on a lasso it has a path of named states there, whatever the limits are
 abbrev pub TrueFormulasHavePaths : Type 0
 TrueFormulasHavePaths =
-    (covering : Covering) (ns : List Node) (f : FormulaId) (w : Word) → IsNodeList ns → Stands ns f → IsNormal (tree_at ns f)
+    (covering : Covering) (ns : List Node) (f : FormulaId) (w : Word) → IsNodeList ns → IsNodeIn ns f → IsNormal (tree_at ns f)
     → HasRing w → IsTrue (holds w (tree_at ns f) 0) → HasPath covering ns f w
 
 -- a formula has one automaton over plain covers, and one over reduced ones: what is found no longer changes once each state was expanded
@@ -30,4 +30,4 @@ OneAutomatonPerFormula =
 
 -- the list of untils has exactly those that occur in the formula, by rising id
 abbrev pub UntilsAreThoseThatOccur : Type 0
-UntilsAreThoseThatOccur = (ns : List Node) (f : FormulaId) → IsNodeList ns → Stands ns f → ListsUntils ns f (untils_of ns f)
+UntilsAreThoseThatOccur = (ns : List Node) (f : FormulaId) → IsNodeList ns → IsNodeIn ns f → ListsUntils ns f (untils_of ns f)

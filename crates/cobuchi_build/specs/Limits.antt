@@ -3,7 +3,7 @@ use Rattle.ltl_formula.specs.declared.nodes.FormulaId.{FormulaId}
 use Rattle.ltl_formula.specs.declared.nodes.Node.{Node}
 use Rattle.ltl_formula.specs.ListSignals.{HasSignalsBelow}
 use Rattle.ltl_formula.specs.NormalForm.{IsNormal}
-use Rattle.ltl_formula.specs.Nodes.{IsNodeList, Stands, tree_at}
+use Rattle.ltl_formula.specs.Nodes.{IsNodeList, IsNodeIn, tree_at}
 use Rattle.machine_model.specs.Automaton.{AutomatonModel, states_of}
 use Rattle.machine_model.specs.Problem.{NamesSignals}
 use Rattle.obligation_sets.specs.declared.sets.Covering.{Covering}
@@ -16,5 +16,5 @@ pub record NamesSignalsOf (ns : List Node) (a : AutomatonModel) : Type 0 where
 
 -- what every automaton of a formula keeps to
 pub record AutomataKeepLimits : Type 0 where
-  pub signals : (covering : Covering) (ns : List Node) (f : FormulaId) (a : AutomatonModel) → IsNodeList ns → Stands ns f → IsNormal (tree_at ns f) → IsAutomatonOf covering ns f a → NamesSignalsOf ns a
+  pub signals : (covering : Covering) (ns : List Node) (f : FormulaId) (a : AutomatonModel) → IsNodeList ns → IsNodeIn ns f → IsNormal (tree_at ns f) → IsAutomatonOf covering ns f a → NamesSignalsOf ns a
   pub states : (covering : Covering) (limits : AutomatonLimits) (ns : List Node) (f : FormulaId) (a : AutomatonModel) → IsAutomatonOf covering ns f a → (PassesLimit covering limits ns f → ⊥) → states_of a ≤ limits.states

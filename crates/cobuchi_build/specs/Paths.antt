@@ -8,7 +8,7 @@ use Rattle.obligation_sets.specs.declared.sets.Covering.{Covering}
 use Rattle.obligation_sets.specs.declared.sets.Cover.{Cover}
 use Rattle.obligation_sets.specs.Reduced.{covers_by}
 use Rattle.cobuchi_build.specs.declared.exploring.State.{State}
-use Rattle.cobuchi_build.specs.Explored.{start_of, state_after}
+use Rattle.cobuchi_build.specs.Explored.{start_state, state_after}
 use Rattle.cobuchi_build.specs.Occurring.{untils_of}
 
 -- a step from a state on a letter: a cover of its set whose cube the letter fits leads to the next state
@@ -28,6 +28,6 @@ pub record ComesToEnd (untils : List FormulaId) (state : ℕ → State) (t : ℕ
 -- ({f}, 0), each step is one on the word's letter, and behind each there is a state whose counter is the number of untils
 pub record HasPath (covering : Covering) (ns : List Node) (f : FormulaId) (w : Word) : Type 0 where
   pub state : ℕ → State
-  pub starts : state 0 ≡ start_of f
+  pub starts : state 0 ≡ start_state f
   pub steps : (t : ℕ) → IsStep covering ns (untils_of ns f) (nth_letter w t) (state t) (state (suc t))
   pub ends : (t : ℕ) → ComesToEnd (untils_of ns f) state t

@@ -1,6 +1,6 @@
 ghost use Rattle.std.specs.Prelude.{◌≡◌, ◌≤◌, Err, IfOk, OnOk, length};
 ghost use Rattle.ltl_formula.specs.NormalForm.{IsNormal};
-ghost use Rattle.ltl_formula.specs.Nodes.{IsNodeList, Stands, tree_at};
+ghost use Rattle.ltl_formula.specs.Nodes.{IsNodeList, IsNodeIn, tree_at};
 ghost use Rattle.cobuchi_build.specs.Built.{AcceptsExactly, IsAutomatonOf, IsFinished, PassesLimit};
 ghost use Rattle.cobuchi_build.specs.Limits.{NamesSignalsOf};
 ghost use Rattle.cobuchi_build.specs.Occurring.{untils_of};
@@ -70,7 +70,7 @@ pub fn build(
     covering: Covering,
     limits: AutomatonLimits,
 ) -> Result<Automaton, BuildFault>
-    requires stands { Stands formulas.now f }
+    requires stands { IsNodeIn formulas.now f }
     requires normal { IsNormal (tree_at formulas.now f) }
 
     ensures automaton { IfOk result (λ a. IsAutomatonOf covering formulas.now f a) }
@@ -101,7 +101,7 @@ fn explore(
     limits: AutomatonLimits,
 ) -> Result<Found, BuildFault>
     requires list { IsNodeList formulas.now }
-    requires stands { Stands formulas.now f }
+    requires stands { IsNodeIn formulas.now f }
     requires normal { IsNormal (tree_at formulas.now f) }
     requires untils { untils.now ≡ untils_of formulas.now f }
 

@@ -1,6 +1,6 @@
 ghost use Rattle.std.specs.Prelude.{◌≡◌, ◌<◌, ◌≤◌, List, Some, All, Err, IfOk, OnOk, length, slice_get};
 ghost use Rattle.ltl_formula.specs.declared.nodes.Node.{Node};
-ghost use Rattle.ltl_formula.specs.Nodes.{Stands};
+ghost use Rattle.ltl_formula.specs.Nodes.{IsNodeIn};
 ghost use Rattle.obligation_sets.specs.Covers.{set_leaves};
 ghost use Rattle.obligation_sets.specs.Reduced.{covers_by};
 ghost use Rattle.obligation_sets.specs.declared.sets.Covering.{Covering};
@@ -54,7 +54,7 @@ impl CoverTable {
         set: &ObligationSet,
         covering: Covering,
     ) -> Result<usize, CoverFault>
-        requires stands { All (Stands formulas.now) set.now }
+        requires stands { All (IsNodeIn formulas.now) set.now }
         requires known { IsTableOf covering formulas.now self.old }
         ensures covers { IfOk result (λ place. slice_get self.new.covers place ≡ Some (covers_by covering formulas.now set.now)) }
         ensures known { OnOk result (IsTableOf covering formulas.now self.new) }

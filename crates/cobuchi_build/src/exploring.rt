@@ -23,11 +23,11 @@ pub struct State {
 }
 
 impl State {
-    ghost use Rattle.cobuchi_build.specs.Explored.{start_of, state_after};
+    ghost use Rattle.cobuchi_build.specs.Explored.{start_state, state_after};
 
     /// The state that the automaton of `f` starts in.
     pub fn start(alloc: Global, f: FormulaId) -> Result<State, AllocError>
-        ensures { IfOk result (λ state. state ≡ start_of f) }
+        ensures { IfOk result (λ state. state ≡ start_state f) }
     {
         Ok(State {
             set: ObligationSet::new(Vec::from_slice(alloc, &[f])?),
@@ -108,12 +108,12 @@ impl Model for Found {
 
 impl Found {
     ghost use Rattle.std.specs.Prelude.{[], ◌∷◌, ◌⊎◌};
-    ghost use Rattle.cobuchi_build.specs.Explored.{Explored, meeting, start_of};
+    ghost use Rattle.cobuchi_build.specs.Explored.{Explored, meeting, start_state};
     ghost use Rattle.cobuchi_build.specs.Sizes.{HasRoom, HasTooMany};
 
     /// The start alone.
     pub(crate) fn start(alloc: Global, f: FormulaId) -> Result<Found, AllocError>
-        ensures { IfOk result (λ found. found ≡ record { states = start_of f ∷ []; edges = [] }) }
+        ensures { IfOk result (λ found. found ≡ record { states = start_state f ∷ []; edges = [] }) }
     {
         let mut states = IndexSet::new(alloc);
         states.insert(State::start(alloc, f)?)?;

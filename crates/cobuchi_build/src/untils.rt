@@ -1,6 +1,6 @@
 ghost use Rattle.std.specs.Prelude.{◌≡◌, ◌≤◌, [], ◌∷◌, ◌++◌, IfOk, OnOk, filter, length};
 ghost use Rattle.ltl_formula.specs.declared.nodes.TheConstants.{MAX_NODES};
-ghost use Rattle.ltl_formula.specs.Nodes.{IsNodeList, PartsBelow, Stands, node_at};
+ghost use Rattle.ltl_formula.specs.Nodes.{IsNodeList, PartsBelow, IsNodeIn, node_at};
 ghost use Rattle.cobuchi_build.specs.Occurring.{is_until, occurring, untils_of, with_parts};
 
 use ltl_formula::{FormulaId, Formulas, Node};
@@ -12,7 +12,7 @@ pub fn untils_of(
     formulas: &Formulas,
     f: FormulaId,
 ) -> Result<Vec<FormulaId>, AllocError>
-    requires { Stands formulas.now f }
+    requires { IsNodeIn formulas.now f }
     ensures untils { IfOk result (λ v. v.items ≡ untils_of formulas.now f) }
     ensures few { IfOk result (λ v. length v.items ≤ MAX_NODES) }
     ensures list { OnOk result (IsNodeList formulas.now) }
@@ -29,7 +29,7 @@ pub fn untils_of(
 
 /// For each formula of the list, whether it occurs in `f`. It takes time and memory for each.
 pub fn occurring(alloc: Global, formulas: &Formulas, f: FormulaId) -> Result<Vec<bool>, AllocError>
-    requires { Stands formulas.now f }
+    requires { IsNodeIn formulas.now f }
     ensures flags { IfOk result (λ v. v.items ≡ occurring formulas.now f) }
     ensures places { IfOk result (λ v. length v.items ≡ length formulas.now) }
     ensures list { OnOk result (IsNodeList formulas.now) }
@@ -74,7 +74,7 @@ fn note_until(
     formulas: &Formulas,
     id: FormulaId,
 ) -> Result<(), AllocError>
-    requires { Stands formulas.now id }
+    requires { IsNodeIn formulas.now id }
     ensures { OnOk result (untils.new.items ≡ untils.old.items ++ filter (λ g. is_until (node_at formulas.now g.0)) (id ∷ [])) }
 {
     if is_until(formulas.node(id)) {

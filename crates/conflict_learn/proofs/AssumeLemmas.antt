@@ -7,10 +7,10 @@ use Rattle.propositional_logic.specs.Literal.{Literal}
 use Rattle.refutation_log.proofs.Lists.{slice_get-push, take-append, take-append_all}
 use Rattle.unit_propagate.specs.declared.marks.Mark.{Mark}
 use Rattle.unit_propagate.specs.Trail.{highest_level, literals_of}
-use Rattle.unit_propagate.specs.Sound.{IsReason, IsSound}
+use Rattle.unit_propagate.specs.Sound.{IsReason, AreSoundMarks}
 use Rattle.unit_propagate.proofs.TrailLemmas.{highest_above}
 
-sound_with : (clauses : List (List Literal)) (marks : List Mark) (new : Mark) → new.level ≡ highest_level marks + 1 → new.reason ≡ None → IsSound clauses marks → IsSound clauses (marks ++ new ∷ [])
+sound_with : (clauses : List (List Literal)) (marks : List Mark) (new : Mark) → new.level ≡ highest_level marks + 1 → new.reason ≡ None → AreSoundMarks clauses marks → AreSoundMarks clauses (marks ++ new ∷ [])
 sound_with clauses marks new level none s = record {
   rising = all_pairs_push (λ (m n : Mark). m.level ≤ n.level) marks new s.rising (λ k d l. let h : (get_or marks k d).level ≤ highest_level marks = highest_above marks k d l in omega arith);
   assumed = λ i m at free. elim (slice_get-push marks new i m at) [
@@ -28,5 +28,5 @@ sound_with clauses marks new level none s = record {
   ];
 }
 
-pub IsSound-assume : (clauses : List (List Literal)) (marks : List Mark) (lit : Literal) → IsSound clauses marks → IsSound clauses (marks ++ (record { lit = lit; level = highest_level marks + 1; reason = None }) ∷ [])
+pub IsSound-assume : (clauses : List (List Literal)) (marks : List Mark) (lit : Literal) → AreSoundMarks clauses marks → AreSoundMarks clauses (marks ++ (record { lit = lit; level = highest_level marks + 1; reason = None }) ∷ [])
 IsSound-assume clauses marks lit s = sound_with clauses marks (record { lit = lit; level = highest_level marks + 1; reason = None }) refl refl s

@@ -3,7 +3,7 @@ use Rattle.std.proofs.Common.{◌≡◌, ℕ, ◌<◌, ◌≤◌, nat_eq, List, 
 use Rattle.std.proofs.lemmas.Bool.Decides.{Decides-eqb}
 use Rattle.std.proofs.lemmas.List.Elements.{All-contains}
 use Rattle.propositional_logic.specs.Literal.{Literal, negated}
-use Rattle.propositional_logic.specs.Clause.{IsClauseOf, IsWithin, IsTautology}
+use Rattle.propositional_logic.specs.Clause.{IsClauseOf, IsWithinVariables, IsTautology}
 use Rattle.propositional_logic.proofs.Members.{Contains-head, Contains-later, Contains-none, Contains-cases}
 use Rattle.propositional_logic.proofs.Tests.{Decides-is_falsified, fails}
 use Rattle.refutation_log.specs.Follows.{Follows}
@@ -40,7 +40,7 @@ module _ (clauses : List (List Literal)) (vars : ℕ) (marks : List Mark) (trail
   kept_mark : (l : Literal) → Contains lits l → (m : Mark) × Contains marks m × (m.lit ≡ negated l)
   kept_mark l h = let k = a.kept l h in (k.1, Contains-slice_get marks k.0 k.1 k.3, k.4)
 
-  pub kept_within : IsWithin vars lits
+  pub kept_within : IsWithinVariables vars lits
   kept_within = All-from_contains (λ l. l.var ≤ vars) lits (λ l h.
       let k = kept_mark l h in
       let same : k.0.lit.var ≡ l.var = ap (λ (x : Literal). x.var) k.2 in

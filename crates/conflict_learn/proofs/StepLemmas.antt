@@ -9,7 +9,7 @@ use Rattle.propositional_logic.specs.Literal.{Literal, negated}
 use Rattle.refutation_log.specs.Follows.{clause_named}
 use Rattle.unit_propagate.specs.declared.marks.Mark.{Mark}
 use Rattle.unit_propagate.specs.Trail.{IsTrail, literals_of}
-use Rattle.unit_propagate.specs.Sound.{IsSound}
+use Rattle.unit_propagate.specs.Sound.{AreSoundMarks}
 use Rattle.unit_propagate.proofs.Places.{Contains-slice_get}
 use Rattle.conflict_learn.specs.Places.{Gains}
 use Rattle.conflict_learn.specs.Analysis.{HasFalsifier, FalsifiesOne, AreUpTo, IsResolved, IsLeft, AddsFalsifier}
@@ -42,7 +42,7 @@ module _ (vars : ℕ) (marks : List Mark) (trail : IsTrail vars marks) (places :
     pub resolved_top : (reason : ℕ) → m.level ≡ top → n.level ≡ top → m.reason ≡ Some reason → IsResolved marks places place top reason
     resolved_top reason e f r = record { mark = m; there = at; by_reason = r; level = inr (inr (e, (next, n, to_come, there, f))) }
 
-    pub unresolved_top : (clauses : List (List Literal)) → m.level ≡ top → n.level ≡ top → m.reason ≡ None → IsSound clauses marks → IsLeft marks places place top
+    pub unresolved_top : (clauses : List (List Literal)) → m.level ≡ top → n.level ≡ top → m.reason ≡ None → AreSoundMarks clauses marks → IsLeft marks places place top
     unresolved_top clauses e f r s =
         let a = s.assumed place m at r in
         let lt : next < place = All-contains (λ q. q < place) places next low to_come in

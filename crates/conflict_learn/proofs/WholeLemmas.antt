@@ -7,7 +7,7 @@ use Rattle.propositional_logic.proofs.Members.{Contains-none}
 use Rattle.refutation_log.specs.Follows.{clause_named, is_falsified_named}
 use Rattle.unit_propagate.specs.declared.marks.Mark.{Mark}
 use Rattle.unit_propagate.specs.Trail.{IsTrail, literals_of}
-use Rattle.unit_propagate.specs.Sound.{IsSound}
+use Rattle.unit_propagate.specs.Sound.{AreSoundMarks}
 use Rattle.conflict_learn.specs.Learnt.{clause_level}
 use Rattle.conflict_learn.specs.Analysis.{HasFalsifier, FalsifiesOne, IsResolved, IsLeft, IsAnalysis, Resolves}
 use Rattle.conflict_learn.proofs.LevelLemmas.{same_mark}
@@ -57,7 +57,7 @@ left_at clauses vars marks top bound place places places' lits lits' hints m tra
     (left_kept clauses vars marks trail top bound (places ++ place ∷ []) places place lits hints a refl low left))
 
 pub resolved_at : (clauses : List (List Literal)) (vars : ℕ) (marks : List Mark) (top bound place reason : ℕ) (places places' : List ℕ) (lits lits' : List Literal) (hints hints' : List ℕ) → IsTrail vars marks
-    → IsSound clauses marks → All (λ q. q < place) places → IsResolved marks places place top reason → Resolves clauses marks places places' reason → lits' ≡ lits → hints' ≡ hints ++ reason ∷ []
+    → AreSoundMarks clauses marks → All (λ q. q < place) places → IsResolved marks places place top reason → Resolves clauses marks places places' reason → lits' ≡ lits → hints' ≡ hints ++ reason ∷ []
     → IsAnalysis clauses marks top bound (places ++ place ∷ []) lits hints → IsAnalysis clauses marks top place places' lits' hints'
 resolved_at clauses vars marks top bound place reason places places' lits lits' hints hints' trail sound low r s is more a =
     subst (λ hs. IsAnalysis clauses marks top place places' lits' hs) (sym more)

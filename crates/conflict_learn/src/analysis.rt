@@ -5,7 +5,7 @@ ghost use Rattle.refutation_log.specs.Entry.{clauses_of};
 ghost use Rattle.refutation_log.specs.Follows.{clause_named};
 ghost use Rattle.unit_propagate.specs.declared.marks.Mark.{Mark};
 ghost use Rattle.unit_propagate.specs.Trail.{IsFree, IsTrail, literals_of};
-ghost use Rattle.unit_propagate.specs.Sound.{IsSound};
+ghost use Rattle.unit_propagate.specs.Sound.{AreSoundMarks};
 ghost use Rattle.conflict_learn.specs.Learnt.{level_in, clause_level};
 ghost use Rattle.conflict_learn.specs.Analysis.{HasFalsifier, FalsifiesOne, AreUpTo, IsResolved, IsLeft, IsAnalysis, Resolves, AddsFalsifier};
 
@@ -79,7 +79,7 @@ fn resolvent(trail: &Trail, places: &Places, place: usize, top: u32, implied: bo
     requires levels { AreUpTo trail.now.marks top places.now }
     requires trail { IsTrail trail.now.vars trail.now.marks }
     ensures some { IfSome result (IsResolved trail.now.marks places.now place top) }
-    ensures none { IfNone result ((clauses : List (List Literal)) → IsSound clauses trail.now.marks → IsLeft trail.now.marks places.now place top) }
+    ensures none { IfNone result ((clauses : List (List Literal)) → AreSoundMarks clauses trail.now.marks → IsLeft trail.now.marks places.now place top) }
 {
     let (_lit, level, reason) = trail.at(place);
     if level == 0 {
@@ -146,7 +146,7 @@ impl Analysis {
         requires low { All (λ q. q < place) self.old.places }
         requires levels { AreUpTo trail.now.marks top self.old.places }
         requires trail { IsTrail trail.now.vars trail.now.marks }
-        requires sound { IsSound (base.now.clauses.items ++ clauses_of seen.now) trail.now.marks }
+        requires sound { AreSoundMarks (base.now.clauses.items ++ clauses_of seen.now) trail.now.marks }
         ensures { OnOk result ((bound : ℕ) → IsAnalysis (base.now.clauses.items ++ clauses_of seen.now) trail.now.marks top bound (self.old.places ++ place ∷ []) self.old.lits.items self.old.hints.items
             → IsAnalysis (base.now.clauses.items ++ clauses_of seen.now) trail.now.marks top place self.new.places self.new.lits.items self.new.hints.items) }
     {
@@ -177,7 +177,7 @@ impl Analysis {
         place: usize,
         reason: u64,
     ) -> Result<(), AllocError>
-        requires sound { IsSound (base.now.clauses.items ++ clauses_of seen.now) trail.now.marks }
+        requires sound { AreSoundMarks (base.now.clauses.items ++ clauses_of seen.now) trail.now.marks }
         requires there { (m : Mark) × (slice_get trail.now.marks place ≡ Some m) × (m.reason ≡ Some reason) }
         ensures resolves { OnOk result (Resolves (base.now.clauses.items ++ clauses_of seen.now) trail.now.marks self.old.places self.new.places reason) }
         ensures lits { self.new.lits ≡ self.old.lits }
@@ -201,7 +201,7 @@ impl Analysis {
     ) -> Result<(), AllocError>
         requires all { end ≡ length trail.now.marks }
         requires trail { IsTrail trail.now.vars trail.now.marks }
-        requires sound { IsSound (base.now.clauses.items ++ clauses_of seen.now) trail.now.marks }
+        requires sound { AreSoundMarks (base.now.clauses.items ++ clauses_of seen.now) trail.now.marks }
         requires known { IsAnalysis (base.now.clauses.items ++ clauses_of seen.now) trail.now.marks top (length trail.now.marks) self.old.places self.old.lits.items self.old.hints.items }
         ensures { OnOk result ((bound : ℕ) × IsAnalysis (base.now.clauses.items ++ clauses_of seen.now) trail.now.marks top bound [] self.new.lits.items self.new.hints.items) }
     {

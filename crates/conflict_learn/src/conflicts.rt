@@ -1,9 +1,9 @@
 ghost use Rattle.std.specs.Prelude.{◌≡◌, ℕ, true, ◌++◌, List, Some, IfOk, All, reverse};
-ghost use Rattle.propositional_logic.specs.Clause.{IsClauseOf, IsFormula, IsTautology, IsWithin};
+ghost use Rattle.propositional_logic.specs.Clause.{IsClauseOf, IsFormula, IsTautology, IsWithinVariables};
 ghost use Rattle.refutation_log.specs.Entry.{clauses_of};
 ghost use Rattle.refutation_log.specs.Follows.{clause_named, is_falsified_named, Follows};
 ghost use Rattle.unit_propagate.specs.Trail.{literals_of};
-ghost use Rattle.unit_propagate.specs.Sound.{IsSound};
+ghost use Rattle.unit_propagate.specs.Sound.{AreSoundMarks};
 ghost use Rattle.conflict_learn.specs.Learnt.{IsLearnt};
 ghost use Rattle.propositional_logic.specs.Literal.{Literal};
 
@@ -33,9 +33,9 @@ pub fn learn(
 ) -> Result<Learned, AllocError>
     requires variables { base.now.vars ≡ trail.now.vars }
     requires formula { IsFormula base.now.vars base.now.clauses.items }
-    requires within { All (λ e. IsWithin base.now.vars e.clause) seen.now }
+    requires within { All (λ e. IsWithinVariables base.now.vars e.clause) seen.now }
     requires falsified { is_falsified_named (base.now.clauses.items ++ clauses_of seen.now) (literals_of trail.now.marks) number ≡ true }
-    requires sound { IsSound (base.now.clauses.items ++ clauses_of seen.now) trail.now.marks }
+    requires sound { AreSoundMarks (base.now.clauses.items ++ clauses_of seen.now) trail.now.marks }
     ensures follows { IfOk result (λ l. Follows (base.now.clauses.items ++ clauses_of seen.now) l.clause l.hints) }
     ensures learnt { IfOk result (λ l. (c : List Literal) → clause_named (base.now.clauses.items ++ clauses_of seen.now) number ≡ Some c → IsLearnt trail.now.marks c l.clause) }
 {
@@ -59,7 +59,7 @@ fn with_hints(
     lits: &[Lit],
     mut hints: Vec<u64>,
 ) -> Result<Learned, AllocError>
-    requires within { IsWithin vars lits.now }
+    requires within { IsWithinVariables vars lits.now }
     requires one_sign { IsTautology lits.now → ⊥ }
     ensures clause { IfOk result (λ l. IsClauseOf lits.now l.clause) }
     ensures hints { IfOk result (λ l. l.hints ≡ reverse hints.items) }

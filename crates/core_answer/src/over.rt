@@ -2,7 +2,7 @@
 ghost use Rattle.std.specs.Prelude.{◌≡◌, ◌≤◌, ℕ, List, Option, false, IfOk, length};
 ghost use Rattle.text_limits.specs.declared.TheConstants.{SMALL_LIMITS};
 ghost use Rattle.letters_and_lassos.specs.declared.kinds.Kind.{Kind as AKind};
-ghost use Rattle.ltl_formula.specs.Nodes.{Stands};
+ghost use Rattle.ltl_formula.specs.Nodes.{IsNodeIn};
 ghost use Rattle.tlsf_expand.specs.FewSignals.{HasFewSignals};
 ghost use Rattle.tlsf_expand.specs.FlatText.{spec_seen};
 ghost use Rattle.flat_text.specs.FlatNames.{HasPlainNames};
@@ -58,7 +58,7 @@ fn reduced_answer<R: Threads + Wait + Sync, G: Gate + Sync>(
     settings: Settings,
     gate: &G,
 ) -> Result<Answered, AllocError>
-    requires stands { Stands reduced.formulas reduced.whole }
+    requires stands { IsNodeIn reduced.formulas reduced.whole }
     requires few { HasFewSignals SMALL_LIMITS (length spec.now.inputs.items) (length spec.now.outputs.items) reduced.formulas }
     requires names { HasPlainNames (spec_seen spec.now).expanded }
     ensures { IfOk result (λ a. IsReducedReply (spec_seen spec.now).expanded reduced settings a.reply.bytes.items a.reply.status a.defeats) }

@@ -18,7 +18,7 @@ use Rattle.aiger_text.specs.Circuit.{Circuit}
 use Rattle.document_text.specs.declared.documents.Verdict.{Verdict}
 use Rattle.document_text.specs.declared.reading.CircuitPart.{CircuitPart}
 use Rattle.document_text.specs.declared.reading.CircuitPart.TheVariants.{Absent, Faulty, Stated}
-use Rattle.document_text.specs.Order.{order_of, place_of}
+use Rattle.document_text.specs.Order.{order_of, log_place}
 use Rattle.document_text.specs.Parts.{LogPart, Document}
 use Rattle.letters_and_lassos.specs.contracts.kinds.SidePartialEq.TheImpl.{ghosts as side_ghosts}
 use Rattle.document_text.specs.Reading.{DocumentLines, Reads, all_named, circuit_in}
@@ -121,17 +121,17 @@ pub same_as_itself : (a : Side) → side_ghosts.eq a a ≡ true
 same_as_itself System = refl
 same_as_itself Environment = refl
 
-size_is : (s : Place) (l : LogPart) → is_size_of s l ≡ true → place_of l ≡ s
+size_is : (s : Place) (l : LogPart) → is_size_of s l ≡ true → log_place l ≡ s
 size_is s l e =
     let k = and_parts (side_ghosts.eq s.side l.side) (eqb s.size l.size) e in
     λ i. record { side = sym (side_is s.side l.side k.0) i; size = sym (eqb-true s.size l.size k.1) i }
 
-is_its_size : (s : Place) (l : LogPart) → place_of l ≡ s → is_size_of s l ≡ true
+is_its_size : (s : Place) (l : LogPart) → log_place l ≡ s → is_size_of s l ≡ true
 is_its_size s l e = subst (λ (s : Place). is_size_of s l ≡ true) e (and_from (side_ghosts.eq l.side l.side) (eqb l.size l.size) (same_as_itself l.side) (eq-eqb l.size l.size refl))
 
 module _ (facts : Facts) (kind : Kind) (version : ℕ) (full : Bool) (limit : Option ℕ) (end : ℕ) where
   pub record AreGood (sizes : List Place) (logs : List LogPart) : Type 0 where
-    pub sizes_are : map place_of logs ≡ sizes
+    pub sizes_are : map log_place logs ≡ sizes
     pub hold : AllHold facts kind version full limit logs
 
   holds_at : (l : LogPart) (p : Problem) → problem_at facts kind version l.side l.size ≡ Some p → IsLogOf full limit l p → HoldsAt facts kind version full limit l
@@ -154,7 +154,7 @@ module _ (facts : Facts) (kind : Kind) (version : ℕ) (full : Bool) (limit : Op
   its_problem : (l : LogPart) (p : Problem) → problem_at facts kind version l.side l.size ≡ Some p → HoldsAt facts kind version full limit l → IsLogOf full limit l p
   its_problem l p is holds = subst (λ (o : Option Problem). IsLogOfSome full limit l o) is holds
 
-  head_is : (s : Place) (ss : List Place) (l : LogPart) (ls : List LogPart) → map place_of (l ∷ ls) ≡ s ∷ ss → (place_of l ≡ s) × (map place_of ls ≡ ss)
+  head_is : (s : Place) (ss : List Place) (l : LogPart) (ls : List LogPart) → map log_place (l ∷ ls) ≡ s ∷ ss → (log_place l ≡ s) × (map log_place ls ≡ ss)
   head_is s ss l ls e = (ap first e, ap behind e)
     where
       first : List Place → Place
@@ -165,7 +165,7 @@ module _ (facts : Facts) (kind : Kind) (version : ℕ) (full : Bool) (limit : Op
       behind [] = ss
       behind (x ∷ xs) = xs
 
-  pub logs_pass : (sizes : List Place) (logs : List LogPart) (o : Option ℕ) → map place_of logs ≡ sizes → AllHold facts kind version full limit logs
+  pub logs_pass : (sizes : List Place) (logs : List LogPart) (o : Option ℕ) → map log_place logs ≡ sizes → AllHold facts kind version full limit logs
       → LogsFail facts kind version full limit end sizes logs o → o ≡ None
   logs_pass [] [] o same hold all_there = refl
   logs_pass (s ∷ ss) [] o same hold (one_missing z zs) = absurd (cc)

@@ -11,7 +11,7 @@ use Rattle.document_text.specs.declared.header.Header.{Header}
 use Rattle.document_text.specs.declared.logs.Head.{Head}
 use Rattle.document_text.specs.declared.order.Order.{Order}
 use Rattle.document_text.specs.declared.order.Place.{Place}
-use Rattle.document_text.specs.Order.{fits_max, has_its_place, may_tell_found, start_of}
+use Rattle.document_text.specs.Order.{fits_max, has_its_place, may_tell_found, first_place}
 use Rattle.document_text.specs.Header.{HeaderRead, entries_in, found_at, found_in, front, header_of, kind_in, max_in, on_entries, on_found, on_kind, on_max, on_verdict, on_version, verdict_in, version_in}
 use Rattle.document_text.specs.Logs.{LogsRead, ReadsLogs, ended, no_head, stopped, whole, AreFirstEntries, next_head, part_of}
 use Rattle.document_text.specs.Reading.{BodyRead, DocumentLines, ReadsBody, of_header, of_logs, ReadsBehind, unnamed, named, Reads, without_circuit, of_fault, uncommented, commented, line_count, order_in}
@@ -64,7 +64,7 @@ body_readable circuit first bytes body (of_logs more e reads) small =
     ap length g.text ∙ length-append (lines_text g.version g.verdict g.kind g.max g.entries g.found) g.rest in
     let m : length (header_of circuit first bytes).rest ≡ length g.rest = ap (λ (x : HeaderRead). length x.rest) g.read in
     let k = few_lines (header_of circuit first bytes).header in
-    logs_readable (order_in (header_of circuit first bytes).header) (start_of (order_in (header_of circuit first bytes).header))
+    logs_readable (order_in (header_of circuit first bytes).header) (first_place (order_in (header_of circuit first bytes).header))
     (first + line_count (header_of circuit first bytes).header) (header_of circuit first bytes).rest more reads (omega (arith, n, m, k, small))
 
 -- ---- the greatest size is at most 8

@@ -15,7 +15,7 @@ use Rattle.aiger_text.specs.Circuit.{Circuit}
 use Rattle.document_text.specs.declared.documents.Verdict.{Verdict}
 use Rattle.document_text.specs.declared.documents.Verdict.TheVariants.{Machine, Unknown}
 use Rattle.document_text.specs.Parts.{LogPart, Document}
-use Rattle.document_text.specs.Order.{machine_of, named_of, order_of, place_of, verdict_of}
+use Rattle.document_text.specs.Order.{machine_of, named_of, order_of, log_place, verdict_of}
 use Rattle.document_text.specs.contracts.documents.VerdictPartialEq.TheImpl.{ghosts as verdict_ghosts}
 use Rattle.document_text.specs.declared.order.Place.{Place}
 use Rattle.circuit_names.specs.Names as names
@@ -33,7 +33,7 @@ may_be_full (Unknown first) = is_some first
 -- the first log that isn't closed
 abbrev pub first_open : List LogPart → Option Place
 first_open [] = None
-first_open (l ∷ logs) = if is_ended l.entries then first_open logs else Some (place_of l)
+first_open (l ∷ logs) = if is_ended l.entries then first_open logs else Some (log_place l)
 
 -- The verdict is what is said of its machine, or of none, beside logs of which this is the first that isn't closed: a machine is the least
 -- where there is no such log, and without a machine the verdict names it.
@@ -75,6 +75,6 @@ pub record HoldsFor (facts : Facts) (d : Document) : Type 0 where
   pub names : IfSome d.circuit (HasNames facts (circuit_side d.verdict))
   pub number : IsTrue (is_allowed d.verdict (allowed_at facts d.kind d.version d.max System) (allowed_at facts d.kind d.version d.max Environment))
   pub found : d.found ≤ allowed_at facts d.kind d.version d.max System
-  pub sizes : map place_of d.logs ≡ wanted_sizes (order_of d.version d.verdict d.max d.found) (allowed_at facts d.kind d.version d.max System) (allowed_at facts d.kind d.version d.max Environment)
+  pub sizes : map log_place d.logs ≡ wanted_sizes (order_of d.version d.verdict d.max d.found) (allowed_at facts d.kind d.version d.max System) (allowed_at facts d.kind d.version d.max Environment)
   pub logs : AllHold facts d.kind d.version (may_be_full d.verdict) d.entries d.logs
   pub named : IsTrue (names_open d.verdict (first_open d.logs))

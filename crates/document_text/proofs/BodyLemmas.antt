@@ -3,7 +3,7 @@ use Rattle.std.proofs.Common.{◌≡◌, ℕ, ◌+◌, ◌≤◌, Bool, true, fa
 use Rattle.std.specs.Prelude.{is_some}
 use Rattle.std.proofs.lemmas.List.{length-append}
 use Rattle.document_text.specs.declared.order.Order.{Order}
-use Rattle.document_text.specs.Order.{start_of}
+use Rattle.document_text.specs.Order.{first_place}
 use Rattle.document_text.specs.Header.{HeaderRead, header_of}
 use Rattle.document_text.specs.Logs.{LogsRead, ReadsLogs}
 use Rattle.document_text.specs.Reading.{ReadsBody, of_header, line_count, order_in}
@@ -39,8 +39,8 @@ module _ (circuit : Bool) (first : ℕ) (bytes : List ℕ) (found : HeaderRead) 
       omega (arith, n, m)
 
   pub good_logs_behind : (order : Order) (count : ℕ) (more : LogsRead) → is_some found.header.bad ≡ false → order ≡ order_in found.header → count ≡ line_count found.header
-      → ReadsLogs order (start_of order) (first + count) found.rest more → ReadsBody circuit first bytes (record { header = found.header; logs = more.logs; bad = more.bad })
+      → ReadsLogs order (first_place order) (first + count) found.rest more → ReadsBody circuit first bytes (record { header = found.header; logs = more.logs; bad = more.bad })
   good_logs_behind order count more none o c reads =
       body_reads circuit first bytes found more is (good none)
-      (subst (λ (n : ℕ). ReadsLogs (order_in found.header) (start_of (order_in found.header)) (first + n) found.rest more) c
-      (subst (λ (x : Order). ReadsLogs x (start_of x) (first + count) found.rest more) o reads))
+      (subst (λ (n : ℕ). ReadsLogs (order_in found.header) (first_place (order_in found.header)) (first + n) found.rest more) c
+      (subst (λ (x : Order). ReadsLogs x (first_place x) (first + count) found.rest more) o reads))

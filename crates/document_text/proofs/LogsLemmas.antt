@@ -7,7 +7,7 @@ use Rattle.document_text.specs.declared.logs.Head.{Head}
 use Rattle.document_text.specs.declared.order.Order.{Order}
 use Rattle.document_text.specs.declared.order.Place.{Place}
 use Rattle.document_text.specs.Parts.{LogPart}
-use Rattle.document_text.specs.Order.{place, start_of}
+use Rattle.document_text.specs.Order.{place, first_place}
 use Rattle.document_text.specs.Header.{front}
 use Rattle.document_text.specs.Logs.{LogsRead, ReadsLogs, ended, no_head, stopped, whole, AreFirstEntries, bad_behind, behind_end, next_head, part_of}
 use Rattle.document_text.proofs.LineRead.{front_is}
@@ -23,25 +23,25 @@ some_same o x y a b = ap (λ o. unwrap_or o x) (sym a ∙ b)
 
 -- the logs so far were read, and whatever is read from here on stands behind them
 pub record Goes (order : Order) (first : ℕ) (bytes : List ℕ) (done : List LogPart) (last : Place) (n : ℕ) (rest : List ℕ) : Type 0 where
-  pub on : (more : LogsRead) → ReadsLogs order last n rest more → ReadsLogs order (start_of order) first bytes (record { logs = done ++ more.logs; bad = more.bad })
+  pub on : (more : LogsRead) → ReadsLogs order last n rest more → ReadsLogs order (first_place order) first bytes (record { logs = done ++ more.logs; bad = more.bad })
 
 module _ (order : Order) (first : ℕ) (bytes : List ℕ) (done : List LogPart) (last : Place) (n : ℕ) (rest : List ℕ) (goes : Goes order first bytes done last n rest) where
-  at_end : (bad : Option ℕ) → ReadsLogs order last n rest (record { logs = []; bad = bad }) → ReadsLogs order (start_of order) first bytes (record { logs = done; bad = bad })
+  at_end : (bad : Option ℕ) → ReadsLogs order last n rest (record { logs = []; bad = bad }) → ReadsLogs order (first_place order) first bytes (record { logs = done; bad = bad })
   at_end bad reads =
-      subst (λ (logs : List LogPart). ReadsLogs order (start_of order) first bytes (record { logs = logs; bad = bad })) (append-nil done)
+      subst (λ (logs : List LogPart). ReadsLogs order (first_place order) first bytes (record { logs = logs; bad = bad })) (append-nil done)
       (goes.on (record { logs = []; bad = bad }) reads)
 
-  pub goes_ended : (after : List ℕ) → behind_end order last rest ≡ Some after → ReadsLogs order (start_of order) first bytes (record { logs = done; bad = bad_behind n after })
+  pub goes_ended : (after : List ℕ) → behind_end order last rest ≡ Some after → ReadsLogs order (first_place order) first bytes (record { logs = done; bad = bad_behind n after })
   goes_ended after is = at_end (bad_behind n after) (ended last n rest after is)
 
   pub goes_no_head : behind_end order last rest ≡ None → front (next_head order last) rest ≡ None
-      → ReadsLogs order (start_of order) first bytes (record { logs = done; bad = Some n })
+      → ReadsLogs order (first_place order) first bytes (record { logs = done; bad = Some n })
   goes_no_head no_end none = at_end (Some n) (no_head last n rest no_end none)
 
   module _ (head : Head) (tail after : List ℕ) (entries : List Entry) (no_end : behind_end order last rest ≡ None)
       (next : front (next_head order last) rest ≡ Some (head, tail)) (are : AreFirstEntries head.vars head.count tail entries after) where
     pub goes_stopped : length entries < head.count
-        → ReadsLogs order (start_of order) first bytes (record { logs = done ++ part_of head entries n ∷ []; bad = Some (n + 1 + length entries) })
+        → ReadsLogs order (first_place order) first bytes (record { logs = done ++ part_of head entries n ∷ []; bad = Some (n + 1 + length entries) })
     goes_stopped fewer =
         goes.on (record { logs = part_of head entries n ∷ []; bad = Some (n + 1 + length entries) })
         (stopped last n rest head tail entries after no_end next are fewer)
@@ -52,7 +52,7 @@ module _ (order : Order) (first : ℕ) (bytes : List ℕ) (done : List LogPart) 
         let so_many : length entries ≡ head.count = omega arith in
         record {
           on = λ more reads.
-              subst (λ (logs : List LogPart). ReadsLogs order (start_of order) first bytes (record { logs = logs; bad = more.bad })) (sym (append_assoc done (part_of head entries n ∷ []) more.logs))
+              subst (λ (logs : List LogPart). ReadsLogs order (first_place order) first bytes (record { logs = logs; bad = more.bad })) (sym (append_assoc done (part_of head entries n ∷ []) more.logs))
               (goes.on (record { logs = part_of head entries n ∷ more.logs; bad = more.bad }) (whole last n rest head tail entries after more no_end next are so_many reads));
         }
 

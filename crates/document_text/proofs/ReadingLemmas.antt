@@ -4,7 +4,7 @@ use Rattle.aiger_text.specs.declared.faults.CircuitFault.{CircuitFault}
 use Rattle.aiger_text.specs.CircuitFile.{File}
 use Rattle.aiger_text.proofs.FileFacts.{files_state_one_thing, faults_state_nothing, files_have_one_fault}
 use Rattle.document_text.specs.declared.reading.CircuitPart.TheVariants.{Absent, Faulty, Stated}
-use Rattle.document_text.specs.Order.{start_of}
+use Rattle.document_text.specs.Order.{first_place}
 use Rattle.document_text.specs.Header.{HeaderRead, no_header, header_of}
 use Rattle.document_text.specs.Logs.{LogsRead, ReadsLogs}
 use Rattle.document_text.specs.Reading.{DocumentLines, BodyRead, ReadsBody, of_header, of_logs, ReadsBehind, unnamed, named, Reads, without_circuit, of_fault, uncommented, commented, order_in, line_count, fault_line}
@@ -18,15 +18,15 @@ module _ (circuit : Bool) (first : ℕ) (bytes : List ℕ) where
   body_same a b (of_logs more e reads) (of_header m f) = absurd (some_none (header_of circuit first bytes).header.bad m f e)
   body_same a b (of_logs more e reads) (of_logs other f reads') =
       ap (λ (m : LogsRead). record { header = (header_of circuit first bytes).header; logs = m.logs; bad = m.bad })
-      (logs_same (order_in (header_of circuit first bytes).header) (start_of (order_in (header_of circuit first bytes).header))
+      (logs_same (order_in (header_of circuit first bytes).header) (first_place (order_in (header_of circuit first bytes).header))
       (first + line_count (header_of circuit first bytes).header) (header_of circuit first bytes).rest more other reads reads')
 
   -- what is read behind a header that is known
   pub body_reads : (found : HeaderRead) (more : LogsRead) → header_of circuit first bytes ≡ found → found.header.bad ≡ None
-      → ReadsLogs (order_in found.header) (start_of (order_in found.header)) (first + line_count found.header) found.rest more
+      → ReadsLogs (order_in found.header) (first_place (order_in found.header)) (first + line_count found.header) found.rest more
       → ReadsBody circuit first bytes (record { header = found.header; logs = more.logs; bad = more.bad })
   body_reads found more is =
-      subst (λ (x : HeaderRead). x.header.bad ≡ None → ReadsLogs (order_in x.header) (start_of (order_in x.header)) (first + line_count x.header) x.rest more
+      subst (λ (x : HeaderRead). x.header.bad ≡ None → ReadsLogs (order_in x.header) (first_place (order_in x.header)) (first + line_count x.header) x.rest more
       → ReadsBody circuit first bytes (record { header = x.header; logs = more.logs; bad = more.bad })) is (λ none reads. of_logs more none reads)
 
 module _ (file : File) (comment : List ℕ) where

@@ -17,7 +17,7 @@ use Rattle.document_text.specs.declared.order.Place.{Place}
 use Rattle.document_text.specs.declared.reading.CircuitPart.TheVariants.{Absent, Stated}
 use Rattle.document_text.specs.Parts.{LogPart, Document}
 use Rattle.document_text.specs.Lines.{part_text, logs_text, body_text, document_text, end_text}
-use Rattle.document_text.specs.Order.{AreInOrder, has_its_place, order_of, place, start_of}
+use Rattle.document_text.specs.Order.{AreInOrder, has_its_place, order_of, place, first_place}
 use Rattle.document_text.specs.Header.{HeaderRead, header_of}
 use Rattle.document_text.specs.Logs.{LogsRead, ReadsLogs}
 use Rattle.document_text.specs.Reading.{DocumentLines, BodyRead, ReadsBody, of_header, of_logs, ReadsBehind, unnamed, named, Reads, without_circuit, of_fault, uncommented, commented, IsFirstBadLine, all_named, begins_without_circuit, document_of, line_count, order_in}
@@ -43,18 +43,18 @@ pub record GoodBody (circuit : Bool) (first : ℕ) (bytes : List ℕ) (body : Bo
   pub ranges : HasRanges circuit version verdict max entries found
   pub header_is : body.header ≡ header_with version verdict kind max entries found
   pub text : bytes ≡ lines_text version verdict kind max entries found ++ logs_text body.logs
-  pub in_order : AreInOrder (order_of version verdict max found) (start_of (order_of version verdict max found)) body.logs
+  pub in_order : AreInOrder (order_of version verdict max found) (first_place (order_of version verdict max found)) body.logs
   pub at : AreAt (first + line_count (header_with version verdict kind max entries found)) body.logs
   pub parts : All IsLogPart body.logs
 
 module _ (circuit : Bool) (first : ℕ) (bytes : List ℕ) where
   logs_behind : (more : LogsRead) (h : GoodHeader circuit first bytes)
-      → ReadsLogs (order_in (header_of circuit first bytes).header) (start_of (order_in (header_of circuit first bytes).header)) (first + line_count (header_of circuit first bytes).header) (header_of circuit first bytes).rest more
+      → ReadsLogs (order_in (header_of circuit first bytes).header) (first_place (order_in (header_of circuit first bytes).header)) (first + line_count (header_of circuit first bytes).header) (header_of circuit first bytes).rest more
       → more.bad ≡ None → GoodBody circuit first bytes (record { header = (header_of circuit first bytes).header; logs = more.logs; bad = more.bad })
   logs_behind more h reads good =
-      let here : ReadsLogs (order_of h.version h.verdict h.max h.found) (start_of (order_of h.version h.verdict h.max h.found)) (first + line_count (header_with h.version h.verdict h.kind h.max h.entries h.found)) h.rest more =
-      subst (λ (x : HeaderRead). ReadsLogs (order_in x.header) (start_of (order_in x.header)) (first + line_count x.header) x.rest more) h.read reads in
-      let logs = good_logs (order_of h.version h.verdict h.max h.found) (start_of (order_of h.version h.verdict h.max h.found))
+      let here : ReadsLogs (order_of h.version h.verdict h.max h.found) (first_place (order_of h.version h.verdict h.max h.found)) (first + line_count (header_with h.version h.verdict h.kind h.max h.entries h.found)) h.rest more =
+      subst (λ (x : HeaderRead). ReadsLogs (order_in x.header) (first_place (order_in x.header)) (first + line_count x.header) x.rest more) h.read reads in
+      let logs = good_logs (order_of h.version h.verdict h.max h.found) (first_place (order_of h.version h.verdict h.max h.found))
       (first + line_count (header_with h.version h.verdict h.kind h.max h.entries h.found)) h.rest more here good in
       record {
         version = h.version;
@@ -175,7 +175,7 @@ module _ (d : Document) (w : IsWellFormed d) where
       let r : HasRanges circuit d.version d.verdict d.max d.entries d.found = subst (λ b. HasRanges b d.version d.verdict d.max d.entries d.found) is ranges in
       body_reads circuit first (body_text d) (record { header = header_with d.version d.verdict d.kind d.max d.entries d.found; rest = logs_text d.logs }) (record { logs = d.logs; bad = None })
       (header_read circuit first d.version d.verdict d.kind d.max d.entries d.found (logs_text d.logs) r (no_found d.max d.logs w.logs)) refl
-      (logs_read (order_of d.version d.verdict d.max d.found) (start_of (order_of d.version d.verdict d.max d.found))
+      (logs_read (order_of d.version d.verdict d.max d.found) (first_place (order_of d.version d.verdict d.max d.found))
       (first + line_count header) d.logs w.order at w.logs)
 
 -- the text of a document without a circuit begins with the word of its first line
@@ -287,7 +287,7 @@ module _ (d : Document) (w : IsWellFormed d) where
         number = w.number;
         entries = w.entries;
         found = w.found;
-        order = same_order (order_of d.version d.verdict d.max d.found) (start_of (order_of d.version d.verdict d.max d.found)) (logs_line (numbered d)) d.logs w.order;
+        order = same_order (order_of d.version d.verdict d.max d.found) (first_place (order_of d.version d.verdict d.max d.found)) (logs_line (numbered d)) d.logs w.order;
         logs = same_parts (logs_line (numbered d)) d.logs w.logs;
       }
 

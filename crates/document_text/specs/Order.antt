@@ -82,9 +82,9 @@ order_of version (Machine side states least) max found = UpTo side (if has_logs 
 order_of version (Unknown first) max found = order_found max found
 
 -- before the first log
-abbrev pub start_of : Order → Place
-start_of (UpTo side count) = place side 0
-start_of (AnyUpTo max) = place System 0
+abbrev pub first_place : Order → Place
+first_place (UpTo side count) = place side 0
+first_place (AnyUpTo max) = place System 0
 
 -- the next size of the same side
 abbrev pub is_next_size : Place → Place → Bool
@@ -105,10 +105,10 @@ may_end (UpTo side count) last = last.size == count
 may_end (AnyUpTo max) last = true
 
 -- a log's side and size
-abbrev pub place_of : LogPart → Place
-place_of l = place l.side l.size
+abbrev pub log_place : LogPart → Place
+log_place l = place l.side l.size
 
 -- the logs stand in this order from there on, and none is missing
 abbrev pub AreInOrder : Order → Place → List LogPart → Type 0
 AreInOrder order last [] = IsTrue (may_end order last)
-AreInOrder order last (l ∷ logs) = IsTrue (may_follow order last (place_of l)) × AreInOrder order (place_of l) logs
+AreInOrder order last (l ∷ logs) = IsTrue (may_follow order last (log_place l)) × AreInOrder order (log_place l) logs

@@ -13,7 +13,7 @@ use Rattle.document_text.specs.declared.order.Order.{Order}
 use Rattle.document_text.specs.declared.reading.CircuitPart.{CircuitPart}
 use Rattle.document_text.specs.declared.reading.CircuitPart.TheVariants.{Absent, Faulty, Stated}
 use Rattle.document_text.specs.Parts.{LogPart, Document}
-use Rattle.document_text.specs.Order.{order_of, start_of}
+use Rattle.document_text.specs.Order.{order_of, first_place}
 use Rattle.document_text.specs.Header.{no_header, header_of}
 use Rattle.document_text.specs.Logs.{LogsRead, ReadsLogs}
 
@@ -44,7 +44,7 @@ pub data ReadsBody (circuit : Bool) (first : ℕ) (bytes : List ℕ) : BodyRead 
   of_header : (n : ℕ) → (header_of circuit first bytes).header.bad ≡ Some n
       → ReadsBody circuit first bytes (record { header = (header_of circuit first bytes).header; logs = []; bad = Some n })
   of_logs : (more : LogsRead) → (header_of circuit first bytes).header.bad ≡ None
-      → ReadsLogs (order_in (header_of circuit first bytes).header) (start_of (order_in (header_of circuit first bytes).header))
+      → ReadsLogs (order_in (header_of circuit first bytes).header) (first_place (order_in (header_of circuit first bytes).header))
       (first + line_count (header_of circuit first bytes).header) (header_of circuit first bytes).rest more
       → ReadsBody circuit first bytes (record { header = (header_of circuit first bytes).header; logs = more.logs; bad = more.bad })
 

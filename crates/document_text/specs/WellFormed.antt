@@ -2,7 +2,7 @@
 use Rattle.std.specs.Prelude.{◌≡◌, ℕ, ◌<◌, ◌≤◌, ◌^◌, ◌⊎◌, Bool, true, false, length, All, IsTrue, IfSome, is_some}
 use Rattle.refutation_log.specs.Text.{IsWritable}
 use Rattle.document_text.specs.Parts.{LogPart, Document}
-use Rattle.document_text.specs.Order.{AreInOrder, fits_max, fits_version, has_its_place, is_in_range, is_version, may_tell_found, order_of, start_of}
+use Rattle.document_text.specs.Order.{AreInOrder, fits_max, fits_version, has_its_place, is_in_range, is_version, may_tell_found, order_of, first_place}
 use Rattle.document_text.specs.Reading.{all_named}
 
 -- a log whose numbers lines can hold, over whose variables its entries are such as lines may state
@@ -29,5 +29,5 @@ pub record IsWellFormed (d : Document) : Type 0 where
   pub number : IsTrue (fits_max d.max d.verdict)
   pub entries : IfSome d.entries (λ most. most ≤ 250000)
   pub found : IsFoundNumber (may_tell_found d.version d.verdict) d.max d.found
-  pub order : AreInOrder (order_of d.version d.verdict d.max d.found) (start_of (order_of d.version d.verdict d.max d.found)) d.logs
+  pub order : AreInOrder (order_of d.version d.verdict d.max d.found) (first_place (order_of d.version d.verdict d.max d.found)) d.logs
   pub logs : All IsLogPart d.logs

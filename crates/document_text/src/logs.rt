@@ -3,7 +3,7 @@ ghost use Rattle.std.specs.Prelude.{◌≡◌, ◌+◌, ◌<◌, ◌≤◌, ◌^
 ghost use Rattle.std.specs.Option.{option_copied};
 ghost use Rattle.refutation_log.specs.Read.{StatesEntry, IsReadBy};
 ghost use Rattle.document_text.specs.Header.{front};
-ghost use Rattle.document_text.specs.Order.{start_of, place as place_at};
+ghost use Rattle.document_text.specs.Order.{first_place, place as place_at};
 ghost use Rattle.document_text.specs.Logs.{AreFirstEntries, ReadsLogs, behind_end as end_behind, head_behind as head_of_text, head_in as head_of_line, next_head as head_next, part_of, bad_behind};
 ghost use Rattle.document_text.specs.Shown.{shown_logs};
 
@@ -72,7 +72,7 @@ pub(crate) fn read_logs(
     bytes: &[u8],
 ) -> Result<LogsRead, AllocError>
     requires { first + length bytes.now + 2 < 2 ^ 64 }
-    ensures { IfOk result (λ read. ReadsLogs order (start_of order) first bytes.now (shown_logs read)) }
+    ensures { IfOk result (λ read. ReadsLogs order (first_place order) first bytes.now (shown_logs read)) }
 {
     let mut logs = Vec::new(alloc);
     let mut last = order.start();

@@ -1,6 +1,6 @@
 //! Which logs a document has, and in which order.
 ghost use Rattle.std.specs.Prelude.{◌≡◌, ◌<◌, ◌^◌};
-ghost use Rattle.document_text.specs.Order.{has_its_place, fits_max, fits_version, is_version, may_end, may_follow, may_tell_found, has_logs, order_of as order_wanted, start_of, tells_bounds};
+ghost use Rattle.document_text.specs.Order.{has_its_place, fits_max, fits_version, is_version, may_end, may_follow, may_tell_found, has_logs, order_of as order_wanted, first_place, tells_bounds};
 
 use crate::documents::Verdict;
 use letters_and_lassos::Side;
@@ -103,7 +103,7 @@ impl Order {
 
     /// The place before the first log.
     pub fn start(self) -> Place
-        ensures { result ≡ start_of self }
+        ensures { result ≡ first_place self }
     {
         match self {
             Order::UpTo(side, _) => Place { side, size: 0 },

@@ -1,7 +1,7 @@
 //! A text that is expanded first, before anything else is read.
 ghost use Rattle.std.specs.Prelude.{ℕ, List, None, IfOk, length};
 ghost use Rattle.text_limits.specs.declared.TheConstants.{SMALL_LIMITS};
-ghost use Rattle.ltl_formula.specs.Nodes.{Stands};
+ghost use Rattle.ltl_formula.specs.Nodes.{IsNodeIn};
 ghost use Rattle.tlsf_expand.specs.FewSignals.{HasFewSignals};
 ghost use Rattle.tlsf_expand.specs.FlatText.{spec_seen};
 ghost use Rattle.flat_text.specs.FlatNames.{HasPlainNames};
@@ -33,7 +33,7 @@ pub fn expanded(alloc: Global, text: &[u8]) -> Result<Expansion, AllocError>
     ensures flat { IfOk result (IfFlat (λ spec. IsFlatOf SMALL_LIMITS text.now None (spec_seen spec))) }
     ensures few { IfOk result (IfFlat (λ spec. HasFewSignals SMALL_LIMITS (length spec.inputs.items) (length spec.outputs.items) spec.formulas)) }
     ensures names { IfOk result (IfFlat (λ spec. HasPlainNames (spec_seen spec).expanded)) }
-    ensures stands { IfOk result (IfFlat (λ spec. Stands spec.formulas spec.whole)) }
+    ensures stands { IfOk result (IfFlat (λ spec. IsNodeIn spec.formulas spec.whole)) }
     ensures writable { IfOk result (IfFlat (λ spec. CanBeWritten (spec_seen spec))) }
     ensures refused { IfOk result (IfRefused (λ r. ExpandAnswers text.now r.bytes.items (status_number r.status))) }
     ensures refused_to_words { IfOk result (IfRefused (λ r. (word : List ℕ) → LassoAnswers text.now word r.bytes.items (status_number r.status))) }

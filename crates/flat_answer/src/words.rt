@@ -1,7 +1,7 @@
 //! What a text says of a word.
 ghost use Rattle.std.specs.Prelude.{◌≡◌, ℕ, List, None, IfOk, length};
 ghost use Rattle.text_limits.specs.declared.TheConstants.{SMALL_LIMITS};
-ghost use Rattle.ltl_formula.specs.Nodes.{Stands};
+ghost use Rattle.ltl_formula.specs.Nodes.{IsNodeIn};
 ghost use Rattle.tlsf_expand.specs.FewSignals.{HasFewSignals};
 ghost use Rattle.tlsf_expand.specs.FlatText.{spec_seen};
 ghost use Rattle.flat_text.specs.FlatOf.{IsFlatOf};
@@ -19,7 +19,7 @@ use tlsf_expand::Spec;
 /// with the number of the word's first bad line. It takes the flat text that `expanded` gave.
 pub fn lasso_answer(alloc: Global, spec: &Spec, word: &[u8]) -> Result<Reply, AllocError>
     requires few { HasFewSignals SMALL_LIMITS (length spec.now.inputs.items) (length spec.now.outputs.items) spec.now.formulas }
-    requires stands { Stands spec.now.formulas spec.now.whole }
+    requires stands { IsNodeIn spec.now.formulas spec.now.whole }
     ensures { (text : List ℕ) → IsFlatOf SMALL_LIMITS text None (spec_seen spec.now) → IfOk result (λ r. LassoAnswers text word.now r.bytes.items (status_number r.status)) }
 {
     let names = all_names(alloc, spec)?;

@@ -4,7 +4,7 @@ use Rattle.std.proofs.lemmas.List.Elements.{All-append, All-cons, All-head, All-
 use Rattle.ltl_formula.specs.declared.nodes.FormulaId.{FormulaId}
 use Rattle.ltl_formula.specs.declared.nodes.Node.{Node}
 use Rattle.ltl_formula.specs.ListSignals.{HasSignalsBelow}
-use Rattle.ltl_formula.specs.Nodes.{Stands}
+use Rattle.ltl_formula.specs.Nodes.{IsNodeIn}
 use Rattle.tlsf_tokens.specs.declared.symbol.Section.{Section}
 use Rattle.tlsf_tokens.specs.declared.symbol.Section.TheVariants.{Initially, Preset, Require, Assert, Assume, Guarantee}
 use Rattle.tlsf_expand.specs.Expansion.{Expanded}
@@ -21,12 +21,12 @@ module _ (nodes : List Node) where
   abbrev P : Line → Type 0
   P = LineStands nodes
 
-  of_section : (section : Section) (ids : List FormulaId) → All (Stands nodes) ids → All P (map (Formula section) ids)
+  of_section : (section : Section) (ids : List FormulaId) → All (IsNodeIn nodes) ids → All P (map (Formula section) ids)
   of_section section [] h = All-nil P
   of_section section (id ∷ ids) h =
-      All-cons P (Formula section id) (map (Formula section) ids) (All-head (Stands nodes) id ids h) (of_section section ids (All-tail (Stands nodes) id ids h))
+      All-cons P (Formula section id) (map (Formula section) ids) (All-head (IsNodeIn nodes) id ids h) (of_section section ids (All-tail (IsNodeIn nodes) id ids h))
 
-  and_section : (before : List Line) (section : Section) (ids : List FormulaId) → All P before → All (Stands nodes) ids → All P (before ++ map (Formula section) ids)
+  and_section : (before : List Line) (section : Section) (ids : List FormulaId) → All P before → All (IsNodeIn nodes) ids → All P (before ++ map (Formula section) ids)
   and_section before section ids h stand = All-append P before (map (Formula section) ids) h (of_section section ids stand)
 
   lines_stand : (x : Expanded) → SectionsStand nodes x.sections → All P (lines_in x)

@@ -4,7 +4,7 @@ use Rattle.std.specs.Prelude.{ℕ, Bool, List, [], ◌∷◌, ◌++◌, All, cod
 use Rattle.letters_and_lassos.specs.declared.kinds.Kind.{Kind}
 use Rattle.letters_and_lassos.specs.Kinds.{kind_word}
 use Rattle.ltl_formula.specs.declared.nodes.Node.{Node}
-use Rattle.ltl_formula.specs.Nodes.{IsNodeList, Stands, tree_at}
+use Rattle.ltl_formula.specs.Nodes.{IsNodeList, IsNodeIn, tree_at}
 use Rattle.ltl_formula.specs.ListSignals.{HasSignalsBelow}
 use Rattle.ltl_formula.specs.Text.{formula_text}
 use Rattle.tlsf_expand.specs.Expansion.{Expanded}
@@ -55,7 +55,7 @@ flat_bytes flat = flat_map (ended_line flat) (lines_in flat.expanded)
 
 -- the formula of a line stands in the list
 abbrev pub LineStands : List Node → Line → Type 0
-LineStands nodes (Formula section id) = Stands nodes id
+LineStands nodes (Formula section id) = IsNodeIn nodes id
 LineStands nodes _ = Unit {0}
 
 -- each formula stands in the list, which is one of formulas, and each signal has a name

@@ -8,7 +8,7 @@ use Rattle.tlsf_tokens.proofs.Cutting.{in_order}
 use Rattle.tlsf_tokens.specs.declared.symbol.Symbol.{Symbol}
 use Rattle.tlsf_tokens.specs.declared.symbol.Symbol.TheVariants as symbol
 use Rattle.tlsf_syntax.specs.declared.nesting.Role.{Role}
-use Rattle.tlsf_syntax.specs.Nesting.{role_of, first_of, number_of, first_deep}
+use Rattle.tlsf_syntax.specs.Nesting.{role_of, first_of, nesting_of, first_deep}
 use Rattle.tlsf_syntax.specs.Lexemes.{Lexeme, Is}
 use Rattle.tlsf_reader.specs.Lexed.{IsLexed, lexeme_from}
 use Rattle.tlsf_reader.specs.Faults.{symbols_of, start_at}
@@ -89,7 +89,7 @@ stands_before s ls ms place a = by ls a.at a.within a.here a.begins
 
 deep_from : (limit : ℕ) (before : List Role) (ss : List Symbol) (k : ℕ) → first_deep limit before ss ≡ Some k → length before ≤ k
 deep_from limit before [] k e = absurd cc
-deep_from limit before (s ∷ ss) k e = by (nat_lt limit (number_of (role_of s (first_of ss) ∷ before) zero true true)) e (deep_from limit (role_of s (first_of ss) ∷ before) ss k)
+deep_from limit before (s ∷ ss) k e = by (nat_lt limit (nesting_of (role_of s (first_of ss) ∷ before) zero true true)) e (deep_from limit (role_of s (first_of ss) ∷ before) ss k)
   where
     by : (b : Bool) → cond b (Some (length before)) (first_deep limit (role_of s (first_of ss) ∷ before) ss) ≡ Some k
         → (first_deep limit (role_of s (first_of ss) ∷ before) ss ≡ Some k → suc (length before) ≤ k) → length before ≤ k
@@ -97,19 +97,19 @@ deep_from limit before (s ∷ ss) k e = by (nat_lt limit (number_of (role_of s (
     by false f rest = let low : suc (length before) ≤ k = rest f in omega (arith, low)
 
 -- a name is never the first symbol that is nested too deep, since it counts as the one before it
-pub never_deep : (limit : ℕ) (before : List Role) (ss : List Symbol) (k : ℕ) → nat_lt limit (number_of before zero true true) ≡ false → first_deep limit before ss ≡ Some k
+pub never_deep : (limit : ℕ) (before : List Role) (ss : List Symbol) (k : ℕ) → nat_lt limit (nesting_of before zero true true) ≡ false → first_deep limit before ss ≡ Some k
     → slice_get ss (k - length before) ≡ Some symbol.Ident → length before ≤ k → ⊥
 never_deep limit before [] k shallow e here h = absurd cc
 never_deep limit before (s ∷ ss) k shallow e here h =
-    by (nat_lt limit (number_of (role_of s (first_of ss) ∷ before) zero true true)) refl e
+    by (nat_lt limit (nesting_of (role_of s (first_of ss) ∷ before) zero true true)) refl e
     (λ t f g. never_deep limit (role_of s (first_of ss) ∷ before) ss k t f (sym (ap (slice_get (s ∷ ss)) (let e : k - length before ≡ suc (k - suc (length before)) = omega (arith, g) in e)) ∙ here) g)
   where
-    by : (b : Bool) → nat_lt limit (number_of (role_of s (first_of ss) ∷ before) zero true true) ≡ b → cond b (Some (length before)) (first_deep limit (role_of s (first_of ss) ∷ before) ss) ≡ Some k
-        → (nat_lt limit (number_of (role_of s (first_of ss) ∷ before) zero true true) ≡ false → first_deep limit (role_of s (first_of ss) ∷ before) ss ≡ Some k → suc (length before) ≤ k → ⊥) → ⊥
+    by : (b : Bool) → nat_lt limit (nesting_of (role_of s (first_of ss) ∷ before) zero true true) ≡ b → cond b (Some (length before)) (first_deep limit (role_of s (first_of ss) ∷ before) ss) ≡ Some k
+        → (nat_lt limit (nesting_of (role_of s (first_of ss) ∷ before) zero true true) ≡ false → first_deep limit (role_of s (first_of ss) ∷ before) ss ≡ Some k → suc (length before) ≤ k → ⊥) → ⊥
     by true t f rest =
         let here_is : length before ≡ k = cc in
         let first : slice_get (s ∷ ss) 0 ≡ Some symbol.Ident = sym (ap (slice_get (s ∷ ss)) (let z : k - length before ≡ 0 = omega (arith, here_is) in z)) ∙ here in
         let ident : s ≡ symbol.Ident = cc in
-        let counted : nat_lt limit (number_of before zero true true) ≡ true = ap (λ x. nat_lt limit (number_of (role_of x (first_of ss) ∷ before) zero true true)) (sym ident) ∙ t in
+        let counted : nat_lt limit (nesting_of before zero true true) ≡ true = ap (λ x. nat_lt limit (nesting_of (role_of x (first_of ss) ∷ before) zero true true)) (sym ident) ∙ t in
         let no : false ≡ true = sym shallow ∙ counted in cc
     by false t f rest = rest t f (deep_from limit (role_of s (first_of ss) ∷ before) ss k f)

@@ -11,7 +11,7 @@ use Rattle.aiger_text.specs.declared.circuits.Latch.{Latch}
 use Rattle.aiger_text.specs.declared.circuits.Gate.{Gate}
 use Rattle.aiger_text.specs.Circuit.{Circuit, GatesAgree, Valuation, literal_value}
 use Rattle.aiger_text.proofs.Bits.{has-div, has-mod}
-use Rattle.letters_and_lassos.specs.Bits.{number_of}
+use Rattle.letters_and_lassos.specs.Bits.{binary_value}
 use Rattle.aiger_text.proofs.Gates.{no_gate}
 use Rattle.aiger_text.proofs.Putting.{no_latch}
 use Rattle.gate_build.specs.declared.gates.Operands.{Operands}
@@ -87,11 +87,11 @@ module _ (m : MachineModel) (read_names write_names : List (List ℕ)) (reads : 
     number-is =
         let bits : List Bool = map (literal_value v) (split_literals m) in
         let len : length (map (literal_value v) (split_literals m)) ≡ latches_of m + m.reads = length-map (split_literals m) (literal_value v) ∙ length-split m in
-        let plain : number_in (split_literals m) 0 1 v ≡ number_of (map (literal_value v) (split_literals m)) = omega arith in
-        let small : number_of (map (literal_value v) (split_literals m)) < 2 ^ (latches_of m + m.reads) =
-        subst (λ (n : ℕ). number_of (map (literal_value v) (split_literals m)) < 2 ^ n) len (number_of-lt (map (literal_value v) (split_literals m))) in
+        let plain : number_in (split_literals m) 0 1 v ≡ binary_value (map (literal_value v) (split_literals m)) = omega arith in
+        let small : binary_value (map (literal_value v) (split_literals m)) < 2 ^ (latches_of m + m.reads) =
+        subst (λ (n : ℕ). binary_value (map (literal_value v) (split_literals m)) < 2 ^ n) len (number_of-lt (map (literal_value v) (split_literals m))) in
         let fits : letter * 2 ^ latches_of m + state < 2 ^ (latches_of m + m.reads) = rw pow-add (mul-add-lt letter (2 ^ latches_of m) state (2 ^ m.reads) shows.readable state_fits) in
-        plain ∙ same_number (latches_of m + m.reads) (number_of (map (literal_value v) (split_literals m))) (letter * 2 ^ latches_of m + state) small fits
+        plain ∙ same_number (latches_of m + m.reads) (binary_value (map (literal_value v) (split_literals m))) (letter * 2 ^ latches_of m + state) small fits
         (λ k h. has-number_of (map (literal_value v) (split_literals m)) k (rw len h)
         ∙ get_or-map (literal_value v) (split_literals m) k 0 false (rw length-split h) ∙ bit-is k h)
 

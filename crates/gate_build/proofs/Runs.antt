@@ -22,7 +22,7 @@ use Rattle.aiger_text.specs.declared.circuits.Latch.{Latch}
 use Rattle.aiger_text.specs.Circuit.{Circuit, IsCircuitRun, Valuation, first_read, first_written, latch_values, literal_value}
 use Rattle.aiger_text.specs.CircuitType.{IsOrder}
 use Rattle.aiger_text.proofs.Bits.{bits_of, get_or-bits_of, has-div, has-mod, length-bits_of}
-use Rattle.letters_and_lassos.specs.Bits.{number_of}
+use Rattle.letters_and_lassos.specs.Bits.{binary_value}
 use Rattle.aiger_text.proofs.Orders.{order_of_sorted}
 use Rattle.aiger_text.proofs.Putting.{no_latch}
 use Rattle.aiger_text.proofs.Valuations.{HasValuation, valuation_of}
@@ -142,7 +142,7 @@ module _ (m : MachineModel) (read_names write_names : List (List ℕ)) (reads : 
     -- A run lasso of the circuit is one of the machine's: each position has the state of its latches' values.
     module _ (side : Side) (w : Word) (values : ℕ → Valuation) (run : IsCircuitRun side c w values) where
       abbrev pub code : ℕ → ℕ
-      code i = number_of (latch_values c (values i))
+      code i = binary_value (latch_values c (values i))
 
       abbrev pub heard : ℕ → ℕ
       heard i = read_part side m (letter_at w i)

@@ -5,7 +5,7 @@ use Rattle.std.proofs.Math.Nat.{pow-suc, mul_comm}
 use Rattle.std.proofs.Math.Seq.{drop-length}
 use Rattle.std.proofs.lemmas.Nat.{pow_pos}
 use Rattle.aiger_text.specs.Circuit.{Valuation, literal_value}
-use Rattle.letters_and_lassos.specs.Bits.{number_of}
+use Rattle.letters_and_lassos.specs.Bits.{binary_value}
 use Rattle.gate_build.specs.declared.gates.Operands.{Operands}
 use Rattle.gate_build.specs.Gates.{Built, ite_of, split_of}
 use Rattle.gate_build.proofs.Meaning.{Agree, AreOrdered, IsGood, agree_before, good_ite, good_kept, good_then, still_means, still_within}
@@ -50,17 +50,17 @@ most-suc n = let e : 2 ^ suc n ≡ 2 ^ n * 2 = pow-suc 2 n in let some : 0 < 2 ^
 
 -- the number that a split's literals make in a valuation
 abbrev pub number_in : List ℕ → ℕ → ℕ → Valuation → ℕ
-number_in xs value weight v = value + weight * number_of (map (literal_value v) xs)
+number_in xs value weight v = value + weight * binary_value (map (literal_value v) xs)
 
 -- the choice on the first literal makes the number of all
 chosen_number : (v : Valuation) (x : ℕ) (xs : List ℕ) (value weight : ℕ) (test : ℕ → Bool)
     → cond (literal_value v x) (test (number_in xs (value + weight) (2 * weight) v)) (test (number_in xs value (2 * weight) v)) ≡ test (number_in (x ∷ xs) value weight v)
 chosen_number v x xs value weight test = by (literal_value v x) where
   n : ℕ
-  n = number_of (map (literal_value v) xs)
+  n = binary_value (map (literal_value v) xs)
 
-  by : (b : Bool) → cond b (test (value + weight + 2 * weight * number_of (map (literal_value v) xs))) (test (value + 2 * weight * number_of (map (literal_value v) xs)))
-      ≡ test (value + weight * (cond b 1 0 + number_of (map (literal_value v) xs) * 2))
+  by : (b : Bool) → cond b (test (value + weight + 2 * weight * binary_value (map (literal_value v) xs))) (test (value + 2 * weight * binary_value (map (literal_value v) xs)))
+      ≡ test (value + weight * (cond b 1 0 + binary_value (map (literal_value v) xs) * 2))
   by true = ap test (omega arith)
   by false = ap test (omega arith)
 

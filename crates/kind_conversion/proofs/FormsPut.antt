@@ -6,13 +6,13 @@ use Rattle.ltl_formula.specs.declared.faults.AddFault.TheVariants.{TooManyNodes,
 use Rattle.ltl_formula.specs.declared.nodes.FormulaId.{FormulaId}
 use Rattle.ltl_formula.specs.declared.nodes.Node.{Node}
 use Rattle.ltl_formula.specs.declared.nodes.Node.TheVariants.{Next}
-use Rattle.ltl_formula.specs.Nodes.{PartsBelow, Stands}
+use Rattle.ltl_formula.specs.Nodes.{PartsBelow, IsNodeIn}
 use Rattle.ltl_formula.specs.Added.{added}
 use Rattle.kind_conversion.specs.declared.shifts.Shift.{Shift}
 use Rattle.kind_conversion.specs.ShiftedList.{over_forms, is_shifted_node, then_next, put_form}
 use Rattle.kind_conversion.proofs.ListsMade.{parts-over}
 
-pub over-stands : (forms : List FormulaId) (node : Node) (nodes : List Node) → PartsBelow (length forms) node → All (λ id. Stands nodes id) forms → PartsBelow (length nodes) (over_forms forms node)
+pub over-stands : (forms : List FormulaId) (node : Node) (nodes : List Node) → PartsBelow (length forms) node → All (λ id. IsNodeIn nodes id) forms → PartsBelow (length nodes) (over_forms forms node)
 over-stands forms node nodes parts stand = parts-over forms (length nodes) (length forms) node parts (λ p h. stand p.0 (record { 0 = 0 }) h)
 
 module _ (most : ℕ) (shift : Shift) (inputs : ℕ) (forms : List FormulaId) (node : Node) (nodes : List Node) (whole : Node) (is : whole ≡ over_forms forms node) where

@@ -11,7 +11,7 @@ use Rattle.ltl_formula.specs.declared.nodes.Node.TheVariants.{True, False, Signa
 use Rattle.ltl_formula.specs.declared.nodes.TheConstants.{MAX_NODES, MAX_SIGNALS}
 use Rattle.ltl_formula.specs.Tree.{Tree}
 use Rattle.ltl_formula.specs.Tree.Tree.{signal, negation, next_time, finally, globally}
-use Rattle.ltl_formula.specs.Nodes.{Grows, IsNodeList, PartsBelow, SignalBelow, Stands, pick, tree_at, tree_of, trees_of, node_at}
+use Rattle.ltl_formula.specs.Nodes.{Grows, IsNodeList, PartsBelow, SignalBelow, IsNodeIn, pick, tree_at, tree_of, trees_of, node_at}
 use Rattle.ltl_formula.specs.Added.{Built, added, built_at, node_eq}
 use Rattle.ltl_formula.specs.ListSignals.{HasSignalsBelow, KeepsSignals}
 use Rattle.ltl_formula.proofs.Trees.{tree_at-grown, tree_at-node, tree_of-parts}
@@ -89,7 +89,7 @@ module _ (shift : Shift) (inputs : ℕ) (forms : List FormulaId) (T U : List Tre
 pub record IsMade (old : List Node) (f : Tree) (built : Built) (id : FormulaId) : Type 0 where
   pub grows : Grows old built.nodes
   pub list : IsNodeList built.nodes
-  pub stands : Stands built.nodes id
+  pub stands : IsNodeIn built.nodes id
   pub tree : tree_at built.nodes id ≡ f
 
 module _ (most : ℕ) (nodes : List Node) (new : Node) (list : IsNodeList nodes) (parts : PartsBelow (length nodes) new) (below : SignalBelow MAX_SIGNALS new) where
@@ -142,14 +142,14 @@ module _ (most : ℕ) (old : List Node) (f : Tree) (built : Built) (made_before 
 
 pub record AreForms (shift : Shift) (inputs : ℕ) (written nodes : List Node) (forms : List FormulaId) : Type 0 where
   pub list : IsNodeList nodes
-  pub stand : All (λ id. Stands nodes id) forms
+  pub stand : All (λ id. IsNodeIn nodes id) forms
   pub trees : (i : ℕ) → i < length forms → tree_at nodes (form_at forms (record { 0 = i })) ≡ shifted_form shift inputs (tree_at written (record { 0 = i }))
   pub signals : KeepsSignals written nodes
 
 pub no_forms : (shift : Shift) (inputs : ℕ) (written : List Node) → AreForms shift inputs written [] []
 no_forms shift inputs written = record {
   list = record { parts_first = λ i. tt; signals = λ i. tt; different = λ i j h. absurd (omega arith); most = omega arith };
-  stand = All-nil (λ id. Stands [] id);
+  stand = All-nil (λ id. IsNodeIn [] id);
   trees = λ i h. absurd (omega arith);
   signals = record { kept = λ n h. HasSignalsBelow-none n };
 }
@@ -209,7 +209,7 @@ module _ (most : ℕ) (shift : Shift) (inputs : ℕ) (written : List Node) (from
       let m : IsMade nodes (shifted_form shift inputs (tree_at written (record { 0 = length forms }))) (put_form most shift inputs forms node nodes) id = put-made id e in
       record {
         list = m.list;
-        stand = All-push (λ f. Stands new f) forms id (λ k d lt. Grows-stands nodes new (get_or forms k d) m.grows (made.stand k d lt)) m.stands;
+        stand = All-push (λ f. IsNodeIn new f) forms id (λ k d lt. Grows-stands nodes new (get_or forms k d) m.grows (made.stand k d lt)) m.stands;
         trees = λ i h.
             let long : length (forms ++ id ∷ []) ≡ length forms + 1 = length_push forms id in
             elim (cases_lt i (length forms)) [
@@ -248,7 +248,7 @@ module _ (most : ℕ) (shift : Shift) (inputs : ℕ) (written : List Node) (from
       (AreForms-more most shift inputs written from so_far.nodes so_far.forms made node within (ap (λ xs. get_or xs 0 False) split) id some)
       (ap (λ n. drop n written) pushed ∙ ap (drop 1) split) rest)
 
-  module _ (whole : FormulaId) (stands : Stands written whole) where
+  module _ (whole : FormulaId) (stands : IsNodeIn written whole) where
     abbrev ending : ShiftedList → ConvertedList
     ending made = record { formulas = made.nodes; whole = form_at made.forms whole }
 

@@ -3,7 +3,7 @@ use Rattle.letters_and_lassos.specs.Word.{Word, HasRing, IsLassoOver, SameWord, 
 use Rattle.ltl_formula.specs.declared.nodes.FormulaId.{FormulaId}
 use Rattle.ltl_formula.specs.declared.nodes.Node.{Node}
 use Rattle.ltl_formula.specs.ListSignals.{KeepsSignals}
-use Rattle.ltl_formula.specs.Nodes.{IsNodeList, Stands, tree_at}
+use Rattle.ltl_formula.specs.Nodes.{IsNodeList, IsNodeIn, tree_at}
 use Rattle.ltl_formula.specs.Tree.{Tree}
 use Rattle.ltl_formula.specs.Truth.{holds}
 use Rattle.kind_conversion.specs.declared.conversion.ConvertedList.{ConvertedList}
@@ -35,7 +35,7 @@ ShiftedFormsSay = (shift : Shift) (inputs : ℕ) (f : Tree) → SaysOfShifted sh
 -- what a converted list is: one of formulas, without further signals, whose whole is the shifted form of the whole
 pub record IsConversion (shift : Shift) (inputs : ℕ) (nodes : List Node) (whole : FormulaId) (c : ConvertedList) : Type 0 where
   pub list : IsNodeList c.formulas
-  pub stands : Stands c.formulas c.whole
+  pub stands : IsNodeIn c.formulas c.whole
   pub tree : tree_at c.formulas c.whole ≡ shifted_form shift inputs (tree_at nodes whole)
   pub truth : SaysOfShifted shift inputs (tree_at nodes whole) (tree_at c.formulas c.whole)
   pub signals : KeepsSignals nodes c.formulas
@@ -43,4 +43,4 @@ pub record IsConversion (shift : Shift) (inputs : ℕ) (nodes : List Node) (whol
 -- the list that is made anew is one such
 abbrev pub ConvertedListsSay : Type 0
 ConvertedListsSay = (most : ℕ) (shift : Shift) (inputs : ℕ) (nodes : List Node) (whole : FormulaId) (c : ConvertedList)
-    → IsNodeList nodes → Stands nodes whole → converted_of most shift inputs nodes whole ≡ Some c → IsConversion shift inputs nodes whole c
+    → IsNodeList nodes → IsNodeIn nodes whole → converted_of most shift inputs nodes whole ≡ Some c → IsConversion shift inputs nodes whole c

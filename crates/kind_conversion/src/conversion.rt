@@ -1,5 +1,5 @@
 ghost use Rattle.std.specs.Prelude.{◌≡◌, ◌++◌, ◌∷◌, ◌<◌, [], All, Err, IfErr, IfOk, None, OnOk, Some, length};
-ghost use Rattle.ltl_formula.specs.Nodes.{PartsBelow, SignalBelow, Stands};
+ghost use Rattle.ltl_formula.specs.Nodes.{PartsBelow, SignalBelow, IsNodeIn};
 ghost use Rattle.ltl_formula.specs.declared.nodes.TheConstants.{MAX_SIGNALS};
 ghost use Rattle.kind_conversion.specs.Laws.{IsConversion};
 ghost use Rattle.kind_conversion.specs.ShiftedList.{converted_of, form_at, is_shifted_node, over_forms, put_form};
@@ -26,7 +26,7 @@ pub fn converted(
     shift: Shift,
     inputs: u32,
 ) -> Result<ConvertedList, AddFault>
-    requires { Stands formulas.now whole }
+    requires { IsNodeIn formulas.now whole }
     ensures ok { IfOk result (λ c. converted_of most shift inputs formulas.now whole ≡ Some c) }
     ensures too_many { result ≡ Err AddFault.TooManyNodes → converted_of most shift inputs formulas.now whole ≡ None }
     ensures says { IfOk result (λ c. IsConversion shift inputs formulas.now whole c) }
@@ -55,7 +55,7 @@ fn put_form(
 ) -> Result<FormulaId, AddFault>
     requires parts { PartsBelow (length forms.now) node }
     requires signal { SignalBelow MAX_SIGNALS node }
-    requires stand { All (Stands made.old) forms.now }
+    requires stand { All (IsNodeIn made.old) forms.now }
     ensures ok { IfOk result (λ id. put_form most shift inputs forms.now node made.old ≡ record { nodes = made.new; made = Some id }) }
     ensures too_many { result ≡ Err AddFault.TooManyNodes → (put_form most shift inputs forms.now node made.old).made ≡ None }
 {

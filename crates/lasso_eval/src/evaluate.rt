@@ -1,6 +1,6 @@
 ghost use Rattle.std.specs.Prelude.{◌≡◌, ◌<◌, [], IfOk, length, slice_index_or};
 ghost use Rattle.letters_and_lassos.specs.Word.{lasso_len};
-ghost use Rattle.ltl_formula.specs.Nodes.{Stands, tree_at};
+ghost use Rattle.ltl_formula.specs.Nodes.{IsNodeIn, tree_at};
 ghost use Rattle.ltl_formula.specs.Truth.{holds};
 ghost use Rattle.lasso_eval.specs.Rows.{IsRow, IsTable};
 
@@ -18,7 +18,7 @@ pub fn holds_at(
     lasso: &Lasso,
     i: usize,
 ) -> Result<bool, AllocError>
-    requires stands { Stands formulas.now f }
+    requires stands { IsNodeIn formulas.now f }
     requires position { i < lasso_len lasso.now }
     ensures { IfOk result (λ truth. truth ≡ holds lasso.now (tree_at formulas.now f) i) }
 {
@@ -39,7 +39,7 @@ fn row_of(
     lasso: &Lasso,
     rows: &[Row],
 ) -> Result<Row, AllocError>
-    requires stands { Stands formulas.now f }
+    requires stands { IsNodeIn formulas.now f }
     requires before { length rows.now ≡ f.0 }
     requires table { IsTable lasso.now formulas.now rows.now }
     ensures { IfOk result (λ row. IsRow (lasso_len lasso.now) (holds lasso.now (tree_at formulas.now f)) row) }

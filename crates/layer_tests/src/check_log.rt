@@ -1,7 +1,7 @@
 //! What the checker says of logs, by both of its forms.
 ghost use Rattle.std.specs.Prelude.{All};
 ghost use Rattle.std.specs.Bool.{OnTrue};
-ghost use Rattle.propositional_logic.specs.Clause.{IsWithin};
+ghost use Rattle.propositional_logic.specs.Clause.{IsWithinVariables};
 ghost use Rattle.log_checker.specs.Hinted.{AreWithin};
 
 use log_checker::{LogFault, check_log, check_log_split, check_open, check_open_split};
@@ -32,13 +32,13 @@ fn all_four(alloc: Global) -> Result<Cnf, Fail> {
 }
 
 fn is_within(vars: u32, clause: &Clause) -> bool
-    ensures { OnTrue result (IsWithin vars clause.now) }
+    ensures { OnTrue result (IsWithinVariables vars clause.now) }
 {
     clause.lits().iter().all(|lit| lit.var() <= vars)
 }
 
 fn are_clauses_within(vars: u32, clauses: &[Clause]) -> bool
-    ensures { OnTrue result (All (IsWithin vars) clauses.now) }
+    ensures { OnTrue result (All (IsWithinVariables vars) clauses.now) }
 {
     clauses.iter().all(|clause| is_within(vars, clause))
 }

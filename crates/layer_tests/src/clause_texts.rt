@@ -1,6 +1,6 @@
 //! Formulas as texts: a letter is a literal over the variables 1 to 12, `a` for 1 and `A` for its negation, and a word is a clause.
 ghost use Rattle.std.specs.Prelude.{◌≡◌, ◌<◌, ◌≤◌, All, IfOk, IfSome};
-ghost use Rattle.propositional_logic.specs.Clause.{IsFormula, IsWithin};
+ghost use Rattle.propositional_logic.specs.Clause.{IsFormula, IsWithinVariables};
 ghost use Rattle.unit_propagate.specs.Trail.{IsFree};
 
 use propositional_logic::{Clause, Cnf, Lit};
@@ -24,8 +24,8 @@ pub fn letter(lit: Lit) -> u8 {
 
 /// Adds a copy of the clause of a word.
 fn add(alloc: Global, clauses: &mut Vec<Clause>, word: &[u8]) -> Result<(), Fail>
-    requires { All (IsWithin 12) clauses.old.items }
-    ensures { All (IsWithin 12) clauses.new.items }
+    requires { All (IsWithinVariables 12) clauses.old.items }
+    ensures { All (IsWithinVariables 12) clauses.new.items }
 {
     let mut lits = Vec::new(alloc);
     for letter in word {

@@ -1,7 +1,7 @@
 //! Formulas as texts: `a` is signal 0, `b` signal 1 and so on, `1` and `0` are the constants, and each operator stands behind its parts,
 //! as in `abX>` for `a -> X b`. `:` stands for the formula before it once more.
 ghost use Rattle.std.specs.Prelude.{IfOk};
-ghost use Rattle.ltl_formula.specs.Nodes.{Stands};
+ghost use Rattle.ltl_formula.specs.Nodes.{IsNodeIn};
 
 use ltl_formula::{FormulaId, Formulas, MAX_NODES, Node};
 use std::alloc::{AllocError, Global};
@@ -62,7 +62,7 @@ pub(crate) fn formula(
     formulas: &mut Formulas,
     text: &[u8],
 ) -> Result<FormulaId, Fail>
-    ensures { IfOk result (Stands formulas.new) }
+    ensures { IfOk result (IsNodeIn formulas.new) }
 {
     let mut parts = Vec::new(alloc);
     for byte in text {

@@ -1,6 +1,6 @@
 //! Two workers that take turns on one log.
 ghost use Rattle.std.specs.Prelude.{◌≡◌, ◌++◌, List, All, IfOk};
-ghost use Rattle.propositional_logic.specs.Clause.{IsFormula, IsWithin};
+ghost use Rattle.propositional_logic.specs.Clause.{IsFormula, IsWithinVariables};
 ghost use Rattle.refutation_log.specs.declared.entries.Entry.{Entry};
 ghost use Rattle.clause_solver.specs.Worker.{IsWorkingOn};
 
@@ -29,9 +29,9 @@ fn take_turn(
 ) -> Result<End, Fail>
     requires variables { base.now.vars ≡ worker.old.trail.vars }
     requires formula { IsFormula base.now.vars base.now.clauses.items }
-    requires within { All (λ e. IsWithin base.now.vars e.clause) log.old.items }
+    requires within { All (λ e. IsWithinVariables base.now.vars e.clause) log.old.items }
     requires working { IsWorkingOn base.now.clauses.items log.old.items worker.old }
-    ensures within { IfOk result (λ _. All (λ e. IsWithin base.now.vars e.clause) log.new.items) }
+    ensures within { IfOk result (λ _. All (λ e. IsWithinVariables base.now.vars e.clause) log.new.items) }
     ensures working { IfOk result (λ _. IsWorkingOn base.now.clauses.items log.new.items worker.new) }
     ensures grown { IfOk result (λ _. (more : List Entry) × (log.new.items ≡ log.old.items ++ more)) }
     ensures vars { worker.new.trail.vars ≡ worker.old.trail.vars }

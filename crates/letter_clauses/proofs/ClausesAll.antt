@@ -5,7 +5,7 @@ use Rattle.std.specs.List.{flat_map}
 use Rattle.std.proofs.lemmas.List.{append_assoc}
 use Rattle.std.proofs.lemmas.List.Elements.{All-append, All-cons, All-contains, All-nil}
 use Rattle.propositional_logic.specs.Literal.{Literal}
-use Rattle.propositional_logic.specs.Clause.{IsWithin}
+use Rattle.propositional_logic.specs.Clause.{IsWithinVariables}
 use Rattle.machine_model.specs.Automaton.{IsAutomaton, JoinsStates, states_of}
 use Rattle.machine_model.specs.Problem.{automaton_of}
 use Rattle.machine_model.specs.declared.automata.Edge.{Edge}
@@ -68,8 +68,8 @@ module _ (p : Problem) (letters : List ℕ) (P : List Literal → Type 0) (kinds
       (All-append P (chain_clauses p letters) (order_clauses p letters) all_chains all_orders)))
 
 -- no variable passes the number of variables
-pub base_within : (p : Problem) (letters : List ℕ) → IsLetterProblem p letters → IsAutomaton (automaton_of p) → All (IsWithin (variables_of p letters)) (base_clauses p letters)
-base_within p letters problem made = all_base p letters (IsWithin (variables_of p letters)) (record {
+pub base_within : (p : Problem) (letters : List ℕ) → IsLetterProblem p letters → IsAutomaton (automaton_of p) → All (IsWithinVariables (variables_of p letters)) (base_clauses p letters)
+base_within p letters problem made = all_base p letters (IsWithinVariables (variables_of p letters)) (record {
   rows = λ place h. (row-rises p letters place h).within;
   start = (start-rises p letters problem made).within;
   steps = λ e t k to c there ht hk fits hto busy hc.

@@ -12,7 +12,7 @@ use Rattle.machine_model.specs.Course.{letter_of}
 use Rattle.machine_model.specs.Machine.{IsMachine, MachineModel, next_of, size_of, writes_of}
 use Rattle.machine_model.specs.Problem as looked_for
 use Rattle.machine_model.specs.Problem.{IsMachineOf, automaton_of, reads_of}
-use Rattle.machine_model.specs.Run.{joined}
+use Rattle.machine_model.specs.Run.{joined_letter}
 use Rattle.machine_model.specs.declared.problems.Problem.{Problem}
 use Rattle.product_bound.specs.Annotation.{HasNumber, IsValidAnnotation, number_after, number_at, start_number}
 use Rattle.product_bound.specs.Numbered.{place_in}
@@ -122,7 +122,7 @@ module _ (p : Problem) (letters : List ℕ) (m : MachineModel) (numbers : List (
 
   -- what is read and written
   whole_letter : (t k : ℕ) → t < length named → k < length letters
-      → joined_at p.side p.inputs p.outputs (letter_at letters k) (written_on p.kind m letters named (write_place p.kind (length letters) t k)) ≡ joined p.side m (letter_at letters k) (writes_of m (get_or named t 0) (letter_at letters k))
+      → joined_at p.side p.inputs p.outputs (letter_at letters k) (written_on p.kind m letters named (write_place p.kind (length letters) t k)) ≡ joined_letter p.side m (letter_at letters k) (writes_of m (get_or named t 0) (letter_at letters k))
   whole_letter t k ht hk =
       ap (joined_at p.side p.inputs p.outputs (letter_at letters k)) (written_named p.kind refl t k ht hk)
       ∙ joined_same p.side m p.inputs p.outputs (letter_at letters k) (writes_of m (get_or named t 0) (letter_at letters k))

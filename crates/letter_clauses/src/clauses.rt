@@ -1,6 +1,6 @@
 ghost use Rattle.std.specs.Prelude.{◌≡◌, ◌+◌, ◌-◌, ◌*◌, ◌^◌, ◌<◌, ◌≤◌, ◌++◌, ◌∷◌, [], true, IfOk, OnOk, length};
 ghost use Rattle.std.specs.List.{flat_map};
-ghost use Rattle.propositional_logic.specs.Clause.{IsClause, IsFormula, IsWithin};
+ghost use Rattle.propositional_logic.specs.Clause.{IsClause, IsFormula, IsWithinVariables};
 ghost use Rattle.letters_and_lassos.specs.Below.{all_below};
 ghost use Rattle.machine_model.specs.Automaton.{JoinsStates, states_of};
 ghost use Rattle.machine_model.specs.Problem.{automaton_of, reads_of, writes_of};
@@ -82,7 +82,7 @@ impl Encoding<'_> {
     fn push_clause(&self, lits: &[Lit], clauses: &mut Vec<Clause>) -> Result<(), AllocError>
         requires problem { IsSmallSize self.now.size.problem.now self.now.size.letters.now }
         requires clause { IsClause lits.now }
-        requires within { IsWithin (variables_of self.now.size.problem.now self.now.size.letters.now) lits.now }
+        requires within { IsWithinVariables (variables_of self.now.size.problem.now self.now.size.letters.now) lits.now }
         ensures { OnOk result (clauses.new.items ≡ clauses.old.items ++ lits.now ∷ []) }
     {
         match Clause::new(self.alloc, self.size.all_variables(), lits) {

@@ -1,7 +1,7 @@
 //! Workers on one list of base clauses, over one log that they share.
 ghost use Rattle.std.specs.Prelude.{◌<◌, All, IfOk, OnOk, length};
 ghost use Rattle.std.specs.Bool.{OnFalse};
-ghost use Rattle.propositional_logic.specs.Clause.{IsFormula, IsWithin};
+ghost use Rattle.propositional_logic.specs.Clause.{IsFormula, IsWithinVariables};
 ghost use Rattle.names_and_numbers.specs.Prefix.{IsPrefix};
 
 use clause_solver::laws::work_goes_on;
@@ -38,8 +38,8 @@ impl Shared {
 
     /// Appends to the entries those of the log that they lack, if these are over so many variables.
     fn copy_rest(&self, vars: u32, into: &mut Vec<Entry>) -> Result<(), AllocError>
-        requires { All (λ e. IsWithin vars e.clause) into.old.items }
-        ensures within { OnOk result (All (λ e. IsWithin vars e.clause) into.new.items) }
+        requires { All (λ e. IsWithinVariables vars e.clause) into.old.items }
+        ensures within { OnOk result (All (λ e. IsWithinVariables vars e.clause) into.new.items) }
         ensures longer { OnOk result (IsPrefix into.old.items into.new.items) }
     {
         for i in into.len()..self.log.entries() {
@@ -79,7 +79,7 @@ fn offer(log: &mut LogState, entry: Entry) -> Result<(), AllocError> {
 /// A copy of the entry at a place, which is over so many variables, as all are that workers offer.
 fn copy_of(log: &LogState, vars: u32, i: usize) -> Result<Entry, AllocError>
     requires { i < length log.now.entries }
-    ensures { IfOk result (λ e. IsWithin vars e.clause) }
+    ensures { IfOk result (λ e. IsWithinVariables vars e.clause) }
 {
     let entry = log.entry(i);
     let copy = Entry {
@@ -95,7 +95,7 @@ fn copy_of(log: &LogState, vars: u32, i: usize) -> Result<Entry, AllocError>
 
 /// Whether a variable passes the last one.
 fn has_other_variable(vars: u32, lits: &[Lit]) -> bool
-    ensures { OnFalse result (IsWithin vars lits.now) }
+    ensures { OnFalse result (IsWithinVariables vars lits.now) }
 {
     lits.iter().any(|lit| lit.var() > vars)
 }
@@ -196,8 +196,8 @@ fn read<R: Wait>(
     vars: u32,
     entries: &mut Vec<Entry>,
 ) -> Result<bool, AllocError>
-    requires { All (λ e. IsWithin vars e.clause) entries.old.items }
-    ensures within { OnOk result (All (λ e. IsWithin vars e.clause) entries.new.items) }
+    requires { All (λ e. IsWithinVariables vars e.clause) entries.old.items }
+    ensures within { OnOk result (All (λ e. IsWithinVariables vars e.clause) entries.new.items) }
     ensures longer { OnOk result (IsPrefix entries.old.items entries.new.items) }
 {
     let shared = shared.lock(rt);

@@ -5,7 +5,7 @@ use Rattle.std.proofs.Math.Nat.{pow-suc}
 use Rattle.std.proofs.lemmas.Bool.{cases_eq, cond_both, eq-eqb, eqb-true}
 use Rattle.std.proofs.lemmas.Nat.Bits.{bit_at_lowest, bit_at-lt, bit_at-suc, bit_at-zero, same_from_bits_below}
 use Rattle.letters_and_lassos.specs.Signals.{has}
-use Rattle.letters_and_lassos.specs.Bits.{number_of}
+use Rattle.letters_and_lassos.specs.Bits.{binary_value}
 
 digit-lt : (b : Bool) → cond b 1 0 < 2
 digit-lt true = omega arith
@@ -15,24 +15,24 @@ digit-is : (b : Bool) → eqb (cond b 1 0) 1 ≡ b
 digit-is true = refl
 digit-is false = refl
 
-pub number_of-lt : (bs : List Bool) → number_of bs < 2 ^ length bs
+pub number_of-lt : (bs : List Bool) → binary_value bs < 2 ^ length bs
 number_of-lt [] = omega arith
 number_of-lt (b ∷ bs) =
     let one : cond b 1 0 < 2 = digit-lt b in
-    let more : number_of bs < 2 ^ length bs = number_of-lt bs in
+    let more : binary_value bs < 2 ^ length bs = number_of-lt bs in
     let e : 2 ^ suc (length bs) ≡ 2 ^ length bs * 2 = pow-suc 2 (length bs) in
     rw e (omega arith)
 
-pub has-number_of : (bs : List Bool) (k : ℕ) → k < length bs → has (number_of bs) k ≡ get_or bs k false
+pub has-number_of : (bs : List Bool) (k : ℕ) → k < length bs → has (binary_value bs) k ≡ get_or bs k false
 has-number_of [] k h = absurd (omega arith)
 has-number_of (b ∷ bs) zero h =
     let one : cond b 1 0 < 2 = digit-lt b in
-    let e : (cond b 1 0 + number_of bs * 2) % 2 ≡ cond b 1 0 = omega arith in
-    ap (λ n. eqb n 1) (bit_at_lowest (cond b 1 0 + number_of bs * 2) ∙ e) ∙ digit-is b
+    let e : (cond b 1 0 + binary_value bs * 2) % 2 ≡ cond b 1 0 = omega arith in
+    ap (λ n. eqb n 1) (bit_at_lowest (cond b 1 0 + binary_value bs * 2) ∙ e) ∙ digit-is b
 has-number_of (b ∷ bs) (suc k) h =
     let one : cond b 1 0 < 2 = digit-lt b in
-    let e : (cond b 1 0 + number_of bs * 2) / 2 ≡ number_of bs = omega arith in
-    ap (λ n. eqb n 1) (bit_at-suc (cond b 1 0 + number_of bs * 2) k ∙ ap (λ n. bit_at n k) e) ∙ has-number_of bs k (omega arith)
+    let e : (cond b 1 0 + binary_value bs * 2) / 2 ≡ binary_value bs = omega arith in
+    ap (λ n. eqb n 1) (bit_at-suc (cond b 1 0 + binary_value bs * 2) k ∙ ap (λ n. bit_at n k) e) ∙ has-number_of bs k (omega arith)
 
 -- zero has no bit
 pub has-none : (k : ℕ) → has 0 k ≡ false

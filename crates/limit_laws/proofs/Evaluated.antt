@@ -18,7 +18,7 @@ use Rattle.tlsf_values.specs.Sorts.{number_in, truth_in, set_in, bus_in, formula
 use Rattle.tlsf_values.specs.Counts.{count_in, window_of, joining_of}
 use Rattle.tlsf_values.specs.Formulas.{truth_node}
 use Rattle.tlsf_values.specs.SectionValues.{section_formula, section_value}
-use Rattle.tlsf_values.specs.Values.{Evaluator, start_of, meaning_value, tree_count, values_at, bind, arguments_at, call_value, guard_value, chosen_value, body_value, bit_value, is_never_a_bus, word_value, index_value, numbers_in, steps_value, chain_value, window_parts, window_at, low_of, high_of, run_of, big_value, big_at, form_value, deeper, evaluator, value_at}
+use Rattle.tlsf_values.specs.Values.{Evaluator, span_start, meaning_value, tree_count, values_at, bind, arguments_at, call_value, guard_value, chosen_value, body_value, bit_value, is_never_a_bus, word_value, index_value, numbers_in, steps_value, chain_value, window_parts, window_at, low_of, high_of, run_of, big_value, big_at, form_value, deeper, evaluator, value_at}
 use Rattle.limit_laws.specs.Wider.{AreWider}
 use Rattle.limit_laws.proofs.Kept.{Keeps, same_given, refused_first, kept_go_on, kept_checked, kept_choose, kept_counted, kept_made}
 use Rattle.limit_laws.proofs.Operated.{kept_as_value, kept_count_value, kept_joined_over, kept_operated, kept_prefixed, kept_window_value}
@@ -65,7 +65,7 @@ module _ (small large : Limits) (wider : AreWider small large) where
 
     kept_guard_value : (bound : List Binding) (guard : Option Tree) → Stays (guard_value r bound guard)
     kept_guard_value bound None = same_given true
-    kept_guard_value bound (Some t) = λ done nodes. kept_go_on _ _ (all.value bound t done nodes) (λ v done nodes. kept_checked (truth_in (start_of t) v) _ _ _ _ (λ b. same_given b done nodes))
+    kept_guard_value bound (Some t) = λ done nodes. kept_go_on _ _ (all.value bound t done nodes) (λ v done nodes. kept_checked (truth_in (span_start t) v) _ _ _ _ (λ b. same_given b done nodes))
 
     kept_chosen_value : (bound : List Binding) (place : ℕ) (alternatives : List Alternative) → Stays (chosen_value r bound place alternatives)
     kept_chosen_value bound place [] = λ done nodes. refused_first _ _ _
@@ -90,7 +90,7 @@ module _ (small large : Limits) (wider : AreWider small large) where
     kept_index_value : (bound : List Binding) (place : ℕ) (word : Named) (i : Tree) → Stays (index_value names r bound place word i)
     kept_index_value bound place word i done nodes =
         kept_go_on _ _ (kept_word_value word.span.start (look_up names bound word.name) done nodes) (λ b done nodes. kept_go_on _ _ (all.value bound i done nodes) (λ v done nodes.
-        kept_checked b _ _ _ _ (λ k. kept_checked (number_in (start_of i) v) _ _ _ _ (λ z. kept_bit_value place (start_of i) (bus_at names k) z done nodes))))
+        kept_checked b _ _ _ _ (λ k. kept_checked (number_in (span_start i) v) _ _ _ _ (λ z. kept_bit_value place (span_start i) (bus_at names k) z done nodes))))
 
     kept_steps_value : (place : ℕ) (a b c : ℤ) → Stays (steps_value place a b c)
     kept_steps_value place a b c done nodes =
@@ -101,13 +101,13 @@ module _ (small large : Limits) (wider : AreWider small large) where
     kept_chain_value : (bound : List Binding) (own left : ℕ) (v : Value) (links : Links) → Stays (chain_value names r bound own left v links)
     kept_chain_value bound own left v no_links = same_given v
     kept_chain_value bound own left v (link o t more) = λ done nodes.
-        kept_go_on _ _ (all.value bound t done nodes) (λ u done nodes. kept_go_on _ _ (kept_operated small large wider names o (record { own = own; left = left; right = start_of t }) v u done nodes) (λ joined.
+        kept_go_on _ _ (all.value bound t done nodes) (λ u done nodes. kept_go_on _ _ (kept_operated small large wider names o (record { own = own; left = left; right = span_start t }) v u done nodes) (λ joined.
         kept_chain_value bound own left joined more))
 
     kept_window_parts : (place : ℕ) (k : Connective) (t u p : Tree) (m n v : Value) → Stays (window_parts place k t u p m n v)
     kept_window_parts place k t u p m n v done nodes =
-        kept_checked (number_in (start_of t) m) _ _ _ _ (λ from. kept_checked (number_in (start_of u) n) _ _ _ _ (λ to. kept_checked (formula_in (start_of p) v) _ _ _ _ (λ x.
-        kept_checked (count_in (start_of t) from) _ _ _ _ (λ m. kept_checked (count_in (start_of u) to) _ _ _ _ (λ n. kept_window_value small large wider place k m n x done nodes)))))
+        kept_checked (number_in (span_start t) m) _ _ _ _ (λ from. kept_checked (number_in (span_start u) n) _ _ _ _ (λ to. kept_checked (formula_in (span_start p) v) _ _ _ _ (λ x.
+        kept_checked (count_in (span_start t) from) _ _ _ _ (λ m. kept_checked (count_in (span_start u) to) _ _ _ _ (λ n. kept_window_value small large wider place k m n x done nodes)))))
 
     kept_window_at : (bound : List Binding) (place : ℕ) (k : Option Connective) (t u p : Tree) → Stays (window_at r bound place k t u p)
     kept_window_at bound place None t u p = λ done nodes. refused_first _ _ _
@@ -117,13 +117,13 @@ module _ (small large : Limits) (wider : AreWider small large) where
 
     kept_big_value : (place : ℕ) (j : Connective) (bound : List Binding) (over : Ranges) (t : Tree) → Stays (big_value r place j bound over t)
     kept_big_value place j bound no_ranges t = λ done nodes.
-        kept_go_on _ _ (all.value bound t done nodes) (λ v done nodes. kept_checked (formula_in (start_of t) v) _ _ _ _ (λ x. same_given x done nodes))
+        kept_go_on _ _ (all.value bound t done nodes) (λ v done nodes. kept_checked (formula_in (span_start t) v) _ _ _ _ (λ x. same_given x done nodes))
     kept_big_value place j bound (members word s more) t = λ done nodes.
-        kept_go_on _ _ (all.value bound s done nodes) (λ v done nodes. kept_checked (set_in (start_of s) v) _ _ _ _ (λ zs.
+        kept_go_on _ _ (all.value bound s done nodes) (λ v done nodes. kept_checked (set_in (span_start s) v) _ _ _ _ (λ zs.
         kept_joined_over small large wider place j _ (λ z. kept_big_value place j (bind word (value_is.Number z) bound) more t) zs None done nodes))
     kept_big_value place j bound (between low low_strict word high_strict high more) t = λ done nodes.
         kept_go_on _ _ (all.value bound low done nodes) (λ a done nodes. kept_go_on _ _ (all.value bound high done nodes) (λ b done nodes.
-        kept_checked (number_in (start_of low) a) _ _ _ _ (λ x. kept_checked (number_in (start_of high) b) _ _ _ _ (λ y.
+        kept_checked (number_in (span_start low) a) _ _ _ _ (λ x. kept_checked (number_in (span_start high) b) _ _ _ _ (λ y.
         kept_joined_over small large wider place j _ (λ z. kept_big_value place j (bind word (value_is.Number z) bound) more t) (run_of (low_of low_strict x) (high_of high_strict y)) None done nodes))))
 
     kept_big_at : (bound : List Binding) (place : ℕ) (j : Option Connective) (over : Ranges) (t : Tree) → Stays (big_at r bound place j over t)
@@ -139,28 +139,28 @@ module _ (small large : Limits) (wider : AreWider small large) where
     kept_form_value bound (named s name) = kept_meaning_value s.start (look_up names bound name)
     kept_form_value bound (call s word ts) = kept_call_value bound s.start word.span.start (look_up names bound word.name) ts
     kept_form_value bound (index s word i) = kept_index_value bound s.start word i
-    kept_form_value bound (size_of s t) = λ done nodes. kept_go_on _ _ (all.value bound t done nodes) (λ v done nodes. kept_checked (bus_in (start_of t) v) _ _ _ _ (λ k. same_given _ done nodes))
+    kept_form_value bound (size_of s t) = λ done nodes. kept_go_on _ _ (all.value bound t done nodes) (λ v done nodes. kept_checked (bus_in (span_start t) v) _ _ _ _ (λ k. same_given _ done nodes))
     kept_form_value bound (paren s t) = all.value bound t
     kept_form_value bound (set s ts) = λ done nodes.
         kept_go_on _ _ (kept_values_at bound [] ts done nodes) (λ vs done nodes. kept_checked (numbers_in [] ts vs) _ _ _ _ (λ zs. same_given _ done nodes))
     kept_form_value bound (steps s t u v) = λ done nodes.
         kept_go_on _ _ (all.value bound t done nodes) (λ a done nodes. kept_go_on _ _ (all.value bound u done nodes) (λ b done nodes. kept_go_on _ _ (all.value bound v done nodes) (λ c done nodes.
-        kept_checked (number_in (start_of t) a) _ _ _ _ (λ x. kept_checked (number_in (start_of u) b) _ _ _ _ (λ y. kept_checked (number_in (start_of v) c) _ _ _ _ (λ z. kept_steps_value s.start x y z done nodes))))))
-    kept_form_value bound (chain s t links) = λ done nodes. kept_go_on _ _ (all.value bound t done nodes) (λ v. kept_chain_value bound s.start (start_of t) v links)
+        kept_checked (number_in (span_start t) a) _ _ _ _ (λ x. kept_checked (number_in (span_start u) b) _ _ _ _ (λ y. kept_checked (number_in (span_start v) c) _ _ _ _ (λ z. kept_steps_value s.start x y z done nodes))))))
+    kept_form_value bound (chain s t links) = λ done nodes. kept_go_on _ _ (all.value bound t done nodes) (λ v. kept_chain_value bound s.start (span_start t) v links)
     kept_form_value bound (pair s o t u) = λ done nodes.
         kept_go_on _ _ (all.value bound t done nodes) (λ a done nodes. kept_go_on _ _ (all.value bound u done nodes) (λ b.
-        kept_operated small large wider names o (record { own = s.start; left = start_of t; right = start_of u }) a b))
-    kept_form_value bound (prefix s o t) = λ done nodes. kept_go_on _ _ (all.value bound t done nodes) (λ a. kept_prefixed small large wider o s.start (start_of t) a)
+        kept_operated small large wider names o (record { own = s.start; left = span_start t; right = span_start u }) a b))
+    kept_form_value bound (prefix s o t) = λ done nodes. kept_go_on _ _ (all.value bound t done nodes) (λ a. kept_prefixed small large wider o s.start (span_start t) a)
     kept_form_value bound (count s n t) = λ done nodes.
         kept_go_on _ _ (all.value bound n done nodes) (λ m done nodes. kept_go_on _ _ (all.value bound t done nodes) (λ v done nodes.
-        kept_checked (number_in (start_of n) m) _ _ _ _ (λ z. kept_checked (formula_in (start_of t) v) _ _ _ _ (λ x. kept_checked (count_in (start_of n) z) _ _ _ _ (λ k.
+        kept_checked (number_in (span_start n) m) _ _ _ _ (λ z. kept_checked (formula_in (span_start t) v) _ _ _ _ (λ x. kept_checked (count_in (span_start n) z) _ _ _ _ (λ k.
         kept_count_value small large wider s.start k x done nodes)))))
     kept_form_value bound (window s o t u p) = kept_window_at bound s.start (window_of o) t u p
     kept_form_value bound (big s o over t) = kept_big_at bound s.start (joining_of o) over t
 
     kept_deeper : KeepsAll small large (deeper names r)
     kept_deeper = record {
-      value = λ bound t done nodes. kept_go_on _ _ (kept_counted small large wider (start_of t) 1 done nodes) (λ _. kept_form_value bound t);
+      value = λ bound t done nodes. kept_go_on _ _ (kept_counted small large wider (span_start t) 1 done nodes) (λ _. kept_form_value bound t);
       body = kept_body_value;
     }
 
@@ -182,5 +182,5 @@ module _ (small large : Limits) (wider : AreWider small large) where
   pub kept_section_value : (names : Names) (ts : List Tree) → Stays (section_value names ts)
   kept_section_value names [] = same_given []
   kept_section_value names (t ∷ ts) = λ done nodes.
-      kept_go_on _ _ (kept_value_at names [] t 0 done nodes) (λ v done nodes. kept_go_on _ _ (kept_section_formula (start_of t) v done nodes) (λ id done nodes.
+      kept_go_on _ _ (kept_value_at names [] t 0 done nodes) (λ v done nodes. kept_go_on _ _ (kept_section_formula (span_start t) v done nodes) (λ id done nodes.
       kept_go_on _ _ (kept_section_value names ts done nodes) (λ ids. same_given (id ∷ ids))))

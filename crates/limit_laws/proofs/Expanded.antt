@@ -12,7 +12,7 @@ use Rattle.tlsf_syntax.specs.declared.sections.Sections.{Sections}
 use Rattle.tlsf_values.specs.declared.work.Work.{Work}
 use Rattle.tlsf_values.specs.Outcomes.{Outcome, gives, fails, go_on, made}
 use Rattle.tlsf_values.specs.Names.{Names, with_definitions, without_names}
-use Rattle.tlsf_values.specs.Values.{start_of}
+use Rattle.tlsf_values.specs.Values.{span_start}
 use Rattle.tlsf_values.specs.SectionValues.{section_value}
 use Rattle.tlsf_expand.specs.Signals.{TypedSignal, Signals, Declared, width_in, type_in, extent_value, bits_in, declaration_value, declarations_value, none_yet, signals_value, uneven_value, even_first, signals_of}
 use Rattle.tlsf_expand.specs.Sections.{in_order, added_value, sections_value, joined_more, conjoined, standard_value, strict_value, whole_value}
@@ -37,7 +37,7 @@ module _ (small large : Limits) (wider : AreWider small large) where
   kept_extent_value : (text : Text) (names : Names) (shape : Shape) → Stays (extent_value text names shape)
   kept_extent_value text names single = same_given _
   kept_extent_value text names (bus t) = λ done nodes.
-      kept_go_on _ _ (kept_value_at small large wider names [] t 0 done nodes) (λ v done nodes. kept_checked (width_in (start_of t) v) _ _ _ _ (λ extent. same_given extent done nodes))
+      kept_go_on _ _ (kept_value_at small large wider names [] t 0 done nodes) (λ v done nodes. kept_checked (width_in (span_start t) v) _ _ _ _ (λ extent. same_given extent done nodes))
   kept_extent_value text names (typed word) = λ done nodes. kept_checked (type_in text word (names.means word.name)) _ _ _ _ (λ extent. same_given extent done nodes)
 
   module _ (text : Text) (from : ℕ) where

@@ -11,14 +11,14 @@ use Rattle.std.proofs.lemmas.Option.{slice_get_cases}
 use Rattle.std.proofs.Math.Seq.{take-suc, take-length}
 use Rattle.std.proofs.lemmas.Bool.{cases_lt, false_from_ne_true}
 use Rattle.propositional_logic.specs.Literal.{Literal, negated}
-use Rattle.propositional_logic.specs.Clause.{IsWithin, clause_eq}
+use Rattle.propositional_logic.specs.Clause.{IsWithinVariables, clause_eq}
 use Rattle.propositional_logic.specs.Partial.{is_falsified}
 use Rattle.propositional_logic.specs.Equality.{Decides-clause_eq}
 use Rattle.refutation_log.specs.declared.entries.Entry.{Entry}
 use Rattle.refutation_log.specs.Entry.{clauses_of}
 use Rattle.refutation_log.specs.Follows.{Follows, leads_to_conflict, clause_named, unit_named}
 use Rattle.refutation_log.specs.Log.{is_empty_clause, is_ended, IsWithinLimit, IsLegal}
-use Rattle.refutation_log.specs.Turn.{place_of, is_at_limit}
+use Rattle.refutation_log.specs.Turn.{clause_place, is_at_limit}
 use Rattle.refutation_log.proofs.LegalLemmas.{legal_empty, legal_push, get_or-clauses}
 use Rattle.log_checker.specs.declared.faults.LogFault.{LogFault}
 use Rattle.log_checker.specs.declared.faults.LogFault.TheVariants.{BadHint, NotFalsified, Repeated, NotClosed, AfterEnd, OverLimit, NoMemory}
@@ -179,10 +179,10 @@ not_ended_of (d ∷ e ∷ log) h = not_ended_of (e ∷ log) (by (is_empty_clause
     by true k = absurd (true≢false k)
     by false k = k
 
-unknown_of : (clause : List Literal) (log : List Entry) → has_clause clause log ≡ false → place_of clause log ≡ None
-unknown_of clause log h = by (place_of clause log) refl
+unknown_of : (clause : List Literal) (log : List Entry) → has_clause clause log ≡ false → clause_place clause log ≡ None
+unknown_of clause log h = by (clause_place clause log) refl
   where
-    by : (o : Option ℕ) → place_of clause log ≡ o → o ≡ None
+    by : (o : Option ℕ) → clause_place clause log ≡ o → o ≡ None
     by None e = refl
     by (Some i) e =
         let k = position-Some (clause_eq clause) (clauses_of log) i clause e in
@@ -202,7 +202,7 @@ legal_first vars base limit log within none (suc n) le =
           let pass = passes base limit (take n log) e (sym (ap (option_and_then (λ d. entry_fault base limit (take n log) d)) p.2) ∙ none.none n (omega arith) (omega arith)) in
           let here : Follows (base ++ clauses_of (take (length (take n log)) (take n log))) e.clause e.hints =
           subst (λ es. Follows (base ++ clauses_of es) e.clause e.hints) (sym (take-length (take n log))) pass.follows in
-          let le' : IsWithin vars e.clause = subst (λ (d : Entry). IsWithin vars d.clause) p.3 (within n e (omega arith)) in
+          let le' : IsWithinVariables vars e.clause = subst (λ (d : Entry). IsWithinVariables vars d.clause) p.3 (within n e (omega arith)) in
           subst (λ es. IsLegal vars base limit es) (sym (take-suc log n e (omega arith) ∙ ap (λ d. take n log ++ d ∷ []) p.3))
           (legal_push vars base limit (take n log) e (length (take n log)) before le' here (unknown_of e.clause (take n log) pass.new) (not_ended_of (take n log) pass.not_ended) pass.below)
       | inr p ↦ absurd (omega arith)

@@ -7,12 +7,12 @@ use Rattle.log_checker.specs.declared.faults.LogFault.{LogFault}
 use Rattle.log_checker.specs.Faults.{follow_fault, IsFirstOf}
 
 -- Where a piece of so many entries begins, in a list that ends at `to`; the piece before it ends there.
-abbrev pub start_of : ℕ → ℕ → ℕ → ℕ
-start_of size to piece = min (piece * size) to
+abbrev pub piece_start : ℕ → ℕ → ℕ → ℕ
+piece_start size to piece = min (piece * size) to
 
 -- What was found of a piece: its first fault of hints, if memory was there.
 abbrev pub IsOfPiece : List (List Literal) → List Entry → ℕ → ℕ → ℕ → Result (Option LogFault) AllocError → Type 0
-IsOfPiece base log size to piece answer = IfOk answer (IsFirstOf (follow_fault base) log (start_of size to piece) (start_of size to (piece + 1)))
+IsOfPiece base log size to piece answer = IfOk answer (IsFirstOf (follow_fault base) log (piece_start size to piece) (piece_start size to (piece + 1)))
 
 -- The answers for so many pieces, in their order.
 abbrev pub AreOfPieces : List (List Literal) → List Entry → ℕ → ℕ → ℕ → List (Result (Option LogFault) AllocError) → Type 0

@@ -1,5 +1,5 @@
 ghost use Rattle.std.specs.Prelude.{◌≡◌, ℕ, ◌≤◌, [], ◌++◌, List, IfOk, OnOk, IfSome, Some, None, option_map, length};
-ghost use Rattle.propositional_logic.specs.Clause.{IsWithin};
+ghost use Rattle.propositional_logic.specs.Clause.{IsWithinVariables};
 ghost use Rattle.refutation_log.specs.Entry.{clauses_of};
 ghost use Rattle.refutation_log.specs.Follows.{clause_named as named_clause, unit_named as named_unit};
 ghost use Rattle.log_checker.specs.Faults.{hints_fault as fault_of_hints, last_hint_fault as fault_of_last_hint, follow_fault as fault_of_entry, IsFirstOf};
@@ -45,7 +45,7 @@ fn follow_fault(
     entry: &Entry,
 ) -> Result<Option<LogFault>, AllocError>
     requires checkable { IsCheckable base.now.vars base.now.clauses.items before.now }
-    requires within { IsWithin base.now.vars entry.now.clause }
+    requires within { IsWithinVariables base.now.vars entry.now.clause }
     requires vars { marks.old.vars ≡ base.now.vars }
     requires empty { marks.old.trues ≡ [] }
     ensures fault { IfOk result (λ fault. fault ≡ fault_of_entry base.now.clauses.items before.now entry.now) }
@@ -110,7 +110,7 @@ fn last_hint_fault(marks: &Marks, base: &Cnf, before: &[Entry], number: u64) -> 
 fn clause_named<'a>(base: &'a Cnf, before: &'a [Entry], number: u64) -> Option<&'a Clause>
     requires { IsCheckable base.now.vars base.now.clauses.items before.now }
     ensures clause { option_map (λ clause. clause.now) result ≡ named_clause (base.now.clauses.items ++ clauses_of before.now) number }
-    ensures within { IfSome result (λ clause. IsWithin base.now.vars clause.now) }
+    ensures within { IfSome result (λ clause. IsWithinVariables base.now.vars clause.now) }
 {
     let place = number.checked_sub(1)? as usize;
     if place < base.clauses.len() {

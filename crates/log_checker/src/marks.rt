@@ -1,6 +1,6 @@
 ghost use Rattle.std.specs.Prelude.{◌≡◌, ℕ, ◌≤◌, ◌<◌, ◌+◌, ◌*◌, [], ◌∷◌, List, IfOk, OnOk, OnErr, IfSome, IfNone, map, reverse, Some, drop, length};
 ghost use Rattle.propositional_logic.specs.Literal.{Literal, negated};
-ghost use Rattle.propositional_logic.specs.Clause.{IsWithin};
+ghost use Rattle.propositional_logic.specs.Clause.{IsWithinVariables};
 ghost use Rattle.propositional_logic.specs.Partial.{is_true_in, is_falsified, unit_of, unfalsified};
 ghost use Rattle.log_checker.specs.Marked.{Trues, IsMarked};
 ghost use Rattle.propositional_logic.specs.Codes.{code_of};
@@ -75,7 +75,7 @@ impl Marks {
 
     /// Makes the opposites of a clause's literals true.
     pub(crate) fn oppose(&mut self, clause: &Clause) -> Result<(), AllocError>
-        requires within { IsWithin self.old.vars clause.now }
+        requires within { IsWithinVariables self.old.vars clause.now }
         requires empty { self.old.trues ≡ [] }
         ensures { OnOk result (self.new ≡ record { vars = self.old.vars; trues = map negated clause.now }) }
     {
@@ -88,7 +88,7 @@ impl Marks {
 
     /// The literal in which a clause is unit, if it is.
     pub(crate) fn unit(&self, clause: &Clause) -> Option<Lit>
-        requires { IsWithin self.now.vars clause.now }
+        requires { IsWithinVariables self.now.vars clause.now }
         ensures unit { result ≡ unit_of self.now.trues clause.now }
         ensures within { IfSome result (λ lit. lit.var ≤ self.now.vars) }
     {
@@ -106,7 +106,7 @@ impl Marks {
 
     /// Whether all literals of a clause are false.
     pub(crate) fn is_falsified(&self, clause: &Clause) -> bool
-        requires { IsWithin self.now.vars clause.now }
+        requires { IsWithinVariables self.now.vars clause.now }
         ensures { result ≡ is_falsified self.now.trues clause.now }
     {
         self.are_false(clause.lits())
@@ -114,7 +114,7 @@ impl Marks {
 
     /// Whether all of these literals are false.
     fn are_false(&self, lits: &[Lit]) -> bool
-        requires { IsWithin self.now.vars lits.now }
+        requires { IsWithinVariables self.now.vars lits.now }
         ensures { result ≡ is_falsified self.now.trues lits.now }
     {
         for lit in lits {
@@ -127,9 +127,9 @@ impl Marks {
 
     /// The first literal that isn't false, and those after it.
     fn next_unfalsified<'a>(&self, lits: &'a [Lit]) -> Option<Unfalsified<'a>>
-        requires { IsWithin self.now.vars lits.now }
+        requires { IsWithinVariables self.now.vars lits.now }
         ensures some { IfSome result (λ found. unfalsified self.now.trues lits.now ≡ found.first ∷ unfalsified self.now.trues found.rest.now) }
-        ensures within { IfSome result (λ found. (found.first.var ≤ self.now.vars) × IsWithin self.now.vars found.rest.now) }
+        ensures within { IfSome result (λ found. (found.first.var ≤ self.now.vars) × IsWithinVariables self.now.vars found.rest.now) }
         ensures none { IfNone result (unfalsified self.now.trues lits.now ≡ []) }
     {
         for (i, lit) in lits.iter().enumerate() {

@@ -1,7 +1,7 @@
 ghost use Rattle.std.specs.Prelude.{◌≡◌, ◌≤◌, ◌<◌, ◌+◌, ◌*◌, IfOk, min, length};
 ghost use Rattle.log_checker.specs.Faults.{follow_fault, IsFirstOf};
 ghost use Rattle.log_checker.specs.Hinted.{IsCheckable};
-ghost use Rattle.log_checker.specs.Pieces.{start_of as start_of_piece, IsOfPiece, AreOfPieces, first_answer as answer_of};
+ghost use Rattle.log_checker.specs.Pieces.{piece_start as start_of_piece, IsOfPiece, AreOfPieces, first_answer as answer_of};
 
 use crate::LogFault;
 use crate::hints::first_follow_fault;

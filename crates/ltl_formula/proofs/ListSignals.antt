@@ -8,7 +8,7 @@ use Rattle.ltl_formula.specs.declared.nodes.FormulaId.{FormulaId}
 use Rattle.ltl_formula.specs.declared.nodes.Node.{Node}
 use Rattle.ltl_formula.specs.declared.nodes.Node.TheVariants.{True, False, Signal, Not, Next, Finally, Globally, And, Or, Implies, Equiv, Until, Release, WeakUntil}
 use Rattle.ltl_formula.specs.declared.nodes.TheConstants.{MAX_NODES}
-use Rattle.ltl_formula.specs.Nodes.{trees_of, tree_at, node_at, SignalBelow, IsNodeList, Stands}
+use Rattle.ltl_formula.specs.Nodes.{trees_of, tree_at, node_at, SignalBelow, IsNodeList, IsNodeIn}
 use Rattle.ltl_formula.specs.Added.{node_eq, Built, built_at, added}
 use Rattle.ltl_formula.specs.ListSignals.{HasSignalsBelow, KeepsSignals, SignalsOfListsAreKept}
 use Rattle.ltl_formula.specs.Tree.{SignalsBelow}
@@ -65,7 +65,7 @@ HasSignalsBelow-added most n nodes node h new = by (position (node_eq node) node
           | false ↦ h
         ]
 
-signals_by : (n : ℕ) (nodes : List Node) → IsNodeList nodes → HasSignalsBelow n nodes → (fuel : ℕ) (id : FormulaId) → id.0 < fuel → Stands nodes id → SignalsBelow n (tree_at nodes id)
+signals_by : (n : ℕ) (nodes : List Node) → IsNodeList nodes → HasSignalsBelow n nodes → (fuel : ℕ) (id : FormulaId) → id.0 < fuel → IsNodeIn nodes id → SignalsBelow n (tree_at nodes id)
 signals_by n nodes list h zero id small stands = absurd (omega arith)
 signals_by n nodes list h (suc fuel) id small stands =
     rw (tree_at-node nodes id.0 stands (list.parts_first id.0))

@@ -13,7 +13,7 @@ use Rattle.ltl_formula.specs.declared.nodes.FormulaId.{FormulaId}
 use Rattle.ltl_formula.specs.declared.nodes.Node.{Node}
 use Rattle.ltl_formula.specs.declared.nodes.Node.TheVariants.{True, False, Signal, Not, Next, Finally, Globally, And, Or, Implies, Equiv, Until, Release, WeakUntil}
 use Rattle.ltl_formula.specs.declared.nodes.TheConstants.{MAX_NODES, MAX_SIGNALS}
-use Rattle.ltl_formula.specs.Nodes.{tree_of, trees_of, tree_at, pick, node_at, PartsBelow, SignalBelow, IsNodeList, Stands, Grows}
+use Rattle.ltl_formula.specs.Nodes.{tree_of, trees_of, tree_at, pick, node_at, PartsBelow, SignalBelow, IsNodeList, IsNodeIn, Grows}
 use Rattle.ltl_formula.specs.Added.{node_eq, Built, built_at, added}
 use Rattle.ltl_formula.specs.Laws.{OneIdPerFormula, SignalsAreBelow}
 use Rattle.ltl_formula.specs.Tree.{Tree, SignalsBelow}
@@ -37,7 +37,7 @@ Grows-trans a b c ab bc = record {
 pub Grows-append : (nodes more : List Node) → Grows nodes (nodes ++ more)
 Grows-append nodes more = record { more = more; appended = refl }
 
-pub Grows-stands : (old new : List Node) (id : FormulaId) → Grows old new → Stands old id → Stands new id
+pub Grows-stands : (old new : List Node) (id : FormulaId) → Grows old new → IsNodeIn old id → IsNodeIn new id
 Grows-stands old new id grows h =
     let e : length new ≡ length old + length grows.more = ap length grows.appended ∙ length-append old grows.more in
     omega arith
@@ -165,7 +165,7 @@ module _ (nodes : List Node) (node : Node) (list : IsNodeList nodes) (parts : Pa
   }
 
 -- a list has one id for a formula
-one_id_below : (nodes : List Node) → IsNodeList nodes → (fuel : ℕ) (a b : FormulaId) → a.0 < fuel → Stands nodes a → Stands nodes b → tree_at nodes a ≡ tree_at nodes b → a ≡ b
+one_id_below : (nodes : List Node) → IsNodeList nodes → (fuel : ℕ) (a b : FormulaId) → a.0 < fuel → IsNodeIn nodes a → IsNodeIn nodes b → tree_at nodes a ≡ tree_at nodes b → a ≡ b
 one_id_below nodes list zero a b small ha hb e = absurd (omega arith)
 one_id_below nodes list (suc fuel) a b small ha hb e =
     let of_a : tree_at nodes a ≡ tree_of (trees_of nodes) (node_at nodes a.0) = tree_at-node nodes a.0 ha (list.parts_first a.0) in
@@ -222,7 +222,7 @@ SignalsBelow-tree_of n i trees (Until a b) parts signal each = (each a parts.0, 
 SignalsBelow-tree_of n i trees (Release a b) parts signal each = (each a parts.0, each b parts.1)
 SignalsBelow-tree_of n i trees (WeakUntil a b) parts signal each = (each a parts.0, each b parts.1)
 
-signals_below_by : (nodes : List Node) → IsNodeList nodes → (fuel : ℕ) (id : FormulaId) → id.0 < fuel → Stands nodes id → SignalsBelow MAX_SIGNALS (tree_at nodes id)
+signals_below_by : (nodes : List Node) → IsNodeList nodes → (fuel : ℕ) (id : FormulaId) → id.0 < fuel → IsNodeIn nodes id → SignalsBelow MAX_SIGNALS (tree_at nodes id)
 signals_below_by nodes list zero id small h = absurd (omega arith)
 signals_below_by nodes list (suc fuel) id small h =
     rw (tree_at-node nodes id.0 h (list.parts_first id.0))

@@ -6,7 +6,7 @@ use Rattle.ltl_formula.specs.declared.nodes.Node.{Node}
 use Rattle.ltl_formula.specs.declared.nodes.Node.TheVariants.{True, False, Signal, Not, Next, Finally, Globally, And, Or, Implies, Equiv, Until, Release, WeakUntil}
 use Rattle.ltl_formula.specs.Tree.{Tree}
 use Rattle.ltl_formula.specs.Tree.Tree.{falsity, negation, next_time, finally, globally}
-use Rattle.ltl_formula.specs.Nodes.{pick, tree_of, trees_after, trees_of, tree_at, node_at, PartsBelow, Stands}
+use Rattle.ltl_formula.specs.Nodes.{pick, tree_of, trees_after, trees_of, tree_at, node_at, PartsBelow, IsNodeIn}
 use Rattle.ltl_formula.specs.Laws.{GrowingKeepsFormulas}
 
 pub length-trees_after : (trees : List Tree) (nodes : List Node) → length (trees_after trees nodes) ≡ length trees + length nodes
@@ -29,7 +29,7 @@ pick-trees_after trees (node ∷ nodes) id h =
     pick-trees_after (trees ++ tree_of trees node ∷ []) nodes id (omega arith)
     ∙ get_or_append_left trees (tree_of trees node ∷ []) falsity id.0 h
 
-pub tree_at-append : (xs ys : List Node) (id : FormulaId) → Stands xs id → tree_at (xs ++ ys) id ≡ tree_at xs id
+pub tree_at-append : (xs ys : List Node) (id : FormulaId) → IsNodeIn xs id → tree_at (xs ++ ys) id ≡ tree_at xs id
 tree_at-append xs ys id h =
     ap (λ trees. pick trees id) (trees_after-append [] xs ys)
     ∙ pick-trees_after (trees_of xs) ys id (let e : length (trees_of xs) ≡ 0 + length xs = length-trees_after [] xs in omega arith)

@@ -6,7 +6,7 @@ use Rattle.ltl_formula.specs.Tree.{Tree, SignalsBelow}
 use Rattle.ltl_formula.specs.declared.nodes.TheConstants.{MAX_SIGNALS}
 use Rattle.ltl_formula.specs.Tree.Tree.{finally, globally, until, release}
 use Rattle.ltl_formula.specs.Truth.{holds}
-use Rattle.ltl_formula.specs.Nodes.{IsNodeList, Grows, Stands, tree_at}
+use Rattle.ltl_formula.specs.Nodes.{IsNodeList, Grows, IsNodeIn, tree_at}
 
 -- b comes j steps after position i, and a holds at each position before
 pub record ComesAt (w : Word) (a b : ℕ → Bool) (i j : ℕ) : Type 0 where
@@ -36,12 +36,12 @@ pub record TruthIsOfTheFuture : Type 0 where
 
 -- a growing list changes the formula of no id that stood
 abbrev pub GrowingKeepsFormulas : Type 0
-GrowingKeepsFormulas = (old new : List Node) (id : FormulaId) → Grows old new → Stands old id → tree_at new id ≡ tree_at old id
+GrowingKeepsFormulas = (old new : List Node) (id : FormulaId) → Grows old new → IsNodeIn old id → tree_at new id ≡ tree_at old id
 
 -- a list has one id for a formula
 abbrev pub OneIdPerFormula : Type 0
-OneIdPerFormula = (nodes : List Node) (a b : FormulaId) → IsNodeList nodes → Stands nodes a → Stands nodes b → tree_at nodes a ≡ tree_at nodes b → a ≡ b
+OneIdPerFormula = (nodes : List Node) (a b : FormulaId) → IsNodeList nodes → IsNodeIn nodes a → IsNodeIn nodes b → tree_at nodes a ≡ tree_at nodes b → a ≡ b
 
 -- the formulas of a list speak of signals below 32 alone
 abbrev pub SignalsAreBelow : Type 0
-SignalsAreBelow = (nodes : List Node) (id : FormulaId) → IsNodeList nodes → Stands nodes id → SignalsBelow MAX_SIGNALS (tree_at nodes id)
+SignalsAreBelow = (nodes : List Node) (id : FormulaId) → IsNodeList nodes → IsNodeIn nodes id → SignalsBelow MAX_SIGNALS (tree_at nodes id)

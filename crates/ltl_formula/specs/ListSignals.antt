@@ -1,7 +1,7 @@
 use Rattle.std.specs.Prelude.{ℕ, List}
 use Rattle.ltl_formula.specs.declared.nodes.FormulaId.{FormulaId}
 use Rattle.ltl_formula.specs.declared.nodes.Node.{Node}
-use Rattle.ltl_formula.specs.Nodes.{IsNodeList, SignalBelow, Stands, node_at, tree_at}
+use Rattle.ltl_formula.specs.Nodes.{IsNodeList, SignalBelow, IsNodeIn, node_at, tree_at}
 use Rattle.ltl_formula.specs.Added.{added}
 use Rattle.ltl_formula.specs.Tree.{SignalsBelow}
 
@@ -15,5 +15,5 @@ pub record KeepsSignals (old new : List Node) : Type 0 where
 
 -- the signals of a list are those of its formulas, and adding a node adds no signal but the node's
 pub record SignalsOfListsAreKept : Type 0 where
-  pub of_formulas : (n : ℕ) (nodes : List Node) (id : FormulaId) → IsNodeList nodes → HasSignalsBelow n nodes → Stands nodes id → SignalsBelow n (tree_at nodes id)
+  pub of_formulas : (n : ℕ) (nodes : List Node) (id : FormulaId) → IsNodeList nodes → HasSignalsBelow n nodes → IsNodeIn nodes id → SignalsBelow n (tree_at nodes id)
   pub of_added : (most n : ℕ) (nodes : List Node) (node : Node) → HasSignalsBelow n nodes → SignalBelow n node → HasSignalsBelow n (added most nodes node).nodes

@@ -74,8 +74,8 @@ pub record IsNodeList (nodes : List Node) : Type 0 where
   pub most : length nodes ≤ MAX_NODES
 
 -- the id is a place of the list
-abbrev pub Stands : List Node → FormulaId → Type 0
-Stands nodes id = id.0 < length nodes
+abbrev pub IsNodeIn : List Node → FormulaId → Type 0
+IsNodeIn nodes id = id.0 < length nodes
 
 -- the list has grown, or stayed: what stood has kept its place
 pub record Grows (old new : List Node) : Type 0 where

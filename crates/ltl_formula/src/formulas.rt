@@ -1,5 +1,5 @@
 ghost use Rattle.std.specs.Prelude.{◌≡◌, ℕ, min, ◌↔◌, ◌<◌, ◌≤◌, IsTrue, [], ◌∷◌, ◌++◌, Ok, Err, Some, None, IfOk, IfErr, OnOk, OnErr, length, position, slice_get};
-ghost use Rattle.ltl_formula.specs.Nodes.{Grows, IsNodeList, PartsBelow, SignalBelow, Stands, tree_at, tree_of, trees_of};
+ghost use Rattle.ltl_formula.specs.Nodes.{Grows, IsNodeList, PartsBelow, SignalBelow, IsNodeIn, tree_at, tree_of, trees_of};
 ghost use Rattle.ltl_formula.specs.Added.{added, node_eq};
 ghost use Rattle.ltl_formula.specs.declared.nodes.TheConstants.{MAX_NODES, MAX_SIGNALS};
 
@@ -47,7 +47,7 @@ impl Formulas {
 
     /// The node of an id.
     pub fn node(&self, id: FormulaId) -> Node
-        requires { Stands self.now id }
+        requires { IsNodeIn self.now id }
         ensures value { slice_get self.now id.0 ≡ Some result }
         ensures parts { PartsBelow id.0 result }
         ensures tree { tree_at self.now id ≡ tree_of (trees_of self.now) result }

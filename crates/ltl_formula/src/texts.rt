@@ -1,5 +1,5 @@
 ghost use Rattle.std.specs.Prelude.{◌≡◌, ◌<◌, ◌≤◌, ◌++◌, codes, length, vec_len, IfOk, OnOk, OnErr};
-ghost use Rattle.ltl_formula.specs.Nodes.{PartsBelow, Stands, tree_at};
+ghost use Rattle.ltl_formula.specs.Nodes.{PartsBelow, IsNodeIn, tree_at};
 ghost use Rattle.ltl_formula.specs.Text.{formula_text};
 ghost use Rattle.ltl_formula.specs.Tree.{SignalsBelow};
 ghost use Rattle.ltl_formula.specs.Written.{Writes};
@@ -21,7 +21,7 @@ pub fn write_formula(
     names: &[Name],
     out: &mut Vec<u8>,
 ) -> Result<(), AllocError>
-    requires stands { Stands formulas.now f }
+    requires stands { IsNodeIn formulas.now f }
     requires named { SignalsBelow (length names.now) (tree_at formulas.now f) }
     ensures ok { OnOk result (out.new.items ≡ out.old.items ++ formula_text names.now (tree_at formulas.now f)) }
     ensures err { OnErr result (out.new.items ≡ out.old.items) }
@@ -41,7 +41,7 @@ pub fn write_formula(
 
 /// The length of the formula's text, or the greatest number where it is longer. One pass over the nodes.
 fn text_len(formulas: &Formulas, f: FormulaId, names: &[Name]) -> usize
-    requires { Stands formulas.now f }
+    requires { IsNodeIn formulas.now f }
 {
     let mut lengths = [0usize; MAX_NODES];
     for place in 0..=f.0 {
@@ -92,7 +92,7 @@ fn write_node(
     names: &[Name],
     out: &mut Vec<u8>,
 ) -> Result<(), AllocError>
-    requires stands { Stands formulas.now f }
+    requires stands { IsNodeIn formulas.now f }
     requires named { SignalsBelow (length names.now) (tree_at formulas.now f) }
     ensures { Writes result out.old.items (formula_text names.now (tree_at formulas.now f)) out.new.items }
 {
@@ -123,7 +123,7 @@ fn write_between(
     behind: &[u8],
     out: &mut Vec<u8>,
 ) -> Result<(), AllocError>
-    requires stands { Stands formulas.now f }
+    requires stands { IsNodeIn formulas.now f }
     requires named { SignalsBelow (length names.now) (tree_at formulas.now f) }
     ensures { Writes result out.old.items (before.now ++ formula_text names.now (tree_at formulas.now f) ++ behind.now) out.new.items }
 {
@@ -141,8 +141,8 @@ fn write_joined(
     names: &[Name],
     out: &mut Vec<u8>,
 ) -> Result<(), AllocError>
-    requires left_stands { Stands formulas.now left }
-    requires right_stands { Stands formulas.now right }
+    requires left_stands { IsNodeIn formulas.now left }
+    requires right_stands { IsNodeIn formulas.now right }
     requires left_named { SignalsBelow (length names.now) (tree_at formulas.now left) }
     requires right_named { SignalsBelow (length names.now) (tree_at formulas.now right) }
     ensures { Writes result out.old.items (codes "(" ++ formula_text names.now (tree_at formulas.now left) ++ operator.now ++ formula_text names.now (tree_at formulas.now right) ++ codes ")") out.new.items }

@@ -9,7 +9,7 @@ use Rattle.ltl_formula.specs.declared.nodes.Node.TheVariants as node
 use Rattle.ltl_formula.specs.declared.nodes.TheConstants.{MAX_NODES, MAX_SIGNALS}
 use Rattle.ltl_formula.specs.Tree.{Tree, SignalsBelow}
 use Rattle.ltl_formula.specs.Tree.Tree.{truth, falsity, signal, negation, next_time, finally, globally, conjunction, disjunction, implication, equivalence, until, release, weak_until}
-use Rattle.ltl_formula.specs.Nodes.{Grows, IsNodeList, PartsBelow, SignalBelow, Stands, pick, tree_at, tree_of, trees_of, node_at}
+use Rattle.ltl_formula.specs.Nodes.{Grows, IsNodeList, PartsBelow, SignalBelow, IsNodeIn, pick, tree_at, tree_of, trees_of, node_at}
 use Rattle.ltl_formula.specs.Added.{Built, added, built_at, node_eq}
 use Rattle.ltl_formula.proofs.Trees.{tree_at-grown, tree_at-node, tree_of-parts}
 use Rattle.ltl_formula.proofs.Lists.{Grows-refl, Grows-trans, Grows-stands, Grows-node_at, Grows-added, room_below, IsNodeList-append, added-again, added-stands, tree_at-slice_get, one_id_per_formula}
@@ -27,7 +27,7 @@ use Rattle.ltl_formula.proofs.NodeEquality.{same_id_of}
 -- what a step made in a list: the id names the formula there, and the same step makes it again, with no node more, in
 -- every longer list
 pub record IsMade (f : Tree) (step : Step) (nodes : List Node) (id : FormulaId) : Type 0 where
-  pub stands : Stands nodes id
+  pub stands : IsNodeIn nodes id
   pub tree : tree_at nodes id ≡ f
   pub again : (longer : List Node) → IsNodeList longer → Grows nodes longer → step longer ≡ record { nodes = longer; made = Some id }
 
@@ -68,7 +68,7 @@ module _ (most : ℕ) (nodes : List Node) (new : Node) (list : IsNodeList nodes)
   BuildsIn-added = record { grows = Grows-added most nodes new; list = added-list; made = added-made }
 
 -- nothing is added: a part that stands is the result
-pub IsMade-gives : (nodes : List Node) (id : FormulaId) → Stands nodes id → IsMade (tree_at nodes id) (gives id) nodes id
+pub IsMade-gives : (nodes : List Node) (id : FormulaId) → IsNodeIn nodes id → IsMade (tree_at nodes id) (gives id) nodes id
 IsMade-gives nodes id h = record { stands = h; tree = refl; again = λ longer _ grows. refl }
 
 -- the constant that a node is, its formula is
@@ -88,12 +88,12 @@ constant-tree_of T (node.Until a b) = refl
 constant-tree_of T (node.Release a b) = refl
 constant-tree_of T (node.WeakUntil a b) = refl
 
-pub constant_at-tree : (nodes : List Node) (id : FormulaId) → IsNodeList nodes → Stands nodes id → constant_at nodes id ≡ constant_tree (tree_at nodes id)
+pub constant_at-tree : (nodes : List Node) (id : FormulaId) → IsNodeList nodes → IsNodeIn nodes id → constant_at nodes id ≡ constant_tree (tree_at nodes id)
 constant_at-tree nodes id list h =
     constant-tree_of (trees_of nodes) (node_at nodes id.0) ∙ ap constant_tree (sym (tree_at-node nodes id.0 h (list.parts_first id.0)))
 
 -- equal ids are equal formulas
-pub same-tree_eq : (nodes : List Node) (a b : FormulaId) → IsNodeList nodes → Stands nodes a → Stands nodes b → eqb a.0 b.0 ≡ tree_eq (tree_at nodes a) (tree_at nodes b)
+pub same-tree_eq : (nodes : List Node) (a b : FormulaId) → IsNodeList nodes → IsNodeIn nodes a → IsNodeIn nodes b → eqb a.0 b.0 ≡ tree_eq (tree_at nodes a) (tree_at nodes b)
 same-tree_eq nodes a b list ha hb =
     elim (cases_Bool (tree_eq (tree_at nodes a) (tree_at nodes b))) [
       | inl is ↦
@@ -130,7 +130,7 @@ go_on-None built next e = ap (λ o. go_on (record { nodes = built.nodes; made = 
 
 module _ (most : ℕ) where
   -- joining parts that stand
-  module _ (joint : Joint) (a b : FormulaId) (nodes : List Node) (list : IsNodeList nodes) (ha : Stands nodes a) (hb : Stands nodes b) where
+  module _ (joint : Joint) (a b : FormulaId) (nodes : List Node) (list : IsNodeList nodes) (ha : IsNodeIn nodes a) (hb : IsNodeIn nodes b) where
     BuildsIn-chosen : (o : Outcome) → BuildsIn (chosen o (tree_at nodes a) (tree_at nodes b) (whole_tree joint (tree_at nodes a) (tree_at nodes b))) (chosen_step most o a b (whole_node joint a b)) nodes
     BuildsIn-chosen First = record {
       grows = Grows-refl nodes;
@@ -183,7 +183,7 @@ module _ (most : ℕ) where
         }
 
   -- Next of a part that stands
-  module _ (a : FormulaId) (nodes : List Node) (list : IsNodeList nodes) (ha : Stands nodes a) where
+  module _ (a : FormulaId) (nodes : List Node) (list : IsNodeList nodes) (ha : IsNodeIn nodes a) where
     BuildsIn-next_step : (c : Option Bool) → BuildsIn (next_of c (tree_at nodes a)) (next_step most c a) nodes
     BuildsIn-next_step (Some value) = record {
       grows = Grows-refl nodes;
@@ -211,7 +211,7 @@ module _ (most : ℕ) where
 
   -- one step after another: the second builds on the first one's formula, in that list or a longer one
   module _ (f g : Tree) (step : Step) (more : FormulaId → Step) (nodes : List Node) (list : IsNodeList nodes) (first : BuildsIn f step nodes)
-      (builds_more : (id : FormulaId) (ns : List Node) → IsNodeList ns → Grows nodes ns → Stands ns id → tree_at ns id ≡ f → BuildsIn g (more id) ns) where
+      (builds_more : (id : FormulaId) (ns : List Node) → IsNodeList ns → Grows nodes ns → IsNodeIn ns id → tree_at ns id ≡ f → BuildsIn g (more id) ns) where
     both_steps : Step
     both_steps ns = go_on (step ns) more
 

@@ -11,7 +11,7 @@ use Rattle.ltl_formula.specs.declared.nodes.Node.{Node}
 use Rattle.ltl_formula.specs.declared.nodes.Node.TheVariants as node
 use Rattle.ltl_formula.specs.declared.nodes.TheConstants.{MAX_NODES}
 use Rattle.ltl_formula.specs.Tree.{Tree}
-use Rattle.ltl_formula.specs.Nodes.{Grows, IsNodeList, PartsBelow, Stands, tree_at}
+use Rattle.ltl_formula.specs.Nodes.{Grows, IsNodeList, PartsBelow, IsNodeIn, tree_at}
 use Rattle.ltl_formula.specs.Added.{Built, added, built_at, node_eq}
 use Rattle.ltl_formula.proofs.Trees.{tree_at-grown}
 use Rattle.ltl_formula.proofs.Lists.{Grows-refl, Grows-trans, Grows-stands, signals_are_below}
@@ -97,7 +97,7 @@ Performs-like step like old new (Ok id) e p = record { ok = e ∙ p.ok; too_many
 Performs-like step like old new (Err fault) e p = record { ok = tt; too_many = λ h. e ∙ p.too_many h; stands = tt; grows = p.grows; list = p.list }
 
 -- nothing was to be made
-pub Performs-gives : (step : Step) (nodes : List Node) (id : FormulaId) → IsNodeList nodes → Stands nodes id → step nodes ≡ record { nodes = nodes; made = Some id } → Performs step nodes nodes (Ok id)
+pub Performs-gives : (step : Step) (nodes : List Node) (id : FormulaId) → IsNodeList nodes → IsNodeIn nodes id → step nodes ≡ record { nodes = nodes; made = Some id } → Performs step nodes nodes (Ok id)
 Performs-gives step nodes id list h e = record { ok = e; too_many = λ never. absurd (let no : ⊥ = cc in no); stands = h; grows = Grows-refl nodes; list = list }
 
 -- one step after another
@@ -122,7 +122,7 @@ Performs-stops a b old new fault first = record {
 
 module _ (most : ℕ) where
   -- a form that was built is found again in every longer list
-  pub form-again : (keep : Bool) (place id : FormulaId) (old mid new : List Node) → IsNodeList old → Stands old place → form_in most keep (tree_at old place) old ≡ record { nodes = mid; made = Some id }
+  pub form-again : (keep : Bool) (place id : FormulaId) (old mid new : List Node) → IsNodeList old → IsNodeIn old place → form_in most keep (tree_at old place) old ≡ record { nodes = mid; made = Some id }
       → IsNodeList new → Grows mid new → form_in most keep (tree_at new place) new ≡ record { nodes = new; made = Some id }
   form-again keep place id old mid new list h is fits grows =
       let builds : BuildsIn (table trees keep (tree_at old place)) (form_in most keep (tree_at old place)) old =
@@ -144,7 +144,7 @@ module _ (most : ℕ) where
   IsMemo-none forms nodes none = record { found = λ keep place id e. absurd (none-some id (sym (none keep place.0) ∙ e)) }
 
   -- the tree that a form's id has
-  pub form-tree : (keep : Bool) (place id : FormulaId) (old new : List Node) → IsNodeList old → Stands old place → form_in most keep (tree_at old place) old ≡ record { nodes = new; made = Some id }
+  pub form-tree : (keep : Bool) (place id : FormulaId) (old new : List Node) → IsNodeList old → IsNodeIn old place → form_in most keep (tree_at old place) old ≡ record { nodes = new; made = Some id }
       → tree_at new id ≡ table trees keep (tree_at old place)
   form-tree keep place id old new list h is =
       let builds : BuildsIn (table trees keep (tree_at old place)) (form_in most keep (tree_at old place)) old =
@@ -152,13 +152,13 @@ module _ (most : ℕ) where
       let made : IsMade (table trees keep (tree_at old place)) (form_in most keep (tree_at old place)) (form_in most keep (tree_at old place) old).nodes id = builds.made id (ap (λ b. b.made) is) in
       ap (λ b. tree_at b.nodes id) (sym is) ∙ made.tree
 
-  pub form-stands : (keep : Bool) (place id : FormulaId) (old new : List Node) → IsNodeList old → Stands old place → form_in most keep (tree_at old place) old ≡ record { nodes = new; made = Some id }
-      → Stands new id
+  pub form-stands : (keep : Bool) (place id : FormulaId) (old new : List Node) → IsNodeList old → IsNodeIn old place → form_in most keep (tree_at old place) old ≡ record { nodes = new; made = Some id }
+      → IsNodeIn new id
   form-stands keep place id old new list h is =
       let builds : BuildsIn (table trees keep (tree_at old place)) (form_in most keep (tree_at old place)) old =
       Builds-form_in most keep (tree_at old place) (signals_are_below old place list h) old list in
       let made : IsMade (table trees keep (tree_at old place)) (form_in most keep (tree_at old place)) (form_in most keep (tree_at old place) old).nodes id = builds.made id (ap (λ b. b.made) is) in
-      subst (λ b. Stands b.nodes id) is made.stands
+      subst (λ b. IsNodeIn b.nodes id) is made.stands
 
   -- a memo serves after a call that doesn't touch it
   pub memo-kept : (forms : List Forms) (step : Step) (old new : List Node) (r : Result FormulaId AddFault) → IsNodeList old → IsMemo most forms old → Performs step old new r → OnOk r (IsMemo most forms new)
@@ -177,7 +177,7 @@ module _ (most : ℕ) where
       Performs-go_on a (λ x later. go_on (b later) (join_ids most joint x)) old m1 new x (Err fault) first (Performs-stops b (join_ids most joint x) m1 new fault second)
 
 -- a later step speaks of the formulas that the ids had before
-pub moved : (step : Tree → Tree → Step) (p q : FormulaId) (old mid new : List Node) (r : Result FormulaId AddFault) → Grows old mid → Stands old p → Stands old q
+pub moved : (step : Tree → Tree → Step) (p q : FormulaId) (old mid new : List Node) (r : Result FormulaId AddFault) → Grows old mid → IsNodeIn old p → IsNodeIn old q
     → Performs (step (tree_at mid p) (tree_at mid q)) mid new r → Performs (step (tree_at old p) (tree_at old q)) mid new r
 moved step p q old mid new r grows hp hq performs =
     subst (λ t. Performs (step t (tree_at old q)) mid new r) (tree_at-grown old mid p grows hp)
@@ -192,7 +192,7 @@ module _ (most : ℕ) where
       Performs-gives (form_in most keep (tree_at nodes place)) nodes id list (form-stands most keep place id nodes nodes list f.0 f.1) f.1
 
   -- what the result is
-  module _ (keep : Bool) (f : FormulaId) (old new : List Node) (list : IsNodeList old) (h : Stands old f) where
+  module _ (keep : Bool) (f : FormulaId) (old new : List Node) (list : IsNodeList old) (h : IsNodeIn old f) where
     pub result-tree : (r : Result FormulaId AddFault) → Performs (form_in most keep (tree_at old f)) old new r → IfOk r (λ id. tree_at new id ≡ table trees keep (tree_at old f))
     result-tree (Ok id) p = form-tree most keep f id old new list h p.ok
     result-tree (Err fault) p = tt
@@ -220,7 +220,7 @@ kept-with old false true form id e = inr e
 kept-with old false false form id e = inl (refl, same_Some form id e)
 
 module _ (most : ℕ) where
-  pub IsMemo-with : (forms : List Forms) (place form : FormulaId) (put : Bool) (old nodes : List Node) → IsNodeList old → Stands old place → IsNodeList nodes
+  pub IsMemo-with : (forms : List Forms) (place form : FormulaId) (put : Bool) (old nodes : List Node) → IsNodeList old → IsNodeIn old place → IsNodeList nodes
       → form_in most put (tree_at old place) old ≡ record { nodes = nodes; made = Some form } → IsMemo most forms nodes → place.0 < length forms
       → (e : Forms) → e ≡ (let was : Forms = get_or forms place.0 (record { kept = None; opposed = None }) in if put then record was { kept = Some form } else record was { opposed = Some form })
       → IsMemo most (slice_set forms place.0 e) nodes
@@ -233,9 +233,9 @@ module _ (most : ℕ) where
               elim (kept-with was put keep form id (ap (λ x. if keep then x.kept else x.opposed) (sym e_is) ∙ sym here ∙ recorded_is)) [
                 | inl (one_way, one_form) ↦
                     let grown : Grows old nodes = performs_grows is in
-                    let now_there : Stands nodes place = Grows-stands old nodes place grown h in
+                    let now_there : IsNodeIn nodes place = Grows-stands old nodes place grown h in
                     let again : form_in most put (tree_at nodes place) nodes ≡ record { nodes = nodes; made = Some form } = form-again most put place form old nodes nodes list h is fits (Grows-refl nodes) in
-                    let P : FormulaId → Bool → FormulaId → Type 0 = λ p k i. Stands nodes p × (form_in most k (tree_at nodes p) nodes ≡ record { nodes = nodes; made = Some i }) in
+                    let P : FormulaId → Bool → FormulaId → Type 0 = λ p k i. IsNodeIn nodes p × (form_in most k (tree_at nodes p) nodes ≡ record { nodes = nodes; made = Some i }) in
                     subst (λ p. P p keep id) (same_id_of place at (sym same)) (subst (λ k. P place k id) (sym one_way) (subst (λ i. P place put i) one_form (now_there, again)))
                 | inr before ↦ memo.found keep at id (subst (λ n. recorded forms keep n ≡ Some id) (sym same) before)
               ]

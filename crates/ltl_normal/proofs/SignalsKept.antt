@@ -6,7 +6,7 @@ use Rattle.ltl_formula.specs.declared.nodes.FormulaId.{FormulaId}
 use Rattle.ltl_formula.specs.declared.nodes.Node.{Node}
 use Rattle.ltl_formula.specs.declared.nodes.Node.TheVariants as node
 use Rattle.ltl_formula.specs.ListSignals.{HasSignalsBelow, KeepsSignals}
-use Rattle.ltl_formula.specs.Nodes.{IsNodeList, SignalBelow, Stands, tree_at}
+use Rattle.ltl_formula.specs.Nodes.{IsNodeList, SignalBelow, IsNodeIn, tree_at}
 use Rattle.ltl_formula.specs.Added.{Built, added}
 use Rattle.ltl_formula.specs.Tree.{Tree, SignalsBelow}
 use Rattle.ltl_formula.specs.Tree.Tree.{truth, falsity, signal, negation, next_time, finally, globally, conjunction, disjunction, implication, equivalence, until, release, weak_until}
@@ -84,7 +84,7 @@ module _ (most n : ℕ) where
       (keeps_join (facing_of keep Or) (form_in most keep a) (form_in most keep b) (keeps_form keep a s.0) (keeps_form keep b s.1))
 
 -- a list in which a form of one of its formulas was made has no more signals
-pub signals_kept : (most : ℕ) (keep : Bool) (old new : List Node) (f : FormulaId) (r : Result FormulaId AddFault) → IsNodeList old → Stands old f
+pub signals_kept : (most : ℕ) (keep : Bool) (old new : List Node) (f : FormulaId) (r : Result FormulaId AddFault) → IsNodeList old → IsNodeIn old f
     → IfOk r (λ id. form_in most keep (tree_at old f) old ≡ record { nodes = new; made = Some id }) → OnOk r (KeepsSignals old new)
 signals_kept most keep old new f (Err fault) list stands ok = tt
 signals_kept most keep old new f (Ok id) list stands ok = record {

@@ -4,7 +4,7 @@ use Rattle.ltl_formula.specs.declared.faults.AddFault.TheVariants.{TooManyNodes}
 use Rattle.ltl_formula.specs.declared.nodes.FormulaId.{FormulaId}
 use Rattle.ltl_formula.specs.declared.nodes.Node.{Node}
 use Rattle.ltl_formula.specs.declared.nodes.Node.TheVariants.{Not, Next, Finally, Globally, And, Or, Implies, Equiv, Until, Release, WeakUntil}
-use Rattle.ltl_formula.specs.Nodes.{Grows, IsNodeList, Stands, tree_at}
+use Rattle.ltl_formula.specs.Nodes.{Grows, IsNodeList, IsNodeIn, tree_at}
 use Rattle.ltl_normal.specs.declared.memo.Forms.{Forms}
 use Rattle.ltl_normal.specs.NormalNodes.{Step, form_in}
 
@@ -13,7 +13,7 @@ use Rattle.ltl_normal.specs.NormalNodes.{Step, form_in}
 pub record Performs (step : Step) (old new : List Node) (result : Result FormulaId AddFault) : Type 0 where
   pub ok : IfOk result (λ id. step old ≡ record { nodes = new; made = Some id })
   pub too_many : result ≡ Err TooManyNodes → step old ≡ record { nodes = new; made = None }
-  pub stands : IfOk result (λ id. Stands new id)
+  pub stands : IfOk result (λ id. IsNodeIn new id)
   pub grows : Grows old new
   pub list : IsNodeList new
 
@@ -23,7 +23,7 @@ recorded forms keep i = let e : Forms = slice_index_or forms i (record { kept = 
 
 -- each form that is kept is one that building it again in this list would give, with no node more
 pub record IsMemo (most : ℕ) (forms : List Forms) (nodes : List Node) : Type 0 where
-  pub found : (keep : Bool) (place id : FormulaId) → recorded forms keep place.0 ≡ Some id → Stands nodes place × (form_in most keep (tree_at nodes place) nodes ≡ record { nodes = nodes; made = Some id })
+  pub found : (keep : Bool) (place id : FormulaId) → recorded forms keep place.0 ≡ Some id → IsNodeIn nodes place × (form_in most keep (tree_at nodes place) nodes ≡ record { nodes = nodes; made = Some id })
 
 -- one more than the greatest id among the node's parts, or 0 where it has none
 abbrev pub part_bound : Node → ℕ

@@ -1,5 +1,5 @@
 ghost use Rattle.std.specs.Prelude.{◌≡◌, ◌≤◌, Bool, ℕ, Err, IfOk, OnOk, None, Some, false, length, not, true};
-ghost use Rattle.ltl_formula.specs.Nodes.{Grows, IsNodeList, PartsBelow, SignalBelow, Stands, tree_at, tree_of, trees_of};
+ghost use Rattle.ltl_formula.specs.Nodes.{Grows, IsNodeList, PartsBelow, SignalBelow, IsNodeIn, tree_at, tree_of, trees_of};
 ghost use Rattle.ltl_formula.specs.Added.{added};
 ghost use Rattle.ltl_formula.specs.ListSignals.{KeepsSignals};
 ghost use Rattle.ltl_formula.specs.declared.nodes.TheConstants.{MAX_NODES, MAX_SIGNALS};
@@ -18,10 +18,10 @@ use ltl_formula::{AddFault, FormulaId, Formulas, MAX_NODES, Node};
 /// where the formula is. The nodes that it needs are added, parts from left to right before wholes, while fewer than `most`
 /// stand; those that stood keep their ids. It takes time about linear in the list, since each node's two forms are found once.
 pub fn normal(formulas: &mut Formulas, most: usize, f: FormulaId) -> Result<FormulaId, AddFault>
-    requires { Stands formulas.old f }
+    requires { IsNodeIn formulas.old f }
     ensures ok { IfOk result (λ id. form_in most true (tree_at formulas.old f) formulas.old ≡ record { nodes = formulas.new; made = Some id }) }
     ensures too_many { result ≡ Err AddFault.TooManyNodes → form_in most true (tree_at formulas.old f) formulas.old ≡ record { nodes = formulas.new; made = None } }
-    ensures stands { IfOk result (λ id. Stands formulas.new id) }
+    ensures stands { IfOk result (λ id. IsNodeIn formulas.new id) }
     ensures tree { IfOk result (λ id. tree_at formulas.new id ≡ normal_of (tree_at formulas.old f)) }
     ensures truth { IfOk result (λ id. HasTruthOf (tree_at formulas.old f) (tree_at formulas.new id)) }
     ensures shape { IfOk result (λ id. IsNormal (tree_at formulas.new id)) }
@@ -34,10 +34,10 @@ pub fn normal(formulas: &mut Formulas, most: usize, f: FormulaId) -> Result<Form
 
 /// The negated form of the formula: as `normal`, but true where the formula isn't.
 pub fn negated(formulas: &mut Formulas, most: usize, f: FormulaId) -> Result<FormulaId, AddFault>
-    requires { Stands formulas.old f }
+    requires { IsNodeIn formulas.old f }
     ensures ok { IfOk result (λ id. form_in most false (tree_at formulas.old f) formulas.old ≡ record { nodes = formulas.new; made = Some id }) }
     ensures too_many { result ≡ Err AddFault.TooManyNodes → form_in most false (tree_at formulas.old f) formulas.old ≡ record { nodes = formulas.new; made = None } }
-    ensures stands { IfOk result (λ id. Stands formulas.new id) }
+    ensures stands { IfOk result (λ id. IsNodeIn formulas.new id) }
     ensures tree { IfOk result (λ id. tree_at formulas.new id ≡ negated_of (tree_at formulas.old f)) }
     ensures truth { IfOk result (λ id. OpposesTruthOf (tree_at formulas.old f) (tree_at formulas.new id)) }
     ensures shape { IfOk result (λ id. IsNormal (tree_at formulas.new id)) }
@@ -57,7 +57,7 @@ struct Part {
 
 /// The form of a node, with an empty table of what was built.
 fn form_of(formulas: &mut Formulas, most: usize, part: Part) -> Result<FormulaId, AddFault>
-    requires { Stands formulas.old part.id }
+    requires { IsNodeIn formulas.old part.id }
     ensures performs { Performs (form_in most part.keep (tree_at formulas.old part.id)) formulas.old formulas.new result }
     ensures list { IsNodeList formulas.old }
 {
@@ -82,7 +82,7 @@ fn form(
     most: usize,
     part: Part,
 ) -> Result<FormulaId, AddFault>
-    requires stands { Stands formulas.old part.id }
+    requires stands { IsNodeIn formulas.old part.id }
     requires list { IsNodeList formulas.old }
     requires memo { IsMemo most forms.old formulas.old }
     requires room { MAX_NODES ≤ length forms.old }
@@ -194,8 +194,8 @@ fn both(
     a: Part,
     b: Part,
 ) -> Result<FormulaId, AddFault>
-    requires a_stands { Stands formulas.old a.id }
-    requires b_stands { Stands formulas.old b.id }
+    requires a_stands { IsNodeIn formulas.old a.id }
+    requires b_stands { IsNodeIn formulas.old b.id }
     requires list { IsNodeList formulas.old }
     requires memo { IsMemo most forms.old formulas.old }
     requires room { MAX_NODES ≤ length forms.old }
@@ -217,7 +217,7 @@ fn from_constant(
     value: bool,
     a: Part,
 ) -> Result<FormulaId, AddFault>
-    requires stands { Stands formulas.old a.id }
+    requires stands { IsNodeIn formulas.old a.id }
     requires list { IsNodeList formulas.old }
     requires memo { IsMemo most forms.old formulas.old }
     requires room { MAX_NODES ≤ length forms.old }
@@ -237,7 +237,7 @@ fn next_of(
     most: usize,
     a: Part,
 ) -> Result<FormulaId, AddFault>
-    requires stands { Stands formulas.old a.id }
+    requires stands { IsNodeIn formulas.old a.id }
     requires list { IsNodeList formulas.old }
     requires memo { IsMemo most forms.old formulas.old }
     requires room { MAX_NODES ≤ length forms.old }
@@ -257,8 +257,8 @@ fn equivalence(
     a: FormulaId,
     b: Part,
 ) -> Result<FormulaId, AddFault>
-    requires a_stands { Stands formulas.old a }
-    requires b_stands { Stands formulas.old b.id }
+    requires a_stands { IsNodeIn formulas.old a }
+    requires b_stands { IsNodeIn formulas.old b.id }
     requires list { IsNodeList formulas.old }
     requires memo { IsMemo most forms.old formulas.old }
     requires room { MAX_NODES ≤ length forms.old }
@@ -297,8 +297,8 @@ fn weak_until(
     a: FormulaId,
     b: Part,
 ) -> Result<FormulaId, AddFault>
-    requires a_stands { Stands formulas.old a }
-    requires b_stands { Stands formulas.old b.id }
+    requires a_stands { IsNodeIn formulas.old a }
+    requires b_stands { IsNodeIn formulas.old b.id }
     requires list { IsNodeList formulas.old }
     requires memo { IsMemo most forms.old formulas.old }
     requires room { MAX_NODES ≤ length forms.old }
@@ -355,7 +355,7 @@ fn add_literal(
 
 /// Next of a form, simplified.
 fn next(formulas: &mut Formulas, most: usize, a: FormulaId) -> Result<FormulaId, AddFault>
-    requires { Stands formulas.old a }
+    requires { IsNodeIn formulas.old a }
     ensures { Performs (next_id most a) formulas.old formulas.new result }
 {
     match constant(formulas.node(a)) {
@@ -372,8 +372,8 @@ fn join(
     a: FormulaId,
     b: FormulaId,
 ) -> Result<FormulaId, AddFault>
-    requires a_stands { Stands formulas.old a }
-    requires b_stands { Stands formulas.old b }
+    requires a_stands { IsNodeIn formulas.old a }
+    requires b_stands { IsNodeIn formulas.old b }
     ensures { Performs (join_ids most joint a b) formulas.old formulas.new result }
 {
     let first = constant(formulas.node(a));

@@ -18,7 +18,7 @@ use Rattle.annotation_encode.specs.Variables.{letter_count, move_count, number_c
 use Rattle.product_bound.proofs.Trails.{place_within}
 use Rattle.annotation_encode.proofs.Sizes.{row_below}
 use Rattle.machine_decode.specs.Decoded.{IsDecoded, IsGreatestCount, IsLeastMove}
-use Rattle.machine_decode.specs.Written.{AreRows, IsRow, letter_from, number_of, numbers_of, pair_number}
+use Rattle.machine_decode.specs.Written.{AreRows, IsRow, letter_from, written_number, numbers_of, pair_number}
 use Rattle.machine_decode.proofs.Parts.{IsGreatest, greatest_is, letter_has, letter_small}
 
 -- the machine of these rows
@@ -80,7 +80,7 @@ module _ (p : Problem) (values : List Bool) (table : List Row) (some : 1 ≤ p.s
 
   numbers_at : (t q : ℕ) → t < p.size → q < states_of (automaton_of p) → number_at p (numbers_of p values) t q ≡ pair_number p values t q
   numbers_at t q ht hq =
-      get_or-map-range_with_len (number_of p values) 0 (places_of p) (t * states_of (automaton_of p) + q) (t * states_of (automaton_of p) + q) None (place_within p t q ht hq) (omega arith)
+      get_or-map-range_with_len (written_number p values) 0 (places_of p) (t * states_of (automaton_of p) + q) (t * states_of (automaton_of p) + q) None (place_within p t q ht hq) (omega arith)
       ∙ (λ j. pair_number p values (div-mul-add t (states_of (automaton_of p)) q hq j) (mod-mul-add t (states_of (automaton_of p)) q hq j))
 
   -- a number's variable, counted from that of 0
@@ -101,7 +101,7 @@ module _ (p : Problem) (values : List Bool) (table : List Row) (some : 1 ≤ p.s
     writes = λ t i s ht hi hs.
         let e : var_write p t i 0 + s ≡ var_write p t i s = omega arith in
         ap (λ w. has w s) (written_is t i ht hi) ∙ letter_has values (var_write p t i 0) (looked_for.writes_of p) s hs ∙ ap (value_of values) e;
-    places = length-map-range_with_len (number_of p values) 0 (places_of p);
+    places = length-map-range_with_len (written_number p values) 0 (places_of p);
     counts = λ t q ht hq.
         subst (IsGreatestCount p values t q) (sym (numbers_at t q ht hq))
         (greatest t q (pair_number p values t q) (greatest_is values (var_count p t q 0) (number_count p q)));

@@ -51,8 +51,8 @@ abbrev pub pair_number : Problem → List Bool → ℕ → ℕ → Option ℕ
 pair_number p values t q = greatest_from values (var_count p t q 0) (number_count p q)
 
 -- that of the pair at a place
-abbrev pub number_of : Problem → List Bool → ℕ → Option ℕ
-number_of p values place = pair_number p values (place / states_of (automaton_of p)) (place % states_of (automaton_of p))
+abbrev pub written_number : Problem → List Bool → ℕ → Option ℕ
+written_number p values place = pair_number p values (place / states_of (automaton_of p)) (place % states_of (automaton_of p))
 
 abbrev pub numbers_of : Problem → List Bool → List (Option ℕ)
-numbers_of p values = map (number_of p values) (range_with_len 0 (places_of p))
+numbers_of p values = map (written_number p values) (range_with_len 0 (places_of p))

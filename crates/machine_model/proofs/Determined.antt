@@ -8,7 +8,7 @@ use Rattle.letters_and_lassos.specs.declared.kinds.Side.TheVariants.{System, Env
 use Rattle.letters_and_lassos.specs.Word.{Word, IsLassoOver, lasso_len, after, letter_at, nth_letter, no_signals}
 use Rattle.letters_and_lassos.proofs.Positions.{after-own, after-suc, after_within, first_position}
 use Rattle.machine_model.specs.Machine.{MachineModel, IsMachine, size_of, next_of, writes_of}
-use Rattle.machine_model.specs.Run.{IsRunLasso, joined, read_part, written_part, read_lasso}
+use Rattle.machine_model.specs.Run.{IsRunLasso, joined_letter, read_part, written_part, read_lasso}
 use Rattle.machine_model.specs.Course.{read_at, state_after}
 use Rattle.machine_model.specs.Laws.{RunsAreDetermined, MooreWritesBeforeReading, StaysWithin}
 use Rattle.machine_model.proofs.Readings.{joined-parts, nth_letter-read}
@@ -53,8 +53,8 @@ runs_are_determined m side v w s t run_v run_w same = record {
       written-run m side v s run_v j ∙ ap (λ u. writes_of m u (read_at (read_lasso side m v) j)) state
       ∙ ap (writes_of m (state_after m (read_lasso side m w) j)) (reads j) ∙ sym (written-run m side w t run_w j) in
       let number : (nth_letter v j).0 ≡ (nth_letter w j).0 =
-      sym (joined-parts side m (nth_letter v j)) ∙ ap (λ r. joined side m r (written_part side m (nth_letter v j))) read
-      ∙ ap (joined side m (read_part side m (nth_letter w j))) written ∙ joined-parts side m (nth_letter w j) in
+      sym (joined-parts side m (nth_letter v j)) ∙ ap (λ r. joined_letter side m r (written_part side m (nth_letter v j))) read
+      ∙ ap (joined_letter side m (read_part side m (nth_letter w j))) written ∙ joined-parts side m (nth_letter w j) in
       ap (λ n. let l : Letter = record { 0 = n } in l) number;
 }
 
@@ -88,8 +88,8 @@ moore_writes_before_reading m side v w s t j machine moore run_v run_w same =
     (read_within m machine (read_lasso side m w) (read_over m side w t run_w) j)
     ∙ sym (written-run m side w t run_w j)
 
--- joined letters are letters of both numbers of signals
-joined-lt : (side : Side) (m : MachineModel) (read written : ℕ) → read < 2 ^ m.reads → written < 2 ^ m.writes → joined side m read written < 2 ^ (m.reads + m.writes)
+-- joined_letter letters are letters of both numbers of signals
+joined-lt : (side : Side) (m : MachineModel) (read written : ℕ) → read < 2 ^ m.reads → written < 2 ^ m.writes → joined_letter side m read written < 2 ^ (m.reads + m.writes)
 joined-lt System m read written r w = rw pow-add (mul-add-lt written (2 ^ m.reads) read (2 ^ m.writes) w r)
 joined-lt Environment m read written r w =
     rw (pow-add, mul_comm (2 ^ m.reads) (2 ^ m.writes)) (mul-add-lt read (2 ^ m.writes) written (2 ^ m.reads) r w)

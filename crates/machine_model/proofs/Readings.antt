@@ -8,21 +8,21 @@ use Rattle.letters_and_lassos.specs.declared.kinds.Side.TheVariants.{System, Env
 use Rattle.letters_and_lassos.specs.Word.{Word, HasRing, lasso_len, next, after, letter_at, nth_letter, no_signals}
 use Rattle.letters_and_lassos.proofs.Positions.{after_within}
 use Rattle.machine_model.specs.Machine.{MachineModel}
-use Rattle.machine_model.specs.Run.{joined, read_part, written_part, read_lasso}
+use Rattle.machine_model.specs.Run.{joined_letter, read_part, written_part, read_lasso}
 
--- the parts of a joined letter
+-- the parts of a joined_letter letter
 pub read_part-joined : (side : Side) (m : MachineModel) (read written : ℕ) → read < 2 ^ m.reads → written < 2 ^ m.writes
-    → read_part side m (record { 0 = joined side m read written }) ≡ read
+    → read_part side m (record { 0 = joined_letter side m read written }) ≡ read
 read_part-joined System m read written r w = mod-mul-add written (2 ^ m.reads) read r
 read_part-joined Environment m read written r w = div-mul-add read (2 ^ m.writes) written w
 
 pub written_part-joined : (side : Side) (m : MachineModel) (read written : ℕ) → read < 2 ^ m.reads → written < 2 ^ m.writes
-    → written_part side m (record { 0 = joined side m read written }) ≡ written
+    → written_part side m (record { 0 = joined_letter side m read written }) ≡ written
 written_part-joined System m read written r w = div-mul-add written (2 ^ m.reads) read r
 written_part-joined Environment m read written r w = mod-mul-add read (2 ^ m.writes) written w
 
--- a whole letter is its parts joined
-pub joined-parts : (side : Side) (m : MachineModel) (letter : Letter) → joined side m (read_part side m letter) (written_part side m letter) ≡ letter.0
+-- a whole letter is its parts joined_letter
+pub joined-parts : (side : Side) (m : MachineModel) (letter : Letter) → joined_letter side m (read_part side m letter) (written_part side m letter) ≡ letter.0
 joined-parts System m letter = div-add-mod' letter.0 (2 ^ m.reads)
 joined-parts Environment m letter = div-add-mod' letter.0 (2 ^ m.writes)
 

@@ -3,7 +3,7 @@ use Rattle.letters_and_lassos.specs.declared.letters.Letter.{Letter}
 use Rattle.letters_and_lassos.specs.declared.kinds.Side.{Side}
 use Rattle.letters_and_lassos.specs.Word.{Word, no_signals, nth_letter}
 use Rattle.machine_model.specs.Machine.{MachineModel, next_of, writes_of, size_of}
-use Rattle.machine_model.specs.Run.{joined}
+use Rattle.machine_model.specs.Run.{joined_letter}
 
 -- the read letter number j of a lasso's word
 abbrev pub read_at : Word → ℕ → ℕ
@@ -16,7 +16,7 @@ state_after m reads (suc j) = next_of m (state_after m reads j) (read_at reads j
 
 -- the whole letter of a read letter and what a state writes on it
 abbrev pub letter_of : Side → MachineModel → ℕ → ℕ → Letter
-letter_of side m t read = record { 0 = joined side m read (writes_of m t read) }
+letter_of side m t read = record { 0 = joined_letter side m read (writes_of m t read) }
 
 -- the machine's run on the word, as far as the given letters go: the states before them, and the state after them
 pub record IsCourse (m : MachineModel) (side : Side) (reads : Word) (letters : List Letter) (states : List ℕ) (state : ℕ) : Type 0 where

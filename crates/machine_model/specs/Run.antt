@@ -10,9 +10,9 @@ use Rattle.machine_model.specs.Machine.{MachineModel, next_of, writes_of}
 -- and Schewe).
 
 -- the whole letter of a read and a written one
-abbrev pub joined : Side → MachineModel → ℕ → ℕ → ℕ
-joined System m read written = written * 2 ^ m.reads + read
-joined Environment m read written = read * 2 ^ m.writes + written
+abbrev pub joined_letter : Side → MachineModel → ℕ → ℕ → ℕ
+joined_letter System m read written = written * 2 ^ m.reads + read
+joined_letter Environment m read written = read * 2 ^ m.writes + written
 
 -- what the machine reads of a whole letter
 abbrev pub read_part : Side → MachineModel → Letter → ℕ

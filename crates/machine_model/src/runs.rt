@@ -1,7 +1,7 @@
 ghost use Rattle.std.specs.Prelude.{◌≡◌, ℕ, ◌+◌, ◌^◌, ◌<◌, ◌≤◌, [], All, IfOk, OnOk, length};
 ghost use Rattle.letters_and_lassos.specs.Word.{IsLassoOver, SameWord, after, lasso_len};
 ghost use Rattle.machine_model.specs.Machine.{size_of, next_of};
-ghost use Rattle.machine_model.specs.Run.{IsRunLasso, read_lasso, joined};
+ghost use Rattle.machine_model.specs.Run.{IsRunLasso, read_lasso, joined_letter};
 ghost use Rattle.machine_model.specs.Course.{IsCourse, letter_of};
 
 use crate::machines::{Machine, letter_count};

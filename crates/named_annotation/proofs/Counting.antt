@@ -8,20 +8,20 @@ use Rattle.letters_and_lassos.specs.Word.{Word, HasRing, after, lasso_len, next,
 use Rattle.letters_and_lassos.proofs.Positions.{after-suc, after_within}
 use Rattle.ltl_formula.specs.declared.nodes.FormulaId.{FormulaId}
 use Rattle.ltl_formula.specs.declared.nodes.Node.{Node}
-use Rattle.ltl_formula.specs.Nodes.{IsNodeList, Stands as IsFormula, tree_at}
+use Rattle.ltl_formula.specs.Nodes.{IsNodeList, PairStands as IsFormula, tree_at}
 use Rattle.ltl_formula.specs.NormalForm.{IsNormal}
 use Rattle.ltl_formula.specs.Truth.{holds}
 use Rattle.obligation_sets.specs.declared.sets.Covering.{Covering}
 use Rattle.obligation_sets.specs.declared.sets.Cover.{Cover}
 use Rattle.machine_model.specs.Automaton.{AutomatonModel, HasEdge}
 use Rattle.cobuchi_build.specs.declared.exploring.State.{State}
-use Rattle.cobuchi_build.specs.Explored.{start_of, state_after}
+use Rattle.cobuchi_build.specs.Explored.{start_state, state_after}
 use Rattle.cobuchi_build.specs.Laws.{TrueFormulasHavePaths}
 use Rattle.cobuchi_build.specs.Occurring.{untils_of}
 use Rattle.cobuchi_build.specs.Paths.{HasPath}
 use Rattle.aiger_text.specs.Circuit.{Circuit, Valuation, IsCircuitRun, latch_values}
 use Rattle.annot_check.specs.declared.pairs.Pair.{Pair}
-use Rattle.annot_check.specs.Pairs.{Stands, weight}
+use Rattle.annot_check.specs.Pairs.{PairStands, weight}
 use Rattle.annot_check.specs.Valid.{IsValidPairList}
 use Rattle.annot_check.proofs.Lists.{All-Contains}
 use Rattle.annot_check.proofs.Walks.{Stands-bounded, Stands-less, Stands-step, goes, resets}
@@ -32,7 +32,7 @@ use Rattle.named_annotation.proofs.Numbered.{IsPlaced, edge_at, first_number, pl
 -- the states begin with the start of f, and the pairs are of their numbers
 pub record IsNamedList (f : FormulaId) (states : List State) (pairs : List Pair) : Type 0 where
   pub some : 0 < length states
-  pub starts : (d : State) → get_or states 0 d ≡ start_of f
+  pub starts : (d : State) → get_or states 0 d ≡ start_state f
   pub numbers : All (λ (pair : Pair). pair.state < length states) pairs
 
 module _ (side : Side) (c : Circuit) (kind : Kind) (ns : List Node) (f : FormulaId) (states : List State) (pairs : List Pair)
@@ -46,7 +46,7 @@ module _ (side : Side) (c : Circuit) (kind : Kind) (ns : List Node) (f : Formula
 
   -- the pair of the latches and of the state at a time stands
   abbrev Reached : ℕ → ℕ → Type 0
-  Reached t least = Stands pairs (latch_values c (values (after w 0 t))) (place t) least
+  Reached t least = PairStands pairs (latch_values c (values (after w 0 t))) (place t) least
 
   inside : (t : ℕ) → after w 0 t < lasso_len w
   inside t = after_within w 0 t run.lasso.ring (let some : HasRing w = run.lasso.ring in omega (arith, some))
@@ -58,10 +58,10 @@ module _ (side : Side) (c : Circuit) (kind : Kind) (ns : List Node) (f : Formula
 
   begins : Reached 0 0
   begins =
-      let here : 0 ≡ place 0 = sym (ap (number_of_state states) path.starts ∙ first_number states (start_of f) named.some named.starts) in
+      let here : 0 ≡ place 0 = sym (ap (number_of_state states) path.starts ∙ first_number states (start_state f) named.some named.starts) in
       Stands-less pairs (latch_values c (values 0)) (place 0) (weight a 0) 0 (omega arith)
-      (subst (λ n. Stands pairs (latch_values c (values 0)) n (weight a 0)) here
-      (subst (λ (code : List Bool). Stands pairs code 0 (weight a 0)) (resets side c w values run) valid.start))
+      (subst (λ n. PairStands pairs (latch_values c (values 0)) n (weight a 0)) here
+      (subst (λ (code : List Bool). PairStands pairs code 0 (weight a 0)) (resets side c w values run) valid.start))
 
   edge : (t least : ℕ) → Reached t least → HasEdge a (nth_letter w t) (place t) (place (suc t))
   edge t least stands =
@@ -78,7 +78,7 @@ module _ (side : Side) (c : Circuit) (kind : Kind) (ns : List Node) (f : Formula
 
   forward : (t least : ℕ) → Reached t least → Reached (suc t) (least + weight a (place (suc t)))
   forward t least stands =
-      subst (λ n. Stands pairs (latch_values c (values n)) (place (suc t)) (least + weight a (place (suc t)))) (sym (after-suc w 0 t))
+      subst (λ n. PairStands pairs (latch_values c (values n)) (place (suc t)) (least + weight a (place (suc t)))) (sym (after-suc w 0 t))
       (Stands-step side c kind a pairs valid (latch_values c (values (after w 0 t))) (latch_values c (values (next w (after w 0 t)))) (nth_letter w t)
       (place t) (place (suc t)) least (goes side c w values run (after w 0 t) (inside t)) stands (edge t least stands))
 

@@ -8,7 +8,7 @@ use Rattle.std.proofs.lemmas.Option.{option_and_then_some}
 use Rattle.ltl_formula.specs.declared.nodes.FormulaId.{FormulaId}
 use Rattle.ltl_formula.specs.declared.nodes.Node.{Node}
 use Rattle.cobuchi_build.specs.declared.exploring.State.{State}
-use Rattle.cobuchi_build.specs.Explored.{same_state, start_of}
+use Rattle.cobuchi_build.specs.Explored.{same_state, start_state}
 use Rattle.annot_check.specs.declared.pairs.Pair.{Pair}
 use Rattle.annot_check.specs.AnnotationText.{Headed, head_from, pairs_in, pieces_of}
 use Rattle.annot_check.proofs.PairsRead.{pairs_below}
@@ -50,22 +50,22 @@ some_states inputs word counts is =
 module _ (ns : List Node) (f : FormulaId) where
   -- what is done begins with the start
   abbrev Begins : List State → Type 0
-  Begins done = 0 < length done → (d : State) → get_or done 0 d ≡ start_of f
+  Begins done = 0 < length done → (d : State) → get_or done 0 d ≡ start_state f
 
-  next_by : (done : List State) (state : State) (b : Bool) → nat_lt 0 (length done) ≡ b → (b || same_state state (start_of f)) ≡ true → Begins done → Begins (done ++ state ∷ [])
+  next_by : (done : List State) (state : State) (b : Bool) → nat_lt 0 (length done) ≡ b → (b || same_state state (start_state f)) ≡ true → Begins done → Begins (done ++ state ∷ [])
   next_by done state true e is begins = λ some d.
       let within : 0 < length done = ltb-true 0 (length done) e in
       get_or_append_left done (state ∷ []) d 0 within ∙ begins within d
-  next_by [] state false e is begins = λ some d. same_state-decides state (start_of f) is
+  next_by [] state false e is begins = λ some d. same_state-decides state (start_state f) is
   next_by (first ∷ more) state false e is begins = absurd (let le : length (first ∷ more) ≤ 0 = ltb-false 0 (length (first ∷ more)) e in omega (arith, le))
 
   state_by : (done : List State) (numbers : List ℕ) (b : Bool) (state : State)
-      → (is_numbered (length done) numbers && is_of_formula ns f (state_of numbers) && follows done (start_of f) (state_of numbers) && has_few_leaves ns (state_of numbers)) ≡ b
+      → (is_numbered (length done) numbers && is_of_formula ns f (state_of numbers) && follows done (start_state f) (state_of numbers) && has_few_leaves ns (state_of numbers)) ≡ b
       → (if b then Some (state_of numbers) else None) ≡ Some state → Begins done → Begins (done ++ state ∷ [])
   state_by done numbers true state e is begins =
-      let front : ((is_numbered (length done) numbers && is_of_formula ns f (state_of numbers)) && follows done (start_of f) (state_of numbers)) ≡ true = (and_parts _ _ e).0 in
-      let fits : follows done (start_of f) (state_of numbers) ≡ true = (and_parts _ _ front).1 in
-      let first : (nat_lt 0 (length done) || same_state (state_of numbers) (start_of f)) ≡ true = (and_parts _ _ fits).0 in
+      let front : ((is_numbered (length done) numbers && is_of_formula ns f (state_of numbers)) && follows done (start_state f) (state_of numbers)) ≡ true = (and_parts _ _ e).0 in
+      let fits : follows done (start_state f) (state_of numbers) ≡ true = (and_parts _ _ front).1 in
+      let first : (nat_lt 0 (length done) || same_state (state_of numbers) (start_state f)) ≡ true = (and_parts _ _ fits).0 in
       let same : state_of numbers ≡ state = some_is (state_of numbers) state is in
       subst (λ (s : State). Begins (done ++ s ∷ [])) same (next_by done (state_of numbers) (nat_lt 0 (length done)) refl first begins)
   state_by done numbers false state e is begins = absurd (cc)
@@ -74,7 +74,7 @@ module _ (ns : List Node) (f : FormulaId) where
   state_begins done line state is begins =
       option_and_then_some (state_from ns f done) (numbers_behind line) state is (λ numbers _ last.
       state_by done numbers
-      (is_numbered (length done) numbers && is_of_formula ns f (state_of numbers) && follows done (start_of f) (state_of numbers) && has_few_leaves ns (state_of numbers))
+      (is_numbered (length done) numbers && is_of_formula ns f (state_of numbers) && follows done (start_state f) (state_of numbers) && has_few_leaves ns (state_of numbers))
       state refl last begins)
 
   -- ---- all states and pairs

@@ -13,7 +13,7 @@ use Rattle.obligation_sets.specs.declared.sets.Cover.{Cover}
 use Rattle.obligation_sets.specs.Ids.{IdsRise}
 use Rattle.obligation_sets.specs.Reduced.{covers_by}
 use Rattle.cobuchi_build.specs.declared.exploring.State.{State}
-use Rattle.cobuchi_build.specs.Explored.{same_state, start_of}
+use Rattle.cobuchi_build.specs.Explored.{same_state, start_state}
 use Rattle.aiger_text.specs.Words.{cut_at}
 use Rattle.aiger_text.proofs.Scanning.{cuts, no_cut}
 use Rattle.annot_check.specs.AnnotationText.{number_in}
@@ -84,18 +84,18 @@ ids_rise ids is = record { rise = in_order ids is }
 module _ (ns : List Node) (f : FormulaId) (done : List State) (line : List ℕ) where
   module _ (numbers : List ℕ) (named : numbers_behind line ≡ Some numbers) where
     -- by what the four tests say
-    tested : (a b c d : Bool) → is_numbered (length done) numbers ≡ a → is_of_formula ns f (state_of numbers) ≡ b → follows done (start_of f) (state_of numbers) ≡ c
+    tested : (a b c d : Bool) → is_numbered (length done) numbers ≡ a → is_of_formula ns f (state_of numbers) ≡ b → follows done (start_state f) (state_of numbers) ≡ c
         → has_few_leaves ns (state_of numbers) ≡ d
         → next_of ns f done line ≡ option_map (λ state. done ++ state ∷ []) (cond (((a && b) && c) && d) (Some (state_of numbers)) None)
     tested a b c d is_a is_b is_c is_d =
         ap (λ o. option_map (λ state. done ++ state ∷ []) (option_and_then (state_from ns f done) o)) named
         ∙ (λ i. option_map (λ state. done ++ state ∷ []) (cond (((is_a i && is_b i) && is_c i) && is_d i) (Some (state_of numbers)) None))
 
-    pub not_next : is_numbered (length done) numbers ≡ true → is_of_formula ns f (state_of numbers) ≡ true → follows done (start_of f) (state_of numbers) ≡ false
+    pub not_next : is_numbered (length done) numbers ≡ true → is_of_formula ns f (state_of numbers) ≡ true → follows done (start_state f) (state_of numbers) ≡ false
         → next_of ns f done line ≡ None
     not_next a b fails = tested true true false (has_few_leaves ns (state_of numbers)) a b fails refl
 
-    pub one_more : is_numbered (length done) numbers ≡ true → is_of_formula ns f (state_of numbers) ≡ true → follows done (start_of f) (state_of numbers) ≡ true
+    pub one_more : is_numbered (length done) numbers ≡ true → is_of_formula ns f (state_of numbers) ≡ true → follows done (start_state f) (state_of numbers) ≡ true
         → has_few_leaves ns (state_of numbers) ≡ true → next_of ns f done line ≡ Some (done ++ state_of numbers ∷ [])
     one_more a b c d = tested true true true true a b c d
 

@@ -5,7 +5,7 @@ use Rattle.letters_and_lassos.specs.declared.kinds.Side.{Side}
 use Rattle.letters_and_lassos.specs.Word.{Word}
 use Rattle.ltl_formula.specs.declared.nodes.FormulaId.{FormulaId}
 use Rattle.ltl_formula.specs.declared.nodes.Node.{Node}
-use Rattle.ltl_formula.specs.Nodes.{IsNodeList, Stands, tree_at}
+use Rattle.ltl_formula.specs.Nodes.{IsNodeList, IsNodeIn, tree_at}
 use Rattle.ltl_formula.specs.NormalForm.{IsNormal}
 use Rattle.ltl_formula.specs.Truth.{holds}
 use Rattle.aiger_text.specs.Circuit.{Circuit, Valuation, IsCircuitRun}
@@ -31,7 +31,7 @@ pub record IsNeverTrue (side : Side) (c : Circuit) (ns : List Node) (f : Formula
 abbrev pub ValidNamedListsShow : Type 0
 ValidNamedListsShow =
     (side : Side) (c : Circuit) (kind : Kind) (ns : List Node) (f : FormulaId) (bytes : List ℕ) (latches inputs : ℕ) (named : Named)
-    → IsNodeList ns → Stands ns f → IsNormal (tree_at ns f) → StatesNamed bytes latches inputs ns f named → IsValidNamed side c kind named
+    → IsNodeList ns → IsNodeIn ns f → IsNormal (tree_at ns f) → StatesNamed bytes latches inputs ns f named → IsValidNamed side c kind named
     → IsNeverTrue side c ns f
 
 -- a text states at most one annotation over named states, has at most one first bad line, and not both

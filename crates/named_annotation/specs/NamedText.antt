@@ -9,7 +9,7 @@ use Rattle.obligation_sets.specs.declared.cover_search.TheConstants.{MAX_LEAVES}
 use Rattle.obligation_sets.specs.Covers.{set_leaves}
 use Rattle.obligation_sets.specs.Ids.{has_id}
 use Rattle.cobuchi_build.specs.declared.exploring.State.{State}
-use Rattle.cobuchi_build.specs.Explored.{same_state, start_of}
+use Rattle.cobuchi_build.specs.Explored.{same_state, start_state}
 use Rattle.cobuchi_build.specs.Occurring.{occurring, untils_of}
 use Rattle.aiger_text.specs.Words.{cut_at, number_within}
 use Rattle.annot_check.specs.declared.pairs.Pair.{Pair}
@@ -90,7 +90,7 @@ has_few_leaves ns state = nat_le (length (set_leaves ns state.set)) MAX_LEAVES
 -- the state of these numbers, where it may stand behind these
 abbrev pub state_from : List Node → FormulaId → List State → List ℕ → Option State
 state_from ns f done numbers =
-    if is_numbered (length done) numbers && is_of_formula ns f (state_of numbers) && follows done (start_of f) (state_of numbers) && has_few_leaves ns (state_of numbers)
+    if is_numbered (length done) numbers && is_of_formula ns f (state_of numbers) && follows done (start_state f) (state_of numbers) && has_few_leaves ns (state_of numbers)
     then Some (state_of numbers) else None
 
 -- the numbers of a line that names a state

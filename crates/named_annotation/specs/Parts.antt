@@ -2,11 +2,11 @@
 use Rattle.std.specs.Prelude.{◌≡◌, ◌+◌, ◌^◌, ◌<◌, ◌≤◌, ℕ, List, [], ◌∷◌, ◌++◌, All, Option, Some, None, Err, length, map, option_map, if◌then◌else◌}
 use Rattle.ltl_formula.specs.declared.nodes.FormulaId.{FormulaId}
 use Rattle.ltl_formula.specs.declared.nodes.Node.{Node}
-use Rattle.ltl_formula.specs.Nodes.{Stands}
+use Rattle.ltl_formula.specs.Nodes.{IsNodeIn}
 use Rattle.obligation_sets.specs.declared.sets.Covering.{Covering}
 use Rattle.obligation_sets.specs.Reduced.{covers_by}
 use Rattle.cobuchi_build.specs.declared.exploring.State.{State}
-use Rattle.cobuchi_build.specs.Explored.{start_of}
+use Rattle.cobuchi_build.specs.Explored.{start_state}
 use Rattle.cobuchi_build.specs.Occurring.{occurring, untils_of}
 use Rattle.annot_check.specs.declared.reading.Head.{Head}
 use Rattle.annot_check.specs.AnnotationText.{pairs_in, pieces_of}
@@ -18,12 +18,12 @@ use Rattle.named_annotation.specs.NamedText.{is_of_formula, most_pairs, most_sta
 
 -- it has the untils of the formula, the nodes that occur in it, and its start
 pub record KnowsFormula (of : OfFormula) : Type 0 where
-  pub stands : Stands of.formulas.now of.f
+  pub stands : IsNodeIn of.formulas.now of.f
   pub untils : of.untils.items ≡ untils_of of.formulas.now of.f
   pub few : length of.untils.items < 2 ^ 32
   pub occurs : of.occurs.items ≡ occurring of.formulas.now of.f
   pub places : length of.occurs.items ≡ length of.formulas.now
-  pub start : of.start ≡ start_of of.f
+  pub start : of.start ≡ start_state of.f
 
 -- the states with the one that a line names, where it names one
 abbrev pub next_of : List Node → FormulaId → List State → List ℕ → Option (List State)

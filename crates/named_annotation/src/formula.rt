@@ -3,7 +3,7 @@
 ghost use Rattle.std.specs.Prelude.{◌≡◌, ◌<◌, ◌≤◌, All, IfOk, IfSome, drop, false, is_some, length, map};
 ghost use Rattle.std.specs.Bool.{OnTrue};
 ghost use Rattle.std.specs.List.{list_all};
-ghost use Rattle.ltl_formula.specs.Nodes.{Stands};
+ghost use Rattle.ltl_formula.specs.Nodes.{IsNodeIn};
 ghost use Rattle.obligation_sets.specs.Ids.{IdsRise, has_id};
 ghost use Rattle.obligation_sets.specs.Reduced.{covers_by};
 ghost use Rattle.cobuchi_build.specs.declared.exploring.State.{State as AState};
@@ -31,7 +31,7 @@ impl<'a> OfFormula<'a> {
         formulas: &'a Formulas,
         f: FormulaId,
     ) -> Result<OfFormula<'a>, AllocError>
-        requires { Stands formulas.now f }
+        requires { IsNodeIn formulas.now f }
         ensures known { IfOk result KnowsFormula }
         ensures same { IfOk result (λ of. (of.formulas.now ≡ formulas.now) × (of.f ≡ f)) }
     {
@@ -50,7 +50,7 @@ impl<'a> OfFormula<'a> {
         requires long { 1 < length numbers.now }
         ensures state { IfOk result (λ state. state ≡ formula_state self.now.formulas.now self.now.f numbers.now) }
         ensures counter { IfOk result (λ state. IfSome state (λ (s : AState). s.counter ≤ length self.now.untils.items)) }
-        ensures stands { IfOk result (λ state. IfSome state (λ (s : AState). All (Stands self.now.formulas.now) s.set)) }
+        ensures stands { IfOk result (λ state. IfSome state (λ (s : AState). All (IsNodeIn self.now.formulas.now) s.set)) }
     {
         let ids = ids_of(alloc, numbers)?;
         let counter = numbers[1];
@@ -77,7 +77,7 @@ impl<'a> OfFormula<'a> {
         alloc: Global,
         state: &State,
     ) -> Result<Option<Vec<Cover>>, AllocError>
-        requires { All (Stands self.now.formulas.now) state.now.set }
+        requires { All (IsNodeIn self.now.formulas.now) state.now.set }
         ensures some { IfOk result (λ found. IfSome found (λ covers. covers.items ≡ covers_by Covering.Reduced self.now.formulas.now state.now.set)) }
         ensures few { IfOk result (λ found. has_few_leaves self.now.formulas.now state.now ≡ is_some found) }
     {

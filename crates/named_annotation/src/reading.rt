@@ -1,7 +1,7 @@
 //! The text of an annotation over named states.
 
 ghost use Rattle.std.specs.Prelude.{◌≡◌, ◌+◌, ◌-◌, ◌^◌, ◌<◌, ◌≤◌, ℕ, All, Err, IfErr, IfOk, length};
-ghost use Rattle.ltl_formula.specs.Nodes.{Stands};
+ghost use Rattle.ltl_formula.specs.Nodes.{IsNodeIn};
 ghost use Rattle.annot_check.specs.declared.pairs.Pair.{Pair as APair};
 ghost use Rattle.annot_check.specs.declared.faults.AnnotFault.TheVariants.{BadLine};
 ghost use Rattle.annot_check.specs.Readings.{IsReadFault};
@@ -51,7 +51,7 @@ pub fn read_named_annotation(
     formulas: &Formulas,
     f: FormulaId,
 ) -> Result<NamedAnnotation, AnnotFault>
-    requires stands { Stands formulas.now f }
+    requires stands { IsNodeIn formulas.now f }
     requires few { inputs < 17 }
     ensures named { IfOk result (StatesNamed lines.now latches inputs formulas.now f) }
     ensures bad { (n : ℕ) → result ≡ Err (BadLine n) → IsFirstBadNamedLine lines.now latches inputs formulas.now f n }

@@ -7,7 +7,7 @@ use Rattle.std.specs.List.{list_any}
 use Rattle.std.specs.Prelude.{Contains, filter, fold, not}
 use Rattle.ltl_formula.specs.declared.nodes.FormulaId.{FormulaId}
 use Rattle.ltl_formula.specs.declared.nodes.Node.{Node}
-use Rattle.ltl_formula.specs.Nodes.{IsNodeList, Stands}
+use Rattle.ltl_formula.specs.Nodes.{IsNodeList, IsNodeIn}
 use Rattle.obligation_sets.specs.declared.branches.Fork.{Fork}
 use Rattle.obligation_sets.specs.declared.branches.Step.{Step}
 use Rattle.obligation_sets.specs.declared.branches.Step.TheVariants.{Leaf, Dead, On, Split}
@@ -19,7 +19,7 @@ use Rattle.obligation_sets.specs.declared.forks.KnownForks.{KnownForks}
 use Rattle.obligation_sets.specs.declared.sets.Cover.{Cover}
 use Rattle.obligation_sets.specs.declared.sets.Covering.{Covering}
 use Rattle.obligation_sets.specs.Branch.{Branch}
-use Rattle.obligation_sets.specs.Covers.{alive, leaves_below, leaves_of, same_cover, set_leaves, start_of}
+use Rattle.obligation_sets.specs.Covers.{alive, leaves_below, leaves_of, same_cover, set_leaves, start_branch}
 use Rattle.obligation_sets.specs.Forks.{Learns, branch_of, leaves_in}
 use Rattle.obligation_sets.specs.Gathered.{gather}
 use Rattle.obligation_sets.specs.Reduced.{asks_no_more, cover_by, covers_by}
@@ -239,7 +239,7 @@ module _ (covering : Covering) (ns : List Node) (set : List FormulaId) (known : 
   frame_places frame stack found leaves along = top_places (set_leaves ns set) along.seen frame stack along.leads
 
 -- the search begins
-pub along_start : (covering : Covering) (ns : List Node) (set : List FormulaId) (stack : List Frame) (found : List Cover) (known : Fork → Option ℕ) → All (Stands ns) set → stack ≡ Open (start_of ns set) ∷ [] → found ≡ [] → ((fork : Fork) → known fork ≡ None) → IsAlong covering ns set stack found 0 known
+pub along_start : (covering : Covering) (ns : List Node) (set : List FormulaId) (stack : List Frame) (found : List Cover) (known : Fork → Option ℕ) → All (IsNodeIn ns) set → stack ≡ Open (start_branch ns set) ∷ [] → found ≡ [] → ((fork : Fork) → known fork ≡ None) → IsAlong covering ns set stack found 0 known
 along_start covering ns set stack found known stand begins empty none =
     subst (λ (fs : List Frame). IsAlong covering ns set fs found 0 known) (sym begins)
     (record {

@@ -7,7 +7,7 @@ use Rattle.letters_and_lassos.specs.declared.letters.Letter.{Letter}
 use Rattle.ltl_formula.specs.declared.nodes.FormulaId.{FormulaId}
 use Rattle.ltl_formula.specs.declared.nodes.Node.{Node}
 use Rattle.ltl_formula.specs.declared.nodes.Node.TheVariants.{True, False, Signal, Not, Next, Finally, Globally, And, Or, Implies, Equiv, Until, Release, WeakUntil}
-use Rattle.ltl_formula.specs.Nodes.{IsNodeList, PartsBelow, Stands, node_at}
+use Rattle.ltl_formula.specs.Nodes.{IsNodeList, PartsBelow, IsNodeIn, node_at}
 use Rattle.obligation_sets.specs.Branch.{Branch}
 use Rattle.obligation_sets.specs.Ids.{has_id, ids_of, with_id}
 use Rattle.obligation_sets.specs.Reduced.{CutsAreExact, ImpliesAtOnce, cut, implied_by, implied_down, implied_parts}
@@ -213,14 +213,14 @@ module _ (ns : List Node) (list : IsNodeList ns) (letter : Letter) (now later : 
   parts_hold f (Release g h) e = (and_parts (now h) (now g || later f) e).0
   parts_hold f (WeakUntil g h) e = tt
 
-  part_holds : (f g : FormulaId) → Stands ns f → now f ≡ true → Contains (implied_parts (node_at ns f.0)) g → now g ≡ true
+  part_holds : (f g : FormulaId) → IsNodeIn ns f → now f ≡ true → Contains (implied_parts (node_at ns f.0)) g → now g ≡ true
   part_holds f g there h c = each_part (λ x. now x ≡ true) (node_at ns f.0) (parts_hold f (node_at ns f.0) (sym (one.means f there) ∙ h)) g c
 
-  implied_holds : (f : FormulaId) {g : FormulaId} → Stands ns f → now f ≡ true → ImpliesAtOnce ns f g → now g ≡ true
+  implied_holds : (f : FormulaId) {g : FormulaId} → IsNodeIn ns f → now f ≡ true → ImpliesAtOnce ns f g → now g ≡ true
   implied_holds f there h (direct g c) = part_holds f g there h c
   implied_holds f there h (further g k i c) = part_holds g k (let less : g.0 < f.0 = implied_below ns list f i in omega arith) (implied_holds f there h i) c
 
-  pub asked_holds : (set : List FormulaId) → ((g : FormulaId) → Contains set g → Stands ns g × (now g ≡ true)) → (f : FormulaId) → AsksFor ns set f → now f ≡ true
+  pub asked_holds : (set : List FormulaId) → ((g : FormulaId) → Contains set g → IsNodeIn ns g × (now g ≡ true)) → (f : FormulaId) → AsksFor ns set f → now f ≡ true
   asked_holds set each f (in_set c) = (each f c).1
   asked_holds set each f (through g c i) = implied_holds g (each g c).0 (each g c).1 i
 

@@ -6,13 +6,13 @@ use Rattle.ltl_formula.specs.declared.nodes.FormulaId.{FormulaId}
 use Rattle.ltl_formula.specs.declared.nodes.Node.{Node}
 use Rattle.ltl_formula.specs.declared.nodes.Node.TheVariants.{True, False, Signal, Not, Next, Finally, Globally, And, Or, Implies, Equiv, Until, Release, WeakUntil}
 use Rattle.ltl_formula.specs.NormalForm.{IsNormal}
-use Rattle.ltl_formula.specs.Nodes.{IsNodeList, PartsBelow, Stands, node_at, tree_at}
+use Rattle.ltl_formula.specs.Nodes.{IsNodeList, PartsBelow, IsNodeIn, node_at, tree_at}
 use Rattle.obligation_sets.specs.declared.branches.Step.{Step}
 use Rattle.obligation_sets.specs.declared.branches.Step.TheVariants.{Leaf, Dead, On, Split}
 use Rattle.obligation_sets.specs.declared.sets.Cover.{Cover}
 use Rattle.obligation_sets.specs.declared.sets.Covering.{Covering}
 use Rattle.obligation_sets.specs.Branch.{Branch}
-use Rattle.obligation_sets.specs.Covers.{leaves_below, leaves_within, set_leaves, start_of}
+use Rattle.obligation_sets.specs.Covers.{leaves_below, leaves_within, set_leaves, start_branch}
 use Rattle.obligation_sets.specs.Reduced.{cover_by, covers_by}
 use Rattle.obligation_sets.specs.Cubes.{forbidding, wanting}
 use Rattle.obligation_sets.specs.Ids.{has_id, with_id}
@@ -120,16 +120,16 @@ module _ (ns : List Node) (P : FormulaId → Type 0) (closed : (f : FormulaId) �
   next_kept covering set all c there =
       let r : (leaf : Branch) × Contains (set_leaves ns set) (Some leaf) × (cover_by covering ns leaf ≡ c) = alive_from (cover_by covering ns) (set_leaves ns set) c (covers_from covering ns set c there) in
       let i : Inside r.0 =
-      leaf_inside (suc (undone (start_of ns set).done)) (start_of ns set) (record { work = all; next = λ f h. absurd (has_id-none (length ns) f h) }) r.0 r.1 in
+      leaf_inside (suc (undone (start_branch ns set).done)) (start_branch ns set) (record { work = all; next = λ f h. absurd (has_id-none (length ns) f h) }) r.0 r.1 in
       subst (λ (x : Cover). All P x.next) r.2
       (All-from_contains P (cover_by covering ns r.0).next (λ f h. i.next f (left_from covering ns r.0.next f h)))
 
 -- the formulas of a set, and those that its covers leave, are in normal form
 module _ (ns : List Node) (list : IsNodeList ns) where
   abbrev pub StandsNormal : FormulaId → Type 0
-  StandsNormal f = Stands ns f × IsNormal (tree_at ns f)
+  StandsNormal f = IsNodeIn ns f × IsNormal (tree_at ns f)
 
-  stands_normal : (f : FormulaId) → Stands ns f → (node : Node) → PartsBelow f.0 node → NodeIsNormal ns node → PartsAre StandsNormal node
+  stands_normal : (f : FormulaId) → IsNodeIn ns f → (node : Node) → PartsBelow f.0 node → NodeIsNormal ns node → PartsAre StandsNormal node
   stands_normal f h True parts n = tt
   stands_normal f h False parts n = tt
   stands_normal f h (Signal k) parts n = tt

@@ -17,7 +17,7 @@ use Rattle.obligation_sets.specs.declared.sets.Cover.{Cover}
 use Rattle.obligation_sets.specs.declared.sets.Covering.{Covering}
 use Rattle.obligation_sets.specs.Branch.{Branch}
 use Rattle.obligation_sets.specs.CoverSignals.{CoversNameSignals, NameSignalsOf, NamesSignals}
-use Rattle.obligation_sets.specs.Covers.{leaves_below, leaves_within, set_leaves, start_of}
+use Rattle.obligation_sets.specs.Covers.{leaves_below, leaves_within, set_leaves, start_branch}
 use Rattle.obligation_sets.specs.Reduced.{cover_by, covers_by}
 use Rattle.obligation_sets.specs.Cubes.{forbidding, forbidding_at, wanting, wanting_at}
 use Rattle.obligation_sets.specs.Ids.{with_id}
@@ -114,7 +114,7 @@ module _ (n : ℕ) (ns : List Node) (below : HasSignalsBelow n ns) where
   cover_named : (covering : Covering) (set : List FormulaId) (c : Cover) → Contains (covers_by covering ns set) c → NamesSignals n c
   cover_named covering set c there =
       let r : (leaf : Branch) × Contains (set_leaves ns set) (Some leaf) × (cover_by covering ns leaf ≡ c) = alive_from (cover_by covering ns) (set_leaves ns set) c (covers_from covering ns set c there) in
-      let i : Inside r.0.cube = leaf_inside (suc (undone (start_of ns set).done)) (start_of ns set) (record { must = pow_pos n; none_of = pow_pos n }) r.0 r.1 in
+      let i : Inside r.0.cube = leaf_inside (suc (undone (start_branch ns set).done)) (start_branch ns set) (record { must = pow_pos n; none_of = pow_pos n }) r.0 r.1 in
       subst (λ (x : Cover). NamesSignals n x) r.2 (record { must = i.must; none_of = i.none_of })
 
 -- the covers of a set name no signals but those of the list

@@ -11,14 +11,14 @@ use Rattle.letters_and_lassos.specs.declared.letters.Letter.{Letter}
 use Rattle.ltl_formula.specs.declared.nodes.FormulaId.{FormulaId}
 use Rattle.ltl_formula.specs.declared.nodes.Node.{Node}
 use Rattle.ltl_formula.specs.declared.nodes.Node.TheVariants.{True, False, Signal, Not, Next, Finally, Globally, And, Or, Implies, Equiv, Until, Release, WeakUntil}
-use Rattle.ltl_formula.specs.Nodes.{IsNodeList, PartsBelow, Stands, node_at, tree_at, tree_of, trees_of}
+use Rattle.ltl_formula.specs.Nodes.{IsNodeList, PartsBelow, IsNodeIn, node_at, tree_at, tree_of, trees_of}
 use Rattle.ltl_formula.specs.Truth.{holds}
 use Rattle.ltl_formula.proofs.Trees.{tree_at-node}
 use Rattle.obligation_sets.specs.declared.sets.Cover.{Cover}
 use Rattle.obligation_sets.specs.declared.sets.Covering.{Covering}
 use Rattle.obligation_sets.specs.Apart.{has-nothing}
 use Rattle.obligation_sets.specs.Branch.{Branch}
-use Rattle.obligation_sets.specs.Covers.{alive, set_leaves, start_of}
+use Rattle.obligation_sets.specs.Covers.{alive, set_leaves, start_branch}
 use Rattle.obligation_sets.specs.Ids.{has_id, ids_of}
 use Rattle.obligation_sets.specs.NextStep.{AreNormal, CoversAreTheNextStep, HasFittingCover, MeetsAt, SecondPartFails, SetHolds}
 use Rattle.obligation_sets.specs.Reduced.{cover_by, covers_by, left_by}
@@ -61,11 +61,11 @@ alive_has cover (Some b ∷ leaves) leaf h =
 pub All-from_contains : {X : Type 0} (P : X → Type 0) (xs : List X) → ((x : X) → Contains xs x → P x) → All P xs
 All-from_contains P xs each = λ k d h. each (get_or xs k d) (Contains-get_or xs k d h)
 
-module _ (ns : List Node) (list : IsNodeList ns) (set : List FormulaId) (stand : All (Stands ns) set) where
+module _ (ns : List Node) (list : IsNodeList ns) (set : List FormulaId) (stand : All (IsNodeIn ns) set) where
   -- a cover of the set and the leaf that it is
   pub record Expansion (covering : Covering) (c : Cover) : Type 0 where
     pub leaf : Branch
-    pub below : LeafOf ns list (start_of ns set) leaf
+    pub below : LeafOf ns list (start_branch ns set) leaf
     pub is : cover_by covering ns leaf ≡ c
 
   pub expansion : (covering : Covering) (c : Cover) → Contains (covers_by covering ns set) c → Expansion covering c
@@ -73,12 +73,12 @@ module _ (ns : List Node) (list : IsNodeList ns) (set : List FormulaId) (stand :
       let r : (leaf : Branch) × Contains (set_leaves ns set) (Some leaf) × (cover_by covering ns leaf ≡ c) = alive_from (cover_by covering ns) (set_leaves ns set) c (covers_from covering ns set c h) in
       record {
         leaf = r.0;
-        below = leaf_of ns list (suc (undone (start_of ns set).done)) (start_of ns set) (start_places ns set stand) (λ f done. absurd (has_id-none (length ns) f done)) r.0 r.1;
+        below = leaf_of ns list (suc (undone (start_branch ns set).done)) (start_branch ns set) (start_places ns set stand) (λ f done. absurd (has_id-none (length ns) f done)) r.0 r.1;
         is = r.2;
       }
 
   -- each formula of the set is among those that the leaf took off its work list
-  pub set_done : (leaf : Branch) → LeafOf ns list (start_of ns set) leaf → (f : FormulaId) → Contains set f → has_id leaf.done f ≡ true
+  pub set_done : (leaf : Branch) → LeafOf ns list (start_branch ns set) leaf → (f : FormulaId) → Contains set f → has_id leaf.done f ≡ true
   set_done leaf below f h = seen_done (below.goes.grown.parts f (inr h))
     where
       seen_done : Seen leaf f → has_id leaf.done f ≡ true
@@ -105,7 +105,7 @@ module _ (letter : Letter) (now later : FormulaId → Bool) (cube : Cube) (fits 
 
 -- what was taken off the work list of a leaf holds, where its cube fits and what it leaves holds next
 module _ (ns : List Node) (list : IsNodeList ns) (letter : Letter) (now later : FormulaId → Bool) (one : IsOneStep ns letter now later) (leaf : Branch) (fits : Fits leaf.cube letter) (left : (f : FormulaId) → has_id leaf.next f ≡ true → later f ≡ true) where
-  module _ (f : FormulaId) (stands : Stands ns f) (below : (g : FormulaId) → g.0 < f.0 → Seen leaf g → now g ≡ true) where
+  module _ (f : FormulaId) (stands : IsNodeIn ns f) (below : (g : FormulaId) → g.0 < f.0 → Seen leaf g → now g ≡ true) where
     backed_value : (node : Node) → PartsBelow f.0 node → Backed ns (Seen leaf) leaf.cube (InNext leaf) (InPostponed leaf) f node → value letter now later f node ≡ true
     backed_value True parts h = refl
     backed_value False parts h = absurd h
@@ -136,7 +136,7 @@ module _ (ns : List Node) (list : IsNodeList ns) (letter : Letter) (now later : 
     done_below : (n : ℕ) (f : FormulaId) → f.0 < n → has_id leaf.done f ≡ true → now f ≡ true
     done_below zero f less done = absurd (omega arith)
     done_below (suc n) f less done =
-        let stands : Stands ns f = rw places.done at (has_id-within leaf.done f done) in
+        let stands : IsNodeIn ns f = rw places.done at (has_id-within leaf.done f done) in
         one.means f stands
         ∙ backed_value f stands (λ g smaller seen. done_below n g (omega arith) (seen_is_done g seen)) (node_at ns f.0) (list.parts_first f.0) (backed f done)
 
@@ -149,11 +149,11 @@ left_asked Covering.Plain ns list left places f h = in_set (id_of_flag left f h)
 left_asked Covering.Reduced ns list left places f h = still_asks ns list left places f h
 
 module _ (covering : Covering) (ns : List Node) (w : Word) (i : ℕ) (set : List FormulaId) (list : IsNodeList ns) (normal : AreNormal ns set) (ring : HasRing w) (within : i < lasso_len w) where
-  stand : All (Stands ns) set
+  stand : All (IsNodeIn ns) set
   stand = λ k d h. (normal k d h).0
 
   -- what a cover leaves stands in the list, since its leaf leaves it
-  left_holds : (leaf : Branch) → HasPlaces (length ns) leaf → SetHolds ns w (next w i) (cover_by covering ns leaf).next → (f : FormulaId) → Contains (cover_by covering ns leaf).next f → Stands ns f × IsTrue (holds w (tree_at ns f) (next w i))
+  left_holds : (leaf : Branch) → HasPlaces (length ns) leaf → SetHolds ns w (next w i) (cover_by covering ns leaf).next → (f : FormulaId) → Contains (cover_by covering ns leaf).next f → IsNodeIn ns f × IsTrue (holds w (tree_at ns f) (next w i))
   left_holds leaf places all f there = (
     rw places.next at (has_id-within leaf.next f (left_from covering ns leaf.next f there)),
     All-contains (λ x. IsTrue (holds w (tree_at ns x) (next w i))) (cover_by covering ns leaf).next f all there,
@@ -172,7 +172,7 @@ module _ (covering : Covering) (ns : List Node) (w : Word) (i : ℕ) (set : List
       (left_asked covering ns list e.leaf.next e.below.places.next g flag))
       e.below.places e.below.empty e.below.goes.backed f (set_done ns list set stand e.leaf e.below f h))
 
-  start_met : SetHolds ns w i set → IsMet ns (letter_at w i) (λ g. holds w (tree_at ns g) i) (λ g. holds w (tree_at ns g) (next w i)) (start_of ns set)
+  start_met : SetHolds ns w i set → IsMet ns (letter_at w i) (λ g. holds w (tree_at ns g) i) (λ g. holds w (tree_at ns g) (next w i)) (start_branch ns set)
   start_met all = record {
     work = all;
     normal = λ k d h. (normal k d h).1;
@@ -202,7 +202,7 @@ module _ (covering : Covering) (ns : List Node) (w : Word) (i : ℕ) (set : List
   met_where_holds all =
       let r : Reached ns (letter_at w i) (λ g. holds w (tree_at ns g) i) (λ g. holds w (tree_at ns g) (next w i)) (set_leaves ns set) =
       reached ns (letter_at w i) (λ g. holds w (tree_at ns g) i) (λ g. holds w (tree_at ns g) (next w i)) list (one_step ns w ring i within list)
-      (suc (undone (start_of ns set).done)) (start_of ns set) (start_places ns set stand) (omega arith) (start_met all) in
+      (suc (undone (start_branch ns set).done)) (start_branch ns set) (start_places ns set stand) (omega arith) (start_met all) in
       let b : HasBelow (covers_by covering ns set) (cover_by covering ns r.leaf) =
       covers_below covering ns set (cover_by covering ns r.leaf) (alive_has (cover_by covering ns) (set_leaves ns set) r.leaf r.there) in
       record {
@@ -215,7 +215,7 @@ module _ (covering : Covering) (ns : List Node) (w : Word) (i : ℕ) (set : List
         postponed = All-from_contains (λ f. SecondPartFails w i (tree_at ns f)) b.cover.postponed
             (λ f h.
             let flag : has_id r.leaf.postponed f ≡ true = flag_of_id r.leaf.postponed f (b.part.postponed f h) in
-            let there : Stands ns f = rw r.places.postponed at (has_id-within r.leaf.postponed f flag) in
+            let there : IsNodeIn ns f = rw r.places.postponed at (has_id-within r.leaf.postponed f flag) in
             second_fails f (node_at ns f.0) (tree_at-node ns f.0 there (list.parts_first f.0)) (r.met.postponed f flag));
         put_off_hold = All-from_contains (λ f. IsTrue (holds w (tree_at ns f) (next w i))) b.cover.postponed (λ f h. r.met.put_off f (flag_of_id r.leaf.postponed f (b.part.postponed f h)));
       }

@@ -5,7 +5,7 @@ use Rattle.letters_and_lassos.specs.declared.letters.Letter.{Letter}
 use Rattle.ltl_formula.specs.declared.nodes.FormulaId.{FormulaId}
 use Rattle.ltl_formula.specs.declared.nodes.Node.{Node}
 use Rattle.ltl_formula.specs.declared.nodes.Node.TheVariants.{True, False, Signal, Not, Next, Finally, Globally, And, Or, Implies, Equiv, Until, Release, WeakUntil}
-use Rattle.ltl_formula.specs.Nodes.{IsNodeList, Stands, node_at, tree_at, tree_of, trees_of}
+use Rattle.ltl_formula.specs.Nodes.{IsNodeList, IsNodeIn, node_at, tree_at, tree_of, trees_of}
 use Rattle.ltl_formula.specs.Truth.{holds}
 use Rattle.ltl_formula.proofs.Ahead.{until_at-unfold, release_at-unfold}
 use Rattle.ltl_formula.proofs.Trees.{tree_at-node}
@@ -30,7 +30,7 @@ value letter now later f (WeakUntil g h) = now f
 
 -- what is true now goes by the letter and by what is true next
 pub record IsOneStep (ns : List Node) (letter : Letter) (now later : FormulaId → Bool) : Type 0 where
-  pub means : (f : FormulaId) → Stands ns f → now f ≡ value letter now later f (node_at ns f.0)
+  pub means : (f : FormulaId) → IsNodeIn ns f → now f ≡ value letter now later f (node_at ns f.0)
 
 module _ (ns : List Node) (w : Word) (ring : HasRing w) (i : ℕ) (within : i < lasso_len w) where
   value_of : (f : FormulaId) (node : Node) → tree_at ns f ≡ tree_of (trees_of ns) node → holds w (tree_at ns f) i ≡ value (letter_at w i) (λ g. holds w (tree_at ns g) i) (λ g. holds w (tree_at ns g) (next w i)) f node
@@ -90,7 +90,7 @@ normal_of ns (Until g h) n = n
 normal_of ns (Release g h) n = n
 normal_of ns (WeakUntil g h) n = n
 
-pub node_normal : (ns : List Node) → IsNodeList ns → (f : FormulaId) → Stands ns f → IsNormal (tree_at ns f) → NodeIsNormal ns (node_at ns f.0)
+pub node_normal : (ns : List Node) → IsNodeList ns → (f : FormulaId) → IsNodeIn ns f → IsNormal (tree_at ns f) → NodeIsNormal ns (node_at ns f.0)
 node_normal ns list f stands h = normal_of ns (node_at ns f.0) (rw (tree_at-node ns f.0 stands (list.parts_first f.0)) at h)
 
 -- the node of a signal's id
@@ -114,5 +114,5 @@ signal_of ns (Until g h) n = n
 signal_of ns (Release g h) n = n
 signal_of ns (WeakUntil g h) n = n
 
-pub node_signal : (ns : List Node) → IsNodeList ns → (f : FormulaId) → Stands ns f → IsSignal (tree_at ns f) → NodeIsSignal (node_at ns f.0)
+pub node_signal : (ns : List Node) → IsNodeList ns → (f : FormulaId) → IsNodeIn ns f → IsSignal (tree_at ns f) → NodeIsSignal (node_at ns f.0)
 node_signal ns list f stands h = signal_of ns (node_at ns f.0) (rw (tree_at-node ns f.0 stands (list.parts_first f.0)) at h)

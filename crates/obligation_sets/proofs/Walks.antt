@@ -6,7 +6,7 @@ use Rattle.letters_and_lassos.specs.declared.cubes.Cube.{Cube}
 use Rattle.ltl_formula.specs.declared.nodes.FormulaId.{FormulaId}
 use Rattle.ltl_formula.specs.declared.nodes.Node.{Node}
 use Rattle.ltl_formula.specs.declared.nodes.Node.TheVariants.{True, False, Signal, Not, Next, Finally, Globally, And, Or, Implies, Equiv, Until, Release, WeakUntil}
-use Rattle.ltl_formula.specs.Nodes.{IsNodeList, PartsBelow, Stands, node_at}
+use Rattle.ltl_formula.specs.Nodes.{IsNodeList, PartsBelow, IsNodeIn, node_at}
 use Rattle.obligation_sets.specs.declared.branches.Step.{Step}
 use Rattle.obligation_sets.specs.declared.branches.Step.TheVariants.{Leaf, Dead, On, Split}
 use Rattle.obligation_sets.specs.Branch.{Branch}
@@ -14,7 +14,7 @@ use Rattle.obligation_sets.specs.Cubes.{forbidding, wanting}
 use Rattle.obligation_sets.specs.Ids.{has_id, with_id}
 use Rattle.obligation_sets.specs.OpenWork.{open_work}
 use Rattle.obligation_sets.specs.Steps.{HasPlaces, expanding, in_front, joining, leaving, opposing, postponing, settled, step, step_on, taking, undone}
-use Rattle.obligation_sets.specs.Covers.{leaves_below, leaves_of, leaves_within, start_of}
+use Rattle.obligation_sets.specs.Covers.{leaves_below, leaves_of, leaves_within, start_branch}
 
 -- what comes of a step are branches over n formulas, with these done
 pub record GoesOn (n : ℕ) (done : List Bool) (b : Branch) : Type 0 where
@@ -172,7 +172,7 @@ pub leaves_of-step : (ns : List Node) → IsNodeList ns → (b : Branch) → Has
 leaves_of-step ns list b places = leaves_below-of ns (length ns) b (step ns b) (step_stepped ns list b places)
 
 -- the branch that begins with a set
-pub start_places : (ns : List Node) (set : List FormulaId) → All (Stands ns) set → HasPlaces (length ns) (start_of ns set)
+pub start_places : (ns : List Node) (set : List FormulaId) → All (IsNodeIn ns) set → HasPlaces (length ns) (start_branch ns set)
 start_places ns set stand = record { work = stand; done = length-replicate (length ns) false; next = length-replicate (length ns) false; postponed = length-replicate (length ns) false }
 
 -- the work list from its first open formula on

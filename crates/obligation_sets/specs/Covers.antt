@@ -29,8 +29,8 @@ abbrev pub leaves_of : List Node → Branch → List (Option Branch)
 leaves_of ns b = leaves_within (suc (undone b.done)) ns b
 
 -- the branch that begins with a set of obligations: nothing done, any letter, nothing left over
-abbrev pub start_of : List Node → List FormulaId → Branch
-start_of ns set = record {
+abbrev pub start_branch : List Node → List FormulaId → Branch
+start_branch ns set = record {
   work = set;
   done = replicate (length ns) false;
   cube = free_cube;
@@ -40,7 +40,7 @@ start_of ns set = record {
 
 -- the leaves of a set of obligations, dead ones too
 abbrev pub set_leaves : List Node → List FormulaId → List (Option Branch)
-set_leaves ns set = leaves_of ns (start_of ns set)
+set_leaves ns set = leaves_of ns (start_branch ns set)
 
 -- the cover that a leaf is
 abbrev pub cover_of : Branch → Cover

@@ -3,7 +3,7 @@ use Rattle.letters_and_lassos.specs.Cube.{Fits}
 use Rattle.letters_and_lassos.specs.Word.{Word, HasRing, lasso_len, letter_at, next}
 use Rattle.ltl_formula.specs.declared.nodes.FormulaId.{FormulaId}
 use Rattle.ltl_formula.specs.declared.nodes.Node.{Node}
-use Rattle.ltl_formula.specs.Nodes.{IsNodeList, Stands, tree_at}
+use Rattle.ltl_formula.specs.Nodes.{IsNodeList, IsNodeIn, tree_at}
 use Rattle.ltl_formula.specs.Tree.{Tree}
 use Rattle.ltl_formula.specs.Tree.Tree.{truth, falsity, signal, negation, next_time, finally, globally, conjunction, disjunction, implication, equivalence, until, release, weak_until}
 use Rattle.ltl_formula.specs.Truth.{holds}
@@ -21,7 +21,7 @@ SetHolds ns w i set = All (λ f. IsTrue (holds w (tree_at ns f) i)) set
 
 -- the formulas stand in the list and are in normal form
 abbrev pub AreNormal : List Node → List FormulaId → Type 0
-AreNormal ns set = All (λ f. Stands ns f × IsNormal (tree_at ns f)) set
+AreNormal ns set = All (λ f. IsNodeIn ns f × IsNormal (tree_at ns f)) set
 
 -- the cover is one way to meet a set at this position: its cube fits there, and what it leaves holds at the next
 pub record MeetsAt (ns : List Node) (w : Word) (i : ℕ) (c : Cover) : Type 0 where

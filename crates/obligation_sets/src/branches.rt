@@ -67,11 +67,11 @@ impl Model for Branch {
 }
 
 impl Branch {
-    ghost use Rattle.obligation_sets.specs.Covers.{start_of};
+    ghost use Rattle.obligation_sets.specs.Covers.{start_branch};
     ghost use Rattle.obligation_sets.specs.Ids.{with_id};
     ghost use Rattle.obligation_sets.specs.Forks.{branch_of};
     ghost use Rattle.obligation_sets.specs.Steps.{HasPlaces, expanding, joining, leaving, opposing, postponing, settled, step};
-    ghost use Rattle.ltl_formula.specs.Nodes.{IsNodeList, SignalBelow, Stands, node_at};
+    ghost use Rattle.ltl_formula.specs.Nodes.{IsNodeList, SignalBelow, IsNodeIn, node_at};
 
     /// The branch that begins with a set of obligations.
     pub(crate) fn start(
@@ -79,7 +79,7 @@ impl Branch {
         formulas: &Formulas,
         set: &ObligationSet,
     ) -> Result<Branch, AllocError>
-        ensures value { IfOk result (λ b. b ≡ start_of formulas.now set.now) }
+        ensures value { IfOk result (λ b. b ≡ start_branch formulas.now set.now) }
         ensures list { OnOk result (IsNodeList formulas.now) }
     {
         let mut work = Vec::from_slice(alloc, set.ids())?;
@@ -155,7 +155,7 @@ impl Branch {
     /// What comes of a formula that was taken off the work list.
     fn expand(self, alloc: Global, formulas: &Formulas, id: FormulaId) -> Result<Step, AllocError>
         requires places { HasPlaces (length formulas.now) self }
-        requires stands { Stands formulas.now id }
+        requires stands { IsNodeIn formulas.now id }
         ensures { IfOk result (λ s. s ≡ expanding formulas.now self id (node_at formulas.now id.0)) }
     {
         match formulas.node(id) {

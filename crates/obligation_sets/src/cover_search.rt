@@ -1,6 +1,6 @@
 ghost use Rattle.std.specs.Prelude.{◌≡◌, ◌<◌, ◌≤◌, All, Err, IfOk, OnOk, filter, length, not, reverse};
 ghost use Rattle.std.specs.List.{list_any};
-ghost use Rattle.ltl_formula.specs.Nodes.{Stands};
+ghost use Rattle.ltl_formula.specs.Nodes.{IsNodeIn};
 ghost use Rattle.obligation_sets.specs.CoverSignals.{NameSignalsOf};
 ghost use Rattle.obligation_sets.specs.Covers.{set_leaves};
 ghost use Rattle.obligation_sets.specs.Gathered.{gather, keep_minimal};
@@ -59,7 +59,7 @@ pub fn covers(
     set: &ObligationSet,
     covering: Covering,
 ) -> Result<Vec<Cover>, CoverFault>
-    requires { All (Stands formulas.now) set.now }
+    requires { All (IsNodeIn formulas.now) set.now }
     ensures covers { IfOk result (λ v. v.items ≡ covers_by covering formulas.now set.now) }
     ensures signals { IfOk result (λ v. NameSignalsOf formulas.now v.items) }
     ensures few_leaves { OnOk result (length (set_leaves formulas.now set.now) ≤ MAX_LEAVES) }
@@ -105,7 +105,7 @@ impl Search {
 
     /// The search that begins with a set of obligations.
     fn start(alloc: Global, formulas: &Formulas, set: &ObligationSet) -> Result<Search, AllocError>
-        requires { All (Stands formulas.now) set.now }
+        requires { All (IsNodeIn formulas.now) set.now }
         ensures along { (covering : Covering) → IfOk result (λ s. SearchAlong covering formulas.now set.now (reverse s.frames.items) s) }
         ensures none { IfOk result (λ s. s.leaves ≡ 0) }
         ensures list { OnOk result (IsNodeList formulas.now) }

@@ -8,7 +8,7 @@ use Rattle.machine_model.specs.Automaton.{HasEdge, IsAutomaton, states_of}
 use Rattle.machine_model.specs.Course.{letter_of}
 use Rattle.machine_model.specs.Machine.{MachineModel, IsMachine, next_of, size_of, writes_of}
 use Rattle.machine_model.specs.Problem.{IsMachineOf, automaton_of}
-use Rattle.machine_model.specs.Run.{IsRunLasso, joined, read_part}
+use Rattle.machine_model.specs.Run.{IsRunLasso, joined_letter, read_part}
 use Rattle.machine_model.specs.declared.problems.Problem.{Problem}
 use Rattle.machine_model.specs.Components.{JoinedIsReached, Reaches}
 use Rattle.product_bound.specs.Annotation.{HasNumber, IsValidAnnotation, leaves, number_after, number_at, rise_at}
@@ -38,7 +38,7 @@ record HasLeast (p : Problem) (numbers : List (Option ℕ)) (w : Word) (states :
 module _ (p : Problem) (m : MachineModel) (numbers : List (Option ℕ)) (w : Word) (states : List ℕ) (reached_is : JoinedIsReached) (made : IsAutomaton (automaton_of p)) (machine : IsMachine m) (fits : IsMachineOf p m) (some : 0 < size_of m) (valid : IsValidAnnotation p m numbers) (run : IsRunLasso m p.side w states) where
   letter_is : (i : ℕ) → i < lasso_len w → letter_of p.side m (slice_index states i) (read_part p.side m (letter_at w i)) ≡ letter_at w i
   letter_is i h =
-      let e : joined p.side m (read_part p.side m (letter_at w i)) (writes_of m (slice_index states i) (read_part p.side m (letter_at w i))) ≡ (letter_at w i).0
+      let e : joined_letter p.side m (read_part p.side m (letter_at w i)) (writes_of m (slice_index states i) (read_part p.side m (letter_at w i))) ≡ (letter_at w i).0
       = rw (sym (run.writes i h)) (joined-parts p.side m (letter_at w i)) in
       λ j. record { 0 = e j }
 

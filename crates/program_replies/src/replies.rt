@@ -1,6 +1,6 @@
 //! Replies and statuses.
 ghost use Rattle.std.specs.Prelude.{◌≡◌, ◌==◌, ◌++◌, codes, decimal, IfOk, OnOk};
-ghost use Rattle.spec_faults.specs.Codes.{name_of, number_of};
+ghost use Rattle.spec_faults.specs.Codes.{name_of, code_number};
 ghost use Rattle.program_replies.specs.Lines.{line_count, line_refusal, refusal_line};
 ghost use Rattle.program_replies.specs.Refusals.{IsRefusal};
 

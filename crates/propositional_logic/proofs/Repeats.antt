@@ -8,7 +8,7 @@ use Rattle.std.proofs.lemmas.Option.{slice_get_within, slice_get-get_or, get_or_
 use Rattle.std.proofs.lemmas.Bool.{not-false}
 use Rattle.propositional_logic.specs.Literal.{Literal, negated, literal_eq}
 use Rattle.propositional_logic.specs.Equality.{Decides-literal_eq}
-use Rattle.propositional_logic.specs.Clause.{IsRisingFrom, IsClause, IsClauseOf, IsWithin, IsTautology}
+use Rattle.propositional_logic.specs.Clause.{IsRisingFrom, IsClause, IsClauseOf, IsWithinVariables, IsTautology}
 use Rattle.propositional_logic.proofs.Members.{Contains-push_cases}
 use Rattle.propositional_logic.proofs.Rising.{rising_above, rising_push, no_tautology}
 
@@ -143,7 +143,7 @@ tautology_of_permutation lits sorted p h =
     let there = back h.1 (h.0, h.2, h.3) in
     (there.0, h.1, there.1, there.2, back (negated h.1) h.4)
 
-pub clause_within : (vars : ℕ) (lits kept : List Literal) → IsClauseOf lits kept → IsWithin vars lits → IsWithin vars kept
+pub clause_within : (vars : ℕ) (lits kept : List Literal) → IsClauseOf lits kept → IsWithinVariables vars lits → IsWithinVariables vars kept
 clause_within vars lits kept k w i d lt =
     All-contains (λ (l : Literal). l.var ≤ vars) lits (get_or kept i d) w ((k.same_literals (get_or kept i d)).0 (Contains-get_or kept i d lt))
 

@@ -26,13 +26,13 @@ abbrev pub IsTautology : List Literal → Type 0
 IsTautology lits = Any (λ l. Contains lits (negated l)) lits
 
 -- No variable of the list passes vars (this project's own).
-abbrev pub IsWithin : ℕ → List Literal → Type 0
-IsWithin vars lits = All (λ l. l.var ≤ vars) lits
+abbrev pub IsWithinVariables : ℕ → List Literal → Type 0
+IsWithinVariables vars lits = All (λ l. l.var ≤ vars) lits
 
 -- A formula over the variables 1 to vars: vars is at most 2^30, and no variable of its clauses passes it. Each call that takes
 -- a formula has this condition (this project's own).
 abbrev pub IsFormula : ℕ → List (List Literal) → Type 0
-IsFormula vars clauses = (vars ≤ 2 ^ 30) × All (IsWithin vars) clauses
+IsFormula vars clauses = (vars ≤ 2 ^ 30) × All (IsWithinVariables vars) clauses
 
 -- Whether two lists of literals are the same, literal by literal (this project's own).
 abbrev pub clause_eq : List Literal → List Literal → Bool

@@ -3,7 +3,7 @@ ghost use Rattle.std.specs.Bool.{OnTrue, OnFalse};
 ghost use Rattle.std.specs.List.Sorted.{IsNonDecreasingBy, IsPermutation};
 ghost use Rattle.propositional_logic.specs.declared.clauses.ClauseFault.TheVariants.{BadVariable, Tautology, NoMemory};
 ghost use Rattle.propositional_logic.specs.Literal.{Literal};
-ghost use Rattle.propositional_logic.specs.Clause.{IsClause, IsClauseOf, IsWithin, HasBadVariable, IsTautology, clause_eq};
+ghost use Rattle.propositional_logic.specs.Clause.{IsClause, IsClauseOf, IsWithinVariables, HasBadVariable, IsTautology, clause_eq};
 ghost use Rattle.propositional_logic.specs.Equality.{clause_eq-partial, clause_eq-equivalence, clause_eq-hashed, clause_writes};
 
 use crate::Lit;
@@ -93,11 +93,11 @@ impl Clause {
     /// Refused where a variable passes `vars`, else where a variable has both signs.
     pub fn new(alloc: Global, vars: u32, lits: &[Lit]) -> Result<Clause, ClauseFault>
         ensures ok { IfOk result (IsClauseOf lits.now) }
-        ensures within { IfOk result (IsWithin vars) }
+        ensures within { IfOk result (IsWithinVariables vars) }
 
         // The variables are tested before memory is asked for.
         ensures bad_variable { (result ≡ Err BadVariable) ↔ HasBadVariable vars lits.now }
-        ensures tautology { result ≡ Err Tautology → IsWithin vars lits.now × IsTautology lits.now }
+        ensures tautology { result ≡ Err Tautology → IsWithinVariables vars lits.now × IsTautology lits.now }
         ensures no_tautology { IsOk result → IsTautology lits.now → ⊥ }
     {
         if has_bad_variable(vars, lits) {
@@ -125,7 +125,7 @@ impl Clause {
 /// Whether a variable passes `vars`.
 fn has_bad_variable(vars: u32, lits: &[Lit]) -> bool
     ensures some { OnTrue result (HasBadVariable vars lits.now) }
-    ensures none { OnFalse result (IsWithin vars lits.now) }
+    ensures none { OnFalse result (IsWithinVariables vars lits.now) }
 {
     lits.iter().any(|lit| lit.var() > vars)
 }

@@ -9,7 +9,7 @@ use Rattle.std.proofs.lemmas.Map.Steps.{length-le_from_distinct_below}
 use Rattle.std.proofs.lemmas.Map.Keys.{IsDistinct-from_apart}
 use Rattle.std.proofs.lemmas.Bool.Decides.{Decides-eqb}
 use Rattle.propositional_logic.specs.Literal.{Literal}
-use Rattle.propositional_logic.specs.Clause.{IsClause, IsRisingFrom, IsWithin}
+use Rattle.propositional_logic.specs.Clause.{IsClause, IsRisingFrom, IsWithinVariables}
 use Rattle.refutation_log.specs.declared.entries.Entry.{Entry}
 use Rattle.refutation_log.specs.Entry.{AreSorted}
 use Rattle.refutation_log.specs.Log.{is_ended, IsLegal, IsFull, IsClosed}
@@ -78,15 +78,15 @@ others-rise n (l ∷ ls) h = by (nat_eq l.var (suc n)) refl
     by true e = subst (λ m. IsRisingFrom m ls) (is l.var (suc n) e) h.1
     by false e = let low = h.0 in let apart = is_not l.var (suc n) e in (omega arith, h.1)
 
-others-within : (v w : ℕ) (ls : List Literal) → IsWithin w ls → IsWithin w (others v ls)
+others-within : (v w : ℕ) (ls : List Literal) → IsWithinVariables w ls → IsWithinVariables w (others v ls)
 others-within v w [] h = h
 others-within v w (l ∷ ls) h = by (nat_eq l.var v)
   where
-    by : (b : Bool) → IsWithin w (cond b ls (l ∷ ls))
+    by : (b : Bool) → IsWithinVariables w (cond b ls (l ∷ ls))
     by true = All-tail (λ (m : Literal). m.var ≤ w) l ls h
     by false = h
 
-none-left : (n : ℕ) (ls : List Literal) → IsRisingFrom n ls → IsWithin n ls → ls ≡ []
+none-left : (n : ℕ) (ls : List Literal) → IsRisingFrom n ls → IsWithinVariables n ls → ls ≡ []
 none-left n [] h w = refl
 none-left n (l ∷ ls) h w = let low = h.0 in let high = All-head (λ (m : Literal). m.var ≤ n) l ls w in absurd (omega arith)
 
@@ -114,10 +114,10 @@ same-mark v (l ∷ ls) (k ∷ ks) m o = by (nat_eq l.var v) (nat_eq k.var v) ref
     by false true e f p q = let some = sign-some k.positive in absurd (omega arith)
     by false false e f p q = q
 
-code-same : (n k vars : ℕ) (a b : List Literal) → vars ≡ n + k → IsRisingFrom n a → IsRisingFrom n b → IsWithin vars a → IsWithin vars b → code n k a ≡ code n k b → a ≡ b
+code-same : (n k vars : ℕ) (a b : List Literal) → vars ≡ n + k → IsRisingFrom n a → IsRisingFrom n b → IsWithinVariables vars a → IsWithinVariables vars b → code n k a ≡ code n k b → a ≡ b
 code-same n zero vars a b is-sum ra rb wa wb e =
     let last : vars ≡ n = omega arith in
-    none-left n a ra (subst (λ v. IsWithin v a) last wa) ∙ sym (none-left n b rb (subst (λ v. IsWithin v b) last wb))
+    none-left n a ra (subst (λ v. IsWithinVariables v a) last wa) ∙ sym (none-left n b rb (subst (λ v. IsWithinVariables v b) last wb))
 code-same n (suc k) vars a b is-sum ra rb wa wb e =
     let small = mark-small (suc n) a in
     let small' = mark-small (suc n) b in
@@ -127,7 +127,7 @@ code-same n (suc k) vars a b is-sum ra rb wa wb e =
     (code-same (suc n) k vars (others (suc n) a) (others (suc n) b) (omega arith) (others-rise n a ra) (others-rise n b rb)
     (others-within (suc n) vars a wa) (others-within (suc n) vars b wb) codes)
 
-code-some : (vars : ℕ) (ls : List Literal) → IsClause ls → IsWithin vars ls → ls ≢ [] → 0 < code 0 vars ls
+code-some : (vars : ℕ) (ls : List Literal) → IsClause ls → IsWithinVariables vars ls → ls ≢ [] → 0 < code 0 vars ls
 code-some vars ls sorted within some =
     let differs : code 0 vars ls ≢ 0 = λ e.
     some (code-same 0 vars vars ls [] (omega arith) sorted tt within (All-nil (λ (m : Literal). m.var ≤ vars)) (e ∙ sym (code-none 0 vars))) in

@@ -14,7 +14,7 @@ use Rattle.std.proofs.Math.Seq.{take-suc, take-length}
 use Rattle.std.proofs.lemmas.Bool.{cases_lt}
 use borrow.Author.Tests.{ltb-false, leb-false}
 use Rattle.propositional_logic.specs.Literal.{Literal}
-use Rattle.propositional_logic.specs.Clause.{clause_eq, IsWithin}
+use Rattle.propositional_logic.specs.Clause.{clause_eq, IsWithinVariables}
 use Rattle.propositional_logic.specs.Truth.{is_true_clause, meets}
 use Rattle.propositional_logic.specs.Equality.{Decides-clause_eq}
 use Rattle.refutation_log.specs.declared.entries.Entry.{Entry}
@@ -24,7 +24,7 @@ use Rattle.refutation_log.specs.declared.turns.Reply.TheVariants.{Known, Closed,
 use Rattle.refutation_log.specs.Entry.{clauses_of}
 use Rattle.refutation_log.specs.Follows.{Follows}
 use Rattle.refutation_log.specs.Log.{is_empty_clause, is_ended, IsWithinLimit, IsLegal, IsClosed}
-use Rattle.refutation_log.specs.Turn.{place_of, is_at_limit, reply_to_new, log_replied, log_after, run_of, IsSoundTurn, IsSoundRun}
+use Rattle.refutation_log.specs.Turn.{clause_place, is_at_limit, reply_to_new, log_replied, log_after, run_of, IsSoundTurn, IsSoundRun}
 use Rattle.refutation_log.proofs.Lists.{slice_get-append, slice_get-push, take-append, take-append_all, take_drop}
 use Rattle.refutation_log.proofs.FollowsLemmas.{Follows-append, Follows-implied}
 use Rattle.refutation_log.proofs.StateLemmas.{is_ended-last}
@@ -39,7 +39,7 @@ Follows-in_log base log more c hints h =
 
 pub legal_empty : (vars : ℕ) (base : List (List Literal)) (limit : Option ℕ) → IsLegal vars base limit []
 legal_empty vars base limit = record {
-  within = All-nil (λ e. IsWithin vars e.clause);
+  within = All-nil (λ e. IsWithinVariables vars e.clause);
   follows = λ i e h. absurd (cc);
   different = λ i j d lt high. absurd (omega arith);
   limited = none limit;
@@ -54,7 +54,7 @@ pub legal_prefix : (vars : ℕ) (base : List (List Literal)) (limit : Option ℕ
 legal_prefix vars base limit log more h =
     let len : length (log ++ more) ≡ length log + length more = length-append log more in
     record {
-      within = λ k d lt. subst (λ (e : Entry). IsWithin vars e.clause) (get_or_append_left log more d k lt) (h.within k d (omega arith));
+      within = λ k d lt. subst (λ (e : Entry). IsWithinVariables vars e.clause) (get_or_append_left log more d k lt) (h.within k d (omega arith));
       follows = λ i e at.
           let lt : i < length log = slice_get_within log i e at in
           subst (λ es. Follows (base ++ clauses_of es) e.clause e.hints) (take-append i log more (omega arith)) (h.follows i e (slice_get-append log more i e at));
@@ -84,7 +84,7 @@ get_or-clauses [] k d c lt = absurd (omega arith)
 get_or-clauses (e ∷ log) zero d c lt = refl
 get_or-clauses (e ∷ log) (suc k) d c lt = get_or-clauses log k d c (omega arith)
 
-unknown_before : (log : List Entry) (c : List Literal) → place_of c log ≡ None → (k : ℕ) (d : Entry) → k < length log → (get_or log k d).clause ≢ c
+unknown_before : (log : List Entry) (c : List Literal) → clause_place c log ≡ None → (k : ℕ) (d : Entry) → k < length log → (get_or log k d).clause ≢ c
 unknown_before log c h k d lt e =
     let len : length (clauses_of log) ≡ length log = length-map log (λ (x : Entry). x.clause) in
     let none = no_position (clause_eq c) (clauses_of log) h in
@@ -111,10 +111,10 @@ below_limit (Some most) log e h =
     omega (arith, lt)
 
 pub legal_push : (vars : ℕ) (base : List (List Literal)) (limit : Option ℕ) (log : List Entry) (e : Entry) (n : ℕ) → IsLegal vars base limit log
-    → IsWithin vars e.clause → Follows (base ++ clauses_of (take n log)) e.clause e.hints
-    → place_of e.clause log ≡ None → is_ended log ≡ false → is_at_limit limit log ≡ false → IsLegal vars base limit (log ++ e ∷ [])
+    → IsWithinVariables vars e.clause → Follows (base ++ clauses_of (take n log)) e.clause e.hints
+    → clause_place e.clause log ≡ None → is_ended log ≡ false → is_at_limit limit log ≡ false → IsLegal vars base limit (log ++ e ∷ [])
 legal_push vars base limit log e n h within follows unknown open' below = record {
-  within = All-push (λ d. IsWithin vars d.clause) log e h.within within;
+  within = All-push (λ d. IsWithinVariables vars d.clause) log e h.within within;
   follows = λ i d at. by i d (slice_get-push log e i d at);
   different = all_pairs_push (λ d c. d.clause ≢ c.clause) log e h.different (unknown_before log e.clause unknown);
   limited = below_limit limit log e below;
@@ -133,8 +133,8 @@ legal_push vars base limit log e n h within follows unknown open' below = record
         subst (λ (c : Entry). Follows (base ++ clauses_of (take i (log ++ e ∷ []))) c.clause c.hints) p.1
         (subst (λ es. Follows (base ++ clauses_of es) e.clause e.hints) (sym (ap (λ j. take j (log ++ e ∷ [])) p.0 ∙ take-append_all log (e ∷ []))) here)
 
-pub legal_grows : (vars : ℕ) (base : List (List Literal)) (limit : Option ℕ) (log : List Entry) (e : Entry) → IsLegal vars base limit log → IsWithin vars e.clause
-    → Follows (base ++ clauses_of log) e.clause e.hints → place_of e.clause log ≡ None → is_ended log ≡ false → is_at_limit limit log ≡ false
+pub legal_grows : (vars : ℕ) (base : List (List Literal)) (limit : Option ℕ) (log : List Entry) (e : Entry) → IsLegal vars base limit log → IsWithinVariables vars e.clause
+    → Follows (base ++ clauses_of log) e.clause e.hints → clause_place e.clause log ≡ None → is_ended log ≡ false → is_at_limit limit log ≡ false
     → IsLegal vars base limit (log ++ e ∷ [])
 legal_grows vars base limit log e h within follows unknown open' below =
     legal_push vars base limit log e (length log) h within (subst (λ es. Follows (base ++ clauses_of es) e.clause e.hints) (sym (take-length log)) follows) unknown open' below
@@ -144,14 +144,14 @@ legal_grows vars base limit log e h within follows unknown open' below =
 pub legal_turn : (vars : ℕ) (base : List (List Literal)) (limit : Option ℕ) (log : List Entry) (turn : Turn) → IsLegal vars base limit log
     → IsSoundTurn vars base log turn → IsLegal vars base limit (log_after log limit turn)
 legal_turn vars base limit log Read h s = h
-legal_turn vars base limit log (Append e) h s = by (place_of e.clause log) refl
+legal_turn vars base limit log (Append e) h s = by (clause_place e.clause log) refl
   where
-    taken : (a b : Bool) → is_ended log ≡ a → is_at_limit limit log ≡ b → place_of e.clause log ≡ None → IsLegal vars base limit (log_replied log e (cond a Closed (cond b Full (At (length log)))))
+    taken : (a b : Bool) → is_ended log ≡ a → is_at_limit limit log ≡ b → clause_place e.clause log ≡ None → IsLegal vars base limit (log_replied log e (cond a Closed (cond b Full (At (length log)))))
     taken true b p q u = h
     taken false true p q u = h
     taken false false p q u = legal_push vars base limit log e s.1.0 h s.0 s.1.1 u p q
 
-    by : (o : Option ℕ) → place_of e.clause log ≡ o → IsLegal vars base limit (log_replied log e (option_map_or (λ place. Known place) o (reply_to_new log limit)))
+    by : (o : Option ℕ) → clause_place e.clause log ≡ o → IsLegal vars base limit (log_replied log e (option_map_or (λ place. Known place) o (reply_to_new log limit)))
     by (Some p) u = h
     by None u = taken (is_ended log) (is_at_limit limit log) refl refl u
 

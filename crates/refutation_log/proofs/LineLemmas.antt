@@ -7,7 +7,7 @@ use Rattle.std.proofs.lemmas.List.{append_cancel_left}
 use Rattle.std.proofs.lemmas.List.Elements.{All-push}
 use Rattle.std.proofs.lemmas.Grind.{flat_map-append}
 use Rattle.propositional_logic.specs.Literal.{Literal}
-use Rattle.propositional_logic.specs.Clause.{IsClause, IsClauseOf, IsWithin, clause_eq}
+use Rattle.propositional_logic.specs.Clause.{IsClause, IsClauseOf, IsWithinVariables, clause_eq}
 use Rattle.propositional_logic.specs.Equality.{Decides-clause_eq}
 use Rattle.propositional_logic.proofs.Rising.{rising_one}
 use Rattle.refutation_log.specs.declared.entries.Entry.{Entry}
@@ -82,7 +82,7 @@ no_hints bytes hs rest h none end gs after s =
 pub same_clause : (lits clause : List Literal) → clause_eq clause lits ≡ true → clause ≡ lits
 same_clause lits clause e = (Decides-clause_eq clause lits).0 e
 
-pub other_clause : (vars : ℕ) (lits clause : List Literal) → IsClauseOf lits clause → clause_eq clause lits ≡ false → IsClause lits → IsWithin vars lits → ⊥
+pub other_clause : (vars : ℕ) (lits clause : List Literal) → IsClauseOf lits clause → clause_eq clause lits ≡ false → IsClause lits → IsWithinVariables vars lits → ⊥
 other_clause vars lits clause of differs sorted within =
     true≢false (sym ((Decides-clause_eq clause lits).1 (rising_one 0 clause lits of.sorted sorted of.same_literals)) ∙ differs)
 
@@ -111,14 +111,14 @@ module _ (vars : ℕ) (bytes : List ℕ) where
       none e.hints rest (subst (λ t. StatesHints t e.hints rest) (sym k.1) p.hinted)
 
   pub no_entry_by_clause : (by : ℕ) (b d : List ℕ) (ls : List Literal) → StatesNumber (2 ^ 32 - 1) bytes by b → StatesLiterals b ls d
-      → (IsClause ls → IsWithin vars ls → ⊥) → (e : Entry) (rest : List ℕ) → StatesEntry vars bytes e rest → ⊥
+      → (IsClause ls → IsWithinVariables vars ls → ⊥) → (e : Entry) (rest : List ℕ) → StatesEntry vars bytes e rest → ⊥
   no_entry_by_clause by b d ls worker literals none e rest h =
       let p = cut vars bytes e rest h in
       let k = after_lits by b d ls worker literals e rest p in
-      none (subst (λ (c : List Literal). IsClause c) (sym k.0) p.sorted) (subst (λ (c : List Literal). IsWithin vars c) (sym k.0) p.within)
+      none (subst (λ (c : List Literal). IsClause c) (sym k.0) p.sorted) (subst (λ (c : List Literal). IsWithinVariables vars c) (sym k.0) p.within)
 
   pub entry_of_parts : (by : ℕ) (b d rest : List ℕ) (ls clause : List Literal) (numbers hints : List ℕ) → StatesNumber (2 ^ 32 - 1) bytes by b → StatesLiterals b ls d
-      → StatesHints d numbers rest → (clause ≡ ls) × IsClause ls × IsWithin vars ls → hints ≡ numbers
+      → StatesHints d numbers rest → (clause ≡ ls) × IsClause ls × IsWithinVariables vars ls → hints ≡ numbers
       → StatesEntry vars bytes (record { by = by; clause = clause; hints = hints }) rest
   entry_of_parts by b d rest ls clause numbers hints worker literals hinted is same =
       let e : Entry = record { by = by; clause = ls; hints = numbers } in

@@ -14,7 +14,7 @@ use Rattle.refutation_log.specs.declared.entries.Entry.{Entry}
 use Rattle.refutation_log.specs.declared.entries.Derivation.{Derivation}
 use Rattle.refutation_log.specs.Entry.{clauses_of}
 use Rattle.refutation_log.specs.Log.{is_empty_clause, is_ended}
-use Rattle.refutation_log.specs.Turn.{place_of}
+use Rattle.refutation_log.specs.Turn.{clause_place}
 use Rattle.refutation_log.specs.State.{entry_of}
 
 -- the map's keys are the clauses of the entries
@@ -36,12 +36,12 @@ is_none_of (Some x) h = absurd (true≢false h)
 
 -- a clause that isn't in the log goes last in the map
 pub insert_entry-unknown : {S : Type 0} (m : IndexMap (List Literal) Derivation S) (k : List Literal) (v : Derivation)
-    → place_of k (map entry_of m.entries) ≡ None → insert_entry clause_eq m.entries k v ≡ m.entries ++ (k, v) ∷ []
+    → clause_place k (map entry_of m.entries) ≡ None → insert_entry clause_eq m.entries k v ≡ m.entries ++ (k, v) ∷ []
 insert_entry-unknown m k v h =
     let none : position (clause_eq k) (map (λ e. e.0) m.entries) ≡ None = ap (position (clause_eq k)) (keys_are_clauses m.entries) ∙ h in
     insert_entry-new clause_eq m k v (is_none_of (get clause_eq m k) (sym (some_index (clause_eq k) m.entries) ∙ ap is_some none))
 
-pub entries_after_insert : {S : Type 0} (m : IndexMap (List Literal) Derivation S) (e : Entry) → place_of e.clause (map entry_of m.entries) ≡ None
+pub entries_after_insert : {S : Type 0} (m : IndexMap (List Literal) Derivation S) (e : Entry) → clause_place e.clause (map entry_of m.entries) ≡ None
     → map entry_of (insert_entry clause_eq m.entries e.clause (record { by = e.by; hints = e.hints })) ≡ map entry_of m.entries ++ e ∷ []
 entries_after_insert m e h =
     let v : Derivation = record { by = e.by; hints = e.hints } in

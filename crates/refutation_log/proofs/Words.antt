@@ -7,7 +7,7 @@ use Rattle.std.proofs.lemmas.List.Elements.{All-head, All-tail, All-cons, All-ni
 use Rattle.names_and_numbers.specs.Numerals.{digit_run, decimal_value, NoDigitNext}
 use Rattle.names_and_numbers.proofs.NumeralLemmas.{digit_run-append, decimal_is_numeral, numeral_is_decimal}
 use Rattle.propositional_logic.specs.Literal.{Literal}
-use Rattle.propositional_logic.specs.Clause.{IsClause, IsRisingFrom, IsWithin}
+use Rattle.propositional_logic.specs.Clause.{IsClause, IsRisingFrom, IsWithinVariables}
 use Rattle.refutation_log.specs.declared.entries.Entry.{Entry}
 use Rattle.refutation_log.specs.Text.{literal_word, hint_word}
 use Rattle.refutation_log.specs.Read.{StatesEntry, StatesNumber, IsLiteral, StatesLiterals, IsHint, StatesHints}
@@ -142,9 +142,9 @@ pub record Parts (vars : ℕ) (bytes : List ℕ) (e : Entry) (rest : List ℕ) :
   pub literals : StatesLiterals after_worker e.clause after_literals
   pub hinted : StatesHints after_literals e.hints rest
   pub sorted : IsClause e.clause
-  pub within : IsWithin vars e.clause
+  pub within : IsWithinVariables vars e.clause
 
-literals_of_clause : (n : ℕ) (ls : List Literal) → IsRisingFrom n ls → IsWithin (2 ^ 30) ls → All IsLiteral ls
+literals_of_clause : (n : ℕ) (ls : List Literal) → IsRisingFrom n ls → IsWithinVariables (2 ^ 30) ls → All IsLiteral ls
 literals_of_clause n [] h small = All-nil IsLiteral
 literals_of_clause n (l ∷ ls) h small =
     let lt = h.0 in

@@ -1,6 +1,6 @@
 use Rattle.std.specs.Prelude.{◌≡◌, ℕ, ◌+◌, ◌^◌, ◌<◌, ◌≤◌, Bool, true, false, List, [], ◌∷◌, ◌++◌, Option, Some, None, slice_get, All, Contains, length}
 use Rattle.propositional_logic.specs.Literal.{Literal}
-use Rattle.propositional_logic.specs.Clause.{IsWithin}
+use Rattle.propositional_logic.specs.Clause.{IsWithinVariables}
 use Rattle.propositional_logic.specs.Truth.{is_true_clause, meets}
 use Rattle.refutation_log.specs.declared.entries.Entry.{Entry}
 use Rattle.refutation_log.specs.declared.turns.Turn.{Turn}
@@ -8,7 +8,7 @@ use Rattle.refutation_log.specs.Entry.{clauses_of, AreSorted}
 use Rattle.refutation_log.specs.Follows.{Follows, clause_named}
 use Rattle.refutation_log.specs.Log.{IsLegal, IsClosed, IsFull, is_ended}
 use Rattle.refutation_log.specs.Teaches.{Teaches, IsTaught, entries_by}
-use Rattle.refutation_log.specs.Turn.{run_of, IsSoundRun, place_of, is_at_limit}
+use Rattle.refutation_log.specs.Turn.{run_of, IsSoundRun, clause_place, is_at_limit}
 use Rattle.refutation_log.specs.Text.{log_text, IsWritable}
 use Rattle.refutation_log.specs.Read.{IsReadAs, IsBadLine, IsTooShort}
 
@@ -56,8 +56,8 @@ pub record WrittenIsRead : Type 0 where
 -- A log grows by one entry: a legal one stays legal where the clause is new and follows, and the log is neither ended nor at its
 -- limit; a taught one stays taught where the entry teaches over the base clauses and the entries of its worker.
 pub record LogsGrow : Type 0 where
-  pub legal : (vars : ℕ) (base : List (List Literal)) (limit : Option ℕ) (log : List Entry) (e : Entry) → IsLegal vars base limit log → IsWithin vars e.clause
-      → Follows (base ++ clauses_of log) e.clause e.hints → place_of e.clause log ≡ None → is_ended log ≡ false → is_at_limit limit log ≡ false
+  pub legal : (vars : ℕ) (base : List (List Literal)) (limit : Option ℕ) (log : List Entry) (e : Entry) → IsLegal vars base limit log → IsWithinVariables vars e.clause
+      → Follows (base ++ clauses_of log) e.clause e.hints → clause_place e.clause log ≡ None → is_ended log ≡ false → is_at_limit limit log ≡ false
       → IsLegal vars base limit (log ++ e ∷ [])
   pub taught : (base : List (List Literal)) (log : List Entry) (e : Entry) → IsTaught base log → Teaches (base ++ clauses_of (entries_by e.by log)) e.clause
       → IsTaught base (log ++ e ∷ [])

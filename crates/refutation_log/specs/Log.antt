@@ -1,6 +1,6 @@
 use Rattle.std.specs.Prelude.{◌≡◌, ◌≢◌, ℕ, ◌≤◌, ⊤, Bool, true, false, List, [], ◌∷◌, ◌++◌, Option, Some, All, AllPairs, MatchOption, length, take, slice_get}
 use Rattle.propositional_logic.specs.Literal.{Literal}
-use Rattle.propositional_logic.specs.Clause.{IsWithin}
+use Rattle.propositional_logic.specs.Clause.{IsWithinVariables}
 use Rattle.refutation_log.specs.declared.entries.Entry.{Entry}
 use Rattle.refutation_log.specs.Entry.{clauses_of}
 use Rattle.refutation_log.specs.Follows.{Follows}
@@ -23,7 +23,7 @@ IsWithinLimit limit log = MatchOption limit ⊤ (λ most. length log ≤ most)
 -- A log is legal over the base clauses, whose variables are 1 to vars (clausal proofs with hints; the limit is this project's own).
 pub record IsLegal (vars : ℕ) (base : List (List Literal)) (limit : Option ℕ) (log : List Entry) : Type 0 where
   -- no variable passes vars
-  pub within : All (λ e. IsWithin vars e.clause) log
+  pub within : All (λ e. IsWithinVariables vars e.clause) log
   -- each entry follows from the base clauses and the entries before it
   pub follows : (i : ℕ) (e : Entry) → slice_get log i ≡ Some e → Follows (base ++ clauses_of (take i log)) e.clause e.hints
   -- the clauses are different

@@ -1,7 +1,7 @@
 use Rattle.std.specs.Prelude.{◌≡◌, ℕ, ◌^◌, ◌<◌, List, [], ◌∷◌, ◌++◌, if◌then◌else◌, decimal, All}
 use Rattle.std.specs.List.{flat_map}
 use Rattle.propositional_logic.specs.Literal.{Literal}
-use Rattle.propositional_logic.specs.Clause.{IsClause, IsWithin}
+use Rattle.propositional_logic.specs.Clause.{IsClause, IsWithinVariables}
 use Rattle.refutation_log.specs.declared.entries.Entry.{Entry}
 
 -- A literal in an entry line: `-` for not, its variable's number, a space (as in DIMACS).
@@ -26,6 +26,6 @@ log_text entries = flat_map entry_line entries
 pub record IsWritable (vars : ℕ) (e : Entry) : Type 0 where
   pub worker : e.by < 2 ^ 32
   pub clause : IsClause e.clause
-  pub within : IsWithin vars e.clause
-  pub small : IsWithin (2 ^ 30) e.clause
+  pub within : IsWithinVariables vars e.clause
+  pub small : IsWithinVariables (2 ^ 30) e.clause
   pub hints : All (λ h. (0 < h) × (h < 2 ^ 64)) e.hints

@@ -1,7 +1,7 @@
 use Rattle.std.specs.Prelude.{ℕ, ⊤, Bool, false, nat_le, if◌then◌else◌, List, [], ◌∷◌, ◌++◌, Option, Some, None, position, length, take}
 use Rattle.std.specs.Option.{option_map_or}
 use Rattle.propositional_logic.specs.Literal.{Literal}
-use Rattle.propositional_logic.specs.Clause.{clause_eq, IsWithin}
+use Rattle.propositional_logic.specs.Clause.{clause_eq, IsWithinVariables}
 use Rattle.refutation_log.specs.declared.entries.Entry.{Entry}
 use Rattle.refutation_log.specs.declared.turns.Turn.{Turn}
 use Rattle.refutation_log.specs.declared.turns.Turn.TheVariants.{Append, Read}
@@ -12,8 +12,8 @@ use Rattle.refutation_log.specs.Follows.{Follows}
 use Rattle.refutation_log.specs.Log.{is_ended}
 
 -- The place of an equal clause in the log, from 0 (this project's own).
-abbrev pub place_of : List Literal → List Entry → Option ℕ
-place_of clause log = position (clause_eq clause) (clauses_of log)
+abbrev pub clause_place : List Literal → List Entry → Option ℕ
+clause_place clause log = position (clause_eq clause) (clauses_of log)
 
 -- Whether there is a limit, and so many entries stand (this project's own).
 abbrev pub is_at_limit : Option ℕ → List Entry → Bool
@@ -26,7 +26,7 @@ reply_to_new log limit = if is_ended log then Closed else if is_at_limit limit l
 
 -- The reply to an entry with this clause (this project's own).
 abbrev pub reply_to : List Entry → Option ℕ → List Literal → Reply
-reply_to log limit clause = option_map_or (λ place. Known place) (place_of clause log) (reply_to_new log limit)
+reply_to log limit clause = option_map_or (λ place. Known place) (clause_place clause log) (reply_to_new log limit)
 
 -- The reply to a turn (this project's own).
 abbrev pub reply_of : List Entry → Option ℕ → Turn → Reply
@@ -55,7 +55,7 @@ run_of log limit (turn ∷ turns) = run_of (log_after log limit turn) limit turn
 -- entries of the log. Every read is sound (this project's own).
 abbrev pub IsSoundTurn : ℕ → List (List Literal) → List Entry → Turn → Type 0
 IsSoundTurn vars base log Read = ⊤
-IsSoundTurn vars base log (Append e) = IsWithin vars e.clause × ((n : ℕ) × Follows (base ++ clauses_of (take n log)) e.clause e.hints)
+IsSoundTurn vars base log (Append e) = IsWithinVariables vars e.clause × ((n : ℕ) × Follows (base ++ clauses_of (take n log)) e.clause e.hints)
 
 -- Each turn of a run is sound at its turn (this project's own).
 abbrev pub IsSoundRun : ℕ → List (List Literal) → Option ℕ → List Entry → List Turn → Type 0

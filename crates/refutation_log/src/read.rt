@@ -1,7 +1,7 @@
 ghost use Rattle.std.specs.Bool.{OnTrue};
 ghost use Rattle.std.specs.Prelude.{if◌then◌else◌, [], ◌∷◌, ◌≢◌, nat_lt, nat_eq, slice_index, length, ◌&&◌, ◌≡◌, ◌++◌, ◌-◌, ◌^◌, ℕ, List, All, IfOk, IfSome, IfNone, IsErrOf, Err, ◌<◌};
 ghost use Rattle.refutation_log.specs.declared.read.LogTextFault.TheVariants.{BadLine, WrongCount, NoMemory};
-ghost use Rattle.propositional_logic.specs.Clause.{IsClause, IsWithin};
+ghost use Rattle.propositional_logic.specs.Clause.{IsClause, IsWithinVariables};
 ghost use Rattle.refutation_log.specs.Read.{StatesEntry, IsReadAs, IsBadLine, IsTooShort, IsReadBy, StatesNumber, StatesLiteral, StatesLiterals, StatesHint, StatesHints};
 
 use crate::{Entry, Hints, SharedClause};
@@ -98,8 +98,8 @@ fn take_entry<'a>(
 
 /// The clause with exactly these literals in this order, if there is one.
 fn clause_as_written(alloc: Global, vars: u32, lits: &[Lit]) -> Result<Option<Clause>, AllocError>
-    ensures some { IfOk result (λ found. IfSome found (λ clause. (clause ≡ lits.now) × IsClause lits.now × IsWithin vars lits.now)) }
-    ensures none { IfOk result (λ found. IfNone found (IsClause lits.now → IsWithin vars lits.now → ⊥)) }
+    ensures some { IfOk result (λ found. IfSome found (λ clause. (clause ≡ lits.now) × IsClause lits.now × IsWithinVariables vars lits.now)) }
+    ensures none { IfOk result (λ found. IfNone found (IsClause lits.now → IsWithinVariables vars lits.now → ⊥)) }
 {
     let clause = match Clause::new(alloc, vars, lits) {
         Ok(clause) => clause,

@@ -4,7 +4,7 @@ ghost use Rattle.propositional_logic.specs.Clause.{IsClause};
 ghost use Rattle.refutation_log.specs.declared.turns.Turn.TheVariants.{Append};
 ghost use Rattle.refutation_log.specs.Entry.{AreSorted};
 ghost use Rattle.refutation_log.specs.Log.{is_ended};
-ghost use Rattle.refutation_log.specs.Turn.{is_at_limit, place_of as place_in, reply_to as reply_for, reply_of, log_after};
+ghost use Rattle.refutation_log.specs.Turn.{is_at_limit, clause_place as place_in, reply_to as reply_for, reply_of, log_after};
 ghost use Rattle.refutation_log.specs.Shown.{shown};
 ghost use Rattle.refutation_log.specs.State.{Log, entry_of, HasRoomFor, IsReserved, KeepsLog, KeepsSpare};
 

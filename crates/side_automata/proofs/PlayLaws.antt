@@ -6,7 +6,7 @@ use Rattle.letters_and_lassos.specs.declared.kinds.Side.TheVariants.{System, Env
 use Rattle.letters_and_lassos.specs.Word.{Word, after, nth_letter, no_signals}
 use Rattle.letters_and_lassos.proofs.Positions.{after-suc}
 use Rattle.machine_model.specs.Machine.{MachineModel, IsMachine, next_of, size_of, writes_of}
-use Rattle.machine_model.specs.Run.{ArePartners, IsPlay, IsRunLasso, joined, read_part, written_part}
+use Rattle.machine_model.specs.Run.{ArePartners, IsPlay, IsRunLasso, joined_letter, read_part, written_part}
 use Rattle.machine_model.proofs.Readings.{read_part-joined, written_part-joined, joined-parts}
 use Rattle.machine_model.proofs.Determined.{step_within}
 use Rattle.machine_model.proofs.Courses.{push_agrees}
@@ -177,8 +177,8 @@ module _ (system environment : MachineModel) (is_system : IsMachine system) (is_
     pub letter-is : nth_letter w j ≡ round_letter system environment states
     letter-is =
         let number : (nth_letter w j).0 ≡ (round_letter system environment states).0 =
-        sym (joined-parts System system (nth_letter w j)) ∙ ap (λ r. joined System system r (written_part System system (nth_letter w j))) read-is
-        ∙ ap (joined System system (input_of system environment states)) written-is in
+        sym (joined-parts System system (nth_letter w j)) ∙ ap (λ r. joined_letter System system r (written_part System system (nth_letter w j))) read-is
+        ∙ ap (joined_letter System system (input_of system environment states)) written-is in
         ap (λ n. let l : Letter = record { 0 = n } in l) number
 
     stands_next : StandsAt system environment w s e (suc j)

@@ -5,7 +5,7 @@ use Rattle.ltl_formula.specs.declared.nodes.FormulaId.{FormulaId}
 use Rattle.ltl_formula.specs.declared.nodes.Node.{Node}
 use Rattle.ltl_formula.specs.Added.{Built}
 use Rattle.ltl_formula.specs.NormalForm.{IsNormal}
-use Rattle.ltl_formula.specs.Nodes.{Grows, Stands, tree_at}
+use Rattle.ltl_formula.specs.Nodes.{Grows, IsNodeIn, tree_at}
 use Rattle.ltl_formula.specs.Tree.{Tree}
 use Rattle.ltl_formula.specs.Truth.{holds}
 use Rattle.ltl_formula.proofs.Lists.{Grows-stands}
@@ -45,7 +45,7 @@ opposed b true e = (λ d. absurd (let x : true ≡ false = sym d ∙ e in cc), �
 opposed b false e = (λ d. refl, λ d. e)
 
 -- the negated form still stands in a list that has grown
-pub negated_form : (f : Tree) (between new : List Node) (id : FormulaId) → Grows between new → Stands between id → IsNormal (tree_at between id) → OpposesTruthOf f (tree_at between id) → IsFormWhere false f new id
+pub negated_form : (f : Tree) (between new : List Node) (id : FormulaId) → Grows between new → IsNodeIn between id → IsNormal (tree_at between id) → OpposesTruthOf f (tree_at between id) → IsFormWhere false f new id
 negated_form f between new id grows stands normal opposes =
     let same : tree_at new id ≡ tree_at between id = tree_at-grown between new id grows stands in
     record {
@@ -54,7 +54,7 @@ negated_form f between new id grows stands normal opposes =
       same = λ w ring. opposed (holds w (tree_at new id) 0) (holds w f 0) (ap (λ t. holds w t 0) same ∙ opposes.opposite w 0 ring (first_position w ring));
     }
 
-pub normal_form : (f g : Tree) (new : List Node) (id : FormulaId) → g ≡ f → Stands new id → IsNormal (tree_at new id) → HasTruthOf g (tree_at new id) → IsFormWhere true f new id
+pub normal_form : (f g : Tree) (new : List Node) (id : FormulaId) → g ≡ f → IsNodeIn new id → IsNormal (tree_at new id) → HasTruthOf g (tree_at new id) → IsFormWhere true f new id
 normal_form f g new id is stands normal keeps = record {
   stands = stands;
   normal = normal;

@@ -5,7 +5,7 @@ use Rattle.ltl_formula.specs.declared.nodes.FormulaId.{FormulaId}
 use Rattle.ltl_formula.specs.declared.nodes.Node.{Node}
 use Rattle.ltl_formula.specs.Added.{Built}
 use Rattle.ltl_formula.specs.NormalForm.{IsNormal}
-use Rattle.ltl_formula.specs.Nodes.{Stands, tree_at}
+use Rattle.ltl_formula.specs.Nodes.{IsNodeIn, tree_at}
 use Rattle.ltl_formula.specs.Tree.{Tree}
 use Rattle.ltl_formula.specs.Truth.{holds}
 use Rattle.ltl_normal.specs.NormalNodes.{form_in, go_on}
@@ -27,7 +27,7 @@ pub record AreForms (f : Tree) (old new : List Node) (negated normal : FormulaId
 
 -- the id stands for a formula in normal form that is true on the lassos on which f has this truth
 pub record IsFormWhere (truth : Bool) (f : Tree) (ns : List Node) (id : FormulaId) : Type 0 where
-  pub stands : Stands ns id
+  pub stands : IsNodeIn ns id
   pub normal : IsNormal (tree_at ns id)
   pub same : (w : Word) → HasRing w → IsTrue (holds w (tree_at ns id) 0) ↔ (holds w f 0 ≡ truth)
 

@@ -1,7 +1,7 @@
 ghost use Rattle.std.specs.Prelude.{◌≡◌, ◌≤◌, Err, IfOk, IfSome, OnOk, None, false, true};
 ghost use Rattle.ltl_formula.specs.NormalForm.{IsNormal};
 ghost use Rattle.ltl_formula.specs.ListSignals.{KeepsSignals};
-ghost use Rattle.ltl_formula.specs.Nodes.{Grows, IsNodeList, Stands, tree_at};
+ghost use Rattle.ltl_formula.specs.Nodes.{Grows, IsNodeList, IsNodeIn, tree_at};
 ghost use Rattle.cobuchi_build.specs.Built.{AcceptsExactly};
 ghost use Rattle.cobuchi_build.specs.Limits.{NamesSignalsOf};
 ghost use Rattle.side_automata.specs.BothForms.{AreForms, IsFormWhere, both_forms, fault_of};
@@ -33,7 +33,7 @@ pub fn problems(
     formulas: &mut Formulas,
     whole: FormulaId,
 ) -> Result<Automata, BuildFault>
-    requires { Stands formulas.old whole }
+    requires { IsNodeIn formulas.old whole }
     ensures automata { IfOk result (AreAutomataOf (tree_at formulas.old whole) formulas.old formulas.new) }
     ensures system { IfOk result (λ a. AcceptsWhere false (tree_at formulas.old whole) a.system) }
     ensures environment { IfOk result (λ a. IfSome a.environment (AcceptsWhere true (tree_at formulas.old whole))) }
@@ -68,7 +68,7 @@ struct FormIds {
 
 /// Both forms, the negated one first.
 fn both_forms(formulas: &mut Formulas, whole: FormulaId) -> Result<FormIds, BuildFault>
-    requires { Stands formulas.old whole }
+    requires { IsNodeIn formulas.old whole }
     ensures made { IfOk result (λ ids. AreForms (tree_at formulas.old whole) formulas.old formulas.new ids.negated ids.normal) }
     ensures negated { IfOk result (λ ids. IsFormWhere false (tree_at formulas.old whole) formulas.new ids.negated) }
     ensures normal { IfOk result (λ ids. IsFormWhere true (tree_at formulas.old whole) formulas.new ids.normal) }
@@ -105,7 +105,7 @@ fn build_within(
     formulas: &Formulas,
     f: FormulaId,
 ) -> Result<Option<Automaton>, BuildFault>
-    requires stands { Stands formulas.now f }
+    requires stands { IsNodeIn formulas.now f }
     requires normal { IsNormal (tree_at formulas.now f) }
     ensures within { IfOk result (IsWithinLimits formulas.now f) }
     ensures accepts { IfOk result (λ a. IfSome a (AcceptsExactly formulas.now f)) }

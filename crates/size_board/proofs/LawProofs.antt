@@ -5,10 +5,10 @@ use Rattle.size_board.specs.Names.{Named, IsSearchable, SideHas, sizes_of, sough
 use Rattle.machine_model.specs.Problem.{IsProblem, sized}
 use Rattle.machine_model.specs.declared.problems.Problem.{Problem}
 use Rattle.std.specs.Option.{option_map_or}
-use Rattle.size_board.specs.Board.{BoardModel, IsSound, high_of, machine_of}
+use Rattle.size_board.specs.Board.{BoardModel, IsSoundBoard, high_of, machine_of}
 use Rattle.size_board.specs.Laws.{BoundsAreTrue, HasHigh, SoughtIsProblem, SoughtOfProblem}
 
-has_high : (names : Named) (b : BoardModel) (side : Side) (o : Option MachineModel) → machine_of b side ≡ o → IsSound names b → high_of names b side ≤ sizes_of names side → HasHigh names b side
+has_high : (names : Named) (b : BoardModel) (side : Side) (o : Option MachineModel) → machine_of b side ≡ o → IsSoundBoard names b → high_of names b side ≤ sizes_of names side → HasHigh names b side
 has_high names b side None is sound h =
     let e : high_of names b side ≡ sizes_of names side + 1 = ap (λ x. option_map_or size_of x (sizes_of names side + 1)) is in
     absurd (omega (arith, e, h))

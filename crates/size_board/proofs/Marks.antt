@@ -5,7 +5,7 @@ use Rattle.size_board.specs.declared.events.Claim.{Claim}
 use Rattle.size_board.specs.declared.events.SizeState.{SizeState}
 use Rattle.size_board.specs.declared.events.Event.{Event}
 use Rattle.size_board.specs.declared.events.Event.TheVariants.{Claimed, Left, Found, Refuted, Full}
-use Rattle.size_board.specs.States.{after_event, changed, is_at, place_of}
+use Rattle.size_board.specs.States.{after_event, changed, is_at, event_claim}
 use Rattle.size_board.proofs.Replays.{same_side-true, same_side-self}
 
 -- an event that refutes, or that finds
@@ -46,32 +46,32 @@ changed_stays s (Full at) is = is
 
 -- an event that is of this side and size
 pub record IsOf (e : Event) (side : Side) (n : ℕ) : Type 0 where
-  pub side_is : (place_of e).side ≡ side
-  pub size_is : (place_of e).size ≡ n
+  pub side_is : (event_claim e).side ≡ side
+  pub size_is : (event_claim e).size ≡ n
 
-is_of : (e : Event) (side : Side) (n : ℕ) → is_at (place_of e) side n ≡ true → IsOf e side n
+is_of : (e : Event) (side : Side) (n : ℕ) → is_at (event_claim e) side n ≡ true → IsOf e side n
 is_of e side n is =
     let parts = and_parts _ _ is in
-    record { side_is = same_side-true (place_of e).side side parts.0; size_is = eqb-true (place_of e).size n parts.1 }
+    record { side_is = same_side-true (event_claim e).side side parts.0; size_is = eqb-true (event_claim e).size n parts.1 }
 
 module _ (side : Side) (n : ℕ) (s : SizeState) (e : Event) where
   -- a size is marked by an event of its own alone
   pub refuted_by : (after_event side n s e).is_refuted ≡ true → (s.is_refuted ≡ true) ⊎ (Refutes e × IsOf e side n)
   refuted_by =
-      cond_both (is_at (place_of e) side n) (changed s e) s (λ x. x.is_refuted ≡ true → (s.is_refuted ≡ true) ⊎ (Refutes e × IsOf e side n))
+      cond_both (is_at (event_claim e) side n) (changed s e) s (λ x. x.is_refuted ≡ true → (s.is_refuted ≡ true) ⊎ (Refutes e × IsOf e side n))
       (λ here is. elim (changed_refuted s e is) [ inl old ↦ inl old | inr new ↦ inr (new, is_of e side n here) ])
       (λ away is. inl is)
 
   pub found_by : (after_event side n s e).is_found ≡ true → (s.is_found ≡ true) ⊎ (Finds e × IsOf e side n)
   found_by =
-      cond_both (is_at (place_of e) side n) (changed s e) s (λ x. x.is_found ≡ true → (s.is_found ≡ true) ⊎ (Finds e × IsOf e side n))
+      cond_both (is_at (event_claim e) side n) (changed s e) s (λ x. x.is_found ≡ true → (s.is_found ≡ true) ⊎ (Finds e × IsOf e side n))
       (λ here is. elim (changed_found s e is) [ inl old ↦ inl old | inr new ↦ inr (new, is_of e side n here) ])
       (λ away is. inl is)
 
   -- and stays so
   pub found_stays : s.is_found ≡ true → (after_event side n s e).is_found ≡ true
   found_stays is =
-      cond_both (is_at (place_of e) side n) (changed s e) s (λ x. x.is_found ≡ true) (λ here. changed_stays s e is) (λ away. is)
+      cond_both (is_at (event_claim e) side n) (changed s e) s (λ x. x.is_found ≡ true) (λ here. changed_stays s e is) (λ away. is)
 
 -- a size that is told as found is marked
 pub found_here : (side : Side) (n : ℕ) (s : SizeState) → (after_event side n s (Found (record { side = side; size = n }))).is_found ≡ true

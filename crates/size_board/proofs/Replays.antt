@@ -7,7 +7,7 @@ use Rattle.letters_and_lassos.specs.declared.kinds.Side.TheVariants.{System, Env
 use Rattle.size_board.specs.declared.events.SizeState.{SizeState}
 use Rattle.size_board.specs.declared.events.Event.{Event}
 use Rattle.size_board.specs.declared.events.Event.TheVariants.{Claimed, Left, Found, Refuted, Full}
-use Rattle.size_board.specs.States.{after_event, changed, fresh, is_at, place_of, replay}
+use Rattle.size_board.specs.States.{after_event, changed, fresh, is_at, event_claim, replay}
 
 -- one event more is replayed last
 pub replay-push : (journal : List Event) (e : Event) (side : Side) (n : ℕ) → replay (journal ++ e ∷ []) side n ≡ after_event side n (replay journal side n) e
@@ -34,7 +34,7 @@ changed_claims s (Full at) = omega arith
 
 after_claims : (side : Side) (n : ℕ) (s : SizeState) (e : Event) → (after_event side n s e).claims ≤ s.claims + 1
 after_claims side n s e =
-    elim (is_at (place_of e) side n) as (λ b. (cond b (changed s e) s).claims ≤ s.claims + 1) [ true ↦ changed_claims s e | false ↦ omega arith ]
+    elim (is_at (event_claim e) side n) as (λ b. (cond b (changed s e) s).claims ≤ s.claims + 1) [ true ↦ changed_claims s e | false ↦ omega arith ]
 
 fold_claims : (side : Side) (n : ℕ) (s : SizeState) (journal : List Event) → (fold (after_event side n) s journal).claims ≤ s.claims + length journal
 fold_claims side n s [] = omega arith

@@ -11,7 +11,7 @@ use Rattle.size_board.specs.declared.events.Event.{Event}
 use Rattle.size_board.specs.declared.events.Event.TheVariants.{Claimed, Left, Found, Refuted, Full}
 use Rattle.size_board.specs.Names.{Named, SideHas, sizes_of, sought_by}
 use Rattle.size_board.specs.States.{after_event, replay}
-use Rattle.size_board.specs.Board.{BoardModel, IsKeptBy, IsSound, high_of, machine_of, smaller, state_of, with_event, with_machine}
+use Rattle.size_board.specs.Board.{BoardModel, IsKeptBy, IsSoundBoard, high_of, machine_of, smaller, state_of, with_event, with_machine}
 use Rattle.size_board.specs.Kept.{Allows}
 use Rattle.size_board.proofs.Replays.{replay-push}
 use Rattle.size_board.proofs.Marks.{Refutes, Finds, IsOf, refuted_by, found_by, found_stays, found_here}
@@ -57,7 +57,7 @@ module _ (names : Named) (b : BoardModel) (e : Event) where
   found_after side n is = ap (λ (s : SizeState). s.is_found) (after_told side n) ∙ found_stays side n (state_of b side n) e is
 
   -- the board stays sound by an event that its machines allow
-  pub IsSound-told : IsSound names b → Allows names e → IsSound names (with_event b e)
+  pub IsSound-told : IsSoundBoard names b → Allows names e → IsSoundBoard names (with_event b e)
   IsSound-told sound allows = record {
     refuted = λ side n is m has. elim (refuted_before side n is) [
       | inl old ↦ sound.refuted side n old m has
@@ -135,7 +135,7 @@ module _ (names : Named) (b : BoardModel) (side : Side) (m : MachineModel) where
       ap (λ (s : SizeState). s.is_found) (state-found side (size_of m)) ∙ ap (λ (s : SizeState). s.is_found) (after_told names b (found_event side m) side (size_of m))
       ∙ found_here side (size_of m) (state_of b side (size_of m))
 
-  module _ (sound : IsSound names b) (accepted : SideHas (sought_by names side) (size_of m) m) (allowed : size_of m ≤ sizes_of names side) where
+  module _ (sound : IsSoundBoard names b) (accepted : SideHas (sought_by names side) (size_of m) m) (allowed : size_of m ≤ sizes_of names side) where
     kept_old : (t : Side) (k : MachineModel) → machine_of b t ≡ Some k → IsKeptBy names (with_machine b side m) t k
     kept_old t k is =
         let old : IsKeptBy names b t k = sound.kept t k is in
@@ -161,7 +161,7 @@ module _ (names : Named) (b : BoardModel) (side : Side) (m : MachineModel) where
       | others t ne e ↦ λ same. absurd (ne same)
     ] refl
 
-    pub IsSound-found : IsSound names (with_machine b side m)
+    pub IsSound-found : IsSoundBoard names (with_machine b side m)
     IsSound-found = record {
       refuted = λ t n is k has. sound.refuted t n (refuted_old t n is) k has;
       kept = λ t k is. kept_found t (keeps b side m t) k is;
@@ -178,19 +178,19 @@ module _ (names : Named) (b : BoardModel) (side : Side) (m : MachineModel) where
 
 -- what a board's machines and marks keep
 pub record Holds (names : Named) (b : BoardModel) : Type 0 where
-  pub sound : IsSound names b
+  pub sound : IsSoundBoard names b
   pub refuted_allowed : RefutedAllowed names b
 
 -- the same of the values that fields have after an event
 pub holds_told : (names : Named) (b : BoardModel) (e : Event) (journal : List Event) → journal ≡ b.journal ++ e ∷ [] → Allows names e
-    → IsSound names b → RefutedAllowed names b → Holds names (record { journal = journal; system = b.system; environment = b.environment })
+    → IsSoundBoard names b → RefutedAllowed names b → Holds names (record { journal = journal; system = b.system; environment = b.environment })
 holds_told names b e journal is allows sound allowed =
     subst (λ (j : List Event). Holds names (record { journal = j; system = b.system; environment = b.environment })) (sym is)
     (record { sound = IsSound-told names b e sound allows; refuted_allowed = RefutedAllowed-told names b e allowed allows })
 
 -- and after a machine is found
 pub holds_found : (names : Named) (b after : BoardModel) (side : Side) (m : MachineModel) → after ≡ with_machine b side m
-    → SideHas (sought_by names side) (size_of m) m → size_of m ≤ sizes_of names side → IsSound names b → RefutedAllowed names b → Holds names after
+    → SideHas (sought_by names side) (size_of m) m → size_of m ≤ sizes_of names side → IsSoundBoard names b → RefutedAllowed names b → Holds names after
 holds_found names b after side m is accepted allowed sound old =
     subst (λ x. Holds names x) (sym is) (record { sound = IsSound-found names b side m sound accepted allowed; refuted_allowed = RefutedAllowed-found names b side m old })
 

@@ -92,7 +92,7 @@ pub record IsKeptBy (names : Named) (b : BoardModel) (side : Side) (m : MachineM
 
 -- what a board keeps: no accepted machine has a size that is marked refuted, a kept machine is accepted, and none that
 -- was found is smaller
-pub record IsSound (names : Named) (b : BoardModel) : Type 0 where
+pub record IsSoundBoard (names : Named) (b : BoardModel) : Type 0 where
   pub refuted : (side : Side) (n : ℕ) → IsTrue (state_of b side n).is_refuted → (m : MachineModel) → SideHas (sought_by names side) n m → ⊥
   pub kept : (side : Side) (m : MachineModel) → machine_of b side ≡ Some m → IsKeptBy names b side m
   pub smallest : (side : Side) (n : ℕ) → IsTrue (state_of b side n).is_found → high_of names b side ≤ n

@@ -9,7 +9,7 @@ use Rattle.size_board.specs.declared.events.SizeState.{SizeState}
 use Rattle.size_board.specs.declared.events.Event.{Event}
 use Rattle.size_board.specs.Names.{Named, AreNamed, SideHas, sizes_of, sought_by}
 use Rattle.size_board.specs.States.{fresh, replay}
-use Rattle.size_board.specs.Board.{BoardModel, IsSound, is_open, state_of}
+use Rattle.size_board.specs.Board.{BoardModel, IsSoundBoard, is_open, state_of}
 
 -- the states of a side's first 8 sizes, that of size 1 first
 pub record AreStates (journal : List Event) (side : Side) (states : List SizeState) : Type 0 where
@@ -18,7 +18,7 @@ pub record AreStates (journal : List Event) (side : Side) (states : List SizeSta
 
 -- what a board's fields keep
 pub record AreKept (names : Named) (b : BoardModel) (system_states environment_states : List SizeState) (system : Problem) (environment : Option Problem) (system_sizes environment_sizes : ℕ) : Type 0 where
-  pub sound : IsSound names b
+  pub sound : IsSoundBoard names b
   pub of_system : AreStates b.journal System system_states
   pub of_environment : AreStates b.journal Environment environment_states
   pub named : AreNamed names system environment system_sizes environment_sizes

@@ -5,7 +5,7 @@ use Rattle.machine_model.specs.Accepts.{SideAccepts}
 use Rattle.machine_model.specs.Problem.{IsMachineOf, IsProblem, automaton_of, parts_of, sized}
 use Rattle.machine_model.specs.declared.problems.Problem.{Problem}
 use Rattle.size_board.specs.Names.{Named, IsSoughtMachine, IsSearchable, SideHas, sizes_of, sought_by, sought_of}
-use Rattle.size_board.specs.Board.{BoardModel, IsLow, IsSound, high_of, machine_of}
+use Rattle.size_board.specs.Board.{BoardModel, IsLow, IsSoundBoard, high_of, machine_of}
 
 -- a kept machine of `high` states, which its side accepts
 pub record HasHigh (names : Named) (b : BoardModel) (side : Side) : Type 0 where
@@ -22,7 +22,7 @@ pub record BoundsAreTrueOf (names : Named) (b : BoardModel) (side : Side) (low :
 
 -- the bounds of every sound board are true
 abbrev pub BoundsAreTrue : Type 0
-BoundsAreTrue = (names : Named) (b : BoardModel) (side : Side) (low : ℕ) → IsSound names b → IsLow b side low → BoundsAreTrueOf names b side low
+BoundsAreTrue = (names : Named) (b : BoardModel) (side : Side) (low : ℕ) → IsSoundBoard names b → IsLow b side low → BoundsAreTrueOf names b side low
 
 -- what a problem's side has of the problem's size are the machines of the problem that its side accepts
 abbrev pub SoughtOfProblem : Type 0

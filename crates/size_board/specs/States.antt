@@ -10,12 +10,12 @@ use Rattle.size_board.specs.declared.events.Event.TheVariants.{Claimed, Left, Fo
 -- The state of a size is the replay of the journal's events in their order (this project's own).
 
 -- the size that an event concerns
-abbrev pub place_of : Event → Claim
-place_of (Claimed worker at) = at
-place_of (Left at) = at
-place_of (Found at) = at
-place_of (Refuted at) = at
-place_of (Full at) = at
+abbrev pub event_claim : Event → Claim
+event_claim (Claimed worker at) = at
+event_claim (Left at) = at
+event_claim (Found at) = at
+event_claim (Refuted at) = at
+event_claim (Full at) = at
 
 -- a size before any event: no claims and no mark
 abbrev pub fresh : SizeState
@@ -35,7 +35,7 @@ is_at claim side size = side_ghosts.eq claim.side side && (claim.size == size)
 
 -- a size after any event
 abbrev pub after_event : Side → ℕ → SizeState → Event → SizeState
-after_event side size s e = if is_at (place_of e) side size then changed s e else s
+after_event side size s e = if is_at (event_claim e) side size then changed s e else s
 
 -- a size after the journal's events
 abbrev pub replay : List Event → Side → ℕ → SizeState

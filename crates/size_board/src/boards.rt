@@ -2,7 +2,7 @@ ghost use Rattle.std.specs.Prelude.{◌≡◌, ◌≢◌, ◌↔◌, ℕ, ◌+�
 ghost use Rattle.std.specs.Option.{option_map, option_copied, ForSome};
 ghost use Rattle.letters_and_lassos.specs.declared.kinds.Side.TheVariants.{System, Environment};
 ghost use Rattle.machine_model.specs.Machine.{size_of};
-ghost use Rattle.size_board.specs.States.{after_event, fresh, place_of, replay};
+ghost use Rattle.size_board.specs.States.{after_event, fresh, event_claim, replay};
 ghost use Rattle.size_board.specs.Kept.{AreStates};
 ghost use Rattle.size_board.specs.Board.{smaller};
 
@@ -46,7 +46,7 @@ impl<P: ProblemNames> Model for Board<P> {
 
 impl<P: ProblemNames> Board<P> {
     ghost use Rattle.size_board.specs.Names.{AreNamed, IsProblemAt, IsProblemOn, SideHas, sizes_of, sought_by, sought_of};
-    ghost use Rattle.size_board.specs.Board.{BoardModel, IsFirstOpenSize, IsLow, IsSound, empty_board, high_of, is_open, machine_of, state_of, with_event, with_machine};
+    ghost use Rattle.size_board.specs.Board.{BoardModel, IsFirstOpenSize, IsLow, IsSoundBoard, empty_board, high_of, is_open, machine_of, state_of, with_event, with_machine};
     ghost use Rattle.size_board.specs.Kept.{Allows, earlier};
     ghost use Rattle.machine_model.specs.Machine.{MachineModel};
     ghost use Rattle.size_board.specs.declared.events.Event.TheVariants.{Claimed, Left, Refuted, Full};
@@ -61,7 +61,7 @@ impl<P: ProblemNames> Board<P> {
     ) -> Result<Board<P>, AllocError>
         requires { AreNamed P.named system environment system_sizes environment_sizes }
         ensures empty { IfOk result (λ b. b ≡ empty_board) }
-        ensures sound { IfOk result (IsSound P.named) }
+        ensures sound { IfOk result (IsSoundBoard P.named) }
     {
         Ok(Board {
             system_problem: system,
@@ -83,7 +83,7 @@ impl<P: ProblemNames> Board<P> {
         ensures problem { IfSome result (λ p. IsProblemOn P.named side p.now) }
         ensures none { IfNone result (sizes_of P.named side ≡ 0) }
         ensures few { sizes_of P.named side ≤ 8 }
-        ensures sound { IsSound P.named self.now }
+        ensures sound { IsSoundBoard P.named self.now }
     {
         match side {
             Side::System => Some(&self.system_problem),
@@ -97,7 +97,7 @@ impl<P: ProblemNames> Board<P> {
         requires some { 0 < claim.size }
         requires allowed { claim.size ≤ sizes_of P.named claim.side }
         ensures problem { IfOk result (IsProblemAt P.named claim.side claim.size) }
-        ensures sound { IsSound P.named self.now }
+        ensures sound { IsSoundBoard P.named self.now }
     {
         let Some(problem) = self.problem(claim.side) else {
             unreachable!()
@@ -109,7 +109,7 @@ impl<P: ProblemNames> Board<P> {
     pub fn sizes(&self, side: Side) -> u32
         ensures value { result ≡ sizes_of P.named side }
         ensures few { result ≤ 8 }
-        ensures sound { IsSound P.named self.now }
+        ensures sound { IsSoundBoard P.named self.now }
     {
         match side {
             Side::System => self.system_sizes,
@@ -120,7 +120,7 @@ impl<P: ProblemNames> Board<P> {
     /// What happened so far.
     pub fn journal(&self) -> &[Event]
         ensures value { result.now ≡ self.now.journal }
-        ensures sound { IsSound P.named self.now }
+        ensures sound { IsSoundBoard P.named self.now }
     {
         &self.journal
     }
@@ -130,7 +130,7 @@ impl<P: ProblemNames> Board<P> {
         requires some { 0 < size }
         requires allowed { size ≤ sizes_of P.named side }
         ensures value { result ≡ state_of self.now side size }
-        ensures sound { IsSound P.named self.now }
+        ensures sound { IsSoundBoard P.named self.now }
     {
         self.states(side)[size as usize - 1]
     }
@@ -140,7 +140,7 @@ impl<P: ProblemNames> Board<P> {
         ensures states { AreStates self.now.journal side result.now }
         ensures refuted_allowed { (n : ℕ) → IsTrue (state_of self.now side n).is_refuted → n ≤ 8 }
         ensures few { sizes_of P.named side ≤ 8 }
-        ensures sound { IsSound P.named self.now }
+        ensures sound { IsSoundBoard P.named self.now }
     {
         match side {
             Side::System => &self.system_states,
@@ -153,7 +153,7 @@ impl<P: ProblemNames> Board<P> {
     pub fn bounds(&self, side: Side) -> (u32, u32)
         ensures low { IsLow self.now side result.0 }
         ensures high { result.1 ≡ high_of P.named self.now side }
-        ensures sound { IsSound P.named self.now }
+        ensures sound { IsSoundBoard P.named self.now }
     {
         let refuted = refuted_len(self.states(side)) as u32;
         (refuted + 1, self.high(side))
@@ -172,7 +172,7 @@ impl<P: ProblemNames> Board<P> {
     /// Whether a worker may claim the size.
     pub fn is_open(&self, side: Side, size: u32) -> bool
         ensures value { result ≡ is_open P.named self.now side size }
-        ensures sound { IsSound P.named self.now }
+        ensures sound { IsSoundBoard P.named self.now }
     {
         if size > self.sizes(side) || size == 0 {
             return false;
@@ -189,7 +189,7 @@ impl<P: ProblemNames> Board<P> {
     pub fn found(&self, side: Side) -> Option<&Machine>
         ensures value { option_copied result ≡ machine_of self.now side }
         ensures smallest { IfSome result (λ m. size_of m.now ≡ high_of P.named self.now side) }
-        ensures sound { IsSound P.named self.now }
+        ensures sound { IsSoundBoard P.named self.now }
     {
         match side {
             Side::System => self.system_machine.as_ref(),
@@ -201,7 +201,7 @@ impl<P: ProblemNames> Board<P> {
     pub fn into_found(self, side: Side) -> Option<Machine>
         ensures value { result ≡ machine_of self side }
         ensures smallest { IfSome result (λ m. size_of m ≡ high_of P.named self side) }
-        ensures sound { IsSound P.named self }
+        ensures sound { IsSoundBoard P.named self }
     {
         match side {
             Side::System => self.system_machine,
@@ -218,7 +218,7 @@ impl<P: ProblemNames> Board<P> {
         ensures allowed { IfOk result (λ given. IfSome given (λ c. (0 < c.size) × (c.size ≤ sizes_of P.named c.side))) }
         ensures event { IfOk result (λ given. IfSome given (λ c. self.new ≡ with_event self.old (Claimed worker c))) }
         ensures err { OnErr result (self.new ≡ self.old) }
-        ensures sound { IsSound P.named self.new }
+        ensures sound { IsSoundBoard P.named self.new }
     {
         let Some(given) = self.first_open() else {
             return Ok(None);
@@ -234,7 +234,7 @@ impl<P: ProblemNames> Board<P> {
         requires allowed { size_of machine ≤ sizes_of P.named side }
         ensures ok { OnOk result (self.new ≡ with_machine self.old side machine) }
         ensures err { OnErr result (self.new ≡ self.old) }
-        ensures sound { IsSound P.named self.new }
+        ensures sound { IsSoundBoard P.named self.new }
     {
         let size = machine.size();
         record(
@@ -257,7 +257,7 @@ impl<P: ProblemNames> Board<P> {
         requires none { (m : MachineModel) → SideHas (sought_by P.named side) size m → ⊥ }
         ensures ok { OnOk result (self.new ≡ with_event self.old (Refuted (record { side = side; size = size }))) }
         ensures err { OnErr result (self.new ≡ self.old) }
-        ensures sound { IsSound P.named self.new }
+        ensures sound { IsSoundBoard P.named self.new }
     {
         self.tell(Event::Refuted(Claim { side, size }))
     }
@@ -268,7 +268,7 @@ impl<P: ProblemNames> Board<P> {
         requires allowed { size ≤ sizes_of P.named side }
         ensures ok { OnOk result (self.new ≡ with_event self.old (Full (record { side = side; size = size }))) }
         ensures err { OnErr result (self.new ≡ self.old) }
-        ensures sound { IsSound P.named self.new }
+        ensures sound { IsSoundBoard P.named self.new }
     {
         self.tell(Event::Full(Claim { side, size }))
     }
@@ -277,7 +277,7 @@ impl<P: ProblemNames> Board<P> {
     pub fn leave(&mut self, claim: Claim) -> Result<(), AllocError>
         ensures ok { OnOk result (self.new ≡ with_event self.old (Left claim)) }
         ensures err { OnErr result (self.new ≡ self.old) }
-        ensures sound { IsSound P.named self.new }
+        ensures sound { IsSoundBoard P.named self.new }
     {
         self.tell(Event::Left(claim))
     }
@@ -287,7 +287,7 @@ impl<P: ProblemNames> Board<P> {
         requires { Allows P.named event }
         ensures ok { OnOk result (self.new ≡ with_event self.old event) }
         ensures err { OnErr result (self.new ≡ self.old) }
-        ensures sound { IsSound P.named self.new }
+        ensures sound { IsSoundBoard P.named self.new }
     {
         record(
             &mut self.journal,
@@ -302,7 +302,7 @@ impl<P: ProblemNames> Board<P> {
     fn first_open(&self) -> Option<Claim>
         ensures none { IfNone result ((side : Side) (size : ℕ) → IsTrue (is_open P.named self.now side size) → ⊥) }
         ensures first { IfSome result (IsFirstOpenSize P.named self.now) }
-        ensures sound { IsSound P.named self.now }
+        ensures sound { IsSoundBoard P.named self.now }
     {
         let most = self.system_sizes.max(self.environment_sizes);
         let mut first = None;

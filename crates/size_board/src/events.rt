@@ -1,5 +1,5 @@
 ghost use Rattle.std.specs.Prelude.{◌≡◌, ℕ, ◌+◌, ◌^◌, ◌<◌};
-ghost use Rattle.size_board.specs.States.{after_event, changed, is_at, place_of};
+ghost use Rattle.size_board.specs.States.{after_event, changed, is_at, event_claim};
 
 use letters_and_lassos::Side;
 
@@ -38,7 +38,7 @@ pub struct SizeState {
 impl Event {
     /// The size that it concerns.
     fn place(self) -> Claim
-        ensures { result ≡ place_of self }
+        ensures { result ≡ event_claim self }
     {
         match self {
             Event::Claimed(_, at) => at,

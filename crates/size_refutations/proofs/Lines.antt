@@ -15,7 +15,7 @@ use Rattle.solved_text.specs.Parts.{SizeLog}
 use Rattle.size_refutations.specs.FirstBad.{FailsOver, LogFails, other_letters, over_problem}
 use Rattle.size_refutations.specs.Ground.{HasNoAutomaton, IsSizeOf, LogGround}
 use Rattle.size_refutations.specs.Heads.{are_few, are_letters, is_list, is_number_of_states, letters_named}
-use Rattle.size_refutations.specs.Parts.{IsKept, IsSearched, IsSearchOf, IsSizedAs}
+use Rattle.size_refutations.specs.Parts.{IsKeptProblem, IsSearched, IsSearchOf, IsSizedAs}
 use Rattle.size_refutations.specs.Sizes.{AreClausesAt, AreClausesOver, IsCountOf, clause_count, may_be_counted, no_clauses, its_clauses}
 use Rattle.size_refutations.specs.Sizes as sizes
 use Rattle.size_refutations.proofs.HeadLemmas.{few_letters, listed}
@@ -117,5 +117,5 @@ module _ (g : LogGround) (s : Problem) (n : ℕ) (p : Problem) (is : IsSearchOf 
 
 -- ---- a ground that has no automaton
 
-pub has_none : (g h : LogGround) (kept : Option Problem) → g ≡ h → IsKept g kept → kept ≡ None → HasNoAutomaton h
+pub has_none : (g h : LogGround) (kept : Option Problem) → g ≡ h → IsKeptProblem g kept → kept ≡ None → HasNoAutomaton h
 has_none g h kept same is none = subst HasNoAutomaton same (subst (IsSearched g) none is.searched)

@@ -4,7 +4,7 @@ use Rattle.letters_and_lassos.specs.declared.kinds.Side.TheVariants.{System, Env
 use Rattle.letters_and_lassos.specs.Kinds.{other_kind}
 use Rattle.letters_and_lassos.specs.Word.{Word, HasRing}
 use Rattle.ltl_formula.specs.NormalForm.{IsNormal}
-use Rattle.ltl_formula.specs.Nodes.{IsNodeList, Stands, tree_at}
+use Rattle.ltl_formula.specs.Nodes.{IsNodeList, IsNodeIn, tree_at}
 use Rattle.ltl_formula.specs.Truth.{holds}
 use Rattle.satisfaction.specs.Satisfaction.{EachCanLose, NoneSatisfies}
 use Rattle.satisfaction.specs.Wanted.{Wanted}
@@ -21,7 +21,7 @@ pub record LogsAreDetermined : Type 0 where
 -- the ground's form stands in its list in normal form, and its signals are those of what is wanted, at most 16 of each
 pub record IsGroundFor (g : LogGround) (x : Wanted) : Type 0 where
   pub list : IsNodeList g.nodes
-  pub stands : Stands g.nodes g.form
+  pub stands : IsNodeIn g.nodes g.form
   pub normal : IsNormal (tree_at g.nodes g.form)
   pub inputs : g.inputs ≡ length x.inputs
   pub outputs : g.outputs ≡ length x.outputs

@@ -1,7 +1,7 @@
 -- What the parts of the code are given (this project's own).
 use Rattle.std.specs.Prelude.{◌≡◌, ℕ, ◌+◌, ◌<◌, ◌≤◌, ◌^◌, Option, Some, None, length, if◌then◌else◌}
 use Rattle.ltl_formula.specs.NormalForm.{IsNormal}
-use Rattle.ltl_formula.specs.Nodes.{Stands, tree_at}
+use Rattle.ltl_formula.specs.Nodes.{IsNodeIn, tree_at}
 use Rattle.machine_model.specs.Automaton.{AutomatonModel, states_of}
 use Rattle.machine_model.specs.Problem.{automaton_of, parts_of, sized}
 use Rattle.machine_model.specs.declared.problems.Problem.{Problem}
@@ -18,7 +18,7 @@ ground_of s = record { nodes = s.formulas.now; form = s.form; side = s.side; kin
 
 -- the form stands in the list in normal form, and there are few signals
 pub record IsSought (g : LogGround) : Type 0 where
-  pub stands : Stands g.nodes g.form
+  pub stands : IsNodeIn g.nodes g.form
   pub normal : IsNormal (tree_at g.nodes g.form)
   pub few_inputs : g.inputs ≤ 16
   pub few_outputs : g.outputs ≤ 16
@@ -45,7 +45,7 @@ IsSearched g None = HasNoAutomaton g
 IsSearched g (Some s) = IsSearchOf g s
 
 -- what is kept of a ground, whose signals are few
-pub record IsKept (g : LogGround) (kept : Option Problem) : Type 0 where
+pub record IsKeptProblem (g : LogGround) (kept : Option Problem) : Type 0 where
   pub few_inputs : g.inputs ≤ 16
   pub few_outputs : g.outputs ≤ 16
   pub searched : IsSearched g kept

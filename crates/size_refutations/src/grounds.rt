@@ -49,13 +49,13 @@ pub struct Ground<'a> {
 
 impl<'a> Model for Ground<'a> {
     ghost use Rattle.size_refutations.specs.Ground.{LogGround};
-    ghost use Rattle.size_refutations.specs.Parts.{IsKept, ground_of};
+    ghost use Rattle.size_refutations.specs.Parts.{IsKeptProblem, ground_of};
 
     ghost Value = { LogGround };
 
     ghost view = { λ g. ground_of g.sought };
 
-    ghost invariant = { λ g. IsKept (ground_of g.sought) g.search };
+    ghost invariant = { λ g. IsKeptProblem (ground_of g.sought) g.search };
 }
 
 impl<'a> Ground<'a> {

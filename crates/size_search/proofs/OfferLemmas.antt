@@ -18,7 +18,7 @@ use Rattle.refutation_log.specs.declared.turns.Reply.TheVariants.{Known, Closed,
 use Rattle.refutation_log.specs.Entry.{clauses_of}
 use Rattle.refutation_log.specs.Log.{is_empty_clause, is_ended, IsLegal}
 use Rattle.refutation_log.specs.Teaches.{IsQuietBut, Teaches, entries_by}
-use Rattle.refutation_log.specs.Turn.{place_of, is_at_limit, reply_to_new, reply_of, log_after, log_replied}
+use Rattle.refutation_log.specs.Turn.{clause_place, is_at_limit, reply_to_new, reply_of, log_after, log_replied}
 use Rattle.refutation_log.proofs.StateLemmas.{is_ended-last, is_empty_clause-length}
 use Rattle.refutation_log.proofs.LegalLemmas.{get_or-clauses}
 use Rattle.names_and_numbers.specs.Prefix.{IsPrefix}
@@ -28,7 +28,7 @@ use Rattle.clause_solver.proofs.NewLemmas.{teaching_clauses_are_new}
 
 pub record IsKnownAt (log : List Entry) (e : Entry) (new : List Entry) (reply : Reply) : Type 0 where
   pub place : ℕ
-  pub known : place_of e.clause log ≡ Some place
+  pub known : clause_place e.clause log ≡ Some place
   pub same : new ≡ log
   pub says : reply ≡ Known place
 
@@ -51,7 +51,7 @@ abbrev Offer : Option ℕ → List Entry → Entry → List Entry → Reply → 
 Offer limit log e new reply = IsKnownAt log e new reply ⊎ (IsPastEnd log new reply ⊎ (IsPastLimit limit log new reply ⊎ IsTaken log e new reply))
 
 offer : (limit : Option ℕ) (log : List Entry) (e : Entry) (new : List Entry) (reply : Reply) → reply ≡ reply_of log limit (Append e) → new ≡ log_after log limit (Append e) → Offer limit log e new reply
-offer limit log e new reply r n = by (place_of e.clause log) refl r n
+offer limit log e new reply r n = by (clause_place e.clause log) refl r n
   where
     taken : (a b : Bool) → is_ended log ≡ a → is_at_limit limit log ≡ b → reply ≡ cond a Closed (cond b Full (At (length log)))
         → new ≡ log_replied log e (cond a Closed (cond b Full (At (length log)))) → Offer limit log e new reply
@@ -59,7 +59,7 @@ offer limit log e new reply r n = by (place_of e.clause log) refl r n
     taken false true p q s t = inr (inr (inl record { open' = p; limited = q; same = t; says = s }))
     taken false false p q s t = inr (inr (inr record { longer = t; says = s }))
 
-    by : (o : Option ℕ) → place_of e.clause log ≡ o → reply ≡ option_map_or (λ place. Known place) o (reply_to_new log limit)
+    by : (o : Option ℕ) → clause_place e.clause log ≡ o → reply ≡ option_map_or (λ place. Known place) o (reply_to_new log limit)
         → new ≡ log_replied log e (option_map_or (λ place. Known place) o (reply_to_new log limit)) → Offer limit log e new reply
     by (Some p) u s t = inl record { place = p; known = u; same = t; says = s }
     by None u s t = taken (is_ended log) (is_at_limit limit log) refl refl s t
@@ -80,7 +80,7 @@ pub record IsThere (log : List Entry) (clause : List Literal) (place : ℕ) : Ty
   pub within : place < length log
   pub same : get_or (clauses_of log) place [] ≡ clause
 
-there : (log : List Entry) (clause : List Literal) (place : ℕ) → place_of clause log ≡ Some place → IsThere log clause place
+there : (log : List Entry) (clause : List Literal) (place : ℕ) → clause_place clause log ≡ Some place → IsThere log clause place
 there log clause place h =
     let k = position-Some (clause_eq clause) (clauses_of log) place [] h in
     let n : length (clauses_of log) ≡ length log = length-map log (λ (x : Entry). x.clause) in

@@ -21,19 +21,19 @@ use Rattle.refutation_log.proofs.StateLemmas.{is_ended-last}
 use Rattle.clause_exchange.specs.declared.views.Terms.{Terms}
 use Rattle.names_and_numbers.specs.Prefix.{IsPrefix}
 use Rattle.clause_exchange.specs.SharedLog.{IsAfterTurn, IsLogOn, PassView, SharedLog}
-use Rattle.size_search.specs.Task.{SizeTaskModel, IsKept}
+use Rattle.size_search.specs.Task.{SizeTaskModel, IsKeptTask}
 use Rattle.size_search.specs.Decided.{IsAcceptedOf, IsClosedOn}
 use Rattle.size_search.specs.SizeLog.{HoldsEnded}
 
 -- no machine of the problem is accepted
-pub none_accepted : (t : SizeTaskModel) (formula : Cnf) (log : List Entry) → IsKept t formula → IsClosedOn t.exchange.terms log → (m : MachineModel) → IsAcceptedOf t.problem m → ⊥
+pub none_accepted : (t : SizeTaskModel) (formula : Cnf) (log : List Entry) → IsKeptTask t formula → IsClosedOn t.exchange.terms log → (m : MachineModel) → IsAcceptedOf t.problem m → ⊥
 none_accepted t formula log k closed m a =
     let by = k.met (record { machine = m; made = a.machine; looked_for = a.looked_for; accepted = a.accepted }) in
     let terms = t.exchange.terms in
     true≢false (sym by.met ∙ ap (meets by.values) k.clauses ∙ closed_refutes by.values terms.vars terms.base terms.limit log closed)
 
 -- where the log that was read ends with the empty clause, the size is refuted
-pub refuted : (t : SizeTaskModel) (formula : Cnf) (p q : PassView) → IsKept t formula → IsAfterTurn p q → p.exchange ≡ t.exchange → is_ended q.seen ≡ true
+pub refuted : (t : SizeTaskModel) (formula : Cnf) (p q : PassView) → IsKeptTask t formula → IsAfterTurn p q → p.exchange ≡ t.exchange → is_ended q.seen ≡ true
     → IsClosedOn t.exchange.terms q.seen × ((m : MachineModel) → IsAcceptedOf t.problem m → ⊥)
 refuted t formula p q k turn same ended =
     let closed : IsClosedOn t.exchange.terms q.seen = subst (λ (x : SharedLog). IsClosedOn x.terms q.seen) same record { legal = turn.log.legal; refutes = ended } in
@@ -91,7 +91,7 @@ terms_with p base limit seats = record { vars = variables_of p; base = base; lim
 -- a task of a formula that was just made
 pub opens : (p : Problem) (x : SharedLog) (cnf formula shared : Cnf) (limit : Option ℕ) (seats : ℕ) → IsProblem p → IsAutomaton (automaton_of p) → cnf.vars ≡ variables_of p → cnf.clauses.items ≡ base_clauses p
     → IsFormula cnf.vars cnf.clauses.items → (HasAccepted p → IsMetBySome cnf.vars cnf.clauses.items) → formula ≡ cnf → shared ≡ formula
-    → x.terms ≡ record { vars = shared.vars; base = shared.clauses.items; limit = limit; seats = seats } → IsKept (record { problem = p; exchange = x }) formula
+    → x.terms ≡ record { vars = shared.vars; base = shared.clauses.items; limit = limit; seats = seats } → IsKeptTask (record { problem = p; exchange = x }) formula
 opens p x cnf formula shared limit seats problem automaton vars clauses is met same other terms =
     let v : x.terms.vars ≡ formula.vars = ap (λ (t : Terms). t.vars) terms ∙ ap (λ (f : Cnf). f.vars) other in
     let b : x.terms.base ≡ formula.clauses.items = ap (λ (t : Terms). t.base) terms ∙ ap (λ (f : Cnf). f.clauses.items) other in

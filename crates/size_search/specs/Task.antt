@@ -27,7 +27,7 @@ pub record IsTask (t : SizeTaskModel) : Type 0 where
   pub terms : t.exchange.terms ≡ terms_of t.problem t.exchange.terms.limit t.exchange.terms.seats
 
 -- What a task keeps of itself and of the formula that it hands to workers, which is that of its problem.
-pub record IsKept (t : SizeTaskModel) (formula : Cnf) : Type 0 where
+pub record IsKeptTask (t : SizeTaskModel) (formula : Cnf) : Type 0 where
   pub task : IsTask t
   pub vars : formula.vars ≡ t.exchange.terms.vars
   pub clauses : formula.clauses.items ≡ t.exchange.terms.base

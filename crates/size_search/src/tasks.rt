@@ -41,13 +41,13 @@ pub struct SizeTask {
 
 impl Model for SizeTask {
     ghost use Rattle.std.specs.Arc.{arc_value};
-    ghost use Rattle.size_search.specs.Task.{SizeTaskModel, IsKept};
+    ghost use Rattle.size_search.specs.Task.{SizeTaskModel, IsKeptTask};
 
     ghost Value = { SizeTaskModel };
 
     ghost view = { λ t. record { problem = t.problem; exchange = t.exchange } };
 
-    ghost invariant = { λ t. IsKept (record { problem = t.problem; exchange = t.exchange }) (arc_value t.base) };
+    ghost invariant = { λ t. IsKeptTask (record { problem = t.problem; exchange = t.exchange }) (arc_value t.base) };
 }
 
 /// A task with its seats, whose numbers are their places.

@@ -1,6 +1,6 @@
 //! A circuit of a side that wins, with its annotation. Nothing is said of what is found: it is tested.
 ghost use Rattle.std.specs.Prelude.{◌≡◌};
-ghost use Rattle.ltl_formula.specs.Nodes.{Stands, tree_at};
+ghost use Rattle.ltl_formula.specs.Nodes.{IsNodeIn, tree_at};
 ghost use Rattle.ltl_formula.specs.NormalForm.{IsNormal};
 ghost use Rattle.solve_answer.specs.Parts.{CanBePlayed, form_for};
 
@@ -152,7 +152,7 @@ fn automaton(
     formulas: &Formulas,
     form: FormulaId,
 ) -> Result<Option<Automaton>, AllocError>
-    requires stands { Stands formulas.now form }
+    requires stands { IsNodeIn formulas.now form }
     requires normal { IsNormal (tree_at formulas.now form) }
 {
     match build(

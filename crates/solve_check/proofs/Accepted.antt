@@ -25,7 +25,7 @@ use Rattle.solve_check.specs.Checked.{IsAcceptedAs}
 use Rattle.solve_check.specs.Given.{form_for, kind_for}
 use Rattle.solve_check.specs.Holds.{HasCircuit, HasWhatIsSaid, HoldsSolved}
 use Rattle.solve_check.specs.Line.{acceptance_of}
-use Rattle.solve_check.specs.Parts.{AreLaws, IsSound}
+use Rattle.solve_check.specs.Parts.{AreLaws, IsSoundCircuit}
 use Rattle.solve_check.specs.SizeLogs.{ground_for}
 use Rattle.solve_check.proofs.LogSizes.{HasLog, log_of_size}
 use Rattle.solve_check.proofs.Meaning.{defeats, satisfies}
@@ -36,10 +36,10 @@ kinds_are Mealy Moore e = absurd (cc)
 kinds_are Moore Mealy e = absurd (cc)
 kinds_are Moore Moore e = refl
 
-module _ (laws : AreLaws) (text : List ℕ) (given : Option Kind) (t : SolveText) (is : IsSolveText text given t) (d : Document) (sound : IfSome d.circuit IsSound) where
+module _ (laws : AreLaws) (text : List ℕ) (given : Option Kind) (t : SolveText) (is : IsSolveText text given t) (d : Document) (sound : IfSome d.circuit IsSoundCircuit) where
   module _ (side : Side) (n : ℕ) (has : HasCircuit t side n d) (form : IsFormOf side t.formulas is.wanted (form_for t side)) where
-    sound_here : IsSound has.circuit
-    sound_here = subst (λ (o : Option Circuit). IfSome o IsSound) has.circuit_is sound
+    sound_here : IsSoundCircuit has.circuit
+    sound_here = subst (λ (o : Option Circuit). IfSome o IsSoundCircuit) has.circuit_is sound
 
     of_kind : IsCircuitOfKind (kind_for t side) has.circuit
     of_kind = sound_here.kind side (kind_for t side) has.annotation.named.automaton has.annotation.named.list.pairs has.annotation.valid

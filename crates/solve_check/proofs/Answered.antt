@@ -15,7 +15,7 @@ use Rattle.solve_check.specs.declared.acceptance.Acceptance.{Acceptance}
 use Rattle.solve_check.specs.Checked.{HoldsAs, IsAcceptedAs}
 use Rattle.solve_check.specs.FirstBad.{Annotated, IsFirstBadSolved, LinesFail, annotated_in, circuit_line, of_line, of_pairs}
 use Rattle.solve_check.specs.Line.{acceptance_of}
-use Rattle.solve_check.specs.Parts.{AreLaws, IsClaimed, IsShown, IsSound, TellsOf}
+use Rattle.solve_check.specs.Parts.{AreLaws, IsClaimed, IsShown, IsSoundCircuit, TellsOf}
 use Rattle.solve_check.proofs.Accepted.{accepted_as}
 use Rattle.solve_check.proofs.Held.{IsDocumentOf, document_is, holds}
 use Rattle.circuit_names.proofs.Fitting.{earliest_none}
@@ -63,10 +63,10 @@ module _ (t : SolveText) (bytes : List ℕ) (lines : SolvedLines) (reads : Reads
     }
 
   -- and what it says is true of what the text wants
-  pub means : AreLaws → LinesFail t bytes lines None → IsClaimed t bytes lines None → (a : Acceptance) → TellsOf t lines a → IfSome (circuit_in lines.circuit) IsSound
+  pub means : AreLaws → LinesFail t bytes lines None → IsClaimed t bytes lines None → (a : Acceptance) → TellsOf t lines a → IfSome (circuit_in lines.circuit) IsSoundCircuit
       → (text : List ℕ) (given : Option Kind) → IsSolveText text given t → IsAcceptedAs text given bytes a
   means laws none claimed a tells sound text given is =
       let s : IsStated bytes lines = stated laws.documents laws.logs none claimed a tells in
       let d : IsDocumentOf bytes lines s.document = is_document laws.documents laws.logs none claimed a tells in
-      let its : IfSome s.document.circuit IsSound = subst (λ (o : Option Circuit). IfSome o IsSound) d.circuit sound in
+      let its : IfSome s.document.circuit IsSoundCircuit = subst (λ (o : Option Circuit). IfSome o IsSoundCircuit) d.circuit sound in
       accepted_as laws text given t is s.document its bytes a s.states (holds laws.logs t bytes lines s.document d none s.states claimed) (told_of t bytes lines s.document a d tells)

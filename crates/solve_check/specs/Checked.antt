@@ -2,7 +2,7 @@
 use Rattle.std.specs.Prelude.{◌≡◌, ◌≤◌, ⊤, ℕ, List, Option, length}
 use Rattle.letters_and_lassos.specs.declared.kinds.Kind.{Kind}
 use Rattle.ltl_formula.specs.NormalForm.{IsNormal}
-use Rattle.ltl_formula.specs.Nodes.{Stands, tree_at}
+use Rattle.ltl_formula.specs.Nodes.{IsNodeIn, tree_at}
 use Rattle.solve_ground.specs.declared.texts.SolveText.{SolveText}
 use Rattle.solved_text.specs.Parts.{Document}
 use Rattle.solved_text.specs.States.{States}
@@ -21,8 +21,8 @@ pub record AreNormal (t : SolveText) : Type 0 where
 
 -- both forms of a text's whole stand in its list in normal form, and its signals are few
 pub record IsReady (t : SolveText) : Type 0 where
-  pub negated : Stands t.formulas t.negated
-  pub normal : Stands t.formulas t.normal
+  pub negated : IsNodeIn t.formulas t.negated
+  pub normal : IsNodeIn t.formulas t.normal
   pub forms : AreNormal t
   pub few_inputs : length t.inputs.items ≤ 16
   pub few_outputs : length t.outputs.items ≤ 16

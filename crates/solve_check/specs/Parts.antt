@@ -9,7 +9,7 @@ use Rattle.annot_check.specs.declared.faults.AnnotFault.TheVariants.{NoMemory, B
 use Rattle.annot_check.specs.Laws.{ValidListsShowKind}
 use Rattle.annot_check.specs.Causes.{CanBeChecked}
 use Rattle.circuit_laws.specs.Laws.{LosingCircuitsDefeat, NoSmallCircuitDefeats, NoSmallCircuitSatisfies}
-use Rattle.ltl_formula.specs.Nodes.{Stands}
+use Rattle.ltl_formula.specs.Nodes.{IsNodeIn}
 use Rattle.named_annotation.specs.Laws.{IsValidNamed, ValidNamedListsShow}
 use Rattle.named_annotation.specs.NamedStates.{Named}
 use Rattle.size_refutations.specs.Laws.{HoldingLogsRefute, LogsAreDetermined}
@@ -39,8 +39,8 @@ annotated_seen a = record { file = a.file.now; side = a.side; place = a.place }
 
 -- both forms of a text's whole stand in its list, and its signals are few: so an annotation over either can be read
 pub record IsReadable (t : SolveText) : Type 0 where
-  pub negated : Stands t.formulas t.negated
-  pub normal : Stands t.formulas t.normal
+  pub negated : IsNodeIn t.formulas t.negated
+  pub normal : IsNodeIn t.formulas t.normal
   pub few_inputs : length t.inputs.items ≤ 16
   pub few_outputs : length t.outputs.items ≤ 16
 
@@ -71,12 +71,12 @@ pub record IsTested (t : SolveText) (bytes : List ℕ) (lines : SolvedLines) (te
   pub reading : tested.first ≡ None → IsReadingOf t bytes lines tested.reading
 
 -- an output or a pair that a cause names is there
-abbrev pub IsWithin : bad.Annotated → Named → AnnotFault → Type 0
-IsWithin a named NoMemory = ⊤
-IsWithin a named (BadLine n) = ⊥
-IsWithin a named NoStart = ⊤
-IsWithin a named (NotMoore o) = o < length a.file.circuit.outputs
-IsWithin a named (Broken j) = j < length named.list.pairs
+abbrev pub IsFaultWithinDocument : bad.Annotated → Named → AnnotFault → Type 0
+IsFaultWithinDocument a named NoMemory = ⊤
+IsFaultWithinDocument a named (BadLine n) = ⊥
+IsFaultWithinDocument a named NoStart = ⊤
+IsFaultWithinDocument a named (NotMoore o) = o < length a.file.circuit.outputs
+IsFaultWithinDocument a named (Broken j) = j < length named.list.pairs
 
 -- the annotation isn't valid, by a cause with this line
 pub record FailsAt (t : SolveText) (a : bad.Annotated) (named : Named) (n : ℕ) : Type 0 where
@@ -102,7 +102,7 @@ IsClaimed t bytes lines line = MatchOption (annotated_in lines) (line ≡ None) 
 -- == the circuit ==
 
 -- a circuit as its type keeps it: it has a run lasso on each lasso of input letters, and a valid list of pairs shows its kind
-pub record IsSound (c : Circuit) : Type 0 where
+pub record IsSoundCircuit (c : Circuit) : Type 0 where
   pub is_circuit : IsCircuit c
   pub runs : (side : Side) → RunsOnEveryInput side c
   pub kind : ValidListsShowKind c

@@ -3,7 +3,7 @@ ghost use Rattle.std.specs.Prelude.{◌≡◌, ◌≢◌, ◌+◌, ◌<◌, IfOk
 ghost use Rattle.annot_check.specs.declared.faults.AnnotFault.TheVariants.{NoMemory};
 ghost use Rattle.document_text.specs.Reading.{circuit_in};
 ghost use Rattle.solve_check.specs.FirstBad.{cause_line as line_of_cause, output_line as line_of_output};
-ghost use Rattle.solve_check.specs.Parts.{CanBeTested, IsClaimed, IsReadingOf, IsSound, IsToldOf, IsWithin, annotated_seen};
+ghost use Rattle.solve_check.specs.Parts.{CanBeTested, IsClaimed, IsReadingOf, IsSoundCircuit, IsToldOf, IsFaultWithinDocument, annotated_seen};
 
 use crate::annotated::{Annotated, Reading, annotated_in, circuit_is_kept};
 use crate::given::kind_for;
@@ -63,7 +63,7 @@ fn cause_line(
     named: &NamedAnnotation,
     fault: AnnotFault,
 ) -> Result<u64, AllocError>
-    requires within { IsWithin (annotated_seen annotated) named.now fault }
+    requires within { IsFaultWithinDocument (annotated_seen annotated) named.now fault }
     requires tested { CanBeTested (annotated_seen annotated) named.now }
     ensures line { IfOk result (λ line. line ≡ line_of_cause (annotated_seen annotated.entry) named.now fault) }
     ensures some { IfOk result (λ _. fault ≢ NoMemory) }
@@ -89,7 +89,7 @@ fn output_line(circuit: &Circuit, output: usize) -> u64
 
 /// What is known of a circuit that was read.
 pub(crate) fn circuit_is_sound(part: &CircuitPart)
-    ensures { IfSome (circuit_in part.now) IsSound }
+    ensures { IfSome (circuit_in part.now) IsSoundCircuit }
 {
     if let CircuitPart::Stated(file) = part {
         let circuit = &file.circuit;

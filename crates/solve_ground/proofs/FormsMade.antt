@@ -5,7 +5,7 @@ use Rattle.ltl_formula.specs.declared.nodes.FormulaId.{FormulaId}
 use Rattle.ltl_formula.specs.declared.nodes.Node.{Node}
 use Rattle.ltl_formula.specs.Added.{Built}
 use Rattle.ltl_formula.specs.NormalForm.{IsNormal}
-use Rattle.ltl_formula.specs.Nodes.{Grows, IsNodeList, Stands, tree_at}
+use Rattle.ltl_formula.specs.Nodes.{Grows, IsNodeList, IsNodeIn, tree_at}
 use Rattle.ltl_formula.specs.Tree.{Tree}
 use Rattle.ltl_formula.specs.Truth.{holds}
 use Rattle.ltl_formula.proofs.Lists.{Grows-stands}
@@ -22,7 +22,7 @@ with_normal negated built = and_made built (λ nodes normal. let forms : BothFor
 abbrev with_negated : ℕ → Tree → Built → Option BothForms
 with_negated most f built = and_made built (λ nodes negated. with_normal negated (form_in most true f nodes))
 
-module _ (most : ℕ) (old between : List Node) (whole negated : FormulaId) (grows : Grows old between) (stands : Stands old whole)
+module _ (most : ℕ) (old between : List Node) (whole negated : FormulaId) (grows : Grows old between) (stands : IsNodeIn old whole)
     (first : form_in most false (tree_at old whole) old ≡ record { nodes = between; made = Some negated }) where
   same_tree : tree_at between whole ≡ tree_at old whole
   same_tree = tree_at-grown old between whole grows stands
@@ -39,8 +39,8 @@ module _ (most : ℕ) (old between : List Node) (whole negated : FormulaId) (gro
     forms_made normal second = then_normal (record { nodes = new; made = Some normal }) second
 
     -- what both say of the formula, in the list after both
-    pub forms_say : (normal : FormulaId) → IsNodeList new → Grows between new → Stands between negated → IsNormal (tree_at between negated) → OpposesTruthOf (tree_at old whole) (tree_at between negated)
-        → Stands new normal → IsNormal (tree_at new normal) → HasTruthOf (tree_at between whole) (tree_at new normal)
+    pub forms_say : (normal : FormulaId) → IsNodeList new → Grows between new → IsNodeIn between negated → IsNormal (tree_at between negated) → OpposesTruthOf (tree_at old whole) (tree_at between negated)
+        → IsNodeIn new normal → IsNormal (tree_at new normal) → HasTruthOf (tree_at between whole) (tree_at new normal)
         → AreFormsOf (tree_at old whole) (record { nodes = new; negated = negated; normal = normal })
     forms_say normal list later negated_stands negated_normal opposes normal_stands normal_normal keeps =
         let same : tree_at new negated ≡ tree_at between negated = tree_at-grown between new negated later negated_stands in

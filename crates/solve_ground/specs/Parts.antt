@@ -2,7 +2,7 @@
 use Rattle.std.specs.Prelude.{◌≡◌, ℕ, not, Option, Some, None, length}
 use Rattle.letters_and_lassos.specs.Word.{Word, HasRing}
 use Rattle.ltl_formula.specs.NormalForm.{IsNormal}
-use Rattle.ltl_formula.specs.Nodes.{IsNodeList, Stands, tree_at}
+use Rattle.ltl_formula.specs.Nodes.{IsNodeList, IsNodeIn, tree_at}
 use Rattle.ltl_formula.specs.Tree.{Tree}
 use Rattle.ltl_formula.specs.Truth.{holds}
 use Rattle.kind_conversion.specs.declared.conversion.ConvertedList.{ConvertedList}
@@ -28,16 +28,16 @@ forms_made f = record { nodes = f.formulas; negated = f.negated; normal = f.norm
 -- both forms of a formula: the one is true on exactly the lassos on which it is false, the other where it is true
 pub record AreFormsOf (f : Tree) (forms : BothForms) : Type 0 where
   pub list : IsNodeList forms.nodes
-  pub negated_stands : Stands forms.nodes forms.negated
+  pub negated_stands : IsNodeIn forms.nodes forms.negated
   pub negated_normal : IsNormal (tree_at forms.nodes forms.negated)
   pub negated_says : (w : Word) → HasRing w → holds w (tree_at forms.nodes forms.negated) 0 ≡ not (holds w f 0)
-  pub normal_stands : Stands forms.nodes forms.normal
+  pub normal_stands : IsNodeIn forms.nodes forms.normal
   pub normal_normal : IsNormal (tree_at forms.nodes forms.normal)
   pub normal_says : (w : Word) → HasRing w → holds w (tree_at forms.nodes forms.normal) 0 ≡ holds w f 0
 
 -- the list that is taken says of a lasso what the formula as written says of the word that is spoken of
 pub record SaysTaken (shift : Option Shift) (inputs : ℕ) (f : Tree) (c : ConvertedList) : Type 0 where
-  pub stands : Stands c.formulas c.whole
+  pub stands : IsNodeIn c.formulas c.whole
   pub says : (w : Word) → HasRing w → holds w (tree_at c.formulas c.whole) 0 ≡ holds (spoken_word shift inputs w) f 0
 
 -- the fault of a list that has no room, or want of memory

@@ -7,7 +7,7 @@ use Rattle.letters_and_lassos.specs.Word.{Word, HasRing}
 use Rattle.ltl_formula.specs.declared.nodes.FormulaId.{FormulaId}
 use Rattle.ltl_formula.specs.declared.nodes.Node.{Node}
 use Rattle.ltl_formula.specs.NormalForm.{IsNormal}
-use Rattle.ltl_formula.specs.Nodes.{IsNodeList, Stands, tree_at}
+use Rattle.ltl_formula.specs.Nodes.{IsNodeList, IsNodeIn, tree_at}
 use Rattle.ltl_formula.specs.Truth.{holds}
 use Rattle.spec_faults.specs.declared.code.SpecCode.{SpecCode}
 use Rattle.spec_faults.specs.declared.code.SpecCode.TheVariants.{TooManyNodes}
@@ -33,7 +33,7 @@ loses_where Environment truth = truth
 
 -- a formula in normal form that is true on exactly the lassos on which the side loses
 pub record IsFormOf (side : Side) (nodes : List Node) (x : Wanted) (form : FormulaId) : Type 0 where
-  pub stands : Stands nodes form
+  pub stands : IsNodeIn nodes form
   pub normal : IsNormal (tree_at nodes form)
   pub says : (w : Word) → HasRing w → holds w (tree_at nodes form) 0 ≡ loses_where side (x.means w)
 

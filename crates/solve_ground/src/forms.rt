@@ -1,7 +1,7 @@
 //! Both forms of a text's whole.
 ghost use Rattle.std.specs.Prelude.{◌≡◌, ℕ, Err, IfOk, None, Some, length};
 ghost use Rattle.kind_conversion.specs.Laws.{IsConversion};
-ghost use Rattle.ltl_formula.specs.Nodes.{IsNodeList, Stands, tree_at};
+ghost use Rattle.ltl_formula.specs.Nodes.{IsNodeList, IsNodeIn, tree_at};
 ghost use Rattle.ltl_formula.specs.NormalForm.{IsNormal};
 ghost use Rattle.solve_ground.specs.Forms.{BothForms, forms_of as forms_in_list};
 ghost use Rattle.solve_ground.specs.Parts.{AreFormsOf, forms_made};
@@ -20,7 +20,7 @@ pub(crate) struct Forms {
 
 /// Both forms of a formula, made in its list, the negated one first.
 pub(crate) fn forms_of(formulas: Formulas, whole: FormulaId) -> Result<Forms, AddFault>
-    requires { Stands formulas whole }
+    requires { IsNodeIn formulas whole }
     ensures made { IfOk result (λ f. forms_in_list LARGE_LIMITS.nodes formulas whole ≡ Some (forms_made f)) }
     ensures say { IfOk result (λ f. AreFormsOf (tree_at formulas whole) (forms_made f)) }
     ensures none { result ≡ Err AddFault.TooManyNodes → forms_in_list LARGE_LIMITS.nodes formulas whole ≡ None }

@@ -1,6 +1,6 @@
 //! A text from its bytes.
 ghost use Rattle.std.specs.Prelude.{◌≡◌, ◌≤◌, ℕ, Err, IfOk, None, Some, length};
-ghost use Rattle.ltl_formula.specs.Nodes.{Stands, tree_at};
+ghost use Rattle.ltl_formula.specs.Nodes.{IsNodeIn, tree_at};
 ghost use Rattle.spec_faults.specs.declared.code.SpecCode.{SpecCode as Code};
 ghost use Rattle.spec_faults.specs.declared.code.SpecFault.TheVariants.{At};
 ghost use Rattle.text_limits.specs.declared.TheConstants.{LARGE_LIMITS};
@@ -58,7 +58,7 @@ fn with_forms(
     shift: Option<Shift>,
     semantics: Option<Kind>,
 ) -> Result<SolveText, SpecFault>
-    requires stands { Stands spec.formulas spec.whole }
+    requires stands { IsNodeIn spec.formulas spec.whole }
     requires few { length spec.inputs.items ≤ 16 }
     ensures made { IfOk result (IsWithForms spec shift semantics) }
     ensures none { (code : Code) (place : ℕ) → result ≡ Err (At code place) → HasNoForms spec shift code place }
@@ -92,7 +92,7 @@ fn taken_list(
     shift: Option<Shift>,
     inputs: usize,
 ) -> Result<ConvertedList, SpecFault>
-    requires stands { Stands formulas whole }
+    requires stands { IsNodeIn formulas whole }
     requires few { inputs ≤ 16 }
     ensures taken { IfOk result (λ c. list_taken LARGE_LIMITS.nodes shift inputs formulas whole ≡ Some c) }
     ensures says { IfOk result (SaysTaken shift inputs (tree_at formulas whole)) }
@@ -112,7 +112,7 @@ fn converted_list(
     shift: Shift,
     inputs: u32,
 ) -> Result<ConvertedList, SpecFault>
-    requires { Stands formulas.now whole }
+    requires { IsNodeIn formulas.now whole }
     ensures taken { IfOk result (λ c. list_taken LARGE_LIMITS.nodes (Some shift) inputs formulas.now whole ≡ Some c) }
     ensures says { IfOk result (SaysTaken (Some shift) inputs (tree_at formulas.now whole)) }
     ensures none { (code : Code) (place : ℕ) → result ≡ Err (At code place) → IsFull code place (list_taken LARGE_LIMITS.nodes (Some shift) inputs formulas.now whole) }
@@ -135,7 +135,7 @@ fn refusal_of(refused: AddFault) -> SpecFault
 
 /// Both forms of a list's whole.
 fn forms_or_fault(list: ConvertedList) -> Result<Forms, SpecFault>
-    requires { Stands list.formulas list.whole }
+    requires { IsNodeIn list.formulas list.whole }
     ensures made { IfOk result (λ f. forms_in_list LARGE_LIMITS.nodes list.formulas list.whole ≡ Some (forms_made f)) }
     ensures say { IfOk result (λ f. AreFormsOf (tree_at list.formulas list.whole) (forms_made f)) }
     ensures none { (code : Code) (place : ℕ) → result ≡ Err (At code place) → IsFull code place (forms_in_list LARGE_LIMITS.nodes list.formulas list.whole) }

@@ -3,27 +3,27 @@ use Rattle.std.specs.Prelude.{ℕ, List, codes}
 use Rattle.spec_faults.specs.declared.code.SpecCode.{SpecCode}
 use Rattle.spec_faults.specs.declared.code.SpecCode.TheVariants as code
 
-abbrev pub number_of : SpecCode → ℕ
-number_of code.TooLong = 1
-number_of code.BadByte = 2
-number_of code.Unexpected = 3
-number_of code.Unclosed = 4
-number_of code.Missing = 5
-number_of code.Twice = 6
-number_of code.UnknownName = 7
-number_of code.WrongSort = 8
-number_of code.IndexOut = 9
-number_of code.ZeroDivisor = 10
-number_of code.NumberRange = 11
-number_of code.NoGuard = 12
-number_of code.TooDeep = 13
-number_of code.TooManyNodes = 14
-number_of code.TooManySignals = 15
-number_of code.TargetDiffers = 16
-number_of code.Unsupported = 17
-number_of code.AutomatonTooLarge = 18
-number_of code.ExpandTooLong = 19
-number_of code.TooManyGuarantees = 20
+abbrev pub code_number : SpecCode → ℕ
+code_number code.TooLong = 1
+code_number code.BadByte = 2
+code_number code.Unexpected = 3
+code_number code.Unclosed = 4
+code_number code.Missing = 5
+code_number code.Twice = 6
+code_number code.UnknownName = 7
+code_number code.WrongSort = 8
+code_number code.IndexOut = 9
+code_number code.ZeroDivisor = 10
+code_number code.NumberRange = 11
+code_number code.NoGuard = 12
+code_number code.TooDeep = 13
+code_number code.TooManyNodes = 14
+code_number code.TooManySignals = 15
+code_number code.TargetDiffers = 16
+code_number code.Unsupported = 17
+code_number code.AutomatonTooLarge = 18
+code_number code.ExpandTooLong = 19
+code_number code.TooManyGuarantees = 20
 
 abbrev pub name_of : SpecCode → List ℕ
 name_of code.TooLong = codes "TooLong"

@@ -1,7 +1,7 @@
 //! The numbered refusals of a text.
 
 ghost use Rattle.std.specs.Prelude.{◌≡◌};
-ghost use Rattle.spec_faults.specs.Codes.{number_of, name_of};
+ghost use Rattle.spec_faults.specs.Codes.{code_number, name_of};
 
 use std::alloc::{AllocError, AllocFailed};
 use thiserror::Error;
@@ -34,7 +34,7 @@ pub enum SpecCode {
 impl SpecCode {
     /// The number that a refusal is printed with, 1 to 20.
     pub fn number(self) -> u8
-        ensures { result ≡ number_of self }
+        ensures { result ≡ code_number self }
     {
         self as u8
     }

@@ -3,7 +3,7 @@
 ghost use Rattle.std.specs.Prelude.{◌≡◌, ℕ, ◌≤◌, Err, IfOk, IfSome, OnOk};
 ghost use Rattle.text_limits.specs.declared.TheConstants.{SMALL_LIMITS};
 ghost use Rattle.ltl_formula.specs.ListSignals.{KeepsSignals};
-ghost use Rattle.ltl_formula.specs.Nodes.{Grows, IsNodeList, Stands, tree_at};
+ghost use Rattle.ltl_formula.specs.Nodes.{Grows, IsNodeList, IsNodeIn, tree_at};
 ghost use Rattle.machine_model.specs.Automaton.{states_of};
 ghost use Rattle.spec_faults.specs.declared.code.SpecCode.{SpecCode as Code};
 ghost use Rattle.spec_faults.specs.declared.code.SpecFault.TheVariants.{At};
@@ -50,7 +50,7 @@ pub fn problems_of(
     whole: FormulaId,
     interface: Interface,
 ) -> Result<SideProblems, SpecFault>
-    requires stands { Stands formulas.old whole }
+    requires stands { IsNodeIn formulas.old whole }
     requires few { HasFewSignals SMALL_LIMITS interface.inputs interface.outputs formulas.old }
     ensures problems { IfOk result (AreProblemsIn interface (tree_at formulas.old whole) formulas.old formulas.new) }
     ensures meet { IfOk result AreProblems }

@@ -2,7 +2,7 @@
 
 ghost use Rattle.std.specs.Prelude.{IfOk};
 ghost use Rattle.flat_lines.specs.FlatLines.{CanBeWritten};
-ghost use Rattle.ltl_formula.specs.Nodes.{Stands};
+ghost use Rattle.ltl_formula.specs.Nodes.{IsNodeIn};
 ghost use Rattle.tlsf_expand.specs.FlatText.{spec_seen};
 
 use crate::faults::TextFault;
@@ -25,7 +25,7 @@ pub(crate) fn flat_beside(
     beside: Option<&Shown>,
 ) -> Result<Spec, TextFault>
     ensures writable { IfOk result (λ spec. CanBeWritten (spec_seen spec)) }
-    ensures stands { IfOk result (λ spec. Stands spec.formulas spec.whole) }
+    ensures stands { IfOk result (λ spec. IsNodeIn spec.formulas spec.whole) }
 {
     if let Some(Shown::Solved(document)) = beside {
         return flat_of_kind(alloc, text, document.kind);
@@ -38,7 +38,7 @@ pub(crate) fn flat_beside(
 
 fn flat_of_kind(alloc: Global, text: &[u8], kind: Kind) -> Result<Spec, TextFault>
     ensures writable { IfOk result (λ spec. CanBeWritten (spec_seen spec)) }
-    ensures stands { IfOk result (λ spec. Stands spec.formulas spec.whole) }
+    ensures stands { IfOk result (λ spec. IsNodeIn spec.formulas spec.whole) }
 {
     expanded_can_be_written();
     match expand_text(alloc, text, Some(kind), LARGE_LIMITS) {

@@ -1,7 +1,7 @@
 //! What is written of a text.
 
 ghost use Rattle.flat_lines.specs.FlatLines.{CanBeWritten};
-ghost use Rattle.ltl_formula.specs.Nodes.{Stands};
+ghost use Rattle.ltl_formula.specs.Nodes.{IsNodeIn};
 ghost use Rattle.tlsf_expand.specs.FlatText.{spec_seen};
 
 use crate::faults::TextFault;
@@ -42,7 +42,7 @@ pub fn spec_text(alloc: Global, text: &[u8], form: Form) -> Result<SpecText, Tex
 
 fn written(alloc: Global, spec: &Spec, form: Form) -> Result<SpecText, TextFault>
     requires writable { CanBeWritten (spec_seen spec.now) }
-    requires stands { Stands spec.now.formulas spec.now.whole }
+    requires stands { IsNodeIn spec.now.formulas spec.now.whole }
 {
     let mut out = Text::new(alloc);
     let mut note = None;

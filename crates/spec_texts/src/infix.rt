@@ -3,7 +3,7 @@
 ghost use Rattle.std.specs.Prelude.{◌≡◌, length};
 ghost use Rattle.flat_lines.specs.FlatLines.{CanBeWritten};
 ghost use Rattle.ltl_formula.specs.ListSignals.{HasSignalsBelow};
-ghost use Rattle.ltl_formula.specs.Nodes.{Stands};
+ghost use Rattle.ltl_formula.specs.Nodes.{IsNodeIn};
 ghost use Rattle.tlsf_expand.specs.FlatText.{spec_seen};
 
 use crate::plain_names::{LTL_WORDS, plain_names};
@@ -24,7 +24,7 @@ const MOORE: &str = "# Moore: outputs may not be of the inputs of the same step\
 /// the lists of the signals.
 pub(crate) fn put_ltl(alloc: Global, spec: &Spec, out: &mut Text) -> Result<(), AllocError>
     requires writable { CanBeWritten (spec_seen spec.now) }
-    requires stands { Stands spec.now.formulas spec.now.whole }
+    requires stands { IsNodeIn spec.now.formulas spec.now.whole }
 {
     let names = all_names(alloc, spec)?;
     let plain = plain_names(alloc, &names, &LTL_WORDS)?;
@@ -73,7 +73,7 @@ pub(crate) fn put_whole(
     names: &[Name],
     out: &mut Text,
 ) -> Result<(), AllocError>
-    requires stands { Stands spec.now.formulas spec.now.whole }
+    requires stands { IsNodeIn spec.now.formulas spec.now.whole }
     requires named { HasSignalsBelow (length names.now) spec.now.formulas }
 {
     let _nodes = spec.formulas.len();

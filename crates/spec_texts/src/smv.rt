@@ -1,7 +1,7 @@
 //! The formula of a text in the syntax of SMV.
 
 ghost use Rattle.std.specs.Prelude.{◌≡◌};
-ghost use Rattle.ltl_formula.specs.Nodes.{Stands};
+ghost use Rattle.ltl_formula.specs.Nodes.{IsNodeIn};
 
 use ltl_formula::{FormulaId, Formulas, Node};
 use machine_table::Text;
@@ -10,7 +10,7 @@ use names_and_numbers::Name;
 /// Puts a formula, with these names for its signals.
 #[cycle(smv)]
 pub(crate) fn put_smv(formulas: &Formulas, f: FormulaId, names: &[Name], out: &mut Text)
-    requires { Stands formulas.now f }
+    requires { IsNodeIn formulas.now f }
 {
     // A formula can be exponentially longer than its list.
     if out.is_cut() {
@@ -42,7 +42,7 @@ fn put_signal(signal: u32, names: &[Name], out: &mut Text) {
 
 #[cycle(smv)]
 fn put_one(formulas: &Formulas, front: &str, f: FormulaId, names: &[Name], out: &mut Text)
-    requires { Stands formulas.now f }
+    requires { IsNodeIn formulas.now f }
 {
     out.put(front);
     put_smv(formulas, f, names, out);
@@ -58,8 +58,8 @@ fn put_two(
     names: &[Name],
     out: &mut Text,
 )
-    requires left { Stands formulas.now left }
-    requires right { Stands formulas.now right }
+    requires left { IsNodeIn formulas.now left }
+    requires right { IsNodeIn formulas.now right }
 {
     out.put("(");
     put_smv(formulas, left, names, out);
@@ -70,8 +70,8 @@ fn put_two(
 /// `a W b` is `b V (a | b)`, since SMV has no W.
 #[cycle(smv)]
 fn put_weak(formulas: &Formulas, left: FormulaId, right: FormulaId, names: &[Name], out: &mut Text)
-    requires left { Stands formulas.now left }
-    requires right { Stands formulas.now right }
+    requires left { IsNodeIn formulas.now left }
+    requires right { IsNodeIn formulas.now right }
 {
     out.put("(");
     put_smv(formulas, right, names, out);

@@ -1,6 +1,6 @@
 //! The signals of a module of SMV, and a text's formula over them.
 
-ghost use Rattle.ltl_formula.specs.Nodes.{Stands};
+ghost use Rattle.ltl_formula.specs.Nodes.{IsNodeIn};
 
 use crate::beside::{flat_beside, input_count, shift_beside};
 use crate::faults::TextFault;
@@ -97,7 +97,7 @@ fn atom_of(alloc: Global, name: &Name, is_shifted: bool) -> Result<Name, AllocEr
 }
 
 fn put_whole(spec: &Spec, names: &[Name], out: &mut Text)
-    requires { Stands spec.now.formulas spec.now.whole }
+    requires { IsNodeIn spec.now.formulas spec.now.whole }
 {
     put_smv(&spec.formulas, spec.whole, names, out);
 }

@@ -1,7 +1,7 @@
 //! Texts in basic TLSF.
 
 ghost use Rattle.flat_lines.specs.FlatLines.{CanBeWritten};
-ghost use Rattle.ltl_formula.specs.Nodes.{Stands};
+ghost use Rattle.ltl_formula.specs.Nodes.{IsNodeIn};
 ghost use Rattle.tlsf_expand.specs.FlatText.{spec_seen};
 
 use crate::faults::TextFault;
@@ -71,7 +71,7 @@ pub(crate) fn put_apart(
 /// Puts the task of the environment, whose machines a counter-machine is one of.
 pub(crate) fn put_dual(alloc: Global, spec: &Spec, out: &mut Text) -> Result<(), AllocError>
     requires writable { CanBeWritten (spec_seen spec.now) }
-    requires stands { Stands spec.now.formulas spec.now.whole }
+    requires stands { IsNodeIn spec.now.formulas spec.now.whole }
 {
     let names = all_names(alloc, spec)?;
     put_head(spec.kind.other(), false, &spec.outputs, &spec.inputs, out);

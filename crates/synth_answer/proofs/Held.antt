@@ -19,7 +19,7 @@ use Rattle.document_text.specs.declared.documents.Verdict.TheVariants.{Machine, 
 use Rattle.document_text.specs.contracts.documents.VerdictPartialEq.TheImpl.{ghosts as verdict_ghosts}
 use Rattle.document_text.specs.declared.order.Order.TheVariants.{UpTo}
 use Rattle.document_text.specs.declared.order.Place.{Place}
-use Rattle.document_text.specs.Order.{has_its_place, machine_of, named_of, order_of, place_of, verdict_of}
+use Rattle.document_text.specs.Order.{has_its_place, machine_of, named_of, order_of, log_place, verdict_of}
 use Rattle.document_text.specs.Parts.{Document, LogPart}
 use Rattle.document_check.specs.Facts.{Facts, allowed_at, circuit_side, clause_version, for_side, problem_at, sizes_to, wanted_sizes}
 use Rattle.document_check.specs.Holds as check
@@ -170,7 +170,7 @@ module _ (counts : Counts) (sizes : SizesRise) (x : Facts) (kind : Kind) (max : 
 
   pub held : (v : Verdict) (c : Option Circuit) (logs : List LogPart) (d : Document) → IsTrue (has_its_place (is_some c) v) → IfSome (machine_of v) (λ m. IfSome c (HasNames x m.side))
       → IfSome (named_of v) (λ q. q.size ≤ sizes_of x max q.side)
-      → map place_of logs ≡ wanted_sizes (order_of (document_version counts) v max 0) (sizes_of x max System) (sizes_of x max Environment)
+      → map log_place logs ≡ wanted_sizes (order_of (document_version counts) v max 0) (sizes_of x max System) (sizes_of x max Environment)
       → All (ForLog x HasHeadOf) logs → All (IsAllowedLog x max) logs → All (IsEndedLog x limit) logs → v ≡ verdict_of (machine_of v) (check.first_open logs)
       → check.HoldsFor x (is_made_of v c logs d)
   held v c logs d has names number places heads allowed ended told =
@@ -179,7 +179,7 @@ module _ (counts : Counts) (sizes : SizesRise) (x : Facts) (kind : Kind) (max : 
         names = names_hold x v c has names;
         number = with_allowed (λ n m. IsTrue (check.is_allowed v n m)) (number_holds x max (named_of v) number);
         found = omega arith;
-        sizes = with_allowed (λ n m. map place_of logs ≡ wanted_sizes (order_of (document_version counts) v max 0) n m) places;
+        sizes = with_allowed (λ n m. map log_place logs ≡ wanted_sizes (order_of (document_version counts) v max 0) n m) places;
         logs = all_hold counts x kind (check.may_be_full v) limit logs
             (subst (λ b. All (check.HoldsAt x kind (document_version counts) b limit) logs) (sym full) (each_holds logs heads allowed ended (check.first_open logs) refl));
         named = subst (λ w. IsTrue (verdict_ghosts.eq v w)) told (same_verdict v);

@@ -4,7 +4,7 @@ use Rattle.std.proofs.lemmas.List.Elements.{All-cons, All-head, All-map, All-tai
 use Rattle.size_search.specs.declared.size_log.SizeLog.{SizeLog}
 use Rattle.document_text.specs.Parts.{LogPart}
 use Rattle.document_text.specs.States.{logs_at}
-use Rattle.document_text.specs.Order.{place_of}
+use Rattle.document_text.specs.Order.{log_place}
 use Rattle.synth_answer.specs.Reply.{part_of}
 
 -- it makes no difference in which line the head stands
@@ -20,6 +20,6 @@ all_at P free n (l ∷ logs) all =
 pub all_parts_at : (P : LogPart → Type 0) → IsOfNoLine P → (n : ℕ) (logs : List SizeLog) → All (λ l. P (part_of l)) logs → All P (logs_at n (map part_of logs))
 all_parts_at P free n logs all = all_at P free n (map part_of logs) (All-map P part_of logs all)
 
-pub places_at : (n : ℕ) (logs : List LogPart) → map place_of (logs_at n logs) ≡ map place_of logs
+pub places_at : (n : ℕ) (logs : List LogPart) → map log_place (logs_at n logs) ≡ map log_place logs
 places_at n [] = refl
-places_at n (l ∷ logs) = ap (λ ps. place_of l ∷ ps) (places_at (n + 1 + length l.entries) logs)
+places_at n (l ∷ logs) = ap (λ ps. log_place l ∷ ps) (places_at (n + 1 + length l.entries) logs)

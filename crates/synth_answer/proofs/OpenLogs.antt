@@ -8,7 +8,7 @@ use Rattle.document_text.specs.contracts.documents.VerdictPartialEq.TheImpl.{gho
 use Rattle.document_text.specs.declared.documents.Verdict.{Verdict}
 use Rattle.document_text.specs.declared.documents.Verdict.TheVariants.{Machine, Unknown}
 use Rattle.document_text.specs.declared.order.Place.{Place}
-use Rattle.document_text.specs.Order.{place_of, verdict_of}
+use Rattle.document_text.specs.Order.{log_place, verdict_of}
 use Rattle.document_text.specs.Parts.{LogPart}
 use Rattle.document_text.specs.States.{logs_at}
 use Rattle.document_check.specs.Facts.{Facts}
@@ -35,7 +35,7 @@ same_verdict (Unknown (Some q)) = let one = same_as_itself q.side in let two = e
 -- the lines of the logs make no difference
 pub open_at : (n : ℕ) (logs : List LogPart) → first_open (logs_at n logs) ≡ first_open logs
 open_at n [] = refl
-open_at n (l ∷ logs) = ap (λ o. cond (is_ended l.entries) o (Some (place_of l))) (open_at (n + 1 + length l.entries) logs)
+open_at n (l ∷ logs) = ap (λ o. cond (is_ended l.entries) o (Some (log_place l))) (open_at (n + 1 + length l.entries) logs)
 
 module _ (x : Facts) (limit : Option ℕ) where
   closed_is_ended : (l : LogPart) → IsClosedLog x limit l → is_ended l.entries ≡ true
@@ -55,9 +55,9 @@ module _ (x : Facts) (limit : Option ℕ) where
   closed_by : (b : Bool) (l : LogPart) (logs : List LogPart) → is_ended l.entries ≡ b → first_open (l ∷ logs) ≡ None → IsEndedLog x limit l
       → (first_open logs ≡ None → All (IsClosedLog x limit) logs) → All (IsClosedLog x limit) (l ∷ logs)
   closed_by true l logs e none ended later =
-      All-cons (IsClosedLog x limit) l logs (closed_here l e ended) (later (sym (cond-true (is_ended l.entries) (first_open logs) (Some (place_of l)) e) ∙ none))
+      All-cons (IsClosedLog x limit) l logs (closed_here l e ended) (later (sym (cond-true (is_ended l.entries) (first_open logs) (Some (log_place l)) e) ∙ none))
   closed_by false l logs e none ended later =
-      absurd (none-some (place_of l) (sym none ∙ cond-false (is_ended l.entries) (first_open logs) (Some (place_of l)) e))
+      absurd (none-some (log_place l) (sym none ∙ cond-false (is_ended l.entries) (first_open logs) (Some (log_place l)) e))
 
   -- where there is none each log is closed
   pub all_closed : (logs : List LogPart) → first_open logs ≡ None → All (IsEndedLog x limit) logs → All (IsClosedLog x limit) logs
@@ -68,7 +68,7 @@ module _ (x : Facts) (limit : Option ℕ) where
   first_by : (b : Bool) (l : LogPart) (logs : List LogPart) (q : Place) → is_ended l.entries ≡ b → first_open (l ∷ logs) ≡ Some q → IsEndedLog x limit l
       → (first_open logs ≡ Some q → IsFirstOpen x limit q logs) → IsFirstOpen x limit q (l ∷ logs)
   first_by true l logs q e is ended later =
-      let rest = later (sym (cond-true (is_ended l.entries) (first_open logs) (Some (place_of l)) e) ∙ is) in
+      let rest = later (sym (cond-true (is_ended l.entries) (first_open logs) (Some (log_place l)) e) ∙ is) in
       record {
         before = l ∷ rest.before;
         named = rest.named;
@@ -83,7 +83,7 @@ module _ (x : Facts) (limit : Option ℕ) where
     named = l;
     after = logs;
     split = refl;
-    is_at = same_Some (place_of l) q (sym (cond-false (is_ended l.entries) (first_open logs) (Some (place_of l)) e) ∙ is);
+    is_at = same_Some (log_place l) q (sym (cond-false (is_ended l.entries) (first_open logs) (Some (log_place l)) e) ∙ is);
     full = full_here l e ended;
     first = All-nil (IsClosedLog x limit);
   }
@@ -108,13 +108,13 @@ module _ (x : Facts) (limit : Option ℕ) where
   in_split P (l ∷ before) after named all = in_split P before after named (All-tail P l (before ++ named ∷ after) all)
 
   -- what holds of each log's place holds of its place
-  pub at_first : (P : Place → Type 0) (logs : List LogPart) (q : Place) → IsFirstOpen x limit q logs → All (λ l. P (place_of l)) logs → P q
+  pub at_first : (P : Place → Type 0) (logs : List LogPart) (q : Place) → IsFirstOpen x limit q logs → All (λ l. P (log_place l)) logs → P q
   at_first P logs q first all =
-      subst P first.is_at (in_split (λ l. P (place_of l)) first.before first.after first.named (subst (All (λ l. P (place_of l))) first.split all))
+      subst P first.is_at (in_split (λ l. P (log_place l)) first.before first.after first.named (subst (All (λ l. P (log_place l))) first.split all))
 
 -- logs that are closed, each
 pub none_open : (logs : List LogPart) → All (λ l. is_ended l.entries ≡ true) logs → first_open logs ≡ None
 none_open [] all = refl
 none_open (l ∷ logs) all =
-    cond-true (is_ended l.entries) (first_open logs) (Some (place_of l)) (All-head (λ (k : LogPart). is_ended k.entries ≡ true) l logs all)
+    cond-true (is_ended l.entries) (first_open logs) (Some (log_place l)) (All-head (λ (k : LogPart). is_ended k.entries ≡ true) l logs all)
     ∙ none_open logs (All-tail (λ (k : LogPart). is_ended k.entries ≡ true) l logs all)

@@ -10,7 +10,7 @@ use Rattle.synth_engine.specs.Logs as engine
 use Rattle.document_text.specs.declared.order.Order.{Order}
 use Rattle.document_text.specs.declared.order.Order.TheVariants.{UpTo, AnyUpTo}
 use Rattle.document_text.specs.declared.order.Place.{Place}
-use Rattle.document_text.specs.Order.{AreInOrder, may_follow, place, place_of}
+use Rattle.document_text.specs.Order.{AreInOrder, may_follow, place, log_place}
 use Rattle.document_check.proofs.HoldLemmas.{same_as_itself}
 use Rattle.document_text.specs.Parts.{LogPart}
 use Rattle.document_check.specs.Facts.{sizes_to}
@@ -32,15 +32,15 @@ places_of_claims side (suc n) =
     map-append place_at (engine.sizes_to side n) (record { side = side; size = suc n } ∷ [])
     ∙ ap (λ ps. ps ++ place side (suc n) ∷ []) (places_of_claims side n)
 
-places_of_parts : (logs : List SizeLog) → map place_of (map part_of logs) ≡ map place_at (map engine.place_of logs)
+places_of_parts : (logs : List SizeLog) → map log_place (map part_of logs) ≡ map place_at (map engine.log_claim logs)
 places_of_parts [] = refl
 places_of_parts (l ∷ logs) = ap (λ ps. place l.side l.size ∷ ps) (places_of_parts logs)
 
-pub parts_at : (side : Side) (n : ℕ) (logs : List SizeLog) → map engine.place_of logs ≡ engine.sizes_to side n → map place_of (map part_of logs) ≡ sizes_to side n
+pub parts_at : (side : Side) (n : ℕ) (logs : List SizeLog) → map engine.log_claim logs ≡ engine.sizes_to side n → map log_place (map part_of logs) ≡ sizes_to side n
 parts_at side n logs e = places_of_parts logs ∙ ap (map place_at) e ∙ places_of_claims side n
 
-pub parts_at_both : (side other : Side) (n m : ℕ) (logs : List SizeLog) → map engine.place_of logs ≡ engine.sizes_to side n ++ engine.sizes_to other m
-    → map place_of (map part_of logs) ≡ sizes_to side n ++ sizes_to other m
+pub parts_at_both : (side other : Side) (n m : ℕ) (logs : List SizeLog) → map engine.log_claim logs ≡ engine.sizes_to side n ++ engine.sizes_to other m
+    → map log_place (map part_of logs) ≡ sizes_to side n ++ sizes_to other m
 parts_at_both side other n m logs e =
     places_of_parts logs ∙ ap (map place_at) e ∙ map-append place_at (engine.sizes_to side n) (engine.sizes_to other m)
     ∙ ap (λ ps. ps ++ map place_at (engine.sizes_to other m)) (places_of_claims side n)
@@ -62,9 +62,9 @@ has_place side (suc n) k some most = placed (le_cases k n most) (has_place side 
 pub record LogAt (logs : List LogPart) (q : Place) : Type 0 where
   pub log : LogPart
   pub stands : Contains logs log
-  pub is_at : place_of log ≡ q
+  pub is_at : log_place log ≡ q
 
-pub log_at : (logs : List LogPart) (q : Place) → Contains (map place_of logs) q → LogAt logs q
+pub log_at : (logs : List LogPart) (q : Place) → Contains (map log_place logs) q → LogAt logs q
 log_at [] q (k, within, is) = absurd (omega (arith, within))
 log_at (l ∷ logs) q (zero, within, is) = record { log = l; stands = (0, omega arith, refl); is_at = is }
 log_at (l ∷ logs) q (suc k, within, is) =
@@ -117,12 +117,12 @@ follows_any side s max less =
     rw (one, two, three) refl
 
 -- the logs behind a place stand in order, if the first does and the others behind it
-one_more : (order : Order) (last q : Place) (l : LogPart) (logs : List LogPart) → place_of l ≡ q → IsTrue (may_follow order last q) → AreInOrder order q logs
+one_more : (order : Order) (last q : Place) (l : LogPart) (logs : List LogPart) → log_place l ≡ q → IsTrue (may_follow order last q) → AreInOrder order q logs
     → AreInOrder order last (l ∷ logs)
 one_more order last q l logs e follows later =
     subst (λ p. IsTrue (may_follow order last p) × AreInOrder order p logs) (sym e) (follows, later)
 
-pub in_order_up_to : (side : Side) (count n s : ℕ) (logs : List LogPart) → map place_of logs ≡ places_from side s n → s + n ≡ count
+pub in_order_up_to : (side : Side) (count n s : ℕ) (logs : List LogPart) → map log_place logs ≡ places_from side s n → s + n ≡ count
     → AreInOrder (UpTo side count) (place side s) logs
 in_order_up_to side count zero s [] e end = eq-eqb s count (omega (arith, end))
 in_order_up_to side count zero s (l ∷ logs) e end = absurd (cc)
@@ -131,7 +131,7 @@ in_order_up_to side count (suc n) s (l ∷ logs) e end =
     one_more (UpTo side count) (place side s) (place side (suc s)) l logs (first_of e) (follows_up_to side s count (omega (arith, end)))
     (in_order_up_to side count n (suc s) logs (rest_of e) (omega (arith, end)))
 
-in_order_one : (side : Side) (max n s : ℕ) (logs : List LogPart) → map place_of logs ≡ places_from side s n → s + n ≤ max
+in_order_one : (side : Side) (max n s : ℕ) (logs : List LogPart) → map log_place logs ≡ places_from side s n → s + n ≤ max
     → AreInOrder (AnyUpTo max) (place side s) logs
 in_order_one side max zero s [] e end = refl
 in_order_one side max zero s (l ∷ logs) e end = absurd (cc)
@@ -143,7 +143,7 @@ in_order_one side max (suc n) s (l ∷ logs) e end =
 crosses : (s max : ℕ) → IsTrue (may_follow (AnyUpTo max) (place System s) (place Environment 1))
 crosses s max = refl
 
-in_order_both : (max n m s : ℕ) (logs : List LogPart) → map place_of logs ≡ places_from System s n ++ places_from Environment 0 m → s + n ≤ max → m ≤ max
+in_order_both : (max n m s : ℕ) (logs : List LogPart) → map log_place logs ≡ places_from System s n ++ places_from Environment 0 m → s + n ≤ max → m ≤ max
     → AreInOrder (AnyUpTo max) (place System s) logs
 in_order_both max zero zero s [] e end other = refl
 in_order_both max zero zero s (l ∷ logs) e end other = absurd (cc)
@@ -156,10 +156,10 @@ in_order_both max (suc n) m s (l ∷ logs) e end other =
     one_more (AnyUpTo max) (place System s) (place System (suc s)) l logs (first_of e) (follows_any System s max (omega (arith, end)))
     (in_order_both max n m (suc s) logs (rest_of e) (omega (arith, end)) other)
 
-pub in_order_side : (side : Side) (count : ℕ) (logs : List LogPart) → map place_of logs ≡ sizes_to side count → AreInOrder (UpTo side count) (place side 0) logs
+pub in_order_side : (side : Side) (count : ℕ) (logs : List LogPart) → map log_place logs ≡ sizes_to side count → AreInOrder (UpTo side count) (place side 0) logs
 in_order_side side count logs e = in_order_up_to side count count 0 logs (e ∙ from_start side count) (omega arith)
 
-pub in_order_all : (max n m : ℕ) (logs : List LogPart) → map place_of logs ≡ sizes_to System n ++ sizes_to Environment m → n ≤ max → m ≤ max
+pub in_order_all : (max n m : ℕ) (logs : List LogPart) → map log_place logs ≡ sizes_to System n ++ sizes_to Environment m → n ≤ max → m ≤ max
     → AreInOrder (AnyUpTo max) (place System 0) logs
 in_order_all max n m logs e end other =
     in_order_both max n m 0 logs (e ∙ ap (λ ps. ps ++ sizes_to Environment m) (from_start System n) ∙ ap (λ ps. places_from System 0 n ++ ps) (from_start Environment m))

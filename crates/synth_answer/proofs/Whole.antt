@@ -43,7 +43,7 @@ use Rattle.document_text.specs.declared.documents.Verdict.TheVariants.{Machine, 
 use Rattle.document_text.specs.declared.order.Order.{Order}
 use Rattle.document_text.specs.declared.order.Order.TheVariants.{UpTo}
 use Rattle.document_text.specs.declared.order.Place.{Place}
-use Rattle.document_text.specs.Order.{AreInOrder, has_its_place, is_in_range, machine_of, may_tell_found, named_of, order_of, place, place_of, start_of, verdict_of}
+use Rattle.document_text.specs.Order.{AreInOrder, has_its_place, is_in_range, machine_of, may_tell_found, named_of, order_of, place, log_place, first_place, verdict_of}
 use Rattle.document_text.specs.Parts.{Document, LogPart}
 use Rattle.document_text.specs.Reading.{all_named}
 use Rattle.document_text.specs.WellFormed.{IsFoundNumber, IsLogPart, IsWellFormed}
@@ -233,10 +233,10 @@ module _ (x : Expanded) (truth : Word → Bool) (nodes : List Node) (whole : For
   pub record Suits (v : Verdict) (c : Option Circuit) (logs : List SizeLog) : Type 0 where
     pub has_place : IsTrue (has_its_place (is_some c) v)
     pub all_names : IfSome c (λ circuit. IsTrue (all_named circuit))
-    pub in_order : AreInOrder (order v) (start_of (order v)) (map part_of logs)
+    pub in_order : AreInOrder (order v) (first_place (order v)) (map part_of logs)
     pub names : IfSome (machine_of v) (λ m. IfSome c (HasNames given m.side))
     pub named : IfSome (named_of v) (λ q. FitsSize given settings.max q.side q.size)
-    pub places : map place_of (map part_of logs) ≡ wanted (order v)
+    pub places : map log_place (map part_of logs) ≡ wanted (order v)
     pub here : All IsHere logs
     pub fits : All (λ l. FitsSize given settings.max l.side l.size) logs
     pub told : v ≡ verdict_of (machine_of v) (check.first_open (map part_of logs))
@@ -332,13 +332,13 @@ module _ (x : Expanded) (truth : Word → Bool) (nodes : List Node) (whole : For
 
   -- the log of a place, of which holds what holds of all
   pub has_log : (v : Verdict) (c : Option Circuit) (logs : List SizeLog) (side : Side) (n : ℕ) (P : LogPart → Type 0)
-      → Contains (map place_of (map part_of logs)) (place side n) → All P (lined c logs) → HasLog (doc v c logs) side n P
+      → Contains (map log_place (map part_of logs)) (place side n) → All P (lined c logs) → HasLog (doc v c logs) side n P
   has_log v c logs side n P stands all =
       let there = log_at (lined c logs) (place side n) (subst (λ ps. Contains ps (place side n)) (sym (places_at (first_line c) (map part_of logs))) stands) in
       record { log = there.log; stands = there.stands; is_at = there.is_at; holds = All-contains P (lined c logs) there.log all there.stands }
 
   -- a closed log of a size refutes it
-  pub closed_refutes : (l : LogPart) (side : Side) (n : ℕ) → place_of l ≡ place side n → IsClosedLog given settings.entries l → FitsSize given settings.max side n
+  pub closed_refutes : (l : LogPart) (side : Side) (n : ℕ) → log_place l ≡ place side n → IsClosedLog given settings.entries l → FitsSize given settings.max side n
       → OfSide s.system s.environment (λ p. HasNoAccepted (sized p n)) side
   closed_refutes l side n at closed fits =
       let Q : Place → Type 0 = λ q. OfSide s.system s.environment (λ p. IsClosed (variables_of (sized p q.size)) (base_at p q.size) settings.entries l.entries) q.side in
@@ -407,10 +407,10 @@ module _ (x : Expanded) (truth : Word → Bool) (nodes : List Node) (whole : For
         (λ l h. subst (OfSide s.system s.environment (λ q. IsSettled q settings l)) (sym (h.log.side ∙ (side_known side p of).of_side)) (of_side s.system s.environment side (λ q. IsSettled q settings l) p of h))
         logs kept.smaller.each
 
-    claims : map engine.place_of logs ≡ engine.sizes_to side (size_of m - 1)
-    claims = subst (λ other. map engine.place_of logs ≡ engine.sizes_to other (size_of m - 1)) (side_known side p of).of_side kept.smaller.places
+    claims : map engine.log_claim logs ≡ engine.sizes_to side (size_of m - 1)
+    claims = subst (λ other. map engine.log_claim logs ≡ engine.sizes_to other (size_of m - 1)) (side_known side p of).of_side kept.smaller.places
 
-    parts : map place_of (map part_of logs) ≡ sizes_to side (size_of m - 1)
+    parts : map log_place (map part_of logs) ≡ sizes_to side (size_of m - 1)
     parts = parts_at side (size_of m - 1) logs claims
 
     fewer : size_of m - 1 ≤ sizes_of given settings.max side
@@ -418,8 +418,8 @@ module _ (x : Expanded) (truth : Word → Bool) (nodes : List Node) (whole : For
 
     all_fit : All (λ l. FitsSize given settings.max l.side l.size) logs
     all_fit =
-        unmap engine.place_of (λ claim. FitsSize given settings.max claim.side claim.size) logs
-        (All-same (λ claim. FitsSize given settings.max claim.side claim.size) (map engine.place_of logs) (engine.sizes_to side (size_of m - 1)) claims
+        unmap engine.log_claim (λ claim. FitsSize given settings.max claim.side claim.size) logs
+        (All-same (λ claim. FitsSize given settings.max claim.side claim.size) (map engine.log_claim logs) (engine.sizes_to side (size_of m - 1)) claims
         (all_map (IsClaimTo side (size_of m - 1)) (λ claim. FitsSize given settings.max claim.side claim.size) (fits_claim side (size_of m - 1) fewer)
         (engine.sizes_to side (size_of m - 1)) (claims_to side (size_of m - 1))))
 
@@ -437,7 +437,7 @@ module _ (x : Expanded) (truth : Word → Bool) (nodes : List Node) (whole : For
     machine_suits c made = record {
       has_place = refl;
       all_names = all_are_named side m c made;
-      in_order = subst (λ o. AreInOrder o (start_of o) (map part_of logs)) (sym order_is) (in_order_side side (size_of m - 1) (map part_of logs) parts);
+      in_order = subst (λ o. AreInOrder o (first_place o) (map part_of logs)) (sym order_is) (in_order_side side (size_of m - 1) (map part_of logs) parts);
       names = record { reads = made.inputs; writes = made.outputs };
       named = at_fits;
       places = parts ∙ sizes_below given settings.max side (size_of m) at_fits.most ∙ ap wanted (sym order_is);
@@ -560,7 +560,7 @@ module _ (x : Expanded) (truth : Word → Bool) (nodes : List Node) (whole : For
   -- == documents without a machine ==
 
   module _ (logs : List SizeLog) (all : AreAllSettled s.system s.environment settings logs) where
-    parts_of_all : map place_of (map part_of logs) ≡ sizes_to System (sizes_of given settings.max System) ++ sizes_to Environment (sizes_of given settings.max Environment)
+    parts_of_all : map log_place (map part_of logs) ≡ sizes_to System (sizes_of given settings.max System) ++ sizes_to Environment (sizes_of given settings.max Environment)
     parts_of_all = parts_at_both System Environment (sizes_of given settings.max System) (sizes_of given settings.max Environment) logs all.places
 
     claims_fit : (side : Side) → All (λ claim. FitsSize given settings.max claim.side claim.size) (engine.sizes_to side (sizes_of given settings.max side))
@@ -570,8 +570,8 @@ module _ (x : Expanded) (truth : Word → Bool) (nodes : List Node) (whole : For
 
     all_logs_fit : All (λ l. FitsSize given settings.max l.side l.size) logs
     all_logs_fit =
-        unmap engine.place_of (λ claim. FitsSize given settings.max claim.side claim.size) logs
-        (All-same (λ claim. FitsSize given settings.max claim.side claim.size) (map engine.place_of logs)
+        unmap engine.log_claim (λ claim. FitsSize given settings.max claim.side claim.size) logs
+        (All-same (λ claim. FitsSize given settings.max claim.side claim.size) (map engine.log_claim logs)
         (engine.sizes_to System (sizes_of given settings.max System) ++ engine.sizes_to Environment (sizes_of given settings.max Environment)) all.places
         (All-append (λ claim. FitsSize given settings.max claim.side claim.size) (engine.sizes_to System (sizes_of given settings.max System))
         (engine.sizes_to Environment (sizes_of given settings.max Environment)) (claims_fit System) (claims_fit Environment)))

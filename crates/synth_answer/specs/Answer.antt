@@ -15,7 +15,7 @@ use Rattle.synth_engine.specs.Outcomes.{CannotFill}
 use Rattle.document_text.specs.declared.documents.Verdict.{Verdict}
 use Rattle.document_text.specs.declared.documents.Verdict.TheVariants.{Machine, Unknown}
 use Rattle.document_text.specs.declared.order.Place.{Place}
-use Rattle.document_text.specs.Order.{machine_of, place, place_of}
+use Rattle.document_text.specs.Order.{machine_of, place, log_place}
 use Rattle.document_check.specs.Facts.{Facts}
 use Rattle.document_text.specs.Parts.{Document, LogPart}
 use Rattle.program_replies.specs.Lines.{refusal_line}
@@ -29,7 +29,7 @@ use Rattle.synth_answer.specs.Printed.{PrintedFor}
 pub record HasLog (d : Document) (side : Side) (n : ℕ) (P : LogPart → Type 0) : Type 0 where
   pub log : LogPart
   pub stands : Contains d.logs log
-  pub is_at : place_of log ≡ place side n
+  pub is_at : log_place log ≡ place side n
   pub holds : P log
 
 -- no machine of the system of n states satisfies, as a closed log over the text's base clauses shows

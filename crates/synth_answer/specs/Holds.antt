@@ -10,7 +10,7 @@ use Rattle.machine_model.specs.declared.counting.Counts.TheVariants.{Whole, Loca
 use Rattle.annotation_encode.specs.Variables.{variables_of}
 use Rattle.refutation_log.specs.Log.{IsClosed, IsFull}
 use Rattle.document_text.specs.declared.order.Place.{Place}
-use Rattle.document_text.specs.Order.{place_of}
+use Rattle.document_text.specs.Order.{log_place}
 use Rattle.document_text.specs.Parts.{LogPart}
 use Rattle.document_check.specs.Facts.{Facts}
 use Rattle.synth_engine.specs.Searched.{allowed_of}
@@ -66,6 +66,6 @@ pub record IsFirstOpen (x : Facts) (limit : Option ℕ) (at : Place) (logs : Lis
   pub named : LogPart
   pub after : List LogPart
   pub split : logs ≡ before ++ named ∷ after
-  pub is_at : place_of named ≡ at
+  pub is_at : log_place named ≡ at
   pub full : IsFullLog x limit named
   pub first : All (IsClosedLog x limit) before

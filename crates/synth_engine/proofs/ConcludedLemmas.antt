@@ -19,7 +19,7 @@ use Rattle.size_search.specs.declared.size_log.SizeLog.{SizeLog}
 use Rattle.synth_engine.specs.declared.settings.Settings.{Settings}
 use Rattle.synth_engine.specs.declared.outcomes.Found.{Found}
 use Rattle.synth_engine.specs.Searched.{allowed_of}
-use Rattle.synth_engine.specs.Logs.{IsClosedLog, IsFullLog, IsLogOf, base_at, place_of, sizes_to}
+use Rattle.synth_engine.specs.Logs.{IsClosedLog, IsFullLog, IsLogOf, base_at, log_claim, sizes_to}
 use Rattle.synth_engine.specs.Outcomes.{AreAllSettled, AreSettled, CannotFill, IsFound, IsFoundWith, IsOutOfReach, IsOutcomeOf, IsSettled, OfSide}
 use Rattle.synth_engine.specs.Settled.{FoundOrNot, IsFoundBelow}
 
@@ -78,15 +78,15 @@ sizes_in_range side (suc n) =
     (All-cons (IsInRange side (suc n)) (record { side = side; size = suc n }) [] (record { of_side = refl; some = omega arith; most = omega arith }) (All-nil (IsInRange side (suc n))))
 
 -- what holds of all places holds of each log's place
-at_places : (P : Claim → Type 0) (logs : List SizeLog) (places : List Claim) → map place_of logs ≡ places → All P places → All P (map place_of logs)
+at_places : (P : Claim → Type 0) (logs : List SizeLog) (places : List Claim) → map log_claim logs ≡ places → All P places → All P (map log_claim logs)
 at_places P logs places e all = subst (All P) (sym e) all
 
-of_place : (P : Claim → Type 0) (logs : List SizeLog) → All P (map place_of logs) → All (λ l. P (place_of l)) logs
+of_place : (P : Claim → Type 0) (logs : List SizeLog) → All P (map log_claim logs) → All (λ l. P (log_claim l)) logs
 of_place P logs all k d h =
-    let n : length (map place_of logs) ≡ length logs = length-map logs place_of in
-    subst P (get_or-map place_of logs k d) (all k (place_of d) (omega arith))
+    let n : length (map log_claim logs) ≡ length logs = length-map logs log_claim in
+    subst P (get_or-map log_claim logs k d) (all k (log_claim d) (omega arith))
 
-in_range : (side : Side) (n : ℕ) (logs : List SizeLog) → map place_of logs ≡ sizes_to side n → All (λ l. IsInRange side n (place_of l)) logs
+in_range : (side : Side) (n : ℕ) (logs : List SizeLog) → map log_claim logs ≡ sizes_to side n → All (λ l. IsInRange side n (log_claim l)) logs
 in_range side n logs e = of_place (IsInRange side n) logs (at_places (IsInRange side n) logs (sizes_to side n) e (sizes_in_range side n))
 
 -- a limit that can't be reached isn't reached
@@ -117,7 +117,7 @@ with_machine s e settings found logs h = record {
       let p = one.0 in
       let l : SizeLog = get_or logs.items k d in
       let settled : IsSettled p settings l = one.2.smaller.each k d small in
-      let range : IsInRange p.side (size_of found.machine - 1) (place_of l) = in_range p.side (size_of found.machine - 1) logs.items one.2.smaller.places k d small in
+      let range : IsInRange p.side (size_of found.machine - 1) (log_claim l) = in_range p.side (size_of found.machine - 1) logs.items one.2.smaller.places k d small in
       let most : size_of found.machine ≤ allowed_sizes p settings.max = one.2.found.allowed in
       let low : l.size ≤ size_of found.machine - 1 = range.most in
       true_unless (is_ended l.log.entries)
@@ -159,7 +159,7 @@ module _ (s : Problem) (e : Option Problem) (settings : Settings) where
     decisive = λ cannot k d small.
         let l : SizeLog = get_or logs.items k d in
         let one = pick s e (λ (p : Problem). IsSettled p settings l) l.side (all.each k d small) in
-        let at : AtSide (place_of l) = of_place AtSide logs.items (at_places AtSide logs.items _ all.places all_allowed) k d small in
+        let at : AtSide (log_claim l) = of_place AtSide logs.items (at_places AtSide logs.items _ all.places all_allowed) k d small in
         let range = at_side s e (IsAllowedSize settings l.size) l.side one.0 one.1 at in
         true_unless (is_ended l.log.entries)
         (λ open_log. cannot_be_full s e settings l.side one.0 l cannot one.1 one.2.log (full_here one.0 settings l one.2 open_log) range.0 range.1);
@@ -192,7 +192,7 @@ abbrev pub EnvironmentSettled : Option Problem → Settings → List SizeLog →
 EnvironmentSettled None settings logs = length logs ≡ 0
 EnvironmentSettled (Some p) settings logs = (p.side ≡ Environment) × AreSettled p settings (allowed_sizes p settings.max) logs
 
-environment_places : (e : Option Problem) (settings : Settings) (logs : List SizeLog) → EnvironmentSettled e settings logs → map place_of logs ≡ sizes_to Environment (allowed_of settings.max e)
+environment_places : (e : Option Problem) (settings : Settings) (logs : List SizeLog) → EnvironmentSettled e settings logs → map log_claim logs ≡ sizes_to Environment (allowed_of settings.max e)
 environment_places None settings [] h = refl
 environment_places None settings (l ∷ ls) h = absurd (omega arith)
 environment_places (Some p) settings logs h = h.1.places ∙ ap (λ x. sizes_to x (allowed_sizes p settings.max)) h.0
@@ -206,7 +206,7 @@ pub all_settled : (s : Problem) (e : Option Problem) (settings : Settings) (of_s
     → EnvironmentSettled e settings of_environment → logs ≡ of_system ++ of_environment → AreAllSettled s e settings logs
 all_settled s e settings of_system of_environment logs side system environment is =
     rw is (record {
-      places = map-append place_of of_system of_environment ∙ (λ i. (system.places ∙ ap (λ x. sizes_to x (allowed_sizes s settings.max)) side) i ++ environment_places e settings of_environment environment i);
+      places = map-append log_claim of_system of_environment ∙ (λ i. (system.places ∙ ap (λ x. sizes_to x (allowed_sizes s settings.max)) side) i ++ environment_places e settings of_environment environment i);
       each = All-append (λ l. OfSide s e (λ p. IsSettled p settings l) l.side) of_system of_environment
           (λ k d h. let x = system.each k d h in subst (OfSide s e (λ p. IsSettled p settings (get_or of_system k d))) (sym (x.log.side ∙ side)) x)
           (environment_each s e settings of_environment environment);
@@ -228,6 +228,6 @@ pub environment_settled : (s : Problem) (e : Option Problem) (settings : Setting
     → EnvironmentSettled e settings logs
 environment_settled s None settings logs o not_found some none =
     let here = none_below settings 0 logs o s (none refl) not_found in
-    sym (length-map logs place_of) ∙ ap length here.places
+    sym (length-map logs log_claim) ∙ ap length here.places
 environment_settled s (Some p) settings logs o not_found some none =
     let x = some p refl in (x.0, none_below settings (allowed_sizes p settings.max) logs o p x.1 not_found)

@@ -9,7 +9,7 @@ use Rattle.size_search.specs.Seat.{GoesOn}
 use Rattle.size_search.specs.Task.{SizeTaskModel}
 use Rattle.synth_engine.specs.Tasks.{AreSeats}
 use Rattle.synth_engine.proofs.WorkerLemmas.{as_many}
-use Rattle.synth_engine.specs.Hands.{AreAtFrom, AreCrewsFrom, AreDrawn, joined}
+use Rattle.synth_engine.specs.Hands.{AreAtFrom, AreCrewsFrom, AreDrawn, joined_passes}
 
 -- a list with one element more
 pub push_count : {X : Type 0} (ys xs : List X) (x : X) → ys ≡ xs ++ x ∷ [] → length ys ≡ length xs + 1
@@ -66,7 +66,7 @@ abbrev pub items : {Z : Type 0} → Vec PassView Z → List PassView
 items v = v.items
 
 joined-push : {Z : Type 0} (ws : List (Vec PassView Z)) (ss : List PassView) (w : Vec PassView Z) (s : PassView) → length ws ≡ length ss
-    → joined (ws ++ w ∷ []) (ss ++ s ∷ []) ≡ joined ws ss ++ (w.items ++ s ∷ []) ∷ []
+    → joined_passes (ws ++ w ∷ []) (ss ++ s ∷ []) ≡ joined_passes ws ss ++ (w.items ++ s ∷ []) ∷ []
 joined-push [] [] w s e = refl
 joined-push [] (x ∷ xs) w s e = absurd (omega arith)
 joined-push (v ∷ vs) [] w s e = absurd (omega arith)
@@ -85,7 +85,7 @@ drawn_more {Z} lists left later_left drawn later_drawn v w s are parts left_is d
     rw (left_is, drawn_is) (record {
       as_many_left = omega arith;
       as_many = omega arith;
-      joined_are = map-append items lists (v ∷ []) ∙ ap (λ l. l ++ v.items ∷ []) are.joined_are ∙ ap (λ i. joined left drawn ++ i ∷ []) parts ∙ sym (joined-push left drawn w s same);
+      joined_are = map-append items lists (v ∷ []) ∙ ap (λ l. l ++ v.items ∷ []) are.joined_are ∙ ap (λ i. joined_passes left drawn ++ i ∷ []) parts ∙ sym (joined-push left drawn w s same);
     })
 
 -- a worker's seats without the last one
@@ -100,7 +100,7 @@ seats_pop number front t xs s are =
 
 -- of each worker the seat at the last task is taken
 collect : {Z : Type 0} (top : ℕ) (front : List SizeTaskModel) (t : SizeTaskModel) (lists left : List (Vec PassView Z)) (drawn : List PassView) → length left ≡ length lists
-    → length drawn ≡ length lists → map items lists ≡ joined left drawn → AreCrewsFrom top (front ++ t ∷ []) lists → AreCrewsFrom top front left × AreAtFrom top t.exchange drawn
+    → length drawn ≡ length lists → map items lists ≡ joined_passes left drawn → AreCrewsFrom top (front ++ t ∷ []) lists → AreCrewsFrom top front left × AreAtFrom top t.exchange drawn
 collect top front t [] [] [] a b e are = (tt, tt)
 collect top front t [] [] (s ∷ ss) a b e are = absurd (omega arith)
 collect top front t [] (w ∷ ws) drawn a b e are = absurd (omega arith)
@@ -108,7 +108,7 @@ collect top front t (v ∷ vs) [] drawn a b e are = absurd (omega arith)
 collect top front t (v ∷ vs) (w ∷ ws) [] a b e are = absurd (omega arith)
 collect top front t (v ∷ vs) (w ∷ ws) (s ∷ ss) a b e are =
     let here : v.items ≡ w.items ++ s ∷ [] = ap (λ l. get_or l 0 []) e in
-    let there : map items vs ≡ joined ws ss = ap (λ l. drop 1 l) e in
+    let there : map items vs ≡ joined_passes ws ss = ap (λ l. drop 1 l) e in
     let one = seats_pop top front t w.items s (rw (sym here) are.0) in
     let more = collect (top - 1) front t vs ws ss (omega arith) (omega arith) there are.1 in
     ((one.0, more.0), (one.1, one.2, more.1))

@@ -19,7 +19,7 @@ use Rattle.synth_engine.specs.declared.settings.Settings.{Settings}
 use Rattle.synth_engine.specs.declared.crews.Crew.{Crew}
 use Rattle.synth_engine.specs.declared.sizes.Sizes.{Sizes}
 use Rattle.synth_engine.specs.Tasks.{AreSeats, AreTasks, IsCrewOf, IsTaskOf}
-use Rattle.synth_engine.specs.Hands.{AreCrewsFrom, AreDrawn, AreRacks, joined, new_seats}
+use Rattle.synth_engine.specs.Hands.{AreCrewsFrom, AreDrawn, AreRacks, joined_passes, new_seats}
 use Rattle.synth_engine.specs.Plans.{AreProblemsDown, AreTasksUpTo, AreWorkersOf, IsOpenedFor}
 use Rattle.synth_engine.proofs.HandLemmas.{items}
 
@@ -77,7 +77,7 @@ racks_some {Z} n (t ∷ ts) (w ∷ ws) some are =
     All-cons (λ (v : Vec PassView Z). 0 < vec_len v) w ws (omega arith) (racks_some n ts ws some are.1)
 
 hand : {Z : Type 0} (n : ℕ) (tasks : List SizeTaskModel) (racks left : List (Vec PassView Z)) (drawn : List PassView) → length left ≡ length racks → length drawn ≡ length racks
-    → map items racks ≡ joined left drawn → AreRacks (suc n) tasks racks → AreRacks n tasks left × (map (λ s. s.exchange) drawn ≡ map (λ t. t.exchange) tasks) × All (λ s. s.number ≡ n) drawn
+    → map items racks ≡ joined_passes left drawn → AreRacks (suc n) tasks racks → AreRacks n tasks left × (map (λ s. s.exchange) drawn ≡ map (λ t. t.exchange) tasks) × All (λ s. s.number ≡ n) drawn
 hand n [] [] [] [] a b e are = (tt, refl, All-nil (λ (s : PassView). s.number ≡ n))
 hand n [] [] [] (s ∷ ss) a b e are = absurd (omega arith)
 hand n [] [] (w ∷ ws) drawn a b e are = absurd (omega arith)
@@ -87,7 +87,7 @@ hand n (t ∷ ts) (v ∷ vs) [] drawn a b e are = absurd (omega arith)
 hand n (t ∷ ts) (v ∷ vs) (w ∷ ws) [] a b e are = absurd (omega arith)
 hand n (t ∷ ts) (v ∷ vs) (w ∷ ws) (s ∷ ss) a b e are =
     let here : v.items ≡ w.items ++ s ∷ [] = ap (λ l. get_or l 0 []) e in
-    let there : map items vs ≡ joined ws ss = ap (λ l. drop 1 l) e in
+    let there : map items vs ≡ joined_passes ws ss = ap (λ l. drop 1 l) e in
     let one = same_from_push w.items (new_seats t.exchange n) s (new_pass t.exchange n) (sym here ∙ are.0) in
     let more = hand n ts vs ws ss (omega arith) (omega arith) there are.1 in (
       (one.0, more.0),

@@ -18,7 +18,7 @@ use Rattle.size_search.specs.Decided.{IsAcceptedOf, IsClosedOn, IsFullOn}
 use Rattle.size_search.specs.declared.size_log.SizeLog.{SizeLog}
 use Rattle.synth_engine.specs.declared.settings.Settings.{Settings}
 use Rattle.synth_engine.specs.declared.settling.Answer.TheVariants.{Machine, Log}
-use Rattle.synth_engine.specs.Logs.{IsClosedLog, IsFullLog, base_at, place_of}
+use Rattle.synth_engine.specs.Logs.{IsClosedLog, IsFullLog, base_at, log_claim}
 use Rattle.synth_engine.specs.Tasks.{AreTasks, IsTaskOf}
 use Rattle.synth_engine.specs.Outcomes.{AreSettled, IsSettled}
 use Rattle.synth_engine.specs.Settled.{IsAnswerOf, IsFoundBelow}
@@ -125,17 +125,17 @@ module _ (p : Problem) (settings : Settings) (t : SizeTaskModel) (l : SizeLog) (
     refutes = λ closed m is. answer.2 (from_log Closed closed) m (accepted_alike (sized p l.size) t.problem m (sym here.parts) is);
   }
 
-  pub place_is : place_of l ≡ record { side = p.side; size = n }
+  pub place_is : log_claim l ≡ record { side = p.side; size = n }
   place_is = λ i. record { side = (answer.0.side ∙ ap (λ x. x.side) here.parts) i; size = size_is i }
 
 -- one settled size more
 pub settled_more : (p : Problem) (settings : Settings) (count : ℕ) (logs later : List SizeLog) (l : SizeLog) → AreSettled p settings count logs → later ≡ logs ++ l ∷ []
-    → place_of l ≡ record { side = p.side; size = count + 1 } → IsSettled p settings l → AreSettled p settings (count + 1) later
+    → log_claim l ≡ record { side = p.side; size = count + 1 } → IsSettled p settings l → AreSettled p settings (count + 1) later
 settled_more p settings count logs later l are is at settled =
     let one : count + 1 ≡ suc count = add-one count in
-    let where_it_is : place_of l ≡ record { side = p.side; size = suc count } = at ∙ (λ i. record { side = p.side; size = one i }) in
+    let where_it_is : log_claim l ≡ record { side = p.side; size = suc count } = at ∙ (λ i. record { side = p.side; size = one i }) in
     rw (is, one) (record {
-      places = map-append place_of logs (l ∷ []) ∙ (λ i. are.places i ++ where_it_is i ∷ []);
+      places = map-append log_claim logs (l ∷ []) ∙ (λ i. are.places i ++ where_it_is i ∷ []);
       each = All-append (IsSettled p settings) logs (l ∷ []) are.each (All-cons (IsSettled p settings) l [] settled (All-nil (IsSettled p settings)));
     })
 

@@ -6,16 +6,16 @@ use Rattle.synth_engine.specs.Tasks.{AreSeats}
 -- Seats, by sizes and by workers.
 
 -- the lists that come of putting each element at the end of the list beside it
-abbrev pub joined : {Z : Type 0} → List (Vec PassView Z) → List PassView → List (List PassView)
-joined [] ss = []
-joined (w ∷ ws) [] = []
-joined (w ∷ ws) (s ∷ ss) = (w.items ++ s ∷ []) ∷ joined ws ss
+abbrev pub joined_passes : {Z : Type 0} → List (Vec PassView Z) → List PassView → List (List PassView)
+joined_passes [] ss = []
+joined_passes (w ∷ ws) [] = []
+joined_passes (w ∷ ws) (s ∷ ss) = (w.items ++ s ∷ []) ∷ joined_passes ws ss
 
 -- From each of some lists the last seat was taken: these are the seats, and these the lists that are left.
 pub record AreDrawn {Z : Type 0} (lists left : List (Vec PassView Z)) (drawn : List PassView) : Type 0 where
   pub as_many_left : length left ≡ length lists
   pub as_many : length drawn ≡ length lists
-  pub joined_are : map (λ v. v.items) lists ≡ joined left drawn
+  pub joined_are : map (λ v. v.items) lists ≡ joined_passes left drawn
 
 -- the seats 0 to n - 1 of a log at which nothing was done
 abbrev pub new_seats : SharedLog → ℕ → List PassView

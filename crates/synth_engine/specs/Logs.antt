@@ -20,8 +20,8 @@ sizes_to side zero = []
 sizes_to side (suc n) = sizes_to side n ++ record { side = side; size = suc n } ∷ []
 
 -- the side and the size of which a log is
-abbrev pub place_of : SizeLog → Claim
-place_of l = record { side = l.side; size = l.size }
+abbrev pub log_claim : SizeLog → Claim
+log_claim l = record { side = l.side; size = l.size }
 
 -- the base clauses of a problem at some size
 abbrev pub base_at : Problem → ℕ → List (List Literal)

@@ -13,7 +13,7 @@ use Rattle.synth_engine.specs.declared.settings.Settings.{Settings}
 use Rattle.synth_engine.specs.declared.outcomes.Found.{Found}
 use Rattle.synth_engine.specs.declared.outcomes.Outcome.{Outcome}
 use Rattle.synth_engine.specs.Searched.{allowed_of}
-use Rattle.synth_engine.specs.Logs.{HasNone, IsClosedLog, IsFullLog, IsLogOf, place_of, sizes_to}
+use Rattle.synth_engine.specs.Logs.{HasNone, IsClosedLog, IsFullLog, IsLogOf, log_claim, sizes_to}
 
 -- What the outcome of a search holds (this project's own).
 
@@ -31,7 +31,7 @@ pub record IsSettled (p : Problem) (settings : Settings) (l : SizeLog) : Type 0 
 
 -- The logs of the problem's first sizes, in their order, each settled.
 pub record AreSettled (p : Problem) (settings : Settings) (count : ℕ) (logs : List SizeLog) : Type 0 where
-  pub places : map place_of logs ≡ sizes_to p.side count
+  pub places : map log_claim logs ≡ sizes_to p.side count
   pub each : All (IsSettled p settings) logs
 
 -- A machine of the problem, with the logs of all smaller sizes. Where these are closed, it is the smallest.
@@ -47,7 +47,7 @@ OfSide system (Some environment) P Environment = P environment
 
 -- The logs of all allowed sizes, each settled: the system's in their order, then the environment's.
 pub record AreAllSettled (system : Problem) (environment : Option Problem) (settings : Settings) (logs : List SizeLog) : Type 0 where
-  pub places : map place_of logs ≡ sizes_to System (allowed_sizes system settings.max) ++ sizes_to Environment (allowed_of settings.max environment)
+  pub places : map log_claim logs ≡ sizes_to System (allowed_sizes system settings.max) ++ sizes_to Environment (allowed_of settings.max environment)
   pub each : All (λ l. OfSide system environment (λ p. IsSettled p settings l) l.side) logs
 
 -- what goes with a machine that was found, and what without one

@@ -6,7 +6,7 @@ use Rattle.ltl_formula.specs.declared.nodes.Node.{Node}
 use Rattle.ltl_formula.specs.declared.nodes.TheConstants.{MAX_NODES, MAX_SIGNALS}
 use Rattle.ltl_formula.specs.Tree.{Tree}
 use Rattle.ltl_formula.specs.Tree.Tree.{signal}
-use Rattle.ltl_formula.specs.Nodes.{Grows, IsNodeList, Stands, tree_at}
+use Rattle.ltl_formula.specs.Nodes.{Grows, IsNodeList, IsNodeIn, tree_at}
 use Rattle.ltl_formula.proofs.Trees.{tree_at-grown}
 use Rattle.ltl_formula.proofs.Lists.{Grows-refl, Grows-stands, Grows-trans, signals_are_below}
 use Rattle.kind_conversion.specs.declared.conversion.ConvertedList.{ConvertedList}
@@ -75,7 +75,7 @@ same_list whole other c (Some made) is =
     let same : made.nodes ≡ c.formulas = ap (λ (o : Option ConvertedList). (unwrap_or o c).formulas) is in
     (form_at made.forms other, ap (λ (ns : List Node). Some (let d : ConvertedList = record { formulas = ns; whole = form_at made.forms other } in d)) same)
 
-module _ (most : ℕ) (large : MAX_NODES ≤ most) (shift : Shift) (inputs : ℕ) (nodes : List Node) (list : IsNodeList nodes) (whole : FormulaId) (stands : Stands nodes whole) where
+module _ (most : ℕ) (large : MAX_NODES ≤ most) (shift : Shift) (inputs : ℕ) (nodes : List Node) (list : IsNodeList nodes) (whole : FormulaId) (stands : IsNodeIn nodes whole) where
   abbrev form : Bool → Form
   form keep = table forms keep (tree_at nodes whole)
 
@@ -120,7 +120,7 @@ module _ (most : ℕ) (large : MAX_NODES ≤ most) (shift : Shift) (inputs : ℕ
   -- ---- room
 
   module _ (c : ConvertedList) (is : converted_of most shift inputs nodes whole ≡ Some c) where
-    converts : (id : FormulaId) → Stands nodes id
+    converts : (id : FormulaId) → IsNodeIn nodes id
         → (x : FormulaId) × IsConversion shift inputs nodes id (let d : ConvertedList = record { formulas = c.formulas; whole = x } in d)
     converts id there =
         let other = same_list whole id c (put_forms most shift inputs nodes (record { nodes = []; forms = [] })) is in

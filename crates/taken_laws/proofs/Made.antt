@@ -8,7 +8,7 @@ use Rattle.ltl_formula.specs.declared.nodes.Node.TheVariants as node
 use Rattle.ltl_formula.specs.declared.nodes.TheConstants.{MAX_SIGNALS}
 use Rattle.ltl_formula.specs.Tree.{Tree}
 use Rattle.ltl_formula.specs.Tree.Tree.{signal}
-use Rattle.ltl_formula.specs.Nodes.{Grows, IsNodeList, Stands, tree_at}
+use Rattle.ltl_formula.specs.Nodes.{Grows, IsNodeList, IsNodeIn, tree_at}
 use Rattle.ltl_formula.specs.Added.{Built, added}
 use Rattle.ltl_formula.proofs.Trees.{tree_at-grown}
 use Rattle.ltl_formula.proofs.Lists.{Grows-refl, Grows-trans, Grows-stands, Grows-added}
@@ -30,7 +30,7 @@ OfEach P (of_join joint a b) = OfEach P a × OfEach P b × P (tree (of_join join
 -- a formula that stands in a list
 pub record IsIn (nodes : List Node) (f : Tree) : Type 0 where
   pub id : FormulaId
-  pub stands : Stands nodes id
+  pub stands : IsNodeIn nodes id
   pub tree_is : tree_at nodes id ≡ f
 
 -- a step that went on after another one

@@ -14,7 +14,7 @@ use Rattle.ltl_formula.specs.declared.nodes.Node.TheVariants as node
 use Rattle.ltl_formula.specs.declared.nodes.TheConstants.{MAX_NODES, MAX_SIGNALS}
 use Rattle.ltl_formula.specs.Tree.{Tree}
 use Rattle.ltl_formula.specs.Tree.Tree.{negation, next_time}
-use Rattle.ltl_formula.specs.Nodes.{IsNodeList, PartsBelow, SignalBelow, Stands, node_at, tree_at, tree_of, trees_of}
+use Rattle.ltl_formula.specs.Nodes.{IsNodeList, PartsBelow, SignalBelow, IsNodeIn, node_at, tree_at, tree_of, trees_of}
 use Rattle.ltl_formula.specs.Added.{Built, added, built_at, node_eq}
 use Rattle.ltl_formula.proofs.NodeEquality.{node_eq-self, node_from_tree, same_id_of}
 use Rattle.ltl_formula.proofs.Trees.{tree_at-append, tree_at-grown, tree_at-last, tree_at-node}
@@ -48,17 +48,17 @@ module _ (end : List Node) (list_end : IsNodeList end) (back : Tree → Tree) wh
   -- the formula comes back from one that stands in the longer list
   pub record Comes (f : Tree) : Type 0 where
     pub id : FormulaId
-    pub stands : Stands end id
+    pub stands : IsNodeIn end id
     pub tree_is : back (tree_at end id) ≡ f
 
   -- a list of formulas each of which does
   pub record Follows (nodes : List Node) : Type 0 where
     pub list : IsNodeList nodes
-    pub all : (id : FormulaId) → Stands nodes id → Comes (tree_at nodes id)
+    pub all : (id : FormulaId) → IsNodeIn nodes id → Comes (tree_at nodes id)
 
   -- ---- as many formulas stand in the longer list
 
-  module _ (nodes : List Node) (follows : Follows nodes) (f : Tree) (comes : Comes f) (new : (id : FormulaId) → Stands nodes id → tree_at nodes id ≡ f → ⊥) where
+  module _ (nodes : List Node) (follows : Follows nodes) (f : Tree) (comes : Comes f) (new : (id : FormulaId) → IsNodeIn nodes id → tree_at nodes id ≡ f → ⊥) where
     number : (k : ℕ) → (k < length nodes) ⊎ (length nodes ≤ k) → ℕ
     number k (inl here) = (follows.all (record { 0 = k }) here).id.0
     number k (inr past) = comes.id.0
@@ -103,7 +103,7 @@ module _ (end : List Node) (list_end : IsNodeList end) (back : Tree → Tree) wh
 
     module _ (nodes : List Node) (follows : Follows nodes) (new : Node) (parts : PartsBelow (length nodes) new) (signal : SignalBelow MAX_SIGNALS new)
         (comes : Comes (tree_of (trees_of nodes) new)) where
-      is_new : position (node_eq new) nodes ≡ None → (id : FormulaId) → Stands nodes id → tree_at nodes id ≡ tree_of (trees_of nodes) new → ⊥
+      is_new : position (node_eq new) nodes ≡ None → (id : FormulaId) → IsNodeIn nodes id → tree_at nodes id ≡ tree_of (trees_of nodes) new → ⊥
       is_new none id stands same =
           let here : tree_of (trees_of nodes) (node_at nodes id.0) ≡ tree_of (trees_of nodes) new =
           sym (tree_at-node nodes id.0 stands (follows.list.parts_first id.0)) ∙ same in
@@ -153,7 +153,7 @@ module _ (end : List Node) (list_end : IsNodeList end) (back : Tree → Tree) wh
         → FindsRoom (go_on built next)
     go_on_fits built next first then = subst FindsRoom (sym (go_on-Some built next first.id first.made)) (then first.id first.made first.follows)
 
-    next_fits : (a : FormulaId) (f : Tree) (nodes : List Node) → Follows nodes → Stands nodes a → tree_at nodes a ≡ f → Comes (next_of (constant_tree f) f) → (o : Option Bool)
+    next_fits : (a : FormulaId) (f : Tree) (nodes : List Node) → Follows nodes → IsNodeIn nodes a → tree_at nodes a ≡ f → Comes (next_of (constant_tree f) f) → (o : Option Bool)
         → constant_at nodes a ≡ o → FindsRoom (next_step most o a nodes)
     next_fits a f nodes follows stands is comes (Some value) e = gives_room a nodes follows
     next_fits a f nodes follows stands is comes None e =
@@ -161,7 +161,7 @@ module _ (end : List Node) (list_end : IsNodeList end) (back : Tree → Tree) wh
         let whole : Comes (next_time f) = subst (λ (o : Option Bool). Comes (next_of o f)) none comes in
         node_fits nodes follows (node.Next a) stands tt (subst (λ (t : Tree). Comes (next_time t)) (sym is) whole)
 
-    module _ (joint : Joint) (a b : FormulaId) (f g : Tree) (nodes : List Node) (follows : Follows nodes) (stands_a : Stands nodes a) (stands_b : Stands nodes b)
+    module _ (joint : Joint) (a b : FormulaId) (f g : Tree) (nodes : List Node) (follows : Follows nodes) (stands_a : IsNodeIn nodes a) (stands_b : IsNodeIn nodes b)
         (is_a : tree_at nodes a ≡ f) (is_b : tree_at nodes b ≡ g) (comes : Comes (joint_tree joint f g)) where
       outcome_is : outcome_of joint (constant_at nodes a) (constant_at nodes b) (a.0 == b.0) ≡ outcome_of joint (constant_tree f) (constant_tree g) (tree_eq f g)
       outcome_is =

@@ -3,7 +3,7 @@ use Rattle.std.proofs.Common.{◌≡◌, ℕ, Bool, List, [], ◌∷◌, ℤ, ap
 use Rattle.letters_and_lassos.specs.Word.{Word}
 use Rattle.ltl_formula.specs.declared.nodes.FormulaId.{FormulaId}
 use Rattle.ltl_formula.specs.declared.nodes.Node.{Node}
-use Rattle.ltl_formula.specs.Nodes.{tree_at, Stands, Grows}
+use Rattle.ltl_formula.specs.Nodes.{tree_at, IsNodeIn, Grows}
 use Rattle.ltl_formula.specs.Truth.{holds}
 use Rattle.ltl_formula.proofs.Trees.{tree_at-grown}
 use Rattle.ltl_formula.proofs.Lists.{Grows-stands}
@@ -17,7 +17,7 @@ use Rattle.tlsf_expand.specs.WrittenTruth.{BoundSense}
 
 -- the flat formula has these truths at the positions of the lasso
 pub record HasTruths (w : Word) (truths : ℕ → Bool) (id : FormulaId) (nodes : List Node) : Type 0 where
-  pub stands : Stands nodes id
+  pub stands : IsNodeIn nodes id
   pub same : holds w (tree_at nodes id) ≡ truths
 
 pub data Alike (w : Word) (nodes : List Node) : Value → Sense → Type 0 where

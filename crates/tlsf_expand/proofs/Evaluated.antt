@@ -19,7 +19,7 @@ use Rattle.tlsf_values.specs.Outcomes.{gives, go_on, faulty}
 use Rattle.tlsf_values.specs.Names.{Names, Binding, Meaning, look_up}
 use Rattle.tlsf_values.specs.Sorts.{bus_in}
 use Rattle.tlsf_values.specs.Counts.{joining_of, window_of}
-use Rattle.tlsf_values.specs.Values.{Evaluator, evaluator, start_of, tree_count, values_at, arguments_at, meaning_value, call_value, guard_value, chosen_value, body_value, is_never_a_bus, word_value, chain_value, window_at, bind, big_value, big_at, form_value, value_at}
+use Rattle.tlsf_values.specs.Values.{Evaluator, evaluator, span_start, tree_count, values_at, arguments_at, meaning_value, call_value, guard_value, chosen_value, body_value, is_never_a_bus, word_value, chain_value, window_at, bind, big_value, big_at, form_value, value_at}
 use Rattle.tlsf_expand.specs.Senses as senses
 use Rattle.tlsf_expand.specs.WrittenTruth as written
 use Rattle.tlsf_expand.specs.Senses.{Sense, a_number, a_truth, a_formula, nothing}
@@ -113,7 +113,7 @@ module _ {top : ℕ} (w : Word) (names : Names) (has : HasPlainNames top names) 
       → Keeps top work.formulas (λ b nodes. guard_sense m ss guard ≡ a_truth b) (guard_value r bound guard work)
   keeps_guard bound ss None work list h = keeps_given _ true work list refl
   keeps_guard bound ss (Some t) work list h =
-      keeps_go_on _ _ (agrees.value bound ss t work list h) (λ v work1 list1 grows1 hv. keeps_truth_in w (start_of t) v (m.sense ss t) work1 list1 hv)
+      keeps_go_on _ _ (agrees.value bound ss t work list h) (λ v work1 list1 grows1 hv. keeps_truth_in w (span_start t) v (m.sense ss t) work1 list1 hv)
 
   keeps_chosen : (bound : List Binding) (ss : List BoundSense) (place : ℕ) (alternatives : List Alternative) (work : Work) → IsGood top work.formulas → AlikeBindings w work.formulas bound ss
       → Keeps top work.formulas (λ v nodes. Alike w nodes v (chosen_sense m ss alternatives)) (chosen_value r bound place alternatives work)
@@ -145,10 +145,10 @@ module _ {top : ℕ} (w : Word) (names : Names) (has : HasPlainNames top names) 
       → AlikeBindings w work.formulas bound ss → Keeps top work.formulas (λ x nodes. AlikeFormula w nodes x (big_sense m o ss over t)) (big_value r place c bound over t work)
   keeps_big c o j place bound ss no_ranges t work list h =
       keeps_go_on _ _ (agrees.value bound ss t work list h) (λ v work1 list1 grows1 hv.
-      keeps_formula_in w (start_of t) v (m.sense ss t) _ work1 _ hv (λ x hx. keeps_given _ x work1 list1 hx))
+      keeps_formula_in w (span_start t) v (m.sense ss t) _ work1 _ hv (λ x hx. keeps_given _ x work1 list1 hx))
   keeps_big c o j place bound ss (members word s more) t work list h =
       keeps_go_on _ _ (agrees.value bound ss s work list h) (λ v work1 list1 grows1 hv.
-      keeps_members w c o j place (start_of s) v (m.sense ss s) (λ z w'. big_value r place c (bind word (Number z) bound) more t w') (λ z. big_sense m o (bind_number word z ss) more t) work1 list1 hv
+      keeps_members w c o j place (span_start s) v (m.sense ss s) (λ z w'. big_value r place c (bind word (Number z) bound) more t w') (λ z. big_sense m o (bind_number word z ss) more t) work1 list1 hv
       (record {
         each = λ z work2 list2 grows2. keeps_big c o j place (bind word (Number z) bound) (bind_number word z ss) more t work2 list2
             (alike_more word.name (Number z) (a_number z) bound ss (alike_number z) (grown_bindings grows2 (grown_bindings grows1 h)));
@@ -156,7 +156,7 @@ module _ {top : ℕ} (w : Word) (names : Names) (has : HasPlainNames top names) 
   keeps_big c o j place bound ss (between low low_strict word high_strict high more) t work list h =
       keeps_go_on _ _ (agrees.value bound ss low work list h) (λ a work1 list1 grows1 ha.
       keeps_go_on _ _ (agrees.value bound ss high work1 list1 (grown_bindings grows1 h)) (λ b work2 list2 grows2 hb.
-      keeps_between w c o j place (start_of low) (start_of high) low_strict high_strict a b (m.sense ss low) (m.sense ss high)
+      keeps_between w c o j place (span_start low) (span_start high) low_strict high_strict a b (m.sense ss low) (m.sense ss high)
       (λ z w'. big_value r place c (bind word (Number z) bound) more t w') (λ z. big_sense m o (bind_number word z ss) more t) work2 list2 (grown grows2 ha) hb
       (record {
         each = λ z work3 list3 grows3. keeps_big c o j place (bind word (Number z) bound) (bind_number word z ss) more t work3 list3
@@ -197,9 +197,9 @@ module _ {top : ℕ} (w : Word) (names : Names) (has : HasPlainNames top names) 
   keeps_form bound ss (index s word i) work list h =
       keeps_go_on _ _ (keeps_word word.span.start (look_up names bound word.name) (referent names ss word.name) work list (look_alike w work.formulas names has bound ss h word.name)) (λ b work1 list1 grows1 hb.
       keeps_go_on _ _ (agrees.value bound ss i work1 list1 (grown_bindings grows1 h)) (λ v work2 list2 grows2 hv.
-      keeps_index w names has s.start (start_of i) b v (name_sense w m (referent names ss word.name)) (m.sense ss i) work2 list2 hb hv))
+      keeps_index w names has s.start (span_start i) b v (name_sense w m (referent names ss word.name)) (m.sense ss i) work2 list2 hb hv))
   keeps_form bound ss (size_of s t) work list h =
-      keeps_go_on _ _ (agrees.value bound ss t work list h) (λ v work1 list1 grows1 hv. keeps_width w names (start_of t) v (m.sense ss t) work1 list1 hv)
+      keeps_go_on _ _ (agrees.value bound ss t work list h) (λ v work1 list1 grows1 hv. keeps_width w names (span_start t) v (m.sense ss t) work1 list1 hv)
   keeps_form bound ss (paren s t) work list h = agrees.value bound ss t work list h
   keeps_form bound ss (set s ts) work list h =
       keeps_go_on _ _ (keeps_values_at bound ss [] ts work list h) (λ vs work1 list1 grows1 f.
@@ -208,19 +208,19 @@ module _ {top : ℕ} (w : Word) (names : Names) (has : HasPlainNames top names) 
       keeps_go_on _ _ (agrees.value bound ss t work list h) (λ a work1 list1 grows1 ha.
       keeps_go_on _ _ (agrees.value bound ss u work1 list1 (grown_bindings grows1 h)) (λ b work2 list2 grows2 hb.
       keeps_go_on _ _ (agrees.value bound ss v work2 list2 (grown_bindings grows2 (grown_bindings grows1 h))) (λ c work3 list3 grows3 hc.
-      keeps_steps w s.start (start_of t) (start_of u) (start_of v) a b c (m.sense ss t) (m.sense ss u) (m.sense ss v) work3 list3 (grown grows3 (grown grows2 ha)) (grown grows3 hb) hc)))
+      keeps_steps w s.start (span_start t) (span_start u) (span_start v) a b c (m.sense ss t) (m.sense ss u) (m.sense ss v) work3 list3 (grown grows3 (grown grows2 ha)) (grown grows3 hb) hc)))
   keeps_form bound ss (chain s t links) work list h =
-      keeps_go_on _ _ (agrees.value bound ss t work list h) (λ v work1 list1 grows1 hv. keeps_chain bound ss s.start (start_of t) v (m.sense ss t) links work1 list1 (grown_bindings grows1 h) hv)
+      keeps_go_on _ _ (agrees.value bound ss t work list h) (λ v work1 list1 grows1 hv. keeps_chain bound ss s.start (span_start t) v (m.sense ss t) links work1 list1 (grown_bindings grows1 h) hv)
   keeps_form bound ss (pair s o t u) work list h =
       keeps_go_on _ _ (agrees.value bound ss t work list h) (λ a work1 list1 grows1 ha.
       keeps_go_on _ _ (agrees.value bound ss u work1 list1 (grown_bindings grows1 h)) (λ b work2 list2 grows2 hb.
       keeps_operated w names has o _ a b (m.sense ss t) (m.sense ss u) work2 list2 (grown grows2 ha) hb))
   keeps_form bound ss (prefix s o t) work list h =
-      keeps_go_on _ _ (agrees.value bound ss t work list h) (λ a work1 list1 grows1 ha. keeps_prefixed w o s.start (start_of t) a (m.sense ss t) work1 list1 ha)
+      keeps_go_on _ _ (agrees.value bound ss t work list h) (λ a work1 list1 grows1 ha. keeps_prefixed w o s.start (span_start t) a (m.sense ss t) work1 list1 ha)
   keeps_form bound ss (count s n t) work list h =
       keeps_go_on _ _ (agrees.value bound ss n work list h) (λ a work1 list1 grows1 ha.
       keeps_go_on _ _ (agrees.value bound ss t work1 list1 (grown_bindings grows1 h)) (λ v work2 list2 grows2 hv.
-      keeps_steps_on w s.start (start_of n) (start_of t) a v (m.sense ss n) (m.sense ss t) work2 list2 (grown grows2 ha) hv))
+      keeps_steps_on w s.start (span_start n) (span_start t) a v (m.sense ss n) (m.sense ss t) work2 list2 (grown grows2 ha) hv))
   keeps_form bound ss (window s o t u p) work list h = keeps_window_at s.start bound ss o t u p work list h
   keeps_form bound ss (big s o over t) work list h = keeps_big_at s.start bound ss o over t work list h
 
@@ -231,7 +231,7 @@ agree w names has zero = record { value = λ bound ss t work list h. refuses _ _
 agree {top = top} w names has (suc left) =
     let below : Agrees top w (evaluator names left) (reader w names left) = agree w names has left in
     record {
-      value = λ bound ss t work list h. keeps_go_on _ _ (keeps_counted w (start_of t) 1 work list)
+      value = λ bound ss t work list h. keeps_go_on _ _ (keeps_counted w (span_start t) 1 work list)
           (λ _ work1 list1 grows1 _. keeps_form w names has (evaluator names left) (reader w names left) below bound ss t work1 list1 (grown_bindings grows1 h));
       body = λ bound ss place b work list h. keeps_body w names has (evaluator names left) (reader w names left) below bound ss place b work list h;
     }

@@ -6,7 +6,7 @@ use Rattle.letters_and_lassos.specs.Word.{Word}
 use Rattle.letters_and_lassos.specs.declared.kinds.Kind.{Kind}
 use Rattle.ltl_formula.specs.declared.nodes.FormulaId.{FormulaId}
 use Rattle.ltl_formula.specs.declared.nodes.Node.{Node}
-use Rattle.ltl_formula.specs.Nodes.{Grows, Stands, tree_at}
+use Rattle.ltl_formula.specs.Nodes.{Grows, IsNodeIn, tree_at}
 use Rattle.ltl_formula.specs.Truth.{holds}
 use Rattle.ltl_formula.proofs.Lists.{Grows-stands}
 use Rattle.ltl_formula.proofs.Trees.{tree_at-grown}
@@ -30,25 +30,25 @@ use Rattle.tlsf_expand.proofs.WholeTree.{AllStandAs, SectionsStandAs, fills_whol
 
 -- ---- formulas that stand, as trees
 
-all_stand_as : (nodes : List Node) (ids : List FormulaId) → All (Stands nodes) ids → AllStandAs nodes (formulas_at nodes ids) ids
+all_stand_as : (nodes : List Node) (ids : List FormulaId) → All (IsNodeIn nodes) ids → AllStandAs nodes (formulas_at nodes ids) ids
 all_stand_as nodes [] h = none_stand
 all_stand_as nodes (id ∷ ids) h =
-    one_stands (tree_at nodes id) id (formulas_at nodes ids) ids (record { stands = All-head (Stands nodes) id ids h; tree = refl }) (all_stand_as nodes ids (All-tail (Stands nodes) id ids h))
+    one_stands (tree_at nodes id) id (formulas_at nodes ids) ids (record { stands = All-head (IsNodeIn nodes) id ids h; tree = refl }) (all_stand_as nodes ids (All-tail (IsNodeIn nodes) id ids h))
 
 pub as_trees : (nodes : List Node) (ids : Sections (List FormulaId)) → SectionsStand nodes ids → SectionsStandAs nodes (section_trees nodes ids) ids
 as_trees nodes ids h = each_of _ (λ p. AllStandAs nodes p.0 p.1) (λ ids. (formulas_at nodes ids, ids)) (all_stand_as nodes) h
 
-pub same_later : (old new : List Node) (ids : List FormulaId) → Grows old new → All (Stands old) ids → formulas_at new ids ≡ formulas_at old ids
+pub same_later : (old new : List Node) (ids : List FormulaId) → Grows old new → All (IsNodeIn old) ids → formulas_at new ids ≡ formulas_at old ids
 same_later old new [] grows h = refl
 same_later old new (id ∷ ids) grows h =
-    ap (λ t. t ∷ formulas_at new ids) (tree_at-grown old new id grows (All-head (Stands old) id ids h))
-    ∙ ap (λ ts. tree_at old id ∷ ts) (same_later old new ids grows (All-tail (Stands old) id ids h))
+    ap (λ t. t ∷ formulas_at new ids) (tree_at-grown old new id grows (All-head (IsNodeIn old) id ids h))
+    ∙ ap (λ ts. tree_at old id ∷ ts) (same_later old new ids grows (All-tail (IsNodeIn old) id ids h))
 
 pub same_trees : (old new : List Node) (ids : Sections (List FormulaId)) → Grows old new → SectionsStand old ids → section_trees new ids ≡ section_trees old ids
 same_trees old new ids grows h = same_where (formulas_at new) (formulas_at old) (each_weaker _ _ (λ ids. same_later old new ids grows) h)
 
 pub sections_stand_later : (old new : List Node) (ids : Sections (List FormulaId)) → Grows old new → SectionsStand old ids → SectionsStand new ids
-sections_stand_later old new ids grows h = each_weaker _ (All (Stands new)) (λ ids h k d l. Grows-stands old new (get_or ids k d) grows (h k d l)) h
+sections_stand_later old new ids grows h = each_weaker _ (All (IsNodeIn new)) (λ ids h k d l. Grows-stands old new (get_or ids k d) grows (h k d l)) h
 
 -- ---- the text
 

@@ -8,7 +8,7 @@ use Rattle.ltl_formula.specs.declared.nodes.FormulaId.{FormulaId}
 use Rattle.ltl_formula.specs.declared.nodes.Node.{Node}
 use Rattle.ltl_formula.specs.declared.nodes.Node.TheVariants as node
 use Rattle.ltl_formula.specs.declared.nodes.TheConstants.{MAX_NODES, MAX_SIGNALS}
-use Rattle.ltl_formula.specs.Nodes.{tree_of, trees_of, tree_at, PartsBelow, SignalBelow, IsNodeList, Stands, Grows}
+use Rattle.ltl_formula.specs.Nodes.{tree_of, trees_of, tree_at, PartsBelow, SignalBelow, IsNodeList, IsNodeIn, Grows}
 use Rattle.ltl_formula.specs.ListSignals.{HasSignalsBelow}
 use Rattle.ltl_formula.specs.Added.{node_eq, Built, built_at, added}
 use Rattle.ltl_formula.proofs.ListSignals.{HasSignalsBelow-added, HasSignalsBelow-none}
@@ -100,7 +100,7 @@ keeps_choose false f g work Q yes_ no_ = no_ refl
 
 -- the id stands in the list, for this node
 pub record Makes (node : Node) (id : FormulaId) (nodes : List Node) : Type 0 where
-  pub stands : Stands nodes id
+  pub stands : IsNodeIn nodes id
   pub tree : tree_at nodes id ≡ tree_of (trees_of nodes) node
 
 stands-below : (nodes : List Node) (id : FormulaId) → stands nodes id ≡ true → id.0 < length nodes

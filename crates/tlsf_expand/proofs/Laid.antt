@@ -15,7 +15,7 @@ use Rattle.tlsf_values.specs.declared.value.Value.TheVariants.{Number}
 use Rattle.tlsf_values.specs.Outcomes.{gives, fails, Checked, fine, faulty, checked, choose}
 use Rattle.tlsf_values.specs.Names.{Names, Meaning, known, a_signal, a_definition, an_enumeration, undeclared, same_name, without_names}
 use Rattle.tlsf_values.specs.Patterns.{all_values, are_wide}
-use Rattle.tlsf_values.specs.Values.{start_of}
+use Rattle.tlsf_values.specs.Values.{span_start}
 use Rattle.tlsf_expand.specs.Signals.{values_in, or_those, values_named, width_of, other_width, first_of, uneven_in, uneven_value, Extent, alone, wide, of_type, bits_in, width_in, declares, type_in, extent_value, TypedSignal, Declared, declared, declarations_value, Signals, none_yet, signals_value, even_first, work_within, signals_of}
 use Rattle.tlsf_expand.proofs.Kept.{IsGood, Gives, Anyhow, gives_such, refuses, gives_go_on, Keeps, keeps_go_on, keeps_given, no_nodes}
 use Rattle.tlsf_expand.proofs.Named.{HasPlainNames, names-more, plain_with_signal, plain_with_bus, plain_with_definitions, plain_without_names}
@@ -143,7 +143,7 @@ module _ (most : ℕ) (text : Text) (even : uneven_value text.definitions ≡ No
       → Keeps top work.formulas (λ extent nodes. IsEven extent) (extent_value text names shape work)
   keeps_extent names plain single work good = keeps_given _ alone work good tt
   keeps_extent names plain (bus t) work good =
-      keeps_go_on _ _ (keeps_value_at any_word names plain t 0 work good) (λ v work1 good1 grows1 h. keeps_checked_extent (width_in (start_of t) v) work1 good1 (width_even (start_of t) v))
+      keeps_go_on _ _ (keeps_value_at any_word names plain t 0 work good) (λ v work1 good1 grows1 h. keeps_checked_extent (width_in (span_start t) v) work1 good1 (width_even (span_start t) v))
   keeps_extent names plain (typed word) work good = keeps_checked_extent (type_in text word (names.means word.name)) work good (type_even word (names.means word.name))
 
   plain_declared : (m : ℕ) (word : Named) (extent : Extent) (d : Declared) → HasPlainNames m d.names → HasPlainNames (m + bits_in extent) (declared word m extent d).names

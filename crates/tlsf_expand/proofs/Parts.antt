@@ -25,7 +25,7 @@ use Rattle.tlsf_values.specs.Sets.{set_of}
 use Rattle.tlsf_values.specs.Steps.{step_count}
 use Rattle.tlsf_values.specs.Sorts.{number_in, truth_in, set_in, bus_in, formula_in}
 use Rattle.tlsf_values.specs.Counts.{count_in, count_value, joined_over}
-use Rattle.tlsf_values.specs.Values.{start_of, bit_value, numbers_in, steps_value, window_parts, low_of, high_of, run_of}
+use Rattle.tlsf_values.specs.Values.{span_start, bit_value, numbers_in, steps_value, window_parts, low_of, high_of, run_of}
 use Rattle.tlsf_expand.specs.Senses as senses
 use Rattle.tlsf_expand.specs.Senses.{Sense, a_number, a_set, a_bus, a_member, a_truth, a_formula, nothing, true_in, for_members}
 use Rattle.tlsf_expand.specs.WrittenTruth.{in_set, in_between}
@@ -118,22 +118,22 @@ module _ {top : ℕ} (w : Word) where
       → Alike w work.formulas m a → Alike w work.formulas n b → Alike w work.formulas v c
       → Keeps top work.formulas (λ v nodes. Alike w nodes v (senses.windowed w op.Globally a b c)) (window_parts place connective.And t u p m n v work)
   keeps_all_window_parts place t u p _ _ v _ _ c work list (alike_number (pos m)) (alike_number (pos n)) h =
-      keeps_formula_in w (start_of p) v c _ work _ h (λ x hx. keeps_all_window w place m n x c work list hx)
+      keeps_formula_in w (span_start p) v c _ work _ h (λ x hx. keeps_all_window w place m n x c work list hx)
   keeps_all_window_parts place t u p _ _ v _ _ c work list (alike_number (pos m)) (alike_number (negsuc n)) h =
-      keeps_formula_in w (start_of p) v c _ work _ h (λ x hx. refuses _ _)
+      keeps_formula_in w (span_start p) v c _ work _ h (λ x hx. refuses _ _)
   keeps_all_window_parts place t u p _ _ v _ _ c work list (alike_number (negsuc m)) (alike_number n) h =
-      keeps_formula_in w (start_of p) v c _ work _ h (λ x hx. refuses _ _)
+      keeps_formula_in w (span_start p) v c _ work _ h (λ x hx. refuses _ _)
   keeps_all_window_parts place t u p _ _ v _ _ c work list _ _ h = refuses _ _
 
   pub keeps_some_window_parts : (place : ℕ) (t u p : Tree) (m n v : Value) (a b c : Sense) (work : Work) → IsGood top work.formulas
       → Alike w work.formulas m a → Alike w work.formulas n b → Alike w work.formulas v c
       → Keeps top work.formulas (λ v nodes. Alike w nodes v (senses.windowed w op.Finally a b c)) (window_parts place connective.Or t u p m n v work)
   keeps_some_window_parts place t u p _ _ v _ _ c work list (alike_number (pos m)) (alike_number (pos n)) h =
-      keeps_formula_in w (start_of p) v c _ work _ h (λ x hx. keeps_some_window w place m n x c work list hx)
+      keeps_formula_in w (span_start p) v c _ work _ h (λ x hx. keeps_some_window w place m n x c work list hx)
   keeps_some_window_parts place t u p _ _ v _ _ c work list (alike_number (pos m)) (alike_number (negsuc n)) h =
-      keeps_formula_in w (start_of p) v c _ work _ h (λ x hx. refuses _ _)
+      keeps_formula_in w (span_start p) v c _ work _ h (λ x hx. refuses _ _)
   keeps_some_window_parts place t u p _ _ v _ _ c work list (alike_number (negsuc m)) (alike_number n) h =
-      keeps_formula_in w (start_of p) v c _ work _ h (λ x hx. refuses _ _)
+      keeps_formula_in w (span_start p) v c _ work _ h (λ x hx. refuses _ _)
   keeps_some_window_parts place t u p _ _ v _ _ c work list _ _ h = refuses _ _
 
   pub keeps_truth_in : (at : ℕ) (v : Value) (s : Sense) (work : Work) → IsGood top work.formulas → Alike w work.formulas v s

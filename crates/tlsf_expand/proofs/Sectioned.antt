@@ -6,14 +6,14 @@ use Rattle.std.proofs.lemmas.List.Elements.{All-cons, All-nil}
 use Rattle.letters_and_lassos.specs.Word.{Word}
 use Rattle.ltl_formula.specs.declared.nodes.FormulaId.{FormulaId}
 use Rattle.ltl_formula.specs.declared.nodes.Node.{Node}
-use Rattle.ltl_formula.specs.Nodes.{Grows, Stands}
+use Rattle.ltl_formula.specs.Nodes.{Grows, IsNodeIn}
 use Rattle.tlsf_syntax.specs.declared.sections.Sections.{Sections}
 use Rattle.tlsf_syntax.specs.Tree.{Tree}
 use Rattle.tlsf_values.specs.declared.work.Work.{Work}
 use Rattle.tlsf_values.specs.declared.value.Value.{Value}
 use Rattle.tlsf_values.specs.Names.{Names}
 use Rattle.tlsf_values.specs.SectionValues.{section_formula, section_value}
-use Rattle.tlsf_values.specs.Values.{start_of}
+use Rattle.tlsf_values.specs.Values.{span_start}
 use Rattle.tlsf_expand.specs.Meaning.{all_true, all_typed, section_truths}
 use Rattle.tlsf_expand.specs.Sections.{added_value, sections_value}
 use Rattle.tlsf_expand.specs.Senses.{Sense, true_in, has_value}
@@ -99,7 +99,7 @@ module _ {top : ℕ} (w : Word) where
   keeps_section names has [] work list = keeps_given _ [] work list all_none
   keeps_section names has (t ∷ ts) work list =
       keeps_go_on _ _ (keeps_value_at w names has t 0 work list) (λ v work1 list1 grows1 hv.
-      keeps_go_on _ _ (keeps_section_formula (start_of t) v (sense_at w names [] t 0) work1 list1 hv) (λ id work2 list2 grows2 h.
+      keeps_go_on _ _ (keeps_section_formula (span_start t) v (sense_at w names [] t 0) work1 list1 hv) (λ id work2 list2 grows2 h.
       keeps_go_on _ _ (keeps_section names has ts work2 list2) (λ ids work3 list3 grows3 hs.
       keeps_given _ (id ∷ ids) work3 list3 (all_more id (true_in (sense_at w names [] t 0)) ids (written_truths w names ts) (grown_truths grows3 h) hs))))
 
@@ -131,12 +131,12 @@ module _ {top : ℕ} (w : Word) where
 
 -- ---- the formulas of the sections
 
-ids_stand : {w : Word} {nodes : List Node} {ids : List FormulaId} {fs : List (ℕ → Bool)} → AllTruths w nodes ids fs → All (Stands nodes) ids
+ids_stand : {w : Word} {nodes : List Node} {ids : List FormulaId} {fs : List (ℕ → Bool)} → AllTruths w nodes ids fs → All (IsNodeIn nodes) ids
 ids_stand all_none = All-nil _
-ids_stand {nodes = nodes} (all_more id f ids fs h more) = All-cons (Stands nodes) id ids h.stands (ids_stand more)
+ids_stand {nodes = nodes} (all_more id f ids fs h more) = All-cons (IsNodeIn nodes) id ids h.stands (ids_stand more)
 
 pub sections_stand : {w : Word} {fs : Sections (List (ℕ → Bool))} {ids : Sections (List FormulaId)} {nodes : List Node} → HaveTruths w fs ids nodes → SectionsStand nodes ids
-sections_stand {nodes = nodes} h = each_of _ (All (Stands nodes)) (λ p. p.1) (λ p. ids_stand) h
+sections_stand {nodes = nodes} h = each_of _ (All (IsNodeIn nodes)) (λ p. p.1) (λ p. ids_stand) h
 
 module _ (w : Word) (nodes : List Node) where
   all_hold_at : (ids : List FormulaId) (fs : List (ℕ → Bool)) → AllTruths w nodes ids fs → (i : ℕ) → all_hold w (formulas_at nodes ids) i ≡ all_at fs i

@@ -4,7 +4,7 @@ use Rattle.text_limits.specs.declared.Limits.{Limits}
 use Rattle.letters_and_lassos.specs.Word.{Word}
 use Rattle.ltl_formula.specs.declared.nodes.FormulaId.{FormulaId}
 use Rattle.ltl_formula.specs.declared.nodes.Node.{Node}
-use Rattle.ltl_formula.specs.Nodes.{Stands, tree_at}
+use Rattle.ltl_formula.specs.Nodes.{IsNodeIn, tree_at}
 use Rattle.ltl_formula.specs.Truth.{holds}
 use Rattle.spec_faults.specs.declared.code.SpecFault.{SpecFault}
 use Rattle.tlsf_values.specs.Outcomes.{Outcome}
@@ -22,5 +22,5 @@ IsExpansion (Err e) o = IsFault o e
 
 -- a flat formula holds on every lasso exactly where the text means so
 pub record KeepsMeaning (limits : Limits) (text : Text) (nodes : List Node) (whole : FormulaId) : Type 0 where
-  pub stands : Stands nodes whole
+  pub stands : IsNodeIn nodes whole
   pub same : (w : Word) → holds w (tree_at nodes whole) 0 ≡ means limits w text

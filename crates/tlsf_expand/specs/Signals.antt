@@ -11,7 +11,7 @@ use Rattle.tlsf_values.specs.declared.work.Work.{Work}
 use Rattle.tlsf_values.specs.Outcomes.{Outcome, gives, fails, go_on, choose, Checked, fine, faulty, checked}
 use Rattle.tlsf_values.specs.Names.{Names, Meaning, an_enumeration, undeclared, same_name, with_signal, with_bus, with_definitions, without_names}
 use Rattle.tlsf_values.specs.Patterns.{all_values}
-use Rattle.tlsf_values.specs.Values.{start_of, value_at}
+use Rattle.tlsf_values.specs.Values.{span_start, value_at}
 use Rattle.tlsf_syntax.specs.Text.{Text}
 
 -- ---- enumerations
@@ -88,7 +88,7 @@ type_in text word _ = faulty WrongSort word.span.start
 -- a width may name the definitions and the signals that are declared before it
 abbrev pub extent_value : Text → Names → Shape → Work → Outcome Extent
 extent_value text names single w = gives alone w
-extent_value text names (bus t) w = go_on (value_at names [] t 0 w) (λ v w. checked (width_in (start_of t) v) (λ extent w. gives extent w) w)
+extent_value text names (bus t) w = go_on (value_at names [] t 0 w) (λ v w. checked (width_in (span_start t) v) (λ extent w. gives extent w) w)
 extent_value text names (typed word) w = checked (type_in text word (names.means word.name)) (λ extent w. gives extent w) w
 
 -- a signal of an enumeration's type: its name's first byte in its declaration, its first bit's number, and the type's values

@@ -4,7 +4,7 @@ use Rattle.std.specs.List.{list_all}
 use Rattle.letters_and_lassos.specs.Word.{Word}
 use Rattle.ltl_formula.specs.declared.nodes.FormulaId.{FormulaId}
 use Rattle.ltl_formula.specs.declared.nodes.Node.{Node}
-use Rattle.ltl_formula.specs.Nodes.{Stands, tree_at}
+use Rattle.ltl_formula.specs.Nodes.{IsNodeIn, tree_at}
 use Rattle.ltl_formula.specs.Tree.{Tree}
 use Rattle.ltl_formula.specs.Truth.{holds}
 use Rattle.tlsf_syntax.specs.declared.sections.Sections.{Sections}
@@ -21,11 +21,11 @@ pub record OfEach {A : Type 0} (P : A → Type 0) (s : Sections A) : Type 0 wher
 
 -- each formula of each section stands in the list
 abbrev pub SectionsStand : List Node → Sections (List FormulaId) → Type 0
-SectionsStand nodes ids = OfEach (All (Stands nodes)) ids
+SectionsStand nodes ids = OfEach (All (IsNodeIn nodes)) ids
 
 -- the formula stands in the list by this id
 pub record StandsAs (nodes : List Node) (t : Tree) (id : FormulaId) : Type 0 where
-  pub stands : Stands nodes id
+  pub stands : IsNodeIn nodes id
   pub tree : tree_at nodes id ≡ t
 
 -- the formulas that ids stand for

@@ -5,7 +5,7 @@ use Rattle.std.specs.Char.{is_ascii_digit}
 use Rattle.std.specs.List.{list_all, starts_with}
 use Rattle.tlsf_tokens.specs.Words.{is_blank, is_name_start, is_name_part, is_among, symbol_in, signs, words, unsupported_words, unsupported_signs}
 use Rattle.tlsf_tokens.specs.Pieces.{word_piece, text_before, quoted_piece, comment_piece, sign_or, sign_piece, mark_piece, piece_of}
-use Rattle.tlsf_tokens.specs.Cuts.{longest_or, longest_within, longest, fault_of, Stops, Cuts, ends, past_gap, past_token, IsInOrder}
+use Rattle.tlsf_tokens.specs.Cuts.{longest_or, longest_within, longest, fault_of, Stops, CutsText, ends, past_gap, past_token, IsInOrder}
 use Rattle.spec_faults.specs.declared.code.SpecCode.{SpecCode}
 use Rattle.spec_faults.specs.declared.code.SpecCode.TheVariants.{BadByte, Unclosed, Unsupported}
 use Rattle.tlsf_tokens.specs.declared.token.Piece.{Piece}
@@ -15,7 +15,7 @@ use Rattle.tlsf_tokens.specs.declared.token.Token.{Token}
 use Rattle.tlsf_tokens.specs.declared.token.Front.{Front}
 use Rattle.tlsf_tokens.specs.declared.symbol.Symbol.{Symbol}
 use Rattle.tlsf_syntax.specs.declared.nesting.Role.{Role}
-use Rattle.tlsf_syntax.specs.Nesting.{role_of, first_of, number_of, first_deep}
+use Rattle.tlsf_syntax.specs.Nesting.{role_of, first_of, nesting_of, first_deep}
 use Rattle.tlsf_syntax.specs.Lexemes.{Lexeme}
 use Rattle.tlsf_tokens.proofs.Cutting.{in_order}
 use Rattle.tlsf_reader.specs.Lexed.{IsLexed, lexeme_from}
@@ -111,13 +111,13 @@ unfolding longest
 stops_right text at None code s e = absurd cc
 stops_right text at (Some c) code s e = let same : c ≡ code = cc in ap is_stop (sym same) ∙ right_fault (longest (drop at text)) c (right_longest (length (drop at text)) (drop at text)) s.1
 
-pub stop_is_right : (text : List ℕ) (stop : Option SpecCode) (stop_at at : ℕ) (tokens : List Token) (code : SpecCode) → Cuts text stop stop_at at tokens → stop ≡ Some code → is_stop code ≡ true
+pub stop_is_right : (text : List ℕ) (stop : Option SpecCode) (stop_at at : ℕ) (tokens : List Token) (code : SpecCode) → CutsText text stop stop_at at tokens → stop ≡ Some code → is_stop code ≡ true
 stop_is_right text stop stop_at at tokens code (ends a e s) f = stops_right text a stop code s f
 stop_is_right text stop stop_at at tokens code (past_gap a len rest e cut) f = stop_is_right text stop stop_at (a + len) rest code cut f
 stop_is_right text stop stop_at at tokens code (past_token a len k rest e cut) f = stop_is_right text stop stop_at (a + len) rest code cut f
 
 -- without a reason to stop, the tokens reach the text's end
-pub reaches_end : (text : List ℕ) (stop : Option SpecCode) (stop_at at : ℕ) (tokens : List Token) → Cuts text stop stop_at at tokens → stop ≡ None → stop_at ≡ length text
+pub reaches_end : (text : List ℕ) (stop : Option SpecCode) (stop_at at : ℕ) (tokens : List Token) → CutsText text stop stop_at at tokens → stop ≡ None → stop_at ≡ length text
 reaches_end text stop stop_at at tokens (ends a e s) f = sym e ∙ subst (Stops text a) f s
 reaches_end text stop stop_at at tokens (past_gap a len rest e cut) f = reaches_end text stop stop_at (a + len) rest cut f
 reaches_end text stop stop_at at tokens (past_token a len k rest e cut) f = reaches_end text stop stop_at (a + len) rest cut f
@@ -125,7 +125,7 @@ reaches_end text stop stop_at at tokens (past_token a len k rest e cut) f = reac
 -- the number of a symbol that is nested too deep
 pub deep_within : (limit : ℕ) (before : List Role) (ss : List Symbol) (k : ℕ) → first_deep limit before ss ≡ Some k → k < length before + length ss
 deep_within limit before [] k e = absurd cc
-deep_within limit before (s ∷ ss) k e = by (nat_lt limit (number_of (role_of s (first_of ss) ∷ before) zero true true)) e (λ f. deep_within limit (role_of s (first_of ss) ∷ before) ss k f)
+deep_within limit before (s ∷ ss) k e = by (nat_lt limit (nesting_of (role_of s (first_of ss) ∷ before) zero true true)) e (λ f. deep_within limit (role_of s (first_of ss) ∷ before) ss k f)
   where
     by : (b : Bool) → cond b (Some (length before)) (first_deep limit (role_of s (first_of ss) ∷ before) ss) ≡ Some k → (first_deep limit (role_of s (first_of ss) ∷ before) ss ≡ Some k → k < suc (length before) + length ss) → k < length before + suc (length ss)
     by true f h = let same : length before ≡ k = cc in omega (arith, same)

@@ -1,7 +1,7 @@
 -- A text as the grammar sees it: its lexemes, up to where its tokens stop.
 use Rattle.std.specs.Prelude.{◌≡◌, ◌≤◌, ℕ, List, length, map, slice_range, Option}
 use Rattle.spec_faults.specs.declared.code.SpecCode.{SpecCode}
-use Rattle.tlsf_tokens.specs.Cuts.{Cuts}
+use Rattle.tlsf_tokens.specs.Cuts.{CutsText}
 use Rattle.tlsf_tokens.specs.declared.token.Token.{Token}
 use Rattle.tlsf_syntax.specs.Lexemes.{Lexeme}
 
@@ -16,7 +16,7 @@ IsTokenOf text token = (token.start ≤ token.end) × (token.end ≤ length text
 -- the text is cut into tokens up to this place, for this reason, and these are their lexemes
 pub record IsLexed (text : List ℕ) (stop : Option SpecCode) (stop_at : ℕ) (lexemes : List Lexeme) : Type 0 where
   pub tokens : List Token
-  pub cut : Cuts text stop stop_at 0 tokens
+  pub cut : CutsText text stop stop_at 0 tokens
   pub are : lexemes ≡ map (lexeme_from text) tokens
 
 pub record Lexed (text : List ℕ) : Type 0 where

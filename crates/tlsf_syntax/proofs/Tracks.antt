@@ -3,7 +3,7 @@ use Rattle.std.proofs.Common.{◌≡◌, ◌<◌, ◌≤◌, ℕ, zero, suc, ◌
 use Rattle.std.proofs.Math.Seq.{drop-cons}
 use Rattle.std.proofs.lemmas.List.{take_all, length-drop}
 use Rattle.std.proofs.lemmas.Bool.{cases_lt, le-ltb}
-use Rattle.tlsf_syntax.specs.Nesting.{role_of, first_of, number_of, first_deep}
+use Rattle.tlsf_syntax.specs.Nesting.{role_of, first_of, nesting_of, first_deep}
 use Rattle.tlsf_syntax.specs.Frames.{frame_number, frames_after}
 use Rattle.tlsf_syntax.specs.declared.nesting.Frame.{Frame}
 use Rattle.tlsf_tokens.specs.declared.symbol.Symbol.{Symbol}
@@ -16,8 +16,8 @@ value [] closed right prefix = 0
 value (f ∷ fs) zero right prefix = cond right f.right 0 + cond prefix f.prefix 0 + f.outside
 value (f ∷ fs) (suc closed) right prefix = value fs closed right prefix
 
-step_same : (role : Role) (before : List Role) (f : Frame) (fs : List Frame) → ((closed : ℕ) (right prefix : Bool) → number_of before closed right prefix ≡ value (f ∷ fs) closed right prefix)
-    → (closed : ℕ) (right prefix : Bool) → number_of (role ∷ before) closed right prefix ≡ value (frames_after role (f ∷ fs)) closed right prefix
+step_same : (role : Role) (before : List Role) (f : Frame) (fs : List Frame) → ((closed : ℕ) (right prefix : Bool) → nesting_of before closed right prefix ≡ value (f ∷ fs) closed right prefix)
+    → (closed : ℕ) (right prefix : Bool) → nesting_of (role ∷ before) closed right prefix ≡ value (frames_after role (f ∷ fs)) closed right prefix
 step_same Open before f fs h zero true true = omega (arith, h zero true true)
 step_same Open before f fs h zero true false = omega (arith, h zero true true)
 step_same Open before f fs h zero false true = omega (arith, h zero true true)
@@ -56,7 +56,7 @@ step_same Other before f fs h (suc c) r p = h (suc c) r p
 pub record Follows (symbols : List Symbol) (i : ℕ) (stack : List Frame) : Type 0 where
   pub before : List Role
   pub count : length before ≡ i
-  pub same : (closed : ℕ) (right prefix : Bool) → number_of before closed right prefix ≡ value stack closed right prefix
+  pub same : (closed : ℕ) (right prefix : Bool) → nesting_of before closed right prefix ≡ value stack closed right prefix
   pub rest : first_deep 128 [] symbols ≡ first_deep 128 before (drop i symbols)
 
 rest_is : (symbols : List Symbol) (i : ℕ) → take (length symbols - i) (drop i symbols) ≡ drop i symbols
@@ -68,21 +68,21 @@ not_deep r n h e = elim (cases_lt 128 n) [ inl l ↦ let t : IsTrue false = subs
 -- one symbol further
 module _ (symbols : List Symbol) (i : ℕ) (d : Symbol) (next : Option Symbol) (f : Frame) (fs : List Frame)
     (follows : Follows symbols i (f ∷ fs)) (low : i < length symbols) (then : next ≡ first_of (take (length symbols - (i + 1)) (drop (i + 1) symbols))) where
-  number_is : number_of (role_of (get_or symbols i d) next ∷ follows.before) zero true true ≡ value (frames_after (role_of (get_or symbols i d) next) (f ∷ fs)) zero true true
+  number_is : nesting_of (role_of (get_or symbols i d) next ∷ follows.before) zero true true ≡ value (frames_after (role_of (get_or symbols i d) next) (f ∷ fs)) zero true true
   number_is = step_same (role_of (get_or symbols i d) next) follows.before f fs follows.same zero true true
 
   unfolds : first_deep 128 [] symbols
-      ≡ cond (nat_lt 128 (number_of (role_of (get_or symbols i d) next ∷ follows.before) zero true true)) (Some (length follows.before)) (first_deep 128 (role_of (get_or symbols i d) next ∷ follows.before) (drop (i + 1) symbols))
+      ≡ cond (nat_lt 128 (nesting_of (role_of (get_or symbols i d) next ∷ follows.before) zero true true)) (Some (length follows.before)) (first_deep 128 (role_of (get_or symbols i d) next ∷ follows.before) (drop (i + 1) symbols))
   unfolds =
       let e : drop i symbols ≡ get_or symbols i d ∷ drop (i + 1) symbols = let n : i + 1 ≡ suc i = omega arith in rw n (drop-cons symbols i d low) in
       let g : first_of (drop (i + 1) symbols) ≡ next = sym (then ∙ ap first_of (rest_is symbols (i + 1))) in
-      follows.rest ∙ ap (first_deep 128 follows.before) e ∙ ap (λ (n : Option Symbol). cond (nat_lt 128 (number_of (role_of (get_or symbols i d) n ∷ follows.before) zero true true)) (Some (length follows.before))
+      follows.rest ∙ ap (first_deep 128 follows.before) e ∙ ap (λ (n : Option Symbol). cond (nat_lt 128 (nesting_of (role_of (get_or symbols i d) n ∷ follows.before) zero true true)) (Some (length follows.before))
       (first_deep 128 (role_of (get_or symbols i d) n ∷ follows.before) (drop (i + 1) symbols))) g
 
   pub goes_on : (g : Frame) (gs : List Frame) → g ∷ gs ≡ frames_after (role_of (get_or symbols i d) next) (f ∷ fs) → frame_number g ≤ 128 → Follows symbols (i + 1) (g ∷ gs)
   goes_on g gs e l =
-      let n : number_of (role_of (get_or symbols i d) next ∷ follows.before) zero true true ≡ frame_number g = number_is ∙ ap (λ (x : List Frame). value x zero true true) (sym e) in
-      let b : nat_lt 128 (number_of (role_of (get_or symbols i d) next ∷ follows.before) zero true true) ≡ false = rw n (le-ltb 128 (frame_number g) l) in
+      let n : nesting_of (role_of (get_or symbols i d) next ∷ follows.before) zero true true ≡ frame_number g = number_is ∙ ap (λ (x : List Frame). value x zero true true) (sym e) in
+      let b : nat_lt 128 (nesting_of (role_of (get_or symbols i d) next ∷ follows.before) zero true true) ≡ false = rw n (le-ltb 128 (frame_number g) l) in
       record {
         before = role_of (get_or symbols i d) next ∷ follows.before;
         count = let k : length follows.before ≡ i = follows.count in omega arith;

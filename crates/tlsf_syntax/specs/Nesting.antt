@@ -60,21 +60,21 @@ one_if counted = if counted then 1 else 0
 -- The number of a symbol, by its role and those before it, the nearest first: one for each bracket that is open, and for
 -- what stands directly in each of these and outside them all. So many brackets that closed are still to be passed over;
 -- `right` and `prefix` say whether no separator and no other operator was passed in the bracket that is counted.
-abbrev pub number_of : List Role → ℕ → Bool → Bool → ℕ
-number_of [] closed right prefix = 0
-number_of (Close ∷ before) closed right prefix = number_of before (suc closed) right prefix
-number_of (Open ∷ before) zero right prefix = suc (number_of before zero true true)
-number_of (Open ∷ before) (suc closed) right prefix = number_of before closed right prefix
-number_of (Separator ∷ before) zero right prefix = number_of before zero false false
-number_of (Right ∷ before) zero right prefix = one_if right + number_of before zero right false
-number_of (Prefix ∷ before) zero right prefix = one_if prefix + number_of before zero right prefix
-number_of (Operator ∷ before) zero right prefix = number_of before zero right false
-number_of (Other ∷ before) zero right prefix = number_of before zero right prefix
-number_of (_ ∷ before) (suc closed) right prefix = number_of before (suc closed) right prefix
+abbrev pub nesting_of : List Role → ℕ → Bool → Bool → ℕ
+nesting_of [] closed right prefix = 0
+nesting_of (Close ∷ before) closed right prefix = nesting_of before (suc closed) right prefix
+nesting_of (Open ∷ before) zero right prefix = suc (nesting_of before zero true true)
+nesting_of (Open ∷ before) (suc closed) right prefix = nesting_of before closed right prefix
+nesting_of (Separator ∷ before) zero right prefix = nesting_of before zero false false
+nesting_of (Right ∷ before) zero right prefix = one_if right + nesting_of before zero right false
+nesting_of (Prefix ∷ before) zero right prefix = one_if prefix + nesting_of before zero right prefix
+nesting_of (Operator ∷ before) zero right prefix = nesting_of before zero right false
+nesting_of (Other ∷ before) zero right prefix = nesting_of before zero right prefix
+nesting_of (_ ∷ before) (suc closed) right prefix = nesting_of before (suc closed) right prefix
 
 -- the first of the symbols whose number passes the limit, where those before them have these roles
 abbrev pub first_deep : ℕ → List Role → List Symbol → Option ℕ
 first_deep limit before [] = None
 first_deep limit before (s ∷ rest) =
-    if nat_lt limit (number_of (role_of s (first_of rest) ∷ before) zero true true) then Some (length before)
+    if nat_lt limit (nesting_of (role_of s (first_of rest) ∷ before) zero true true) then Some (length before)
     else first_deep limit (role_of s (first_of rest) ∷ before) rest

@@ -3,7 +3,7 @@ use Rattle.std.proofs.Common.{◌≡◌, ◌<◌, ◌≤◌, ℕ, ◌+◌, ◌-�
 use Rattle.std.proofs.lemmas.List.{length-drop, append-nil, take_all, drop-drop}
 use Rattle.std.proofs.Math.Seq.{take-add}
 use Rattle.tlsf_tokens.specs.Pieces.{piece_of}
-use Rattle.tlsf_tokens.specs.Cuts.{longest, fault_of, Stops, Cuts, ends, past_gap, past_token, IsInOrder, AreFormed, IsGap, none, more, HasGapsAround}
+use Rattle.tlsf_tokens.specs.Cuts.{longest, fault_of, Stops, CutsText, ends, past_gap, past_token, IsInOrder, AreFormed, IsGap, none, more, HasGapsAround}
 use Rattle.spec_faults.specs.declared.code.SpecCode.{SpecCode}
 use Rattle.spec_faults.specs.declared.code.SpecCode.TheVariants.{BadByte}
 use Rattle.tlsf_tokens.specs.declared.token.Piece.{Piece}
@@ -15,7 +15,7 @@ use Rattle.tlsf_tokens.proofs.Longest.{longest_bounds, longest_piece}
 
 -- however the text is cut from the place on, the tokens so far stand before
 pub record HasCut (text : List ℕ) (done : List Token) (at : ℕ) : Type 0 where
-  pub on : (stop : Option SpecCode) (stop_at : ℕ) (rest : List Token) → Cuts text stop stop_at at rest → Cuts text stop stop_at 0 (done ++ rest)
+  pub on : (stop : Option SpecCode) (stop_at : ℕ) (rest : List Token) → CutsText text stop stop_at at rest → CutsText text stop stop_at 0 (done ++ rest)
   pub within : at ≤ length text
 
 pub bound : (text : List ℕ) (at : ℕ) (front : Front) → at < length text → longest (drop at text) ≡ Some front → at + front.len ≤ length text
@@ -34,7 +34,7 @@ token_cut text done at len symbol h l e = record {
   within = bound text at (record { piece = token_piece symbol; len = len }) l e;
 }
 
-pub all_cut : (text : List ℕ) (done : List Token) (at : ℕ) (stop : Option SpecCode) → HasCut text done at → Stops text at stop → Cuts text stop at 0 done
+pub all_cut : (text : List ℕ) (done : List Token) (at : ℕ) (stop : Option SpecCode) → HasCut text done at → Stops text at stop → CutsText text stop at 0 done
 all_cut text done at stop h s = let e : done ++ [] ≡ done = append-nil done in rw e at (h.on stop at [] (ends at refl s))
 
 -- ---- the same, as the code has it: the slice from the place on, and a name for what stands there
@@ -57,12 +57,12 @@ no_front None h = refl
 no_front (Some f) h = absurd (h f refl)
 
 pub bad_byte : (text : List ℕ) (done : List Token) (at : ℕ) (front : Option Front) → HasCut text done at → at < length text → Finds text at front → ((f : Front) → front ≡ Some f → ⊥)
-    → Cuts text (Some BadByte) at 0 done
+    → CutsText text (Some BadByte) at 0 done
 bad_byte text done at front h l e never =
     all_cut text done at (Some BadByte) h (l, ap fault_of (found text at front e ∙ no_front front never))
 
 pub faulty : (text : List ℕ) (done : List Token) (at : ℕ) (front : Front) (code : SpecCode) → HasCut text done at → at < length text → Finds text at (Some front) → front.piece ≡ Fault code
-    → Cuts text (Some code) at 0 done
+    → CutsText text (Some code) at 0 done
 faulty text done at front code h l e p = all_cut text done at (Some code) h (l, ap fault_of (found text at (Some front) e) ∙ rw p refl)
 
 pub gap_found : (text : List ℕ) (done : List Token) (at : ℕ) (front : Front) → HasCut text done at → at < length text → Finds text at (Some front) → front.piece ≡ Gap → HasCut text done (at + front.len)
@@ -80,7 +80,7 @@ earlier : (from nearer to : ℕ) (tokens : List Token) → from ≤ nearer → I
 earlier from nearer to [] l h = omega arith
 earlier from nearer to (t ∷ ts) l h = let a : from ≤ t.start = omega (arith, h.0) in (a, h.1, h.2)
 
-pub in_order : (text : List ℕ) (stop : Option SpecCode) (stop_at at : ℕ) (tokens : List Token) → Cuts text stop stop_at at tokens → IsInOrder at tokens stop_at
+pub in_order : (text : List ℕ) (stop : Option SpecCode) (stop_at at : ℕ) (tokens : List Token) → CutsText text stop stop_at at tokens → IsInOrder at tokens stop_at
 in_order text stop stop_at at tokens (ends from e s) = omega arith
 in_order text stop stop_at at tokens (past_gap from len rest e cut) =
     earlier at (at + len) stop_at rest (omega arith) (in_order text stop stop_at (at + len) rest cut)
@@ -94,7 +94,7 @@ slice_at text at len piece e =
     let p : piece_of (take len (drop at text)) ≡ Some piece = longest_piece (drop at text) (record { piece = piece; len = len }) e in
     rw n p
 
-pub formed : (text : List ℕ) (stop : Option SpecCode) (stop_at at : ℕ) (tokens : List Token) → Cuts text stop stop_at at tokens → AreFormed text tokens
+pub formed : (text : List ℕ) (stop : Option SpecCode) (stop_at at : ℕ) (tokens : List Token) → CutsText text stop stop_at at tokens → AreFormed text tokens
 formed text stop stop_at at tokens (ends from e s) = tt
 formed text stop stop_at at tokens (past_gap from len rest e cut) = formed text stop stop_at (at + len) rest cut
 formed text stop stop_at at tokens (past_token from len symbol rest e cut) = (slice_at text at len (token_piece symbol) e, formed text stop stop_at (at + len) rest cut)
@@ -118,7 +118,7 @@ gaps_more text at len to (t ∷ ts) e o h = (gap_more text at len t.start e o.0 
 no_gap : (text : List ℕ) (at : ℕ) → IsGap (slice_range text at at)
 no_gap text at = let n : at - at ≡ 0 = omega arith in rw n none
 
-pub gaps : (text : List ℕ) (stop : Option SpecCode) (stop_at at : ℕ) (tokens : List Token) → Cuts text stop stop_at at tokens → HasGapsAround text at tokens stop_at
+pub gaps : (text : List ℕ) (stop : Option SpecCode) (stop_at at : ℕ) (tokens : List Token) → CutsText text stop stop_at at tokens → HasGapsAround text at tokens stop_at
 gaps text stop stop_at at tokens (ends from e s) = rw (← e) (no_gap text at)
 gaps text stop stop_at at tokens (past_gap from len rest e cut) =
     gaps_more text at len stop_at rest e (in_order text stop stop_at (at + len) rest cut) (gaps text stop stop_at (at + len) rest cut)
@@ -151,14 +151,14 @@ gap_or_token symbol e = cc
 one_kind : (k l : Symbol) → token_piece k ≡ token_piece l → k ≡ l
 one_kind k l e = cc
 
-pub one_cut : (text : List ℕ) (s t : Option SpecCode) (s_at t_at at : ℕ) (ts us : List Token) → Cuts text s s_at at ts → Cuts text t t_at at us → (ts ≡ us) × (s ≡ t) × (s_at ≡ t_at)
+pub one_cut : (text : List ℕ) (s t : Option SpecCode) (s_at t_at at : ℕ) (ts us : List Token) → CutsText text s s_at at ts → CutsText text t t_at at us → (ts ≡ us) × (s ≡ t) × (s_at ≡ t_at)
 one_cut text s t s_at t_at at ts us (ends from e x) (ends other f y) = (refl, one_stop text at s t x y, sym e ∙ f)
 one_cut text s t s_at t_at at ts us (ends from e x) (past_gap other len rest f cut) = absurd (stopped text at s (record { piece = Gap; len = len }) x f refl)
 one_cut text s t s_at t_at at ts us (ends from e x) (past_token other len symbol rest f cut) = absurd (stopped text at s (record { piece = token_piece symbol; len = len }) x f refl)
 one_cut text s t s_at t_at at ts us (past_gap from len rest e cut) (ends other f y) = absurd (stopped text at t (record { piece = Gap; len = len }) y e refl)
 one_cut text s t s_at t_at at ts us (past_gap from len rest e cut) (past_gap other len' rest' f cut') =
     let same : record { piece = Gap; len = len } ≡ record { piece = Gap; len = len' } = same_front (drop at text) (record { piece = Gap; len = len }) (record { piece = Gap; len = len' }) e f in
-    one_cut text s t s_at t_at (at + len) ts us cut (subst (λ (n : ℕ). Cuts text t t_at (at + n) us) (sym (ap (λ (g : Front). g.len) same)) cut')
+    one_cut text s t s_at t_at (at + len) ts us cut (subst (λ (n : ℕ). CutsText text t t_at (at + n) us) (sym (ap (λ (g : Front). g.len) same)) cut')
 one_cut text s t s_at t_at at ts us (past_gap from len rest e cut) (past_token other len' symbol rest' f cut') =
     absurd (gap_or_token symbol (ap (λ (g : Front). g.piece) (same_front (drop at text) (record { piece = Gap; len = len }) (record { piece = token_piece symbol; len = len' }) e f)))
 one_cut text s t s_at t_at at ts us (past_token from len symbol rest e cut) (ends other f y) = absurd (stopped text at t (record { piece = token_piece symbol; len = len }) y e refl)
@@ -169,7 +169,7 @@ one_cut text s t s_at t_at at ts us (past_token from len symbol rest e cut) (pas
     same_front (drop at text) (record { piece = token_piece symbol; len = len }) (record { piece = token_piece symbol'; len = len' }) e f in
     let l : len ≡ len' = ap (λ (g : Front). g.len) same in
     let k : symbol ≡ symbol' = one_kind symbol symbol' (ap (λ (g : Front). g.piece) same) in
-    let r : (rest ≡ rest') × (s ≡ t) × (s_at ≡ t_at) = one_cut text s t s_at t_at (at + len) rest rest' cut (subst (λ (n : ℕ). Cuts text t t_at (at + n) rest') (sym l) cut') in (
+    let r : (rest ≡ rest') × (s ≡ t) × (s_at ≡ t_at) = one_cut text s t s_at t_at (at + len) rest rest' cut (subst (λ (n : ℕ). CutsText text t t_at (at + n) rest') (sym l) cut') in (
       ap (λ (n : ℕ). record { symbol = symbol; start = at; end = at + n } ∷ rest) l
           ∙ ap (λ (q : Symbol). record { symbol = q; start = at; end = at + len' } ∷ rest) k
           ∙ ap (λ (x : List Token). record { symbol = symbol'; start = at; end = at + len' } ∷ x) r.0,

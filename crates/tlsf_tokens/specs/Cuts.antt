@@ -44,12 +44,12 @@ Stops text at None = at ≡ length text
 Stops text at (Some code) = (at < length text) × (fault_of (longest (drop at text)) ≡ Some code)
 
 -- From the place on the text is cut into these tokens, up to where it stops. Gaps are left out.
-pub data Cuts (text : List ℕ) (stop : Option SpecCode) (stop_at : ℕ) : ℕ → List Token → Type 0 where
-  ends : (at : ℕ) → at ≡ stop_at → Stops text at stop → Cuts text stop stop_at at []
+pub data CutsText (text : List ℕ) (stop : Option SpecCode) (stop_at : ℕ) : ℕ → List Token → Type 0 where
+  ends : (at : ℕ) → at ≡ stop_at → Stops text at stop → CutsText text stop stop_at at []
   past_gap : (at len : ℕ) (tokens : List Token) → longest (drop at text) ≡ Some (record { piece = Gap; len = len })
-      → Cuts text stop stop_at (at + len) tokens → Cuts text stop stop_at at tokens
+      → CutsText text stop stop_at (at + len) tokens → CutsText text stop stop_at at tokens
   past_token : (at len : ℕ) (symbol : Symbol) (tokens : List Token) → longest (drop at text) ≡ Some (record { piece = token_piece symbol; len = len })
-      → Cuts text stop stop_at (at + len) tokens → Cuts text stop stop_at at (record { symbol = symbol; start = at; end = at + len } ∷ tokens)
+      → CutsText text stop stop_at (at + len) tokens → CutsText text stop stop_at at (record { symbol = symbol; start = at; end = at + len } ∷ tokens)
 
 -- the tokens have at least a byte each, and stand one after another between the two places
 abbrev pub IsInOrder : ℕ → List Token → ℕ → Type 0
@@ -75,4 +75,4 @@ HasGapsAround text from (token ∷ tokens) to = IsGap (slice_range text from tok
 abbrev pub HasOneCut : Type 0
 HasOneCut =
     (text : List ℕ) (stop stop' : Option SpecCode) (stop_at stop_at' : ℕ) (tokens tokens' : List Token)
-    → Cuts text stop stop_at 0 tokens → Cuts text stop' stop_at' 0 tokens' → (tokens ≡ tokens') × (stop ≡ stop') × (stop_at ≡ stop_at')
+    → CutsText text stop stop_at 0 tokens → CutsText text stop' stop_at' 0 tokens' → (tokens ≡ tokens') × (stop ≡ stop') × (stop_at ≡ stop_at')

@@ -5,7 +5,7 @@ ghost use Rattle.std.specs.Char.{is_ascii_digit};
 ghost use Rattle.std.specs.List.{prefix_len, starts_with};
 ghost use Rattle.tlsf_tokens.specs.Words.{is_name_part};
 ghost use Rattle.tlsf_tokens.specs.Pieces.{BeginsSign};
-ghost use Rattle.tlsf_tokens.specs.Cuts.{longest, sign_front, Stops, Cuts, IsInOrder, AreFormed, HasGapsAround};
+ghost use Rattle.tlsf_tokens.specs.Cuts.{longest, sign_front, Stops, CutsText, IsInOrder, AreFormed, HasGapsAround};
 
 use crate::symbol::Symbol;
 use crate::token::{Front, Piece, Token, TokenList};
@@ -160,7 +160,7 @@ fn front(rest: &[u8]) -> Option<Front>
 }
 
 fn cut(alloc: Global, text: &[u8]) -> Result<TokenList, AllocError>
-    ensures cut { IfOk result (λ list. Cuts text.now list.stop list.stop_at 0 list.tokens.items) }
+    ensures cut { IfOk result (λ list. CutsText text.now list.stop list.stop_at 0 list.tokens.items) }
     ensures stop { IfOk result (λ list. Stops text.now list.stop_at list.stop) }
 {
     let mut tokens = Vec::new(alloc);
@@ -207,7 +207,7 @@ fn cut(alloc: Global, text: &[u8]) -> Result<TokenList, AllocError>
 /// length, and memory in proportion to the number of tokens.
 pub fn tokens(alloc: Global, text: &[u8]) -> Result<TokenList, AllocError>
     // The tokens are those of the text, each the longest at its place, and the list ends where it has to.
-    ensures cut { IfOk result (λ list. Cuts text.now list.stop list.stop_at 0 list.tokens.items) }
+    ensures cut { IfOk result (λ list. CutsText text.now list.stop list.stop_at 0 list.tokens.items) }
     ensures stop { IfOk result (λ list. Stops text.now list.stop_at list.stop) }
     ensures whole { IfOk result (λ list. IsNone list.stop ↔ (list.stop_at ≡ length text.now)) }
 

@@ -10,7 +10,7 @@ use Rattle.tlsf_values.specs.Names.{Binding}
 use Rattle.tlsf_values.specs.Outcomes.{Outcome, gives, fails, go_on, Checked, fine, faulty, and_then, checked}
 use Rattle.tlsf_values.specs.PartsSeen.{numbers_at, with_part}
 use Rattle.tlsf_values.specs.Sorts.{number_in}
-use Rattle.tlsf_values.specs.Values.{Evaluator, numbers_in, start_of, values_at}
+use Rattle.tlsf_values.specs.Values.{Evaluator, numbers_in, span_start, values_at}
 use Rattle.tlsf_values.proofs.OutcomeLemmas.{go_on_assoc}
 use Rattle.tlsf_values.proofs.SeenLemmas.{start_seen}
 
@@ -35,11 +35,11 @@ abbrev pub numbers_after : Evaluator → List Binding → Checked (List ℤ) →
 numbers_after r bound so_far ts w = go_on (values_at r bound [] ts w) (λ vs w. checked (and_then so_far (λ zs. numbers_in zs ts vs)) (λ zs w. gives zs w) w)
 
 numbers_more : (r : Evaluator) (bound : List Binding) (so_far : Checked (List ℤ)) (t : _) (ts : Trees) (v : Value) (w : Work) →
-    go_on (values_at r bound (v ∷ []) ts w) (λ vs w. checked (and_then so_far (λ zs. numbers_in zs (tree t ts) vs)) (λ zs w. gives zs w) w) ≡ numbers_after r bound (with_part so_far (start_of t) v) ts w
+    go_on (values_at r bound (v ∷ []) ts w) (λ vs w. checked (and_then so_far (λ zs. numbers_in zs (tree t ts) vs)) (λ zs w. gives zs w) w) ≡ numbers_after r bound (with_part so_far (span_start t) v) ts w
 numbers_more r bound so_far t ts v w =
     ap (λ o. go_on o (λ vs w. checked (and_then so_far (λ zs. numbers_in zs (tree t ts) vs)) (λ zs w. gives zs w) w)) (after_those r bound (v ∷ []) ts w)
     ∙ go_on_assoc (values_at r bound [] ts w) (λ vs w. gives (v ∷ vs) w) (λ vs w. checked (and_then so_far (λ zs. numbers_in zs (tree t ts) vs)) (λ zs w. gives zs w) w)
-    ∙ (λ i. go_on (values_at r bound [] ts w) (λ vs w. checked (joined so_far (number_in (start_of t) v) vs i) (λ zs w. gives zs w) w))
+    ∙ (λ i. go_on (values_at r bound [] ts w) (λ vs w. checked (joined so_far (number_in (span_start t) v) vs i) (λ zs w. gives zs w) w))
   where
     joined : (so_far : Checked (List ℤ)) (z : Checked ℤ) (vs : List Value) →
         and_then so_far (λ zs. and_then z (λ z. numbers_in (zs ++ z ∷ []) ts vs)) ≡ and_then (and_then so_far (λ zs. and_then z (λ z. fine (zs ++ z ∷ [])))) (λ zs. numbers_in zs ts vs)

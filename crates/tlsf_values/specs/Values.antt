@@ -26,8 +26,8 @@ pub record Evaluator : Type 0 where
   -- the body of a definition with its arguments bound, for the node at this byte
   pub body : List Binding → ℕ → Body → Work → Outcome Value
 
-abbrev pub start_of : Tree → ℕ
-start_of t = (tree_span t).start
+abbrev pub span_start : Tree → ℕ
+span_start t = (tree_span t).start
 
 -- ---- names and calls
 
@@ -71,7 +71,7 @@ call_value r bound place at an_enumeration ts w = fails WrongSort place
 -- a guard is a truth, and `otherwise` is true
 abbrev pub guard_value : Evaluator → List Binding → Option Tree → Work → Outcome Bool
 guard_value r bound None w = gives true w
-guard_value r bound (Some t) w = go_on (r.value bound t w) (λ v w. checked (truth_in (start_of t) v) (λ b w. gives b w) w)
+guard_value r bound (Some t) w = go_on (r.value bound t w) (λ v w. checked (truth_in (span_start t) v) (λ b w. gives b w) w)
 
 -- the expression of the first alternative whose guard is true
 abbrev pub chosen_value : Evaluator → List Binding → ℕ → List Alternative → Work → Outcome Value
@@ -107,13 +107,13 @@ abbrev pub index_value : Names → Evaluator → List Binding → ℕ → Named 
 index_value names r bound place word i w =
     go_on (word_value r word.span.start (look_up names bound word.name) w) (λ b w.
     go_on (r.value bound i w) (λ v w.
-    checked b (λ k w. checked (number_in (start_of i) v) (λ z w. bit_value place (start_of i) (bus_at names k) z w) w) w))
+    checked b (λ k w. checked (number_in (span_start i) v) (λ z w. bit_value place (span_start i) (bus_at names k) z w) w) w))
 
 -- ---- sets
 
 -- the values of the expressions are numbers, after those before
 abbrev pub numbers_in : List ℤ → Trees → List Value → Checked (List ℤ)
-numbers_in so_far (tree t ts) (v ∷ vs) = and_then (number_in (start_of t) v) (λ z. numbers_in (so_far ++ z ∷ []) ts vs)
+numbers_in so_far (tree t ts) (v ∷ vs) = and_then (number_in (span_start t) v) (λ z. numbers_in (so_far ++ z ∷ []) ts vs)
 numbers_in so_far no_trees vs = fine so_far
 numbers_in so_far (tree t ts) [] = fine so_far
 
@@ -128,12 +128,12 @@ steps_value place a b c w =
 abbrev pub chain_value : Names → Evaluator → List Binding → ℕ → ℕ → Value → Links → Work → Outcome Value
 chain_value names r bound own left v no_links w = gives v w
 chain_value names r bound own left v (link o t more) w =
-    go_on (r.value bound t w) (λ u w. go_on (operated names o (record { own = own; left = left; right = start_of t }) v u w) (λ joined w. chain_value names r bound own left joined more w))
+    go_on (r.value bound t w) (λ u w. go_on (operated names o (record { own = own; left = left; right = span_start t }) v u w) (λ joined w. chain_value names r bound own left joined more w))
 
 abbrev pub window_parts : ℕ → Connective → Tree → Tree → Tree → Value → Value → Value → Work → Outcome Value
 window_parts place k t u p m n v w =
-    checked (number_in (start_of t) m) (λ from w. checked (number_in (start_of u) n) (λ to w. checked (formula_in (start_of p) v) (λ x w.
-    checked (count_in (start_of t) from) (λ m w. checked (count_in (start_of u) to) (λ n w. window_value place k m n x w) w) w) w) w) w
+    checked (number_in (span_start t) m) (λ from w. checked (number_in (span_start u) n) (λ to w. checked (formula_in (span_start p) v) (λ x w.
+    checked (count_in (span_start t) from) (λ m w. checked (count_in (span_start u) to) (λ n w. window_value place k m n x w) w) w) w) w) w
 
 abbrev pub window_at : Evaluator → List Binding → ℕ → Option Connective → Tree → Tree → Tree → Work → Outcome Value
 window_at r bound place None t u p w = fails WrongSort place
@@ -162,12 +162,12 @@ run_of low high = numbers_from low (pos 1) (natural (high +ℤ pos 1 -ℤ low))
 -- The members of the first range in rising order, and for each of them those of the next ranges; the body, which has to be a
 -- formula or a truth, is evaluated for the members of all of them.
 abbrev pub big_value : Evaluator → ℕ → Connective → List Binding → Ranges → Tree → Work → Outcome Formula
-big_value r place j bound no_ranges t w = go_on (r.value bound t w) (λ v w. checked (formula_in (start_of t) v) (λ x w. gives x w) w)
+big_value r place j bound no_ranges t w = go_on (r.value bound t w) (λ v w. checked (formula_in (span_start t) v) (λ x w. gives x w) w)
 big_value r place j bound (members word s more) t w =
-    go_on (r.value bound s w) (λ v w. checked (set_in (start_of s) v) (λ zs w. joined_over place j (λ z w. big_value r place j (bind word (Number z) bound) more t w) zs None w) w)
+    go_on (r.value bound s w) (λ v w. checked (set_in (span_start s) v) (λ zs w. joined_over place j (λ z w. big_value r place j (bind word (Number z) bound) more t w) zs None w) w)
 big_value r place j bound (between low low_strict word high_strict high more) t w =
     go_on (r.value bound low w) (λ a w. go_on (r.value bound high w) (λ b w.
-    checked (number_in (start_of low) a) (λ x w. checked (number_in (start_of high) b) (λ y w.
+    checked (number_in (span_start low) a) (λ x w. checked (number_in (span_start high) b) (λ y w.
     joined_over place j (λ z w. big_value r place j (bind word (Number z) bound) more t w) (run_of (low_of low_strict x) (high_of high_strict y)) None w) w) w))
 
 abbrev pub big_at : Evaluator → List Binding → ℕ → Option Connective → Ranges → Tree → Work → Outcome Value
@@ -183,32 +183,32 @@ form_value names r bound (truth s b) w = gives (Truth b) w
 form_value names r bound (named s name) w = meaning_value r s.start (look_up names bound name) w
 form_value names r bound (call s word ts) w = call_value r bound s.start word.span.start (look_up names bound word.name) ts w
 form_value names r bound (index s word i) w = index_value names r bound s.start word i w
-form_value names r bound (size_of s t) w = go_on (r.value bound t w) (λ v w. checked (bus_in (start_of t) v) (λ k w. gives (Number (pos (bus_at names k).width)) w) w)
+form_value names r bound (size_of s t) w = go_on (r.value bound t w) (λ v w. checked (bus_in (span_start t) v) (λ k w. gives (Number (pos (bus_at names k).width)) w) w)
 form_value names r bound (paren s t) w = r.value bound t w
 form_value names r bound (set s ts) w = go_on (values_at r bound [] ts w) (λ vs w. checked (numbers_in [] ts vs) (λ zs w. gives (Set (set_of zs)) w) w)
 form_value names r bound (steps s t u v) w =
     go_on (r.value bound t w) (λ a w. go_on (r.value bound u w) (λ b w. go_on (r.value bound v w) (λ c w.
-    checked (number_in (start_of t) a) (λ x w. checked (number_in (start_of u) b) (λ y w. checked (number_in (start_of v) c) (λ z w. steps_value s.start x y z w) w) w) w)))
-form_value names r bound (chain s t links) w = go_on (r.value bound t w) (λ v w. chain_value names r bound s.start (start_of t) v links w)
+    checked (number_in (span_start t) a) (λ x w. checked (number_in (span_start u) b) (λ y w. checked (number_in (span_start v) c) (λ z w. steps_value s.start x y z w) w) w) w)))
+form_value names r bound (chain s t links) w = go_on (r.value bound t w) (λ v w. chain_value names r bound s.start (span_start t) v links w)
 form_value names r bound (pair s o t u) w =
-    go_on (r.value bound t w) (λ a w. go_on (r.value bound u w) (λ b w. operated names o (record { own = s.start; left = start_of t; right = start_of u }) a b w))
-form_value names r bound (prefix s o t) w = go_on (r.value bound t w) (λ a w. prefixed o s.start (start_of t) a w)
+    go_on (r.value bound t w) (λ a w. go_on (r.value bound u w) (λ b w. operated names o (record { own = s.start; left = span_start t; right = span_start u }) a b w))
+form_value names r bound (prefix s o t) w = go_on (r.value bound t w) (λ a w. prefixed o s.start (span_start t) a w)
 form_value names r bound (count s n t) w =
     go_on (r.value bound n w) (λ m w. go_on (r.value bound t w) (λ v w.
-    checked (number_in (start_of n) m) (λ z w. checked (formula_in (start_of t) v) (λ x w. checked (count_in (start_of n) z) (λ k w. count_value s.start k x w) w) w) w))
+    checked (number_in (span_start n) m) (λ z w. checked (formula_in (span_start t) v) (λ x w. checked (count_in (span_start n) z) (λ k w. count_value s.start k x w) w) w) w))
 form_value names r bound (window s o t u p) w = window_at r bound s.start (window_of o) t u p w
 form_value names r bound (big s o over t) w = big_at r bound s.start (joining_of o) over t w
 
 -- A node is an evaluation. Its parts stand one deeper, and so does a body's call; the body's root is one deeper than its call.
 abbrev pub deeper : Names → Evaluator → Evaluator
 deeper names r = record {
-  value = λ bound t w. go_on (counted (start_of t) 1 w) (λ _ w. form_value names r bound t w);
+  value = λ bound t w. go_on (counted (span_start t) 1 w) (λ _ w. form_value names r bound t w);
   body = λ bound place b w. body_value r bound place b w;
 }
 
 -- what is evaluated where so many nodes and calls may still be entered
 unfoldable pub evaluator : Names → ℕ → Evaluator
-evaluator names zero = record { value = λ bound t w. fails TooDeep (start_of t); body = λ bound place b w. fails TooDeep place }
+evaluator names zero = record { value = λ bound t w. fails TooDeep (span_start t); body = λ bound place b w. fails TooDeep place }
 evaluator names (suc left) = deeper names (evaluator names left)
 
 -- the value of an expression where so many nodes and calls are entered

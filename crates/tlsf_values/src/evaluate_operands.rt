@@ -12,7 +12,7 @@ ghost use Rattle.tlsf_values.specs.Outcomes.{checked, gives, go_on};
 ghost use Rattle.tlsf_values.specs.Results.{IsFault, IsOutcome, IsOutcomeAs};
 ghost use Rattle.tlsf_syntax.specs.Seen.{expr_seen, link_list_seen, range_list_seen, trees_seen};
 ghost use Rattle.tlsf_values.specs.Sorts.{formula_in, number_in};
-ghost use Rattle.tlsf_values.specs.Values.{big_at, big_value, chain_value, evaluator, start_of, steps_value, window_at};
+ghost use Rattle.tlsf_values.specs.Values.{big_at, big_value, chain_value, evaluator, span_start, steps_value, window_at};
 
 use crate::formula::{Connective, Formula};
 use crate::levels::{Big, Level, inner_ranges};
@@ -70,7 +70,7 @@ impl<'t> Names<'t> {
         ensures value { IsOutcome result work.new (let r = evaluator (names_seen self.now) left in let b = bound.old in
             let t = expr_seen first.now in let u = expr_seen second.now in let v = expr_seen last.now in
             go_on (r.value b t work.old) (λ x w. go_on (r.value b u w) (λ y w. go_on (r.value b v w) (λ z w.
-            checked (number_in (start_of t) x) (λ x w. checked (number_in (start_of u) y) (λ y w. checked (number_in (start_of v) z) (λ z w. steps_value place x y z w) w) w) w)))) }
+            checked (number_in (span_start t) x) (λ x w. checked (number_in (span_start u) y) (λ y w. checked (number_in (span_start v) z) (λ z w. steps_value place x y z w) w) w) w)))) }
         ensures bound { OnOk result (bound.new ≡ bound.old) }
         ensures grows { Grows work.old.formulas work.new.formulas }
     {
@@ -105,7 +105,7 @@ impl<'t> Names<'t> {
         work: &mut Work,
     ) -> Result<Value, SpecFault>
         ensures value { IsOutcome result work.new (let r = evaluator (names_seen self.now) left in let b = bound.old in let t = expr_seen first.now in
-            go_on (r.value b t work.old) (λ v w. chain_value (names_seen self.now) r b place (start_of t) v (link_list_seen rest.now) w)) }
+            go_on (r.value b t work.old) (λ v w. chain_value (names_seen self.now) r b place (span_start t) v (link_list_seen rest.now) w)) }
         ensures bound { OnOk result (bound.new ≡ bound.old) }
         ensures grows { Grows work.old.formulas work.new.formulas }
     {
@@ -136,7 +136,7 @@ impl<'t> Names<'t> {
         work: &mut Work,
     ) -> Result<Value, SpecFault>
         ensures value { IsOutcome result work.new (let r = evaluator (names_seen self.now) left in let b = bound.old in let t = expr_seen first.now in let u = expr_seen second.now in
-            go_on (r.value b t work.old) (λ x w. go_on (r.value b u w) (λ y w. operated (names_seen self.now) op (record { own = place; left = start_of t; right = start_of u }) x y w))) }
+            go_on (r.value b t work.old) (λ x w. go_on (r.value b u w) (λ y w. operated (names_seen self.now) op (record { own = place; left = span_start t; right = span_start u }) x y w))) }
         ensures bound { OnOk result (bound.new ≡ bound.old) }
         ensures grows { Grows work.old.formulas work.new.formulas }
     {
@@ -164,7 +164,7 @@ impl<'t> Names<'t> {
     ) -> Result<Value, SpecFault>
         ensures value { IsOutcome result work.new (let r = evaluator (names_seen self.now) left in let b = bound.old in let n = expr_seen number.now in let t = expr_seen part.now in
             go_on (r.value b n work.old) (λ m w. go_on (r.value b t w) (λ v w.
-            checked (number_in (start_of n) m) (λ z w. checked (formula_in (start_of t) v) (λ x w. checked (count_in (start_of n) z) (λ k w. count_value place k x w) w) w) w))) }
+            checked (number_in (span_start n) m) (λ z w. checked (formula_in (span_start t) v) (λ x w. checked (count_in (span_start n) z) (λ k w. count_value place k x w) w) w) w))) }
         ensures bound { OnOk result (bound.new ≡ bound.old) }
         ensures grows { Grows work.old.formulas work.new.formulas }
     {

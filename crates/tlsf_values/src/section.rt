@@ -6,7 +6,7 @@ ghost use Rattle.tlsf_values.specs.NamesSeen.{names_seen};
 ghost use Rattle.tlsf_values.specs.Outcomes.{go_on};
 ghost use Rattle.tlsf_values.specs.Results.{IsOutcome, IsOutcomeAs};
 ghost use Rattle.tlsf_values.specs.SectionValues.{section_formula, section_value};
-ghost use Rattle.tlsf_values.specs.Values.{start_of, value_at};
+ghost use Rattle.tlsf_values.specs.Values.{span_start, value_at};
 ghost use Rattle.tlsf_syntax.specs.Seen.{expr_seen};
 
 use crate::names::Names;
@@ -38,7 +38,7 @@ impl<'t> Names<'t> {
     /// The formula of an expression in which no name is bound.
     #[tactic(auto, using(crate::proofs::SeenLemmas::start_seen))]
     fn formula(&self, expr: &'t Expr, work: &mut Work) -> Result<FormulaId, SpecFault>
-        ensures value { IsOutcome result work.new (go_on (value_at (names_seen self.now) [] (expr_seen expr.now) 0 work.old) (λ v w. section_formula (start_of (expr_seen expr.now)) v w)) }
+        ensures value { IsOutcome result work.new (go_on (value_at (names_seen self.now) [] (expr_seen expr.now) 0 work.old) (λ v w. section_formula (span_start (expr_seen expr.now)) v w)) }
         ensures grows { Grows work.old.formulas work.new.formulas }
     {
         let place = expr.span.start;

@@ -1,7 +1,7 @@
 //! The public call: the value of an expression of a text.
 
 ghost use Rattle.std.specs.Prelude.{◌≡◌, ◌+◌, IfOk, OnErr, OnOk, [], map, reverse, take};
-ghost use Rattle.ltl_formula.specs.Nodes.{Grows, Stands};
+ghost use Rattle.ltl_formula.specs.Nodes.{Grows, IsNodeIn};
 ghost use Rattle.tlsf_values.specs.EnvSeen.{binding_of, buses_named, env_bound, env_names, metered, signals_named, work_of};
 ghost use Rattle.tlsf_values.specs.NamesSeen.{names_seen};
 ghost use Rattle.tlsf_values.specs.Results.{IsOutcome};
@@ -91,7 +91,7 @@ fn scope<'e>(alloc: Global, bound: &'e [(Name, Value)]) -> Result<Scope<'e>, All
 
 /// Adds a node of the list to a copy of those before it.
 fn add_same(copy: &mut Formulas, formulas: &Formulas, id: FormulaId) -> Result<(), AllocError>
-    requires stands { Stands formulas.now id }
+    requires stands { IsNodeIn formulas.now id }
     requires before { copy.old ≡ take id.0 formulas.now }
     ensures { OnOk result (copy.new ≡ take (id.0 + 1) formulas.now) }
 {

@@ -8,7 +8,7 @@ use Rattle.unit_propagate.specs.declared.marks.Mark.{Mark}
 use Rattle.unit_propagate.specs.declared.propagator.Propagator.{Propagator}
 use Rattle.unit_propagate.specs.Marks.{MarkList}
 use Rattle.unit_propagate.specs.Watches.{Guard}
-use Rattle.unit_propagate.specs.Propagator.{IsKept}
+use Rattle.unit_propagate.specs.Propagator.{IsKeptPropagator}
 use Rattle.unit_propagate.proofs.Places.{Contains-slice_get}
 
 passes : (a b : ℕ) → a ≤ b → nat_le a b ≡ true
@@ -19,7 +19,7 @@ passes a b h = by (nat_le a b) refl
     by false e = absurd (let l : b < a = leb-false a b e in omega arith)
 
 pub IsKept-back : (s : Propagator) (after : MarkList) (level kept : ℕ) → after.vars ≡ s.marks.vars → after.marks ≡ filter (λ m. nat_le m.level level) s.marks.marks
-    → ((rest : List Mark) × (s.marks.marks ≡ after.marks ++ rest)) → kept ≡ min s.kept (length after.marks) → IsKept s → IsKept (record s { marks = after; place = kept; kept = kept })
+    → ((rest : List Mark) × (s.marks.marks ≡ after.marks ++ rest)) → kept ≡ min s.kept (length after.marks) → IsKeptPropagator s → IsKeptPropagator (record s { marks = after; place = kept; kept = kept })
 IsKept-back s after level kept vars is prefix low k = record {
   listed = rw vars k.listed;
   guarded = λ j c l at is. guard l c (k.guarded j c l at is);

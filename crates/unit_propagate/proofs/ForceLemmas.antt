@@ -3,7 +3,7 @@ use Rattle.std.proofs.Common.{◌≡◌, ◌≢◌, ℕ, suc, zero, ◌+◌, ◌
 use Rattle.std.proofs.lemmas.List.Elements.{All-contains, All-head, All-tail}
 use Rattle.std.proofs.lemmas.Option.{slice_get_within}
 use Rattle.propositional_logic.specs.Literal.{Literal, negated}
-use Rattle.propositional_logic.specs.Clause.{IsWithin, IsClause}
+use Rattle.propositional_logic.specs.Clause.{IsWithinVariables, IsClause}
 use Rattle.propositional_logic.proofs.Members.{Contains-none, Contains-head, Contains-cases}
 use Rattle.refutation_log.specs.Follows.{is_falsified_named}
 use Rattle.unit_propagate.specs.declared.marks.Mark.{Mark}
@@ -12,7 +12,7 @@ use Rattle.unit_propagate.specs.Trail.{highest_level, literals_of}
 use Rattle.unit_propagate.specs.Sound.{IsReason}
 use Rattle.unit_propagate.specs.Watched.{IsWatching, IsWatchOf}
 use Rattle.unit_propagate.specs.Watches.{WatchList, IsDone}
-use Rattle.unit_propagate.specs.Propagator.{IsKept, Goes, AreForced, AreUnitsTrue}
+use Rattle.unit_propagate.specs.Propagator.{IsKeptPropagator, Goes, AreForced, AreUnitsTrue}
 use Rattle.unit_propagate.proofs.Places.{All-slice_get, slice_get-Contains, All-from_contains}
 use Rattle.unit_propagate.proofs.TrailLemmas.{highest_above, mark-of}
 use Rattle.unit_propagate.proofs.PropagatorLemmas.{falsified_at, reason_at}
@@ -36,10 +36,10 @@ one_there : (c : List Literal) (l : Literal) → IsWatchOf c (l ∷ []) → Cont
 one_there c l w = w.only l (Contains-head l [])
 
 module _ (clauses : List (List Literal)) (s : Propagator) (k : ℕ) (l : Literal) (w : IsWatching clauses s.watches.watched) (at : slice_get s.watches.watched k ≡ Some (l ∷ [])) where
-  pub unit_within : (vars : ℕ) → All (IsWithin vars) clauses → l.var ≤ vars
+  pub unit_within : (vars : ℕ) → All (IsWithinVariables vars) clauses → l.var ≤ vars
   unit_within vars h =
       let c = w k (l ∷ []) at in
-      All-contains (λ (x : Literal). x.var ≤ vars) c.0 l (All-slice_get (IsWithin vars) clauses k c.0 h c.1) (one_there c.0 l c.2)
+      All-contains (λ (x : Literal). x.var ≤ vars) c.0 l (All-slice_get (IsWithinVariables vars) clauses k c.0 h c.1) (one_there c.0 l c.2)
 
   pub unit_falsified : Contains (literals_of s.marks.marks) (negated l) → is_falsified_named clauses (literals_of s.marks.marks) (k + 1) ≡ true
   unit_falsified h =
@@ -54,7 +54,7 @@ module _ (clauses : List (List Literal)) (s : Propagator) (k : ℕ) (l : Literal
       (All-from_contains (λ x. x ≢ l → Contains (literals_of s.marks.marks) (negated x)) c.0 (λ x there n. absurd (n (one_only c.0 l x c.2 there))))
 
 -- all are true, so each clause of one literal is
-pub forced_all : (s : Propagator) (i : ℕ) → IsKept s → AreForced s i → length s.watches.units ≤ i → AreUnitsTrue s
+pub forced_all : (s : Propagator) (i : ℕ) → IsKeptPropagator s → AreForced s i → length s.watches.units ≤ i → AreUnitsTrue s
 forced_all s i k f le j l at =
     let u = slice_get-Contains s.watches.units j (k.listed.alone j l at) in
     f u.0 j l (let lt : u.0 < length s.watches.units = slice_get_within s.watches.units u.0 j u.1 in omega arith) u.1 at
@@ -83,7 +83,7 @@ forced_more a b i k grows same f at now j u p lt there pair =
     split (suc j) zero l = absurd (omega arith)
     split (suc j) (suc i) l = elim (split j i (omega arith)) [ inl x ↦ inl (omega arith) | inr e ↦ inr (ap suc e) ]
 
-pub Goes-done : (clauses : List (List Literal)) (s : Propagator) (done : ℕ) → IsKept s → IsWatching clauses s.watches.watched → IsDone s.marks.marks s.watches done → done ≡ length s.watches.units
+pub Goes-done : (clauses : List (List Literal)) (s : Propagator) (done : ℕ) → IsKeptPropagator s → IsWatching clauses s.watches.watched → IsDone s.marks.marks s.watches done → done ≡ length s.watches.units
     → Goes clauses s (record s { done = done })
 Goes-done clauses s done k w d e = record {
   kept = record { listed = k.listed; guarded = k.guarded; done = d; place = k.place; kept = k.kept; forced = omega arith };

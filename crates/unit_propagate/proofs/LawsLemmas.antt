@@ -11,7 +11,7 @@ use Rattle.refutation_log.proofs.Lists.{slice_get-append}
 use Rattle.refutation_log.proofs.FollowsLemmas.{clause_named-append}
 use Rattle.unit_propagate.specs.declared.marks.Mark.{Mark}
 use Rattle.unit_propagate.specs.Trail.{literals_of}
-use Rattle.unit_propagate.specs.Sound.{IsReason, IsSound}
+use Rattle.unit_propagate.specs.Sound.{IsReason, AreSoundMarks}
 use Rattle.unit_propagate.specs.Watched.{IsWatching}
 use Rattle.unit_propagate.specs.Laws.{EmptyTrailsBegin, LongerListsKeep, GoingBackKeepsSound}
 use Rattle.unit_propagate.proofs.Places.{AllPairs-slice_get, slice_get-Contains}
@@ -25,7 +25,7 @@ empty_trails_begin = record {
 IsReason-append : (clauses more : List (List Literal)) (number : ℕ) (before : List Literal) (l : Literal) → IsReason clauses number before l → IsReason (clauses ++ more) number before l
 IsReason-append clauses more number before l r = record { clause = r.clause; named = clause_named-append clauses more number r.clause r.named; member = r.member; others_false = r.others_false }
 
-pub IsSound-append : (clauses more : List (List Literal)) (marks : List Mark) → IsSound clauses marks → IsSound (clauses ++ more) marks
+pub IsSound-append : (clauses more : List (List Literal)) (marks : List Mark) → AreSoundMarks clauses marks → AreSoundMarks (clauses ++ more) marks
 IsSound-append clauses more marks s = record {
   rising = s.rising;
   assumed = s.assumed;
@@ -66,7 +66,7 @@ slice_get-taken (suc n) [] i x h = absurd (cc)
 slice_get-taken (suc n) (y ∷ xs) zero x h = h
 slice_get-taken (suc n) (y ∷ xs) (suc i) x h = slice_get-taken n xs i x h
 
-IsSound-take : (clauses : List (List Literal)) (marks : List Mark) (k : ℕ) → AllPairs (λ m n. m.level ≤ n.level) (take k marks) → IsSound clauses marks → IsSound clauses (take k marks)
+IsSound-take : (clauses : List (List Literal)) (marks : List Mark) (k : ℕ) → AllPairs (λ m n. m.level ≤ n.level) (take k marks) → AreSoundMarks clauses marks → AreSoundMarks clauses (take k marks)
 IsSound-take clauses marks k up s = record {
   rising = up;
   assumed = λ i m at none. let a = s.assumed i m (slice_get-taken k marks i m at) none in (a.0, subst (All (λ n. n.level ≢ m.level)) (sym (front i m at)) a.1);
@@ -80,4 +80,4 @@ pub going_back_keeps_sound : GoingBackKeepsSound
 going_back_keeps_sound clauses marks level s =
     let k = filter-first marks level s.rising in
     let up : AllPairs (λ m n. m.level ≤ n.level) (take k.0 marks) = subst (AllPairs (λ m n. m.level ≤ n.level)) k.1 (AllPairs-filter (λ m n. m.level ≤ n.level) (λ m. nat_le m.level level) marks s.rising) in
-    subst (IsSound clauses) (sym k.1) (IsSound-take clauses marks k.0 up s)
+    subst (AreSoundMarks clauses) (sym k.1) (IsSound-take clauses marks k.0 up s)

@@ -8,7 +8,7 @@ use Rattle.unit_propagate.specs.declared.propagator.Propagator.{Propagator}
 use Rattle.unit_propagate.specs.Trail.{literals_of}
 use Rattle.unit_propagate.specs.Watched.{AreLookedAt, HasTrue}
 use Rattle.unit_propagate.specs.Watches.{Guard}
-use Rattle.unit_propagate.specs.Propagator.{IsKept}
+use Rattle.unit_propagate.specs.Propagator.{IsKeptPropagator}
 use Rattle.unit_propagate.proofs.Places.{slice_get-Contains}
 use Rattle.unit_propagate.proofs.TrailLemmas.{literal-of, mark-of}
 use Rattle.unit_propagate.proofs.LawsLemmas.{slice_get-taken}
@@ -22,7 +22,7 @@ guarded marks place kept a c g h =
     let n = g i.0 m.0 (omega arith) (slice_get-taken place marks i.0 m.0 i.1) m.2 in
     (n.0.lit, n.2, literal-of marks n.0 n.1)
 
-pub looked_at : (s : Propagator) → IsKept s → AreLookedAt s.marks.marks s.watches.watched s.place
+pub looked_at : (s : Propagator) → IsKeptPropagator s → AreLookedAt s.marks.marks s.watches.watched s.place
 looked_at s k = record {
   within = k.place;
   holds = λ i c l at is. guarded s.marks.marks s.place s.kept l c (k.guarded i c l at is);

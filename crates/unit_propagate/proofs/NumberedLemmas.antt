@@ -10,7 +10,7 @@ use Rattle.propositional_logic.specs.Codes.{code_of}
 use Rattle.unit_propagate.specs.declared.rows.Watcher.{Watcher}
 use Rattle.unit_propagate.specs.Arena.{ArenaModel, IsPlace, index_of, AddsClause}
 use Rattle.unit_propagate.specs.Rows.{row_at, AddsTo, AddsBoth, SetsAt, CutsOut}
-use Rattle.unit_propagate.specs.Watches.{WatchList, numbered, numbered_rows, ArePlaces, Adds, AddsAlone, CanRewatch, Rewatches, Keeps, Cuts, ordered, exchanged}
+use Rattle.unit_propagate.specs.Watches.{WatchList, numbered, numbered_rows, ArePlaces, Adds, AddsAlone, CanRewatch, Rewatches, Keeps, CutsWatches, ordered, exchanged}
 use Rattle.unit_propagate.proofs.Places.{All-slice_get}
 use Rattle.unit_propagate.proofs.RowsLemmas.{same_or_not}
 use Rattle.unit_propagate.proofs.ArenaLemmas.{index_grown}
@@ -135,7 +135,7 @@ module _ (starts more : List ℕ) (next : ℕ) (adds : more ≡ starts ++ next �
       l
 
 -- ---- what the calls ensure
-pub Cuts-shown : (a : ArenaModel) (rows new : List (List Watcher)) (units : List ℕ) (row row' from to : ℕ) → row ≡ row' → CutsOut rows new row from to → Cuts (shown a rows units) (shown a new units) row' from to
+pub Cuts-shown : (a : ArenaModel) (rows new : List (List Watcher)) (units : List ℕ) (row row' from to : ℕ) → row ≡ row' → CutsOut rows new row from to → CutsWatches (shown a rows units) (shown a new units) row' from to
 Cuts-shown a rows new units row row' from to e cuts =
     Cuts-of (shown a rows units) row row' from to (numbered_rows a.starts new) e (CutsOut-map (numbered a.starts) rows new row from to cuts)
 

@@ -21,8 +21,8 @@ use Rattle.unit_propagate.specs.Marks.{MarkList}
 use Rattle.unit_propagate.specs.Watched.{IsWatching, IsWatched, HasTrue}
 use Rattle.propositional_logic.specs.Codes.{code_of}
 use Rattle.unit_propagate.specs.Rows.{row_at}
-use Rattle.unit_propagate.specs.Watches.{WatchList, Guard, Stands, Keeps, Cuts}
-use Rattle.unit_propagate.specs.Propagator.{IsKept, StandsAt, IsVisiting, IsVisited, Goes, Stays}
+use Rattle.unit_propagate.specs.Watches.{WatchList, Guard, IsWatchedIn, Keeps, CutsWatches}
+use Rattle.unit_propagate.specs.Propagator.{IsKeptPropagator, StandsAt, IsVisiting, IsVisited, Goes, Stays}
 use Rattle.unit_propagate.proofs.Places.{slice_get-front, slice_get-Contains, Contains-slice_get, slice_get-set_same, slice_get-set_other, Contains-cut, All-from_contains}
 use Rattle.unit_propagate.proofs.CodeLemmas.{code_same}
 use Rattle.unit_propagate.proofs.RowsLemmas.{same_or_not}
@@ -84,8 +84,8 @@ Extends-push clauses first cur m number x level reason r = record {
 
 -- ---- what is kept when a literal is added
 
-pub IsKept-push : (s : Propagator) (m : Mark) (after : MarkList) → after ≡ record { vars = s.marks.vars; marks = s.marks.marks ++ m ∷ [] } → IsKept s → IsKept (record s { marks = after })
-IsKept-push s m after e k = subst (λ ms. IsKept (record s { marks = ms })) (sym e) (record {
+pub IsKept-push : (s : Propagator) (m : Mark) (after : MarkList) → after ≡ record { vars = s.marks.vars; marks = s.marks.marks ++ m ∷ [] } → IsKeptPropagator s → IsKeptPropagator (record s { marks = after })
+IsKept-push s m after e k = subst (λ ms. IsKeptPropagator (record s { marks = ms })) (sym e) (record {
   listed = k.listed;
   guarded = λ j c l at is. guard l c (k.guarded j c l at is);
   done = λ i j l lt a b. let h = k.done i j l lt a b in (h.0, Contains-append_left s.marks.marks (m ∷ []) h.0 h.1, h.2, h.3);
@@ -109,7 +109,7 @@ Goes-trans clauses a b c p q = record {
 }
 
 pub Goes-push : (clauses : List (List Literal)) (s : Propagator) (m : Mark) (after : MarkList) (number : ℕ) → after ≡ record { vars = s.marks.vars; marks = s.marks.marks ++ m ∷ [] }
-    → IsKept s → IsWatching clauses s.watches.watched → m.level ≡ highest_level s.marks.marks → m.reason ≡ Some number → IsReason clauses number (literals_of s.marks.marks) m.lit
+    → IsKeptPropagator s → IsWatching clauses s.watches.watched → m.level ≡ highest_level s.marks.marks → m.reason ≡ Some number → IsReason clauses number (literals_of s.marks.marks) m.lit
     → Goes clauses s (record s { marks = after })
 Goes-push clauses s m after number e k w level reason r = record {
   kept = IsKept-push s m after e k;
@@ -135,12 +135,12 @@ by_parts P w watched units e u h =
     let is : ◌≡◌ {A = WatchList} (record { watched = watched; rows = w.rows; units = units }) w = λ i. record { watched = e' i; rows = w.rows; units = u' i } in
     subst P is h
 
-module _ (clauses : List (List Literal)) (s : Propagator) (rows : List (List Watcher)) (k : IsKept s) (watching : IsWatching clauses s.watches.watched) (size : length rows ≡ length s.watches.rows)
-    (stands : (q : ℕ) (c : List Literal) (x : Literal) → slice_get s.watches.watched q ≡ Some c → IsWatched c x → Stands rows x q c) where
+module _ (clauses : List (List Literal)) (s : Propagator) (rows : List (List Watcher)) (k : IsKeptPropagator s) (watching : IsWatching clauses s.watches.watched) (size : length rows ≡ length s.watches.rows)
+    (stands : (q : ℕ) (c : List Literal) (x : Literal) → slice_get s.watches.watched q ≡ Some c → IsWatched c x → IsWatchedIn rows x q c) where
   abbrev after : Propagator
   after = record s { watches = record s.watches { rows = rows } }
 
-  pub IsKept-rows : IsKept after
+  pub IsKept-rows : IsKeptPropagator after
   IsKept-rows = record {
     listed = record { size = size ∙ k.listed.size; listed = stands; alone = k.listed.alone; units = k.listed.units };
     guarded = k.guarded;
@@ -188,7 +188,7 @@ later rows l i u k' c at h = by (less i h.0 h.2)
         inl (ap (λ (x : Watcher). x.clause) (sym s) ∙ h.4, subst (λ (x : Watcher). Contains c x.blocker) s h.5)
     by (inr b) = inr (h.0, h.1, b, h.3, h.4, h.5)
 
-stands : (P : ℕ → Type 0) (rows : List (List Watcher)) (l : Literal) (k : ℕ) (c : List Literal) → StandsAt P rows l k c → Stands rows l k c
+stands : (P : ℕ → Type 0) (rows : List (List Watcher)) (l : Literal) (k : ℕ) (c : List Literal) → StandsAt P rows l k c → IsWatchedIn rows l k c
 stands P rows l k c h = (h.1, Contains-slice_get (row_at rows (code_of l)) h.0 h.1 h.3, h.4, h.5)
 
 -- the clause at the place leaves the list, which it needn't be in
@@ -230,11 +230,11 @@ module _ (clauses : List (List Literal)) (s : Propagator) (l : Literal) (j i : �
     ]
   ]
 
-  standing : (k : ℕ) (c : List Literal) (y : Literal) → slice_get s.watches.watched k ≡ Some c → IsWatched c y → Stands w.rows y k c
+  standing : (k : ℕ) (c : List Literal) (y : Literal) → slice_get s.watches.watched k ≡ Some c → IsWatched c y → IsWatchedIn w.rows y k c
   standing k c y there is = elim (same_or_not (code_of y) (code_of l)) [
     | inl e ↦
         let one = code_same y l e in
-        subst (λ z. Stands w.rows z k c) (sym one) (elim (seen k c there (subst (IsWatched c) one is)) [
+        subst (λ z. IsWatchedIn w.rows z k c) (sym one) (elim (seen k c there (subst (IsWatched c) one is)) [
           | inl h ↦ stands (λ g. g < j + 1) w.rows l k c h.1
           | inr h ↦ stands (λ g. i + 1 ≤ g) w.rows l k c h
         ])
@@ -260,15 +260,15 @@ module _ (clauses : List (List Literal)) (s : Propagator) (l : Literal) (j i : �
   stays_row = ap length keeps.sets.here ∙ length-set (row_at s.watches.rows (code_of l)) j x
 
 -- the list is closed up
-module _ (clauses : List (List Literal)) (s : Propagator) (l : Literal) (j i : ℕ) (w : WatchList) (v : IsVisiting clauses s l j i) (cuts : Cuts s.watches w (code_of l) j i) where
-  left : (P : ℕ → Type 0) (k : ℕ) (c : List Literal) → ((g : ℕ) → P g → (g < j) ⊎ (i ≤ g)) → StandsAt P s.watches.rows l k c → Stands w.rows l k c
+module _ (clauses : List (List Literal)) (s : Propagator) (l : Literal) (j i : ℕ) (w : WatchList) (v : IsVisiting clauses s l j i) (cuts : CutsWatches s.watches w (code_of l) j i) where
+  left : (P : ℕ → Type 0) (k : ℕ) (c : List Literal) → ((g : ℕ) → P g → (g < j) ⊎ (i ≤ g)) → StandsAt P s.watches.rows l k c → IsWatchedIn w.rows l k c
   left P k c out h = (h.1, subst (λ xs. Contains xs h.1) (sym cuts.cuts.here) (Contains-cut (row_at s.watches.rows (code_of l)) j i h.0 h.1 (out h.0 h.2) h.3), h.4, h.5)
 
-  left_standing : (k : ℕ) (c : List Literal) (y : Literal) → slice_get s.watches.watched k ≡ Some c → IsWatched c y → Stands w.rows y k c
+  left_standing : (k : ℕ) (c : List Literal) (y : Literal) → slice_get s.watches.watched k ≡ Some c → IsWatched c y → IsWatchedIn w.rows y k c
   left_standing k c y there is = elim (same_or_not (code_of y) (code_of l)) [
     | inl e ↦
         let one = code_same y l e in
-        subst (λ z. Stands w.rows z k c) (sym one) (elim (v.seen k c there (subst (IsWatched c) one is)) [
+        subst (λ z. IsWatchedIn w.rows z k c) (sym one) (elim (v.seen k c there (subst (IsWatched c) one is)) [
           | inl h ↦ left (λ g. g < j) k c (λ g lt. inl lt) h.1
           | inr h ↦ left (λ g. i ≤ g) k c (λ g le. inr le) h
         ])
@@ -292,7 +292,7 @@ visited clauses s l j i v none = record { seen = λ k c at is. elim (v.seen k c 
     gone k c h = absurd (let le : i ≤ h.0 = h.2 in let lt : h.0 < length (row_at s.watches.rows (code_of l)) = slice_get_within (row_at s.watches.rows (code_of l)) h.0 h.1 h.3 in omega arith)
 
 -- nothing of a list is looked at
-pub unvisited : (clauses : List (List Literal)) (s : Propagator) (l : Literal) → IsKept s → IsWatching clauses s.watches.watched → Contains (literals_of s.marks.marks) (negated l) → IsVisiting clauses s l 0 0
+pub unvisited : (clauses : List (List Literal)) (s : Propagator) (l : Literal) → IsKeptPropagator s → IsWatching clauses s.watches.watched → Contains (literals_of s.marks.marks) (negated l) → IsVisiting clauses s l 0 0
 unvisited clauses s l k w f = record {
   kept = k;
   watching = w;
@@ -302,9 +302,9 @@ unvisited clauses s l k w f = record {
 }
 
 -- the place moves past a literal that was looked at
-pub advanced : (s : Propagator) (m : Mark) (kept : ℕ) → IsKept s → slice_get s.marks.marks s.place ≡ Some m → IsVisited s (negated m.lit)
+pub advanced : (s : Propagator) (m : Mark) (kept : ℕ) → IsKeptPropagator s → slice_get s.marks.marks s.place ≡ Some m → IsVisited s (negated m.lit)
     → (kept ≡ s.kept) ⊎ ((kept ≡ s.place + 1) × (s.kept ≡ s.place) × (m.level ≡ highest_level s.marks.marks))
-    → IsKept (record s { place = s.place + 1; kept = kept })
+    → IsKeptPropagator (record s { place = s.place + 1; kept = kept })
 advanced s m kept k at v how = record {
   listed = k.listed;
   guarded = λ j c l there is. guard l c (k.guarded j c l there is) (λ e. v.seen j c there (subst (IsWatched c) e is));
@@ -390,7 +390,7 @@ valueless marks l t f = All-from_contains (λ (m : Mark). m.lit.var ≢ l.var) m
     sign false true = inr refl
     sign false false = inl refl
 
-pub Goes-advance : (clauses : List (List Literal)) (s : Propagator) (m : Mark) (kept : ℕ) → IsKept s → IsWatching clauses s.watches.watched → slice_get s.marks.marks s.place ≡ Some m → IsVisited s (negated m.lit)
+pub Goes-advance : (clauses : List (List Literal)) (s : Propagator) (m : Mark) (kept : ℕ) → IsKeptPropagator s → IsWatching clauses s.watches.watched → slice_get s.marks.marks s.place ≡ Some m → IsVisited s (negated m.lit)
     → (kept ≡ s.kept) ⊎ ((kept ≡ s.place + 1) × (s.kept ≡ s.place) × (m.level ≡ highest_level s.marks.marks))
     → Goes clauses s (record s { place = s.place + 1; kept = kept })
 Goes-advance clauses s m kept k w at v how = record { kept = advanced s m kept k at v how; watching = w; vars = refl; extends = λ first x. x; size = omega arith }

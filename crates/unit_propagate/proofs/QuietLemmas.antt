@@ -12,7 +12,7 @@ use Rattle.unit_propagate.specs.Trail.{IsTrail, literals_of}
 use Rattle.unit_propagate.specs.Quiet.{IsQuiet}
 use Rattle.unit_propagate.specs.Watched.{IsWatching, IsWatchOf, IsWatched, HasTrue}
 use Rattle.unit_propagate.specs.Watches.{Guard}
-use Rattle.unit_propagate.specs.Propagator.{IsKept, AreUnitsTrue}
+use Rattle.unit_propagate.specs.Propagator.{IsKeptPropagator, AreUnitsTrue}
 use Rattle.unit_propagate.proofs.Places.{slice_get-Contains}
 use Rattle.unit_propagate.proofs.TrailLemmas.{one_sign, literal-of, mark-of}
 use Rattle.unit_propagate.proofs.PropagatorLemmas.{same_literal}
@@ -67,7 +67,7 @@ no_unit trues c h = by (unit_of trues c) refl
     by None e = refl
     by (Some l) e = absurd (h l (unit_is trues c l e))
 
-module _ (clauses : List (List Literal)) (s : Propagator) (trail : IsTrail s.marks.vars s.marks.marks) (k : IsKept s) (w : IsWatching clauses s.watches.watched)
+module _ (clauses : List (List Literal)) (s : Propagator) (trail : IsTrail s.marks.vars s.marks.marks) (k : IsKeptPropagator s) (w : IsWatching clauses s.watches.watched)
     (all : length clauses ≤ length s.watches.watched) (units : AreUnitsTrue s) (end : length s.marks.marks ≤ s.place) where
   partner : (a : Literal) (c : List Literal) → Guard s.marks.marks s.place s.kept a c → Contains (literals_of s.marks.marks) (negated a) → HasTrue s.marks.marks c
   partner a c g h =

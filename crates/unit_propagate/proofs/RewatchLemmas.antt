@@ -6,7 +6,7 @@ use Rattle.std.proofs.lemmas.List.Elements.{All-contains, All-nil, All-cons, All
 use Rattle.std.proofs.lemmas.List.Kept.{AllPairs-filter}
 use Rattle.std.proofs.lemmas.Option.{slice_get_within}
 use Rattle.propositional_logic.specs.Literal.{Literal, negated, literal_eq}
-use Rattle.propositional_logic.specs.Clause.{IsWithin, IsClause, IsRisingFrom}
+use Rattle.propositional_logic.specs.Clause.{IsWithinVariables, IsClause, IsRisingFrom}
 use Rattle.propositional_logic.proofs.Members.{Contains-head, Contains-later, Contains-cases, Contains-filter, filter-Contains}
 use Rattle.propositional_logic.specs.Equality.{Decides-literal_eq}
 use Rattle.refutation_log.proofs.Lists.{slice_get-push, slice_get-append}
@@ -18,8 +18,8 @@ use Rattle.unit_propagate.specs.Marks.{MarkList, room_of}
 use Rattle.unit_propagate.specs.Watched.{IsWatching, IsWatchOf, IsWatched}
 use Rattle.propositional_logic.specs.Codes.{code_of}
 use Rattle.unit_propagate.specs.Rows.{row_at}
-use Rattle.unit_propagate.specs.Watches.{WatchList, IsListed, Guard, Rewatches, CanRewatch, Adds, AddsAlone, KeepsWatches, RowsGrow, IsSide, Stands, exchanged, ordered, differs}
-use Rattle.unit_propagate.specs.Propagator.{IsKept, StandsAt, IsVisiting, Goes, Stays}
+use Rattle.unit_propagate.specs.Watches.{WatchList, IsListed, Guard, Rewatches, CanRewatch, Adds, AddsAlone, KeepsWatches, RowsGrow, IsSide, IsWatchedIn, exchanged, ordered, differs}
+use Rattle.unit_propagate.specs.Propagator.{IsKeptPropagator, StandsAt, IsVisiting, Goes, Stays}
 use Rattle.unit_propagate.proofs.Places.{slice_get-Contains, Contains-slice_get, slice_get-set_same, slice_get-set_other, slice_get-last, slice_get-front, AllPairs-slice_get, All-slice_get}
 use Rattle.unit_propagate.proofs.TrailLemmas.{literal-of, mark-of, highest_above}
 use Rattle.unit_propagate.proofs.RowsLemmas.{RowsGrow-adds, added_there, same_or_not}
@@ -226,20 +226,20 @@ module _ (clauses : List (List Literal)) (s : Propagator) (w : WatchList) (from 
   still_there : (q : ℕ) (d : List Literal) → StandsAt (λ g. g < f) s.watches.rows from q d → StandsAt (λ g. g < f) w.rows from q d
   still_there q d h = (h.0, h.1, h.2, ap (λ xs. slice_get xs h.0) same_row ∙ h.3, h.4, h.5)
 
-  kept_in_list : (l : Literal) (q : ℕ) (d : List Literal) → Stands s.watches.rows l q d → Stands w.rows l q d
+  kept_in_list : (l : Literal) (q : ℕ) (d : List Literal) → IsWatchedIn s.watches.rows l q d → IsWatchedIn w.rows l q d
   kept_in_list l q d h = (h.0, grown.stays (code_of l) h.0 h.1, h.2, h.3)
 
-  to_listed : Stands w.rows to k after
+  to_listed : IsWatchedIn w.rows to k after
   to_listed = (n, added_there s.watches.rows w.rows (code_of to) n r.adds, refl, all_after c p j from to at_p at_j apart n.blocker blocks)
 
-  other_listed : Stands w.rows other k after
+  other_listed : IsWatchedIn w.rows other k after
   other_listed =
-      let h : Stands s.watches.rows other k c = v.kept.listed.listed k c other there other_watched in
+      let h : IsWatchedIn s.watches.rows other k c = v.kept.listed.listed k c other there other_watched in
       (h.0, grown.stays (code_of other) h.0 h.1, h.2, all_after c p j from to at_p at_j apart h.0.blocker h.3)
 
-  in_list : (l : Literal) → (l ≡ to) ⊎ (l ≡ other) → Stands w.rows l k after
-  in_list l (inl e) = subst (λ x. Stands w.rows x k after) (sym e) to_listed
-  in_list l (inr e) = subst (λ x. Stands w.rows x k after) (sym e) other_listed
+  in_list : (l : Literal) → (l ≡ to) ⊎ (l ≡ other) → IsWatchedIn w.rows l k after
+  in_list l (inl e) = subst (λ x. IsWatchedIn w.rows x k after) (sym e) to_listed
+  in_list l (inr e) = subst (λ x. IsWatchedIn w.rows x k after) (sym e) other_listed
 
   -- to isn't false, and other is so only where some literal of the clause is true
   guard_any : (a : Literal) → (a ≡ to) ⊎ (a ≡ other) → Guard s.marks.marks s.place s.kept a after
@@ -256,7 +256,7 @@ module _ (clauses : List (List Literal)) (s : Propagator) (w : WatchList) (from 
   listed = record {
     size = r.adds.size ∙ v.kept.listed.size;
     listed = λ q d l h is. elim (same_at q d h) [
-      | inl e ↦ subst (λ y. Stands w.rows l y d) (sym e.0) (subst (Stands w.rows l k) (sym e.1) (in_list l (watched_now l (subst (λ x. IsWatched x l) e.1 is))))
+      | inl e ↦ subst (λ y. IsWatchedIn w.rows l y d) (sym e.0) (subst (IsWatchedIn w.rows l k) (sym e.1) (in_list l (watched_now l (subst (λ x. IsWatched x l) e.1 is))))
       | inr e ↦ kept_in_list l q d (v.kept.listed.listed q d l e.1 is)
     ];
     alone = λ q l h. subst (λ us. Contains us q) (sym r.units) (v.kept.listed.alone q l (unit_before q l h));
@@ -274,7 +274,7 @@ module _ (clauses : List (List Literal)) (s : Propagator) (w : WatchList) (from 
           let m : 1 < length c = side.0 in
           omega arith
 
-  kept_after : IsKept (record s { watches = w })
+  kept_after : IsKeptPropagator (record s { watches = w })
   kept_after = record {
     listed = listed;
     guarded = λ q d l h is. elim (same_at q d h) [
@@ -326,14 +326,14 @@ module _ (clauses : List (List Literal)) (s : Propagator) (w : WatchList) (from 
 
 -- the clause may watch to in place of from
 pub rewatchable : (clauses : List (List Literal)) (s : Propagator) (from to other : Literal) (f i k p j : ℕ) (c : List Literal) → IsVisiting clauses s from f i
-    → slice_get s.watches.watched k ≡ Some c → IsSide c from p other → slice_get c j ≡ Some to → All (IsWithin s.marks.vars) clauses → CanRewatch s.watches k p j from to
+    → slice_get s.watches.watched k ≡ Some c → IsSide c from p other → slice_get c j ≡ Some to → All (IsWithinVariables s.marks.vars) clauses → CanRewatch s.watches k p j from to
 rewatchable clauses s from to other f i k p j c v there side at_j within = record {
   clause = c;
   there = there;
   at_p = elim side.1 [ inl h ↦ ap (slice_get c) h.0 ∙ h.1 | inr h ↦ ap (slice_get c) h.0 ∙ h.1 ];
   at_j = at_j;
   to_fits = λ h. list_fits s to v.kept (let w = v.watching k c there in
-      All-contains (λ (x : Literal). x.var ≤ s.marks.vars) w.0 to (All-slice_get (IsWithin s.marks.vars) clauses k w.0 within w.1) (w.2.only to (Contains-slice_get c j to at_j))) h;
+      All-contains (λ (x : Literal). x.var ≤ s.marks.vars) w.0 to (All-slice_get (IsWithinVariables s.marks.vars) clauses k w.0 within w.1) (w.2.only to (Contains-slice_get c j to at_j))) h;
 }
 
 -- ---- a clause is watched anew
@@ -342,14 +342,14 @@ old_or_last : (old new : List (List Literal)) (watch : List Literal) (q : ℕ) (
     → (slice_get old q ≡ Some d) ⊎ ((q ≡ length old) × (watch ≡ d))
 old_or_last old new watch q d e h = slice_get-push old watch q d (ap (λ ps. slice_get ps q) (sym e) ∙ h)
 
-pub IsKept-adds : (s : Propagator) (w : WatchList) (watch : List Literal) → IsKept s → Adds s.watches w watch → ((l : Literal) → IsWatched watch l → Guard s.marks.marks s.place s.kept l watch)
-    → IsKept (record s { watches = w })
+pub IsKept-adds : (s : Propagator) (w : WatchList) (watch : List Literal) → IsKeptPropagator s → Adds s.watches w watch → ((l : Literal) → IsWatched watch l → Guard s.marks.marks s.place s.kept l watch)
+    → IsKeptPropagator (record s { watches = w })
 IsKept-adds s w watch k a g = record {
   listed = record {
     size = a.grow.size ∙ k.listed.size;
     listed = λ q d l h is. elim (old_or_last s.watches.watched w.watched watch q d a.watched h) [
       | inl o ↦ let h = k.listed.listed q d l o is in (h.0, a.grow.stays (code_of l) h.0 h.1, h.2, h.3)
-      | inr e ↦ subst (λ y. Stands w.rows l y d) (sym e.0) (subst (Stands w.rows l (length s.watches.watched)) e.1 (a.listed l (subst (λ x. IsWatched x l) (sym e.1) is)))
+      | inr e ↦ subst (λ y. IsWatchedIn w.rows l y d) (sym e.0) (subst (IsWatchedIn w.rows l (length s.watches.watched)) e.1 (a.listed l (subst (λ x. IsWatched x l) (sym e.1) is)))
     ];
     alone = λ q l h. subst (λ us. Contains us q) (sym a.units) (k.listed.alone q l (unit_old q l h));
     units = λ q u h.
@@ -372,12 +372,12 @@ IsKept-adds s w watch k a g = record {
       | inr e ↦ absurd (let n : length watch ≡ 1 = ap length e.1 in let m : 1 < length watch = a.more in omega arith)
     ]
 
-pub IsKept-alone : (s : Propagator) (w : WatchList) (l : Literal) → IsKept s → AddsAlone s.watches w l → IsKept (record s { watches = w })
+pub IsKept-alone : (s : Propagator) (w : WatchList) (l : Literal) → IsKeptPropagator s → AddsAlone s.watches w l → IsKeptPropagator (record s { watches = w })
 IsKept-alone s w l k a = record {
   listed = record {
     size = ap length a.rows ∙ k.listed.size;
     listed = λ q d x h is. elim (old_or_last s.watches.watched w.watched (l ∷ []) q d a.watched h) [
-      | inl o ↦ subst (λ rows. Stands rows x q d) (sym a.rows) (k.listed.listed q d x o is)
+      | inl o ↦ subst (λ rows. IsWatchedIn rows x q d) (sym a.rows) (k.listed.listed q d x o is)
       | inr e ↦ absurd (not_one x (subst (λ y. IsWatched y x) (sym e.1) is))
     ];
     alone = λ q x h. subst (λ us. Contains us q) (sym a.units) (elim (old_or_last s.watches.watched w.watched (l ∷ []) q (x ∷ []) a.watched h) [
@@ -412,7 +412,7 @@ IsKept-alone s w l k a = record {
     unit_at : (q u : ℕ) → slice_get w.units q ≡ Some u → (slice_get s.watches.units q ≡ Some u) ⊎ ((q ≡ length s.watches.units) × (length s.watches.watched ≡ u))
     unit_at q u h = slice_get-push s.watches.units (length s.watches.watched) q u (ap (λ us. slice_get us q) (sym a.units) ∙ h)
 
-pub IsKept-keeps : (s : Propagator) (w : WatchList) → IsKept s → KeepsWatches s.watches w → IsKept (record s { watches = w })
+pub IsKept-keeps : (s : Propagator) (w : WatchList) → IsKeptPropagator s → KeepsWatches s.watches w → IsKeptPropagator (record s { watches = w })
 IsKept-keeps s w k a = record {
   listed = record {
     size = a.grow.size ∙ k.listed.size;
@@ -437,7 +437,7 @@ IsWatching-more clauses old new watch clause w e named is q d h = elim (old_or_l
   | inr f ↦ (clause, ap (slice_get clauses) f.0 ∙ named, subst (IsWatchOf clause) f.1 is)
 ]
 
-pub Goes-adds : (clauses : List (List Literal)) (s : Propagator) (w : WatchList) (watch clause : List Literal) → IsKept s → IsWatching clauses s.watches.watched → Adds s.watches w watch
+pub Goes-adds : (clauses : List (List Literal)) (s : Propagator) (w : WatchList) (watch clause : List Literal) → IsKeptPropagator s → IsWatching clauses s.watches.watched → Adds s.watches w watch
     → slice_get clauses (length s.watches.watched) ≡ Some clause → IsWatchOf clause watch → ((l : Literal) → IsWatched watch l → Guard s.marks.marks s.place s.kept l watch)
     → Goes clauses s (record s { watches = w })
 Goes-adds clauses s w watch clause k o a named is g = record {
@@ -448,7 +448,7 @@ Goes-adds clauses s w watch clause k o a named is g = record {
   size = let e : length w.watched ≡ length s.watches.watched + 1 = ap length a.watched ∙ length_push s.watches.watched watch in omega arith;
 }
 
-pub Goes-alone : (clauses : List (List Literal)) (s : Propagator) (w : WatchList) (l : Literal) (clause : List Literal) → IsKept s → IsWatching clauses s.watches.watched → AddsAlone s.watches w l
+pub Goes-alone : (clauses : List (List Literal)) (s : Propagator) (w : WatchList) (l : Literal) (clause : List Literal) → IsKeptPropagator s → IsWatching clauses s.watches.watched → AddsAlone s.watches w l
     → slice_get clauses (length s.watches.watched) ≡ Some clause → IsWatchOf clause (l ∷ []) → Goes clauses s (record s { watches = w })
 Goes-alone clauses s w l clause k o a named is = record {
   kept = IsKept-alone s w l k a;
@@ -458,7 +458,7 @@ Goes-alone clauses s w l clause k o a named is = record {
   size = let e : length w.watched ≡ length s.watches.watched + 1 = ap length a.watched ∙ length_push s.watches.watched (l ∷ []) in omega arith;
 }
 
-pub Goes-keeps : (clauses : List (List Literal)) (s : Propagator) (w : WatchList) → IsKept s → IsWatching clauses s.watches.watched → KeepsWatches s.watches w → Goes clauses s (record s { watches = w })
+pub Goes-keeps : (clauses : List (List Literal)) (s : Propagator) (w : WatchList) → IsKeptPropagator s → IsWatching clauses s.watches.watched → KeepsWatches s.watches w → Goes clauses s (record s { watches = w })
 Goes-keeps clauses s w k o a = record {
   kept = IsKept-keeps s w k a;
   watching = λ q d h. o q d (ap (λ ps. slice_get ps q) (sym a.watched) ∙ h);
@@ -541,7 +541,7 @@ pub guard_alive : (marks : List Mark) (place kept : ℕ) (a : Literal) (c : List
 guard_alive marks place kept a c alive i m lt at e = absurd (alive (subst (Contains (literals_of marks)) e (literal-of marks m (Contains-slice_get marks i m at))))
 
 -- a clause is watched whose first two literals aren't false
-pub Goes-watched : (clauses : List (List Literal)) (s : Propagator) (w : WatchList) (clause : List Literal) (first second : Literal) → IsKept s → IsWatching clauses s.watches.watched
+pub Goes-watched : (clauses : List (List Literal)) (s : Propagator) (w : WatchList) (clause : List Literal) (first second : Literal) → IsKeptPropagator s → IsWatching clauses s.watches.watched
     → Adds s.watches w (ordered clause first second) → slice_get clauses (length s.watches.watched) ≡ Some clause → IsClause clause → Contains clause first → Contains clause second → first ≢ second
     → (Contains (literals_of s.marks.marks) (negated first) → ⊥) → (Contains (literals_of s.marks.marks) (negated second) → ⊥) → Goes clauses s (record s { watches = w })
 Goes-watched clauses s w clause first second k o a named sorted in_first in_second n open_first open_second =
@@ -550,7 +550,7 @@ Goes-watched clauses s w clause first second k o a named sorted in_first in_seco
       | inr e ↦ subst (λ x. Guard s.marks.marks s.place s.kept x (ordered clause first second)) (sym e) (guard_alive s.marks.marks s.place s.kept second (ordered clause first second) open_second)
     ])
 
-pub IsKept-lower : (s : Propagator) (kept : ℕ) → kept ≤ s.kept → IsKept s → IsKept (record s { kept = kept })
+pub IsKept-lower : (s : Propagator) (kept : ℕ) → kept ≤ s.kept → IsKeptPropagator s → IsKeptPropagator (record s { kept = kept })
 IsKept-lower s kept le k = record {
   listed = k.listed;
   guarded = λ j c l at is i m lt there e. let g = k.guarded j c l at is i m lt there e in (g.0, g.1, g.2, λ low. g.3 (omega arith));
@@ -560,12 +560,12 @@ IsKept-lower s kept le k = record {
   forced = k.forced;
 }
 
-pub Goes-lower : (clauses : List (List Literal)) (s : Propagator) (kept : ℕ) → kept ≤ s.kept → IsKept s → IsWatching clauses s.watches.watched → Goes clauses s (record s { kept = kept })
+pub Goes-lower : (clauses : List (List Literal)) (s : Propagator) (kept : ℕ) → kept ≤ s.kept → IsKeptPropagator s → IsWatching clauses s.watches.watched → Goes clauses s (record s { kept = kept })
 Goes-lower clauses s kept le k w = record { kept = IsKept-lower s kept le k; watching = w; vars = refl; extends = λ first x. x; size = omega arith }
 
 -- a clause of which all literals but one are false is watched, that one being true now
 module _ (s : Propagator) (after : MarkList) (kept place : ℕ) (m : Mark) (first : Literal) (c : List Literal) (more : List Mark)
-    (k : IsKept s) (grown : after.marks ≡ s.marks.marks ++ more) (trail : IsTrail after.vars after.marks) (alive : Contains (literals_of s.marks.marks) (negated first) → ⊥)
+    (k : IsKeptPropagator s) (grown : after.marks ≡ s.marks.marks ++ more) (trail : IsTrail after.vars after.marks) (alive : Contains (literals_of s.marks.marks) (negated first) → ⊥)
     (holds : Contains (literals_of after.marks) first) (first_in : Contains c first) (at : slice_get after.marks place ≡ Some m)
     (low : place < kept → (m : Mark) → slice_get after.marks place ≡ Some m → highest_level after.marks ≤ m.level) where
   guard_first : Guard after.marks s.place kept first c
@@ -599,7 +599,7 @@ pub forced_goes : (clauses : List (List Literal)) (s s' : Propagator) (kept plac
     → s' ≡ record s { marks = s'.marks } → Goes clauses s s' → s'.marks.marks ≡ s.marks.marks ++ more → IsTrail s'.marks.vars s'.marks.marks → (Contains (literals_of s.marks.marks) (negated first) → ⊥)
     → Contains (literals_of s'.marks.marks) first → slice_get s'.marks.marks place ≡ Some m → kept ≤ s'.kept
     → (place < kept → (m : Mark) → slice_get s'.marks.marks place ≡ Some m → highest_level s'.marks.marks ≤ m.level)
-    → IsKept s → second ≡ negated m.lit → first ≢ second → Adds s'.watches w (ordered clause first second) → slice_get clauses (length s'.watches.watched) ≡ Some clause
+    → IsKeptPropagator s → second ≡ negated m.lit → first ≢ second → Adds s'.watches w (ordered clause first second) → slice_get clauses (length s'.watches.watched) ≡ Some clause
     → IsClause clause → Contains clause first → Contains clause second → Goes clauses s (record s' { kept = kept; watches = w })
 forced_goes clauses s s' kept place m first second more w clause same g grew trail alive holds at le highest k is n adds named sorted in_first in_second =
     Goes-trans clauses s s' (record s' { kept = kept; watches = w }) g
@@ -626,12 +626,12 @@ forced_keeps clauses s s' kept w g le keeps =
     (Goes-keeps clauses (record s' { kept = kept }) w (IsKept-lower s' kept le g.kept) g.watching keeps))
 
 -- a literal of a clause is of one of the variables
-pub clause_within : (vars : ℕ) (clauses : List (List Literal)) (k : ℕ) (clause : List Literal) (l : Literal) → All (IsWithin vars) clauses → slice_get clauses k ≡ Some clause → Contains clause l → l.var ≤ vars
-clause_within vars clauses k clause l h named there = All-contains (λ (x : Literal). x.var ≤ vars) clause l (All-slice_get (IsWithin vars) clauses k clause h named) there
+pub clause_within : (vars : ℕ) (clauses : List (List Literal)) (k : ℕ) (clause : List Literal) (l : Literal) → All (IsWithinVariables vars) clauses → slice_get clauses k ≡ Some clause → Contains clause l → l.var ≤ vars
+clause_within vars clauses k clause l h named there = All-contains (λ (x : Literal). x.var ≤ vars) clause l (All-slice_get (IsWithinVariables vars) clauses k clause h named) there
 
 -- whether or not there was memory
 pub Goes-added : {T E : Type 0} (clauses : List (List Literal)) (s : Propagator) (w : WatchList) (l : Literal) (clause : List Literal) (r : Result T E) → OnOk r (AddsAlone s.watches w l) → OnErr r (KeepsWatches s.watches w)
-    → IsKept s → IsWatching clauses s.watches.watched → slice_get clauses (length s.watches.watched) ≡ Some clause → IsWatchOf clause (l ∷ []) → Goes clauses s (record s { watches = w })
+    → IsKeptPropagator s → IsWatching clauses s.watches.watched → slice_get clauses (length s.watches.watched) ≡ Some clause → IsWatchOf clause (l ∷ []) → Goes clauses s (record s { watches = w })
 Goes-added clauses s w l clause (Ok x) ok err k o named is = Goes-alone clauses s w l clause k o ok named is
 Goes-added clauses s w l clause (Err e) ok err k o named is = Goes-keeps clauses s w k o err
 
@@ -649,7 +649,7 @@ pub forced_added : {T E : Type 0} (clauses : List (List Literal)) (s s' s'' : Pr
     → s' ≡ record s { marks = s'.marks } → s'' ≡ record s' { kept = s''.kept } → Goes clauses s s' → s'.marks.marks ≡ s.marks.marks ++ more → IsTrail s'.marks.vars s'.marks.marks
     → (Contains (literals_of s.marks.marks) (negated first) → ⊥) → Contains (literals_of s'.marks.marks) first → slice_get s''.marks.marks place ≡ Some m → s''.kept ≤ s'.kept
     → (place < s''.kept → (m : Mark) → slice_get s'.marks.marks place ≡ Some m → highest_level s'.marks.marks ≤ m.level)
-    → IsKept s → second ≡ negated m.lit → first ≢ second → OnOk r (Adds s''.watches w (ordered clause first second)) → OnErr r (KeepsWatches s''.watches w)
+    → IsKeptPropagator s → second ≡ negated m.lit → first ≢ second → OnOk r (Adds s''.watches w (ordered clause first second)) → OnErr r (KeepsWatches s''.watches w)
     → slice_get clauses (length s.watches.watched) ≡ Some clause → IsClause clause → Contains clause first → Contains clause second → Goes clauses s (record s'' { watches = w })
 forced_added {T} {E} clauses s s' s'' place m first second more w clause r same lowered g grew trail alive holds at le highest k is n ok err named sorted in_first in_second =
     subst (λ (x : Propagator). Goes clauses s (record x { watches = w })) (sym lowered) (by r ok' err')

@@ -6,13 +6,13 @@ use Rattle.std.proofs.lemmas.List.Elements.{All-nil, All-append, All-map}
 use Rattle.std.proofs.lemmas.Bool.{cases_lt}
 use Rattle.std.proofs.lemmas.Option.{slice_get_within}
 use Rattle.propositional_logic.specs.Literal.{Literal}
-use Rattle.propositional_logic.specs.Clause.{IsFormula, IsWithin}
+use Rattle.propositional_logic.specs.Clause.{IsFormula, IsWithinVariables}
 use Rattle.refutation_log.specs.declared.entries.Entry.{Entry}
 use Rattle.refutation_log.specs.Entry.{clauses_of}
 use Rattle.refutation_log.proofs.Lists.{take-append, slice_get-append}
 use Rattle.unit_propagate.specs.declared.marks.Mark.{Mark}
 use Rattle.unit_propagate.specs.Trail.{highest_level, literals_of}
-use Rattle.unit_propagate.specs.Sound.{IsReason, IsSound, Extends}
+use Rattle.unit_propagate.specs.Sound.{IsReason, AreSoundMarks, Extends}
 use Rattle.unit_propagate.specs.declared.propagator.Propagator.{Propagator}
 use Rattle.unit_propagate.specs.Propagator.{Goes, Stays, AreUnitsTrue}
 use Rattle.unit_propagate.proofs.PropagatorLemmas.{longer}
@@ -48,8 +48,8 @@ rising old added up level i j d lt high =
         let len : length (old ++ added) ≡ length old + length added = length-append old added in
         ap (λ (x : Mark). x.level) (get_or-append_right old added (length old) k d refl past) ∙ level (k - length old) d (omega arith)
 
-pub IsSound-extends : (clauses : List (List Literal)) (old new : List Mark) → Extends clauses old new → IsSound clauses old → IsSound clauses new
-IsSound-extends clauses old new x s = subst (IsSound clauses) (sym x.grown) (record {
+pub IsSound-extends : (clauses : List (List Literal)) (old new : List Mark) → Extends clauses old new → AreSoundMarks clauses old → AreSoundMarks clauses new
+IsSound-extends clauses old new x s = subst (AreSoundMarks clauses) (sym x.grown) (record {
   rising = rising old x.added s.rising x.level;
   assumed = λ i m at none. elim (cases_lt i (length old)) [
     | inl low ↦
@@ -67,9 +67,9 @@ IsSound-extends clauses old new x s = subst (IsSound clauses) (sym x.grown) (rec
   ];
 })
 
-pub within_all : (vars vars' : ℕ) (base : List (List Literal)) (seen : List Entry) → vars ≡ vars' → IsFormula vars base → All (λ e. IsWithin vars e.clause) seen → All (IsWithin vars') (base ++ clauses_of seen)
+pub within_all : (vars vars' : ℕ) (base : List (List Literal)) (seen : List Entry) → vars ≡ vars' → IsFormula vars base → All (λ e. IsWithinVariables vars e.clause) seen → All (IsWithinVariables vars') (base ++ clauses_of seen)
 within_all vars vars' base seen e f s =
-    subst (λ v. All (IsWithin v) (base ++ clauses_of seen)) e (All-append (IsWithin vars) base (clauses_of seen) f.1 (All-map (IsWithin vars) (λ (e : Entry). e.clause) seen s))
+    subst (λ v. All (IsWithinVariables v) (base ++ clauses_of seen)) e (All-append (IsWithinVariables vars) base (clauses_of seen) f.1 (All-map (IsWithinVariables vars) (λ (e : Entry). e.clause) seen s))
 
 -- what is true stays true
 pub Goes-literals : (clauses : List (List Literal)) (a b : Propagator) (l : Literal) → Goes clauses a b → Contains (literals_of a.marks.marks) l → Contains (literals_of b.marks.marks) l

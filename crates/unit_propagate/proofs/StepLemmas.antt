@@ -3,7 +3,7 @@ use Rattle.std.proofs.Common.{◌≡◌, ◌≢◌, ℕ, suc, zero, ◌+◌, ◌
 use Rattle.std.proofs.lemmas.List.Elements.{All-contains, All-weaker}
 use Rattle.std.proofs.lemmas.Option.{slice_get_within}
 use Rattle.propositional_logic.specs.Literal.{Literal, negated}
-use Rattle.propositional_logic.specs.Clause.{IsWithin}
+use Rattle.propositional_logic.specs.Clause.{IsWithinVariables}
 use Rattle.refutation_log.specs.Follows.{is_falsified_named}
 use Rattle.unit_propagate.specs.declared.marks.Mark.{Mark}
 use Rattle.unit_propagate.specs.declared.propagator.Propagator.{Propagator}
@@ -15,7 +15,7 @@ use Rattle.unit_propagate.specs.Watched.{IsWatchOf, IsWatched, HasTrue}
 use Rattle.propositional_logic.specs.Codes.{code_of}
 use Rattle.unit_propagate.specs.Rows.{row_at}
 use Rattle.unit_propagate.specs.Watches.{IsSide}
-use Rattle.unit_propagate.specs.Propagator.{IsKept, IsVisiting}
+use Rattle.unit_propagate.specs.Propagator.{IsKeptPropagator, IsVisiting}
 use Rattle.unit_propagate.proofs.Places.{All-slice_get, All-from_contains, slice_get-Contains, Contains-slice_get}
 use Rattle.unit_propagate.proofs.CodeLemmas.{code_fits}
 use Rattle.unit_propagate.proofs.PropagatorLemmas.{same_literal, passed, last_there, falsified_at, reason_at}
@@ -70,16 +70,16 @@ module _ (clauses : List (List Literal)) (s : Propagator) (l : Literal) (j i : �
         pub reason : IsReason clauses (u.clause + 1) (literals_of s.marks.marks) other
         reason = let w = v.watching u.clause c at in reason_at clauses (literals_of s.marks.marks) u.clause w.0 other w.1 (other_in w.0 w.2) (others w.0 w.2)
 
-      pub other_within : (vars : ℕ) → All (IsWithin vars) clauses → other.var ≤ vars
+      pub other_within : (vars : ℕ) → All (IsWithinVariables vars) clauses → other.var ≤ vars
       other_within vars h =
           let w = v.watching u.clause c at in
-          All-contains (λ (x : Literal). x.var ≤ vars) w.0 other (All-slice_get (IsWithin vars) clauses u.clause w.0 h w.1) (other_in w.0 w.2)
+          All-contains (λ (x : Literal). x.var ≤ vars) w.0 other (All-slice_get (IsWithinVariables vars) clauses u.clause w.0 h w.1) (other_in w.0 w.2)
 
     -- a literal of the clause is of one of the variables
-    pub literal_within : (vars : ℕ) (x : Literal) → All (IsWithin vars) clauses → Contains c x → x.var ≤ vars
+    pub literal_within : (vars : ℕ) (x : Literal) → All (IsWithinVariables vars) clauses → Contains c x → x.var ≤ vars
     literal_within vars x h m =
         let w = v.watching u.clause c at in
-        All-contains (λ (y : Literal). y.var ≤ vars) w.0 x (All-slice_get (IsWithin vars) clauses u.clause w.0 h w.1) (w.2.only x m)
+        All-contains (λ (y : Literal). y.var ≤ vars) w.0 x (All-slice_get (IsWithinVariables vars) clauses u.clause w.0 h w.1) (w.2.only x m)
 
 -- there is a place left open in the list before the one that is looked at
 pub open_place : (clauses : List (List Literal)) (s : Propagator) (l : Literal) (j i : ℕ) (u : Watcher) → IsVisiting clauses s l j i → slice_get (row_at s.watches.rows (code_of l)) i ≡ Some u
@@ -96,5 +96,5 @@ pub forced_there : (s : Propagator) (m : Mark) (after : MarkList) → after ≡ 
 forced_there s m after e = subst (λ (x : MarkList). Contains (literals_of x.marks) m.lit) (sym e) (last_there s.marks.marks m)
 
 -- a literal's list is in the table
-pub list_fits : (s : Propagator) (l : Literal) → IsKept s → l.var ≤ s.marks.vars → code_of l ≤ 2 * 2 ^ 30 + 1 → code_of l < length s.watches.rows
+pub list_fits : (s : Propagator) (l : Literal) → IsKeptPropagator s → l.var ≤ s.marks.vars → code_of l ≤ 2 * 2 ^ 30 + 1 → code_of l < length s.watches.rows
 list_fits s l k h c = code_fits s.marks.vars (length s.watches.rows) l k.listed.size h c

@@ -6,7 +6,7 @@ use Rattle.propositional_logic.proofs.Members.{Contains-head, Contains-later}
 use Rattle.unit_propagate.specs.declared.rows.Watcher.{Watcher}
 use Rattle.propositional_logic.specs.Codes.{code_of}
 use Rattle.unit_propagate.specs.Rows.{row_at, AddsTo, SetsAt, CutsOut}
-use Rattle.unit_propagate.specs.Watches.{WatchList, Adds, Rewatches, CanRewatch, Keeps, Cuts, ordered, exchanged, Stands, differs}
+use Rattle.unit_propagate.specs.Watches.{WatchList, Adds, Rewatches, CanRewatch, Keeps, CutsWatches, ordered, exchanged, IsWatchedIn, differs}
 use Rattle.unit_propagate.proofs.RowsLemmas.{RowsGrow-trans, RowsGrow-adds, added_there}
 use Rattle.unit_propagate.proofs.RewatchLemmas.{ordered_sides, ordered_more}
 
@@ -19,9 +19,9 @@ Adds-two w c first second between rows row row' k watched e r r' s p q = record 
   watched = e;
   grow = RowsGrow-trans w.rows between rows (RowsGrow-adds w.rows between row a p) (RowsGrow-adds between rows row' b q);
   listed = λ l h. elim (ordered_sides c first second l h) [
-    | inl same ↦ subst (λ (x : Literal). Stands rows x (length w.watched) (ordered c first second)) (sym same)
+    | inl same ↦ subst (λ (x : Literal). IsWatchedIn rows x (length w.watched) (ordered c first second)) (sym same)
         (a, subst (λ x. Contains (row_at rows x) a) r ((RowsGrow-adds between rows row' b q).stays row a (added_there w.rows between row a p)), s, second_in)
-    | inr same ↦ subst (λ (x : Literal). Stands rows x (length w.watched) (ordered c first second)) (sym same)
+    | inr same ↦ subst (λ (x : Literal). IsWatchedIn rows x (length w.watched) (ordered c first second)) (sym same)
         (b, subst (λ x. Contains (row_at rows x) b) r' (added_there between rows row' b q), s, first_in)
   ];
   units = refl;
@@ -52,5 +52,5 @@ Rewatches-of w n p j from to rows row watched can e adds is = record {
 pub Keeps-of : (w : WatchList) (row row' i : ℕ) (x : Watcher) (rows : List (List Watcher)) → row ≡ row' → SetsAt w.rows rows row i x → Keeps w (record { watched = w.watched; rows = rows; units = w.units }) row' i x
 Keeps-of w row row' i x rows e sets = record { watched = refl; sets = subst (λ r. SetsAt w.rows rows r i x) e sets; units = refl }
 
-pub Cuts-of : (w : WatchList) (row row' from to : ℕ) (rows : List (List Watcher)) → row ≡ row' → CutsOut w.rows rows row from to → Cuts w (record { watched = w.watched; rows = rows; units = w.units }) row' from to
+pub Cuts-of : (w : WatchList) (row row' from to : ℕ) (rows : List (List Watcher)) → row ≡ row' → CutsOut w.rows rows row from to → CutsWatches w (record { watched = w.watched; rows = rows; units = w.units }) row' from to
 Cuts-of w row row' from to rows e cuts = record { watched = refl; cuts = subst (λ r. CutsOut w.rows rows r from to) e cuts; units = refl }

@@ -20,7 +20,7 @@ clauses_in base seen = base.clauses.items ++ clauses_of seen
 
 -- What a trail keeps: each clause is watched, a watched literal is made false by a literal before the place only if some literal of its
 -- clause is true, and the first clauses of one literal are true on level 0.
-pub record IsKept (s : Propagator) : Type 0 where
+pub record IsKeptPropagator (s : Propagator) : Type 0 where
   pub listed : IsListed (room_of s.marks.vars) s.watches
   pub guarded : IsGuarded s.marks.marks s.watches.watched s.place s.kept
   pub done : IsDone s.marks.marks s.watches s.done
@@ -35,7 +35,7 @@ StandsAt P rows l k clause = (g : ℕ) × (x : Watcher) × P g × (slice_get (ro
 -- The clauses that watch a false literal are looked at, up to place i of its list, where those that stay have gone to the places before
 -- place j: in each of them that isn't to come, some literal is true.
 pub record IsVisiting (clauses : List (List Literal)) (s : Propagator) (l : Literal) (j i : ℕ) : Type 0 where
-  pub kept : IsKept s
+  pub kept : IsKeptPropagator s
   pub watching : IsWatching clauses s.watches.watched
   pub falsified : Contains (literals_of s.marks.marks) (negated l)
   pub order : j ≤ i
@@ -44,7 +44,7 @@ pub record IsVisiting (clauses : List (List Literal)) (s : Propagator) (l : Lite
 
 -- What propagation leaves at each step.
 pub record Goes (clauses : List (List Literal)) (old new : Propagator) : Type 0 where
-  pub kept : IsKept new
+  pub kept : IsKeptPropagator new
   pub watching : IsWatching clauses new.watches.watched
   pub vars : new.marks.vars ≡ old.marks.vars
   pub extends : (first : List Mark) → Extends clauses first old.marks.marks → Extends clauses first new.marks.marks

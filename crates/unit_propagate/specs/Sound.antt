@@ -13,7 +13,7 @@ pub record IsReason (clauses : List (List Literal)) (number : ℕ) (before : Lis
   pub others_false : (k : Literal) → Contains clause k → k ≢ l → Contains before (negated k)
 
 -- A trail is sound over a list of clauses (conflict-driven clause learning).
-pub record IsSound (clauses : List (List Literal)) (marks : List Mark) : Type 0 where
+pub record AreSoundMarks (clauses : List (List Literal)) (marks : List Mark) : Type 0 where
   -- levels never fall along the trail
   pub rising : AllPairs (λ m n. m.level ≤ n.level) marks
   -- a literal without a reason is the first of its level, and this level is at least 1

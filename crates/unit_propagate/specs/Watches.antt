@@ -33,13 +33,13 @@ abbrev pub ordered : List Literal → Literal → Literal → List Literal
 ordered lits first second = first ∷ second ∷ filter (differs first second) lits
 
 -- A clause stands in the list of a literal, with one of its own literals as its blocker (two watched literals).
-abbrev pub Stands : List (List Watcher) → Literal → ℕ → List Literal → Type 0
-Stands rows l k clause = (x : Watcher) × Contains (row_at rows (code_of l)) x × (x.clause ≡ k) × Contains clause x.blocker
+abbrev pub IsWatchedIn : List (List Watcher) → Literal → ℕ → List Literal → Type 0
+IsWatchedIn rows l k clause = (x : Watcher) × Contains (row_at rows (code_of l)) x × (x.clause ≡ k) × Contains clause x.blocker
 
 -- Each clause stands in the lists of its two watched literals, or among those with one literal.
 pub record IsListed (room : ℕ) (w : WatchList) : Type 0 where
   pub size : length w.rows ≡ 2 * room
-  pub listed : (k : ℕ) (c : List Literal) (l : Literal) → slice_get w.watched k ≡ Some c → IsWatched c l → Stands w.rows l k c
+  pub listed : (k : ℕ) (c : List Literal) (l : Literal) → slice_get w.watched k ≡ Some c → IsWatched c l → IsWatchedIn w.rows l k c
   pub alone : (k : ℕ) (l : Literal) → slice_get w.watched k ≡ Some (l ∷ []) → Contains w.units k
   pub units : (i k : ℕ) → slice_get w.units i ≡ Some k → (l : Literal) × (slice_get w.watched k ≡ Some (l ∷ []))
 
@@ -77,7 +77,7 @@ pub record Keeps (old new : WatchList) (row i : ℕ) (x : Watcher) : Type 0 wher
   pub units : new.units ≡ old.units
 
 -- The watchers from one place of a list up to another are taken out of it.
-pub record Cuts (old new : WatchList) (row from to : ℕ) : Type 0 where
+pub record CutsWatches (old new : WatchList) (row from to : ℕ) : Type 0 where
   pub watched : new.watched ≡ old.watched
   pub cuts : CutsOut old.rows new.rows row from to
   pub units : new.units ≡ old.units
@@ -87,7 +87,7 @@ pub record Adds (old new : WatchList) (watch : List Literal) : Type 0 where
   pub more : 1 < length watch
   pub watched : new.watched ≡ old.watched ++ watch ∷ []
   pub grow : RowsGrow old.rows new.rows
-  pub listed : (l : Literal) → IsWatched watch l → Stands new.rows l (length old.watched) watch
+  pub listed : (l : Literal) → IsWatched watch l → IsWatchedIn new.rows l (length old.watched) watch
   pub units : new.units ≡ old.units
 
 -- A clause of one literal stands behind the others from now on.

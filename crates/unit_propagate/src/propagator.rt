@@ -1,7 +1,7 @@
 ghost use Rattle.std.specs.Prelude.{◌≡◌, ◌≢◌, ℕ, ◌+◌, ◌*◌, ◌<◌, ◌≤◌, ◌^◌, ◌⊎◌, true, false, List, [], ◌∷◌, ◌++◌, None, Some, Ok, All, Contains, length, filter, nat_le, slice_get, IfOk, IfSome, IfNone, OnOk, OnErr};
 ghost use Rattle.std.specs.Bool.{OnTrue, OnFalse};
 ghost use Rattle.propositional_logic.specs.Literal.{Literal, negated};
-ghost use Rattle.propositional_logic.specs.Clause.{IsClause, IsWithin};
+ghost use Rattle.propositional_logic.specs.Clause.{IsClause, IsWithinVariables};
 ghost use Rattle.refutation_log.specs.Follows.{is_falsified_named};
 ghost use Rattle.unit_propagate.specs.declared.marks.Mark.{Mark};
 ghost use Rattle.unit_propagate.specs.declared.rows.Watcher.{Watcher};
@@ -183,11 +183,11 @@ impl Propagator {
     ghost use Rattle.unit_propagate.specs.Watched.{IsWatching};
     ghost use Rattle.propositional_logic.specs.Codes.{code_of};
     ghost use Rattle.unit_propagate.specs.Rows.{row_at};
-    ghost use Rattle.unit_propagate.specs.Propagator.{clauses_in, IsKept, IsVisiting, IsVisited, Goes, Stays, AreUnitsTrue};
+    ghost use Rattle.unit_propagate.specs.Propagator.{clauses_in, IsKeptPropagator, IsVisiting, IsVisited, Goes, Stays, AreUnitsTrue};
 
     /// An empty trail, which watches nothing.
     pub fn new(alloc: Global, vars: u32) -> Result<Propagator, AllocError>
-        ensures kept { IfOk result IsKept }
+        ensures kept { IfOk result IsKeptPropagator }
         ensures marks { IfOk result (λ s. s.marks ≡ record { vars = vars; marks = [] }) }
         ensures watches { IfOk result (λ s. s.watches.watched ≡ []) }
         ensures place { IfOk result (λ s. s.place ≡ 0) }
@@ -203,8 +203,8 @@ impl Propagator {
 
     /// Watches the clauses that are new. Answers the number of one that is falsified.
     fn watch_new(&mut self, base: &Cnf, seen: &[Entry]) -> Result<Option<u64>, AllocError>
-        requires within { All (IsWithin self.old.marks.vars) (clauses_in base.now seen.now) }
-        requires kept { IsKept self.old }
+        requires within { All (IsWithinVariables self.old.marks.vars) (clauses_in base.now seen.now) }
+        requires kept { IsKeptPropagator self.old }
         requires watching { IsWatching (clauses_in base.now seen.now) self.old.watches.watched }
         ensures all { result ≡ Ok None → length (clauses_in base.now seen.now) ≤ length self.new.watches.watched }
         ensures falsified { (n : ℕ) → result ≡ Ok (Some n) → is_falsified_named (clauses_in base.now seen.now) (literals_of self.new.marks.marks) n ≡ true }
@@ -221,8 +221,8 @@ impl Propagator {
     /// Watches the next clause, unless it is falsified.
     fn watch_next(&mut self, base: &Cnf, seen: &[Entry]) -> Result<bool, AllocError>
         requires more { length self.old.watches.watched < length (clauses_in base.now seen.now) }
-        requires within { All (IsWithin self.old.marks.vars) (clauses_in base.now seen.now) }
-        requires kept { IsKept self.old }
+        requires within { All (IsWithinVariables self.old.marks.vars) (clauses_in base.now seen.now) }
+        requires kept { IsKeptPropagator self.old }
         requires watching { IsWatching (clauses_in base.now seen.now) self.old.watches.watched }
         ensures watched { result ≡ Ok true → length self.new.watches.watched ≡ length self.old.watches.watched + 1 }
         ensures falsified { result ≡ Ok false → is_falsified_named (clauses_in base.now seen.now) (literals_of self.new.marks.marks) (length self.new.watches.watched + 1) ≡ true }
@@ -243,10 +243,10 @@ impl Propagator {
     fn watch_forced(&mut self, clause: &Clause, first: Lit) -> Result<(), AllocError>
         requires sorted { IsClause clause.now }
         requires member { Contains clause.now first }
-        requires within { IsWithin self.old.marks.vars clause.now }
+        requires within { IsWithinVariables self.old.marks.vars clause.now }
         requires others { All (λ l. l ≢ first → Contains (literals_of self.old.marks.marks) (negated l)) clause.now }
         requires alive { Contains (literals_of self.old.marks.marks) (negated first) → ⊥ }
-        requires kept { IsKept self.old }
+        requires kept { IsKeptPropagator self.old }
         ensures ok { OnOk result (length self.new.watches.watched ≡ length self.old.watches.watched + 1) }
         ensures goes { (clauses : List (List Literal)) → IsWatching clauses self.old.watches.watched → slice_get clauses (length self.old.watches.watched) ≡ Some clause.now → Goes clauses self.old self.new }
     {
@@ -267,7 +267,7 @@ impl Propagator {
         ensures now_true { Contains (literals_of self.new.marks.marks) lit }
         ensures others { self.new ≡ record self.old { marks = self.new.marks } }
         ensures grown { (more : List Mark) × (self.new.marks.marks ≡ self.old.marks.marks ++ more) }
-        ensures goes { (clauses : List (List Literal)) → IsKept self.old → IsWatching clauses self.old.watches.watched → IsReason clauses number (literals_of self.old.marks.marks) lit → Goes clauses self.old self.new }
+        ensures goes { (clauses : List (List Literal)) → IsKeptPropagator self.old → IsWatching clauses self.old.watches.watched → IsReason clauses number (literals_of self.old.marks.marks) lit → Goes clauses self.old self.new }
     {
         if self.marks.is_true(lit) {
             return;
@@ -293,8 +293,8 @@ impl Propagator {
 
     /// Makes the literals of the clauses with one literal true. Answers the number of one that is falsified.
     fn force_units(&mut self, base: &Cnf, seen: &[Entry]) -> Option<u64>
-        requires within { All (IsWithin self.old.marks.vars) (clauses_in base.now seen.now) }
-        requires kept { IsKept self.old }
+        requires within { All (IsWithinVariables self.old.marks.vars) (clauses_in base.now seen.now) }
+        requires kept { IsKeptPropagator self.old }
         requires watching { IsWatching (clauses_in base.now seen.now) self.old.watches.watched }
         ensures all { result ≡ None → AreUnitsTrue self.new }
         ensures falsified { IfSome result (λ n. is_falsified_named (clauses_in base.now seen.now) (literals_of self.new.marks.marks) n ≡ true) }
@@ -315,8 +315,8 @@ impl Propagator {
 
     /// Makes the literal of a clause with one literal true, unless it is false.
     fn force_unit(&mut self, base: &Cnf, seen: &[Entry], k: usize) -> bool
-        requires within { All (IsWithin self.old.marks.vars) (clauses_in base.now seen.now) }
-        requires kept { IsKept self.old }
+        requires within { All (IsWithinVariables self.old.marks.vars) (clauses_in base.now seen.now) }
+        requires kept { IsKeptPropagator self.old }
         requires watching { IsWatching (clauses_in base.now seen.now) self.old.watches.watched }
         requires alone { (l : Literal) × (slice_get self.old.watches.watched k ≡ Some (l ∷ [])) }
         ensures forced { OnTrue result ((l : Literal) → slice_get self.old.watches.watched k ≡ Some (l ∷ []) → Contains (literals_of self.new.marks.marks) l) }
@@ -348,7 +348,7 @@ impl Propagator {
         i: usize,
         blocker: Lit,
     ) -> Result<Step, AllocError>
-        requires within { All (IsWithin self.old.marks.vars) (clauses_in base.now seen.now) }
+        requires within { All (IsWithinVariables self.old.marks.vars) (clauses_in base.now seen.now) }
         requires visiting { IsVisiting (clauses_in base.now seen.now) self.old falsified to i }
         requires fits { code_of falsified ≤ 2 * 2 ^ 30 + 1 → code_of falsified < length self.old.watches.rows }
         requires there { (x : Watcher) × (slice_get (row_at self.old.watches.rows (code_of falsified)) i ≡ Some x) × (x.blocker ≡ blocker) }
@@ -392,7 +392,7 @@ impl Propagator {
 
     /// Looks at each clause that watches a literal that became false, until one is falsified.
     fn look(&mut self, base: &Cnf, seen: &[Entry], falsified: Lit) -> Looked
-        requires within { All (IsWithin self.old.marks.vars) (clauses_in base.now seen.now) }
+        requires within { All (IsWithinVariables self.old.marks.vars) (clauses_in base.now seen.now) }
         requires visiting { IsVisiting (clauses_in base.now seen.now) self.old falsified 0 0 }
         requires fits { code_of falsified ≤ 2 * 2 ^ 30 + 1 → code_of falsified < length self.old.watches.rows }
         ensures visiting { IsVisiting (clauses_in base.now seen.now) self.new falsified result.kept result.place }
@@ -446,7 +446,7 @@ impl Propagator {
         seen: &[Entry],
         falsified: Lit,
     ) -> Result<Option<u64>, AllocError>
-        requires within { All (IsWithin self.old.marks.vars) (clauses_in base.now seen.now) }
+        requires within { All (IsWithinVariables self.old.marks.vars) (clauses_in base.now seen.now) }
         requires visiting { IsVisiting (clauses_in base.now seen.now) self.old falsified 0 0 }
         requires fits { code_of falsified ≤ 2 * 2 ^ 30 + 1 → code_of falsified < length self.old.watches.rows }
         ensures all { result ≡ Ok None → IsVisited self.new falsified }
@@ -462,8 +462,8 @@ impl Propagator {
     /// Looks at the next literal of the trail. Answers the number of a clause that is falsified.
     fn visit_next(&mut self, base: &Cnf, seen: &[Entry]) -> Result<Option<u64>, AllocError>
         requires next { self.old.place < length self.old.marks.marks }
-        requires within { All (IsWithin self.old.marks.vars) (clauses_in base.now seen.now) }
-        requires kept { IsKept self.old }
+        requires within { All (IsWithinVariables self.old.marks.vars) (clauses_in base.now seen.now) }
+        requires kept { IsKeptPropagator self.old }
         requires watching { IsWatching (clauses_in base.now seen.now) self.old.watches.watched }
         ensures place { result ≡ Ok None → self.new.place ≡ self.old.place + 1 }
         ensures falsified { (n : ℕ) → result ≡ Ok (Some n) → is_falsified_named (clauses_in base.now seen.now) (literals_of self.new.marks.marks) n ≡ true }
@@ -497,8 +497,8 @@ impl Propagator {
 
     /// Adds the literals that clauses force, until none is forced or a clause is falsified. Answers its number.
     pub fn propagate(&mut self, base: &Cnf, seen: &[Entry]) -> Result<Option<u64>, AllocError>
-        requires within { All (IsWithin self.old.marks.vars) (clauses_in base.now seen.now) }
-        requires kept { IsKept self.old }
+        requires within { All (IsWithinVariables self.old.marks.vars) (clauses_in base.now seen.now) }
+        requires kept { IsKeptPropagator self.old }
         requires watching { IsWatching (clauses_in base.now seen.now) self.old.watches.watched }
         ensures place { result ≡ Ok None → self.new.place ≡ length self.new.marks.marks }
         ensures quiet { result ≡ Ok None → IsQuiet (clauses_in base.now seen.now) (literals_of self.new.marks.marks) }
@@ -521,8 +521,8 @@ impl Propagator {
 
     /// Takes all literals above a level off.
     pub fn back_to(&mut self, level: u32)
-        requires { IsKept self.old }
-        ensures kept { IsKept self.new }
+        requires { IsKeptPropagator self.old }
+        ensures kept { IsKeptPropagator self.new }
         ensures marks { self.new.marks ≡ record self.old.marks { marks = filter (λ m. nat_le m.level level) self.old.marks.marks } }
         ensures watches { self.new.watches ≡ self.old.watches }
         ensures place { self.new.place ≤ self.old.place }
@@ -534,8 +534,8 @@ impl Propagator {
 
     /// Takes all literals off.
     pub fn clear(&mut self)
-        requires { IsKept self.old }
-        ensures kept { IsKept self.new }
+        requires { IsKeptPropagator self.old }
+        ensures kept { IsKeptPropagator self.new }
         ensures marks { self.new.marks ≡ record self.old.marks { marks = [] } }
         ensures watches { self.new.watches ≡ self.old.watches }
         ensures place { self.new.place ≡ 0 }

@@ -1,14 +1,14 @@
 ghost use Rattle.std.specs.Prelude.{◌≡◌, ℕ, true, ◌+◌, ◌<◌, ◌≤◌, [], ◌∷◌, ◌++◌, Some, None, Ok, IfOk, IfSome, IfNone, OnOk, All, Contains, length, filter, nat_le, slice_get};
-ghost use Rattle.propositional_logic.specs.Clause.{IsFormula, IsWithin};
+ghost use Rattle.propositional_logic.specs.Clause.{IsFormula, IsWithinVariables};
 ghost use Rattle.refutation_log.specs.Entry.{clauses_of};
 ghost use Rattle.refutation_log.specs.Follows.{is_falsified_named};
 ghost use Rattle.unit_propagate.specs.declared.trail.Propagated.TheVariants.{Quiet, Falsified};
 ghost use Rattle.unit_propagate.specs.declared.marks.Mark.{Mark};
 ghost use Rattle.unit_propagate.specs.Trail.{TrailModel, IsFree, IsTrail, highest_level, literals_of};
-ghost use Rattle.unit_propagate.specs.Sound.{IsSound, Extends};
+ghost use Rattle.unit_propagate.specs.Sound.{AreSoundMarks, Extends};
 ghost use Rattle.unit_propagate.specs.Quiet.{IsQuiet};
 ghost use Rattle.unit_propagate.specs.Watched.{IsWatching, AreLookedAt};
-ghost use Rattle.unit_propagate.specs.Propagator.{IsKept};
+ghost use Rattle.unit_propagate.specs.Propagator.{IsKeptPropagator};
 
 use crate::propagator::Propagator;
 use propositional_logic::{Cnf, Lit};
@@ -39,7 +39,7 @@ impl Model for Trail {
 
     ghost view = { λ t. record { vars = t.state.marks.vars; marks = t.state.marks.marks; watched = t.state.watches.watched; looked = t.state.place } };
 
-    ghost invariant = { λ t. IsKept t.state };
+    ghost invariant = { λ t. IsKeptPropagator t.state };
 }
 
 impl Trail {
@@ -126,7 +126,7 @@ impl Trail {
     pub fn propagate(&mut self, base: &Cnf, seen: &[Entry]) -> Result<Propagated, AllocError>
         requires variables { base.now.vars ≡ self.old.vars }
         requires formula { IsFormula base.now.vars base.now.clauses.items }
-        requires within { All (λ e. IsWithin base.now.vars e.clause) seen.now }
+        requires within { All (λ e. IsWithinVariables base.now.vars e.clause) seen.now }
 
         // A caller gives the same base clauses at each call, and at least the entries of the calls before, which come first.
         requires watching { IsWatching (base.now.clauses.items ++ clauses_of seen.now) self.old.watched }
@@ -136,7 +136,7 @@ impl Trail {
 
         // In each answer, and after want of memory.
         ensures extends { Extends (base.now.clauses.items ++ clauses_of seen.now) self.old.marks self.new.marks }
-        ensures sound { IsSound (base.now.clauses.items ++ clauses_of seen.now) self.old.marks → IsSound (base.now.clauses.items ++ clauses_of seen.now) self.new.marks }
+        ensures sound { AreSoundMarks (base.now.clauses.items ++ clauses_of seen.now) self.old.marks → AreSoundMarks (base.now.clauses.items ++ clauses_of seen.now) self.new.marks }
         ensures watching { IsWatching (base.now.clauses.items ++ clauses_of seen.now) self.new.watched }
         ensures vars { self.new.vars ≡ self.old.vars }
     {

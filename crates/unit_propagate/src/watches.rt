@@ -3,7 +3,7 @@ ghost use Rattle.propositional_logic.specs.Literal.{Literal};
 ghost use Rattle.propositional_logic.specs.Codes.{code_of};
 ghost use Rattle.unit_propagate.specs.declared.rows.Watcher.{Watcher};
 ghost use Rattle.unit_propagate.specs.Rows.{row_at};
-ghost use Rattle.unit_propagate.specs.Watches.{WatchList, Adds, AddsAlone, KeepsWatches, Rewatches, CanRewatch, Keeps, Cuts, ordered};
+ghost use Rattle.unit_propagate.specs.Watches.{WatchList, Adds, AddsAlone, KeepsWatches, Rewatches, CanRewatch, Keeps, CutsWatches, ordered};
 
 use crate::arena::Arena;
 use crate::rows::{Rows, Watcher};
@@ -136,7 +136,7 @@ impl Watches {
         requires order { from ≤ to }
         requires fits { code_of lit ≤ 2 * 2 ^ 30 + 1 → code_of lit < length self.old.rows }
         requires in_row { to ≤ length (row_at self.old.rows (code_of lit)) }
-        ensures { Cuts self.old self.new (code_of lit) from to }
+        ensures { CutsWatches self.old self.new (code_of lit) from to }
     {
         self.rows.cut(code(lit), from, to);
     }

@@ -7,7 +7,7 @@ use Rattle.ltl_formula.specs.declared.nodes.FormulaId.{FormulaId}
 use Rattle.ltl_formula.specs.declared.nodes.Node.{Node}
 use Rattle.ltl_formula.specs.declared.nodes.Node.TheVariants as node
 use Rattle.ltl_formula.specs.declared.nodes.TheConstants.{MAX_SIGNALS}
-use Rattle.ltl_formula.specs.Nodes.{Grows, IsNodeList, Stands, tree_at}
+use Rattle.ltl_formula.specs.Nodes.{Grows, IsNodeList, IsNodeIn, tree_at}
 use Rattle.ltl_formula.specs.Tree.{Tree}
 use Rattle.ltl_formula.specs.Tree.Tree.{truth, falsity, signal, negation, next_time, finally, globally, conjunction, disjunction, implication, equivalence, until, release, weak_until}
 use Rattle.ltl_formula.proofs.Lists.{signals_are_below}
@@ -49,7 +49,7 @@ copies_with from known nodes place id h within at = record {
 by_sixteen : (nodes : List Node) → IsNodeList nodes → IsGood MAX_SIGNALS nodes
 by_sixteen nodes list = record { list = list; below = record { nodes_below = list.signals } }
 
-module _ (from : List Node) (id : FormulaId) (from_list : IsNodeList from) (there : Stands from id) where
+module _ (from : List Node) (id : FormulaId) (from_list : IsNodeList from) (there : IsNodeIn from id) where
   put_filled : (old new : Work) (copy : FormulaId) → IsNodeList old.formulas → put (tree_at from id) old ≡ gives copy new
       → IsKept MAX_SIGNALS old.formulas (λ id' nodes. StandsAs nodes (tree_at from id) id') copy new.formulas
   put_filled old new copy list is =
@@ -94,7 +94,7 @@ module _ (t : Tree) (old mid : Work) (x : Node) where
   put_fault (At code place) parts h = put_by_parts t old ∙ ap (λ o. go_on o (λ y w. made 0 y w)) parts ∙ h
 
 -- the copies that are known after a formula was put by its parts
-pub copies_after : (from : List Node) (known : List (Option FormulaId)) (id : FormulaId) (old mid new : Work) (x : Node) (copy : FormulaId) → IsNodeList old.formulas → Stands from id → length known ≡ length from
+pub copies_after : (from : List Node) (known : List (Option FormulaId)) (id : FormulaId) (old mid new : Work) (x : Node) (copy : FormulaId) → IsNodeList old.formulas → IsNodeIn from id → length known ≡ length from
     → AreCopies from known mid.formulas → Grows mid.formulas new.formulas → parts_put (tree_at from id) old ≡ gives x mid → made 0 x mid ≡ gives copy new → AreCopies from (set known id.0 (Some copy)) new.formulas
 copies_after from known id old mid new x copy list there room h grows parts last =
     let got = put_filled from id h.from_list there old new copy list (put_is (tree_at from id) old mid x copy new parts last) in

@@ -4,7 +4,7 @@ use Rattle.ltl_formula.specs.declared.nodes.FormulaId.{FormulaId}
 use Rattle.ltl_formula.specs.declared.nodes.Node.{Node}
 use Rattle.ltl_formula.specs.declared.nodes.Node.TheVariants as node
 use Rattle.ltl_formula.specs.declared.nodes.TheConstants.{MAX_SIGNALS}
-use Rattle.ltl_formula.specs.Nodes.{IsNodeList, PartsBelow, Stands, node_at, tree_at, tree_of, trees_of}
+use Rattle.ltl_formula.specs.Nodes.{IsNodeList, PartsBelow, IsNodeIn, node_at, tree_at, tree_of, trees_of}
 use Rattle.ltl_formula.specs.Tree.{Tree, SignalsBelow}
 use Rattle.ltl_formula.specs.Tree.Tree.{truth, falsity, signal, negation, next_time, finally, globally, conjunction, disjunction, implication, equivalence, until, release, weak_until}
 use Rattle.ltl_formula.proofs.Trees.{tree_at-node}
@@ -53,23 +53,23 @@ module _ {top : ℕ} where
 -- ---- a formula that stands
 
 module _ (work : Work) (list : IsNodeList work.formulas) where
-  made_at : (x : Node) (id : FormulaId) → Stands work.formulas id → node_at work.formulas id.0 ≡ x → made 0 x work ≡ gives id work
+  made_at : (x : Node) (id : FormulaId) → IsNodeIn work.formulas id → node_at work.formulas id.0 ≡ x → made 0 x work ≡ gives id work
   made_at x id there is = ap (λ y. made 0 y work) (sym is) ∙ made_again work id list there
 
   below : (x : Node) (id : FormulaId) → node_at work.formulas id.0 ≡ x → PartsBelow id.0 x
   below x id is = subst (PartsBelow id.0) is (list.parts_first id.0)
 
-  put_one : (whole : FormulaId → Node) (a id : FormulaId) → Stands work.formulas id → node_at work.formulas id.0 ≡ whole a → put (tree_at work.formulas a) work ≡ gives a work
+  put_one : (whole : FormulaId → Node) (a id : FormulaId) → IsNodeIn work.formulas id → node_at work.formulas id.0 ≡ whole a → put (tree_at work.formulas a) work ≡ gives a work
       → put_over whole (put (tree_at work.formulas a) work) ≡ gives id work
   put_one whole a id there is part = ap (λ o. put_over whole o) part ∙ made_at (whole a) id there is
 
-  put_two : (whole : FormulaId → FormulaId → Node) (a b id : FormulaId) → Stands work.formulas id → node_at work.formulas id.0 ≡ whole a b → put (tree_at work.formulas a) work ≡ gives a work
+  put_two : (whole : FormulaId → FormulaId → Node) (a b id : FormulaId) → IsNodeIn work.formulas id → node_at work.formulas id.0 ≡ whole a b → put (tree_at work.formulas a) work ≡ gives a work
       → put (tree_at work.formulas b) work ≡ gives b work → put_over_both whole (put (tree_at work.formulas a) work) (put (tree_at work.formulas b)) ≡ gives id work
   put_two whole a b id there is left right =
       ap (λ o. put_over_both whole o (put (tree_at work.formulas b))) left ∙ ap (λ o. go_on o (λ y w. made 0 (whole a y) w)) right ∙ made_at (whole a b) id there is
 
   -- by its node, where its parts are as said
-  put_node : (x : Node) (id : FormulaId) → Stands work.formulas id → node_at work.formulas id.0 ≡ x
+  put_node : (x : Node) (id : FormulaId) → IsNodeIn work.formulas id → node_at work.formulas id.0 ≡ x
       → ((p : FormulaId) → p.0 < id.0 → put (tree_at work.formulas p) work ≡ gives p work) → put (tree_of (trees_of work.formulas) x) work ≡ gives id work
   put_node node.True id there is parts = made_at node.True id there is
   put_node node.False id there is parts = made_at node.False id there is
@@ -86,7 +86,7 @@ module _ (work : Work) (list : IsNodeList work.formulas) where
   put_node (node.Release a b) id there is parts = let h = below (node.Release a b) id is in put_two node.Release a b id there is (parts a h.0) (parts b h.1)
   put_node (node.WeakUntil a b) id there is parts = let h = below (node.WeakUntil a b) id is in put_two node.WeakUntil a b id there is (parts a h.0) (parts b h.1)
 
-  put_back : (fuel : ℕ) (id : FormulaId) → id.0 < fuel → Stands work.formulas id → put (tree_at work.formulas id) work ≡ gives id work
+  put_back : (fuel : ℕ) (id : FormulaId) → id.0 < fuel → IsNodeIn work.formulas id → put (tree_at work.formulas id) work ≡ gives id work
   put_back zero id less there = absurd (omega arith)
   put_back (suc fuel) id less there =
       let h : id.0 < length work.formulas = there in

@@ -8,7 +8,7 @@ use Rattle.ltl_formula.specs.declared.nodes.FormulaId.{FormulaId}
 use Rattle.ltl_formula.specs.declared.nodes.Node.{Node}
 use Rattle.ltl_formula.specs.declared.nodes.TheConstants.{MAX_SIGNALS}
 use Rattle.ltl_formula.specs.ListSignals.{HasSignalsBelow, KeepsSignals}
-use Rattle.ltl_formula.specs.Nodes.{IsNodeList, Stands}
+use Rattle.ltl_formula.specs.Nodes.{IsNodeList, IsNodeIn}
 use Rattle.ltl_formula.specs.Tree.{Tree, SignalsBelow}
 use Rattle.ltl_formula.specs.Truth.{holds}
 use Rattle.ltl_formula.proofs.ListSignals.{signals_of_lists_are_kept}
@@ -70,9 +70,9 @@ kept_below n (true ∷ keep) (t ∷ ts) h = (h.0, kept_below n keep ts h.1)
 kept_below n (false ∷ keep) (t ∷ ts) h = kept_below n keep ts h.1
 
 module _ (n : ℕ) (nodes : List Node) (list : IsNodeList nodes) (below : HasSignalsBelow n nodes) where
-  ids_below : (ids : List FormulaId) → All (Stands nodes) ids → AllBelow n (formulas_at nodes ids)
+  ids_below : (ids : List FormulaId) → All (IsNodeIn nodes) ids → AllBelow n (formulas_at nodes ids)
   ids_below [] h = tt
-  ids_below (id ∷ ids) h = (signals_of_lists_are_kept.of_formulas n nodes id list below (All-head (Stands nodes) id ids h), ids_below ids (All-tail (Stands nodes) id ids h))
+  ids_below (id ∷ ids) h = (signals_of_lists_are_kept.of_formulas n nodes id list below (All-head (IsNodeIn nodes) id ids h), ids_below ids (All-tail (IsNodeIn nodes) id ids h))
 
   sections_below : (keep : List Bool) (ids : Sections (List FormulaId)) → SectionsStand nodes ids → SectionsBelow n (kept_sections nodes keep ids)
   sections_below keep ids h =

@@ -1,7 +1,7 @@
 //! Formulas of one list put into another, each with its parts from left to right before it.
 
 ghost use Rattle.std.specs.Prelude.{◌≡◌, All, IfOk, OnOk, length, map};
-ghost use Rattle.ltl_formula.specs.Nodes.{Stands, tree_at};
+ghost use Rattle.ltl_formula.specs.Nodes.{IsNodeIn, tree_at};
 ghost use Rattle.tlsf_values.specs.Results.{IsOutcome, IsOutcomeAs};
 ghost use Rattle.unrealizable_core.specs.Copies.{AreCopies, pair_put, parts_put};
 ghost use Rattle.unrealizable_core.specs.Put.{put, put_all};
@@ -25,7 +25,7 @@ pub(crate) fn put_all(
     known: &mut [Option<FormulaId>],
     work: &mut Work,
 ) -> Result<Vec<FormulaId>, SpecFault>
-    requires stand { All (Stands from.now) ids.now }
+    requires stand { All (IsNodeIn from.now) ids.now }
     requires copies { AreCopies from.now known.old work.old.formulas }
     requires room { length known.old ≡ length from.now }
     ensures value { IsOutcomeAs (λ put. put.items) result work.new (put_all (map (tree_at from.now) ids.now) work.old) }
@@ -46,7 +46,7 @@ fn put(
     known: &mut [Option<FormulaId>],
     work: &mut Work,
 ) -> Result<FormulaId, SpecFault>
-    requires stands { Stands from.now id }
+    requires stands { IsNodeIn from.now id }
     requires copies { AreCopies from.now known.old work.old.formulas }
     requires room { length known.old ≡ length from.now }
     ensures value { IsOutcome result work.new (put (tree_at from.now id) work.old) }
@@ -70,7 +70,7 @@ fn put_parts(
     known: &mut [Option<FormulaId>],
     work: &mut Work,
 ) -> Result<Node, SpecFault>
-    requires stands { Stands from.now id }
+    requires stands { IsNodeIn from.now id }
     requires copies { AreCopies from.now known.old work.old.formulas }
     requires room { length known.old ≡ length from.now }
     ensures value { IsOutcome result work.new (parts_put (tree_at from.now id) work.old) }
@@ -124,8 +124,8 @@ fn put_pair(
     known: &mut [Option<FormulaId>],
     work: &mut Work,
 ) -> Result<Pair, SpecFault>
-    requires left_stands { Stands from.now left }
-    requires right_stands { Stands from.now right }
+    requires left_stands { IsNodeIn from.now left }
+    requires right_stands { IsNodeIn from.now right }
     requires copies { AreCopies from.now known.old work.old.formulas }
     requires room { length known.old ≡ length from.now }
     ensures value { IsOutcome result work.new (pair_put (put (tree_at from.now left) work.old) (put (tree_at from.now right))) }

@@ -2,7 +2,7 @@
 
 ghost use Rattle.std.specs.Prelude.{◌≡◌, [], ◌∷◌, ◌++◌, All, Err, IfErr, IfOk, None, Some, false, if◌then◌else◌, length, map, replicate, slice_index_or};
 ghost use Rattle.ltl_formula.specs.ListSignals.{KeepsSignals};
-ghost use Rattle.ltl_formula.specs.Nodes.{IsNodeList, Stands, tree_at};
+ghost use Rattle.ltl_formula.specs.Nodes.{IsNodeList, IsNodeIn, tree_at};
 ghost use Rattle.tlsf_expand.specs.Standing.{SectionsStand};
 ghost use Rattle.tlsf_syntax.specs.Text.{section_lists};
 ghost use Rattle.spec_faults.specs.declared.code.SpecCode.TheVariants.{TooManyNodes};
@@ -130,7 +130,7 @@ fn put_kept(
     known: &mut [Option<FormulaId>],
     work: &mut Work,
 ) -> Result<Vec<FormulaId>, SpecFault>
-    requires stand { All (Stands from.now) ids.now }
+    requires stand { All (IsNodeIn from.now) ids.now }
     requires copies { AreCopies from.now known.old work.old.formulas }
     requires room { length known.old ≡ length from.now }
     ensures value { IsOutcomeAs (λ put. put.items) result work.new (put_all (kept keep.now (map (tree_at from.now) ids.now)) work.old) }

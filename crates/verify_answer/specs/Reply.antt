@@ -107,12 +107,12 @@ IsToldOf facts file list None = IsShownBy facts file list
 IsToldOf facts file list (Some n) = FailsAt facts file list n
 
 -- an output or a pair that a cause names is there
-abbrev pub IsWithin : File → Listed → AnnotFault → Type 0
-IsWithin file list NoMemory = ⊤
-IsWithin file list (BadLine n) = ⊤
-IsWithin file list NoStart = ⊤
-IsWithin file list (NotMoore o) = o < length file.circuit.outputs
-IsWithin file list (Broken j) = j < length list.pairs
+abbrev pub IsFaultWithinList : File → Listed → AnnotFault → Type 0
+IsFaultWithinList file list NoMemory = ⊤
+IsFaultWithinList file list (BadLine n) = ⊤
+IsFaultWithinList file list NoStart = ⊤
+IsFaultWithinList file list (NotMoore o) = o < length file.circuit.outputs
+IsFaultWithinList file list (Broken j) = j < length list.pairs
 
 -- a file whose annotation is valid
 pub record IsShown (facts : Facts) (bytes : List ℕ) : Type 0 where

@@ -15,7 +15,7 @@ ghost use Rattle.text_ground.specs.Ground.{given_by};
 ghost use Rattle.circuit_check.specs.Forms.{NamesStates};
 ghost use Rattle.verify_answer.specs.Answer.{VerifyAnswers, verified_line};
 ghost use Rattle.verify_answer.specs.FirstBad.{HasComment, cause_line as line_of_cause, comment_of as comment_in, output_line as line_of_output};
-ghost use Rattle.verify_answer.specs.Reply.{AreReady, IsForVerify, IsFoundOf, IsToldOf, IsWithin};
+ghost use Rattle.verify_answer.specs.Reply.{AreReady, IsForVerify, IsFoundOf, IsToldOf, IsFaultWithinList};
 
 use aiger_text::{Circuit, CircuitFault, CircuitFile, read_circuit, runs_on_every_input};
 use annot_check::laws::valid_lists_satisfy;
@@ -215,7 +215,7 @@ fn pairs_line(
 
 /// The line at which a list of pairs fails by this cause.
 fn cause_line(file: &CircuitFile, list: &PairList, fault: AnnotFault) -> Result<u64, AllocError>
-    requires within { IsWithin file.now list.now fault }
+    requires within { IsFaultWithinList file.now list.now fault }
     requires few { (length file.now.circuit.inputs < 17) × (length file.now.circuit.outputs < 17) }
     requires lines { file.now.comment_line + list.now.head_line + length list.now.pairs < 2 ^ 64 }
     ensures line { IfOk result (λ line. line ≡ line_of_cause file.now list.now fault) }

@@ -1,6 +1,6 @@
 use Rattle.std.proofs.Common.{◌≡◌, ◌≤◌, ◌^◌, List, ap, ◌∙◌, sym, subst, arith}
 use Rattle.std.specs.Prelude.{All}
-use Rattle.propositional_logic.specs.Clause.{IsWithin}
+use Rattle.propositional_logic.specs.Clause.{IsWithinVariables}
 use Rattle.propositional_logic.specs.Literal.{Literal}
 use Rattle.machine_model.specs.Automaton.{IsAutomaton}
 use Rattle.machine_model.specs.Problem.{automaton_of}
@@ -33,8 +33,8 @@ returns-clause-formula c =
     let at : After-variables = (goal.at.returns-clause-formula c).After-variables in
     let small : c.variables.result ≤ 2 ^ 30 = omega (arith, c.variables.ensures.small) in (
       small,
-      subst (λ (cs : List (List Literal)). All (IsWithin c.variables.result) cs) (sym (listed at))
-          (subst (λ n. All (IsWithin n) (base_clauses c.args.problem.now)) (sym (variables at)) (base_within c.args.problem.now c.requires (made at))),
+      subst (λ (cs : List (List Literal)). All (IsWithinVariables c.variables.result) cs) (sym (listed at))
+          (subst (λ n. All (IsWithinVariables n) (base_clauses c.args.problem.now)) (sym (variables at)) (base_within c.args.problem.now c.requires (made at))),
     )
 
 pub returns-clause-met : goal.returns-clause-met

@@ -1,6 +1,6 @@
 use Rattle.std.proofs.Common.{◌≡◌, List, Some, ◌++◌, length, reverse, ap, sym, subst, ◌∙◌}
 use Rattle.propositional_logic.specs.Literal.{Literal}
-use Rattle.propositional_logic.specs.Clause.{IsClauseOf, IsWithin, IsTautology}
+use Rattle.propositional_logic.specs.Clause.{IsClauseOf, IsWithinVariables, IsTautology}
 use Rattle.refutation_log.specs.Entry.{clauses_of}
 use Rattle.refutation_log.specs.Follows.{Follows, clause_named}
 use Rattle.unit_propagate.specs.Trail.{literals_of}
@@ -23,8 +23,8 @@ finish-requires-clause-known c =
 pub with_hints-requires-clause-within : goal.with_hints-requires-clause-within
 with_hints-requires-clause-within c =
     let a = c.in_ok-finish.ensures in
-    subst (IsWithin c.args.base.now.vars) (sym c.deref.ensures.value)
-    (subst (λ n. IsWithin n c.finish.new.self.lits.items) (sym c.requires.variables)
+    subst (IsWithinVariables c.args.base.now.vars) (sym c.deref.ensures.value)
+    (subst (λ n. IsWithinVariables n c.finish.new.self.lits.items) (sym c.requires.variables)
     (kept_within (c.args.base.now.clauses.items ++ clauses_of c.args.seen.now) c.args.trail.now.vars c.args.trail.now.marks c.len-end.ensures.trail c.highest_level-top.result a.0 c.finish.new.self.lits.items c.finish.new.self.hints.items a.1))
 
 pub with_hints-requires-clause-one_sign : goal.with_hints-requires-clause-one_sign

@@ -2,7 +2,7 @@ use Rattle.std.proofs.Common.{◌≡◌, ◌+◌, ◌≤◌, All, Err, None, Som
 use Rattle.std.proofs.lemmas.List.{length_push}
 use Rattle.std.proofs.lemmas.Result.{err_from_is_err_and}
 use Rattle.ltl_formula.specs.declared.faults.AddFault.TheVariants.{TooManyNodes}
-use Rattle.ltl_formula.specs.Nodes.{PartsBelow, Stands}
+use Rattle.ltl_formula.specs.Nodes.{PartsBelow, IsNodeIn}
 use Rattle.kind_conversion.specs.declared.conversion.ConvertedList.{ConvertedList}
 use Rattle.kind_conversion.specs.ShiftedList.{form_at, put_form}
 use Rattle.kind_conversion.proofs.FormsPut.{same_fault, no_memory-full, ok-err}
@@ -22,7 +22,7 @@ pub put_form-requires-clause-signal : goal.put_form-requires-clause-signal
 put_form-requires-clause-signal c = signal-there c.args.formulas.now c.loop-place.place c.node-node.result c.node-node.ensures.list c.node-node.ensures.value
 
 pub put_form-requires-clause-stand : goal.put_form-requires-clause-stand
-put_form-requires-clause-stand c = subst (λ forms. All (λ id. Stands c.loop-place.made id) forms) (sym c.deref.ensures.value) c.loop-place.invariant.known.stand
+put_form-requires-clause-stand c = subst (λ forms. All (λ id. IsNodeIn c.loop-place.made id) forms) (sym c.deref.ensures.value) c.loop-place.invariant.known.stand
 
 pub returns-in_err-form-clause-too_many : goal.returns-in_err-form-clause-too_many
 returns-in_err-form-clause-too_many c h =

@@ -4,12 +4,12 @@ use Rattle.std.proofs.lemmas.List.FromFn.{map-range_with_len_more}
 use Rattle.machine_model.specs.Automaton.{states_of}
 use Rattle.machine_model.specs.Problem.{automaton_of}
 use Rattle.product_bound.specs.Annotation.{places_of}
-use Rattle.machine_decode.specs.Written.{number_of, pair_number}
+use Rattle.machine_decode.specs.Written.{written_number, pair_number}
 use Rattle.machine_decode.proofs.decoding.decoded_numbers.Goals as goal
 
 pub loop-pair-preserved : goal.loop-pair-preserved
 loop-pair-preserved c =
-    let number : ℕ → Option ℕ = number_of c.args.problem.now c.args.values.now in
+    let number : ℕ → Option ℕ = written_number c.args.problem.now c.args.values.now in
     let more : map number (range_with_len 0 (c.loop-pair.pair + 1)) ≡ map number (range_with_len 0 c.loop-pair.pair) ++ number c.loop-pair.pair ∷ [] = map-range_with_len_more number 0 c.loop-pair.pair c.loop-pair.pair (omega arith) in
     let states : c.states-states.result ≡ states_of (automaton_of c.args.problem.now) = c.states-states.ensures.value ∙ ap states_of c.deref.ensures in
     let here : c.decoded_number-number.result ≡ number c.loop-pair.pair
@@ -19,4 +19,4 @@ loop-pair-preserved c =
 pub returns : goal.returns
 returns c =
     let end : c.loop-pair.pair ≡ places_of c.args.problem.now = omega (arith, c.pair_count-pairs.ensures.value) in
-    c.loop-pair.invariant ∙ ap (λ n. map (number_of c.args.problem.now c.args.values.now) (range_with_len 0 n)) end
+    c.loop-pair.invariant ∙ ap (λ n. map (written_number c.args.problem.now c.args.values.now) (range_with_len 0 n)) end

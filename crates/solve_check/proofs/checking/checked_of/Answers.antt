@@ -3,7 +3,7 @@ use Rattle.std.specs.Prelude.{IfSome}
 use Rattle.document_text.specs.Reading.{circuit_in}
 use Rattle.solved_text.specs.Reading.{SolvedLines}
 use Rattle.solve_check.specs.FirstBad.{LinesFail}
-use Rattle.solve_check.specs.Parts.{IsClaimed, IsSound}
+use Rattle.solve_check.specs.Parts.{IsClaimed, IsSoundCircuit}
 use Rattle.solve_check.proofs.Answered.{bad_claim, bad_line, good, means}
 use Rattle.solve_check.proofs.checking.checked_of.Goals as goal
 
@@ -49,5 +49,5 @@ returns-in_ok-told-in-None-clause-means c source given is =
     (subst (LinesFail c.args.text.now c.args.bytes.now c.args.lines.now) none c.requires.tests.fails)
     (subst (IsClaimed c.args.text.now c.args.bytes.now c.args.lines.now) c.in-None.is c.in_ok-line.ensures)
     c.in_ok-told-in-None.told c.in_ok-told-in-None.ensures
-    (subst (λ (l : SolvedLines). IfSome (circuit_in l.circuit) IsSound) c.lines.view_is c.circuit_is_sound.ensures)
+    (subst (λ (l : SolvedLines). IfSome (circuit_in l.circuit) IsSoundCircuit) c.lines.view_is c.circuit_is_sound.ensures)
     source given is

@@ -1,5 +1,5 @@
 use Rattle.std.proofs.Common.{◌≡◌, ◌+◌, [], ◌∷◌, ap, ◌∙◌, subst, sym, suc, arith, rules}
-use Rattle.propositional_logic.specs.Clause.{IsWithin}
+use Rattle.propositional_logic.specs.Clause.{IsWithinVariables}
 use Rattle.propositional_logic.specs.Literal.{Literal}
 use Rattle.machine_model.specs.declared.problems.Problem.{Problem}
 use Rattle.annotation_encode.specs.BaseClauses.{chain_clause}
@@ -12,7 +12,7 @@ pub push_clause-requires-clause-within : goal.push_clause-requires-clause-within
 push_clause-requires-clause-within c =
     let p : Problem = c.args.self.now.numbering.problem.now in
     let same : c.new-before.result ∷ c.new-reached.result ∷ [] ≡ chain_clause p c.args.t c.args.q c.loop-count.count = search rules in
-    subst (IsWithin (variables_of p)) (sym same) (chain-rises p c.args.t c.args.q c.loop-count.count c.requires.state c.requires.pair (search rules)).within
+    subst (IsWithinVariables (variables_of p)) (sym same) (chain-rises p c.args.t c.args.q c.loop-count.count c.requires.state c.requires.pair (search rules)).within
 
 pub loop-count-preserved : goal.loop-count-preserved
 loop-count-preserved c = each_more (c.args.clauses.now.items) c.loop-count.clauses.items c.push_clause.new.clauses.items (λ k. chain_clause c.args.self.now.numbering.problem.now c.args.t c.args.q k ∷ []) c.loop-count.count c.loop-count.invariant (search rules)

@@ -1,13 +1,13 @@
 use Rattle.std.proofs.Common.{◌≡◌, List, ◌++◌, ◌∷◌, [], ap, ◌∙◌, sym, subst}
 use Rattle.propositional_logic.specs.Literal.{Literal}
-use Rattle.propositional_logic.specs.Clause.{IsWithin}
+use Rattle.propositional_logic.specs.Clause.{IsWithinVariables}
 use Rattle.propositional_logic.proofs.Rising.{no_tautology, rising_one}
 use Rattle.annotation_encode.proofs.Rising.{none_bad}
 use Rattle.annotation_encode.proofs.clauses.Encoding.push_clause.Goals as goal
 
 pub unreachable-requires : goal.unreachable-requires
 unreachable-requires c =
-    let within : IsWithin c.variables.result c.args.lits.now = subst (λ n. IsWithin n c.args.lits.now) (sym c.variables.ensures.value) c.requires.within in
+    let within : IsWithinVariables c.variables.result c.args.lits.now = subst (λ n. IsWithinVariables n c.args.lits.now) (sym c.variables.ensures.value) c.requires.within in
     none_bad c.variables.result c.args.lits.now within (c.new.ensures.bad_variable.0 (cc))
 
 pub unreachable-requires-in-Err-Tautology : goal.unreachable-requires-in-Err-Tautology

@@ -1,5 +1,5 @@
 use Rattle.std.proofs.Common.{◌≡◌, List, OnOk, ◌∷◌, ◌++◌, [], ap, ◌∙◌, sym, subst}
-use Rattle.propositional_logic.specs.Clause.{IsWithin}
+use Rattle.propositional_logic.specs.Clause.{IsWithinVariables}
 use Rattle.propositional_logic.specs.Literal.{Literal}
 use Rattle.machine_model.specs.Automaton.{IsAutomaton}
 use Rattle.machine_model.specs.Problem.{automaton_of}
@@ -20,7 +20,7 @@ start c =
 pub push_clause-requires-clause-within : goal.push_clause-requires-clause-within
 push_clause-requires-clause-within c =
     let made : IsAutomaton (automaton_of c.args.self.now.size.problem.now) = subst IsAutomaton c.deref.ensures c.states-states.ensures.kept in
-    subst (IsWithin (variables_of c.args.self.now.size.problem.now c.args.self.now.size.letters.now)) (sym (start (goal.at.push_clause-requires-clause-within c).After-new-start))
+    subst (IsWithinVariables (variables_of c.args.self.now.size.problem.now c.args.self.now.size.letters.now)) (sym (start (goal.at.push_clause-requires-clause-within c).After-new-start))
     (start-rises c.args.self.now.size.problem.now c.args.self.now.size.letters.now c.requires.within.problem made).within
 
 pub returns : goal.returns

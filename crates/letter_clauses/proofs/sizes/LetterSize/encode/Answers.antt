@@ -1,6 +1,6 @@
 use Rattle.std.proofs.Common.{◌≡◌, ◌≤◌, ◌^◌, List, sym, subst, arith}
 use Rattle.std.specs.Prelude.{All}
-use Rattle.propositional_logic.specs.Clause.{IsWithin}
+use Rattle.propositional_logic.specs.Clause.{IsWithinVariables}
 use Rattle.propositional_logic.specs.Literal.{Literal}
 use Rattle.machine_model.specs.Automaton.{IsAutomaton}
 use Rattle.machine_model.specs.Problem.{automaton_of}
@@ -29,8 +29,8 @@ returns-clause-formula c =
     let at : After-all_variables = (goal.at.returns-clause-formula c).After-all_variables in
     let small : c.all_variables.result ≤ 2 ^ 30 = omega (arith, c.all_variables.ensures.small) in (
       small,
-      subst (λ (cs : List (List Literal)). All (IsWithin c.all_variables.result) cs) (sym (listed at))
-          (subst (λ n. All (IsWithin n) (base_clauses c.args.self.now.problem.now c.args.self.now.letters.now)) (sym c.all_variables.ensures.value) (base_within c.args.self.now.problem.now c.args.self.now.letters.now c.requires.size.problem (made at))),
+      subst (λ (cs : List (List Literal)). All (IsWithinVariables c.all_variables.result) cs) (sym (listed at))
+          (subst (λ n. All (IsWithinVariables n) (base_clauses c.args.self.now.problem.now c.args.self.now.letters.now)) (sym c.all_variables.ensures.value) (base_within c.args.self.now.problem.now c.args.self.now.letters.now c.requires.size.problem (made at))),
     )
 
 pub returns-clause-met : goal.returns-clause-met

@@ -4,7 +4,7 @@ use Rattle.ltl_formula.specs.declared.nodes.FormulaId.{FormulaId}
 use Rattle.ltl_formula.specs.declared.nodes.Node.{Node}
 use Rattle.obligation_sets.specs.declared.branches.Mark.{Mark}
 use Rattle.obligation_sets.specs.Branch.{Branch}
-use Rattle.obligation_sets.specs.Covers.{start_of}
+use Rattle.obligation_sets.specs.Covers.{start_branch}
 use Rattle.obligation_sets.specs.Cubes.{free_cube}
 use Rattle.obligation_sets.specs.Marks.{done_of, next_of, postponed_of}
 use Rattle.obligation_sets.proofs.Cubes.{same_cube}
@@ -15,7 +15,7 @@ use Rattle.obligation_sets.proofs.branches.Branch.start.Goals as goal
 abbrev unmarked : Mark
 unmarked = record { done = false; next = false; postponed = false }
 
-begins : (ns : List Node) (set : List FormulaId) (b : Branch) (marks : List Mark) → marks ≡ replicate (length ns) unmarked → b.work ≡ set → b.cube ≡ free_cube → b.done ≡ done_of marks → b.next ≡ next_of marks → b.postponed ≡ postponed_of marks → b ≡ start_of ns set
+begins : (ns : List Node) (set : List FormulaId) (b : Branch) (marks : List Mark) → marks ≡ replicate (length ns) unmarked → b.work ≡ set → b.cube ≡ free_cube → b.done ≡ done_of marks → b.next ≡ next_of marks → b.postponed ≡ postponed_of marks → b ≡ start_branch ns set
 begins ns set b marks are work cube done next postponed = λ i. record {
   work = work i;
   done = (done ∙ ap (λ (ms : List Mark). done_of ms) are ∙ alike (λ mark. mark.done) (length ns) unmarked refl) i;

@@ -2,7 +2,7 @@ use Rattle.std.proofs.Common.{◌≡◌, List, All, sym, subst, ap, ◌∙◌}
 use Rattle.std.specs.Arc.{arc_value}
 use Rattle.clause_exchange.specs.SharedLog.{HoldsAllOf, IsLogOn, PassView}
 use Rattle.clause_exchange.specs.declared.views.Terms.{Terms}
-use Rattle.size_search.specs.Task.{SizeTaskModel, IsKept}
+use Rattle.size_search.specs.Task.{SizeTaskModel, IsKeptTask}
 use Rattle.size_search.proofs.TaskLemmas.{each_closes, holds_ended, none_accepted}
 use Rattle.size_search.proofs.tasks.SizeTask.close.Goals as goal
 
@@ -13,7 +13,7 @@ close-requires-clause-each c =
 
 pub returns-clause-refutes : goal.returns-clause-refutes
 returns-clause-refutes c =
-    none_accepted c.args.self (arc_value c.self.inside.base) c.close.result.entries (subst (λ (t : SizeTaskModel). IsKept t (arc_value c.self.inside.base)) c.self.view_is c.self.invariant)
+    none_accepted c.args.self (arc_value c.self.inside.base) c.close.result.entries (subst (λ (t : SizeTaskModel). IsKeptTask t (arc_value c.self.inside.base)) c.self.view_is c.self.invariant)
 
 pub returns-clause-ended : goal.returns-clause-ended
 returns-clause-ended c k d lt =

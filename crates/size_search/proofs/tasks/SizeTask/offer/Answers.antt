@@ -7,7 +7,7 @@ use Rattle.refutation_log.proofs.TeachLemmas.{teaches-own}
 use Rattle.names_and_numbers.specs.Prefix.{IsPrefix}
 use Rattle.clause_exchange.specs.SharedLog.{IsOffered, PassView}
 use Rattle.size_search.specs.Seat.{GoesOn}
-use Rattle.size_search.specs.Task.{SizeTaskModel, IsKept}
+use Rattle.size_search.specs.Task.{SizeTaskModel, IsKeptTask}
 use Rattle.size_search.proofs.SeatLemmas.{goes_turn, works_stay}
 use Rattle.size_search.proofs.OfferLemmas.{closed_ends, emptied, empty_ends, filled, grown}
 use Rattle.size_search.proofs.TaskLemmas.{refuted}
@@ -31,7 +31,7 @@ invariant_of-seat-2 g c = (c.seat.invariant.0 ∙ sym c.append.ensures.turn.numb
 pub returns-in-Closed-clause-decided : goal.returns-in-Closed-clause-decided
 returns-in-Closed-clause-decided g c =
     let o : IsOffered c.args.entry c.in-Ok.reply c.seat.inside.pass c.append.new.pass = c.in-Ok.ensures.ok in
-    refuted c.args.self.now (arc_value c.self.inside.base) c.seat.inside.pass c.append.new.pass (subst (λ (t : SizeTaskModel). IsKept t (arc_value c.self.inside.base)) c.self.view_is c.self.invariant) c.append.ensures.turn
+    refuted c.args.self.now (arc_value c.self.inside.base) c.seat.inside.pass c.append.new.pass (subst (λ (t : SizeTaskModel). IsKeptTask t (arc_value c.self.inside.base)) c.self.view_is c.self.invariant) c.append.ensures.turn
     (ap (λ (p : PassView). p.exchange) c.seat.view_is ∙ c.requires.exchange)
     (closed_ends c.seat.inside.pass.exchange.terms.limit o.log c.args.entry c.append.new.pass.seen (sym c.in-Closed.is ∙ o.reply_is) o.seen_after)
 
@@ -44,7 +44,7 @@ returns-in_default-reply g c =
     empty_ends terms.vars terms.base terms.limit o.log c.args.entry c.append.new.pass.seen c.in-Ok.reply o.reply_is o.seen_after c.append.ensures.turn.log.legal empty c.in_default-reply.not-Full in
     record {
       goes_on = subst (λ (p : PassView). GoesOn p c.append.new.pass) c.seat.view_is (goes_turn c.seat.inside.pass c.append.new.pass c.append.ensures.turn);
-      decided = refuted c.args.self.now (arc_value c.self.inside.base) c.seat.inside.pass c.append.new.pass (subst (λ (t : SizeTaskModel). IsKept t (arc_value c.self.inside.base)) c.self.view_is c.self.invariant)
+      decided = refuted c.args.self.now (arc_value c.self.inside.base) c.seat.inside.pass c.append.new.pass (subst (λ (t : SizeTaskModel). IsKeptTask t (arc_value c.self.inside.base)) c.self.view_is c.self.invariant)
           c.append.ensures.turn (ap (λ (p : PassView). p.exchange) c.seat.view_is ∙ c.requires.exchange) ended;
       «open» = λ e. absurd (cc);
     }

@@ -7,7 +7,7 @@ use Rattle.refutation_log.specs.Log.{is_ended}
 use Rattle.clause_exchange.specs.SharedLog.{PassView, SharedLog}
 use Rattle.size_search.specs.Decided.{IsAcceptedOf, IsClosedOn}
 use Rattle.size_search.specs.Seat.{IsWorkOf}
-use Rattle.size_search.specs.Task.{SizeTaskModel, IsKept}
+use Rattle.size_search.specs.Task.{SizeTaskModel, IsKeptTask}
 use Rattle.size_search.proofs.SeatLemmas.{works_stay, work_reads, work_shows, work_turns}
 use Rattle.size_search.proofs.TaskLemmas.{refuted}
 use Rattle.size_search.proofs.tasks.SizeTask.turn.Goals as goal
@@ -29,7 +29,7 @@ returns-then-is_ended-clause-decided g c =
     let same : c.seat.inside.pass ≡ c.args.seat.now = c.seat.view_is ∙ c.take_work.ensures.same in
     let ended : is_ended c.read.new.pass.seen ≡ true = ap is_ended (sym c.in_ok-read.ensures.ok) ∙ ap is_ended (sym c.deref-2.ensures.value) ∙ sym c.is_ended.ensures ∙ c.if-is_ended.true in
     subst (λ (q : PassView). IsClosedOn c.args.self.now.exchange.terms q.seen × ((m : MachineModel) → IsAcceptedOf c.args.self.now.problem m → ⊥)) (sym c.put_work.ensures)
-    (refuted c.args.self.now (arc_value c.self.inside.base) c.seat.inside.pass c.read.new.pass (subst (λ (t : SizeTaskModel). IsKept t (arc_value c.self.inside.base)) c.self.view_is c.self.invariant) c.read.ensures.turn
+    (refuted c.args.self.now (arc_value c.self.inside.base) c.seat.inside.pass c.read.new.pass (subst (λ (t : SizeTaskModel). IsKeptTask t (arc_value c.self.inside.base)) c.self.view_is c.self.invariant) c.read.ensures.turn
     (ap (λ (p : PassView). p.exchange) same ∙ c.requires.exchange) ended)
 
 pub turn-requires-clause-working : goal.turn-requires-clause-working

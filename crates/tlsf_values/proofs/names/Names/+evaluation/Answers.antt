@@ -14,7 +14,7 @@ use Rattle.tlsf_values.specs.Names.{look_up}
 use Rattle.tlsf_values.specs.NamesSeen.{names_seen}
 use Rattle.tlsf_values.specs.MembersSeen.{members_seen}
 use Rattle.tlsf_syntax.specs.Seen.{expr_seen, trees_seen}
-use Rattle.tlsf_values.specs.Values.{evaluator, start_of}
+use Rattle.tlsf_values.specs.Values.{evaluator, span_start}
 use Rattle.tlsf_values.specs.declared.value.Value.TheVariants.{Set}
 use Rattle.tlsf_values.specs.ScopeSeen.{code_body_seen}
 use Rattle.tlsf_values.proofs.LevelLemmas.{less_than, level_within, opened}
@@ -72,12 +72,12 @@ arguments-returns-in_err-value-clause-value t c =
 pub chain-loop-link-preserved : goal.chain-loop-link-preserved
 chain-loop-link-preserved t c =
     let at = at_item c.args.rest.now c.loop-link.link-index c.link-item.result (search rules) c.link-item.is in
-    (search rules, search (rules, nodes_grow), c.loop-link.invariant.2 ∙ chain_more (names_seen c.args.self.now) (evaluator (names_seen c.args.self.now) c.args.left) c.args.bound.now c.args.place (start_of (expr_seen c.args.first.now)) c.loop-link.value c.args.rest.now c.loop-link.link-index c.link-item.result c.loop-link.work at ∙ search (rules, start_seen))
+    (search rules, search (rules, nodes_grow), c.loop-link.invariant.2 ∙ chain_more (names_seen c.args.self.now) (evaluator (names_seen c.args.self.now) c.args.left) c.args.bound.now c.args.place (span_start (expr_seen c.args.first.now)) c.loop-link.value c.args.rest.now c.loop-link.link-index c.link-item.result c.loop-link.work at ∙ search (rules, start_seen))
 
 pub chain-returns-in_err-value-2-clause-value : goal.chain-returns-in_err-value-2-clause-value
 chain-returns-in_err-value-2-clause-value t c =
     let at = at_item c.args.rest.now c.loop-link.link-index c.link-item.result (search rules) c.link-item.is in
-    rw (c.in_ok-value.ensures.value, c.loop-link.invariant.2 ∙ chain_more (names_seen c.args.self.now) (evaluator (names_seen c.args.self.now) c.args.left) c.args.bound.now c.args.place (start_of (expr_seen c.args.first.now)) c.loop-link.value c.args.rest.now c.loop-link.link-index c.link-item.result c.loop-link.work at) (search (rules, start_seen))
+    rw (c.in_ok-value.ensures.value, c.loop-link.invariant.2 ∙ chain_more (names_seen c.args.self.now) (evaluator (names_seen c.args.self.now) c.args.left) c.args.bound.now c.args.place (span_start (expr_seen c.args.first.now)) c.loop-link.value c.args.rest.now c.loop-link.link-index c.link-item.result c.loop-link.work at) (search (rules, start_seen))
 
 pub form-returns-in-Call-clause-value : goal.form-returns-in-Call-clause-value
 form-returns-in-Call-clause-value t c = rw (call_form c.args.expr.now c.in-Call.word c.in-Call.arguments (search rules)) (search rules)

@@ -5,7 +5,7 @@ use Rattle.tlsf_values.specs.NamesSeen.{names_seen}
 use Rattle.tlsf_values.specs.PartsSeen.{numbers_at, parts_seen}
 use Rattle.tlsf_values.proofs.PartLemmas.{numbers_after}
 use Rattle.tlsf_syntax.specs.Seen.{alternative_seen, expr_seen, link_list_seen, range_list_seen, trees_seen, word_seen}
-use Rattle.tlsf_values.specs.Values.{arguments_at, big_value, chain_value, chosen_value, evaluator, start_of}
+use Rattle.tlsf_values.specs.Values.{arguments_at, big_value, chain_value, chosen_value, evaluator, span_start}
 use Rattle.tlsf_values.proofs.names.Names.+evaluation.Given as goal
 
 abbrev pub decreases-value : goal.decreases-value
@@ -90,7 +90,7 @@ invariant-chain-loop-link l =
     let b = l.fn.bound in
     let t = expr_seen l.first in
     (l.bound ≡ l.fn.bound) × Grows l.fn.work.formulas l.work.formulas ×
-    (chain_value names r b l.place (start_of t) l.initial.value (link_list_seen l.rest) l.initial.work ≡ chain_value names r b l.place (start_of t) l.value (link_list_seen (drop l.link-index l.rest)) l.work)
+    (chain_value names r b l.place (span_start t) l.initial.value (link_list_seen l.rest) l.initial.work ≡ chain_value names r b l.place (span_start t) l.value (link_list_seen (drop l.link-index l.rest)) l.work)
 
 abbrev pub invariant-over_ranges-loop-levels : goal.invariant-over_ranges-loop-levels
 invariant-over_ranges-loop-levels l =

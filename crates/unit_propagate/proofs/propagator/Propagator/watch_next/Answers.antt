@@ -1,7 +1,7 @@
 use Rattle.std.proofs.Common.{length, sym}
 use Rattle.unit_propagate.specs.Trail.{literals_of}
 use Rattle.unit_propagate.specs.Propagator.{clauses_in}
-use Rattle.propositional_logic.specs.Clause.{IsWithin}
+use Rattle.propositional_logic.specs.Clause.{IsWithinVariables}
 use Rattle.unit_propagate.proofs.Places.{All-slice_get}
 use Rattle.unit_propagate.proofs.PropagatorLemmas.{falsified_at}
 use Rattle.unit_propagate.proofs.StepLemmas.{list_fits}
@@ -27,7 +27,7 @@ add-requires-clause-second_fits c = λ h.
 
 pub watch_forced-requires-clause-within : goal.watch_forced-requires-clause-within
 watch_forced-requires-clause-within c =
-    All-slice_get (IsWithin c.args.self.now.marks.vars) (clauses_in c.args.base.now c.args.seen.now) c.len.result c.clause_at-clause.result.now c.requires.within c.clause_at-clause.ensures
+    All-slice_get (IsWithinVariables c.args.self.now.marks.vars) (clauses_in c.args.base.now c.args.seen.now) c.len.result c.clause_at-clause.result.now c.requires.within c.clause_at-clause.ensures
 
 pub returns-in_ok-add-in-Some-other_unfalsified-clause-goes : goal.returns-in_ok-add-in-Some-other_unfalsified-clause-goes
 returns-in_ok-add-in-Some-other_unfalsified-clause-goes c =
