@@ -5,7 +5,10 @@ use Rattle.tlsf_syntax.specs.declared.expr.Link.{Link}
 use Rattle.tlsf_syntax.specs.declared.expr.Op.{Op}
 use Rattle.tlsf_syntax.specs.Tree.{Tree, tree_span, pair}
 use Rattle.tlsf_syntax.specs.Lexemes.{Lexeme}
-use Rattle.tlsf_syntax.specs.Expressions.{Level, Joins, memberships, prefixes, tighter_of, joins_of}
+use Rattle.tlsf_syntax.specs.declared.level.Level.{Level}
+use Rattle.tlsf_syntax.specs.declared.level.Level.TheVariants.{Memberships, Prefixes}
+use Rattle.tlsf_syntax.specs.declared.level.Joins.{Joins}
+use Rattle.tlsf_syntax.specs.Expressions.{tighter_of, joins_of}
 use Rattle.tlsf_syntax.specs.Reading.{Answer, taken, go_on, level_number, operator_here, joined_by, chain_of, from_to, readers}
 use Rattle.tlsf_reader.specs.declared.rest.Refusal.{Refusal}
 use Rattle.tlsf_reader.specs.declared.ahead.Sign.{Sign}
@@ -87,9 +90,9 @@ pair_read {view = view} {after = after} {u = u} ends n m o t rest before is g h 
 -- signs before an operand
 
 pub read_unsigned : {X : Type 0} {view : X → Tree} {after : List Lexeme} {r : Result X Refusal} (ends : Bool) (before rest : List Lexeme) → Unsigned before → rest ≡ before
-    → IsRead view (λ d. (readers d).level ends memberships rest) after r → IsRead view (λ d. (readers d).level ends prefixes before) after r
-read_unsigned ends before rest u e h = read_level ends prefixes before (read_same _ (λ d. u.goes (readers d) ends memberships ∙ ap ((readers d).level ends memberships) (sym e)) h)
+    → IsRead view (λ d. (readers d).level ends Memberships rest) after r → IsRead view (λ d. (readers d).level ends Prefixes before) after r
+read_unsigned ends before rest u e h = read_level ends Prefixes before (read_same _ (λ d. u.goes (readers d) ends Memberships ∙ ap ((readers d).level ends Memberships) (sym e)) h)
 
 pub read_signed : {X : Type 0} {view : X → Tree} {after : List Lexeme} {r : Result X Refusal} (ends : Bool) (before rest : List Lexeme) (s : Sign) (k : SignKind) → SignedFront before rest s → s.kind ≡ k
-    → IsRead view (λ d. signed_by (readers d) ends k (seen s.first) rest) after r → IsRead view (λ d. (readers d).level ends prefixes before) after r
-read_signed ends before rest s k f e h = read_level ends prefixes before (read_same _ (λ d. f.goes (readers d) ends memberships ∙ ap (λ x. signed_by (readers d) ends x (seen s.first) rest) e) h)
+    → IsRead view (λ d. signed_by (readers d) ends k (seen s.first) rest) after r → IsRead view (λ d. (readers d).level ends Prefixes before) after r
+read_signed ends before rest s k f e h = read_level ends Prefixes before (read_same _ (λ d. f.goes (readers d) ends Memberships ∙ ap (λ x. signed_by (readers d) ends x (seen s.first) rest) e) h)

@@ -8,7 +8,11 @@ use Rattle.tlsf_tokens.specs.declared.symbol.Symbol.{Symbol}
 use Rattle.tlsf_tokens.specs.declared.symbol.Symbol.TheVariants as symbol
 use Rattle.tlsf_syntax.specs.Tree.{Tree, Trees, Links, Ranges, tree_span, pair, tree, no_trees, link, no_links, no_ranges, members, between}
 use Rattle.tlsf_syntax.specs.Lexemes.{Lexeme, word_of}
-use Rattle.tlsf_syntax.specs.Expressions.{Level, Joins, primary, products, quotients, sums, differences, meets, unions, comparisons, memberships, prefixes, conjunctions, disjunctions, implications, weak_untils, untils, releases, left, once, right, none, tighter_of, joins_of}
+use Rattle.tlsf_syntax.specs.declared.level.Level.{Level}
+use Rattle.tlsf_syntax.specs.declared.level.Level.TheVariants.{Primary, Products, Quotients, Sums, Differences, Meets, Unions, Comparisons, Memberships, Prefixes, Conjunctions, Disjunctions, Implications, WeakUntils, Untils, Releases}
+use Rattle.tlsf_syntax.specs.declared.level.Joins.{Joins}
+use Rattle.tlsf_syntax.specs.declared.level.Joins.TheVariants as joins
+use Rattle.tlsf_syntax.specs.Expressions.{tighter_of, joins_of}
 use Rattle.tlsf_syntax.specs.Reading.{Answer, taken, refused, go_on, begins, expect, if_next, level_number, operator_here, joined_by, chain_of, links_end, Readers, readers, level_with, level_by, list_with, links_with, linked, ranges_with, more_ranges, bounded, bound, between_with, from_to, primary_with, primary_by}
 use Rattle.tlsf_reader.specs.declared.rest.Refusal.{Refusal}
 use Rattle.tlsf_reader.specs.declared.rest.Refusal.TheVariants.{NoMemory, At}
@@ -143,15 +147,15 @@ pub read_level : {X : Type 0} {view : X → Tree} {after : List Lexeme} {r : Res
 read_level ends m ls n = record { ok = λ y is. level_step ends m ls _ (n.ok y is); err = λ j is. level_step ends m ls _ (n.err j is) }
 
 abbrev pub joins_some : Joins → Bool
-joins_some none = false
+joins_some joins.None = false
 joins_some _ = true
 
 extended_level : (r : Readers) (ends : Bool) (m n : Level) (ls : List Lexeme) → (o : Option Level) → o ≡ Some n → (j : Joins) → joins_some j ≡ true
     → level_by r ends m o j ls ≡ go_on (r.level ends n ls) (λ t rest. extended_by r ends m n j t rest)
-extended_level r ends m n ls o e left h = ap (λ p. level_by r ends m p left ls) e
-extended_level r ends m n ls o e once h = ap (λ p. level_by r ends m p once ls) e
-extended_level r ends m n ls o e right h = ap (λ p. level_by r ends m p right ls) e
-extended_level r ends m n ls o e none h = absurd (cc)
+extended_level r ends m n ls o e joins.Left h = ap (λ p. level_by r ends m p joins.Left ls) e
+extended_level r ends m n ls o e joins.Once h = ap (λ p. level_by r ends m p joins.Once ls) e
+extended_level r ends m n ls o e joins.Right h = ap (λ p. level_by r ends m p joins.Right ls) e
+extended_level r ends m n ls o e joins.None h = absurd (cc)
 
 -- an operand of one level, and what it goes on with, make the level that is built of it
 pub climb_up : (ends : Bool) (m n : Level) (ls rest : List Lexeme) (t : Tree) (a : Answer Tree) → tighter_of m ≡ Some n → joins_some (joins_of m) ≡ true → Eventually (λ d. (readers d).level ends n ls) (taken t rest)
@@ -161,22 +165,22 @@ climb_up ends m n ls rest t a e h operand on =
 
 -- between primaries and memberships, and from conjunctions on, each level has operators
 pub joins_somehow : (m : Level) → 0 < level_number m → (level_number m ≡ 9 → ⊥) → joins_some (joins_of m) ≡ true
-joins_somehow primary low not = absurd (omega arith)
-joins_somehow prefixes low not = absurd (not refl)
-joins_somehow products low not = refl
-joins_somehow quotients low not = refl
-joins_somehow sums low not = refl
-joins_somehow differences low not = refl
-joins_somehow meets low not = refl
-joins_somehow unions low not = refl
-joins_somehow comparisons low not = refl
-joins_somehow memberships low not = refl
-joins_somehow conjunctions low not = refl
-joins_somehow disjunctions low not = refl
-joins_somehow implications low not = refl
-joins_somehow weak_untils low not = refl
-joins_somehow untils low not = refl
-joins_somehow releases low not = refl
+joins_somehow Primary low not = absurd (omega arith)
+joins_somehow Prefixes low not = absurd (not refl)
+joins_somehow Products low not = refl
+joins_somehow Quotients low not = refl
+joins_somehow Sums low not = refl
+joins_somehow Differences low not = refl
+joins_somehow Meets low not = refl
+joins_somehow Unions low not = refl
+joins_somehow Comparisons low not = refl
+joins_somehow Memberships low not = refl
+joins_somehow Conjunctions low not = refl
+joins_somehow Disjunctions low not = refl
+joins_somehow Implications low not = refl
+joins_somehow WeakUntils low not = refl
+joins_somehow Untils low not = refl
+joins_somehow Releases low not = refl
 
 -- loops
 
@@ -229,22 +233,22 @@ record Tighter (m : Level) : Type 0 where
   number : level_number m ≡ level_number level + 1
 
 tighter : (m : Level) → 0 < level_number m → Tighter m
-tighter primary low = absurd (omega arith)
-tighter products low = record { level = primary; is = refl; number = refl }
-tighter quotients low = record { level = products; is = refl; number = refl }
-tighter sums low = record { level = quotients; is = refl; number = refl }
-tighter differences low = record { level = sums; is = refl; number = refl }
-tighter meets low = record { level = differences; is = refl; number = refl }
-tighter unions low = record { level = meets; is = refl; number = refl }
-tighter comparisons low = record { level = unions; is = refl; number = refl }
-tighter memberships low = record { level = comparisons; is = refl; number = refl }
-tighter prefixes low = record { level = memberships; is = refl; number = refl }
-tighter conjunctions low = record { level = prefixes; is = refl; number = refl }
-tighter disjunctions low = record { level = conjunctions; is = refl; number = refl }
-tighter implications low = record { level = disjunctions; is = refl; number = refl }
-tighter weak_untils low = record { level = implications; is = refl; number = refl }
-tighter untils low = record { level = weak_untils; is = refl; number = refl }
-tighter releases low = record { level = untils; is = refl; number = refl }
+tighter Primary low = absurd (omega arith)
+tighter Products low = record { level = Primary; is = refl; number = refl }
+tighter Quotients low = record { level = Products; is = refl; number = refl }
+tighter Sums low = record { level = Quotients; is = refl; number = refl }
+tighter Differences low = record { level = Sums; is = refl; number = refl }
+tighter Meets low = record { level = Differences; is = refl; number = refl }
+tighter Unions low = record { level = Meets; is = refl; number = refl }
+tighter Comparisons low = record { level = Unions; is = refl; number = refl }
+tighter Memberships low = record { level = Comparisons; is = refl; number = refl }
+tighter Prefixes low = record { level = Memberships; is = refl; number = refl }
+tighter Conjunctions low = record { level = Prefixes; is = refl; number = refl }
+tighter Disjunctions low = record { level = Conjunctions; is = refl; number = refl }
+tighter Implications low = record { level = Disjunctions; is = refl; number = refl }
+tighter WeakUntils low = record { level = Implications; is = refl; number = refl }
+tighter Untils low = record { level = WeakUntils; is = refl; number = refl }
+tighter Releases low = record { level = Untils; is = refl; number = refl }
 
 -- no level of signs stands above b and up to a
 pub no_sign_at : (a b c : ℕ) → (a < 9) ⊎ (9 ≤ b) → b < c → c ≤ a → c ≡ 9 → ⊥
@@ -367,7 +371,7 @@ read_unbounded {before = before} {e = e} k u = record {
 
 -- lists with commas
 
-pub list_more : (ls rest inner : List Lexeme) (e : Expr) (comma : Lexeme) → Eventually (λ d. (readers d).level false releases ls) (taken (expr_seen e) rest) → Passes symbol.Comma rest comma inner
+pub list_more : (ls rest inner : List Lexeme) (e : Expr) (comma : Lexeme) → Eventually (λ d. (readers d).level false Releases ls) (taken (expr_seen e) rest) → Passes symbol.Comma rest comma inner
     → Builds put_tree (λ d. (readers d).list ls) (e ∷ []) (λ d. (readers d).list inner)
 list_more ls rest inner e comma h p = record {
   ok = λ more after on. list_step ls _ (goes (λ d t r. after_one d t r) h (same_answers _ (λ d. passes d) (goes (λ d others end. taken (tree (expr_seen e) others) end) on (at_once _ _ (λ d. refl)))));
@@ -380,14 +384,14 @@ list_more ls rest inner e comma h p = record {
     passes : (d : ℕ) → after_one d (expr_seen e) rest ≡ go_on ((readers d).list inner) (λ more after. taken (tree (expr_seen e) more) after)
     passes d = next_passes (λ _ i. go_on ((readers d).list i) (λ more after. taken (tree (expr_seen e) more) after)) (taken (tree (expr_seen e) no_trees) rest) p
 
-pub list_last : (ls rest after : List Lexeme) (e : Expr) → Eventually (λ d. (readers d).level false releases ls) (taken (expr_seen e) rest) → Lacks symbol.Comma rest after
+pub list_last : (ls rest after : List Lexeme) (e : Expr) → Eventually (λ d. (readers d).level false Releases ls) (taken (expr_seen e) rest) → Lacks symbol.Comma rest after
     → Eventually (λ d. (readers d).list ls) (taken (put_tree e no_trees) after)
 list_last ls rest after e h p = list_step ls _ (goes (λ d t r. after_one d t r) h (at_once _ _ (λ d. next_other (λ _ i. go_on ((readers d).list i) (λ more end. taken (tree (expr_seen e) more) end)) (λ r. taken (tree (expr_seen e) no_trees) r) p)))
   where
     after_one : ℕ → Tree → List Lexeme → Answer Trees
     after_one d t r = if_next symbol.Comma r (λ _ i. go_on ((readers d).list i) (λ more end. taken (tree t more) end)) (taken (tree t no_trees) r)
 
-pub list_refused : (ls : List Lexeme) (k : ℕ) → Eventually (λ d. (readers d).level false releases ls) (refused k) → Eventually (λ d. (readers d).list ls) (refused k)
+pub list_refused : (ls : List Lexeme) (k : ℕ) → Eventually (λ d. (readers d).level false Releases ls) (refused k) → Eventually (λ d. (readers d).list ls) (refused k)
 list_refused ls k h = list_step ls _ (stops (λ d t r. if_next symbol.Comma r (λ _ i. go_on ((readers d).list i) (λ more end. taken (tree t more) end)) (taken (tree t no_trees) r)) h)
 
 -- ranges
@@ -409,9 +413,9 @@ pub range_refused : {X : Type 0} {seen_as : X → Ranges} (before rest after : L
 range_refused before rest after e h = record { ok = λ x is. absurd (cc); err = λ k is. h.err k (cc) }
 
 members_front : (r : Readers) (before inner : List Lexeme) (l : Lexeme) → NamesMembers before l inner
-    → ranges_with r before ≡ go_on (r.level false releases inner) (λ t rest. more_ranges r rest (λ more. members (word_of l) t more))
+    → ranges_with r before ≡ go_on (r.level false Releases inner) (λ t rest. more_ranges r rest (λ more. members (word_of l) t more))
 members_front r before inner l n = ap (ranges_with r) n.front
-    ∙ ap (λ b. cond b (go_on (r.level false releases inner) (λ t rest. more_ranges r rest (λ more. members (word_of l) t more))) (between_with r (l ∷ n.sign ∷ inner))) n.is
+    ∙ ap (λ b. cond b (go_on (r.level false Releases inner) (λ t rest. more_ranges r rest (λ more. members (word_of l) t more))) (between_with r (l ∷ n.sign ∷ inner))) n.is
 
 built_is : {X A : Type 0} (view : X → A) (t : A) (r : Result X Refusal) → IsBuilt view t r → (x : X) → r ≡ Ok x → view x ≡ t
 built_is view t (Ok y) b x is = let same : y ≡ x = cc in ap view (sym same) ∙ b
@@ -421,7 +425,7 @@ built_never : {X A : Type 0} (view : X → A) (t : A) (r : Result X Refusal) →
 built_never view t (Ok y) b k is = cc
 built_never view t (Err e) b k is = cc (b)
 
-pub members_read : (before inner rest : List Lexeme) (l : Lexeme) (t : Tree) (r : Result Range Refusal) → NamesMembers before l inner → Eventually (λ d. (readers d).level false releases inner) (taken t rest)
+pub members_read : (before inner rest : List Lexeme) (l : Lexeme) (t : Tree) (r : Result Range Refusal) → NamesMembers before l inner → Eventually (λ d. (readers d).level false Releases inner) (taken t rest)
     → IsBuilt range_seen (members (word_of l) t) r → IsRangeRead before rest r
 members_read before inner rest l t r n h b = record {
   ok = λ x is a on. same_answers _ (λ d. members_front (readers d) before inner l n) (goes (λ d u last. more_ranges (readers d) last (λ more. members (word_of l) u more)) h
@@ -429,7 +433,7 @@ members_read before inner rest l t r n h b = record {
   err = λ k is. absurd (built_never range_seen (members (word_of l) t) r b k is);
 }
 
-pub members_refused : (before inner rest : List Lexeme) (l : Lexeme) (e : Refusal) → NamesMembers before l inner → IsRead expr_seen (λ d. (readers d).level false releases inner) rest (Err e) → IsRangeRead before rest (Err e)
+pub members_refused : (before inner rest : List Lexeme) (l : Lexeme) (e : Refusal) → NamesMembers before l inner → IsRead expr_seen (λ d. (readers d).level false Releases inner) rest (Err e) → IsRangeRead before rest (Err e)
 members_refused before inner rest l e n h = record {
   ok = λ x is. absurd (cc);
   err = λ k is. same_answers _ (λ d. members_front (readers d) before inner l n) (stops (λ d u last. more_ranges (readers d) last (λ more. members (word_of l) u more)) (h.err k (cc)));
@@ -438,21 +442,21 @@ members_refused before inner rest l e n h = record {
 between_front : (r : Readers) (before : List Lexeme) → begins_members before ≡ false → ranges_with r before ≡ between_with r before
 between_front r [] e = refl
 between_front r (l ∷ []) e = refl
-between_front r (l ∷ n ∷ ls) e = ap (λ b. cond b (go_on (r.level false releases ls) (λ t rest. more_ranges r rest (λ more. members (word_of l) t more))) (between_with r (l ∷ n ∷ ls))) e
+between_front r (l ∷ n ∷ ls) e = ap (λ b. cond b (go_on (r.level false Releases ls) (λ t rest. more_ranges r rest (λ more. members (word_of l) t more))) (between_with r (l ∷ n ∷ ls))) e
 
 pub read_between : {X : Type 0} {seen_as : X → Ranges} {after : List Lexeme} {r : Result X Refusal} (before rest : List Lexeme) → NamesNone before rest → IsRead seen_as (λ d. between_with (readers d) rest) after r
     → IsRead seen_as (λ d. ranges_with (readers d) before) after r
 read_between before rest n h = read_same _ (λ d. between_front (readers d) before n.other ∙ ap (between_with (readers d)) (sym n.same)) h
 
 pub between_read : (before start low_at named_at sign_at high_at rest : List Lexeme) (low high : Tree) (low_strict high_strict : Bool) (word : Lexeme) (r : Result Range Refusal) → NamesNone before start
-    → Eventually (λ d. (readers d).level false sums start) (taken low low_at) → Bounds low_at low_strict named_at → Passes symbol.Ident named_at word sign_at → Bounds sign_at high_strict high_at
-    → Eventually (λ d. (readers d).level false sums high_at) (taken high rest) → IsBuilt range_seen (between low low_strict (word_of word) high_strict high) r → IsRangeRead before rest r
+    → Eventually (λ d. (readers d).level false Sums start) (taken low low_at) → Bounds low_at low_strict named_at → Passes symbol.Ident named_at word sign_at → Bounds sign_at high_strict high_at
+    → Eventually (λ d. (readers d).level false Sums high_at) (taken high rest) → IsBuilt range_seen (between low low_strict (word_of word) high_strict high) r → IsRangeRead before rest r
 between_read before start low_at named_at sign_at high_at rest low high low_strict high_strict word r n h b p c j built = record {
   ok = λ x is a on. same_answers _ (λ d. between_front (readers d) before n.other ∙ ap (between_with (readers d)) (sym n.same)) (goes (λ d t1 r1. bound r1 (λ s1 r2. expect symbol.Ident r2 (λ w r3. bound r3 (λ s2 r4.
-      go_on ((readers d).level false sums r4) (λ t2 r5. more_ranges (readers d) r5 (λ more. between t1 s1 (word_of w) s2 t2 more)))))) h
-      (same_answers _ (λ d. bound_passes (λ s1 r2. expect symbol.Ident r2 (λ w r3. bound r3 (λ s2 r4. go_on ((readers d).level false sums r4) (λ t2 r5. more_ranges (readers d) r5 (λ more. between low s1 (word_of w) s2 t2 more))))) b
-      ∙ expect_passes (λ w r3. bound r3 (λ s2 r4. go_on ((readers d).level false sums r4) (λ t2 r5. more_ranges (readers d) r5 (λ more. between low low_strict (word_of w) s2 t2 more)))) p
-      ∙ bound_passes (λ s2 r4. go_on ((readers d).level false sums r4) (λ t2 r5. more_ranges (readers d) r5 (λ more. between low low_strict (word_of word) s2 t2 more))) c)
+      go_on ((readers d).level false Sums r4) (λ t2 r5. more_ranges (readers d) r5 (λ more. between t1 s1 (word_of w) s2 t2 more)))))) h
+      (same_answers _ (λ d. bound_passes (λ s1 r2. expect symbol.Ident r2 (λ w r3. bound r3 (λ s2 r4. go_on ((readers d).level false Sums r4) (λ t2 r5. more_ranges (readers d) r5 (λ more. between low s1 (word_of w) s2 t2 more))))) b
+      ∙ expect_passes (λ w r3. bound r3 (λ s2 r4. go_on ((readers d).level false Sums r4) (λ t2 r5. more_ranges (readers d) r5 (λ more. between low low_strict (word_of w) s2 t2 more)))) p
+      ∙ bound_passes (λ s2 r4. go_on ((readers d).level false Sums r4) (λ t2 r5. more_ranges (readers d) r5 (λ more. between low low_strict (word_of word) s2 t2 more))) c)
       (goes (λ d t2 r5. more_ranges (readers d) r5 (λ more. between low low_strict (word_of word) high_strict t2 more)) j
       (subst (λ (f : Ranges → Ranges). Eventually (λ d. more_ranges (readers d) rest f) a) (built_is range_seen (between low low_strict (word_of word) high_strict high) r built x is) on))));
   err = λ k is. absurd (built_never range_seen (between low low_strict (word_of word) high_strict high) r built k is);

@@ -6,7 +6,7 @@ use Rattle.tlsf_syntax.specs.declared.expr.Range.{Range}
 use Rattle.tlsf_tokens.specs.declared.symbol.Symbol.TheVariants as symbol
 use Rattle.tlsf_syntax.specs.Tree.{Tree, Trees, Ranges}
 use Rattle.tlsf_syntax.specs.Lexemes.{Lexeme}
-use Rattle.tlsf_syntax.specs.Expressions.{releases}
+use Rattle.tlsf_syntax.specs.declared.level.Level.TheVariants.{Releases}
 use Rattle.tlsf_syntax.specs.Reading.{Answer, taken, readers, close_set}
 use Rattle.tlsf_reader.specs.declared.rest.Refusal.{Refusal}
 use Rattle.tlsf_syntax.specs.Seen.{expr_seen, trees_seen, range_seen}
@@ -17,11 +17,11 @@ use Rattle.tlsf_reader.proofs.Climbing.{read_taken}
 -- expressions with commas between
 
 pub list_stops : {f : ℕ → Answer Trees} {done : List Expr} {rest after : List Lexeme} {e : Refusal} (ls : List Lexeme) → Builds put_tree f done (λ d. (readers d).list ls)
-    → IsRead expr_seen (λ d. (readers d).level false releases ls) rest (Err e) → IsRead list_seen f after (Err e)
+    → IsRead expr_seen (λ d. (readers d).level false Releases ls) rest (Err e) → IsRead list_seen f after (Err e)
 list_stops ls b h = record { ok = λ y is. absurd (cc); err = λ k is. b.err k (list_refused ls k (h.err k (cc))) }
 
 pub list_ends : {f : ℕ → Answer Trees} {done : List Expr} {rest after : List Lexeme} {e : Expr} (ls : List Lexeme) (all : Vec Expr Global) → all.items ≡ done ++ e ∷ [] → Builds put_tree f done (λ d. (readers d).list ls)
-    → IsRead expr_seen (λ d. (readers d).level false releases ls) rest (Ok e) → Lacks symbol.Comma rest after → IsRead list_seen f after (Ok all)
+    → IsRead expr_seen (λ d. (readers d).level false Releases ls) rest (Ok e) → Lacks symbol.Comma rest after → IsRead list_seen f after (Ok all)
 list_ends {f = f} {rest = rest} {after = after} {e = e} ls all is b h p =
     read_taken (subst (λ (ts : Trees). Eventually f (taken ts after)) (trees_onto all.items) (built_last all.items is b (list_last ls rest after e (h.ok e refl) p)))
 

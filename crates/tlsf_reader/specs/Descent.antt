@@ -9,7 +9,11 @@ use Rattle.tlsf_tokens.specs.declared.symbol.Symbol.{Symbol}
 use Rattle.tlsf_syntax.specs.Tree.{Tree, Trees, Links, Ranges, paren, tree, link}
 use Rattle.tlsf_syntax.specs.Lexemes.{Lexeme}
 use Rattle.tlsf_syntax.specs.Symbols.{symbol_eq}
-use Rattle.tlsf_syntax.specs.Expressions.{Level, releases, bound_of, Joins, left, once, right, none}
+use Rattle.tlsf_syntax.specs.declared.level.Level.{Level}
+use Rattle.tlsf_syntax.specs.declared.level.Level.TheVariants.{Releases}
+use Rattle.tlsf_syntax.specs.declared.level.Joins.{Joins}
+use Rattle.tlsf_syntax.specs.declared.level.Joins.TheVariants as joins
+use Rattle.tlsf_syntax.specs.Expressions.{bound_of}
 use Rattle.tlsf_syntax.specs.Reading.{Answer, taken, refused, go_on, begins, expect, from_to, operator_here, chain_of, joined_by, Readers, readers, prefix_with, prefixed, counted, windowed, big_with, ranges_with, more_ranges}
 use Rattle.tlsf_reader.specs.declared.lexeme.Lexeme.{Lexeme as CodeLexeme}
 use Rattle.tlsf_reader.specs.declared.rest.Refusal.{Refusal}
@@ -136,7 +140,7 @@ IsNameIn before after (Some l) = NamesMembers before (seen l) after
 
 -- what stands after an opening parenthesis
 abbrev pub grouped_with : Readers → Lexeme → List Lexeme → Answer Tree
-grouped_with r l ls = go_on (r.level false releases ls) (λ t rest. expect symbol.CloseParen rest (λ last after. taken (paren (from_to l.start last.end) t) after))
+grouped_with r l ls = go_on (r.level false Releases ls) (λ t rest. expect symbol.CloseParen rest (λ last after. taken (paren (from_to l.start last.end) t) after))
 
 abbrev pub list_seen : Vec Expr Global → Trees
 list_seen v = trees_seen v.items
@@ -146,10 +150,10 @@ ranges_seen v = range_list_seen v.items
 
 -- how an operand of a level goes on to the level m that is built of it
 abbrev pub extended_by : Readers → Bool → Level → Level → Joins → Tree → List Lexeme → Answer Tree
-extended_by r ends m n left t rest = go_on (r.links ends m rest) (λ more after. taken (chain_of t more) after)
-extended_by r ends m n once t rest = joined_by (operator_here ends m rest) t rest (r.level ends n)
-extended_by r ends m n right t rest = joined_by (operator_here ends m rest) t rest (r.level ends m)
-extended_by r ends m n none t rest = taken t rest
+extended_by r ends m n joins.Left t rest = go_on (r.links ends m rest) (λ more after. taken (chain_of t more) after)
+extended_by r ends m n joins.Once t rest = joined_by (operator_here ends m rest) t rest (r.level ends n)
+extended_by r ends m n joins.Right t rest = joined_by (operator_here ends m rest) t rest (r.level ends m)
+extended_by r ends m n joins.None t rest = taken t rest
 
 -- elements in front of what was read after them
 abbrev pub onto : {E X : Type 0} → (E → X → X) → List E → X → X

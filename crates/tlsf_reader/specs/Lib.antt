@@ -3,7 +3,6 @@ pub mod Lexed
 pub mod Parts
 pub mod Faults
 pub mod Reads
-pub mod Levels
 pub mod Descent
 pub mod TextView
 pub mod TextDescent

@@ -3,15 +3,14 @@
 ghost use Rattle.std.specs.Prelude.{◌≡◌, ◌<◌, if◌then◌else◌, length, map, drop, IfSome, IfNone, OnOk};
 ghost use Rattle.tlsf_syntax.specs.Reading.{begins, operator_here};
 ghost use Rattle.tlsf_reader.specs.declared.rest.Refusal.TheVariants.{At};
-ghost use Rattle.tlsf_reader.specs.Levels.{level_of};
 ghost use Rattle.tlsf_reader.specs.Seen.{seen};
 ghost use Rattle.tlsf_reader.specs.Descent.{IsNextIf, IsExpected, IsLexemeTaken, IsSign, IsSignKind, IsBound, IsNameIn, after_sign};
 
-use crate::level::{Level, bound};
 use crate::lexeme::Lexeme;
 use crate::rest::{Refusal, begins, operator_here};
+use crate::signs::bound;
 use std::marker::Model;
-use tlsf_syntax::Op;
+use tlsf_syntax::{Level, Op};
 use tlsf_tokens::Symbol;
 
 /// The lexemes that are left. A contract sees their list.
@@ -124,7 +123,7 @@ impl<'a> Ahead<'a> {
 
     /// The operator of this level in front, where one stands there. It is passed.
     pub(crate) fn operator(&mut self, ends: bool, level: Level) -> Option<Op>
-        ensures value { result ≡ operator_here ends (level_of level) self.old }
+        ensures value { result ≡ operator_here ends level self.old }
         ensures some { IfSome result (λ _. self.new ≡ drop 1 self.old) }
         ensures shorter { IfSome result (λ _. length self.new < length self.old) }
         ensures none { IfNone result (self.new ≡ self.old) }

@@ -13,13 +13,12 @@ use crate::ahead::Ahead;
 use crate::enumeration::members;
 use crate::expression::expression;
 use crate::info::names;
-use crate::level::Level;
 use crate::lexeme::Lexeme;
 use crate::node;
 use crate::rest::Refusal;
 use crate::written::Block;
 use std::alloc::Global;
-use tlsf_syntax::{Alternative, Body, Definition, Expr, Word};
+use tlsf_syntax::{Alternative, Body, Definition, Expr, Level, Word};
 use tlsf_tokens::Symbol;
 
 /// The guard of an alternative. `None` is `otherwise`.

@@ -2,20 +2,19 @@
 
 ghost use Rattle.std.specs.Prelude.{◌≡◌, ◌<◌, ◌≤◌, ◌⊎◌, List, [], ◌∷◌, length, map, Some, OnOk};
 ghost use Rattle.tlsf_syntax.specs.Lexemes.{Lexeme as GrammarLexeme};
-ghost use Rattle.tlsf_syntax.specs.Expressions.{prefixes, tighter_of, joins_of};
+ghost use Rattle.tlsf_syntax.specs.declared.level.Level.TheVariants.{Prefixes};
+ghost use Rattle.tlsf_syntax.specs.Expressions.{tighter_of, joins_of};
 ghost use Rattle.tlsf_syntax.specs.Reading.{taken, go_on, joined_by, level_number, operator_here, readers, chain_of, word_with, set_with, set_third, close_set, prefixed, primary_with, counted, windowed, big_with};
-ghost use Rattle.tlsf_reader.specs.Levels.{level_of};
 ghost use Rattle.tlsf_reader.specs.Seen.{seen};
 ghost use Rattle.tlsf_syntax.specs.Seen.{expr_seen, trees_seen};
 ghost use Rattle.tlsf_reader.specs.Descent.{Eventually, IsRead, IsRangeRead, extended_by, grouped_with, list_seen, ranges_seen};
 
 use crate::ahead::{Ahead, SignKind};
-use crate::level::{Joins, Level};
 use crate::lexeme::Lexeme;
 use crate::node;
 use crate::rest::Refusal;
 use std::alloc::Global;
-use tlsf_syntax::{Expr, Link, Op, Range};
+use tlsf_syntax::{Expr, Joins, Level, Link, Op, Range};
 use tlsf_tokens::Symbol;
 
 /// An expression of this level. Where `ends`, another expression may follow, which the sign of a big operator begins.
@@ -27,7 +26,7 @@ pub(crate) fn expression(
     ends: bool,
     level: Level,
 ) -> Result<Expr, Refusal>
-    ensures read { IsRead expr_seen (λ d. (readers d).level ends (level_of level) ahead.old) ahead.new result }
+    ensures read { IsRead expr_seen (λ d. (readers d).level ends level ahead.old) ahead.new result }
     ensures shorter { OnOk result (length ahead.new < length ahead.old) }
 {
     if level.rank() < Level::Prefixes.rank() {
@@ -48,9 +47,9 @@ fn climb(
     to: Level,
     operand: Expr,
 ) -> Result<Expr, Refusal>
-    requires up { level_number (level_of from) ≤ level_number (level_of to) }
-    requires no_sign { (level_number (level_of to) < 9) ⊎ (9 ≤ level_number (level_of from)) }
-    ensures read { (ls : List GrammarLexeme) → Eventually (λ d. (readers d).level ends (level_of from) ls) (taken (expr_seen operand) ahead.old) → IsRead expr_seen (λ d. (readers d).level ends (level_of to) ls) ahead.new result }
+    requires up { level_number from ≤ level_number to }
+    requires no_sign { (level_number to < 9) ⊎ (9 ≤ level_number from) }
+    ensures read { (ls : List GrammarLexeme) → Eventually (λ d. (readers d).level ends from ls) (taken (expr_seen operand) ahead.old) → IsRead expr_seen (λ d. (readers d).level ends to ls) ahead.new result }
     ensures shorter { OnOk result (length ahead.new ≤ length ahead.old) }
 {
     let mut tree = operand;
@@ -72,8 +71,8 @@ fn extended(
     tighter: Level,
     tree: Expr,
 ) -> Result<Expr, Refusal>
-    requires { tighter_of (level_of level) ≡ Some (level_of tighter) }
-    ensures read { IsRead expr_seen (λ d. extended_by (readers d) ends (level_of level) (level_of tighter) (joins_of (level_of level)) (expr_seen tree) ahead.old) ahead.new result }
+    requires { tighter_of level ≡ Some tighter }
+    ensures read { IsRead expr_seen (λ d. extended_by (readers d) ends level tighter (joins_of level) (expr_seen tree) ahead.old) ahead.new result }
     ensures shorter { OnOk result (length ahead.new ≤ length ahead.old) }
 {
     match level.joins() {
@@ -94,8 +93,8 @@ fn chain(
     tighter: Level,
     first: Expr,
 ) -> Result<Expr, Refusal>
-    requires { tighter_of (level_of level) ≡ Some (level_of tighter) }
-    ensures read { IsRead expr_seen (λ d. go_on ((readers d).links ends (level_of level) ahead.old) (λ more after. taken (chain_of (expr_seen first) more) after)) ahead.new result }
+    requires { tighter_of level ≡ Some tighter }
+    ensures read { IsRead expr_seen (λ d. go_on ((readers d).links ends level ahead.old) (λ more after. taken (chain_of (expr_seen first) more) after)) ahead.new result }
     ensures shorter { OnOk result (length ahead.new ≤ length ahead.old) }
 {
     let mut rest = Vec::new(alloc);
@@ -118,7 +117,7 @@ fn pair(
     operand: Level,
     left: Expr,
 ) -> Result<Expr, Refusal>
-    ensures read { IsRead expr_seen (λ d. joined_by (operator_here ends (level_of level) ahead.old) (expr_seen left) ahead.old ((readers d).level ends (level_of operand))) ahead.new result }
+    ensures read { IsRead expr_seen (λ d. joined_by (operator_here ends level ahead.old) (expr_seen left) ahead.old ((readers d).level ends operand)) ahead.new result }
     ensures shorter { OnOk result (length ahead.new ≤ length ahead.old) }
 {
     let Some(op) = ahead.operator(ends, level) else {
@@ -131,7 +130,7 @@ fn pair(
 /// An operand with the signs before it.
 #[cycle(expression)]
 fn signed(alloc: Global, ahead: &mut Ahead<'_>, ends: bool) -> Result<Expr, Refusal>
-    ensures read { IsRead expr_seen (λ d. (readers d).level ends prefixes ahead.old) ahead.new result }
+    ensures read { IsRead expr_seen (λ d. (readers d).level ends Prefixes ahead.old) ahead.new result }
     ensures shorter { OnOk result (length ahead.new < length ahead.old) }
 {
     let Some(sign) = ahead.sign() else {

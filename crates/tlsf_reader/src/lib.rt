@@ -15,13 +15,13 @@ mod finite;
 mod info;
 pub mod laws;
 mod least;
-mod level;
 mod lexeme;
 mod node;
 mod reading;
 mod repeat;
 mod rest;
 mod section;
+mod signs;
 mod text;
 mod written;
 

@@ -1,14 +1,13 @@
 //! Looking at the front of the lexemes that are left.
 
-ghost use Rattle.std.specs.Prelude.{◌≡◌, map, option_map};
+ghost use Rattle.std.specs.Prelude.{◌≡◌, map};
 ghost use Rattle.tlsf_syntax.specs.Reading.{begins, begins_big, at_level, operator_here};
-ghost use Rattle.tlsf_reader.specs.Levels.{level_of, level_and_operator};
 ghost use Rattle.tlsf_reader.specs.Seen.{seen};
 
-use crate::level::{Level, big, operator};
 use crate::lexeme::Lexeme;
+use crate::signs::{big, operator};
 use std::alloc::{AllocError, AllocFailed};
-use tlsf_syntax::Op;
+use tlsf_syntax::{Level, Op};
 use tlsf_tokens::Symbol;
 
 /// Whether the next lexeme has this symbol.
@@ -33,7 +32,7 @@ fn begins_big(ls: &[Lexeme<'_>]) -> bool
 
 /// The operator, where it is of this level.
 fn at_level(level: Level, found: Option<(Level, Op)>) -> Option<Op>
-    ensures { result ≡ at_level (level_of level) (option_map level_and_operator found) }
+    ensures { result ≡ at_level level found }
 {
     match found {
         Some((of, op)) => {
@@ -49,7 +48,7 @@ fn at_level(level: Level, found: Option<(Level, Op)>) -> Option<Op>
 
 /// The operator of this level at the front. Where another expression may follow, the sign of a big operator is none.
 pub(crate) fn operator_here(ends: bool, level: Level, ls: &[Lexeme<'_>]) -> Option<Op>
-    ensures { result ≡ operator_here ends (level_of level) (map seen ls.now) }
+    ensures { result ≡ operator_here ends level (map seen ls.now) }
 {
     if ends && begins_big(ls) {
         return None;

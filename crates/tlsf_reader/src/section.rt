@@ -9,12 +9,11 @@ ghost use Rattle.tlsf_reader.specs.TextDescent.{formula_read, part_at};
 
 use crate::ahead::Ahead;
 use crate::expression::expression;
-use crate::level::Level;
 use crate::node;
 use crate::rest::Refusal;
 use crate::written::Part;
 use std::alloc::Global;
-use tlsf_syntax::{Declaration, Expr, Shape};
+use tlsf_syntax::{Declaration, Expr, Level, Shape};
 use tlsf_tokens::Symbol;
 
 /// The declaration of a signal, a bus, or a bus of an enumeration's width.

@@ -9,7 +9,11 @@ use Rattle.tlsf_tokens.specs.declared.symbol.Symbol.TheVariants as symbol
 use Rattle.tlsf_syntax.specs.Tree.{Tree, Trees, Links, Ranges, tree_span, pair, prefix, count, window, big, no_trees, tree, no_links, link, members, between}
 use Rattle.tlsf_syntax.specs.Lexemes.{Lexeme, Is, word_of}
 use Rattle.tlsf_syntax.specs.Symbols.{symbol_eq}
-use Rattle.tlsf_syntax.specs.Expressions.{Level, primary, sums, prefixes, memberships, releases, Joins, left, once, right, none, tighter_of, joins_of, operator_of, big_of, bound_of, conjunctions, disjunctions, implications, weak_untils, untils}
+use Rattle.tlsf_syntax.specs.declared.level.Level.{Level}
+use Rattle.tlsf_syntax.specs.declared.level.Level.TheVariants.{Primary, Sums, Prefixes, Memberships, Releases, Conjunctions, Disjunctions, Implications, WeakUntils, Untils}
+use Rattle.tlsf_syntax.specs.declared.level.Joins.{Joins}
+use Rattle.tlsf_syntax.specs.declared.level.Joins.TheVariants as joins
+use Rattle.tlsf_syntax.specs.Expressions.{tighter_of, joins_of, operator_of, big_of, bound_of}
 use Rattle.tlsf_syntax.proofs.Symbols.{same_symbol}
 use Rattle.tlsf_syntax.specs.Reading.{Answer, taken, refused, lost, go_on, begins, expect, if_next, level_number, at_level, begins_big, operator_at, operator_here, Readers, chain_of, joined_by, from_to, word_with, set_with, set_second, set_third, close_set, primary_by, primary_with, prefix_by, prefix_with, prefixed, counted, windowed, big_with, level_by, level_with, list_with, linked, links_with, more_ranges, bounded, bound, between_with, ranges_with, readers}
 
@@ -192,30 +196,30 @@ ranged S e r h K g = steady_after S ⊥ e r.ranges K (λ n. n) h.ranges g
 word_steady : (S : Type 0) (e : Fork) (r : Readers) → Agreeing e r → (l : Lexeme) → Steady S e (word_with r l)
 word_steady S e r h l =
     steady_if_next S e symbol.OpenParen _ _ (λ _. listed S e r h _ (λ ts. steady_expect S e symbol.CloseParen _ (λ last. steady_taken S e _)))
-    (steady_if_next S e symbol.OpenBracket _ _ (λ _. within S e r h releases _ (λ t. steady_expect S e symbol.CloseBracket _ (λ last. steady_taken S e _))) (steady_taken S e _))
+    (steady_if_next S e symbol.OpenBracket _ _ (λ _. within S e r h Releases _ (λ t. steady_expect S e symbol.CloseBracket _ (λ last. steady_taken S e _))) (steady_taken S e _))
 
 close_steady : (S : Type 0) (e : Fork) (l : Lexeme) (ts : Trees) → Steady S e (close_set l ts)
 close_steady S e l ts = steady_expect S e symbol.CloseBrace _ (λ last. steady_taken S e _)
 
 third_steady : (S : Type 0) (e : Fork) (r : Readers) → Agreeing e r → (l : Lexeme) (t u : Tree) → Steady S e (set_third r l t u)
 third_steady S e r h l t u =
-    steady_if_next S e symbol.Dots _ _ (λ _. within S e r h releases _ (λ v. steady_expect S e symbol.CloseBrace _ (λ last. steady_taken S e _)))
+    steady_if_next S e symbol.Dots _ _ (λ _. within S e r h Releases _ (λ v. steady_expect S e symbol.CloseBrace _ (λ last. steady_taken S e _)))
     (steady_if_next S e symbol.Comma _ _ (λ _. listed S e r h _ (λ more. close_steady S e l (tree t (tree u more)))) (close_steady S e l (tree t (tree u no_trees))))
 
 second_steady : (S : Type 0) (e : Fork) (r : Readers) → Agreeing e r → (l : Lexeme) (t : Tree) → Steady S e (set_second r l t)
 second_steady S e r h l t =
-    steady_if_next S e symbol.Comma _ _ (λ _. within S e r h releases _ (λ u. third_steady S e r h l t u)) (close_steady S e l (tree t no_trees))
+    steady_if_next S e symbol.Comma _ _ (λ _. within S e r h Releases _ (λ u. third_steady S e r h l t u)) (close_steady S e l (tree t no_trees))
 
 set_steady : (S : Type 0) (e : Fork) (r : Readers) → Agreeing e r → (l : Lexeme) → Steady S e (set_with r l)
-set_steady S e r h l = steady_if_next S e symbol.CloseBrace _ _ (λ last. steady_taken S e _) (within S e r h releases _ (λ t. second_steady S e r h l t))
+set_steady S e r h l = steady_if_next S e symbol.CloseBrace _ _ (λ last. steady_taken S e _) (within S e r h Releases _ (λ t. second_steady S e r h l t))
 
 primary_step : (S : Type 0) (e : Fork) (r : Readers) → Agreeing e r → (s : Symbol) (l : Lexeme) → Step S e l (primary_by r s l)
 primary_step S e r h symbol.Number l = steps_on (steady_taken S e _)
 primary_step S e r h symbol.True l = steps_on (steady_taken S e _)
 primary_step S e r h symbol.False l = steps_on (steady_taken S e _)
 primary_step S e r h symbol.Ident l = steps_on (word_steady S e r h l)
-primary_step S e r h symbol.SizeOf l = steps_on (within S e r h primary _ (λ t. steady_taken S e _))
-primary_step S e r h symbol.OpenParen l = steps_on (within S e r h releases _ (λ t. steady_expect S e symbol.CloseParen _ (λ last. steady_taken S e _)))
+primary_step S e r h symbol.SizeOf l = steps_on (within S e r h Primary _ (λ t. steady_taken S e _))
+primary_step S e r h symbol.OpenParen l = steps_on (within S e r h Releases _ (λ t. steady_expect S e symbol.CloseParen _ (λ last. steady_taken S e _)))
 primary_step S e r h symbol.OpenBrace l = steps_on (set_steady S e r h l)
 primary_step S e r h _ l = step_refused (λ ls. refl)
 
@@ -234,21 +238,21 @@ operand : (e : Fork) (r : Readers) → Agreeing e r → (ends : Bool) (m : Level
 operand e r h ends m f = level_of_ends e r h ends m (λ t rest. taken (f t) rest) (λ t. steady_taken (Stop e.last ends) e (f t)) (λ s t after. stopping (f t) s)
 
 prefixed_steady : (e : Fork) (r : Readers) → Agreeing e r → (ends : Bool) (o : Op) (l : Lexeme) → Steady (Stop e.last ends) e (prefixed r ends o l)
-prefixed_steady e r h ends o l = operand e r h ends prefixes (λ t. prefix (from_to l.start (tree_span t).end) o t)
+prefixed_steady e r h ends o l = operand e r h ends Prefixes (λ t. prefix (from_to l.start (tree_span t).end) o t)
 
 counted_steady : (e : Fork) (r : Readers) → Agreeing e r → (ends : Bool) (l : Lexeme) → Steady (Stop e.last ends) e (counted r ends l)
 counted_steady e r h ends l =
-    within (Stop e.last ends) e r h releases _ (λ t. steady_expect (Stop e.last ends) e symbol.CloseBracket _ (λ _. operand e r h ends prefixes (λ u. count (from_to l.start (tree_span u).end) t u)))
+    within (Stop e.last ends) e r h Releases _ (λ t. steady_expect (Stop e.last ends) e symbol.CloseBracket _ (λ _. operand e r h ends Prefixes (λ u. count (from_to l.start (tree_span u).end) t u)))
 
 windowed_steady : (e : Fork) (r : Readers) → Agreeing e r → (ends : Bool) (o : Op) (l : Lexeme) → Steady (Stop e.last ends) e (windowed r ends o l)
 windowed_steady e r h ends o l =
-    within (Stop e.last ends) e r h releases _ (λ t. steady_expect (Stop e.last ends) e symbol.Colon _ (λ _. within (Stop e.last ends) e r h releases _ (λ u.
-    steady_expect (Stop e.last ends) e symbol.CloseBracket _ (λ _. operand e r h ends prefixes (λ v. window (from_to l.start (tree_span v).end) o t u v)))))
+    within (Stop e.last ends) e r h Releases _ (λ t. steady_expect (Stop e.last ends) e symbol.Colon _ (λ _. within (Stop e.last ends) e r h Releases _ (λ u.
+    steady_expect (Stop e.last ends) e symbol.CloseBracket _ (λ _. operand e r h ends Prefixes (λ v. window (from_to l.start (tree_span v).end) o t u v)))))
 
 big_steady : (e : Fork) (r : Readers) → Agreeing e r → (ends : Bool) (o : Op) (l : Lexeme) → Steady (Stop e.last ends) e (big_with r ends o l)
 big_steady e r h ends o l =
     steady_expect (Stop e.last ends) e symbol.OpenBracket _ (λ _. ranged (Stop e.last ends) e r h _ (λ rs. steady_expect (Stop e.last ends) e symbol.CloseBracket _ (λ _.
-    operand e r h ends prefixes (λ t. big (from_to l.start (tree_span t).end) o rs t))))
+    operand e r h ends Prefixes (λ t. big (from_to l.start (tree_span t).end) o rs t))))
 
 prefix_step : (e : Fork) (r : Readers) → Agreeing e r → (ends : Bool) (n : Level) (s : Symbol) (l : Lexeme) → Step (Stop e.last ends) e l (prefix_by r ends n s l)
 prefix_step e r h ends n symbol.Not l = steps_on (prefixed_steady e r h ends op.Not l)
@@ -395,17 +399,17 @@ level_steady e r h ends m = by (tighter_of m) (joins_of m)
   where
     by : (n : Option Level) (j : Joins) → Steady (Stop e.last ends) e (level_by r ends m n j)
     by None j = primary_steady (Stop e.last ends) e r h
-    by (Some n) left =
+    by (Some n) joins.Left =
         level_of_ends e r h ends n (λ t rest. go_on (r.links ends m rest) (λ more after. taken (chain_of t more) after)) (λ t. linked_steady e r h ends m (λ more. chain_of t more))
         (λ s t after. linked_stops e r h ends m (λ more. chain_of t more) s after)
-    by (Some n) once = pair_steady e r h ends m n n
-    by (Some n) right = pair_steady e r h ends m n m
-    by (Some n) none = prefix_steady e r h ends n
+    by (Some n) joins.Once = pair_steady e r h ends m n n
+    by (Some n) joins.Right = pair_steady e r h ends m n m
+    by (Some n) joins.None = prefix_steady e r h ends n
 
 -- lists and ranges
 
 list_steady : (e : Fork) (r : Readers) → Agreeing e r → Steady ⊥ e (list_with r)
-list_steady e r h = within ⊥ e r h releases _ (λ t. steady_if_next ⊥ e symbol.Comma _ _ (λ _. listed ⊥ e r h _ (λ more. steady_taken ⊥ e _)) (steady_taken ⊥ e _))
+list_steady e r h = within ⊥ e r h Releases _ (λ t. steady_if_next ⊥ e symbol.Comma _ _ (λ _. listed ⊥ e r h _ (λ more. steady_taken ⊥ e _)) (steady_taken ⊥ e _))
 
 more_steady : (e : Fork) (r : Readers) → Agreeing e r → (f : Ranges → Ranges) → Steady ⊥ e (λ ls. more_ranges r ls f)
 more_steady e r h f = steady_if_next ⊥ e symbol.Comma _ _ (λ _. ranged ⊥ e r h _ (λ more. steady_taken ⊥ e _)) (steady_taken ⊥ e _)
@@ -419,15 +423,15 @@ bound_steady e f g = steady_front ⊥ e (λ ls. bound ls f) (λ l ls. bounded (b
 
 between_steady : (e : Fork) (r : Readers) → Agreeing e r → Steady ⊥ e (between_with r)
 between_steady e r h =
-    within ⊥ e r h sums _ (λ low. bound_steady e _ (λ low_strict. steady_expect ⊥ e symbol.Ident _ (λ word. bound_steady e _ (λ high_strict. within ⊥ e r h sums _ (λ high.
+    within ⊥ e r h Sums _ (λ low. bound_steady e _ (λ low_strict. steady_expect ⊥ e symbol.Ident _ (λ word. bound_steady e _ (λ high_strict. within ⊥ e r h Sums _ (λ high.
     more_steady e r h (λ more. between low low_strict (word_of word) high_strict high more))))))
 
 -- a range over the members of a set, after its name and `IN`
 abbrev members_after : Readers → Lexeme → List Lexeme → Answer Ranges
-members_after r l ls = go_on (r.level false releases ls) (λ t rest. more_ranges r rest (λ more. members (word_of l) t more))
+members_after r l ls = go_on (r.level false Releases ls) (λ t rest. more_ranges r rest (λ more. members (word_of l) t more))
 
 members_steady : (e : Fork) (r : Readers) → Agreeing e r → (l : Lexeme) → Steady ⊥ e (members_after r l)
-members_steady e r h l = within ⊥ e r h releases _ (λ t. more_steady e r h (λ more. members (word_of l) t more))
+members_steady e r h l = within ⊥ e r h Releases _ (λ t. more_steady e r h (λ more. members (word_of l) t more))
 
 -- a name is the front of both kinds of range
 ranges_pass : (e : Fork) (r : Readers) → Agreeing e r → Is symbol.Ident e.last → (after : List Lexeme) → Passes ⊥ e.last after (ranges_with r (e.last ∷ after))
@@ -435,9 +439,9 @@ ranges_pass e r h i after = by after
   where
     low_bound : (after : List Lexeme) → Passes ⊥ e.last after (between_with r (e.last ∷ after))
     low_bound after =
-        go_passes ⊥ ⊥ e.last after (r.level false sums (e.last ∷ after)) _ (h.named_front i sums after)
-        (λ low rest. let s : Steady ⊥ e (λ ls. bound ls (λ low_strict named_at. expect symbol.Ident named_at (λ word sign_at. bound sign_at (λ high_strict high_at. go_on (r.level false sums high_at) (λ high rest'. more_ranges r rest' (λ more. between low low_strict (word_of word) high_strict high more)))))) =
-        bound_steady e _ (λ low_strict. steady_expect ⊥ e symbol.Ident _ (λ word. bound_steady e _ (λ high_strict. within ⊥ e r h sums _ (λ high. more_steady e r h (λ more. between low low_strict (word_of word) high_strict high more))))) in
+        go_passes ⊥ ⊥ e.last after (r.level false Sums (e.last ∷ after)) _ (h.named_front i Sums after)
+        (λ low rest. let s : Steady ⊥ e (λ ls. bound ls (λ low_strict named_at. expect symbol.Ident named_at (λ word sign_at. bound sign_at (λ high_strict high_at. go_on (r.level false Sums high_at) (λ high rest'. more_ranges r rest' (λ more. between low low_strict (word_of word) high_strict high more)))))) =
+        bound_steady e _ (λ low_strict. steady_expect ⊥ e symbol.Ident _ (λ word. bound_steady e _ (λ high_strict. within ⊥ e r h Sums _ (λ high. more_steady e r h (λ more. between low low_strict (word_of word) high_strict high more))))) in
         s.leaves rest) (λ n. absurd n)
 
     either : (b : Bool) (n : Lexeme) (ls : List Lexeme) → Passes ⊥ e.last (n ∷ ls) (cond b (members_after r e.last ls) (between_with r (e.last ∷ n ∷ ls)))
@@ -497,16 +501,16 @@ left_after l after x k p f = go_passes ⊥ ⊥ l after x k p f (λ n. absurd n)
 -- a level begins as the tighter one does, but for signs
 front_climbs : (e : Fork) (r : Readers) → Agreeing e r → (m n : Level) (j : Joins) (after : List Lexeme) → Passes ⊥ e.last after (r.level false n (e.last ∷ after)) → Passes ⊥ e.last after (prefix_with r false n (e.last ∷ after))
     → Passes ⊥ e.last after (level_by r false m (Some n) j (e.last ∷ after))
-front_climbs e r h m n left after p q =
+front_climbs e r h m n joins.Left after p q =
     left_after e.last after (r.level false n (e.last ∷ after)) (λ t rest. go_on (r.links false m rest) (λ more rest'. taken (chain_of t more) rest')) p
     (λ t rest. let s : Steady (Stop e.last false) e (λ ls. go_on (r.links false m ls) (λ more rest'. taken (chain_of t more) rest')) = linked_steady e r h false m (λ more. chain_of t more) in s.leaves rest)
-front_climbs e r h m n once after p q =
+front_climbs e r h m n joins.Once after p q =
     left_after e.last after (r.level false n (e.last ∷ after)) (λ t rest. joined_by (operator_here false m rest) t rest (r.level false n)) p
     (λ t rest. let s : Steady (Stop e.last false) e (λ ls. joined_by (operator_here false m ls) t ls (r.level false n)) = chosen_steady e false m (λ o ls. joined_by o t ls (r.level false n)) (joined_chooses e r h false n t) in s.leaves rest)
-front_climbs e r h m n right after p q =
+front_climbs e r h m n joins.Right after p q =
     left_after e.last after (r.level false n (e.last ∷ after)) (λ t rest. joined_by (operator_here false m rest) t rest (r.level false m)) p
     (λ t rest. let s : Steady (Stop e.last false) e (λ ls. joined_by (operator_here false m ls) t ls (r.level false m)) = chosen_steady e false m (λ o ls. joined_by o t ls (r.level false m)) (joined_chooses e r h false m t) in s.leaves rest)
-front_climbs e r h m n none after p q = q
+front_climbs e r h m n joins.None after p q = q
 
 named_level : (e : Fork) (r : Readers) → Agreeing e r → Is symbol.Ident e.last → (m : Level) (after : List Lexeme) → Passes ⊥ e.last after (level_with r false m (e.last ∷ after))
 named_level e r h i m after = by (tighter_of m) (joins_of m)
@@ -530,13 +534,13 @@ big_level e r h b m low after = by m low
     signs n = big_prefix e r h n e.last.symbol b after
 
     by : (m : Level) → 9 ≤ level_number m → Passes ⊥ e.last after (level_with r false m (e.last ∷ after))
-    by prefixes low = signs memberships
-    by conjunctions low = front_climbs e r h conjunctions prefixes left after (h.big_front b prefixes (omega arith) after) (signs prefixes)
-    by disjunctions low = front_climbs e r h disjunctions conjunctions left after (h.big_front b conjunctions (omega arith) after) (signs conjunctions)
-    by implications low = front_climbs e r h implications disjunctions (joins_of implications) after (h.big_front b disjunctions (omega arith) after) (signs disjunctions)
-    by weak_untils low = front_climbs e r h weak_untils implications (joins_of weak_untils) after (h.big_front b implications (omega arith) after) (signs implications)
-    by untils low = front_climbs e r h untils weak_untils (joins_of untils) after (h.big_front b weak_untils (omega arith) after) (signs weak_untils)
-    by releases low = front_climbs e r h releases untils (joins_of releases) after (h.big_front b untils (omega arith) after) (signs untils)
+    by Prefixes low = signs Memberships
+    by Conjunctions low = front_climbs e r h Conjunctions Prefixes joins.Left after (h.big_front b Prefixes (omega arith) after) (signs Prefixes)
+    by Disjunctions low = front_climbs e r h Disjunctions Conjunctions joins.Left after (h.big_front b Conjunctions (omega arith) after) (signs Conjunctions)
+    by Implications low = front_climbs e r h Implications Disjunctions (joins_of Implications) after (h.big_front b Disjunctions (omega arith) after) (signs Disjunctions)
+    by WeakUntils low = front_climbs e r h WeakUntils Implications (joins_of WeakUntils) after (h.big_front b Implications (omega arith) after) (signs Implications)
+    by Untils low = front_climbs e r h Untils WeakUntils (joins_of Untils) after (h.big_front b WeakUntils (omega arith) after) (signs WeakUntils)
+    by Releases low = front_climbs e r h Releases Untils (joins_of Releases) after (h.big_front b Untils (omega arith) after) (signs Untils)
     by _ low = absurd (omega arith)
 
 pub readers_agree : (e : Fork) (depth : ℕ) → Agreeing e (readers depth)

@@ -5,7 +5,9 @@ use Rattle.tlsf_tokens.specs.declared.symbol.Symbol.{Symbol}
 use Rattle.tlsf_tokens.specs.declared.symbol.Symbol.TheVariants as symbol
 use Rattle.tlsf_syntax.specs.Tree.{Tree, truth}
 use Rattle.tlsf_syntax.specs.Lexemes.{Lexeme}
-use Rattle.tlsf_syntax.specs.Expressions.{Level, primary, Derives, of_true}
+use Rattle.tlsf_syntax.specs.declared.level.Level.{Level}
+use Rattle.tlsf_syntax.specs.declared.level.Level.TheVariants.{Primary}
+use Rattle.tlsf_syntax.specs.Expressions.{Derives, of_true}
 use Rattle.tlsf_syntax.specs.Reading.{level_number, from_to}
 use Rattle.tlsf_syntax.proofs.Starts.{climb}
 
@@ -57,7 +59,7 @@ abbrev pub ex : Tree
 ex = truth (from_to 0 0) true
 
 pub example : (n : Level) → Derives n (sign symbol.True ∷ []) ex
-example n = climb (level_number n) primary n (sign symbol.True ∷ []) ex (omega arith) (of_true (sign symbol.True) refl)
+example n = climb (level_number n) Primary n (sign symbol.True ∷ []) ex (omega arith) (of_true (sign symbol.True) refl)
 
 -- nothing at all begins an expression
 pub nothing_begins : (n : Level) → Completes (Derives n) []

@@ -6,7 +6,6 @@ use Rattle.tlsf_syntax.specs.declared.expr.Form as form
 use Rattle.tlsf_syntax.specs.declared.expr.Link.{Link}
 use Rattle.tlsf_syntax.specs.declared.expr.Op.{Op}
 use Rattle.tlsf_syntax.specs.declared.expr.Range.{Range}
-use Rattle.tlsf_syntax.specs.declared.expr.Range as range
 use Rattle.tlsf_syntax.specs.declared.expr.Span.{Span}
 use Rattle.tlsf_syntax.specs.declared.expr.Word.{Word}
 use Rattle.tlsf_syntax.specs.Tree as plain

@@ -10,7 +10,8 @@ use Rattle.tlsf_tokens.specs.declared.symbol.Symbol.TheVariants as symbol
 use Rattle.tlsf_syntax.specs.Tree.{Named, Tree, Trees, Links, Ranges, Alternative, Body, Pattern, Member, Definition, Declaration, Field, Block, Part, Written}
 use Rattle.tlsf_syntax.specs.Lexemes.{Lexeme, Is}
 use Rattle.tlsf_syntax.specs.Symbols.{symbol_eq}
-use Rattle.tlsf_syntax.specs.Expressions.{Level, operator_of, prefix_of, window_of, big_of, bound_of, Derives, of_number, of_true, of_false, of_name, of_call, of_index, of_size, of_paren, of_set, of_steps, of_tighter, of_chain, of_once, of_right, of_prefix, of_count, of_window, of_big, DerivesList, of_none, of_last, of_more, DerivesLinks, of_no_link, of_link, DerivesRanges, of_members, of_between, DerivesMoreRanges, of_no_range, of_range}
+use Rattle.tlsf_syntax.specs.declared.level.Level.{Level}
+use Rattle.tlsf_syntax.specs.Expressions.{operator_of, prefix_of, window_of, big_of, bound_of, Derives, of_number, of_true, of_false, of_name, of_call, of_index, of_size, of_paren, of_set, of_steps, of_tighter, of_chain, of_once, of_right, of_prefix, of_count, of_window, of_big, DerivesList, of_none, of_last, of_more, DerivesLinks, of_no_link, of_link, DerivesRanges, of_members, of_between, DerivesMoreRanges, of_no_range, of_range}
 use Rattle.tlsf_syntax.specs.Texts.{IsKind, is_mealy, is_moore, IsStrict, DerivesSemantics, of_kind, of_kind_strict, of_strict_kind, DerivesNames, of_one_name, of_names, DerivesField, of_title, of_description, of_semantics, of_target, of_no_tags, of_tags, DerivesFields, of_no_field, of_field, bits_of, DerivesBits, of_bits, of_more_bits, DerivesPatterns, of_one_pattern, of_patterns, DerivesMembers, of_one_member, of_members as of_more_members, DerivesAlternative, of_guard, of_otherwise, DerivesAlternatives, of_one_alternative, of_alternatives, DerivesBody, of_plain, of_guarded, DerivesDefinition, of_constant, of_function, of_enumeration, of_ended_enumeration, DerivesDefinitions, of_no_definition, of_definition, DerivesParameters, of_no_parameter, of_parameter, DerivesBlocks, of_no_block, of_parameters, of_definitions, DerivesDeclarations, of_no_declaration, of_single, of_bus, of_typed, DerivesFormulas, of_no_formula, of_formula, DerivesParts, of_no_part, of_inputs, of_outputs, of_section, DerivesInfo, of_info, DerivesGlobal, of_no_global, of_global, DerivesMain, of_main, DerivesText, of_text, NoTextIsFinite}
 use Rattle.tlsf_syntax.proofs.Symbols.{is_symbol}
 use Rattle.tlsf_syntax.proofs.Starts.{not_symbol}

@@ -13,7 +13,10 @@ use Rattle.tlsf_tokens.specs.declared.symbol.Symbol.TheVariants as symbol
 use Rattle.tlsf_syntax.specs.Tree.{Tree, Links, tree_span}
 use Rattle.tlsf_syntax.specs.Lexemes.{Lexeme, Is, span_of, end_from}
 use Rattle.tlsf_syntax.specs.Symbols.{symbol_eq}
-use Rattle.tlsf_syntax.specs.Expressions.{Level, primary, products, quotients, sums, differences, meets, unions, comparisons, memberships, prefixes, conjunctions, disjunctions, implications, weak_untils, untils, releases, none, tighter_of, joins_of, operator_of, prefix_of, window_of, big_of, Derives, of_number, of_true, of_false, of_name, of_call, of_index, of_size, of_paren, of_set, of_steps, of_tighter, of_chain, of_once, of_right, of_prefix, of_count, of_window, of_big, DerivesLinks, of_no_link, of_link}
+use Rattle.tlsf_syntax.specs.declared.level.Level.{Level}
+use Rattle.tlsf_syntax.specs.declared.level.Level.TheVariants.{Primary, Products, Quotients, Sums, Differences, Meets, Unions, Comparisons, Memberships, Prefixes, Conjunctions, Disjunctions, Implications, WeakUntils, Untils, Releases}
+use Rattle.tlsf_syntax.specs.declared.level.Joins.TheVariants as joins
+use Rattle.tlsf_syntax.specs.Expressions.{tighter_of, joins_of, operator_of, prefix_of, window_of, big_of, Derives, of_number, of_true, of_false, of_name, of_call, of_index, of_size, of_paren, of_set, of_steps, of_tighter, of_chain, of_once, of_right, of_prefix, of_count, of_window, of_big, DerivesLinks, of_no_link, of_link}
 use Rattle.tlsf_syntax.specs.Texts.{EndsWithName}
 use Rattle.tlsf_syntax.specs.Reading.{begins, level_number, at_level, begins_big, operator_here, links_end, from_to}
 use Rattle.tlsf_syntax.proofs.Symbols.{same_symbol}
@@ -38,26 +41,26 @@ StartsWith p [] = ⊥
 StartsWith p (l ∷ ls) = p l.symbol ≡ true
 
 one_looser : (m : Level) → IfSome (tighter_of m) (λ n. level_number m ≡ suc (level_number n))
-one_looser primary = tt
+one_looser Primary = tt
 one_looser _ = refl
 
 pub tighter_number : (m n : Level) → tighter_of m ≡ Some n → level_number m ≡ suc (level_number n)
 tighter_number m n e = subst (λ o. IfSome o (λ n. level_number m ≡ suc (level_number n))) e (one_looser m)
 
-pub no_tighter : (m : Level) → tighter_of m ≡ None → primary ≡ m
-no_tighter primary e = refl
+pub no_tighter : (m : Level) → tighter_of m ≡ None → Primary ≡ m
+no_tighter Primary e = refl
 no_tighter _ e = absurd cc
 
 levels : List Level
-levels = primary ∷ products ∷ quotients ∷ sums ∷ differences ∷ meets ∷ unions ∷ comparisons ∷ memberships ∷ prefixes ∷ conjunctions ∷ disjunctions ∷ implications ∷ weak_untils ∷ untils ∷ releases ∷ []
+levels = Primary ∷ Products ∷ Quotients ∷ Sums ∷ Differences ∷ Meets ∷ Unions ∷ Comparisons ∷ Memberships ∷ Prefixes ∷ Conjunctions ∷ Disjunctions ∷ Implications ∷ WeakUntils ∷ Untils ∷ Releases ∷ []
 
-level_numbered : (n : Level) → get_or levels (level_number n) primary ≡ n
+level_numbered : (n : Level) → get_or levels (level_number n) Primary ≡ n
 unfolding levels
-level_numbered primary = refl
+level_numbered Primary = refl
 level_numbered _ = refl
 
 pub same_level : (n m : Level) → level_number n ≡ level_number m → n ≡ m
-same_level n m e = sym (level_numbered n) ∙ ap (λ k. get_or levels k primary) e ∙ level_numbered m
+same_level n m e = sym (level_numbered n) ∙ ap (λ k. get_or levels k Primary) e ∙ level_numbered m
 
 -- a tree of a level stands at each looser level
 pub climb : (k : ℕ) (n m : Level) (ls : List Lexeme) (t : Tree) → level_number m ≡ k + level_number n → Derives n ls t → Derives m ls t
@@ -69,9 +72,9 @@ climb (suc k) n m ls t e d = by (λ o f. climb k n o ls t f d) (tighter_of m) re
     by up (Some o) f = let next : level_number m ≡ suc (level_number o) = tighter_number m o f in of_tighter o m ls t f (up o (omega (arith, e, next)))
 
 -- a level that has neither operators nor primaries has the prefixes
-pub prefix_level : (m n : Level) → joins_of m ≡ none → tighter_of m ≡ Some n → level_number n ≤ 8
-prefix_level primary n j e = absurd cc
-prefix_level prefixes n j e = let f : memberships ≡ n = cc in subst (λ k. level_number k ≤ 8) f (omega arith)
+pub prefix_level : (m n : Level) → joins_of m ≡ joins.None → tighter_of m ≡ Some n → level_number n ≤ 8
+prefix_level Primary n j e = absurd cc
+prefix_level Prefixes n j e = let f : Memberships ≡ n = cc in subst (λ k. level_number k ≤ 8) f (omega arith)
 prefix_level _ n j e = absurd cc
 
 -- an expression begins as a primary, with a sign before an operand, or with that of a big operator

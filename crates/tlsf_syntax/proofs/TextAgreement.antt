@@ -7,7 +7,8 @@ use Rattle.tlsf_tokens.specs.declared.symbol.Symbol.TheVariants as symbol
 use Rattle.tlsf_syntax.specs.Tree.{Named, Tree, plain, guarded, Pattern, Member, Definition, parameter, function, enumeration, single, bus, typed, Field, title, description, semantics, target, tags, Block, parameters, definitions, inputs, outputs, section, Written}
 use Rattle.tlsf_syntax.specs.Lexemes.{Lexeme, Is, word_of}
 use Rattle.tlsf_syntax.specs.Symbols.{symbol_eq}
-use Rattle.tlsf_syntax.specs.Expressions.{releases, big_of}
+use Rattle.tlsf_syntax.specs.declared.level.Level.TheVariants.{Releases}
+use Rattle.tlsf_syntax.specs.Expressions.{big_of}
 use Rattle.tlsf_syntax.specs.Texts.{unquoted, bits_of}
 use Rattle.tlsf_syntax.specs.Reading.{Answer, taken, refused, lost, go_on, begins, expect, if_next, from_to, readers}
 use Rattle.tlsf_syntax.specs.TextReading.{names_read, kind_of, is_strict, kinded, expect_strict, expect_kind, semantics_read, target_read, tags_read, field_by, fields_read, Value, goes_on_value, value_read, valued, pattern_read, patterns_read, begins_member, members_read, expression_read, guard_read, alternative_of, alternatives_read, body_read, function_read, definition_read, definitions_read, parameters_read, braced, blocks_read, declaration_read, declarations_read, formulas_read, part_by, parts_read, main_read, after_info, text_read}
@@ -22,7 +23,7 @@ next e F K f g = steady_after ⊥ ⊥ e F K (λ n. n) f g
 expression_then : {B : Type 0} (e : Fork) (depth : ℕ) (K : Tree → List Lexeme → Answer B) → ((t : Tree) → Steady ⊥ e (K t)) → Steady ⊥ e (λ ls. go_on (expression_read false depth ls) K)
 expression_then e depth K g =
     let h : Agreeing e (readers depth) = readers_agree e depth in
-    steady_after ⊥ (Stop e.last false) e (expression_read false depth) K (goes_through e.last) (h.level false releases) g
+    steady_after ⊥ (Stop e.last false) e (expression_read false depth) K (goes_through e.last) (h.level false Releases) g
 
 -- parts until a closing brace
 steady_parts : {A : Type 0} {B : Type 0} (e : Fork) (b : Symbol) (nothing : B) (P : Symbol → List Lexeme → Answer A) (K : A → List Lexeme → Answer B) (G : List Lexeme → Answer B) → Leaves 0 (G [])
@@ -215,7 +216,7 @@ guard_passes : (e : Fork) (depth : ℕ) → is_some (big_of e.last.symbol) ≡ t
 guard_passes e depth b after =
     let h : Agreeing e (readers depth) = readers_agree e depth in
     subst (λ c. Passes ⊥ e.last after (cond c (taken None after) (go_on (expression_read false depth (e.last ∷ after)) (λ t rest. taken (Some t) rest)))) (sym (big_is_no_otherwise e.last.symbol b))
-    (mapped ⊥ e.last after (expression_read false depth (e.last ∷ after)) (λ t. Some t) (h.big_front b releases (omega arith) after))
+    (mapped ⊥ e.last after (expression_read false depth (e.last ∷ after)) (λ t. Some t) (h.big_front b Releases (omega arith) after))
 
 pub record AlternativesAgree (e : Fork) (depth : ℕ) : Type 0 where
   steady : (g : Option Tree) → Steady ⊥ e (alternatives_read depth g)
@@ -228,7 +229,7 @@ alternatives_agree : (e : Fork) (depth : ℕ) → AlternativesAgree e depth
 alternatives_agree e zero = record { steady = λ g. steady_lost ⊥ e }
 alternatives_agree e (suc depth) = let h : AlternativesAgree e depth = alternatives_agree e depth in record {
   steady = λ g. steady_expect ⊥ e symbol.Colon _ (λ _. let r : Agreeing e (readers depth) = readers_agree e depth in
-      steady_go_on ⊥ (Stop e.last true) e (expression_read true depth) _ (r.level true releases)
+      steady_go_on ⊥ (Stop e.last true) e (expression_read true depth) _ (r.level true Releases)
       (λ u. steady_begins ⊥ e symbol.Semicolon _ _ (steady_taken ⊥ e (alternative_of g u ∷ [])) (more_alternatives e depth h g u)) (λ s u after. stopped e depth h g u s.1 after));
 }
   where

@@ -12,7 +12,8 @@ use Rattle.tlsf_tokens.specs.declared.symbol.Symbol.TheVariants as symbol
 use Rattle.tlsf_syntax.specs.Tree.{Named, Tree, Alternative, Body, plain, guarded, Pattern, Member, Definition, parameter, function, enumeration, single, bus, typed, Declaration, Field, title, description, semantics, target, tags, Block, parameters, definitions, Part, inputs, outputs, section, Written}
 use Rattle.tlsf_syntax.specs.Lexemes.{Lexeme, Is, word_of, span_of, end_from}
 use Rattle.tlsf_syntax.specs.Symbols.{symbol_eq}
-use Rattle.tlsf_syntax.specs.Expressions.{releases, Derives}
+use Rattle.tlsf_syntax.specs.declared.level.Level.TheVariants.{Releases}
+use Rattle.tlsf_syntax.specs.Expressions.{Derives}
 use Rattle.tlsf_syntax.specs.Texts.{unquoted, IsKind, is_mealy, is_moore, IsStrict, DerivesSemantics, of_kind, of_kind_strict, of_strict_kind, DerivesNames, of_one_name, of_names, DerivesField, of_title, of_description, of_semantics, of_target, of_no_tags, of_tags, DerivesFields, of_no_field, of_field, bits_of, DerivesBits, of_bits, of_more_bits, DerivesPatterns, of_one_pattern, of_patterns, DerivesMembers, of_one_member, of_members, DerivesAlternative, of_guard, of_otherwise, EndsWithName, BeginsWithParen, DerivesAlternatives, of_one_alternative, of_alternatives, DerivesBody, of_plain, of_guarded, DerivesDefinition, of_constant, of_function, of_enumeration, of_ended_enumeration, DerivesDefinitions, of_no_definition, of_definition, DerivesParameters, of_no_parameter, of_parameter, DerivesBlocks, of_no_block, of_parameters, of_definitions, DerivesDeclarations, of_no_declaration, of_single, of_bus, of_typed, DerivesFormulas, of_no_formula, of_formula, DerivesParts, of_no_part, of_inputs, of_outputs, of_section, DerivesInfo, of_info, DerivesGlobal, of_no_global, of_global, DerivesMain, of_main, DerivesText, of_text}
 use Rattle.tlsf_syntax.specs.Reading.{Answer, taken, refused, lost, go_on, begins, expect, if_next, from_to, readers}
 use Rattle.tlsf_syntax.specs.TextReading.{names_read, kind_of, is_strict, kinded, expect_strict, expect_kind, semantics_read, target_read, tags_read, field_by, fields_read, Value, goes_on_value, value_read, valued, pattern_read, patterns_read, begins_member, members_read, expression_read, guard_read, alternative_of, alternatives_read, body_read, function_read, definition_read, definitions_read, parameters_read, braced, blocks_read, declaration_read, declarations_read, formulas_read, part_by, parts_read, main_read, after_info, text_read}
@@ -74,10 +75,10 @@ reads_cond : {B : Type 0} (D : List Lexeme → B → Type 0) (input : List Lexem
 reads_cond D input true x y h g = h
 reads_cond D input false x y h g = g
 
-expression_reads : (ends : Bool) (depth : ℕ) (ls : List Lexeme) → Reads (Derives releases) ls (expression_read ends depth ls)
-expression_reads ends depth ls = let h : Right (readers depth) = readers_right depth in by (h.level ends releases ls)
+expression_reads : (ends : Bool) (depth : ℕ) (ls : List Lexeme) → Reads (Derives Releases) ls (expression_read ends depth ls)
+expression_reads ends depth ls = let h : Right (readers depth) = readers_right depth in by (h.level ends Releases ls)
   where
-    by : {x : Answer Tree} → Answers (Derives releases) ls x → Reads (Derives releases) ls x
+    by : {x : Answer Tree} → Answers (Derives Releases) ls x → Reads (Derives Releases) ls x
     by (answers_taken t rest q is d u) = reads_taken t rest q is d
     by (answers_refused k o) = reads_refused k o
     by answers_lost = reads_lost
@@ -356,13 +357,13 @@ members_reads (suc depth) ls =
 -- alternatives
 
 pub data IsGuard : List Lexeme → Option Tree → Type 0 where
-  guard_is : (q : List Lexeme) (t : Tree) → Derives releases q t → IsGuard q (Some t)
+  guard_is : (q : List Lexeme) (t : Tree) → Derives Releases q t → IsGuard q (Some t)
   otherwise_is : (l : Lexeme) → Is symbol.Otherwise l → IsGuard (l ∷ []) None
 
 guard_reads : (depth : ℕ) (ls : List Lexeme) → Reads IsGuard ls (guard_read depth ls)
 guard_reads depth ls =
     reads_if_next IsGuard ls symbol.Otherwise ls _ _ (λ l rest e i. reads_taken None rest (l ∷ []) e (otherwise_is l i))
-    (reads_last IsGuard (Derives releases) ls [] ls (expression_read false depth ls) (λ t. Some t) refl (expression_reads false depth ls) (λ q t d. guard_is q t d))
+    (reads_last IsGuard (Derives Releases) ls [] ls (expression_read false depth ls) (λ t. Some t) refl (expression_reads false depth ls) (λ q t d. guard_is q t d))
 
 -- a guard after this value: a name before `(` is always called
 pub record NextGuard (value : List Lexeme) (q : List Lexeme) (g : Option Tree) : Type 0 where
@@ -381,14 +382,14 @@ guard_apart value rest x n (reads_taken g after q is d) = reads_taken g after q 
 guard_apart value rest x n (reads_refused k o) = reads_refused k (record { front = o.front; rest = o.rest; is = o.is; left = o.left; completes = by o.front o.is o.completes })
   where
     by : (front : List Lexeme) → rest ≡ front ++ o.rest → Completes IsGuard front → Completes (NextGuard value) front
-    by [] is c = completes (sign symbol.True ∷ []) (Some ex) (record { guard = guard_is (sign symbol.True ∷ []) ex (example releases); apart = λ both. let no : symbol.True ≡ symbol.OpenParen = both.1 in cc })
+    by [] is c = completes (sign symbol.True ∷ []) (Some ex) (record { guard = guard_is (sign symbol.True ∷ []) ex (example Releases); apart = λ both. let no : symbol.True ≡ symbol.OpenParen = both.1 in cc })
     by (l ∷ front) is c = completes c.more c.value (record { guard = c.derived; apart = λ both. never both.1 both.0 })
       where
         never : Is symbol.OpenParen l → EndsWithName value → ⊥
         never i e = let a : begins symbol.OpenParen rest ≡ true = front_is_paren rest l (front ++ o.rest) is i in let b : begins symbol.OpenParen rest ≡ false = n e in cc
 guard_apart value rest x n reads_lost = reads_lost
 
-alternative_derived : (p : List Lexeme) (g : Option Tree) (colon : Lexeme) (q : List Lexeme) (u : Tree) → IsGuard p g → Is symbol.Colon colon → Derives releases q u → DerivesAlternative (p ++ colon ∷ q) (alternative_of g u)
+alternative_derived : (p : List Lexeme) (g : Option Tree) (colon : Lexeme) (q : List Lexeme) (u : Tree) → IsGuard p g → Is symbol.Colon colon → Derives Releases q u → DerivesAlternative (p ++ colon ∷ q) (alternative_of g u)
 alternative_derived p g colon q u (guard_is r t d) i e = of_guard colon r q t u d i e
 alternative_derived p g colon q u (otherwise_is l o) i e = of_otherwise l colon q u o i e
 
@@ -396,8 +397,8 @@ alternative_derived p g colon q u (otherwise_is l o) i e = of_otherwise l colon 
 guard_front : (q ms : List Lexeme) (g : Option Tree) → IsGuard q g → BeginsWithParen (q ++ ms) → BeginsWithParen q
 guard_front [] ms g (guard_is r t d) b = absurd (starts_somehow t d)
   where
-    starts_somehow : (t : Tree) → Derives releases [] t → ⊥
-    starts_somehow t d = starts_any releases [] t d
+    starts_somehow : (t : Tree) → Derives Releases [] t → ⊥
+    starts_somehow t d = starts_any Releases [] t d
 guard_front (l ∷ q) ms g h b = b
 
 -- what stands after a guard
@@ -405,21 +406,21 @@ abbrev AfterGuard : List Lexeme → List Lexeme → List Alternative → Type 0
 AfterGuard p q others = DerivesAlternatives (p ++ q) others
 
 -- the value of an alternative with what is known of its end
-value_then : {B : Type 0} (D : List Lexeme → B → Type 0) (input p : List Lexeme) (depth : ℕ) (ls : List Lexeme) (k : Tree → List Lexeme → Answer B) → input ≡ p ++ ls → ((q : List Lexeme) (t : Tree) → Derives releases q t → Completes D (p ++ q))
-    → ((t : Tree) (rest q : List Lexeme) → Derives releases q t → (EndsWithName q → begins symbol.OpenParen rest ≡ false) → input ≡ (p ++ q) ++ rest → Reads D input (k t rest)) → Reads D input (go_on (expression_read true depth ls) k)
+value_then : {B : Type 0} (D : List Lexeme → B → Type 0) (input p : List Lexeme) (depth : ℕ) (ls : List Lexeme) (k : Tree → List Lexeme → Answer B) → input ≡ p ++ ls → ((q : List Lexeme) (t : Tree) → Derives Releases q t → Completes D (p ++ q))
+    → ((t : Tree) (rest q : List Lexeme) → Derives Releases q t → (EndsWithName q → begins symbol.OpenParen rest ≡ false) → input ≡ (p ++ q) ++ rest → Reads D input (k t rest)) → Reads D input (go_on (expression_read true depth ls) k)
 value_then D input p depth ls k e f g =
-    let h : Right (readers depth) = readers_right depth in by (h.level true releases ls)
+    let h : Right (readers depth) = readers_right depth in by (h.level true Releases ls)
   where
-    by : {x : Answer Tree} → Answers (Derives releases) ls x → Reads D input (go_on x k)
+    by : {x : Answer Tree} → Answers (Derives Releases) ls x → Reads D input (go_on x k)
     by (answers_taken t rest q is d u) = g t rest q d u (joined_front input p ls q rest e is)
-    by (answers_refused j o) = reads_refused j (lift D (Derives releases) input p ls j e f o)
+    by (answers_refused j o) = reads_refused j (lift D (Derives Releases) input p ls j e f o)
     by answers_lost = reads_lost
 
 alternatives_reads : (depth : ℕ) (g : Option Tree) (p : List Lexeme) → IsGuard p g → (ls : List Lexeme) → Reads (AfterGuard p) ls (alternatives_read depth g ls)
 alternatives_reads zero g p h ls = reads_lost
 alternatives_reads (suc depth) g p h ls =
     reads_expect (AfterGuard p) ls [] symbol.Colon ls _ refl
-    (cut (AfterGuard p) [] (sign symbol.Colon ∷ sign symbol.True ∷ []) (sign symbol.Colon ∷ sign symbol.True ∷ []) refl (one (sign symbol.Colon) (sign symbol.True ∷ []) ex refl (example releases))) (λ colon inner e i at.
+    (cut (AfterGuard p) [] (sign symbol.Colon ∷ sign symbol.True ∷ []) (sign symbol.Colon ∷ sign symbol.True ∷ []) refl (one (sign symbol.Colon) (sign symbol.True ∷ []) ex refl (example Releases))) (λ colon inner e i at.
     value_then (AfterGuard p) ls (colon ∷ []) depth inner _ at (λ q u d. one colon q u i d) (λ u rest q d n is.
     reads_cond (AfterGuard p) ls (begins symbol.Semicolon rest) _ _ (reads_taken (alternative_of g u ∷ []) rest (colon ∷ q) is (of_one_alternative (p ++ colon ∷ q) (alternative_of g u) (alternative_derived p g colon q u h i d)))
     (reads_part (AfterGuard p) (NextGuard q) ls (colon ∷ q) rest (guard_read depth rest) _ is (guard_apart q rest (guard_read depth rest) n (guard_reads depth rest))
@@ -427,17 +428,17 @@ alternatives_reads (suc depth) g p h ls =
     reads_last (AfterGuard p) (AfterGuard o) ls (colon ∷ q ++ o) colon_at (alternatives_read depth k colon_at) (λ others. alternative_of g u ∷ others) is3 (alternatives_reads depth k o c.guard colon_at)
     (λ r others b. joined colon q u i d o k c r others b)))))
   where
-    joined : (colon : Lexeme) (q : List Lexeme) (u : Tree) → Is symbol.Colon colon → Derives releases q u → (o : List Lexeme) (k : Option Tree) → NextGuard q o k → (r : List Lexeme) (others : List Alternative) → DerivesAlternatives (o ++ r) others
+    joined : (colon : Lexeme) (q : List Lexeme) (u : Tree) → Is symbol.Colon colon → Derives Releases q u → (o : List Lexeme) (k : Option Tree) → NextGuard q o k → (r : List Lexeme) (others : List Alternative) → DerivesAlternatives (o ++ r) others
         → DerivesAlternatives (p ++ (colon ∷ q ++ o ++ r)) (alternative_of g u ∷ others)
     joined colon q u i d o k c r others b =
         subst (λ x. DerivesAlternatives x (alternative_of g u ∷ others)) (append_assoc p (colon ∷ q) (o ++ r) ∙ ap (λ x. p ++ x) (sym (append_assoc (colon ∷ q) o r)))
         (of_alternatives (p ++ colon ∷ q) (o ++ r) (alternative_of g u) others (alternative_derived p g colon q u h i d) b (λ both. c.apart (after_sign p colon q symbol.Colon i refl both.0, guard_front o r k c.guard both.1)))
 
-    one : (colon : Lexeme) (q : List Lexeme) (u : Tree) → Is symbol.Colon colon → Derives releases q u → Completes (AfterGuard p) (colon ∷ q)
+    one : (colon : Lexeme) (q : List Lexeme) (u : Tree) → Is symbol.Colon colon → Derives Releases q u → Completes (AfterGuard p) (colon ∷ q)
     one colon q u i d = full (AfterGuard p) (colon ∷ q) (alternative_of g u ∷ []) (of_one_alternative (p ++ colon ∷ q) (alternative_of g u) (alternative_derived p g colon q u h i d))
 
-    two : (colon : Lexeme) (q : List Lexeme) (u : Tree) → Is symbol.Colon colon → Derives releases q u → (o : List Lexeme) (k : Option Tree) → NextGuard q o k → Completes (AfterGuard p) (colon ∷ q ++ o)
-    two colon q u i d o k c = completes (sign symbol.Colon ∷ sign symbol.True ∷ []) (alternative_of g u ∷ alternative_of k ex ∷ []) (joined colon q u i d o k c (sign symbol.Colon ∷ sign symbol.True ∷ []) (alternative_of k ex ∷ []) (of_one_alternative (o ++ sign symbol.Colon ∷ sign symbol.True ∷ []) (alternative_of k ex) (alternative_derived o k (sign symbol.Colon) (sign symbol.True ∷ []) ex c.guard refl (example releases))))
+    two : (colon : Lexeme) (q : List Lexeme) (u : Tree) → Is symbol.Colon colon → Derives Releases q u → (o : List Lexeme) (k : Option Tree) → NextGuard q o k → Completes (AfterGuard p) (colon ∷ q ++ o)
+    two colon q u i d o k c = completes (sign symbol.Colon ∷ sign symbol.True ∷ []) (alternative_of g u ∷ alternative_of k ex ∷ []) (joined colon q u i d o k c (sign symbol.Colon ∷ sign symbol.True ∷ []) (alternative_of k ex ∷ []) (of_one_alternative (o ++ sign symbol.Colon ∷ sign symbol.True ∷ []) (alternative_of k ex) (alternative_derived o k (sign symbol.Colon) (sign symbol.True ∷ []) ex c.guard refl (example Releases))))
 
 guarded_reads : (depth : ℕ) (g : Option Tree) (p : List Lexeme) → IsGuard p g → (input ls : List Lexeme) → input ≡ p ++ ls → Reads DerivesBody input (go_on (alternatives_read depth g ls) (λ others after. taken (guarded others) after))
 guarded_reads depth g p h input ls is =
@@ -446,7 +447,7 @@ guarded_reads depth g p h input ls is =
 body_reads : (depth : ℕ) (ls : List Lexeme) → Reads DerivesBody ls (body_read depth ls)
 body_reads depth ls =
     reads_if_next DerivesBody ls symbol.Otherwise ls _ _ (λ l rest e i. guarded_reads depth None (l ∷ []) (otherwise_is l i) ls rest e)
-    (reads_part DerivesBody (Derives releases) ls [] ls (expression_read false depth ls) _ refl (expression_reads false depth ls) (λ q t d. full DerivesBody q (plain t) (of_plain q t d)) (λ t rest q d e is.
+    (reads_part DerivesBody (Derives Releases) ls [] ls (expression_read false depth ls) _ refl (expression_reads false depth ls) (λ q t d. full DerivesBody q (plain t) (of_plain q t d)) (λ t rest q d e is.
     reads_cond DerivesBody ls (begins symbol.Colon rest) _ _ (guarded_reads depth (Some t) q (guard_is q t d) ls rest is) (reads_taken (plain t) rest q is (of_plain q t d))))
 
 -- definitions
@@ -458,7 +459,7 @@ function_reads : (depth : ℕ) (w : Named) (arguments : List Named) (input p ls 
 function_reads depth w arguments input p ls is make =
     reads_expect DerivesDefinition input p symbol.Assign ls _ is
     (cut DerivesDefinition p (sign symbol.Assign ∷ sign symbol.True ∷ []) (p ++ sign symbol.Assign ∷ sign symbol.True ∷ []) refl
-    (ends (sign symbol.Assign) (sign symbol.True ∷ []) (plain ex) refl (of_plain (sign symbol.True ∷ []) ex (example releases)))) (λ a inner e i at.
+    (ends (sign symbol.Assign) (sign symbol.True ∷ []) (plain ex) refl (of_plain (sign symbol.True ∷ []) ex (example Releases)))) (λ a inner e i at.
     reads_after DerivesDefinition DerivesBody input p ls a inner (body_read depth inner) _ is e (body_reads depth inner) (λ q b d. ends a q b i d) (λ b rest q d e2 is2.
     reads_expect DerivesDefinition input (p ++ a ∷ q) symbol.Semicolon rest _ is2 (ends a q b i d) (λ s after e3 i3 at3. reads_taken (function w arguments b) after (p ++ a ∷ q ++ s ∷ []) at3 (make a q s b i d i3))))
   where
@@ -466,7 +467,7 @@ function_reads depth w arguments input p ls is make =
     ends a q b i d = completes (sign symbol.Semicolon ∷ []) (function w arguments b) (make a q (sign symbol.Semicolon) b i d refl)
 
 constant_begins : (l : Lexeme) → Is symbol.Ident l → Completes DerivesDefinition (l ∷ [])
-constant_begins l i = completes (sign symbol.Assign ∷ sign symbol.True ∷ sign symbol.Semicolon ∷ []) (function (word_of l) [] (plain ex)) (of_constant l (sign symbol.Assign) (sign symbol.Semicolon) (sign symbol.True ∷ []) (plain ex) i refl (of_plain (sign symbol.True ∷ []) ex (example releases)) refl)
+constant_begins l i = completes (sign symbol.Assign ∷ sign symbol.True ∷ sign symbol.Semicolon ∷ []) (function (word_of l) [] (plain ex)) (of_constant l (sign symbol.Assign) (sign symbol.Semicolon) (sign symbol.True ∷ []) (plain ex) i refl (of_plain (sign symbol.True ∷ []) ex (example Releases)) refl)
 
 -- the arguments of a function, and what stands after them
 arguments_end : (l before after : Lexeme) (q : List Lexeme) (ws : List Named) → Is symbol.Ident l → Is symbol.OpenParen before → DerivesNames q ws → Is symbol.CloseParen after
@@ -475,7 +476,7 @@ arguments_end l before after q ws e f d g a r s b i h j =
     subst (λ x. DerivesDefinition (x ++ s ∷ []) (function (word_of l) ws b)) (sym (append_assoc (l ∷ before ∷ q) (after ∷ []) (a ∷ r))) (of_function l before after a s q r ws b e f d g i h j)
 
 arguments_begin : (l before : Lexeme) (q : List Lexeme) (ws : List Named) → Is symbol.Ident l → Is symbol.OpenParen before → DerivesNames q ws → Completes DerivesDefinition (l ∷ before ∷ q)
-arguments_begin l before q ws e f d = completes (sign symbol.CloseParen ∷ sign symbol.Assign ∷ sign symbol.True ∷ sign symbol.Semicolon ∷ []) (function (word_of l) ws (plain ex)) (subst (λ x. DerivesDefinition x (function (word_of l) ws (plain ex))) (append_assoc (l ∷ before ∷ q) (sign symbol.CloseParen ∷ sign symbol.Assign ∷ sign symbol.True ∷ []) (sign symbol.Semicolon ∷ [])) (of_function l before (sign symbol.CloseParen) (sign symbol.Assign) (sign symbol.Semicolon) q (sign symbol.True ∷ []) ws (plain ex) e f d refl refl (of_plain (sign symbol.True ∷ []) ex (example releases)) refl))
+arguments_begin l before q ws e f d = completes (sign symbol.CloseParen ∷ sign symbol.Assign ∷ sign symbol.True ∷ sign symbol.Semicolon ∷ []) (function (word_of l) ws (plain ex)) (subst (λ x. DerivesDefinition x (function (word_of l) ws (plain ex))) (append_assoc (l ∷ before ∷ q) (sign symbol.CloseParen ∷ sign symbol.Assign ∷ sign symbol.True ∷ []) (sign symbol.Semicolon ∷ [])) (of_function l before (sign symbol.CloseParen) (sign symbol.Assign) (sign symbol.Semicolon) q (sign symbol.True ∷ []) ws (plain ex) e f d refl refl (of_plain (sign symbol.True ∷ []) ex (example Releases)) refl))
 
 -- the members of an enumeration
 ex_members : List Member
@@ -516,7 +517,7 @@ definitions_reads (suc depth) ls =
     (λ q d h. completes [] (d ∷ []) (of_definition q [] d [] h of_no_definition))
     (λ d rest q h e is. reads_last DerivesDefinitions DerivesDefinitions ls q rest (definitions_read depth rest) (λ ds. d ∷ ds) is (definitions_reads depth rest) (λ o ds c. of_definition q o d ds h c)))
 
-parameter_ends : (l a : Lexeme) (q : List Lexeme) (t : Tree) → Is symbol.Ident l → Is symbol.Assign a → Derives releases q t → Completes DerivesParameters (l ∷ a ∷ q)
+parameter_ends : (l a : Lexeme) (q : List Lexeme) (t : Tree) → Is symbol.Ident l → Is symbol.Assign a → Derives Releases q t → Completes DerivesParameters (l ∷ a ∷ q)
 parameter_ends l a q t e f d = completes (sign symbol.Semicolon ∷ []) (parameter (word_of l) t ∷ []) (of_parameter l a (sign symbol.Semicolon) q [] t [] e f d refl of_no_parameter)
 
 parameters_reads : (depth : ℕ) (ls : List Lexeme) → Reads DerivesParameters ls (parameters_read depth ls)
@@ -525,8 +526,8 @@ parameters_reads (suc depth) ls =
     reads_cond DerivesParameters ls (begins symbol.CloseBrace ls) _ _ (reads_taken [] ls [] refl of_no_parameter)
     (reads_expect DerivesParameters ls [] symbol.Ident ls _ refl (full DerivesParameters [] [] of_no_parameter) (λ l sign_at e1 i1 at1.
     reads_expect DerivesParameters ls (l ∷ []) symbol.Assign sign_at _ at1
-    (cut DerivesParameters (l ∷ []) (sign symbol.Assign ∷ sign symbol.True ∷ []) (l ∷ sign symbol.Assign ∷ sign symbol.True ∷ []) refl (parameter_ends l (sign symbol.Assign) (sign symbol.True ∷ []) ex i1 refl (example releases))) (λ a inner e2 i2 at2.
-    reads_part DerivesParameters (Derives releases) ls (l ∷ a ∷ []) inner (expression_read false depth inner) _ at2 (expression_reads false depth inner) (λ q t d. parameter_ends l a q t i1 i2 d) (λ t rest q d e3 is.
+    (cut DerivesParameters (l ∷ []) (sign symbol.Assign ∷ sign symbol.True ∷ []) (l ∷ sign symbol.Assign ∷ sign symbol.True ∷ []) refl (parameter_ends l (sign symbol.Assign) (sign symbol.True ∷ []) ex i1 refl (example Releases))) (λ a inner e2 i2 at2.
+    reads_part DerivesParameters (Derives Releases) ls (l ∷ a ∷ []) inner (expression_read false depth inner) _ at2 (expression_reads false depth inner) (λ q t d. parameter_ends l a q t i1 i2 d) (λ t rest q d e3 is.
     reads_expect DerivesParameters ls (l ∷ a ∷ q) symbol.Semicolon rest _ is (parameter_ends l a q t i1 i2 d) (λ s after e4 i4 at4.
     reads_last_after DerivesParameters DerivesParameters ls (l ∷ a ∷ q) rest s after (parameters_read depth after) (λ ds. parameter (word_of l) t ∷ ds) is e4 (parameters_reads depth after) (λ o ds c. of_parameter l a s q o t ds i1 i2 d i4 c))))))
 
@@ -575,7 +576,7 @@ pub record IsDeclaration (q : List Lexeme) (d : Declaration) : Type 0 where
 single_is : (l s : Lexeme) → Is symbol.Ident l → Is symbol.Semicolon s → IsDeclaration (l ∷ s ∷ []) (record { word = word_of l; shape = single })
 single_is l s e f = record { before = λ ms ds d. of_single l s ms ds e f d }
 
-bus_is : (l before last s : Lexeme) (q : List Lexeme) (t : Tree) → Is symbol.Ident l → Is symbol.OpenBracket before → Derives releases q t → Is symbol.CloseBracket last → Is symbol.Semicolon s
+bus_is : (l before last s : Lexeme) (q : List Lexeme) (t : Tree) → Is symbol.Ident l → Is symbol.OpenBracket before → Derives Releases q t → Is symbol.CloseBracket last → Is symbol.Semicolon s
     → IsDeclaration (l ∷ before ∷ q ++ last ∷ s ∷ []) (record { word = word_of l; shape = bus t })
 bus_is l before last s q t e f d g h = record {
   before = λ ms ds c. subst (λ x. DerivesDeclarations x (record { word = word_of l; shape = bus t } ∷ ds)) (sym (append_assoc (l ∷ before ∷ q) (last ∷ s ∷ []) ms)) (of_bus l before last s q ms t ds e f d g h c);
@@ -587,10 +588,10 @@ typed_is t l s e f g = record { before = λ ms ds d. of_typed t l s ms ds e f g 
 declaration_begins : (l : Lexeme) → Is symbol.Ident l → Completes IsDeclaration (l ∷ [])
 declaration_begins l e = completes (sign symbol.Semicolon ∷ []) (record { word = word_of l; shape = single }) (single_is l (sign symbol.Semicolon) e refl)
 
-bus_ends : (l before : Lexeme) (q : List Lexeme) (t : Tree) → Is symbol.Ident l → Is symbol.OpenBracket before → Derives releases q t → Completes IsDeclaration (l ∷ before ∷ q)
+bus_ends : (l before : Lexeme) (q : List Lexeme) (t : Tree) → Is symbol.Ident l → Is symbol.OpenBracket before → Derives Releases q t → Completes IsDeclaration (l ∷ before ∷ q)
 bus_ends l before q t e f d = completes (sign symbol.CloseBracket ∷ sign symbol.Semicolon ∷ []) (record { word = word_of l; shape = bus t }) (bus_is l before (sign symbol.CloseBracket) (sign symbol.Semicolon) q t e f d refl refl)
 
-bus_closed : (l before last : Lexeme) (q : List Lexeme) (t : Tree) → Is symbol.Ident l → Is symbol.OpenBracket before → Derives releases q t → Is symbol.CloseBracket last → Completes IsDeclaration (l ∷ before ∷ q ++ last ∷ [])
+bus_closed : (l before last : Lexeme) (q : List Lexeme) (t : Tree) → Is symbol.Ident l → Is symbol.OpenBracket before → Derives Releases q t → Is symbol.CloseBracket last → Completes IsDeclaration (l ∷ before ∷ q ++ last ∷ [])
 bus_closed l before last q t e f d g = completes (sign symbol.Semicolon ∷ []) (record { word = word_of l; shape = bus t }) (subst (λ x. IsDeclaration x (record { word = word_of l; shape = bus t })) (sym (append_assoc (l ∷ before ∷ q) (last ∷ []) (sign symbol.Semicolon ∷ []))) (bus_is l before last (sign symbol.Semicolon) q t e f d g refl))
 
 declaration_reads : (depth : ℕ) (ls : List Lexeme) → Reads IsDeclaration ls (declaration_read depth ls)
@@ -598,7 +599,7 @@ declaration_reads depth ls =
     reads_expect IsDeclaration ls [] symbol.Ident ls _ refl (cut IsDeclaration [] (sign symbol.Ident ∷ []) (sign symbol.Ident ∷ []) refl (declaration_begins (sign symbol.Ident) refl)) (λ l after_word e1 i1 at.
     reads_if_next IsDeclaration ls symbol.Semicolon after_word _ _ (λ s after e2 i2. reads_taken (record { word = word_of l; shape = single }) after (l ∷ s ∷ []) (at ∙ ap (λ x. l ∷ x) e2) (single_is l s i1 i2))
     (reads_if_next IsDeclaration ls symbol.OpenBracket after_word _ _ (λ before inner e2 i2.
-    reads_after IsDeclaration (Derives releases) ls (l ∷ []) after_word before inner (expression_read false depth inner) _ at e2 (expression_reads false depth inner) (λ q t d. bus_ends l before q t i1 i2 d) (λ t rest q d e3 is.
+    reads_after IsDeclaration (Derives Releases) ls (l ∷ []) after_word before inner (expression_read false depth inner) _ at e2 (expression_reads false depth inner) (λ q t d. bus_ends l before q t i1 i2 d) (λ t rest q d e3 is.
     reads_expect IsDeclaration ls (l ∷ before ∷ q) symbol.CloseBracket rest _ is (bus_ends l before q t i1 i2 d) (λ last semicolon_at e4 i4 at4.
     reads_expect IsDeclaration ls (l ∷ before ∷ q ++ last ∷ []) symbol.Semicolon semicolon_at _ at4 (bus_closed l before last q t i1 i2 d i4) (λ s after e5 i5 at5.
     reads_taken (record { word = word_of l; shape = bus t }) after (l ∷ before ∷ q ++ last ∷ s ∷ []) (at5 ∙ ap (λ x. x ++ after) (append_assoc (l ∷ before ∷ q) (last ∷ []) (s ∷ []))) (bus_is l before last s q t i1 i2 d i4 i5)))))
@@ -615,14 +616,14 @@ declarations_reads (suc depth) ls =
     (λ q d h. completes [] (d ∷ []) (h.before [] [] of_no_declaration))
     (λ d rest q h e is. reads_last DerivesDeclarations DerivesDeclarations ls q rest (declarations_read depth rest) (λ ds. d ∷ ds) is (declarations_reads depth rest) (λ o ds c. h.before o ds c)))
 
-formula_ends : (q : List Lexeme) (t : Tree) → Derives releases q t → Completes DerivesFormulas q
+formula_ends : (q : List Lexeme) (t : Tree) → Derives Releases q t → Completes DerivesFormulas q
 formula_ends q t d = completes (sign symbol.Semicolon ∷ []) (t ∷ []) (of_formula (sign symbol.Semicolon) q [] t [] d refl of_no_formula)
 
 formulas_reads : (depth : ℕ) (ls : List Lexeme) → Reads DerivesFormulas ls (formulas_read depth ls)
 formulas_reads zero ls = reads_lost
 formulas_reads (suc depth) ls =
     reads_cond DerivesFormulas ls (begins symbol.CloseBrace ls) _ _ (reads_taken [] ls [] refl of_no_formula)
-    (reads_part DerivesFormulas (Derives releases) ls [] ls (expression_read false depth ls) _ refl (expression_reads false depth ls) (λ q t d. formula_ends q t d) (λ t rest q d e is.
+    (reads_part DerivesFormulas (Derives Releases) ls [] ls (expression_read false depth ls) _ refl (expression_reads false depth ls) (λ q t d. formula_ends q t d) (λ t rest q d e is.
     reads_expect DerivesFormulas ls q symbol.Semicolon rest _ is (formula_ends q t d) (λ s after e2 i2 at2.
     reads_last_after DerivesFormulas DerivesFormulas ls q rest s after (formulas_read depth after) (λ ts. t ∷ ts) is e2 (formulas_reads depth after) (λ o ts c. of_formula s q o t ts d i2 c))))
 

@@ -12,7 +12,9 @@ use Rattle.tlsf_tokens.specs.declared.symbol.Symbol.TheVariants as symbol
 use Rattle.tlsf_syntax.specs.Tree.{Named, Tree, Alternative, Body, plain, guarded, Pattern, Member, Definition, parameter, function, enumeration, single, typed, Declaration, Field, semantics, Block, Part, Written}
 use Rattle.tlsf_syntax.specs.Lexemes.{Lexeme, Is, word_of, span_of, end_from}
 use Rattle.tlsf_syntax.specs.Symbols.{symbol_eq}
-use Rattle.tlsf_syntax.specs.Expressions.{Level, releases, operator_of, prefix_of, Derives}
+use Rattle.tlsf_syntax.specs.declared.level.Level.{Level}
+use Rattle.tlsf_syntax.specs.declared.level.Level.TheVariants.{Releases}
+use Rattle.tlsf_syntax.specs.Expressions.{operator_of, prefix_of, Derives}
 use Rattle.tlsf_syntax.specs.Texts.{IsKind, is_mealy, is_moore, IsStrict, DerivesSemantics, of_kind, of_kind_strict, of_strict_kind, DerivesNames, of_one_name, of_names, DerivesField, of_title, of_description, of_semantics, of_target, of_no_tags, of_tags, DerivesFields, of_no_field, of_field, bits_of, DerivesBits, of_bits, of_more_bits, DerivesPatterns, of_one_pattern, of_patterns, DerivesMembers, of_one_member, of_members, DerivesAlternative, of_guard, of_otherwise, EndsWithName, BeginsWithParen, DerivesAlternatives, of_one_alternative, of_alternatives, DerivesBody, of_plain, of_guarded, DerivesDefinition, of_constant, of_function, of_enumeration, of_ended_enumeration, DerivesDefinitions, of_no_definition, of_definition, DerivesParameters, of_no_parameter, of_parameter, DerivesBlocks, of_no_block, of_parameters, of_definitions, DerivesDeclarations, of_no_declaration, of_single, of_bus, of_typed, DerivesFormulas, of_no_formula, of_formula, DerivesParts, of_no_part, of_inputs, of_outputs, of_section, DerivesInfo, of_info, DerivesGlobal, of_no_global, of_global, DerivesMain, of_main, DerivesText, of_text}
 use Rattle.tlsf_syntax.specs.Reading.{taken, go_on, begins, if_next, at_level, begins_big, operator_here, from_to}
 use Rattle.tlsf_syntax.specs.TextReading.{names_read, named_kind, kind_of, is_strict, semantics_read, is_field, field_by, fields_read, goes_on_value, value_read, pattern_read, patterns_read, begins_member, members_read, expression_read, guard_read, alternative_of, alternatives_read, body_read, function_read, definition_read, definitions_read, parameters_read, braced, blocks_read, declarations_read, formulas_read, parts_read, main_read, after_info, text_read}
@@ -21,8 +23,8 @@ use Rattle.tlsf_syntax.proofs.Starts.{Head, by_primary, by_prefix, by_big, head,
 use Rattle.tlsf_syntax.proofs.Reading.{Eventually, eventually, same_input, level_reads, test, StartsWith-append}
 
 -- an expression before a sign that ends it
-expression_before : (ls : List Lexeme) (t : Tree) (l : Lexeme) (rest : List Lexeme) → Derives releases ls t → Ends l → Eventually (expression_read false) (ls ++ l ∷ rest) t (l ∷ rest)
-expression_before ls t l rest d e = (level_reads releases ls t d false (l ∷ rest) (ends_follow releases ls l rest e))
+expression_before : (ls : List Lexeme) (t : Tree) (l : Lexeme) (rest : List Lexeme) → Derives Releases ls t → Ends l → Eventually (expression_read false) (ls ++ l ∷ rest) t (l ∷ rest)
+expression_before ls t l rest d e = (level_reads Releases ls t d false (l ∷ rest) (ends_follow Releases ls l rest e))
 
 -- names
 
@@ -292,9 +294,9 @@ record MayFollow (input : List Lexeme) (ms : List Lexeme) : Type 0 where
 
 alternative_follows : (ms : List Lexeme) (a : Alternative) → DerivesAlternative ms a → (rest : List Lexeme) → MayFollow (ms ++ rest) ms
 alternative_follows ms a (of_guard colon gs vs t u d e d2) rest =
-    let s : StartsWith begins_any (gs ++ colon ∷ vs) = StartsWith-append begins_any gs (colon ∷ vs) (starts_any releases gs t d) in
+    let s : StartsWith begins_any (gs ++ colon ∷ vs) = StartsWith-append begins_any gs (colon ∷ vs) (starts_any Releases gs t d) in
     record {
-      operators = head_ends releases ((gs ++ colon ∷ vs) ++ rest) (subst (Head releases) (sym (append_assoc gs (colon ∷ vs) rest)) (head releases gs t d ((colon ∷ vs) ++ rest)));
+      operators = head_ends Releases ((gs ++ colon ∷ vs) ++ rest) (subst (Head Releases) (sym (append_assoc gs (colon ∷ vs) rest)) (head Releases gs t d ((colon ∷ vs) ++ rest)));
       bracket = begins_of begins_any (gs ++ colon ∷ vs) rest symbol.OpenBracket s refl;
       paren = begins_paren (gs ++ colon ∷ vs) rest s;
       semicolon = begins_of begins_any (gs ++ colon ∷ vs) rest symbol.Semicolon s refl;
@@ -323,25 +325,25 @@ alternatives_follow ms others (of_alternatives ns ks a more d ds apart) rest =
     paren_of (l ∷ ns) ks p = p
 
 -- the value of the last alternative, and of one before others
-last_value : (vs : List Lexeme) (u : Tree) → Derives releases vs u → (g : Option Tree) (colon semicolon : Lexeme) (rest : List Lexeme) → Is symbol.Colon colon → Is symbol.Semicolon semicolon
+last_value : (vs : List Lexeme) (u : Tree) → Derives Releases vs u → (g : Option Tree) (colon semicolon : Lexeme) (rest : List Lexeme) → Is symbol.Colon colon → Is symbol.Semicolon semicolon
     → Eventually (λ depth. alternatives_read depth g) (colon ∷ (vs ++ semicolon ∷ rest)) (alternative_of g u ∷ []) (semicolon ∷ rest)
 last_value vs u d g colon semicolon rest e h =
     let n : Ends semicolon = ends_of symbol.Semicolon semicolon h refl refl refl in
-    let f : Follows true releases vs (semicolon ∷ rest) = record {
+    let f : Follows true Releases vs (semicolon ∷ rest) = record {
       operators = λ k low. unless (begins_big (semicolon ∷ rest)) (at_level k (operator_of semicolon.symbol)) (ap (at_level k) n.operator);
       bracket = n.bracket;
       call = λ _. n.paren;
     } in
-    let a : Eventually (expression_read true) (vs ++ semicolon ∷ rest) u (semicolon ∷ rest) = level_reads releases vs u d true (semicolon ∷ rest) f in
+    let a : Eventually (expression_read true) (vs ++ semicolon ∷ rest) u (semicolon ∷ rest) = level_reads Releases vs u d true (semicolon ∷ rest) f in
     eventually (λ depth. alternatives_read depth g) (colon ∷ (vs ++ semicolon ∷ rest)) (alternative_of g u ∷ []) (semicolon ∷ rest) a.from (λ depth low.
     rw (e, a.reads depth low, h) refl)
 
-value_before : (vs : List Lexeme) (u : Tree) → Derives releases vs u → (g : Option Tree) (colon : Lexeme) (input ms : List Lexeme) (others : List Alternative) (rest : List Lexeme) → Is symbol.Colon colon
+value_before : (vs : List Lexeme) (u : Tree) → Derives Releases vs u → (g : Option Tree) (colon : Lexeme) (input ms : List Lexeme) (others : List Alternative) (rest : List Lexeme) → Is symbol.Colon colon
     → (EndsWithName vs → BeginsWithParen ms → ⊥) → MayFollow input ms → Alternatives input others rest
     → Eventually (λ depth. alternatives_read depth g) (colon ∷ (vs ++ input)) (alternative_of g u ∷ others) rest
 value_before vs u d g colon input ms others rest e apart f next =
     let a : Eventually (expression_read true) (vs ++ input) u input =
-    (level_reads releases vs u d true input (record { operators = λ k low. f.operators k; bracket = f.bracket; call = λ n. f.paren (apart n) })) in
+    (level_reads Releases vs u d true input (record { operators = λ k low. f.operators k; bracket = f.bracket; call = λ n. f.paren (apart n) })) in
     let b : Eventually guard_read input next.guard next.middle = guard_is_read input next.guard next.middle next.first in
     let c : Eventually (λ depth. alternatives_read depth next.guard) next.middle others rest = next.reads in
     eventually (λ depth. alternatives_read depth g) (colon ∷ (vs ++ input)) (alternative_of g u ∷ others) rest (a.from + b.from + c.from) (λ depth low.
@@ -357,7 +359,7 @@ alternatives_are_read ls others (of_one_alternative ms a (of_guard colon gs vs t
   middle = colon ∷ (vs ++ semicolon ∷ rest);
   colon = test colon.symbol symbol.Colon symbol.Colon e;
   first = subst (λ x. First x (Some t) (colon ∷ (vs ++ semicolon ∷ rest))) (sym (append_assoc gs (colon ∷ vs) (semicolon ∷ rest)))
-      (by_guard (gs ++ colon ∷ (vs ++ semicolon ∷ rest)) t (colon ∷ (vs ++ semicolon ∷ rest)) (begins_of begins_any gs (colon ∷ (vs ++ semicolon ∷ rest)) symbol.Otherwise (starts_any releases gs t d) refl)
+      (by_guard (gs ++ colon ∷ (vs ++ semicolon ∷ rest)) t (colon ∷ (vs ++ semicolon ∷ rest)) (begins_of begins_any gs (colon ∷ (vs ++ semicolon ∷ rest)) symbol.Otherwise (starts_any Releases gs t d) refl)
       (expression_before gs t colon (vs ++ semicolon ∷ rest) d (ends_of symbol.Colon colon e refl refl refl)));
   reads = last_value vs u d2 (Some t) colon semicolon rest e h;
 }
@@ -378,7 +380,7 @@ alternatives_are_read ls others (of_alternatives ms ns a more (of_guard colon gs
       first = subst (λ x. First x (Some t) (colon ∷ (vs ++ (ns ++ semicolon ∷ rest))))
           (sym (append_assoc (gs ++ colon ∷ vs) ns (semicolon ∷ rest) ∙ append_assoc gs (colon ∷ vs) (ns ++ semicolon ∷ rest)))
           (by_guard (gs ++ colon ∷ (vs ++ (ns ++ semicolon ∷ rest))) t (colon ∷ (vs ++ (ns ++ semicolon ∷ rest)))
-          (begins_of begins_any gs (colon ∷ (vs ++ (ns ++ semicolon ∷ rest))) symbol.Otherwise (starts_any releases gs t d) refl)
+          (begins_of begins_any gs (colon ∷ (vs ++ (ns ++ semicolon ∷ rest))) symbol.Otherwise (starts_any Releases gs t d) refl)
           (expression_before gs t colon (vs ++ (ns ++ semicolon ∷ rest)) d (ends_of symbol.Colon colon e refl refl refl)));
       reads = value_before vs u d2 (Some t) colon (ns ++ semicolon ∷ rest) ns more (semicolon ∷ rest) e (λ n p. apart (ends-append gs (colon ∷ vs) (ends-append (colon ∷ []) vs n), p)) f next;
     }
@@ -402,7 +404,7 @@ body_is_read ls b (of_plain ms t d) semicolon rest h =
           let x : expression_read false depth (ms ++ semicolon ∷ rest) ≡ taken t (semicolon ∷ rest) = a.reads depth low in
           not_next symbol.Otherwise (ms ++ semicolon ∷ rest) (λ _ inner. go_on (alternatives_read depth None inner) (λ others after. taken (guarded others) after))
           (go_on (expression_read false depth (ms ++ semicolon ∷ rest)) (λ u after. cond (begins symbol.Colon after) (go_on (alternatives_read depth (Some u) after) (λ others last. taken (guarded others) last)) (taken (plain u) after)))
-          (begins_of begins_any ms (semicolon ∷ rest) symbol.Otherwise (starts_any releases ms t d) refl) ∙ (rw (x, h) refl);
+          (begins_of begins_any ms (semicolon ∷ rest) symbol.Otherwise (starts_any Releases ms t d) refl) ∙ (rw (x, h) refl);
     }
 body_is_read ls b (of_guarded ms others d) semicolon rest h =
     let a : Alternatives (ms ++ semicolon ∷ rest) others (semicolon ∷ rest) = alternatives_are_read ms others d semicolon rest h in by_first (ms ++ semicolon ∷ rest) others (semicolon ∷ rest) a.guard a.middle a.first a.colon a.reads
@@ -575,7 +577,7 @@ formulas_are_read ls ts (of_formula semicolon ms ns t more d h hs) last rest e =
     let b : Eventually formulas_read (ns ++ last ∷ rest) more (last ∷ rest) = formulas_are_read ns more hs last rest e in
     same_input formulas_read (ms ++ semicolon ∷ (ns ++ last ∷ rest)) ((ms ++ semicolon ∷ ns) ++ last ∷ rest) (t ∷ more) (last ∷ rest) (append_assoc ms (semicolon ∷ ns) (last ∷ rest))
     (eventually formulas_read (ms ++ semicolon ∷ (ns ++ last ∷ rest)) (t ∷ more) (last ∷ rest) (a.from + b.from) (λ depth low.
-    rw (begins_of begins_any ms (semicolon ∷ (ns ++ last ∷ rest)) symbol.CloseBrace (starts_any releases ms t d) refl, a.reads depth (omega arith), h, b.reads depth (omega arith)) refl))
+    rw (begins_of begins_any ms (semicolon ∷ (ns ++ last ∷ rest)) symbol.CloseBrace (starts_any Releases ms t d) refl, a.reads depth (omega arith), h, b.reads depth (omega arith)) refl))
 
 parts_are_read : (ls : List Lexeme) (ps : List Part) → DerivesParts ls ps → (last : Lexeme) (rest : List Lexeme) → Is symbol.CloseBrace last → Eventually parts_read (ls ++ last ∷ rest) ps (last ∷ rest)
 parts_are_read ls ps of_no_part last rest e =

@@ -10,7 +10,11 @@ use Rattle.tlsf_tokens.specs.declared.symbol.Symbol.TheVariants as symbol
 use Rattle.tlsf_syntax.specs.Tree.{Tree, Trees, Links, Ranges, tree_span, number, truth, named, call, index, size_of, paren, set, steps, chain, pair, prefix, count, window, big, no_trees, tree, no_links, link, no_ranges, members, between}
 use Rattle.tlsf_syntax.specs.Lexemes.{Lexeme, word_of, lexeme_span, literal_of}
 use Rattle.tlsf_syntax.specs.Symbols.{symbol_eq}
-use Rattle.tlsf_syntax.specs.Expressions.{Level, primary, products, quotients, sums, differences, meets, unions, comparisons, memberships, prefixes, conjunctions, disjunctions, implications, weak_untils, untils, releases, Joins, left, once, right, none, tighter_of, joins_of, operator_of, big_of, bound_of, Derives}
+use Rattle.tlsf_syntax.specs.declared.level.Level.{Level}
+use Rattle.tlsf_syntax.specs.declared.level.Level.TheVariants.{Primary, Products, Quotients, Sums, Differences, Meets, Unions, Comparisons, Memberships, Prefixes, Conjunctions, Disjunctions, Implications, WeakUntils, Untils, Releases}
+use Rattle.tlsf_syntax.specs.declared.level.Joins.{Joins}
+use Rattle.tlsf_syntax.specs.declared.level.Joins.TheVariants as joins
+use Rattle.tlsf_syntax.specs.Expressions.{tighter_of, joins_of, operator_of, big_of, bound_of, Derives}
 
 -- what comes of reading
 pub data Answer (A : Type 0) : Type 0 where
@@ -45,22 +49,22 @@ from_to start end = record { start = start; end = end }
 
 -- the level's number, from the tightest on
 abbrev pub level_number : Level → ℕ
-level_number primary = 0
-level_number products = 1
-level_number quotients = 2
-level_number sums = 3
-level_number differences = 4
-level_number meets = 5
-level_number unions = 6
-level_number comparisons = 7
-level_number memberships = 8
-level_number prefixes = 9
-level_number conjunctions = 10
-level_number disjunctions = 11
-level_number implications = 12
-level_number weak_untils = 13
-level_number untils = 14
-level_number releases = 15
+level_number Primary = 0
+level_number Products = 1
+level_number Quotients = 2
+level_number Sums = 3
+level_number Differences = 4
+level_number Meets = 5
+level_number Unions = 6
+level_number Comparisons = 7
+level_number Memberships = 8
+level_number Prefixes = 9
+level_number Conjunctions = 10
+level_number Disjunctions = 11
+level_number Implications = 12
+level_number WeakUntils = 13
+level_number Untils = 14
+level_number Releases = 15
 
 abbrev pub at_level : Level → Option (Level × Op) → Option Op
 at_level m None = None
@@ -106,7 +110,7 @@ joined_by (Some o) t rest f = go_on (f (drop 1 rest)) (λ u after. taken (pair (
 abbrev pub word_with : Readers → Lexeme → List Lexeme → Answer Tree
 word_with r l ls =
     if_next symbol.OpenParen ls (λ _ inner. go_on (r.list inner) (λ ts rest. expect symbol.CloseParen rest (λ last after. taken (call (from_to l.start last.end) (word_of l) ts) after)))
-    (if_next symbol.OpenBracket ls (λ _ inner. go_on (r.level false releases inner) (λ t rest. expect symbol.CloseBracket rest (λ last after. taken (index (from_to l.start last.end) (word_of l) t) after)))
+    (if_next symbol.OpenBracket ls (λ _ inner. go_on (r.level false Releases inner) (λ t rest. expect symbol.CloseBracket rest (λ last after. taken (index (from_to l.start last.end) (word_of l) t) after)))
     (taken (named (lexeme_span l) l.text) ls))
 
 abbrev pub close_set : Lexeme → Trees → List Lexeme → Answer Tree
@@ -114,23 +118,23 @@ close_set l ts rest = expect symbol.CloseBrace rest (λ last after. taken (set (
 
 abbrev pub set_third : Readers → Lexeme → Tree → Tree → List Lexeme → Answer Tree
 set_third r l t u rest =
-    if_next symbol.Dots rest (λ _ inner. go_on (r.level false releases inner) (λ v rest'. expect symbol.CloseBrace rest' (λ last after. taken (steps (from_to l.start last.end) t u v) after)))
+    if_next symbol.Dots rest (λ _ inner. go_on (r.level false Releases inner) (λ v rest'. expect symbol.CloseBrace rest' (λ last after. taken (steps (from_to l.start last.end) t u v) after)))
     (if_next symbol.Comma rest (λ _ inner. go_on (r.list inner) (λ more rest'. close_set l (tree t (tree u more)) rest')) (close_set l (tree t (tree u no_trees)) rest))
 
 abbrev pub set_second : Readers → Lexeme → Tree → List Lexeme → Answer Tree
-set_second r l t rest = if_next symbol.Comma rest (λ _ inner. go_on (r.level false releases inner) (λ u rest'. set_third r l t u rest')) (close_set l (tree t no_trees) rest)
+set_second r l t rest = if_next symbol.Comma rest (λ _ inner. go_on (r.level false Releases inner) (λ u rest'. set_third r l t u rest')) (close_set l (tree t no_trees) rest)
 
 abbrev pub set_with : Readers → Lexeme → List Lexeme → Answer Tree
 set_with r l ls =
-    if_next symbol.CloseBrace ls (λ last after. taken (set (from_to l.start last.end) no_trees) after) (go_on (r.level false releases ls) (λ t rest. set_second r l t rest))
+    if_next symbol.CloseBrace ls (λ last after. taken (set (from_to l.start last.end) no_trees) after) (go_on (r.level false Releases ls) (λ t rest. set_second r l t rest))
 
 abbrev pub primary_by : Readers → Symbol → Lexeme → List Lexeme → Answer Tree
 primary_by r symbol.Number l ls = taken (number (lexeme_span l) (literal_of l.text)) ls
 primary_by r symbol.True l ls = taken (truth (lexeme_span l) true) ls
 primary_by r symbol.False l ls = taken (truth (lexeme_span l) false) ls
 primary_by r symbol.Ident l ls = word_with r l ls
-primary_by r symbol.SizeOf l ls = go_on (r.level false primary ls) (λ t rest. taken (size_of (from_to l.start (tree_span t).end) t) rest)
-primary_by r symbol.OpenParen l ls = go_on (r.level false releases ls) (λ t rest. expect symbol.CloseParen rest (λ last after. taken (paren (from_to l.start last.end) t) after))
+primary_by r symbol.SizeOf l ls = go_on (r.level false Primary ls) (λ t rest. taken (size_of (from_to l.start (tree_span t).end) t) rest)
+primary_by r symbol.OpenParen l ls = go_on (r.level false Releases ls) (λ t rest. expect symbol.CloseParen rest (λ last after. taken (paren (from_to l.start last.end) t) after))
 primary_by r symbol.OpenBrace l ls = set_with r l ls
 primary_by r _ l ls = refused (suc (length ls))
 
@@ -139,20 +143,20 @@ primary_with r [] = refused 0
 primary_with r (l ∷ ls) = primary_by r l.symbol l ls
 
 abbrev pub prefixed : Readers → Bool → Op → Lexeme → List Lexeme → Answer Tree
-prefixed r ends o l ls = go_on (r.level ends prefixes ls) (λ t rest. taken (prefix (from_to l.start (tree_span t).end) o t) rest)
+prefixed r ends o l ls = go_on (r.level ends Prefixes ls) (λ t rest. taken (prefix (from_to l.start (tree_span t).end) o t) rest)
 
 abbrev pub counted : Readers → Bool → Lexeme → List Lexeme → Answer Tree
 counted r ends l ls =
-    go_on (r.level false releases ls) (λ t rest. expect symbol.CloseBracket rest (λ _ inner. go_on (r.level ends prefixes inner) (λ u after. taken (count (from_to l.start (tree_span u).end) t u) after)))
+    go_on (r.level false Releases ls) (λ t rest. expect symbol.CloseBracket rest (λ _ inner. go_on (r.level ends Prefixes inner) (λ u after. taken (count (from_to l.start (tree_span u).end) t u) after)))
 
 abbrev pub windowed : Readers → Bool → Op → Lexeme → List Lexeme → Answer Tree
 windowed r ends o l ls =
-    go_on (r.level false releases ls) (λ t rest. expect symbol.Colon rest (λ _ second. go_on (r.level false releases second) (λ u rest'. expect symbol.CloseBracket rest' (λ _ inner.
-    go_on (r.level ends prefixes inner) (λ v after. taken (window (from_to l.start (tree_span v).end) o t u v) after)))))
+    go_on (r.level false Releases ls) (λ t rest. expect symbol.Colon rest (λ _ second. go_on (r.level false Releases second) (λ u rest'. expect symbol.CloseBracket rest' (λ _ inner.
+    go_on (r.level ends Prefixes inner) (λ v after. taken (window (from_to l.start (tree_span v).end) o t u v) after)))))
 
 abbrev pub big_with : Readers → Bool → Op → Lexeme → List Lexeme → Answer Tree
 big_with r ends o l ls =
-    expect symbol.OpenBracket ls (λ _ inner. go_on (r.ranges inner) (λ rs rest. expect symbol.CloseBracket rest (λ _ body. go_on (r.level ends prefixes body) (λ t after.
+    expect symbol.OpenBracket ls (λ _ inner. go_on (r.ranges inner) (λ rs rest. expect symbol.CloseBracket rest (λ _ body. go_on (r.level ends Prefixes body) (λ t after.
     taken (big (from_to l.start (tree_span t).end) o rs t) after))))
 
 abbrev pub prefix_by : Readers → Bool → Level → Symbol → Lexeme → List Lexeme → Answer Tree
@@ -169,18 +173,18 @@ prefix_with r ends n [] = r.level ends n []
 prefix_with r ends n (l ∷ ls) = prefix_by r ends n l.symbol l ls
 
 abbrev pub level_by : Readers → Bool → Level → Option Level → Joins → List Lexeme → Answer Tree
-level_by r ends m None joins ls = primary_with r ls
-level_by r ends m (Some n) left ls = go_on (r.level ends n ls) (λ t rest. go_on (r.links ends m rest) (λ more after. taken (chain_of t more) after))
-level_by r ends m (Some n) once ls = go_on (r.level ends n ls) (λ t rest. joined_by (operator_here ends m rest) t rest (r.level ends n))
-level_by r ends m (Some n) right ls = go_on (r.level ends n ls) (λ t rest. joined_by (operator_here ends m rest) t rest (r.level ends m))
-level_by r ends m (Some n) none ls = prefix_with r ends n ls
+level_by r ends m None j ls = primary_with r ls
+level_by r ends m (Some n) joins.Left ls = go_on (r.level ends n ls) (λ t rest. go_on (r.links ends m rest) (λ more after. taken (chain_of t more) after))
+level_by r ends m (Some n) joins.Once ls = go_on (r.level ends n ls) (λ t rest. joined_by (operator_here ends m rest) t rest (r.level ends n))
+level_by r ends m (Some n) joins.Right ls = go_on (r.level ends n ls) (λ t rest. joined_by (operator_here ends m rest) t rest (r.level ends m))
+level_by r ends m (Some n) joins.None ls = prefix_with r ends n ls
 
 abbrev pub level_with : Readers → Bool → Level → List Lexeme → Answer Tree
 level_with r ends m ls = level_by r ends m (tighter_of m) (joins_of m) ls
 
 abbrev pub list_with : Readers → List Lexeme → Answer Trees
 list_with r ls =
-    go_on (r.level false releases ls) (λ t rest. if_next symbol.Comma rest (λ _ inner. go_on (r.list inner) (λ more after. taken (tree t more) after)) (taken (tree t no_trees) rest))
+    go_on (r.level false Releases ls) (λ t rest. if_next symbol.Comma rest (λ _ inner. go_on (r.list inner) (λ more after. taken (tree t more) after)) (taken (tree t no_trees) rest))
 
 abbrev pub linked : Readers → Bool → Level → Option Level → Option Op → List Lexeme → Answer Links
 linked r ends m n None ls = taken no_links ls
@@ -203,15 +207,15 @@ bound (l ∷ ls) f = bounded (bound_of l.symbol) f ls
 
 abbrev pub between_with : Readers → List Lexeme → Answer Ranges
 between_with r ls =
-    go_on (r.level false sums ls) (λ low rest. bound rest (λ low_strict named_at. expect symbol.Ident named_at (λ word sign_at. bound sign_at (λ high_strict high_at.
-    go_on (r.level false sums high_at) (λ high rest'. more_ranges r rest' (λ more. between low low_strict (word_of word) high_strict high more))))))
+    go_on (r.level false Sums ls) (λ low rest. bound rest (λ low_strict named_at. expect symbol.Ident named_at (λ word sign_at. bound sign_at (λ high_strict high_at.
+    go_on (r.level false Sums high_at) (λ high rest'. more_ranges r rest' (λ more. between low low_strict (word_of word) high_strict high more))))))
 
 -- a range over the members of a set begins with a name and `IN`
 abbrev pub ranges_with : Readers → List Lexeme → Answer Ranges
 ranges_with r [] = between_with r []
 ranges_with r (l ∷ []) = between_with r (l ∷ [])
 ranges_with r (l ∷ n ∷ ls) =
-    if symbol_eq l.symbol symbol.Ident && symbol_eq n.symbol symbol.In then go_on (r.level false releases ls) (λ t rest. more_ranges r rest (λ more. members (word_of l) t more))
+    if symbol_eq l.symbol symbol.Ident && symbol_eq n.symbol symbol.In then go_on (r.level false Releases ls) (λ t rest. more_ranges r rest (λ more. members (word_of l) t more))
     else between_with r (l ∷ n ∷ ls)
 
 -- readers that are made of readers

@@ -10,7 +10,7 @@ use Rattle.tlsf_tokens.specs.declared.symbol.Symbol.TheVariants as symbol
 use Rattle.tlsf_syntax.specs.Tree.{Named, Tree, Alternative, Body, plain, guarded, Pattern, Member, Definition, parameter, function, enumeration, single, bus, typed, Declaration, Field, title, description, semantics, target, tags, Block, parameters, definitions, Part, inputs, outputs, section, Written}
 use Rattle.tlsf_syntax.specs.Lexemes.{Lexeme, word_of}
 use Rattle.tlsf_syntax.specs.Symbols.{symbol_eq}
-use Rattle.tlsf_syntax.specs.Expressions.{releases}
+use Rattle.tlsf_syntax.specs.declared.level.Level.TheVariants.{Releases}
 use Rattle.tlsf_syntax.specs.Texts.{unquoted, bits_of, DerivesText, IsFirstUnexpected}
 use Rattle.tlsf_syntax.specs.Reading.{Answer, taken, refused, lost, go_on, begins, expect, if_next, from_to, readers}
 
@@ -128,7 +128,7 @@ members_read (suc depth) ls =
 
 -- a whole expression; the truth says that another one may follow
 abbrev pub expression_read : Bool → ℕ → List Lexeme → Answer Tree
-expression_read ends depth ls = (readers depth).level ends releases ls
+expression_read ends depth ls = (readers depth).level ends Releases ls
 
 abbrev pub guard_read : ℕ → List Lexeme → Answer (Option Tree)
 guard_read depth ls = if_next symbol.Otherwise ls (λ _ rest. taken None rest) (go_on (expression_read false depth ls) (λ t rest. taken (Some t) rest))

@@ -7,7 +7,8 @@ use Rattle.tlsf_tokens.specs.declared.symbol.Symbol.{Symbol}
 use Rattle.tlsf_tokens.specs.declared.symbol.Symbol.TheVariants as symbol
 use Rattle.tlsf_syntax.specs.Tree.{Named, Tree, Alternative, Body, plain, guarded, Pattern, Member, Definition, parameter, function, enumeration, single, bus, typed, Declaration, Field, title, description, semantics, target, tags, Block, parameters, definitions, Part, inputs, outputs, section, Written}
 use Rattle.tlsf_syntax.specs.Lexemes.{Lexeme, Is, word_of, span_of}
-use Rattle.tlsf_syntax.specs.Expressions.{Derives, releases}
+use Rattle.tlsf_syntax.specs.declared.level.Level.TheVariants.{Releases}
+use Rattle.tlsf_syntax.specs.Expressions.{Derives}
 
 -- what stands between the quotes of a text
 abbrev pub unquoted : List ℕ → List ℕ
@@ -78,9 +79,9 @@ pub data DerivesMembers : List Lexeme → List Member → Type 0 where
       → DerivesMembers (l ∷ colon ∷ ls ++ ms) (record { word = word_of l; values = ps } ∷ more)
 
 pub data DerivesAlternative : List Lexeme → Alternative → Type 0 where
-  of_guard : (colon : Lexeme) (ls ms : List Lexeme) (t u : Tree) → Derives releases ls t → Is symbol.Colon colon → Derives releases ms u
+  of_guard : (colon : Lexeme) (ls ms : List Lexeme) (t u : Tree) → Derives Releases ls t → Is symbol.Colon colon → Derives Releases ms u
       → DerivesAlternative (ls ++ colon ∷ ms) (record { guard = Some t; value = u })
-  of_otherwise : (l colon : Lexeme) (ms : List Lexeme) (u : Tree) → Is symbol.Otherwise l → Is symbol.Colon colon → Derives releases ms u
+  of_otherwise : (l colon : Lexeme) (ms : List Lexeme) (u : Tree) → Is symbol.Otherwise l → Is symbol.Colon colon → Derives Releases ms u
       → DerivesAlternative (l ∷ colon ∷ ms) (record { guard = None; value = u })
 
 abbrev pub EndsWithName : List Lexeme → Type 0
@@ -99,7 +100,7 @@ pub data DerivesAlternatives : List Lexeme → List Alternative → Type 0 where
       → DerivesAlternatives (ls ++ ms) (a ∷ others)
 
 pub data DerivesBody : List Lexeme → Body → Type 0 where
-  of_plain : (ls : List Lexeme) (t : Tree) → Derives releases ls t → DerivesBody ls (plain t)
+  of_plain : (ls : List Lexeme) (t : Tree) → Derives Releases ls t → DerivesBody ls (plain t)
   of_guarded : (ls : List Lexeme) (others : List Alternative) → DerivesAlternatives ls others → DerivesBody ls (guarded others)
 
 pub data DerivesDefinition : List Lexeme → Definition → Type 0 where
@@ -119,7 +120,7 @@ pub data DerivesDefinitions : List Lexeme → List Definition → Type 0 where
 
 pub data DerivesParameters : List Lexeme → List Definition → Type 0 where
   of_no_parameter : DerivesParameters [] []
-  of_parameter : (l sign semicolon : Lexeme) (ls ms : List Lexeme) (t : Tree) (ds : List Definition) → Is symbol.Ident l → Is symbol.Assign sign → Derives releases ls t → Is symbol.Semicolon semicolon
+  of_parameter : (l sign semicolon : Lexeme) (ls ms : List Lexeme) (t : Tree) (ds : List Definition) → Is symbol.Ident l → Is symbol.Assign sign → Derives Releases ls t → Is symbol.Semicolon semicolon
       → DerivesParameters ms ds → DerivesParameters (l ∷ sign ∷ ls ++ semicolon ∷ ms) (parameter (word_of l) t ∷ ds)
 
 pub data DerivesBlocks : List Lexeme → List Block → Type 0 where
@@ -133,7 +134,7 @@ pub data DerivesDeclarations : List Lexeme → List Declaration → Type 0 where
   of_no_declaration : DerivesDeclarations [] []
   of_single : (l semicolon : Lexeme) (ms : List Lexeme) (ds : List Declaration) → Is symbol.Ident l → Is symbol.Semicolon semicolon → DerivesDeclarations ms ds
       → DerivesDeclarations (l ∷ semicolon ∷ ms) (record { word = word_of l; shape = single } ∷ ds)
-  of_bus : (l before after semicolon : Lexeme) (ls ms : List Lexeme) (t : Tree) (ds : List Declaration) → Is symbol.Ident l → Is symbol.OpenBracket before → Derives releases ls t
+  of_bus : (l before after semicolon : Lexeme) (ls ms : List Lexeme) (t : Tree) (ds : List Declaration) → Is symbol.Ident l → Is symbol.OpenBracket before → Derives Releases ls t
       → Is symbol.CloseBracket after → Is symbol.Semicolon semicolon → DerivesDeclarations ms ds
       → DerivesDeclarations (l ∷ before ∷ ls ++ after ∷ semicolon ∷ ms) (record { word = word_of l; shape = bus t } ∷ ds)
   of_typed : (t l semicolon : Lexeme) (ms : List Lexeme) (ds : List Declaration) → Is symbol.Ident t → Is symbol.Ident l → Is symbol.Semicolon semicolon → DerivesDeclarations ms ds
@@ -141,7 +142,7 @@ pub data DerivesDeclarations : List Lexeme → List Declaration → Type 0 where
 
 pub data DerivesFormulas : List Lexeme → List Tree → Type 0 where
   of_no_formula : DerivesFormulas [] []
-  of_formula : (semicolon : Lexeme) (ls ms : List Lexeme) (t : Tree) (ts : List Tree) → Derives releases ls t → Is symbol.Semicolon semicolon → DerivesFormulas ms ts
+  of_formula : (semicolon : Lexeme) (ls ms : List Lexeme) (t : Tree) (ts : List Tree) → Derives Releases ls t → Is symbol.Semicolon semicolon → DerivesFormulas ms ts
       → DerivesFormulas (ls ++ semicolon ∷ ms) (t ∷ ts)
 
 pub data DerivesParts : List Lexeme → List Part → Type 0 where

@@ -6,11 +6,13 @@
 
 mod expr;
 pub mod laws;
+mod level;
 mod nesting;
 mod sections;
 mod spec;
 
 pub use expr::{Expr, Form, Link, Op, Range, Span, Word};
+pub use level::{Joins, Level};
 pub use nesting::{LIMIT, first_too_deep};
 pub use sections::Sections;
 pub use spec::{

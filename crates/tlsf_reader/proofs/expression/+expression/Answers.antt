@@ -4,10 +4,10 @@ use Rattle.tlsf_syntax.specs.declared.expr.Span.{Span}
 use Rattle.tlsf_tokens.specs.declared.symbol.Symbol.TheVariants as symbol
 use Rattle.tlsf_syntax.specs.Tree.{Tree, tree_span, index, named, set, tree, no_trees}
 use Rattle.tlsf_syntax.specs.Lexemes.{Lexeme, lexeme_span, word_of}
-use Rattle.tlsf_syntax.specs.Expressions.{primary, memberships, prefixes, releases, left, once, right, none}
+use Rattle.tlsf_syntax.specs.declared.level.Level.TheVariants.{Primary, Memberships, Prefixes, Releases}
+use Rattle.tlsf_syntax.specs.declared.level.Joins.TheVariants as joins
 use Rattle.tlsf_syntax.specs.Reading.{Answer, taken, go_on, expect, from_to, level_number, operator_here, readers, Readers, if_next, set_second, close_set}
 use Rattle.tlsf_reader.specs.declared.ahead.SignKind.TheVariants.{Plain, Counted, Windowed, Big}
-use Rattle.tlsf_reader.specs.Levels.{level_of, joins_as}
 use Rattle.tlsf_reader.specs.Seen.{seen}
 use Rattle.tlsf_syntax.specs.Seen.{expr_seen, trees_seen, range_seen}
 use Rattle.tlsf_reader.specs.Descent.{put_link, put_tree, ranges_seen}
@@ -20,19 +20,19 @@ use Rattle.tlsf_reader.proofs.expression.+expression.Goals as goal
 pub expression-returns-in_err-operand-clause-read : goal.expression-returns-in_err-operand-clause-read
 expression-returns-in_err-operand-clause-read t c =
     read_exit _ c.from_residual.ensures.1
-    (read_refused c.args.ends (level_of c.args.level) primary c.args.ahead.now (omega arith) (inl (omega arith)) (read_level c.args.ends primary c.args.ahead.now c.in_err-operand.ensures.read))
+    (read_refused c.args.ends c.args.level Primary c.args.ahead.now (omega arith) (inl (omega arith)) (read_level c.args.ends Primary c.args.ahead.now c.in_err-operand.ensures.read))
 
 pub expression-climb-requires : goal.expression-climb-requires
 expression-climb-requires t c = (omega (arith, c.in_ok-operand.ensures.shorter), (omega arith, inl (omega arith)))
 
 pub expression-returns-then-rank-clause-read : goal.expression-returns-then-rank-clause-read
 expression-returns-then-rank-clause-read t c =
-    let operand = read_level c.args.ends primary c.args.ahead.now c.in_ok-operand.ensures.read in
+    let operand = read_level c.args.ends Primary c.args.ahead.now c.in_ok-operand.ensures.read in
     c.climb.ensures.read c.args.ahead.now (operand.ok _ refl)
 
 pub expression-returns-in_err-tree-clause-read : goal.expression-returns-in_err-tree-clause-read
 expression-returns-in_err-tree-clause-read t c =
-    read_exit _ c.from_residual-in_err-tree.ensures.1 (read_refused c.args.ends (level_of c.args.level) prefixes c.args.ahead.now (omega arith) (inr (omega arith)) c.in_err-tree.ensures.read)
+    read_exit _ c.from_residual-in_err-tree.ensures.1 (read_refused c.args.ends c.args.level Prefixes c.args.ahead.now (omega arith) (inr (omega arith)) c.in_err-tree.ensures.read)
 
 pub expression-climb-requires-2 : goal.expression-climb-requires-2
 expression-climb-requires-2 t c = (omega (arith, c.in_ok-tree.ensures.shorter), (omega arith, inr (omega arith)))
@@ -51,9 +51,9 @@ climb-returns-in_err-tree-clause-read t c =
     λ ls h.
     let i = c.loop-next.invariant in
     let s = c.in-Some.ensures in
-    let to = level_of c.args.to in
-    let m = level_of c.in-Some.next in
-    let n = level_of c.loop-next.at in
+    let to = c.args.to in
+    let m = c.in-Some.next in
+    let n = c.loop-next.at in
     read_exit _ c.from_residual.ensures.1
     (read_refused c.args.ends to m ls s.within (no_sign_from (level_number to) (level_number n) (level_number m) i.no_sign (omega (arith, s.above)))
     (climbed c.args.ends to m n ls s.upwards s.above s.within i.no_sign (i.read ls h) c.in_err-tree.ensures.read))
@@ -65,9 +65,9 @@ pub climb-loop-next-preserved : goal.climb-loop-next-preserved
 climb-loop-next-preserved t c =
     let i = c.loop-next.invariant in
     let s = c.in-Some.ensures in
-    let to = level_of c.args.to in
-    let m = level_of c.in-Some.next in
-    let n = level_of c.loop-next.at in
+    let to = c.args.to in
+    let m = c.in-Some.next in
+    let n = c.loop-next.at in
     record {
       read = λ ls h. let up = climbed c.args.ends to m n ls s.upwards s.above s.within i.no_sign (i.read ls h) c.in_ok-tree.ensures.read in up.ok _ refl;
       up = s.within;
@@ -77,26 +77,26 @@ climb-loop-next-preserved t c =
 
 pub climb-returns-clause-read : goal.climb-returns-clause-read
 climb-returns-clause-read t c =
-    λ ls h. let i = c.loop-next.invariant in climbed_to c.args.ends (level_of c.args.to) (level_of c.loop-next.at) ls i.up c.in_default.ensures.last (i.read ls h)
+    λ ls h. let i = c.loop-next.invariant in climbed_to c.args.ends c.args.to c.loop-next.at ls i.up c.in_default.ensures.last (i.read ls h)
 
 pub extended-chain-requires : goal.extended-chain-requires
 extended-chain-requires t c = (omega arith, c.requires)
 
 pub extended-returns-in-Left-clause-read : goal.extended-returns-in-Left-clause-read
 extended-returns-in-Left-clause-read t c =
-    read_extended c.args.ends (level_of c.args.level) (level_of c.args.tighter) (expr_seen c.args.tree) c.args.ahead.now left (sym c.joins.ensures ∙ ap joins_as c.in-Left.is) c.chain.ensures.read
+    read_extended c.args.ends c.args.level c.args.tighter (expr_seen c.args.tree) c.args.ahead.now joins.Left (sym c.joins.ensures ∙ c.in-Left.is) c.chain.ensures.read
 
 pub extended-returns-in-Once-clause-read : goal.extended-returns-in-Once-clause-read
 extended-returns-in-Once-clause-read t c =
-    read_extended c.args.ends (level_of c.args.level) (level_of c.args.tighter) (expr_seen c.args.tree) c.args.ahead.now once (sym c.joins.ensures ∙ ap joins_as c.in-Once.is) c.pair.ensures.read
+    read_extended c.args.ends c.args.level c.args.tighter (expr_seen c.args.tree) c.args.ahead.now joins.Once (sym c.joins.ensures ∙ c.in-Once.is) c.pair.ensures.read
 
 pub extended-returns-in-Right-clause-read : goal.extended-returns-in-Right-clause-read
 extended-returns-in-Right-clause-read t c =
-    read_extended c.args.ends (level_of c.args.level) (level_of c.args.tighter) (expr_seen c.args.tree) c.args.ahead.now right (sym c.joins.ensures ∙ ap joins_as c.in-Right.is) c.pair-in-Right.ensures.read
+    read_extended c.args.ends c.args.level c.args.tighter (expr_seen c.args.tree) c.args.ahead.now joins.Right (sym c.joins.ensures ∙ c.in-Right.is) c.pair-in-Right.ensures.read
 
 pub extended-returns-in-None-clause-read : goal.extended-returns-in-None-clause-read
 extended-returns-in-None-clause-read t c =
-    read_extended c.args.ends (level_of c.args.level) (level_of c.args.tighter) (expr_seen c.args.tree) c.args.ahead.now none (sym c.joins.ensures ∙ ap joins_as c.in-None.is) (read_here refl)
+    read_extended c.args.ends c.args.level c.args.tighter (expr_seen c.args.tree) c.args.ahead.now joins.None (sym c.joins.ensures ∙ c.in-None.is) (read_here refl)
 
 pub chain-loop-op-init : goal.chain-loop-op-init
 chain-loop-op-init t c = record {
@@ -108,7 +108,7 @@ chain-loop-op-init t c = record {
 pub chain-returns-in_err-right-clause-read : goal.chain-returns-in_err-right-clause-read
 chain-returns-in_err-right-clause-read t c =
     read_exit _ c.from_residual.ensures.1
-    (chain_refused c.args.ends (level_of c.args.level) (level_of c.args.tighter) c.args.ahead.now c.loop-op.ahead _ c.in-Some.op (expr_seen c.args.first) c.loop-op.rest.items c.requires c.in-Some.ensures.value c.in-Some.ensures.some
+    (chain_refused c.args.ends c.args.level c.args.tighter c.args.ahead.now c.loop-op.ahead _ c.in-Some.op (expr_seen c.args.first) c.loop-op.rest.items c.requires c.in-Some.ensures.value c.in-Some.ensures.some
     c.loop-op.invariant.builds c.in_err-right.ensures.read)
 
 pub chain-returns-in_err-push-clause-read : goal.chain-returns-in_err-push-clause-read
@@ -123,7 +123,7 @@ chain-loop-op-preserved t c =
     let right_is : l.right ≡ c.in_ok-right.right = search (rules, the_lemmas) in
     record {
       builds = builds_more c.push.new.self.items pushed c.loop-op.invariant.builds
-          (link_more c.args.ends (level_of c.args.level) (level_of c.args.tighter) c.loop-op.ahead _ c.expression.new.ahead c.in-Some.op l (expr_seen c.in_ok-right.right) c.requires (sym s.value) s.some op_is (ap expr_seen right_is) (c.in_ok-right.ensures.read.ok _ refl));
+          (link_more c.args.ends c.args.level c.args.tighter c.loop-op.ahead _ c.expression.new.ahead c.in-Some.op l (expr_seen c.in_ok-right.right) c.requires (sym s.value) s.some op_is (ap expr_seen right_is) (c.in_ok-right.ensures.read.ok _ refl));
       end = ap (λ (x : Span). x.end) c.span-end-in-Some.ensures ∙ ap (λ (e : Expr). (tree_span (expr_seen e)).end) (sym right_is) ∙ ends_last (tree_span (expr_seen c.args.first)).end c.loop-op.rest.items l c.push.new.self.items pushed;
       shorter = omega (arith, s.shorter, c.in_ok-right.ensures.shorter);
     }
@@ -133,7 +133,7 @@ chain-chain-requires t c = c.loop-op.invariant.end
 
 pub chain-returns-clause-read : goal.chain-returns-clause-read
 chain-returns-clause-read t c =
-    read_chain c.args.ends (level_of c.args.level) (level_of c.args.tighter) c.args.ahead.now c.loop-op.ahead _ (expr_seen c.args.first) c.loop-op.rest.items c.requires c.in_default.ensures.value c.in_default.ensures.none
+    read_chain c.args.ends c.args.level c.args.tighter c.args.ahead.now c.loop-op.ahead _ (expr_seen c.args.first) c.loop-op.rest.items c.requires c.in_default.ensures.value c.in_default.ensures.none
     c.loop-op.invariant.builds c.chain.ensures
 
 pub pair-returns-in_default-clause-read : goal.pair-returns-in_default-clause-read
@@ -142,26 +142,26 @@ pair-returns-in_default-clause-read t c = read_none _ (expr_seen c.args.left) c.
 pub pair-returns-in_err-right-clause-read : goal.pair-returns-in_err-right-clause-read
 pair-returns-in_err-right-clause-read t c =
     read_exit _ c.from_residual.ensures.1
-    (pair_refused c.args.ends (level_of c.args.operand) (operator_here c.args.ends (level_of c.args.level) c.args.ahead.now) c.in-Some.op (expr_seen c.args.left) c.args.ahead.now _ c.in-Some.ensures.value c.in-Some.ensures.some
+    (pair_refused c.args.ends c.args.operand (operator_here c.args.ends c.args.level c.args.ahead.now) c.in-Some.op (expr_seen c.args.left) c.args.ahead.now _ c.in-Some.ensures.value c.in-Some.ensures.some
     c.in_err-right.ensures.read)
 
 pub pair-returns-clause-read : goal.pair-returns-clause-read
 pair-returns-clause-read t c =
-    pair_read c.args.ends (level_of c.args.operand) (operator_here c.args.ends (level_of c.args.level) c.args.ahead.now) c.in-Some.op (expr_seen c.args.left) c.args.ahead.now _ c.in-Some.ensures.value c.in-Some.ensures.some
+    pair_read c.args.ends c.args.operand (operator_here c.args.ends c.args.level c.args.ahead.now) c.in-Some.op (expr_seen c.args.left) c.args.ahead.now _ c.in-Some.ensures.value c.in-Some.ensures.some
     c.in_ok-right.ensures.read c.pair.ensures
 
 pub signed-returns-in_err-tree-clause-read : goal.signed-returns-in_err-tree-clause-read
 signed-returns-in_err-tree-clause-read t c =
     read_exit _ c.from_residual.ensures.1
     (read_unsigned c.args.ends c.args.ahead.now c.sign.new.self c.in_default.ensures.sign c.in_default.ensures.same
-    (read_refused c.args.ends memberships primary c.sign.new.self (omega arith) (inl (omega arith)) (read_level c.args.ends primary c.sign.new.self c.in_err-tree.ensures.read)))
+    (read_refused c.args.ends Memberships Primary c.sign.new.self (omega arith) (inl (omega arith)) (read_level c.args.ends Primary c.sign.new.self c.in_err-tree.ensures.read)))
 
 pub signed-climb-requires : goal.signed-climb-requires
 signed-climb-requires t c = (omega (arith, c.in_ok-tree.ensures.shorter, ap length c.in_default.ensures.same), (omega arith, inl (omega arith)))
 
 pub signed-returns-in_default-clause-read : goal.signed-returns-in_default-clause-read
 signed-returns-in_default-clause-read t c =
-    let operand = read_level c.args.ends primary c.sign.new.self c.in_ok-tree.ensures.read in
+    let operand = read_level c.args.ends Primary c.sign.new.self c.in_ok-tree.ensures.read in
     read_unsigned c.args.ends c.args.ahead.now c.sign.new.self c.in_default.ensures.sign c.in_default.ensures.same (c.climb.ensures.read c.sign.new.self (operand.ok _ refl))
 
 pub signed-returns-in-Plain-clause-read : goal.signed-returns-in-Plain-clause-read
@@ -334,7 +334,7 @@ primary-returns-in_default-clause-read t c = read_no_front _ c.in_default.ensure
 pub primary-returns-in_err-part-in-SizeOf-clause-read : goal.primary-returns-in_err-part-in-SizeOf-clause-read
 primary-returns-in_err-part-in-SizeOf-clause-read t c =
     read_exit _ c.from_residual.ensures.1
-    (read_primary _ _ _ symbol.SizeOf c.in-Some.ensures.taken c.in-SizeOf.is (read_stop _ (read_level false primary c.take.new.self c.in_err-part-in-SizeOf.ensures.read)))
+    (read_primary _ _ _ symbol.SizeOf c.in-Some.ensures.taken c.in-SizeOf.is (read_stop _ (read_level false Primary c.take.new.self c.in_err-part-in-SizeOf.ensures.read)))
 
 pub primary-returns-in-Number-clause-read : goal.primary-returns-in-Number-clause-read
 primary-returns-in-Number-clause-read t c = read_primary _ _ _ symbol.Number c.in-Some.ensures.taken c.in-Number.is (read_here c.number.ensures)
@@ -351,7 +351,7 @@ primary-returns-in-Ident-clause-read t c = read_primary _ _ _ symbol.Ident c.in-
 pub primary-returns-in_ok-part-in-SizeOf-clause-read : goal.primary-returns-in_ok-part-in-SizeOf-clause-read
 primary-returns-in_ok-part-in-SizeOf-clause-read t c =
     read_primary _ _ _ symbol.SizeOf c.in-Some.ensures.taken c.in-SizeOf.is
-    (read_go _ (read_level false primary c.take.new.self c.in_ok-part-in-SizeOf.ensures.read) (read_built c.size_of.ensures))
+    (read_go _ (read_level false Primary c.take.new.self c.in_ok-part-in-SizeOf.ensures.read) (read_built c.size_of.ensures))
 
 pub primary-returns-in-OpenParen-clause-read : goal.primary-returns-in-OpenParen-clause-read
 primary-returns-in-OpenParen-clause-read t c = read_primary _ _ _ symbol.OpenParen c.in-Some.ensures.taken c.in-OpenParen.is c.grouped.ensures.read
@@ -379,7 +379,7 @@ grouped-returns-clause-read t c = read_go _ c.in_ok-inner.ensures.read (read_exp
 -- an index, or the name alone
 abbrev index_with : Readers → Lexeme → List Lexeme → Answer Tree
 index_with r l ls =
-    if_next symbol.OpenBracket ls (λ _ inner. go_on (r.level false releases inner) (λ t rest. expect symbol.CloseBracket rest (λ last after. taken (index (from_to l.start last.end) (word_of l) t) after)))
+    if_next symbol.OpenBracket ls (λ _ inner. go_on (r.level false Releases inner) (λ t rest. expect symbol.CloseBracket rest (λ last after. taken (index (from_to l.start last.end) (word_of l) t) after)))
     (taken (named (lexeme_span l) l.text) ls)
 
 pub word-returns-in_err-arguments-clause-read : goal.word-returns-in_err-arguments-clause-read
@@ -415,7 +415,7 @@ word-returns-clause-read t c =
 
 -- a set with a member, and a set with one member
 abbrev filled : Readers → Lexeme → List Lexeme → Answer Tree
-filled r l ls = go_on (r.level false releases ls) (λ t rest. set_second r l t rest)
+filled r l ls = go_on (r.level false Releases ls) (λ t rest. set_second r l t rest)
 
 pub set-returns-in-Some-clause-read : goal.set-returns-in-Some-clause-read
 set-returns-in-Some-clause-read t c =

@@ -2,7 +2,6 @@ use Rattle.std.proofs.Common.{◌≡◌, ◌+◌, ◌-◌, ◌*◌, ◌<◌, ◌
 use Rattle.tlsf_syntax.specs.Tree.{tree_span}
 use Rattle.tlsf_syntax.specs.Lexemes.{Lexeme}
 use Rattle.tlsf_syntax.specs.Reading.{taken, level_number, readers, links_end}
-use Rattle.tlsf_reader.specs.Levels.{level_of}
 use Rattle.tlsf_syntax.specs.Seen.{expr_seen, link_list_seen, range_seen}
 use Rattle.tlsf_reader.specs.Descent.{Eventually, Builds, put_tree, put_link}
 use Rattle.tlsf_reader.proofs.expression.+expression.Given as goal
@@ -63,18 +62,18 @@ decreases-expressions l = 8 * length l.ahead.now + 6
 
 abbrev pub invariant-climb-loop-next : goal.invariant-climb-loop-next
 invariant-climb-loop-next l = record {
-  read : (ls : List Lexeme) → Eventually (λ d. (readers d).level l.ends (level_of l.initial.at) ls) (taken (expr_seen l.initial.tree) l.initial.ahead) → Eventually (λ d. (readers d).level l.ends (level_of l.at) ls) (taken (expr_seen l.tree) l.ahead);
-  up : level_number (level_of l.at) ≤ level_number (level_of l.to);
-  no_sign : (level_number (level_of l.to) < 9) ⊎ (9 ≤ level_number (level_of l.at));
+  read : (ls : List Lexeme) → Eventually (λ d. (readers d).level l.ends l.initial.at ls) (taken (expr_seen l.initial.tree) l.initial.ahead) → Eventually (λ d. (readers d).level l.ends l.at ls) (taken (expr_seen l.tree) l.ahead);
+  up : level_number l.at ≤ level_number l.to;
+  no_sign : (level_number l.to < 9) ⊎ (9 ≤ level_number l.at);
   shorter : length l.ahead ≤ length l.initial.ahead;
 }
 
 abbrev pub decreases-climb-loop-next : goal.decreases-climb-loop-next
-decreases-climb-loop-next l = level_number (level_of l.to) - level_number (level_of l.at)
+decreases-climb-loop-next l = level_number l.to - level_number l.at
 
 abbrev pub invariant-chain-loop-op : goal.invariant-chain-loop-op
 invariant-chain-loop-op l = record {
-  builds : Builds put_link (λ d. (readers d).links l.ends (level_of l.level) l.initial.ahead) l.rest.items (λ d. (readers d).links l.ends (level_of l.level) l.ahead);
+  builds : Builds put_link (λ d. (readers d).links l.ends l.level l.initial.ahead) l.rest.items (λ d. (readers d).links l.ends l.level l.ahead);
   end : l.end ≡ links_end (tree_span (expr_seen l.first)).end (link_list_seen l.rest.items);
   shorter : length l.ahead ≤ length l.initial.ahead;
 }
