@@ -4,6 +4,7 @@ use Rattle.std.specs.Prelude.{Vec, Option, Some, None, slice_get}
 use Rattle.std.specs.Vec.{with_items}
 use Rattle.std.proofs.lemmas.List.{length-replicate, with_items_is}
 use Rattle.std.proofs.lemmas.Option.{slice_get_cases, same_Some, none-some}
+use Rattle.std_lemmas.proofs.Lists.{slice_get-push}
 use Rattle.batch_run.specs.declared.placed.Placed.{Placed}
 use Rattle.batch_run.specs.Answers.{AreKept, EachAnswers, IsPlacedAnswer}
 
@@ -20,13 +21,6 @@ all-first {X} P xs x rest is all =
     let here : All P (x ∷ rest) = subst Q is all in
     let some : 0 < length (x ∷ rest) = omega arith in
     here 0 x some
-
--- an element of a list with one more at its end
-pub get-push : {X : Type 0} (xs : List X) (y : X) (k : ℕ) (x : X) → slice_get (xs ++ y ∷ []) k ≡ Some x → (slice_get xs k ≡ Some x) ⊎ ((k ≡ length xs) × (y ≡ x))
-get-push [] y zero x h = inr (refl, same_Some y x h)
-get-push [] y (suc k) x h = inl h
-get-push (z ∷ zs) y zero x h = inl h
-get-push (z ∷ zs) y (suc k) x h = elim (get-push zs y k x h) [ inl old ↦ inl old | inr last ↦ inr (ap suc last.0, last.1) ]
 
 -- an element of a list in which one was set
 pub get-set : {X : Type 0} (xs : List X) (i : ℕ) (y : X) (k : ℕ) (x : X) → slice_get (set xs i y) k ≡ Some x → (slice_get xs k ≡ Some x) ⊎ ((k ≡ i) × (y ≡ x))
@@ -59,7 +53,7 @@ module _ {Task Answer : Type 0} (relation : Task → Answer → Type 0) (tasks :
   -- an answer more
   pub answers-push : (answers : List Answer) (a : Answer) → EachAnswers relation tasks answers
       → ((task : Task) → slice_get tasks (length answers) ≡ Some task → relation task a) → EachAnswers relation tasks (answers ++ a ∷ [])
-  answers-push answers a each new k task answer at found = elim (get-push answers a k answer found) [
+  answers-push answers a each new k task answer at found = elim (slice_get-push answers a k answer found) [
     | inl old ↦ each k task answer at old
     | inr last ↦
         let P : Answer → Type 0 = relation task in

@@ -1,6 +1,7 @@
 -- Of a file at most one line is the first bad one, and none where its annotation is valid.
 use Rattle.std.proofs.Common.{◌≡◌, ℕ, ◌+◌, Option, Some, None, List, [], length, drop, sym, ap, subst, ◌∙◌}
 use Rattle.std.specs.Prelude.{option_map, unwrap_or}
+use Rattle.std_lemmas.proofs.Options.{some_same}
 use Rattle.aiger_text.specs.declared.faults.CircuitFault.{CircuitFault}
 use Rattle.aiger_text.specs.CircuitFile.{File, States}
 use Rattle.aiger_text.specs.FileLaws.{FaultsStateNothing, FilesHaveOneFault, FilesStateOneThing}
@@ -14,9 +15,6 @@ use Rattle.named_annotation.specs.NamedStates.{Named}
 use Rattle.circuit_check.specs.Duty.{Owed}
 use Rattle.circuit_check.specs.FirstBad.{Annotates, Fits, HasComment, IsBadIn, IsCauseFor, IsFirstBad, IsValidFor, StatesFor, cause_line, comment_of, names_line, no_comment, of_fault, of_line, of_names, of_pairs}
 use Rattle.circuit_check.specs.Laws.{FirstBadLinesAreDetermined}
-
-some_is : (o : Option ℕ) (n m : ℕ) → o ≡ Some n → o ≡ Some m → n ≡ m
-some_is o n m is_n is_m = ap (λ (x : Option ℕ). unwrap_or x 0) (sym is_n ∙ is_m)
 
 module _ (one_thing : FilesStateOneThing) (one_fault : FilesHaveOneFault) (nothing : FaultsStateNothing) (readings : NamedReadingsAreApart) where
   module _ (owed : Owed) (bytes : List ℕ) where
@@ -77,7 +75,7 @@ module _ (one_thing : FilesStateOneThing) (one_fault : FilesHaveOneFault) (nothi
 
     one_line : (n m : ℕ) → IsFirstBad owed bytes n → IsFirstBad owed bytes m → n ≡ m
     one_line _ _ (of_fault i n first is) (of_fault j m other also) =
-        some_is (earliest (Some (fault_line i)) (faulty_line owed.names bytes)) n m is
+        some_same (earliest (Some (fault_line i)) (faulty_line owed.names bytes)) n m is
         (ap (λ (x : CircuitFault). earliest (Some (fault_line x)) (faulty_line owed.names bytes)) (one_fault bytes i j first other) ∙ also)
     one_line _ _ (of_fault i n first is) (of_names g m states some) = absurd (nothing bytes g i states first)
     one_line _ _ (of_fault i n first is) (no_comment g fits none) = absurd (nothing bytes g i fits.states first)
@@ -85,7 +83,7 @@ module _ (one_thing : FilesStateOneThing) (one_fault : FilesHaveOneFault) (nothi
     one_line _ _ (of_fault i n first is) (of_pairs g q j b some cause) = absurd (nothing bytes g i b.commented.fitting.states first)
     one_line _ _ (of_names f n states some) (of_fault j m other also) = absurd (nothing bytes f j states other)
     one_line _ _ (of_names f n states some) (of_names g m others also) =
-        some_is (names_line owed f) n m some (ap (names_line owed) (one_thing bytes f g states others) ∙ also)
+        some_same (names_line owed f) n m some (ap (names_line owed) (one_thing bytes f g states others) ∙ also)
     one_line _ _ (of_names f n states some) (no_comment g fits none) = absurd (no_names_bad f g n states some fits)
     one_line _ _ (of_names f n states some) (of_line g d m has bad) = absurd (no_names_bad f g n states some has.fitting)
     one_line _ _ (of_names f n states some) (of_pairs g q j b any cause) = absurd (no_names_bad f g n states some b.commented.fitting)

@@ -1,6 +1,6 @@
 use Rattle.std.proofs.Common.{◌≡◌, ℕ, ◌<◌, false, length, refl, sym, ap, subst, ◌∙◌}
-use Rattle.std.specs.Prelude.{Option, Some, List, map}
-use Rattle.std.proofs.lemmas.List.{length-map}
+use Rattle.satisfaction.proofs.Owed.{not_the_other}
+use Rattle.std_lemmas.proofs.Lists.{as_many}
 use Rattle.letters_and_lassos.specs.declared.kinds.Kind.{Kind}
 use Rattle.letters_and_lassos.specs.declared.kinds.Kind.TheVariants.{Mealy, Moore}
 use Rattle.letters_and_lassos.specs.declared.kinds.Side.TheVariants.{Environment, System}
@@ -19,10 +19,6 @@ use Rattle.satisfaction.specs.Satisfaction.{CircuitDefeats, CircuitSatisfies, De
 use Rattle.satisfaction.specs.Laws.{DefeatingCannotLose}
 use Rattle.circuit_machines.specs.Laws.{CircuitsAreMachines, CircuitsHaveStates, HasMachine}
 use Rattle.circuit_laws.specs.Laws.{IsCounterCircuit, LosingCircuitsDefeat, NoMachineNoCircuit, NoMachineNoDefeat, NoSmallCircuitDefeats, NoSmallCircuitSatisfies}
-
--- as many places as names
-as_many : (places : List (Option (List ℕ))) (names : List (List ℕ)) (n : ℕ) → length places ≡ n → places ≡ map Some names → n ≡ length names
-as_many places names n count same = sym count ∙ ap length same ∙ length-map names Some
 
 -- a machine of n states that satisfies, or defeats
 record SomeSatisfies (x : Wanted) (n : ℕ) : Type 0 where
@@ -96,10 +92,6 @@ no_small_circuit_defeats machines cannot_lose x n each k few c circuit states ow
     let pos : 0 < size_of some.machine = size_pos some.machine some.defeats.environment.machine.shape in
     cannot_lose x some.machine some.defeats
     (each k (subst (λ (s : ℕ). 0 < s) some.size pos) few some.machine some.size some.defeats.environment)
-
-not_the_other : (k : Kind) → k ≡ other_kind k → ⊥
-not_the_other Mealy e = absurd (cc)
-not_the_other Moore e = absurd (cc)
 
 other_twice : (k : Kind) → other_kind (other_kind k) ≡ k
 other_twice Mealy = refl

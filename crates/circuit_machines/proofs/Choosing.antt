@@ -1,23 +1,9 @@
 -- Numbers below a bound, and lists without repetition.
-use Rattle.std.proofs.Common.{◌≡◌, ◌≢◌, ℕ, zero, suc, ◌<◌, ◌≤◌, ◌⊎◌, List, length, get_or, sym, ap, subst, ◌∙◌, arith, inl, inr}
+use Rattle.std.proofs.Common.{◌≡◌, ◌≢◌, ℕ, ◌<◌, ◌≤◌, ◌⊎◌, List, length, get_or, sym, ap, ◌∙◌, arith, inl, inr}
 use Rattle.std.specs.Prelude.{Contains}
-use Rattle.std.proofs.lemmas.Bool.{cases_eq, cases_lt}
+use Rattle.std.proofs.lemmas.Bool.{cases_lt}
 use Rattle.std.proofs.lemmas.List.{get_or_default}
 use Rattle.machine_model.proofs.Pigeonhole.{IsRepeated, pigeonhole}
-
--- what holds of each number below n in one of two ways holds of all in the first, or of some in the second
-pub either_below : (P Q : ℕ → Type 0) (n : ℕ) → ((k : ℕ) → k < n → P k ⊎ Q k) → ((k : ℕ) → k < n → P k) ⊎ ((k : ℕ) × (k < n) × Q k)
-either_below P Q zero each = inl (λ k h. absurd (omega arith))
-either_below P Q (suc n) each = elim (either_below P Q n (λ k h. each k (omega arith))) [
-  | inr found ↦ inr (found.0, (let h : found.0 < n = found.1 in omega arith), found.2)
-  | inl all ↦ elim (each n (omega arith)) [
-    | inr last ↦ inr (n, omega arith, last)
-    | inl last ↦ inl (λ k h. elim (cases_eq k n) [
-      | inl same ↦ subst P (sym same) last
-      | inr other ↦ let apart : k ≢ n = other in all k (omega arith)
-    ])
-  ]
-]
 
 -- different elements of a list are no more than those of a list that has them all
 module _ {X : Type 0} (xs ys : List X) (d : X) (there : (k : ℕ) → k < length ys → Contains xs (get_or ys k d))

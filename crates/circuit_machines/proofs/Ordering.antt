@@ -4,13 +4,13 @@ use Rattle.std.specs.Prelude.{Contains}
 use Rattle.std.proofs.lemmas.Bool.{cases_eq, cases_lt}
 use Rattle.std.proofs.lemmas.List.{get_or_append_left, get_or_default, get_or_push, length_push}
 use Rattle.std.proofs.lemmas.List.Elements.{Contains-append_left}
+use Rattle.std_lemmas.proofs.Naturals.{either_below}
 use Rattle.machine_model.proofs.Pigeonhole.{IsRepeated, pigeonhole}
 use Rattle.aiger_text.specs.declared.circuits.Gate.{Gate}
 use Rattle.aiger_text.specs.CircuitType.{DependsOn, IsOrder, gate_at}
 use Rattle.aiger_text.specs.CircuitType.DependsOn.{left, right, through}
 use Rattle.aiger_text.specs.Walks.{Uses}
 use Rattle.gate_build.proofs.Listing.{is_in}
-use Rattle.circuit_machines.proofs.Choosing.{either_below}
 
 -- a number isn't in a list
 abbrev IsOut : List ℕ → ℕ → Type 0

@@ -2,6 +2,7 @@
 use Rattle.std.proofs.Common.{◌≡◌, ℕ, ◌<◌, ◌≤◌, Bool, List, [], length, get_or, sym, ap, subst, ◌∙◌, arith}
 use Rattle.std.specs.Prelude.{map, Contains}
 use Rattle.std.proofs.lemmas.List.{get_or-map, length-map}
+use Rattle.std_lemmas.proofs.Lists.{Contains-map}
 use Rattle.letters_and_lassos.specs.declared.kinds.Side.TheVariants.{System}
 use Rattle.letters_and_lassos.specs.Word.{letter_at}
 use Rattle.machine_model.specs.Machine.{MachineModel, size_of}
@@ -16,10 +17,6 @@ use Rattle.circuit_machines.specs.Laws.{CircuitsHaveStates, StatesAreCounted}
 use Rattle.circuit_machines.proofs.Choosing.{no_more}
 use Rattle.circuit_machines.proofs.Machines.{chosen, code_decode, code_is, codes, decode_code, length-latch_values, machine_run, whole, whole_is, whole_size}
 use Rattle.circuit_machines.proofs.Ordering.{has_order}
-
--- a function of an element is in the list of its values
-image_in : {X Y : Type 0} (f : X → Y) (xs : List X) (x : X) → Contains xs x → Contains (map f xs) (f x)
-image_in f xs x there = (there.0, rw length-map there.1, get_or-map f xs there.0 x (f x) there.1 ∙ ap f there.2)
 
 -- a circuit has one number of states, and a machine meets one number
 pub states_are_counted : StatesAreCounted
@@ -94,7 +91,7 @@ module _ (c : Circuit) (circuit : IsCircuit c) (order : List ℕ) (sorted : IsOr
             subst (λ (t : ℕ). IsMet m t) (sym (at k d within)) (met (get_or all.states k []) (all.each_occurs k [] within));
         all_there = λ state is_met.
             let there : Contains all.states (decode c state) = all.all_there (decode c state) (occurs state is_met) in
-            subst (λ (t : ℕ). Contains (map (encode c) all.states) t) (own_code state is_met) (image_in (encode c) all.states (decode c state) there);
+            subst (λ (t : ℕ). Contains (map (encode c) all.states) t) (own_code state is_met) (Contains-map (encode c) all.states (decode c state) there);
       }
 
   pub occurring_number : (n : ℕ) → MeetsStates m n → HasStates c n
@@ -114,7 +111,7 @@ module _ (c : Circuit) (circuit : IsCircuit c) (order : List ℕ) (sorted : IsOr
             subst (λ (bits : List Bool). Occurs c bits) (sym (at k d within)) (occurs (get_or all.states k 0) (all.each_met k 0 within));
         all_there = λ latches o.
             let there : Contains all.states (encode c latches) = all.all_there (encode c latches) (met latches o) in
-            subst (λ (bits : List Bool). Contains (map (decode c) all.states) bits) (own_values latches o) (image_in (decode c) all.states (encode c latches) there);
+            subst (λ (bits : List Bool). Contains (map (decode c) all.states) bits) (own_values latches o) (Contains-map (decode c) all.states (encode c latches) there);
       }
 
 pub circuits_have_states : CircuitsHaveStates

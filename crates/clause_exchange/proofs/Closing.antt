@@ -6,11 +6,11 @@ use mathlib.Core.Logic.{dite}
 use mathlib.Core.Option.{some}
 use native.Mathlib.Decide.{ℕ_discrete}
 use lib.ListN.{get_elem?}
+use Rattle.std_lemmas.proofs.Lists.{slice_get-append}
 use Rattle.atomic_table.specs.Seated.{TableId}
 use Rattle.atomic_table.specs.Table.{Final}
 use Rattle.atomic_table.specs.Table as table
 use Rattle.refutation_log.specs.State.{Log}
-use Rattle.refutation_log.proofs.Lists.{slice_get-append}
 use Rattle.clause_exchange.specs.declared.views.Terms.{Terms}
 use Rattle.clause_exchange.specs.declared.views.Setup.{Setup}
 use Rattle.clause_exchange.specs.declared.views.View.{View}

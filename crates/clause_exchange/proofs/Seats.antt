@@ -1,6 +1,6 @@
 -- Passes are given out and taken in, and the log at the end.
 use Rattle.std.proofs.Common.{◌≡◌, ℕ, zero, suc, ◌+◌, ◌<◌, ◌≤◌, ◌≢◌, inl, ⊎_elim, List, [], ◌∷◌, set, sym, refl, ap, ◌∙◌, subst, arith, All}
-use Rattle.std.proofs.lemmas.List.Elements.{All-nil, All-append}
+use Rattle.std.proofs.lemmas.List.Elements.{All-nil, All-append, All-cons}
 use mathlib.Core.Logic.{dite}
 use native.Mathlib.Decide.{ℕ_discrete}
 use mathlib.Core.Option.{some, some-injective, some-ne-none}
@@ -26,10 +26,6 @@ St = State Log View
 
 abbrev counting : ℕ → View → ℕ
 counting n v = count_of n (view_parts v)
-
-pub all_cons : {X : Type 0} (P : X → Type 0) (x : X) (xs : List X) → P x → All P xs → All P (x ∷ xs)
-all_cons P x xs first others zero d lt = first
-all_cons P x xs first others (suc k) d lt = others k d (omega arith)
 
 -- a seat beside one that has each number is in no turn
 rests_beside : (terms : Terms) (log : List Entry) (parts : List Part) (u : View) → ((n : ℕ) → n < terms.seats → 1 ≤ count_of n parts)
@@ -86,7 +82,7 @@ module _ (terms : Terms) where
 
   fresh_fit : (from count : ℕ) → from + count ≤ terms.seats → All (IsPartOf terms []) (fresh_parts terms from count)
   fresh_fit from zero few = All-nil (IsPartOf terms [])
-  fresh_fit from (suc count) few = all_cons (IsPartOf terms []) _ _ (record { terms_are = refl; number_below = omega arith; seen = ([], refl); own = refl }) (fresh_fit (suc from) count (omega arith))
+  fresh_fit from (suc count) few = All-cons (IsPartOf terms []) _ _ (record { terms_are = refl; number_below = omega arith; seen = ([], refl); own = refl }) (fresh_fit (suc from) count (omega arith))
 
   pub opens : (log : Log) → log.entries ≡ [] → HasRoom terms.limit log → Rule (opening (0 ∷ []) (log ∷ []) (dealer terms))
   opens log none room = record {

@@ -4,6 +4,7 @@ use Rattle.std.proofs.lemmas.Bool.{cases_lt}
 use Rattle.std.proofs.lemmas.List.{take_more}
 use Rattle.std.proofs.lemmas.List.Elements.{All-contains, All-push, All-weaker, Contains-push, Contains-append_left, filter-append}
 use Rattle.std.proofs.lemmas.Option.{slice_get_within, get_or_from_slice_get}
+use Rattle.std_lemmas.proofs.Lists.{Contains-slice_get}
 use Rattle.propositional_logic.specs.Literal.{Literal, negated}
 use Rattle.propositional_logic.specs.Partial.{is_false_in, is_falsified, unfalsified, lone_of, unit_of}
 use Rattle.propositional_logic.proofs.Members.{filter-none}
@@ -11,7 +12,6 @@ use Rattle.propositional_logic.proofs.Tests.{fails, unit_is, Decides-is_true_in,
 use Rattle.refutation_log.specs.declared.entries.Entry.{Entry}
 use Rattle.unit_propagate.specs.declared.marks.Mark.{Mark}
 use Rattle.unit_propagate.specs.Trail.{IsFree, IsTrail, literals_of}
-use Rattle.unit_propagate.proofs.Places.{Contains-slice_get}
 use Rattle.unit_propagate.proofs.PropagatorLemmas.{same_literal}
 use Rattle.unit_propagate.proofs.TrailLemmas.{mark-of, literal-of, one_each, one_sign, free-no_literal, at_place}
 use Rattle.clause_solver.specs.Levels.{up_to, IsIdleBelow}

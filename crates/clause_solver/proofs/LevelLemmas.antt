@@ -3,13 +3,13 @@ use Rattle.std.proofs.Common.{◌≡◌, ℕ, ◌+◌, ◌<◌, ◌≤◌, max, 
 use Rattle.std.proofs.lemmas.Bool.{cases_lt, leb-true, leb-false, le-leb, lt-leb}
 use Rattle.std.proofs.lemmas.List.{append-nil}
 use Rattle.std.proofs.lemmas.List.Elements.{All-contains, All-weaker, All-nil, All-cons, filter-append}
+use Rattle.std_lemmas.proofs.Lists.{All-from_contains}
 use Rattle.propositional_logic.specs.Literal.{Literal}
 use Rattle.propositional_logic.proofs.Members.{Contains-filter, filter-Contains, filter-none}
 use Rattle.unit_propagate.specs.declared.marks.Mark.{Mark}
 use Rattle.unit_propagate.specs.Trail.{highest_level, literals_of}
 use Rattle.unit_propagate.specs.Sound.{Extends}
 use Rattle.unit_propagate.specs.Quiet.{IsQuiet}
-use Rattle.unit_propagate.proofs.Places.{All-from_contains}
 use Rattle.unit_propagate.proofs.TrailLemmas.{highest_above, highest_bound, highest-append, filter-highest}
 use Rattle.clause_solver.specs.Levels.{up_to, IsQuietBelow, IsIdleBelow}
 

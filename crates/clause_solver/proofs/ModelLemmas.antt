@@ -6,17 +6,17 @@ use Rattle.std.proofs.lemmas.Bool.{cases_lt}
 use Rattle.std.proofs.lemmas.List.{take_all, take_more}
 use Rattle.std.proofs.lemmas.List.Elements.{All-contains, All-push}
 use Rattle.std.proofs.lemmas.Option.{slice_get-get_or}
+use Rattle.std_lemmas.proofs.Lists.{Contains-head, Contains-later, Contains-slice_get, any_holds}
 use Rattle.propositional_logic.specs.Literal.{Literal, negated, sign_eq}
 use Rattle.propositional_logic.specs.Clause.{IsClause, IsWithinVariables}
 use Rattle.propositional_logic.specs.Partial.{is_false_in, is_falsified}
 use Rattle.propositional_logic.specs.Truth.{value_of, is_true_literal, is_true_clause, meets}
-use Rattle.propositional_logic.proofs.Members.{Contains-head, Contains-later}
 use Rattle.propositional_logic.proofs.Rising.{rising_above}
-use Rattle.propositional_logic.proofs.Tests.{any_holds, Decides-all, Decides-is_true_in}
+use Rattle.propositional_logic.proofs.Tests.{Decides-all, Decides-is_true_in}
 use Rattle.unit_propagate.specs.declared.marks.Mark.{Mark}
 use Rattle.unit_propagate.specs.Trail.{IsFree, literals_of}
 use Rattle.unit_propagate.specs.Quiet.{IsQuiet}
-use Rattle.unit_propagate.proofs.Places.{Contains-slice_get, slice_get-front, slice_get-last}
+use Rattle.unit_propagate.proofs.Places.{slice_get-front, slice_get-last}
 use Rattle.unit_propagate.proofs.TrailLemmas.{free-no_literal}
 use Rattle.clause_solver.specs.Free.{IsTotal}
 

@@ -1,12 +1,11 @@
 -- A clause that teaches contains no clause of the list.
 use Rattle.std.proofs.Common.{◌≡◌, ◌≢◌, Bool, true, false, List, [], ◌∷◌, inl, inr, Contains, refl, sym, subst, ◌∙◌, true≢false}
+use Rattle.std_lemmas.proofs.Lists.{Contains-head, Contains-none, All-from_contains}
 use Rattle.propositional_logic.specs.Literal.{Literal, negated}
 use Rattle.propositional_logic.specs.Clause.{IsClause}
 use Rattle.propositional_logic.specs.Partial.{is_true_in, IsUnitIn}
-use Rattle.propositional_logic.proofs.Members.{Contains-head, Contains-none}
 use Rattle.propositional_logic.proofs.Tests.{Decides-is_true_in, Decides-is_falsified, unit_found}
 use Rattle.refutation_log.specs.Teaches.{IsQuietBut, Teaches}
-use Rattle.unit_propagate.proofs.Places.{All-from_contains}
 use Rattle.clause_solver.specs.Laws.{TeachingClausesAreNew}
 
 module _ (clauses : List (List Literal)) (clause known : List Literal) (member : Contains clauses known) (sorted : IsClause known) (part : (l : Literal) → Contains known l → Contains clause l) where

@@ -3,16 +3,17 @@ use Rattle.std.proofs.Common.{◌≡◌, ◌≢◌, ℕ, suc, zero, ◌+◌, ◌
 use Rattle.std.proofs.lemmas.Bool.{cases_lt}
 use Rattle.std.proofs.lemmas.Bool.Decides.{Decides-eqb}
 use Rattle.std.proofs.lemmas.List.Elements.{All-contains}
+use Rattle.std_lemmas.proofs.Lists.{Contains-head, Contains-none, Contains-cases, All-from_contains}
 use Rattle.propositional_logic.specs.Literal.{Literal, negated}
 use Rattle.propositional_logic.specs.Clause.{IsWithinVariables}
 use Rattle.propositional_logic.specs.Partial.{is_falsified}
-use Rattle.propositional_logic.proofs.Members.{Contains-head, Contains-none, Contains-cases, Contains-filter, filter-Contains}
+use Rattle.propositional_logic.proofs.Members.{Contains-filter, filter-Contains}
 use Rattle.propositional_logic.proofs.Tests.{Decides-is_falsified}
 use Rattle.refutation_log.specs.Teaches.{IsQuietBut, Teaches}
 use Rattle.unit_propagate.specs.declared.marks.Mark.{Mark}
 use Rattle.unit_propagate.specs.Trail.{IsTrail, highest_level, literals_of}
 use Rattle.unit_propagate.specs.Quiet.{IsQuiet}
-use Rattle.unit_propagate.proofs.Places.{slice_get-Contains, All-from_contains}
+use Rattle.unit_propagate.proofs.Places.{slice_get-Contains}
 use Rattle.unit_propagate.proofs.TrailLemmas.{mark-of, literal-of, one_sign}
 use Rattle.conflict_learn.specs.Learnt.{level_in, clause_level, IsLearnt}
 use Rattle.conflict_learn.proofs.LevelLemmas.{level_at}

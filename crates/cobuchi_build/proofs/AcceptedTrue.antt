@@ -1,6 +1,7 @@
 use Rattle.std.proofs.Common.{◌≡◌, ◌⊎◌, inl, inr, ℕ, zero, suc, ◌<◌, ◌≤◌, Bool, true, false, not, ◌&&◌, List, [], ◌∷◌, length, refl, sym, ◌∙◌, ap, subst, arith}
 use Rattle.std.specs.Prelude.{Contains}
 use Rattle.std.proofs.lemmas.Bool.{and_from, both_ways, false_from_ne_true, not-true, not_from_false, or_left, or_right}
+use Rattle.std_lemmas.proofs.Lists.{Contains-head, Contains-later}
 use Rattle.letters_and_lassos.specs.Word.{Word, HasRing, after, lasso_len, letter_at, next}
 use Rattle.letters_and_lassos.proofs.Positions.{next_within}
 use Rattle.ltl_formula.specs.Laws.{Comes}
@@ -16,7 +17,6 @@ use Rattle.obligation_sets.specs.Ids.{has_id}
 use Rattle.obligation_sets.proofs.BackedLeaves.{Backed, InNext, InPostponed, Seen}
 use Rattle.obligation_sets.proofs.Flags.{has_id-within}
 use Rattle.obligation_sets.proofs.Implied.{AsksFor}
-use Rattle.obligation_sets.proofs.Lists.{Contains-here, Contains-there}
 use Rattle.obligation_sets.proofs.NextStep.{opposed_value}
 use Rattle.obligation_sets.proofs.OneStep.{one_step, value}
 use Rattle.cobuchi_build.specs.declared.exploring.State.{State}
@@ -190,27 +190,27 @@ module _ (covering : Covering) (ns : List Node) (list : IsNodeList ns) (untils :
           ap (λ t. holds w t i) (tree_is (Not g) is) ∙ not_from_false (now i g) (one g (omega arith) ∙ opposed_value (letter_at w i) (now i) (now (next w i)) l.move.leaf.cube l.move.fits g (node_at ns g.0) b)
       holds_by (Next g) is parts b =
           ap (λ t. holds w t i) (tree_is (Next g) is)
-          ∙ below g parts (occurs_part (Next g) is g (Contains-here g [])) (next w i) l.target (live_next i s l)
+          ∙ below g parts (occurs_part (Next g) is g (Contains-head g [])) (next w i) l.target (live_next i s l)
           (done_in covering ns list untils w (next w i) l.target (live_next i s l).target (live_next i s l).move g (left_in covering ns list untils w i s l.target l.move g b))
       holds_by (Finally g) is parts b = absurd b
       holds_by (Globally g) is parts b = absurd b
       holds_by (And g h) is parts b =
           ap (λ t. holds w t i) (tree_is (And g h) is)
-          ∙ and_from (now i g) (now i h) (seen_holds (And g h) is g parts.0 (Contains-here g (h ∷ [])) b.0) (seen_holds (And g h) is h parts.1 (Contains-there g (h ∷ []) h (Contains-here h [])) b.1)
+          ∙ and_from (now i g) (now i h) (seen_holds (And g h) is g parts.0 (Contains-head g (h ∷ [])) b.0) (seen_holds (And g h) is h parts.1 (Contains-later g (h ∷ []) h (Contains-head h [])) b.1)
       holds_by (Or g h) is parts b =
           ap (λ t. holds w t i) (tree_is (Or g h) is)
           ∙ elim b [
-            | inl x ↦ or_left (now i g) (now i h) (seen_holds (Or g h) is g parts.0 (Contains-here g (h ∷ [])) x)
-            | inr x ↦ or_right (now i g) (now i h) (seen_holds (Or g h) is h parts.1 (Contains-there g (h ∷ []) h (Contains-here h [])) x)
+            | inl x ↦ or_left (now i g) (now i h) (seen_holds (Or g h) is g parts.0 (Contains-head g (h ∷ [])) x)
+            | inr x ↦ or_right (now i g) (now i h) (seen_holds (Or g h) is h parts.1 (Contains-later g (h ∷ []) h (Contains-head h [])) x)
           ]
       holds_by (Implies g h) is parts b = absurd b
       holds_by (Equiv g h) is parts b = absurd b
       holds_by (Until g h) is parts b =
           ap (λ t. holds w t i) (tree_is (Until g h) is)
-          ∙ until_holds g h parts.0 parts.1 (occurs_part (Until g h) is g (Contains-here g (h ∷ []))) (occurs_part (Until g h) is h (Contains-there g (h ∷ []) h (Contains-here h []))) is i s l done
+          ∙ until_holds g h parts.0 parts.1 (occurs_part (Until g h) is g (Contains-head g (h ∷ []))) (occurs_part (Until g h) is h (Contains-later g (h ∷ []) h (Contains-head h []))) is i s l done
       holds_by (Release g h) is parts b =
           ap (λ t. holds w t i) (tree_is (Release g h) is)
-          ∙ release_holds g h parts.0 parts.1 (occurs_part (Release g h) is g (Contains-here g (h ∷ []))) (occurs_part (Release g h) is h (Contains-there g (h ∷ []) h (Contains-here h []))) is i s l done
+          ∙ release_holds g h parts.0 parts.1 (occurs_part (Release g h) is g (Contains-head g (h ∷ []))) (occurs_part (Release g h) is h (Contains-later g (h ∷ []) h (Contains-head h []))) is i s l done
       holds_by (WeakUntil g h) is parts b = absurd b
 
   are_true : (n : ℕ) → AreTrue n

@@ -3,6 +3,7 @@ use Rattle.std.specs.Prelude.{Contains}
 use Rattle.std.proofs.lemmas.Bool.{eqb-true}
 use Rattle.std.proofs.lemmas.List.{get_or-map}
 use Rattle.std.proofs.lemmas.Option.{get_or_from_slice_get, slice_get_within}
+use Rattle.std_lemmas.proofs.Lists.{Contains-head}
 use Rattle.letters_and_lassos.specs.Word.{Word, HasRing, lasso_len, after}
 use Rattle.letters_and_lassos.proofs.Positions.{after_within}
 use Rattle.ltl_formula.specs.declared.nodes.FormulaId.{FormulaId}
@@ -13,7 +14,6 @@ use Rattle.ltl_formula.specs.Nodes.{IsNodeList, IsNodeIn, node_at, tree_at}
 use Rattle.ltl_formula.specs.Truth.{holds}
 use Rattle.obligation_sets.specs.declared.sets.Covering.{Covering}
 use Rattle.obligation_sets.proofs.Implied.AsksFor.{in_set}
-use Rattle.obligation_sets.proofs.Lists.{Contains-here}
 use Rattle.machine_model.specs.Accepts.{Accepts}
 use Rattle.machine_model.specs.Automaton.{AutomatonModel}
 use Rattle.machine_model.proofs.Paths.{path_ends}
@@ -55,7 +55,7 @@ module _ (covering : Covering) (ns : List Node) (f : FormulaId) (list : IsNodeLi
         ap (λ (s : State). eqb s.counter (length (untils_of ns f))) (sym (get_or_from_slice_get found.states a.state first.0 first.0 first.1))
         ∙ sym (get_or-map (λ (s : State). eqb s.counter (length (untils_of ns f))) found.states a.state first.0 false (slice_get_within found.states a.state first.0 first.1))
         ∙ a.rejecting in
-        set_is_true covering ns list (untils_of ns f) w ring f numbered a.position first.0 inside (eqb-true first.0.counter (length (untils_of ns f)) rejects) a.further cycle a.steps 0 (start_state f) begins first.2 f itself (in_set (Contains-here f []))
+        set_is_true covering ns list (untils_of ns f) w ring f numbered a.position first.0 inside (eqb-true first.0.counter (length (untils_of ns f)) rejects) a.further cycle a.steps 0 (start_state f) begins first.2 f itself (in_set (Contains-head f []))
 
     accepted_where_true : holds w (tree_at ns f) 0 ≡ true → Accepts (automaton_from (untils_of ns f) found) w
     accepted_where_true h = accepted covering ns w ring f finished.rounds found sound finished.all (true_formulas_have_paths covering ns f w list stands normal ring h)

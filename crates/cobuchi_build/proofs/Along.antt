@@ -4,6 +4,7 @@ use Rattle.std.proofs.lemmas.Bool.{cases_eq, cases_lt}
 use Rattle.std.proofs.lemmas.List.{length-map, length-replicate, length-set}
 use Rattle.std.proofs.lemmas.List.Elements.{All-contains, All-cons, All-nil, All-weaker}
 use Rattle.std.proofs.lemmas.Option.{get_or_from_slice_get, slice_get-get_or, slice_get_read, slice_get_within}
+use Rattle.std_lemmas.proofs.Lists.{Contains-slice_get}
 use Rattle.ltl_formula.specs.declared.nodes.FormulaId.{FormulaId}
 use Rattle.ltl_formula.specs.declared.nodes.Node.{Node}
 use Rattle.ltl_formula.specs.declared.nodes.TheConstants.{MAX_NODES}
@@ -28,7 +29,7 @@ use Rattle.cobuchi_build.specs.Occurring.{is_until, marked_down, occurring, oper
 use Rattle.cobuchi_build.specs.Sizes.{HasRoom, HasTooMany}
 use Rattle.cobuchi_build.proofs.Growth.{IsPrefix-at, IsPrefix-before, IsPrefix-length}
 use Rattle.cobuchi_build.proofs.Rounds.{GrowsTo, GrowsTo-refl, closed_upto, explored_upto, fold_grows}
-use Rattle.cobuchi_build.proofs.Sound.{FromCover, IsGood, IsSound, contains_at, explored_sound}
+use Rattle.cobuchi_build.proofs.Sound.{FromCover, IsGood, IsSound, explored_sound}
 use Rattle.obligation_sets.proofs.Flags.{fold_length}
 
 pub start_normal : (ns : List Node) (f : FormulaId) → IsNodeIn ns f → IsNormal (tree_at ns f) → AreNormal ns (f ∷ [])
@@ -57,7 +58,7 @@ module _ (covering : Covering) (limits : AutomatonLimits) (ns : List Node) (list
 
   module _ (state : State) (at : slice_get found.states number ≡ Some state) where
     state_good : IsGood covering ns untils state
-    state_good = All-contains (IsGood covering ns untils) found.states state sound.good (contains_at found.states number state at)
+    state_good = All-contains (IsGood covering ns untils) found.states state sound.good (Contains-slice_get found.states number state at)
 
     pub state_stands : All (IsNodeIn ns) state.set
     state_stands = All-weaker (λ g. IsNodeIn ns g × IsNormal (tree_at ns g)) (IsNodeIn ns) (λ g h. h.0) state.set state_good.normal

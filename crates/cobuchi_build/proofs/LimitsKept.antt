@@ -4,6 +4,7 @@ use Rattle.std.specs.Prelude.{Contains}
 use Rattle.std.proofs.lemmas.Bool.{cases_lt}
 use Rattle.std.proofs.lemmas.List.{length-map}
 use Rattle.std.proofs.lemmas.List.Elements.{All-contains}
+use Rattle.std_lemmas.proofs.Lists.{All-from_contains}
 use Rattle.letters_and_lassos.specs.declared.cubes.Cube.{Cube}
 use Rattle.ltl_formula.specs.declared.nodes.FormulaId.{FormulaId}
 use Rattle.ltl_formula.specs.declared.nodes.Node.{Node}
@@ -15,7 +16,6 @@ use Rattle.obligation_sets.specs.Reduced.{covers_by}
 use Rattle.text_limits.specs.declared.AutomatonLimits.{AutomatonLimits}
 use Rattle.obligation_sets.specs.CoverSignals as cover
 use Rattle.obligation_sets.proofs.NamedSignals.{covers_name_signals}
-use Rattle.obligation_sets.proofs.NextStep.{All-from_contains}
 use Rattle.machine_model.specs.declared.automata.Edge.{Edge}
 use Rattle.machine_model.specs.Automaton.{AutomatonModel, states_of}
 use Rattle.machine_model.specs.Problem.{NamesSignals}

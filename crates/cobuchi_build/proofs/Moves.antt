@@ -6,6 +6,7 @@ use Rattle.std.proofs.lemmas.List.{get_or-drop}
 use Rattle.std.proofs.lemmas.List.Elements.{All-contains}
 use Rattle.std.proofs.lemmas.List.Folds.{list_any-from_Any}
 use Rattle.std.proofs.lemmas.List.Sums.{fails_before_first}
+use Rattle.std_lemmas.proofs.Lists.{Contains-none, Contains-slice_get}
 use Rattle.letters_and_lassos.specs.Cube.{Fits}
 use Rattle.letters_and_lassos.specs.Word.{Word, letter_at, next}
 use Rattle.letters_and_lassos.specs.declared.cubes.Cube.{Cube}
@@ -20,7 +21,6 @@ use Rattle.obligation_sets.specs.Reduced.{cover_by, covers_by}
 use Rattle.obligation_sets.specs.Ids.{has_id, ids_of, is_among, same_id}
 use Rattle.obligation_sets.proofs.BackedLeaves.{LeafOf, Seen}
 use Rattle.obligation_sets.proofs.IdLists.{id_of_flag}
-use Rattle.obligation_sets.proofs.Lists.{Contains-none}
 use Rattle.obligation_sets.proofs.Implied.{AsksFor, asked_done}
 use Rattle.obligation_sets.proofs.NextStep.{Expansion, expansion, left_asked}
 use Rattle.machine_model.specs.Accepts.{Path}
@@ -28,7 +28,7 @@ use Rattle.machine_model.specs.Automaton.{HasEdge}
 use Rattle.cobuchi_build.specs.declared.exploring.State.{State}
 use Rattle.cobuchi_build.specs.Built.{automaton_from}
 use Rattle.cobuchi_build.specs.Explored.{Explored, counter_after, state_after}
-use Rattle.cobuchi_build.proofs.Sound.{FromCover, IsGood, IsSound, begin_of, contains_at}
+use Rattle.cobuchi_build.proofs.Sound.{FromCover, IsGood, IsSound, begin_of}
 
 -- an until that is put off holds the counter back
 postponed_test : (postponed : List FormulaId) (f : FormulaId) → Contains postponed f → is_among postponed f ≡ true
@@ -114,7 +114,7 @@ module _ (covering : Covering) (ns : List Node) (list : IsNodeList ns) (untils :
         let here : Some s ≡ Some fc.state = sym at ∙ fc.at in
         let is_state : s ≡ fc.state = cc in
         let there : Contains (covers_by covering ns s.set) fc.cover = subst (λ (u : State). Contains (covers_by covering ns u.set) fc.cover) (sym is_state) fc.is_cover in
-        let good : IsGood covering ns untils s = All-contains (IsGood covering ns untils) found.states s sound.good (contains_at found.states q s at) in
+        let good : IsGood covering ns untils s = All-contains (IsGood covering ns untils) found.states s sound.good (Contains-slice_get found.states q s at) in
         let e : Expansion ns list s.set (λ k d h. (good.normal k d h).0) covering fc.cover = expansion ns list s.set (λ k d h. (good.normal k d h).0) covering fc.cover there in
         let same : edge.cube ≡ e.leaf.cube = fc.cube ∙ sym (ap (λ (c : Cover). c.cube) e.is) in (
           state_after untils s.counter fc.cover,

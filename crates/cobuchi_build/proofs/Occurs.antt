@@ -3,6 +3,7 @@ use Rattle.std.specs.Prelude.{Contains}
 use Rattle.std.proofs.lemmas.Bool.{cases_eq, false≢true}
 use Rattle.std.proofs.lemmas.List.{get_or_past, length-replicate, length-set}
 use Rattle.std.proofs.lemmas.List.Elements.{All-contains, filter_passes}
+use Rattle.std_lemmas.proofs.Lists.{Contains-cases, Contains-none}
 use Rattle.ltl_formula.specs.declared.nodes.FormulaId.{FormulaId}
 use Rattle.ltl_formula.specs.declared.nodes.Node.{Node}
 use Rattle.ltl_formula.specs.declared.nodes.Node.TheVariants.{True, False, Signal, Not, Next, Finally, Globally, And, Or, Implies, Equiv, Until, Release, WeakUntil}
@@ -10,17 +11,17 @@ use Rattle.ltl_formula.specs.Nodes.{IsNodeList, PartsBelow, IsNodeIn, node_at}
 use Rattle.obligation_sets.specs.Ids.{has_id, ids_from, ids_of, with_id}
 use Rattle.obligation_sets.proofs.Flags.{all-cases, all-here, all-keeps, fold_length, has_id-none, with_id-cases, with_id-here}
 use Rattle.obligation_sets.proofs.IdLists.{flag_of_id, id, id_of_flag}
-use Rattle.obligation_sets.proofs.Lists.{Contains-cons_cases, Contains-none, filter_from, filter_in}
+use Rattle.obligation_sets.proofs.Lists.{filter_from, filter_in}
 use Rattle.cobuchi_build.specs.Laws.{UntilsAreThoseThatOccur}
 use Rattle.cobuchi_build.specs.Occurring.{OccursIn, is_until, marked_down, occurring, operands_of, untils_of, with_parts}
 use Rattle.cobuchi_build.specs.Occurring.OccursIn.{itself, part}
 
 -- parts stand before wholes
 one_below : (n : ℕ) (g x : FormulaId) → g.0 < n → Contains (g ∷ []) x → x.0 < n
-one_below n g x h c = elim (Contains-cons_cases g [] x c) [ inl same ↦ subst (λ (y : FormulaId). y.0 < n) same h | inr none ↦ absurd (Contains-none x none) ]
+one_below n g x h c = elim (Contains-cases g [] x c) [ inl same ↦ subst (λ (y : FormulaId). y.0 < n) same h | inr none ↦ absurd (Contains-none x none) ]
 
 two_below : (n : ℕ) (g h x : FormulaId) → g.0 < n → h.0 < n → Contains (g ∷ h ∷ []) x → x.0 < n
-two_below n g h x a b c = elim (Contains-cons_cases g (h ∷ []) x c) [ inl same ↦ subst (λ (y : FormulaId). y.0 < n) same a | inr later ↦ one_below n h x b later ]
+two_below n g h x a b c = elim (Contains-cases g (h ∷ []) x c) [ inl same ↦ subst (λ (y : FormulaId). y.0 < n) same a | inr later ↦ one_below n h x b later ]
 
 part_below : (n : ℕ) (node : Node) → PartsBelow n node → (x : FormulaId) → Contains (operands_of node) x → x.0 < n
 part_below n True p x c = absurd (Contains-none x c)

@@ -4,8 +4,9 @@ use Rattle.std.specs.List.{position_or_len}
 use Rattle.std.proofs.lemmas.Bool.{and_parts, cases_eq, cond-true, cond-false, eq-eqb, eqb-true, ne_eqb}
 use Rattle.std.proofs.lemmas.List.{length-drop}
 use Rattle.std.proofs.lemmas.List.Elements.{All-cons, All-contains, All-nil}
-use Rattle.std.proofs.lemmas.Option.{get_or_from_slice_get, slice_get_within}
+use Rattle.std.proofs.lemmas.Option.{slice_get_within}
 use Rattle.std.proofs.lemmas.List.Sums.{prefix_len-le-length}
+use Rattle.std_lemmas.proofs.Lists.{Contains-cases, Contains-head, Contains-later, Contains-none, All-from_contains, Contains-slice_get}
 use Rattle.ltl_formula.specs.declared.nodes.FormulaId.{FormulaId}
 use Rattle.ltl_formula.specs.declared.nodes.Node.{Node}
 use Rattle.ltl_formula.specs.Nodes.{IsNodeList}
@@ -16,8 +17,6 @@ use Rattle.obligation_sets.specs.Ids.{is_among, same_ids}
 use Rattle.obligation_sets.specs.NextStep.{AreNormal}
 use Rattle.obligation_sets.proofs.Cubes.{same_cube}
 use Rattle.obligation_sets.proofs.Distinct.{all_from, all_in, same_ids-decides}
-use Rattle.obligation_sets.proofs.Lists.{Contains-cons_cases, Contains-here, Contains-none, Contains-there}
-use Rattle.obligation_sets.proofs.NextStep.{All-from_contains}
 use Rattle.machine_model.specs.declared.automata.Edge.{Edge}
 use Rattle.cobuchi_build.specs.declared.exploring.State.{State}
 use Rattle.cobuchi_build.specs.Explored.{Explored, counter_after, expanding, explored, meeting, same_edge, same_state, start_state, state_after}
@@ -67,9 +66,6 @@ counter_within untils counter postponed h =
     prefix_len-le-length _ (drop (begin_of untils counter) untils) in
     let l : length (drop (begin_of untils counter) untils) ≡ length untils - begin_of untils counter = length-drop (begin_of untils counter) untils in
     omega arith
-
-pub contains_at : {X : Type 0} (xs : List X) (k : ℕ) (x : X) → slice_get xs k ≡ Some x → Contains xs x
-contains_at xs k x at = (k, slice_get_within xs k x at, get_or_from_slice_get xs k x x at)
 
 module _ (covering : Covering) (ns : List Node) (untils : List FormulaId) where
   -- the edge comes from a cover of its source
@@ -123,13 +119,13 @@ module _ (covering : Covering) (ns : List Node) (untils : List FormulaId) where
     target_at found c = insert_key-at same_state same_state-decides found.states (target_of c)
 
     edge_in : (found : Explored) (c : Cover) → Contains (met found c).edges (edge_of found c)
-    edge_in found c = all_in same_edge same_edge-decides found.edges (edge_of found c ∷ []) (edge_of found c) (Contains-here (edge_of found c) [])
+    edge_in found c = all_in same_edge same_edge-decides found.edges (edge_of found c ∷ []) (edge_of found c) (Contains-head (edge_of found c) [])
 
     edge_cases : (found : Explored) (c : Cover) (e : Edge) → Contains (met found c).edges e → Contains found.edges e ⊎ (edge_of found c ≡ e)
     edge_cases found c e h =
         elim (all_from same_edge found.edges (edge_of found c ∷ []) e h) [
           | inl old ↦ inl old
-          | inr new ↦ elim (Contains-cons_cases (edge_of found c) [] e new) [ inl same ↦ inr same | inr none ↦ absurd (Contains-none e none) ]
+          | inr new ↦ elim (Contains-cases (edge_of found c) [] e new) [ inl same ↦ inr same | inr none ↦ absurd (Contains-none e none) ]
         ]
 
     -- the edge is that of one of these covers
@@ -144,14 +140,14 @@ module _ (covering : Covering) (ns : List Node) (untils : List FormulaId) where
     fold_edges found [] e h = inl h
     fold_edges found (c ∷ cs) e h =
         elim (fold_edges (met found c) cs e h) [
-          | inr made ↦ inr (record { cover = made.cover; among = Contains-there c cs made.cover made.among; from = made.from; cube = made.cube; target = made.target })
+          | inr made ↦ inr (record { cover = made.cover; among = Contains-later c cs made.cover made.among; from = made.from; cube = made.cube; target = made.target })
           | inl before ↦ elim (edge_cases found c e before) [
             | inl old ↦ inl old
             | inr same ↦
                 let grown : GrowsTo (met found c) (fold met (met found c) cs) = fold_grows untils number counter (met found c) cs in
                 inr (subst (λ (d : Edge). Made (c ∷ cs) (fold met (met found c) cs) d) same (record {
                   cover = c;
-                  among = Contains-here c cs;
+                  among = Contains-head c cs;
                   from = refl;
                   cube = refl;
                   target = IsPrefix-at (met found c).states (fold met (met found c) cs).states (position_or_len (same_state (target_of c)) found.states) (target_of c) grown.states (target_at found c);
@@ -162,7 +158,7 @@ module _ (covering : Covering) (ns : List Node) (untils : List FormulaId) where
     fold_covers : (found : Explored) (cs : List Cover) (c : Cover) → Contains cs c → HasCover (fold met found cs) number counter c
     fold_covers found [] c h = absurd (Contains-none c h)
     fold_covers found (d ∷ cs) c h =
-        elim (Contains-cons_cases d cs c h) [
+        elim (Contains-cases d cs c h) [
           | inl same ↦
               subst (λ (x : Cover). HasCover (fold met (met found d) cs) number counter x) same
               (HasCover-grown (met found d) (fold met (met found d) cs) number counter d (fold_grows untils number counter (met found d) cs)
@@ -173,12 +169,12 @@ module _ (covering : Covering) (ns : List Node) (untils : List FormulaId) where
     fold_good : (found : Explored) (cs : List Cover) → ((c : Cover) → Contains cs c → IsGood (target_of c)) → All IsGood found.states → All IsGood (fold met found cs).states
     fold_good found [] each all = all
     fold_good found (c ∷ cs) each all =
-        fold_good (met found c) cs (λ d h. each d (Contains-there c cs d h))
+        fold_good (met found c) cs (λ d h. each d (Contains-later c cs d h))
         (All-from_contains IsGood (met found c).states (λ s h.
         elim (all_from same_state found.states (target_of c ∷ []) s h) [
           | inl old ↦ All-contains IsGood found.states s all old
-          | inr new ↦ elim (Contains-cons_cases (target_of c) [] s new) [
-            | inl same ↦ subst IsGood same (each c (Contains-here c cs))
+          | inr new ↦ elim (Contains-cases (target_of c) [] s new) [
+            | inl same ↦ subst IsGood same (each c (Contains-head c cs))
             | inr none ↦ absurd (Contains-none s none)
           ]
         ]))
@@ -237,7 +233,7 @@ module _ (covering : Covering) (ns : List Node) (untils : List FormulaId) where
         }
       where
         All-at : (k : ℕ) (s : State) → slice_get found.states k ≡ Some s → All IsGood found.states → IsGood s
-        All-at k s at all = All-contains IsGood found.states s all (contains_at found.states k s at)
+        All-at k s at all = All-contains IsGood found.states s all (Contains-slice_get found.states k s at)
 
         earlier : (q : ℕ) (s : State) → q < n → slice_get (fold (meeting untils n state.counter) found (covers_by covering ns state.set)).states q ≡ Some s → (c : Cover) → Contains (covers_by covering ns s.set) c → HasCover (fold (meeting untils n state.counter) found (covers_by covering ns state.set)) q s.counter c
         earlier q s less at c there =

@@ -5,6 +5,7 @@ use Rattle.std.proofs.lemmas.Bool.{cond-true, cond-false}
 use Rattle.std.proofs.lemmas.List.{map-append}
 use Rattle.std.proofs.lemmas.List.Elements.{All-append, All-contains}
 use Rattle.std.proofs.lemmas.Option.{slice_get-map}
+use Rattle.std_lemmas.proofs.Lists.{Contains-slice_get}
 use Rattle.indexmap.specs.IndexSet.{insert_key}
 use Rattle.ltl_formula.specs.declared.nodes.FormulaId.{FormulaId}
 use Rattle.ltl_formula.specs.declared.nodes.Node.{Node}
@@ -16,7 +17,6 @@ use Rattle.obligation_sets.specs.Ids.{same_ids}
 use Rattle.obligation_sets.proofs.Distinct.{same_ids-decides}
 use Rattle.cobuchi_build.specs.CoverTable.{IsTableOf, TableModel}
 use Rattle.cobuchi_build.proofs.Growth.{insert_key-at}
-use Rattle.cobuchi_build.proofs.Sound.{contains_at}
 
 -- what stands at the place of a set
 pub covers_at : (covering : Covering) (ns : List Node) (t : TableModel) (place : ℕ) (set : List FormulaId) → IsTableOf covering ns t → slice_get t.sets place ≡ Some set → slice_get t.covers place ≡ Some (covers_by covering ns set)
@@ -42,7 +42,7 @@ module _ (covering : Covering) (ns : List Node) (set : List FormulaId) (sets : L
     old_covers = covers_at covering ns (record { sets = sets; covers = covers }) place set inside there
 
     pub old_few : length (set_leaves ns set) ≤ 100000
-    old_few = All-contains (λ s. length (set_leaves ns s) ≤ 100000) sets set inside.few (contains_at sets place set there)
+    old_few = All-contains (λ s. length (set_leaves ns s) ≤ 100000) sets set inside.few (Contains-slice_get sets place set there)
 
   module _ (fresh : list_any (same_ids key) sets ≡ false) (made : List Cover) (right : made ≡ covers_by covering ns set) (few : length (set_leaves ns set) ≤ 100000) (new : List (List Cover)) (grown : new ≡ covers ++ made ∷ []) where
     more_keys : keys ≡ sets ++ set ∷ []

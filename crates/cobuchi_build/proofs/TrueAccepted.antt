@@ -3,6 +3,7 @@ use Rattle.std.proofs.Common.{◌≡◌, ℕ, zero, suc, ◌+◌, ◌-◌, ◌*�
 use Rattle.std.proofs.lemmas.Bool.{cases_eq, eq-eqb}
 use Rattle.std.proofs.lemmas.List.{get_or-map}
 use Rattle.std.proofs.lemmas.Option.{get_or_from_slice_get, slice_get_within}
+use Rattle.std.proofs.lemmas.Nat.{same_from_place}
 use Rattle.letters_and_lassos.specs.Word.{Word, HasRing, after, lasso_len, nth_letter}
 use Rattle.letters_and_lassos.proofs.Positions.{after-suc, after_within, first_position}
 use Rattle.ltl_formula.specs.declared.nodes.FormulaId.{FormulaId}
@@ -16,7 +17,7 @@ use Rattle.cobuchi_build.specs.Built.{automaton_from}
 use Rattle.cobuchi_build.specs.Explored.{Explored}
 use Rattle.cobuchi_build.specs.Occurring.{untils_of}
 use Rattle.cobuchi_build.specs.Paths.{HasPath, IsStep}
-use Rattle.cobuchi_build.proofs.Places.{place_below, same_place}
+use Rattle.cobuchi_build.proofs.Places.{place_below}
 use Rattle.cobuchi_build.proofs.Sound.{HasCover, IsSound}
 
 module _ (covering : Covering) (ns : List Node) (w : Word) (ring : HasRing w) (f : FormulaId) (n : ℕ) (found : Explored)
@@ -93,7 +94,7 @@ module _ (covering : Covering) (ns : List Node) (w : Word) (ring : HasRing w) (f
       let t : ℕ = time again.first in
       let u : ℕ = time again.second in
       let same : (after w 0 t ≡ after w 0 u) × ((placed t).place ≡ (placed u).place) =
-      same_place (after w 0 t) (after w 0 u) (length found.states) (placed t).place (placed u).place (place_inside t) (place_inside u) again.same in
+      same_from_place (after w 0 t) (placed t).place (after w 0 u) (placed u).place (length found.states) (place_inside t) (place_inside u) again.same in
       let before : t < u = times_rise again.first again.second again.before in
       let round_trip : Path automaton w (suc (u - suc t)) (after w 0 t) (placed t).place (after w 0 u) (placed u).place = along t u (suc (u - suc t)) (omega arith) in
       record {

@@ -1,19 +1,20 @@
 -- The steps of the analysis of a conflict.
-use Rattle.std.proofs.Common.{◌≡◌, ◌≢◌, ℕ, suc, zero, ◌<◌, ◌≤◌, Bool, true, false, not, List, [], ◌∷◌, ◌++◌, ◌⊎◌, inl, inr, Option, Some, None, reverse, take, slice_get, length, Contains, All, refl, sym, subst, ap, ◌∙◌, true≢false, arith}
+use Rattle.std.proofs.Common.{◌≡◌, ◌≢◌, ℕ, suc, zero, ◌<◌, ◌≤◌, true, false, List, [], ◌∷◌, ◌++◌, ◌⊎◌, inl, inr, Option, Some, None, reverse, take, slice_get, length, Contains, All, refl, sym, subst, ap, ◌∙◌, true≢false, arith}
 use Rattle.std.specs.Option.{option_map_or, option_and_then}
 use Rattle.std.proofs.lemmas.List.{reverse-append, length-take}
 use Rattle.std.proofs.lemmas.List.Elements.{All-contains, Contains-push, Contains-append_left, Contains-push_cases}
 use Rattle.std.proofs.lemmas.Option.{slice_get_within}
+use Rattle.std_lemmas.proofs.Booleans.{not_same}
+use Rattle.std_lemmas.proofs.Lists.{Contains-head, Contains-later, Contains-none, Contains-cases, Contains-slice_get, All-from_contains, slice_get-take}
 use Rattle.propositional_logic.specs.Literal.{Literal, negated}
 use Rattle.propositional_logic.specs.Clause.{IsClause}
 use Rattle.propositional_logic.specs.Partial.{is_falsified, unit_of}
-use Rattle.propositional_logic.proofs.Members.{Contains-head, Contains-later, Contains-none, Contains-cases}
 use Rattle.propositional_logic.proofs.Tests.{Decides-is_falsified, unit_found}
 use Rattle.refutation_log.specs.Follows.{clause_named, is_falsified_named, leads_to_conflict}
 use Rattle.unit_propagate.specs.declared.marks.Mark.{Mark}
 use Rattle.unit_propagate.specs.Trail.{IsTrail, literals_of}
 use Rattle.unit_propagate.specs.Sound.{IsReason}
-use Rattle.unit_propagate.proofs.Places.{Contains-slice_get, slice_get-Contains, All-from_contains}
+use Rattle.unit_propagate.proofs.Places.{slice_get-Contains}
 use Rattle.unit_propagate.proofs.TrailLemmas.{literal-of, mark-of}
 use Rattle.unit_propagate.proofs.PropagatorLemmas.{same_literal, negated-negated}
 use Rattle.conflict_learn.specs.Learnt.{level_in, clause_level}
@@ -39,20 +40,9 @@ falsified_clause clauses trues n h = by (clause_named clauses n) refl
     by None e = absurd (true≢false (sym h ∙ ap (λ o. option_map_or (is_falsified trues) o false) e))
     by (Some c) e = (c, e, sym (ap (λ o. option_map_or (is_falsified trues) o false) e) ∙ h)
 
-not_same : (b : Bool) → not b ≡ b → ⊥
-not_same true h = absurd (cc)
-not_same false h = absurd (cc)
-
 -- a literal isn't its own opposite
 apart : (l : Literal) → negated l ≢ l
 apart l e = not_same l.positive (ap (λ (k : Literal). k.positive) e)
-
--- a place among the first ones
-pub slice_get-take : {X : Type 0} (n : ℕ) (xs : List X) (i : ℕ) (x : X) → slice_get (take n xs) i ≡ Some x → slice_get xs i ≡ Some x
-slice_get-take zero xs i x h = absurd (cc)
-slice_get-take (suc n) [] i x h = absurd (cc)
-slice_get-take (suc n) (y ∷ xs) zero x h = h
-slice_get-take (suc n) (y ∷ xs) (suc i) x h = slice_get-take n xs i x h
 
 -- ---- the start
 

@@ -3,8 +3,9 @@ use Rattle.std.proofs.Common.{◌≡◌, ◌≢◌, ◌+◌, ◌<◌, ◌≤◌,
 use Rattle.std.proofs.lemmas.List.Elements.{All-weaker}
 use Rattle.std.proofs.lemmas.List.Quantifiers.{all_pairs_push}
 use Rattle.std.proofs.lemmas.Option.{slice_get_within}
+use Rattle.std_lemmas.proofs.Lists.{slice_get-push}
 use Rattle.propositional_logic.specs.Literal.{Literal}
-use Rattle.refutation_log.proofs.Lists.{slice_get-push, take-append, take-append_all}
+use Rattle.refutation_log.proofs.Lists.{take-append, take-append_all}
 use Rattle.unit_propagate.specs.declared.marks.Mark.{Mark}
 use Rattle.unit_propagate.specs.Trail.{highest_level, literals_of}
 use Rattle.unit_propagate.specs.Sound.{IsReason, AreSoundMarks}

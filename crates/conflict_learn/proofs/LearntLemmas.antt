@@ -2,14 +2,13 @@
 use Rattle.std.proofs.Common.{◌≡◌, ℕ, ◌<◌, ◌≤◌, nat_eq, List, [], ◌∷◌, ◌⊎◌, inl, inr, Some, map, reverse, filter, slice_get, length, Contains, refl, sym, subst, ap, ◌∙◌, arith}
 use Rattle.std.proofs.lemmas.Bool.Decides.{Decides-eqb}
 use Rattle.std.proofs.lemmas.List.Elements.{All-contains}
+use Rattle.std_lemmas.proofs.Lists.{Contains-head, Contains-later, Contains-none, Contains-cases, Contains-slice_get, All-from_contains}
 use Rattle.propositional_logic.specs.Literal.{Literal, negated}
 use Rattle.propositional_logic.specs.Clause.{IsClauseOf, IsWithinVariables, IsTautology}
-use Rattle.propositional_logic.proofs.Members.{Contains-head, Contains-later, Contains-none, Contains-cases}
 use Rattle.propositional_logic.proofs.Tests.{Decides-is_falsified, fails}
 use Rattle.refutation_log.specs.Follows.{Follows}
 use Rattle.unit_propagate.specs.declared.marks.Mark.{Mark}
 use Rattle.unit_propagate.specs.Trail.{IsTrail, literals_of}
-use Rattle.unit_propagate.proofs.Places.{Contains-slice_get, All-from_contains}
 use Rattle.unit_propagate.proofs.TrailLemmas.{literal-of, one_sign}
 use Rattle.unit_propagate.proofs.PropagatorLemmas.{negated-negated}
 use Rattle.conflict_learn.specs.Learnt.{level_in, clause_level, IsLearnt}

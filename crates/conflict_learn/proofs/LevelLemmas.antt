@@ -1,28 +1,24 @@
 -- The level of a variable, and the highest one of a clause.
-use Rattle.std.proofs.Common.{◌≡◌, ◌≢◌, ℕ, suc, zero, ◌<◌, ◌≤◌, nat_eq, Bool, true, false, cond, List, [], ◌∷◌, ◌⊎◌, inl, inr, Some, filter, slice_get, length, Contains, All, refl, sym, subst, ap, ◌∙◌, true≢false, arith}
+use Rattle.std.proofs.Common.{◌≡◌, ◌≢◌, ℕ, ◌<◌, ◌≤◌, nat_eq, Bool, true, false, cond, List, [], ◌∷◌, inl, inr, Some, filter, slice_get, length, Contains, All, refl, sym, subst, ap, ◌∙◌, true≢false, arith}
 use Rattle.std.proofs.lemmas.Bool.Decides.{Decides-eqb}
 use Rattle.std.proofs.lemmas.Bool.{cases_lt}
 use Rattle.std.proofs.lemmas.List.Elements.{All-contains, All-tail}
+use Rattle.std_lemmas.proofs.Naturals.{lt_trichotomy}
+use Rattle.std_lemmas.proofs.Lists.{Contains-head, Contains-later, Contains-none, Contains-cases, Contains-slice_get}
 use Rattle.propositional_logic.specs.Literal.{Literal}
 use Rattle.propositional_logic.specs.Clause.{IsRisingFrom}
-use Rattle.propositional_logic.proofs.Members.{Contains-head, Contains-later, Contains-none, Contains-cases, filter-none}
+use Rattle.propositional_logic.proofs.Members.{filter-none}
 use Rattle.propositional_logic.proofs.Rising.{rising_above}
 use Rattle.unit_propagate.specs.declared.marks.Mark.{Mark}
 use Rattle.unit_propagate.specs.Trail.{IsTrail}
-use Rattle.unit_propagate.proofs.Places.{Contains-slice_get, AllPairs-slice_get}
+use Rattle.unit_propagate.proofs.Places.{AllPairs-slice_get}
 use Rattle.unit_propagate.proofs.TrailLemmas.{one_each}
 use Rattle.unit_propagate.proofs.PropagatorLemmas.{same_literal}
 use Rattle.conflict_learn.specs.Learnt.{level_in, clause_level}
 
-three : (i j : ℕ) → (i < j) ⊎ ((i ≡ j) ⊎ (j < i))
-three zero zero = inr (inl refl)
-three zero (suc j) = inl (omega arith)
-three (suc i) zero = inr (inr (omega arith))
-three (suc i) (suc j) = elim (three i j) [ inl a ↦ inl (omega arith) | inr b ↦ elim b [ inl c ↦ inr (inl (ap suc c)) | inr d ↦ inr (inr (omega arith)) ] ]
-
 -- one place for each variable
 pub same_place : (vars : ℕ) (marks : List Mark) (i j : ℕ) (m n : Mark) → IsTrail vars marks → slice_get marks i ≡ Some m → slice_get marks j ≡ Some n → m.lit.var ≡ n.lit.var → i ≡ j
-same_place vars marks i j m n t p q e = elim (three i j) [
+same_place vars marks i j m n t p q e = elim (lt_trichotomy i j) [
   | inl a ↦ absurd (AllPairs-slice_get (λ (x y : Mark). x.lit.var ≢ y.lit.var) marks i j m n t.once a p q e)
   | inr b ↦ elim b [
     | inl s ↦ s
@@ -35,7 +31,7 @@ same_mark marks i j m n e p q = let r : slice_get marks j ≡ Some m = subst (λ
 
 -- levels never fall
 pub level_up : (vars : ℕ) (marks : List Mark) (i j : ℕ) (m n : Mark) → IsTrail vars marks → i ≤ j → slice_get marks i ≡ Some m → slice_get marks j ≡ Some n → m.level ≤ n.level
-level_up vars marks i j m n t le p q = elim (three i j) [
+level_up vars marks i j m n t le p q = elim (lt_trichotomy i j) [
   | inl a ↦ AllPairs-slice_get (λ (x y : Mark). x.level ≤ y.level) marks i j m n t.rising a p q
   | inr b ↦ elim b [ inl s ↦ (let e : m.level ≡ n.level = ap (λ (x : Mark). x.level) (same_mark marks i j m n s p q) in omega arith) | inr c ↦ absurd (omega arith) ]
 ]

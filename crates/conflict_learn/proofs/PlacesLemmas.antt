@@ -4,8 +4,7 @@ use Rattle.std.specs.Prelude.{slice_set}
 use Rattle.std.proofs.lemmas.Bool.{cases_Bool, cases_eq, cases_lt, false≢true}
 use Rattle.std.proofs.lemmas.List.{get_or-set_same, get_or-set_other, length-take}
 use Rattle.std.proofs.lemmas.List.Elements.{All-contains}
-use Rattle.propositional_logic.proofs.Members.{Contains-head, Contains-later, Contains-none, Contains-cases}
-use Rattle.unit_propagate.proofs.Places.{All-from_contains}
+use Rattle.std_lemmas.proofs.Lists.{Contains-head, Contains-later, Contains-none, Contains-cases, All-from_contains, flag_within}
 use Rattle.conflict_learn.specs.Places.{Gains, places_from, places_of}
 
 flag_of : (k : ℕ) (flags : List Bool) (q : ℕ) → Contains (places_from k flags) q → (i : ℕ) × (q ≡ k + i) × (get_or flags i false ≡ true)
@@ -37,11 +36,6 @@ is_flag flags q c =
 
 has_flag : (flags : List Bool) (q : ℕ) → get_or flags q false ≡ true → Contains (places_of flags) q
 has_flag flags q e = rw (zero-add q) at (place_of 0 flags q e)
-
-flag_within : (flags : List Bool) (q : ℕ) → get_or flags q false ≡ true → q < length flags
-flag_within [] q e = absurd (false≢true e)
-flag_within (b ∷ flags) zero e = omega arith
-flag_within (b ∷ flags) (suc q) e = let h : q < length flags = flag_within flags q e in omega arith
 
 none_set : (k : ℕ) (flags : List Bool) → ((i : ℕ) → get_or flags i false ≡ false) → places_from k flags ≡ []
 none_set k [] unset = refl

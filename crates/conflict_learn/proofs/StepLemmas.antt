@@ -5,12 +5,12 @@ use Rattle.std.proofs.lemmas.Bool.Decides.{Decides-eqb}
 use Rattle.std.proofs.lemmas.List.{take_more}
 use Rattle.std.proofs.lemmas.List.Elements.{All-contains, Contains-push_cases}
 use Rattle.std.proofs.lemmas.Option.{slice_get_within}
+use Rattle.std_lemmas.proofs.Lists.{Contains-slice_get}
 use Rattle.propositional_logic.specs.Literal.{Literal, negated}
 use Rattle.refutation_log.specs.Follows.{clause_named}
 use Rattle.unit_propagate.specs.declared.marks.Mark.{Mark}
 use Rattle.unit_propagate.specs.Trail.{IsTrail, literals_of}
 use Rattle.unit_propagate.specs.Sound.{AreSoundMarks}
-use Rattle.unit_propagate.proofs.Places.{Contains-slice_get}
 use Rattle.conflict_learn.specs.Places.{Gains}
 use Rattle.conflict_learn.specs.Analysis.{HasFalsifier, FalsifiesOne, AreUpTo, IsResolved, IsLeft, AddsFalsifier}
 use Rattle.conflict_learn.proofs.LevelLemmas.{level_up}

@@ -1,9 +1,9 @@
 -- The steps of the analysis, as the functions make them.
 use Rattle.std.proofs.Common.{◌≡◌, ℕ, ◌-◌, ◌<◌, true, List, [], ◌∷◌, ◌++◌, ◌⊎◌, inl, inr, Some, slice_get, length, Contains, All, refl, sym, subst, ap, ◌∙◌}
 use Rattle.std.specs.Prelude.{Result, Ok, Err, OnOk, IfOk}
+use Rattle.std_lemmas.proofs.Lists.{Contains-none}
 use Rattle.propositional_logic.specs.Literal.{Literal, negated}
 use Rattle.propositional_logic.specs.Partial.{is_falsified}
-use Rattle.propositional_logic.proofs.Members.{Contains-none}
 use Rattle.refutation_log.specs.Follows.{clause_named, is_falsified_named}
 use Rattle.unit_propagate.specs.declared.marks.Mark.{Mark}
 use Rattle.unit_propagate.specs.Trail.{IsTrail, literals_of}

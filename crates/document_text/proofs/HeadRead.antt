@@ -1,8 +1,10 @@
 -- The line of a log's head.
 use Rattle.std.proofs.Common.{◌≡◌, ℕ, ◌-◌, ◌^◌, ◌<◌, Bool, true, false, cond, Option, Some, None, List, [], ◌∷◌, ◌++◌, refl, sym, ap, subst, ◌∙◌, arith, decimal}
-use Rattle.std.specs.Prelude.{option_map, option_and_then, unwrap_or}
+use Rattle.std.specs.Prelude.{option_and_then, unwrap_or}
 use Rattle.std.specs.Option.{option_map_or}
 use Rattle.std.proofs.lemmas.List.Elements.{All-append, All-cons}
+use Rattle.std_lemmas.proofs.Options.{chained_some, mapped_some}
+use Rattle.std_lemmas.proofs.Options.{chained_some, mapped_some}
 use Rattle.letters_and_lassos.specs.declared.kinds.Side.{Side}
 use Rattle.letters_and_lassos.specs.declared.kinds.Side.TheVariants.{System, Environment}
 use Rattle.aiger_text.specs.Words.{is_byte, cut_at, number_within}
@@ -16,15 +18,6 @@ use Rattle.document_text.specs.Order.{place, may_follow}
 use Rattle.document_text.specs.Header.{behind}
 use Rattle.document_text.specs.Logs.{head_behind, head_in, next_head}
 use Rattle.document_text.proofs.LineRead.{behind_is, cut_is, number_is, words_lack}
-
--- a step that gave something
-pub step : {X Y : Type 0} (f : X → Option Y) (o : Option X) (y : Y) → option_and_then f o ≡ Some y → (x : X) × (o ≡ Some x) × (f x ≡ Some y)
-step f None y is = absurd (cc)
-step f (Some x) y is = (x, refl, is)
-
-pub last_step : {X Y : Type 0} (f : X → Y) (o : Option X) (y : Y) → option_map f o ≡ Some y → (x : X) × (o ≡ Some x) × (f x ≡ y)
-last_step f None y is = absurd (cc)
-last_step f (Some x) y is = (x, refl, ap (λ o. unwrap_or o y) is)
 
 -- the numbers of a head fit it
 pub record HasSizes (head : Head) : Type 0 where
@@ -46,13 +39,13 @@ module _ (side : Side) (text : List ℕ) (head : Head) where
 
   pub head_behind_is : head_behind side text ≡ Some head → IsBehind
   head_behind_is is =
-      let a = step _ (cut_at 32 text) head is in
-      let b = step _ (cut_at 32 a.0.1) head a.2 in
-      let d = step _ (cut_at 32 b.0.1) head b.2 in
-      let size = step _ (number_within (2 ^ 32 - 1) a.0.0) head d.2 in
-      let vars = step _ (number_within (2 ^ 32 - 1) b.0.0) head size.2 in
-      let base = step _ (number_within (2 ^ 64 - 1) d.0.0) head vars.2 in
-      let count = last_step _ (number_within (2 ^ 64 - 1) d.0.1) head base.2 in
+      let a = chained_some _ (cut_at 32 text) head is in
+      let b = chained_some _ (cut_at 32 a.0.1) head a.2 in
+      let d = chained_some _ (cut_at 32 b.0.1) head b.2 in
+      let size = chained_some _ (number_within (2 ^ 32 - 1) a.0.0) head d.2 in
+      let vars = chained_some _ (number_within (2 ^ 32 - 1) b.0.0) head size.2 in
+      let base = chained_some _ (number_within (2 ^ 64 - 1) d.0.0) head vars.2 in
+      let count = mapped_some _ (number_within (2 ^ 64 - 1) d.0.1) head base.2 in
       let n1 = number_is (2 ^ 32 - 1) size.0 a.0.0 (omega arith) size.1 in
       let n2 = number_is (2 ^ 32 - 1) vars.0 b.0.0 (omega arith) vars.1 in
       let n3 = number_is (2 ^ 64 - 1) base.0 d.0.0 (omega arith) base.1 in
@@ -89,7 +82,7 @@ head_by : (line : List ℕ) (head : Head) (o : Option (List ℕ)) → behind (lo
     → option_map_or (head_behind System) o (option_and_then (head_behind Environment) (behind (log_words Environment) line)) ≡ Some head → IsHead line head
 head_by line head (Some text) e is = of_words System line text head (behind_is (log_words System) line text e) is
 head_by line head None e is =
-    let k = step (head_behind Environment) (behind (log_words Environment) line) head is in
+    let k = chained_some (head_behind Environment) (behind (log_words Environment) line) head is in
     of_words Environment line k.0 head (behind_is (log_words Environment) line k.0 k.1) k.2
 
 pub head_is : (line : List ℕ) (head : Head) → head_in line ≡ Some head → IsHead line head
@@ -155,7 +148,7 @@ follow_by order last head other false e is = absurd (cc)
 pub next_is : (order : Order) (last : Place) (line : List ℕ) (head : Head) → next_head order last line ≡ Some head
     → IsHead line head × (may_follow order last (place head.side head.size) ≡ true)
 next_is order last line head is =
-    let k = step (λ (head : Head). cond (may_follow order last (place head.side head.size)) (Some head) None) (head_in line) head is in
+    let k = chained_some (λ (head : Head). cond (may_follow order last (place head.side head.size)) (Some head) None) (head_in line) head is in
     let f = follow_by order last k.0 head (may_follow order last (place k.0.side k.0.size)) refl k.2 in
     (head_is line head (k.1 ∙ ap Some f.0), subst (λ (h : Head). may_follow order last (place h.side h.size) ≡ true) f.0 f.1)
 

@@ -7,6 +7,7 @@ use Rattle.std.specs.Char.{is_ascii_digit}
 use Rattle.std.specs.Cmp.Lexicographic.{bytes_decides}
 use Rattle.std.proofs.lemmas.Bool.{eqb-true, le-leb, leb-true, or_cases, and_parts, and_from}
 use Rattle.std.proofs.lemmas.List.{append_cancel_left}
+use Rattle.std_lemmas.proofs.Options.{mapped_some}
 use Rattle.letters_and_lassos.specs.declared.kinds.Kind.{Kind}
 use Rattle.letters_and_lassos.specs.declared.kinds.Kind.TheVariants.{Mealy, Moore}
 use Rattle.aiger_text.specs.Words.{number_within}
@@ -21,7 +22,6 @@ use Rattle.document_text.specs.Header.{entries_in, found_at, found_in, front, he
 use Rattle.document_text.specs.WellFormed.{IsFoundNumber}
 use Rattle.document_text.proofs.LineRead.{IsInRange, in_range_is, in_range_read, range_is, range_read, follows_words, words_read, number_is, front_is, front_read, text_lacks, words_lack}
 use Rattle.document_text.proofs.VerdictRead.{number_in, any_verdict_is, verdict_parts, verdict_read, verdict_lacks}
-use Rattle.document_text.proofs.HeadRead.{last_step}
 
 -- ---- lines one after the other
 
@@ -71,7 +71,7 @@ entries_by line entries true e is =
     subst (λ (o : Option ℕ). IsEntries line o) none (record { line_is = (bytes_decides line (codes "entries none")).0 e; within = tt })
 entries_by line entries false e is =
     let k = follows_words (codes "entries ") line (λ word. option_map (λ n. Some n) (number_within 250000 word)) entries is in
-    let m = last_step (λ (n : ℕ). Some n) (number_within 250000 k.0) entries k.2 in
+    let m = mapped_some (λ (n : ℕ). Some n) (number_within 250000 k.0) entries k.2 in
     let w = number_is 250000 m.0 k.0 (omega arith) m.1 in
     entries_some line m.0 entries (k.1 ∙ ap (λ (t : List ℕ). codes "entries " ++ t) w.word_is) w.within m.2
 

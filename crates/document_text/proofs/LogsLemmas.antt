@@ -1,7 +1,7 @@
 -- The logs read one after the other, in one way.
 use Rattle.std.proofs.Common.{◌≡◌, ℕ, ◌+◌, ◌<◌, ◌≤◌, Option, Some, None, List, [], ◌∷◌, ◌++◌, length, refl, sym, ap, subst, ◌∙◌, arith, append_assoc}
-use Rattle.std.specs.Prelude.{unwrap_or}
 use Rattle.std.proofs.lemmas.List.{append-nil, length-append}
+use Rattle.std_lemmas.proofs.Options.{some_none, some_same}
 use Rattle.refutation_log.specs.declared.entries.Entry.{Entry}
 use Rattle.document_text.specs.declared.logs.Head.{Head}
 use Rattle.document_text.specs.declared.order.Order.{Order}
@@ -12,12 +12,6 @@ use Rattle.document_text.specs.Header.{front}
 use Rattle.document_text.specs.Logs.{LogsRead, ReadsLogs, ended, no_head, stopped, whole, AreFirstEntries, bad_behind, behind_end, next_head, part_of}
 use Rattle.document_text.proofs.LineRead.{front_is}
 use Rattle.document_text.proofs.EntriesLemmas.{first_same, stated_length}
-
-pub some_none : {X : Type 0} (o : Option X) (x : X) → o ≡ Some x → o ≡ None → ⊥
-some_none o x some none = let never : Some x ≡ None = sym some ∙ none in absurd (cc)
-
-pub some_same : {X : Type 0} (o : Option X) (x y : X) → o ≡ Some x → o ≡ Some y → x ≡ y
-some_same o x y a b = ap (λ o. unwrap_or o x) (sym a ∙ b)
 
 -- ---- the way so far
 

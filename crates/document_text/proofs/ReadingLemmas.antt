@@ -1,5 +1,6 @@
 -- A document's bytes are read in one way.
 use Rattle.std.proofs.Common.{◌≡◌, ℕ, ◌+◌, Bool, true, false, Some, None, List, [], drop, refl, sym, ap, subst, ◌∙◌, true≢false}
+use Rattle.std_lemmas.proofs.Options.{some_none, some_same}
 use Rattle.aiger_text.specs.declared.faults.CircuitFault.{CircuitFault}
 use Rattle.aiger_text.specs.CircuitFile.{File}
 use Rattle.aiger_text.proofs.FileFacts.{files_state_one_thing, faults_state_nothing, files_have_one_fault}
@@ -8,7 +9,7 @@ use Rattle.document_text.specs.Order.{first_place}
 use Rattle.document_text.specs.Header.{HeaderRead, no_header, header_of}
 use Rattle.document_text.specs.Logs.{LogsRead, ReadsLogs}
 use Rattle.document_text.specs.Reading.{DocumentLines, BodyRead, ReadsBody, of_header, of_logs, ReadsBehind, unnamed, named, Reads, without_circuit, of_fault, uncommented, commented, order_in, line_count, fault_line}
-use Rattle.document_text.proofs.LogsLemmas.{some_none, some_same, logs_same}
+use Rattle.document_text.proofs.LogsLemmas.{logs_same}
 
 module _ (circuit : Bool) (first : ℕ) (bytes : List ℕ) where
   pub body_same : (a b : BodyRead) → ReadsBody circuit first bytes a → ReadsBody circuit first bytes b → a ≡ b

@@ -1,9 +1,10 @@
 -- The line of a verdict.
-use Rattle.std.proofs.Common.{◌≡◌, ℕ, ◌-◌, ◌^◌, ◌<◌, Bool, true, false, cond, Option, Some, None, List, ◌++◌, refl, sym, ap, subst, ◌∙◌, arith, decimal, inl, inr, ◌⊎◌}
+use Rattle.std.proofs.Common.{◌≡◌, ℕ, ◌-◌, ◌^◌, ◌<◌, Bool, true, false, cond, Option, Some, None, List, ◌++◌, refl, sym, ap, subst, ◌∙◌, arith, decimal, inl, inr}
 use Rattle.std.specs.Prelude.{option_map, option_and_then, codes, unwrap_or}
 use Rattle.std.specs.Option.{option_or}
 use Rattle.std.specs.Str.{bytes_eq}
 use Rattle.std.specs.Cmp.Lexicographic.{bytes_decides}
+use Rattle.std_lemmas.proofs.Options.{either_some, mapped_some}
 use Rattle.letters_and_lassos.specs.declared.kinds.Side.{Side}
 use Rattle.letters_and_lassos.specs.declared.kinds.Side.TheVariants.{System, Environment}
 use Rattle.aiger_text.proofs.Numbers.{Lacks}
@@ -32,19 +33,11 @@ any_verdict_read (Unknown (Some first)) small = at first.side first.size small
     at System n small = rw (capped_read n small) refl
     at Environment n small = rw (capped_read n small) refl
 
-either_or : {X : Type 0} (o p : Option X) (x : X) → option_or o p ≡ Some x → (o ≡ Some x) ⊎ (p ≡ Some x)
-either_or None p x is = inr is
-either_or (Some y) p x is = inl is
-
-mapped : {X Y : Type 0} (f : X → Y) (o : Option X) (y : Y) → option_map f o ≡ Some y → (x : X) × (o ≡ Some x) × (f x ≡ y)
-mapped f None y is = absurd (cc)
-mapped f (Some x) y is = (x, refl, ap (λ o. unwrap_or o y) is)
-
 -- a verdict with a number, behind its words
 one_is : (words line : List ℕ) (f : ℕ → Verdict) (verdict : Verdict) → ((n : ℕ) → verdict_line (f n) ≡ words ++ decimal n) → ((n : ℕ) → number_in (f n) ≡ n)
     → number_in verdict < 2 ^ 32 - 1 → option_map f (number_behind words line) ≡ Some verdict → line ≡ verdict_line verdict
 one_is words line f verdict text size small is =
-    let k = mapped f (number_behind words line) verdict is in
+    let k = mapped_some f (number_behind words line) verdict is in
     let n : number_in verdict ≡ k.0 = ap number_in (sym k.2) ∙ size k.0 in
     let less : k.0 < 2 ^ 32 - 1 = subst (λ (m : ℕ). m < 2 ^ 32 - 1) n small in
     number_behind_is words line k.0 less k.1 ∙ sym (text k.0) ∙ ap verdict_line k.2
@@ -59,11 +52,11 @@ module _ (line : List ℕ) (verdict : Verdict) (small : number_in verdict < 2 ^ 
   numbered_is : option_or (option_or (machine_in System true line) (machine_in Environment true line))
       (option_or (option_or (machine_in System false line) (machine_in Environment false line)) (option_or (unknown_in System line) (unknown_in Environment line))) ≡ Some verdict
       → line ≡ verdict_line verdict
-  numbered_is is = elim (either_or _ _ verdict is) [
-    | inl least ↦ elim (either_or _ _ verdict least) [ inl a ↦ machine_is System true a | inr a ↦ machine_is Environment true a ]
-    | inr more ↦ elim (either_or _ _ verdict more) [
-      | inl bounded ↦ elim (either_or _ _ verdict bounded) [ inl a ↦ machine_is System false a | inr a ↦ machine_is Environment false a ]
-      | inr unknown ↦ elim (either_or _ _ verdict unknown) [ inl a ↦ unknown_is System a | inr a ↦ unknown_is Environment a ]
+  numbered_is is = elim (either_some _ _ verdict is) [
+    | inl least ↦ elim (either_some _ _ verdict least) [ inl a ↦ machine_is System true a | inr a ↦ machine_is Environment true a ]
+    | inr more ↦ elim (either_some _ _ verdict more) [
+      | inl bounded ↦ elim (either_some _ _ verdict bounded) [ inl a ↦ machine_is System false a | inr a ↦ machine_is Environment false a ]
+      | inr unknown ↦ elim (either_some _ _ verdict unknown) [ inl a ↦ unknown_is System a | inr a ↦ unknown_is Environment a ]
     ]
   ]
 

@@ -4,6 +4,7 @@ use Rattle.std.specs.Prelude.{All, IfSome, is_some}
 use Rattle.std.specs.List.{flat_map}
 use Rattle.std.proofs.Math.Seq.{drop-append-add}
 use Rattle.std.proofs.lemmas.List.Elements.{All-cons}
+use Rattle.std_lemmas.proofs.Options.{some_none, some_same}
 use Rattle.letters_and_lassos.specs.declared.kinds.Kind.{Kind}
 use Rattle.aiger_text.specs.Circuit.{Circuit}
 use Rattle.aiger_text.specs.CircuitText.{circuit_text, comment_text}
@@ -25,7 +26,6 @@ use Rattle.document_text.specs.WellFormed.{IsLogPart, IsWellFormed}
 use Rattle.document_text.specs.States.{AreAt, HasText, States, logs_at, logs_line, numbered}
 use Rattle.document_text.specs.Laws.{WrittenIsRead}
 use Rattle.document_text.proofs.HeaderWhole.{GoodHeader, HasRanges, good_header, header_read, header_with, lines_text}
-use Rattle.document_text.proofs.LogsLemmas.{some_none, some_same}
 use Rattle.document_text.proofs.LogsWhole.{good_logs, logs_read, no_found}
 use Rattle.document_text.proofs.ReadingLemmas.{body_reads, reads_same}
 use Rattle.document_text.proofs.CommentLine.{begins_with_circuit}

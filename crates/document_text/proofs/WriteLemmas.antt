@@ -3,11 +3,6 @@ use Rattle.std.proofs.Common.{◌≡◌, List, ℕ, [], ◌∷◌, ◌++◌, ap,
 use Rattle.aiger_text.specs.CircuitText.{text_of_lines}
 use Rattle.aiger_text.proofs.Lines.{text_more}
 
-pub three_parts : (old a b d first second third : List ℕ) → first ≡ old ++ a → second ≡ first ++ b → third ≡ second ++ d → third ≡ old ++ (a ++ (b ++ d))
-three_parts old a b d first second third e f g =
-    g ∙ ap (λ (t : List ℕ). t ++ d) (f ∙ ap (λ (t : List ℕ). t ++ b) e ∙ append_assoc old a b) ∙ append_assoc old (a ++ b) d
-    ∙ ap (λ (t : List ℕ). old ++ t) (append_assoc a b d)
-
 pub header_parts : (old t1 t2 t3 t4 t5 t6 l1 l2 l3 l4 l5 : List ℕ) (found : List (List ℕ))
     → t1 ≡ old ++ text_of_lines (l1 ∷ []) → t2 ≡ t1 ++ text_of_lines (l2 ∷ []) → t3 ≡ t2 ++ text_of_lines (l3 ∷ []) → t4 ≡ t3 ++ text_of_lines (l4 ∷ [])
     → t5 ≡ t4 ++ text_of_lines (l5 ∷ []) → t6 ≡ t5 ++ text_of_lines found

@@ -9,10 +9,6 @@ pub nothing_yet : {T E : Type 0} (r : Result T E) (a : Option (List ℕ)) (bytes
 nothing_yet (Ok x) a bytes = tt
 nothing_yet (Err e) a bytes = record { front = []; rest = bytes; whole = refl; gained = gains_nothing a a refl }
 
-pub on_err : {T E : Type 0} {P : Type 0} (r : Result T E) → P → OnErr r P
-on_err (Ok x) p = tt
-on_err (Err e) p = p
-
 module _ {X : Type 0} (f : X → List ℕ) (xs : List X) where
   rest_piece : (i : ℕ) (d : X) → i < length xs → drop i xs ≡ slice_index_or xs i d ∷ drop (i + 1) xs
   rest_piece i d l = grind (arith, common_steps)

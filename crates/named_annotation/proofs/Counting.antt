@@ -8,7 +8,7 @@ use Rattle.letters_and_lassos.specs.Word.{Word, HasRing, after, lasso_len, next,
 use Rattle.letters_and_lassos.proofs.Positions.{after-suc, after_within}
 use Rattle.ltl_formula.specs.declared.nodes.FormulaId.{FormulaId}
 use Rattle.ltl_formula.specs.declared.nodes.Node.{Node}
-use Rattle.ltl_formula.specs.Nodes.{IsNodeList, PairStands as IsFormula, tree_at}
+use Rattle.ltl_formula.specs.Nodes.{IsNodeList, IsNodeIn as IsFormula, tree_at}
 use Rattle.ltl_formula.specs.NormalForm.{IsNormal}
 use Rattle.ltl_formula.specs.Truth.{holds}
 use Rattle.obligation_sets.specs.declared.sets.Covering.{Covering}

@@ -3,10 +3,13 @@ use Rattle.std.proofs.Common.{◌≡◌, ◌==◌, ℕ, zero, suc, ◌+◌, ◌<
 use Rattle.std.specs.Prelude.{Contains, unwrap_or}
 use Rattle.std.specs.List.{position_or_len}
 use Rattle.std.specs.Cmp.Lexicographic.{pointwise_decides}
-use Rattle.std.proofs.lemmas.Bool.{and_parts, eq-eqb, eqb-true, lt-ltb, ltb-true}
+use Rattle.std.proofs.lemmas.Bool.{eq-eqb, lt-ltb, ltb-true}
 use Rattle.std.proofs.lemmas.List.{get_or-map, get_or_append_left, length-map}
 use Rattle.std.proofs.lemmas.List.Elements.{Contains-append_left, Contains-append_right}
 use Rattle.std.proofs.lemmas.List.Sums.{passes_at_first, position_or_len_is}
+use Rattle.cobuchi_build.proofs.Sound.{same_state-decides}
+use Rattle.obligation_sets.proofs.Distinct.{ids_decide}
+use Rattle.std_lemmas.proofs.Lists.{Contains-map}
 use Rattle.ltl_formula.specs.declared.nodes.FormulaId.{FormulaId}
 use Rattle.ltl_formula.specs.declared.nodes.Node.{Node}
 use Rattle.obligation_sets.specs.declared.sets.Covering.{Covering}
@@ -20,23 +23,6 @@ use Rattle.cobuchi_build.specs.Occurring.{untils_of}
 use Rattle.named_annotation.specs.NamedStates.{automaton_over, edge_of, edges_at, edges_from, number_of_state}
 
 -- ---- being the same state
-
-id_of_number : (f g : FormulaId) → f.0 ≡ g.0 → f ≡ g
-id_of_number f g e = λ i. record { 0 = e i }
-
-ids_decide : (f g : FormulaId) → (same_id f g ≡ true → f ≡ g) × (f ≡ g → same_id f g ≡ true)
-ids_decide f g = ((λ e. id_of_number f g (eqb-true f.0 g.0 e)), (λ e. eq-eqb f.0 g.0 (ap (λ (x : FormulaId). x.0) e)))
-
-state_of_parts : (s t : State) → s.set ≡ t.set → s.counter ≡ t.counter → s ≡ t
-state_of_parts s t p q = λ i. record { set = p i; counter = q i }
-
-state_parts : (s t : State) → (same_ids s.set t.set && eqb s.counter t.counter) ≡ true → s ≡ t
-state_parts s t h =
-    let parts : (same_ids s.set t.set ≡ true) × (eqb s.counter t.counter ≡ true) = and_parts _ _ h in
-    state_of_parts s t ((pointwise_decides {E = same_id} ids_decide s.set t.set).0 parts.0) (eqb-true s.counter t.counter parts.1)
-
-pub same_state-decides : (s t : State) → same_state s t ≡ true → s ≡ t
-same_state-decides s t h = state_parts s t h
 
 itself_parts : (s : State) → (same_ids s.set s.set && eqb s.counter s.counter) ≡ true
 itself_parts s = λ i. (pointwise_decides {E = same_id} ids_decide s.set s.set).1 refl i && eq-eqb s.counter s.counter refl i
@@ -85,10 +71,6 @@ module _ (states : List State) where
 
 -- ---- edges
 
-contains_mapped : {X Y : Type 0} (f : X → Y) (xs : List X) (x : X) → Contains xs x → Contains (map f xs) (f x)
-contains_mapped f xs x there =
-    (there.0, subst (λ n. there.0 < n) (sym (length-map xs f)) there.1, get_or-map f xs there.0 x (f x) there.1 ∙ ap f there.2)
-
 module _ (ns : List Node) (untils : List FormulaId) (states : List State) where
   -- each cover of a state gives its edge
   pub edge_among : (n : ℕ) (more : List State) (i : ℕ) (state : State) (cover : Cover) → i < length more → get_or more i state ≡ state
@@ -96,7 +78,7 @@ module _ (ns : List Node) (untils : List FormulaId) (states : List State) where
   edge_among n [] i state cover h at there = absurd (omega arith)
   edge_among n (first ∷ more) zero state cover h at there =
       let own : Contains (edges_at ns untils states n state) (edge_of untils states n state.counter cover) =
-      contains_mapped (edge_of untils states n state.counter) (covers_by Covering.Reduced ns state.set) cover there in
+      Contains-map (edge_of untils states n state.counter) (covers_by Covering.Reduced ns state.set) cover there in
       let place : n ≡ n + 0 = omega arith in
       subst (λ k. Contains (edges_from ns untils states n (first ∷ more)) (edge_of untils states k state.counter cover)) place
       (Contains-append_left (edges_at ns untils states n first) (edges_from ns untils states (suc n) more) (edge_of untils states n state.counter cover)

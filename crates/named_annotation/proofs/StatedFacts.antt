@@ -4,7 +4,7 @@ use Rattle.std.specs.Prelude.{All, Result, Ok, Err, if◌then◌else◌}
 use Rattle.std.specs.Option.{option_and_then, option_map_or}
 use Rattle.std.proofs.lemmas.Bool.{and_parts, ltb-false, ltb-true}
 use Rattle.std.proofs.lemmas.List.{get_or_append_left}
-use Rattle.std.proofs.lemmas.Option.{option_and_then_some}
+use Rattle.std.proofs.lemmas.Option.{option_and_then_some, same_Some}
 use Rattle.ltl_formula.specs.declared.nodes.FormulaId.{FormulaId}
 use Rattle.ltl_formula.specs.declared.nodes.Node.{Node}
 use Rattle.cobuchi_build.specs.declared.exploring.State.{State}
@@ -17,7 +17,7 @@ use Rattle.named_annotation.specs.declared.words.Counts.{Counts}
 use Rattle.named_annotation.specs.NamedStates.{Named, automaton_over}
 use Rattle.named_annotation.specs.NamedText.{StatesNamed, counts_from, counts_in, has_few_leaves, follows, is_numbered, is_of_formula, may_be, most_pairs, most_states, named_behind, named_in, numbers_behind, state_from, state_in, state_of, with_pairs}
 use Rattle.named_annotation.proofs.Counting.{IsNamedList}
-use Rattle.named_annotation.proofs.Numbered.{same_state-decides}
+use Rattle.cobuchi_build.proofs.Sound.{same_state-decides}
 
 -- what is known of an annotation: its automaton is that of its states, which begin with the start, and its pairs are of their numbers
 pub record IsNamedFor (ns : List Node) (f : FormulaId) (named : Named) : Type 0 where
@@ -26,14 +26,11 @@ pub record IsNamedFor (ns : List Node) (f : FormulaId) (named : Named) : Type 0 
 
 -- ---- counts
 
-some_is : {X : Type 0} (x y : X) → Some x ≡ Some y → x ≡ y
-some_is x y e = cc
-
 counts_by : (inputs pairs states : ℕ) (b : Bool) (counts : Counts) → may_be inputs pairs states ≡ b
     → (if b then Some (record { pairs = pairs; states = states }) else None) ≡ Some counts → 0 < counts.states
 counts_by inputs pairs states true counts e is =
     let positive : nat_lt 0 states ≡ true = (and_parts _ _ e).0 in
-    let same : record { pairs = pairs; states = states } ≡ counts = some_is (record { pairs = pairs; states = states }) counts is in
+    let same : record { pairs = pairs; states = states } ≡ counts = same_Some (record { pairs = pairs; states = states }) counts is in
     subst (λ (x : Counts). 0 < x.states) same (ltb-true 0 states positive)
 counts_by inputs pairs states false counts e is = absurd (cc)
 
@@ -66,7 +63,7 @@ module _ (ns : List Node) (f : FormulaId) where
       let front : ((is_numbered (length done) numbers && is_of_formula ns f (state_of numbers)) && follows done (start_state f) (state_of numbers)) ≡ true = (and_parts _ _ e).0 in
       let fits : follows done (start_state f) (state_of numbers) ≡ true = (and_parts _ _ front).1 in
       let first : (nat_lt 0 (length done) || same_state (state_of numbers) (start_state f)) ≡ true = (and_parts _ _ fits).0 in
-      let same : state_of numbers ≡ state = some_is (state_of numbers) state is in
+      let same : state_of numbers ≡ state = same_Some (state_of numbers) state is in
       subst (λ (s : State). Begins (done ++ s ∷ [])) same (next_by done (state_of numbers) (nat_lt 0 (length done)) refl first begins)
   state_by done numbers false state e is begins = absurd (cc)
 

@@ -5,6 +5,7 @@ use Rattle.std.proofs.lemmas.List.Elements.{Contains-append_left, Contains-appen
 use Rattle.std.proofs.lemmas.List.Sums.{fold-append}
 use Rattle.std.specs.List.{list_any}
 use Rattle.std.specs.Prelude.{Contains, filter, fold, not}
+use Rattle.std_lemmas.proofs.Lists.{Contains-head, Contains-later, any_holds}
 use Rattle.ltl_formula.specs.declared.nodes.FormulaId.{FormulaId}
 use Rattle.ltl_formula.specs.declared.nodes.Node.{Node}
 use Rattle.ltl_formula.specs.Nodes.{IsNodeList, IsNodeIn}
@@ -25,9 +26,8 @@ use Rattle.obligation_sets.specs.Gathered.{gather}
 use Rattle.obligation_sets.specs.Reduced.{asks_no_more, cover_by, covers_by}
 use Rattle.obligation_sets.specs.Search.{Advances, AfterStep, EndsWith, FramePlaces, HasLeafPlaces, IsAlong, IsFollowed, LeadsTo, SearchAlong, weight}
 use Rattle.obligation_sets.specs.Steps.{HasPlaces, settled, step, undone}
-use Rattle.obligation_sets.proofs.Distinct.{all_in, any_from, same_cover-decides, same_cover-itself}
+use Rattle.obligation_sets.proofs.Distinct.{all_in, same_cover-decides, same_cover-itself}
 use Rattle.obligation_sets.proofs.LessAsked.{asks_refl, asks_trans, covers_gathered, minimal_kept}
-use Rattle.obligation_sets.proofs.Lists.{Contains-here, Contains-there}
 use Rattle.obligation_sets.proofs.Minimal.{IsBelow, IsKept}
 use Rattle.obligation_sets.proofs.NextStep.{alive_from, alive_has}
 use Rattle.obligation_sets.proofs.Walks.{Stepped, leaves_of-settled, leaves_of-step, settled_places, start_places, step_stepped}
@@ -41,18 +41,18 @@ alive-append cover (Some b ∷ leaves) more = ap (λ covers. cover b ∷ covers)
 gather_again : (covering : Covering) (come : List Cover) (c : Cover) → Contains come c → gather covering (fold (gather covering) [] come) c ≡ fold (gather covering) [] come
 gather_again Covering.Plain come c there =
     let kept : List Cover = fold (gather Covering.Plain) [] come in
-    cond-true (list_any (same_cover c) kept) kept (kept ++ c ∷ []) (any_from (same_cover c) kept c (all_in same_cover same_cover-decides [] come c there) (same_cover-itself c))
+    cond-true (list_any (same_cover c) kept) kept (kept ++ c ∷ []) (any_holds (same_cover c) kept c (all_in same_cover same_cover-decides [] come c there) (same_cover-itself c))
 gather_again Covering.Reduced come c there =
     let kept : List Cover = fold (gather Covering.Reduced) [] come in
     let known : IsKept asks_no_more asks_refl asks_trans come kept = minimal_kept come in
     let b : IsBelow asks_no_more asks_refl asks_trans kept c = known.below c there in
-    cond-true (list_any (λ k. asks_no_more k c) kept) kept (filter (λ k. not (asks_no_more c k)) kept ++ c ∷ []) (any_from (λ k. asks_no_more k c) kept b.element b.there b.below)
+    cond-true (list_any (λ k. asks_no_more k c) kept) kept (filter (λ k. not (asks_no_more c k)) kept ++ c ∷ []) (any_holds (λ k. asks_no_more k c) kept b.element b.there b.below)
 
 gather_all_again : (covering : Covering) (come again : List Cover) → ((c : Cover) → Contains again c → Contains come c) → fold (gather covering) (fold (gather covering) [] come) again ≡ fold (gather covering) [] come
 gather_all_again covering come [] each = refl
 gather_all_again covering come (c ∷ again) each =
-    ap (λ kept. fold (gather covering) kept again) (gather_again covering come c (each c (Contains-here c again)))
-    ∙ gather_all_again covering come again (λ d there. each d (Contains-there c again d there))
+    ap (λ kept. fold (gather covering) kept again) (gather_again covering come c (each c (Contains-head c again)))
+    ∙ gather_all_again covering come again (λ d there. each d (Contains-later c again d there))
 
 -- leaves that were met before bring no cover
 leaves_again : (covering : Covering) (ns : List Node) (seen again : List (Option Branch)) → ((leaf : Option Branch) → Contains again leaf → Contains seen leaf)

@@ -2,6 +2,7 @@ use Rattle.std.proofs.Common.{◌≡◌, ℕ, zero, suc, ◌<◌, ◌⊎◌, inl
 use Rattle.std.specs.Prelude.{Contains, IsTrue}
 use Rattle.std.proofs.lemmas.Bool.{cond-true, cond-false}
 use Rattle.std.proofs.lemmas.List.Elements.{Contains-append_cases, Contains-append_right}
+use Rattle.std_lemmas.proofs.Lists.{Contains-cases, Contains-head, Contains-later, Contains-none}
 use Rattle.letters_and_lassos.specs.Signals.{has}
 use Rattle.letters_and_lassos.specs.declared.cubes.Cube.{Cube}
 use Rattle.ltl_formula.specs.declared.nodes.FormulaId.{FormulaId}
@@ -18,7 +19,6 @@ use Rattle.obligation_sets.specs.Ids.{has_id}
 use Rattle.obligation_sets.specs.OpenWork.{open_work}
 use Rattle.obligation_sets.specs.Steps.{HasPlaces, expanding, in_front, joining, leaving, opposing, postponing, step, step_on, taking}
 use Rattle.obligation_sets.proofs.Flags.{with_id-cases, with_id-here, with_id-keeps}
-use Rattle.obligation_sets.proofs.Lists.{Contains-cons_cases, Contains-here, Contains-none, Contains-there}
 use Rattle.obligation_sets.proofs.Walks.{IsFirstOpen, PartsBelow-up, Stepped, first_open, step_stepped, taking_places}
 
 -- why a formula that was taken off the work list holds: by its parts, the cube, and what is left to the next position
@@ -169,23 +169,23 @@ module _ (ns : List Node) where
     expanding_backs (Next g) parts = record { grown = leaving_grown b g; backs = with_id-here b.next g (rw places.next parts); same = refl }
     expanding_backs (Finally g) parts = tt
     expanding_backs (Globally g) parts = tt
-    expanding_backs (And g h) parts = record { grown = front_grown b (g ∷ h ∷ []); backs = (inr (Contains-here g (h ∷ b.work)), inr (Contains-there g (h ∷ b.work) h (Contains-here h b.work))); same = refl }
-    expanding_backs (Or g h) parts = (record { grown = front_grown b (g ∷ []); backs = inl (inr (Contains-here g b.work)); same = refl }, record { grown = front_grown b (h ∷ []); backs = inr (inr (Contains-here h b.work)); same = refl })
+    expanding_backs (And g h) parts = record { grown = front_grown b (g ∷ h ∷ []); backs = (inr (Contains-head g (h ∷ b.work)), inr (Contains-later g (h ∷ b.work) h (Contains-head h b.work))); same = refl }
+    expanding_backs (Or g h) parts = (record { grown = front_grown b (g ∷ []); backs = inl (inr (Contains-head g b.work)); same = refl }, record { grown = front_grown b (h ∷ []); backs = inr (inr (Contains-head h b.work)); same = refl })
     expanding_backs (Implies g h) parts = tt
     expanding_backs (Equiv g h) parts = tt
     expanding_backs (Until g h) parts = (
-      record { grown = front_grown b (h ∷ []); backs = inl (inr (Contains-here h b.work)); same = refl },
+      record { grown = front_grown b (h ∷ []); backs = inl (inr (Contains-head h b.work)); same = refl },
       record {
         grown = Grown-trans b (postponing f b) (in_front (g ∷ []) (postponing f b)) (postponing_grown b f) (front_grown (postponing f b) (g ∷ []));
-        backs = inr (inr (Contains-here g b.work), with_id-here b.next f (rw places.next stands), with_id-here b.postponed f (rw places.postponed stands));
+        backs = inr (inr (Contains-head g b.work), with_id-here b.next f (rw places.next stands), with_id-here b.postponed f (rw places.postponed stands));
         same = refl;
       },
     )
     expanding_backs (Release g h) parts = (
-      record { grown = front_grown b (g ∷ h ∷ []); backs = (inr (Contains-there g (h ∷ b.work) h (Contains-here h b.work)), inl (inr (Contains-here g (h ∷ b.work)))); same = refl },
+      record { grown = front_grown b (g ∷ h ∷ []); backs = (inr (Contains-later g (h ∷ b.work) h (Contains-head h b.work)), inl (inr (Contains-head g (h ∷ b.work)))); same = refl },
       record {
         grown = Grown-trans b (leaving f b) (in_front (h ∷ []) (leaving f b)) (leaving_grown b f) (front_grown (leaving f b) (h ∷ []));
-        backs = (inr (Contains-here h b.work), inr (with_id-here b.next f (rw places.next stands)));
+        backs = (inr (Contains-head h b.work), inr (with_id-here b.next f (rw places.next stands)));
         same = refl;
       },
     )
@@ -198,12 +198,12 @@ StillSeen done (f ∷ rest) g = (has_id done g ≡ true) ⊎ ((g ≡ f) ⊎ Cont
 
 open_seen : (done : List Bool) (x : FormulaId) (xs : List FormulaId) (t : Bool) → has_id done x ≡ t → ((work : List FormulaId) → open_work done xs ≡ work → (g : FormulaId) → Contains xs g → StillSeen done work g) → (work : List FormulaId) → open_work done (x ∷ xs) ≡ work → (g : FormulaId) → Contains (x ∷ xs) g → StillSeen done work g
 open_seen done x xs true e later [] is g c =
-    elim (Contains-cons_cases x xs g c) [
+    elim (Contains-cases x xs g c) [
       | inl same ↦ rw same at e
       | inr there ↦ later [] (sym (cond-true (has_id done x) (open_work done xs) (x ∷ xs) e) ∙ is) g there
     ]
 open_seen done x xs true e later (f ∷ rest) is g c =
-    elim (Contains-cons_cases x xs g c) [
+    elim (Contains-cases x xs g c) [
       | inl same ↦ inl (rw same at e)
       | inr there ↦ later (f ∷ rest) (sym (cond-true (has_id done x) (open_work done xs) (x ∷ xs) e) ∙ is) g there
     ]
@@ -214,7 +214,7 @@ open_seen done x xs false e later (f ∷ rest) is g c =
     let same : x ∷ xs ≡ f ∷ rest = sym (cond-false (has_id done x) (open_work done xs) (x ∷ xs) e) ∙ is in
     let head : x ≡ f = cc in
     let tail : xs ≡ rest = cc in
-    elim (Contains-cons_cases x xs g c) [ inl here ↦ inr (inl (sym here ∙ head)) | inr there ↦ inr (inr (rw tail at there)) ]
+    elim (Contains-cases x xs g c) [ inl here ↦ inr (inl (sym here ∙ head)) | inr there ↦ inr (inr (rw tail at there)) ]
 
 still_seen : (done : List Bool) (xs : List FormulaId) (work : List FormulaId) → open_work done xs ≡ work → (g : FormulaId) → Contains xs g → StillSeen done work g
 still_seen done [] work is g c = absurd (Contains-none g c)
@@ -304,12 +304,12 @@ module _ (ns : List Node) (list : IsNodeList ns) where
 
   leaf_below : (n : ℕ) → ((c : Branch) → HasPlaces (length ns) c → IsBacked ns c → (leaf : Branch) → Contains (leaves_within n ns c) (Some leaf) → LeafOf c leaf) → (b : Branch) (s : Step) → Stepped (length ns) b s → StepGoesTo b s → (leaf : Branch) → Contains (leaves_below (leaves_within n ns) s) (Some leaf) → LeafOf b leaf
   leaf_below n below b (Leaf c) places goes leaf there =
-      elim (Contains-cons_cases (Some c) [] (Some leaf) there) [
+      elim (Contains-cases (Some c) [] (Some leaf) there) [
         | inl same ↦ (let e : c ≡ leaf = cc in subst (λ (x : Branch). LeafOf b x) e (record { goes = goes.0; empty = goes.1; places = places }))
         | inr none ↦ absurd (Contains-none (Some leaf) none)
       ]
   leaf_below n below b Dead places goes leaf there =
-      elim (Contains-cons_cases None [] (Some leaf) there) [
+      elim (Contains-cases None [] (Some leaf) there) [
         | inl wrong ↦ absurd (let contra : ⊥ = cc in contra)
         | inr none ↦ absurd (Contains-none (Some leaf) none)
       ]

@@ -3,8 +3,8 @@ use Rattle.std.specs.Prelude.{Contains}
 use Rattle.std.specs.List.{list_any}
 use Rattle.std.specs.Cmp.Lexicographic.{pointwise_decides}
 use Rattle.std.proofs.lemmas.Bool.{and_from, and_parts, cases_Bool, cond-true, cond-false, eq-eqb, eqb-true, false≢true, or_cases}
-use Rattle.std.proofs.lemmas.List.Folds.{list_any-from_Any}
 use Rattle.std.proofs.lemmas.List.Elements.{Contains-append_left, Contains-push, Contains-push_cases}
+use Rattle.std_lemmas.proofs.Lists.{Contains-cases, Contains-head, Contains-later, Contains-none}
 use Rattle.indexmap.specs.IndexSet.{insert_all, insert_key}
 use Rattle.ltl_formula.specs.declared.nodes.FormulaId.{FormulaId}
 use Rattle.ltl_formula.proofs.NodeEquality.{same_id_of}
@@ -12,18 +12,14 @@ use Rattle.obligation_sets.specs.declared.sets.Cover.{Cover}
 use Rattle.obligation_sets.specs.Covers.{same_cover}
 use Rattle.obligation_sets.specs.Ids.{same_id, same_ids}
 use Rattle.obligation_sets.proofs.Cubes.{same_cube}
-use Rattle.obligation_sets.proofs.Lists.{Contains-cons_cases, Contains-here, Contains-none, Contains-there}
 
 pub any_of : {X : Type 0} (p : X → Bool) (xs : List X) → list_any p xs ≡ true → (y : X) × Contains xs y × (p y ≡ true)
 any_of p [] h = absurd (false≢true h)
 any_of p (x ∷ xs) h =
     elim (or_cases (p x) (list_any p xs) h) [
-      | inl here ↦ (x, Contains-here x xs, here)
-      | inr there ↦ let found : (y : _) × Contains xs y × (p y ≡ true) = any_of p xs there in (found.0, Contains-there x xs found.0 found.1, found.2)
+      | inl here ↦ (x, Contains-head x xs, here)
+      | inr there ↦ let found : (y : _) × Contains xs y × (p y ≡ true) = any_of p xs there in (found.0, Contains-later x xs found.0 found.1, found.2)
     ]
-
-pub any_from : {X : Type 0} (p : X → Bool) (xs : List X) (x : X) → Contains xs x → p x ≡ true → list_any p xs ≡ true
-any_from p xs x c e = list_any-from_Any p xs (c.0, x, c.1, c.2, e)
 
 module _ {X : Type 0} (eq : X → X → Bool) where
   key_kept : (ks : List X) (k x : X) → Contains ks x → Contains (insert_key eq ks k) x
@@ -49,8 +45,8 @@ module _ {X : Type 0} (eq : X → X → Bool) where
   all_from ks [] x c = inl c
   all_from ks (y ∷ xs) x c =
       elim (all_from (insert_key eq ks y) xs x c) [
-        | inl key ↦ elim (key_from ks y x key) [ inl old ↦ inl old | inr same ↦ inr (subst (λ (z : X). Contains (z ∷ xs) x) (sym same) (Contains-here x xs)) ]
-        | inr later ↦ inr (Contains-there y xs x later)
+        | inl key ↦ elim (key_from ks y x key) [ inl old ↦ inl old | inr same ↦ inr (subst (λ (z : X). Contains (z ∷ xs) x) (sym same) (Contains-head x xs)) ]
+        | inr later ↦ inr (Contains-later y xs x later)
       ]
 
   module _ (decides : (x y : X) → eq x y ≡ true → x ≡ y) where
@@ -68,12 +64,12 @@ module _ {X : Type 0} (eq : X → X → Bool) where
     pub all_in : (ks xs : List X) (x : X) → Contains xs x → Contains (insert_all eq ks xs) x
     all_in ks [] x c = absurd (Contains-none x c)
     all_in ks (y ∷ xs) x c =
-        elim (Contains-cons_cases y xs x c) [
+        elim (Contains-cases y xs x c) [
           | inl same ↦ all_kept (insert_key eq ks y) xs x (subst (λ (z : X). Contains (insert_key eq ks y) z) same (key_in ks y))
           | inr later ↦ all_in (insert_key eq ks y) xs x later
         ]
 
-ids_decide : (f g : FormulaId) → (same_id f g ≡ true → f ≡ g) × (f ≡ g → same_id f g ≡ true)
+pub ids_decide : (f g : FormulaId) → (same_id f g ≡ true → f ≡ g) × (f ≡ g → same_id f g ≡ true)
 ids_decide f g = ((λ e. same_id_of f g (eqb-true f.0 g.0 e)), (λ e. eq-eqb f.0 g.0 (ap (λ (x : FormulaId). x.0) e)))
 
 pub same_ids-decides : (fs gs : List FormulaId) → same_ids fs gs ≡ true → fs ≡ gs

@@ -4,6 +4,8 @@ use Rattle.std.proofs.lemmas.Bool.{cases_eq, false≢true}
 use Rattle.std.proofs.lemmas.Bool.{cond-true}
 use Rattle.std.proofs.lemmas.List.{length-set, take_all, take_at}
 use Rattle.std.proofs.lemmas.Option.{get_or_from_slice_get}
+use Rattle.std_lemmas.proofs.Booleans.{and_true}
+use Rattle.std_lemmas.proofs.Lists.{Contains-cases, Contains-head, Contains-later, Contains-none, flag_within}
 use Rattle.ltl_formula.specs.declared.nodes.FormulaId.{FormulaId}
 use Rattle.ltl_formula.proofs.NodeEquality.{same_id_of}
 use Rattle.obligation_sets.specs.Ids.{has_id, ids_of, with_id}
@@ -12,7 +14,6 @@ use Rattle.ltl_formula.specs.declared.nodes.Node.TheVariants.{False}
 use Rattle.ltl_formula.specs.Nodes.{node_at}
 use Rattle.obligation_sets.specs.Reduced.{implied_down, implied_parts, without}
 use Rattle.obligation_sets.proofs.IdLists.{id, ids_of_more}
-use Rattle.obligation_sets.proofs.Lists.{Contains-cons_cases, Contains-here, Contains-none, Contains-there}
 
 -- a set with one formula more has what it had, and that formula
 pub with_id-cases : (flags : List Bool) (f g : FormulaId) → has_id (with_id flags f) g ≡ true → (g ≡ f) ⊎ (has_id flags g ≡ true)
@@ -35,14 +36,9 @@ with_id-keeps flags f g h = set_true flags f.0 g.0 h
 pub with_id-here : (flags : List Bool) (f : FormulaId) → f.0 < length flags → has_id (with_id flags f) f ≡ true
 with_id-here flags f h = get_or-set_same flags f.0 true false h
 
-flag_below : (flags : List Bool) (i : ℕ) → get_or flags i false ≡ true → i < length flags
-flag_below [] i h = absurd (false≢true h)
-flag_below (b ∷ flags) zero h = omega arith
-flag_below (b ∷ flags) (suc i) h = let rest : i < length flags = flag_below flags i h in omega arith
-
 -- a formula of a set has a flag
 pub has_id-within : (flags : List Bool) (f : FormulaId) → has_id flags f ≡ true → f.0 < length flags
-has_id-within flags f h = flag_below flags f.0 h
+has_id-within flags f h = flag_within flags f.0 h
 
 none_set : (n i : ℕ) → get_or (replicate n false) i false ≡ true → ⊥
 none_set zero i h = false≢true h
@@ -57,9 +53,9 @@ pub all-cases : (flags : List Bool) (gs : List FormulaId) (g : FormulaId) → ha
 all-cases flags [] g h = inr h
 all-cases flags (f ∷ gs) g h =
     elim (all-cases (with_id flags f) gs g h) [
-      | inl later ↦ inl (Contains-there f gs g later)
+      | inl later ↦ inl (Contains-later f gs g later)
       | inr before ↦ elim (with_id-cases flags f g before) [
-        | inl same ↦ inl (subst (λ (x : FormulaId). Contains (x ∷ gs) g) same (Contains-here g gs))
+        | inl same ↦ inl (subst (λ (x : FormulaId). Contains (x ∷ gs) g) same (Contains-head g gs))
         | inr old ↦ inr old
       ]
     ]
@@ -72,7 +68,7 @@ pub all-here : (flags : List Bool) (gs : List FormulaId) (g : FormulaId) → g.0
 all-here flags [] g within c = absurd (Contains-none g c)
 all-here flags (f ∷ gs) g within c =
     let len : length (with_id flags f) ≡ length flags = length-set flags f.0 true in
-    elim (Contains-cons_cases f gs g c) [
+    elim (Contains-cases f gs g c) [
       | inl same ↦ all-keeps (with_id flags f) gs g (subst (λ (x : FormulaId). has_id (with_id flags x) g ≡ true) (sym same) (with_id-here flags g within))
       | inr later ↦ all-here (with_id flags f) gs g (omega arith) later
     ]
@@ -80,11 +76,6 @@ all-here flags (f ∷ gs) g within c =
 pub fold_length : (flags : List Bool) (gs : List FormulaId) → length (fold with_id flags gs) ≡ length flags
 fold_length flags [] = refl
 fold_length flags (g ∷ gs) = fold_length (with_id flags g) gs ∙ length-set flags g.0 true
-
--- the flags of a set without another's, one by one
-and_true : (b : Bool) → b ≡ (b && true)
-and_true true = refl
-and_true false = refl
 
 pub without-at : (flags others : List Bool) (i : ℕ) → get_or (without flags others) i false ≡ (get_or flags i false && not (get_or others i false))
 without-at [] others i = refl

@@ -2,9 +2,9 @@ use Rattle.std.proofs.Common.{◌≡◌, ℕ, zero, suc, ◌+◌, ◌<◌, ◌�
 use Rattle.std.specs.Prelude.{Contains}
 use Rattle.std.proofs.lemmas.Bool.{false≢true}
 use Rattle.std.proofs.lemmas.List.{length-take, take_more}
+use Rattle.std_lemmas.proofs.Lists.{Contains-cases, Contains-head, Contains-later, Contains-none}
 use Rattle.ltl_formula.specs.declared.nodes.FormulaId.{FormulaId}
 use Rattle.obligation_sets.specs.Ids.{has_id, ids_from, ids_of, IdsRise}
-use Rattle.obligation_sets.proofs.Lists.{Contains-cons_cases, Contains-here, Contains-there, Contains-none}
 
 abbrev pub id : ℕ → FormulaId
 id k = record { 0 = k }
@@ -43,7 +43,7 @@ ids_of-rise flags = record { rise = λ i j d less h. from_rise 0 flags i j d les
 from_flag : (k : ℕ) (flags : List Bool) (n : ℕ) → Contains (ids_from k flags) (id n) → (i : ℕ) × (n ≡ k + i) × (get_or flags i false ≡ true)
 from_flag k [] n c = absurd (Contains-none (id n) c)
 from_flag k (true ∷ flags) n c =
-    elim (Contains-cons_cases (id k) (ids_from (suc k) flags) (id n) c) [
+    elim (Contains-cases (id k) (ids_from (suc k) flags) (id n) c) [
       | inl here ↦ (0, ap (λ (f : FormulaId). f.0) (sym here) ∙ sym (add-zero k), refl)
       | inr there ↦ let r : (i : ℕ) × (n ≡ suc k + i) × (get_or flags i false ≡ true) = from_flag (suc k) flags n there in let e : n ≡ suc k + r.0 = r.1 in (suc r.0, omega arith, r.2)
     ]
@@ -61,9 +61,9 @@ flag_of_id flags f c =
 
 from_id : (k : ℕ) (flags : List Bool) (i : ℕ) → get_or flags i false ≡ true → Contains (ids_from k flags) (id (k + i))
 from_id k [] i e = absurd (false≢true e)
-from_id k (true ∷ flags) zero e = rw (add-zero k) (Contains-here (id k) (ids_from (suc k) flags))
+from_id k (true ∷ flags) zero e = rw (add-zero k) (Contains-head (id k) (ids_from (suc k) flags))
 from_id k (false ∷ flags) zero e = absurd (false≢true e)
-from_id k (true ∷ flags) (suc i) e = let same : k + suc i ≡ suc k + i = omega arith in rw same (Contains-there (id k) (ids_from (suc k) flags) (id (suc k + i)) (from_id (suc k) flags i e))
+from_id k (true ∷ flags) (suc i) e = let same : k + suc i ≡ suc k + i = omega arith in rw same (Contains-later (id k) (ids_from (suc k) flags) (id (suc k + i)) (from_id (suc k) flags i e))
 from_id k (false ∷ flags) (suc i) e = let same : k + suc i ≡ suc k + i = omega arith in rw same (from_id (suc k) flags i e)
 
 pub id_of_flag : (flags : List Bool) (f : FormulaId) → has_id flags f ≡ true → Contains (ids_of flags) f

@@ -3,6 +3,7 @@ use Rattle.std.proofs.Common.{◌≡◌, inl, inr, ℕ, zero, suc, ◌+◌, ◌<
 use Rattle.std.specs.Prelude.{Contains, fold}
 use Rattle.std.proofs.lemmas.Bool.{and_from, and_parts, both_ways, cases_Bool, cases_eq, false_from_ne_true, not-true, not_from_false, or_cases, or_left, or_right}
 use Rattle.std.proofs.lemmas.List.{get_or_past, length-replicate}
+use Rattle.std_lemmas.proofs.Lists.{Contains-cases, Contains-none}
 use Rattle.letters_and_lassos.specs.declared.letters.Letter.{Letter}
 use Rattle.ltl_formula.specs.declared.nodes.FormulaId.{FormulaId}
 use Rattle.ltl_formula.specs.declared.nodes.Node.{Node}
@@ -15,7 +16,6 @@ use Rattle.obligation_sets.specs.Reduced.ImpliesAtOnce.{direct, further}
 use Rattle.obligation_sets.proofs.BackedLeaves.{Backed, InNext, InPostponed, Seen}
 use Rattle.obligation_sets.proofs.Flags.{all-cases, all-here, all-keeps, fold_length, has_id-none, has_id-within, without-at}
 use Rattle.obligation_sets.proofs.IdLists.{flag_of_id, id, id_of_flag}
-use Rattle.obligation_sets.proofs.Lists.{Contains-cons_cases, Contains-none}
 use Rattle.obligation_sets.proofs.OneStep.{IsOneStep, value}
 
 -- a fact of both parts of a conjunction, or of the second part of a release, is one of each implied part
@@ -25,7 +25,7 @@ OfImpliedParts P (Release g h) = P h
 OfImpliedParts P _ = Unit {0}
 
 one_part : (P : FormulaId → Type 0) (g x : FormulaId) → P g → Contains (g ∷ []) x → P x
-one_part P g x p c = elim (Contains-cons_cases g [] x c) [ inl same ↦ subst P same p | inr none ↦ absurd (Contains-none x none) ]
+one_part P g x p c = elim (Contains-cases g [] x c) [ inl same ↦ subst P same p | inr none ↦ absurd (Contains-none x none) ]
 
 pub each_part : (P : FormulaId → Type 0) (node : Node) → OfImpliedParts P node → (x : FormulaId) → Contains (implied_parts node) x → P x
 each_part P True p x c = absurd (Contains-none x c)
@@ -35,7 +35,7 @@ each_part P (Not g) p x c = absurd (Contains-none x c)
 each_part P (Next g) p x c = absurd (Contains-none x c)
 each_part P (Finally g) p x c = absurd (Contains-none x c)
 each_part P (Globally g) p x c = absurd (Contains-none x c)
-each_part P (And g h) p x c = elim (Contains-cons_cases g (h ∷ []) x c) [ inl same ↦ subst P same p.0 | inr later ↦ one_part P h x p.1 later ]
+each_part P (And g h) p x c = elim (Contains-cases g (h ∷ []) x c) [ inl same ↦ subst P same p.0 | inr later ↦ one_part P h x p.1 later ]
 each_part P (Or g h) p x c = absurd (Contains-none x c)
 each_part P (Implies g h) p x c = absurd (Contains-none x c)
 each_part P (Equiv g h) p x c = absurd (Contains-none x c)

@@ -1,6 +1,7 @@
 use Rattle.std.proofs.Common.{◌≡◌, ℕ, zero, suc, ◌<◌, inl, inr, true, List, [], ◌∷◌, Option, None, Some, All, length, refl, subst, arith}
 use Rattle.std.specs.Prelude.{Contains}
 use Rattle.std.proofs.lemmas.List.Elements.{All-cons, All-nil, Contains-append_cases}
+use Rattle.std_lemmas.proofs.Lists.{Contains-cases, Contains-none, All-from_contains}
 use Rattle.letters_and_lassos.specs.declared.cubes.Cube.{Cube}
 use Rattle.ltl_formula.specs.declared.nodes.FormulaId.{FormulaId}
 use Rattle.ltl_formula.specs.declared.nodes.Node.{Node}
@@ -21,8 +22,7 @@ use Rattle.obligation_sets.specs.OpenWork.{open_work}
 use Rattle.obligation_sets.specs.Steps.{expanding, in_front, joining, leaving, opposing, postponing, step, step_on, undone}
 use Rattle.obligation_sets.proofs.LessAsked.{covers_from, left_from}
 use Rattle.obligation_sets.proofs.Flags.{has_id-none, with_id-cases}
-use Rattle.obligation_sets.proofs.Lists.{Contains-cons_cases, Contains-none}
-use Rattle.obligation_sets.proofs.NextStep.{All-from_contains, alive_from}
+use Rattle.obligation_sets.proofs.NextStep.{alive_from}
 use Rattle.obligation_sets.proofs.OneStep.{NodeIsNormal, node_normal}
 use Rattle.obligation_sets.proofs.Walks.{IsFirstOpen, first_open}
 
@@ -96,12 +96,12 @@ module _ (ns : List Node) (P : FormulaId → Type 0) (closed : (f : FormulaId) �
 
   inside_below : (n : ℕ) → ((c : Branch) → Inside c → (leaf : Branch) → Contains (leaves_within n ns c) (Some leaf) → Inside leaf) → (s : Step) → StepInside s → (leaf : Branch) → Contains (leaves_below (leaves_within n ns) s) (Some leaf) → Inside leaf
   inside_below n below (Leaf c) i leaf there =
-      elim (Contains-cons_cases (Some c) [] (Some leaf) there) [
+      elim (Contains-cases (Some c) [] (Some leaf) there) [
         | inl same ↦ (let e : c ≡ leaf = cc in subst (λ (x : Branch). Inside x) e i)
         | inr none ↦ absurd (Contains-none (Some leaf) none)
       ]
   inside_below n below Dead i leaf there =
-      elim (Contains-cons_cases None [] (Some leaf) there) [
+      elim (Contains-cases None [] (Some leaf) there) [
         | inl wrong ↦ absurd (let contra : ⊥ = cc in contra)
         | inr none ↦ absurd (Contains-none (Some leaf) none)
       ]

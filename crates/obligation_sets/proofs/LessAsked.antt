@@ -6,6 +6,7 @@ use Rattle.std.specs.List.{list_any}
 use Rattle.std.proofs.lemmas.Bool.{and_from, and_parts, both_ways, cond-false, eq-eqb, eqb-true, false_from_ne_true}
 use Rattle.std.proofs.lemmas.Nat.{and_assoc}
 use Rattle.std.proofs.lemmas.Nat.Bits.{bit_at_and, same_from_bits}
+use Rattle.std_lemmas.proofs.Lists.{Contains-cases, Contains-head, Contains-later, Contains-none, any_holds}
 use Rattle.indexmap.specs.IndexSet.{insert_key}
 use Rattle.letters_and_lassos.specs.Signals.{has}
 use Rattle.letters_and_lassos.proofs.Sets.{has-bit_and}
@@ -18,10 +19,10 @@ use Rattle.obligation_sets.specs.Covers.{alive, same_cover, set_leaves}
 use Rattle.obligation_sets.specs.Gathered.{gather, keep_minimal}
 use Rattle.obligation_sets.specs.Ids.{all_among, has_id, ids_of, is_among, same_id}
 use Rattle.obligation_sets.specs.Reduced.{asks_no_more, asks_the_same, cover_by, covers_by, cut, implied_by, is_part, left_by}
-use Rattle.obligation_sets.proofs.Distinct.{all_from, all_in, any_from, any_of, same_cover-decides}
+use Rattle.obligation_sets.proofs.Distinct.{all_from, all_in, any_of, same_cover-decides}
 use Rattle.obligation_sets.proofs.IdLists.{flag_of_id}
 use Rattle.obligation_sets.proofs.Flags.{without-at}
-use Rattle.obligation_sets.proofs.Lists.{Contains-cons_cases, Contains-here, Contains-none, Contains-there, filter_from}
+use Rattle.obligation_sets.proofs.Lists.{filter_from}
 use Rattle.obligation_sets.proofs.Minimal.{IsBelow, IsKept, kept}
 
 -- parts of sets of signals
@@ -44,13 +45,13 @@ among_from ids f h =
     subst (λ (x : FormulaId). Contains ids x) (same_id_of found.0 f (eqb-true found.0.0 f.0 found.2)) found.1
 
 among_in : (ids : List FormulaId) (f : FormulaId) → Contains ids f → is_among ids f ≡ true
-among_in ids f c = any_from (λ g. same_id g f) ids f c (eq-eqb f.0 f.0 refl)
+among_in ids f c = any_holds (λ g. same_id g f) ids f c (eq-eqb f.0 f.0 refl)
 
 all_parts : (fs ids : List FormulaId) → all_among fs ids ≡ true → (f : FormulaId) → Contains fs f → Contains ids f
 all_parts [] ids h f c = absurd (Contains-none f c)
 all_parts (g ∷ fs) ids h f c =
     let parts : (is_among ids g ≡ true) × (all_among fs ids ≡ true) = and_parts (is_among ids g) (all_among fs ids) h in
-    elim (Contains-cons_cases g fs f c) [
+    elim (Contains-cases g fs f c) [
       | inl same ↦ subst (λ (x : FormulaId). Contains ids x) same (among_from ids g parts.0)
       | inr later ↦ all_parts fs ids parts.1 f later
     ]
@@ -58,7 +59,7 @@ all_parts (g ∷ fs) ids h f c =
 all_made : (fs ids : List FormulaId) → ((f : FormulaId) → Contains fs f → Contains ids f) → all_among fs ids ≡ true
 all_made [] ids each = refl
 all_made (g ∷ fs) ids each =
-    and_from (is_among ids g) (all_among fs ids) (among_in ids g (each g (Contains-here g fs))) (all_made fs ids (λ f c. each f (Contains-there g fs f c)))
+    and_from (is_among ids g) (all_among fs ids) (among_in ids g (each g (Contains-head g fs))) (all_made fs ids (λ f c. each f (Contains-later g fs f c)))
 
 -- what it means that a cover asks no more than another
 pub record AsksNoMore (c d : Cover) : Type 0 where
@@ -129,7 +130,7 @@ kept_new old after new cover none kept put =
         let same : cover ≡ found.0 = same_cover-decides cover found.0 found.2 in
         let there : Contains old found.0 = filter_from (λ k. not (asks_no_more cover k)) old found.0 (subst (λ (l : List Cover). Contains l found.0) kept found.1) in
         both_ways (list_any (λ k. asks_no_more k cover) old) none
-        (any_from (λ k. asks_no_more k cover) old found.0 there (subst (λ (c : Cover). asks_no_more found.0 c ≡ true) (sym same) (asks_refl found.0))))
+        (any_holds (λ k. asks_no_more k cover) old found.0 there (subst (λ (c : Cover). asks_no_more found.0 c ≡ true) (sym same) (asks_refl found.0))))
 
 -- what a cover leaves its leaf leaves
 pub left_from : (covering : Covering) (ns : List Node) (left : List Bool) (f : FormulaId) → Contains (ids_of (left_by covering ns left)) f → has_id left f ≡ true

@@ -3,23 +3,12 @@ use Rattle.std.specs.Prelude.{Contains}
 use Rattle.std.proofs.lemmas.Bool.{cond-true}
 use Rattle.std.proofs.lemmas.List.{reverse-append, reverse-reverse}
 use Rattle.std.proofs.lemmas.List.Elements.{All-append, All-cons, All-head, All-nil, All-tail}
+use Rattle.std_lemmas.proofs.Lists.{Contains-cases, Contains-head, Contains-later}
 
 -- what is in a list that has a first element
 at_cases : {X : Type 0} (y : X) (xs : List X) (x : X) (k : ℕ) → k < length (y ∷ xs) → get_or (y ∷ xs) k x ≡ x → (y ≡ x) ⊎ Contains xs x
 at_cases y xs x zero h e = inl e
 at_cases y xs x (suc k) h e = inr (k, omega arith, e)
-
-pub Contains-cons_cases : {X : Type 0} (y : X) (xs : List X) (x : X) → Contains (y ∷ xs) x → (y ≡ x) ⊎ Contains xs x
-Contains-cons_cases y xs x c = at_cases y xs x c.0 c.1 c.2
-
-pub Contains-here : {X : Type 0} (x : X) (xs : List X) → Contains (x ∷ xs) x
-Contains-here x xs = (0, omega arith, refl)
-
-pub Contains-there : {X : Type 0} (y : X) (xs : List X) (x : X) → Contains xs x → Contains (y ∷ xs) x
-Contains-there y xs x c = let h : c.0 < length xs = c.1 in (suc c.0, omega arith, c.2)
-
-pub Contains-none : {X : Type 0} (x : X) → Contains [] x → ⊥
-Contains-none {X = X} x c = let h : c.0 < length {A = X} [] = c.1 in omega arith
 
 -- a list's elements stand in the list turned round, and the other way
 pub All-reverse : {X : Type 0} (P : X → Type 0) (xs : List X) → All P xs → All P (reverse xs)
@@ -33,27 +22,27 @@ All-of_reverse P xs all = rw (reverse-reverse xs) at (All-reverse P (reverse xs)
 module _ {X : Type 0} (p : X → Bool) where
   in_cond : (b : Bool) (x : X) (xs : List X) (y : X) → Contains (cond b (x ∷ xs) xs) y → Contains (x ∷ xs) y
   in_cond true x xs y c = c
-  in_cond false x xs y c = Contains-there x xs y c
+  in_cond false x xs y c = Contains-later x xs y c
 
   pub filter_from : (xs : List X) (y : X) → Contains (filter p xs) y → Contains xs y
   filter_from [] y c = c
   filter_from (x ∷ xs) y c =
-      elim (Contains-cons_cases x (filter p xs) y (in_cond (p x) x (filter p xs) y c)) [
-        | inl same ↦ subst (λ (z : X). Contains (z ∷ xs) y) (sym same) (Contains-here y xs)
-        | inr later ↦ Contains-there x xs y (filter_from xs y later)
+      elim (Contains-cases x (filter p xs) y (in_cond (p x) x (filter p xs) y c)) [
+        | inl same ↦ subst (λ (z : X). Contains (z ∷ xs) y) (sym same) (Contains-head y xs)
+        | inr later ↦ Contains-later x xs y (filter_from xs y later)
       ]
 
   cond_keeps : (b : Bool) (x : X) (xs : List X) (y : X) → Contains xs y → Contains (cond b (x ∷ xs) xs) y
-  cond_keeps true x xs y c = Contains-there x xs y c
+  cond_keeps true x xs y c = Contains-later x xs y c
   cond_keeps false x xs y c = c
 
   pub filter_in : (xs : List X) (y : X) → Contains xs y → p y ≡ true → Contains (filter p xs) y
   filter_in [] y c e = c
   filter_in (x ∷ xs) y c e =
-      elim (Contains-cons_cases x xs y c) [
+      elim (Contains-cases x xs y c) [
         | inl same ↦
             subst (λ (l : List X). Contains l y) (sym (cond-true (p x) (x ∷ filter p xs) (filter p xs) (ap p same ∙ e)))
-            (subst (λ (z : X). Contains (z ∷ filter p xs) y) (sym same) (Contains-here y (filter p xs)))
+            (subst (λ (z : X). Contains (z ∷ filter p xs) y) (sym same) (Contains-head y (filter p xs)))
         | inr later ↦ cond_keeps (p x) x (filter p xs) y (filter_in xs y later e)
       ]
 
@@ -61,7 +50,7 @@ module _ {X : Type 0} (p : X → Bool) where
   pub filter_agree_in : (q : X → Bool) (xs : List X) → ((x : X) → Contains xs x → p x ≡ q x) → filter p xs ≡ filter q xs
   filter_agree_in q [] each = refl
   filter_agree_in q (x ∷ xs) each =
-      λ i. cond (each x (Contains-here x xs) i) (x ∷ filter_agree_in q xs (λ y c. each y (Contains-there x xs y c)) i) (filter_agree_in q xs (λ y c. each y (Contains-there x xs y c)) i)
+      λ i. cond (each x (Contains-head x xs) i) (x ∷ filter_agree_in q xs (λ y c. each y (Contains-later x xs y c)) i) (filter_agree_in q xs (λ y c. each y (Contains-later x xs y c)) i)
 
   cond_twice : (q : X → Bool) (b : Bool) (x : X) (xs : List X) → filter q (cond b (x ∷ xs) xs) ≡ cond (b && q x) (x ∷ filter q xs) (filter q xs)
   cond_twice q true x xs = refl

@@ -2,6 +2,7 @@ use Rattle.std.proofs.Common.{◌≡◌, ℕ, zero, suc, ◌<◌, ◌⊎◌, inl
 use Rattle.std.specs.Prelude.{Contains}
 use Rattle.std.proofs.lemmas.Bool.{and_parts, both_ways, false≢true, not-true, or_cases}
 use Rattle.std.proofs.lemmas.List.Elements.{All-cons, All-nil, Contains-append_left, Contains-append_right}
+use Rattle.std_lemmas.proofs.Lists.{Contains-head}
 use Rattle.letters_and_lassos.specs.Cube.{Fits}
 use Rattle.letters_and_lassos.specs.Signals.{has}
 use Rattle.letters_and_lassos.specs.declared.cubes.Cube.{Cube}
@@ -21,7 +22,6 @@ use Rattle.ltl_formula.specs.NormalForm.{IsNormal}
 use Rattle.obligation_sets.specs.OpenWork.{open_work}
 use Rattle.obligation_sets.specs.Steps.{HasPlaces, expanding, in_front, joining, leaving, opposing, postponing, step, step_on, taking, undone}
 use Rattle.obligation_sets.proofs.Flags.{with_id-cases}
-use Rattle.obligation_sets.proofs.Lists.{Contains-here}
 use Rattle.obligation_sets.proofs.OneStep.{IsOneStep, NodeIsNormal, NodeIsSignal, node_normal, node_signal, value}
 use Rattle.obligation_sets.proofs.Walks.{IsFirstOpen, PartsBelow-up, Stepped, first_open, step_stepped}
 
@@ -174,7 +174,7 @@ module _ (ns : List Node) (letter : Letter) (now later : FormulaId → Bool) whe
         (node_normal ns list f standing.first normals.first) (sym (one.means f standing.first) ∙ truths.first)
 
     reached_below : (n : ℕ) → ((c : Branch) → HasPlaces (length ns) c → undone c.done < n → IsMet c → Reached (leaves_within n ns c)) → (b : Branch) → undone b.done < suc n → (s : Step) → Stepped (length ns) b s → StepIsMet s → Reached (leaves_below (leaves_within n ns) s)
-    reached_below n below b few (Leaf leaf) goes met = record { leaf = leaf; there = Contains-here (Some leaf) []; met = met; places = goes }
+    reached_below n below b few (Leaf leaf) goes met = record { leaf = leaf; there = Contains-head (Some leaf) []; met = met; places = goes }
     reached_below n below b few Dead goes met = absurd met
     reached_below n below b few (On c) goes met = below c goes.0 (let e : undone b.done ≡ suc (undone c.done) = goes.1 in omega arith) met
     reached_below n below b few (Split c d) goes (inl met) =

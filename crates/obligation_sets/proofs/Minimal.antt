@@ -7,9 +7,10 @@ use Rattle.std.proofs.lemmas.List.{append-nil, append_assoc}
 use Rattle.std.proofs.lemmas.List.Elements.{Contains-append_left, Contains-push, Contains-push_cases, filter-append}
 use Rattle.std.proofs.lemmas.List.Folds.{list_any-append}
 use Rattle.std.proofs.lemmas.List.Sums.{fold_push}
+use Rattle.std_lemmas.proofs.Lists.{Contains-none, any_holds}
 use Rattle.indexmap.specs.IndexSet.{insert_all, insert_key}
-use Rattle.obligation_sets.proofs.Distinct.{all_from, any_from, any_of}
-use Rattle.obligation_sets.proofs.Lists.{Contains-none, filter_agree_in, filter_from, filter_in, filter_twice}
+use Rattle.obligation_sets.proofs.Distinct.{all_from, any_of}
+use Rattle.obligation_sets.proofs.Lists.{filter_agree_in, filter_from, filter_in, filter_twice}
 
 neither : (a b : Bool) → not (a || (b || false)) ≡ (not a && not b)
 neither true b = refl
@@ -71,7 +72,7 @@ module _ {X : Type 0} (le : X → X → Bool) (le_refl : (x : X) → le x x ≡ 
           let back : le x old.element ≡ false = false_from_ne_true (le x old.element) (λ e. both_ways (le x c) (not-true (le x c) parts.1) (le_trans x old.element c e old.below)) in
           let under : less old.element x ≡ true = and_from (le old.element x) (not (le x old.element)) up (not_from_false (le x old.element) back) in
           both_ways (list_any (λ y. less y x) come) (not-true (list_any (λ y. less y x) come) stay)
-          (any_from (λ y. less y x) come old.element (come_from come old.element old_distinct) under)
+          (any_holds (λ y. less y x) come old.element (come_from come old.element old_distinct) under)
 
       same_stays : (x : X) → stays (come ++ c ∷ []) x ≡ stays come x
       same_stays x =
@@ -85,10 +86,10 @@ module _ {X : Type 0} (le : X → X → Bool) (le_refl : (x : X) → le x x ≡ 
       new_goes fresh =
           let back : le c old.element ≡ false =
           false_from_ne_true (le c old.element)
-          (λ e. both_ways (list_any (same c) (distinct come)) fresh (any_from (same c) (distinct come) old.element old_distinct (and_from (le c old.element) (le old.element c) e old.below))) in
+          (λ e. both_ways (list_any (same c) (distinct come)) fresh (any_holds (same c) (distinct come) old.element old_distinct (and_from (le c old.element) (le old.element c) e old.below))) in
           let under : less old.element c ≡ true = and_from (le old.element c) (not (le c old.element)) old.below (not_from_false (le c old.element) back) in
           same_stays c
-          ∙ not_from_true (list_any (λ y. less y c) come) (any_from (λ y. less y c) come old.element (come_from come old.element old_distinct) under)
+          ∙ not_from_true (list_any (λ y. less y c) come) (any_holds (λ y. less y c) come old.element (come_from come old.element old_distinct) under)
 
       same_least : least (come ++ c ∷ []) ≡ least come
       same_least =
@@ -105,7 +106,7 @@ module _ {X : Type 0} (le : X → X → Bool) (le_refl : (x : X) → le x x ≡ 
 
       left_out : IsKept (come ++ c ∷ []) (keep kept c)
       left_out =
-          let there : list_any (λ j. le j c) kept ≡ true = any_from (λ j. le j c) kept old.element old.there old.below in
+          let there : list_any (λ j. le j c) kept ≡ true = any_holds (λ j. le j c) kept old.element old.there old.below in
           let same_kept : keep kept c ≡ kept = cond-true (list_any (λ j. le j c) kept) kept (filter (λ j. not (le c j)) kept ++ c ∷ []) there in
           subst (IsKept (come ++ c ∷ [])) (sym same_kept) (record {
             is = known.is ∙ sym same_least;
@@ -117,7 +118,7 @@ module _ {X : Type 0} (le : X → X → Bool) (le_refl : (x : X) → le x x ≡ 
       none_below : (x : X) → Contains come x → le x c ≡ false
       none_below x there =
           let b : IsBelow kept x = known.below x there in
-          false_from_ne_true (le x c) (λ e. both_ways (list_any (λ j. le j c) kept) none (any_from (λ j. le j c) kept b.element b.there (le_trans b.element x c b.below e)))
+          false_from_ne_true (le x c) (λ e. both_ways (list_any (λ j. le j c) kept) none (any_holds (λ j. le j c) kept b.element b.there (le_trans b.element x c b.below e)))
 
       fresh : list_any (same c) (distinct come) ≡ false
       fresh =

@@ -4,6 +4,7 @@ use Rattle.std.specs.Prelude.{Contains, bit_or}
 use Rattle.std.proofs.lemmas.List.Elements.{Contains-append_cases}
 use Rattle.std.proofs.lemmas.Nat.{or_lt}
 use Rattle.std.proofs.Math.Pow.{pow-lt, pow_pos}
+use Rattle.std_lemmas.proofs.Lists.{Contains-cases, Contains-none, All-from_contains}
 use Rattle.letters_and_lassos.specs.Signals.{has}
 use Rattle.letters_and_lassos.specs.declared.cubes.Cube.{Cube}
 use Rattle.ltl_formula.specs.declared.nodes.FormulaId.{FormulaId}
@@ -24,8 +25,7 @@ use Rattle.obligation_sets.specs.Ids.{with_id}
 use Rattle.obligation_sets.specs.OpenWork.{open_work}
 use Rattle.obligation_sets.specs.Steps.{expanding, joining, opposing, step, step_on, undone}
 use Rattle.obligation_sets.proofs.LessAsked.{covers_from}
-use Rattle.obligation_sets.proofs.Lists.{Contains-cons_cases, Contains-none}
-use Rattle.obligation_sets.proofs.NextStep.{All-from_contains, alive_from}
+use Rattle.obligation_sets.proofs.NextStep.{alive_from}
 
 module _ (n : ℕ) (ns : List Node) (below : HasSignalsBelow n ns) where
   -- the cube names only the first n signals
@@ -91,12 +91,12 @@ module _ (n : ℕ) (ns : List Node) (below : HasSignalsBelow n ns) where
   inside_below : (fuel : ℕ) → ((c : Branch) → Inside c.cube → (leaf : Branch) → Contains (leaves_within fuel ns c) (Some leaf) → Inside leaf.cube) → (s : Step) → StepInside s → (leaf : Branch)
       → Contains (leaves_below (leaves_within fuel ns) s) (Some leaf) → Inside leaf.cube
   inside_below fuel each (Leaf c) i leaf there =
-      elim (Contains-cons_cases (Some c) [] (Some leaf) there) [
+      elim (Contains-cases (Some c) [] (Some leaf) there) [
         | inl same ↦ (let e : c ≡ leaf = cc in subst (λ (x : Branch). Inside x.cube) e i)
         | inr none ↦ absurd (Contains-none (Some leaf) none)
       ]
   inside_below fuel each Dead i leaf there =
-      elim (Contains-cons_cases None [] (Some leaf) there) [
+      elim (Contains-cases None [] (Some leaf) there) [
         | inl wrong ↦ absurd (let contra : ⊥ = cc in contra)
         | inr none ↦ absurd (Contains-none (Some leaf) none)
       ]

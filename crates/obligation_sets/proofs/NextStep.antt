@@ -1,7 +1,8 @@
-use Rattle.std.proofs.Common.{◌≡◌, ℕ, zero, suc, ◌<◌, inl, inr, Bool, true, false, ◌&&◌, ◌||◌, List, [], ◌∷◌, Option, None, Some, All, get_or, length, refl, sym, ◌∙◌, subst, arith}
+use Rattle.std.proofs.Common.{◌≡◌, ℕ, zero, suc, ◌<◌, inl, inr, Bool, true, false, ◌&&◌, ◌||◌, List, [], ◌∷◌, Option, None, Some, All, length, refl, sym, ◌∙◌, subst, arith}
 use Rattle.std.specs.Prelude.{Contains, IsTrue}
 use Rattle.std.proofs.lemmas.Bool.{and_from, false_from_ne_true, not_from_false, or_left, or_right}
-use Rattle.std.proofs.lemmas.List.Elements.{All-contains, Contains-get_or}
+use Rattle.std.proofs.lemmas.List.Elements.{All-contains}
+use Rattle.std_lemmas.proofs.Lists.{Contains-cases, Contains-head, Contains-later, Contains-none, All-from_contains}
 use Rattle.letters_and_lassos.specs.Cube.{Fits}
 use Rattle.letters_and_lassos.specs.declared.cubes.Cube.{Cube}
 use Rattle.letters_and_lassos.specs.Signals.{has}
@@ -30,36 +31,31 @@ use Rattle.obligation_sets.proofs.Flags.{has_id-none, has_id-within}
 use Rattle.obligation_sets.proofs.IdLists.{flag_of_id, id_of_flag}
 use Rattle.obligation_sets.proofs.Implied.{AsksFor, asked_holds, still_asks}
 use Rattle.obligation_sets.proofs.Implied.AsksFor.{in_set}
-use Rattle.obligation_sets.proofs.Lists.{Contains-cons_cases, Contains-here, Contains-none, Contains-there}
 use Rattle.obligation_sets.proofs.MetLeaves.{IsMet, Reached, reached, second_false}
 use Rattle.obligation_sets.proofs.OneStep.{IsOneStep, one_step, value}
 
 -- the leaf that a cover comes from
 pub alive_from : (cover : Branch → Cover) (leaves : List (Option Branch)) (c : Cover) → Contains (alive cover leaves) c → (leaf : Branch) × Contains leaves (Some leaf) × (cover leaf ≡ c)
 alive_from cover [] c h = absurd (Contains-none c h)
-alive_from cover (None ∷ leaves) c h = let r : (leaf : Branch) × Contains leaves (Some leaf) × (cover leaf ≡ c) = alive_from cover leaves c h in (r.0, Contains-there None leaves (Some r.0) r.1, r.2)
+alive_from cover (None ∷ leaves) c h = let r : (leaf : Branch) × Contains leaves (Some leaf) × (cover leaf ≡ c) = alive_from cover leaves c h in (r.0, Contains-later None leaves (Some r.0) r.1, r.2)
 alive_from cover (Some b ∷ leaves) c h =
-    elim (Contains-cons_cases (cover b) (alive cover leaves) c h) [
-      | inl same ↦ (b, Contains-here (Some b) leaves, same)
-      | inr later ↦ let r : (leaf : Branch) × Contains leaves (Some leaf) × (cover leaf ≡ c) = alive_from cover leaves c later in (r.0, Contains-there (Some b) leaves (Some r.0) r.1, r.2)
+    elim (Contains-cases (cover b) (alive cover leaves) c h) [
+      | inl same ↦ (b, Contains-head (Some b) leaves, same)
+      | inr later ↦ let r : (leaf : Branch) × Contains leaves (Some leaf) × (cover leaf ≡ c) = alive_from cover leaves c later in (r.0, Contains-later (Some b) leaves (Some r.0) r.1, r.2)
     ]
 
 pub alive_has : (cover : Branch → Cover) (leaves : List (Option Branch)) (leaf : Branch) → Contains leaves (Some leaf) → Contains (alive cover leaves) (cover leaf)
 alive_has cover [] leaf h = absurd (Contains-none (Some leaf) h)
 alive_has cover (None ∷ leaves) leaf h =
-    elim (Contains-cons_cases None leaves (Some leaf) h) [
+    elim (Contains-cases None leaves (Some leaf) h) [
       | inl wrong ↦ absurd (let contra : ⊥ = cc in contra)
       | inr later ↦ alive_has cover leaves leaf later
     ]
 alive_has cover (Some b ∷ leaves) leaf h =
-    elim (Contains-cons_cases (Some b) leaves (Some leaf) h) [
-      | inl same ↦ (let e : b ≡ leaf = cc in subst (λ (x : Branch). Contains (cover b ∷ alive cover leaves) (cover x)) e (Contains-here (cover b) (alive cover leaves)))
-      | inr later ↦ Contains-there (cover b) (alive cover leaves) (cover leaf) (alive_has cover leaves leaf later)
+    elim (Contains-cases (Some b) leaves (Some leaf) h) [
+      | inl same ↦ (let e : b ≡ leaf = cc in subst (λ (x : Branch). Contains (cover b ∷ alive cover leaves) (cover x)) e (Contains-head (cover b) (alive cover leaves)))
+      | inr later ↦ Contains-later (cover b) (alive cover leaves) (cover leaf) (alive_has cover leaves leaf later)
     ]
-
--- a fact of each element
-pub All-from_contains : {X : Type 0} (P : X → Type 0) (xs : List X) → ((x : X) → Contains xs x → P x) → All P xs
-All-from_contains P xs each = λ k d h. each (get_or xs k d) (Contains-get_or xs k d h)
 
 module _ (ns : List Node) (list : IsNodeList ns) (set : List FormulaId) (stand : All (IsNodeIn ns) set) where
   -- a cover of the set and the leaf that it is

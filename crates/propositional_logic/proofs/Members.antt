@@ -1,30 +1,7 @@
 -- Elements of lists, by cases on the list.
-use Rattle.std.proofs.Common.{◌≡◌, ℕ, suc, zero, ◌<◌, Bool, true, false, cond, List, [], ◌∷◌, ◌++◌, ◌⊎◌, inl, inr, filter, take, get_or, length, Contains, refl, sym, subst, ap, ◌∙◌, true≢false, arith}
-use Rattle.std.proofs.lemmas.List.Elements.{Contains-append_right, All-contains, All-take, All-contains_itself}
-
-pub Contains-head : {X : Type 0} (x : X) (xs : List X) → Contains (x ∷ xs) x
-Contains-head x xs = (0, omega arith, refl)
-
-pub Contains-later : {X : Type 0} (x : X) (xs : List X) (y : X) → Contains xs y → Contains (x ∷ xs) y
-Contains-later x xs y h = Contains-append_right (x ∷ []) xs y h
-
-pub Contains-none : {X : Type 0} (y : X) → Contains [] y → ⊥
-Contains-none y h = omega (arith, h.1)
-
-pub Contains-cases : {X : Type 0} (x : X) (xs : List X) (y : X) → Contains (x ∷ xs) y → (x ≡ y) ⊎ Contains xs y
-Contains-cases x xs y h = by h.0 h.1 h.2
-  where
-    by : (k : ℕ) → k < length (x ∷ xs) → get_or (x ∷ xs) k y ≡ y → (x ≡ y) ⊎ Contains xs y
-    by zero l e = inl e
-    by (suc k) l e = inr (k, omega arith, e)
-
-pub Contains-push_cases : {X : Type 0} (xs : List X) (x y : X) → Contains (xs ++ x ∷ []) y → Contains xs y ⊎ (x ≡ y)
-Contains-push_cases [] x y h = elim (Contains-cases x [] y h) [ inl e ↦ inr e | inr n ↦ absurd (Contains-none y n) ]
-Contains-push_cases (z ∷ zs) x y h =
-    elim (Contains-cases z (zs ++ x ∷ []) y h) [
-      | inl e ↦ inl (subst (Contains (z ∷ zs)) e (Contains-head z zs))
-      | inr r ↦ elim (Contains-push_cases zs x y r) [ inl m ↦ inl (Contains-later z zs y m) | inr e ↦ inr e ]
-    ]
+use Rattle.std.proofs.Common.{◌≡◌, ℕ, Bool, true, false, cond, List, [], ◌∷◌, ◌⊎◌, inl, inr, filter, take, Contains, refl, sym, subst, ap, ◌∙◌, true≢false}
+use Rattle.std.proofs.lemmas.List.Elements.{All-contains, All-take, All-contains_itself}
+pub use Rattle.std_lemmas.proofs.Lists.{Contains-head, Contains-later, Contains-none, Contains-cases}
 
 -- what a filter keeps
 pub Contains-filter : {X : Type 0} (p : X → Bool) (xs : List X) (y : X) → Contains (filter p xs) y → Contains xs y × (p y ≡ true)

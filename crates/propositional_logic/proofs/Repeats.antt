@@ -3,13 +3,12 @@ use Rattle.std.proofs.Common.{◌≡◌, ◌≢◌, ℕ, suc, zero, ◌+◌, ◌
 use Rattle.std.specs.List.Sorted.{IsNonDecreasingBy, IsPermutation}
 use Rattle.std.proofs.lemmas.List.Sorted.{Contains-permutation, IsPermutation-sym}
 use Rattle.std.proofs.lemmas.List.{take_more, get_or-take, get_or_default, length-take-le}
-use Rattle.std.proofs.lemmas.List.Elements.{Contains-append_left, Contains-push, Contains-get_or, All-contains}
+use Rattle.std.proofs.lemmas.List.Elements.{Contains-append_left, Contains-push, Contains-get_or, All-contains, Contains-push_cases}
 use Rattle.std.proofs.lemmas.Option.{slice_get_within, slice_get-get_or, get_or_from_slice_get}
 use Rattle.std.proofs.lemmas.Bool.{not-false}
 use Rattle.propositional_logic.specs.Literal.{Literal, negated, literal_eq}
 use Rattle.propositional_logic.specs.Equality.{Decides-literal_eq}
 use Rattle.propositional_logic.specs.Clause.{IsRisingFrom, IsClause, IsClauseOf, IsWithinVariables, IsTautology}
-use Rattle.propositional_logic.proofs.Members.{Contains-push_cases}
 use Rattle.propositional_logic.proofs.Rising.{rising_above, rising_push, no_tautology}
 
 -- along a rising list variables never fall

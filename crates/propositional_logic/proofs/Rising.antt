@@ -1,8 +1,9 @@
 -- Clauses in the written order.
-use Rattle.std.proofs.Common.{◌≡◌, ℕ, ◌<◌, Bool, true, false, not, List, [], ◌∷◌, ◌++◌, inl, inr, ◌↔◌, Contains, refl, sym, subst, ap, ◌∙◌, true≢false, arith}
+use Rattle.std.proofs.Common.{◌≡◌, ℕ, ◌<◌, List, [], ◌∷◌, ◌++◌, inl, inr, ◌↔◌, Contains, refl, sym, subst, ap, ◌∙◌, arith}
+use Rattle.std_lemmas.proofs.Booleans.{not_same}
+use Rattle.std_lemmas.proofs.Lists.{Contains-head, Contains-later, Contains-none, Contains-cases}
 use Rattle.propositional_logic.specs.Literal.{Literal, negated}
 use Rattle.propositional_logic.specs.Clause.{IsRisingFrom, IsClause, IsTautology}
-use Rattle.propositional_logic.proofs.Members.{Contains-head, Contains-later, Contains-none, Contains-cases}
 
 -- a literal of a rising list has a variable above where the list begins
 pub rising_above : (n : ℕ) (xs : List Literal) (l : Literal) → IsRisingFrom n xs → Contains xs l → n < l.var
@@ -69,13 +70,8 @@ rising_one n (x ∷ xs) (y ∷ ys) r s h =
     let rest = rising_one x.var xs ys r.1 t (λ l. (over l, back l)) in
     λ i. first i ∷ rest i
 
--- no sign is its opposite
-sign_differs : (b : Bool) → not b ≡ b → ⊥
-sign_differs true e = true≢false (sym e)
-sign_differs false e = true≢false e
-
 pub no_tautology : (a : List Literal) → IsClause a → IsTautology a → ⊥
 no_tautology a r h =
     let l = h.1 in
     let same = rising_distinct 0 a (negated l) l r h.4 (h.0, h.2, h.3) refl in
-    sign_differs l.positive (ap (λ (m : Literal). m.positive) same)
+    not_same l.positive (ap (λ (m : Literal). m.positive) same)

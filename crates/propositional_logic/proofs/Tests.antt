@@ -1,5 +1,5 @@
 -- What the tests under a partial assignment mean, and what they say of total assignments.
-use Rattle.std.proofs.Common.{◌≡◌, ◌≢◌, ℕ, ◌<◌, Bool, true, false, cond, not, ◌&&◌, ◌||◌, List, [], ◌∷◌, ◌⊎◌, inl, inr, Some, None, Contains, refl, sym, subst, ap, ◌∙◌, true≢false, arith}
+use Rattle.std.proofs.Common.{◌≡◌, ◌≢◌, ℕ, ◌<◌, Bool, true, false, cond, not, ◌&&◌, ◌||◌, List, [], ◌∷◌, inl, inr, Some, None, Contains, refl, sym, subst, ap, ◌∙◌, true≢false, arith}
 use Rattle.std.specs.Prelude.{All, Any}
 use Rattle.std.specs.Bool.{Decides}
 use Rattle.std.specs.Cmp.{first_so, second_so}
@@ -8,12 +8,13 @@ use Rattle.std.proofs.lemmas.List.Elements.{All-cons, All-head, All-tail, All-ni
 use Rattle.std.proofs.lemmas.Map.Views.{list_any-from_Contains, Contains-from_any}
 use Rattle.std.proofs.lemmas.Bool.{or_cases, not-true}
 use mathlib.Core.Bool.{or-false}
+use Rattle.std_lemmas.proofs.Lists.{Contains-head, Contains-later, Contains-none, Contains-cases, any_holds}
 use Rattle.propositional_logic.specs.Literal.{Literal, negated, literal_eq, sign_eq}
 use Rattle.propositional_logic.specs.Clause.{IsRisingFrom, IsClause}
 use Rattle.propositional_logic.specs.Truth.{value_of, is_true_literal, is_true_clause}
 use Rattle.propositional_logic.specs.Partial.{is_true_in, is_false_in, is_satisfied, is_falsified, unfalsified, lone_of, unit_of, AgreesWith, IsUnitIn}
 use Rattle.propositional_logic.specs.Equality.{Decides-literal_eq, literal_eq-equivalence}
-use Rattle.propositional_logic.proofs.Members.{Contains-head, Contains-later, Contains-none, Contains-cases, Contains-filter, filter-Contains, filter-none}
+use Rattle.propositional_logic.proofs.Members.{Contains-filter, filter-Contains, filter-none}
 use Rattle.propositional_logic.proofs.Rising.{rising_above}
 
 pub Decides-is_true_in : (trues : List Literal) (l : Literal) → Decides (is_true_in trues l) (Contains trues l)
@@ -35,15 +36,6 @@ any_found p P d (x ∷ xs) h =
       | inl e ↦ Any-member P (x ∷ xs) x (Contains-head x xs) ((d x).0 e)
       | inr e ↦ let k = any_found p P d xs e in Any-member P (x ∷ xs) k.1 (Contains-later x xs k.1 (k.0, k.2, k.3)) k.4
     ]
-
-pub any_holds : {X : Type 0} (p : X → Bool) (xs : List X) (x : X) → Contains xs x → p x ≡ true → list_any p xs ≡ true
-any_holds p [] x m h = absurd (Contains-none x m)
-any_holds p (y ∷ ys) x m h = by (p y) refl (λ r. any_holds p ys x r h) (Contains-cases y ys x m)
-  where
-    by : (b : Bool) → p y ≡ b → (Contains ys x → list_any p ys ≡ true) → (y ≡ x) ⊎ Contains ys x → (b || list_any p ys) ≡ true
-    by true e rest c = refl
-    by false e rest (inl s) = absurd (true≢false (sym h ∙ ap p (sym s) ∙ e))
-    by false e rest (inr r) = rest r
 
 pub Decides-any : {X : Type 0} (p : X → Bool) (P : X → Type 0) → ((x : X) → Decides (p x) (P x)) → (xs : List X) → Decides (list_any p xs) (Any P xs)
 Decides-any p P d xs = (any_found p P d xs, λ h. any_holds p xs h.1 (h.0, h.2, h.3) ((d h.1).1 h.4))

@@ -2,11 +2,11 @@
 use Rattle.std.proofs.Common.{◌≡◌, ℕ, suc, zero, ◌+◌, ◌-◌, ◌<◌, ◌≤◌, Bool, true, false, List, [], ◌∷◌, ◌++◌, Some, slice_get, unwrap_or, length, Contains, refl, sym, subst, ap, ◌∙◌, append_assoc, length-append, arith}
 use Rattle.std.proofs.lemmas.List.Elements.{All-nil, All-cons, All-contains}
 use Rattle.std.proofs.lemmas.Option.{slice_get-get_or, unwrap_or-slice_get}
+use Rattle.std_lemmas.proofs.Lists.{Contains-head, Contains-later}
 use Rattle.propositional_logic.specs.Literal.{Literal, sign_eq}
 use Rattle.propositional_logic.specs.Truth.{value_of, is_true_literal}
 use Rattle.propositional_logic.specs.Partial.{AgreesWith, literals_from}
 use Rattle.propositional_logic.specs.Equality.{Decides-sign_eq}
-use Rattle.propositional_logic.proofs.Members.{Contains-head, Contains-later}
 
 at_end : (pre : List Bool) (b : Bool) (bs : List Bool) → slice_get (pre ++ b ∷ bs) (length pre) ≡ Some b
 at_end [] b bs = refl

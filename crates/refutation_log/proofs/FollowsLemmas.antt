@@ -6,21 +6,18 @@ use Rattle.std.proofs.lemmas.List.Elements.{All-nil, All-cons}
 use Rattle.std.proofs.lemmas.Option.{slice_get_within}
 use Rattle.std.proofs.lemmas.Bool.Decides.{Decides-eqb}
 use Rattle.std.proofs.lemmas.Bool.{or_parts}
+use Rattle.std_lemmas.proofs.Options.{chained_some}
+use Rattle.std_lemmas.proofs.Lists.{slice_get-append}
 use Rattle.propositional_logic.specs.Literal.{Literal, negated}
 use Rattle.propositional_logic.specs.Truth.{is_true_literal, is_true_clause, meets}
 use Rattle.propositional_logic.specs.Partial.{is_falsified, unit_of, AgreesWith}
 use Rattle.propositional_logic.proofs.Tests.{is_true_literal-negated, falsified_is_false, unit_is_true}
 use Rattle.refutation_log.specs.Follows.{clause_named, unit_named, leads_to_conflict, Follows}
-use Rattle.refutation_log.proofs.Lists.{slice_get-append}
 
--- what stands behind a test of an option, and behind a chain of two
+-- what stands behind a test of an option
 behind_test : {X : Type 0} (f : X → Bool) (o : Option X) → option_map_or f o false ≡ true → (x : X) × (o ≡ Some x) × (f x ≡ true)
 behind_test f None h = absurd (true≢false (sym h))
 behind_test f (Some x) h = (x, refl, h)
-
-behind_chain : {X Y : Type 0} (f : X → Option Y) (o : Option X) (y : Y) → option_and_then f o ≡ Some y → (x : X) × (o ≡ Some x) × (f x ≡ Some y)
-behind_chain f None y h = absurd (cc)
-behind_chain f (Some x) y h = (x, refl, h)
 
 -- ---- longer lists
 
@@ -33,7 +30,7 @@ clause_named-append clauses more n c h = by (nat_eq n 0) h
 
 unit_named-append : (clauses more : List (List Literal)) (trues : List Literal) (n : ℕ) (l : Literal) → unit_named clauses trues n ≡ Some l → unit_named (clauses ++ more) trues n ≡ Some l
 unit_named-append clauses more trues n l h =
-    let k = behind_chain (unit_of trues) (clause_named clauses n) l h in
+    let k = chained_some (unit_of trues) (clause_named clauses n) l h in
     ap (option_and_then (unit_of trues)) (clause_named-append clauses more n k.0 k.1) ∙ k.2
 
 leads-append : (clauses more : List (List Literal)) (trues : List Literal) (hints : List ℕ) → leads_to_conflict clauses trues hints ≡ true → leads_to_conflict (clauses ++ more) trues hints ≡ true
@@ -71,7 +68,7 @@ no_conflict values clauses trues (n ∷ []) m a h =
     true≢false (sym (met_named values clauses n k.0 m k.1) ∙ falsified_is_false values trues k.0 a k.2)
 no_conflict values clauses trues (n ∷ o ∷ hints) m a h =
     let k = behind_test (λ l. leads_to_conflict clauses (l ∷ trues) (o ∷ hints)) (unit_named clauses trues n) h in
-    let u = behind_chain (unit_of trues) (clause_named clauses n) k.0 k.1 in
+    let u = chained_some (unit_of trues) (clause_named clauses n) k.0 k.1 in
     no_conflict values clauses (k.0 ∷ trues) (o ∷ hints) m (unit_is_true values trues u.0 k.0 a u.2 (met_named values clauses n u.0 m u.1)) k.2
 
 -- where a clause is false, the opposites of its literals are true
@@ -109,5 +106,5 @@ hints-named clauses trues (n ∷ []) h =
     All-cons (λ m. (0 < m) × (m ≤ length clauses)) n [] (named clauses n k.0 k.1) (All-nil (λ m. (0 < m) × (m ≤ length clauses)))
 hints-named clauses trues (n ∷ m ∷ hints) h =
     let k = behind_test (λ l. leads_to_conflict clauses (l ∷ trues) (m ∷ hints)) (unit_named clauses trues n) h in
-    let c = behind_chain (unit_of trues) (clause_named clauses n) k.0 k.1 in
+    let c = chained_some (unit_of trues) (clause_named clauses n) k.0 k.1 in
     All-cons (λ j. (0 < j) × (j ≤ length clauses)) n (m ∷ hints) (named clauses n c.0 c.1) (hints-named clauses (k.0 ∷ trues) (m ∷ hints) k.2)

@@ -13,6 +13,7 @@ use Rattle.std.proofs.lemmas.Option.{slice_get_cases, slice_get_within, slice_ge
 use Rattle.std.proofs.Math.Seq.{take-suc, take-length}
 use Rattle.std.proofs.lemmas.Bool.{cases_lt}
 use borrow.Author.Tests.{ltb-false, leb-false}
+use Rattle.std_lemmas.proofs.Lists.{slice_get-append, slice_get-push}
 use Rattle.propositional_logic.specs.Literal.{Literal}
 use Rattle.propositional_logic.specs.Clause.{clause_eq, IsWithinVariables}
 use Rattle.propositional_logic.specs.Truth.{is_true_clause, meets}
@@ -25,7 +26,7 @@ use Rattle.refutation_log.specs.Entry.{clauses_of}
 use Rattle.refutation_log.specs.Follows.{Follows}
 use Rattle.refutation_log.specs.Log.{is_empty_clause, is_ended, IsWithinLimit, IsLegal, IsClosed}
 use Rattle.refutation_log.specs.Turn.{clause_place, is_at_limit, reply_to_new, log_replied, log_after, run_of, IsSoundTurn, IsSoundRun}
-use Rattle.refutation_log.proofs.Lists.{slice_get-append, slice_get-push, take-append, take-append_all, take_drop}
+use Rattle.refutation_log.proofs.Lists.{take-append, take-append_all, take_drop}
 use Rattle.refutation_log.proofs.FollowsLemmas.{Follows-append, Follows-implied}
 use Rattle.refutation_log.proofs.StateLemmas.{is_ended-last}
 

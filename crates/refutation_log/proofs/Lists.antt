@@ -1,20 +1,5 @@
 -- Lists that grow at their end.
-use Rattle.std.proofs.Common.{◌≡◌, ℕ, suc, zero, ◌≤◌, List, [], ◌∷◌, ◌++◌, ◌⊎◌, inl, inr, Some, slice_get, take, length, refl, ap, arith}
-
--- an element keeps its place when the list grows
-pub slice_get-append : {X : Type 0} (xs ys : List X) (i : ℕ) (x : X) → slice_get xs i ≡ Some x → slice_get (xs ++ ys) i ≡ Some x
-slice_get-append [] ys i x h = absurd (cc)
-slice_get-append (a ∷ xs) ys zero x h = h
-slice_get-append (a ∷ xs) ys (suc i) x h = slice_get-append xs ys i x h
-
--- a place of a list with one more element is an old one or the last
-pub slice_get-push : {X : Type 0} (xs : List X) (y : X) (i : ℕ) (x : X) → slice_get (xs ++ y ∷ []) i ≡ Some x
-    → (slice_get xs i ≡ Some x) ⊎ ((i ≡ length xs) × (y ≡ x))
-slice_get-push [] y zero x h = inr (refl, cc)
-slice_get-push [] y (suc i) x h = absurd (cc)
-slice_get-push (a ∷ xs) y zero x h = inl h
-slice_get-push (a ∷ xs) y (suc i) x h =
-    elim (slice_get-push xs y i x h) [ inl e ↦ inl e | inr p ↦ inr (ap suc p.0, p.1) ]
+use Rattle.std.proofs.Common.{◌≡◌, ℕ, suc, zero, ◌≤◌, List, [], ◌∷◌, ◌++◌, take, length, refl, ap, arith}
 
 -- the first elements of a list stay when it grows
 pub take-append : {X : Type 0} (n : ℕ) (xs ys : List X) → n ≤ length xs → take n (xs ++ ys) ≡ take n xs

@@ -1,10 +1,11 @@
 -- A log as it stands in its map.
-use Rattle.std.proofs.Common.{◌≡◌, suc, ◌-◌, Bool, true, false, List, [], ◌∷◌, ◌++◌, Option, Some, None, map, slice_get, length, is_some, ◌==◌, refl, sym, ap, ◌∙◌, true≢false, arith}
+use Rattle.std.proofs.Common.{◌≡◌, suc, ◌-◌, Bool, true, false, List, [], ◌∷◌, ◌++◌, Some, None, map, slice_get, length, is_some, ◌==◌, refl, sym, ap, ◌∙◌, arith}
 use Rattle.std.specs.Option.{option_map}
 use Rattle.std.proofs.lemmas.Option.{slice_get-map}
 use Rattle.std.proofs.lemmas.List.{length-map, map-append}
 use Rattle.std.specs.Prelude.{position}
 use Rattle.std.proofs.lemmas.Bool.Decides.{Decides-eqb}
+use Rattle.std_lemmas.proofs.Options.{none_by}
 use Rattle.indexmap.specs.IndexMap.{IndexMap, get, insert_entry}
 use Rattle.indexmap.proofs.CallerLemmas.{insert_entry-new}
 use Rattle.indexmap.proofs.MapLemmas.{some_index}
@@ -30,16 +31,12 @@ is_ended-last (d ∷ c ∷ log) e h =
     let k : length (d ∷ c ∷ log) - 1 ≡ suc (length (c ∷ log) - 1) = omega arith in
     is_ended-last (c ∷ log) e (sym (ap (slice_get (d ∷ c ∷ log)) k) ∙ h)
 
-is_none_of : {X : Type 0} (o : Option X) → is_some o ≡ false → o ≡ None
-is_none_of None h = refl
-is_none_of (Some x) h = absurd (true≢false h)
-
 -- a clause that isn't in the log goes last in the map
 pub insert_entry-unknown : {S : Type 0} (m : IndexMap (List Literal) Derivation S) (k : List Literal) (v : Derivation)
     → clause_place k (map entry_of m.entries) ≡ None → insert_entry clause_eq m.entries k v ≡ m.entries ++ (k, v) ∷ []
 insert_entry-unknown m k v h =
     let none : position (clause_eq k) (map (λ e. e.0) m.entries) ≡ None = ap (position (clause_eq k)) (keys_are_clauses m.entries) ∙ h in
-    insert_entry-new clause_eq m k v (is_none_of (get clause_eq m k) (sym (some_index (clause_eq k) m.entries) ∙ ap is_some none))
+    insert_entry-new clause_eq m k v (none_by (get clause_eq m k) (sym (some_index (clause_eq k) m.entries) ∙ ap is_some none))
 
 pub entries_after_insert : {S : Type 0} (m : IndexMap (List Literal) Derivation S) (e : Entry) → clause_place e.clause (map entry_of m.entries) ≡ None
     → map entry_of (insert_entry clause_eq m.entries e.clause (record { by = e.by; hints = e.hints })) ≡ map entry_of m.entries ++ e ∷ []

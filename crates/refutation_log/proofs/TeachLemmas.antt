@@ -3,12 +3,12 @@ use Rattle.std.proofs.Common.{◌≡◌, ℕ, ◌<◌, inl, inr, ⊎_elim, nat_e
 use Rattle.std.specs.Prelude.{Contains}
 use Rattle.std.proofs.lemmas.List.Elements.{Contains-append_left, Contains-append_right, Contains-append_cases}
 use Rattle.std.proofs.lemmas.Option.{slice_get_within}
+use Rattle.std_lemmas.proofs.Lists.{Contains-head, Contains-later, Contains-cases, slice_get-push}
 use Rattle.propositional_logic.specs.Literal.{Literal}
-use Rattle.propositional_logic.proofs.Members.{Contains-head, Contains-later, Contains-cases}
 use Rattle.refutation_log.specs.declared.entries.Entry.{Entry}
 use Rattle.refutation_log.specs.Entry.{clauses_of}
 use Rattle.refutation_log.specs.Teaches.{IsQuietBut, Teaches, entries_by, IsTaught}
-use Rattle.refutation_log.proofs.Lists.{slice_get-push, take-append, take-append_all}
+use Rattle.refutation_log.proofs.Lists.{take-append, take-append_all}
 
 pub teaches-fewer : (more fewer : List (List Literal)) (clause : List Literal) → ((c : List Literal) → Contains fewer c → Contains more c)
     → Teaches more clause → Teaches fewer clause

@@ -1,1 +1,1 @@
-mod Owed
+pub mod Owed

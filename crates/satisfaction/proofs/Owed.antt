@@ -23,7 +23,7 @@ accepted_systems_satisfy x f a m says exact system =
       λ satisfies. made.1 (record { runs = λ w run. says.same w ∙ satisfies.means w run }),
     )
 
-not_the_other : (k : Kind) → k ≡ other_kind k → ⊥
+pub not_the_other : (k : Kind) → k ≡ other_kind k → ⊥
 not_the_other Mealy e = absurd (cc)
 not_the_other Moore e = absurd (cc)
 

@@ -24,7 +24,7 @@ use Rattle.solve_ground.specs.SolveText.{IsSolveFault, IsSolveText, forms_seen, 
 use Rattle.solve_ground.specs.Taken.{converted_from, taken_kind, taken_shift}
 
 -- what expands has no fault
-never_both : (o : Outcome Expanded) (flat : FlatText) (fault : Fault) → flat_in o ≡ Some flat → fault_in o ≡ Some fault → ⊥
+pub never_both : (o : Outcome Expanded) (flat : FlatText) (fault : Fault) → flat_in o ≡ Some flat → fault_in o ≡ Some fault → ⊥
 never_both (gives x w) flat fault is isnt = cc
 never_both (fails code place) flat fault is isnt = cc
 

@@ -3,12 +3,12 @@ use Rattle.std.proofs.Common.{◌≡◌, ℕ, ◌-◌, ◌^◌, ◌<◌, ◌≤�
 use Rattle.std.specs.Prelude.{option_map, option_and_then, codes, unwrap_or}
 use Rattle.std.proofs.lemmas.Bool.{eq-eqb, eqb-true}
 use Rattle.std.proofs.lemmas.List.Elements.{All-append, All-cons}
+use Rattle.std_lemmas.proofs.Options.{chained_some, mapped_some}
 use Rattle.aiger_text.specs.Words.{is_byte, cut_at, number_within}
 use Rattle.aiger_text.specs.CircuitText.{numbers_line}
 use Rattle.aiger_text.proofs.Numbers.{Lacks, AreSmall, cut_at-seam, decimal-lacks, number_within-decimal, line-lacks}
 use Rattle.document_text.specs.Header.{behind}
 use Rattle.document_text.proofs.LineRead.{cut_is, number_is, follows_words, words_read, words_lack}
-use Rattle.document_text.proofs.HeadRead.{step, last_step}
 use Rattle.solved_text.specs.declared.heads.Head.{Head}
 use Rattle.solved_text.specs.declared.heads.HeadNumbers.{HeadNumbers}
 use Rattle.solved_text.specs.Lines.{head_line, letters_word}
@@ -47,14 +47,14 @@ pub record AreNumbersOf (text : List ℕ) (read : HeadNumbers × List ℕ) : Typ
 
 numbers_of_is : (text : List ℕ) (read : HeadNumbers × List ℕ) → numbers_of text ≡ Some read → AreNumbersOf text read
 numbers_of_is text read is =
-    let a = step _ (cut_at 32 text) read is in
-    let b = step _ (cut_at 32 a.0.1) read a.2 in
-    let d = step _ (cut_at 32 b.0.1) read b.2 in
-    let e = step _ (cut_at 32 d.0.1) read d.2 in
-    let size = step _ (number_within (2 ^ 32 - 1) a.0.0) read e.2 in
-    let vars = step _ (number_within (2 ^ 32 - 1) d.0.0) read size.2 in
-    let base = step _ (number_within (2 ^ 64 - 1) e.0.0) read vars.2 in
-    let count = last_step _ (number_within (2 ^ 64 - 1) e.0.1) read base.2 in
+    let a = chained_some _ (cut_at 32 text) read is in
+    let b = chained_some _ (cut_at 32 a.0.1) read a.2 in
+    let d = chained_some _ (cut_at 32 b.0.1) read b.2 in
+    let e = chained_some _ (cut_at 32 d.0.1) read d.2 in
+    let size = chained_some _ (number_within (2 ^ 32 - 1) a.0.0) read e.2 in
+    let vars = chained_some _ (number_within (2 ^ 32 - 1) d.0.0) read size.2 in
+    let base = chained_some _ (number_within (2 ^ 64 - 1) e.0.0) read vars.2 in
+    let count = mapped_some _ (number_within (2 ^ 64 - 1) e.0.1) read base.2 in
     let n1 = number_is (2 ^ 32 - 1) size.0 a.0.0 (omega arith) size.1 in
     let n2 = number_is (2 ^ 32 - 1) vars.0 d.0.0 (omega arith) vars.1 in
     let n3 = number_is (2 ^ 64 - 1) base.0 e.0.0 (omega arith) base.1 in
@@ -79,7 +79,7 @@ size_by size read found false e is = absurd (cc)
 
 numbers_for_is : (size : ℕ) (line : List ℕ) (read : HeadNumbers × List ℕ) → numbers_for size line ≡ Some read → AreNumbersFor size line read
 numbers_for_is size line read is =
-    let k = step (λ (read : HeadNumbers × List ℕ). cond (eqb read.0.size size) (Some read) None) (option_and_then numbers_of (behind (codes "log ") line)) read is in
+    let k = chained_some (λ (read : HeadNumbers × List ℕ). cond (eqb read.0.size size) (Some read) None) (option_and_then numbers_of (behind (codes "log ") line)) read is in
     let t = follows_words (codes "log ") line numbers_of k.0 k.1 in
     let n = numbers_of_is t.0 k.0 t.2 in
     let s = size_by size k.0 read (eqb k.0.0.size size) refl k.2 in
@@ -95,8 +95,8 @@ pub record IsHead (size : ℕ) (line : List ℕ) (head : Head) : Type 0 where
 
 pub head_is : (size : ℕ) (line : List ℕ) (head : Head) → head_in size line ≡ Some head → IsHead size line head
 head_is size line head is =
-    let k = step (λ (read : HeadNumbers × List ℕ). option_map (head_of read.0) (letters_in read.1)) (numbers_for size line) head is in
-    let l = last_step (head_of k.0.0) (letters_in k.0.1) head k.2 in
+    let k = chained_some (λ (read : HeadNumbers × List ℕ). option_map (head_of read.0) (letters_in read.1)) (numbers_for size line) head is in
+    let l = mapped_some (head_of k.0.0) (letters_in k.0.1) head k.2 in
     let n = numbers_for_is size line k.0 k.1 in
     let w = letters_is k.0.1 l.0 l.1 in
     subst (λ (h : Head). IsHead size line h) l.2

@@ -1,10 +1,11 @@
 -- A header as a whole: it has no bad line exactly where its text stands there.
 use Rattle.std.proofs.Common.{◌≡◌, ℕ, ◌+◌, ◌-◌, ◌^◌, ◌<◌, ◌≤◌, Bool, true, false, cond, Option, Some, None, List, [], ◌∷◌, ◌++◌, refl, sym, ap, ◌∙◌, arith, decimal, append_assoc, inl, inr}
-use Rattle.std.specs.Prelude.{⊤, ◌⊎◌, option_map, codes, unwrap_or}
+use Rattle.std.specs.Prelude.{⊤, option_map, codes, unwrap_or}
 use Rattle.std.specs.Option.{option_or}
 use Rattle.std.specs.Str.{bytes_eq}
 use Rattle.std.specs.Cmp.Lexicographic.{bytes_decides}
 use Rattle.std.proofs.lemmas.Bool.{and_parts}
+use Rattle.std_lemmas.proofs.Options.{mapped_some, either_some}
 use Rattle.letters_and_lassos.specs.declared.kinds.Kind.{Kind}
 use Rattle.letters_and_lassos.specs.declared.kinds.Kind.TheVariants.{Mealy, Moore}
 use Rattle.aiger_text.specs.Words.{number_within}
@@ -13,7 +14,6 @@ use Rattle.aiger_text.proofs.Numbers.{Lacks, number_within-decimal}
 use Rattle.document_text.specs.Header.{behind, front, kind_in, number_behind}
 use Rattle.document_text.specs.Lines.{kind_line, end_text}
 use Rattle.document_text.proofs.LineRead.{behind_is, behind_words, capped_read, front_is, front_read, follows_words, number_behind_is, number_is, text_lacks, words_lack, words_read}
-use Rattle.document_text.proofs.HeadRead.{last_step}
 use Rattle.document_text.proofs.HeaderWhole.{first_line, in_range_bounds, kind_is, kind_lacks, kind_read}
 use Rattle.solved_text.specs.declared.documents.Verdict.{Verdict}
 use Rattle.solved_text.specs.declared.documents.Verdict.TheVariants.{Realizable, Unrealizable, Unknown}
@@ -51,20 +51,16 @@ verdict_lacks Unknown small = words_lack (codes "verdict unknown") refl
 one_is : (words line : List ℕ) (f : ℕ → Verdict) (verdict : Verdict) → ((n : ℕ) → verdict_line (f n) ≡ words ++ decimal n) → ((n : ℕ) → states_of (f n) ≡ n)
     → states_of verdict ≤ most_states → option_map f (number_behind words line) ≡ Some verdict → line ≡ verdict_line verdict
 one_is words line f verdict text size small is =
-    let k = last_step f (number_behind words line) verdict is in
+    let k = mapped_some f (number_behind words line) verdict is in
     let n : states_of verdict ≡ k.0 = ap states_of (sym k.2) ∙ size k.0 in
     let less : k.0 < 2 ^ 32 - 1 = omega (arith, n, small) in
     number_behind_is words line k.0 less k.1 ∙ sym (text k.0) ∙ ap verdict_line k.2
-
-either_or : {X : Type 0} (o p : Option X) (x : X) → option_or o p ≡ Some x → (o ≡ Some x) ⊎ (p ≡ Some x)
-either_or None p x is = inr is
-either_or (Some y) p x is = inl is
 
 verdict_by : (line : List ℕ) (verdict : Verdict) → states_of verdict ≤ most_states → (b : Bool) → bytes_eq line (codes "verdict unknown") ≡ b
     → cond b (Some Unknown) (option_or (option_map Realizable (number_behind (codes "verdict realizable ") line)) (option_map Unrealizable (number_behind (codes "verdict unrealizable ") line))) ≡ Some verdict
     → line ≡ verdict_line verdict
 verdict_by line verdict small true e is = (bytes_decides line (codes "verdict unknown")).0 e ∙ ap verdict_line (ap (λ (o : Option Verdict). unwrap_or o Unknown) is)
-verdict_by line verdict small false e is = elim (either_or _ _ verdict is) [
+verdict_by line verdict small false e is = elim (either_some _ _ verdict is) [
   | inl a ↦ one_is (codes "verdict realizable ") line Realizable verdict (λ n. refl) (λ n. refl) small a
   | inr a ↦ one_is (codes "verdict unrealizable ") line Unrealizable verdict (λ n. refl) (λ n. refl) small a
 ]

@@ -9,12 +9,12 @@ use Rattle.std.specs.Cmp.Lexicographic.{bytes_decides}
 use Rattle.std.proofs.lemmas.List.{append-nil}
 use Rattle.std.proofs.lemmas.List.Elements.{All-append, All-cons}
 use Rattle.std.proofs.lemmas.List.Splits.{join_with_byte-slice_split, length-slice_split, slice_split_none, slice_split_at}
+use Rattle.std_lemmas.proofs.Options.{mapped_some}
 use Rattle.aiger_text.specs.Words.{is_byte, cut_at}
 use Rattle.aiger_text.proofs.Numbers.{Lacks, all_digits, decimal-lacks}
 use Rattle.aiger_text.proofs.Scanning.{cuts, no_cut}
 use Rattle.document_text.specs.Header.{in_range}
 use Rattle.document_text.proofs.LineRead.{in_range_is, in_range_read}
-use Rattle.document_text.proofs.HeadRead.{last_step}
 use Rattle.solved_text.specs.declared.letters.Letters.{Letters}
 use Rattle.solved_text.specs.declared.letters.Letters.TheVariants.{All as AllLetters, Few}
 use Rattle.solved_text.specs.Lines.{letters_word}
@@ -106,7 +106,7 @@ letters_by word letters true e is =
     subst (λ (l : Letters). IsLettersWord word l) (ap (λ (o : Option Letters). unwrap_or o AllLetters) is)
     (record { word_is = (bytes_decides word (codes "all")).0 e; are = tt })
 letters_by word letters false e is =
-    let k = last_step Few (numbers_in word) letters is in
+    let k = mapped_some Few (numbers_in word) letters is in
     few_by word k.0 letters (are_numbers [] 0 (parts_of word) k.0 k.1) k.2
 
 pub letters_is : (word : List ℕ) (letters : Letters) → letters_in word ≡ Some letters → IsLettersWord word letters

@@ -1,12 +1,12 @@
 -- The logs read one after the other, in one way.
 use Rattle.std.proofs.Common.{◌≡◌, ℕ, ◌+◌, ◌<◌, ◌≤◌, Option, Some, None, List, [], ◌∷◌, ◌++◌, length, refl, sym, ap, subst, ◌∙◌, arith, append_assoc}
 use Rattle.std.proofs.lemmas.List.{append-nil, length-append}
+use Rattle.std_lemmas.proofs.Options.{some_none, some_same}
 use Rattle.refutation_log.specs.declared.entries.Entry.{Entry}
 use Rattle.document_text.specs.Header.{front}
 use Rattle.document_text.specs.Logs.{AreFirstEntries}
 use Rattle.document_text.proofs.LineRead.{front_is}
 use Rattle.document_text.proofs.EntriesLemmas.{first_same, stated_length}
-use Rattle.document_text.proofs.LogsLemmas.{some_none, some_same}
 use Rattle.solved_text.specs.declared.heads.Head.{Head}
 use Rattle.solved_text.specs.Parts.{SizeLog}
 use Rattle.solved_text.specs.Logs.{LogsRead, ReadsLogs, ended, no_head, stopped, whole, head_in, log_of}

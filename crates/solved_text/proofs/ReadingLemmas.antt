@@ -1,11 +1,11 @@
 -- A document's bytes are read in one way.
 use Rattle.std.proofs.Common.{◌≡◌, ℕ, ◌+◌, Bool, true, false, Option, Some, None, List, drop, refl, sym, ap, subst, ◌∙◌, true≢false}
+use Rattle.std_lemmas.proofs.Options.{some_none, some_same}
 use Rattle.aiger_text.specs.declared.faults.CircuitFault.{CircuitFault}
 use Rattle.aiger_text.specs.CircuitFile.{File}
 use Rattle.aiger_text.proofs.FileFacts.{files_state_one_thing, faults_state_nothing, files_have_one_fault}
 use Rattle.document_text.specs.declared.reading.CircuitPart.TheVariants.{Absent, Faulty, Stated}
 use Rattle.document_text.specs.Reading.{fault_line}
-use Rattle.document_text.proofs.LogsLemmas.{some_none, some_same}
 use Rattle.solved_text.specs.Header.{HeaderRead, header_of}
 use Rattle.solved_text.specs.Reading.{SolvedLines, BodyRead, RestRead, ReadsRest, at_end, with_logs, ReadsBody, of_header, of_rest, ReadsBehind, unnamed, named, Reads, without_circuit, of_fault, uncommented, commented, circuit_alone, lines_with, no_rest, rest_behind}
 use Rattle.solved_text.proofs.LogLemmas.{logs_same}

@@ -1,10 +1,10 @@
 -- Whether bytes are a document of version 6.
 use Rattle.std.proofs.Common.{◌≡◌, ℕ, true, false, Some, None, List, drop, sym, ap, subst, ◌∙◌, true≢false}
+use Rattle.std_lemmas.proofs.Options.{some_none, some_same}
 use Rattle.aiger_text.specs.declared.faults.CircuitFault.{CircuitFault}
 use Rattle.aiger_text.specs.CircuitFile.{File, IsFirstFault}
 use Rattle.aiger_text.specs.CircuitFile as circuit
 use Rattle.aiger_text.proofs.FileFacts.{files_state_one_thing, faults_state_nothing}
-use Rattle.document_text.proofs.LogsLemmas.{some_none, some_same}
 use Rattle.solved_text.specs.Reading.{IsSixth, alone, commented, begins_sixth}
 
 module _ (bytes : List ℕ) (not_first : begins_sixth bytes ≡ false) where

@@ -4,6 +4,7 @@ use Rattle.std.specs.Prelude.{All, IfSome, is_some, flat_map}
 use Rattle.std.proofs.lemmas.Bool.{and_parts, and_from}
 use Rattle.std.proofs.lemmas.List.{append-nil, length-append, take-append-drop}
 use Rattle.std.proofs.Math.Seq.{drop-append_seam}
+use Rattle.std_lemmas.proofs.Options.{some_none, some_same}
 use Rattle.letters_and_lassos.specs.declared.kinds.Kind.{Kind}
 use Rattle.aiger_text.specs.Circuit.{Circuit}
 use Rattle.aiger_text.specs.CircuitFile.{File}
@@ -14,7 +15,6 @@ use Rattle.document_text.specs.Header.{behind}
 use Rattle.document_text.specs.Lines.{end_text}
 use Rattle.document_text.specs.Reading.{all_named, begins_without_circuit, circuit_in}
 use Rattle.document_text.proofs.LineRead.{behind_is}
-use Rattle.document_text.proofs.LogsLemmas.{some_none, some_same}
 use Rattle.document_text.proofs.HeaderWhole.{in_range_bounds}
 use Rattle.document_text.proofs.CommentLine.{begins_with_circuit}
 use Rattle.solved_text.specs.declared.documents.Verdict.{Verdict}

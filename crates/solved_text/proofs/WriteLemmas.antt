@@ -1,8 +1,9 @@
 -- Texts that are written part by part.
-use Rattle.std.proofs.Common.{◌≡◌, List, ℕ, [], ◌∷◌, ◌++◌, sym, ap, ◌∙◌, append_assoc, decimal}
+use Rattle.std.proofs.Common.{◌≡◌, List, ℕ, [], ◌∷◌, ◌++◌, sym, ap, decimal}
 use Rattle.std.specs.Prelude.{map, flat_map}
 use Rattle.std.specs.List.{join_with_byte}
 use Rattle.std.proofs.lemmas.List.{append-nil}
+use Rattle.std_lemmas.proofs.Lists.{three_parts}
 use Rattle.aiger_text.specs.CircuitText.{text_of_lines}
 use Rattle.aiger_text.proofs.Lines.{text_more}
 
@@ -13,14 +14,6 @@ with_commas numbers = flat_map (λ n. 44 ∷ decimal n) numbers
 pub joined-cons : (first : ℕ) (others : List ℕ) → join_with_byte 44 (map decimal (first ∷ others)) ≡ decimal first ++ with_commas others
 joined-cons first [] = sym (append-nil (decimal first))
 joined-cons first (n ∷ others) = ap (λ (line : List ℕ). decimal first ++ (44 ∷ line)) (joined-cons n others)
-
-pub two_parts : (old a b first second : List ℕ) → first ≡ old ++ a → second ≡ first ++ b → second ≡ old ++ (a ++ b)
-two_parts old a b first second e f = f ∙ ap (λ (t : List ℕ). t ++ b) e ∙ append_assoc old a b
-
-pub three_parts : (old a b d first second third : List ℕ) → first ≡ old ++ a → second ≡ first ++ b → third ≡ second ++ d → third ≡ old ++ (a ++ (b ++ d))
-three_parts old a b d first second third e f g =
-    g ∙ ap (λ (t : List ℕ). t ++ d) (two_parts old a b first second e f) ∙ append_assoc old (a ++ b) d
-    ∙ ap (λ (t : List ℕ). old ++ t) (append_assoc a b d)
 
 -- the four parts of a header, of which the second and the third are lines
 pub header_parts : (old version l1 l2 semantics t1 t2 t3 t4 : List ℕ) → t1 ≡ old ++ version → t2 ≡ t1 ++ text_of_lines (l1 ∷ []) → t3 ≡ t2 ++ text_of_lines (l2 ∷ [])

@@ -1,6 +1,8 @@
 -- A text that is taken by its own kinds, with the kind of its machines given.
 use Rattle.std.proofs.Common.{◌≡◌, ℕ, ◌<◌, List, length, Option, None, Some, refl, sym, ap, subst, ◌∙◌, arith}
-use Rattle.std.specs.Prelude.{option_and_then, option_map, unwrap_or}
+use Rattle.std.specs.Prelude.{option_and_then, option_map}
+use Rattle.std.proofs.lemmas.Option.{same_Some}
+use Rattle.solve_ground.proofs.Determined.{never_both}
 use Rattle.letters_and_lassos.specs.declared.kinds.Kind.{Kind}
 use Rattle.ltl_formula.specs.Nodes.{IsNodeList}
 use Rattle.spec_faults.specs.declared.code.SpecCode.{SpecCode}
@@ -8,7 +10,7 @@ use Rattle.text_limits.specs.declared.TheConstants.{LARGE_LIMITS}
 use Rattle.tlsf_syntax.specs.Text.{Text}
 use Rattle.tlsf_reader.specs.Reads.{Reads, TreesAreDetermined, TreesHaveNoFault}
 use Rattle.tlsf_values.specs.Outcomes.{Outcome, fails, gives}
-use Rattle.tlsf_expand.specs.Expansion.{Expanded, Fault, expanded, fault_in}
+use Rattle.tlsf_expand.specs.Expansion.{Expanded, expanded}
 use Rattle.tlsf_expand.specs.FlatText.{FlatText, flat_in}
 use Rattle.tlsf_expand.specs.Meaning.{means}
 use Rattle.tlsf_expand.proofs.Expanded.{expansion_keeps_meaning}
@@ -30,14 +32,6 @@ list_of tree kind flat (fails code place) is some = absurd (cc)
 list_of tree kind flat (gives x work) is some =
     let same : (let f : FlatText = record { expanded = x; formulas = work.formulas } in f) ≡ flat = cc in
     subst (λ (f : FlatText). IsNodeList f.formulas) same (expansion_keeps_meaning.list LARGE_LIMITS tree kind x work is)
-
--- what expands has no fault
-never_both : (o : Outcome Expanded) (flat : FlatText) (fault : Fault) → flat_in o ≡ Some flat → fault_in o ≡ Some fault → ⊥
-never_both (gives x w) flat fault is isnt = cc
-never_both (fails code place) flat fault is isnt = cc
-
-some_same : {A : Type 0} (a b : A) → Some a ≡ Some b → a ≡ b
-some_same a b e = ap (λ o. unwrap_or o a) e
 
 -- ---- both forms of a converted text
 
@@ -80,7 +74,7 @@ module _ (trees : TreesAreDetermined) (whole : TreesHaveNoFault) (text : List �
   no_fault code place (of_expansion tree _ _ read fault) =
       never_both (expanded LARGE_LIMITS tree (Some t.kind)) is.flat (record { code = code; place = place }) (flat_given tree read) fault
   no_fault _ _ (of_forms tree flat read expands none) =
-      let same : flat ≡ is.flat = some_same flat is.flat (sym expands ∙ flat_given tree read) in
+      let same : flat ≡ is.flat = same_Some flat is.flat (sym expands ∙ flat_given tree read) in
       plain_fits is.flat list is.taken.is_flat.meaning.stands (taken_shift None is.taken.tree) (forms_seen t) is.forms
       (subst (λ (f : FlatText). forms_of LARGE_LIMITS.nodes f.formulas f.expanded.whole ≡ None) same none)
 

@@ -9,10 +9,11 @@ use Rattle.std.specs.Prelude.{Result, Ok, Err, OnOk, AllPairs}
 use Rattle.propositional_logic.specs.Literal.{Literal}
 use Rattle.unit_propagate.specs.declared.arena.Span.{Span}
 use Rattle.std.proofs.lemmas.Bool.Decides.{Decides-eqb}
+use Rattle.std_lemmas.proofs.Lists.{All-front, slice_get-append}
+use Rattle.std_lemmas.proofs.Naturals.{lt_trichotomy}
 use Rattle.propositional_logic.specs.Codes.{code_of, decoded, code_of-decoded}
-use Rattle.refutation_log.proofs.Lists.{slice_get-append}
 use Rattle.unit_propagate.specs.Arena.{ArenaModel, part_at, parts_at, starts_of, index_of, AreSpans, AreHeaded, Closes, Pushes, AddsClause, TakesOff}
-use Rattle.unit_propagate.proofs.Places.{All-slice_get, All-front, AllPairs-front, AllPairs-last, slice_get-last, slice_get-front, slice_get-set_other, slice_get-within_take}
+use Rattle.unit_propagate.proofs.Places.{All-slice_get, AllPairs-front, AllPairs-last, slice_get-last, slice_get-front, slice_get-set_other, slice_get-within_take}
 use Rattle.unit_propagate.specs.Watches.{exchanged, differs, ordered}
 
 -- ---- an array that grows
@@ -60,12 +61,6 @@ slice_get-at (x ∷ xs) y ys = slice_get-at xs y ys
 slice_get-next : (xs : List Literal) (y z : Literal) (ys : List Literal) → slice_get (xs ++ y ∷ z ∷ ys) (suc (length xs)) ≡ Some z
 slice_get-next [] y z ys = refl
 slice_get-next (x ∷ xs) y z ys = slice_get-next xs y z ys
-
-three : (i j : ℕ) → (i < j) ⊎ ((i ≡ j) ⊎ (j < i))
-three zero zero = inr (inl refl)
-three zero (suc j) = inl (omega arith)
-three (suc i) zero = inr (inr (omega arith))
-three (suc i) (suc j) = elim (three i j) [ inl a ↦ inl (omega arith) | inr b ↦ elim b [ inl c ↦ inr (inl (ap suc c)) | inr d ↦ inr (inr (omega arith)) ] ]
 
 -- the number and the count are written
 set_two : (old c : List Literal) (y z n m : Literal) → set (set (old ++ y ∷ z ∷ c) (length old) n) (suc (length old)) m ≡ old ++ n ∷ m ∷ c
@@ -133,7 +128,7 @@ module _ (lits new : List Literal) (spans more : List Span) (c : List Literal) (
   few_pushed = let a : length more ≡ length spans + 1 = ap length p.span ∙ length-append spans ((record { start = length lits + 2; end = length lits + 2 + length c }) ∷ []) in let b : length spans + 1 < 2 ^ 31 = p.few in omega arith
 
   pub heads_pushed : AreHeaded lits spans → AreHeaded new more
-  heads_pushed old k s at = by (three k (length spans))
+  heads_pushed old k s at = by (lt_trichotomy k (length spans))
     where
       at_more : slice_get (spans ++ (record { start = length lits + 2; end = length new }) ∷ []) k ≡ Some s
       at_more = subst (λ (ss : List Span). slice_get ss k ≡ Some s) span_is at
@@ -201,7 +196,7 @@ module _ (lits : List Literal) (spans : List Span) (k : ℕ) (s : Span) (at : sl
   parts_set i y lt h =
       same_lists (parts_at (set lits (s.start + i) y) spans) (set (parts_at lits spans) k (set (part_at lits s) i y))
       (length-map spans (part_at (set lits (s.start + i) y)) ∙ sym (length-map spans (part_at lits)) ∙ sym (length-set (parts_at lits spans) k (set (part_at lits s) i y)))
-      (λ q d l. let m : length (parts_at (set lits (s.start + i) y) spans) ≡ length spans = length-map spans (part_at (set lits (s.start + i) y)) in each q d (omega arith) (three q k))
+      (λ q d l. let m : length (parts_at (set lits (s.start + i) y) spans) ≡ length spans = length-map spans (part_at (set lits (s.start + i) y)) in each q d (omega arith) (lt_trichotomy q k))
     where
       apart : (q : ℕ) (t : Span) → t ≡ get_or spans q s → q < length spans → (q < k) ⊎ (k < q) → (s.start + i < t.start) ⊎ (t.end ≤ s.start + i)
       apart q t e l (inl b) =
@@ -239,7 +234,7 @@ module _ (lits : List Literal) (spans : List Span) (k : ℕ) (s : Span) (at : sl
       let two : 2 ≤ t.start = o.0 in
       let ql : q < length spans = slice_get_within spans q t there in
       let is_t : get_or spans q s ≡ t = get_or_from_slice_get spans q t s there in
-      let a = away q t ql is_t (three q k) in (
+      let a = away q t ql is_t (lt_trichotomy q k) in (
         o.0,
         slice_get-set_other lits (s.start + i) (t.start - 2) y (λ e. elim a [ inl x ↦ omega arith | inr x ↦ omega arith ]) ∙ o.1,
         slice_get-set_other lits (s.start + i) (t.start - 1) y (λ e. elim a [ inl x ↦ omega arith | inr x ↦ omega arith ]) ∙ o.2,

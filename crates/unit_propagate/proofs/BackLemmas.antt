@@ -1,15 +1,14 @@
 -- Going back to a level.
 use Rattle.std.proofs.Common.{◌≡◌, ℕ, ◌<◌, ◌≤◌, min, Bool, true, false, List, ◌++◌, Some, filter, nat_le, slice_get, length, Contains, refl, sym, subst, ap, ◌∙◌, arith}
 use borrow.Author.Tests.{leb-true, leb-false}
+use Rattle.std_lemmas.proofs.Lists.{Contains-slice_get, slice_get-append}
 use Rattle.propositional_logic.specs.Literal.{Literal}
 use Rattle.propositional_logic.proofs.Members.{Contains-filter, filter-Contains}
-use Rattle.refutation_log.proofs.Lists.{slice_get-append}
 use Rattle.unit_propagate.specs.declared.marks.Mark.{Mark}
 use Rattle.unit_propagate.specs.declared.propagator.Propagator.{Propagator}
 use Rattle.unit_propagate.specs.Marks.{MarkList}
 use Rattle.unit_propagate.specs.Watches.{Guard}
 use Rattle.unit_propagate.specs.Propagator.{IsKeptPropagator}
-use Rattle.unit_propagate.proofs.Places.{Contains-slice_get}
 
 passes : (a b : ℕ) → a ≤ b → nat_le a b ≡ true
 passes a b h = by (nat_le a b) refl

@@ -3,11 +3,12 @@ use Rattle.std.proofs.Common.{◌≡◌, ◌≢◌, ℕ, ◌+◌, ◌<◌, ◌�
 use Rattle.std.specs.Prelude.{MatchOption, IfSome, IfNone}
 use Rattle.std.proofs.lemmas.List.{get_or_default}
 use Rattle.std.proofs.lemmas.List.Elements.{All-more}
+use Rattle.std_lemmas.proofs.Lists.{Contains-slice_get}
 use Rattle.propositional_logic.specs.Literal.{Literal, negated}
 use Rattle.unit_propagate.specs.declared.marks.Mark.{Mark}
 use Rattle.unit_propagate.specs.Trail.{IsTrail, literals_of}
 use Rattle.unit_propagate.specs.Watches.{IsFalsifier}
-use Rattle.unit_propagate.proofs.Places.{Contains-slice_get, All-to_end}
+use Rattle.unit_propagate.proofs.Places.{All-to_end}
 use Rattle.unit_propagate.proofs.TrailLemmas.{one_each, mark-of}
 use Rattle.unit_propagate.proofs.PropagatorLemmas.{negated-negated}
 

@@ -2,9 +2,9 @@
 use Rattle.std.proofs.Common.{◌≡◌, ◌≢◌, ℕ, suc, zero, ◌+◌, ◌<◌, ◌≤◌, true, List, [], ◌∷◌, ◌⊎◌, inl, inr, Some, slice_get, length, Contains, All, refl, sym, subst, ap, ◌∙◌, arith}
 use Rattle.std.proofs.lemmas.List.Elements.{All-contains, All-head, All-tail}
 use Rattle.std.proofs.lemmas.Option.{slice_get_within}
+use Rattle.std_lemmas.proofs.Lists.{Contains-head, Contains-none, Contains-cases, All-from_contains}
 use Rattle.propositional_logic.specs.Literal.{Literal, negated}
 use Rattle.propositional_logic.specs.Clause.{IsWithinVariables, IsClause}
-use Rattle.propositional_logic.proofs.Members.{Contains-none, Contains-head, Contains-cases}
 use Rattle.refutation_log.specs.Follows.{is_falsified_named}
 use Rattle.unit_propagate.specs.declared.marks.Mark.{Mark}
 use Rattle.unit_propagate.specs.declared.propagator.Propagator.{Propagator}
@@ -13,7 +13,7 @@ use Rattle.unit_propagate.specs.Sound.{IsReason}
 use Rattle.unit_propagate.specs.Watched.{IsWatching, IsWatchOf}
 use Rattle.unit_propagate.specs.Watches.{WatchList, IsDone}
 use Rattle.unit_propagate.specs.Propagator.{IsKeptPropagator, Goes, AreForced, AreUnitsTrue}
-use Rattle.unit_propagate.proofs.Places.{All-slice_get, slice_get-Contains, All-from_contains}
+use Rattle.unit_propagate.proofs.Places.{All-slice_get, slice_get-Contains}
 use Rattle.unit_propagate.proofs.TrailLemmas.{highest_above, mark-of}
 use Rattle.unit_propagate.proofs.PropagatorLemmas.{falsified_at, reason_at}
 

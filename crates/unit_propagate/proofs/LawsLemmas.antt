@@ -1,13 +1,13 @@
 -- The laws of trails.
-use Rattle.std.proofs.Common.{◌≡◌, ◌≢◌, ℕ, suc, zero, ◌<◌, ◌≤◌, Bool, true, false, cond, List, [], ◌∷◌, ◌++◌, Some, filter, nat_le, take, slice_get, length, Contains, All, refl, sym, subst, ap, arith}
+use Rattle.std.proofs.Common.{◌≡◌, ◌≢◌, ℕ, suc, ◌<◌, ◌≤◌, Bool, true, false, cond, List, [], ◌∷◌, ◌++◌, Some, filter, nat_le, take, slice_get, length, Contains, All, refl, sym, subst, ap, arith}
 use Rattle.std.specs.Prelude.{AllPairs}
 use Rattle.std.proofs.lemmas.List.{take-take, length-take}
 use Rattle.std.proofs.lemmas.List.Kept.{AllPairs-filter}
 use Rattle.std.proofs.lemmas.Option.{slice_get_within}
 use borrow.Author.Tests.{leb-true, leb-false}
+use Rattle.std_lemmas.proofs.Lists.{slice_get-take, slice_get-append}
 use Rattle.propositional_logic.specs.Literal.{Literal}
 use Rattle.propositional_logic.proofs.Members.{filter-none}
-use Rattle.refutation_log.proofs.Lists.{slice_get-append}
 use Rattle.refutation_log.proofs.FollowsLemmas.{clause_named-append}
 use Rattle.unit_propagate.specs.declared.marks.Mark.{Mark}
 use Rattle.unit_propagate.specs.Trail.{literals_of}
@@ -60,17 +60,11 @@ filter-first (x ∷ xs) level up = by (nat_le x.level level) refl (filter-first 
         gone y h true f = absurd (let a : level < x.level = leb-false x.level level e in let c : y.level ≤ level = leb-true y.level level f in omega arith)
         gone y h false f = refl
 
-pub slice_get-taken : {X : Type 0} (n : ℕ) (xs : List X) (i : ℕ) (x : X) → slice_get (take n xs) i ≡ Some x → slice_get xs i ≡ Some x
-slice_get-taken zero xs i x h = absurd (cc)
-slice_get-taken (suc n) [] i x h = absurd (cc)
-slice_get-taken (suc n) (y ∷ xs) zero x h = h
-slice_get-taken (suc n) (y ∷ xs) (suc i) x h = slice_get-taken n xs i x h
-
 IsSound-take : (clauses : List (List Literal)) (marks : List Mark) (k : ℕ) → AllPairs (λ m n. m.level ≤ n.level) (take k marks) → AreSoundMarks clauses marks → AreSoundMarks clauses (take k marks)
 IsSound-take clauses marks k up s = record {
   rising = up;
-  assumed = λ i m at none. let a = s.assumed i m (slice_get-taken k marks i m at) none in (a.0, subst (All (λ n. n.level ≢ m.level)) (sym (front i m at)) a.1);
-  reasons = λ i m n at is. subst (λ ms. IsReason clauses n (literals_of ms) m.lit) (sym (front i m at)) (s.reasons i m n (slice_get-taken k marks i m at) is);
+  assumed = λ i m at none. let a = s.assumed i m (slice_get-take k marks i m at) none in (a.0, subst (All (λ n. n.level ≢ m.level)) (sym (front i m at)) a.1);
+  reasons = λ i m n at is. subst (λ ms. IsReason clauses n (literals_of ms) m.lit) (sym (front i m at)) (s.reasons i m n (slice_get-take k marks i m at) is);
 }
   where
     front : (i : ℕ) (m : Mark) → slice_get (take k marks) i ≡ Some m → take i (take k marks) ≡ take i marks

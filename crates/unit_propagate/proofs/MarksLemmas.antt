@@ -1,5 +1,5 @@
 -- What a `Marks` keeps, when it is made, and when it gains or loses its last literal.
-use Rattle.std.proofs.Common.{◌≡◌, ◌≢◌, ℕ, ◌+◌, ◌-◌, ◌*◌, ◌<◌, ◌≤◌, nat_eq, Bool, true, false, List, [], ◌∷◌, ◌++◌, ◌⊎◌, inl, inr, Option, Some, None, set, get_or, take, slice_get, replicate, length, refl, sym, subst, ap, ◌∙◌, true≢false, arith}
+use Rattle.std.proofs.Common.{◌≡◌, ◌≢◌, ℕ, ◌+◌, ◌-◌, ◌*◌, ◌<◌, ◌≤◌, Bool, true, false, List, [], ◌∷◌, ◌++◌, ◌⊎◌, inl, inr, Option, Some, None, set, get_or, take, slice_get, replicate, length, refl, sym, subst, ap, ◌∙◌, true≢false, arith}
 use Rattle.std.specs.List.{sum_by}
 use Rattle.std.specs.Prelude.{AllPairs, Contains, unwrap_or}
 use Rattle.std.specs.Bool.{OnTrue, OnFalse}
@@ -8,25 +8,17 @@ use Rattle.std.proofs.lemmas.List.Elements.{All-nil, All-push, All-contains, Con
 use Rattle.std.proofs.lemmas.List.Folds.{sum_by-replicate}
 use Rattle.std.proofs.lemmas.List.Sums.{sum_by-set}
 use Rattle.std.proofs.lemmas.Option.{slice_get_within, slice_get-get_or, get_or_from_slice_get}
-use Rattle.std.proofs.lemmas.Bool.Decides.{Decides-eqb}
-use Rattle.refutation_log.proofs.Lists.{slice_get-append, slice_get-push}
-use Rattle.propositional_logic.proofs.Members.{Contains-none}
+use Rattle.std.proofs.lemmas.Bool.{cases_eq, OnTrue_from, OnFalse_from}
+use Rattle.std_lemmas.proofs.Lists.{Contains-none, All-front, slice_get-append, slice_get-push}
 use Rattle.propositional_logic.specs.Literal.{Literal}
 use Rattle.unit_propagate.specs.declared.marks.Mark.{Mark}
 use Rattle.unit_propagate.specs.declared.marks.Slot.{Slot}
 use Rattle.propositional_logic.specs.Codes.{code_of}
 use Rattle.unit_propagate.specs.Trail.{IsFree, IsTrail, highest_level, literals_of}
 use Rattle.unit_propagate.specs.Marks.{IsMarks, room_of, vacant}
-use Rattle.unit_propagate.proofs.Places.{slice_get-last, slice_get-set_same, slice_get-set_other, slice_get-replicate, All-front, All-from_slice_get, All-slice_get, AllPairs-last}
+use Rattle.unit_propagate.proofs.Places.{slice_get-last, slice_get-set_same, slice_get-set_other, slice_get-replicate, All-from_slice_get, All-slice_get, AllPairs-last}
 use Rattle.unit_propagate.proofs.CodeLemmas.{code_same, code_below}
 use Rattle.unit_propagate.proofs.TrailLemmas.{highest_bound, highest-push, literal-of, mark-of, IsTrail-push, IsTrail-front}
-
-same_or_not : (a b : ℕ) → (a ≡ b) ⊎ (a ≢ b)
-same_or_not a b = by (nat_eq a b) refl
-  where
-    by : (t : Bool) → nat_eq a b ≡ t → (a ≡ b) ⊎ (a ≢ b)
-    by true e = inl ((Decides-eqb a b).0 e)
-    by false e = inr (λ s. true≢false (sym ((Decides-eqb a b).1 s) ∙ e))
 
 -- ---- the table of true literals
 literals-push : (marks : List Mark) (m : Mark) (l : Literal) → Contains (literals_of (marks ++ m ∷ [])) l → Contains (literals_of marks) l ⊎ (m.lit ≡ l)
@@ -94,11 +86,11 @@ IsMarks-push vars slots trues marks capacity m p after capacity' k low high fits
     subst (λ ms. IsMarks vars (set slots m.lit.var (Some p)) (set trues (code_of m.lit) true) ms capacity') (sym is) (record {
       trail = IsTrail-push vars marks m k.trail low high f above;
       size = length-set slots m.lit.var (Some p) ∙ k.size;
-      found = λ v q e. found v q e (same_or_not v m.lit.var);
-      free = λ v e. free v e (same_or_not v m.lit.var);
+      found = λ v q e. found v q e (cases_eq v m.lit.var);
+      free = λ v e. free v e (cases_eq v m.lit.var);
       trues_size = length-set trues (code_of m.lit) true ∙ k.trues_size;
-      is_marked = λ l e. marked l e (same_or_not (code_of l) (code_of m.lit));
-      has_mark = λ l h. mark l (same_or_not (code_of l) (code_of m.lit)) (literals-push marks m l h);
+      is_marked = λ l e. marked l e (cases_eq (code_of l) (code_of m.lit));
+      has_mark = λ l h. mark l (cases_eq (code_of l) (code_of m.lit)) (literals-push marks m l h);
       bounded = All-push (λ n. n.lit.var < room_of vars) marks m k.bounded fits;
       count = omega arith;
       room = omega arith;
@@ -200,10 +192,10 @@ module _ (vars : ℕ) (slots : List (Option Slot)) (trues : List Bool) (marks : 
       record {
         trail = IsTrail-front vars marks (m ∷ []) k.trail;
         size = length-set slots v None ∙ k.size;
-        found = λ w q e. found_left w q e (same_or_not w v) here;
-        free = λ w e. free_left w e (same_or_not w v);
+        found = λ w q e. found_left w q e (cases_eq w v) here;
+        free = λ w e. free_left w e (cases_eq w v);
         trues_size = length-set trues (code_of m.lit) false ∙ k.trues_size;
-        is_marked = λ l e. marked_left l e (same_or_not (code_of l) (code_of m.lit)) below;
+        is_marked = λ l e. marked_left l e (cases_eq (code_of l) (code_of m.lit)) below;
         has_mark = mark_left;
         bounded = All-front (λ n. n.lit.var < room_of vars) marks (m ∷ []) k.bounded;
         count = omega arith;
@@ -225,15 +217,6 @@ last_level vars marks m t e =
     ∙ ap (λ x. take (length marks - 1) marks ++ x ∷ []) (get_or_from_slice_get marks (length marks - 1) m m e) in
     sym (ap highest_level is ∙ highest-push (take (length marks - 1) marks) m (subst (AllPairs (λ m n. m.level ≤ n.level)) is t.rising))
 
--- what a look into the table of true literals tells
-on_true : (r : Bool) (X : Type 0) → (r ≡ true → X) → OnTrue r X
-on_true true X h = h refl
-on_true false X h = tt
-
-on_false : (r : Bool) (X : Type 0) → (r ≡ false → X) → OnFalse r X
-on_false true X h = tt
-on_false false X h = h refl
-
 seen : (o : Option Bool) → unwrap_or o false ≡ true → o ≡ Some true
 seen None e = absurd (true≢false (sym e))
 seen (Some true) e = refl
@@ -250,7 +233,7 @@ module _ (vars : ℕ) (slots : List (Option Slot)) (trues : List Bool) (marks : 
   at = look ∙ ap (slice_get trues) is
 
   pub true_seen : OnTrue r (Contains (literals_of marks) l)
-  true_seen = on_true r (Contains (literals_of marks) l) (λ e. k.is_marked l (sym at ∙ seen o (sym answer ∙ e)))
+  true_seen = OnTrue_from r (Contains (literals_of marks) l) (λ e. k.is_marked l (sym at ∙ seen o (sym answer ∙ e)))
 
   pub true_unseen : OnFalse r (Contains (literals_of marks) l → ⊥)
-  true_unseen = on_false r (Contains (literals_of marks) l → ⊥) (λ e h. unseen o (sym answer ∙ e) (at ∙ k.has_mark l h))
+  true_unseen = OnFalse_from r (Contains (literals_of marks) l → ⊥) (λ e h. unseen o (sym answer ∙ e) (at ∙ k.has_mark l h))

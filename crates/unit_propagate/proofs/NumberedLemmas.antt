@@ -5,6 +5,7 @@ use Rattle.std.specs.Option.{option_map}
 use Rattle.std.proofs.lemmas.List.{length-map, length_push, map-set, map_push, map-append}
 use Rattle.std.proofs.lemmas.List.Elements.{All-head, All-tail, All-push, All-weaker}
 use Rattle.std.proofs.lemmas.Option.{slice_get-map}
+use Rattle.std.proofs.lemmas.Bool.{cases_eq}
 use Rattle.propositional_logic.specs.Literal.{Literal}
 use Rattle.propositional_logic.specs.Codes.{code_of}
 use Rattle.unit_propagate.specs.declared.rows.Watcher.{Watcher}
@@ -12,7 +13,6 @@ use Rattle.unit_propagate.specs.Arena.{ArenaModel, IsPlace, index_of, AddsClause
 use Rattle.unit_propagate.specs.Rows.{row_at, AddsTo, AddsBoth, SetsAt, CutsOut}
 use Rattle.unit_propagate.specs.Watches.{WatchList, numbered, numbered_rows, ArePlaces, Adds, AddsAlone, CanRewatch, Rewatches, Keeps, CutsWatches, ordered, exchanged}
 use Rattle.unit_propagate.proofs.Places.{All-slice_get}
-use Rattle.unit_propagate.proofs.RowsLemmas.{same_or_not}
 use Rattle.unit_propagate.proofs.ArenaLemmas.{index_grown}
 use Rattle.unit_propagate.proofs.WatchesLemmas.{Adds-two, Rewatches-of, Keeps-of, Cuts-of}
 
@@ -86,7 +86,7 @@ pub place_at : (starts : List ℕ) (rows : List (List Watcher)) (row i : ℕ) (x
 place_at starts rows row i x h at = All-slice_get (λ (y : Watcher). IsPlace starts y.clause) (row_at rows row) i x (h row) at
 
 pub ArePlaces-adds : (starts : List ℕ) (old new : List (List Watcher)) (row : ℕ) (x : Watcher) → AddsTo old new row x → IsPlace starts x.clause → ArePlaces starts old → ArePlaces starts new
-ArePlaces-adds starts old new row x adds p h r = elim (same_or_not r row) [
+ArePlaces-adds starts old new row x adds p h r = elim (cases_eq r row) [
   | inl s ↦ subst (λ (k : ℕ). All (λ (y : Watcher). IsPlace starts y.clause) (row_at new k)) (sym s) (subst (λ (xs : List Watcher). All (λ (y : Watcher). IsPlace starts y.clause) xs) (sym adds.here) (All-push (λ (y : Watcher). IsPlace starts y.clause) (row_at old row) x (h row) p))
   | inr n ↦ subst (λ (xs : List Watcher). All (λ (y : Watcher). IsPlace starts y.clause) xs) (sym (adds.others r n)) (h r)
 ]

@@ -1,13 +1,10 @@
 -- Elements of lists by their places.
 use Rattle.std.proofs.Common.{◌≡◌, ◌≢◌, ℕ, suc, zero, ◌+◌, ◌-◌, ◌<◌, ◌≤◌, ◌⊎◌, inl, inr, List, [], ◌∷◌, ◌++◌, Some, take, drop, set, get_or, slice_get, replicate, length, length-append, Contains, All, refl, subst, ap, ◌∙◌, arith}
-use Rattle.std.specs.Prelude.{AllPairs, Result, Ok, Err, OnErr}
+use Rattle.std.specs.Prelude.{AllPairs}
 use Rattle.std.proofs.lemmas.List.{get_or_append_left, get_or-set_same, length-set, length_push, get_or_push, take_all}
-use Rattle.std.proofs.lemmas.List.Elements.{Contains-get_or, Contains-append_left, Contains-append_right}
+use Rattle.std.proofs.lemmas.List.Elements.{Contains-append_left, Contains-append_right}
 use Rattle.std.proofs.lemmas.Option.{slice_get_within, slice_get-get_or, get_or_from_slice_get}
-
--- an element at a place is contained, and the other way round
-pub Contains-slice_get : {X : Type 0} (xs : List X) (i : ℕ) (x : X) → slice_get xs i ≡ Some x → Contains xs x
-Contains-slice_get xs i x h = (i, slice_get_within xs i x h, get_or_from_slice_get xs i x x h)
+use Rattle.std_lemmas.proofs.Lists.{Contains-slice_get}
 
 pub slice_get-Contains : {X : Type 0} (xs : List X) (x : X) → Contains xs x → (i : ℕ) × (slice_get xs i ≡ Some x)
 slice_get-Contains xs x h = (h.0, slice_get-get_or xs h.0 x h.1 ∙ ap Some h.2)
@@ -23,12 +20,6 @@ pub AllPairs-slice_get : {X : Type 0} (R : X → X → Type 0) (xs : List X) (i 
 AllPairs-slice_get R xs i j x y h l p q =
     subst (λ z. R x z) (get_or_from_slice_get xs j y x q)
     (subst (λ z. R z (get_or xs j x)) (get_or_from_slice_get xs i x x p) (h i j x l (slice_get_within xs j y q)))
-
--- the front of a list keeps what holds of all
-pub All-front : {X : Type 0} (P : X → Type 0) (xs ys : List X) → All P (xs ++ ys) → All P xs
-All-front P xs ys h k d l =
-    let len : length (xs ++ ys) ≡ length xs + length ys = length-append xs ys in
-    subst P (get_or_append_left xs ys d k l) (h k d (omega arith))
 
 pub AllPairs-front : {X : Type 0} (R : X → X → Type 0) (xs ys : List X) → AllPairs R (xs ++ ys) → AllPairs R xs
 AllPairs-front R xs ys h i j d l m =
@@ -72,15 +63,6 @@ pub slice_get-replicate : {X : Type 0} (n : ℕ) (y : X) (i : ℕ) (x : X) → s
 slice_get-replicate zero y i x h = absurd (cc)
 slice_get-replicate (suc n) y zero x h = cc
 slice_get-replicate (suc n) y (suc i) x h = slice_get-replicate n y i x h
-
--- what holds anyhow holds after an error
-pub on_err : {T E Q : Type 0} (r : Result T E) → Q → OnErr r Q
-on_err (Ok x) q = tt
-on_err (Err e) q = q
-
--- what holds of each contained element holds of all
-pub All-from_contains : {X : Type 0} (P : X → Type 0) (xs : List X) → ((x : X) → Contains xs x → P x) → All P xs
-All-from_contains P xs h k d l = h (get_or xs k d) (Contains-get_or xs k d l)
 
 pub All-to_end : {X : Type 0} (P : X → Type 0) (xs : List X) (i : ℕ) → length xs ≤ i → All P (take i xs) → All P xs
 All-to_end P xs i h a = subst (All P) (take_all i xs h) a

@@ -6,12 +6,14 @@ use Rattle.std.proofs.lemmas.List.{length_push, length-set, map-append}
 use Rattle.std.proofs.lemmas.List.Elements.{All-push, All-weaker, All-contains, Contains-append_left, Contains-push}
 use Rattle.std.proofs.lemmas.Option.{slice_get_within}
 use Rattle.std.proofs.lemmas.Bool.Decides.{Decides-eqb}
+use Rattle.std.proofs.lemmas.Bool.{cases_eq}
+use Rattle.std_lemmas.proofs.Lists.{Contains-slice_get, All-from_contains, slice_get-push}
 use Rattle.propositional_logic.specs.Literal.{Literal, negated, literal_eq}
 use Rattle.propositional_logic.specs.Equality.{Decides-literal_eq}
 use Rattle.propositional_logic.specs.Partial.{is_falsified}
 use Rattle.propositional_logic.proofs.Tests.{Decides-is_falsified, fails}
 use Rattle.refutation_log.specs.Follows.{clause_named, is_falsified_named}
-use Rattle.refutation_log.proofs.Lists.{slice_get-push, take-append, take-append_all}
+use Rattle.refutation_log.proofs.Lists.{take-append, take-append_all}
 use Rattle.unit_propagate.specs.declared.marks.Mark.{Mark}
 use Rattle.unit_propagate.specs.declared.propagator.Propagator.{Propagator}
 use Rattle.unit_propagate.specs.declared.rows.Watcher.{Watcher}
@@ -23,9 +25,8 @@ use Rattle.propositional_logic.specs.Codes.{code_of}
 use Rattle.unit_propagate.specs.Rows.{row_at}
 use Rattle.unit_propagate.specs.Watches.{WatchList, Guard, IsWatchedIn, Keeps, CutsWatches}
 use Rattle.unit_propagate.specs.Propagator.{IsKeptPropagator, StandsAt, IsVisiting, IsVisited, Goes, Stays}
-use Rattle.unit_propagate.proofs.Places.{slice_get-front, slice_get-Contains, Contains-slice_get, slice_get-set_same, slice_get-set_other, Contains-cut, All-from_contains}
+use Rattle.unit_propagate.proofs.Places.{slice_get-front, slice_get-Contains, slice_get-set_same, slice_get-set_other, Contains-cut}
 use Rattle.unit_propagate.proofs.CodeLemmas.{code_same}
-use Rattle.unit_propagate.proofs.RowsLemmas.{same_or_not}
 use Rattle.unit_propagate.proofs.TrailLemmas.{highest_above, highest_bound, highest-append, mark-of, literal-of}
 
 pub same_literal : (a b : Literal) → (a ≡ b) ⊎ (a ≢ b)
@@ -231,7 +232,7 @@ module _ (clauses : List (List Literal)) (s : Propagator) (l : Literal) (j i : �
   ]
 
   standing : (k : ℕ) (c : List Literal) (y : Literal) → slice_get s.watches.watched k ≡ Some c → IsWatched c y → IsWatchedIn w.rows y k c
-  standing k c y there is = elim (same_or_not (code_of y) (code_of l)) [
+  standing k c y there is = elim (cases_eq (code_of y) (code_of l)) [
     | inl e ↦
         let one = code_same y l e in
         subst (λ z. IsWatchedIn w.rows z k c) (sym one) (elim (seen k c there (subst (IsWatched c) one is)) [
@@ -265,7 +266,7 @@ module _ (clauses : List (List Literal)) (s : Propagator) (l : Literal) (j i : �
   left P k c out h = (h.1, subst (λ xs. Contains xs h.1) (sym cuts.cuts.here) (Contains-cut (row_at s.watches.rows (code_of l)) j i h.0 h.1 (out h.0 h.2) h.3), h.4, h.5)
 
   left_standing : (k : ℕ) (c : List Literal) (y : Literal) → slice_get s.watches.watched k ≡ Some c → IsWatched c y → IsWatchedIn w.rows y k c
-  left_standing k c y there is = elim (same_or_not (code_of y) (code_of l)) [
+  left_standing k c y there is = elim (cases_eq (code_of y) (code_of l)) [
     | inl e ↦
         let one = code_same y l e in
         subst (λ z. IsWatchedIn w.rows z k c) (sym one) (elim (v.seen k c there (subst (IsWatched c) one is)) [

@@ -2,9 +2,9 @@
 use Rattle.std.proofs.Common.{◌≡◌, ◌≢◌, ℕ, ◌<◌, ◌≤◌, false, List, [], ◌∷◌, inl, inr, Option, Some, None, slice_get, get_or, length, Contains, refl, sym, subst, ap, ◌∙◌, arith}
 use Rattle.std.proofs.lemmas.List.Elements.{All-contains}
 use Rattle.std.proofs.lemmas.Option.{slice_get_within, slice_get-get_or}
+use Rattle.std_lemmas.proofs.Lists.{Contains-head, Contains-later}
 use Rattle.propositional_logic.specs.Literal.{Literal, negated}
 use Rattle.propositional_logic.specs.Partial.{is_falsified, unit_of, IsUnitIn}
-use Rattle.propositional_logic.proofs.Members.{Contains-head, Contains-later}
 use Rattle.propositional_logic.proofs.Tests.{Decides-is_falsified, fails, unit_is}
 use Rattle.unit_propagate.specs.declared.marks.Mark.{Mark}
 use Rattle.unit_propagate.specs.declared.propagator.Propagator.{Propagator}

@@ -5,11 +5,13 @@ use Rattle.std.proofs.lemmas.List.{length_push, length-set}
 use Rattle.std.proofs.lemmas.List.Elements.{All-contains, All-nil, All-cons, All-weaker, Contains-append_left, Contains-push}
 use Rattle.std.proofs.lemmas.List.Kept.{AllPairs-filter}
 use Rattle.std.proofs.lemmas.Option.{slice_get_within}
+use Rattle.std.proofs.lemmas.Bool.{cases_eq}
+use Rattle.std_lemmas.proofs.Naturals.{lt_trichotomy}
+use Rattle.std_lemmas.proofs.Lists.{Contains-head, Contains-later, Contains-cases, Contains-slice_get, slice_get-append, slice_get-push}
 use Rattle.propositional_logic.specs.Literal.{Literal, negated, literal_eq}
 use Rattle.propositional_logic.specs.Clause.{IsWithinVariables, IsClause, IsRisingFrom}
-use Rattle.propositional_logic.proofs.Members.{Contains-head, Contains-later, Contains-cases, Contains-filter, filter-Contains}
+use Rattle.propositional_logic.proofs.Members.{Contains-filter, filter-Contains}
 use Rattle.propositional_logic.specs.Equality.{Decides-literal_eq}
-use Rattle.refutation_log.proofs.Lists.{slice_get-push, slice_get-append}
 use Rattle.unit_propagate.specs.declared.marks.Mark.{Mark}
 use Rattle.unit_propagate.specs.declared.propagator.Propagator.{Propagator}
 use Rattle.unit_propagate.specs.declared.rows.Watcher.{Watcher}
@@ -20,22 +22,16 @@ use Rattle.propositional_logic.specs.Codes.{code_of}
 use Rattle.unit_propagate.specs.Rows.{row_at}
 use Rattle.unit_propagate.specs.Watches.{WatchList, IsListed, Guard, Rewatches, CanRewatch, Adds, AddsAlone, KeepsWatches, RowsGrow, IsSide, IsWatchedIn, exchanged, ordered, differs}
 use Rattle.unit_propagate.specs.Propagator.{IsKeptPropagator, StandsAt, IsVisiting, Goes, Stays}
-use Rattle.unit_propagate.proofs.Places.{slice_get-Contains, Contains-slice_get, slice_get-set_same, slice_get-set_other, slice_get-last, slice_get-front, AllPairs-slice_get, All-slice_get}
+use Rattle.unit_propagate.proofs.Places.{slice_get-Contains, slice_get-set_same, slice_get-set_other, slice_get-last, slice_get-front, AllPairs-slice_get, All-slice_get}
 use Rattle.unit_propagate.proofs.TrailLemmas.{literal-of, mark-of, highest_above}
-use Rattle.unit_propagate.proofs.RowsLemmas.{RowsGrow-adds, added_there, same_or_not}
+use Rattle.unit_propagate.proofs.RowsLemmas.{RowsGrow-adds, added_there}
 use Rattle.unit_propagate.proofs.CodeLemmas.{code_same}
 use Rattle.unit_propagate.proofs.PropagatorLemmas.{same_literal, later, Goes-trans}
 use Rattle.unit_propagate.proofs.StepLemmas.{list_fits}
 
-three : (i j : ℕ) → (i < j) ⊎ ((i ≡ j) ⊎ (j < i))
-three zero zero = inr (inl refl)
-three zero (suc j) = inl (omega arith)
-three (suc i) zero = inr (inr (omega arith))
-three (suc i) (suc j) = elim (three i j) [ inl a ↦ inl (omega arith) | inr b ↦ elim b [ inl c ↦ inr (inl (ap suc c)) | inr d ↦ inr (inr (omega arith)) ] ]
-
 -- elements that are apart come once
 once_in : (xs : List Literal) → AllPairs (λ (p q : Literal). p ≢ q) xs → (i j : ℕ) (x : Literal) → slice_get xs i ≡ Some x → slice_get xs j ≡ Some x → i ≡ j
-once_in xs h i j x a b = elim (three i j) [
+once_in xs h i j x a b = elim (lt_trichotomy i j) [
   | inl l ↦ absurd (AllPairs-slice_get (λ (p q : Literal). p ≢ q) xs i j x x h l a b refl)
   | inr r ↦ elim r [ inl e ↦ e | inr l ↦ absurd (AllPairs-slice_get (λ (p q : Literal). p ≢ q) xs j i x x h l b a refl) ]
 ]
@@ -71,9 +67,9 @@ module _ (c : List Literal) (p j : ℕ) (from to : Literal) (at_p : slice_get c 
   now_other q np nj = slice_get-set_other (set c p to) j q from nj ∙ slice_get-set_other c p q to np
 
   origin : (q : ℕ) (x : Literal) → slice_get (exchanged c p j from to) q ≡ Some x → ((q ≡ p) × (x ≡ to)) ⊎ (((q ≡ j) × (x ≡ from)) ⊎ ((q ≢ p) × (q ≢ j) × (slice_get c q ≡ Some x)))
-  origin q x h = elim (same_or_not q p) [
+  origin q x h = elim (cases_eq q p) [
     | inl e ↦ inl (e, let a = now_p in let b : slice_get (exchanged c p j from to) p ≡ Some x = subst (λ y. slice_get (exchanged c p j from to) y ≡ Some x) e h in cc)
-    | inr np ↦ inr (elim (same_or_not q j) [
+    | inr np ↦ inr (elim (cases_eq q j) [
       | inl e ↦ inl (e, let a = now_j in let b : slice_get (exchanged c p j from to) j ≡ Some x = subst (λ y. slice_get (exchanged c p j from to) y ≡ Some x) e h in cc)
       | inr nj ↦ inr (np, nj, sym (now_other q np nj) ∙ h)
     ])
@@ -82,10 +78,10 @@ module _ (c : List Literal) (p j : ℕ) (from to : Literal) (at_p : slice_get c 
   all_after : (x : Literal) → Contains c x → Contains (exchanged c p j from to) x
   all_after x h =
       let q = slice_get-Contains c x h in
-      elim (same_or_not q.0 p) [
+      elim (cases_eq q.0 p) [
         | inl e ↦ let a : slice_get c p ≡ Some x = subst (λ y. slice_get c y ≡ Some x) e q.1 in let b = at_p in let s : from ≡ x = cc in
             subst (Contains (exchanged c p j from to)) s (Contains-slice_get (exchanged c p j from to) j from now_j)
-        | inr np ↦ elim (same_or_not q.0 j) [
+        | inr np ↦ elim (cases_eq q.0 j) [
           | inl e ↦ let a : slice_get c j ≡ Some x = subst (λ y. slice_get c y ≡ Some x) e q.1 in let b = at_j in let s : to ≡ x = cc in
               subst (Contains (exchanged c p j from to)) s (Contains-slice_get (exchanged c p j from to) p to now_p)
           | inr nj ↦ Contains-slice_get (exchanged c p j from to) q.0 x (now_other q.0 np nj ∙ q.1)
@@ -200,7 +196,7 @@ module _ (clauses : List (List Literal)) (s : Propagator) (w : WatchList) (from 
   is_set = r.watched c there
 
   same_at : (q : ℕ) (d : List Literal) → slice_get w.watched q ≡ Some d → ((q ≡ k) × (d ≡ after)) ⊎ ((q ≢ k) × (slice_get s.watches.watched q ≡ Some d))
-  same_at q d h = elim (same_or_not q k) [
+  same_at q d h = elim (cases_eq q k) [
     | inl e ↦ inl (
       e,
       let a : slice_get w.watched k ≡ Some d = subst (λ x. slice_get w.watched x ≡ Some d) e h in
@@ -577,7 +573,7 @@ module _ (s : Propagator) (after : MarkList) (kept place : ℕ) (m : Mark) (firs
   guard_second : (second : Literal) → second ≡ negated m.lit → Guard after.marks s.place kept second c
   guard_second second is i x lt there e =
       let n = mark-of after.marks first holds in
-      (n.0, n.1, subst (Contains c) (sym n.2) first_in, λ l. by i x there e l n.0 n.1 (three i place))
+      (n.0, n.1, subst (Contains c) (sym n.2) first_in, λ l. by i x there e l n.0 n.1 (lt_trichotomy i place))
     where
       by : (i : ℕ) (x : Mark) → slice_get after.marks i ≡ Some x → x.lit ≡ negated second → i < kept → (n : Mark) → Contains after.marks n → (i < place) ⊎ ((i ≡ place) ⊎ (place < i)) → n.level ≤ x.level
       by i x there e l n c o =

@@ -1,11 +1,11 @@
 -- Tables of lists, after a write to one list.
-use Rattle.std.proofs.Common.{◌≡◌, ◌≢◌, ℕ, suc, ◌+◌, ◌-◌, ◌<◌, ◌≤◌, nat_eq, Bool, true, false, List, [], ◌∷◌, ◌++◌, ◌⊎◌, inl, inr, map, set, take, drop, get_or, length, Contains, refl, sym, subst, ap, ◌∙◌, true≢false, arith}
+use Rattle.std.proofs.Common.{◌≡◌, ◌≢◌, ℕ, suc, ◌+◌, ◌-◌, ◌<◌, ◌≤◌, List, [], ◌∷◌, ◌++◌, inl, inr, map, set, take, drop, get_or, length, Contains, refl, sym, subst, ap, ◌∙◌, arith}
 use Rattle.std.specs.List.{copy_within}
 use Rattle.std.proofs.Math.Seq.{paste}
 use Rattle.std.proofs.lemmas.List.Edits.{take-paste}
 use Rattle.std.proofs.lemmas.List.{map-set, set-get_or, length-set, length-map, length-drop, take_all, get_or-set_same, get_or-set_other, get_or-map}
 use Rattle.std.proofs.lemmas.List.Elements.{Contains-push, Contains-append_left}
-use Rattle.std.proofs.lemmas.Bool.Decides.{Decides-eqb}
+use Rattle.std.proofs.lemmas.Bool.{cases_eq}
 use Rattle.unit_propagate.specs.declared.rows.Watcher.{Watcher}
 use Rattle.unit_propagate.specs.Rows.{row_at, AddsTo, SetsAt, CutsOut}
 use Rattle.unit_propagate.specs.Watches.{RowsGrow}
@@ -67,17 +67,10 @@ cut_out xs ys zs from to end behind le lt e b copied cut =
 pub RowsGrow-trans : (a b c : List (List Watcher)) → RowsGrow a b → RowsGrow b c → RowsGrow a c
 RowsGrow-trans a b c p q = record { size = q.size ∙ p.size; stays = λ row k h. q.stays row k (p.stays row k h) }
 
-pub same_or_not : (a b : ℕ) → (a ≡ b) ⊎ (a ≢ b)
-same_or_not a b = by (nat_eq a b) refl
-  where
-    by : (t : Bool) → nat_eq a b ≡ t → (a ≡ b) ⊎ (a ≢ b)
-    by true e = inl ((Decides-eqb a b).0 e)
-    by false e = inr (λ s. true≢false (sym ((Decides-eqb a b).1 s) ∙ e))
-
 pub RowsGrow-adds : (a b : List (List Watcher)) (row : ℕ) (number : Watcher) → AddsTo a b row number → RowsGrow a b
 RowsGrow-adds a b row number h = record {
   size = h.size;
-  stays = λ r k c. elim (same_or_not r row) [
+  stays = λ r k c. elim (cases_eq r row) [
     | inl s ↦ subst (λ x. Contains (row_at b x) k) (sym s) (subst (λ xs. Contains xs k) (sym h.here) (Contains-append_left (row_at a row) (number ∷ []) k (subst (λ x. Contains (row_at a x) k) s c)))
     | inr n ↦ subst (λ xs. Contains xs k) (sym (h.others r n)) c
   ];
@@ -102,7 +95,7 @@ cut_last [] x = refl
 cut_last (y ∷ xs) x = ap (λ ys. y ∷ ys) (cut_last xs x)
 
 pub taken_back : (old between same new : List (List Watcher)) (row end : ℕ) (x : Watcher) → AddsTo old between row x → same ≡ between → CutsOut same new row end (end + 1) → end ≡ length (row_at old row) → new ≡ old
-taken_back old between same new row end x adds e cuts n = rows_same old new (cuts.size ∙ ap length e ∙ adds.size) (λ r. elim (same_or_not r row) [
+taken_back old between same new row end x adds e cuts n = rows_same old new (cuts.size ∙ ap length e ∙ adds.size) (λ r. elim (cases_eq r row) [
   | inl s ↦
       let m : end + 1 ≡ suc (length (row_at old row)) = omega arith in
       subst (λ (k : ℕ). row_at new k ≡ row_at old k) (sym s)

@@ -5,11 +5,12 @@ use Rattle.std.proofs.lemmas.List.{append-nil, get_or_append_left, get_or-append
 use Rattle.std.proofs.lemmas.List.Elements.{All-nil, All-append, All-map}
 use Rattle.std.proofs.lemmas.Bool.{cases_lt}
 use Rattle.std.proofs.lemmas.Option.{slice_get_within}
+use Rattle.std_lemmas.proofs.Lists.{slice_get-append}
 use Rattle.propositional_logic.specs.Literal.{Literal}
 use Rattle.propositional_logic.specs.Clause.{IsFormula, IsWithinVariables}
 use Rattle.refutation_log.specs.declared.entries.Entry.{Entry}
 use Rattle.refutation_log.specs.Entry.{clauses_of}
-use Rattle.refutation_log.proofs.Lists.{take-append, slice_get-append}
+use Rattle.refutation_log.proofs.Lists.{take-append}
 use Rattle.unit_propagate.specs.declared.marks.Mark.{Mark}
 use Rattle.unit_propagate.specs.Trail.{highest_level, literals_of}
 use Rattle.unit_propagate.specs.Sound.{IsReason, AreSoundMarks, Extends}

@@ -2,6 +2,7 @@
 use Rattle.std.proofs.Common.{◌≡◌, ◌≢◌, ℕ, suc, zero, ◌+◌, ◌*◌, ◌^◌, ◌<◌, ◌≤◌, true, List, [], ◌∷◌, ◌++◌, inl, inr, Some, slice_get, length, Contains, All, sym, subst, arith}
 use Rattle.std.proofs.lemmas.List.Elements.{All-contains, All-weaker}
 use Rattle.std.proofs.lemmas.Option.{slice_get_within}
+use Rattle.std_lemmas.proofs.Lists.{Contains-slice_get, All-from_contains}
 use Rattle.propositional_logic.specs.Literal.{Literal, negated}
 use Rattle.propositional_logic.specs.Clause.{IsWithinVariables}
 use Rattle.refutation_log.specs.Follows.{is_falsified_named}
@@ -16,7 +17,7 @@ use Rattle.propositional_logic.specs.Codes.{code_of}
 use Rattle.unit_propagate.specs.Rows.{row_at}
 use Rattle.unit_propagate.specs.Watches.{IsSide}
 use Rattle.unit_propagate.specs.Propagator.{IsKeptPropagator, IsVisiting}
-use Rattle.unit_propagate.proofs.Places.{All-slice_get, All-from_contains, slice_get-Contains, Contains-slice_get}
+use Rattle.unit_propagate.proofs.Places.{All-slice_get, slice_get-Contains}
 use Rattle.unit_propagate.proofs.CodeLemmas.{code_fits}
 use Rattle.unit_propagate.proofs.PropagatorLemmas.{same_literal, passed, last_there, falsified_at, reason_at}
 

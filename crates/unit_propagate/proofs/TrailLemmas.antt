@@ -1,15 +1,17 @@
 -- Trails: their highest level, their variables, their literals.
-use Rattle.std.proofs.Common.{◌≡◌, ◌≢◌, ℕ, suc, zero, ◌<◌, ◌≤◌, max, Bool, true, false, not, List, [], ◌∷◌, ◌++◌, ◌⊎◌, inl, inr, Option, Some, None, get_or, slice_get, filter, nat_le, cond, Contains, All, refl, sym, subst, ap, ◌∙◌, arith}
+use Rattle.std.proofs.Common.{◌≡◌, ◌≢◌, ℕ, ◌<◌, ◌≤◌, max, Bool, true, false, List, [], ◌∷◌, ◌++◌, ◌⊎◌, inl, inr, Option, Some, None, get_or, slice_get, filter, nat_le, cond, Contains, All, refl, sym, subst, ap, ◌∙◌, arith}
 use Rattle.std.specs.Prelude.{AllPairs, IfSome, IfNone}
 use Rattle.std.proofs.lemmas.List.{append-nil, append_assoc}
 use Rattle.std.proofs.lemmas.List.Elements.{All-nil, All-head, All-tail, All-cons, All-push, All-contains, All-weaker, filter-append}
 use Rattle.std.proofs.lemmas.List.Quantifiers.{all_pairs_push}
 use borrow.Author.Tests.{leb-true, leb-false}
+use Rattle.std_lemmas.proofs.Naturals.{lt_trichotomy}
+use Rattle.std_lemmas.proofs.Booleans.{not_same}
+use Rattle.std_lemmas.proofs.Lists.{Contains-head, Contains-later, Contains-none, Contains-cases, Contains-slice_get, All-front}
 use Rattle.propositional_logic.specs.Literal.{Literal, negated}
-use Rattle.propositional_logic.proofs.Members.{Contains-head, Contains-later, Contains-none, Contains-cases}
 use Rattle.unit_propagate.specs.declared.marks.Mark.{Mark}
 use Rattle.unit_propagate.specs.Trail.{IsFree, IsTrail, highest_level, literals_of}
-use Rattle.unit_propagate.proofs.Places.{AllPairs-last, AllPairs-front, All-front, Contains-slice_get, slice_get-Contains, AllPairs-slice_get}
+use Rattle.unit_propagate.proofs.Places.{AllPairs-last, AllPairs-front, slice_get-Contains, AllPairs-slice_get}
 
 pub highest_above : (marks : List Mark) → All (λ m. m.level ≤ highest_level marks) marks
 highest_above [] = All-nil (λ m. m.level ≤ 0)
@@ -63,22 +65,12 @@ pub one_each : (vars : ℕ) (marks : List Mark) (m n : Mark) → IsTrail vars ma
 one_each vars marks m n t p q e =
     let i = slice_get-Contains marks m p in
     let j = slice_get-Contains marks n q in
-    by i.0 j.0 i.1 j.1 (three i.0 j.0)
+    by i.0 j.0 i.1 j.1 (lt_trichotomy i.0 j.0)
   where
-    three : (i j : ℕ) → (i < j) ⊎ ((i ≡ j) ⊎ (j < i))
-    three zero zero = inr (inl refl)
-    three zero (suc j) = inl (omega arith)
-    three (suc i) zero = inr (inr (omega arith))
-    three (suc i) (suc j) = elim (three i j) [ inl a ↦ inl (omega arith) | inr b ↦ elim b [ inl c ↦ inr (inl (ap suc c)) | inr d ↦ inr (inr (omega arith)) ] ]
-
     by : (i j : ℕ) → slice_get marks i ≡ Some m → slice_get marks j ≡ Some n → (i < j) ⊎ ((i ≡ j) ⊎ (j < i)) → m ≡ n
     by i j a b (inl l) = absurd (AllPairs-slice_get (λ m n. m.lit.var ≢ n.lit.var) marks i j m n t.once l a b e)
     by i j a b (inr (inl s)) = let c : slice_get marks j ≡ Some m = subst (λ k. slice_get marks k ≡ Some m) s a in cc
     by i j a b (inr (inr l)) = absurd (AllPairs-slice_get (λ m n. m.lit.var ≢ n.lit.var) marks j i n m t.once l b a (sym e))
-
-not_same : (b : Bool) → not b ≡ b → ⊥
-not_same true h = absurd (cc)
-not_same false h = absurd (cc)
 
 -- so it never holds both signs
 pub one_sign : (vars : ℕ) (marks : List Mark) (l : Literal) → IsTrail vars marks → Contains (literals_of marks) l → Contains (literals_of marks) (negated l) → ⊥

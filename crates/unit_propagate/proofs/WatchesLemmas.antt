@@ -1,8 +1,8 @@
 -- Watching clauses.
 use Rattle.std.proofs.Common.{◌≡◌, ℕ, filter, List, [], ◌∷◌, ◌++◌, inl, inr, Some, slice_get, length, Contains, refl, sym, subst}
 use Rattle.std.specs.Prelude.{slice_set}
+use Rattle.std_lemmas.proofs.Lists.{Contains-head, Contains-later}
 use Rattle.propositional_logic.specs.Literal.{Literal}
-use Rattle.propositional_logic.proofs.Members.{Contains-head, Contains-later}
 use Rattle.unit_propagate.specs.declared.rows.Watcher.{Watcher}
 use Rattle.propositional_logic.specs.Codes.{code_of}
 use Rattle.unit_propagate.specs.Rows.{row_at, AddsTo, SetsAt, CutsOut}

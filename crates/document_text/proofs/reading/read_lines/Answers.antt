@@ -1,12 +1,12 @@
 use Rattle.std.proofs.Common.{◌≡◌, ℕ, ◌-◌, ◌^◌, ◌<◌, true, false, Some, None, List, [], length, take, drop, sym, ap, subst, ◌∙◌, arith, rules, inl, inr}
 use Rattle.std.proofs.lemmas.List.{take_all, length-drop}
 use Rattle.std.proofs.lemmas.Result.{IfOk-weaker}
+use Rattle.std_lemmas.proofs.Options.{some_none}
 use Rattle.aiger_text.specs.CircuitFile.{File, IsFirstFault}
 use Rattle.document_text.specs.declared.reading.CircuitPart.TheVariants.{Stated}
 use Rattle.document_text.specs.Header.{no_header}
 use Rattle.document_text.specs.Reading.{Reads, ReadsBehind, without_circuit, of_fault, uncommented, commented, begins_without_circuit}
 use Rattle.document_text.specs.Shown.{shown_body}
-use Rattle.document_text.proofs.LogsLemmas.{some_none}
 use Rattle.document_text.proofs.CommentLine.{comment_fits}
 use Rattle.document_text.proofs.reading.read_lines.Goals as goal
 

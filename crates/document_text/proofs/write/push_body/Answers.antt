@@ -1,7 +1,7 @@
 use Rattle.std.proofs.Common.{rules}
 use Rattle.std.specs.List.{flat_map}
+use Rattle.std_lemmas.proofs.Lists.{three_parts}
 use Rattle.document_text.specs.Lines.{header_text, part_text, end_text}
-use Rattle.document_text.proofs.WriteLemmas.{three_parts}
 use Rattle.document_text.proofs.write.push_body.Goals as goal
 
 pub returns : goal.returns

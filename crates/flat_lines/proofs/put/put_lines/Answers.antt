@@ -1,7 +1,8 @@
+use Rattle.std_lemmas.proofs.Results.{on_err}
 use Rattle.tlsf_expand.specs.FlatText.{spec_seen}
 use Rattle.flat_lines.specs.FlatLines.{ended_line}
 use Rattle.flat_lines.specs.declared.lines.Line.TheVariants.{Kinds}
-use Rattle.flat_lines.proofs.Pieces.{on_err, pieces_front}
+use Rattle.flat_lines.proofs.Pieces.{pieces_front}
 use Rattle.flat_lines.proofs.put.put_lines.Goals as goal
 
 pub returns-in_err-put_line-clause-front : goal.returns-in_err-put_line-clause-front

@@ -1,4 +1,4 @@
-use Rattle.refutation_log.proofs.Lists.{slice_get-append}
+use Rattle.std_lemmas.proofs.Lists.{slice_get-append}
 use Rattle.refutation_log.proofs.FollowsLemmas.{clause_named-append, Follows-append}
 use Rattle.refutation_log.proofs.LegalLemmas.{Follows-in_log, legal_prefix}
 use Rattle.refutation_log.proofs.laws.prefixes_stay.Goals as goal

@@ -1,7 +1,7 @@
 use Rattle.std.proofs.Common.{◌≡◌, ◌-◌, false, true≢false, Some, length, take, drop, sym, ap, ◌∙◌, arith, rules, inl, inr}
 use Rattle.std.proofs.lemmas.List.{take_all, length-drop}
+use Rattle.std_lemmas.proofs.Options.{some_none}
 use Rattle.aiger_text.specs.CircuitFile.{File, IsFirstFault}
-use Rattle.document_text.proofs.LogsLemmas.{some_none}
 use Rattle.solved_text.specs.Reading.{begins_sixth, commented}
 use Rattle.solved_text.proofs.SixthLemmas.{by_comment, not_of_fault}
 use Rattle.solved_text.proofs.reading.is_sixth.Goals as goal

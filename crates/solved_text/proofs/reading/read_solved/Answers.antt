@@ -2,10 +2,10 @@ use Rattle.std.proofs.Common.{◌≡◌, ℕ, ◌-◌, ◌^◌, ◌<◌, true, f
 use Rattle.std.proofs.lemmas.List.{take_all, length-drop}
 use Rattle.std.specs.Prelude.{IfOk}
 use Rattle.std.proofs.lemmas.Result.{IfOk-weaker}
+use Rattle.std_lemmas.proofs.Options.{some_none}
 use Rattle.aiger_text.specs.CircuitFile.{File, IsFirstFault}
 use Rattle.document_text.specs.declared.reading.CircuitPart.TheVariants.{Stated}
 use Rattle.document_text.specs.Reading.{begins_without_circuit}
-use Rattle.document_text.proofs.LogsLemmas.{some_none}
 use Rattle.document_text.proofs.CommentLine.{comment_fits}
 use Rattle.solved_text.specs.Reading.{Reads, ReadsBehind, without_circuit, of_fault, uncommented, commented, circuit_alone}
 use Rattle.solved_text.specs.Shown.{shown_body}

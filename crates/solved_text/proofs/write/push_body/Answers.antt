@@ -1,6 +1,6 @@
 use Rattle.std.proofs.Common.{rules}
+use Rattle.std_lemmas.proofs.Lists.{two_parts}
 use Rattle.solved_text.specs.Lines.{header_text, rest_text}
-use Rattle.solved_text.proofs.WriteLemmas.{two_parts}
 use Rattle.solved_text.proofs.write.push_body.Goals as goal
 
 pub returns : goal.returns

@@ -1,8 +1,8 @@
 use Rattle.std.proofs.Common.{[], ◌∷◌, length, rules}
 use Rattle.std.specs.Prelude.{flat_map}
+use Rattle.std_lemmas.proofs.Lists.{three_parts}
 use Rattle.aiger_text.specs.CircuitText.{text_of_lines}
 use Rattle.solved_text.specs.Lines.{log_part, refuted_line}
-use Rattle.solved_text.proofs.WriteLemmas.{three_parts}
 use Rattle.solved_text.proofs.write.push_shown.Goals as goal
 
 pub returns : goal.returns

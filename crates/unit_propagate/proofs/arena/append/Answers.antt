@@ -1,7 +1,7 @@
 use Rattle.std.proofs.Common.{◌∷◌, [], ◌++◌, filter, take, sym, ap, ◌∙◌, arith}
 use Rattle.std.proofs.lemmas.List.{append-nil, append_assoc}
+use Rattle.std_lemmas.proofs.Results.{on_err}
 use Rattle.unit_propagate.specs.Watches.{differs}
-use Rattle.unit_propagate.proofs.Places.{on_err}
 use Rattle.unit_propagate.proofs.ArenaLemmas.{appended, appended_all}
 use Rattle.unit_propagate.proofs.arena.append.Goals as goal
 

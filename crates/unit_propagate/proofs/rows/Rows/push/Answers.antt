@@ -1,5 +1,5 @@
+use Rattle.std_lemmas.proofs.Results.{on_err}
 use Rattle.unit_propagate.proofs.RowsLemmas.{same_write, AddsTo-write}
-use Rattle.unit_propagate.proofs.Places.{on_err}
 use Rattle.unit_propagate.proofs.rows.Rows.push.Goals as goal
 
 pub returns-in_err-push-clause-err : goal.returns-in_err-push-clause-err

@@ -1,0 +1,5 @@
+pub mod Booleans
+pub mod Naturals
+pub mod Options
+pub mod Results
+pub mod Lists
