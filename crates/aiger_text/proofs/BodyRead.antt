@@ -7,6 +7,7 @@ use Rattle.std.proofs.lemmas.List.{append-nil, append_assoc, map-append, length-
 use Rattle.std.proofs.lemmas.List.Elements.{All-cons, All-from_get_or, Contains-append_cases}
 use Rattle.std.proofs.lemmas.List.Folds.{list_any_none, list_any_at}
 use Rattle.std.proofs.Math.Seq.{get_or-append_seam}
+use Rattle.text_limits.specs.declared.TheConstants.{CIRCUIT_VARIABLES}
 use Rattle.aiger_text.specs.declared.circuits.Latch.{Latch}
 use Rattle.aiger_text.specs.declared.circuits.Gate.{Gate}
 use Rattle.aiger_text.specs.declared.counts.Counts.{Counts}
@@ -82,7 +83,7 @@ none_defined d v all =
     (list_any_none (λ (gate : Gate). eqb (gate.literal / 2) v) d.gates (λ k y h. ne_eqb ((get_or d.gates k y).literal / 2) v
     (of_map (λ y. y / 2 ≢ v) (λ (gate : Gate). gate.literal) d.gates (back (λ y. y / 2 ≢ v) (map (λ (latch : Latch). latch.literal) d.latches) (map (λ (gate : Gate). gate.literal) d.gates) others) k y h))))
 
-module _ (c : Circuit) (kept : IsCircuit c) (size : c.variables ≤ 100000) where
+module _ (c : Circuit) (kept : IsCircuit c) (size : c.variables ≤ CIRCUIT_VARIABLES) where
   abbrev pub counts_of : Counts
   counts_of = record { variables = c.variables; inputs = length c.inputs; latches = length c.latches; outputs = length c.outputs; gates = length c.gates }
 

@@ -6,6 +6,7 @@ use Rattle.std.proofs.lemmas.Bool.{le-leb, le-ltb}
 use Rattle.std.proofs.lemmas.List.{append_assoc, length-append, length-map, length-replicate}
 use Rattle.std.proofs.lemmas.List.Elements.{All-append, All-cons, All-map, All-replicate, All-nil}
 use Rattle.std.proofs.lemmas.List.Splits.{slice_split_at}
+use Rattle.text_limits.specs.declared.TheConstants.{CIRCUIT_VARIABLES}
 use Rattle.aiger_text.specs.declared.circuits.Latch.{Latch}
 use Rattle.aiger_text.specs.declared.circuits.Gate.{Gate}
 use Rattle.aiger_text.specs.declared.faults.CircuitFault.TheVariants.{BadHeader, TooLarge, Unsupported}
@@ -66,7 +67,7 @@ small_three a b c ha hb hc = small_cons a (b ∷ c ∷ []) ha (small_two b c hb 
 lacks_cons : (b : ℕ) (bs : List ℕ) → is_byte 10 b ≡ false → Lacks 10 bs → Lacks 10 (b ∷ bs)
 lacks_cons b bs h all = All-cons (λ b. is_byte 10 b ≡ false) b bs h all
 
-module _ (c : Circuit) (kept : IsCircuit c) (size : c.variables ≤ 100000) (few : length c.outputs < 2 ^ 64) (further : ℕ) (four : further ≤ 4) where
+module _ (c : Circuit) (kept : IsCircuit c) (size : c.variables ≤ CIRCUIT_VARIABLES) (few : length c.outputs < 2 ^ 64) (further : ℕ) (four : further ≤ 4) where
   abbrev numbers : List ℕ
   numbers = c.variables ∷ length c.inputs ∷ length c.latches ∷ length c.outputs ∷ length c.gates ∷ replicate further 0
 
@@ -97,10 +98,10 @@ module _ (c : Circuit) (kept : IsCircuit c) (size : c.variables ≤ 100000) (few
       let sum : length c.inputs + (length c.latches + length c.gates) ≤ c.variables = kept.room in
       let least : min (length c.outputs) room ≡ length c.outputs = omega (arith, enough) in
       ap (counts_in room) header_is
-      ∙ ap (λ b. cond b (Err (BadHeader 1)) (cond (nat_lt 100000 c.variables) (Err (TooLarge 1)) (cond (not (list_all (λ n. eqb n 0) (replicate further 0))) (Err (Unsupported 1))
+      ∙ ap (λ b. cond b (Err (BadHeader 1)) (cond (nat_lt CIRCUIT_VARIABLES c.variables) (Err (TooLarge 1)) (cond (not (list_all (λ n. eqb n 0) (replicate further 0))) (Err (Unsupported 1))
       (Ok (record (counts_of c kept size) { outputs = min (length c.outputs) room }))))) (le-ltb c.variables (length c.inputs + (length c.latches + length c.gates)) sum)
       ∙ ap (λ b. cond b (Err (TooLarge 1)) (cond (not (list_all (λ n. eqb n 0) (replicate further 0))) (Err (Unsupported 1)) (Ok (record (counts_of c kept size) { outputs = min (length c.outputs) room }))))
-      (le-ltb 100000 c.variables size)
+      (le-ltb CIRCUIT_VARIABLES c.variables size)
       ∙ ap (λ b. cond (not b) (Err (Unsupported 1)) (Ok (record (counts_of c kept size) { outputs = min (length c.outputs) room }))) (all_zeros further)
       ∙ ap (λ n. Ok (record (counts_of c kept size) { outputs = n })) least
 

@@ -2,6 +2,7 @@
 use Rattle.std.proofs.Common.{◌≡◌, ◌≢◌, ℕ, ◌+◌, ◌*◌, ◌%◌, ◌^◌, ◌<◌, ◌≤◌, Bool, true, false, not, ◌&&◌, cond, eqb, Option, Some, None, List, [], ◌∷◌, ◌++◌, refl, sym, ap, ◌∙◌, arith, inl, inr, decimal}
 use Rattle.std.specs.Prelude.{option_and_then, option_map, nat_le, Ok, Err}
 use Rattle.std.proofs.lemmas.Bool.{eq-eqb, le-leb, ne_eqb}
+use Rattle.text_limits.specs.declared.TheConstants.{CIRCUIT_VARIABLES}
 use Rattle.aiger_text.specs.declared.circuits.Latch.{Latch}
 use Rattle.aiger_text.specs.declared.circuits.Gate.{Gate}
 use Rattle.aiger_text.specs.declared.counts.Counts.{Counts}
@@ -12,7 +13,7 @@ use Rattle.aiger_text.specs.CircuitFile.{literal_in, definable_in, latch_in, lat
 use Rattle.aiger_text.specs.Sound.{InRange, IsOwn, IsOwnLatch, IsOwnGate}
 use Rattle.aiger_text.proofs.Numbers.{number_within-decimal, decimal-lacks, cut_at-seam, cut_at-none}
 
-module _ (counts : Counts) (size : counts.variables ≤ 100000) where
+module _ (counts : Counts) (size : counts.variables ≤ CIRCUIT_VARIABLES) where
   small : (l : ℕ) → InRange counts l → l < 2 ^ 64
   small l range = omega (arith, range, size)
 

@@ -4,6 +4,7 @@ use Rattle.std.specs.List.{list_all}
 use Rattle.std.specs.Char.{is_ascii_digit}
 use Rattle.std.proofs.lemmas.Bool.{le-leb, le-ltb, ltb-false, eqb-true, leb-false, and_left, and_right}
 use Rattle.std.specs.Cmp.{first_so, second_so}
+use Rattle.text_limits.specs.declared.TheConstants.{CIRCUIT_VARIABLES}
 use Rattle.names_and_numbers.specs.Numerals.{decimal_value}
 use Rattle.aiger_text.specs.declared.counts.Counts.{Counts}
 use Rattle.aiger_text.specs.declared.faults.CircuitFault.{CircuitFault}
@@ -90,25 +91,25 @@ module _ (words : List (List ℕ)) (room : ℕ) (five : 5 ≤ length words) (nin
       cond over (Err (BadHeader 1)) (cond large (Err (TooLarge 1)) (cond (not zeros) (Err (Unsupported 1))
       (Ok (record (stated_header words).counts { outputs = min (value_at words 3) room }))))
 
-  counts_are : (over large zeros : Bool) → sums_over ≡ over → nat_lt 100000 (value_at words 0) ≡ large → list_all (λ n. eqb n 0) (map decimal_value (drop 5 words)) ≡ zeros
+  counts_are : (over large zeros : Bool) → sums_over ≡ over → nat_lt CIRCUIT_VARIABLES (value_at words 0) ≡ large → list_all (λ n. eqb n 0) (map decimal_value (drop 5 words)) ≡ zeros
       → counts_in room (header_of_words words) ≡ by_tests over large zeros
   counts_are over large zeros a b c =
       ap (counts_in room) (header_is words five nine numerals)
-      ∙ ap (λ o. by_tests o (nat_lt 100000 (value_at words 0)) (list_all (λ n. eqb n 0) (map decimal_value (drop 5 words)))) a
+      ∙ ap (λ o. by_tests o (nat_lt CIRCUIT_VARIABLES (value_at words 0)) (list_all (λ n. eqb n 0) (map decimal_value (drop 5 words)))) a
       ∙ ap (λ l. by_tests over l (list_all (λ n. eqb n 0) (map decimal_value (drop 5 words)))) b ∙ ap (by_tests over large) c
 
-  module _ (size : ℕ) (fits : sums_over ≡ false) (within : number_within 100000 (get_or words 0 []) ≡ Some size) (small : size ≤ 100000) (numeral : is_numeral (get_or words 0 []) ≡ true) where
+  module _ (size : ℕ) (fits : sums_over ≡ false) (within : number_within CIRCUIT_VARIABLES (get_or words 0 []) ≡ Some size) (small : size ≤ CIRCUIT_VARIABLES) (numeral : is_numeral (get_or words 0 []) ≡ true) where
     size_is : size ≡ value_at words 0
-    size_is = is_value 100000 size (get_or words 0 []) numeral within
+    size_is = is_value CIRCUIT_VARIABLES size (get_or words 0 []) numeral within
 
-    not_large : nat_lt 100000 (value_at words 0) ≡ false
-    not_large = le-ltb 100000 (value_at words 0) (rw size_is at small)
+    not_large : nat_lt CIRCUIT_VARIABLES (value_at words 0) ≡ false
+    not_large = le-ltb CIRCUIT_VARIABLES (value_at words 0) (rw size_is at small)
 
     pub counts_unsupported : list_all (λ n. eqb n 0) (map decimal_value (drop 5 words)) ≡ false → counts_in room (header_of_words words) ≡ Err (Unsupported 1)
     counts_unsupported c = counts_are false false false fits not_large c
 
     pub counts_fit : list_all (λ n. eqb n 0) (map decimal_value (drop 5 words)) ≡ true → (inputs latches outputs gates : ℕ)
-        → inputs ≡ min (value_at words 1) 100000 → latches ≡ min (value_at words 2) 100000 → outputs ≡ min (value_at words 3) room → gates ≡ min (value_at words 4) 100000
+        → inputs ≡ min (value_at words 1) CIRCUIT_VARIABLES → latches ≡ min (value_at words 2) CIRCUIT_VARIABLES → outputs ≡ min (value_at words 3) room → gates ≡ min (value_at words 4) CIRCUIT_VARIABLES
         → ◌≡◌ {A = Result Counts CircuitFault} (Ok (record { variables = size; inputs = inputs; latches = latches; outputs = outputs; gates = gates })) (counts_in room (header_of_words words))
     counts_fit c inputs latches outputs gates ei el eo eg =
         let sum : value_at words 1 + (value_at words 2 + value_at words 4) ≤ value_at words 0 = ltb-false (value_at words 0) (value_at words 1 + (value_at words 2 + value_at words 4)) fits in

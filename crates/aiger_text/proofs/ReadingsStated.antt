@@ -5,6 +5,7 @@ use Rattle.std.proofs.lemmas.Bool.{eqb-true}
 use Rattle.std.proofs.lemmas.List.{length-map, length-set, length-replicate, get_or-set_same, get_or-set_other}
 use Rattle.std.proofs.lemmas.List.Elements.{All-cons, All-nil}
 use Rattle.std.proofs.lemmas.List.Splits.{slice_split_at, join_with_byte-slice_split}
+use Rattle.text_limits.specs.declared.TheConstants.{CIRCUIT_VARIABLES}
 use Rattle.aiger_text.specs.declared.symbols.Named.{Named}
 use Rattle.aiger_text.specs.declared.symbols.Named.TheVariants.{AnInput, ALatch, AnOutput}
 use Rattle.aiger_text.specs.Circuit.{Circuit}
@@ -103,7 +104,7 @@ module _ (bytes : List ℕ) (size : length bytes < 2 ^ 64) (c : Circuit) (commen
 
   small : (sort : Named) → places c sort < 2 ^ 64
   small sort = let room : length c.inputs + (length c.latches + length c.gates) ≤ c.variables = reads.circuit.room in
-      let most : c.variables ≤ 100000 = reads.size in
+      let most : c.variables ≤ CIRCUIT_VARIABLES = reads.size in
       by sort (omega (arith, room, most)) (omega (arith, room, most))
     where
       by : (sort : Named) → length c.inputs < 2 ^ 64 → length c.latches < 2 ^ 64 → places c sort < 2 ^ 64

@@ -4,6 +4,7 @@ use Rattle.std.specs.Prelude.{map, option_map, Ok}
 use Rattle.std.specs.List.{AllZip}
 use Rattle.std.proofs.lemmas.List.{append-nil, append_assoc, length-append, length-map}
 use Rattle.std.proofs.lemmas.List.Elements.{All-append}
+use Rattle.text_limits.specs.declared.TheConstants.{CIRCUIT_VARIABLES}
 use Rattle.aiger_text.specs.declared.circuits.Latch.{Latch}
 use Rattle.aiger_text.specs.declared.symbols.Named.TheVariants.{AnInput, AnOutput}
 use Rattle.aiger_text.specs.Circuit.{Circuit}
@@ -62,7 +63,7 @@ module _ (c : Circuit) (kept : IsCircuit c) (few : length c.outputs < 2 ^ 64) (f
   small_inputs : 0 + length c.input_names < 2 ^ 64
   small_inputs =
       let room : length c.inputs + (length c.latches + length c.gates) ≤ c.variables = kept.room in
-      let size : c.variables ≤ 100000 = fits.size in
+      let size : c.variables ≤ CIRCUIT_VARIABLES = fits.size in
       omega (arith, room, size, kept.input_places)
 
   small_outputs : 0 + length c.output_names < 2 ^ 64

@@ -3,6 +3,7 @@
 use Rattle.std.specs.Prelude.{◌≡◌, ◌==◌, ℕ, ◌+◌, ◌-◌, ◌*◌, ◌/◌, ◌%◌, ◌<◌, Bool, true, false, not, ◌&&◌, ◌||◌, Option, Some, None, Result, Ok, Err, List, [], ◌∷◌, ◌++◌, map, length, replicate, codes, min, nat_lt, nat_le, slice_index, slice_set, option_map, option_and_then, if◌then◌else◌}
 use Rattle.std.specs.List.{slice_split, join_with_byte, list_any, list_all, position_from}
 use Rattle.std.specs.Str.{bytes_eq}
+use Rattle.text_limits.specs.declared.TheConstants.{CIRCUIT_VARIABLES}
 use Rattle.aiger_text.specs.declared.circuits.Latch.{Latch}
 use Rattle.aiger_text.specs.declared.circuits.Gate.{Gate}
 use Rattle.aiger_text.specs.declared.counts.Counts.{Counts}
@@ -62,7 +63,7 @@ abbrev pub counts_in : ℕ → Option Header → Result Counts CircuitFault
 counts_in room None = Err (BadHeader 1)
 counts_in room (Some header) =
     if nat_lt header.counts.variables (header.counts.inputs + (header.counts.latches + header.counts.gates)) then Err (BadHeader 1)
-    else (if nat_lt 100000 header.counts.variables then Err (TooLarge 1)
+    else (if nat_lt CIRCUIT_VARIABLES header.counts.variables then Err (TooLarge 1)
     else (if not (list_all (λ n. n == 0) header.further) then Err (Unsupported 1)
     else Ok (record header.counts { outputs = min header.counts.outputs room })))
 

@@ -2,6 +2,7 @@
 use Rattle.std.specs.Prelude.{◌≡◌, ◌≢◌, ◌==◌, ℕ, ◌+◌, ◌<◌, ◌≤◌, Bool, false, not, ◌&&◌, ◌⊎◌, Option, Some, None, List, [], ◌∷◌, ◌++◌, map, length, replicate, All, IsTrue, find, flat_map, slice_index_or, decimal, codes, if◌then◌else◌}
 use Rattle.std.specs.List.{join_with_byte, list_all, AllZip, range_with_len}
 use Rattle.std.specs.Option.{option_map}
+use Rattle.text_limits.specs.declared.TheConstants.{CIRCUIT_VARIABLES}
 use Rattle.aiger_text.specs.declared.circuits.Latch.{Latch}
 use Rattle.aiger_text.specs.declared.circuits.Gate.{Gate}
 use Rattle.aiger_text.specs.declared.symbols.Named.{Named}
@@ -88,7 +89,7 @@ pub record ReadsAs (bytes : List ℕ) (c : Circuit) (comment : Option (List ℕ)
   pub input_names : c.input_names ≡ names_of symbols AnInput (length c.inputs)
   pub output_names : c.output_names ≡ names_of symbols AnOutput (length c.outputs)
   pub circuit : IsCircuit c
-  pub size : c.variables ≤ 100000
+  pub size : c.variables ≤ CIRCUIT_VARIABLES
 
 -- a reset of 0 is left out
 abbrev pub latch_line : Latch → List ℕ

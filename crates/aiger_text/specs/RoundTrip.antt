@@ -1,6 +1,7 @@
 -- What a written circuit says when it is read back (AIGER 1.9, in this project's subset).
 use Rattle.std.specs.Prelude.{◌≡◌, ◌≢◌, ◌==◌, ℕ, ◌+◌, ◌-◌, ◌≤◌, not, Option, Some, None, List, [], ◌∷◌, ◌++◌, length, All, IsTrue, IfSome, option_map}
 use Rattle.std.specs.List.{list_all}
+use Rattle.text_limits.specs.declared.TheConstants.{CIRCUIT_VARIABLES}
 use Rattle.aiger_text.specs.declared.faults.CircuitFault.{CircuitFault}
 use Rattle.aiger_text.specs.Circuit.{Circuit}
 use Rattle.aiger_text.specs.CircuitText.{circuit_lines, circuit_text, comment_text, ReadsAs}
@@ -11,9 +12,9 @@ pub record IsLineName (name : List ℕ) : Type 0 where
   pub nonempty : name ≢ []
   pub one_line : IsTrue (list_all (λ b. not (b == 10)) name)
 
--- a circuit that a file can hold: it has at most 100,000 variables, and each name that it has is one of a line
+-- a circuit that a file can hold: it has no more variables than a circuit may have, and each name that it has is one of a line
 pub record IsWritable (c : Circuit) : Type 0 where
-  pub size : c.variables ≤ 100000
+  pub size : c.variables ≤ CIRCUIT_VARIABLES
   pub input_names : All (λ name. IfSome name IsLineName) c.input_names
   pub output_names : All (λ name. IfSome name IsLineName) c.output_names
 

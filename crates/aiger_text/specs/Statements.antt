@@ -1,5 +1,6 @@
 -- What the reader has of a file's lines of numbers (this project's own).
 use Rattle.std.specs.Prelude.{◌≡◌, ℕ, ◌+◌, ◌≤◌, ◌⊎◌, false, Result, Err, length, slice_index_or}
+use Rattle.text_limits.specs.declared.TheConstants.{CIRCUIT_VARIABLES}
 use Rattle.aiger_text.specs.declared.bodies.Statements.{Statements}
 use Rattle.aiger_text.specs.declared.faults.CircuitFault.{CircuitFault}
 use Rattle.aiger_text.specs.declared.faults.CircuitFault.TheVariants.{NoMemory}
@@ -15,7 +16,7 @@ shown b = record { draft = stated b.statements; line = b.number; rest = lines_of
 
 -- the variables that the lines so far define are marked
 pub record IsMarked (s : Statements) : Type 0 where
-  pub size : s.counts.variables ≤ 100000
+  pub size : s.counts.variables ≤ CIRCUIT_VARIABLES
   pub room : length s.defined.items ≡ s.counts.variables + 1
   pub marks : (v : ℕ) → slice_index_or s.defined.items v false ≡ defines (stated s) v
 

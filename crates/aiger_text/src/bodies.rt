@@ -1,6 +1,7 @@
 //! The lines of numbers behind the header: inputs, latches, outputs and gates.
 
 ghost use Rattle.std.specs.Prelude.{◌≡◌, ◌+◌, ◌*◌, ◌/◌, ◌≤◌, [], OnOk, IfErr, IfOk, IfSome, Ok, length, false, ◌<◌};
+ghost use Rattle.text_limits.specs.declared.TheConstants.{CIRCUIT_VARIABLES};
 ghost use Rattle.aiger_text.specs.CircuitFile.{defines, definable_in, literal_in, latch_in, gate_in, with_input, with_latch, with_output, with_gate, with_line, and_then, is_whole, no_lines, body_from, lines_of};
 ghost use Rattle.aiger_text.specs.Sound.{IsSoundDraft, total};
 ghost use Rattle.aiger_text.specs.Statements.{stated, shown, IsMarked, IsFaultOf};
@@ -26,7 +27,7 @@ pub(crate) struct Statements {
 
 impl Statements {
     pub(crate) fn new(alloc: Global, counts: Counts) -> Result<Statements, AllocError>
-        requires { counts.variables ≤ 100000 }
+        requires { counts.variables ≤ CIRCUIT_VARIABLES }
         ensures none { IfOk result (λ s. stated s ≡ no_lines counts) }
         ensures marked { IfOk result IsMarked }
         ensures sound { IfOk result (λ s. IsSoundDraft (stated s)) }
@@ -184,7 +185,7 @@ pub(crate) fn read_body(
     counts: Counts,
     text: &[u8],
 ) -> Result<Body<'_>, CircuitFault>
-    requires { counts.variables ≤ 100000 }
+    requires { counts.variables ≤ CIRCUIT_VARIABLES }
     ensures ok { IfOk result (λ body. body_from (no_lines counts) 2 (lines_of text.now) ≡ Ok (shown body)) }
     ensures number { IfOk result (λ body. body.number + length body.rest.now ≤ length text.now + 2) }
     ensures marked { IfOk result (λ body. IsMarked body.statements) }

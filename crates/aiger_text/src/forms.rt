@@ -1,6 +1,7 @@
 //! What one line of numbers states.
 
 ghost use Rattle.std.specs.Prelude.{◌≡◌, ◌+◌, ◌*◌, ◌≤◌, IfSome, IfOk};
+ghost use Rattle.text_limits.specs.declared.TheConstants.{CIRCUIT_VARIABLES};
 ghost use Rattle.aiger_text.specs.Sound.{InRange, IsOwn, IsOwnLatch, IsOwnGate};
 ghost use Rattle.aiger_text.specs.CircuitFile.{literal_in, definable_in, latch_of, latch_in, gate_in};
 
@@ -11,7 +12,7 @@ use crate::words::{cut_at, number_within};
 
 /// The literal that a word writes.
 pub(crate) fn literal_in(counts: Counts, word: &[u8]) -> Option<u32>
-    requires { counts.variables ≤ 100000 }
+    requires { counts.variables ≤ CIRCUIT_VARIABLES }
     ensures literal { result ≡ literal_in counts word.now }
     ensures within { IfSome result (InRange counts) }
 {
@@ -22,7 +23,7 @@ pub(crate) fn literal_in(counts: Counts, word: &[u8]) -> Option<u32>
 
 /// The literal that a word writes, where it is one that a line may define.
 pub(crate) fn definable_in(counts: Counts, word: &[u8]) -> Option<u32>
-    requires { counts.variables ≤ 100000 }
+    requires { counts.variables ≤ CIRCUIT_VARIABLES }
     ensures literal { result ≡ definable_in counts word.now }
     ensures own { IfSome result (IsOwn counts) }
 {
@@ -64,7 +65,7 @@ fn latch_of(
 
 /// The latch that a line states.
 pub(crate) fn latch_in(counts: Counts, number: u64, line: &[u8]) -> Result<Latch, CircuitFault>
-    requires { counts.variables ≤ 100000 }
+    requires { counts.variables ≤ CIRCUIT_VARIABLES }
     ensures latch { result ≡ latch_in counts number line.now }
     ensures own { IfOk result (IsOwnLatch counts) }
 {
@@ -85,7 +86,7 @@ pub(crate) fn latch_in(counts: Counts, number: u64, line: &[u8]) -> Result<Latch
 
 /// The gate that a line states.
 pub(crate) fn gate_in(counts: Counts, line: &[u8]) -> Option<Gate>
-    requires { counts.variables ≤ 100000 }
+    requires { counts.variables ≤ CIRCUIT_VARIABLES }
     ensures gate { result ≡ gate_in counts line.now }
     ensures own { IfSome result (IsOwnGate counts) }
 {

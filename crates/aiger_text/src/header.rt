@@ -3,6 +3,7 @@
 ghost use Rattle.std.specs.Prelude.{◌≡◌, ◌+◌, ◌<◌, ◌≤◌, IfOk, IfErr, IsTrue, Ok, length, ◌==◌, ◌||◌, ◌&&◌, map, min, nat_lt, true, [], slice_index_or, option_map};
 ghost use Rattle.std.specs.List.{list_all};
 ghost use Rattle.std.specs.Char.{is_ascii_digit};
+ghost use Rattle.text_limits.specs.declared.TheConstants.{CIRCUIT_VARIABLES};
 ghost use Rattle.names_and_numbers.specs.Numerals.{decimal_value};
 ghost use Rattle.aiger_text.specs.Words.{is_numeral};
 ghost use Rattle.aiger_text.specs.Columns.{digit_at};
@@ -13,11 +14,12 @@ use crate::counts::Counts;
 use crate::faults::CircuitFault;
 use crate::words::{cut_at, is_numeral, number_within};
 use std::alloc::{AllocError, Global};
+use text_limits::CIRCUIT_VARIABLES;
 
 /// The counts of a header, where outputs above `room` count as so many.
 pub(crate) fn read_header(alloc: Global, line: &[u8], room: u64) -> Result<Counts, CircuitFault>
     ensures ok { IfOk result (λ counts. counts_in room (header_of line.now) ≡ Ok counts) }
-    ensures size { IfOk result (λ counts. counts.variables ≤ 100000) }
+    ensures size { IfOk result (λ counts. counts.variables ≤ CIRCUIT_VARIABLES) }
     ensures room { IfOk result (λ counts. counts.inputs + (counts.latches + counts.gates) ≤ counts.variables) }
     ensures err { IfErr result (IsFaultOf (counts_in room (header_of line.now))) }
 {
@@ -59,7 +61,7 @@ fn words_of(alloc: Global, text: &[u8]) -> Result<Vec<&[u8]>, AllocError>
 /// The counts that the words state.
 fn counts_of(words: &[&[u8]], room: u64) -> Result<Counts, CircuitFault>
     ensures counts { result ≡ counts_in room (header_of_words (map (λ word. word.now) words.now)) }
-    ensures size { IfOk result (λ counts. counts.variables ≤ 100000) }
+    ensures size { IfOk result (λ counts. counts.variables ≤ CIRCUIT_VARIABLES) }
     ensures room { IfOk result (λ counts. counts.inputs + (counts.latches + counts.gates) ≤ counts.variables) }
 {
     if words.len() < 5 {
@@ -80,7 +82,7 @@ fn counts_of_numerals(words: &[&[u8]], room: u64) -> Result<Counts, CircuitFault
     requires nine { length words.now ≤ 9 }
     requires numerals { list_all is_numeral (map (λ word. word.now) words.now) ≡ true }
     ensures counts { result ≡ counts_in room (header_of_words (map (λ word. word.now) words.now)) }
-    ensures size { IfOk result (λ counts. counts.variables ≤ 100000) }
+    ensures size { IfOk result (λ counts. counts.variables ≤ CIRCUIT_VARIABLES) }
     ensures room { IfOk result (λ counts. counts.inputs + (counts.latches + counts.gates) ≤ counts.variables) }
 {
     let variables = word_at(words, 0);
@@ -90,7 +92,8 @@ fn counts_of_numerals(words: &[&[u8]], room: u64) -> Result<Counts, CircuitFault
     if sum_exceeds(inputs, latches, gates, variables) {
         return Err(CircuitFault::BadHeader(1));
     }
-    let Some(size) = number_within(variables, 100_000) else {
+    let most = u64::from(CIRCUIT_VARIABLES);
+    let Some(size) = number_within(variables, most) else {
         return Err(CircuitFault::TooLarge(1));
     };
     if !are_zeros(&words[5..]) {
@@ -98,10 +101,10 @@ fn counts_of_numerals(words: &[&[u8]], room: u64) -> Result<Counts, CircuitFault
     }
     Ok(Counts {
         variables: size as u32,
-        inputs: capped(inputs, 100_000) as u32,
-        latches: capped(latches, 100_000) as u32,
+        inputs: capped(inputs, most) as u32,
+        latches: capped(latches, most) as u32,
         outputs: capped(word_at(words, 3), room),
-        gates: capped(gates, 100_000) as u32,
+        gates: capped(gates, most) as u32,
     })
 }
 

@@ -1,7 +1,7 @@
 //! Circuits of latches and and-gates: their definition, their steps, and their text in the ASCII format of AIGER 1.9,
 //! both ways. The contract above this layer: `read_circuit` gives what a file states or its first fault, `write_circuit`
 //! writes exactly the circuit's lines, `Circuit::step` is one step of the circuit, and every lasso of input letters has
-//! a run lasso. It stands on letters_and_lassos, machine_model and names_and_numbers.
+//! a run lasso. It stands on text_limits, letters_and_lassos, machine_model and names_and_numbers.
 #![tactic(auto)]
 
 mod bodies;

@@ -1,6 +1,7 @@
 //! A circuit's file as a whole.
 
 ghost use Rattle.std.specs.Prelude.{◌≡◌, ℕ, ◌+◌, ◌^◌, ◌<◌, ◌≤◌, ◌⊎◌, IfOk, IfErr, None, length};
+ghost use Rattle.text_limits.specs.declared.TheConstants.{CIRCUIT_VARIABLES};
 ghost use Rattle.aiger_text.specs.declared.faults.CircuitFault.TheVariants.{NoMemory, Cycle};
 ghost use Rattle.aiger_text.specs.CircuitType.{DependsOn, IsCircuit, IsOrder};
 ghost use Rattle.aiger_text.specs.Walks.{Finds, IsFirstCycle};
@@ -109,7 +110,7 @@ fn gate_line_number(statements: &Statements, gate: usize) -> u64
 /// The places of the gates in an order in which they can be worked out; refused at the first gate that depends on itself.
 fn gate_order(alloc: Global, statements: &Statements) -> Result<Vec<usize>, CircuitFault>
     requires sound { IsSoundDraft (stated statements.now) }
-    requires size { statements.now.counts.variables ≤ 100000 }
+    requires size { statements.now.counts.variables ≤ CIRCUIT_VARIABLES }
     requires lines { total (stated statements.now) < 2 ^ 64 }
     ensures order { IfOk result (λ order. IsOrder statements.now.gates.items order.items) }
     ensures acyclic { IfOk result (λ _. (v : ℕ) → DependsOn statements.now.gates.items v v → ⊥) }

@@ -5,6 +5,7 @@ use Rattle.std.specs.List.{list_all, list_any, slice_split, starts_with}
 use Rattle.std.specs.Option.{option_map_or}
 use Rattle.std.specs.Str.{bytes_eq}
 use Rattle.std.specs.Prelude.{nat_eq}
+use Rattle.text_limits.specs.declared.TheConstants.{ANNOTATION_PAIRS}
 use Rattle.aiger_text.specs.Words.{cut_at, number_within}
 use Rattle.annot_check.specs.declared.pairs.Pair.{Pair}
 use Rattle.annot_check.specs.Pairs.{Listed}
@@ -14,12 +15,9 @@ use Rattle.annot_check.specs.Place.{same_code}
 abbrev pub pieces_of : List ℕ → List (List ℕ)
 pieces_of bytes = slice_split (λ b. b == 10) bytes
 
--- what the head begins with, and the most pairs
+-- what the head begins with
 abbrev pub head_word : List ℕ
 head_word = codes "annotation "
-
-abbrev pub most_pairs : ℕ
-most_pairs = 100000
 
 -- what stands behind that in a line that begins so
 abbrev pub behind_head : List ℕ → Option (List ℕ)
@@ -27,7 +25,7 @@ behind_head line = if starts_with nat_eq line head_word then Some (drop (length 
 
 -- how many pairs a head says
 abbrev pub count_of : List ℕ → Option ℕ
-count_of word = number_within most_pairs word
+count_of word = number_within ANNOTATION_PAIRS word
 
 -- the digit 0 or 1
 abbrev pub is_bit : ℕ → Bool

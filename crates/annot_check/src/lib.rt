@@ -2,7 +2,7 @@
 //! each with a number. `read_annotation` gives exactly the list that a text states, or its first line that is refused;
 //! `check_annotation` says whether the list is valid for a circuit, a side, a kind and an automaton, or why not. A valid list shows that
 //! the circuit is of the kind and that no run lasso of it, where it plays the side, is a word that the automaton accepts. It stands on
-//! machine_model for automata and on aiger_text for circuits.
+//! machine_model for automata, on aiger_text for circuits and on text_limits for how many pairs a text may have.
 #![tactic(auto)]
 
 mod checking;

@@ -9,12 +9,10 @@ ghost use Rattle.annot_check.specs.AnnotationText.{behind_head, count_of, code_o
 use crate::pairs::{Code, Pair};
 use aiger_text::{cut_at, number_within};
 use std::alloc::{AllocError, Global};
+use text_limits::ANNOTATION_PAIRS;
 
 /// What a head begins with.
 const HEAD: &[u8] = b"annotation ";
-
-/// The most pairs.
-const MOST_PAIRS: u64 = 100_000;
 
 /// What stands behind the word of a head, in a line that begins with it.
 pub(crate) fn behind_head(line: &[u8]) -> Option<&[u8]>
@@ -31,7 +29,7 @@ pub(crate) fn behind_head(line: &[u8]) -> Option<&[u8]>
 pub(crate) fn count_of(word: &[u8]) -> Option<u64>
     ensures { result ≡ count_of word.now }
 {
-    number_within(word, MOST_PAIRS)
+    number_within(word, ANNOTATION_PAIRS)
 }
 
 fn is_bit(byte: u8) -> bool

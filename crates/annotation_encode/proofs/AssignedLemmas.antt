@@ -1,7 +1,6 @@
 -- The list of values is the assignment of a machine and its annotation.
-use Rattle.std.proofs.Common.{◌≡◌, ℕ, ◌+◌, ◌-◌, ◌*◌, ◌/◌, ◌%◌, ◌^◌, ◌<◌, ◌≤◌, false, List, Option, [], ◌∷◌, ◌++◌, zero, suc, length, map, get_or, refl, sym, ap, ◌∙◌, arith, inl, inr}
+use Rattle.std.proofs.Common.{◌≡◌, ℕ, ◌+◌, ◌-◌, ◌*◌, ◌/◌, ◌%◌, ◌^◌, ◌<◌, ◌≤◌, false, List, Option, [], ◌∷◌, ◌++◌, zero, suc, length, get_or, refl, sym, ap, ◌∙◌, arith, inl, inr}
 use Rattle.std.specs.Prelude.{◌==◌, nat_lt}
-use Rattle.std.specs.List.{range_with_len}
 use Rattle.std.proofs.Math.Nat.{div-lt_iff_lt-mul, mod-lt}
 use Rattle.std.proofs.lemmas.Bool.{cases_eq, cond-true, cond-false, le-ltb}
 use Rattle.std.proofs.lemmas.Bool.Decides.{Decides-ltb}
@@ -21,13 +20,13 @@ use Rattle.machine_model.specs.declared.problems.Problem.{Problem}
 use Rattle.product_bound.specs.Annotation.{bound_at, number_at}
 use Rattle.annotation_encode.specs.Assigned.{IsAssignmentOf, assigned_values, count_values, machine_value, machine_values, move_value, pair_values, reaches, state_values, write_value, written_at}
 use Rattle.annotation_encode.specs.BaseClauses.{each_below}
-use Rattle.annotation_encode.specs.Variables.{letter_count, move_count, number_count, numbers_before, row_place, state_numbers, sum_first, var_count, var_move, var_write, variables_of, write_count, write_place, write_places}
+use Rattle.annotation_encode.specs.Variables.{letter_count, move_count, number_count, numbers_before, row_place, state_numbers, sum_first, var_count, var_move, var_write, write_count, write_place, write_places}
 use Rattle.annotation_encode.proofs.Sizes.{place_below, row_below, writes_within}
 use Rattle.annotation_encode.proofs.Counted.{length-each_sum, number_within, numbers_step}
 use Rattle.annotation_encode.proofs.Lists.{length-each_below}
 
 -- the value at a place of joined pieces, where the pieces before end at known places
-get-each_below : {A : Type 0} (n k j : ℕ) (f : ℕ → List A) (start : ℕ → ℕ) (d : A) → start 0 ≡ 0 → ((i : ℕ) → i < n → start (suc i) ≡ start i + length (f i))
+pub get-each_below : {A : Type 0} (n k j : ℕ) (f : ℕ → List A) (start : ℕ → ℕ) (d : A) → start 0 ≡ 0 → ((i : ℕ) → i < n → start (suc i) ≡ start i + length (f i))
     → k < n → j < length (f k) → (get_or (each_below n f) (start k + j) d ≡ get_or (f k) j d) × (length (each_below n f) ≡ start n)
 get-each_below zero k j f start d first step h hj = absurd (omega arith)
 get-each_below (suc n) k j f start d first step h hj =

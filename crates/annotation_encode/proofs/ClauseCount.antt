@@ -21,83 +21,72 @@ use Rattle.machine_model.specs.declared.problems.Problem.{Problem}
 use Rattle.product_bound.specs.Annotation.{bound_at, rejecting_at}
 use Rattle.annotation_encode.specs.BaseClauses.{base_clauses, chain_clause, chain_clauses, each_below, edge_clauses, fits_read, is_idle, letter_clauses, order_clause, order_clauses, pair_chains, read_signal, row_clause, row_clauses, row_count, row_orders, signal_fits, start_clause, state_chains, state_clauses, step_clause, step_clauses, step_count}
 use Rattle.letters_and_lassos.specs.Below.{all_below}
-use Rattle.annotation_encode.specs.Count.{chain_count, count_of, free_below, is_free, most_clauses, order_count, target_count}
+use Rattle.annotation_encode.specs.Count.{chain_count, count_of, free_below, is_free, most_clauses, order_count, passing, target_count}
 use Rattle.annotation_encode.specs.Variables.{counted_before, letter_count}
 use Rattle.annotation_encode.proofs.Counted.{length-each_sum, sum_first-times}
 use Rattle.annotation_encode.proofs.Lists.{length-each_below}
 use Rattle.annotation_encode.proofs.Letters.{low_signal}
 
--- how many numbers below n pass a test
-count_below : ℕ → (ℕ → Bool) → ℕ
-count_below zero test = 0
-count_below (suc n) test = count_below n test + cond (test n) 1 0
-
 -- pieces that have one length where a test passes, and else none
 length-each_if : {A : Type 0} (n w : ℕ) (test : ℕ → Bool) (f : ℕ → List A) → ((k : ℕ) → k < n → test k ≡ true → length (f k) ≡ w) → ((k : ℕ) → k < n → test k ≡ false → length (f k) ≡ 0)
-    → length (each_below n f) ≡ count_below n test * w
-unfolding count_below
+    → length (each_below n f) ≡ passing n test * w
 length-each_if zero w test f yes' no' = let e : 0 ≡ 0 * w = omega arith in e
 length-each_if (suc n) w test f yes' no' =
-    let before : length (each_below n f) ≡ count_below n test * w = length-each_if n w test f (λ k h. yes' k (omega arith)) (λ k h. no' k (omega arith)) in
+    let before : length (each_below n f) ≡ passing n test * w = length-each_if n w test f (λ k h. yes' k (omega arith)) (λ k h. no' k (omega arith)) in
     let both : length (each_below n f ++ f n) ≡ length (each_below n f) + length (f n) = length-append (each_below n f) (f n) in
     go (test n) refl before both
   where
-    go : (b : Bool) → test n ≡ b → length (each_below n f) ≡ count_below n test * w → length (each_below n f ++ f n) ≡ length (each_below n f) + length (f n)
-        → length (each_below n f ++ f n) ≡ (count_below n test + cond (test n) 1 0) * w
+    go : (b : Bool) → test n ≡ b → length (each_below n f) ≡ passing n test * w → length (each_below n f ++ f n) ≡ length (each_below n f) + length (f n)
+        → length (each_below n f ++ f n) ≡ (passing n test + cond (test n) 1 0) * w
     go true e before both =
         let here : length (f n) ≡ w = yes' n (omega arith) e in
-        let one : (count_below n test + 1) * w ≡ count_below n test * w + w = omega arith in
-        both ∙ omega (arith, before, here, one) ∙ ap (λ b. (count_below n test + cond b 1 0) * w) (sym e)
+        let one : (passing n test + 1) * w ≡ passing n test * w + w = omega arith in
+        both ∙ omega (arith, before, here, one) ∙ ap (λ b. (passing n test + cond b 1 0) * w) (sym e)
     go false e before both =
         let here : length (f n) ≡ 0 = no' n (omega arith) e in
-        let none : (count_below n test + 0) * w ≡ count_below n test * w = omega arith in
-        both ∙ omega (arith, before, here, none) ∙ ap (λ b. (count_below n test + cond b 1 0) * w) (sym e)
+        let none : (passing n test + 0) * w ≡ passing n test * w = omega arith in
+        both ∙ omega (arith, before, here, none) ∙ ap (λ b. (passing n test + cond b 1 0) * w) (sym e)
 
-count_below-same : (n : ℕ) (f g : ℕ → Bool) → ((k : ℕ) → k < n → f k ≡ g k) → count_below n f ≡ count_below n g
-unfolding count_below
-count_below-same zero f g same = refl
-count_below-same (suc n) f g same = λ i. count_below-same n f g (λ k h. same k (omega arith)) i + cond (same n (omega arith) i) 1 0
+pub passing-same : (n : ℕ) (f g : ℕ → Bool) → ((k : ℕ) → k < n → f k ≡ g k) → passing n f ≡ passing n g
+passing-same zero f g same = refl
+passing-same (suc n) f g same = λ i. passing-same n f g (λ k h. same k (omega arith)) i + cond (same n (omega arith) i) 1 0
 
-count_below-none : (n : ℕ) (f : ℕ → Bool) → ((k : ℕ) → k < n → f k ≡ false) → count_below n f ≡ 0
-unfolding count_below
-count_below-none zero f none = refl
-count_below-none (suc n) f none =
-    let before : count_below n f ≡ 0 = count_below-none n f (λ k h. none k (omega arith)) in
+passing-none : (n : ℕ) (f : ℕ → Bool) → ((k : ℕ) → k < n → f k ≡ false) → passing n f ≡ 0
+passing-none zero f none = refl
+passing-none (suc n) f none =
+    let before : passing n f ≡ 0 = passing-none n f (λ k h. none k (omega arith)) in
     (λ i. before i + cond (none n (omega arith) i) 1 0)
 
-count_below-all : (n : ℕ) (f : ℕ → Bool) → ((k : ℕ) → k < n → f k ≡ true) → count_below n f ≡ n
-unfolding count_below
-count_below-all zero f all = refl
-count_below-all (suc n) f all =
-    let before : count_below n f ≡ n = count_below-all n f (λ k h. all k (omega arith)) in
+pub passing-all : (n : ℕ) (f : ℕ → Bool) → ((k : ℕ) → k < n → f k ≡ true) → passing n f ≡ n
+passing-all zero f all = refl
+passing-all (suc n) f all =
+    let before : passing n f ≡ n = passing-all n f (λ k h. all k (omega arith)) in
     (λ i. before i + cond (all n (omega arith) i) 1 0) ∙ (let e : n + 1 ≡ suc n = omega arith in e)
 
-count_below-add : (a b : ℕ) (f : ℕ → Bool) → count_below (a + b) f ≡ count_below a f + count_below b (λ k. f (a + k))
-unfolding count_below
-count_below-add a zero f = let e : a + 0 ≡ a = omega arith in ap (λ n. count_below n f) e ∙ (let z : count_below a f ≡ count_below a f + 0 = omega arith in z)
-count_below-add a (suc b) f =
+passing-add : (a b : ℕ) (f : ℕ → Bool) → passing (a + b) f ≡ passing a f + passing b (λ k. f (a + k))
+passing-add a zero f = let e : a + 0 ≡ a = omega arith in ap (λ n. passing n f) e ∙ (let z : passing a f ≡ passing a f + 0 = omega arith in z)
+passing-add a (suc b) f =
     let e : a + suc b ≡ suc (a + b) = omega arith in
-    let before : count_below (a + b) f ≡ count_below a f + count_below b (λ k. f (a + k)) = count_below-add a b f in
-    ap (λ n. count_below n f) e ∙ ap (λ n. n + cond (f (a + b)) 1 0) before
-    ∙ (let z : count_below a f + count_below b (λ k. f (a + k)) + cond (f (a + b)) 1 0 ≡ count_below a f + (count_below b (λ k. f (a + k)) + cond (f (a + b)) 1 0) = omega arith in z)
+    let before : passing (a + b) f ≡ passing a f + passing b (λ k. f (a + k)) = passing-add a b f in
+    ap (λ n. passing n f) e ∙ ap (λ n. n + cond (f (a + b)) 1 0) before
+    ∙ (let z : passing a f + passing b (λ k. f (a + k)) + cond (f (a + b)) 1 0 ≡ passing a f + (passing b (λ k. f (a + k)) + cond (f (a + b)) 1 0) = omega arith in z)
 
 abbrev weight : Bool → ℕ
 weight b = cond (not (b && true)) 1 0
 
 -- a test that passes everywhere but at t
-count_below-but : (n t : ℕ) → t < n → count_below n (λ k. not ((t == k) && true)) + 1 ≡ n
-unfolding count_below
-count_below-but zero t h = absurd (omega arith)
-count_below-but (suc n) t h =
+pub passing-but : (n t : ℕ) → t < n → passing n (λ k. not ((t == k) && true)) + 1 ≡ n
+passing-but zero t h = absurd (omega arith)
+passing-but (suc n) t h =
     elim (cases_eq t n) [
       | inl e ↦
           let here : (t == n) ≡ true = eq-eqb t n e in
-          let before : count_below n (λ k. not ((t == k) && true)) ≡ n = count_below-all n (λ k. not ((t == k) && true)) (λ k less. let apart : (t == k) ≡ false = ne_eqb t k (λ s. omega (arith, e, s, less)) in ap (λ b. not (b && true)) apart) in
+          let before : passing n (λ k. not ((t == k) && true)) ≡ n = passing-all n (λ k. not ((t == k) && true)) (λ k less. let apart : (t == k) ≡ false = ne_eqb t k (λ s. omega (arith, e, s, less)) in ap (λ b. not (b && true)) apart) in
           let last : weight (t == n) ≡ 0 = ap weight here in
           omega (arith, before, last)
       | inr ne ↦
           let here : (t == n) ≡ false = ne_eqb t n ne in
-          let before : count_below n (λ k. not ((t == k) && true)) + 1 ≡ n = count_below-but n t (omega (arith, h, ne)) in
+          let before : passing n (λ k. not ((t == k) && true)) + 1 ≡ n = passing-but n t (omega (arith, h, ne)) in
           let last : weight (t == n) ≡ 1 = ap weight here in
           omega (arith, before, last)
     ]
@@ -134,23 +123,23 @@ module _ (p : Problem) (cube : Cube) where
       (λ s less. ap (signal_fits cube (read_signal p s)) (low_signal 1 n i s less)) j
       && signal_fits cube (read_signal p n) (set_bit n i h j))
 
-  halves : (n : ℕ) → count_below (2 ^ suc n) (fits_first (suc n))
-      ≡ count_below (2 ^ n) (λ i. fits_first n i && not (has cube.must (read_signal p n))) + count_below (2 ^ n) (λ i. fits_first n i && not (has cube.not (read_signal p n)))
+  halves : (n : ℕ) → passing (2 ^ suc n) (fits_first (suc n))
+      ≡ passing (2 ^ n) (λ i. fits_first n i && not (has cube.must (read_signal p n))) + passing (2 ^ n) (λ i. fits_first n i && not (has cube.not (read_signal p n)))
   halves n =
-      ap (λ k. count_below k (fits_first (suc n))) (two-pow-succ n)
-      ∙ count_below-add (2 ^ n) (2 ^ n) (fits_first (suc n))
-      ∙ (λ j. count_below-same (2 ^ n) (fits_first (suc n)) (λ i. fits_first n i && not (has cube.must (read_signal p n))) (low_half n) j
-      + count_below-same (2 ^ n) (λ i. fits_first (suc n) (2 ^ n + i)) (λ i. fits_first n i && not (has cube.not (read_signal p n))) (high_half n) j)
+      ap (λ k. passing k (fits_first (suc n))) (two-pow-succ n)
+      ∙ passing-add (2 ^ n) (2 ^ n) (fits_first (suc n))
+      ∙ (λ j. passing-same (2 ^ n) (fits_first (suc n)) (λ i. fits_first n i && not (has cube.must (read_signal p n))) (low_half n) j
+      + passing-same (2 ^ n) (λ i. fits_first (suc n) (2 ^ n + i)) (λ i. fits_first n i && not (has cube.not (read_signal p n))) (high_half n) j)
 
-  with_test : (n : ℕ) (b : Bool) → count_below (2 ^ n) (λ i. fits_first n i && b) ≡ cond b (count_below (2 ^ n) (fits_first n)) 0
-  with_test n true = count_below-same (2 ^ n) (λ i. fits_first n i && true) (fits_first n) (λ i h. and-true (fits_first n i))
-  with_test n false = count_below-none (2 ^ n) (λ i. fits_first n i && false) (λ i h. and-false (fits_first n i))
+  with_test : (n : ℕ) (b : Bool) → passing (2 ^ n) (λ i. fits_first n i && b) ≡ cond b (passing (2 ^ n) (fits_first n)) 0
+  with_test n true = passing-same (2 ^ n) (λ i. fits_first n i && true) (fits_first n) (λ i h. and-true (fits_first n i))
+  with_test n false = passing-none (2 ^ n) (λ i. fits_first n i && false) (λ i h. and-false (fits_first n i))
 
-  fitting : (n : ℕ) → count_below (2 ^ n) (fits_first n) ≡ 2 ^ free_below p cube n
-  unfolding count_below fits_first
+  fitting : (n : ℕ) → passing (2 ^ n) (fits_first n) ≡ 2 ^ free_below p cube n
+  unfolding fits_first
   fitting zero = refl
   fitting (suc n) =
-      let before : count_below (2 ^ n) (fits_first n) ≡ 2 ^ free_below p cube n = fitting n in
+      let before : passing (2 ^ n) (fits_first n) ≡ 2 ^ free_below p cube n = fitting n in
       halves n
       ∙ (λ j. with_test n (not (has cube.must (read_signal p n))) j + with_test n (not (has cube.not (read_signal p n))) j)
       ∙ by_signal (has cube.must (read_signal p n)) (has cube.not (read_signal p n)) refl refl before
@@ -158,19 +147,19 @@ module _ (p : Problem) (cube : Cube) where
       free_is : (must none : Bool) → has cube.must (read_signal p n) ≡ must → has cube.not (read_signal p n) ≡ none → is_free cube (read_signal p n) ≡ (not must && not none)
       free_is must none a b = λ j. not (a j) && not (b j)
 
-      by_signal : (must none : Bool) → has cube.must (read_signal p n) ≡ must → has cube.not (read_signal p n) ≡ none → count_below (2 ^ n) (fits_first n) ≡ 2 ^ free_below p cube n
-          → cond (not (has cube.must (read_signal p n))) (count_below (2 ^ n) (fits_first n)) 0 + cond (not (has cube.not (read_signal p n))) (count_below (2 ^ n) (fits_first n)) 0
+      by_signal : (must none : Bool) → has cube.must (read_signal p n) ≡ must → has cube.not (read_signal p n) ≡ none → passing (2 ^ n) (fits_first n) ≡ 2 ^ free_below p cube n
+          → cond (not (has cube.must (read_signal p n))) (passing (2 ^ n) (fits_first n)) 0 + cond (not (has cube.not (read_signal p n))) (passing (2 ^ n) (fits_first n)) 0
           ≡ 2 ^ (free_below p cube n + cond (is_free cube (read_signal p n)) 1 0)
       by_signal true true a b before = absurd (cube.apart (read_signal p n) a b)
       by_signal true false a b before =
-          (λ j. cond (not (a j)) (count_below (2 ^ n) (fits_first n)) 0 + cond (not (b j)) (count_below (2 ^ n) (fits_first n)) 0)
-          ∙ (let z : 0 + count_below (2 ^ n) (fits_first n) ≡ count_below (2 ^ n) (fits_first n) = omega arith in z)
+          (λ j. cond (not (a j)) (passing (2 ^ n) (fits_first n)) 0 + cond (not (b j)) (passing (2 ^ n) (fits_first n)) 0)
+          ∙ (let z : 0 + passing (2 ^ n) (fits_first n) ≡ passing (2 ^ n) (fits_first n) = omega arith in z)
           ∙ before
           ∙ ap (λ k. 2 ^ k) (let z : free_below p cube n ≡ free_below p cube n + 0 = omega arith in z)
           ∙ (λ j. 2 ^ (free_below p cube n + cond (sym (free_is true false a b) j) 1 0))
       by_signal false true a b before =
-          (λ j. cond (not (a j)) (count_below (2 ^ n) (fits_first n)) 0 + cond (not (b j)) (count_below (2 ^ n) (fits_first n)) 0)
-          ∙ (let z : count_below (2 ^ n) (fits_first n) + 0 ≡ count_below (2 ^ n) (fits_first n) = omega arith in z)
+          (λ j. cond (not (a j)) (passing (2 ^ n) (fits_first n)) 0 + cond (not (b j)) (passing (2 ^ n) (fits_first n)) 0)
+          ∙ (let z : passing (2 ^ n) (fits_first n) + 0 ≡ passing (2 ^ n) (fits_first n) = omega arith in z)
           ∙ before
           ∙ ap (λ k. 2 ^ k) (let z : free_below p cube n ≡ free_below p cube n + 0 = omega arith in z)
           ∙ (λ j. 2 ^ (free_below p cube n + cond (sym (free_is false true a b) j) 1 0))
@@ -187,19 +176,19 @@ length-steps p e t i to false h =
     ∙ length-each_below (step_count p e) 1 (λ c. step_clause p e t i to c ∷ []) (λ c less. refl)
     ∙ (let z : step_count p e * 1 ≡ step_count p e = omega arith in z)
 
-targets : (p : Problem) (e : Edge) (t : ℕ) → t < p.size → count_below p.size (λ to. not (is_idle p e t to)) ≡ target_count p e
+pub targets : (p : Problem) (e : Edge) (t : ℕ) → t < p.size → passing p.size (λ to. not (is_idle p e t to)) ≡ target_count p e
 targets p e t ht = go ((e.from == e.to) && not (rejects (automaton_of p) e.to)) refl
   where
     go : (calm : Bool) → ((e.from == e.to) && not (rejects (automaton_of p) e.to)) ≡ calm
-        → count_below p.size (λ to. not (is_idle p e t to)) ≡ cond ((e.from == e.to) && not (rejects (automaton_of p) e.to)) (p.size - 1) p.size
+        → passing p.size (λ to. not (is_idle p e t to)) ≡ cond ((e.from == e.to) && not (rejects (automaton_of p) e.to)) (p.size - 1) p.size
     go true h =
-        let but : count_below p.size (λ to. not ((t == to) && true)) + 1 ≡ p.size = count_below-but p.size t ht in
-        ap (λ b. count_below p.size (λ to. not ((t == to) && b))) h
-        ∙ (let z : count_below p.size (λ to. not ((t == to) && true)) ≡ p.size - 1 = omega (arith, but) in z)
+        let but : passing p.size (λ to. not ((t == to) && true)) + 1 ≡ p.size = passing-but p.size t ht in
+        ap (λ b. passing p.size (λ to. not ((t == to) && b))) h
+        ∙ (let z : passing p.size (λ to. not ((t == to) && true)) ≡ p.size - 1 = omega (arith, but) in z)
         ∙ sym (cond-true ((e.from == e.to) && not (rejects (automaton_of p) e.to)) (p.size - 1) p.size h)
     go false h =
-        ap (λ b. count_below p.size (λ to. not ((t == to) && b))) h
-        ∙ count_below-all p.size (λ to. not ((t == to) && false)) (λ k less. ap not (and-false (t == k)))
+        ap (λ b. passing p.size (λ to. not ((t == to) && b))) h
+        ∙ passing-all p.size (λ to. not ((t == to) && false)) (λ k less. ap not (and-false (t == k)))
         ∙ sym (cond-false ((e.from == e.to) && not (rejects (automaton_of p) e.to)) (p.size - 1) p.size h)
 
 length-targets : (p : Problem) (e : Edge) (t i : ℕ) → t < p.size → length (each_below p.size (λ to. step_clauses p e t i to)) ≡ target_count p e * step_count p e

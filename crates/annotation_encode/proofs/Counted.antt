@@ -5,6 +5,7 @@ use Rattle.std.proofs.lemmas.Bool.{cases_eq, cases_lt, cond-true, cond-false}
 use Rattle.std.proofs.lemmas.List.{length-append}
 use Rattle.std.proofs.lemmas.List.Sums.{sum_by-cons}
 use mathlib.Core.Bool.{and-false}
+use Rattle.text_limits.specs.declared.TheConstants.{SMALL_LIMITS}
 use Rattle.machine_model.specs.Automaton.{AutomatonModel, IsAutomaton, states_of}
 use Rattle.machine_model.specs.Components.{ComponentsClass, local_before, local_count}
 use Rattle.machine_model.specs.Problem.{automaton_of, counts_locally}
@@ -84,7 +85,7 @@ counted_most (x ∷ xs) =
 pub whole_few : (p : Problem) → rejecting_count (automaton_of p) ≤ states_of (automaton_of p)
 whole_few p = counted_most (automaton_of p).rejecting
 
-pub few_at : (p : Problem) (q : ℕ) → ComponentsClass → IsAutomaton (automaton_of p) → states_of (automaton_of p) ≤ 2000 → rejecting_at p q ≤ 2000
+pub few_at : (p : Problem) (q : ℕ) → ComponentsClass → IsAutomaton (automaton_of p) → states_of (automaton_of p) ≤ SMALL_LIMITS.automaton.states → rejecting_at p q ≤ SMALL_LIMITS.automaton.states
 few_at p q classes made few = go (counts_locally p)
   where
     local : local_count (automaton_of p) q ≤ states_of (automaton_of p)
@@ -93,12 +94,12 @@ few_at p q classes made few = go (counts_locally p)
     whole : rejecting_count (automaton_of p) ≤ states_of (automaton_of p)
     whole = whole_few p
 
-    go : (b : Bool) → cond b (local_count (automaton_of p) q) (rejecting_count (automaton_of p)) ≤ 2000
+    go : (b : Bool) → cond b (local_count (automaton_of p) q) (rejecting_count (automaton_of p)) ≤ SMALL_LIMITS.automaton.states
     go true = omega (arith, local, few)
     go false = omega (arith, whole, few)
 
-pub few_before : (p : Problem) (q : ℕ) → ComponentsClass → IsAutomaton (automaton_of p) → states_of (automaton_of p) ≤ 2000 → counted_before p q ≤ 2000 * q
-few_before p q classes made few = sum_first-most (rejecting_at p) q 2000 (λ k _. few_at p k classes made few)
+pub few_before : (p : Problem) (q : ℕ) → ComponentsClass → IsAutomaton (automaton_of p) → states_of (automaton_of p) ≤ SMALL_LIMITS.automaton.states → counted_before p q ≤ SMALL_LIMITS.automaton.states * q
+few_before p q classes made few = sum_first-most (rejecting_at p) q SMALL_LIMITS.automaton.states (λ k _. few_at p k classes made few)
 
 -- where the numbers of a state begin
 pub numbers_step : (p : Problem) (q : ℕ) → numbers_before p (suc q) ≡ numbers_before p q + number_count p q

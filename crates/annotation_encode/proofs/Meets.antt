@@ -2,8 +2,9 @@
 use Rattle.std.proofs.Common.{◌≡◌, ℕ, zero, suc, ◌+◌, ◌-◌, ◌*◌, ◌/◌, ◌%◌, ◌^◌, ◌<◌, ◌≤◌, ◌⊎◌, inl, inr, max, Bool, true, false, not, List, [], ◌∷◌, ◌++◌, Option, Some, None, length, take, get_or, refl, sym, ap, ◌∙◌, subst, arith, cond}
 use Rattle.std.specs.Prelude.{Contains, ◌==◌, ◌||◌, nat_le, nat_lt}
 use Rattle.std.specs.List.{list_any}
+use Rattle.std.proofs.Math.Bool.{or-true}
 use Rattle.std.proofs.Math.Nat.{mod-lt, div-lt_iff_lt-mul}
-use Rattle.std.proofs.lemmas.Bool.{cases_lt, eq-eqb, le-leb, leb-true, not-false}
+use Rattle.std.proofs.lemmas.Bool.{cases_lt, eq-eqb, le-leb, leb-true, not-false, or_parts}
 use Rattle.std.proofs.lemmas.Bool.Decides.{Decides-eqb}
 use Rattle.std.proofs.lemmas.List.{take_more}
 use Rattle.std.proofs.lemmas.List.Elements.{All-contains}
@@ -39,27 +40,19 @@ use Rattle.annotation_encode.proofs.Letters.{fits_joined, joined_at, reads_at, w
 use Rattle.annotation_encode.proofs.Lists.{all_below-each, any-each_below, none-each_below}
 
 -- tests
-right_true : (b : Bool) → (b || true) ≡ true
-right_true true = refl
-right_true false = refl
-
-either_true : (a b : Bool) → (a ≡ false → b ≡ true) → (a || b) ≡ true
+pub either_true : (a b : Bool) → (a ≡ false → b ≡ true) → (a || b) ≡ true
 either_true true b h = refl
 either_true false b h = h refl
 
-left_false : (a b : Bool) → (a || b) ≡ false → a ≡ false
-left_false true b h = h
-left_false false b h = refl
-
-apart : {X : Type 0} → true ≡ false → X
+pub apart : {X : Type 0} → true ≡ false → X
 apart h = absurd (let e : true ≡ false = h in cc)
 
 -- a list that has a true literal in one place
-any_one : (test : Literal → Bool) (l : Literal) → test l ≡ true → list_any test (l ∷ []) ≡ true
+pub any_one : (test : Literal → Bool) (l : Literal) → test l ≡ true → list_any test (l ∷ []) ≡ true
 any_one test l h = ap (λ b. b || false) h
 
-one_is : (test : Literal → Bool) (l : Literal) → list_any test (l ∷ []) ≡ false → test l ≡ false
-one_is test l h = left_false (test l) false h
+pub one_is : (test : Literal → Bool) (l : Literal) → list_any test (l ∷ []) ≡ false → test l ≡ false
+one_is test l h = (or_parts (test l) false h).0
 
 -- the greatest next state of rows with one more
 greatest-push : (rows : List Row) (row : Row) → greatest_next (rows ++ row ∷ []) ≡ max (greatest_next rows) row.next
@@ -94,13 +87,13 @@ signal_kept cube k false must none = go (has cube.must k) refl
     go false e = refl
 
 -- two literals, of which the second stands where the bound allows it
-counts_true : (test : Literal → Bool) (fits less : Bool) (a b : Literal) → (test a ≡ true) ⊎ ((fits ≡ true) × (test b ≡ true))
+pub counts_true : (test : Literal → Bool) (fits less : Bool) (a b : Literal) → (test a ≡ true) ⊎ ((fits ≡ true) × (test b ≡ true))
     → list_any test (cond fits (cond less (a ∷ b ∷ []) (b ∷ a ∷ [])) (a ∷ [])) ≡ true
 counts_true test false less a b (inl h) = any_one test a h
 counts_true test false less a b (inr h) = apart (sym h.0)
 counts_true test true true a b (inl h) = ap (λ x. x || (test b || false)) h
-counts_true test true true a b (inr h) = ap (λ x. test a || (x || false)) h.1 ∙ right_true (test a)
-counts_true test true false a b (inl h) = ap (λ x. test b || (x || false)) h ∙ right_true (test b)
+counts_true test true true a b (inr h) = ap (λ x. test a || (x || false)) h.1 ∙ or-true (test a)
+counts_true test true false a b (inl h) = ap (λ x. test b || (x || false)) h ∙ or-true (test b)
 counts_true test true false a b (inr h) = ap (λ x. x || (test a || false)) h.1
 
 -- a machine's rows
@@ -210,7 +203,7 @@ module _ (p : Problem) (m : MachineModel) (numbers : List (Option ℕ)) (values 
       isnt_next : reaches (number_at p numbers t q) (suc c) ≡ false → list_any test (chain_clause p t q c) ≡ true
       isnt_next none =
           let here : test (isnt (var_count p t q (suc c))) ≡ true = negative (var_count p t q (suc c)) ∙ ap not (value (suc c) (omega (arith, hc)) ∙ none) in
-          ap (λ b. test (is (var_count p t q c)) || (b || false)) here ∙ right_true (test (is (var_count p t q c)))
+          ap (λ b. test (is (var_count p t q c)) || (b || false)) here ∙ or-true (test (is (var_count p t q c)))
 
       is_here : reaches (number_at p numbers t q) c ≡ true → list_any test (chain_clause p t q c) ≡ true
       is_here some =
@@ -346,7 +339,7 @@ module _ (p : Problem) (m : MachineModel) (numbers : List (Option ℕ)) (values 
       by_move : (b : Bool) → (next_at m place == to) ≡ b → (list_any test (each_below place (λ k. is (row_move p k (to - 1)) ∷ [])) || list_any test (isnt (row_move p place to) ∷ [])) ≡ true
       by_move false h =
           let here : test (isnt (row_move p place to)) ≡ true = negative (row_move p place to) ∙ ap not (row_value place to hp hto ∙ h) in
-          ap (λ b. list_any test (each_below place (λ k. is (row_move p k (to - 1)) ∷ [])) || b) (any_one test (isnt (row_move p place to)) here) ∙ right_true _
+          ap (λ b. list_any test (each_below place (λ k. is (row_move p k (to - 1)) ∷ [])) || b) (any_one test (isnt (row_move p place to)) here) ∙ or-true _
       by_move true h =
           let moves : next_at m place ≡ to = (Decides-eqb (next_at m place) to).0 h in
           let whole : length m.table ≡ size_of m * 2 ^ m.reads = machine.shape.whole in

@@ -35,6 +35,11 @@ pub record SizesRise : Type 0 where
 
 -- The parts of that number.
 
+-- how many of the numbers below n pass a test
+abbrev pub passing : ℕ → (ℕ → Bool) → ℕ
+passing zero test = 0
+passing (suc n) test = passing n test + (if test n then 1 else 0)
+
 -- whether a cube neither wants nor forbids a signal
 abbrev pub is_free : Cube → ℕ → Bool
 is_free cube s = not (has cube.must s) && not (has cube.not s)

@@ -1,4 +1,5 @@
 ghost use Rattle.std.specs.Prelude.{◌≡◌, ◌+◌, ◌-◌, ◌*◌, ◌^◌, ◌≤◌, length, if◌then◌else◌};
+ghost use Rattle.text_limits.specs.declared.TheConstants.{SMALL_LIMITS};
 ghost use Rattle.machine_model.specs.Automaton.{JoinsStates, states_of};
 ghost use Rattle.machine_model.specs.Problem.{IsProblem, automaton_of, reads_of, sized};
 ghost use Rattle.annotation_encode.specs.BaseClauses.{edge_clauses, row_count, step_count};
@@ -40,7 +41,7 @@ pub fn count(problem: &Problem) -> Option<u64>
 /// Takes at most `max` times as long as `count`, and no memory.
 pub fn allowed_sizes(problem: &Problem, max: u32) -> u32
     requires problem { IsProblem problem.now }
-    requires max { max ≤ 8 }
+    requires max { max ≤ SMALL_LIMITS.machine }
     ensures value { result ≡ allowed_sizes problem.now max }
     ensures within { result ≤ max }
 {
@@ -56,7 +57,7 @@ pub fn allowed_sizes(problem: &Problem, max: u32) -> u32
 fn count_at(problem: &Problem, size: u32) -> Option<u64>
     requires problem { IsProblem problem.now }
     requires some { 1 ≤ size }
-    requires size { size ≤ 8 }
+    requires size { size ≤ SMALL_LIMITS.machine }
     ensures { result ≡ count_of (sized problem.now size) }
 {
     let numbering = Numbering::new(problem);
@@ -80,7 +81,7 @@ fn count_beside_edges(problem: &Problem, numbering: Numbering<'_>, size: u32) ->
     requires problem { IsProblem problem.now }
     requires numbering { numbering.problem.now ≡ problem.now }
     requires some { 1 ≤ size }
-    requires size { size ≤ 8 }
+    requires size { size ≤ SMALL_LIMITS.machine }
     ensures value { result ≡ row_count (sized problem.now size) + 1 + chain_count (sized problem.now size) + order_count (sized problem.now size) }
     ensures small { result ≤ 257000000 }
 {
@@ -94,7 +95,7 @@ fn count_beside_edges(problem: &Problem, numbering: Numbering<'_>, size: u32) ->
 fn chain_count(problem: &Problem, numbering: Numbering<'_>, size: u32) -> u32
     requires problem { IsProblem problem.now }
     requires numbering { numbering.problem.now ≡ problem.now }
-    requires size { size ≤ 8 }
+    requires size { size ≤ SMALL_LIMITS.machine }
     ensures value { result ≡ chain_count (sized problem.now size) }
     ensures small { result ≤ 256000000 }
 {
@@ -108,7 +109,7 @@ fn chain_count(problem: &Problem, numbering: Numbering<'_>, size: u32) -> u32
 fn step_count(problem: &Problem, numbering: Numbering<'_>, size: u32, edge: Edge) -> u32
     requires problem { IsProblem problem.now }
     requires numbering { numbering.problem.now ≡ problem.now }
-    requires size { size ≤ 8 }
+    requires size { size ≤ SMALL_LIMITS.machine }
     requires edge { JoinsStates (states_of (automaton_of problem.now)) edge }
     ensures value { result ≡ step_count (sized problem.now size) edge }
     ensures small { result ≤ 16001 }
@@ -123,7 +124,7 @@ fn step_count(problem: &Problem, numbering: Numbering<'_>, size: u32, edge: Edge
 /// How many rows a machine has.
 fn row_count(problem: &Problem, size: u32) -> u32
     requires problem { IsProblem problem.now }
-    requires size { size ≤ 8 }
+    requires size { size ≤ SMALL_LIMITS.machine }
     ensures value { result ≡ row_count (sized problem.now size) }
     ensures small { result ≤ 2048 }
 {
@@ -133,7 +134,7 @@ fn row_count(problem: &Problem, size: u32) -> u32
 /// How many clauses order the states.
 fn order_count(problem: &Problem, size: u32) -> u32
     requires problem { IsProblem problem.now }
-    requires size { size ≤ 8 }
+    requires size { size ≤ SMALL_LIMITS.machine }
     ensures value { result ≡ order_count (sized problem.now size) }
     ensures small { result ≤ 12288 }
 {
@@ -146,7 +147,7 @@ fn order_count(problem: &Problem, size: u32) -> u32
 
 /// The number of states from 2 on.
 fn later_states(size: u32) -> u32
-    requires { size ≤ 8 }
+    requires { size ≤ SMALL_LIMITS.machine }
     ensures value { result ≡ size - 2 }
     ensures small { result ≤ 6 }
 {
@@ -158,7 +159,7 @@ fn edge_count(problem: &Problem, numbering: Numbering<'_>, size: u32, edge: Edge
     requires problem { IsProblem problem.now }
     requires numbering { numbering.problem.now ≡ problem.now }
     requires some { 1 ≤ size }
-    requires size { size ≤ 8 }
+    requires size { size ≤ SMALL_LIMITS.machine }
     requires edge { JoinsStates (states_of (automaton_of problem.now)) edge }
     ensures value { result ≡ length (edge_clauses (sized problem.now size) edge) }
     ensures small { result ≤ 262160384 }
@@ -172,7 +173,7 @@ fn state_count(problem: &Problem, numbering: Numbering<'_>, size: u32, edge: Edg
     requires problem { IsProblem problem.now }
     requires numbering { numbering.problem.now ≡ problem.now }
     requires some { 1 ≤ size }
-    requires size { size ≤ 8 }
+    requires size { size ≤ SMALL_LIMITS.machine }
     requires edge { JoinsStates (states_of (automaton_of problem.now)) edge }
     ensures value { result ≡ 2 ^ free_below problem.now edge.cube (reads_of problem.now) * (target_count (sized problem.now size) edge * step_count (sized problem.now size) edge) }
     ensures small { result ≤ 32770048 }
@@ -219,7 +220,7 @@ fn free_signal(cube: Cube, signal: u32) -> u32
 fn target_count(problem: &Problem, size: u32, edge: Edge) -> u32
     requires problem { IsProblem problem.now }
     requires some { 1 ≤ size }
-    requires size { size ≤ 8 }
+    requires size { size ≤ SMALL_LIMITS.machine }
     requires edge { JoinsStates (states_of (automaton_of problem.now)) edge }
     ensures value { result ≡ target_count (sized problem.now size) edge }
     ensures small { result ≤ 8 }

@@ -1,4 +1,5 @@
 ghost use Rattle.std.specs.Prelude.{◌≡◌, ◌+◌, ◌*◌, ◌^◌, ◌<◌, ◌≤◌};
+ghost use Rattle.text_limits.specs.declared.TheConstants.{SMALL_LIMITS};
 ghost use Rattle.machine_model.specs.Automaton.{states_of};
 ghost use Rattle.machine_model.specs.Problem.{IsProblem, automaton_of, writes_of};
 ghost use Rattle.product_bound.specs.Annotation.{bound_at, rejecting_at, rejecting_count};
@@ -33,7 +34,7 @@ impl<'a> Numbering<'a> {
         requires problem { IsProblem self.now.problem.now }
         requires state { q < states_of (automaton_of self.now.problem.now) }
         ensures value { result ≡ rejecting_at self.now.problem.now q }
-        ensures small { result ≤ 2000 }
+        ensures small { result ≤ SMALL_LIMITS.automaton.states }
     {
         components_are_classes();
         let _states = self.problem.automaton.states();
@@ -48,7 +49,7 @@ impl<'a> Numbering<'a> {
         requires problem { IsProblem self.now.problem.now }
         requires state { q ≤ states_of (automaton_of self.now.problem.now) }
         ensures value { result ≡ counted_before self.now.problem.now q }
-        ensures small { result ≤ 2000 * q }
+        ensures small { result ≤ SMALL_LIMITS.automaton.states * q }
     {
         components_are_classes();
         let _states = self.problem.automaton.states();
@@ -63,7 +64,7 @@ impl<'a> Numbering<'a> {
         requires problem { IsProblem self.now.problem.now }
         requires state { q < states_of (automaton_of self.now.problem.now) }
         ensures value { result ≡ bound_at self.now.problem.now q }
-        ensures small { result ≤ 16000 }
+        ensures small { result ≤ SMALL_LIMITS.machine * SMALL_LIMITS.automaton.states }
     {
         self.problem.size * self.rejecting_at(q)
     }
@@ -183,7 +184,7 @@ pub fn var_count(problem: &Problem, t: u32, q: u32, c: u32) -> u32
 pub fn row_count(problem: &Problem) -> u32
     requires { IsProblem problem.now }
     ensures value { result ≡ row_count problem.now }
-    ensures small { result ≤ 2048 }
+    ensures small { result ≤ SMALL_LIMITS.machine * 2 ^ SMALL_LIMITS.signals }
 {
     problem.size * letter_count(problem)
 }
@@ -193,7 +194,7 @@ pub fn letter_count(problem: &Problem) -> u32
     requires { IsProblem problem.now }
     ensures value { result ≡ letter_count problem.now }
     ensures some { 0 < result }
-    ensures small { result ≤ 256 }
+    ensures small { result ≤ 2 ^ SMALL_LIMITS.signals }
 {
     1 << problem.reads()
 }

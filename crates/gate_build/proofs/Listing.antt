@@ -5,6 +5,7 @@ use Rattle.std.proofs.lemmas.Bool.{cases_eq, cases_lt}
 use Rattle.std.proofs.lemmas.List.{get_or_append_left, get_or_default, get_or_push, length_push}
 use Rattle.std.proofs.lemmas.List.Elements.{All-push}
 use Rattle.std.proofs.lemmas.Nat.{pow_pos}
+use Rattle.std_lemmas.proofs.Naturals.{either_below}
 use Rattle.letters_and_lassos.specs.declared.kinds.Side.{Side}
 use Rattle.letters_and_lassos.specs.declared.kinds.Side.TheVariants.{System}
 use Rattle.letters_and_lassos.specs.declared.letters.Letter.{Letter}
@@ -19,20 +20,6 @@ use Rattle.machine_model.proofs.Determined.{state_after-same, states-run}
 use Rattle.machine_model.proofs.Existence.{has_run}
 use Rattle.machine_model.proofs.Pigeonhole.{IsRepeated, pigeonhole}
 use Rattle.gate_build.specs.Laws.{IsMet, IsMetFor, MeetsStates}
-
--- what holds of each number below n in one of two ways holds of all in the first, or of some in the second
-either_below : (P Q : ℕ → Type 0) (n : ℕ) → ((k : ℕ) → k < n → P k ⊎ Q k) → ((k : ℕ) → k < n → P k) ⊎ ((k : ℕ) × (k < n) × Q k)
-either_below P Q zero each = inl (λ k h. absurd (omega arith))
-either_below P Q (suc n) each = elim (either_below P Q n (λ k h. each k (omega arith))) [
-  | inr found ↦ inr (found.0, (let h : found.0 < n = found.1 in omega arith), found.2)
-  | inl all ↦ elim (each n (omega arith)) [
-    | inr last ↦ inr (n, omega arith, last)
-    | inl last ↦ inl (λ k h. elim (cases_eq k n) [
-      | inl same ↦ subst P (sym same) last
-      | inr other ↦ let apart : k ≢ n = other in all k (omega arith)
-    ])
-  ]
-]
 
 -- whether a number is in a list
 pub is_in : (xs : List ℕ) (x : ℕ) → ((k : ℕ) → k < length xs → get_or xs k 0 ≢ x) ⊎ Contains xs x

@@ -5,6 +5,7 @@ use Rattle.std.proofs.lemmas.Bool.{cond-true, cond-false, cases_eq, cases_lt, eq
 use Rattle.std.proofs.lemmas.List.{length_push, length-append, get_or_append_left, get_or_push, append-nil}
 use Rattle.std.proofs.Common.{append_assoc, below_more}
 use mathlib.Core.Bool.{and_comm}
+use Rattle.std_lemmas.proofs.Booleans.{and_false, and_true}
 use Rattle.aiger_text.specs.Circuit.{Valuation, variable_value, literal_value}
 use Rattle.gate_build.specs.declared.gates.Operands.{Operands}
 use Rattle.gate_build.specs.Gates.{Built, and_of, ite_of, negated, opposite}
@@ -173,14 +174,6 @@ itself_twice : (b : Bool) → b ≡ (b && b)
 itself_twice true = refl
 itself_twice false = refl
 
-with_all : (b : Bool) → b ≡ (b && true)
-with_all true = refl
-with_all false = refl
-
-with_none : (b : Bool) → false ≡ (b && false)
-with_none true = refl
-with_none false = refl
-
 one_of_same : (b c : Bool) → c ≡ cond b c c
 one_of_same true c = refl
 one_of_same false c = refl
@@ -234,12 +227,12 @@ module _ (first : ℕ) (some : 0 < first) (gates : List Operands) (ordered : Are
   good_and_case : (x y : ℕ) (b : Built) → x < 2 * (first + length gates) → y < 2 * (first + length gates) → AndCase first gates x y b
       → IsGood first gates 1 (λ v. literal_value v x && literal_value v y) b
   good_and_case x y b hx hy (left_none e) = good_kept first gates 1 0 _ ordered (omega (arith, some)) (λ v. sym (ap (λ l. literal_value v l && literal_value v y) e))
-  good_and_case x y b hx hy (right_none e) = good_kept first gates 1 0 _ ordered (omega (arith, some)) (λ v. with_none (literal_value v x) ∙ sym (ap (λ l. literal_value v x && literal_value v l) e))
+  good_and_case x y b hx hy (right_none e) = good_kept first gates 1 0 _ ordered (omega (arith, some)) (λ v. sym (and_false (literal_value v x)) ∙ sym (ap (λ l. literal_value v x && literal_value v l) e))
   good_and_case x y b hx hy (opposed e) =
       good_kept first gates 1 0 _ ordered (omega (arith, some))
       (λ v. never_both (literal_value v y) ∙ sym (ap (λ t. t && literal_value v y) (ap (literal_value v) e ∙ literal_value-opposite v y)))
   good_and_case x y b hx hy (left_all e) = good_kept first gates 1 y _ ordered hy (λ v. sym (ap (λ l. literal_value v l && literal_value v y) e))
-  good_and_case x y b hx hy (right_all e) = good_kept first gates 1 x _ ordered hx (λ v. with_all (literal_value v x) ∙ sym (ap (λ l. literal_value v x && literal_value v l) e))
+  good_and_case x y b hx hy (right_all e) = good_kept first gates 1 x _ ordered hx (λ v. and_true (literal_value v x) ∙ sym (ap (λ l. literal_value v x && literal_value v l) e))
   good_and_case x y b hx hy (equal e) = good_kept first gates 1 x _ ordered hx (λ v. itself_twice (literal_value v x) ∙ ap (λ l. literal_value v x && literal_value v l) e)
   good_and_case x y b hx hy (made c gate) =
       good_same first gates 1 (λ v. literal_value v (max x y) && literal_value v (min x y)) (λ v. literal_value v x && literal_value v y) b (λ v. max_min v x y)

@@ -2,6 +2,7 @@
 use Rattle.std.proofs.Common.{◌≡◌, ℕ, ◌^◌, ◌<◌, ◌≤◌, Bool, false, List, [], length, get_or, refl, sym, ap, subst, ◌∙◌, arith}
 use Rattle.std.specs.Prelude.{map, Contains}
 use Rattle.std.proofs.lemmas.List.{ext_get_or, get_or-map, length-map}
+use Rattle.std_lemmas.proofs.Lists.{Contains-map}
 use Rattle.letters_and_lassos.specs.declared.kinds.Kind.{Kind}
 use Rattle.letters_and_lassos.specs.declared.kinds.Kind.TheVariants.{Mealy, Moore}
 use Rattle.letters_and_lassos.specs.declared.kinds.Side.TheVariants.{System}
@@ -21,10 +22,6 @@ use Rattle.gate_build.specs.Table.{circuit_of, latches_of}
 use Rattle.gate_build.proofs.Listing.{meets_some}
 use Rattle.gate_build.proofs.Positions.{codes_enough, output_is}
 use Rattle.gate_build.proofs.Runs.{chosen, circuit_run, code_bits, inside_at, latches_len, machine_run, outputs_len, shown_by, state_is, states, values, values_len}
-
--- a function of an element is in the list of its values
-image_in : {X Y : Type 0} (f : X → Y) (xs : List X) (x : X) → Contains xs x → Contains (map f xs) (f x)
-image_in f xs x there = (there.0, rw length-map there.1, get_or-map f xs there.0 x (f x) there.1 ∙ ap f there.2)
 
 -- a fact of Moore machines is all that is asked of a kind
 of_kind : (kind : Kind) (c : Circuit) → (kind ≡ Moore → IsMooreCircuit c) → IsCircuitOfKind kind c
@@ -133,7 +130,7 @@ module _ (m : MachineModel) (read_names write_names : List (List ℕ)) (reads : 
             subst (λ (t : ℕ). IsMet m t) (sym (at k d within ∙ own k within)) (of_list k [] within).1;
         all_there = λ state is_met.
             let there : Contains all.states (code_of m state) = all.all_there (code_of m state) (occurs (code_of m state) state is_met refl) in
-            subst (λ (t : ℕ). Contains (map binary_value all.states) t) (number_of_code state is_met) (image_in binary_value all.states (code_of m state) there);
+            subst (λ (t : ℕ). Contains (map binary_value all.states) t) (number_of_code state is_met) (Contains-map binary_value all.states (code_of m state) there);
       }
 
   -- and the other way round
@@ -154,7 +151,7 @@ module _ (m : MachineModel) (read_names write_names : List (List ℕ)) (reads : 
             subst (λ (bits : List Bool). Occurs c bits) (sym (at k d within)) (occurs (code_of m (get_or all.states k 0)) (get_or all.states k 0) (all.each_met k 0 within) refl);
         all_there = λ latches o.
             let found : (state : ℕ) × IsMet m state × (latches ≡ code_of m state) = met latches o in
-            subst (λ (bits : List Bool). Contains (map (code_of m) all.states) bits) (sym found.2) (image_in (code_of m) all.states found.0 (all.all_there found.0 found.1));
+            subst (λ (bits : List Bool). Contains (map (code_of m) all.states) bits) (sym found.2) (Contains-map (code_of m) all.states found.0 (all.all_there found.0 found.1));
       }
 
   pub has_the_states : HasTheStatesOf m c

@@ -1,5 +1,6 @@
 ghost use Rattle.std.specs.Prelude.{◌≡◌, ℕ, ◌+◌, ◌*◌, ◌^◌, ◌<◌, ◌≤◌, ◌++◌, Some, IfOk, OnOk, All, length, map};
 ghost use Rattle.std.specs.List.{range_with_len};
+ghost use Rattle.text_limits.specs.declared.TheConstants.{SMALL_LIMITS};
 ghost use Rattle.machine_model.specs.Machine.{IsMachine, size_of};
 ghost use Rattle.aiger_text.specs.Circuit.{IsCircuitOfKind};
 ghost use Rattle.gate_build.specs.Laws.{HasTheRunsOf, HasTheStatesOf};
@@ -169,7 +170,7 @@ fn all(
     count: u32,
     alloc: Global,
 ) -> Result<Vec<u32>, AllocError>
-    requires few { size_of machine.now ≤ 8 }
+    requires few { size_of machine.now ≤ SMALL_LIMITS.machine }
     requires first { first ≡ first_gate machine.now }
     requires low { first ≤ 12 }
     requires split { IsSplit machine.now split_on.now }

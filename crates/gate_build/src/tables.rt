@@ -1,4 +1,5 @@
 ghost use Rattle.std.specs.Prelude.{◌≡◌, ℕ, ◌+◌, ◌-◌, ◌*◌, ◌/◌, ◌^◌, ◌<◌, ◌≤◌, Bool, IfOk, OnOk, All, drop, length, if◌then◌else◌};
+ghost use Rattle.text_limits.specs.declared.TheConstants.{SMALL_LIMITS};
 ghost use Rattle.machine_model.specs.Machine.{MachineModel, size_of};
 ghost use Rattle.gate_build.specs.Gates.{split_of};
 ghost use Rattle.gate_build.specs.Table.{latches_for, latches_of, next_bit, written_bit};
@@ -47,7 +48,7 @@ fn codes_for(latches: u32) -> u32
 
 /// A bit of a machine's table at a number, which stands for a state's code and a read letter above it.
 fn bit_at(machine: &Machine, bit: Bit, number: u32) -> bool
-    requires few { size_of machine.now ≤ 8 }
+    requires few { size_of machine.now ≤ SMALL_LIMITS.machine }
     requires within { number < 2 ^ latches_of machine.now * 2 ^ machine.now.reads }
     ensures { result ≡ bit_of machine.now bit number }
 {
@@ -74,7 +75,7 @@ pub(crate) fn split(
     depth: u32,
     value: u32,
 ) -> Result<u32, AllocError>
-    requires few { size_of machine.now ≤ 8 }
+    requires few { size_of machine.now ≤ SMALL_LIMITS.machine }
     requires room { first + length gates.old.keys + 3 * 2 ^ (length literals.now - depth) ≤ 2 ^ 30 }
     requires literals { All (λ l. l < 2 ^ 31) literals.now }
     requires whole { 2 ^ length literals.now ≡ 2 ^ latches_of machine.now * 2 ^ machine.now.reads }

@@ -7,6 +7,7 @@ use Rattle.std.proofs.lemmas.Bool.Decides.{same_from_decides}
 use Rattle.std.proofs.lemmas.Grind.{same_number_lists}
 use Rattle.std.proofs.lemmas.List.{get_or_default}
 use Rattle.std.proofs.lemmas.List.Sums.{sum_by_more}
+use Rattle.text_limits.specs.declared.TheConstants.{LARGE_LIMITS}
 use Rattle.machine_model.specs.Automaton.{AutomatonModel, IsAutomaton, JoinsStates, rejects, states_of}
 use Rattle.machine_model.specs.Components.{AreComponentsOf, ComponentsModel, are_joined, is_reached, local_before, local_count, rejecting_below, turns}
 use Rattle.machine_model.specs.Named.{AreCounted, AreNamed, AreSums, AreTurning, IsLeastBelow, lead_both_ways}
@@ -129,7 +130,7 @@ before_none : (a : AutomatonModel) → local_before a 0 ≡ 0
 unfolding local_before
 before_none a = refl
 
-pub counts_small : (a : AutomatonModel) (counts : List ℕ) → AreCounted a counts → states_of a ≤ 20000 → (k d : ℕ) → k < length counts → get_or counts k d ≤ 20000
+pub counts_small : (a : AutomatonModel) (counts : List ℕ) → AreCounted a counts → states_of a ≤ LARGE_LIMITS.automaton.states → (k d : ℕ) → k < length counts → get_or counts k d ≤ LARGE_LIMITS.automaton.states
 counts_small a counts counted few k d h =
     let same : get_or counts k d ≡ get_or counts k 0 = get_or_default counts k d 0 h in
     let is : get_or counts k 0 ≡ local_count a k = counted.at k (omega (arith, counted.places)) in

@@ -1,6 +1,7 @@
 use Rattle.std.specs.Prelude.{◌≡◌, ◌≢◌, ℕ, ◌+◌, ◌*◌, ◌/◌, ◌%◌, ◌^◌, ◌<◌, ◌≤◌, ◌⊎◌, List, [], length, Any, slice_index_or}
 use Rattle.letters_and_lassos.specs.declared.kinds.Kind.{Kind}
 use Rattle.letters_and_lassos.specs.declared.kinds.Kind.TheVariants.{Moore}
+use Rattle.text_limits.specs.declared.TheConstants.{LARGE_LIMITS}
 use Rattle.machine_model.specs.declared.machines.Row.{Row}
 use Rattle.machine_model.specs.declared.machines.MachineFault.{MachineFault}
 use Rattle.machine_model.specs.declared.machines.MachineFault.TheVariants.{WrongShape, NextOut, WriteOut, NotMoore}
@@ -57,12 +58,11 @@ pub record IsMachine (m : MachineModel) : Type 0 where
   pub letters : WritesAreLetters m
   pub moore : m.kind ≡ Moore → WritesByState m
 
--- a machine that the program keeps: one of at most 16 read and 16 written signals and fewer than 2 ^ 32 rows
--- (limits of this project)
+-- a machine that the program keeps: one of so few signals, and of fewer than 2 ^ 32 rows (limits of this project)
 pub record IsKeptMachine (m : MachineModel) : Type 0 where
   pub machine : IsMachine m
-  pub reads : m.reads ≤ 16
-  pub writes : m.writes ≤ 16
+  pub reads : m.reads ≤ LARGE_LIMITS.signals
+  pub writes : m.writes ≤ LARGE_LIMITS.signals
   pub rows : length m.table < 2 ^ 32
 
 -- the table is empty, or ends within a state's rows

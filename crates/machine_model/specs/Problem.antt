@@ -3,6 +3,8 @@ use Rattle.std.specs.Arc.{arc_value}
 use Rattle.letters_and_lassos.specs.declared.kinds.Kind.{Kind}
 use Rattle.letters_and_lassos.specs.declared.kinds.Side.{Side}
 use Rattle.letters_and_lassos.specs.declared.kinds.Side.TheVariants.{System, Environment}
+use Rattle.text_limits.specs.declared.Limits.{Limits}
+use Rattle.text_limits.specs.declared.TheConstants.{SMALL_LIMITS}
 use Rattle.machine_model.specs.Machine.{MachineModel, size_of}
 use Rattle.machine_model.specs.Automaton.{AutomatonModel, states_of}
 use Rattle.machine_model.specs.Counting.{CountsIn, is_local, is_numbered}
@@ -60,15 +62,19 @@ pub record NamesSignals (n : ℕ) (e : Edge) : Type 0 where
   pub must : e.cube.must < 2 ^ n
   pub none_of : e.cube.not < 2 ^ n
 
--- a problem within the limits of every call that takes one (this project's own)
-pub record IsProblem (p : Problem) : Type 0 where
-  pub inputs : p.inputs ≤ 8
-  pub outputs : p.outputs ≤ 8
+-- a problem within limits
+pub record IsProblemIn (limits : Limits) (p : Problem) : Type 0 where
+  pub inputs : p.inputs ≤ limits.signals
+  pub outputs : p.outputs ≤ limits.signals
   pub some : 1 ≤ p.size
-  pub size : p.size ≤ 8
-  pub states : states_of (automaton_of p) ≤ 2000
+  pub size : p.size ≤ limits.machine
+  pub states : states_of (automaton_of p) ≤ limits.automaton.states
   pub signals : All (NamesSignals (p.inputs + p.outputs)) (automaton_of p).edges
   pub counting : CountsIn (automaton_of p) p.counting
+
+-- one within the limits of every call that takes a problem (this project's own)
+abbrev pub IsProblem : Problem → Type 0
+IsProblem p = IsProblemIn SMALL_LIMITS p
 
 -- a machine that the problem looks for: of its kind, its size and its signals
 pub record IsMachineOf (p : Problem) (m : MachineModel) : Type 0 where

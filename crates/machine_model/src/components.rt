@@ -1,4 +1,5 @@
 ghost use Rattle.std.specs.Prelude.{◌≡◌, ◌<◌, ◌≤◌, ◌&&◌, All, IfOk, length, slice_index_or};
+ghost use Rattle.text_limits.specs.declared.TheConstants.{LARGE_LIMITS};
 ghost use Rattle.machine_model.specs.Automaton.{rejects, states_of};
 ghost use Rattle.machine_model.specs.Components.{AreComponentsOf, are_joined, local_count, rejecting_below};
 ghost use Rattle.machine_model.specs.Named.{AreCounted, AreNamed, AreSums, AreTurning};
@@ -39,11 +40,11 @@ impl Model for Components {
 impl Components {
     ghost use Rattle.machine_model.specs.Components.{have_one_name};
 
-    /// The components of an automaton of at most 20,000 states.
+    /// The components of an automaton of at most as many states as the larger limits allow.
     ///
     /// Takes as long as it takes to name them, and for each state as many steps as there are states.
     pub fn of(alloc: Global, automaton: &Automaton) -> Result<Components, AllocError>
-        requires { states_of automaton.now ≤ 20000 }
+        requires { states_of automaton.now ≤ LARGE_LIMITS.automaton.states }
         ensures { IfOk result (AreComponentsOf automaton.now) }
     {
         let names = names(alloc, automaton)?;
@@ -168,8 +169,8 @@ fn rejects_beside(automaton: &Automaton, names: &[u32], q: u32, r: u32) -> bool
 
 /// For each number of counts, from 0 on, the sum of so many.
 fn sums(alloc: Global, counts: &[u32]) -> Result<Vec<u32>, AllocError>
-    requires few { length counts.now ≤ 20000 }
-    requires small { All (λ count. count ≤ 20000) counts.now }
+    requires few { length counts.now ≤ LARGE_LIMITS.automaton.states }
+    requires small { All (λ count. count ≤ LARGE_LIMITS.automaton.states) counts.now }
     ensures { IfOk result (λ sums. AreSums counts.now sums.items) }
 {
     let mut sums = Vec::new(alloc);

@@ -1,4 +1,5 @@
 ghost use Rattle.std.specs.Prelude.{◌≡◌, ◌≤◌, IfOk};
+ghost use Rattle.text_limits.specs.declared.TheConstants.{LARGE_LIMITS};
 ghost use Rattle.machine_model.specs.Automaton.{states_of};
 ghost use Rattle.machine_model.specs.Counting.{IsCountedAs, is_local, is_numbered};
 
@@ -16,9 +17,9 @@ pub enum Counts {
 }
 
 impl Counts {
-    /// How numbers count so in an automaton of at most 20,000 states. The states of machines are numbered.
+    /// How numbers count so in an automaton of at most as many states as the larger limits allow. The states of machines are numbered.
     pub fn over(self, alloc: Global, automaton: &Automaton) -> Result<Counting, AllocError>
-        requires { states_of automaton.now ≤ 20000 }
+        requires { states_of automaton.now ≤ LARGE_LIMITS.automaton.states }
         ensures { IfOk result (IsCountedAs self automaton.now) }
     {
         match self {

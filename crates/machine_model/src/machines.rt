@@ -1,5 +1,6 @@
 ghost use Rattle.std.specs.Prelude.{◌≡◌, ◌≢◌, ◌↔◌, ℕ, ◌*◌, ◌/◌, ◌^◌, ◌<◌, ◌≤◌, All, Any, Err, IfOk, IfSome, IfNone, length, vec_len};
 ghost use Rattle.std.specs.Bool.{OnTrue, OnFalse};
+ghost use Rattle.text_limits.specs.declared.TheConstants.{LARGE_LIMITS};
 ghost use Rattle.machine_model.specs.Machine.{MachineModel, IsMachine, IsRefused, writes_in};
 ghost use Rattle.machine_model.specs.declared.machines.MachineFault.{MachineFault};
 
@@ -69,8 +70,8 @@ impl Machine {
         writes: u32,
         table: Vec<Row>,
     ) -> Result<Machine, MachineFault>
-        requires reads { reads ≤ 16 }
-        requires writes { writes ≤ 16 }
+        requires reads { reads ≤ LARGE_LIMITS.signals }
+        requires writes { writes ≤ LARGE_LIMITS.signals }
         requires rows { vec_len table < 2 ^ 32 }
         ensures parts { IfOk result (λ m. m ≡ record { kind = kind; reads = reads; writes = writes; table = table.items }) }
         ensures made { IfOk result IsKeptMachine }
@@ -153,7 +154,7 @@ impl Machine {
 
 /// The number of letters of some signals.
 pub(crate) fn letter_count(signals: u32) -> u32
-    requires { signals ≤ 16 }
+    requires { signals ≤ LARGE_LIMITS.signals }
     ensures value { result ≡ 2 ^ signals }
     ensures some { 0 < result }
 {
@@ -162,8 +163,8 @@ pub(crate) fn letter_count(signals: u32) -> u32
 
 /// The first fault of a table.
 fn table_fault(kind: Kind, reads: u32, writes: u32, table: &[Row]) -> Option<MachineFault>
-    requires reads { reads ≤ 16 }
-    requires writes { writes ≤ 16 }
+    requires reads { reads ≤ LARGE_LIMITS.signals }
+    requires writes { writes ≤ LARGE_LIMITS.signals }
     requires rows { length table.now < 2 ^ 32 }
     ensures none { IfNone result (IsMachine (record { kind = kind; reads = reads; writes = writes; table = table.now })) }
     ensures some { IfSome result (IsRefused (record { kind = kind; reads = reads; writes = writes; table = table.now })) }

@@ -1,21 +1,23 @@
 ghost use Rattle.std.specs.Prelude.{◌≡◌, ◌==◌, ◌+◌, ◌<◌, ◌≤◌, ◌&&◌, IfOk, OnOk, length, slice_index_or, if◌then◌else◌};
+ghost use Rattle.text_limits.specs.declared.TheConstants.{LARGE_LIMITS, SMALL_LIMITS};
 ghost use Rattle.machine_model.specs.Automaton.{states_of};
 ghost use Rattle.machine_model.specs.Marked.{is_marked};
 ghost use Rattle.machine_model.specs.Named.{AreNamed, AreNamesBelow, IsLeastBelow, IsOneMore, lead_both_ways};
 
 use crate::automata::Automaton;
 use crate::marks::{Way, led_to};
-use crate::reached::{MOST_STATES, StateSet, reached_from};
+use crate::reached::{StateSet, reached_from};
 use std::alloc::{AllocError, Global};
+use text_limits::SMALL_LIMITS;
 
 /// A name of each state's component: the least of its states.
 ///
 /// Of few states sets are kept, which is faster where there are many components.
 pub(crate) fn names(alloc: Global, automaton: &Automaton) -> Result<Vec<u32>, AllocError>
-    requires { states_of automaton.now ≤ 20000 }
+    requires { states_of automaton.now ≤ LARGE_LIMITS.automaton.states }
     ensures { IfOk result (λ names. AreNamed automaton.now names.items) }
 {
-    if automaton.states() <= MOST_STATES {
+    if automaton.states() <= SMALL_LIMITS.automaton.states {
         names_by_sets(alloc, automaton)
     } else {
         names_by_marks(alloc, automaton)
@@ -24,7 +26,7 @@ pub(crate) fn names(alloc: Global, automaton: &Automaton) -> Result<Vec<u32>, Al
 
 /// The names, by the set of the states that each leads to.
 fn names_by_sets(alloc: Global, automaton: &Automaton) -> Result<Vec<u32>, AllocError>
-    requires { states_of automaton.now ≤ 2000 }
+    requires { states_of automaton.now ≤ SMALL_LIMITS.automaton.states }
     ensures { IfOk result (λ names. AreNamed automaton.now names.items) }
 {
     let sets = reached_from(alloc, automaton)?;
@@ -37,7 +39,7 @@ fn names_by_sets(alloc: Global, automaton: &Automaton) -> Result<Vec<u32>, Alloc
 
 /// The least state that leads to state `q` and is led to by it, or `q` itself.
 fn least_joined(sets: &[StateSet], q: u32) -> u32
-    requires few { length sets.now ≤ 2000 }
+    requires few { length sets.now ≤ SMALL_LIMITS.automaton.states }
     requires place { q < length sets.now }
     ensures { IsLeastBelow (lead_both_ways sets.now q) q result }
 {
@@ -50,7 +52,7 @@ fn least_joined(sets: &[StateSet], q: u32) -> u32
 }
 
 fn lead_both_ways(sets: &[StateSet], q: u32, r: u32) -> bool
-    requires few { length sets.now ≤ 2000 }
+    requires few { length sets.now ≤ SMALL_LIMITS.automaton.states }
     requires first { q < length sets.now }
     requires second { r < length sets.now }
     ensures { result ≡ lead_both_ways sets.now q r }
@@ -62,7 +64,7 @@ fn lead_both_ways(sets: &[StateSet], q: u32, r: u32) -> bool
 ///
 /// Takes for each component a pass over the edges at least, mostly four.
 fn names_by_marks(alloc: Global, automaton: &Automaton) -> Result<Vec<u32>, AllocError>
-    requires { states_of automaton.now ≤ 20000 }
+    requires { states_of automaton.now ≤ LARGE_LIMITS.automaton.states }
     ensures { IfOk result (λ names. AreNamed automaton.now names.items) }
 {
     let states = automaton.states();

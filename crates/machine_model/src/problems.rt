@@ -8,19 +8,20 @@ use std::alloc::{AllocError, Global};
 use std::sync::Arc;
 
 /// The search for a machine of one side and size, which that side's automaton accepts.
+/// Calls say within which limits they take one.
 #[derive(Debug, Drop)]
 pub struct Problem {
     /// What the side accepts. Its cubes name only signals below `inputs + outputs`.
     pub automaton: Arc<Automaton>,
-    /// The number of inputs, at most 8.
+    /// The number of inputs.
     pub inputs: u32,
-    /// The number of outputs, at most 8.
+    /// The number of outputs.
     pub outputs: u32,
     /// Whose machine is looked for. The system reads inputs and writes outputs, the environment the other way round.
     pub side: Side,
     /// The kind of this side's machines.
     pub kind: Kind,
-    /// The number of the machine's states, from 1 to 8.
+    /// The number of the machine's states, at least 1.
     pub size: u32,
     /// What the numbers of annotations count in the automaton, and whether the machine's states are numbered.
     pub counting: Counting,

@@ -1,12 +1,10 @@
 ghost use Rattle.std.specs.Prelude.{◌≡◌, ◌+◌, ◌<◌, ◌≤◌, IfOk, length, vec_len};
+ghost use Rattle.text_limits.specs.declared.TheConstants.{SMALL_LIMITS};
 ghost use Rattle.machine_model.specs.Automaton.{states_of};
 ghost use Rattle.machine_model.specs.Reached.{AreAlone, ArePassedOn, AreReached, HasAlso, HasEdges, HasOnly, IsPassed, is_in};
 
 use crate::automata::Automaton;
 use std::alloc::{AllocError, Global};
-
-/// Of how many states sets are kept at most.
-pub(crate) const MOST_STATES: u32 = 2_000;
 
 const WORDS: usize = 32;
 
@@ -57,14 +55,14 @@ impl StateSet {
     }
 }
 
-/// For each state of an automaton of at most 2,000 states the set of those that a path leads to.
+/// For each state of an automaton of at most as many states as the smaller limits allow the set of those that a path leads to.
 ///
 /// What leads from one state to the next is closed one middle state after the other.
 pub(crate) fn reached_from(
     alloc: Global,
     automaton: &Automaton,
 ) -> Result<Vec<StateSet>, AllocError>
-    requires { states_of automaton.now ≤ 2000 }
+    requires { states_of automaton.now ≤ SMALL_LIMITS.automaton.states }
     ensures { IfOk result (λ sets. AreReached automaton.now sets.items) }
 {
     let mut sets = alone(alloc, automaton.states())?;
@@ -77,7 +75,7 @@ pub(crate) fn reached_from(
 
 /// The first `states` states, each alone in its set.
 fn alone(alloc: Global, states: u32) -> Result<Vec<StateSet>, AllocError>
-    requires { states ≤ 2000 }
+    requires { states ≤ SMALL_LIMITS.automaton.states }
     ensures { IfOk result (λ sets. AreAlone states sets.items) }
 {
     let mut sets = Vec::new(alloc);
@@ -89,7 +87,7 @@ fn alone(alloc: Global, states: u32) -> Result<Vec<StateSet>, AllocError>
 
 /// Adds to the set of each state those that an edge leads to.
 fn add_edges(sets: &mut [StateSet], automaton: &Automaton)
-    requires few { states_of automaton.now ≤ 2000 }
+    requires few { states_of automaton.now ≤ SMALL_LIMITS.automaton.states }
     requires alone { AreAlone (states_of automaton.now) sets.old }
     ensures { HasEdges automaton.now sets.new }
 {

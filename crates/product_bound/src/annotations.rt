@@ -1,4 +1,5 @@
 ghost use Rattle.std.specs.Prelude.{◌≡◌, ◌↔◌, ◌^◌, ◌<◌, ◌≤◌, IsTrue, length};
+ghost use Rattle.text_limits.specs.declared.TheConstants.{SMALL_LIMITS};
 ghost use Rattle.machine_model.specs.Accepts.{SideAccepts};
 ghost use Rattle.machine_model.specs.Automaton.{states_of};
 ghost use Rattle.machine_model.specs.Problem.{IsMachineOf, IsProblem, automaton_of};
@@ -44,7 +45,7 @@ pub fn rejecting_at(problem: &Problem, q: u32) -> u32
     requires problem { IsProblem problem.now }
     requires state { q < states_of (automaton_of problem.now) }
     ensures value { result ≡ rejecting_at problem.now q }
-    ensures few { result ≤ 2000 }
+    ensures few { result ≤ SMALL_LIMITS.automaton.states }
 {
     components_are_classes();
     let _states = problem.automaton.states();

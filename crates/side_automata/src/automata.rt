@@ -1,4 +1,5 @@
 ghost use Rattle.std.specs.Prelude.{◌≡◌, ◌≤◌, Err, IfOk, IfSome, OnOk, None, false, true};
+ghost use Rattle.text_limits.specs.declared.TheConstants.{SMALL_LIMITS};
 ghost use Rattle.ltl_formula.specs.NormalForm.{IsNormal};
 ghost use Rattle.ltl_formula.specs.ListSignals.{KeepsSignals};
 ghost use Rattle.ltl_formula.specs.Nodes.{Grows, IsNodeList, IsNodeIn, tree_at};
@@ -110,7 +111,7 @@ fn build_within(
     ensures within { IfOk result (IsWithinLimits formulas.now f) }
     ensures accepts { IfOk result (λ a. IfSome a (AcceptsExactly formulas.now f)) }
     ensures signals { IfOk result (λ a. IfSome a (NamesSignalsOf formulas.now)) }
-    ensures small { IfOk result (λ a. IfSome a (λ automaton. states_of automaton ≤ 2000)) }
+    ensures small { IfOk result (λ a. IfSome a (λ automaton. states_of automaton ≤ SMALL_LIMITS.automaton.states)) }
     ensures too_large { result ≡ Err BuildFault.TooLarge → ⊥ }
     ensures nodes { result ≡ Err BuildFault.TooManyNodes → ⊥ }
 {

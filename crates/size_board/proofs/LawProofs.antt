@@ -1,4 +1,5 @@
 use Rattle.std.proofs.Common.{◌≡◌, ℕ, ◌+◌, ◌<◌, ◌≤◌, Option, Some, None, refl, sym, ap, subst, arith}
+use Rattle.text_limits.specs.declared.TheConstants.{SMALL_LIMITS}
 use Rattle.letters_and_lassos.specs.declared.kinds.Side.{Side}
 use Rattle.machine_model.specs.Machine.{MachineModel, size_of}
 use Rattle.size_board.specs.Names.{Named, IsSearchable, SideHas, sizes_of, sought_by, sought_of}
@@ -28,7 +29,7 @@ sought_of_problem p m = (
   λ is. record { machine = is.0; kind = is.1.kind; size = is.1.size; reads = is.1.reads; writes = is.1.writes; accepted = is.2 },
 )
 
-pub sized_problem : (p : Problem) (n : ℕ) → IsSearchable (sought_of p) → 0 < n → n ≤ 8 → IsProblem (sized p n)
+pub sized_problem : (p : Problem) (n : ℕ) → IsSearchable (sought_of p) → 0 < n → n ≤ SMALL_LIMITS.machine → IsProblem (sized p n)
 sized_problem p n s some few = record {
   inputs = s.inputs;
   outputs = s.outputs;
@@ -39,7 +40,7 @@ sized_problem p n s some few = record {
   counting = s.counting;
 }
 
-searchable : (p : Problem) → IsProblem p → IsSearchable (sought_of p)
+pub searchable : (p : Problem) → IsProblem p → IsSearchable (sought_of p)
 searchable p is = record {
   inputs = is.inputs;
   outputs = is.outputs;

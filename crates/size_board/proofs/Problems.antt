@@ -2,6 +2,7 @@
 use Rattle.std.proofs.Common.{◌≡◌, ℕ, ◌<◌, ◌≤◌, Option, Some, None, IfSome, IfNone, sym, ap, ◌∙◌}
 use Rattle.std.specs.Borrow.{Bor}
 use Rattle.std.specs.Option.{option_copied, option_map}
+use Rattle.text_limits.specs.declared.TheConstants.{SMALL_LIMITS}
 use Rattle.letters_and_lassos.specs.declared.kinds.Side.{Side}
 use Rattle.letters_and_lassos.specs.declared.kinds.Side.TheVariants.{System, Environment}
 use Rattle.machine_model.specs.declared.problems.Problem.{Problem}
@@ -24,7 +25,7 @@ module _ (names : Named) (system : Problem) (environment : Option Problem) (syst
       }
 
 -- a side's problem with an allowed number of states
-pub problem_at : (names : Named) (side : Side) (n : ℕ) (p q : Problem) → IsProblemOn names side p → 0 < n → n ≤ 8 → parts_of q ≡ parts_of (sized p n) → IsProblemAt names side n q
+pub problem_at : (names : Named) (side : Side) (n : ℕ) (p q : Problem) → IsProblemOn names side p → 0 < n → n ≤ SMALL_LIMITS.machine → parts_of q ≡ parts_of (sized p n) → IsProblemAt names side n q
 problem_at names side n p q on some few parts = record {
   sought = on.sought ∙ λ i. let x = sym parts i in
       Some (record { automaton = x.automaton; inputs = x.inputs; outputs = x.outputs; side = x.side; kind = x.kind; counting = x.counting });

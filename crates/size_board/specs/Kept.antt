@@ -1,4 +1,5 @@
 use Rattle.std.specs.Prelude.{◌≡◌, ℕ, ◌+◌, ◌<◌, ◌≤◌, ◌&&◌, nat_lt, IsTrue, Option, Some, None, List, length, slice_index_or, if◌then◌else◌}
+use Rattle.text_limits.specs.declared.TheConstants.{SMALL_LIMITS}
 use Rattle.machine_model.specs.Machine.{MachineModel}
 use Rattle.size_board.specs.declared.events.Claim.{Claim}
 use Rattle.size_board.specs.declared.events.Event.TheVariants.{Claimed, Left, Found, Refuted, Full}
@@ -11,10 +12,10 @@ use Rattle.size_board.specs.Names.{Named, AreNamed, SideHas, sizes_of, sought_by
 use Rattle.size_board.specs.States.{fresh, replay}
 use Rattle.size_board.specs.Board.{BoardModel, IsSoundBoard, is_open, state_of}
 
--- the states of a side's first 8 sizes, that of size 1 first
+-- the states of a side's sizes, as many as machines have states at most, that of size 1 first
 pub record AreStates (journal : List Event) (side : Side) (states : List SizeState) : Type 0 where
-  pub places : length states ≡ 8
-  pub each : (k : ℕ) → k < 8 → slice_index_or states k fresh ≡ replay journal side (k + 1)
+  pub places : length states ≡ SMALL_LIMITS.machine
+  pub each : (k : ℕ) → k < SMALL_LIMITS.machine → slice_index_or states k fresh ≡ replay journal side (k + 1)
 
 -- what a board's fields keep
 pub record AreKept (names : Named) (b : BoardModel) (system_states environment_states : List SizeState) (system : Problem) (environment : Option Problem) (system_sizes environment_sizes : ℕ) : Type 0 where

@@ -1,4 +1,5 @@
 use Rattle.std.specs.Prelude.{◌≡◌, ℕ, ◌<◌, ◌≤◌, ◌↔◌, Some}
+use Rattle.text_limits.specs.declared.TheConstants.{SMALL_LIMITS}
 use Rattle.letters_and_lassos.specs.declared.kinds.Side.{Side}
 use Rattle.machine_model.specs.Machine.{MachineModel, IsMachine, size_of}
 use Rattle.machine_model.specs.Accepts.{SideAccepts}
@@ -33,5 +34,5 @@ SoughtOfProblem =
 -- its size are, and two that look for the same and have the same size say the same
 pub record SoughtIsProblem : Type 0 where
   pub searchable : (p : Problem) → IsProblem p → IsSearchable (sought_of p)
-  pub problem : (p : Problem) (n : ℕ) → IsSearchable (sought_of p) → 0 < n → n ≤ 8 → IsProblem (sized p n)
+  pub problem : (p : Problem) (n : ℕ) → IsSearchable (sought_of p) → 0 < n → n ≤ SMALL_LIMITS.machine → IsProblem (sized p n)
   pub parts : (p q : Problem) → sought_of p ≡ sought_of q → p.size ≡ q.size → parts_of p ≡ parts_of q

@@ -1,5 +1,6 @@
 use Rattle.std.specs.Prelude.{◌≡◌, ℕ, ◌+◌, ◌<◌, ◌≤◌, All, Option, Some, None, [], false}
 use Rattle.std.specs.Option.{option_map}
+use Rattle.text_limits.specs.declared.TheConstants.{SMALL_LIMITS}
 use Rattle.letters_and_lassos.specs.declared.kinds.Kind.{Kind}
 use Rattle.letters_and_lassos.specs.declared.kinds.Kind.TheVariants.{Mealy}
 use Rattle.letters_and_lassos.specs.declared.kinds.Side.{Side}
@@ -43,9 +44,9 @@ writes_of s = elim s.side [ System ↦ s.outputs | Environment ↦ s.inputs ]
 
 -- what is sought is within the limits of a problem, whose size apart
 pub record IsSearchable (s : Sought) : Type 0 where
-  pub inputs : s.inputs ≤ 8
-  pub outputs : s.outputs ≤ 8
-  pub states : states_of s.automaton ≤ 2000
+  pub inputs : s.inputs ≤ SMALL_LIMITS.signals
+  pub outputs : s.outputs ≤ SMALL_LIMITS.signals
+  pub states : states_of s.automaton ≤ SMALL_LIMITS.automaton.states
   pub signals : All (NamesSignals (s.inputs + s.outputs)) s.automaton.edges
   pub counting : CountsIn s.automaton s.counting
 
@@ -74,15 +75,15 @@ pub record AreSearchable (names : Named) : Type 0 where
   pub environment : (s : Sought) → names.environment ≡ Some s → IsSearchable s
   pub of_environment : (s : Sought) → names.environment ≡ Some s → s.side ≡ Environment
 
--- what a board is made of: what the two problems look for, each within the limits and of its side, at most 8 allowed
--- sizes, and none for an absent problem
+-- what a board is made of: what the two problems look for, each within the limits and of its side, at most as many allowed
+-- sizes as machines have states, and none for an absent problem
 pub record AreNamed (names : Named) (system : Problem) (environment : Option Problem) (system_sizes environment_sizes : ℕ) : Type 0 where
   pub of_system : names.system ≡ sought_of system
   pub of_environment : names.environment ≡ option_map sought_of environment
   pub system_number : names.system_sizes ≡ system_sizes
   pub environment_number : names.environment_sizes ≡ environment_sizes
-  pub few : system_sizes ≤ 8
-  pub few_of_environment : environment_sizes ≤ 8
+  pub few : system_sizes ≤ SMALL_LIMITS.machine
+  pub few_of_environment : environment_sizes ≤ SMALL_LIMITS.machine
   pub none_without_problem : environment ≡ None → environment_sizes ≡ 0
   pub searchable : AreSearchable names
 
@@ -100,12 +101,12 @@ abbrev pub SideHas : Option Sought → ℕ → MachineModel → Type 0
 SideHas None n m = ⊥
 SideHas (Some sought) n m = IsSoughtMachine sought n m
 
--- a side's problem on a board: of that side, it looks for what is named, and with any number of states from 1 to 8 it is
+-- a side's problem on a board: of that side, it looks for what is named, and with any number of states within the limits it is
 -- a problem
 pub record IsProblemOn (names : Named) (side : Side) (p : Problem) : Type 0 where
   pub sought : sought_by names side ≡ Some (sought_of p)
   pub side_is : p.side ≡ side
-  pub problem : (n : ℕ) → 0 < n → n ≤ 8 → IsProblem (sized p n)
+  pub problem : (n : ℕ) → 0 < n → n ≤ SMALL_LIMITS.machine → IsProblem (sized p n)
 
 -- a size's problem: its side's, with so many states
 pub record IsProblemAt (names : Named) (side : Side) (size : ℕ) (p : Problem) : Type 0 where

@@ -1,6 +1,7 @@
 ghost use Rattle.std.specs.Prelude.{◌≡◌, ◌≢◌, ◌↔◌, ℕ, ◌+◌, ◌-◌, ◌^◌, ◌<◌, ◌≤◌, [], ◌∷◌, ◌++◌, None, OnOk, OnErr, IfOk, IfSome, IfNone, IsTrue, false, length, slice_index_or};
 ghost use Rattle.std.specs.Option.{option_map, option_copied, ForSome};
 ghost use Rattle.letters_and_lassos.specs.declared.kinds.Side.TheVariants.{System, Environment};
+ghost use Rattle.text_limits.specs.declared.TheConstants.{SMALL_LIMITS};
 ghost use Rattle.machine_model.specs.Machine.{size_of};
 ghost use Rattle.size_board.specs.States.{after_event, fresh, event_claim, replay};
 ghost use Rattle.size_board.specs.Kept.{AreStates};
@@ -12,9 +13,10 @@ use letters_and_lassos::Side;
 use machine_model::{Machine, Problem};
 use std::alloc::{AllocError, Global};
 use std::marker::{Model, PhantomData};
+use text_limits::SMALL_LIMITS;
 
 /// A side has at most this many allowed sizes.
-const MOST_SIZES: usize = 8;
+const MOST_SIZES: usize = SMALL_LIMITS.machine as usize;
 
 /// The board of the sizes of both sides, each allowed from 1 up to its side's number of them.
 #[derive(Drop)]
@@ -24,7 +26,7 @@ pub struct Board<P: ProblemNames> {
     system_sizes: u32,
     environment_sizes: u32,
     journal: Vec<Event>,
-    /// What the journal tells of sizes 1 to 8.
+    /// What the journal tells of the sizes from 1 on.
     system_states: [SizeState; MOST_SIZES],
     environment_states: [SizeState; MOST_SIZES],
     /// The smallest machines that were found.
@@ -77,12 +79,12 @@ impl<P: ProblemNames> Board<P> {
         })
     }
 
-    /// The problem of a side, whose size isn't used: with any number of states from 1 to 8 it is a problem.
+    /// The problem of a side, whose size isn't used: with any number of states within the limits it is a problem.
     pub fn problem(&self, side: Side) -> Option<&Problem>
         ensures value { option_map sought_of (option_copied result) ≡ sought_by P.named side }
         ensures problem { IfSome result (λ p. IsProblemOn P.named side p.now) }
         ensures none { IfNone result (sizes_of P.named side ≡ 0) }
-        ensures few { sizes_of P.named side ≤ 8 }
+        ensures few { sizes_of P.named side ≤ SMALL_LIMITS.machine }
         ensures sound { IsSoundBoard P.named self.now }
     {
         match side {
@@ -108,7 +110,7 @@ impl<P: ProblemNames> Board<P> {
     /// The number of allowed sizes of a side.
     pub fn sizes(&self, side: Side) -> u32
         ensures value { result ≡ sizes_of P.named side }
-        ensures few { result ≤ 8 }
+        ensures few { result ≤ SMALL_LIMITS.machine }
         ensures sound { IsSoundBoard P.named self.now }
     {
         match side {
@@ -135,11 +137,11 @@ impl<P: ProblemNames> Board<P> {
         self.states(side)[size as usize - 1]
     }
 
-    /// The states of a side's first 8 sizes.
+    /// The states of a side's sizes, that of size 1 first.
     fn states(&self, side: Side) -> &[SizeState]
         ensures states { AreStates self.now.journal side result.now }
-        ensures refuted_allowed { (n : ℕ) → IsTrue (state_of self.now side n).is_refuted → n ≤ 8 }
-        ensures few { sizes_of P.named side ≤ 8 }
+        ensures refuted_allowed { (n : ℕ) → IsTrue (state_of self.now side n).is_refuted → n ≤ SMALL_LIMITS.machine }
+        ensures few { sizes_of P.named side ≤ SMALL_LIMITS.machine }
         ensures sound { IsSoundBoard P.named self.now }
     {
         match side {

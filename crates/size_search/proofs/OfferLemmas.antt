@@ -10,7 +10,6 @@ use borrow.Author.Tests.{ltb-true, ltb-false}
 use Rattle.propositional_logic.specs.Literal.{Literal}
 use Rattle.propositional_logic.specs.Clause.{clause_eq, IsClause}
 use Rattle.propositional_logic.specs.Equality.{Decides-clause_eq}
-use Rattle.propositional_logic.proofs.Members.{Contains-head, Contains-later, Contains-cases}
 use Rattle.refutation_log.specs.declared.entries.Entry.{Entry}
 use Rattle.refutation_log.specs.declared.turns.Turn.TheVariants.{Append}
 use Rattle.refutation_log.specs.declared.turns.Reply.{Reply}

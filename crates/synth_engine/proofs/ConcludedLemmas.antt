@@ -5,6 +5,7 @@ use Rattle.std.proofs.lemmas.List.{length-map, map-append}
 use Rattle.std.proofs.lemmas.List.Elements.{All-append, All-cons, All-nil}
 use Rattle.std.proofs.Math.ListN.{get_or-map}
 use Rattle.std.proofs.lemmas.Option.{same_Some, none-some}
+use Rattle.std.proofs.lemmas.Bool.{true_from_ne_false}
 use Rattle.letters_and_lassos.specs.declared.kinds.Side.{Side}
 use Rattle.letters_and_lassos.specs.declared.kinds.Side.TheVariants.{System, Environment}
 use Rattle.machine_model.specs.Machine.{MachineModel, size_of}
@@ -58,10 +59,6 @@ closed_here p settings l settled ended = record { legal = settled.log.legal; ref
 pub full_here : (p : Problem) (settings : Settings) (l : SizeLog) → IsSettled p settings l → is_ended l.log.entries ≡ false → IsFullLog p settings l
 full_here p settings l settled open_log =
     elim settled.ended [ inl closed ↦ absurd (true_false (is_ended l.log.entries) closed.refutes open_log) | inr full ↦ full ]
-
-true_unless : (b : Bool) → (b ≡ false → ⊥) → b ≡ true
-true_unless true never = refl
-true_unless false never = absurd (never refl)
 
 -- THE SIZES OF LOGS
 
@@ -120,7 +117,7 @@ with_machine s e settings found logs h = record {
       let range : IsInRange p.side (size_of found.machine - 1) (log_claim l) = in_range p.side (size_of found.machine - 1) logs.items one.2.smaller.places k d small in
       let most : size_of found.machine ≤ allowed_sizes p settings.max = one.2.found.allowed in
       let low : l.size ≤ size_of found.machine - 1 = range.most in
-      true_unless (is_ended l.log.entries)
+      true_from_ne_false (is_ended l.log.entries)
       (λ open_log. cannot_be_full s e settings found.side p l cannot one.1 settled.log (full_here p settings l settled open_log) range.some (omega arith));
 }
 
@@ -161,7 +158,7 @@ module _ (s : Problem) (e : Option Problem) (settings : Settings) where
         let one = pick s e (λ (p : Problem). IsSettled p settings l) l.side (all.each k d small) in
         let at : AtSide (log_claim l) = of_place AtSide logs.items (at_places AtSide logs.items _ all.places all_allowed) k d small in
         let range = at_side s e (IsAllowedSize settings l.size) l.side one.0 one.1 at in
-        true_unless (is_ended l.log.entries)
+        true_from_ne_false (is_ended l.log.entries)
         (λ open_log. cannot_be_full s e settings l.side one.0 l cannot one.1 one.2.log (full_here one.0 settings l one.2 open_log) range.0 range.1);
   }
 

@@ -6,6 +6,8 @@ use Rattle.std.proofs.lemmas.Bool.{cases_lt}
 use Rattle.std.proofs.lemmas.List.{ext_get_or, get_or_append_left, get_or_push, length-map, same_from_push}
 use Rattle.std.proofs.lemmas.List.Elements.{All-append, All-cons, All-nil}
 use Rattle.std.proofs.lemmas.Option.{get_or_from_slice_get, slice_get-get_or}
+use Rattle.std.proofs.lemmas.Slice.Zip.{all_zipped_more}
+use Rattle.text_limits.specs.declared.TheConstants.{SMALL_LIMITS}
 use Rattle.machine_model.specs.Problem.{IsProblem, parts_of, sized}
 use Rattle.machine_model.proofs.PartsLemmas.{alike}
 use Rattle.machine_model.specs.declared.problems.Problem.{Problem}
@@ -134,15 +136,9 @@ environment_crews sizes top crews are =
 
 -- PROBLEMS OF ALL SIZES, OPENED
 
-zip_push : {A B : Type 0} (R : A → B → Type 0) (xs : List A) (ys : List B) (x : A) (y : B) → AllZip R xs ys → R x y → AllZip R (xs ++ x ∷ []) (ys ++ y ∷ [])
-zip_push R [] [] x y all one = (one, tt)
-zip_push R [] (b ∷ bs) x y all one = absurd all
-zip_push R (a ∷ as') [] x y all one = absurd all
-zip_push R (a ∷ as') (b ∷ bs) x y all one = (all.0, zip_push R as' bs x y all.1 one)
-
 pub opened_push : (settings : Settings) (ps : List Problem) (os later : List Opened) (p : Problem) (o : Opened) → AllZip (IsOpenedFor settings) ps os → later ≡ os ++ o ∷ [] → IsOpenedFor settings p o
     → AllZip (IsOpenedFor settings) (ps ++ p ∷ []) later
-opened_push settings ps os later p o all is one = rw is (zip_push (IsOpenedFor settings) ps os p o all one)
+opened_push settings ps os later p o all is one = rw is (all_zipped_more (IsOpenedFor settings) ps os p o all one)
 
 zip_length : {A B : Type 0} (R : A → B → Type 0) (xs : List A) (ys : List B) → AllZip R xs ys → length ys ≡ length xs
 zip_length R [] [] all = refl
@@ -171,7 +167,7 @@ opened_at_once settings ps rs (Ok all) n each is = zip_results settings ps all.i
 opened_at_once settings ps rs (Err e) n each is = tt
 
 -- each size's problem is within the limits
-pub problems_are : (p : Problem) (count : ℕ) (ps : List Problem) → IsProblem p → count ≤ 8 → AreProblemsDown p count ps → All IsProblem ps
+pub problems_are : (p : Problem) (count : ℕ) (ps : List Problem) → IsProblem p → count ≤ SMALL_LIMITS.machine → AreProblemsDown p count ps → All IsProblem ps
 problems_are p count ps problem few down k d h =
     let q : Problem = get_or ps k d in
     let all : length ps ≡ count = down.all in

@@ -4,15 +4,16 @@ use Rattle.std.specs.Prelude.{Option, Some, None, IfSome, slice_get}
 use Rattle.std.specs.Option.{ForSome, option_map}
 use Rattle.std.proofs.lemmas.List.{get_or_append_left, length-map}
 use Rattle.std.proofs.lemmas.Option.{slice_get-get_or, same_Some, none-some}
+use Rattle.text_limits.specs.declared.TheConstants.{SMALL_LIMITS}
 use Rattle.letters_and_lassos.specs.declared.kinds.Side.{Side}
 use Rattle.letters_and_lassos.specs.declared.kinds.Side.TheVariants.{System, Environment}
 use Rattle.machine_model.specs.Machine.{MachineModel, size_of}
-use Rattle.machine_model.specs.Problem.{IsProblem, Parts, parts_of, sized}
+use Rattle.machine_model.specs.Problem.{Parts, parts_of, sized}
 use Rattle.machine_model.specs.declared.counting.Counts.{Counts}
 use Rattle.machine_model.specs.declared.problems.Problem.{Problem}
 use Rattle.machine_model.proofs.Tables.{size_pos}
 use Rattle.annotation_encode.specs.Count.{allowed_sizes}
-use Rattle.size_board.proofs.LawProofs.{sought_is_problem}
+use Rattle.size_board.proofs.LawProofs.{searchable}
 use Rattle.size_board.specs.Names.{AreNamed, IsSoughtMachine, IsSearchable, Named, SideHas, Sought, sizes_of, sought_by, sought_of}
 use Rattle.size_search.specs.Task.{SizeTaskModel}
 use Rattle.synth_engine.specs.declared.settings.Settings.{Settings}
@@ -40,9 +41,6 @@ plan_is : (s : Problem) (e : Option Problem) (max : ℕ) (plan : Plan) → IsPla
 unfolding plan_at
 plan_is s e max plan is = λ i. record { system = is.system_is i; environment = is.environment_is i; system_sizes = is.system_sizes i; environment_sizes = is.environment_sizes i }
 
-searchable : (p : Problem) → IsProblem p → IsSearchable (sought_of p)
-searchable p is = sought_is_problem.searchable p is
-
 environment_searchable : {v : Counts} (e : Option Problem) → ForSome e (IsSearched v Environment) → (x : Sought) → option_map sought_of e ≡ Some x → IsSearchable x × (x.side ≡ Environment)
 environment_searchable None is x at = absurd (none-some x at)
 environment_searchable (Some p) is x at =
@@ -56,8 +54,8 @@ pub plan_named : {v : Counts} (s : Problem) (e : Option Problem) (max : ℕ) (pl
 unfolding plan_at
 plan_named s e max plan is system environment =
     let P : Plan → Type 0 = λ (x : Plan). AreNamed (named_of x) x.system x.environment x.system_sizes x.environment_sizes in
-    let few : allowed_sizes s max ≤ 8 = let f = is.few in let n = is.system_sizes in omega arith in
-    let few_of_environment : allowed_of max e ≤ 8 = let f = is.few_of_environment in let n = is.environment_sizes in omega arith in
+    let few : allowed_sizes s max ≤ SMALL_LIMITS.machine = let f = is.few in let n = is.system_sizes in omega arith in
+    let few_of_environment : allowed_of max e ≤ SMALL_LIMITS.machine = let f = is.few_of_environment in let n = is.environment_sizes in omega arith in
     subst P (sym (plan_is s e max plan is)) (record {
       of_system = refl;
       of_environment = refl;

@@ -3,6 +3,7 @@ use Rattle.std.proofs.Common.{◌≡◌, ℕ, suc, ◌+◌, ◌-◌, ◌≤◌, 
 use Rattle.std.specs.Prelude.{Option, Some, slice_get, ◌⊎◌}
 use Rattle.std.proofs.lemmas.List.{map-append}
 use Rattle.std.proofs.lemmas.List.Elements.{All-append, All-cons, All-nil}
+use Rattle.std_lemmas.proofs.Lists.{slice_get-append}
 use Rattle.propositional_logic.specs.Literal.{Literal}
 use Rattle.letters_and_lassos.specs.declared.kinds.Side.TheVariants.{System, Environment}
 use Rattle.machine_model.specs.Accepts.{SideAccepts}
@@ -10,7 +11,6 @@ use Rattle.machine_model.specs.Machine.{MachineModel, size_of}
 use Rattle.machine_model.specs.Problem.{Parts, parts_of, reads_of, sized, writes_of}
 use Rattle.machine_model.specs.declared.problems.Problem.{Problem}
 use Rattle.machine_model.proofs.Tables.{size_pos}
-use Rattle.refutation_log.proofs.Lists.{slice_get-append}
 use Rattle.refutation_log.specs.Log.{IsClosed, IsFull, IsLegal}
 use Rattle.refutation_log.specs.Teaches.{IsTaught}
 use Rattle.size_search.specs.Task.{SizeTaskModel}

@@ -1,5 +1,6 @@
 use Rattle.std.specs.Prelude.{◌≡◌, ℕ, ◌+◌, ◌-◌, ◌<◌, ◌≤◌, Option, Some, None, List, All, length, slice_get, slice_index_or}
 use Rattle.std.specs.Option.{option_map}
+use Rattle.text_limits.specs.declared.TheConstants.{SMALL_LIMITS}
 use Rattle.machine_model.specs.Machine.{size_of}
 use Rattle.machine_model.specs.declared.problems.Problem.{Problem}
 use Rattle.annotation_encode.specs.Count.{allowed_sizes}
@@ -23,8 +24,8 @@ pub record IsPlanOf (system : Problem) (environment : Option Problem) (max : ℕ
   pub environment_is : plan.environment ≡ environment
   pub system_sizes : plan.system_sizes ≡ allowed_sizes system max
   pub environment_sizes : plan.environment_sizes ≡ allowed_of max environment
-  pub few : plan.system_sizes ≤ 8
-  pub few_of_environment : plan.environment_sizes ≤ 8
+  pub few : plan.system_sizes ≤ SMALL_LIMITS.machine
+  pub few_of_environment : plan.environment_sizes ≤ SMALL_LIMITS.machine
 
 -- what a board of the plan is about
 abbrev pub named_of : Plan → Named

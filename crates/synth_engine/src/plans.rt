@@ -3,7 +3,7 @@ ghost use Rattle.std.specs.Prelude.{◌≡◌, ℕ, ◌+◌, ◌<◌, ◌≤◌,
 ghost use Rattle.std.specs.List.{AllZip};
 ghost use Rattle.machine_model.specs.declared.problems.Problem.{Problem as ProblemView};
 ghost use Rattle.std.specs.Option.{ForSome};
-ghost use Rattle.letters_and_lassos.specs.declared.kinds.Side.TheVariants.{System, Environment};
+ghost use Rattle.text_limits.specs.declared.TheConstants.{SMALL_LIMITS};
 ghost use Rattle.machine_model.specs.Problem.{IsProblem};
 ghost use Rattle.synth_engine.specs.Hands.{AreRacks};
 ghost use Rattle.synth_engine.specs.Plans.{AreProblemsDown, AreTasksUpTo, IsFieldOf, IsOpenedFor, IsPlanOf};
@@ -71,8 +71,8 @@ impl Plan {
     ) -> Result<Field, AllocError>
         requires system { IsProblem self.now.system }
         requires environment { ForSome self.now.environment IsProblem }
-        requires few { self.now.system_sizes ≤ 8 }
-        requires few_of_environment { self.now.environment_sizes ≤ 8 }
+        requires few { self.now.system_sizes ≤ SMALL_LIMITS.machine }
+        requires few_of_environment { self.now.environment_sizes ≤ SMALL_LIMITS.machine }
         ensures { IfOk result (IsFieldOf self.now settings) }
     {
         let system = open_sizes(rt, alloc, &self.system, self.system_sizes, settings)?;
@@ -103,7 +103,7 @@ fn open_sizes<R: Threads + Sync>(
     settings: Settings,
 ) -> Result<OpenedSizes, AllocError>
     requires problem { IsProblem problem.now }
-    requires count { count ≤ 8 }
+    requires count { count ≤ SMALL_LIMITS.machine }
     ensures tasks { IfOk result (λ o. AreTasksUpTo problem.now settings count o.tasks.items) }
     ensures seats { IfOk result (λ o. AreRacks (settings.workers + 1) o.tasks.items o.seats.items) }
 {
@@ -129,7 +129,7 @@ fn by_parts(alloc: Global, opened: Vec<Opened>) -> Result<OpenedSizes, AllocErro
 /// The problem with each size from this number down to 1.
 fn problems_down(alloc: Global, problem: &Problem, count: u32) -> Result<Vec<Problem>, AllocError>
     requires problem { IsProblem problem.now }
-    requires count { count ≤ 8 }
+    requires count { count ≤ SMALL_LIMITS.machine }
     ensures { IfOk result (λ sized. AreProblemsDown problem.now count sized.items) }
 {
     let mut problems = Vec::with_capacity(alloc, count as usize)?;

@@ -1,5 +1,6 @@
 //! What bounds a search.
 ghost use Rattle.std.specs.Prelude.{◌≡◌, ◌≤◌, IfSome};
+ghost use Rattle.text_limits.specs.declared.TheConstants.{SMALL_LIMITS};
 
 use machine_model::Counts;
 use std::marker::Model;
@@ -31,7 +32,7 @@ impl Settings {
     /// With these values.
     pub fn new(max: u32, entries: Option<u64>, workers: u32, counts: Counts) -> Settings
         requires some_size { 1 ≤ max }
-        requires most_size { max ≤ 8 }
+        requires most_size { max ≤ SMALL_LIMITS.machine }
         requires entries { IfSome entries (λ most. most ≤ 250000) }
         requires workers { workers ≤ 8 }
         ensures { result ≡ record { max = max; entries = entries; workers = workers; counts = counts } }
@@ -44,7 +45,7 @@ impl Settings {
         }
     }
 
-    /// The greatest number of states, from 1 to 8.
+    /// The greatest number of states, from 1 to `SMALL_LIMITS.machine`.
     pub fn max(self) -> u32
         ensures value { result ≡ self.max }
         ensures bounds { IsWithinBounds self }

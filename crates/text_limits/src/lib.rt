@@ -1,4 +1,4 @@
-//! Limits that go with a text: how many signals it may have, how many nodes its list of formulas, how large its automata may become.
+//! Limits that go with a text: how many signals it may have, how many nodes its list of formulas, how large its automata, machines and circuits may be.
 //! They stand here as values, so that each command hands in its own and contracts speak of their fields. The crate stands on std alone.
 #![tactic(auto)]
 
@@ -32,9 +32,12 @@ pub struct Limits {
     pub nodes: usize,
     /// How large the automaton of each side may become.
     pub automaton: AutomatonLimits,
+    /// The largest number of states of a machine whose base clauses are made.
+    pub machine: u32,
 }
 
-/// The limits of all commands but `solve`: 8 inputs and 8 outputs, 1,024 nodes, automata of 2,000 states and 200,000 edges.
+/// The limits of all commands but `solve`: 8 inputs and 8 outputs, 1,024 nodes, automata of 2,000 states and 200,000 edges, base clauses of
+/// machines of up to 8 states.
 pub const SMALL_LIMITS: Limits = Limits {
     signals: 8,
     nodes: 1_024,
@@ -42,9 +45,10 @@ pub const SMALL_LIMITS: Limits = Limits {
         states: 2_000,
         edges: 200_000,
     },
+    machine: 8,
 };
 
-/// The limits of `solve`: 16 inputs and 16 outputs, 4,096 nodes, automata of 20,000 states and 2,000,000 edges.
+/// The limits of `solve`: 16 inputs and 16 outputs, 4,096 nodes, automata of 20,000 states and 2,000,000 edges, base clauses of up to 16 states.
 pub const LARGE_LIMITS: Limits = Limits {
     signals: 16,
     nodes: 4_096,
@@ -52,4 +56,11 @@ pub const LARGE_LIMITS: Limits = Limits {
         states: 20_000,
         edges: 2_000_000,
     },
+    machine: 16,
 };
+
+/// The largest number of variables of a circuit, whichever command takes or makes it.
+pub const CIRCUIT_VARIABLES: u32 = 100_000;
+
+/// The largest number of pairs of an annotation over numbered states.
+pub const ANNOTATION_PAIRS: u64 = 100_000;

@@ -1,4 +1,4 @@
-use Rattle.std.proofs.Common.{◌≡◌, ◌++◌, true, sym, ◌∙◌, subst, ap, rules}
+use Rattle.std.proofs.Common.{◌≡◌, true, sym, subst, rules}
 use Rattle.propositional_logic.specs.Truth.{meets}
 use Rattle.machine_model.specs.Automaton.{IsAutomaton}
 use Rattle.machine_model.specs.Machine.{MachineModel}

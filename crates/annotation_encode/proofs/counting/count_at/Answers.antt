@@ -1,4 +1,4 @@
-use Rattle.std.proofs.Common.{◌≡◌, ◌+◌, ◌<◌, ◌≤◌, length, ap, ◌∙◌, arith, sym, subst}
+use Rattle.std.proofs.Common.{◌≡◌, ◌+◌, ◌≤◌, length, ap, ◌∙◌, arith, subst}
 use Rattle.machine_model.specs.Problem.{automaton_of, sized}
 use Rattle.annotation_encode.specs.BaseClauses.{edge_clauses}
 use Rattle.annotation_encode.specs.Count.{most_clauses}

@@ -1,4 +1,4 @@
-use Rattle.std.proofs.Common.{◌≡◌, ℕ, ◌+◌, ◌*◌, ◌^◌, ◌<◌, ◌≤◌, List, ◌++◌, length, get_or, refl, sym, ap, subst, ◌∙◌, arith}
+use Rattle.std.proofs.Common.{◌≡◌, ℕ, ◌*◌, ◌<◌, ◌≤◌, List, ◌++◌, get_or, refl, sym, ap, subst, ◌∙◌, arith}
 use Rattle.machine_model.specs.Machine.{MachineModel, size_of}
 use Rattle.gate_build.specs.Bits.{IsSplit}
 use Rattle.gate_build.specs.Table.{first_gate, latches_for, latches_of, literals_from, split_literals}

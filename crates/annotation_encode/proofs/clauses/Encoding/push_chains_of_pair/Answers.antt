@@ -1,6 +1,5 @@
-use Rattle.std.proofs.Common.{◌≡◌, ◌+◌, [], ◌∷◌, ap, ◌∙◌, subst, sym, suc, arith, rules}
+use Rattle.std.proofs.Common.{◌≡◌, [], ◌∷◌, subst, sym, rules}
 use Rattle.propositional_logic.specs.Clause.{IsWithinVariables}
-use Rattle.propositional_logic.specs.Literal.{Literal}
 use Rattle.machine_model.specs.declared.problems.Problem.{Problem}
 use Rattle.annotation_encode.specs.BaseClauses.{chain_clause}
 use Rattle.annotation_encode.specs.Variables.{variables_of}

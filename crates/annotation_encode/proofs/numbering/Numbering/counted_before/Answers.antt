@@ -1,4 +1,5 @@
 use Rattle.std.proofs.Common.{◌≡◌, ◌*◌, ◌≤◌, ap, ◌∙◌, sym, subst}
+use Rattle.text_limits.specs.declared.TheConstants.{SMALL_LIMITS}
 use Rattle.machine_model.specs.Automaton.{IsAutomaton}
 use Rattle.machine_model.specs.Problem.{automaton_of}
 use Rattle.machine_model.specs.declared.problems.Problem.{Problem}
@@ -19,7 +20,7 @@ pub returns-in-Some-clause-small : goal.returns-in-Some-clause-small
 returns-in-Some-clause-small c =
     let p : Problem = c.args.self.now.problem.now in
     let made : IsAutomaton (automaton_of p) = subst IsAutomaton c.deref.ensures c.states-states.ensures.kept in
-    subst (λ n. n ≤ 2000 * c.args.q) (sym (sum_is c)) (few_before p c.args.q c.components_are_classes.ensures made c.requires.problem.states)
+    subst (λ n. n ≤ SMALL_LIMITS.automaton.states * c.args.q) (sym (sum_is c)) (few_before p c.args.q c.components_are_classes.ensures made c.requires.problem.states)
 
 pub returns-in-None-clause-value : goal.returns-in-None-clause-value
 returns-in-None-clause-value c =

@@ -1,4 +1,5 @@
 use Rattle.std.proofs.Common.{ℕ, ◌<◌, ◌≤◌, length, get_or, List, sym, subst}
+use Rattle.text_limits.specs.declared.TheConstants.{LARGE_LIMITS}
 use Rattle.machine_model.specs.Components.{AreComponentsOf}
 use Rattle.machine_model.specs.Named.{AreSums}
 use Rattle.machine_model.specs.declared.components.Tables.{Tables}
@@ -7,7 +8,7 @@ use Rattle.machine_model.proofs.components.Components.of.Goals as goal
 
 pub sums-requires-clause-small : goal.sums-requires-clause-small
 sums-requires-clause-small c =
-    subst (λ (xs : List ℕ). (k d : ℕ) → k < length xs → get_or xs k d ≤ 20000) (sym c.deref-4.ensures.value)
+    subst (λ (xs : List ℕ). (k d : ℕ) → k < length xs → get_or xs k d ≤ LARGE_LIMITS.automaton.states) (sym c.deref-4.ensures.value)
     (counts_small c.args.automaton.now c.in_ok-counts.counts.items c.in_ok-counts.ensures c.requires)
 
 pub returns : goal.returns
