@@ -1,12 +1,12 @@
 -- How many letters, rows and numbers there are at most.
-use Rattle.std.proofs.Common.{◌≡◌, ℕ, zero, suc, ◌+◌, ◌-◌, ◌*◌, ◌^◌, ◌<◌, ◌≤◌, inl, inr, List, length, get_or, subst, arith}
+use Rattle.std.proofs.Common.{◌≡◌, ℕ, zero, suc, ◌+◌, ◌-◌, ◌*◌, ◌^◌, ◌<◌, ◌≤◌, inl, inr, true, List, length, get_or, subst, arith}
 use Rattle.std.specs.Prelude.{All, AllPairs}
 use Rattle.std.proofs.Math.Nat.{mul-le-mul, pow-le-pow_right}
 use Rattle.std.proofs.lemmas.Bool.{cases_eq}
 use Rattle.letters_and_lassos.specs.declared.kinds.Side.{Side}
 use Rattle.letters_and_lassos.specs.declared.kinds.Side.TheVariants.{Environment, System}
 use Rattle.machine_model.specs.Automaton.{IsAutomaton, states_of}
-use Rattle.machine_model.specs.Components.{ComponentsClass, ComponentsModel, local_count}
+use Rattle.machine_model.specs.Components.{ComponentsClass, local_count}
 use Rattle.machine_model.specs.Problem.{automaton_of, reads_of, writes_of, counts_locally}
 use Rattle.machine_model.specs.declared.problems.Problem.{Problem}
 use Rattle.product_bound.specs.Annotation.{rejecting_at}
@@ -39,10 +39,10 @@ side_small Environment a b x y = y
 
 module _ (p : Problem) (letters : List ℕ) (problem : IsLetterProblem p letters) where
   pub reads_small : reads_of p ≤ 16
-  reads_small = side_small p.side p.inputs p.outputs problem.inputs problem.outputs
+  reads_small = side_small p.side p.inputs p.outputs problem.within.inputs problem.within.outputs
 
   pub writes_small : writes_of p ≤ 16
-  writes_small = side_small p.side p.outputs p.inputs problem.outputs problem.inputs
+  writes_small = side_small p.side p.outputs p.inputs problem.within.outputs problem.within.inputs
 
   pub letters_small : length letters ≤ 65536
   letters_small =
@@ -52,13 +52,13 @@ module _ (p : Problem) (letters : List ℕ) (problem : IsLetterProblem p letters
 
   pub rows_small : row_count p letters ≤ 1048576
   rows_small =
-      let size : p.size ≤ 16 = problem.size in
+      let size : p.size ≤ 16 = problem.within.size in
       let b : row_count p letters ≤ 16 * 65536 = mul-le-mul size letters_small in
       omega (arith, b)
 
   pub moves_small : move_count p letters ≤ 16777216
   moves_small =
-      let size : p.size ≤ 16 = problem.size in
+      let size : p.size ≤ 16 = problem.within.size in
       let b : move_count p letters ≤ 1048576 * 16 = mul-le-mul rows_small size in
       omega (arith, b)
 
@@ -83,7 +83,7 @@ few_before p q classes made counts few = sum_first-most (rejecting_at p) q 20000
 module _ (p : Problem) (letters : List ℕ) (small : IsSmallSize p letters) where
   numbers_small : p.size * counted_before p (states_of (automaton_of p)) ≤ 4000000
   numbers_small =
-      let some : 1 ≤ p.size = small.within.problem.some in
+      let some : 1 ≤ p.size = small.problem.within.some in
       let few : p.size * (p.size * counted_before p (states_of (automaton_of p))) ≤ 4000000 = small.few in
       let more : 1 * (p.size * counted_before p (states_of (automaton_of p))) ≤ p.size * (p.size * counted_before p (states_of (automaton_of p)))
       = mul-le-mul some (let same : p.size * counted_before p (states_of (automaton_of p)) ≤ p.size * counted_before p (states_of (automaton_of p)) = omega arith in same) in
@@ -99,7 +99,7 @@ module _ (p : Problem) (letters : List ℕ) (small : IsSmallSize p letters) wher
   pub all_numbers_small : p.size * state_numbers p ≤ 4320000
   all_numbers_small =
       let few : p.size * (p.size * counted_before p (states_of (automaton_of p))) ≤ 4000000 = small.few in
-      let states : p.size * states_of (automaton_of p) ≤ 16 * 20000 = mul-le-mul small.within.problem.size small.within.problem.states in
+      let states : p.size * states_of (automaton_of p) ≤ 16 * 20000 = mul-le-mul small.problem.within.size small.problem.within.states in
       parts p.size (p.size * counted_before p (states_of (automaton_of p))) (states_of (automaton_of p)) few states
     where
       parts : (n x y : ℕ) → n * x ≤ 4000000 → n * y ≤ 16 * 20000 → n * (x + y) ≤ 4320000

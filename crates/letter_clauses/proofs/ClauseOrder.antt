@@ -38,7 +38,7 @@ module _ (p : Problem) (letters : List ℕ) where
 
   pub start-rises : IsLetterProblem p letters → IsAutomaton (automaton_of p) → Rises 0 (variables_of p letters) (start_clause p letters)
   start-rises problem made =
-      let b : var_count p letters 0 0 (start_number p) ≤ variables_of p letters = count_within p letters 0 0 (start_number p) problem.some made.some (start_small problem) in
+      let b : var_count p letters 0 0 (start_number p) ≤ variables_of p letters = count_within p letters 0 0 (start_number p) problem.within.some made.some (start_small problem) in
       Rises-one 0 (variables_of p letters) (is (var_count p letters 0 0 (start_number p))) (omega arith) b
 
   -- what is written

@@ -2,7 +2,8 @@
 use Rattle.std.proofs.Common.{◌≡◌, ℕ, suc, ◌+◌, ◌-◌, ◌^◌, ◌<◌, ◌≤◌, ◌⊎◌, inl, inr, Bool, true, false, not, List, [], ◌∷◌, ◌++◌, Option, Some, None, length, refl, sym, ap, ◌∙◌, subst, arith, cond}
 use Rattle.std.specs.Prelude.{Contains, ◌==◌, ◌||◌, nat_le, nat_lt}
 use Rattle.std.specs.List.{list_any}
-use Rattle.std.proofs.lemmas.Bool.{cases_lt, eq-eqb, le-leb, leb-true, not-false}
+use Rattle.std.proofs.Math.Bool.{or-true}
+use Rattle.std.proofs.lemmas.Bool.{cases_lt, eq-eqb, le-leb, leb-true, lt-leb, not-false}
 use Rattle.std.proofs.lemmas.Bool.Decides.{Decides-eqb}
 use Rattle.std.proofs.lemmas.List.Elements.{All-contains}
 use Rattle.std.proofs.lemmas.List.Folds.{list_any-append}
@@ -23,7 +24,7 @@ use Rattle.annotation_encode.specs.Variables.{write_place}
 use Rattle.annotation_encode.proofs.Counted.{after_rises, step_within}
 use Rattle.annotation_encode.proofs.Letters.{fits_joined, joined_at, reads_at, writes_at}
 use Rattle.annotation_encode.proofs.Lists.{all_below-each, any-each_below, none-each_below}
-use Rattle.annotation_encode.proofs.Meets.{reads_same, signal_kept, writes_same}
+use Rattle.annotation_encode.proofs.Meets.{any_one, apart, counts_true, either_true, one_is, reads_same, signal_kept, writes_same}
 use Rattle.annotation_encode.proofs.Sizes.{write_below}
 use Rattle.letter_clauses.specs.BaseClauses.{base_clauses, chain_clause, count_literals, start_clause, step_clause, write_literal, write_literals}
 use Rattle.letter_clauses.specs.Letters.{IsLetterProblem, letter_at}
@@ -32,39 +33,6 @@ use Rattle.letter_clauses.proofs.ClauseOrder.{start_small}
 use Rattle.letter_clauses.proofs.ClausesAll.{HoldsOfKinds, all_base}
 use Rattle.letter_clauses.proofs.Within.{row_below}
 use Rattle.letter_clauses.proofs.Tables.{HasPairNumber, HasRowBefore, IsAssigned, IsTable}
-
--- tests
-right_true : (b : Bool) → (b || true) ≡ true
-right_true true = refl
-right_true false = refl
-
-either_true : (a b : Bool) → (a ≡ false → b ≡ true) → (a || b) ≡ true
-either_true true b h = refl
-either_true false b h = h refl
-
-left_false : (a b : Bool) → (a || b) ≡ false → a ≡ false
-left_false true b h = h
-left_false false b h = refl
-
-apart : {X : Type 0} → true ≡ false → X
-apart h = absurd (let e : true ≡ false = h in cc)
-
--- a list that has a true literal in one place
-any_one : (test : Literal → Bool) (l : Literal) → test l ≡ true → list_any test (l ∷ []) ≡ true
-any_one test l h = ap (λ b. b || false) h
-
-one_is : (test : Literal → Bool) (l : Literal) → list_any test (l ∷ []) ≡ false → test l ≡ false
-one_is test l h = left_false (test l) false h
-
--- two literals, of which the second stands where the bound allows it
-counts_true : (test : Literal → Bool) (fits less : Bool) (a b : Literal) → (test a ≡ true) ⊎ ((fits ≡ true) × (test b ≡ true))
-    → list_any test (cond fits (cond less (a ∷ b ∷ []) (b ∷ a ∷ [])) (a ∷ [])) ≡ true
-counts_true test false less a b (inl h) = any_one test a h
-counts_true test false less a b (inr h) = apart (sym h.0)
-counts_true test true true a b (inl h) = ap (λ x. x || (test b || false)) h
-counts_true test true true a b (inr h) = ap (λ x. test a || (x || false)) h.1 ∙ right_true (test a)
-counts_true test true false a b (inl h) = ap (λ x. test b || (x || false)) h ∙ right_true (test b)
-counts_true test true false a b (inr h) = ap (λ x. x || (test a || false)) h.1
 
 module _ (p : Problem) (letters : List ℕ) (next written : ℕ → ℕ) (numbers : ℕ → ℕ → Option ℕ) (values : List Bool) (problem : IsLetterProblem p letters)
     (made : IsAutomaton (automaton_of p)) (table : IsTable p letters next written numbers) (is_assigned : IsAssigned p letters next written numbers values) where
@@ -93,7 +61,7 @@ module _ (p : Problem) (letters : List ℕ) (next written : ℕ → ℕ) (number
   start_met =
       let start : HasPairNumber numbers 0 0 (start_number p) = table.start in
       let value : value_of values (var_count p letters 0 0 (start_number p)) ≡ reaches (numbers 0 0) (start_number p)
-      = is_assigned.counts 0 0 (start_number p) problem.some made.some (start_small p letters problem) in
+      = is_assigned.counts 0 0 (start_number p) problem.within.some made.some (start_small p letters problem) in
       let enough : reaches (numbers 0 0) (start_number p) ≡ true = ap (λ o. reaches o (start_number p)) start.stands ∙ le-leb (start_number p) start.number start.enough in
       true_clause (start_clause p letters) (any_one test (is (var_count p letters 0 0 (start_number p))) (positive (var_count p letters 0 0 (start_number p)) ∙ value ∙ enough))
 
@@ -107,7 +75,7 @@ module _ (p : Problem) (letters : List ℕ) (next written : ℕ → ℕ) (number
       isnt_next : reaches (numbers t q) (suc c) ≡ false → list_any test (chain_clause p letters t q c) ≡ true
       isnt_next none =
           let here : test (isnt (var_count p letters t q (suc c))) ≡ true = negative (var_count p letters t q (suc c)) ∙ ap not (value (suc c) (omega (arith, hc)) ∙ none) in
-          ap (λ b. test (is (var_count p letters t q c)) || (b || false)) here ∙ right_true (test (is (var_count p letters t q c)))
+          ap (λ b. test (is (var_count p letters t q c)) || (b || false)) here ∙ or-true (test (is (var_count p letters t q c)))
 
       is_here : reaches (numbers t q) c ≡ true → list_any test (chain_clause p letters t q c) ≡ true
       is_here some =
@@ -117,16 +85,9 @@ module _ (p : Problem) (letters : List ℕ) (next written : ℕ → ℕ) (number
       by_number : (o : Option ℕ) → numbers t q ≡ o → list_any test (chain_clause p letters t q c) ≡ true
       by_number None at = isnt_next (ap (λ o. reaches o (suc c)) at)
       by_number (Some n) at = elim (cases_lt n (suc c)) [
-        | inl less ↦ isnt_next (ap (λ o. reaches o (suc c)) at ∙ above (suc c) n less)
+        | inl less ↦ isnt_next (ap (λ o. reaches o (suc c)) at ∙ lt-leb (suc c) n less)
         | inr ge ↦ is_here (ap (λ o. reaches o c) at ∙ le-leb c n (omega (arith, ge)))
       ]
-        where
-          above : (a b : ℕ) → b < a → nat_le a b ≡ false
-          above a b h = go (nat_le a b) refl
-            where
-              go : (x : Bool) → nat_le a b ≡ x → x ≡ false
-              go false e = refl
-              go true e = absurd (let le : a ≤ b = leb-true a b e in omega (arith, le, h))
 
   -- what a write literal that is false says
   missed : (v : ℕ) (must none : Bool) → list_any test (cond must (isnt v ∷ []) (cond none (is v ∷ []) [])) ≡ false
@@ -152,7 +113,7 @@ module _ (p : Problem) (letters : List ℕ) (next written : ℕ → ℕ) (number
     letter_is = refl
 
     names : NamesSignals (p.inputs + p.outputs) e
-    names = All-contains (NamesSignals (p.inputs + p.outputs)) (automaton_of p).edges e problem.signals there
+    names = All-contains (NamesSignals (p.inputs + p.outputs)) (automaton_of p).edges e problem.within.signals there
 
     joins : JoinsStates (states_of (automaton_of p)) e
     joins = All-contains (JoinsStates (states_of (automaton_of p))) (automaton_of p).edges e made.edges there
@@ -259,7 +220,7 @@ module _ (p : Problem) (letters : List ℕ) (next written : ℕ → ℕ) (number
       by_move : (b : Bool) → (next place == to) ≡ b → (list_any test (each_below place (λ k. is (row_move p k (to - 1)) ∷ [])) || list_any test (isnt (row_move p place to) ∷ [])) ≡ true
       by_move false h =
           let here : test (isnt (row_move p place to)) ≡ true = negative (row_move p place to) ∙ ap not (is_assigned.moves place to hp hto ∙ h) in
-          ap (λ b. list_any test (each_below place (λ k. is (row_move p k (to - 1)) ∷ [])) || b) (any_one test (isnt (row_move p place to)) here) ∙ right_true _
+          ap (λ b. list_any test (each_below place (λ k. is (row_move p k (to - 1)) ∷ [])) || b) (any_one test (isnt (row_move p place to)) here) ∙ or-true _
       by_move true h =
           let moves : next place ≡ to = (Decides-eqb (next place) to).0 h in
           let known : HasRowBefore next place = table.ordered place hp (omega (arith, moves, least)) in

@@ -36,7 +36,7 @@ module _ (p : Problem) (letters : List ℕ) (problem : IsLetterProblem p letters
   met_by_annotated m machine fits annotation = by_names names (renumbered (next_on m letters) p.size (length letters) some wide nexts)
     where
       some : 0 < p.size
-      some = let least : 1 ≤ p.size = problem.some in omega (arith, least)
+      some = let least : 1 ≤ p.size = problem.within.some in omega (arith, least)
 
       wide : 0 < length letters
       wide = some_letter letters problem.list.some
@@ -58,7 +58,7 @@ module _ (p : Problem) (letters : List ℕ) (problem : IsLetterProblem p letters
 
   module _ (classes : ComponentsClass) where
     machine_some : (m : MachineModel) → IsMachineOf p m → 0 < size_of m
-    machine_some m fits = let least : 1 ≤ p.size = problem.some in rw fits.size (omega (arith, least))
+    machine_some m fits = let least : 1 ≤ p.size = problem.within.some in rw fits.size (omega (arith, least))
 
     pub met_by_accepted : HasAccepted p → IsMetBySome (variables_of p letters) (base_clauses p letters)
     met_by_accepted accepted =

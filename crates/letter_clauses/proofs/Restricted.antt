@@ -11,7 +11,7 @@ use Rattle.machine_model.specs.Automaton.{HasEdge, states_of}
 use Rattle.machine_model.specs.Course.{letter_of}
 use Rattle.machine_model.specs.Machine.{IsMachine, MachineModel, next_of, size_of, writes_of}
 use Rattle.machine_model.specs.Problem as looked_for
-use Rattle.machine_model.specs.Problem.{IsMachineOf, automaton_of, reads_of}
+use Rattle.machine_model.specs.Problem.{IsMachineOf, automaton_of}
 use Rattle.machine_model.specs.Run.{joined_letter}
 use Rattle.machine_model.specs.declared.problems.Problem.{Problem}
 use Rattle.product_bound.specs.Annotation.{HasNumber, IsValidAnnotation, number_after, number_at, start_number}
@@ -66,7 +66,7 @@ module _ (p : Problem) (letters : List ℕ) (m : MachineModel) (numbers : List (
         let inside : place_in named (led (next_on m letters) (length letters) named place) < length named = is.inside (place / length letters) (place % length letters) row (mod-lt place wide) in
         let few : length named ≤ p.size = is.few in
         rw (moved_named place row) (omega (arith, inside, few))
-    | inr late ↦ let some : 1 ≤ p.size = problem.some in rw (moved_unnamed place late) (omega (arith, some))
+    | inr late ↦ let some : 1 ≤ p.size = problem.within.some in rw (moved_unnamed place late) (omega (arith, some))
   ]
 
   -- what is written

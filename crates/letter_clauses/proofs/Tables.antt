@@ -1,8 +1,8 @@
 -- Tables for rows over a list of letters, with numbers of pairs, and the assignment that they stand for.
-use Rattle.std.proofs.Common.{◌≡◌, ℕ, zero, suc, ◌+◌, ◌-◌, ◌*◌, ◌/◌, ◌%◌, ◌^◌, ◌<◌, ◌≤◌, Bool, false, List, Option, Some, [], ◌∷◌, ◌++◌, length, map, get_or, cond, refl, sym, ap, ◌∙◌, arith, inl, inr}
+use Rattle.std.proofs.Common.{◌≡◌, ℕ, zero, suc, ◌+◌, ◌-◌, ◌*◌, ◌/◌, ◌%◌, ◌^◌, ◌<◌, ◌≤◌, Bool, false, List, Option, Some, [], ◌∷◌, ◌++◌, length, map, get_or, cond, refl, sym, ap, ◌∙◌, arith}
 use Rattle.std.specs.Prelude.{◌==◌, nat_lt}
 use Rattle.std.specs.List.{range_with_len}
-use Rattle.std.proofs.lemmas.Bool.{cases_eq, cond-true, cond-false, le-ltb}
+use Rattle.std.proofs.lemmas.Bool.{cond-true, cond-false, le-ltb}
 use Rattle.std.proofs.lemmas.Bool.Decides.{Decides-ltb}
 use Rattle.std.proofs.lemmas.List.{get_or_append_left, get_or-append-add, length-append}
 use Rattle.std.proofs.lemmas.List.FromFn.{get_or-map-range_with_len, length-map-range_with_len}
@@ -17,6 +17,7 @@ use Rattle.product_bound.specs.Annotation.{bound_at, number_after, start_number}
 use Rattle.annotation_encode.specs.Assigned.{reaches}
 use Rattle.annotation_encode.specs.BaseClauses.{each_below, row_move}
 use Rattle.annotation_encode.specs.Variables.{number_count, numbers_before, state_numbers, sum_first, write_place, write_places}
+use Rattle.annotation_encode.proofs.AssignedLemmas.{get-each_below}
 use Rattle.annotation_encode.proofs.Counted.{length-each_sum, number_within, numbers_step}
 use Rattle.annotation_encode.proofs.Letters.{joined_at}
 use Rattle.annotation_encode.proofs.Lists.{length-each_below}
@@ -54,43 +55,6 @@ pub record IsAssigned (p : Problem) (letters : List ℕ) (next written : ℕ →
   pub writes : (place s : ℕ) → place < write_places p.kind (length letters) p.size → s < writes_of p
       → value_of values (move_count p letters + 1 + place * writes_of p + s) ≡ has (written place) s
   pub counts : (t q c : ℕ) → t < p.size → q < states_of (automaton_of p) → c ≤ bound_at p q → value_of values (var_count p letters t q c) ≡ reaches (numbers t q) c
-
--- the value at a place of joined pieces, where the pieces before end at known places
-get-each_below : {A : Type 0} (n k j : ℕ) (f : ℕ → List A) (start : ℕ → ℕ) (d : A) → start 0 ≡ 0 → ((i : ℕ) → i < n → start (suc i) ≡ start i + length (f i))
-    → k < n → j < length (f k) → (get_or (each_below n f) (start k + j) d ≡ get_or (f k) j d) × (length (each_below n f) ≡ start n)
-get-each_below zero k j f start d first step h hj = absurd (omega arith)
-get-each_below (suc n) k j f start d first step h hj =
-    let ends : length (each_below n f) ≡ start n = length-pieces n f start first (λ i less. step i (omega arith)) in
-    let last : start (suc n) ≡ start n + length (f n) = step n (omega arith) in
-    let all : length (each_below n f ++ f n) ≡ length (each_below n f) + length (f n) = length-append (each_below n f) (f n) in (
-      elim (cases_eq k n) [
-        | inl e ↦
-            let at : start k + j ≡ length (each_below n f) + j = omega (arith, ends, ap start e) in
-            ap (λ i. get_or (each_below n f ++ f n) i d) at ∙ get_or-append-add (each_below n f) (f n) j d ∙ ap (λ i. get_or (f i) j d) (sym e)
-        | inr ne ↦
-            let before = get-each_below n k j f start d first (λ i less. step i (omega arith)) (omega (arith, h, ne)) hj in
-            let inside : start k + j < length (each_below n f) = let within : start k + length (f k) ≤ start n = pieces_rise n f start (λ i less. step i (omega arith)) k (omega (arith, h, ne)) in omega (arith, within, ends, hj) in
-            get_or_append_left (each_below n f) (f n) d (start k + j) inside ∙ before.0
-      ],
-      omega (arith, all, ends, last),
-    )
-  where
-    length-pieces : {A : Type 0} (n : ℕ) (f : ℕ → List A) (start : ℕ → ℕ) → start 0 ≡ 0 → ((i : ℕ) → i < n → start (suc i) ≡ start i + length (f i)) → length (each_below n f) ≡ start n
-    length-pieces zero f start first step = sym first
-    length-pieces (suc n) f start first step =
-        let before : length (each_below n f) ≡ start n = length-pieces n f start first (λ i less. step i (omega arith)) in
-        let last : start (suc n) ≡ start n + length (f n) = step n (omega arith) in
-        let all : length (each_below n f ++ f n) ≡ length (each_below n f) + length (f n) = length-append (each_below n f) (f n) in
-        omega (arith, before, last, all)
-
-    pieces_rise : {A : Type 0} (n : ℕ) (f : ℕ → List A) (start : ℕ → ℕ) → ((i : ℕ) → i < n → start (suc i) ≡ start i + length (f i)) → (k : ℕ) → k < n → start k + length (f k) ≤ start n
-    pieces_rise zero f start step k h = absurd (omega arith)
-    pieces_rise (suc n) f start step k h =
-        let last : start (suc n) ≡ start n + length (f n) = step n (omega arith) in
-        elim (cases_eq k n) [
-          | inl e ↦ let here : start k + length (f k) ≡ start n + length (f n) = ap (λ i. start i + length (f i)) e in omega (arith, here, last)
-          | inr ne ↦ let before : start k + length (f k) ≤ start n = pieces_rise n f start (λ i less. step i (omega arith)) k (omega (arith, h, ne)) in omega (arith, before, last)
-        ]
 
 module _ (p : Problem) (letters : List ℕ) (next written : ℕ → ℕ) (numbers : ℕ → ℕ → Option ℕ) where
   abbrev move_value : ℕ → Bool

@@ -1,9 +1,9 @@
 -- How many base clauses there are, and how many literals they have: sums of weights of clauses.
 use Rattle.std.proofs.Common.{◌≡◌, ℕ, zero, suc, ◌+◌, ◌-◌, ◌*◌, ◌/◌, ◌<◌, ◌≤◌, ◌⊎◌, inl, inr, min, Bool, true, false, not, List, [], ◌∷◌, ◌++◌, Some, None, length, get_or, take, refl, sym, ap, ◌∙◌, subst, arith, cond}
-use Rattle.std.specs.Prelude.{◌==◌, ◌&&◌, ◌||◌, nat_le, nat_lt}
+use Rattle.std.specs.Prelude.{◌&&◌, ◌||◌, nat_le, nat_lt}
 use Rattle.std.specs.List.{flat_map, sum_by}
 use Rattle.std.proofs.Math.Nat.{mul_assoc, mul-div_cancel}
-use Rattle.std.proofs.lemmas.Bool.{and_parts, cases_eq, cases_lt, cond-true, cond-false, eq-eqb, le-leb, leb-true, ne_eqb, not-true, not-false}
+use Rattle.std.proofs.lemmas.Bool.{and_parts, cases_lt, cond-true, cond-false, le-leb, leb-true, lt-leb, not-true, not-false}
 use Rattle.std.proofs.lemmas.Bool.Decides.{Decides-ltb}
 use Rattle.std.proofs.lemmas.List.{append-nil, length-append, take_all, take_more}
 use Rattle.std.proofs.lemmas.List.Concat.{flat_map-append}
@@ -13,19 +13,19 @@ use Rattle.propositional_logic.specs.Literal.{Literal}
 use Rattle.letters_and_lassos.specs.Signals.{has}
 use Rattle.letters_and_lassos.specs.declared.cubes.Cube.{Cube}
 use Rattle.machine_model.specs.Automaton.{rejects, states_of}
-use Rattle.machine_model.specs.Components.{ComponentsModel}
 use Rattle.machine_model.specs.Problem.{automaton_of, reads_of, writes_of}
 use Rattle.machine_model.specs.declared.automata.Edge.{Edge}
 use Rattle.machine_model.specs.declared.problems.Problem.{Problem}
 use Rattle.product_bound.specs.Annotation.{bound_at, leaves, number_after, rejecting_at, rise_at}
 use Rattle.annotation_encode.specs.BaseClauses.{each_below, fits_read, is, is_idle, isnt, order_clause, row_clause, row_move, row_orders, step_count, written_signal}
-use Rattle.annotation_encode.specs.Count.{target_count}
+use Rattle.annotation_encode.specs.Count.{passing, target_count}
 use Rattle.annotation_encode.specs.Variables.{counted_before, sum_first}
+use Rattle.annotation_encode.proofs.ClauseCount.{passing-all, passing-same, targets}
 use Rattle.annotation_encode.proofs.Counted.{after_stays, sum_first-times}
 use Rattle.annotation_encode.proofs.Lists.{length-each_below}
 use Rattle.letter_clauses.specs.BaseClauses.{base_clauses, chain_clause, chain_clauses, count_literals, edge_clauses, letter_clauses, order_clauses, pair_chains, row_clauses, start_clause, state_chains, state_clauses, step_clause, step_clauses, write_literal, write_literals}
-use Rattle.letter_clauses.specs.Count.{allowed_count, chain_count, clauses_beside, count_of, fitting_letters, is_allowed, is_named, is_short_or_whole, literals_beside, literals_of, most_clauses, most_literals, named_signals, order_count, order_literals, passing, step_literals, steps_of}
-use Rattle.letter_clauses.specs.Letters.{IsLetterSize, IsSmallSize, letter_at}
+use Rattle.letter_clauses.specs.Count.{allowed_count, chain_count, clauses_beside, count_of, fitting_letters, is_allowed, is_named, is_short_or_whole, literals_beside, literals_of, most_clauses, most_literals, named_signals, order_count, order_literals, step_literals, steps_of}
+use Rattle.letter_clauses.specs.Letters.{IsLetterProblem, IsSmallSize, letter_at}
 use Rattle.letter_clauses.specs.Variables.{row_count, var_count, var_write}
 
 -- the weight that counts
@@ -51,37 +51,6 @@ passes c b l m t most x y z u = omega (arith, x, y, z, u)
 begins : (t b f most : ℕ) → t ≡ b + f → most < b → most < t
 begins t b f most x y = omega (arith, x, y)
 
--- numbers that pass a test
-passing-same : (n : ℕ) (f g : ℕ → Bool) → ((k : ℕ) → k < n → f k ≡ g k) → passing n f ≡ passing n g
-passing-same zero f g same = refl
-passing-same (suc n) f g same = λ i. passing-same n f g (λ k h. same k (omega arith)) i + cond (same n (omega arith) i) 1 0
-
-passing-all : (n : ℕ) (f : ℕ → Bool) → ((k : ℕ) → k < n → f k ≡ true) → passing n f ≡ n
-passing-all zero f all = refl
-passing-all (suc n) f all =
-    let before : passing n f ≡ n = passing-all n f (λ k h. all k (omega arith)) in
-    (λ i. before i + cond (all n (omega arith) i) 1 0) ∙ (let e : n + 1 ≡ suc n = omega arith in e)
-
-abbrev weight : Bool → ℕ
-weight b = cond (not (b && true)) 1 0
-
--- a test that passes everywhere but at t
-passing-but : (n t : ℕ) → t < n → passing n (λ k. not ((t == k) && true)) + 1 ≡ n
-passing-but zero t h = absurd (omega arith)
-passing-but (suc n) t h =
-    elim (cases_eq t n) [
-      | inl e ↦
-          let here : (t == n) ≡ true = eq-eqb t n e in
-          let before : passing n (λ k. not ((t == k) && true)) ≡ n = passing-all n (λ k. not ((t == k) && true)) (λ k less. let apart : (t == k) ≡ false = ne_eqb t k (λ s. omega (arith, e, s, less)) in ap (λ b. not (b && true)) apart) in
-          let last : weight (t == n) ≡ 0 = ap weight here in
-          omega (arith, before, last)
-      | inr ne ↦
-          let here : (t == n) ≡ false = ne_eqb t n ne in
-          let before : passing n (λ k. not ((t == k) && true)) + 1 ≡ n = passing-but n t (omega (arith, h, ne)) in
-          let last : weight (t == n) ≡ 1 = ap weight here in
-          omega (arith, before, last)
-    ]
-
 abbrev one_if : Bool → ℕ
 one_if b = cond b 1 0
 
@@ -98,11 +67,7 @@ below-yes bound rise c h = cond-true (nat_le (c + rise) bound) 1 0 (le-leb (c + 
 
 below-no : (bound rise c : ℕ) → bound < c + rise → below bound rise c ≡ 0
 unfolding below
-below-no bound rise c h = go (nat_le (c + rise) bound) refl
-  where
-    go : (b : Bool) → nat_le (c + rise) bound ≡ b → below bound rise c ≡ 0
-    go true e = absurd (let le : c + rise ≤ bound = leb-true (c + rise) bound e in omega (arith, le, h))
-    go false e = ap one_if e
+below-no bound rise c h = ap one_if (lt-leb (c + rise) bound h)
 
 -- numbers that rise to at most a bound
 passing-below : (n bound rise : ℕ) → rise ≤ bound + 1 → passing n (λ c. nat_le (c + rise) bound) ≡ min n (bound + 1 - rise)
@@ -194,21 +159,6 @@ module _ (w : List Literal → ℕ) where
       omega (arith, rest, some, all)
 
   module _ (p : Problem) (letters : List ℕ) (e : Edge) (x : ℕ) (each : (t k to : ℕ) → sum_by w (each_below (step_count p e) (λ c. step_clause p letters e t k to c ∷ [])) ≡ x) where
-    targets : (t : ℕ) → t < p.size → passing p.size (λ to. not (is_idle p e t to)) ≡ target_count p e
-    targets t ht = go ((e.from == e.to) && not (rejects (automaton_of p) e.to)) refl
-      where
-        go : (calm : Bool) → ((e.from == e.to) && not (rejects (automaton_of p) e.to)) ≡ calm
-            → passing p.size (λ to. not (is_idle p e t to)) ≡ cond ((e.from == e.to) && not (rejects (automaton_of p) e.to)) (p.size - 1) p.size
-        go true h =
-            let but : passing p.size (λ to. not ((t == to) && true)) + 1 ≡ p.size = passing-but p.size t ht in
-            ap (λ b. passing p.size (λ to. not ((t == to) && b))) h
-            ∙ (let z : passing p.size (λ to. not ((t == to) && true)) ≡ p.size - 1 = omega (arith, but) in z)
-            ∙ sym (cond-true ((e.from == e.to) && not (rejects (automaton_of p) e.to)) (p.size - 1) p.size h)
-        go false h =
-            ap (λ b. passing p.size (λ to. not ((t == to) && b))) h
-            ∙ passing-all p.size (λ to. not ((t == to) && false)) (λ k less. ap not (and-false (t == k)))
-            ∙ sym (cond-false ((e.from == e.to) && not (rejects (automaton_of p) e.to)) (p.size - 1) p.size h)
-
     weigh-steps : (t k to : ℕ) (idle : Bool) → is_idle p e t to ≡ idle → sum_by w (step_clauses p letters e t k to) ≡ cond idle 0 x
     weigh-steps t k to true h = ap (sum_by w) (cond-true (is_idle p e t to) [] (each_below (step_count p e) (λ c. step_clause p letters e t k to c ∷ [])) h)
     weigh-steps t k to false h = ap (sum_by w) (cond-false (is_idle p e t to) [] (each_below (step_count p e) (λ c. step_clause p letters e t k to c ∷ [])) h) ∙ each t k to
@@ -218,7 +168,7 @@ module _ (w : List Literal → ℕ) where
         weigh-if p.size x (λ to. not (is_idle p e t to)) (λ to. step_clauses p letters e t k to)
         (λ to less busy. weigh-steps t k to false (not-true (is_idle p e t to) busy))
         (λ to less idle. weigh-steps t k to true (not-false (is_idle p e t to) idle))
-        ∙ ap (λ n. n * x) (targets t ht)
+        ∙ ap (λ n. n * x) (targets p e t ht)
 
     weigh-letters : (t : ℕ) → t < p.size → sum_by w (state_clauses p letters e t) ≡ fitting_letters p letters e.cube * (target_count p e * x)
     weigh-letters t ht =
@@ -401,20 +351,13 @@ module _ (p : Problem) (letters : List ℕ) where
   count_none_long h =
       none_when (is_allowed p letters) refl (ap (λ b. b && (nat_le (length (base_clauses p letters)) most_clauses && nat_le (literals_of (base_clauses p letters)) most_literals)) h)
 
-  over : (a b : ℕ) → b < a → nat_le a b ≡ false
-  over a b h = go (nat_le a b) refl
-    where
-      go : (x : Bool) → nat_le a b ≡ x → x ≡ false
-      go false e = refl
-      go true e = absurd (let le : a ≤ b = leb-true a b e in omega (arith, le, h))
-
   pub count_none : (most_clauses < length (base_clauses p letters)) ⊎ (most_literals < literals_of (base_clauses p letters)) → None ≡ count_of p letters
   count_none (inl many) =
       none_when (is_allowed p letters) refl
-      (ap (λ b. is_short_or_whole (reads_of p) letters && (b && nat_le (literals_of (base_clauses p letters)) most_literals)) (over (length (base_clauses p letters)) most_clauses many) ∙ and-false (is_short_or_whole (reads_of p) letters))
+      (ap (λ b. is_short_or_whole (reads_of p) letters && (b && nat_le (literals_of (base_clauses p letters)) most_literals)) (lt-leb (length (base_clauses p letters)) most_clauses many) ∙ and-false (is_short_or_whole (reads_of p) letters))
   count_none (inr many) =
       none_when (is_allowed p letters) refl
-      (ap (λ b. is_short_or_whole (reads_of p) letters && (nat_le (length (base_clauses p letters)) most_clauses && b)) (over (literals_of (base_clauses p letters)) most_literals many)
+      (ap (λ b. is_short_or_whole (reads_of p) letters && (nat_le (length (base_clauses p letters)) most_clauses && b)) (lt-leb (literals_of (base_clauses p letters)) most_literals many)
       ∙ ap (λ b. is_short_or_whole (reads_of p) letters && b) (and-false (nat_le (length (base_clauses p letters)) most_clauses)) ∙ and-false (is_short_or_whole (reads_of p) letters))
 
   pub count_some : (n : ℕ) → is_short_or_whole (reads_of p) letters ≡ true → n ≡ length (base_clauses p letters) → n ≤ most_clauses → literals_of (base_clauses p letters) ≤ most_literals
@@ -481,8 +424,8 @@ module _ (p : Problem) (letters : List ℕ) where
   too_many (inr many) = count_none (inr (begins (literals_of (base_clauses p letters)) (literals_beside p letters) (literals_of (flat_map (edge_clauses p letters) (automaton_of p).edges)) most_literals literals-base many))
 
 -- so an allowed size has few enough numbers
-pub small_size : (p : Problem) (letters : List ℕ) → IsLetterSize p letters → is_allowed p letters ≡ true → IsSmallSize p letters
-small_size p letters size allowed = record { within = size; few = few_chains p letters allowed }
+pub small_size : (p : Problem) (letters : List ℕ) → IsLetterProblem p letters → is_allowed p letters ≡ true → IsSmallSize p letters
+small_size p letters size allowed = record { problem = size; few = few_chains p letters allowed }
 
 -- what a test of both limits says
 pub many_of : (a x b y : ℕ) → (nat_lt a x || nat_lt b y) ≡ true → (a < x) ⊎ (b < y)

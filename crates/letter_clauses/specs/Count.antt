@@ -1,4 +1,4 @@
-use Rattle.std.specs.Prelude.{ℕ, zero, suc, ◌+◌, ◌-◌, ◌*◌, ◌/◌, ◌==◌, ◌^◌, Bool, ◌&&◌, ◌||◌, List, Option, Some, None, length, min, nat_le, if◌then◌else◌}
+use Rattle.std.specs.Prelude.{ℕ, ◌+◌, ◌-◌, ◌*◌, ◌/◌, ◌==◌, ◌^◌, Bool, ◌&&◌, ◌||◌, List, Option, Some, None, length, min, nat_le, if◌then◌else◌}
 use Rattle.std.specs.List.{sum_by}
 use Rattle.propositional_logic.specs.Literal.{Literal}
 use Rattle.letters_and_lassos.specs.Signals.{has}
@@ -9,7 +9,7 @@ use Rattle.machine_model.specs.declared.automata.Edge.{Edge}
 use Rattle.machine_model.specs.declared.problems.Problem.{Problem}
 use Rattle.product_bound.specs.Annotation.{bound_at, leaves, rise_at}
 use Rattle.annotation_encode.specs.BaseClauses.{fits_read, step_count, written_signal}
-use Rattle.annotation_encode.specs.Count.{target_count}
+use Rattle.annotation_encode.specs.Count.{passing, target_count}
 use Rattle.annotation_encode.specs.Variables.{counted_before}
 use Rattle.letter_clauses.specs.BaseClauses.{base_clauses}
 use Rattle.letter_clauses.specs.Letters.{letter_at}
@@ -46,11 +46,6 @@ abbrev pub count_of : Problem → List ℕ → Option ℕ
 count_of p letters = if is_allowed p letters then Some (length (base_clauses p letters)) else None
 
 -- The parts of these numbers.
-
--- how many of the numbers below n pass a test
-abbrev pub passing : ℕ → (ℕ → Bool) → ℕ
-passing zero test = 0
-passing (suc n) test = passing n test + (if test n then 1 else 0)
 
 -- how many of the letters fit a cube
 abbrev pub fitting_letters : Problem → List ℕ → Cube → ℕ

@@ -1,7 +1,7 @@
-use Rattle.std.specs.Prelude.{◌≡◌, ◌≢◌, true, ℕ, ◌+◌, ◌*◌, ◌^◌, ◌<◌, ◌≤◌, List, [], All, AllPairs, slice_index}
+use Rattle.std.specs.Prelude.{◌≡◌, ◌≢◌, true, ℕ, ◌*◌, ◌^◌, ◌<◌, ◌≤◌, List, [], All, AllPairs, slice_index}
+use Rattle.text_limits.specs.declared.TheConstants.{LARGE_LIMITS}
 use Rattle.machine_model.specs.Automaton.{states_of}
-use Rattle.machine_model.specs.Counting.{CountsIn}
-use Rattle.machine_model.specs.Problem.{NamesSignals, automaton_of, counts_locally, reads_of}
+use Rattle.machine_model.specs.Problem.{IsProblemIn, automaton_of, counts_locally, reads_of}
 use Rattle.machine_model.specs.declared.problems.Problem.{Problem}
 use Rattle.annotation_encode.specs.Variables.{counted_before}
 
@@ -18,23 +18,14 @@ pub record IsLetterList (signals : ℕ) (letters : List ℕ) : Type 0 where
 abbrev pub letter_at : List ℕ → ℕ → ℕ
 letter_at letters k = slice_index letters k
 
--- the search for a machine of one size over some letters, within the limits of version 4 (this project's own)
+-- the search for a machine of one size over some letters, within the limits of version 4, with numbers that count by component
+-- (this project's own)
 pub record IsLetterProblem (p : Problem) (letters : List ℕ) : Type 0 where
-  pub inputs : p.inputs ≤ 16
-  pub outputs : p.outputs ≤ 16
-  pub some : 1 ≤ p.size
-  pub size : p.size ≤ 16
-  pub states : states_of (automaton_of p) ≤ 20000
-  pub signals : All (NamesSignals (p.inputs + p.outputs)) (automaton_of p).edges
+  pub within : IsProblemIn LARGE_LIMITS p
   pub local : counts_locally p ≡ true
   pub list : IsLetterList (reads_of p) letters
 
--- the same, with numbers that count by the automaton's components
-pub record IsLetterSize (p : Problem) (letters : List ℕ) : Type 0 where
-  pub problem : IsLetterProblem p letters
-  pub counting : CountsIn (automaton_of p) p.counting
-
 -- and so few numbers that each variable has one of 32 bits, as where the clauses are few enough
 pub record IsSmallSize (p : Problem) (letters : List ℕ) : Type 0 where
-  pub within : IsLetterSize p letters
+  pub problem : IsLetterProblem p letters
   pub few : p.size * (p.size * counted_before p (states_of (automaton_of p))) ≤ 4000000

@@ -9,7 +9,7 @@ ghost use Rattle.annotation_encode.specs.BaseClauses.{each_below, fits_read, is_
 ghost use Rattle.annotation_encode.specs.Laws.{HasAccepted, IsMetBySome};
 ghost use Rattle.letter_clauses.specs.BaseClauses.{base_clauses, chain_clauses, count_literals, edge_clauses, letter_clauses, order_clauses, pair_chains, row_clauses, start_clause, state_chains, state_clauses, step_clauses, write_literal, write_literals};
 ghost use Rattle.letter_clauses.specs.Count.{is_allowed};
-ghost use Rattle.letter_clauses.specs.Letters.{IsLetterSize, IsSmallSize, letter_at};
+ghost use Rattle.letter_clauses.specs.Letters.{IsLetterProblem, IsSmallSize, letter_at};
 ghost use Rattle.letter_clauses.specs.Variables.{row_count, var_move, variables_of};
 
 use crate::sizes::LetterSize;
@@ -23,7 +23,7 @@ impl LetterSize<'_> {
     /// The number of variables.
     #[tactic(auto, using(crate::proofs::Weights::small_size))]
     pub fn variables(&self) -> u32
-        requires size { IsLetterSize self.now.problem.now self.now.letters.now }
+        requires size { IsLetterProblem self.now.problem.now self.now.letters.now }
         requires allowed { is_allowed self.now.problem.now self.now.letters.now ≡ true }
         ensures value { result ≡ variables_of self.now.problem.now self.now.letters.now }
         ensures small { result ≤ 2 ^ 30 }
@@ -36,7 +36,7 @@ impl LetterSize<'_> {
     /// Takes time and memory for its literals alone, and for each edge as many steps as there are rows.
     #[tactic(auto, using(crate::proofs::Weights::small_size))]
     pub fn encode(&self, alloc: Global) -> Result<Cnf, AllocError>
-        requires size { IsLetterSize self.now.problem.now self.now.letters.now }
+        requires size { IsLetterProblem self.now.problem.now self.now.letters.now }
         requires allowed { is_allowed self.now.problem.now self.now.letters.now ≡ true }
         ensures vars { IfOk result (λ cnf. cnf.vars ≡ variables_of self.now.problem.now self.now.letters.now) }
         ensures clauses { IfOk result (λ cnf. cnf.clauses.items ≡ base_clauses self.now.problem.now self.now.letters.now) }
@@ -438,7 +438,7 @@ impl Encoding<'_> {
 
 /// Whether a read letter fits the cube's read signals.
 pub(crate) fn fits_read(size: LetterSize<'_>, cube: Cube, letter: u32) -> bool
-    requires { IsLetterSize size.problem.now size.letters.now }
+    requires { IsLetterProblem size.problem.now size.letters.now }
     ensures { result ≡ fits_read size.entry.problem.now cube letter }
 {
     for signal in 0..size.problem.reads() {

@@ -6,7 +6,7 @@ ghost use Rattle.annotation_encode.specs.BaseClauses.{fits_read as reads_fit, st
 ghost use Rattle.annotation_encode.specs.Count.{target_count};
 ghost use Rattle.annotation_encode.specs.Variables.{counted_before};
 ghost use Rattle.letter_clauses.specs.Count.{allowed_count, chain_count, clauses_beside, count_of, fitting_letters, is_named, is_short_or_whole, literals_beside, most_clauses, most_literals, named_signals, order_count, order_literals, step_literals, steps_of};
-ghost use Rattle.letter_clauses.specs.Letters.{IsLetterSize, letter_at};
+ghost use Rattle.letter_clauses.specs.Letters.{IsLetterProblem, letter_at};
 ghost use Rattle.letter_clauses.specs.Variables.{row_count};
 
 use crate::clauses::fits_read;
@@ -31,7 +31,7 @@ impl LetterSize<'_> {
     /// The clauses aren't listed to find it: it takes as many steps as there are edges, letters and signals, multiplied. It
     /// takes no memory.
     pub fn count(&self) -> Option<u64>
-        requires { IsLetterSize self.now.problem.now self.now.letters.now }
+        requires { IsLetterProblem self.now.problem.now self.now.letters.now }
         ensures { result ≡ count_of self.now.problem.now self.now.letters.now }
     {
         if !self.is_short_or_whole() {
@@ -56,7 +56,7 @@ impl LetterSize<'_> {
 
     /// Whether the list has all letters, or few enough.
     fn is_short_or_whole(&self) -> bool
-        requires { IsLetterSize self.now.problem.now self.now.letters.now }
+        requires { IsLetterProblem self.now.problem.now self.now.letters.now }
         ensures { result ≡ is_short_or_whole (reads_of self.now.problem.now) self.now.letters.now }
     {
         let letters = self.letter_count();
@@ -65,7 +65,7 @@ impl LetterSize<'_> {
 
     /// How many clauses are about no edge.
     fn clauses_beside(&self) -> u64
-        requires { IsLetterSize self.now.problem.now self.now.letters.now }
+        requires { IsLetterProblem self.now.problem.now self.now.letters.now }
         ensures value { result ≡ clauses_beside self.now.problem.now self.now.letters.now }
         ensures small { result ≤ 103000000000 }
     {
@@ -74,7 +74,7 @@ impl LetterSize<'_> {
 
     /// How many literals they have.
     fn literals_beside(&self) -> u64
-        requires { IsLetterSize self.now.problem.now self.now.letters.now }
+        requires { IsLetterProblem self.now.problem.now self.now.letters.now }
         ensures value { result ≡ literals_beside self.now.problem.now self.now.letters.now }
         ensures small { result ≤ 9000000000000 }
     {
@@ -83,7 +83,7 @@ impl LetterSize<'_> {
 
     /// How many literals say that each row moves somewhere.
     fn row_literals(&self) -> u64
-        requires { IsLetterSize self.now.problem.now self.now.letters.now }
+        requires { IsLetterProblem self.now.problem.now self.now.letters.now }
         ensures value { result ≡ row_count self.now.problem.now self.now.letters.now * self.now.problem.now.size }
         ensures small { result ≤ 16777216 }
     {
@@ -92,7 +92,7 @@ impl LetterSize<'_> {
 
     /// How many clauses chain a pair's numbers.
     fn chain_count(&self) -> u64
-        requires { IsLetterSize self.now.problem.now self.now.letters.now }
+        requires { IsLetterProblem self.now.problem.now self.now.letters.now }
         ensures value { result ≡ chain_count self.now.problem.now }
         ensures small { result ≤ 102400000000 }
     {
@@ -102,7 +102,7 @@ impl LetterSize<'_> {
 
     /// How many rejecting states are counted in all states, together.
     fn all_counted(&self) -> u32
-        requires { IsLetterSize self.now.problem.now self.now.letters.now }
+        requires { IsLetterProblem self.now.problem.now self.now.letters.now }
         ensures value { result ≡ counted_before self.now.problem.now (states_of (automaton_of self.now.problem.now)) }
         ensures small { result ≤ 400000000 }
     {
@@ -112,7 +112,7 @@ impl LetterSize<'_> {
 
     /// How many clauses order the states.
     fn order_count(&self) -> u64
-        requires { IsLetterSize self.now.problem.now self.now.letters.now }
+        requires { IsLetterProblem self.now.problem.now self.now.letters.now }
         ensures value { result ≡ order_count self.now.problem.now self.now.letters.now }
         ensures small { result ≤ 14680064 }
     {
@@ -121,7 +121,7 @@ impl LetterSize<'_> {
 
     /// How many literals these have.
     fn order_literals(&self) -> u64
-        requires { IsLetterSize self.now.problem.now self.now.letters.now }
+        requires { IsLetterProblem self.now.problem.now self.now.letters.now }
         ensures value { result ≡ order_literals self.now.problem.now self.now.letters.now }
         ensures small { result ≤ 8000000000000 }
     {
@@ -131,7 +131,7 @@ impl LetterSize<'_> {
 
     /// The number of states from 2 on.
     fn later_states(&self) -> u64
-        requires { IsLetterSize self.now.problem.now self.now.letters.now }
+        requires { IsLetterProblem self.now.problem.now self.now.letters.now }
         ensures value { result ≡ self.now.problem.now.size - 2 }
         ensures small { result ≤ 14 }
     {
@@ -140,7 +140,7 @@ impl LetterSize<'_> {
 
     /// How many steps there are along an edge: from each state on each letter that fits, to each state to which it has clauses.
     fn steps_of(&self, edge: Edge) -> u64
-        requires size { IsLetterSize self.now.problem.now self.now.letters.now }
+        requires size { IsLetterProblem self.now.problem.now self.now.letters.now }
         requires edge { JoinsStates (states_of (automaton_of self.now.problem.now)) edge }
         ensures value { result ≡ steps_of self.now.problem.now self.now.letters.now edge }
         ensures small { result ≤ 16777216 }
@@ -151,7 +151,7 @@ impl LetterSize<'_> {
 
     /// How many letters fit the cube's read signals.
     fn fitting_letters(&self, cube: Cube) -> u32
-        requires { IsLetterSize self.now.problem.now self.now.letters.now }
+        requires { IsLetterProblem self.now.problem.now self.now.letters.now }
         ensures value { result ≡ fitting_letters self.now.problem.now self.now.letters.now cube }
         ensures small { result ≤ 65536 }
     {
@@ -164,7 +164,7 @@ impl LetterSize<'_> {
 
     /// 1 where the letter at this place fits the cube's read signals, else 0.
     fn fitting_at(&self, cube: Cube, place: u32) -> u32
-        requires size { IsLetterSize self.now.problem.now self.now.letters.now }
+        requires size { IsLetterProblem self.now.problem.now self.now.letters.now }
         requires place { place < length self.now.letters.now }
         ensures value { result ≡ (if reads_fit self.now.problem.now cube (letter_at self.now.letters.now place) then 1 else 0) }
         ensures small { result ≤ 1 }
@@ -178,7 +178,7 @@ impl LetterSize<'_> {
 
     /// To how many states an edge has clauses, from each state.
     fn target_count(&self, edge: Edge) -> u32
-        requires size { IsLetterSize self.now.problem.now self.now.letters.now }
+        requires size { IsLetterProblem self.now.problem.now self.now.letters.now }
         requires edge { JoinsStates (states_of (automaton_of self.now.problem.now)) edge }
         ensures value { result ≡ target_count self.now.problem.now edge }
         ensures small { result ≤ 16 }
@@ -192,7 +192,7 @@ impl LetterSize<'_> {
 
     /// For how many numbers a step along the edge has clauses.
     fn step_count(&self, edge: Edge) -> u64
-        requires size { IsLetterSize self.now.problem.now self.now.letters.now }
+        requires size { IsLetterProblem self.now.problem.now self.now.letters.now }
         requires edge { JoinsStates (states_of (automaton_of self.now.problem.now)) edge }
         ensures value { result ≡ step_count self.now.problem.now edge }
         ensures small { result ≤ 320001 }
@@ -206,7 +206,7 @@ impl LetterSize<'_> {
 
     /// How many literals these have.
     fn step_literals(&self, edge: Edge) -> u64
-        requires size { IsLetterSize self.now.problem.now self.now.letters.now }
+        requires size { IsLetterProblem self.now.problem.now self.now.letters.now }
         requires edge { JoinsStates (states_of (automaton_of self.now.problem.now)) edge }
         ensures value { result ≡ step_literals self.now.problem.now edge }
         ensures small { result ≤ 7000000 }
@@ -217,7 +217,7 @@ impl LetterSize<'_> {
 
     /// For how many numbers of the pair that is left the bound allows what the next pair has to reach.
     fn allowed_count(&self, edge: Edge) -> u64
-        requires size { IsLetterSize self.now.problem.now self.now.letters.now }
+        requires size { IsLetterProblem self.now.problem.now self.now.letters.now }
         requires edge { JoinsStates (states_of (automaton_of self.now.problem.now)) edge }
         ensures value { result ≡ allowed_count self.now.problem.now edge }
         ensures small { result ≤ 320001 }
@@ -244,7 +244,7 @@ impl LetterSize<'_> {
 
     /// How many written signals the cube names.
     fn named_signals(&self, cube: Cube) -> u32
-        requires { IsLetterSize self.now.problem.now self.now.letters.now }
+        requires { IsLetterProblem self.now.problem.now self.now.letters.now }
         ensures value { result ≡ named_signals self.now.problem.now cube }
         ensures small { result ≤ 16 }
     {

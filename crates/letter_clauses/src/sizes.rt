@@ -5,7 +5,7 @@ ghost use Rattle.machine_model.specs.Problem.{automaton_of, reads_of, writes_of}
 ghost use Rattle.product_bound.specs.Annotation.{bound_at, leaves, rejecting_at};
 ghost use Rattle.annotation_encode.specs.BaseClauses.{read_signal, row_move, written_signal};
 ghost use Rattle.annotation_encode.specs.Variables.{counted_before, numbers_before, state_numbers, write_place, write_places};
-ghost use Rattle.letter_clauses.specs.Letters.{IsLetterSize, IsSmallSize};
+ghost use Rattle.letter_clauses.specs.Letters.{IsLetterProblem, IsSmallSize};
 ghost use Rattle.letter_clauses.specs.Variables.{move_count, row_count, row_place, var_count, var_move, var_write, variables_of, write_count};
 
 use letters_and_lassos::{Kind, Side};
@@ -23,7 +23,7 @@ pub struct LetterSize<'a> {
 impl LetterSize<'_> {
     /// How many letters there are.
     pub(crate) fn letter_count(&self) -> u32
-        requires { IsLetterSize self.now.problem.now self.now.letters.now }
+        requires { IsLetterProblem self.now.problem.now self.now.letters.now }
         ensures value { result ≡ length self.now.letters.now }
         ensures some { 0 < result }
         ensures small { result ≤ 65536 }
@@ -33,7 +33,7 @@ impl LetterSize<'_> {
 
     /// How many rows there are, one for each state and letter.
     pub(crate) fn row_count(&self) -> u32
-        requires { IsLetterSize self.now.problem.now self.now.letters.now }
+        requires { IsLetterProblem self.now.problem.now self.now.letters.now }
         ensures value { result ≡ row_count self.now.problem.now self.now.letters.now }
         ensures small { result ≤ 1048576 }
     {
@@ -42,7 +42,7 @@ impl LetterSize<'_> {
 
     /// The place of state `t` on the letter at place `letter`.
     pub(crate) fn row_place(&self, t: u32, letter: u32) -> u32
-        requires size { IsLetterSize self.now.problem.now self.now.letters.now }
+        requires size { IsLetterProblem self.now.problem.now self.now.letters.now }
         requires state { t < self.now.problem.now.size }
         requires letter { letter < length self.now.letters.now }
         ensures value { result ≡ row_place self.now.letters.now t letter }
@@ -55,7 +55,7 @@ impl LetterSize<'_> {
 
     /// The variable that says: at the row at this place the machine moves to state `to`.
     pub(crate) fn row_move(&self, place: u32, to: u32) -> u32
-        requires size { IsLetterSize self.now.problem.now self.now.letters.now }
+        requires size { IsLetterProblem self.now.problem.now self.now.letters.now }
         requires row { place < row_count self.now.problem.now self.now.letters.now }
         requires target { to < self.now.problem.now.size }
         ensures value { result ≡ row_move self.now.problem.now place to }
@@ -68,7 +68,7 @@ impl LetterSize<'_> {
 
     /// The variable that says: in state `t` on this letter the machine moves to state `to`.
     pub(crate) fn var_move(&self, t: u32, letter: u32, to: u32) -> u32
-        requires size { IsLetterSize self.now.problem.now self.now.letters.now }
+        requires size { IsLetterProblem self.now.problem.now self.now.letters.now }
         requires state { t < self.now.problem.now.size }
         requires letter { letter < length self.now.letters.now }
         requires target { to < self.now.problem.now.size }
@@ -81,7 +81,7 @@ impl LetterSize<'_> {
 
     /// How many variables say where the machine moves.
     fn move_count(&self) -> u32
-        requires { IsLetterSize self.now.problem.now self.now.letters.now }
+        requires { IsLetterProblem self.now.problem.now self.now.letters.now }
         ensures value { result ≡ move_count self.now.problem.now self.now.letters.now }
         ensures small { result ≤ 16777216 }
     {
@@ -90,7 +90,7 @@ impl LetterSize<'_> {
 
     /// The place of what state `t` writes on this letter.
     fn write_place(&self, t: u32, letter: u32) -> u32
-        requires size { IsLetterSize self.now.problem.now self.now.letters.now }
+        requires size { IsLetterProblem self.now.problem.now self.now.letters.now }
         requires state { t < self.now.problem.now.size }
         requires letter { letter < length self.now.letters.now }
         ensures value { result ≡ write_place self.now.problem.now.kind (length self.now.letters.now) t letter }
@@ -104,7 +104,7 @@ impl LetterSize<'_> {
 
     /// How many such places there are.
     fn write_places(&self) -> u32
-        requires { IsLetterSize self.now.problem.now self.now.letters.now }
+        requires { IsLetterProblem self.now.problem.now self.now.letters.now }
         ensures value { result ≡ write_places self.now.problem.now.kind (length self.now.letters.now) self.now.problem.now.size }
         ensures small { result ≤ 1048576 }
     {
@@ -116,7 +116,7 @@ impl LetterSize<'_> {
 
     /// How many variables say what the machine writes.
     fn write_count(&self) -> u32
-        requires { IsLetterSize self.now.problem.now self.now.letters.now }
+        requires { IsLetterProblem self.now.problem.now self.now.letters.now }
         ensures value { result ≡ write_count self.now.problem.now self.now.letters.now }
         ensures small { result ≤ 16777216 }
     {
@@ -125,7 +125,7 @@ impl LetterSize<'_> {
 
     /// The number of signals that the machine writes.
     pub(crate) fn writes(&self) -> u32
-        requires { IsLetterSize self.now.problem.now self.now.letters.now }
+        requires { IsLetterProblem self.now.problem.now self.now.letters.now }
         ensures value { result ≡ writes_of self.now.problem.now }
         ensures small { result ≤ 16 }
     {
@@ -135,7 +135,7 @@ impl LetterSize<'_> {
     /// The variable that says: in state `t` on this letter the machine writes signal `s`. For a Moore machine it is the same
     /// for each letter.
     pub(crate) fn var_write(&self, t: u32, letter: u32, s: u32) -> u32
-        requires size { IsLetterSize self.now.problem.now self.now.letters.now }
+        requires size { IsLetterProblem self.now.problem.now self.now.letters.now }
         requires state { t < self.now.problem.now.size }
         requires letter { letter < length self.now.letters.now }
         requires signal { s < writes_of self.now.problem.now }
@@ -148,7 +148,7 @@ impl LetterSize<'_> {
 
     /// The components by which numbers count.
     fn components(&self) -> &Components
-        requires { IsLetterSize self.now.problem.now self.now.letters.now }
+        requires { IsLetterProblem self.now.problem.now self.now.letters.now }
         ensures { AreComponentsOf (automaton_of self.now.problem.now) result.now }
     {
         match self.problem.components() {
@@ -159,7 +159,7 @@ impl LetterSize<'_> {
 
     /// How many rejecting states are counted in state `q`.
     pub(crate) fn rejecting_at(&self, q: u32) -> u32
-        requires size { IsLetterSize self.now.problem.now self.now.letters.now }
+        requires size { IsLetterProblem self.now.problem.now self.now.letters.now }
         requires state { q < states_of (automaton_of self.now.problem.now) }
         ensures value { result ≡ rejecting_at self.now.problem.now q }
         ensures small { result ≤ 20000 }
@@ -171,7 +171,7 @@ impl LetterSize<'_> {
 
     /// How many are counted in the states before `q`, together.
     pub(crate) fn counted_before(&self, q: u32) -> u32
-        requires size { IsLetterSize self.now.problem.now self.now.letters.now }
+        requires size { IsLetterProblem self.now.problem.now self.now.letters.now }
         requires state { q ≤ states_of (automaton_of self.now.problem.now) }
         ensures { result ≡ counted_before self.now.problem.now q }
     {
@@ -181,7 +181,7 @@ impl LetterSize<'_> {
 
     /// Whether numbers are counted anew at an edge from state `q` to state `r`.
     pub(crate) fn leaves(&self, q: u32, r: u32) -> bool
-        requires size { IsLetterSize self.now.problem.now self.now.letters.now }
+        requires size { IsLetterProblem self.now.problem.now self.now.letters.now }
         requires from { q < states_of (automaton_of self.now.problem.now) }
         requires to { r < states_of (automaton_of self.now.problem.now) }
         ensures { result ≡ leaves self.now.problem.now q r }
@@ -191,7 +191,7 @@ impl LetterSize<'_> {
 
     /// The greatest number that a pair of the automaton's state `q` may have.
     pub(crate) fn bound_at(&self, q: u32) -> u32
-        requires size { IsLetterSize self.now.problem.now self.now.letters.now }
+        requires size { IsLetterProblem self.now.problem.now self.now.letters.now }
         requires state { q < states_of (automaton_of self.now.problem.now) }
         ensures value { result ≡ bound_at self.now.problem.now q }
         ensures small { result ≤ 320000 }
@@ -257,7 +257,7 @@ impl LetterSize<'_> {
 
     /// The signal of the problem that a read signal of the machine is.
     pub(crate) fn read_signal(&self, signal: u32) -> u32
-        requires size { IsLetterSize self.now.problem.now self.now.letters.now }
+        requires size { IsLetterProblem self.now.problem.now self.now.letters.now }
         requires signal { signal < reads_of self.now.problem.now }
         ensures { result ≡ read_signal self.now.problem.now signal }
     {
@@ -269,7 +269,7 @@ impl LetterSize<'_> {
 
     /// The signal of the problem that a written signal of the machine is.
     pub(crate) fn written_signal(&self, signal: u32) -> u32
-        requires size { IsLetterSize self.now.problem.now self.now.letters.now }
+        requires size { IsLetterProblem self.now.problem.now self.now.letters.now }
         requires signal { signal < writes_of self.now.problem.now }
         ensures { result ≡ written_signal self.now.problem.now signal }
     {

@@ -20,8 +20,8 @@ pub met_is_decoded : AllLettersAreVersionThree → JoinedIsReached → MetIsDeco
 met_is_decoded alike reached_is p values problem made met =
     let three : meets values (version_three.base_clauses p) ≡ true = ap (meets values) (sym (alike p problem.local).clauses) ∙ met in
     let start : start_number p ≤ bound_at p 0 = start_small p (all_letters p) problem in
-    let rows : AreRows p values (row_count p) (decoded_rows p values) = are_rows p values (has_moves p values problem.some start made three) in
-    let outcome : IsOutcome p values (machine_of p (decoded_rows p values)) (numbers_of p values) = outcome_of p values (decoded_rows p values) reached_is problem.some start made three rows in
+    let rows : AreRows p values (row_count p) (decoded_rows p values) = are_rows p values (has_moves p values problem.within.some start made three) in
+    let outcome : IsOutcome p values (machine_of p (decoded_rows p values)) (numbers_of p values) = outcome_of p values (decoded_rows p values) reached_is problem.within.some start made three rows in
     record {
       machine = machine_of p (decoded_rows p values);
       numbers = numbers_of p values;

@@ -6,6 +6,7 @@ use solved_text::SizeLog;
 use std::alloc::{AllocError, Global};
 use std::sync::Wait;
 use std::thread::Threads;
+use text_limits::LARGE_LIMITS;
 
 /// How much is tried.
 #[derive(Clone, Copy, Debug)]
@@ -40,9 +41,6 @@ pub struct Refutations {
     pub ended: Ended,
 }
 
-/// No size above this one is tried.
-const MOST_STATES: u32 = 16;
-
 /// The most workers.
 const MOST_WORKERS: u32 = 64;
 
@@ -72,7 +70,10 @@ pub struct Sizes<'a, 'b> {
 impl<'a, 'b> Sizes<'a, 'b> {
     /// The sizes below a known one.
     pub fn new(alloc: Global, ground: &'b Ground<'a>, known: u32, effort: Effort) -> Sizes<'a, 'b> {
-        let most = effort.max.unwrap_or(MOST_STATES).min(MOST_STATES);
+        let most = effort
+            .max
+            .unwrap_or(LARGE_LIMITS.machine)
+            .min(LARGE_LIMITS.machine);
         Sizes {
             alloc,
             ground,
@@ -177,7 +178,7 @@ pub fn refute_sizes<R: Threads + Wait + Sync, G: Gate + Sync>(
     gate: &G,
 ) -> Refutations {
     let mut sizes = Sizes::new(alloc, ground, known, effort);
-    for _ in 0..MOST_STATES + 1 {
+    for _ in 0..LARGE_LIMITS.machine + 1 {
         if sizes.is_ended() {
             break;
         }

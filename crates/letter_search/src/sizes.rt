@@ -182,9 +182,10 @@ impl Trial<'_, '_> {
         let Some(problem) = self.ground.problem() else {
             return Ok(Filled::TooLong);
         };
-        let Some(tracks) = Tracks::of(self.alloc, &problem.automaton)? else {
+        let Some(components) = problem.components() else {
             return Ok(Filled::TooLong);
         };
+        let tracks = Tracks::of(self.alloc, &problem.automaton, components)?;
         let places = places_of(problem);
         let filling = Filling {
             alloc: self.alloc,

@@ -1,11 +1,9 @@
 //! An automaton as numbers go along its edges.
+ghost use Rattle.machine_model.specs.Components.{AreComponentsOf};
+
 use letters_and_lassos::Cube;
-use machine_model::laws::components_are_classes;
 use machine_model::{Automaton, Components};
 use std::alloc::{AllocError, Global};
-
-/// The most states whose components are found.
-const MOST_STATES: u32 = 20_000;
 
 /// An edge, and what becomes of a number along it.
 #[derive(Clone, Copy)]
@@ -39,13 +37,14 @@ pub(crate) struct Tracks {
 }
 
 impl Tracks {
-    /// Those of an automaton. None where it has over 20,000 states.
-    pub(crate) fn of(alloc: Global, automaton: &Automaton) -> Result<Option<Tracks>, AllocError> {
-        components_are_classes();
-        if automaton.states() > MOST_STATES {
-            return Ok(None);
-        }
-        let components = Components::of(alloc, automaton)?;
+    /// Those of an automaton with these components.
+    pub(crate) fn of(
+        alloc: Global,
+        automaton: &Automaton,
+        components: &Components,
+    ) -> Result<Tracks, AllocError>
+        requires { AreComponentsOf automaton.now components.now }
+    {
         let mut edges = Vec::new(alloc);
         for edge in automaton.edges() {
             edges.push(Track {
@@ -62,11 +61,11 @@ impl Tracks {
             counts.push(components.count(q))?;
             before.push(components.before(q))?;
         }
-        Ok(Some(Tracks {
+        Ok(Tracks {
             edges,
             counts,
             before,
-        }))
+        })
     }
 
     /// The number of states.

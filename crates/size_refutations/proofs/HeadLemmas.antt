@@ -6,6 +6,7 @@ use Rattle.std.specs.Option.{option_map_or}
 use Rattle.std.proofs.lemmas.Bool.{and_from, and_parts, eq-eqb, eqb-true, eqb-false, le-leb, leb-true, lt-ltb, ltb-true, ne_eqb, not-true, not_from_false}
 use Rattle.std.proofs.lemmas.List.Elements.{All-nil, All-cons, All-head, All-tail, All-weaker}
 use Rattle.std.proofs.lemmas.List.Kept.{AllPairs-cons}
+use Rattle.text_limits.specs.declared.TheConstants.{LARGE_LIMITS}
 use Rattle.machine_model.specs.declared.problems.Problem.{Problem}
 use Rattle.letter_clauses.specs.BaseClauses.{base_clauses}
 use Rattle.letter_clauses.specs.Count.{count_of, is_allowed, most_letters}
@@ -14,7 +15,7 @@ use Rattle.letter_clauses.specs.Variables.{variables_of}
 use Rattle.solved_text.specs.declared.letters.Letters.{Letters}
 use Rattle.solved_text.specs.declared.letters.Letters.TheVariants as written
 use Rattle.solved_text.specs.Parts.{SizeLog}
-use Rattle.size_refutations.specs.Heads.{are_few, are_letters, has_numbers, has_some, is_list, is_number_of_states, most_states, rise_below}
+use Rattle.size_refutations.specs.Heads.{are_few, are_letters, has_numbers, has_some, is_list, is_number_of_states, rise_below}
 use Rattle.size_refutations.specs.Holds.{AreFewLetters, AreLetters}
 
 -- ---- numbers that rise
@@ -109,15 +110,15 @@ letters_back signals (written.Few letters) is = few_back signals letters is
 
 pub record AreStates (size : ℕ) : Type 0 where
   pub some : 1 ≤ size
-  pub few : size ≤ most_states
+  pub few : size ≤ LARGE_LIMITS.machine
 
 pub states_of_test : (size : ℕ) → is_number_of_states size ≡ true → AreStates size
 states_of_test size is =
-    let both = and_parts (nat_le 1 size) (nat_le size most_states) is in
-    record { some = leb-true 1 size both.0; few = leb-true size most_states both.1 }
+    let both = and_parts (nat_le 1 size) (nat_le size LARGE_LIMITS.machine) is in
+    record { some = leb-true 1 size both.0; few = leb-true size LARGE_LIMITS.machine both.1 }
 
-pub states_back : (size : ℕ) → 1 ≤ size → size ≤ most_states → is_number_of_states size ≡ true
-states_back size some few = and_from (nat_le 1 size) (nat_le size most_states) (le-leb 1 size some) (le-leb size most_states few)
+pub states_back : (size : ℕ) → 1 ≤ size → size ≤ LARGE_LIMITS.machine → is_number_of_states size ≡ true
+states_back size some few = and_from (nat_le 1 size) (nat_le size LARGE_LIMITS.machine) (le-leb 1 size some) (le-leb size LARGE_LIMITS.machine few)
 
 pub record HasNumbers (p : Problem) (letters : List ℕ) (l : SizeLog) : Type 0 where
   pub allowed : is_allowed p letters ≡ true

@@ -3,12 +3,14 @@ use Rattle.std.proofs.Common.{◌≡◌, ℕ, ◌^◌, ◌&&◌, Bool, true, fal
 use Rattle.std.specs.Prelude.{is_some}
 use Rattle.std.specs.List.{range_with_len}
 use Rattle.std.proofs.lemmas.Bool.{and_from, and_parts}
+use mathlib.Core.Bool.{and-false}
+use Rattle.std_lemmas.proofs.Options.{none_by}
 use Rattle.propositional_logic.specs.declared.formula.Cnf.{Cnf}
 use Rattle.machine_model.specs.Problem.{Parts, parts_of, reads_of, sized}
 use Rattle.machine_model.specs.declared.problems.Problem.{Problem}
 use Rattle.letter_clauses.specs.BaseClauses.{base_clauses}
 use Rattle.letter_clauses.specs.Count.{count_of, is_allowed}
-use Rattle.letter_clauses.specs.Letters.{IsLetterSize}
+use Rattle.letter_clauses.specs.Letters.{IsLetterProblem}
 use Rattle.solved_text.specs.declared.letters.Letters.{Letters}
 use Rattle.solved_text.specs.declared.letters.Letters.TheVariants.{All, Few}
 use Rattle.solved_text.specs.Parts.{SizeLog}
@@ -21,10 +23,6 @@ use Rattle.size_refutations.specs.Sizes as sizes
 use Rattle.size_refutations.proofs.HeadLemmas.{few_letters, listed}
 use Rattle.size_refutations.proofs.Refuted.{all_letters_listed}
 use Rattle.size_refutations.proofs.Searched.{letter_size, size_is}
-
-and_not : (b : Bool) → (b && false) ≡ false
-and_not true = refl
-and_not false = refl
 
 module _ (g : LogGround) (s : Problem) (l : SizeLog) (p : Problem) (is : IsSearchOf g s) (same : IsSizedAs s l.size p) where
   its_size : IsSizeOf g l.size p
@@ -46,7 +44,7 @@ module _ (g : LogGround) (s : Problem) (l : SizeLog) (p : Problem) (is : IsSearc
     unlisted e =
         other_letters p its_size
         (ap (λ (x : Letters). is_number_of_states l.size && are_letters (reads_of p) x) named ∙ ap (λ (b : Bool). is_number_of_states l.size && b) e
-        ∙ and_not (is_number_of_states l.size))
+        ∙ and-false (is_number_of_states l.size))
 
     module _ (states : is_number_of_states l.size ≡ true) (few : are_few (reads_of p) letters ≡ true) where
       pub over_few : (first : Option ℕ) → FailsOver p letters l first → LogFails g l first
@@ -54,10 +52,10 @@ module _ (g : LogGround) (s : Problem) (l : SizeLog) (p : Problem) (is : IsSearc
           over_problem p first its_size (and_from (is_number_of_states l.size) (are_letters (reads_of p) l.letters) states (ap (are_letters (reads_of p)) named ∙ few))
           (subst (λ (x : List ℕ). FailsOver p x l first) (sym (ap (letters_named (reads_of p)) named)) fails)
 
-      pub size_few : IsLetterSize p letters
+      pub size_few : IsLetterProblem p letters
       size_few = letter_size g s l.size p is same letters states (few_letters (reads_of p) letters few).list
 
-  pub size_all : is_number_of_states l.size ≡ true → IsLetterSize p (range_with_len 0 (2 ^ reads_of p))
+  pub size_all : is_number_of_states l.size ≡ true → IsLetterProblem p (range_with_len 0 (2 ^ reads_of p))
   size_all states = letter_size g s l.size p is same (range_with_len 0 (2 ^ reads_of p)) states (all_letters_listed (reads_of p))
 
 -- ---- what is counted
@@ -83,12 +81,8 @@ some_of : (o : Option ℕ) → is_some o ≡ true → (n : ℕ) × (o ≡ Some n
 some_of None is = absurd (cc)
 some_of (Some n) is = (n, refl)
 
-none_of : (o : Option ℕ) → is_some o ≡ false → o ≡ None
-none_of None is = refl
-none_of (Some n) is = absurd (cc)
-
 module _ (g : LogGround) (s : Problem) (p : Problem) (is : IsSearchOf g s) (same : IsSizedAs s p.size p) (letters : List ℕ) where
-  pub size_counted : may_be_counted p letters ≡ true → IsLetterSize p letters
+  pub size_counted : may_be_counted p letters ≡ true → IsLetterProblem p letters
   size_counted may =
       let both = and_parts (is_number_of_states p.size) (is_list (reads_of p) letters) may in
       letter_size g s p.size p is same letters both.0 (listed (reads_of p) letters both.1)
@@ -96,14 +90,14 @@ module _ (g : LogGround) (s : Problem) (p : Problem) (is : IsSearchOf g s) (same
   both_of : is_some (clause_count p letters) ≡ true → (may_be_counted p letters ≡ true) × (is_allowed p letters ≡ true)
   both_of some = counted_by (may_be_counted p letters) (is_allowed p letters) (length (base_clauses p letters)) some
 
-  pub size_allowed : (o : Option ℕ) → o ≡ clause_count p letters → is_some o ≡ true → IsLetterSize p letters
+  pub size_allowed : (o : Option ℕ) → o ≡ clause_count p letters → is_some o ≡ true → IsLetterProblem p letters
   size_allowed o e some = size_counted (both_of (ap is_some (sym e) ∙ some)).0
 
   pub is_allowed_so : (o : Option ℕ) → o ≡ clause_count p letters → is_some o ≡ true → is_allowed p letters ≡ true
   is_allowed_so o e some = (both_of (ap is_some (sym e) ∙ some)).1
 
   pub none_listed : (o : Option ℕ) → o ≡ clause_count p letters → is_some o ≡ false → clause_count p letters ≡ None
-  none_listed o e none = sym e ∙ none_of o none
+  none_listed o e none = sym e ∙ none_by o none
 
 module _ (g : LogGround) (s : Problem) (n : ℕ) (p : Problem) (is : IsSearchOf g s) (same : IsSizedAs s n p) (letters : List ℕ) where
   pub count_is : (o : Option ℕ) → o ≡ clause_count p letters → IsCountOf g n letters o

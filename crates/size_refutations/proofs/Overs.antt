@@ -16,9 +16,6 @@ use Rattle.size_refutations.specs.Heads.{has_numbers}
 use Rattle.size_refutations.specs.Parts.{entry_named, line_behind}
 use Rattle.size_refutations.proofs.Placed.{place_named}
 
-pub some_none : {X : Type 0} (o : Option X) (x : X) → o ≡ Some x → o ≡ None → ⊥
-some_none o x some none = let never : Some x ≡ None = sym some ∙ none in absurd (cc)
-
 -- a fault of a legal log's test that isn't want of memory is the log's
 log_fault : (vars : ℕ) (base : List (List Literal)) (log : List Entry) (fault : LogFault) → (fault ≡ NoMemory → ⊥) → IsOpenFault vars base None log fault
     → IsLogFault base None log fault

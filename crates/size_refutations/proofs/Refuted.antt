@@ -15,7 +15,7 @@ use Rattle.text_limits.specs.declared.TheConstants.{LARGE_LIMITS}
 use Rattle.machine_model.specs.Machine.{MachineModel}
 use Rattle.machine_model.specs.Problem.{IsMachineOf, NamesSignals, automaton_of, reads_of, writes_of}
 use Rattle.machine_model.specs.declared.problems.Problem.{Problem}
-use Rattle.machine_model.proofs.CountingLemmas.{counts_locally_by}
+use Rattle.machine_model.proofs.CountingLemmas.{counts_in_by, counts_locally_by}
 use Rattle.machine_model.specs.Run.{IsRun, IsRunLasso}
 use Rattle.cobuchi_build.specs.Built.{AcceptsExactly}
 use Rattle.cobuchi_build.specs.Laws.{TheAutomatonAcceptsExactly}
@@ -87,12 +87,15 @@ module _ (keep : AutomataKeepLimits) (exactly : TheAutomatonAcceptsExactly) (ref
       let few : l.size ≤ 16 = h.few in
       let both : g.inputs + g.outputs ≡ h.problem.inputs + h.problem.outputs = omega (arith, inputs, outputs) in
       record {
-        inputs = omega (arith, inputs, few_inputs);
-        outputs = omega (arith, outputs, few_outputs);
-        some = omega (arith, states, some);
-        size = omega (arith, states, few);
-        states = keep.states Covering.Reduced LARGE_LIMITS.automaton g.nodes g.form (automaton_of h.problem) size.automaton.automaton size.automaton.within;
-        signals = subst (λ (n : ℕ). All (NamesSignals n) (automaton_of h.problem).edges) both size.automaton.signals;
+        within = record {
+          inputs = omega (arith, inputs, few_inputs);
+          outputs = omega (arith, outputs, few_outputs);
+          some = omega (arith, states, some);
+          size = omega (arith, states, few);
+          states = keep.states Covering.Reduced LARGE_LIMITS.automaton g.nodes g.form (automaton_of h.problem) size.automaton.automaton size.automaton.within;
+          signals = subst (λ (n : ℕ). All (NamesSignals n) (automaton_of h.problem).edges) both size.automaton.signals;
+          counting = counts_in_by (automaton_of h.problem) h.problem.counting size.counting;
+        };
         local = counts_locally_by (automaton_of h.problem) h.problem.counting size.counting;
         list = are_listed (reads_of h.problem) l.letters h.letters;
       }

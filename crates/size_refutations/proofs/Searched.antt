@@ -8,7 +8,8 @@ use Rattle.machine_model.specs.Counting.{CountsBy}
 use Rattle.machine_model.specs.Problem.{NamesSignals, Parts, automaton_of, parts_of, reads_of, sized}
 use Rattle.machine_model.specs.declared.problems.Problem.{Problem}
 use Rattle.machine_model.proofs.CountingLemmas.{counts_in_by, counts_locally_by}
-use Rattle.letter_clauses.specs.Letters.{IsLetterList, IsLetterSize}
+use Rattle.text_limits.specs.declared.TheConstants.{LARGE_LIMITS}
+use Rattle.letter_clauses.specs.Letters.{IsLetterList, IsLetterProblem}
 use Rattle.size_refutations.specs.Ground.{IsAutomatonFor, IsSizeOf, LogGround}
 use Rattle.size_refutations.specs.Heads.{is_number_of_states}
 use Rattle.size_refutations.specs.Parts.{IsSearchOf}
@@ -33,7 +34,7 @@ module _ (g : LogGround) (s : Problem) (n : ℕ) (p : Problem) (is : IsSearchOf 
     counting = subst (λ (x : Parts). CountsBy x.automaton x.counting) (sym same) is.problem.counting;
   }
 
-  pub few_reads : reads_of p ≤ 16
+  pub few_reads : reads_of p ≤ LARGE_LIMITS.signals
   few_reads =
       let inputs : p.inputs ≡ g.inputs = size_is.inputs in
       let outputs : p.outputs ≡ g.outputs = size_is.outputs in
@@ -41,7 +42,7 @@ module _ (g : LogGround) (s : Problem) (n : ℕ) (p : Problem) (is : IsSearchOf 
       let o : g.outputs ≤ 16 = is.few_outputs in
       few_by p.inputs p.outputs p.side (omega (arith, inputs, i)) (omega (arith, outputs, o))
 
-  pub letter_size : (letters : List ℕ) → is_number_of_states n ≡ true → IsLetterList (reads_of p) letters → IsLetterSize p letters
+  pub letter_size : (letters : List ℕ) → is_number_of_states n ≡ true → IsLetterList (reads_of p) letters → IsLetterProblem p letters
   letter_size letters states list =
       let few = states_of_test n states in
       let size : p.size ≡ n = size_is.states in
@@ -53,15 +54,15 @@ module _ (g : LogGround) (s : Problem) (n : ℕ) (p : Problem) (is : IsSearchOf 
       let most : n ≤ 16 = few.few in
       let both : g.inputs + g.outputs ≡ p.inputs + p.outputs = omega (arith, inputs, outputs) in
       record {
-        problem = record {
+        within = record {
           inputs = omega (arith, inputs, i);
           outputs = omega (arith, outputs, o);
           some = omega (arith, size, some);
           size = omega (arith, size, most);
-          states = subst (λ (a : AutomatonModel). states_of a ≤ 20000) (sym same_automaton) is.states;
+          states = subst (λ (a : AutomatonModel). states_of a ≤ LARGE_LIMITS.automaton.states) (sym same_automaton) is.states;
           signals = subst (λ (k : ℕ). All (NamesSignals k) (automaton_of p).edges) both size_is.automaton.signals;
-          local = counts_locally_by (automaton_of p) p.counting size_is.counting;
-          list = list;
+          counting = counts_in_by (automaton_of p) p.counting size_is.counting;
         };
-        counting = counts_in_by (automaton_of p) p.counting size_is.counting;
+        local = counts_locally_by (automaton_of p) p.counting size_is.counting;
+        list = list;
       }

@@ -2,6 +2,7 @@
 use Rattle.std.specs.Prelude.{ℕ, ◌+◌, ◌==◌, ◌^◌, Bool, true, false, not, ◌&&◌, List, [], ◌∷◌, length, nat_le, nat_lt}
 use Rattle.std.specs.List.{range_with_len}
 use Rattle.std.specs.Option.{option_map_or}
+use Rattle.text_limits.specs.declared.TheConstants.{LARGE_LIMITS}
 use Rattle.propositional_logic.specs.Literal.{Literal}
 use Rattle.machine_model.specs.Problem.{reads_of}
 use Rattle.machine_model.specs.declared.problems.Problem.{Problem}
@@ -12,12 +13,9 @@ use Rattle.solved_text.specs.declared.letters.Letters.{Letters}
 use Rattle.solved_text.specs.declared.letters.Letters.TheVariants.{All, Few}
 use Rattle.solved_text.specs.Parts.{SizeLog}
 
--- how many states a machine of a size that is refuted has at most
-abbrev pub most_states : ℕ
-most_states = 16
-
+-- whether a machine of a size that is refuted may have so many states
 abbrev pub is_number_of_states : ℕ → Bool
-is_number_of_states size = nat_le 1 size && nat_le size most_states
+is_number_of_states size = nat_le 1 size && nat_le size LARGE_LIMITS.machine
 
 -- numbers rise from `least` on, and each is below `all`
 abbrev pub rise_below : ℕ → ℕ → List ℕ → Bool

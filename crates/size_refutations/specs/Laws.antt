@@ -1,5 +1,6 @@
 -- Laws of the logs of a document of version 6.
 use Rattle.std.specs.Prelude.{◌≡◌, ◌↔◌, ℕ, ◌≤◌, not, Option, None, length}
+use Rattle.text_limits.specs.declared.TheConstants.{LARGE_LIMITS}
 use Rattle.letters_and_lassos.specs.declared.kinds.Side.TheVariants.{System, Environment}
 use Rattle.letters_and_lassos.specs.Kinds.{other_kind}
 use Rattle.letters_and_lassos.specs.Word.{Word, HasRing}
@@ -18,15 +19,15 @@ pub record LogsAreDetermined : Type 0 where
   pub one : (g : LogGround) (l : SizeLog) (a b : Option ℕ) → LogFails g l a → LogFails g l b → a ≡ b
   pub holding : (g : LogGround) (l : SizeLog) → LogFails g l None ↔ LogHolds g l
 
--- the ground's form stands in its list in normal form, and its signals are those of what is wanted, at most 16 of each
+-- the ground's form stands in its list in normal form, and its signals are those of what is wanted, as few as the larger limits allow
 pub record IsGroundFor (g : LogGround) (x : Wanted) : Type 0 where
   pub list : IsNodeList g.nodes
   pub stands : IsNodeIn g.nodes g.form
   pub normal : IsNormal (tree_at g.nodes g.form)
   pub inputs : g.inputs ≡ length x.inputs
   pub outputs : g.outputs ≡ length x.outputs
-  pub few_inputs : g.inputs ≤ 16
-  pub few_outputs : g.outputs ≤ 16
+  pub few_inputs : g.inputs ≤ LARGE_LIMITS.signals
+  pub few_outputs : g.outputs ≤ LARGE_LIMITS.signals
 
 -- the system's ground: its form is true on exactly the lassos on which what is wanted isn't
 pub record IsSystemGround (g : LogGround) (x : Wanted) : Type 0 where

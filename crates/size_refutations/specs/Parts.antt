@@ -1,5 +1,6 @@
 -- What the parts of the code are given (this project's own).
 use Rattle.std.specs.Prelude.{◌≡◌, ℕ, ◌+◌, ◌<◌, ◌≤◌, ◌^◌, Option, Some, None, length, if◌then◌else◌}
+use Rattle.text_limits.specs.declared.TheConstants.{LARGE_LIMITS}
 use Rattle.ltl_formula.specs.NormalForm.{IsNormal}
 use Rattle.ltl_formula.specs.Nodes.{IsNodeIn, tree_at}
 use Rattle.machine_model.specs.Automaton.{AutomatonModel, states_of}
@@ -20,8 +21,8 @@ ground_of s = record { nodes = s.formulas.now; form = s.form; side = s.side; kin
 pub record IsSought (g : LogGround) : Type 0 where
   pub stands : IsNodeIn g.nodes g.form
   pub normal : IsNormal (tree_at g.nodes g.form)
-  pub few_inputs : g.inputs ≤ 16
-  pub few_outputs : g.outputs ≤ 16
+  pub few_inputs : g.inputs ≤ LARGE_LIMITS.signals
+  pub few_outputs : g.outputs ≤ LARGE_LIMITS.signals
 
 -- the side's automaton, or none where it has none
 abbrev pub IsAutomatonOrNone : LogGround → Option AutomatonModel → Type 0
@@ -30,10 +31,10 @@ IsAutomatonOrNone g (Some a) = IsAutomatonFor g a
 
 -- the problem of the ground's machines of one state
 pub record IsSearchOf (g : LogGround) (s : Problem) : Type 0 where
-  pub few_inputs : g.inputs ≤ 16
-  pub few_outputs : g.outputs ≤ 16
+  pub few_inputs : g.inputs ≤ LARGE_LIMITS.signals
+  pub few_outputs : g.outputs ≤ LARGE_LIMITS.signals
   pub problem : IsSizeOf g 1 s
-  pub states : states_of (automaton_of s) ≤ 20000
+  pub states : states_of (automaton_of s) ≤ LARGE_LIMITS.automaton.states
 
 -- a problem has the parts of a search's problem, for so many states
 abbrev pub IsSizedAs : Problem → ℕ → Problem → Type 0
@@ -46,8 +47,8 @@ IsSearched g (Some s) = IsSearchOf g s
 
 -- what is kept of a ground, whose signals are few
 pub record IsKeptProblem (g : LogGround) (kept : Option Problem) : Type 0 where
-  pub few_inputs : g.inputs ≤ 16
-  pub few_outputs : g.outputs ≤ 16
+  pub few_inputs : g.inputs ≤ LARGE_LIMITS.signals
+  pub few_outputs : g.outputs ≤ LARGE_LIMITS.signals
   pub searched : IsSearched g kept
 
 -- a log that was read: its entries are over its variables, and its lines have numbers

@@ -3,6 +3,7 @@ ghost use Rattle.std.specs.Prelude.{◌≡◌, ◌≤◌, ◌+◌, All, IfOk, If
 ghost use Rattle.std.specs.Arc.{arc_value};
 ghost use Rattle.std.specs.Bool.{OnFalse, OnTrue};
 ghost use Rattle.propositional_logic.specs.Clause.{IsFormula};
+ghost use Rattle.text_limits.specs.declared.TheConstants.{LARGE_LIMITS};
 ghost use Rattle.machine_model.specs.Automaton.{states_of};
 ghost use Rattle.machine_model.specs.Problem.{NamesSignals, automaton_of};
 ghost use Rattle.size_refutations.specs.FirstBad.{LogFails};
@@ -83,7 +84,7 @@ impl<'a> Ground<'a> {
     /// The number of signals that the side's machines read.
     pub fn reads(&self) -> u32
         ensures value { result ≡ reads_on self.now }
-        ensures few { result ≤ 16 }
+        ensures few { result ≤ LARGE_LIMITS.signals }
     {
         let _search = &self.search;
         match self.sought.side {
@@ -147,7 +148,7 @@ fn search_for(alloc: Global, sought: Sought<'_>) -> Result<Option<Problem>, Allo
 fn automaton_for(alloc: Global, sought: Sought<'_>) -> Result<Option<Automaton>, AllocError>
     requires { IsSought (ground_of sought) }
     ensures automaton { IfOk result (IsAutomatonOrNone (ground_of sought.entry)) }
-    ensures few { IfOk result (λ made. IfSome made (λ a. states_of a ≤ 20000)) }
+    ensures few { IfOk result (λ made. IfSome made (λ a. states_of a ≤ LARGE_LIMITS.automaton.states)) }
 {
     let limits = LARGE_LIMITS.automaton;
     match build(
@@ -177,7 +178,7 @@ fn problem_over(
     automaton: Automaton,
 ) -> Result<Problem, AllocError>
     requires automaton { IsAutomatonFor (ground_of sought) automaton }
-    requires few { states_of automaton ≤ 20000 }
+    requires few { states_of automaton ≤ LARGE_LIMITS.automaton.states }
     ensures size { IfOk result (IsSizeOf (ground_of sought.entry) 1) }
     ensures kept { IfOk result (λ problem. automaton_of problem ≡ automaton) }
 {

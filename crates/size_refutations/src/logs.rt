@@ -4,7 +4,7 @@ ghost use Rattle.std.specs.List.{range_with_len};
 ghost use Rattle.machine_model.specs.Problem.{reads_of};
 ghost use Rattle.refutation_log.specs.Log.{is_ended as is_ended_log};
 ghost use Rattle.log_checker.specs.declared.faults.LogFault.TheVariants.{NoMemory, NotClosed};
-ghost use Rattle.letter_clauses.specs.Letters.{IsLetterSize};
+ghost use Rattle.letter_clauses.specs.Letters.{IsLetterProblem};
 ghost use Rattle.solved_text.specs.declared.letters.Letters.TheVariants.{Few};
 ghost use Rattle.size_refutations.specs.FirstBad.{FailsOver, LogFails};
 ghost use Rattle.size_refutations.specs.Heads.{is_number_of_states as is_states};
@@ -103,7 +103,7 @@ fn line_over_few(
 
 /// The line at which a log fails over a problem and letters.
 fn line_over(alloc: Global, size: LetterSize<'_>, log: &SizeLog) -> Result<Option<u64>, AllocError>
-    requires size { IsLetterSize size.problem.now size.letters.now }
+    requires size { IsLetterProblem size.problem.now size.letters.now }
     requires log { IsReadLog log.now }
     ensures { IfOk result (FailsOver size.entry.problem.now size.entry.letters.now log.now) }
 {

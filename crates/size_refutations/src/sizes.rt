@@ -1,6 +1,7 @@
 //! The base clauses of one size over letters.
 ghost use Rattle.std.specs.Prelude.{◌≡◌, ◌≤◌, IfOk, IfSome};
 ghost use Rattle.propositional_logic.specs.Clause.{IsFormula};
+ghost use Rattle.text_limits.specs.declared.TheConstants.{LARGE_LIMITS};
 ghost use Rattle.machine_model.specs.Problem.{reads_of};
 ghost use Rattle.size_refutations.specs.Parts.{IsSearchOf, IsSizedAs, ground_of};
 ghost use Rattle.size_refutations.specs.Sizes.{AreClausesAt, AreClausesOver, IsCountOf, clause_count, may_be_counted as may_count};
@@ -84,7 +85,7 @@ fn clauses_over(
 
 /// Whether a problem has so many states as a size that is refuted may have, and these are letters that its machines read.
 fn may_be_counted(problem: &Problem, letters: &[u32]) -> bool
-    requires { reads_of problem.now ≤ 16 }
+    requires { reads_of problem.now ≤ LARGE_LIMITS.signals }
     ensures { result ≡ may_count problem.now letters.now }
 {
     is_number_of_states(problem.size) && is_list(problem.reads(), letters)

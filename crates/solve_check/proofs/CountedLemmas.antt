@@ -1,17 +1,14 @@
 -- Which numbers of states are counted, and whether a circuit reaches one.
-use Rattle.std.proofs.Common.{◌≡◌, ℕ, ◌*◌, ◌^◌, ◌<◌, ◌≤◌, Bool, true, false, ◌&&◌, Option, Some, None, sym, ap, ◌∙◌, refl, length, arith, inl, inr}
+use Rattle.std.proofs.Common.{◌≡◌, ℕ, ◌*◌, ◌^◌, ◌<◌, ◌≤◌, Bool, true, false, ◌&&◌, Option, Some, None, sym, ap, ◌∙◌, length, arith, inl, inr}
 use Rattle.std.specs.Prelude.{◌↔◌, IsTrue, nat_eq, nat_le, unwrap_or}
 use Rattle.std.proofs.lemmas.Bool.{eqb-true, eq-eqb}
 use Rattle.std.proofs.lemmas.Bool.Decides.{leb_tells}
 use Rattle.std.proofs.Math.Pow.{pow_mono}
+use Rattle.std_lemmas.proofs.Booleans.{and_false}
 use Rattle.aiger_text.specs.Circuit.{Circuit, HasStates}
 use Rattle.named_annotation.specs.NamedText.{most_steps}
 use Rattle.solved_text.specs.Header.{is_number_of_states}
 use Rattle.solve_check.specs.FirstBad.{NumberFails, another, may_be_counted, right}
-
-and_false : (a : Bool) → (a && false) ≡ false
-and_false true = refl
-and_false false = refl
 
 -- a number above a bound fails its test
 above : (n most : ℕ) → most < n → nat_le n most ≡ false

@@ -1,6 +1,7 @@
 -- Of a text a document has at most one first bad line.
 use Rattle.std.proofs.Common.{◌≡◌, ℕ, Option, Some, None, Ok, Err, List, [], ◌∷◌, refl, sym, ap, subst, ◌∙◌, true≢false}
 use Rattle.std.specs.Prelude.{MatchOption, Result, unwrap_or}
+use Rattle.std_lemmas.proofs.Options.{some_same}
 use Rattle.aiger_text.specs.Circuit.{Circuit}
 use Rattle.annot_check.specs.declared.faults.AnnotFault.{AnnotFault}
 use Rattle.annot_check.specs.declared.faults.AnnotFault.TheVariants.{NoMemory}
@@ -17,9 +18,6 @@ use Rattle.solved_text.specs.Reading.{Reads, SolvedLines}
 use Rattle.solve_check.specs.Given.{kind_for}
 use Rattle.solve_check.specs.SizeLogs.{LogsFail, ground_for, none_fails, one_fails, one_good}
 use Rattle.solve_check.specs.FirstBad.{Annotated, Counted, HasAnnotation, IsCauseFor, IsFirstBadSolved, LinesFail, NumberFails, annotated_in, annotation_line, another, cause_line, circuit_line, counted_in, of_line, of_pairs, reading_in, right, side_in, taken_line, too_many}
-
-pub some_same : {X : Type 0} (o : Option X) (x y : X) → o ≡ Some x → o ≡ Some y → x ≡ y
-some_same o x y a b = ap (λ o. unwrap_or o x) (sym a ∙ b)
 
 abbrev pub named_or : Named → Result Named ℕ → Named
 named_or d (Ok named) = named

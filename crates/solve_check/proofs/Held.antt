@@ -47,7 +47,7 @@ pub record IsDocumentOf (bytes : List ℕ) (lines : SolvedLines) (d : Document) 
   pub logs : lines.logs ≡ d.logs
   pub annotation : annotation_in bytes lines.annotation ≡ d.annotation
 
-abbrev document_with : List ℕ → SolvedLines → Verdict → Kind → Document
+abbrev pub document_with : List ℕ → SolvedLines → Verdict → Kind → Document
 document_with bytes lines verdict kind = record { verdict = verdict; kind = kind; converted = lines.header.converted; circuit = circuit_in lines.circuit; logs = lines.logs; annotation = annotation_in bytes lines.annotation }
 
 document_by : (bytes : List ℕ) (lines : SolvedLines) (d : Document) (v : Option Verdict) (k : Option Kind) → lines.header.verdict ≡ v → lines.header.kind ≡ k

@@ -2,7 +2,7 @@ mod Meaning
 mod Bounds
 mod Never
 mod Same
-mod Held
+pub mod Held
 mod Accepted
 mod Determined
 mod Passing

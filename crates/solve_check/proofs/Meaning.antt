@@ -1,6 +1,7 @@
 -- A circuit on whose run lassos its side's form is never true does what the side owes.
-use Rattle.std.proofs.Common.{◌≡◌, Bool, true, false, refl, sym, ◌∙◌}
-use Rattle.std.specs.Prelude.{List, Some, map, not}
+use Rattle.std.proofs.Common.{◌≡◌, sym, ◌∙◌}
+use Rattle.std.specs.Prelude.{List, Some, map}
+use Rattle.std.proofs.lemmas.Bool.{not-false}
 use Rattle.letters_and_lassos.specs.declared.kinds.Side.TheVariants.{System, Environment}
 use Rattle.letters_and_lassos.specs.Kinds.{other_kind}
 use Rattle.ltl_formula.specs.declared.nodes.FormulaId.{FormulaId}
@@ -13,10 +14,6 @@ use Rattle.satisfaction.specs.Wanted.{Wanted}
 use Rattle.satisfaction.specs.Satisfaction.{CircuitDefeats, CircuitSatisfies}
 use Rattle.solve_ground.specs.SolveText.{IsFormOf}
 
-not_false : (b : Bool) → not b ≡ false → b ≡ true
-not_false true never = refl
-not_false false never = absurd (cc)
-
 -- a circuit of the kind, with these names
 module _ (nodes : List Node) (x : Wanted) (form : FormulaId) (c : Circuit) where
   pub satisfies : IsFormOf System nodes x form → IsNeverTrue System c nodes form → IsCircuitOfKind x.kind c
@@ -25,7 +22,7 @@ module _ (nodes : List Node) (x : Wanted) (form : FormulaId) (c : Circuit) where
     kind = kind;
     inputs = inputs;
     outputs = outputs;
-    means = λ w run. not_false (x.means w) (sym (is.says w run.1.lasso.ring) ∙ never.never w run.0 run.1);
+    means = λ w run. not-false (x.means w) (sym (is.says w run.1.lasso.ring) ∙ never.never w run.0 run.1);
   }
 
   pub defeats : LosingCircuitsDefeat → IsCircuit c → IsFormOf Environment nodes x form → IsNeverTrue Environment c nodes form

@@ -1,7 +1,6 @@
 -- No circuit satisfies what another defeats.
 use Rattle.std.proofs.Common.{◌≡◌, ℕ, length, sym, ap, ◌∙◌, true≢false}
-use Rattle.std.specs.Prelude.{Option, Some, List, map}
-use Rattle.std.proofs.lemmas.List.{length-map}
+use Rattle.std_lemmas.proofs.Lists.{as_many}
 use Rattle.letters_and_lassos.specs.declared.kinds.Side.TheVariants.{System}
 use Rattle.letters_and_lassos.specs.Word.{HasRing, Word}
 use Rattle.aiger_text.specs.Circuit.{Circuit, HasStates}
@@ -16,9 +15,6 @@ pub record AreTheSame (x y : Wanted) : Type 0 where
   pub outputs : x.outputs ≡ y.outputs
   pub kind : x.kind ≡ y.kind
   pub means : (w : Word) → HasRing w → x.means w ≡ y.means w
-
-as_many : (places : List (Option (List ℕ))) (names : List (List ℕ)) (n : ℕ) → length places ≡ n → places ≡ map Some names → n ≡ length names
-as_many places names n count same = sym count ∙ ap length same ∙ length-map names Some
 
 module _ (machines : CircuitsAreMachines) (x y : Wanted) (same : AreTheSame x y) (n : ℕ) (c : Circuit) (circuit : IsCircuit c) (states : HasStates c n) where
   system_of : (owes : CircuitSatisfies x c) (has : HasMachine x.kind c n) → IsSystemFor y has.machine

@@ -3,6 +3,7 @@ use Rattle.std.proofs.Common.{◌≡◌, ℕ, ◌+◌, Bool, true, false, cond, 
 use Rattle.std.specs.Prelude.{All, MatchOption, is_some, option_and_then, option_map}
 use Rattle.std.specs.Option.{option_map_or}
 use Rattle.std.proofs.lemmas.List.Elements.{All-head, All-tail}
+use Rattle.std_lemmas.proofs.Options.{some_same}
 use Rattle.letters_and_lassos.specs.declared.kinds.Kind.{Kind}
 use Rattle.letters_and_lassos.specs.declared.kinds.Side.{Side}
 use Rattle.letters_and_lassos.specs.declared.kinds.Side.TheVariants.{System, Environment}
@@ -37,7 +38,7 @@ use Rattle.solve_check.specs.SizeLogs.{LogsFail, ground_for, none_fails, one_goo
 use Rattle.solve_check.specs.FirstBad.{Annotated, Counted, HasAnnotation, IsCauseFor, IsFirstBadSolved, LinesFail, NumberFails, NumberFailsIn, annotated_in, annotation_line, circuit_line, circuit_side, counted_in, file_in, of_line, of_pairs, reading_in, refused_line, right, side_in, states_told, taken_line}
 use Rattle.circuit_names.specs.Names.{HasNames}
 use Rattle.solve_check.specs.Holds.{HasCircuit, HasWhatIsSaid, HoldsSolved}
-use Rattle.solve_check.proofs.Determined.{fails_one, named_or, some_same}
+use Rattle.solve_check.proofs.Determined.{fails_one, named_or}
 use Rattle.solve_check.proofs.Held.{HasFile, IsDocumentOf, document_is, file_of, place_of}
 use Rattle.circuit_names.proofs.Fitting.{names_pass, none_earliest}
 

@@ -1,8 +1,10 @@
 -- Of one text, kind and semantics one thing is wanted.
-use Rattle.std.proofs.Common.{◌≡◌, ℕ, Bool, true, false, length, refl, sym, ap, subst, ◌∙◌}
+use Rattle.std.proofs.Common.{◌≡◌, ℕ, true, length, refl, sym, ap, subst, ◌∙◌}
 use Rattle.std.proofs.lemmas.Bool.{and_parts}
 use Rattle.std.specs.Prelude.{List, Option, Some, None, is_some, option_map, unwrap_or}
 use Rattle.std.specs.Bool.{beq}
+use Rattle.std_lemmas.proofs.Options.{none_by}
+use Rattle.std_lemmas.proofs.Booleans.{beq-true}
 use Rattle.letters_and_lassos.specs.declared.kinds.Kind.{Kind}
 use Rattle.letters_and_lassos.specs.contracts.kinds.KindPartialEq.TheImpl.{ghosts as kind_ghosts}
 use Rattle.letters_and_lassos.specs.Word.{HasRing, Word}
@@ -22,25 +24,15 @@ use Rattle.solve_check.specs.Laws.{NeverBoth, SpeakAlike}
 use Rattle.solve_check.proofs.Never as never
 use Rattle.solve_check.proofs.Never.{AreTheSame}
 
-beq_is : (a b : Bool) → beq a b ≡ true → a ≡ b
-beq_is true true e = refl
-beq_is true false e = absurd (cc)
-beq_is false true e = absurd (cc)
-beq_is false false e = refl
-
 is_some_map : {A B : Type 0} (f : A → B) (o : Option A) → is_some (option_map f o) ≡ is_some o
 is_some_map f None = refl
 is_some_map f (Some a) = refl
 
-none_of : (o : Option Shift) → is_some o ≡ false → o ≡ None
-none_of None e = refl
-none_of (Some s) e = absurd (cc)
-
 -- two ways to take a text that both convert it, or both don't, take it the same
 same_shift : (given other : Option Kind) (tree : Text) → is_some (taken_shift given tree) ≡ is_some (taken_shift other tree) → taken_shift given tree ≡ taken_shift other tree
 same_shift None None tree e = refl
-same_shift None (Some k) tree e = none_of (taken_shift None tree) e
-same_shift (Some k) None tree e = sym (none_of (taken_shift None tree) (sym e))
+same_shift None (Some k) tree e = none_by (taken_shift None tree) e
+same_shift (Some k) None tree e = sym (none_by (taken_shift None tree) (sym e))
 same_shift (Some k) (Some l) tree e = refl
 
 module _ (trees : TreesAreDetermined) (text : List ℕ) where
@@ -53,7 +45,7 @@ module _ (trees : TreesAreDetermined) (text : List ℕ) where
       let tree : is.is_known.taken.tree ≡ is.taken.tree = trees text is.is_known.taken.tree is.taken.tree is.is_known.taken.read is.taken.read in
       let there : is_some is.known.semantics ≡ is_some (taken_shift given is.is_known.taken.tree) =
       ap is_some is.is_known.semantics ∙ is_some_map (λ shift. is.is_known.taken.tree.info.semantics) (taken_shift given is.is_known.taken.tree) in
-      ap (λ (t : Text). is_some (taken_shift given t)) (sym tree) ∙ sym there ∙ beq_is (is_some is.known.semantics) d.converted said
+      ap (λ (t : Text). is_some (taken_shift given t)) (sym tree) ∙ sym there ∙ beq-true (is_some is.known.semantics) d.converted said
 
   module _ (given other : Option Kind) (a b : List ℕ) (d e : Document) (left : IsAcceptedSolved text given a d)
       (right : IsAcceptedSolved text other b e) (alike : SpeakAlike d e) where

@@ -1,5 +1,6 @@
 -- What the test of a document answers (this project's own).
 use Rattle.std.specs.Prelude.{◌≡◌, ◌≤◌, ⊤, ℕ, List, Option, length}
+use Rattle.text_limits.specs.declared.TheConstants.{LARGE_LIMITS}
 use Rattle.letters_and_lassos.specs.declared.kinds.Kind.{Kind}
 use Rattle.ltl_formula.specs.NormalForm.{IsNormal}
 use Rattle.ltl_formula.specs.Nodes.{IsNodeIn, tree_at}
@@ -24,8 +25,8 @@ pub record IsReady (t : SolveText) : Type 0 where
   pub negated : IsNodeIn t.formulas t.negated
   pub normal : IsNodeIn t.formulas t.normal
   pub forms : AreNormal t
-  pub few_inputs : length t.inputs.items ≤ 16
-  pub few_outputs : length t.outputs.items ≤ 16
+  pub few_inputs : length t.inputs.items ≤ LARGE_LIMITS.signals
+  pub few_outputs : length t.outputs.items ≤ LARGE_LIMITS.signals
 
 -- the bytes state a document that holds for the text, of which this is told
 pub record HoldsAs (t : SolveText) (bytes : List ℕ) (a : Acceptance) : Type 0 where

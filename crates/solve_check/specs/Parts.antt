@@ -1,5 +1,6 @@
 -- What the parts of the code have of a document and of a text (this project's own).
 use Rattle.std.specs.Prelude.{◌≡◌, ◌≢◌, ℕ, ◌+◌, ◌<◌, ◌≤◌, ◌^◌, ⊤, true, Option, Some, None, Ok, List, length, MatchOption}
+use Rattle.text_limits.specs.declared.TheConstants.{LARGE_LIMITS}
 use Rattle.letters_and_lassos.specs.declared.kinds.Kind.{Kind}
 use Rattle.letters_and_lassos.specs.declared.kinds.Side.{Side}
 use Rattle.aiger_text.specs.Circuit.{Circuit, RunsOnEveryInput}
@@ -41,8 +42,8 @@ annotated_seen a = record { file = a.file.now; side = a.side; place = a.place }
 pub record IsReadable (t : SolveText) : Type 0 where
   pub negated : IsNodeIn t.formulas t.negated
   pub normal : IsNodeIn t.formulas t.normal
-  pub few_inputs : length t.inputs.items ≤ 16
-  pub few_outputs : length t.outputs.items ≤ 16
+  pub few_inputs : length t.inputs.items ≤ LARGE_LIMITS.signals
+  pub few_outputs : length t.outputs.items ≤ LARGE_LIMITS.signals
 
 -- an annotation's lines have numbers, those of its states and pairs among them, and its pairs can be checked for the circuit
 pub record CanBeTested (a : bad.Annotated) (named : Named) : Type 0 where

@@ -1,12 +1,11 @@
-use Rattle.std.proofs.Common.{◌≡◌, ℕ, ◌+◌, ◌^◌, ◌<◌, ◌≤◌, ◌⊎◌, List, inl, inr, ap, ◌∙◌, arith, subst}
+use Rattle.std.proofs.Common.{◌≡◌, ◌+◌, ◌^◌, ◌<◌, ◌≤◌, List, true, false, sym, ap, ◌∙◌, arith, subst}
 use Rattle.std.specs.Prelude.{All}
-use Rattle.std.proofs.lemmas.Bool.{cases_eq}
 use Rattle.machine_model.specs.Automaton.{AutomatonModel, states_of}
+use Rattle.machine_model.specs.Counting.{is_local}
 use Rattle.machine_model.specs.Problem.{automaton_of}
 use Rattle.machine_model.specs.declared.automata.Edge.{Edge}
 use Rattle.machine_model.specs.declared.problems.Problem.{Problem}
 use Rattle.agreement_rows.proofs.checked.checked.Goals as goal
-use Rattle.machine_model.specs.Counting.{is_local}
 
 pub returns : goal.returns
 returns c =

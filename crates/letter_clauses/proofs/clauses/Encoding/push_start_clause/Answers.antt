@@ -15,13 +15,13 @@ start : (c : After-new-start) → c.new-start.result ∷ [] ≡ start_clause c.a
 start c =
     ap (λ (l : Literal). l ∷ [])
     (c.new-start.ensures ∙ ap is (c.var_count.ensures.value ∙ ap (var_count c.args.self.now.size.problem.now c.args.self.now.size.letters.now 0 0)
-    (sym (start_none c.args.self.now.size.problem.now c.args.self.now.size.letters.now c.requires.within.problem.local))))
+    (sym (start_none c.args.self.now.size.problem.now c.args.self.now.size.letters.now c.requires.problem.local))))
 
 pub push_clause-requires-clause-within : goal.push_clause-requires-clause-within
 push_clause-requires-clause-within c =
     let made : IsAutomaton (automaton_of c.args.self.now.size.problem.now) = subst IsAutomaton c.deref.ensures c.states-states.ensures.kept in
     subst (IsWithinVariables (variables_of c.args.self.now.size.problem.now c.args.self.now.size.letters.now)) (sym (start (goal.at.push_clause-requires-clause-within c).After-new-start))
-    (start-rises c.args.self.now.size.problem.now c.args.self.now.size.letters.now c.requires.within.problem made).within
+    (start-rises c.args.self.now.size.problem.now c.args.self.now.size.letters.now c.requires.problem made).within
 
 pub returns : goal.returns
 returns c =

@@ -30,7 +30,7 @@ returns-clause-formula c =
     let small : c.all_variables.result ≤ 2 ^ 30 = omega (arith, c.all_variables.ensures.small) in (
       small,
       subst (λ (cs : List (List Literal)). All (IsWithinVariables c.all_variables.result) cs) (sym (listed at))
-          (subst (λ n. All (IsWithinVariables n) (base_clauses c.args.self.now.problem.now c.args.self.now.letters.now)) (sym c.all_variables.ensures.value) (base_within c.args.self.now.problem.now c.args.self.now.letters.now c.requires.size.problem (made at))),
+          (subst (λ n. All (IsWithinVariables n) (base_clauses c.args.self.now.problem.now c.args.self.now.letters.now)) (sym c.all_variables.ensures.value) (base_within c.args.self.now.problem.now c.args.self.now.letters.now c.requires.size (made at))),
     )
 
 pub returns-clause-met : goal.returns-clause-met
@@ -39,4 +39,4 @@ returns-clause-met c =
     λ accepted.
     subst (λ n. IsMetBySome n c.push_order_clauses.new.clauses.items) (sym c.all_variables.ensures.value)
     (subst (λ (cs : List (List Literal)). IsMetBySome (variables_of c.args.self.now.problem.now c.args.self.now.letters.now) cs) (sym (listed at))
-    (met_by_accepted c.args.self.now.problem.now c.args.self.now.letters.now c.requires.size.problem (made at) c.components_are_classes.ensures accepted))
+    (met_by_accepted c.args.self.now.problem.now c.args.self.now.letters.now c.requires.size (made at) c.components_are_classes.ensures accepted))

@@ -1,6 +1,6 @@
 use Rattle.std.proofs.Common.{◌≡◌, ◌≤◌}
 use Rattle.annotation_encode.specs.BaseClauses.{fits_read}
-use Rattle.letter_clauses.specs.Count.{passing}
+use Rattle.annotation_encode.specs.Count.{passing}
 use Rattle.letter_clauses.specs.Letters.{letter_at}
 use Rattle.letter_clauses.proofs.sizes.LetterSize.fitting_letters.Given as goal
 

@@ -1,6 +1,7 @@
 use Rattle.std.proofs.Common.{◌≡◌, ◌≤◌}
 use Rattle.annotation_encode.specs.BaseClauses.{written_signal}
-use Rattle.letter_clauses.specs.Count.{is_named, passing}
+use Rattle.annotation_encode.specs.Count.{passing}
+use Rattle.letter_clauses.specs.Count.{is_named}
 use Rattle.letter_clauses.proofs.sizes.LetterSize.named_signals.Given as goal
 
 abbrev pub invariant-loop-signal : goal.invariant-loop-signal
