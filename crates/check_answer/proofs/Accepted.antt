@@ -36,8 +36,8 @@ use Rattle.document_text.specs.States.{States}
 use Rattle.document_check.specs.Facts.{Facts, allowed_at, counting_for, for_side, problem_at, sizes_to, wanted_sizes}
 use Rattle.document_check.specs.Holds.{AllHold, HoldsAt, HoldsFor, IsLogOfSome, may_be_full}
 use Rattle.document_check.specs.Laws.{AllRefute, ClosedLogsRefuteSizes}
-use Rattle.document_check.specs.Shown.{AreFacts, IsProblemAt, IsSize}
-use Rattle.document_check.proofs.ProblemLemmas.{is_problem}
+use Rattle.document_check.specs.Shown.{AreFacts, IsSize}
+use Rattle.document_check.proofs.ProblemLemmas.{within_limits}
 use Rattle.text_ground.specs.Ground.{IsWantedBy}
 use Rattle.text_ground.specs.Ground.{given_by}
 use Rattle.text_ground.specs.Laws.{SidesMean}
@@ -47,7 +47,7 @@ use Rattle.text_ground.proofs.Lists.{all_three, some_of}
 use Rattle.check_answer.specs.Answer.{HasNoMachine, IsAcceptedDocument}
 use Rattle.check_answer.specs.Reply.{IsForCheck}
 use Rattle.check_answer.proofs.Told.{says_of_sizes}
-use Rattle.machine_model.specs.declared.counting.Counts.TheVariants.{Local}
+use Rattle.machine_model.specs.declared.counting.Counts.TheVariants.{Whole}
 
 -- == the sizes of logs ==
 
@@ -120,8 +120,8 @@ module _ (text : List ℕ) (t : TextProblems) (k : Context text t) where
   are_facts : AreFacts given
   are_facts = k.taken.facts
 
-  for_text : AreProblemsFor Local spec.expanded s
-  for_text = are_problems_for 3 text (Some Mealy) spec s k.taken.meet k.taken.text_with.are
+  for_text : AreProblemsFor Whole spec.expanded s
+  for_text = are_problems_for Whole text (Some Mealy) spec s k.taken.meet k.taken.text_with.are
 
   -- what the text wants of machines of this kind
   abbrev wanted_with : Kind → Wanted
@@ -151,7 +151,7 @@ module _ (text : List ℕ) (t : TextProblems) (k : Context text t) where
 
     system_known : IsSideOf (wanted_with kind) formula System systems
     system_known = record {
-      within = is_problem given kind version System n systems are_facts some few refl;
+      within = within_limits kind version n some few s.system are_facts.system k.automata.of_system;
       of_side = for_text.of_system.of_side;
       kind_is = refl;
       inputs = for_text.of_system.inputs;
@@ -162,8 +162,7 @@ module _ (text : List ℕ) (t : TextProblems) (k : Context text t) where
 
     environment_known : (p : Problem) → s.environment ≡ Some p → IsSideOf (wanted_with kind) formula Environment (environments p)
     environment_known p is = record {
-      within = is_problem given kind version Environment n (environments p) are_facts some few
-          (subst (λ (o : Option Problem). IsProblemAt (option_map environments o) (Some (environments p))) (sym is) refl);
+      within = within_limits (other_kind kind) version n some few p (some_of IsProblem s.environment p are_facts.environment is) (k.automata.of_environment p is);
       of_side = (for_text.of_environment p is).of_side;
       kind_is = refl;
       inputs = (for_text.of_environment p is).inputs;

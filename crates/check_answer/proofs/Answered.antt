@@ -36,14 +36,14 @@ use Rattle.solve_check.specs.Checked.{IsReady}
 use Rattle.check_answer.specs.Answer.{CheckAnswers, GivenToCheck, IsTakenBySolve, SolvedAnswers}
 use Rattle.check_answer.specs.Answer as answer
 use Rattle.check_answer.specs.Reply.{IsAcceptance, IsForCertificates, IsForCheck, IsHeaderOf, IsLineRefusal, IsRefusedAlone}
-use Rattle.machine_model.specs.declared.counting.Counts.TheVariants.{Local}
+use Rattle.machine_model.specs.declared.counting.Counts.TheVariants.{Whole}
 use Rattle.check_answer.proofs.Accepted.{Context, is_accepted}
 
 -- a text's problems are what `check` tests against
-pub for_certificates : (text : List ℕ) (t : TextProblems) → AreOfText Local text (Some Mealy) (Of t) → AreProblems t.problems → IsForCheck text t
+pub for_certificates : (text : List ℕ) (t : TextProblems) → AreOfText Whole text (Some Mealy) (Of t) → AreProblems t.problems → IsForCheck text t
 for_certificates text t of_text meet = record {
   text_with = of_text;
-  facts = facts_are text (Some Mealy) (spec_seen t.spec) t.problems of_text.are meet;
+  facts = facts_are (spec_seen t.spec) t.problems meet;
   meet = meet;
 }
 
@@ -62,7 +62,7 @@ refused_alone text certificate bytes status alone isnt =
 -- a text that isn't refused in any case has no fault as `solve` takes it
 pub taken_by_solve : SmallTextsAreTaken → ProblemsOfTextsAreDetermined → (text : List ℕ) (found : Problems) → IsForCertificates text found → IsTakenBySolve text
 taken_by_solve small problems text (Of t) known = record {
-  none = small text (Some Mealy) (λ code place. problems.no_fault text (Some Mealy) 3 (spec_seen t.spec) t.problems code place known.text_with.are);
+  none = small text (Some Mealy) (λ code place. problems.no_fault text (Some Mealy) Whole (spec_seen t.spec) t.problems code place known.text_with.are);
 }
 taken_by_solve small problems text (Refused r) alone = alone.taken
 

@@ -2,6 +2,7 @@
 use Rattle.std.proofs.Common.{◌≡◌, ℕ, ◌⊎◌, inl, inr, List, Some, ap, length, sym, subst, ◌∙◌}
 use Rattle.letters_and_lassos.specs.declared.kinds.Kind.TheVariants.{Mealy}
 use Rattle.spec_faults.specs.declared.code.SpecCode.{SpecCode}
+use Rattle.machine_model.specs.declared.counting.Counts.TheVariants.{Whole}
 use Rattle.spec_problems.specs.Laws.{ProblemsOfTextsAreDetermined}
 use Rattle.spec_problems.specs.OfText.{IsFirstFault}
 use Rattle.document_text.specs.Laws.{DocumentsAreDetermined}
@@ -48,11 +49,11 @@ module _ (laws : AreLaws) (text certificate bytes : List ℕ) (status : ℕ) whe
   moved g h n first =
       laws.alike.first_bad (facts_to_check g) (facts_to_check h) certificate n
       (facts_alike g.spec h.spec g.problems h.problems
-      (laws.texts.one_text text (Some Mealy) 3 g.spec h.spec g.problems h.problems g.are_problems h.are_problems)
-      (laws.texts.one text (Some Mealy) 3 g.spec h.spec g.problems h.problems g.are_problems h.are_problems)) first
+      (laws.texts.one_text text (Some Mealy) Whole g.spec h.spec g.problems h.problems g.are_problems h.are_problems)
+      (laws.texts.one text (Some Mealy) Whole g.spec h.spec g.problems h.problems g.are_problems h.are_problems)) first
 
   no_fault : (g : GivenToCheck text) (code : SpecCode) (position : ℕ) → IsFirstFault text (Some Mealy) code position → ⊥
-  no_fault g code position fault = laws.texts.no_fault text (Some Mealy) 3 g.spec g.problems code position g.are_problems fault
+  no_fault g code position fault = laws.texts.no_fault text (Some Mealy) Whole g.spec g.problems code position g.are_problems fault
 
   of_bad_line : (g : GivenToCheck text) (n : ℕ) → CheckAnswers text certificate bytes status → (IsSixth certificate → ⊥)
       → IsFirstBadFor (facts_to_check g) certificate n → (status ≡ 40) × (bytes ≡ line_refusal n)

@@ -31,7 +31,7 @@ use Rattle.solve_check.specs.Asked.{IsAsked}
 use Rattle.solve_check.specs.Checked.{IsAcceptedAs}
 use Rattle.solve_check.specs.FirstBad.{IsFirstBadSolved}
 use Rattle.solve_check.specs.Line as solved
-use Rattle.machine_model.specs.declared.counting.Counts.TheVariants.{Local}
+use Rattle.machine_model.specs.declared.counting.Counts.TheVariants.{Whole}
 
 -- == the line of a document that is accepted ==
 
@@ -53,12 +53,12 @@ accepted_line verdict kind = codes "accepted " ++ verdict_words verdict ++ codes
 -- == the text ==
 
 -- A text's flat form and the problems of its two sides. It is taken with a kind given, so that kinds of its own that differ are no
--- fault; which kind makes no difference, since the test of documents takes a document's own in its place, and its version too. With
--- version 3 the components are at hand for documents that count by them.
+-- fault; which kind makes no difference, and neither does what the problems' numbers count, since the test of documents takes a
+-- document's own kind and version in their place.
 pub record GivenToCheck (text : List ℕ) : Type 0 where
   pub spec : FlatText
   pub problems : SideProblems
-  pub are_problems : AreProblemsOf text (Some Mealy) Local spec problems
+  pub are_problems : AreProblemsOf text (Some Mealy) Whole spec problems
 
 -- what the text gives to the test of documents
 abbrev pub facts_to_check : {text : List ℕ} → GivenToCheck text → Facts

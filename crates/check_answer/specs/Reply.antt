@@ -27,7 +27,7 @@ use Rattle.program_replies.specs.declared.replies.Status.TheVariants as ended
 use Rattle.check_answer.specs.declared.answering.TextForCheck.{TextForCheck}
 use Rattle.check_answer.specs.declared.answering.TextForCheck.TheVariants as ready
 use Rattle.check_answer.specs.Answer.{CheckAnswers, IsTakenBySolve, accepted_line}
-use Rattle.machine_model.specs.declared.counting.Counts.TheVariants.{Local}
+use Rattle.machine_model.specs.declared.counting.Counts.TheVariants.{Whole}
 
 -- what a text with its problems gives to the test of documents
 abbrev pub facts_for_check : TextProblems → Facts
@@ -35,7 +35,7 @@ facts_for_check t = given_by (spec_seen t.spec) t.problems
 
 -- a text that was read and expanded, with a kind given, and its problems
 pub record IsForCheck (text : List ℕ) (t : TextProblems) : Type 0 where
-  pub text_with : IsTextWith Local text (Some Mealy) (spec_seen t.spec) t.problems
+  pub text_with : IsTextWith Whole text (Some Mealy) (spec_seen t.spec) t.problems
   pub facts : AreFacts (facts_for_check t)
   pub meet : AreProblems t.problems
 

@@ -33,7 +33,7 @@ pub enum TextForCheck {
 pub fn text_for_check(alloc: Global, text: &[u8]) -> Result<TextForCheck, AllocError>
     ensures { IfOk result (AreForCheck text.now) }
 {
-    match problems_or_refusal(alloc, text, Some(Kind::Mealy), Counts::Local)? {
+    match problems_or_refusal(alloc, text, Some(Kind::Mealy), Counts::Whole)? {
         Problems::Of(found) => Ok(TextForCheck::Taken(Problems::Of(found))),
         Problems::Refused(reply) => refused_for_check(alloc, text, reply),
     }

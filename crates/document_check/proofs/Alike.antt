@@ -7,6 +7,7 @@ use Rattle.letters_and_lassos.specs.declared.kinds.Kind.{Kind}
 use Rattle.letters_and_lassos.specs.declared.kinds.Side.{Side}
 use Rattle.letters_and_lassos.specs.declared.kinds.Side.TheVariants.{System, Environment}
 use Rattle.letters_and_lassos.specs.Kinds.{other_kind}
+use Rattle.machine_model.specs.Problem.{automaton_of}
 use Rattle.machine_model.specs.declared.problems.Problem.{Problem}
 use Rattle.annotation_encode.specs.BaseClauses.{base_clauses}
 use Rattle.annotation_encode.specs.Count.{allowed_sizes, count_of}
@@ -19,14 +20,14 @@ use Rattle.document_text.specs.declared.reading.CircuitPart.{CircuitPart}
 use Rattle.document_text.specs.declared.reading.CircuitPart.TheVariants.{Absent, Faulty, Stated}
 use Rattle.document_text.specs.Parts.{Document, LogPart}
 use Rattle.document_text.specs.Reading.{DocumentLines}
-use Rattle.document_text.proofs.LogsLemmas.{some_same}
+use Rattle.std_lemmas.proofs.Options.{some_same}
 use Rattle.circuit_names.specs.Lines.{earliest}
 use Rattle.document_check.specs.declared.facts.Asked.{Asked}
 use Rattle.document_text.specs.declared.order.Place.{Place}
 use Rattle.document_text.specs.Order.{order_of}
 use Rattle.document_check.specs.Alike.{AreAlike, AreSameShapes, Shape, shape_of}
-use Rattle.document_check.specs.Facts.{Facts, allowed_at, circuit_side, clause_version, problem_at, wanted_sizes}
-use Rattle.document_check.specs.FirstBad.{FailsBehind, FailsIn, IsFirstBadFor, LogFails, LogsFail, LogsFailIn, all_there, another, asked_in, bad_entry, circuit_line, end_line, has_numbers, is_good, last_line, left_open, no_problem, number_line, one_fails, one_good, one_missing, one_more, other_numbers, wanted_in}
+use Rattle.document_check.specs.Facts.{Facts, allowed_at, circuit_side, counting_for, problem_at, wanted_sizes}
+use Rattle.document_check.specs.FirstBad.{Fails, FailsBehind, FailsIn, IsFirstBadFor, LogFails, LogsFail, LogsFailIn, all_there, another, asked_in, bad_entry, circuit_line, end_line, has_numbers, is_good, last_line, left_open, no_problem, number_line, one_fails, one_good, one_missing, one_more, other_numbers, wanted_in}
 use Rattle.document_check.specs.Holds.{AllHold, HasNames, HoldsFor, IsLogOf, IsLogOfSome, is_allowed, may_be_full}
 use Rattle.document_check.specs.Laws.{AlikeTextsCheckAlike}
 
@@ -41,7 +42,7 @@ record FailsOver (full : Bool) (limit : Option ℕ) (l : LogPart) (o : Option Pr
 module _ (kind : Kind) (version : ℕ) where
   -- the problem of one size, for a document of this kind and version
   abbrev asked_at : ℕ → Problem → Problem
-  asked_at size p = record p { kind = kind; size = size; version = clause_version version }
+  asked_at size p = record p { kind = kind; size = size; counting = counting_for version (automaton_of p) }
 
   -- the same with another shape, kept where this problem is
   abbrev shaped : ℕ → Problem → Shape → Problem
@@ -52,8 +53,7 @@ module _ (kind : Kind) (version : ℕ) where
     side = shape.side;
     kind = kind;
     size = size;
-    version = clause_version version;
-    components = p.components;
+    counting = counting_for version shape.automaton;
   }
 
   -- == sizes ==
@@ -227,17 +227,15 @@ module _ (inputs outputs : List (List ℕ)) (s t : Problem) (e f : Option Proble
         by None none = none
         by (Some a) fails = behind_same a first fails
 
-  first_bad_same : (bytes : List ℕ) (n : ℕ) → IsFirstBadFor one bytes n → IsFirstBadFor other bytes n
-  first_bad_same bytes n first = record {
-    lines = first.lines;
-    reads = first.reads;
-    fails = record {
-      behind = first.fails.behind;
-      fails = fails_in first.lines first.fails.behind first.fails.fails;
-      first_is = first.fails.first_is ∙ ap (λ (o : Option ℕ). option_or (earliest o (earliest first.lines.bad first.fails.behind)) (last_line first.lines))
-          (circuit_same bytes first.lines.header first.lines.circuit);
-    };
+  fails_same : (bytes : List ℕ) (lines : DocumentLines) (first : Option ℕ) → Fails one bytes lines first → Fails other bytes lines first
+  fails_same bytes lines first is = record {
+    behind = is.behind;
+    fails = fails_in lines is.behind is.fails;
+    first_is = is.first_is ∙ ap (λ (o : Option ℕ). option_or (earliest o (earliest lines.bad is.behind)) (last_line lines)) (circuit_same bytes lines.header lines.circuit);
   }
+
+  first_bad_same : (bytes : List ℕ) (n : ℕ) → IsFirstBadFor one bytes n → IsFirstBadFor other bytes n
+  first_bad_same bytes n first = record { lines = first.lines; reads = first.reads; fails = fails_same bytes first.lines (Some n) first.fails }
 
 -- == with the other's names ==
 
@@ -252,6 +250,11 @@ module _ (facts other : Facts) (alike : AreAlike facts other) where
   holds_alike d holds =
       holds_same other.inputs other.outputs facts.system other.system facts.environment other.environment alike.system alike.environment d
       (subst (λ (x : Facts). HoldsFor x d) renamed_is holds)
+
+  pub fails_alike : (bytes : List ℕ) (lines : DocumentLines) (first : Option ℕ) → Fails facts bytes lines first → Fails other bytes lines first
+  fails_alike bytes lines first is =
+      fails_same other.inputs other.outputs facts.system other.system facts.environment other.environment alike.system alike.environment bytes lines first
+      (subst (λ (x : Facts). Fails x bytes lines first) renamed_is is)
 
   first_bad_alike : (bytes : List ℕ) (n : ℕ) → IsFirstBadFor facts bytes n → IsFirstBadFor other bytes n
   first_bad_alike bytes n first =

@@ -1,7 +1,7 @@
 -- What a header asks for.
 use Rattle.std.proofs.Common.{◌≡◌, Some, ap, ◌∙◌}
 use Rattle.document_text.specs.declared.header.Header.{Header}
-use Rattle.document_text.proofs.HeadRead.{step, last_step}
+use Rattle.std_lemmas.proofs.Options.{chained_some, mapped_some}
 use Rattle.document_check.specs.declared.facts.Asked.{Asked}
 use Rattle.document_check.specs.FirstBad.{asked_in}
 
@@ -13,10 +13,10 @@ pub record IsAskedBy (h : Header) (a : Asked) : Type 0 where
 
 pub asked_is : (h : Header) (a : Asked) → asked_in h ≡ Some a → IsAskedBy h a
 asked_is h a is =
-    let v = step _ h.version a is in
-    let r = step _ h.verdict a v.2 in
-    let k = step _ h.kind a r.2 in
-    let m = last_step _ h.max a k.2 in
+    let v = chained_some _ h.version a is in
+    let r = chained_some _ h.verdict a v.2 in
+    let k = chained_some _ h.kind a r.2 in
+    let m = mapped_some _ h.max a k.2 in
     record {
       version = v.1 ∙ ap (λ (x : Asked). Some x.version) m.2;
       verdict = r.1 ∙ ap (λ (x : Asked). Some x.verdict) m.2;

@@ -5,7 +5,7 @@ use Rattle.aiger_text.specs.CircuitFile.{File}
 use Rattle.document_text.specs.declared.reading.CircuitPart.TheVariants.{Faulty}
 use Rattle.document_text.specs.Parts.{Document}
 use Rattle.document_text.specs.Reading.{DocumentLines, Reads, without_circuit, of_fault, uncommented, commented, ReadsBehind, unnamed, named, circuit_in, document_of}
-use Rattle.document_text.proofs.HeadRead.{step, last_step}
+use Rattle.std_lemmas.proofs.Options.{chained_some, mapped_some}
 use Rattle.document_check.specs.declared.facts.Asked.{Asked}
 use Rattle.document_check.specs.FirstBad.{asked_in}
 
@@ -22,11 +22,11 @@ pub record IsDocumentOf (lines : DocumentLines) (d : Document) : Type 0 where
 
 pub document_is : (lines : DocumentLines) (d : Document) → document_of lines ≡ Some d → IsDocumentOf lines d
 document_is lines d is =
-    let v = step _ lines.header.version d is in
-    let r = step _ lines.header.verdict d v.2 in
-    let k = step _ lines.header.kind d r.2 in
-    let m = step _ lines.header.max d k.2 in
-    let e = last_step _ lines.header.entries d m.2 in
+    let v = chained_some _ lines.header.version d is in
+    let r = chained_some _ lines.header.verdict d v.2 in
+    let k = chained_some _ lines.header.kind d r.2 in
+    let m = chained_some _ lines.header.max d k.2 in
+    let e = mapped_some _ lines.header.entries d m.2 in
     record {
       version = v.1 ∙ ap (λ (x : Document). Some x.version) e.2;
       verdict = r.1 ∙ ap (λ (x : Document). Some x.verdict) e.2;

@@ -9,7 +9,7 @@ use Rattle.log_checker.specs.declared.faults.LogFault.{LogFault}
 use Rattle.log_checker.proofs.FaultLemmas.{one_fault, legal_has_none}
 use Rattle.document_text.specs.Parts.{LogPart}
 use Rattle.document_text.specs.Reading.{DocumentLines}
-use Rattle.document_text.proofs.LogsLemmas.{some_none, some_same}
+use Rattle.std_lemmas.proofs.Options.{some_none, some_same}
 use Rattle.document_text.proofs.ReadingLemmas.{reads_same}
 use Rattle.document_check.specs.declared.facts.Asked.{Asked}
 use Rattle.document_text.specs.declared.order.Place.{Place}

@@ -23,7 +23,7 @@ use Rattle.document_text.specs.Parts.{LogPart, Document}
 use Rattle.letters_and_lassos.specs.contracts.kinds.SidePartialEq.TheImpl.{ghosts as side_ghosts}
 use Rattle.document_text.specs.Reading.{DocumentLines, Reads, all_named, circuit_in}
 use Rattle.document_text.specs.States.{States}
-use Rattle.document_text.proofs.LogsLemmas.{some_none}
+use Rattle.std_lemmas.proofs.Options.{some_none}
 use Rattle.document_text.proofs.Whole.{all_good}
 use Rattle.document_check.specs.declared.facts.Asked.{Asked}
 use Rattle.document_text.specs.declared.order.Place.{Place}

@@ -10,3 +10,4 @@ pub mod DocumentLemmas
 pub mod HoldLemmas
 pub mod RefuteLemmas
 pub mod Alike
+pub mod CountedLemmas

@@ -1,21 +1,21 @@
 -- Problems that say the same.
-use Rattle.std.proofs.Common.{◌≡◌, ℕ, zero, suc, ◌≤◌, ◌==◌, ◌&&◌, Bool, true, false, cond, Option, Some, None, List, refl, sym, ap, subst, ◌∙◌, inl, inr}
-use Rattle.std.specs.Prelude.{is_some, IfSome, option_map, unwrap_or}
-use Rattle.std.proofs.Common.{◌≡◌, ℕ, zero, suc, ◌+◌, ◌≤◌, ◌==◌, ◌&&◌, Bool, true, false, cond, Option, Some, None, List, length, refl, sym, ap, subst, ◌∙◌, inl, inr, ◌⊎◌}
-use Rattle.std.specs.Prelude.{is_some, nat_le, not, All, IfSome, option_map, unwrap_or}
+use Rattle.std.proofs.Common.{◌≡◌, ℕ, zero, suc, ◌≤◌, ◌==◌, ◌&&◌, Bool, false, cond, Option, Some, None, List, refl, sym, ap, subst, ◌∙◌}
+use Rattle.std.specs.Prelude.{is_some, not, IfSome, option_map, unwrap_or}
 use Rattle.std.specs.Option.{option_map_or}
 use Rattle.propositional_logic.specs.Literal.{Literal}
 use Rattle.letters_and_lassos.specs.declared.kinds.Kind.{Kind}
 use Rattle.letters_and_lassos.specs.declared.kinds.Side.{Side}
 use Rattle.letters_and_lassos.specs.declared.kinds.Side.TheVariants.{System, Environment}
 use Rattle.letters_and_lassos.specs.Kinds.{other_kind}
-use Rattle.machine_model.specs.Automaton.{AutomatonModel}
-use Rattle.machine_model.specs.Components.{components_of}
+use Rattle.machine_model.specs.Automaton.{AutomatonModel, IsAutomaton}
+use Rattle.machine_model.specs.Components.{AreComponentsOf, components_of}
 use Rattle.machine_model.specs.Counting.{CountsBy, CountsIn}
 use Rattle.machine_model.specs.declared.counting.Counting.{Counting}
 use Rattle.machine_model.specs.declared.counting.Counting.TheVariants.{AllRejecting, ByComponent}
+use Rattle.machine_model.specs.declared.counting.Counts.{Counts}
+use Rattle.machine_model.specs.declared.counting.Counts.TheVariants.{Local, Whole}
 use Rattle.machine_model.specs.declared.problems.Problem.{Problem}
-use Rattle.machine_model.proofs.ComponentsOf.{components_are}
+use Rattle.machine_model.proofs.ComponentsOf.{are_components, components_are}
 use Rattle.machine_model.proofs.CountingLemmas.{counts_in_by}
 use Rattle.machine_model.specs.Problem.{IsProblem, Parts, automaton_of, parts_of, sized}
 use Rattle.machine_model.proofs.PartsLemmas.{alike, kept_at}
@@ -26,9 +26,9 @@ use Rattle.annotation_encode.proofs.Further.{equal_clauses}
 use Rattle.refutation_log.specs.Log.{IsLegal}
 use Rattle.log_checker.specs.Faults.{IsLogFault}
 use Rattle.document_text.specs.Parts.{LogPart}
-use Rattle.document_check.specs.Facts.{Facts, allowed_at, counting_for, problem_at}
+use Rattle.document_check.specs.Facts.{Facts, allowed_at, counting_for, counting_from, counts_for, problem_at}
 use Rattle.document_check.specs.FirstBad.{has_numbers, LogFails, other_numbers, bad_entry, left_open, is_good}
-use Rattle.document_check.specs.Shown.{AreFacts, IsInEachVersion, IsProblemAt}
+use Rattle.document_check.specs.Shown.{AreFactsFor, IsProblemAt, IsReadyFor}
 
 same_count : (p q : Problem) → parts_of p ≡ parts_of q → count_of p ≡ count_of q
 same_count p q same = ap (λ parts. count_of (kept_at p parts)) same
@@ -73,43 +73,75 @@ module _ (full : Bool) (limit : Option ℕ) (l : LogPart) (q p : Problem) (same 
   fails_over o (left_open n g s) = left_open (sym numbers_same ∙ n) (legal_over g) s
   fails_over o (is_good n g s) = is_good (sym numbers_same ∙ n) (legal_over g) s
 
--- ---- the problems are problems
+-- ---- what numbers count
 
--- what a problem's numbers count by component is what is computed
-pub computed : (a : AutomatonModel) (counting : Counting) → CountsBy a counting → counting ≡ ByComponent (components_of a)
+-- what numbers count by component is what is computed
+computed : (a : AutomatonModel) (counting : Counting) → CountsBy a counting → counting ≡ ByComponent (components_of a)
 computed a counting by = by.by ∙ ap ByComponent (components_are a by.components by.right)
 
-pub counting_is : (version : ℕ) (a : AutomatonModel) (counting : Counting) → CountsBy a counting → (cond (version == 5) counting (AllRejecting (not (version == 1)))) ≡ counting_for version a
-counting_is version a counting by = ap (λ c. cond (version == 5) c (AllRejecting (not (version == 1)))) (computed a counting by)
+-- so a problem whose numbers count by component, where those of a document's version do, has what these count
+counting_same : (counts : Counts) (numbered : Bool) (a : AutomatonModel) (counting : Counting) → (counts ≡ Local → CountsBy a counting)
+    → counting_from counts numbered counting ≡ counting_from counts numbered (ByComponent (components_of a))
+counting_same Whole numbered a counting by = refl
+counting_same Local numbered a counting by = computed a counting (by refl)
 
-counted_in : (a : AutomatonModel) (counting : Counting) (fifth numbered : Bool) → CountsBy a counting → CountsIn a (cond fifth counting (AllRejecting numbered))
-counted_in a counting true numbered by = counts_in_by a counting by
-counted_in a counting false numbered by = record { right = λ components is. absurd (let e : AllRejecting numbered ≡ ByComponent components = is in cc) }
+-- the problem of a document, from one of the same size
+pub for_document : (p q : Problem) (kind : Kind) (version size : ℕ) (counting : Counting) → (counts_for version ≡ Local → CountsBy (automaton_of p) p.counting)
+    → parts_of q ≡ parts_of (sized p size) → counting ≡ counting_from (counts_for version) (not (version == 1)) q.counting
+    → parts_of (record q { kind = kind; counting = counting }) ≡ parts_of (record p { kind = kind; size = size; counting = counting_for version (automaton_of p) })
+for_document p q kind version size counting by same is =
+    let counts : Counts = counts_for version in
+    let numbered : Bool = not (version == 1) in
+    let made : parts_of (record q { kind = kind; counting = counting }) ≡ record (parts_of q) { kind = kind; counting = counting_from counts numbered q.counting } =
+    λ i. record (parts_of q) { kind = kind; counting = is i } in
+    let there : record (parts_of q) { kind = kind; counting = counting_from counts numbered q.counting }
+    ≡ record (parts_of p) { kind = kind; size = size; counting = counting_from counts numbered p.counting } =
+    ap (λ (x : Parts). record x { kind = kind; counting = counting_from counts numbered x.counting }) same in
+    let counted : record (parts_of p) { kind = kind; size = size; counting = counting_from counts numbered p.counting }
+    ≡ parts_of (record p { kind = kind; size = size; counting = counting_for version (automaton_of p) }) =
+    λ i. record (parts_of p) { kind = kind; size = size; counting = counting_same counts numbered (automaton_of p) p.counting by i } in
+    made ∙ there ∙ counted
+
+counted_in : (counts : Counts) (numbered : Bool) (a : AutomatonModel) → (counts ≡ Local → AreComponentsOf a (components_of a))
+    → CountsIn a (counting_from counts numbered (ByComponent (components_of a)))
+counted_in Whole numbered a are = record { right = λ components is. absurd (let e : AllRejecting numbered ≡ ByComponent components = is in cc) }
+counted_in Local numbered a are = counts_in_by a (ByComponent (components_of a)) (record { components = components_of a; by = refl; right = are refl })
+
+-- ---- the problems are problems
 
 module _ (kind : Kind) (version size : ℕ) (some : 1 ≤ size) (few : size ≤ 8) where
-  again : (p : Problem) → IsInEachVersion p → IsProblem (record p { kind = kind; size = size; counting = counting_for version (automaton_of p) })
-  again p is = record {
-    inputs = is.problem.inputs;
-    outputs = is.problem.outputs;
+  again : (p : Problem) → IsProblem p → (counts_for version ≡ Local → AreComponentsOf (automaton_of p) (components_of (automaton_of p)))
+      → IsProblem (record p { kind = kind; size = size; counting = counting_for version (automaton_of p) })
+  again p is are = record {
+    inputs = is.inputs;
+    outputs = is.outputs;
     some = some;
     size = few;
-    states = is.problem.states;
-    signals = is.problem.signals;
-    counting = subst (CountsIn (automaton_of p)) (counting_is version (automaton_of p) p.counting is.counting) (counted_in (automaton_of p) p.counting (version == 5) (not (version == 1)) is.counting);
+    states = is.states;
+    signals = is.signals;
+    counting = counted_in (counts_for version) (not (version == 1)) (automaton_of p) are;
   }
 
-  moved : (p q : Problem) → parts_of q ≡ parts_of p → IsProblem p → IsProblem q
-  moved p q same is = (alike p q (sym same)).problem is
+  -- the problem of a document is one, for a text within the limits
+  pub within_limits : (p : Problem) → IsProblem p → IsAutomaton (automaton_of p) → IsProblem (record p { kind = kind; size = size; counting = counting_for version (automaton_of p) })
+  within_limits p is whole = again p is (λ local. are_components (automaton_of p) whole)
 
-environment_by : (kind : Kind) (version size : ℕ) → 1 ≤ size → size ≤ 8 → (o : Option Problem) (q : Problem) → IfSome o IsInEachVersion
+  ready : (p : Problem) → IsReadyFor version p → IsProblem (record p { kind = kind; size = size; counting = counting_for version (automaton_of p) })
+  ready p is = again p is.problem (λ local.
+      let by : CountsBy (automaton_of p) p.counting = is.counting local in
+      subst (AreComponentsOf (automaton_of p)) (components_are (automaton_of p) by.components by.right) by.right)
+
+  -- a problem that says what this one does, as a document takes it, is one
+  pub is_ready : (p q : Problem) → IsReadyFor version p → parts_of q ≡ parts_of (record p { kind = kind; size = size; counting = counting_for version (automaton_of p) }) → IsProblem q
+  is_ready p q is same = (alike (record p { kind = kind; size = size; counting = counting_for version (automaton_of p) }) q (sym same)).problem (ready p is)
+
+environment_by : (kind : Kind) (version size : ℕ) → 1 ≤ size → size ≤ 8 → (o : Option Problem) (q : Problem) → IfSome o (IsReadyFor version)
     → IsProblemAt (option_map (λ (p : Problem). record p { kind = other_kind kind; size = size; counting = counting_for version (automaton_of p) }) o) (Some q) → IsProblem q
 environment_by kind version size some few None q all is = absurd is
-environment_by kind version size some few (Some p) q all is =
-    moved (other_kind kind) version size some few (record p { kind = other_kind kind; size = size; counting = counting_for version (automaton_of p) }) q is (again (other_kind kind) version size some few p all)
+environment_by kind version size some few (Some p) q all is = is_ready (other_kind kind) version size some few p q all is
 
 -- a problem that says what a text's does is one
-pub is_problem : (facts : Facts) (kind : Kind) (version : ℕ) (side : Side) (size : ℕ) (q : Problem) → AreFacts facts → 1 ≤ size → size ≤ 8
+pub is_problem : (facts : Facts) (kind : Kind) (version : ℕ) (side : Side) (size : ℕ) (q : Problem) → AreFactsFor version facts → 1 ≤ size → size ≤ 8
     → IsProblemAt (problem_at facts kind version side size) (Some q) → IsProblem q
-is_problem facts kind version System size q are some few is =
-    moved kind version size some few (record facts.system { kind = kind; size = size; counting = counting_for version (automaton_of facts.system) }) q is (again kind version size some few facts.system are.system)
+is_problem facts kind version System size q are some few is = is_ready kind version size some few facts.system q are.system is
 is_problem facts kind version Environment size q are some few is = environment_by kind version size some few facts.environment q are.environment is

@@ -1,5 +1,5 @@
 -- What the test of documents sees of a text (this project's own): its names, and of each side the automaton and the signals. The problems'
--- kinds, sizes and versions are the document's, and components are for the code alone.
+-- kinds and sizes, and what their numbers count, are the document's.
 use Rattle.std.specs.Prelude.{◌≡◌, ℕ, Option, Some, None}
 use Rattle.letters_and_lassos.specs.declared.kinds.Side.{Side}
 use Rattle.machine_model.specs.Automaton.{AutomatonModel}

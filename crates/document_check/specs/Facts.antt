@@ -1,5 +1,5 @@
 -- What a document is checked against: the names of a text, and the problems of its two sides (this project's own).
-use Rattle.std.specs.Prelude.{◌==◌, ℕ, zero, suc, Option, Some, List, [], ◌∷◌, ◌++◌, min, option_map, if◌then◌else◌}
+use Rattle.std.specs.Prelude.{◌==◌, ℕ, zero, suc, Bool, not, Option, Some, List, [], ◌∷◌, ◌++◌, min, option_map, if◌then◌else◌}
 use Rattle.std.specs.Option.{option_map_or}
 use Rattle.letters_and_lassos.specs.declared.kinds.Kind.{Kind}
 use Rattle.letters_and_lassos.specs.declared.kinds.Side.{Side}
@@ -10,6 +10,8 @@ use Rattle.machine_model.specs.Components.{components_of}
 use Rattle.machine_model.specs.Problem.{automaton_of}
 use Rattle.machine_model.specs.declared.counting.Counting.{Counting}
 use Rattle.machine_model.specs.declared.counting.Counting.TheVariants.{AllRejecting, ByComponent}
+use Rattle.machine_model.specs.declared.counting.Counts.{Counts}
+use Rattle.machine_model.specs.declared.counting.Counts.TheVariants.{Local, Whole}
 use Rattle.machine_model.specs.declared.problems.Problem.{Problem}
 use Rattle.annotation_encode.specs.Count.{allowed_sizes}
 use Rattle.document_text.specs.declared.documents.Verdict.{Verdict}
@@ -32,9 +34,18 @@ abbrev pub names_in : Facts → Names
 names_in facts = record { inputs = facts.inputs; outputs = facts.outputs }
 
 -- what numbers count in the base clauses of a document's version: in version 5 they count by component, in the others all rejecting
--- states; states of machines are numbered but in version 1
+-- states
+abbrev pub counts_for : ℕ → Counts
+counts_for version = if version == 5 then Local else Whole
+
+-- numbers that count so, where these are those that count by component
+abbrev pub counting_from : Counts → Bool → Counting → Counting
+counting_from Whole numbered by_component = AllRejecting numbered
+counting_from Local numbered by_component = by_component
+
+-- what they count in an automaton; the states of machines are numbered but in version 1
 abbrev pub counting_for : ℕ → AutomatonModel → Counting
-counting_for version a = if version == 5 then ByComponent (components_of a) else AllRejecting (not (version == 1))
+counting_for version a = counting_from (counts_for version) (not (version == 1)) (ByComponent (components_of a))
 
 -- the problem of one size of one side, for a document of this kind and version
 abbrev pub problem_at : Facts → Kind → ℕ → Side → ℕ → Option Problem

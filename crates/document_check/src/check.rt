@@ -5,25 +5,28 @@ ghost use Rattle.document_text.specs.Reading.{Reads};
 ghost use Rattle.document_text.specs.States.{States};
 ghost use Rattle.document_check.specs.Holds.{HoldsFor, is_allowed as number_allowed};
 ghost use Rattle.document_check.specs.FirstBad.{end_line as line_of_end, environment_sizes, Fails, FailsIn, IsFirstBadFor, last_line as line_of_last, line_behind as line_behind_logs, LogsFailIn, number_line as line_of_number, system_sizes};
-ghost use Rattle.document_check.specs.Shown.{AreFacts, facts_of, IsReadable};
+ghost use Rattle.document_check.specs.Shown.{AreFacts, AreFactsFor, AreFactsIn, facts_of, IsReadable};
 
 use crate::circuits::circuit_line;
-use crate::facts::{Asked, TextFacts, asked_in, for_side, wanted_sizes};
+use crate::counted::Counted;
+use crate::facts::{Asked, TextFacts, asked_in, counts_of, for_side, wanted_sizes};
 use crate::logs::{Wanted, logs_line, may_be_full, names_open};
 use circuit_names::earliest;
 use document_text::{
     Document, DocumentFault, DocumentLines, LogPart, Verdict, order_of, read_lines,
 };
 use letters_and_lassos::Side;
+use machine_model::Counts;
 use std::alloc::{AllocError, Global};
 use std::thread::Threads;
 
 /// Checks a document against a text: the document, where it holds for the text, or the first line that fails.
 ///
 /// Where it holds, each log that the document must have is legal and closed, or full where that is allowed, over the base clauses of
-/// the text's problem of its side and size, taken with the document's kind and version. Nothing is said of the circuit but that it
-/// reads and has the text's names. The entries of a log are tested in pieces on several threads. It takes the time of the bytes and of
-/// the literals that hints touch, and the memory of the entries and of one size's base clauses.
+/// the text's problem of its side and size, taken with the document's kind and version: what the text's problems count makes no
+/// difference, and the components of their automata are found for a document that counts by them alone. Nothing is said of the circuit
+/// but that it reads and has the text's names. The entries of a log are tested in pieces on several threads. It takes the time of the
+/// bytes and of the literals that hints touch, and the memory of the entries and of one size's base clauses.
 pub fn check_document<R: Threads + Sync>(
     rt: &R,
     alloc: Global,
@@ -36,7 +39,7 @@ pub fn check_document<R: Threads + Sync>(
     ensures bad_line { (n : ℕ) → IsErrOf result (BadLine n) → IsFirstBadFor (facts_of facts.entry) bytes.now n }
 {
     let lines = read_lines(alloc, bytes)?;
-    if let Some(line) = first_line(rt, alloc, facts, bytes, &lines)? {
+    if let Some(line) = line_of_text(rt, alloc, facts, bytes, &lines)? {
         return Err(DocumentFault::BadLine(line));
     }
     match lines.into_document(alloc) {
@@ -45,8 +48,8 @@ pub fn check_document<R: Threads + Sync>(
     }
 }
 
-/// The first line at which the lines fail that were read of the bytes.
-fn first_line<R: Threads + Sync>(
+/// The first line at which the lines fail that were read of the bytes, over problems that count as the document's version wants it.
+fn line_of_text<R: Threads + Sync>(
     rt: &R,
     alloc: Global,
     facts: TextFacts<'_>,
@@ -54,6 +57,41 @@ fn first_line<R: Threads + Sync>(
     lines: &DocumentLines,
 ) -> Result<Option<u64>, AllocError>
     requires facts { AreFacts (facts_of facts) }
+    requires lines { Reads bytes.now lines.now }
+    ensures { IfOk result (Fails (facts_of facts.entry) bytes.now lines.now) }
+{
+    match counts_of(&lines.header) {
+        Counts::Whole => first_line(rt, alloc, facts, bytes, lines),
+        Counts::Local => line_by_component(rt, alloc, facts, bytes, lines),
+    }
+}
+
+/// The same over problems that count by component.
+fn line_by_component<R: Threads + Sync>(
+    rt: &R,
+    alloc: Global,
+    facts: TextFacts<'_>,
+    bytes: &[u8],
+    lines: &DocumentLines,
+) -> Result<Option<u64>, AllocError>
+    requires facts { AreFacts (facts_of facts) }
+    requires lines { Reads bytes.now lines.now }
+    ensures { IfOk result (Fails (facts_of facts.entry) bytes.now lines.now) }
+{
+    let counted = Counted::of(alloc, facts)?;
+    let line = first_line(rt, alloc, counted.facts(facts), bytes, lines)?;
+    Ok(line)
+}
+
+/// The same over problems that count so already.
+fn first_line<R: Threads + Sync>(
+    rt: &R,
+    alloc: Global,
+    facts: TextFacts<'_>,
+    bytes: &[u8],
+    lines: &DocumentLines,
+) -> Result<Option<u64>, AllocError>
+    requires facts { AreFactsIn lines.now.header (facts_of facts) }
     requires lines { Reads bytes.now lines.now }
     ensures { IfOk result (Fails (facts_of facts.entry) bytes.now lines.now) }
 {
@@ -71,7 +109,7 @@ fn behind_max<R: Threads + Sync>(
     bytes: &[u8],
     lines: &DocumentLines,
 ) -> Result<Option<u64>, AllocError>
-    requires facts { AreFacts (facts_of facts) }
+    requires facts { AreFactsIn lines.now.header (facts_of facts) }
     requires lines { Reads bytes.now lines.now }
     ensures { IfOk result (FailsIn (facts_of facts.entry) lines.now) }
 {
@@ -104,7 +142,7 @@ fn logs_in<R: Threads + Sync>(
     system: u32,
     environment: u32,
 ) -> Result<Option<u64>, AllocError>
-    requires facts { AreFacts (facts_of facts) }
+    requires facts { AreFactsFor asked.version (facts_of facts) }
     requires lines { Reads bytes.now lines.now }
     requires system { system ≡ system_sizes (facts_of facts) asked }
     requires environment { environment ≡ environment_sizes (facts_of facts) asked }

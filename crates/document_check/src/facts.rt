@@ -1,26 +1,23 @@
 //! What a text gives for a check, and the sizes that a document wants.
-ghost use Rattle.std.specs.Prelude.{◌≡◌, ◌++◌, ◌≤◌, ◌^◌, All, IfOk, OnOk, option_map};
-ghost use Rattle.machine_model.specs.Problem.{IsProblem, IsVersion, parts_of};
-ghost use Rattle.document_check.specs.Facts.{allowed_at, clause_version, for_side, names_in, problem_at, sizes_to, wanted_sizes};
-ghost use Rattle.std.specs.Prelude.{◌≡◌, ◌==◌, ◌++◌, ◌≤◌, ◌^◌, All, IfOk, OnOk, not, option_map, if◌then◌else◌};
+ghost use Rattle.std.specs.Prelude.{◌≡◌, ◌==◌, ◌++◌, ◌≤◌, ◌^◌, All, IfOk, IfSome, OnOk, not, option_map};
 ghost use Rattle.machine_model.specs.Counting.{CountsBy};
 ghost use Rattle.machine_model.specs.Problem.{IsProblem, automaton_of, parts_of};
-ghost use Rattle.machine_model.specs.declared.counting.Counting.TheVariants.{AllRejecting};
-ghost use Rattle.document_check.specs.Facts.{allowed_at, counting_for, names_in, problem_at, sizes_to, wanted_sizes};
+ghost use Rattle.machine_model.specs.declared.counting.Counts.TheVariants.{Local};
+ghost use Rattle.document_check.specs.Facts.{allowed_at, counting_for, counting_from, counts_for, for_side, names_in, problem_at, sizes_to, wanted_sizes};
 ghost use Rattle.circuit_names.specs.Names.{names_of};
 ghost use Rattle.document_check.specs.FirstBad.{asked_in as asked_of};
-ghost use Rattle.document_check.specs.Shown.{AreFacts, facts_of, IsProblemAt, IsSize};
+ghost use Rattle.document_check.specs.Shown.{AreFactsFor, counts_of as counts_of_header, facts_of, IsProblemAt, IsSize};
 
 use annotation_encode::allowed_sizes;
 use circuit_names::TextNames;
 use document_text::{Header, Order, Place, Verdict};
 use letters_and_lassos::{Kind, Side};
-use machine_model::{Counting, Problem};
+use machine_model::{Counting, Counts, Problem};
 use names_and_numbers::Name;
 use std::alloc::{AllocError, Global};
 
-/// What a document is checked against. The kinds, sizes and versions of the problems aren't looked at: a document has its own.
-/// Their components are at hand for a document that counts by component.
+/// What a document is checked against. The kinds and sizes of the problems, and what their numbers count, aren't looked at: a document
+/// has its own.
 #[derive(Clone, Copy)]
 pub struct TextFacts<'a> {
     /// The names of the inputs, and of the outputs.
@@ -68,15 +65,16 @@ impl<'a> TextFacts<'a> {
     }
 
     /// The problem of one size of one side, for a document of this kind and version.
-    pub(crate) fn problem_at(
+    pub fn problem_at(
         self,
         kind: Kind,
         version: u32,
         side: Side,
         size: u32,
     ) -> Result<Option<Problem>, AllocError>
-        requires { AreFacts (facts_of self) }
-        ensures { IfOk result (IsProblemAt (problem_at (facts_of self.entry) kind version side size)) }
+        requires { AreFactsFor version (facts_of self) }
+        ensures same { IfOk result (IsProblemAt (problem_at (facts_of self.entry) kind version side size)) }
+        ensures problem { 1 ≤ size → size ≤ 8 → IfOk result (λ found. IfSome found IsProblem) }
     {
         match side {
             Side::System => {
@@ -101,7 +99,7 @@ impl<'a> TextFacts<'a> {
         max: u32,
         side: Side,
     ) -> Result<u32, AllocError>
-        requires facts { AreFacts (facts_of self) }
+        requires facts { AreFactsFor version (facts_of self) }
         requires max { max ≤ 8 }
         ensures value { IfOk result (λ n. n ≡ allowed_at (facts_of self.entry) kind version max side) }
         ensures few { IfOk result (λ n. n ≤ 8) }
@@ -120,7 +118,7 @@ fn problem_for(
     version: u32,
     size: u32,
 ) -> Result<Problem, AllocError>
-    requires { CountsBy (automaton_of problem.now) problem.now.counting }
+    requires { counts_for version ≡ Local → CountsBy (automaton_of problem.now) problem.now.counting }
     ensures { IfOk result (λ p. parts_of p ≡ parts_of (record problem.now { kind = kind; size = size; counting = counting_for version (automaton_of problem.now) })) }
 {
     let sized = problem.sized(size)?;
@@ -131,18 +129,39 @@ fn problem_for(
         side: sized.side,
         kind,
         size: sized.size,
-        counting: counting_for(version, sized.counting),
+        counting: counting_from(version, sized.counting),
     })
 }
 
-/// What numbers count in the base clauses of a document's version, where these count by component.
-fn counting_for(version: u32, counting: Counting) -> Counting
-    ensures { result ≡ (if version == 5 then counting else AllRejecting (not (version == 1))) }
+/// What numbers count in the base clauses of documents of a version.
+pub fn counts_for(version: u32) -> Counts
+    ensures { result ≡ counts_for version }
 {
     match version {
-        1 => Counting::AllRejecting { numbered: false },
-        5 => counting,
-        _ => Counting::AllRejecting { numbered: true },
+        5 => Counts::Local,
+        _ => Counts::Whole,
+    }
+}
+
+/// What they count of a problem, in which they count so where they count by component.
+fn counting_from(version: u32, by_component: Counting) -> Counting
+    ensures { result ≡ counting_from (counts_for version) (not (version == 1)) by_component }
+{
+    match counts_for(version) {
+        Counts::Whole => Counting::AllRejecting {
+            numbered: version != 1,
+        },
+        Counts::Local => by_component,
+    }
+}
+
+/// What numbers count in the base clauses of a document with this header.
+pub(crate) fn counts_of(header: &Header) -> Counts
+    ensures { result ≡ counts_of_header header.now }
+{
+    match header.version {
+        Some(version) => counts_for(version),
+        None => Counts::Whole,
     }
 }
 

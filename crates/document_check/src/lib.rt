@@ -6,6 +6,7 @@
 
 mod check;
 mod circuits;
+mod counted;
 mod facts;
 pub mod laws;
 mod logs;
@@ -13,5 +14,5 @@ mod logs;
 pub use check::check_document;
 pub use circuit_names::earliest;
 pub use circuits::{faulty_line, stated_line};
-pub use facts::{TextFacts, clause_version};
+pub use facts::{TextFacts, counts_for};
 pub use logs::first_open;

@@ -6,7 +6,7 @@ ghost use Rattle.machine_model.specs.Problem.{IsProblem};
 ghost use Rattle.log_checker.specs.declared.faults.LogFault.TheVariants.{NoMemory, NotClosed};
 ghost use Rattle.document_check.specs.FirstBad.{LogFails, LogsFail, entry_of as entry_named, has_numbers as has_its_numbers, is_size_of as is_size_of_log, suffices as is_enough};
 ghost use Rattle.document_check.specs.Holds.{first_open as first_open_log, may_be_full as full_allowed, names_open as open_named};
-ghost use Rattle.document_check.specs.Shown.{AreFacts, facts_of, IsReadable, IsSize, line_of_first, uncons};
+ghost use Rattle.document_check.specs.Shown.{AreFactsFor, facts_of, IsReadable, IsSize, line_of_first, uncons};
 
 use crate::facts::TextFacts;
 use annotation_encode::{count, encode, variables};
@@ -40,7 +40,7 @@ pub fn logs_line<R: Threads + Sync>(
     sizes: &[Place],
     logs: &[LogPart],
 ) -> Result<Option<u64>, AllocError>
-    requires facts { AreFacts (facts_of facts) }
+    requires facts { AreFactsFor wanted.version (facts_of facts) }
     requires sizes { All IsSize sizes.now }
     requires logs { All IsReadable logs.now }
     ensures { IfOk result (LogsFail (facts_of facts.entry) wanted.kind wanted.version wanted.full wanted.limit wanted.end sizes.now logs.now) }

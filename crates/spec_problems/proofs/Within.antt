@@ -1,5 +1,5 @@
 -- Problems over automata within the limits can be given to each call that takes one.
-use Rattle.std.proofs.Common.{◌≡◌, ◌≤◌, ◌+◌, ℕ, Option, Some, None, All, sym, subst, ◌∙◌, arith}
+use Rattle.std.proofs.Common.{◌≡◌, ◌≤◌, ◌+◌, Option, Some, None, All, sym, subst, arith}
 use Rattle.std.specs.Prelude.{IfSome}
 use Rattle.text_limits.specs.declared.TheConstants.{SMALL_LIMITS}
 use Rattle.letters_and_lassos.specs.declared.kinds.Kind.{Kind}
@@ -9,7 +9,7 @@ use Rattle.std.specs.Prelude.{List}
 use Rattle.machine_model.specs.Automaton.{AutomatonModel, states_of}
 use Rattle.machine_model.specs.Counting.{CountsIn}
 use Rattle.machine_model.proofs.CountingLemmas.{counts_in}
-use Rattle.machine_model.specs.Problem.{automaton_of, IsProblem, NamesSignals}
+use Rattle.machine_model.specs.Problem.{IsProblem, NamesSignals}
 use Rattle.machine_model.specs.declared.problems.Problem.{Problem}
 use Rattle.side_automata.specs.Limits.{FitsProblem, FitProblemsOf}
 use Rattle.side_automata.specs.declared.automata.Automata.{Automata}
@@ -18,14 +18,14 @@ use Rattle.spec_problems.specs.declared.sides.Interface.{Interface}
 use Rattle.spec_problems.specs.declared.sides.SideProblems.{SideProblems}
 use Rattle.spec_problems.specs.OfFormula.{AreProblems, AreProblemsOver, IsEnvironmentOver, IsProblemOver}
 
-module _ (x : Interface) (inputs : x.inputs ≤ 8) (outputs : x.outputs ≤ 8) where
+module _ (x : Interface) (inputs : x.inputs ≤ SMALL_LIMITS.signals) (outputs : x.outputs ≤ SMALL_LIMITS.signals) where
   problem_within : (side : Side) (kind : Kind) (a : AutomatonModel) (p : Problem) → FitsProblem (x.inputs + x.outputs) a → IsProblemOver x side kind a p → IsProblem p
   problem_within side kind a p fits over = record {
-    inputs = subst (λ n. n ≤ 8) (sym over.inputs) inputs;
-    outputs = subst (λ n. n ≤ 8) (sym over.outputs) outputs;
+    inputs = subst (λ n. n ≤ SMALL_LIMITS.signals) (sym over.inputs) inputs;
+    outputs = subst (λ n. n ≤ SMALL_LIMITS.signals) (sym over.outputs) outputs;
     some = let one : p.size ≡ 1 = over.size in omega arith;
     size = let one : p.size ≡ 1 = over.size in omega arith;
-    states = subst (λ b. states_of b ≤ 2000) (sym over.automaton) fits.states;
+    states = subst (λ b. states_of b ≤ SMALL_LIMITS.automaton.states) (sym over.automaton) fits.states;
     signals =
         subst (λ b. All (NamesSignals (p.inputs + p.outputs)) b.edges) (sym over.automaton)
         (subst (λ n. All (NamesSignals (n + p.outputs)) a.edges) (sym over.inputs) (subst (λ n. All (NamesSignals (x.inputs + n)) a.edges) (sym over.outputs) fits.signals));

@@ -93,8 +93,8 @@ fn sides(
     interface: Interface,
     automata: Automata,
 ) -> Result<SideProblems, AllocError>
-    requires system { states_of automata.system ≤ 2000 }
-    requires environment { IfSome automata.environment (λ a. states_of a ≤ 2000) }
+    requires system { states_of automata.system ≤ SMALL_LIMITS.automaton.states }
+    requires environment { IfSome automata.environment (λ a. states_of a ≤ SMALL_LIMITS.automaton.states) }
     ensures { IfOk result (AreProblemsOver interface automata) }
 {
     let environment = environment(alloc, interface, automata.environment)?;
@@ -117,7 +117,7 @@ fn environment(
     interface: Interface,
     automaton: Option<Automaton>,
 ) -> Result<Option<Problem>, AllocError>
-    requires { IfSome automaton (λ a. states_of a ≤ 2000) }
+    requires { IfSome automaton (λ a. states_of a ≤ SMALL_LIMITS.automaton.states) }
     ensures { IfOk result (IsEnvironmentOver interface automaton) }
 {
     match automaton {
@@ -140,7 +140,7 @@ fn problem(
     kind: Kind,
     automaton: Automaton,
 ) -> Result<Problem, AllocError>
-    requires { states_of automaton ≤ 2000 }
+    requires { states_of automaton ≤ SMALL_LIMITS.automaton.states }
     ensures { IfOk result (IsProblemOver interface side kind automaton) }
 {
     let counting = interface.counts.over(alloc, &automaton)?;

@@ -1,27 +1,22 @@
 //! The files of a document's logs.
 
-ghost use Rattle.std.specs.Prelude.{◌≡◌, ◌==◌, if◌then◌else◌};
-ghost use Rattle.machine_model.specs.Problem.{IsProblem};
-ghost use Rattle.machine_model.specs.declared.counting.Counts.TheVariants.{Local, Whole};
-ghost use Rattle.spec_problems.specs.OfFormula.{AreProblems};
+ghost use Rattle.document_check.specs.Shown.{AreFactsFor, facts_of as facts_seen};
 
+use crate::base::{Over, base_of};
 use crate::dimacs::push_formula;
 use crate::entries::{push_drat, push_lrat};
 use crate::faults::TextFault;
-use crate::problems::base_of;
-use document_check::clause_version;
+use document_check::counts_for;
 use document_text::{Document, LogPart};
 use letters_and_lassos::Side;
-use machine_model::{Counting, Counts, Problem};
 use machine_table::{ShowFault, Shown};
 use program_replies::refused;
 use propositional_logic::Cnf;
 use spec_faults::SpecFault;
-use spec_problems::{SideProblems, text_problems};
+use spec_problems::text_problems;
 use std::alloc::{AllocError, Global};
-
-/// The greatest size of a log.
-const MOST_STATES: u32 = 8;
+use text_ground::facts_of;
+use text_limits::SMALL_LIMITS;
 
 const NO_BASE: &str = "its logs are over base clauses of version 4, which aren't written";
 
@@ -49,84 +44,45 @@ fn files_of_document(
     document: &Document,
     text: &[u8],
 ) -> Result<Vec<ProofFile>, TextFault> {
-    let text = match text_problems(
-        alloc,
-        text,
-        Some(document.kind),
-        counts_in(document.version),
-    ) {
+    let version = document.version;
+    let kind = document.kind;
+    let text = match text_problems(alloc, text, Some(kind), counts_for(version)) {
         Ok(text) => text,
         Err(SpecFault::NoMemory) => return Err(TextFault::NotShown(ShowFault::NoMemory)),
         Err(SpecFault::At { code, place }) => {
             return Err(TextFault::Refused(refused(alloc, code, place)?.bytes));
         }
     };
-    if document.version == 1 {
-        return files_of(alloc, &unnumbered(text.problems), &document.logs);
-    }
-    files_of(alloc, &text.problems, &document.logs)
+    let over = Over {
+        facts: facts_of(&text),
+        kind,
+        version,
+    };
+    files_of(alloc, over, &document.logs)
 }
 
-/// What numbers count in the base clauses of a document's version.
-fn counts_in(version: u32) -> Counts
-    ensures { result ≡ (if version == 5 then Local else Whole) }
-{
-    match version {
-        5 => Counts::Local,
-        _ => Counts::Whole,
-    }
-}
-
-/// The problems for machines whose states stand in any order, as documents of version 1 take them.
-fn unnumbered(problems: SideProblems) -> SideProblems
-    requires { AreProblems problems }
-    ensures { AreProblems result }
-{
-    SideProblems {
-        system: in_any_order(problems.system),
-        environment: match problems.environment {
-            Some(problem) => Some(in_any_order(problem)),
-            None => None,
-        },
-    }
-}
-
-fn in_any_order(problem: Problem) -> Problem
-    requires { IsProblem problem }
-    ensures { IsProblem result }
-{
-    Problem {
-        counting: Counting::AllRejecting { numbered: false },
-        ..problem
-    }
-}
-
-fn files_of(
-    alloc: Global,
-    problems: &SideProblems,
-    logs: &[LogPart],
-) -> Result<Vec<ProofFile>, TextFault>
-    requires { AreProblems problems.now }
+fn files_of(alloc: Global, over: Over<'_>, logs: &[LogPart]) -> Result<Vec<ProofFile>, TextFault>
+    requires { AreFactsFor over.version (facts_seen over.facts) }
 {
     let mut files = Vec::new(alloc);
     for log in logs {
-        push_files(alloc, problems, log, &mut files)?;
+        push_files(alloc, over, log, &mut files)?;
     }
     Ok(files)
 }
 
 fn push_files(
     alloc: Global,
-    problems: &SideProblems,
+    over: Over<'_>,
     log: &LogPart,
     files: &mut Vec<ProofFile>,
 ) -> Result<(), TextFault>
-    requires { AreProblems problems.now }
+    requires { AreFactsFor over.version (facts_seen over.facts) }
 {
-    if log.size < 1 || log.size > MOST_STATES {
+    if log.size < 1 || log.size > SMALL_LIMITS.machine {
         return Err(TextFault::NotShown(ShowFault::OtherText(log.line)));
     }
-    let Some(base) = base_of(alloc, problems, log.side, log.size)? else {
+    let Some(base) = base_of(alloc, over, log.side, log.size)? else {
         return Err(TextFault::NotShown(ShowFault::OtherText(log.line)));
     };
     if base.vars != log.vars || base.clauses.len() as u64 != log.base {

@@ -2,10 +2,11 @@
 //! task; base clauses in DIMACS form, entries in LRAT and their clauses in DRAT.
 //!
 //! `spec_text` writes a text, `Told` has its title and its formulas, `put_smv_formula` puts the whole for a module of SMV, and `proof_files` makes the
-//! files of each log; `base_of` and `push_formula` give the base clauses alone. It promises safety alone. Stands on flat_answer for the flat text and
-//! on spec_problems and annotation_encode for the base clauses.
+//! files of each log. It promises safety alone. Stands on flat_answer for the flat text, and on spec_problems, document_check and annotation_encode
+//! for the base clauses of a document's version.
 #![tactic(auto)]
 
+mod base;
 mod beside;
 mod dimacs;
 mod entries;
@@ -14,17 +15,14 @@ mod files;
 mod forms;
 mod infix;
 mod plain_names;
-mod problems;
 mod sections;
 mod smv;
 mod smv_names;
 mod tlsf;
 mod told;
 
-pub use dimacs::push_formula;
 pub use faults::TextFault;
 pub use files::{ProofFile, proof_files};
 pub use forms::{Form, SpecText, spec_text};
-pub use problems::base_of;
 pub use smv_names::{SmvNames, put_smv_formula};
 pub use told::Told;

@@ -1,7 +1,9 @@
 -- What a text gives to the test of documents.
-use Rattle.std.proofs.Common.{◌≡◌, ℕ, List, Option, Some, None, IfSome, refl, ap}
+use Rattle.std.proofs.Common.{◌≡◌, ℕ, List, Option, Some, None, IfSome, refl, sym, ap, subst, ◌∙◌}
 use Rattle.letters_and_lassos.specs.declared.kinds.Kind.{Kind}
-use Rattle.machine_model.specs.declared.counting.Counts.TheVariants.{Local}
+use Rattle.letters_and_lassos.specs.declared.kinds.Side.{Side}
+use Rattle.letters_and_lassos.specs.declared.kinds.Side.TheVariants.{System, Environment}
+use Rattle.letters_and_lassos.specs.Kinds.{other_kind}
 use Rattle.machine_model.specs.declared.problems.Problem.{Problem}
 use Rattle.machine_model.specs.Automaton.{AutomatonModel}
 use Rattle.machine_model.specs.Counting.{CountsBy, IsCountedAs}
@@ -9,30 +11,42 @@ use Rattle.machine_model.specs.Problem.{IsProblem}
 use Rattle.tlsf_expand.specs.FlatText.{FlatText}
 use Rattle.spec_problems.specs.declared.sides.Interface.{Interface}
 use Rattle.spec_problems.specs.declared.sides.SideProblems.{SideProblems}
-use Rattle.spec_problems.specs.OfFormula.{AreProblems, IsEnvironmentOver}
+use Rattle.spec_problems.specs.OfFormula.{AreProblems, IsEnvironmentOver, IsProblemOver}
 use Rattle.spec_problems.specs.OfText.{AreProblemsOf, interface_of}
 use Rattle.spec_problems.specs.Laws.{AreSameProblems, IsSameIfAny, IsSameProblem}
 use Rattle.document_check.specs.Alike.{AreAlike, AreSameShapes, shape_of}
-use Rattle.document_check.specs.Shown.{AreFacts, IsInEachVersion}
+use Rattle.document_check.specs.Facts.{counts_for}
+use Rattle.document_check.specs.Shown.{AreFacts, AreFactsFor, IsReadyFor}
 use Rattle.text_ground.specs.Ground.{given_by}
 
-of_environment : (x : Interface) → x.counts ≡ Local → (a : Option AutomatonModel) (o : Option Problem) → IsEnvironmentOver x a o → IfSome o IsProblem → IfSome o IsInEachVersion
-of_environment x local None None over is = tt
-of_environment x local None (Some p) over is = absurd over
-of_environment x local (Some a) None over is = tt
-of_environment x local (Some a) (Some p) over is = record {
+-- the text's problems may be tested against
+pub facts_are : (spec : FlatText) (s : SideProblems) → AreProblems s → AreFacts (given_by spec s)
+facts_are spec s are = record { system = are.is_system; environment = are.is_environment }
+
+-- a problem that counts as those of a document's version do
+ready : (x : Interface) (version : ℕ) → x.counts ≡ counts_for version → (side : Side) (kind : Kind) (a : AutomatonModel) (p : Problem) → IsProblemOver x side kind a p → IsProblem p → IsReadyFor version p
+ready x version counts side kind a p over is = record {
   problem = is;
-  counting = subst (λ b. CountsBy b p.counting) (sym over.automaton) (subst (λ counts. IsCountedAs counts a p.counting) local over.counting);
+  counting = λ local. subst (λ b. CountsBy b p.counting) (sym over.automaton) (subst (λ c. IsCountedAs c a p.counting) (counts ∙ local) over.counting);
 }
 
-pub facts_are : (text : List ℕ) (kind : Option Kind) (spec : FlatText) (s : SideProblems) → AreProblemsOf text kind Local spec s → AreProblems s → AreFacts (given_by spec s)
-facts_are text kind spec s of_text are = record {
-  system = record {
-    problem = are.is_system;
-    counting = subst (λ b. CountsBy b s.system.counting) (sym of_text.problems.problems.of_system.automaton) of_text.problems.problems.of_system.counting;
-  };
-  environment = of_environment (interface_of Local of_text.flat.expanded) refl of_text.problems.automata.environment s.environment of_text.problems.problems.of_environment are.is_environment;
-}
+of_environment : (x : Interface) (version : ℕ) → x.counts ≡ counts_for version → (a : Option AutomatonModel) (o : Option Problem) → IsEnvironmentOver x a o → IfSome o IsProblem
+    → IfSome o (IsReadyFor version)
+of_environment x version counts None None over is = tt
+of_environment x version counts None (Some p) over is = absurd over
+of_environment x version counts (Some a) None over is = absurd over
+of_environment x version counts (Some a) (Some p) over is = ready x version counts Environment (other_kind x.kind) a p over is
+
+-- they are ready for documents of a version where they count as those do
+pub facts_are_for : (text : List ℕ) (kind : Option Kind) (version : ℕ) (spec : FlatText) (s : SideProblems) → AreProblemsOf text kind (counts_for version) spec s → AreProblems s
+    → AreFactsFor version (given_by spec s)
+facts_are_for text kind version spec s of_text are =
+    let x : Interface = interface_of (counts_for version) of_text.flat.expanded in
+    let over = of_text.problems.problems in
+    record {
+      system = ready x version refl System x.kind of_text.problems.automata.system s.system over.of_system are.is_system;
+      environment = of_environment x version refl of_text.problems.automata.environment s.environment over.of_environment are.is_environment;
+    }
 
 same_shape : (p q : Problem) → IsSameProblem p q → shape_of p ≡ shape_of q
 same_shape p q same = λ i. record { automaton = same.automaton i; inputs = same.inputs i; outputs = same.outputs i; side = same.side i }

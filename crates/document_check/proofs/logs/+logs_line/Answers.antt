@@ -30,7 +30,7 @@ returns-in_default-2 g t c =
     let line : c.log.inside.line ≡ c.in-Some-first_log.log.now.line = ap (λ (l : LogPart). l.line) c.log.view_is in
     let none : IsProblemAt (problem_at (facts_of c.args.facts) c.args.wanted.kind c.args.wanted.version c.in-Some-first_log.log.now.side c.in-Some-first_log.log.now.size) None =
     subst (λ (o : Option Problem). IsProblemAt (problem_at (facts_of c.args.facts) c.args.wanted.kind c.args.wanted.version c.in-Some-first_log.log.now.side c.in-Some-first_log.log.now.size) o) c.in_default-2.is
-    (subst (λ (l : LogPart). IsProblemAt (problem_at (facts_of c.args.facts) c.args.wanted.kind c.args.wanted.version l.side l.size) c.in_ok-problem.field-0) c.log.view_is c.in_ok-problem.ensures) in
+    (subst (λ (l : LogPart). IsProblemAt (problem_at (facts_of c.args.facts) c.args.wanted.kind c.args.wanted.version l.side l.size) c.in_ok-problem.field-0) c.log.view_is c.in_ok-problem.ensures.same) in
     rw line
     (without_problem (facts_of c.args.facts) c.args.wanted.kind c.args.wanted.version c.args.wanted.full c.args.wanted.limit c.args.wanted.end c.args.sizes.now c.args.logs.now
     c.in-Some.size c.in-Some.later.now (sym c.in-Some.ensures) c.in-Some-first_log.log.now c.in-Some-first_log.others.now (sym c.in-Some-first_log.ensures)
@@ -42,7 +42,7 @@ log_line-requires-clause-problem g t c lives outlives =
     let fits = size_fits c.in-Some.size c.in-Some-first_log.log.now (sym c.is_size_of.ensures ∙ c.if-not-is_size_of.false) size in
     let some : IsProblemAt (problem_at (facts_of c.args.facts) c.args.wanted.kind c.args.wanted.version c.in-Some-first_log.log.now.side c.in-Some-first_log.log.now.size) (Some c.in-Some-2.problem) =
     subst (λ (o : Option Problem). IsProblemAt (problem_at (facts_of c.args.facts) c.args.wanted.kind c.args.wanted.version c.in-Some-first_log.log.now.side c.in-Some-first_log.log.now.size) o) c.in-Some-2.is
-    (subst (λ (l : LogPart). IsProblemAt (problem_at (facts_of c.args.facts) c.args.wanted.kind c.args.wanted.version l.side l.size) c.in_ok-problem.field-0) c.log.view_is c.in_ok-problem.ensures) in
+    (subst (λ (l : LogPart). IsProblemAt (problem_at (facts_of c.args.facts) c.args.wanted.kind c.args.wanted.version l.side l.size) c.in_ok-problem.field-0) c.log.view_is c.in_ok-problem.ensures.same) in
     is_problem (facts_of c.args.facts) c.args.wanted.kind c.args.wanted.version c.in-Some-first_log.log.now.side c.in-Some-first_log.log.now.size c.in-Some-2.problem c.requires.facts fits.0 fits.1 some
 
 pub log_line-requires-clause-log : goal.log_line-requires-clause-log
@@ -52,7 +52,7 @@ pub returns-in-Some-3 : goal.returns-in-Some-3
 returns-in-Some-3 g t c =
     let some : IsProblemAt (problem_at (facts_of c.args.facts) c.args.wanted.kind c.args.wanted.version c.in-Some-first_log.log.now.side c.in-Some-first_log.log.now.size) (Some c.in-Some-2.problem) =
     subst (λ (o : Option Problem). IsProblemAt (problem_at (facts_of c.args.facts) c.args.wanted.kind c.args.wanted.version c.in-Some-first_log.log.now.side c.in-Some-first_log.log.now.size) o) c.in-Some-2.is
-    (subst (λ (l : LogPart). IsProblemAt (problem_at (facts_of c.args.facts) c.args.wanted.kind c.args.wanted.version l.side l.size) c.in_ok-problem.field-0) c.log.view_is c.in_ok-problem.ensures) in
+    (subst (λ (l : LogPart). IsProblemAt (problem_at (facts_of c.args.facts) c.args.wanted.kind c.args.wanted.version l.side l.size) c.in_ok-problem.field-0) c.log.view_is c.in_ok-problem.ensures.same) in
     fails_at (facts_of c.args.facts) c.args.wanted.kind c.args.wanted.version c.args.wanted.full c.args.wanted.limit c.args.wanted.end c.args.sizes.now c.args.logs.now
     c.in-Some.size c.in-Some.later.now (sym c.in-Some.ensures) c.in-Some-first_log.log.now c.in-Some-first_log.others.now (sym c.in-Some-first_log.ensures)
     c.in-Some-2.problem c.in-Some-3.line (sym c.is_size_of.ensures ∙ c.if-not-is_size_of.false) some (rw c.in-Some-3.is at c.in_ok-line.ensures)
@@ -67,7 +67,7 @@ pub returns : goal.returns
 returns g t c =
     let some : IsProblemAt (problem_at (facts_of c.args.facts) c.args.wanted.kind c.args.wanted.version c.in-Some-first_log.log.now.side c.in-Some-first_log.log.now.size) (Some c.in-Some-2.problem) =
     subst (λ (o : Option Problem). IsProblemAt (problem_at (facts_of c.args.facts) c.args.wanted.kind c.args.wanted.version c.in-Some-first_log.log.now.side c.in-Some-first_log.log.now.size) o) c.in-Some-2.is
-    (subst (λ (l : LogPart). IsProblemAt (problem_at (facts_of c.args.facts) c.args.wanted.kind c.args.wanted.version l.side l.size) c.in_ok-problem.field-0) c.log.view_is c.in_ok-problem.ensures) in
+    (subst (λ (l : LogPart). IsProblemAt (problem_at (facts_of c.args.facts) c.args.wanted.kind c.args.wanted.version l.side l.size) c.in_ok-problem.field-0) c.log.view_is c.in_ok-problem.ensures.same) in
     goes_on (facts_of c.args.facts) c.args.wanted.kind c.args.wanted.version c.args.wanted.full c.args.wanted.limit c.args.wanted.end c.args.sizes.now c.args.logs.now
     c.in-Some.size c.in-Some.later.now (sym c.in-Some.ensures) c.in-Some-first_log.log.now c.in-Some-first_log.others.now (sym c.in-Some-first_log.ensures)
     c.in-Some-2.problem c.in_ok-line-2.line (sym c.is_size_of.ensures ∙ c.if-not-is_size_of.false) some (rw c.in_default-3.is at c.in_ok-line.ensures) c.in_ok-line-2.ensures

@@ -1,6 +1,6 @@
 use Rattle.std.proofs.Common.{◌≡◌, refl, sym, ap, ◌∙◌, arith, rules}
 use Rattle.document_text.specs.Parts.{LogPart}
-use Rattle.document_text.proofs.LogsLemmas.{some_none}
+use Rattle.std_lemmas.proofs.Options.{some_none}
 use Rattle.document_check.specs.FirstBad.{other_numbers}
 use Rattle.document_check.proofs.LogFailLemmas.{fault_fails, fault_within, enough, too_open}
 use Rattle.document_check.proofs.logs.log_line.Goals as goal
