@@ -4,7 +4,7 @@ use Rattle.std.specs.Prelude.{IfOk, None, Result, Ok, Err, Vec, Some, slice_get}
 use Rattle.std.proofs.lemmas.Option.{same_Some, none-some}
 use Rattle.program_replies.specs.Lines.{refusal_line}
 use Rattle.program_replies.specs.Statuses.{status_number}
-use Rattle.program_replies.specs.declared.replies.Reply.{Reply}
+use Rattle.outcome_news.specs.declared.news.ToldReply.{ToldReply}
 use Rattle.program_replies.specs.declared.replies.Status.TheVariants.{Refused}
 use Rattle.spec_faults.specs.declared.code.SpecCode.TheVariants as code
 use Rattle.tlsf_reader.specs.Faults.{most_bytes, too_long}
@@ -21,17 +21,17 @@ use Rattle.batch_answer.specs.Batch.{BatchAnswers, IsPartFor, Part, batch_text, 
 
 module _ {E : Type 0} (bounds : Settings) where
   -- the answer to all bytes of a text
-  pub whole_answers : (text : TakenText) (bytes : Vec ℕ Global) (r : Result Reply E) → text ≡ Whole bytes
-      → IfOk r (λ reply. Answers bytes.items None bounds reply.bytes.items (status_number reply.status)) → IfOk r (IsReplyTo bounds text)
+  pub whole_answers : (text : TakenText) (bytes : Vec ℕ Global) (r : Result ToldReply E) → text ≡ Whole bytes
+      → IfOk r (λ reply. Answers bytes.items None bounds reply.reply.bytes.items (status_number reply.reply.status)) → IfOk r (IsReplyTo bounds text)
   whole_answers text bytes (Err e) is answers = tt
   whole_answers text bytes (Ok reply) is answers = by text is
     where
       by : (t : TakenText) → t ≡ Whole bytes → IsReplyTo bounds t reply
-      by t at = subst (λ u. IsReplyTo bounds u reply) (sym at) (λ file same. subst (λ b. Answers b None bounds reply.bytes.items (status_number reply.status)) same answers)
+      by t at = subst (λ u. IsReplyTo bounds u reply) (sym at) (λ file same. subst (λ b. Answers b None bounds reply.reply.bytes.items (status_number reply.reply.status)) same answers)
 
   -- the line of a text that is too long
-  pub too_long_answers : (text : TakenText) (r : Result Reply E) → text ≡ TooLong
-      → IfOk r (λ reply. (reply.bytes.items ≡ refusal_line code.TooLong most_bytes) × (reply.status ≡ Refused)) → IfOk r (IsReplyTo bounds text)
+  pub too_long_answers : (text : TakenText) (r : Result ToldReply E) → text ≡ TooLong
+      → IfOk r (λ reply. (reply.reply.bytes.items ≡ refusal_line code.TooLong most_bytes) × (reply.reply.status ≡ Refused)) → IfOk r (IsReplyTo bounds text)
   too_long_answers text (Err e) is line = tt
   too_long_answers text (Ok reply) is line =
       subst (λ u. IsReplyTo bounds u reply) (sym is) (λ file long.
@@ -61,23 +61,23 @@ as_many (t ∷ texts) [] are = absurd are
 as_many (t ∷ texts) (f ∷ files) are = ap suc (as_many texts files are.1)
 
 -- the reply of a part stands at its place
-pub record ReplyAt (replies : List Reply) (k : ℕ) (part : Part) : Type 0 where
-  pub reply : Reply
+pub record ReplyAt (replies : List ToldReply) (k : ℕ) (part : Part) : Type 0 where
+  pub reply : ToldReply
   pub at : slice_get replies k ≡ Some reply
   pub is : part_of reply ≡ part
 
-pub reply_at : (replies : List Reply) (k : ℕ) (part : Part) → slice_get (map part_of replies) k ≡ Some part → ReplyAt replies k part
+pub reply_at : (replies : List ToldReply) (k : ℕ) (part : Part) → slice_get (map part_of replies) k ≡ Some part → ReplyAt replies k part
 reply_at [] k part found = absurd (none-some part found)
 reply_at (r ∷ replies) zero part found = record { reply = r; at = refl; is = same_Some (part_of r) part found }
 reply_at (r ∷ replies) (suc k) part found =
     let more = reply_at replies k part found in
     record { reply = more.reply; at = more.at; is = more.is }
 
-pub parts_many : (replies : List Reply) → length (map part_of replies) ≡ length replies
+pub parts_many : (replies : List ToldReply) → length (map part_of replies) ≡ length replies
 parts_many [] = refl
 parts_many (r ∷ replies) = ap suc (parts_many replies)
 
-pub batch_answers : (names : List (List ℕ)) (texts : List TakenText) (settings bounds : Settings) (replies : List Reply) (bytes : List ℕ)
+pub batch_answers : (names : List (List ℕ)) (texts : List TakenText) (settings bounds : Settings) (replies : List ToldReply) (bytes : List ℕ)
     → length names ≡ length texts → bounds ≡ alone settings → AreAnswers (IsReplyTo bounds) texts replies
     → bytes ≡ batch_text names (map part_of replies) → (files : List (List ℕ)) → AreTexts texts files → BatchAnswers names files settings bytes
 batch_answers names texts settings bounds replies bytes one_each is answers text files are = record {
@@ -90,7 +90,7 @@ batch_answers names texts settings bounds replies bytes one_each is answers text
         let r = reply_at replies k part there in
         let answer = answers.each k t.text r.reply t.at r.at file t.is_text in
         subst (IsPartFor settings file) r.is
-        (subst (λ b. Answers file None b r.reply.bytes.items (status_number r.reply.status)) is answer);
+        (subst (λ b. Answers file None b r.reply.reply.bytes.items (status_number r.reply.reply.status)) is answer);
   };
   text = text;
 }

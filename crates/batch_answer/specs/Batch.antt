@@ -1,6 +1,6 @@
 -- The answer of `batch` (this project's own).
 use Rattle.std.specs.Prelude.{◌≡◌, ℕ, ◌++◌, ⊤, List, [], ◌∷◌, None, codes, decimal, length}
-use Rattle.program_replies.specs.declared.replies.Reply.{Reply}
+use Rattle.outcome_news.specs.declared.news.ToldReply.{ToldReply}
 use Rattle.program_replies.specs.Lines.{line_count}
 use Rattle.program_replies.specs.Statuses.{status_number}
 use Rattle.batch_run.specs.Answers.{AreAnswers}
@@ -18,8 +18,8 @@ abbrev pub IsPartFor : Settings → List ℕ → Part → Type 0
 IsPartFor settings text part = Answers text None (alone settings) part.lines part.status
 
 -- the part that a reply gives
-abbrev pub part_of : Reply → Part
-part_of reply = record { status = status_number reply.status; lines = reply.bytes.items }
+abbrev pub part_of : ToldReply → Part
+part_of told = record { status = status_number told.reply.status; lines = told.reply.bytes.items }
 
 -- each line has its line end: the last byte, where there is one, is a line end
 abbrev pub AreLines : List ℕ → Type 0

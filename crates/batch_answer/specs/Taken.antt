@@ -1,6 +1,6 @@
 -- What is taken of the files of texts (this project's own).
 use Rattle.std.specs.Prelude.{◌≡◌, ℕ, ◌<◌, ⊤, List, None, [], ◌∷◌, length}
-use Rattle.program_replies.specs.declared.replies.Reply.{Reply}
+use Rattle.outcome_news.specs.declared.news.ToldReply.{ToldReply}
 use Rattle.program_replies.specs.Statuses.{status_number}
 use Rattle.tlsf_reader.specs.Faults.{most_bytes}
 use Rattle.synth_engine.specs.declared.settings.Settings.{Settings}
@@ -21,6 +21,6 @@ AreTexts (text ∷ texts) [] = ⊥
 AreTexts (text ∷ texts) (file ∷ files) = IsText text file × AreTexts texts files
 
 -- the reply answers each file that the text may be, with searches bounded so
-abbrev pub IsReplyTo : Settings → TakenText → Reply → Type 0
-IsReplyTo bounds text reply =
-    (file : List ℕ) → IsText text file → Answers file None bounds reply.bytes.items (status_number reply.status)
+abbrev pub IsReplyTo : Settings → TakenText → ToldReply → Type 0
+IsReplyTo bounds text told =
+    (file : List ℕ) → IsText text file → Answers file None bounds told.reply.bytes.items (status_number told.reply.status)

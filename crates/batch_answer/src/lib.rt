@@ -16,4 +16,4 @@ pub use answering::batch_answer;
 pub use file_name::FileName;
 pub use list::{ListFault, read_list};
 pub use parts::batch_text;
-pub use texts::TakenText;
+pub use texts::{TakenText, too_long};

@@ -4,14 +4,15 @@ ghost use Rattle.batch_answer.specs.Batch.{batch_text as whole_text, part_of, pa
 
 use crate::file_name::FileName;
 use names_and_numbers::push_number;
-use program_replies::{Reply, line_count};
+use outcome_news::ToldReply;
+use program_replies::line_count;
 use std::alloc::{AllocError, Global};
 
 /// A part for each reply, under the name of its text, and the last line.
 pub fn batch_text(
     alloc: Global,
     names: &[FileName],
-    replies: &[Reply],
+    replies: &[ToldReply],
 ) -> Result<Vec<u8>, AllocError>
     requires one_each { length names.now ≡ length replies.now }
     ensures { IfOk result (λ bytes. bytes.items ≡ whole_text names.now (map part_of replies.now)) }
@@ -25,9 +26,10 @@ pub fn batch_text(
 }
 
 /// `text NAME`, `status S` and `lines L`, and the L lines of the reply.
-fn push_part(bytes: &mut Vec<u8>, name: &FileName, reply: &Reply) -> Result<(), AllocError>
-    ensures { OnOk result (bytes.new.items ≡ bytes.old.items ++ part_text name.now (part_of reply.now)) }
+fn push_part(bytes: &mut Vec<u8>, name: &FileName, told: &ToldReply) -> Result<(), AllocError>
+    ensures { OnOk result (bytes.new.items ≡ bytes.old.items ++ part_text name.now (part_of told.now)) }
 {
+    let reply = &told.reply;
     bytes.extend_from_slice(b"text ")?;
     bytes.extend_from_slice(name.as_str().as_bytes())?;
     bytes.extend_from_slice(b"\nstatus ")?;

@@ -1,9 +1,11 @@
 //! One text of a batch, and the job of answering it.
-ghost use Rattle.std.specs.Prelude.{◌≡◌};
+ghost use Rattle.std.specs.Prelude.{◌≡◌, IfOk};
+ghost use Rattle.program_replies.specs.Lines.{refusal_line};
 
 use batch_run::Job;
 use input_output::OpenGate;
-use program_replies::{Reply, refused};
+use outcome_news::{Told, ToldReply};
+use program_replies::{Status, refused};
 use spec_faults::SpecCode;
 use std::alloc::{AllocError, Global};
 use std::marker::Model;
@@ -58,7 +60,7 @@ impl Job for Answering {
 
     type Task = TakenText;
 
-    type Answer = Reply;
+    type Answer = ToldReply;
 
     ghost is_answer = { IsReplyTo };
 
@@ -66,10 +68,20 @@ impl Job for Answering {
         &self,
         rt: &R,
         text: &TakenText,
-    ) -> Result<Reply, AllocError> {
+    ) -> Result<ToldReply, AllocError> {
         match text {
             TakenText::Whole(bytes) => answer(rt, self.alloc, bytes, None, self.bounds, &OpenGate),
-            TakenText::TooLong => refused(self.alloc, SpecCode::TooLong, LONGEST_TEXT),
+            TakenText::TooLong => too_long(self.alloc),
         }
     }
+}
+
+/// The reply to a text that is too long.
+pub fn too_long(alloc: Global) -> Result<ToldReply, AllocError>
+    ensures { IfOk result (λ r. (r.reply.bytes.items ≡ refusal_line SpecCode.TooLong 1048576) × (r.reply.status ≡ Status.Refused)) }
+{
+    Ok(ToldReply {
+        reply: refused(alloc, SpecCode::TooLong, LONGEST_TEXT)?,
+        told: Told::Refused,
+    })
 }

@@ -1,19 +1,19 @@
-//! Who hears what `solve` tells, and says at once that something is found.
+//! Who hears what is told of answers, and says at once that something is found.
 
-use diagnostics::{Phase, found_line, phase_line};
+use diagnostics::{KeptTold, Phase, found_line, phase_line};
 use letters_and_lassos::Side;
-use solve_told::{Listener, News, Told};
+use outcome_news::{Listener, News};
 use std::alloc::Global;
 use std::io;
 
-/// Writes to standard error that something is found, and keeps what is told of the answer.
+/// Writes to standard error that something is found, and keeps what is told of the answers.
 #[derive(Drop)]
 pub struct Announcer<'a, R: Eprint> {
     pub rt: &'a R,
     pub alloc: Global,
     /// The name of the text, where something is to be said of it.
     pub name: Option<&'a str>,
-    pub told: Option<Told>,
+    pub kept: KeptTold,
     /// Whether a line was written.
     pub is_announced: bool,
     /// Whether phases are told of, too.
@@ -32,7 +32,7 @@ impl<'a, R: Eprint> Announcer<'a, R> {
             rt,
             alloc,
             name,
-            told: None,
+            kept: KeptTold::new(alloc),
             is_announced: false,
             tells_phases,
         }
@@ -75,7 +75,7 @@ impl<'a, R: Eprint> Listener for Announcer<'a, R> {
             News::Found(side, states) => {
                 self.is_announced = self.announce(side, states).unwrap_or(false);
             },
-            News::Answered(told) => self.told = Some(told),
+            News::Answered(told) => self.kept.keep(told),
         }
     }
 }

@@ -134,7 +134,7 @@ where
         &gate,
         &mut announcer,
     );
-    out.heard.tell(announcer.told, announcer.is_announced);
+    out.heard.tell(&announcer.kept, announcer.is_announced);
     // Whoever closed the pipe wants no more of the output, and no word about it.
     let is_closed = out
         .inner

@@ -103,7 +103,7 @@ not_first told asked spec name is other = λ same. other (takes.first (subst (λ
 -- a certificate is taken for a text that isn't refused in any case
 pub takes_certificates : (text : List ℕ) (found : Problems) → ProblemsOfTextsAreDetermined → IsForCertificates text found → TakesCertificates text
 takes_certificates text (Of t) law taken = record {
-  unless = λ r. law.no_fault text (Some Mealy) 3 (spec_seen t.spec) t.problems r.code r.place taken.text_with.are r.fault;
+  unless = λ r. law.no_fault text (Some Mealy) _ (spec_seen t.spec) t.problems r.code r.place taken.text_with.are r.fault;
 }
 takes_certificates text (Refused reply) law alone = record { unless = λ r. alone.taken.none r.larger_code r.larger_place r.larger }
 
@@ -179,10 +179,10 @@ fault_told Fault bytes status refused = of_fault refused.code refused.place refu
 
 -- problems leave no fault
 pub check_has_none : (text : List ℕ) (t : TextProblems) → ProblemsOfTextsAreDetermined → IsForCheck text t → HasNone (IsFirstFault text (Some Mealy))
-check_has_none text t law taken = record { none = λ code place fault. law.no_fault text (Some Mealy) 3 (spec_seen t.spec) t.problems code place taken.text_with.are fault }
+check_has_none text t law taken = record { none = λ code place fault. law.no_fault text (Some Mealy) _ (spec_seen t.spec) t.problems code place taken.text_with.are fault }
 
 pub verify_has_none : (text : List ℕ) (t : TextProblems) → ProblemsOfTextsAreDetermined → IsForVerify text t → HasNone (IsSynthFault System text)
-verify_has_none text t law taken = record { none = λ code place fault. law.no_fault text None 2 (spec_seen t.spec) t.problems code place taken.text_with.are fault }
+verify_has_none text t law taken = record { none = λ code place fault. law.no_fault text None _ (spec_seen t.spec) t.problems code place taken.text_with.are fault }
 
 -- a name of a list is taken, where the list has no bad line
 pub listed_taken : (told : Option Files) (list : List ℕ) (wanted : EachText) (lines name : List ℕ) → AreOfFile told list lines → IsListed lines name →

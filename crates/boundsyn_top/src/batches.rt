@@ -17,6 +17,7 @@ use batch_answer::laws::lists_are_determined;
 use batch_answer::{FileName, ListFault, TakenText, batch_answer, read_list};
 use input_output::{Gate, Shelf, ShelfFault};
 use letters_and_lassos::Kind;
+use outcome_news::Listener;
 use program_replies::{Reply, Status, refused_at_line};
 use solve_answer::Refuting;
 use solve_batch::solve_batch;
@@ -35,42 +36,46 @@ pub enum ListWish {
 }
 
 /// Answers the texts that a list names. They are taken only where the list has no bad line, and all before the first is answered.
-pub(crate) fn answer_list<R, H, G>(
+pub(crate) fn answer_list<R, H, G, L>(
     rt: &R,
     alloc: Global,
     shelf: &mut H,
     list: &str,
     wanted: ListWish,
     gate: &G,
+    listener: &mut L,
 ) -> Result<Output, AllocError>
 where
     R: Threads + Wait + Sync,
     H: Shelf,
     G: Gate + Sync,
+    L: Listener,
     requires workers { HasWorkers wanted }
     ensures output { IfOk result (IsOutputOf (step_of H.files H.faults shelf.old shelf.new) (batch list.now (wished wanted))) }
     ensures files { H.files shelf.new ≡ H.files shelf.old }
     ensures other_files { (name : List ℕ) → ¬ TakesFile (H.files shelf.old) (batch list.now (wished wanted)) name → H.faults shelf.new name ≡ H.faults shelf.old name }
 {
     match take_whole(alloc, shelf, list)? {
-        Some(lines) => whole_output(answer_lines(rt, alloc, shelf, &lines, wanted, gate)),
+        Some(lines) => whole_output(answer_lines(rt, alloc, shelf, &lines, wanted, gate, listener)),
         None => whole_output(cannot_read(alloc)),
     }
 }
 
 /// Answers the texts that these lines name, unless a line is bad.
-fn answer_lines<R, H, G>(
+fn answer_lines<R, H, G, L>(
     rt: &R,
     alloc: Global,
     shelf: &mut H,
     lines: &[u8],
     wanted: ListWish,
     gate: &G,
+    listener: &mut L,
 ) -> Result<Reply, AllocError>
 where
     R: Threads + Wait + Sync,
     H: Shelf,
     G: Gate + Sync,
+    L: Listener,
     requires workers { HasWorkers wanted }
     ensures reply { IfOk result (λ r. RepliesByLines (step_of H.files H.faults shelf.old shelf.new)
         lines.now (wished wanted) r.bytes.items (status_number r.status)) }
@@ -79,7 +84,7 @@ where
 {
     lists_are_determined();
     match read_list(alloc, lines) {
-        Ok(names) => answer_texts(rt, alloc, shelf, &names, wanted, gate),
+        Ok(names) => answer_texts(rt, alloc, shelf, &names, wanted, gate, listener),
         Err(fault) => list_refusal(alloc, fault),
     }
 }
@@ -95,18 +100,20 @@ fn list_refusal(alloc: Global, fault: ListFault) -> Result<Reply, AllocError>
 }
 
 /// Takes the texts of these names, and answers them.
-fn answer_texts<R, H, G>(
+fn answer_texts<R, H, G, L>(
     rt: &R,
     alloc: Global,
     shelf: &mut H,
     names: &[FileName],
     wanted: ListWish,
     gate: &G,
+    listener: &mut L,
 ) -> Result<Reply, AllocError>
 where
     R: Threads + Wait + Sync,
     H: Shelf,
     G: Gate + Sync,
+    L: Listener,
     requires few { length names.now ≤ 64 }
     requires workers { HasWorkers wanted }
     ensures reply { IfOk result (λ r. RepliesByNames (step_of H.files H.faults shelf.old shelf.new)
@@ -115,23 +122,25 @@ where
     ensures other_files { (name : List ℕ) → ¬ Contains names.now name → H.faults shelf.new name ≡ H.faults shelf.old name }
 {
     match take_texts(alloc, shelf, names)? {
-        Some(texts) => answer_taken(rt, alloc, names, &texts, wanted, gate),
+        Some(texts) => answer_taken(rt, alloc, names, &texts, wanted, gate, listener),
         None => cannot_read(alloc),
     }
 }
 
 /// Answers the texts of these names.
-fn answer_taken<R, G>(
+fn answer_taken<R, G, L>(
     rt: &R,
     alloc: Global,
     names: &[FileName],
     texts: &[TakenText],
     wanted: ListWish,
     gate: &G,
+    listener: &mut L,
 ) -> Result<Reply, AllocError>
 where
     R: Threads + Wait + Sync,
     G: Gate + Sync,
+    L: Listener,
     requires one_each { length names.now ≡ length texts.now }
     requires few { length texts.now < 2 ^ 32 }
     requires workers { HasWorkers wanted }
@@ -139,9 +148,11 @@ where
     ensures answers { (files : List (List ℕ)) → AreTexts texts.now files → IfOk result (λ r. TextsAnswers names.now files (wished wanted) r.bytes.items) }
 {
     match wanted {
-        ListWish::Search(settings) => batch_answer(rt, alloc, names, texts, settings, gate),
+        ListWish::Search(settings) => batch_answer(
+            rt, alloc, names, texts, settings, gate, listener,
+        ),
         ListWish::Solve(kind, refuting) => solve_batch(
-            rt, alloc, names, texts, kind, refuting, gate,
+            rt, alloc, names, texts, kind, refuting, gate, listener,
         ),
     }
 }

@@ -15,15 +15,15 @@ use crate::output::{Output, whole_output};
 use crate::solving::solve_spec;
 use crate::synthesis::synthesize;
 use input_output::{Gate, Shelf};
+use outcome_news::Listener;
 use program_replies::{Reply, Status, whole};
 use program_words::{Settings, WordsFault, read_words};
 use solve_answer::Refuting;
-use solve_told::Listener;
 use std::alloc::{AllocError, Global};
 use std::sync::Wait;
 use std::thread::Threads;
 
-/// What is written for the words, for which their files are taken from the shelf; with `solve` the listener hears what is told beside it.
+/// What is written for the words, for which their files are taken from the shelf. The listener hears what is told of the answers.
 pub fn reply_to<R, H, G, L>(
     rt: &R,
     alloc: Global,
@@ -72,7 +72,7 @@ where
             spec,
             search: wanted,
             kind,
-        } => { synthesize(rt, alloc, shelf, spec, wanted, kind, gate) },
+        } => { synthesize(rt, alloc, shelf, spec, wanted, kind, gate, listener) },
         Settings::Check { spec, certificate } => check_certificate(
             rt,
             alloc,
@@ -93,11 +93,19 @@ where
             spec,
             search: wanted,
             kind,
-        } => find_core(rt, alloc, shelf, spec, wanted, kind, gate),
+        } => find_core(rt, alloc, shelf, spec, wanted, kind, gate, listener),
         Settings::Batch {
             list,
             search: wanted,
-        } => answer_list(rt, alloc, shelf, list, ListWish::Search(wanted), gate),
+        } => answer_list(
+            rt,
+            alloc,
+            shelf,
+            list,
+            ListWish::Search(wanted),
+            gate,
+            listener,
+        ),
         Settings::SolveList {
             list,
             kind,
@@ -117,6 +125,7 @@ where
                 list,
                 ListWish::Solve(kind, refuting),
                 gate,
+                listener,
             )
         },
         Settings::Solve {

@@ -15,15 +15,15 @@ use crate::laws::refusals_are_determined;
 use crate::output::put_output;
 use crate::replies::reply_to;
 use input_output::{Gate, Shelf, Sink, SinkFault};
+use outcome_news::Listener;
 use program_replies::Status;
-use solve_told::Listener;
 use std::alloc::Global;
 use std::sync::Wait;
 use std::thread::Threads;
 
 /// Does what the words ask for, and gives the status to end with. The first word is the program's name.
-/// Each line is one call of `put`, its end included. What `solve` tells beside its answer, while it makes it and at its end, the listener
-/// hears; nothing is promised of it.
+/// Each line is one call of `put`, its end included. What is told of the answers of `solve`, `synth`, `core` and `batch`, and of that of `solve`
+/// while it is made, the listener hears before the first line is written; nothing is promised of it.
 ///
 /// 0: done, accepted or verified. 10, 11, 20, 30: what `solve`, `synth` or `core` found. 1: the text is refused. 40: the list or the other file is
 /// refused at a line. 2: the words are refused. 3: a file that was due couldn't be read, and no fault of the text is told in its place. 4: not

@@ -2,10 +2,11 @@
 use Rattle.std.proofs.Common.{◌≡◌, ℕ, ◌<◌, ◌≤◌, Bool, true, false, List, Option, Some, Result, Ok, Err, IfOk, length, replicate, sym, ap, subst, ◌∙◌}
 use Rattle.text_limits.specs.declared.TheConstants.{SMALL_LIMITS}
 use Rattle.letters_and_lassos.specs.declared.kinds.Kind.{Kind}
+use Rattle.machine_model.specs.declared.counting.Counts.{Counts}
 use Rattle.ltl_formula.proofs.Lists.{signals_are_below}
 use Rattle.std.proofs.lemmas.Result.{IfOk-weaker}
 use Rattle.spec_faults.specs.declared.code.SpecCode.TheVariants.{TooManyGuarantees}
-use Rattle.program_replies.specs.declared.replies.Reply.{Reply}
+use Rattle.outcome_news.specs.declared.news.ToldReply.{ToldReply}
 use Rattle.program_replies.specs.declared.replies.Status.TheVariants.{Unrealizable}
 use Rattle.program_replies.specs.Statuses.{status_number}
 use Rattle.tlsf_expand.specs.Expansion.{Expanded}
@@ -32,7 +33,7 @@ use Rattle.core_answer.specs.Over.{IsFaultOver, IsGroundOver, over_all}
 use Rattle.core_answer.proofs.Growing.{forms_grow}
 use Rattle.core_answer.proofs.Standings.{fresh_all}
 
-module _ {version : ℕ} (text : List ℕ) (kind : Option Kind) (spec : FlatText) (s : SideProblems) (t : IsTextWith version text kind spec s) where
+module _ {counts : Counts} (text : List ℕ) (kind : Option Kind) (spec : FlatText) (s : SideProblems) (t : IsTextWith counts text kind spec s) where
   abbrev pub the_flat : FlatText
   the_flat = t.are.flat
 
@@ -55,8 +56,8 @@ module _ {version : ℕ} (text : List ℕ) (kind : Option Kind) (spec : FlatText
   abbrev pub own_ground : Ground
   own_ground = text_ground spec the_flat t.says
 
-  pub given_here : AreGivenOn version own_ground s
-  given_here = given_on version text kind spec s t.says t.are t.accept
+  pub given_here : AreGivenOn counts own_ground s
+  given_here = given_on counts text kind spec s t.says t.are t.accept
 
   pub same_count : length spec.expanded.sections.guarantee ≡ guarantees_in the_flat
   same_count = ap (λ (x : Expanded). length x.sections.guarantee) t.are.same
@@ -64,14 +65,14 @@ module _ {version : ℕ} (text : List ℕ) (kind : Option Kind) (spec : FlatText
   module _ (settings : Settings) (bytes : List ℕ) (status : ℕ) (defeat : Bool) (on : IsAnswerOn own_ground settings bytes status defeat) where
     abbrev pub answers_text : IsAnswerFor (IsFirstFault text kind) (IsGroundOf text) kind settings bytes status defeat
     answers_text =
-        answer_for (IsFirstFault text kind) (IsGroundOf text) kind settings own_ground (is_ground version text kind spec s t.says t.are) (ground_by_its_kind version text kind spec s t.says t.are)
+        answer_for (IsFirstFault text kind) (IsGroundOf text) kind settings own_ground (is_ground counts text kind spec s t.says t.are) (ground_by_its_kind counts text kind spec s t.says t.are)
         bytes status defeat on
 
     -- it is told over all guarantees
     pub told_over_all : (count : ℕ) → IsToldOver text (replicate count true) kind settings bytes status defeat
     told_over_all count =
         answer_for (IsFaultOver text (replicate count true) kind) (IsGroundOver text (replicate count true)) kind settings own_ground
-        (over_all (fresh_all count) (is_ground version text kind spec s t.says t.are)) (over_all (fresh_all count) (ground_by_its_kind version text kind spec s t.says t.are))
+        (over_all (fresh_all count) (is_ground counts text kind spec s t.says t.are)) (over_all (fresh_all count) (ground_by_its_kind counts text kind spec s t.says t.are))
         bytes status defeat on
 
     pub tells_all : defeat ≡ true → (count : ℕ) → Tells text (replicate count true) kind settings true bytes
@@ -95,7 +96,7 @@ module _ {version : ℕ} (text : List ℕ) (kind : Option Kind) (spec : FlatText
     }
 
   pub too_many_here : ProblemsOfTextsAreDetermined → 64 < length spec.expanded.sections.guarantee → IsCoreFault text kind TooManyGuarantees 0
-  too_many_here laws more = too_many the_flat t.are.is_flat (λ code place fault. laws.no_fault text kind version spec s code place t.are fault) (subst (λ n. 64 < n) same_count more)
+  too_many_here laws more = too_many the_flat t.are.is_flat (λ code place fault. laws.no_fault text kind counts spec s code place t.are fault) (subst (λ n. 64 < n) same_count more)
 
 -- the sections stand in the longer list too
 pub stand_here : (text : List ℕ) (kind : Option Kind) (spec : FlatText) → IsTextIn text kind spec → SectionsStand spec.formulas spec.expanded.sections
@@ -107,8 +108,8 @@ both_ok P Q (Ok a) p q = (p, q)
 both_ok P Q (Err e) p q = tt
 
 -- what is told of a core of the text
-pub core_replied : (text : List ℕ) (kind : Option Kind) (settings : Settings) (count : ℕ) {E : Type 0} (r : Result Reply E) → IfOk r (λ r. r.status ≡ Unrealizable) → IfOk r (λ r. IsToldCore text kind settings count r.bytes.items)
-    → ((lines : List ℕ) → IsToldCore text kind settings count lines → IsCore text kind settings lines) → IfOk r (λ r. CoreAnswers text kind settings r.bytes.items (status_number r.status))
+pub core_replied : (text : List ℕ) (kind : Option Kind) (settings : Settings) (count : ℕ) {E : Type 0} (r : Result ToldReply E) → IfOk r (λ r. r.reply.status ≡ Unrealizable) → IfOk r (λ r. IsToldCore text kind settings count r.reply.bytes.items)
+    → ((lines : List ℕ) → IsToldCore text kind settings count lines → IsCore text kind settings lines) → IfOk r (λ r. CoreAnswers text kind settings r.reply.bytes.items (status_number r.reply.status))
 core_replied text kind settings count r ended told made =
-    IfOk-weaker r (λ r. (r.status ≡ Unrealizable) × IsToldCore text kind settings count r.bytes.items) (λ r. CoreAnswers text kind settings r.bytes.items (status_number r.status))
-    (λ r h. core (ap status_number h.0) (made r.bytes.items h.1)) (both_ok (λ r. r.status ≡ Unrealizable) (λ r. IsToldCore text kind settings count r.bytes.items) r ended told)
+    IfOk-weaker r (λ r. (r.reply.status ≡ Unrealizable) × IsToldCore text kind settings count r.reply.bytes.items) (λ r. CoreAnswers text kind settings r.reply.bytes.items (status_number r.reply.status))
+    (λ r h. core (ap status_number h.0) (made r.reply.bytes.items h.1)) (both_ok (λ r. r.reply.status ≡ Unrealizable) (λ r. IsToldCore text kind settings count r.reply.bytes.items) r ended told)

@@ -6,6 +6,7 @@ ghost use Rattle.tlsf_expand.specs.FewSignals.{HasFewSignals};
 ghost use Rattle.tlsf_expand.specs.FlatText.{spec_seen};
 ghost use Rattle.flat_text.specs.FlatNames.{HasPlainNames};
 ghost use Rattle.program_replies.specs.declared.replies.Status.TheVariants as ended;
+ghost use Rattle.program_replies.specs.Lines.{refusal_line};
 ghost use Rattle.program_replies.specs.Statuses.{status_number};
 ghost use Rattle.text_ground.specs.Problems.{AreProblemsFor};
 ghost use Rattle.text_ground.specs.Texts.{IsTextWith};
@@ -17,6 +18,7 @@ use crate::lines::core_text;
 use crate::shrinking::{kept, shrunk};
 use input_output::Gate;
 use letters_and_lassos::Kind;
+use outcome_news::{Guarantees, Told, ToldReply};
 use program_replies::{Reply, Status, refused};
 use spec_faults::SpecCode;
 use spec_problems::TextProblems;
@@ -46,13 +48,16 @@ pub fn core_answer<R: Threads + Wait + Sync, G: Gate + Sync>(
     kind: Option<Kind>,
     settings: Settings,
     gate: &G,
-) -> Result<Reply, AllocError>
-    ensures { IfOk result (λ r. CoreAnswers text.now kind settings r.bytes.items (status_number r.status)) }
+) -> Result<ToldReply, AllocError>
+    ensures { IfOk result (λ r. CoreAnswers text.now kind settings r.reply.bytes.items (status_number r.reply.status)) }
 {
     sections_of_texts_stand();
     match problems_or_refusal(alloc, text, kind, settings.counts())? {
         Problems::Of(found) => text_answer(rt, alloc, found, settings, gate),
-        Problems::Refused(reply) => Ok(reply),
+        Problems::Refused(reply) => Ok(ToldReply {
+            reply,
+            told: Told::Refused,
+        }),
     }
 }
 
@@ -63,24 +68,27 @@ fn text_answer<R: Threads + Wait + Sync, G: Gate + Sync>(
     found: TextProblems,
     settings: Settings,
     gate: &G,
-) -> Result<Reply, AllocError>
+) -> Result<ToldReply, AllocError>
     requires problems { AreProblemsFor settings.counts (spec_seen found.spec).expanded found.problems }
     requires stand { SectionsStand (spec_seen found.spec).formulas (spec_seen found.spec).expanded.sections }
     requires few { HasFewSignals SMALL_LIMITS (length found.spec.inputs.items) (length found.spec.outputs.items) found.spec.formulas }
     requires names { HasPlainNames (spec_seen found.spec).expanded }
     ensures { (text : List ℕ) (kind : Option AKind) → IsTextWith settings.counts text kind (spec_seen found.spec) found.problems
-        → IfOk result (λ r. CoreAnswers text kind settings r.bytes.items (status_number r.status)) }
+        → IfOk result (λ r. CoreAnswers text kind settings r.reply.bytes.items (status_number r.reply.status)) }
 {
     sections_of_texts_stand();
     problems_of_texts_are_determined();
     let TextProblems { spec, problems } = found;
     let count = guarantee_count(&spec);
     if count > MOST_GUARANTEES {
-        return refused(alloc, SpecCode::TooManyGuarantees, 0);
+        return too_many(alloc);
     }
     let whole = answer_on(rt, alloc, &spec, problems, settings, gate)?;
     if !whole.defeats {
-        return Ok(whole.reply);
+        return Ok(ToldReply {
+            reply: whole.reply,
+            told: whole.told,
+        });
     }
     core_of(
         rt,
@@ -102,21 +110,35 @@ fn core_of<R: Threads + Wait + Sync, G: Gate + Sync>(
     whole: Vec<u8>,
     settings: Settings,
     gate: &G,
-) -> Result<Reply, AllocError>
+) -> Result<ToldReply, AllocError>
     requires count { count ≡ length (spec_seen spec.now).expanded.sections.guarantee }
     requires most { count ≤ 64 }
     requires stand { SectionsStand (spec_seen spec.now).formulas (spec_seen spec.now).expanded.sections }
     requires few { HasFewSignals SMALL_LIMITS (length spec.now.inputs.items) (length spec.now.outputs.items) spec.now.formulas }
     requires names { HasPlainNames (spec_seen spec.now).expanded }
-    ensures status { IfOk result (λ r. r.status ≡ ended.Unrealizable) }
+    ensures status { IfOk result (λ r. r.reply.status ≡ ended.Unrealizable) }
     ensures told { (text : List ℕ) (kind : Option AKind) → IsTextIn text kind (spec_seen spec.now) → Tells text (replicate count true) kind settings true whole.items
-        → IfOk result (λ r. IsToldCore text kind settings count r.bytes.items) }
+        → IfOk result (λ r. IsToldCore text kind settings count r.reply.bytes.items) }
 {
     let core = shrunk(rt, alloc, spec, count, whole, settings, gate)?;
     let keep = kept(alloc, &core.shrink, count)?;
-    Ok(Reply {
-        bytes: core_text(alloc, &keep, &core.document, &core.others)?,
-        status: Status::Unrealizable,
+    let bytes = core_text(alloc, &keep, &core.document, &core.others)?;
+    Ok(ToldReply {
+        reply: Reply {
+            bytes,
+            status: Status::Unrealizable,
+        },
+        told: Told::Core(Guarantees::new(&keep)),
+    })
+}
+
+/// The reply to a text with more guarantees than are searched.
+fn too_many(alloc: Global) -> Result<ToldReply, AllocError>
+    ensures { IfOk result (λ r. (r.reply.bytes.items ≡ refusal_line SpecCode.TooManyGuarantees 0) × (r.reply.status ≡ ended.Refused)) }
+{
+    Ok(ToldReply {
+        reply: refused(alloc, SpecCode::TooManyGuarantees, 0)?,
+        told: Told::Refused,
     })
 }
 

@@ -16,6 +16,7 @@ ghost use Rattle.core_answer.specs.Reply.{IsReducedReply, IsRefusedReply, list_f
 
 use input_output::Gate;
 use ltl_formula::AddFault;
+use outcome_news::Told;
 use program_replies::refusal;
 use spec_faults::{SpecCode, SpecFault};
 use spec_problems::{Interface, problems_of};
@@ -75,8 +76,8 @@ fn reduced_answer<R: Threads + Wait + Sync, G: Gate + Sync>(
 
 /// What the problems share with those of the text.
 fn interface(spec: &Spec, settings: Settings) -> Interface
-    requires inputs { length spec.now.inputs.items ≤ 8 }
-    requires outputs { length spec.now.outputs.items ≤ 8 }
+    requires inputs { length spec.now.inputs.items ≤ SMALL_LIMITS.signals }
+    requires outputs { length spec.now.outputs.items ≤ SMALL_LIMITS.signals }
     ensures { result ≡ interface_of settings.counts (spec_seen spec.now).expanded }
 {
     Interface {
@@ -94,6 +95,7 @@ fn refused_over(alloc: Global, fault: SpecFault) -> Result<Answered, AllocError>
     Ok(Answered {
         reply: refusal(alloc, fault)?,
         defeats: false,
+        told: Told::Refused,
     })
 }
 

@@ -1,10 +1,10 @@
 //! What a run of the program says on standard error: why a text, a line or a word is refused, why there is no verdict, what couldn't be
 //! read or written, and, where that is wanted, what was found.
 //!
-//! `message` makes it from what was seen of a run from around it: its words, its status, copies of its files (`KeptFiles`) and what it
-//! wrote (`Heard`). It promises safety, and that a place's line is the one that it stands in; what it says changes nothing of a run. Stands on
-//! tlsf_tokens for the tokens around a place, on program_words for the commands, on shown_text for what a terminal may be given, and on strsim for
-//! the nearest name.
+//! `message` makes it from what was seen of a run from around it: its words, its status, copies of its files (`KeptFiles`), and which refusals it
+//! wrote and what was told of its answers (`Heard`). It promises safety, and that a place's line is the one that it stands in; what it says changes
+//! nothing of a run. Stands on outcome_news for what is told, on tlsf_tokens for the tokens around a place, on program_words for the commands, on
+//! shown_text for what a terminal may be given, and on strsim for the nearest name.
 #![tactic(auto)]
 
 mod answers;
@@ -30,7 +30,7 @@ mod text_faults;
 mod unknown;
 mod wrong_words;
 
-pub use heard::Heard;
+pub use heard::{Heard, KeptTold};
 pub use kept::{KeptFile, KeptFiles};
 pub use messages::{Seen, message};
 pub use own_words::{OwnWords, read_own_words};

@@ -1,12 +1,13 @@
 use crate::answers::push_answer;
-use crate::heard::{Answer, Heard, Verdict};
+use crate::heard::{Answer, Heard};
 use crate::kept::{KeptFile, KeptFiles};
 use crate::line_faults::{LineFault, LineOf, push_line_fault};
-use crate::solved::{SOLVED_VERSION, Solved, push_solved, push_unsolved};
+use crate::solved::{Solved, push_solved, push_unsolved};
 use crate::text_faults::{RefusedBy, Source, push_text_fault};
 use crate::unknown::push_unknown;
 use crate::wrong_words::push_wrong_words;
-use letters_and_lassos::Side;
+use document_text::Verdict;
+use outcome_news::Told;
 use program_replies::Status;
 use program_words::{Solving, read_wishes};
 use shown_text::first_messages;
@@ -170,20 +171,23 @@ fn push_refused_line(alloc: Global, seen: Seen<'_>, out: &mut String) -> Result<
     }
 }
 
+/// Appends why an answer has no verdict.
 fn push_open(
     alloc: Global,
     seen: Seen<'_>,
     is_verbose: bool,
     out: &mut String,
 ) -> Result<(), AllocError> {
-    let (Some(file), Some(_)) = (first_file(seen), seen.heard.answer().verdict) else {
+    let (Some(file), Some(told)) = (first_file(seen), seen.heard.answer().told) else {
         return Ok(());
     };
     let command = words_of(alloc, seen)?;
-    if is_solved(seen) {
-        push_unsolved(solved(alloc, seen, file.name, &command), out)?;
-    } else {
-        push_unknown(alloc, file.name, seen.heard.answer(), &command, out)?;
+    match told {
+        Told::Unsolved(kind, why) => {
+            push_unsolved(solved(alloc, seen, file.name, &command), kind, why, out)?
+        },
+        Told::Searched(searched) => push_unknown(alloc, file.name, &searched, &command, out)?,
+        Told::Refused | Told::Found(..) | Told::Core(_) => {},
     }
     push_lint(alloc, file, is_verbose, out)
 }
@@ -197,15 +201,11 @@ fn words_of<'a>(alloc: Global, seen: Seen<'a>) -> Result<Vec<&'a str>, AllocErro
 fn solved<'a>(alloc: Global, seen: Seen<'a>, name: &'a str, command: &'a [&'a str]) -> Solved<'a> {
     Solved {
         name,
-        answer: seen.heard.answer(),
         solving: read_wishes(alloc, seen.words).solving,
         command,
+        has_reasons: true,
+        is_announced: seen.heard.answer().is_announced,
     }
-}
-
-/// Whether a document of `solve` was written.
-fn is_solved(seen: Seen<'_>) -> bool {
-    seen.heard.answer().version == Some(SOLVED_VERSION)
 }
 
 /// Appends what was found: always where `solve` says it, else where that is wanted.
@@ -218,17 +218,13 @@ fn push_found(
     let Some(file) = first_file(seen) else {
         return Ok(());
     };
-    let answer = seen.heard.answer();
     let command = words_of(alloc, seen)?;
-    let solved = solved(alloc, seen, file.name, &command);
-    match answer.verdict {
-        Some(Verdict::Realizable(states)) if is_solved(seen) => {
-            push_solved(solved, Side::System, states, out)?
+    match seen.heard.answer().told {
+        Some(Told::Found(side, states, refuted)) => {
+            let solved = solved(alloc, seen, file.name, &command);
+            push_solved(solved, side, states, refuted, out)?
         },
-        Some(Verdict::Unrealizable(states)) if is_solved(seen) => {
-            push_solved(solved, Side::Environment, states, out)?
-        },
-        _ if is_verbose => push_answer(alloc, file, answer, out)?,
+        told if is_verbose => push_answer(alloc, file, told, out)?,
         _ => {},
     }
     push_lint(alloc, file, is_verbose, out)
@@ -265,8 +261,8 @@ fn push_texts(
     for (file, answer) in texts.zip(seen.heard.texts()) {
         let file = source(file);
         match solving {
-            Some(solving) => push_solved_text(alloc, file, answer, solving, is_verbose, out)?,
-            None => push_text(alloc, file, answer, is_verbose, out)?,
+            Some(solving) => push_solved_text(alloc, file, *answer, solving, is_verbose, out)?,
+            None => push_text(alloc, file, *answer, is_verbose, out)?,
         }
     }
     Ok(())
@@ -276,7 +272,7 @@ fn push_texts(
 fn push_solved_text(
     alloc: Global,
     file: Source<'_>,
-    answer: &Answer,
+    answer: Answer,
     solving: Solving,
     is_verbose: bool,
     out: &mut String,
@@ -286,38 +282,44 @@ fn push_solved_text(
     }
     let solved = Solved {
         name: file.name,
-        answer,
         solving: Some(solving),
         command: &["boundsyn", "solve", file.name],
+        has_reasons: false,
+        is_announced: false,
     };
-    match answer.verdict {
-        Some(Verdict::Unknown) => push_unsolved(solved, out)?,
-        Some(Verdict::Realizable(states)) if is_verbose => {
-            push_solved(solved, Side::System, states, out)?
-        },
-        Some(Verdict::Unrealizable(states)) if is_verbose => {
-            push_solved(solved, Side::Environment, states, out)?
+    match answer.told {
+        Some(Told::Unsolved(kind, why)) => push_unsolved(solved, kind, why, out)?,
+        Some(Told::Found(side, states, refuted)) if is_verbose => {
+            push_solved(solved, side, states, refuted, out)?
         },
         _ => {},
     }
     push_lint(alloc, file, is_verbose, out)
 }
 
+/// Appends what is said of a text of a list whose texts are searched.
 fn push_text(
     alloc: Global,
     file: Source<'_>,
-    answer: &Answer,
+    answer: Answer,
     is_verbose: bool,
     out: &mut String,
 ) -> Result<(), AllocError> {
-    match (answer.fault, answer.verdict) {
-        (Some(fault), _) => return push_text_fault(alloc, file, fault, RefusedBy::Search, out),
-        (None, Some(Verdict::Unknown | Verdict::Bounded(..))) => {
+    if let Some(fault) = answer.fault {
+        return push_text_fault(alloc, file, fault, RefusedBy::Search, out);
+    }
+    match answer.told {
+        Some(Told::Searched(searched)) if !is_decided(searched.verdict) => {
             let command = ["boundsyn", "synth", file.name];
-            push_unknown(alloc, file.name, answer, &command, out)?;
+            push_unknown(alloc, file.name, &searched, &command, out)?;
         },
-        _ if is_verbose => push_answer(alloc, file, answer, out)?,
+        told if is_verbose => push_answer(alloc, file, told, out)?,
         _ => {},
     }
     push_lint(alloc, file, is_verbose, out)
+}
+
+/// Whether a document has a machine that is the smallest.
+fn is_decided(verdict: Verdict) -> bool {
+    matches!(verdict, Verdict::Machine { least: true, .. })
 }

@@ -1,24 +1,25 @@
 //! What `solve` found and which smaller sizes it refuted, or why it found nothing.
 
-use crate::heard::Answer;
 use crate::unknown::{Count, Next, push_easier, push_next};
 use letters_and_lassos::{Kind, Side};
+use outcome_news::{End, Limit, NotWon, Refuted, RefutingEnd, Unsolved, Unwon, Withheld};
 use program_words::{MOST_ENTRIES, MOST_REFUTED, Solving, USUAL_ENTRIES};
 use shown_text::push_shown;
-use solve_told::{End, Limit, NotWon, Refuted, RefutingEnd, Told, Unwon, Withheld};
 use std::alloc::{AllocError, Global};
 use std::fmt::Write;
 
-/// The version of the documents of `solve`.
-pub(crate) const SOLVED_VERSION: u64 = 6;
-
-/// An answer of `solve` to a text of this name, what is to be refuted, as far as that is known, and the words of a command that made it.
+/// An answer of `solve` to a text of this name.
 #[derive(Clone, Copy)]
 pub(crate) struct Solved<'a> {
     pub(crate) name: &'a str,
-    pub(crate) answer: &'a Answer,
+    /// What is to be refuted, as far as that is known.
     pub(crate) solving: Option<Solving>,
+    /// The words of a command that made it.
     pub(crate) command: &'a [&'a str],
+    /// Whether it is said why nothing was found, and why no further size is refuted: not of the texts of a list.
+    pub(crate) has_reasons: bool,
+    /// Whether it was said at once that something is found.
+    pub(crate) is_announced: bool,
 }
 
 impl Solved<'_> {
@@ -60,24 +61,25 @@ fn push_found(side: Side, states: u64, out: &mut String) -> Result<(), AllocErro
 pub(crate) fn push_solved(
     solved: Solved<'_>,
     side: Side,
-    states: u64,
+    states: u32,
+    refuted: Refuted,
     out: &mut String,
 ) -> Result<(), AllocError> {
     let name = solved.name;
-    if !solved.answer.is_announced {
+    let states = u64::from(states);
+    let sizes = u64::from(refuted.sizes);
+    if !solved.is_announced {
         out.push_str(name)?;
         push_found(side, states, out)?;
         out.push('\n')?;
     }
     write!(out, "{name}: ")?;
     Count(states).push_to("state", out)?;
-    push_smaller(states, solved.answer.refuted, out)?;
-    match solved.answer.told {
-        Some(Told::Found(_, _, refuted)) if is_open(states, solved.answer.refuted) => {
-            push_open_end(solved, refuted, out)
-        },
-        _ => Ok(()),
+    push_smaller(states, sizes, out)?;
+    if solved.has_reasons && is_open(states, sizes) {
+        push_open_end(solved, refuted, out)?;
     }
+    Ok(())
 }
 
 /// Whether smaller sizes than this one are left, where those up to the other are refuted.
@@ -200,26 +202,29 @@ fn more_entries(entries: Option<u64>) -> Option<Option<u64>> {
     }
 }
 
-/// Appends why neither was found, and what may help.
-pub(crate) fn push_unsolved(solved: Solved<'_>, out: &mut String) -> Result<(), AllocError> {
+/// Appends why neither was found, and what may help, where the machines would be of that kind.
+pub(crate) fn push_unsolved(
+    solved: Solved<'_>,
+    kind: Kind,
+    why: Unsolved,
+    out: &mut String,
+) -> Result<(), AllocError> {
     let name = solved.name;
     write!(out, "{name}: unknown: ")?;
     let mut next = Next::NOTHING;
-    match solved.answer.told {
-        Some(Told::Withheld(side, why)) => push_withheld(side, why, out)?,
-        Some(Told::Neither(system, environment)) => {
-            out.push_str("neither a controller nor a counter-strategy was found\n")?;
+    match why {
+        Unsolved::Withheld(side, why) if solved.has_reasons => push_withheld(side, why, out)?,
+        Unsolved::Neither(system, environment) if solved.has_reasons => {
+            out.push_str(NEITHER)?;
             push_not_won("system", system, solved, out)?;
             push_not_won("environment", environment, solved, out)?;
             if !solved.is_brief() {
                 next = further(&[system.refuted, environment.refuted], solved.solving);
             }
         },
-        Some(Told::Refused | Told::Found(..)) | None => {
-            out.push_str("neither a controller nor a counter-strategy was found\n")?;
-        },
+        Unsolved::Withheld(..) | Unsolved::Neither(..) => out.push_str(NEITHER)?,
     }
-    let other = match solved.answer.kind {
+    let other = match kind {
         Kind::Mealy => "moore",
         Kind::Moore => "mealy",
     };
@@ -228,6 +233,8 @@ pub(crate) fn push_unsolved(solved: Solved<'_>, out: &mut String) -> Result<(), 
     push_easier(out)?;
     push_next(solved.command, next, out)
 }
+
+const NEITHER: &str = "neither a controller nor a counter-strategy was found\n";
 
 /// Appends why a side doesn't win, and how far its sizes were refuted.
 fn push_not_won(

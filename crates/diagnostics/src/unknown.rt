@@ -1,11 +1,10 @@
-use crate::heard::{Answer, Log, Verdict};
+use document_text::Verdict;
 use letters_and_lassos::{Kind, Side};
+use machine_model::Counts;
+use outcome_news::{LogEnd, Searched, SideLogs};
 use program_words::{MOST_ALONE, MOST_ENTRIES};
 use std::alloc::{AllocError, Global};
 use std::fmt::Write;
-
-/// The version of documents over base clauses that bound counts locally, of which a size may have more.
-const LOCAL_VERSION: u64 = 5;
 
 /// What became of the sizes of one side.
 #[derive(Drop)]
@@ -17,13 +16,14 @@ struct Sizes {
 }
 
 impl Sizes {
-    fn of(alloc: Global, logs: &[Log]) -> Result<Sizes, AllocError> {
-        let closed = logs.iter().filter(|log| log.is_closed);
-        let others = logs.iter().filter(|log| !log.is_closed);
+    fn of(alloc: Global, logs: SideLogs) -> Result<Sizes, AllocError> {
+        let refuted = logs.sizes(alloc, LogEnd::Closed)?;
+        let full = logs.sizes(alloc, LogEnd::Full)?;
+        let count = refuted.len().saturating_add(full.len()) as u64;
         Ok(Sizes {
-            refuted: closed.map(|log| log.size).collect(alloc)?,
-            full: others.map(|log| log.size).collect(alloc)?,
-            count: logs.len() as u64,
+            refuted,
+            full,
+            count,
         })
     }
 }
@@ -33,33 +33,29 @@ impl Sizes {
 pub(crate) fn push_unknown(
     alloc: Global,
     name: &str,
-    answer: &Answer,
+    searched: &Searched,
     command: &[&str],
     out: &mut String,
 ) -> Result<(), AllocError> {
-    let system = Sizes::of(alloc, &answer.logs_of(alloc, Side::System)?)?;
-    let environment = Sizes::of(alloc, &answer.logs_of(alloc, Side::Environment)?)?;
     write!(out, "{name}: ")?;
-    match answer.verdict {
-        Some(Verdict::Bounded(side, states)) => {
-            push_bounded(side, states, out)?;
-            let sizes = if side == Side::System {
-                &system
-            } else {
-                &environment
-            };
-            push_sizes(side, sizes, answer, out)?;
+    match searched.verdict {
+        Verdict::Machine { side, states, .. } => {
+            push_bounded(side, u64::from(states), out)?;
+            let sizes = Sizes::of(alloc, searched.logs.of(side))?;
+            push_sizes(side, &sizes, searched, out)?;
             out.push_str("\n")?;
-            let advice = Advice::bounded(answer);
-            push_advice(advice, answer, out)?;
+            let advice = Advice::bounded(searched);
+            push_advice(advice, searched, out)?;
             push_next(command, advice.next(), out)
         },
-        _ => {
+        Verdict::Unknown(_) => {
+            let system = Sizes::of(alloc, searched.logs.system)?;
+            let environment = Sizes::of(alloc, searched.logs.environment)?;
             push_open(&system, &environment, out)?;
-            push_side(Side::System, &system, answer, out)?;
-            push_side(Side::Environment, &environment, answer, out)?;
-            let advice = Advice::unknown(&system, &environment, answer);
-            push_advice(advice, answer, out)?;
+            push_side(Side::System, &system, searched, out)?;
+            push_side(Side::Environment, &environment, searched, out)?;
+            let advice = Advice::unknown(&system, &environment, searched);
+            push_advice(advice, searched, out)?;
             push_next(command, advice.next(), out)
         },
     }
@@ -90,37 +86,36 @@ fn push_open(system: &Sizes, environment: &Sizes, out: &mut String) -> Result<()
 fn push_side(
     side: Side,
     sizes: &Sizes,
-    answer: &Answer,
+    searched: &Searched,
     out: &mut String,
 ) -> Result<(), AllocError> {
-    push_sizes(side, sizes, answer, out)?;
+    push_sizes(side, sizes, searched, out)?;
     if sizes.count > 0 {
         out.push_str("; ")?;
     }
-    if sizes.count >= answer.max {
-        let max = answer.max;
+    let max = searched.max;
+    if sizes.count >= u64::from(max) {
         return writeln!(out, "greater ones aren't asked for (`--max {max}`)");
     }
     if side == Side::Environment && sizes.count == 0 {
         out.push_str("its automaton passes a limit, or ")?;
     }
     let next = sizes.count.saturating_add(1);
-    let most = most_clauses(answer);
+    let most = most_clauses(searched);
     writeln!(out, "size {next} would have over {most} base clauses")
 }
 
-fn most_clauses(answer: &Answer) -> &'static str {
-    if answer.version == Some(LOCAL_VERSION) {
-        "4,000,000"
-    } else {
-        "1,000,000"
+fn most_clauses(searched: &Searched) -> &'static str {
+    match searched.counts {
+        Counts::Whole => "1,000,000",
+        Counts::Local => "4,000,000",
     }
 }
 
 fn push_sizes(
     side: Side,
     sizes: &Sizes,
-    answer: &Answer,
+    searched: &Searched,
     out: &mut String,
 ) -> Result<(), AllocError> {
     let name = match side {
@@ -143,7 +138,7 @@ fn push_sizes(
         };
         push_list(noun, &sizes.full, out)?;
         out.push_str(" full")?;
-        if let Some(entries) = answer.entries {
+        if let Some(entries) = searched.entries {
             write!(out, " (`--entries {entries}`)")?;
         }
     }
@@ -201,9 +196,9 @@ struct Advice {
 }
 
 impl Advice {
-    fn bounded(answer: &Answer) -> Advice {
+    fn bounded(searched: &Searched) -> Advice {
         Advice {
-            counts: answer.version != Some(LOCAL_VERSION),
+            counts: searched.counts == Counts::Whole,
             max: None,
             entries: true,
             kind: false,
@@ -220,25 +215,26 @@ impl Advice {
         }
     }
 
-    fn unknown(system: &Sizes, environment: &Sizes, answer: &Answer) -> Advice {
-        let is_cut = system.count < answer.max || environment.count < answer.max;
+    fn unknown(system: &Sizes, environment: &Sizes, searched: &Searched) -> Advice {
+        let max = u64::from(searched.max);
+        let is_cut = system.count < max || environment.count < max;
         let is_full = !system.full.is_empty() || !environment.full.is_empty();
         Advice {
-            counts: (is_cut || is_full) && answer.version != Some(LOCAL_VERSION),
-            max: reaching(system, environment, answer),
+            counts: (is_cut || is_full) && searched.counts == Counts::Whole,
+            max: reaching(system, environment, max),
             entries: is_full,
-            kind: answer.kind == Kind::Moore || !system.full.is_empty() || system.count == 0,
+            kind: searched.kind == Kind::Moore || !system.full.is_empty() || system.count == 0,
             is_cut,
         }
     }
 }
 
 /// Which side reached the greatest size that was asked for, where there are greater ones.
-fn reaching(system: &Sizes, environment: &Sizes, answer: &Answer) -> Option<&'static str> {
-    if answer.max >= u64::from(MOST_ALONE) {
+fn reaching(system: &Sizes, environment: &Sizes, max: u64) -> Option<&'static str> {
+    if max >= u64::from(MOST_ALONE) {
         return None;
     }
-    match (system.count >= answer.max, environment.count >= answer.max) {
+    match (system.count >= max, environment.count >= max) {
         (true, true) => Some("both sides"),
         (true, false) => Some("the system"),
         (false, true) => Some("the environment"),
@@ -246,7 +242,7 @@ fn reaching(system: &Sizes, environment: &Sizes, answer: &Answer) -> Option<&'st
     }
 }
 
-fn push_advice(advice: Advice, answer: &Answer, out: &mut String) -> Result<(), AllocError> {
+fn push_advice(advice: Advice, searched: &Searched, out: &mut String) -> Result<(), AllocError> {
     if advice.counts {
         out.push_str("  try `--counts local`, with which a size has fewer base clauses\n")?;
     }
@@ -263,7 +259,7 @@ fn push_advice(advice: Advice, answer: &Answer, out: &mut String) -> Result<(), 
         )?;
     }
     if advice.kind {
-        let other = match answer.kind {
+        let other = match searched.kind {
             Kind::Mealy => "moore",
             Kind::Moore => "mealy",
         };
@@ -271,7 +267,7 @@ fn push_advice(advice: Advice, answer: &Answer, out: &mut String) -> Result<(), 
     }
     if advice.is_cut {
         let other = if advice.counts { "other " } else { "" };
-        let most = most_clauses(answer);
+        let most = most_clauses(searched);
         writeln!(
             out,
             "  no {other}option allows a size with over {most} base clauses"

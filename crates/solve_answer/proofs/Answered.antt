@@ -4,6 +4,7 @@ use Rattle.std.proofs.lemmas.Bool.{and_from}
 use Rattle.std.proofs.lemmas.List.Elements.{All-nil}
 use Rattle.std.specs.Prelude.{All, is_some, option_and_then, option_map, unwrap_or}
 use Rattle.std.specs.Bool.{OnTrue, beq}
+use Rattle.solve_check.proofs.Held.{document_with}
 use Rattle.letters_and_lassos.specs.declared.kinds.Kind.{Kind}
 use Rattle.letters_and_lassos.specs.declared.kinds.Kind.TheVariants.{Mealy, Moore}
 use Rattle.letters_and_lassos.specs.contracts.kinds.KindPartialEq.TheImpl.{ghosts as kind_ghosts}
@@ -13,11 +14,10 @@ use Rattle.solve_ground.specs.declared.texts.SolveText.{SolveText}
 use Rattle.solve_ground.specs.SolveText.{IsSolveFault, IsSolveText}
 use Rattle.solved_text.specs.declared.documents.Verdict.{Verdict}
 use Rattle.solved_text.specs.declared.documents.Verdict.TheVariants.{Realizable, Unrealizable, Unknown}
-use Rattle.document_text.specs.Reading.{circuit_in}
 use Rattle.solved_text.specs.Laws.{SolvedAreDetermined}
 use Rattle.solved_text.specs.Lines.{document_text}
 use Rattle.solved_text.specs.Parts.{Document, SizeLog}
-use Rattle.solved_text.specs.Reading.{SolvedLines, annotation_in}
+use Rattle.solved_text.specs.Reading.{SolvedLines}
 use Rattle.solved_text.specs.States.{States}
 use Rattle.solve_check.specs.declared.acceptance.Acceptance.{Acceptance}
 use Rattle.solve_check.specs.Accepted.{IsAcceptedSolved}
@@ -92,10 +92,6 @@ pub refused_answers : (text : List ℕ) (given : Option Kind) (limits : LogLimit
 refused_answers text given limits bytes status r = refused r.code r.place r.status_is r.fault r.line
 
 -- == the logs that are read ==
-
-abbrev document_with : List ℕ → SolvedLines → Verdict → Kind → Document
-document_with bytes lines verdict kind =
-    record { verdict = verdict; kind = kind; converted = lines.header.converted; circuit = circuit_in lines.circuit; logs = lines.logs; annotation = annotation_in bytes lines.annotation }
 
 -- a document of good lines has the logs that are read of them
 same_logs : (bytes : List ℕ) (lines : SolvedLines) (d : Document) (v : Option Verdict) (k : Option Kind)

@@ -15,9 +15,9 @@ use game_machine::Budget;
 use input_output::Gate;
 use letter_search::Refutations;
 use letters_and_lassos::Kind;
+use outcome_news::{Listener, News, RefutingEnd, Told, ToldReply, Unsolved, Withheld};
 use program_replies::{Reply, Status, refusal};
 use solve_ground::{SolveText, solve_text};
-use solve_told::{Listener, News, RefutingEnd, Told, Withheld};
 use std::alloc::{AllocError, Global};
 use std::sync::Wait;
 use std::thread::Threads;
@@ -28,13 +28,6 @@ pub const GAME_BUDGET: Budget = Budget {
     positions: 100_000,
     bytes: 1_000_000_000,
 };
-
-/// An answer, and what is told beside it.
-#[derive(Drop)]
-pub struct Solved {
-    pub reply: Reply,
-    pub told: Told,
-}
 
 /// The answer to a text, whose machines are of the given kind, or of the text's TARGET: the line of its first fault with status 1, or a
 /// document of version 6, with status 10 where it has a controller, 20 where it has a counter-strategy, and 30 where neither was found.
@@ -52,12 +45,12 @@ pub fn solve<R: Threads + Wait + Sync, G: Gate + Sync, L: Listener>(
     refuting: Refuting,
     gate: &G,
     listener: &mut L,
-) -> Result<Solved, AllocError>
+) -> Result<ToldReply, AllocError>
     ensures { IfOk result (λ s. SolveAnswers text.now given (limits_of refuting) s.reply.bytes.items (status_number s.reply.status)) }
 {
     match solve_text(alloc, text, given) {
         Ok(known) => answer(rt, alloc, &known, budget, refuting, gate, listener),
-        Err(fault) => Ok(Solved {
+        Err(fault) => Ok(ToldReply {
             reply: refusal(alloc, fault)?,
             told: Told::Refused,
         }),
@@ -73,7 +66,7 @@ fn answer<R: Threads + Wait + Sync, G: Gate + Sync, L: Listener>(
     refuting: Refuting,
     gate: &G,
     listener: &mut L,
-) -> Result<Solved, AllocError>
+) -> Result<ToldReply, AllocError>
     requires { CanBePlayed text.now }
     ensures { IfOk result (λ s. AnswersEach text.now refuting s.reply) }
 {
@@ -82,7 +75,7 @@ fn answer<R: Threads + Wait + Sync, G: Gate + Sync, L: Listener>(
         Found::Of(strategy, below) => {
             of_strategy(rt, alloc, text, strategy, below, refuting, gate, listener)
         }
-        Found::Without(told) => unknown(alloc, text, told, refuting),
+        Found::Without(why) => unknown(alloc, text, why, refuting),
     }
 }
 
@@ -100,11 +93,11 @@ fn find_any<R: Threads + Wait + Sync, G: Gate + Sync, L: Listener>(
 {
     match find_strategy(rt, alloc, text, budget, refuting.workers)? {
         Search::Of(strategy) => Ok(Found::Of(strategy, None)),
-        Search::Without(told) => {
+        Search::Without(why) => {
             if refuting.max != Some(0) {
                 listener.hear(News::Searching);
             }
-            Ok(search_sizes(rt, alloc, text, told, refuting, gate))
+            Ok(search_sizes(rt, alloc, text, why, refuting, gate))
         }
     }
 }
@@ -119,7 +112,7 @@ fn of_strategy<R: Threads + Wait + Sync, G: Gate + Sync, L: Listener>(
     refuting: Refuting,
     gate: &G,
     listener: &mut L,
-) -> Result<Solved, AllocError>
+) -> Result<ToldReply, AllocError>
     requires { CanBePlayed text.now }
     ensures { IfOk result (λ s. AnswersEach text.now refuting s.reply) }
 {
@@ -132,14 +125,14 @@ fn of_strategy<R: Threads + Wait + Sync, G: Gate + Sync, L: Listener>(
             return unknown(
                 alloc,
                 text,
-                Told::Withheld(side, Withheld::BadLine(line)),
+                Unsolved::Withheld(side, Withheld::BadLine(line)),
                 refuting,
             );
         }
     };
     if refuting.max == Some(0) {
         let told = Told::Found(side, states, nothing(RefutingEnd::Done));
-        return Ok(Solved { reply, told });
+        return Ok(ToldReply { reply, told });
     }
     listener.hear(News::Found(side, states));
     let plain = Plain {
@@ -150,7 +143,7 @@ fn of_strategy<R: Threads + Wait + Sync, G: Gate + Sync, L: Listener>(
     let longer = with_logs(rt, alloc, text, plain, below, refuting, gate);
     let told = Told::Found(side, longer.states, longer.refuted);
     let reply = better_of(text, refuting, longer.reply, reply);
-    Ok(Solved { reply, told })
+    Ok(ToldReply { reply, told })
 }
 
 /// The better reply to a text, where there is one, or the one that there is.
@@ -169,16 +162,16 @@ fn better_of(_text: &SolveText, _refuting: Refuting, better: Option<Reply>, repl
 fn unknown(
     alloc: Global,
     text: &SolveText,
-    told: Told,
+    why: Unsolved,
     _refuting: Refuting,
-) -> Result<Solved, AllocError>
+) -> Result<ToldReply, AllocError>
     ensures { IfOk result (λ s. AnswersEach text.now _refuting s.reply) }
 {
-    Ok(Solved {
+    Ok(ToldReply {
         reply: Reply {
             bytes: unknown_text(alloc, text)?,
             status: Status::Unknown,
         },
-        told,
+        told: Told::Unsolved(text.kind, why),
     })
 }

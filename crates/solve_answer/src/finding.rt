@@ -13,9 +13,9 @@ use letters_and_lassos::Side;
 use ltl_formula::{FormulaId, Formulas};
 use machine_model::Automaton;
 use obligation_sets::Covering;
+use outcome_news::{NotWon, RefutingEnd, Unsolved, Unwon, Withheld};
 use reached_states::reached_states;
 use solve_ground::SolveText;
-use solve_told::{NotWon, RefutingEnd, Told, Unwon, Withheld};
 use std::alloc::{AllocError, Global};
 use std::thread::Threads;
 use text_limits::LARGE_LIMITS;
@@ -45,7 +45,7 @@ pub(crate) struct Strategy {
 #[derive(Drop)]
 pub(crate) enum Search {
     Of(Strategy),
-    Without(Told),
+    Without(Unsolved),
 }
 
 /// The strategy of the side that wins within the budget, or why there is none. Two workers play both sides at once.
@@ -60,7 +60,7 @@ pub(crate) fn find_strategy<R: Threads>(
 {
     match who_wins(rt, alloc, text, budget, workers)? {
         Winner::Of(found) => annotated(alloc, text, found.side, found.circuit),
-        Winner::Without(told) => Ok(Search::Without(told)),
+        Winner::Without(why) => Ok(Search::Without(why)),
     }
 }
 
@@ -68,7 +68,7 @@ pub(crate) fn find_strategy<R: Threads>(
 #[derive(Drop)]
 enum Winner {
     Of(Found),
-    Without(Told),
+    Without(Unsolved),
 }
 
 /// Who wins the game of the text. The system plays alone at first, since where it wins soon the environment's automaton isn't needed.
@@ -122,7 +122,7 @@ fn played<R: Threads>(
         Ok(Outcome::Found(found)) => Winner::Of(found),
         Ok(Outcome::NoWin(end)) => unwon(system, environment, NotWon::Ended(end_of(end))),
         Ok(Outcome::NoCircuit(side)) => {
-            Winner::Without(Told::Withheld(side, Withheld::CircuitTooLarge))
+            Winner::Without(Unsolved::Withheld(side, Withheld::CircuitTooLarge))
         }
         Err(_) => unwon(system, environment, NotWon::NoMemory),
     }
@@ -132,7 +132,7 @@ fn played<R: Threads>(
 fn unwon(system: Option<&Automaton>, environment: Option<&Automaton>, why: NotWon) -> Winner {
     let system = unless_absent(system, why);
     let environment = unless_absent(environment, why);
-    Winner::Without(Told::Neither(system, environment))
+    Winner::Without(Unsolved::Neither(system, environment))
 }
 
 fn unless_absent(automaton: Option<&Automaton>, why: NotWon) -> Unwon {
@@ -192,7 +192,7 @@ pub(crate) fn annotated(
 }
 
 fn withheld(side: Side, why: Withheld) -> Search {
-    Search::Without(Told::Withheld(side, why))
+    Search::Without(Unsolved::Withheld(side, why))
 }
 
 /// How many states a circuit reaches, where a document may tell so many of it.

@@ -14,6 +14,6 @@ mod testing;
 mod told;
 mod unwon;
 
-pub use answering::{GAME_BUDGET, Solved, solve};
+pub use answering::{GAME_BUDGET, solve};
 pub use game_machine::Budget;
 pub use refuting::Refuting;

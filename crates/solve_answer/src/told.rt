@@ -1,9 +1,9 @@
-//! What is told beside an answer, in the words of solve_told. Nothing is promised of it.
+//! What is told beside an answer, in the words of outcome_news. Nothing is promised of it.
 
 use annotation_maker::Limit as AnnotationLimit;
 use game_machine::End as GamesEnd;
 use letter_search::Ended;
-use solve_told::{End, Limit, Refuted, RefutingEnd};
+use outcome_news::{End, Limit, Refuted, RefutingEnd};
 
 /// How the games ended.
 pub(crate) fn end_of(end: GamesEnd) -> End {

@@ -8,8 +8,8 @@ use crate::told::{nothing, refuting_end, so_many};
 use input_output::Gate;
 use letter_search::{Ended, Refutations, Sizes};
 use letters_and_lassos::Side;
+use outcome_news::{NotWon, Refuted, RefutingEnd, Unsolved, Unwon};
 use solve_ground::SolveText;
-use solve_told::{NotWon, Refuted, RefutingEnd, Told, Unwon};
 use std::alloc::{AllocError, Global};
 use std::sync::Wait;
 use std::thread::Threads;
@@ -18,7 +18,7 @@ use std::thread::Threads;
 #[derive(Drop)]
 pub(crate) enum Found {
     Of(Strategy, Option<Refutations>),
-    Without(Told),
+    Without(Unsolved),
 }
 
 /// What came of both sides' sizes.
@@ -37,24 +37,23 @@ pub(crate) fn search_sizes<R: Threads + Wait + Sync, G: Gate + Sync>(
     rt: &R,
     alloc: Global,
     text: &SolveText,
-    told: Told,
+    why: Unsolved,
     refuting: Refuting,
     gate: &G,
 ) -> Found
     requires { CanBePlayed text.now }
 {
     if refuting.max == Some(0) {
-        return Found::Without(told);
+        return Found::Without(why);
     }
-    match told {
-        Told::Neither(system, environment) => {
+    match why {
+        Unsolved::Neither(system, environment) => {
             of_both(rt, alloc, text, system.why, environment.why, refuting, gate)
         }
-        Told::Withheld(side, _) => match of_winner(rt, alloc, text, side, refuting, gate) {
+        Unsolved::Withheld(side, _) => match of_winner(rt, alloc, text, side, refuting, gate) {
             Ok(Some(found)) => found,
-            _ => Found::Without(told),
+            _ => Found::Without(why),
         },
-        _ => Found::Without(told),
     }
 }
 
@@ -98,7 +97,7 @@ fn of_both<R: Threads + Wait + Sync, G: Gate + Sync>(
 }
 
 /// That neither wins, and how far their sizes were tried.
-fn neither(system: NotWon, first: Refuted, environment: NotWon, second: Refuted) -> Told {
+fn neither(system: NotWon, first: Refuted, environment: NotWon, second: Refuted) -> Unsolved {
     let system = Unwon {
         why: system,
         refuted: first,
@@ -107,7 +106,7 @@ fn neither(system: NotWon, first: Refuted, environment: NotWon, second: Refuted)
         why: environment,
         refuted: second,
     };
-    Told::Neither(system, environment)
+    Unsolved::Neither(system, environment)
 }
 
 fn searched<R: Threads + Wait + Sync, G: Gate + Sync>(

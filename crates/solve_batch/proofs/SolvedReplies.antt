@@ -3,7 +3,7 @@ use Rattle.std.proofs.Common.{◌≡◌, ℕ, List, length, sym, ◌∙◌, ap, 
 use Rattle.std.specs.Prelude.{IfOk, Result, Ok, Err, Vec}
 use Rattle.program_replies.specs.Lines.{refusal_line}
 use Rattle.program_replies.specs.Statuses.{status_number}
-use Rattle.program_replies.specs.declared.replies.Reply.{Reply}
+use Rattle.outcome_news.specs.declared.news.ToldReply.{ToldReply}
 use Rattle.program_replies.specs.declared.replies.Status.TheVariants.{Refused}
 use Rattle.spec_faults.specs.declared.code.SpecCode.TheVariants as code
 use Rattle.tlsf_reader.specs.Faults.{most_bytes, too_long}
@@ -20,18 +20,18 @@ use Rattle.solve_batch.specs.SolvedBatch.{AskedOfEach, IsSolvedPart, IsSolvedRep
 
 module _ {E : Type 0} (asked : AskedOfEach) where
   -- the answer to all bytes of a text
-  pub whole_answers : (text : TakenText) (bytes : Vec ℕ Global) (r : Result Reply E) → text ≡ Whole bytes
-      → IfOk r (λ reply. SolveAnswers bytes.items asked.given asked.limits reply.bytes.items (status_number reply.status)) → IfOk r (IsSolvedReply asked text)
+  pub whole_answers : (text : TakenText) (bytes : Vec ℕ Global) (r : Result ToldReply E) → text ≡ Whole bytes
+      → IfOk r (λ reply. SolveAnswers bytes.items asked.given asked.limits reply.reply.bytes.items (status_number reply.reply.status)) → IfOk r (IsSolvedReply asked text)
   whole_answers text bytes (Err e) is answers = tt
   whole_answers text bytes (Ok reply) is answers = by text is
     where
       by : (t : TakenText) → t ≡ Whole bytes → IsSolvedReply asked t reply
       by t at = subst (λ u. IsSolvedReply asked u reply) (sym at)
-          (λ file same. subst (λ b. SolveAnswers b asked.given asked.limits reply.bytes.items (status_number reply.status)) same answers)
+          (λ file same. subst (λ b. SolveAnswers b asked.given asked.limits reply.reply.bytes.items (status_number reply.reply.status)) same answers)
 
   -- the line of a text that is too long
-  pub too_long_answers : (text : TakenText) (r : Result Reply E) → text ≡ TooLong
-      → IfOk r (λ reply. (reply.bytes.items ≡ refusal_line code.TooLong most_bytes) × (reply.status ≡ Refused)) → IfOk r (IsSolvedReply asked text)
+  pub too_long_answers : (text : TakenText) (r : Result ToldReply E) → text ≡ TooLong
+      → IfOk r (λ reply. (reply.reply.bytes.items ≡ refusal_line code.TooLong most_bytes) × (reply.reply.status ≡ Refused)) → IfOk r (IsSolvedReply asked text)
   too_long_answers text (Err e) is line = tt
   too_long_answers text (Ok reply) is line =
       subst (λ u. IsSolvedReply asked u reply) (sym is) (λ file long.
@@ -39,7 +39,7 @@ module _ {E : Type 0} (asked : AskedOfEach) where
 
 -- == the answers to all texts ==
 
-pub solved_answers : (names : List (List ℕ)) (texts : List TakenText) (asked job : AskedOfEach) (replies : List Reply) (bytes : List ℕ)
+pub solved_answers : (names : List (List ℕ)) (texts : List TakenText) (asked job : AskedOfEach) (replies : List ToldReply) (bytes : List ℕ)
     → length names ≡ length texts → job ≡ asked → AreAnswers (IsSolvedReply job) texts replies
     → bytes ≡ batch_text names (map part_of replies) → (files : List (List ℕ)) → AreTexts texts files → SolvedBatchAnswers names files asked bytes
 solved_answers names texts asked job replies bytes one_each is answered text files are = record {
@@ -52,7 +52,7 @@ solved_answers names texts asked job replies bytes one_each is answered text fil
         let r = reply_at replies k part there in
         let answer = answered.each k t.text r.reply t.at r.at file t.is_text in
         subst (IsSolvedPart asked file) r.is
-        (subst (λ (a : AskedOfEach). SolveAnswers file a.given a.limits r.reply.bytes.items (status_number r.reply.status)) is answer);
+        (subst (λ (a : AskedOfEach). SolveAnswers file a.given a.limits r.reply.reply.bytes.items (status_number r.reply.reply.status)) is answer);
   };
   text = text;
 }

@@ -1,7 +1,7 @@
 -- The answer of `batch --solve` (this project's own).
 use Rattle.std.specs.Prelude.{◌≡◌, ℕ, List, Option, length}
 use Rattle.letters_and_lassos.specs.declared.kinds.Kind.{Kind}
-use Rattle.program_replies.specs.declared.replies.Reply.{Reply}
+use Rattle.outcome_news.specs.declared.news.ToldReply.{ToldReply}
 use Rattle.program_replies.specs.Statuses.{status_number}
 use Rattle.batch_run.specs.Answers.{AreAnswers}
 use Rattle.batch_answer.specs.declared.texts.TakenText.{TakenText}
@@ -29,6 +29,6 @@ pub record SolvedBatchAnswers (names texts : List (List ℕ)) (asked : AskedOfEa
 -- ---- how the code goes on
 
 -- the reply answers each file that the text may be
-abbrev pub IsSolvedReply : AskedOfEach → TakenText → Reply → Type 0
-IsSolvedReply asked text reply =
-    (file : List ℕ) → IsText text file → SolveAnswers file asked.given asked.limits reply.bytes.items (status_number reply.status)
+abbrev pub IsSolvedReply : AskedOfEach → TakenText → ToldReply → Type 0
+IsSolvedReply asked text told =
+    (file : List ℕ) → IsText text file → SolveAnswers file asked.given asked.limits told.reply.bytes.items (status_number told.reply.status)

@@ -9,6 +9,7 @@ use batch_answer::{FileName, TakenText, batch_text};
 use batch_run::run_all;
 use input_output::Gate;
 use letters_and_lassos::Kind;
+use outcome_news::{Listener, hear_all};
 use program_replies::{Reply, Status};
 use solve_answer::Refuting;
 use std::alloc::{AllocError, Global};
@@ -16,10 +17,11 @@ use std::sync::Wait;
 use std::thread::Threads;
 
 /// The answers to texts of these names, in their order, as `batch_answer` of batch_answer writes them: each is that of `solve` to its text
-/// alone, whose machines are of the given kind. So many workers share the texts as are to refute; each text is solved by one of them.
+/// alone, whose machines are of the given kind. So many workers share the texts as are to refute; each text is solved by one of them. What is
+/// told of each answer the listener hears in the order of the texts, once all are made.
 ///
 /// It waits for the workers, each of which passes the gate as `run_all` of batch_run says.
-pub fn solve_batch<R: Threads + Wait + Sync, G: Gate + Sync>(
+pub fn solve_batch<R: Threads + Wait + Sync, G: Gate + Sync, L: Listener>(
     rt: &R,
     alloc: Global,
     names: &[FileName],
@@ -27,6 +29,7 @@ pub fn solve_batch<R: Threads + Wait + Sync, G: Gate + Sync>(
     given: Option<Kind>,
     refuting: Refuting,
     gate: &G,
+    listener: &mut L,
 ) -> Result<Reply, AllocError>
     requires one_each { length names.now ≡ length texts.now }
     requires few { length texts.now < 2 ^ 32 }
@@ -36,6 +39,7 @@ pub fn solve_batch<R: Threads + Wait + Sync, G: Gate + Sync>(
 {
     let job = Solving::new(alloc, given, refuting);
     let replies = run_all(rt, alloc, &job, texts, refuting.workers, gate)?;
+    hear_all(listener, &replies);
     Ok(Reply {
         bytes: batch_text(alloc, names, &replies)?,
         status: Status::Done,

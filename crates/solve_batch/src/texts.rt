@@ -4,21 +4,16 @@ ghost use Rattle.program_replies.specs.Statuses.{status_number};
 ghost use Rattle.solve_answer.specs.Answer.{SolveAnswers};
 ghost use Rattle.solve_answer.specs.Parts.{limits_of};
 
-use batch_answer::TakenText;
+use batch_answer::{TakenText, too_long};
 use batch_run::Job;
 use input_output::OpenGate;
 use letters_and_lassos::Kind;
-use program_replies::{Reply, refused};
+use outcome_news::{NoListener, ToldReply};
 use solve_answer::{GAME_BUDGET, Refuting, solve};
-use solve_told::NoListener;
-use spec_faults::SpecCode;
 use std::alloc::{AllocError, Global};
 use std::marker::Model;
 use std::sync::Wait;
 use std::thread::Threads;
-
-/// The most bytes that a text may have.
-const LONGEST_TEXT: u64 = 1_048_576;
 
 /// The job of solving texts, each by the worker that takes it alone. A contract sees the kind that is given, and how far documents may refute.
 #[derive(Drop)]
@@ -53,10 +48,10 @@ impl Solving {
     }
 
     /// The answer to all bytes of a text.
-    fn solved<R: Threads + Wait + Sync>(&self, rt: &R, text: &[u8]) -> Result<Reply, AllocError>
-        ensures { IfOk result (λ r. SolveAnswers text.now self.now.given self.now.limits r.bytes.items (status_number r.status)) }
+    fn solved<R: Threads + Wait + Sync>(&self, rt: &R, text: &[u8]) -> Result<ToldReply, AllocError>
+        ensures { IfOk result (λ r. SolveAnswers text.now self.now.given self.now.limits r.reply.bytes.items (status_number r.reply.status)) }
     {
-        let solved = solve(
+        solve(
             rt,
             self.alloc,
             text,
@@ -65,8 +60,7 @@ impl Solving {
             self.refuting,
             &OpenGate,
             &mut NoListener,
-        )?;
-        Ok(solved.reply)
+        )
     }
 }
 
@@ -75,7 +69,7 @@ impl Job for Solving {
 
     type Task = TakenText;
 
-    type Answer = Reply;
+    type Answer = ToldReply;
 
     ghost is_answer = { IsSolvedReply };
 
@@ -83,10 +77,10 @@ impl Job for Solving {
         &self,
         rt: &R,
         text: &TakenText,
-    ) -> Result<Reply, AllocError> {
+    ) -> Result<ToldReply, AllocError> {
         match text {
             TakenText::Whole(bytes) => self.solved(rt, bytes),
-            TakenText::TooLong => refused(self.alloc, SpecCode::TooLong, LONGEST_TEXT),
+            TakenText::TooLong => too_long(self.alloc),
         }
     }
 }

@@ -1,33 +1,36 @@
 -- The outcome of a search of a text's problems.
-use Rattle.std.proofs.Common.{◌≡◌, ℕ, ◌≤◌, List, Option, Some, None, length, ◌∙◌, subst, arith}
+use Rattle.std.proofs.Common.{◌≡◌, ◌≤◌, List, Option, Some, None, length, sym, ◌∙◌, subst, arith}
 use Rattle.letters_and_lassos.specs.declared.kinds.Side.{Side}
 use Rattle.letters_and_lassos.specs.declared.kinds.Side.TheVariants.{System, Environment}
 use Rattle.machine_model.specs.Machine.{MachineModel}
 use Rattle.machine_model.specs.Problem.{reads_of, writes_of}
 use Rattle.machine_model.specs.declared.problems.Problem.{Problem}
+use Rattle.machine_model.specs.declared.counting.Counts.{Counts}
 use Rattle.annotation_encode.specs.Count.{SizesRise}
+use Rattle.circuit_names.specs.Names.{read_names, written_names}
 use Rattle.tlsf_expand.specs.Expansion.{Expanded}
 use Rattle.spec_problems.specs.declared.sides.SideProblems.{SideProblems}
 use Rattle.synth_engine.specs.declared.settings.Settings.{Settings}
 use Rattle.size_search.specs.declared.size_log.SizeLog.{SizeLog}
 use Rattle.synth_engine.specs.declared.outcomes.Found.{Found}
 use Rattle.synth_engine.specs.Outcomes.{GoesWith, IsFound, IsFoundWith}
-use Rattle.synth_answer.specs.Holds.{read_by, written_by}
+use Rattle.synth_answer.specs.Holds.{text_names}
 use Rattle.synth_answer.specs.Reply.{FitsNames, FoundFits}
 use Rattle.text_ground.specs.Problems.{AreProblemsFor, IsProblemFor}
 use Rattle.text_ground.proofs.Meaning.{kind_for, reads_environment, reads_system, writes_environment, writes_system}
 use Rattle.synth_answer.proofs.Sides.{IsOf, find}
+use Rattle.synth_answer.proofs.Sizes.{few_reads, few_writes}
 
-module _ (v : ℕ) (x : Expanded) (s : SideProblems) (problems : AreProblemsFor v x s) (settings : Settings) (most : settings.max ≤ 8) (sizes : SizesRise) where
-  problem_for : (side : Side) (p : Problem) → IsOf s.system s.environment side p → IsProblemFor v x side (kind_for side x.kind) p
-  problem_for System p of = subst (IsProblemFor v x System x.kind) of problems.of_system
+module _ (counts : Counts) (x : Expanded) (s : SideProblems) (problems : AreProblemsFor counts x s) (settings : Settings) (most : settings.max ≤ 8) (sizes : SizesRise) where
+  problem_for : (side : Side) (p : Problem) → IsOf s.system s.environment side p → IsProblemFor counts x side (kind_for side x.kind) p
+  problem_for System p of = subst (IsProblemFor counts x System x.kind) of problems.of_system
   problem_for Environment p of = problems.of_environment p of
 
-  reads_for : (side : Side) (p : Problem) → p.side ≡ side → p.inputs ≡ length x.inputs → p.outputs ≡ length x.outputs → reads_of p ≡ length (read_by side x.inputs x.outputs)
+  reads_for : (side : Side) (p : Problem) → p.side ≡ side → p.inputs ≡ length x.inputs → p.outputs ≡ length x.outputs → reads_of p ≡ length (read_names (text_names x) side)
   reads_for System p side i o = reads_system p side ∙ i
   reads_for Environment p side i o = reads_environment p side ∙ o
 
-  writes_for : (side : Side) (p : Problem) → p.side ≡ side → p.inputs ≡ length x.inputs → p.outputs ≡ length x.outputs → writes_of p ≡ length (written_by side x.inputs x.outputs)
+  writes_for : (side : Side) (p : Problem) → p.side ≡ side → p.inputs ≡ length x.inputs → p.outputs ≡ length x.outputs → writes_of p ≡ length (written_names (text_names x) side)
   writes_for System p side i o = writes_system p side ∙ o
   writes_for Environment p side i o = writes_environment p side ∙ i
 
@@ -36,10 +39,15 @@ module _ (v : ℕ) (x : Expanded) (s : SideProblems) (problems : AreProblemsFor 
       let known = problem_for side p of in
       let allowed = found.allowed in
       let all = (sizes.allowed p settings.max).within in
+      let looked_for = found.accepted.looked_for in
       record {
-        few = omega (arith, allowed, all, most);
-        reads = found.accepted.looked_for.reads ∙ reads_for side p known.of_side known.inputs known.outputs;
-        writes = found.accepted.looked_for.writes ∙ writes_for side p known.of_side known.inputs known.outputs;
+        small = record {
+          states = omega (arith, allowed, all, most);
+          reads = subst (λ n. n ≤ 8) (sym looked_for.reads) (few_reads p side known.of_side known.within);
+          writes = subst (λ n. n ≤ 8) (sym looked_for.writes) (few_writes p side known.of_side known.within);
+        };
+        reads = looked_for.reads ∙ reads_for side p known.of_side known.inputs known.outputs;
+        writes = looked_for.writes ∙ writes_for side p known.of_side known.inputs known.outputs;
       }
 
   pub found_fits : (found : Option Found) (logs : List SizeLog) → GoesWith s.system s.environment settings logs found → FoundFits x found

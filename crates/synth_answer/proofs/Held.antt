@@ -8,7 +8,8 @@ use Rattle.letters_and_lassos.specs.declared.kinds.Kind.{Kind}
 use Rattle.letters_and_lassos.specs.declared.kinds.Side.{Side}
 use Rattle.letters_and_lassos.specs.declared.kinds.Side.TheVariants.{System, Environment}
 use Rattle.letters_and_lassos.specs.Kinds.{other_kind}
-use Rattle.machine_model.specs.Problem.{sized, automaton_of}
+use Rattle.machine_model.specs.Counting.{IsCountedAs}
+use Rattle.machine_model.specs.Problem.{automaton_of, sized}
 use Rattle.machine_model.specs.declared.problems.Problem.{Problem}
 use Rattle.annotation_encode.specs.Count.{SizesRise, allowed_sizes}
 use Rattle.machine_model.specs.declared.counting.Counts.{Counts}
@@ -21,21 +22,20 @@ use Rattle.document_text.specs.declared.order.Order.TheVariants.{UpTo}
 use Rattle.document_text.specs.declared.order.Place.{Place}
 use Rattle.document_text.specs.Order.{has_its_place, machine_of, named_of, order_of, log_place, verdict_of}
 use Rattle.document_text.specs.Parts.{Document, LogPart}
-use Rattle.document_check.specs.Facts.{Facts, allowed_at, circuit_side, clause_version, for_side, problem_at, sizes_to, wanted_sizes}
+use Rattle.document_check.specs.Facts.{Facts, allowed_at, circuit_side, counting_for, for_side, problem_at, sizes_to, wanted_sizes}
 use Rattle.document_check.specs.Holds as check
 use Rattle.synth_engine.specs.Searched.{allowed_of}
 use Rattle.synth_engine.specs.Logs.{base_at}
 use Rattle.synth_engine.specs.Outcomes.{OfSide}
-use Rattle.synth_answer.proofs.AsThree.{same_clauses}
+use Rattle.synth_answer.proofs.AsThree.{same_counting}
 use Rattle.synth_answer.proofs.OpenLogs.{all_closed, may_be_full_is, same_verdict}
-use Rattle.synth_answer.specs.Holds.{ForLog, IsClosedFor, IsClosedLog, IsEndedLog, IsFullFor, document_version, read_by, sizes_of, written_by}
+use Rattle.synth_answer.specs.Holds.{ForLog, IsClosedFor, IsClosedLog, IsEndedLog, IsFullFor, document_version}
 use Rattle.synth_answer.proofs.Sides.{IsOf, on_both_of}
 use Rattle.text_ground.proofs.Lists.{all_three}
 
--- a circuit of the side has the text's names, in their order
-pub record HasNames (x : Facts) (side : Side) (c : Circuit) : Type 0 where
-  pub reads : c.input_names ≡ map Some (read_by side x.inputs x.outputs)
-  pub writes : c.output_names ≡ map Some (written_by side x.inputs x.outputs)
+-- the number of a side's sizes that a search allows
+abbrev pub searched_sizes : Facts → ℕ → Side → ℕ
+searched_sizes x max side = for_side side (allowed_sizes x.system max) (allowed_of max x.environment)
 
 -- the log has the problem's numbers of variables and of base clauses
 pub record HasHeadOf (p : Problem) (l : LogPart) : Type 0 where
@@ -53,38 +53,26 @@ pub record AreOfKind (x : Facts) (kind : Kind) (counts : Counts) : Type 0 where
 
 -- == names ==
 
-named_so : (x : Facts) (side : Side) (c : Circuit) → HasNames x side c → check.HasNames x side c
-named_so x System c h = record { inputs = h.reads; outputs = h.writes }
-named_so x Environment c h = record { inputs = h.reads; outputs = h.writes }
-
-names_in : (x : Facts) (side : Side) (c : Option Circuit) → IfSome c (HasNames x side) → IfSome c (check.HasNames x side)
-names_in x side None h = tt
-names_in x side (Some c) h = named_so x side c h
-
-names_hold : (x : Facts) (v : Verdict) (c : Option Circuit) → IsTrue (has_its_place (is_some c) v) → IfSome (machine_of v) (λ m. IfSome c (HasNames x m.side))
+names_hold : (x : Facts) (v : Verdict) (c : Option Circuit) → IsTrue (has_its_place (is_some c) v) → IfSome (machine_of v) (λ m. IfSome c (check.HasNames x m.side))
     → IfSome c (check.HasNames x (circuit_side v))
-names_hold x (Machine side n least) c has h = names_in x side c h
+names_hold x (Machine side n least) c has h = h
 names_hold x (Unknown first) None has h = tt
 names_hold x (Unknown first) (Some c) has h = absurd (cc)
 
 -- == numbers ==
 
-side_sizes : (x : Facts) (max : ℕ) (side : Side) → sizes_of x max side ≡ for_side side (sizes_of x max System) (sizes_of x max Environment)
-side_sizes x max System = refl
-side_sizes x max Environment = refl
-
-number_holds : (x : Facts) (max : ℕ) (o : Option Place) → IfSome o (λ q. q.size ≤ sizes_of x max q.side)
-    → option_map_or (λ (p : Place). nat_le p.size (for_side p.side (sizes_of x max System) (sizes_of x max Environment))) o true ≡ true
+number_holds : (x : Facts) (max : ℕ) (o : Option Place) → IfSome o (λ q. q.size ≤ searched_sizes x max q.side)
+    → option_map_or (λ (p : Place). nat_le p.size (for_side p.side (searched_sizes x max System) (searched_sizes x max Environment))) o true ≡ true
 number_holds x max None h = refl
 number_holds x max (Some q) h =
-    le-leb q.size (for_side q.side (sizes_of x max System) (sizes_of x max Environment)) (subst (λ most. q.size ≤ most) (side_sizes x max q.side) h)
+    le-leb q.size (for_side q.side (searched_sizes x max System) (searched_sizes x max Environment)) h
 
 -- of a machine of n states the sizes below n are wanted
-pub sizes_below : (x : Facts) (max : ℕ) (side : Side) (n : ℕ) → n ≤ sizes_of x max side
-    → sizes_to side (n - 1) ≡ wanted_sizes (UpTo side (n - 1)) (sizes_of x max System) (sizes_of x max Environment)
+pub sizes_below : (x : Facts) (max : ℕ) (side : Side) (n : ℕ) → n ≤ searched_sizes x max side
+    → sizes_to side (n - 1) ≡ wanted_sizes (UpTo side (n - 1)) (searched_sizes x max System) (searched_sizes x max Environment)
 sizes_below x max side n h =
-    let most : n ≤ for_side side (sizes_of x max System) (sizes_of x max Environment) = subst (λ most. n ≤ most) (side_sizes x max side) h in
-    let least : n - 1 ≡ min (n - 1) (for_side side (sizes_of x max System) (sizes_of x max Environment)) = omega (arith, most) in
+    let most : n ≤ for_side side (searched_sizes x max System) (searched_sizes x max Environment) = h in
+    let least : n - 1 ≡ min (n - 1) (for_side side (searched_sizes x max System) (searched_sizes x max Environment)) = omega (arith, most) in
     ap (sizes_to side) least
 
 -- == the problems of sizes ==
@@ -99,12 +87,13 @@ same_one : (counts : Counts) (p : Problem) (kind : Kind) → p.kind ≡ kind →
     → record p { kind = kind; size = 1; counting = counting_for (document_version counts) (automaton_of p) } ≡ p
 same_one counts p kind k v one = same_at counts p kind 1 k v ∙ ap (λ y. record p { size = y }) (sym one)
 
-allowed_holds : (counts : Counts) (x : Facts) (kind : Kind) (max : ℕ) (side : Side) → AreOfKind x kind counts → sizes_of x max side ≡ allowed_at x kind (document_version counts) max side
+-- so many sizes does the document allow
+pub allowed_holds : (counts : Counts) (x : Facts) (kind : Kind) (max : ℕ) (side : Side) → AreOfKind x kind counts → searched_sizes x max side ≡ allowed_at x kind (document_version counts) max side
 allowed_holds counts x kind max System of = ap (λ p. allowed_sizes p max) (sym (same_one counts x.system kind of.kind_is of.counted of.size))
 allowed_holds counts x kind max Environment of = by_problem x.environment of.other_kind_is of.other_counted of.other_size
   where
     by_problem : (e : Option Problem) → ForSome e (λ p. p.kind ≡ other_kind kind) → ForSome e (λ p. IsCountedAs counts (automaton_of p) p.counting) → ForSome e (λ p. p.size ≡ 1)
-        → sizes_of (record x { environment = e }) max Environment ≡ allowed_at (record x { environment = e }) kind (document_version counts) max Environment
+        → searched_sizes (record x { environment = e }) max Environment ≡ allowed_at (record x { environment = e }) kind (document_version counts) max Environment
     by_problem None k v one = refl
     by_problem (Some p) k v one = ap (λ q. allowed_sizes q max) (sym (same_one counts p (other_kind kind) (k p refl) (v p refl) (one p refl)))
 
@@ -124,13 +113,13 @@ all_hold counts x kind full limit (l ∷ logs) all = (All-head (check.HoldsAt x 
 
 -- == the logs ==
 
-sizes_same : (x : Facts) (max : ℕ) (side : Side) (p : Problem) → IsOf x.system x.environment side p → sizes_of x max side ≡ allowed_sizes p max
+sizes_same : (x : Facts) (max : ℕ) (side : Side) (p : Problem) → IsOf x.system x.environment side p → searched_sizes x max side ≡ allowed_sizes p max
 sizes_same x max System p of = ap (λ q. allowed_sizes q max) of
 sizes_same x max Environment p of = ap (λ o. allowed_of max o) of
 
 -- the size of a log is an allowed one
 abbrev pub IsAllowedLog : Facts → ℕ → LogPart → Type 0
-IsAllowedLog x max l = (0 < l.size) × (l.size ≤ sizes_of x max l.side)
+IsAllowedLog x max l = (0 < l.size) × (l.size ≤ searched_sizes x max l.side)
 
 module _ (counts : Counts) (sizes : SizesRise) (x : Facts) (kind : Kind) (max : ℕ) (limit : Option ℕ) (of : AreOfKind x kind counts) where
   one_log : (full : Bool) (l : LogPart) → ForLog x HasHeadOf l → IsAllowedLog x max l → (P : Problem → Type 0)
@@ -159,18 +148,18 @@ module _ (counts : Counts) (sizes : SizesRise) (x : Facts) (kind : Kind) (max : 
   each_holds logs heads allowed ended (Some q) is =
       all_three (ForLog x HasHeadOf) (IsAllowedLog x max) (IsEndedLog x limit) (check.HoldsAt x kind (document_version counts) true limit) ended_log logs heads allowed ended
 
-  with_allowed : (P : ℕ → ℕ → Type 0) → P (sizes_of x max System) (sizes_of x max Environment) → P (allowed_at x kind (document_version counts) max System) (allowed_at x kind (document_version counts) max Environment)
+  with_allowed : (P : ℕ → ℕ → Type 0) → P (searched_sizes x max System) (searched_sizes x max Environment) → P (allowed_at x kind (document_version counts) max System) (allowed_at x kind (document_version counts) max Environment)
   with_allowed P h =
       subst (λ n. P n (allowed_at x kind (document_version counts) max Environment)) (allowed_holds counts x kind max System of)
-      (subst (λ m. P (sizes_of x max System) m) (allowed_holds counts x kind max Environment of) h)
+      (subst (λ m. P (searched_sizes x max System) m) (allowed_holds counts x kind max Environment of) h)
 
   -- a document with these parts
   abbrev pub is_made_of : Verdict → Option Circuit → List LogPart → Document → Document
   is_made_of v c logs d = record d { version = document_version counts; verdict = v; kind = kind; max = max; entries = limit; found = 0; circuit = c; logs = logs }
 
-  pub held : (v : Verdict) (c : Option Circuit) (logs : List LogPart) (d : Document) → IsTrue (has_its_place (is_some c) v) → IfSome (machine_of v) (λ m. IfSome c (HasNames x m.side))
-      → IfSome (named_of v) (λ q. q.size ≤ sizes_of x max q.side)
-      → map log_place logs ≡ wanted_sizes (order_of (document_version counts) v max 0) (sizes_of x max System) (sizes_of x max Environment)
+  pub held : (v : Verdict) (c : Option Circuit) (logs : List LogPart) (d : Document) → IsTrue (has_its_place (is_some c) v) → IfSome (machine_of v) (λ m. IfSome c (check.HasNames x m.side))
+      → IfSome (named_of v) (λ q. q.size ≤ searched_sizes x max q.side)
+      → map log_place logs ≡ wanted_sizes (order_of (document_version counts) v max 0) (searched_sizes x max System) (searched_sizes x max Environment)
       → All (ForLog x HasHeadOf) logs → All (IsAllowedLog x max) logs → All (IsEndedLog x limit) logs → v ≡ verdict_of (machine_of v) (check.first_open logs)
       → check.HoldsFor x (is_made_of v c logs d)
   held v c logs d has names number places heads allowed ended told =

@@ -1,5 +1,5 @@
 -- Numbers of variables and of base clauses are small.
-use Rattle.std.proofs.Common.{◌≡◌, ◌==◌, ℕ, ◌*◌, ◌^◌, ◌≤◌, Bool, true, false, Some, None, length, refl, arith, if◌then◌else◌}
+use Rattle.std.proofs.Common.{◌≡◌, ℕ, ◌*◌, ◌^◌, ◌≤◌, Bool, true, false, Some, None, length, refl, arith, if◌then◌else◌}
 use Rattle.std.proofs.Math.Nat.{mul-le-mul, pow-le-pow_right}
 use Rattle.std.proofs.lemmas.Bool.{leb-true}
 use Rattle.letters_and_lassos.specs.declared.kinds.Kind.{Kind}
@@ -15,11 +15,11 @@ use Rattle.annotation_encode.specs.Count.{count_of, most_clauses}
 use Rattle.annotation_encode.specs.Variables.{counted_before, letter_count, move_count, state_numbers, variables_of, write_count, write_places}
 use Rattle.annotation_encode.proofs.Counted.{few_before}
 
-few_reads : (p : Problem) (side : Side) → p.side ≡ side → IsProblem p → reads_of p ≤ 8
+pub few_reads : (p : Problem) (side : Side) → p.side ≡ side → IsProblem p → reads_of p ≤ 8
 few_reads p System e within = rw e within.inputs
 few_reads p Environment e within = rw e within.outputs
 
-few_writes : (p : Problem) (side : Side) → p.side ≡ side → IsProblem p → writes_of p ≤ 8
+pub few_writes : (p : Problem) (side : Side) → p.side ≡ side → IsProblem p → writes_of p ≤ 8
 few_writes p System e within = rw e within.outputs
 few_writes p Environment e within = rw e within.inputs
 

@@ -50,10 +50,11 @@ use Rattle.document_text.specs.WellFormed.{IsFoundNumber, IsLogPart, IsWellForme
 use Rattle.document_text.specs.States.{logs_at, numbered, written_comment_line}
 use Rattle.synth_answer.specs.Answer.{CanBeBeaten, DoesItsPart, HasLog, IsRefuted, IsToldOn}
 use Rattle.synth_answer.specs.Answer as answer
-use Rattle.document_check.specs.Facts.{Facts, sizes_to, wanted_sizes}
+use Rattle.circuit_names.specs.Names.{read_names, written_names}
+use Rattle.document_check.specs.Facts.{Facts, allowed_at, sizes_to, wanted_sizes}
 use Rattle.document_check.specs.Holds as check
-use Rattle.synth_answer.specs.Holds.{ForLog, IsClosedFor, IsClosedLog, IsEndedLog, IsFullFor, document_version, read_by, sizes_of, written_by}
-use Rattle.synth_answer.proofs.Held.{AreOfKind, HasHeadOf, HasNames, IsAllowedLog, held, sizes_below}
+use Rattle.synth_answer.specs.Holds.{ForLog, IsClosedFor, IsClosedLog, IsEndedLog, IsFullFor, document_version, text_names}
+use Rattle.synth_answer.proofs.Held.{AreOfKind, HasHeadOf, IsAllowedLog, allowed_holds, held, searched_sizes, sizes_below}
 use Rattle.synth_answer.proofs.OpenLogs.{all_closed, any_full, at_first, first_is, none_open, open_at}
 use Rattle.text_ground.specs.Ground.{AreGivenOn, Ground, facts_on, ground_with}
 use Rattle.synth_answer.specs.Printed.{IsPrinted, PrintedFor}
@@ -81,7 +82,7 @@ pub record Context (x : Expanded) (truth : Word → Bool) (nodes : List Node) (w
 -- the size of a log is an allowed one
 pub record FitsSize (given : Facts) (max : ℕ) (side : Side) (n : ℕ) : Type 0 where
   pub some : 0 < n
-  pub most : n ≤ sizes_of given max side
+  pub most : n ≤ searched_sizes given max side
 
 module _ (x : Expanded) (truth : Word → Bool) (nodes : List Node) (whole : FormulaId) (settings : Settings) (s : SideProblems)
     (k : Context x truth nodes whole settings s) where
@@ -128,12 +129,12 @@ module _ (x : Expanded) (truth : Word → Bool) (nodes : List Node) (whole : For
         accepts = some_of (λ q. AcceptsWhere true formula (automaton_of q)) s.environment p k.given.accept.environment_where of;
       }
 
-  allowed_at : (side : Side) (p : Problem) → IsOf s.system s.environment side p → sizes_of given settings.max side ≡ allowed_sizes p settings.max
-  allowed_at System p of = ap (λ q. allowed_sizes q settings.max) of
-  allowed_at Environment p of = ap (λ o. allowed_of settings.max o) of
+  sizes_at : (side : Side) (p : Problem) → IsOf s.system s.environment side p → searched_sizes given settings.max side ≡ allowed_sizes p settings.max
+  sizes_at System p of = ap (λ q. allowed_sizes q settings.max) of
+  sizes_at Environment p of = ap (λ o. allowed_of settings.max o) of
 
   size_allowed : (side : Side) (p : Problem) (n : ℕ) → IsOf s.system s.environment side p → FitsSize given settings.max side n → n ≤ allowed_sizes p settings.max
-  size_allowed side p n of fits = subst (λ most. n ≤ most) (allowed_at side p of) fits.most
+  size_allowed side p n of fits = subst (λ most. n ≤ most) (sizes_at side p of) fits.most
 
   size_within : (side : Side) (p : Problem) (n : ℕ) → IsOf s.system s.environment side p → FitsSize given settings.max side n → IsProblem (sized p n)
   size_within side p n of fits =
@@ -219,9 +220,9 @@ module _ (x : Expanded) (truth : Word → Bool) (nodes : List Node) (whole : For
 
   -- of which sizes logs are wanted
   abbrev pub wanted : Order → List Place
-  wanted o = wanted_sizes o (sizes_of given settings.max System) (sizes_of given settings.max Environment)
+  wanted o = wanted_sizes o (searched_sizes given settings.max System) (searched_sizes given settings.max Environment)
 
-  side_most : (side : Side) → sizes_of given settings.max side ≤ settings.max
+  side_most : (side : Side) → searched_sizes given settings.max side ≤ settings.max
   side_most System = (k.laws.sizes.allowed s.system settings.max).within
   side_most Environment = by_problem s.environment
     where
@@ -234,7 +235,7 @@ module _ (x : Expanded) (truth : Word → Bool) (nodes : List Node) (whole : For
     pub has_place : IsTrue (has_its_place (is_some c) v)
     pub all_names : IfSome c (λ circuit. IsTrue (all_named circuit))
     pub in_order : AreInOrder (order v) (first_place (order v)) (map part_of logs)
-    pub names : IfSome (machine_of v) (λ m. IfSome c (HasNames given m.side))
+    pub names : IfSome (machine_of v) (λ m. IfSome c (check.HasNames given m.side))
     pub named : IfSome (named_of v) (λ q. FitsSize given settings.max q.side q.size)
     pub places : map log_place (map part_of logs) ≡ wanted (order v)
     pub here : All IsHere logs
@@ -277,6 +278,10 @@ module _ (x : Expanded) (truth : Word → Bool) (nodes : List Node) (whole : For
     other_counted = λ p is. (for_text.of_environment p is).counted;
   }
 
+  -- a size that the document allows was allowed to the search
+  searched_of : (side : Side) (n : ℕ) → n ≤ allowed_at given x.kind (document_version settings.counts) settings.max side → n ≤ searched_sizes given settings.max side
+  searched_of side n most = subst (λ count. n ≤ count) (sym (allowed_holds settings.counts given x.kind settings.max side of_kind)) most
+
   ended_lines : (c : Option Circuit) (logs : List SizeLog) → All IsHere logs → All (IsEndedLog given settings.entries) (lined c logs)
   ended_lines c logs here =
       all_parts_at (IsEndedLog given settings.entries) (λ l n h. h) (first_line c) logs (all_map IsHere (λ l. IsEndedLog given settings.entries (part_of l)) ended_part logs here)
@@ -293,7 +298,7 @@ module _ (x : Expanded) (truth : Word → Bool) (nodes : List Node) (whole : For
   holds_for : (v : Verdict) (c : Option Circuit) (logs : List SizeLog) → Suits v c logs → check.HoldsFor given (doc v c logs)
   holds_for v c logs suits =
       held settings.counts k.laws.sizes given x.kind settings.max settings.entries of_kind v c (lined c logs) (doc v c logs) suits.has_place suits.names
-      (some_map (named_of v) (λ q. FitsSize given settings.max q.side q.size) (λ q. q.size ≤ sizes_of given settings.max q.side) (λ q h. h.most) suits.named)
+      (some_map (named_of v) (λ q. FitsSize given settings.max q.side q.size) (λ q. q.size ≤ searched_sizes given settings.max q.side) (λ q h. h.most) suits.named)
       (places_at (first_line c) (map part_of logs) ∙ suits.places)
       (all_parts_at (ForLog given HasHeadOf) same_head (first_line c) logs (all_map IsHere (λ l. ForLog given HasHeadOf (part_of l)) head_part logs suits.here))
       (allowed_lines c logs suits.fits) (ended_lines c logs suits.here)
@@ -365,11 +370,11 @@ module _ (x : Expanded) (truth : Word → Bool) (nodes : List Node) (whole : For
 
   -- == documents of machines ==
 
-  plain_reads : (side : Side) → All IsOneWord (read_by side x.inputs x.outputs)
+  plain_reads : (side : Side) → All IsOneWord (read_names (text_names x) side)
   plain_reads System = k.names.inputs_plain
   plain_reads Environment = k.names.outputs_plain
 
-  plain_writes : (side : Side) → All IsOneWord (written_by side x.inputs x.outputs)
+  plain_writes : (side : Side) → All IsOneWord (written_names (text_names x) side)
   plain_writes System = k.names.outputs_plain
   plain_writes Environment = k.names.inputs_plain
 
@@ -378,24 +383,24 @@ module _ (x : Expanded) (truth : Word → Bool) (nodes : List Node) (whole : For
       let size = made.variables in
       record {
         size = omega (arith, size);
-        input_names = All-same (λ name. IfSome name IsLineName) c.input_names (map Some (read_by side x.inputs x.outputs)) made.inputs (line_names _ (plain_reads side));
-        output_names = All-same (λ name. IfSome name IsLineName) c.output_names (map Some (written_by side x.inputs x.outputs)) made.outputs (line_names _ (plain_writes side));
+        input_names = All-same (λ name. IfSome name IsLineName) c.input_names (map Some (read_names (text_names x) side)) made.inputs (line_names _ (plain_reads side));
+        output_names = All-same (λ name. IfSome name IsLineName) c.output_names (map Some (written_names (text_names x) side)) made.outputs (line_names _ (plain_writes side));
       }
 
   all_are_named : (side : Side) (m : MachineModel) (c : Circuit) → IsCircuitFor x side m c → IsTrue (all_named c)
   all_are_named side m c made =
-      let reads : list_all is_some c.input_names ≡ true = ap (list_all is_some) made.inputs ∙ all_some (read_by side x.inputs x.outputs) in
-      let writes : list_all is_some c.output_names ≡ true = ap (list_all is_some) made.outputs ∙ all_some (written_by side x.inputs x.outputs) in
+      let reads : list_all is_some c.input_names ≡ true = ap (list_all is_some) made.inputs ∙ all_some (read_names (text_names x) side) in
+      let writes : list_all is_some c.output_names ≡ true = ap (list_all is_some) made.outputs ∙ all_some (written_names (text_names x) side) in
       rw (reads, writes) refl
 
-  fits_claim : (side : Side) (n : ℕ) → n ≤ sizes_of given settings.max side → (claim : Claim) → IsClaimTo side n claim → FitsSize given settings.max claim.side claim.size
+  fits_claim : (side : Side) (n : ℕ) → n ≤ searched_sizes given settings.max side → (claim : Claim) → IsClaimTo side n claim → FitsSize given settings.max claim.side claim.size
   fits_claim side n most claim h =
       let less = h.most in
-      let within : claim.size ≤ sizes_of given settings.max side = omega (arith, less, most) in
-      record { some = h.some; most = subst (λ other. claim.size ≤ sizes_of given settings.max other) (sym h.of_side) within }
+      let within : claim.size ≤ searched_sizes given settings.max side = omega (arith, less, most) in
+      record { some = h.some; most = subst (λ other. claim.size ≤ searched_sizes given settings.max other) (sym h.of_side) within }
 
-  size_of_found : (side : Side) (p : Problem) (m : MachineModel) → IsOf s.system s.environment side p → IsFound p settings m → size_of m ≤ sizes_of given settings.max side
-  size_of_found side p m of found = subst (λ most. size_of m ≤ most) (sym (allowed_at side p of)) found.allowed
+  size_of_found : (side : Side) (p : Problem) (m : MachineModel) → IsOf s.system s.environment side p → IsFound p settings m → size_of m ≤ searched_sizes given settings.max side
+  size_of_found side p m of found = subst (λ most. size_of m ≤ most) (sym (sizes_at side p of)) found.allowed
 
   module _ (side : Side) (p : Problem) (of : IsOf s.system s.environment side p) (m : MachineModel) (logs : List SizeLog) (kept : IsFoundWith p settings m logs) where
     abbrev found : IsFound p settings m
@@ -413,7 +418,7 @@ module _ (x : Expanded) (truth : Word → Bool) (nodes : List Node) (whole : For
     parts : map log_place (map part_of logs) ≡ sizes_to side (size_of m - 1)
     parts = parts_at side (size_of m - 1) logs claims
 
-    fewer : size_of m - 1 ≤ sizes_of given settings.max side
+    fewer : size_of m - 1 ≤ searched_sizes given settings.max side
     fewer = let most = size_of_found side p m of found in omega (arith, most)
 
     all_fit : All (λ l. FitsSize given settings.max l.side l.size) logs
@@ -438,7 +443,7 @@ module _ (x : Expanded) (truth : Word → Bool) (nodes : List Node) (whole : For
       has_place = refl;
       all_names = all_are_named side m c made;
       in_order = subst (λ o. AreInOrder o (first_place o) (map part_of logs)) (sym order_is) (in_order_side side (size_of m - 1) (map part_of logs) parts);
-      names = record { reads = made.inputs; writes = made.outputs };
+      names = record { inputs = made.inputs; outputs = made.outputs };
       named = at_fits;
       places = parts ∙ sizes_below given settings.max side (size_of m) at_fits.most ∙ ap wanted (sym order_is);
       here = all_here;
@@ -560,21 +565,21 @@ module _ (x : Expanded) (truth : Word → Bool) (nodes : List Node) (whole : For
   -- == documents without a machine ==
 
   module _ (logs : List SizeLog) (all : AreAllSettled s.system s.environment settings logs) where
-    parts_of_all : map log_place (map part_of logs) ≡ sizes_to System (sizes_of given settings.max System) ++ sizes_to Environment (sizes_of given settings.max Environment)
-    parts_of_all = parts_at_both System Environment (sizes_of given settings.max System) (sizes_of given settings.max Environment) logs all.places
+    parts_of_all : map log_place (map part_of logs) ≡ sizes_to System (searched_sizes given settings.max System) ++ sizes_to Environment (searched_sizes given settings.max Environment)
+    parts_of_all = parts_at_both System Environment (searched_sizes given settings.max System) (searched_sizes given settings.max Environment) logs all.places
 
-    claims_fit : (side : Side) → All (λ claim. FitsSize given settings.max claim.side claim.size) (engine.sizes_to side (sizes_of given settings.max side))
+    claims_fit : (side : Side) → All (λ claim. FitsSize given settings.max claim.side claim.size) (engine.sizes_to side (searched_sizes given settings.max side))
     claims_fit side =
-        all_map (IsClaimTo side (sizes_of given settings.max side)) (λ claim. FitsSize given settings.max claim.side claim.size)
-        (fits_claim side (sizes_of given settings.max side) (omega arith)) (engine.sizes_to side (sizes_of given settings.max side)) (claims_to side (sizes_of given settings.max side))
+        all_map (IsClaimTo side (searched_sizes given settings.max side)) (λ claim. FitsSize given settings.max claim.side claim.size)
+        (fits_claim side (searched_sizes given settings.max side) (omega arith)) (engine.sizes_to side (searched_sizes given settings.max side)) (claims_to side (searched_sizes given settings.max side))
 
     all_logs_fit : All (λ l. FitsSize given settings.max l.side l.size) logs
     all_logs_fit =
         unmap engine.log_claim (λ claim. FitsSize given settings.max claim.side claim.size) logs
         (All-same (λ claim. FitsSize given settings.max claim.side claim.size) (map engine.log_claim logs)
-        (engine.sizes_to System (sizes_of given settings.max System) ++ engine.sizes_to Environment (sizes_of given settings.max Environment)) all.places
-        (All-append (λ claim. FitsSize given settings.max claim.side claim.size) (engine.sizes_to System (sizes_of given settings.max System))
-        (engine.sizes_to Environment (sizes_of given settings.max Environment)) (claims_fit System) (claims_fit Environment)))
+        (engine.sizes_to System (searched_sizes given settings.max System) ++ engine.sizes_to Environment (searched_sizes given settings.max Environment)) all.places
+        (All-append (λ claim. FitsSize given settings.max claim.side claim.size) (engine.sizes_to System (searched_sizes given settings.max System))
+        (engine.sizes_to Environment (searched_sizes given settings.max Environment)) (claims_fit System) (claims_fit Environment)))
 
     all_ended_lines : All (IsEndedLog given settings.entries) (lined None logs)
     all_ended_lines = ended_lines None logs all.each
@@ -594,7 +599,7 @@ module _ (x : Expanded) (truth : Word → Bool) (nodes : List Node) (whole : For
     none_suits = record {
       has_place = refl;
       all_names = tt;
-      in_order = in_order_all settings.max (sizes_of given settings.max System) (sizes_of given settings.max Environment) (map part_of logs) parts_of_all (side_most System) (side_most Environment);
+      in_order = in_order_all settings.max (searched_sizes given settings.max System) (searched_sizes given settings.max Environment) (map part_of logs) parts_of_all (side_most System) (side_most Environment);
       names = tt;
       named = open_fits (check.first_open (map part_of logs)) refl;
       places = parts_of_all;
@@ -603,18 +608,18 @@ module _ (x : Expanded) (truth : Word → Bool) (nodes : List Node) (whole : For
       told = refl;
     }
 
-    log_of : (v : Verdict) (side : Side) (P : LogPart → Type 0) → All P (lined None logs) → (n : ℕ) → 0 < n → n ≤ sizes_of given settings.max side → HasLog (doc v None logs) side n P
+    log_of : (v : Verdict) (side : Side) (P : LogPart → Type 0) → All P (lined None logs) → (n : ℕ) → 0 < n → n ≤ searched_sizes given settings.max side → HasLog (doc v None logs) side n P
     log_of v side P holds n some most =
         has_log v None logs side n P (subst (λ ps. Contains ps (place side n)) (sym parts_of_all) (on_its_side side n some most)) holds
       where
-        on_its_side : (side : Side) (n : ℕ) → 0 < n → n ≤ sizes_of given settings.max side
-            → Contains (sizes_to System (sizes_of given settings.max System) ++ sizes_to Environment (sizes_of given settings.max Environment)) (place side n)
+        on_its_side : (side : Side) (n : ℕ) → 0 < n → n ≤ searched_sizes given settings.max side
+            → Contains (sizes_to System (searched_sizes given settings.max System) ++ sizes_to Environment (searched_sizes given settings.max Environment)) (place side n)
         on_its_side System n some most =
-            Contains-append_left (sizes_to System (sizes_of given settings.max System)) (sizes_to Environment (sizes_of given settings.max Environment)) (place System n)
-            (has_place System (sizes_of given settings.max System) n some most)
+            Contains-append_left (sizes_to System (searched_sizes given settings.max System)) (sizes_to Environment (searched_sizes given settings.max Environment)) (place System n)
+            (has_place System (searched_sizes given settings.max System) n some most)
         on_its_side Environment n some most =
-            Contains-append_right (sizes_to System (sizes_of given settings.max System)) (sizes_to Environment (sizes_of given settings.max Environment)) (place Environment n)
-            (has_place Environment (sizes_of given settings.max Environment) n some most)
+            Contains-append_right (sizes_to System (searched_sizes given settings.max System)) (sizes_to Environment (searched_sizes given settings.max Environment)) (place Environment n)
+            (has_place Environment (searched_sizes given settings.max Environment) n some most)
 
   pub no_size : (logs : List SizeLog) (all : AreAllSettled s.system s.environment settings logs) (bytes : List ℕ) → check.first_open (map part_of logs) ≡ None
       → IsPrinted given settings bytes (doc (Unknown None) None logs) → IsToldOn ground settings bytes 30 (Some (Unknown None))
@@ -625,8 +630,12 @@ module _ (x : Expanded) (truth : Word → Bool) (nodes : List Node) (whole : For
         answers = answer.no_size (printed_text v None logs bytes is_printed) refl
             (record {
               verdict = refl;
-              system = λ n some most. is_refuted v None logs n (log_of logs all v System (IsClosedLog given settings.entries) closed n some most) (record { some = some; most = most });
-              environment = λ n some most. can_be_beaten v None logs n (log_of logs all v Environment (IsClosedLog given settings.entries) closed n some most) (record { some = some; most = most });
+              system = λ n some most.
+                  let few = searched_of System n most in
+                  is_refuted v None logs n (log_of logs all v System (IsClosedLog given settings.entries) closed n some few) (record { some = some; most = few });
+              environment = λ n some most.
+                  let few = searched_of Environment n most in
+                  can_be_beaten v None logs n (log_of logs all v Environment (IsClosedLog given settings.entries) closed n some few) (record { some = some; most = few });
             });
         told = refl;
       }
@@ -641,8 +650,8 @@ module _ (x : Expanded) (truth : Word → Bool) (nodes : List Node) (whole : For
             (record {
               verdict = refl;
               named = first_is given settings.entries (lined None logs) q (lined_first logs all (Some q) first) ended;
-              system = log_of logs all v System (IsEndedLog given settings.entries) ended;
-              environment = log_of logs all v Environment (IsEndedLog given settings.entries) ended;
+              system = λ n some most. log_of logs all v System (IsEndedLog given settings.entries) ended n some (searched_of System n most);
+              environment = λ n some most. log_of logs all v Environment (IsEndedLog given settings.entries) ended n some (searched_of Environment n most);
               can_fill = can_fill;
             });
         told = refl;

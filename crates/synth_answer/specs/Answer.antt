@@ -16,10 +16,10 @@ use Rattle.document_text.specs.declared.documents.Verdict.{Verdict}
 use Rattle.document_text.specs.declared.documents.Verdict.TheVariants.{Machine, Unknown}
 use Rattle.document_text.specs.declared.order.Place.{Place}
 use Rattle.document_text.specs.Order.{machine_of, place, log_place}
-use Rattle.document_check.specs.Facts.{Facts}
+use Rattle.document_check.specs.Facts.{Facts, allowed_at}
 use Rattle.document_text.specs.Parts.{Document, LogPart}
 use Rattle.program_replies.specs.Lines.{refusal_line}
-use Rattle.synth_answer.specs.Holds.{IsClosedLog, IsEndedLog, IsFirstOpen, IsFullLog, sizes_of}
+use Rattle.synth_answer.specs.Holds.{IsClosedLog, IsEndedLog, IsFirstOpen, IsFullLog}
 use Rattle.text_ground.specs.Ground.{Ground, IsGroundOf, facts_on}
 use Rattle.synth_answer.specs.Printed.{PrintedFor}
 
@@ -100,15 +100,15 @@ pub record IsBounded (x : Wanted) (given : Facts) (settings : Settings) (d : Doc
 -- no machine of an allowed size of either side
 pub record HasNoSize (x : Wanted) (given : Facts) (d : Document) : Type 0 where
   pub verdict : d.verdict ≡ Unknown None
-  pub system : (k : ℕ) → 0 < k → k ≤ sizes_of given d.max System → IsRefuted x given d k
-  pub environment : (k : ℕ) → 0 < k → k ≤ sizes_of given d.max Environment → CanBeBeaten x given d k
+  pub system : (k : ℕ) → 0 < k → k ≤ allowed_at given d.kind d.version d.max System → IsRefuted x given d k
+  pub environment : (k : ℕ) → 0 < k → k ≤ allowed_at given d.kind d.version d.max Environment → CanBeBeaten x given d k
 
 -- no machine was found, and the named log is full, and the first that isn't closed, which the limit allows
 pub record HasNoEntries (given : Facts) (settings : Settings) (d : Document) (side : Side) (n : ℕ) : Type 0 where
   pub verdict : d.verdict ≡ Unknown (Some (place side n))
   pub named : IsFirstOpen given d.entries (place side n) d.logs
-  pub system : (k : ℕ) → 0 < k → k ≤ sizes_of given d.max System → HasLog d System k (IsEndedLog given d.entries)
-  pub environment : (k : ℕ) → 0 < k → k ≤ sizes_of given d.max Environment → HasLog d Environment k (IsEndedLog given d.entries)
+  pub system : (k : ℕ) → 0 < k → k ≤ allowed_at given d.kind d.version d.max System → HasLog d System k (IsEndedLog given d.entries)
+  pub environment : (k : ℕ) → 0 < k → k ≤ allowed_at given d.kind d.version d.max Environment → HasLog d Environment k (IsEndedLog given d.entries)
   pub can_fill : CannotFill given.system given.environment settings → ⊥
 
 -- == the answer ==

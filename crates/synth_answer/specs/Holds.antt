@@ -1,10 +1,7 @@
 -- The logs of a document, as a text's problems see them (this project's own).
 use Rattle.std.specs.Prelude.{◌≡◌, ℕ, ◌⊎◌, List, ◌∷◌, ◌++◌, Option, All}
-use Rattle.letters_and_lassos.specs.declared.kinds.Side.{Side}
-use Rattle.letters_and_lassos.specs.declared.kinds.Side.TheVariants.{System, Environment}
 use Rattle.machine_model.specs.Problem.{sized}
 use Rattle.machine_model.specs.declared.problems.Problem.{Problem}
-use Rattle.annotation_encode.specs.Count.{allowed_sizes}
 use Rattle.machine_model.specs.declared.counting.Counts.{Counts}
 use Rattle.machine_model.specs.declared.counting.Counts.TheVariants.{Whole, Local}
 use Rattle.annotation_encode.specs.Variables.{variables_of}
@@ -12,8 +9,9 @@ use Rattle.refutation_log.specs.Log.{IsClosed, IsFull}
 use Rattle.document_text.specs.declared.order.Place.{Place}
 use Rattle.document_text.specs.Order.{log_place}
 use Rattle.document_text.specs.Parts.{LogPart}
+use Rattle.circuit_names.specs.Names.{Names}
+use Rattle.tlsf_expand.specs.Expansion.{Expanded}
 use Rattle.document_check.specs.Facts.{Facts}
-use Rattle.synth_engine.specs.Searched.{allowed_of}
 use Rattle.synth_engine.specs.Logs.{base_at}
 use Rattle.synth_engine.specs.Outcomes.{OfSide}
 
@@ -22,25 +20,13 @@ abbrev pub document_version : Counts → ℕ
 document_version Whole = 3
 document_version Local = 5
 
--- the number of allowed sizes of a side
-abbrev pub sizes_of : Facts → ℕ → Side → ℕ
-sizes_of x max System = allowed_sizes x.system max
-sizes_of x max Environment = allowed_of max x.environment
-
 -- what holds of the problem of the side of a log
 abbrev pub ForLog : Facts → (Problem → LogPart → Type 0) → LogPart → Type 0
 ForLog x P l = OfSide x.system x.environment (λ p. P p l) l.side
 
--- == the circuit ==
-
--- of what there is of inputs and of outputs, that which a side's machines read, and that which they write
-abbrev pub read_by : {A : Type 0} → Side → A → A → A
-read_by System inputs outputs = inputs
-read_by Environment inputs outputs = outputs
-
-abbrev pub written_by : {A : Type 0} → Side → A → A → A
-written_by System inputs outputs = outputs
-written_by Environment inputs outputs = inputs
+-- the names of a flat text's signals
+abbrev pub text_names : Expanded → Names
+text_names x = record { inputs = x.inputs; outputs = x.outputs }
 
 -- == the logs ==
 

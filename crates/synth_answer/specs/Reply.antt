@@ -7,6 +7,8 @@ use Rattle.machine_model.specs.Machine.{MachineModel, size_of}
 use Rattle.machine_model.specs.Components.{ComponentsClass}
 use Rattle.aiger_text.specs.Circuit.{Circuit, IsCircuitOfKind, RunsOnEveryInput}
 use Rattle.aiger_text.specs.RoundTrip.{IsWritable}
+use Rattle.circuit_names.specs.Names.{read_names, written_names}
+use Rattle.gate_build.specs.Limits.{IsSmallMachine}
 use Rattle.gate_build.specs.Laws.{HasTheRunsOf, HasTheStatesOf, SmallestMeetsAllStates}
 use Rattle.annotation_encode.specs.Count.{SizesRise}
 use Rattle.refutation_log.specs.Laws.{LegalLogsAreWritable}
@@ -33,7 +35,7 @@ use Rattle.program_replies.specs.declared.replies.Status.{Status}
 use Rattle.program_replies.specs.declared.replies.Status.TheVariants as status
 use Rattle.text_ground.specs.Laws.{SidesMean}
 use Rattle.text_ground.specs.Problems.{HaveAutomata}
-use Rattle.synth_answer.specs.Holds.{document_version, read_by, written_by}
+use Rattle.synth_answer.specs.Holds.{document_version, text_names}
 
 -- a log as a document has it
 abbrev pub part_of : SizeLog → LogPart
@@ -75,7 +77,7 @@ pub record IsCircuitWith (m : MachineModel) (reads writes : List (List ℕ)) (c 
 
 -- the same of a side's machine, with the names of a text
 abbrev pub IsCircuitFor : Expanded → Side → MachineModel → Circuit → Type 0
-IsCircuitFor x side m c = IsCircuitWith m (read_by side x.inputs x.outputs) (written_by side x.inputs x.outputs) c
+IsCircuitFor x side m c = IsCircuitWith m (read_names (text_names x) side) (written_names (text_names x) side) c
 
 -- there is a circuit where a machine was found, and it is that machine's
 abbrev pub IsCircuitOfFound : Expanded → Option Found → Option Circuit → Type 0
@@ -83,11 +85,11 @@ IsCircuitOfFound x None c = c ≡ None
 IsCircuitOfFound x (Some found) None = ⊥
 IsCircuitOfFound x (Some found) (Some c) = IsCircuitFor x found.side found.machine c
 
--- a machine of few states, with as many signals as there are names
+-- a small machine, with as many signals as there are names
 pub record FitsNames (x : Expanded) (side : Side) (m : MachineModel) : Type 0 where
-  pub few : size_of m ≤ 8
-  pub reads : m.reads ≡ length (read_by side x.inputs x.outputs)
-  pub writes : m.writes ≡ length (written_by side x.inputs x.outputs)
+  pub small : IsSmallMachine m
+  pub reads : m.reads ≡ length (read_names (text_names x) side)
+  pub writes : m.writes ≡ length (written_names (text_names x) side)
 
 -- the machine that was found, if one was, is such a one
 abbrev pub FoundFits : Expanded → Option Found → Type 0

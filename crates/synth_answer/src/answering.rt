@@ -12,11 +12,12 @@ ghost use Rattle.synth_answer.specs.Reply.{IsSearchedReply};
 ghost use Rattle.text_ground.specs.Problems.{AreProblemsFor};
 
 use crate::facts::laws_hold;
-use crate::outcomes::reply_to;
+use crate::outcomes::{Written, reply_to};
 use annotation_encode::laws::sizes_rise;
 use document_text::Verdict;
 use input_output::Gate;
 use letters_and_lassos::{Kind, Side};
+use outcome_news::{Told, ToldReply};
 use program_replies::Reply;
 use spec_problems::{SideProblems, TextProblems};
 use std::alloc::{AllocError, Global};
@@ -32,14 +33,16 @@ pub struct Answered {
     pub reply: Reply,
     /// Whether the document has a machine of the environment.
     pub defeats: bool,
+    pub told: Told,
 }
 
 /// The line of a refusal or a document, with its status.
 #[derive(Drop)]
-pub struct Told {
+pub struct TextAnswer {
     pub reply: Reply,
     /// What the document says, if there is one.
     pub verdict: Option<Verdict>,
+    pub told: Told,
 }
 
 /// The answer to a text: the line of its first fault with status 1, or a document of version 3 or 5, by what is counted,
@@ -53,11 +56,14 @@ pub fn answer<R: Threads + Wait + Sync, G: Gate + Sync>(
     kind: Option<Kind>,
     settings: Settings,
     gate: &G,
-) -> Result<Reply, AllocError>
-    ensures { IfOk result (λ r. Answers text.now kind settings r.bytes.items (status_number r.status)) }
+) -> Result<ToldReply, AllocError>
+    ensures { IfOk result (λ r. Answers text.now kind settings r.reply.bytes.items (status_number r.reply.status)) }
 {
-    let told = told_answer(rt, alloc, text, kind, settings, gate)?;
-    Ok(told.reply)
+    let answer = told_answer(rt, alloc, text, kind, settings, gate)?;
+    Ok(ToldReply {
+        reply: answer.reply,
+        told: answer.told,
+    })
 }
 
 /// The same answer, with the verdict of its document. It waits as `answer` does.
@@ -68,14 +74,15 @@ pub fn told_answer<R: Threads + Wait + Sync, G: Gate + Sync>(
     kind: Option<Kind>,
     settings: Settings,
     gate: &G,
-) -> Result<Told, AllocError>
+) -> Result<TextAnswer, AllocError>
     ensures { IfOk result (λ t. IsTold text.now kind settings t.reply.bytes.items (status_number t.reply.status) t.verdict) }
 {
     match problems_or_refusal(alloc, text, kind, settings.counts())? {
         Problems::Of(found) => document(rt, alloc, found, settings, gate),
-        Problems::Refused(reply) => Ok(Told {
+        Problems::Refused(reply) => Ok(TextAnswer {
             reply,
             verdict: None,
+            told: Told::Refused,
         }),
     }
 }
@@ -95,10 +102,11 @@ pub fn answer_on<R: Threads + Wait + Sync, G: Gate + Sync>(
     ensures { (truth : Word → Bool) (nodes : List Node) (whole : Id) → AreGivenOn settings.counts (ground_with (spec_seen spec.now).expanded truth nodes whole) problems
         → IfOk result (λ a. IsAnswerOn (ground_with (spec_seen spec.now).expanded truth nodes whole) settings a.reply.bytes.items (status_number a.reply.status) a.defeats) }
 {
-    let (reply, verdict) = document_on(rt, alloc, spec, problems, settings, gate)?;
+    let written = document_on(rt, alloc, spec, problems, settings, gate)?;
     Ok(Answered {
-        reply,
-        defeats: verdict_defeats(verdict),
+        reply: written.reply,
+        defeats: verdict_defeats(written.verdict),
+        told: written.told,
     })
 }
 
@@ -109,17 +117,18 @@ fn document<R: Threads + Wait + Sync, G: Gate + Sync>(
     found: TextProblems,
     settings: Settings,
     gate: &G,
-) -> Result<Told, AllocError>
+) -> Result<TextAnswer, AllocError>
     requires problems { AreProblemsFor settings.counts (spec_seen found.spec).expanded found.problems }
     requires names { HasPlainNames (spec_seen found.spec).expanded }
     ensures { (truth : Word → Bool) (nodes : List Node) (whole : Id) → AreGivenOn settings.counts (ground_with (spec_seen found.spec).expanded truth nodes whole) found.problems
         → IfOk result (λ t. IsToldOn (ground_with (spec_seen found.spec).expanded truth nodes whole) settings t.reply.bytes.items (status_number t.reply.status) t.verdict) }
 {
     let TextProblems { spec, problems } = found;
-    let (reply, verdict) = document_on(rt, alloc, &spec, problems, settings, gate)?;
-    Ok(Told {
-        reply,
-        verdict: Some(verdict),
+    let written = document_on(rt, alloc, &spec, problems, settings, gate)?;
+    Ok(TextAnswer {
+        reply: written.reply,
+        verdict: Some(written.verdict),
+        told: written.told,
     })
 }
 
@@ -131,11 +140,11 @@ fn document_on<R: Threads + Wait + Sync, G: Gate + Sync>(
     problems: SideProblems,
     settings: Settings,
     gate: &G,
-) -> Result<(Reply, Verdict), AllocError>
+) -> Result<Written, AllocError>
     requires problems { AreProblemsFor settings.counts (spec_seen spec.now).expanded problems }
     requires names { HasPlainNames (spec_seen spec.now).expanded }
     ensures { (truth : Word → Bool) (nodes : List Node) (whole : Id) → AreGivenOn settings.counts (ground_with (spec_seen spec.now).expanded truth nodes whole) problems
-        → IfOk result (λ r. IsToldOn (ground_with (spec_seen spec.now).expanded truth nodes whole) settings r.0.bytes.items (status_number r.0.status) (Some r.1)) }
+        → IfOk result (λ r. IsToldOn (ground_with (spec_seen spec.now).expanded truth nodes whole) settings r.reply.bytes.items (status_number r.reply.status) (Some r.verdict)) }
 {
     laws_hold();
     searched(rt, alloc, spec, problems, settings, gate)
@@ -149,9 +158,9 @@ fn searched<R: Threads + Wait + Sync, G: Gate + Sync>(
     problems: SideProblems,
     settings: Settings,
     gate: &G,
-) -> Result<(Reply, Verdict), AllocError>
+) -> Result<Written, AllocError>
     requires problems { AreProblemsFor settings.counts (spec_seen spec.now).expanded problems }
-    ensures { IfOk result (λ r. IsSearchedReply (spec_seen spec.now).expanded problems settings r.0.bytes.items r.0.status r.1) }
+    ensures { IfOk result (λ r. IsSearchedReply (spec_seen spec.now).expanded problems settings r.reply.bytes.items r.reply.status r.verdict) }
 {
     automata_are_kept(&problems);
     sizes_rise();

@@ -12,5 +12,6 @@ mod documents;
 mod facts;
 pub mod laws;
 mod outcomes;
+mod telling;
 
-pub use answering::{Answered, Told, answer, answer_on, told_answer};
+pub use answering::{Answered, TextAnswer, answer, answer_on, told_answer};

@@ -1,11 +1,11 @@
 //! What is written for the outcome of a search.
-ghost use Rattle.std.specs.Prelude.{◌≡◌, ◌≤◌, IfOk, Option, length, option_map};
-ghost use Rattle.std.specs.Option.{option_copied};
-ghost use Rattle.machine_model.specs.Machine.{size_of};
+ghost use Rattle.std.specs.Prelude.{◌≡◌, IfOk, Option, length};
+ghost use Rattle.gate_build.specs.Limits.{IsSmallMachine};
 ghost use Rattle.tlsf_expand.specs.FlatText.{spec_seen};
 ghost use Rattle.synth_answer.specs.Reply.{FitsNames, FoundFits, IsCircuitFor, IsCircuitOfFound, IsCircuitWith, IsReplyTo, found_at, least_status, verdict_status};
 
 use crate::documents::{document_text, parts_of};
+use crate::telling::{ends_of, searched};
 use aiger_text::{Circuit, runs_on_every_input};
 use document_check::first_open;
 use document_text::{Place, Verdict};
@@ -13,28 +13,43 @@ use gate_build::circuit_of;
 use letters_and_lassos::Side;
 use machine_model::Machine;
 use names_and_numbers::Name;
+use outcome_news::Told;
 use program_replies::{Reply, Status};
 use std::alloc::{AllocError, Global};
 use synth_engine::{Found, Outcome, Settings};
 use tlsf_expand::Spec;
 
-/// The reply to an outcome, by the names and the kind of the text, and what it says.
+/// The reply to an outcome, what its document says, and what is told of it.
+#[derive(Drop)]
+pub struct Written {
+    pub reply: Reply,
+    pub verdict: Verdict,
+    pub told: Told,
+}
+
+/// What is written for an outcome, by the names and the kind of the text.
 pub fn reply_to(
     alloc: Global,
     spec: &Spec,
     settings: Settings,
     outcome: Outcome,
-) -> Result<(Reply, Verdict), AllocError>
+) -> Result<Written, AllocError>
     requires { FoundFits (spec_seen spec.now).expanded outcome.found }
-    ensures { IfOk result (λ r. IsReplyTo (spec_seen spec.now).expanded settings outcome r.0.bytes.items r.0.status r.1) }
+    ensures { IfOk result (λ r. IsReplyTo (spec_seen spec.now).expanded settings outcome r.reply.bytes.items r.reply.status r.verdict) }
 {
     let Outcome { found, logs } = outcome;
     let circuit = found_circuit(alloc, spec, &found)?;
+    let ends = ends_of(&logs);
     let logs = parts_of(alloc, logs)?;
     let verdict = Verdict::of(found_at(&found), first_open(&logs));
+    let told = Told::Searched(searched(spec.kind, settings, verdict, ends));
     let bytes = document_text(alloc, spec.kind, settings, verdict, circuit, logs)?;
     let status = verdict_status(verdict);
-    Ok((Reply { bytes, status }, verdict))
+    Ok(Written {
+        reply: Reply { bytes, status },
+        verdict,
+        told,
+    })
 }
 
 /// The side and the number of states of the machine that was found.
@@ -113,7 +128,7 @@ fn named_circuit(
     read_names: &[Name],
     write_names: &[Name],
 ) -> Result<Circuit, AllocError>
-    requires few { size_of machine.now ≤ 8 }
+    requires small { IsSmallMachine machine.now }
     requires reads { machine.now.reads ≡ length read_names.now }
     requires writes { machine.now.writes ≡ length write_names.now }
     ensures { IfOk result (IsCircuitWith machine.now read_names.now write_names.now) }

@@ -4,7 +4,7 @@ use crate::gates::RowGate;
 use boundsyn_top::run;
 use input_output::{FileBytes, MemoryShelf, MemorySink};
 use names_and_numbers::Name;
-use solve_told::NoListener;
+use outcome_news::NoListener;
 use std::alloc::{AllocError, Global};
 use std::sync::Wait;
 use std::thread::Threads;

@@ -7,11 +7,11 @@ use Rattle.boundsyn_top.proofs.synthesis.synthesize.Goals as goal
 pub returns-in-Whole-clause-output : goal.returns-in-Whole-clause-output
 returns-in-Whole-clause-output g c =
     let are = rw c.in-Whole.is at c.in_ok-text.ensures.taken in
-    whole_is _ c.answer.result c.whole_output.result c.whole_output.ensures
-    (IfOk-weaker c.answer.result _ _
+    whole_is _ c.searched.result c.whole_output.result c.whole_output.ensures
+    (IfOk-weaker c.searched.result _ _
     (λ r answer. whole_of _ (synth c.args.spec.now c.args.wanted c.args.kind) r (synth_answered _ c.args.spec.now c.in-Whole.text.items c.args.wanted c.args.kind
     r.bytes.items (status_number r.status) are (rw c.deref.ensures.value at answer)))
-    c.answer.ensures)
+    c.searched.ensures)
 
 pub returns-in-Refused-clause-output : goal.returns-in-Refused-clause-output
 returns-in-Refused-clause-output g c =

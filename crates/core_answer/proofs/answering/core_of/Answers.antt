@@ -22,5 +22,5 @@ returns-clause-told g c = λ text kind t tells.
       defeated = shown.defeated;
       others = others;
       spared = at_last text kind c.args.settings s core.document.items others shown (λ n is. all_needed s (none_asked s c.in_ok-core.ensures.none_open) n is);
-      lines = c.in_ok-core_text.ensures ∙ (λ i. core_lines (keep_is i) (c.deref-2.ensures.value i) (map (λ o. o.items) (c.deref-3.ensures.value i)));
+      lines = c.in_ok-bytes.ensures ∙ (λ i. core_lines (keep_is i) (c.deref-2.ensures.value i) (map (λ o. o.items) (c.deref-3.ensures.value i)));
     }

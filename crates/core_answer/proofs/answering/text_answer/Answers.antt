@@ -16,11 +16,11 @@ pub returns-then-count-gt-MOST_GUARANTEES : goal.returns-then-count-gt-MOST_GUAR
 returns-then-count-gt-MOST_GUARANTEES g c = λ text kind t.
     let spec = spec_seen c.args.found.spec in
     let more : 64 < length spec.expanded.sections.guarantee = subst (λ n. 64 < n) c.guarantee_count-count.ensures c.if-count-gt-MOST_GUARANTEES.true in
-    IfOk-weaker c.refused.result
-    (λ r. (r.bytes.items ≡ refusal_line TooManyGuarantees 0) × (r.status ≡ ended.Refused))
-    (λ r. CoreAnswers text kind c.args.settings r.bytes.items (status_number r.status))
+    IfOk-weaker c.too_many.result
+    (λ r. (r.reply.bytes.items ≡ refusal_line TooManyGuarantees 0) × (r.reply.status ≡ ended.Refused))
+    (λ r. CoreAnswers text kind c.args.settings r.reply.bytes.items (status_number r.reply.status))
     (λ r h. refused TooManyGuarantees 0 (ap status_number h.1) (too_many_here text kind spec c.args.found.problems t c.problems_of_texts_are_determined.ensures more) h.0)
-    c.refused.ensures
+    c.too_many.ensures
 
 pub returns-then-not-whole : goal.returns-then-not-whole
 returns-then-not-whole g c = λ text kind t.

@@ -8,5 +8,5 @@ use Rattle.synth_answer.proofs.answering.document.Goals as goal
 pub returns : goal.returns
 returns g c = λ truth nodes whole given.
     let ground = ground_with (spec_seen c.args.found.spec).expanded truth nodes whole in
-    subst (λ r. IfOk r (λ r. IsToldOn ground c.args.settings r.0.bytes.items (status_number r.0.status) (Some r.1))) c.in_ok-reply.was
+    subst (λ r. IfOk r (λ r. IsToldOn ground c.args.settings r.reply.bytes.items (status_number r.reply.status) (Some r.verdict))) c.in_ok-written.was
     (c.document_on.ensures truth nodes whole given)

@@ -12,8 +12,8 @@ pub returns : goal.returns
 returns g c = λ truth nodes whole given.
     let x = (spec_seen c.args.spec.now).expanded in
     IfOk-weaker c.searched.result
-    (λ r. IsSearchedReply x c.args.problems c.args.settings r.0.bytes.items r.0.status r.1)
-    (λ r. IsToldOn (ground_with x truth nodes whole) c.args.settings r.0.bytes.items (status_number r.0.status) (Some r.1))
+    (λ r. IsSearchedReply x c.args.problems c.args.settings r.reply.bytes.items r.reply.status r.verdict)
+    (λ r. IsToldOn (ground_with x truth nodes whole) c.args.settings r.reply.bytes.items (status_number r.reply.status) (Some r.verdict))
     (λ r reply. told x truth nodes whole c.args.settings c.args.problems
     (record {
       laws = c.laws_hold.ensures;
@@ -22,5 +22,5 @@ returns g c = λ truth nodes whole given.
       for_text = c.requires.problems;
       names = c.requires.names;
       automata = reply.automata;
-    }) r.0.bytes.items r.0.status r.1 reply)
+    }) r.reply.bytes.items r.reply.status r.verdict reply)
     c.searched.ensures

@@ -5,12 +5,12 @@ use Rattle.synth_answer.proofs.answering.searched.Goals as goal
 pub search-requires-clause-environment : goal.search-requires-clause-environment
 search-requires-clause-environment g c κs within = λ p is.
     let known = c.requires.problems.of_environment p is in
-    record { within = known.within; of_side = known.of_side; version_is = known.version_is }
+    record { within = known.within; of_side = known.of_side; counted = known.counted }
 
 pub search-requires-clause-system : goal.search-requires-clause-system
 search-requires-clause-system g c κs within =
     let known = c.requires.problems.of_system in
-    record { within = known.within; of_side = known.of_side; version_is = known.version_is }
+    record { within = known.within; of_side = known.of_side; counted = known.counted }
 
 pub reply_to-requires : goal.reply_to-requires
 reply_to-requires g c =

@@ -1,45 +1,10 @@
-//! What `solve` tells beside its answer, so that a message can say it. Nothing is promised of it.
-//!
-//! solve_answer fills it in and diagnostics puts it into words. It stands below both, so that messages don't stand on what finds machines.
-#![tactic(auto)]
+//! What `solve` tells of the sizes that it refutes, and of why it prints no strategy.
 
 use letters_and_lassos::Side;
 
-/// What is told while an answer is made.
+/// Why `solve` prints no strategy.
 #[derive(Clone, Copy, Debug, PartialEq, Eq)]
-pub enum News {
-    /// A text is known, and its games begin.
-    Playing,
-    /// The games give nothing to print, so small machines are searched.
-    Searching,
-    /// A strategy of this side is found, whose circuit reaches so many states, and its document passes the test. Smaller sizes are tried
-    /// from now on.
-    Found(Side, u32),
-    /// An answer is made, and this is told of it.
-    Answered(Told),
-}
-
-/// Who hears news.
-pub trait Listener {
-    fn hear(&mut self, news: News);
-}
-
-/// Who hears nothing.
-#[derive(Clone, Copy, Debug, PartialEq, Eq)]
-pub struct NoListener;
-
-impl Listener for NoListener {
-    fn hear(&mut self, _news: News) {}
-}
-
-/// What is told of an answer beside its bytes.
-#[derive(Clone, Copy, Debug, PartialEq, Eq)]
-pub enum Told {
-    /// The text has a fault.
-    Refused,
-    /// A strategy of this side is found, whose circuit reaches so many states, and it passes the test, with the logs of the sizes that
-    /// are refuted.
-    Found(Side, u32, Refuted),
+pub enum Unsolved {
     /// Neither side wins: why not, of the system and of the environment.
     Neither(Unwon, Unwon),
     /// This side wins, and what it wins with isn't printed.
