@@ -101,7 +101,7 @@ module _ (laws : LawsHold) (text : List ℕ) (kind : Option Kind) (settings : Se
   holds g =
       subst (λ (x : Expanded). HoldsFor (given_by (record { expanded = x; formulas = g.spec.formulas }) g.problems) p.document) (sym g.are_problems.same)
       (holds_on laws.apart p.ground (ground_at g.are_problems.flat p.ground.wanted.means) (alike (Some Mealy) g.are_problems.flat g.are_problems.is_flat)
-      settings.counts Local p.later g.spec.formulas p.problems g.problems p.are_problems g.are_problems.problems p.document p.is_printed.holds)
+      settings.counts Whole p.later g.spec.formulas p.problems g.problems p.are_problems g.are_problems.problems p.document p.is_printed.holds)
 
   earlier : IsSixth bytes → ⊥
   earlier = not_sixth laws.files bytes p.document (version_told p.document.version settings.counts p.is_printed.version) p.is_printed.states

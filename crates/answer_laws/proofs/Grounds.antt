@@ -1,6 +1,6 @@
 -- A document that holds over a ground holds over each that has the same names and the same formula in the same list, with whatever kind
 -- of the problems, and whatever their numbers count.
-use Rattle.std.proofs.Common.{◌≡◌, ℕ, Option, Some, None, List, length, sym, ap, subst, ◌∙◌}
+use Rattle.std.proofs.Common.{◌≡◌, Option, Some, None, List, length, sym, ap, subst, ◌∙◌}
 use Rattle.letters_and_lassos.specs.declared.kinds.Kind.{Kind}
 use Rattle.letters_and_lassos.specs.declared.kinds.Side.{Side}
 use Rattle.letters_and_lassos.specs.declared.kinds.Side.TheVariants.{System, Environment}
@@ -9,6 +9,7 @@ use Rattle.ltl_formula.specs.declared.nodes.FormulaId.{FormulaId}
 use Rattle.ltl_formula.specs.declared.nodes.Node.{Node}
 use Rattle.ltl_formula.specs.Nodes.{tree_at}
 use Rattle.machine_model.specs.Automaton.{AutomatonModel}
+use Rattle.machine_model.specs.declared.counting.Counts.{Counts}
 use Rattle.machine_model.specs.declared.problems.Problem.{Problem}
 use Rattle.side_automata.specs.declared.automata.Automata.{Automata}
 use Rattle.side_automata.specs.Laws.{AnswersAreApart}

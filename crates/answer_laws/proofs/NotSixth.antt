@@ -31,9 +31,6 @@ begins_otherwise : (d : Document) → (d.version ≡ 3) ⊎ (d.version ≡ 5) �
 begins_otherwise d (inl is) = ap (λ (n : ℕ). begins_sixth (body_text (record d { version = n }))) is ∙ third_begins d
 begins_otherwise d (inr is) = ap (λ (n : ℕ). begins_sixth (body_text (record d { version = n }))) is ∙ fifth_begins d
 
-body_begins : (d : Document) → begins_without_circuit (body_text d) ≡ true
-body_begins d = refl
-
 -- bytes that begin with `boundsyn 6` have no circuit
 sixth_by : (bytes : List ℕ) (o : Option (List ℕ)) → behind version_text bytes ≡ o → is_some o ≡ true → begins_without_circuit bytes ≡ true
 sixth_by bytes None e is = absurd (true≢false (sym is))
@@ -49,7 +46,8 @@ module _ (files : FilesStateOneThing) (bytes : List ℕ) (d : Document) (other :
   alone_not : bytes ≡ body_text d → IsSixth bytes → ⊥
   alone_not text (alone is) = true≢false (sym is ∙ ap begins_sixth text ∙ other)
   alone_not text (commented file at states place is) =
-      true≢false (sym (body_begins d) ∙ sym (ap begins_without_circuit text) ∙ begins_with_circuit bytes file states)
+      let begins : begins_without_circuit (body_text d) ≡ true = refl in
+      true≢false (sym begins ∙ sym (ap begins_without_circuit text) ∙ begins_with_circuit bytes file states)
 
   behind_not : (file : File) (at : ℕ) → circuit.States bytes file → file.comment_at ≡ Some at → drop at bytes ≡ body_text d → IsSixth bytes → ⊥
   behind_not file at states place body (alone is) = circuit_begins bytes file states is

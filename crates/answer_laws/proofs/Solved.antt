@@ -1,18 +1,16 @@
 -- What `solve` prints for a text is accepted: `check` takes the text as the document asks for it, which is how `solve` took it.
-use Rattle.std.proofs.Common.{◌≡◌, ℕ, Bool, true, false, Option, Some, None, List, refl, sym, ap, subst, ◌∙◌}
-use Rattle.std.specs.Prelude.{◌≢◌, is_some, option_and_then, option_map, unwrap_or}
-use Rattle.std.specs.Bool.{beq}
+use Rattle.std.proofs.Common.{◌≡◌, ℕ, true, false, Option, Some, None, List, refl, sym, ap, subst, ◌∙◌}
+use Rattle.std.specs.Prelude.{◌≢◌, is_some, unwrap_or}
 use Rattle.std.proofs.lemmas.Bool.{and_parts}
+use Rattle.std_lemmas.proofs.Booleans.{beq-true}
 use Rattle.letters_and_lassos.specs.declared.kinds.Kind.{Kind}
 use Rattle.letters_and_lassos.specs.declared.kinds.Kind.TheVariants.{Mealy, Moore}
 use Rattle.letters_and_lassos.specs.contracts.kinds.KindPartialEq.TheImpl.{ghosts as kind_ghosts}
 use Rattle.spec_faults.specs.declared.code.SpecCode.{SpecCode}
-use Rattle.document_text.specs.Reading.{circuit_in}
-use Rattle.solved_text.specs.declared.documents.Verdict.{Verdict}
 use Rattle.solved_text.specs.declared.header.Header.{Header}
 use Rattle.solved_text.specs.Laws.{SolvedAreDetermined}
 use Rattle.solved_text.specs.Parts.{Document}
-use Rattle.solved_text.specs.Reading.{IsSixth, Reads, SolvedLines, annotation_in, document_of}
+use Rattle.solved_text.specs.Reading.{IsSixth, Reads, SolvedLines, document_of}
 use Rattle.solve_ground.specs.declared.texts.SolveText.{SolveText}
 use Rattle.solve_ground.specs.Laws.{SolveTextsAreDetermined}
 use Rattle.solve_ground.specs.SolveText.{IsSolveFault, IsSolveText}
@@ -20,10 +18,11 @@ use Rattle.solve_check.specs.Accepted.{IsAcceptedSolved}
 use Rattle.solve_check.specs.Asked.{IsAskedText, as_given, converted, kind_said}
 use Rattle.solve_check.specs.Given.{is_taken_so}
 use Rattle.solve_check.specs.Line.{accepted_line, acceptance_of}
+use Rattle.solve_check.proofs.Held.{document_is}
 use Rattle.taken_laws.specs.Laws.{OwnKindsAreGiven}
 use Rattle.check_answer.specs.Answer.{CheckAnswers, GivenToSolved, IsUntested, accepted, bad_line, of_earlier_version, of_solved, refused, refused_by_solve}
 use Rattle.check_answer.specs.Laws.{ChecksAreDetermined}
-use Rattle.solve_answer.specs.Answer.{LogLimits, Prints, SolveAnswers}
+use Rattle.solve_answer.specs.Answer.{LogLimits, SolveAnswers}
 use Rattle.solve_answer.specs.Answer as solve
 use Rattle.answer_laws.specs.Solved.{IsSolutionAccepted, SolutionsAreAccepted, status_told}
 
@@ -40,12 +39,6 @@ same_kind Moore Moore is = refl
 same_kind Mealy Moore is = cc
 same_kind Moore Mealy is = cc
 
-same_bool : (a b : Bool) → beq a b ≡ true → a ≡ b
-same_bool true true is = refl
-same_bool false false is = refl
-same_bool true false is = cc
-same_bool false true is = cc
-
 -- == the header ==
 
 -- the header says the document's kind, and whether the text is converted
@@ -53,23 +46,10 @@ record HeaderSays (header : Header) (d : Document) : Type 0 where
   kind : kind_said header ≡ d.kind
   converted_is : header.converted ≡ d.converted
 
-abbrev document_with : List ℕ → SolvedLines → Verdict → Kind → Document
-document_with bytes lines verdict kind =
-    record { verdict = verdict; kind = kind; converted = lines.header.converted; circuit = circuit_in lines.circuit; logs = lines.logs; annotation = annotation_in bytes lines.annotation }
-
-says_by : (bytes : List ℕ) (lines : SolvedLines) (d : Document) (v : Option Verdict) (k : Option Kind) → lines.header.kind ≡ k
-    → option_and_then (λ verdict. option_map (document_with bytes lines verdict) k) v ≡ Some d → HeaderSays lines.header d
-says_by bytes lines d None k e is = absurd (cc)
-says_by bytes lines d (Some verdict) None e is = absurd (cc)
-says_by bytes lines d (Some verdict) (Some kind) e is =
-    let same : document_with bytes lines verdict kind ≡ d = ap (λ (o : Option Document). unwrap_or o d) is in
-    record {
-      kind = ap (λ (o : Option Kind). unwrap_or o Mealy) e ∙ ap (λ (x : Document). x.kind) same;
-      converted_is = ap (λ (x : Document). x.converted) same;
-    }
-
 says : (bytes : List ℕ) (lines : SolvedLines) (d : Document) → document_of bytes lines ≡ Some d → HeaderSays lines.header d
-says bytes lines d is = says_by bytes lines d lines.header.verdict lines.header.kind refl is
+says bytes lines d is =
+    let whole = document_is bytes lines d is in
+    record { kind = ap (λ (o : Option Kind). unwrap_or o Mealy) whole.kind; converted_is = whole.converted }
 
 module _ (laws : LawsHold) (text : List ℕ) where
   -- == a text that `solve` takes, in whichever way ==
@@ -97,7 +77,7 @@ module _ (laws : LawsHold) (text : List ℕ) where
     kind_is = same_kind known.kind d.kind (and_parts _ _ x.holds.taken).0
 
     converted_is : is_some known.semantics ≡ d.converted
-    converted_is = same_bool (is_some known.semantics) d.converted (and_parts _ _ x.holds.taken).1
+    converted_is = beq-true (is_some known.semantics) d.converted (and_parts _ _ x.holds.taken).1
 
     -- the text is asked for as `solve` took it
     asked : (header : Header) → HeaderSays header d → IsAskedText text header known

@@ -1,5 +1,5 @@
 -- The grounds of one text, or of a text with the same guarantees, are alike, with whatever kind it is taken.
-use Rattle.std.proofs.Common.{◌≡◌, ℕ, Bool, true≢false, Option, Some, None, List, sym, ap, ◌∙◌}
+use Rattle.std.proofs.Common.{◌≡◌, ℕ, Bool, true≢false, Option, Some, List, sym, ap, ◌∙◌}
 use Rattle.std.proofs.lemmas.Option.{same_Some}
 use Rattle.text_limits.specs.declared.TheConstants.{SMALL_LIMITS}
 use Rattle.letters_and_lassos.specs.declared.kinds.Kind.{Kind}

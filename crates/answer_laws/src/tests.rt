@@ -57,10 +57,10 @@ fn checked_answer<R: Threads + Wait + Sync>(
 {
     printed_is_accepted();
     let printed = answer(rt, alloc, text, kind, settings, &OpenGate)?;
-    if is_refusal(printed.status) {
+    if is_refusal(printed.reply.status) {
         return Ok(None);
     }
-    Ok(Some(checked(rt, alloc, text, &printed.bytes)?))
+    Ok(Some(checked(rt, alloc, text, &printed.reply.bytes)?))
 }
 
 /// The line of that answer.

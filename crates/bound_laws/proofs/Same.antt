@@ -1,7 +1,6 @@
 -- What machines owe to one thing that is wanted they owe to another one with the same names, kind and truth.
-use Rattle.std.proofs.Common.{◌≡◌, ℕ, length, sym, ap, ◌∙◌, true≢false}
-use Rattle.std.specs.Prelude.{List, Option, Some, map}
-use Rattle.std.proofs.lemmas.List.{length-map}
+use Rattle.std.proofs.Common.{ℕ, length, sym, ap, ◌∙◌, true≢false}
+use Rattle.std_lemmas.proofs.Lists.{as_many}
 use Rattle.letters_and_lassos.specs.declared.kinds.Side.TheVariants.{System}
 use Rattle.letters_and_lassos.specs.Kinds.{other_kind}
 use Rattle.machine_model.specs.Machine.{MachineModel}
@@ -70,9 +69,6 @@ module _ (x y : Wanted) (same : IsSameWanted x y) where
       let system : IsSystemFor y m = system_for x y same m is.system in
       let played = defeat.plays m system in
       true≢false (sym (is.means played.0 played.1.of_system) ∙ same.truth played.0 played.1.of_system.1.ring ∙ defeat.loses m played.0 system played.1)
-
-as_many : (places : List (Option (List ℕ))) (names : List (List ℕ)) (n : ℕ) → length places ≡ n → places ≡ map Some names → n ≡ length names
-as_many places names n count same = sym count ∙ ap length same ∙ length-map names Some
 
 module _ (machines : CircuitsAreMachines) (x y : Wanted) (same : IsSameWanted x y) (n : ℕ) (c : Circuit) (circuit : IsCircuit c) (states : HasStates c n) where
   system_of : (owes : CircuitSatisfies y c) (has : HasMachine y.kind c n) → IsSystemFor y has.machine

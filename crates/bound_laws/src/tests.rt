@@ -24,7 +24,7 @@ use std::sync::Wait;
 use std::test::Fail;
 use std::thread::Threads;
 use synth_answer::laws::{no_smaller_circuits, verdicts_are_determined};
-use synth_answer::{Told, told_answer};
+use synth_answer::{TextAnswer, told_answer};
 use synth_engine::Settings;
 
 /// The output changes at each step, for which two states are needed.
@@ -51,7 +51,7 @@ fn told<R: Threads + Wait + Sync>(
     alloc: Global,
     text: &[u8],
     asked: Asked,
-) -> Result<Told, AllocError>
+) -> Result<TextAnswer, AllocError>
     ensures told { IfOk result (λ t. IsTold text.now asked.kind asked.settings t.reply.bytes.items (status_number t.reply.status) t.verdict) }
     ensures smallest { IfOk result (λ t. (d : Document) (x : AWanted) (k : ℕ) → status_number t.reply.status ≡ 10 → States t.reply.bytes.items d
         → IsWantedBy text.now asked.kind x → k < told_number d.verdict → NoCircuitSatisfies x k) }
@@ -67,7 +67,7 @@ fn both_told<R: Threads + Wait + Sync>(
     text: &[u8],
     one: Asked,
     other: Asked,
-) -> Result<(Told, Told), AllocError>
+) -> Result<(TextAnswer, TextAnswer), AllocError>
     ensures numbers { IfOk result (λ t. (d e : Document) → AskAlike text.now one.kind other.kind → status_number t.0.reply.status ≡ 10
         → status_number t.1.reply.status ≡ 10 → States t.0.reply.bytes.items d → States t.1.reply.bytes.items e
         → told_number d.verdict ≡ told_number e.verdict) }
@@ -105,7 +105,7 @@ fn told_beside<R: Threads + Wait + Sync>(
     text: &[u8],
     asked: Asked,
     document: &[u8],
-) -> Result<Option<(Told, Acceptance)>, AllocError>
+) -> Result<Option<(TextAnswer, Acceptance)>, AllocError>
     ensures between { IfOk result (λ found. IfSome found (λ b. (d : Document) (n : ℕ) → status_number b.0.reply.status ≡ 10
         → States b.0.reply.bytes.items d → b.1.verdict ≡ Realizable n → LiesBetween b.1.refuted (told_number d.verdict) n)) }
     ensures apart { IfOk result (λ found. IfSome found (λ b. (n : ℕ) → status_number b.0.reply.status ≡ 10 → b.1.verdict ≡ Unrealizable n → ⊥)) }
@@ -119,7 +119,7 @@ fn told_beside<R: Threads + Wait + Sync>(
 }
 
 /// The verdict of `synth`, and how many sizes the document refutes.
-fn said(found: Option<(Told, Acceptance)>) -> (Option<Verdict>, usize) {
+fn said(found: Option<(TextAnswer, Acceptance)>) -> (Option<Verdict>, usize) {
     match found {
         Some((answer, acceptance)) => (answer.verdict, acceptance.refuted),
         None => (None, 0),

@@ -2,6 +2,7 @@
 use Rattle.std.proofs.Common.{◌≡◌, ℕ, ◌⊎◌, inl, inr, None, List, ap, subst, ◌∙◌}
 use Rattle.letters_and_lassos.specs.declared.kinds.Side.{Side}
 use Rattle.letters_and_lassos.specs.declared.kinds.Side.TheVariants.{System, Environment}
+use Rattle.machine_model.specs.declared.counting.Counts.TheVariants.{Whole}
 use Rattle.spec_faults.specs.declared.code.SpecCode.{SpecCode}
 use Rattle.tlsf_expand.specs.FlatText.{FlatText}
 use Rattle.spec_problems.specs.Laws.{AreSameProblems, ProblemsOfTextsAreDetermined}
@@ -94,10 +95,10 @@ module _ (lines : FirstBadLinesAreDetermined) (solving : SolveTextsAreDetermined
 module _ (texts : ProblemsOfTextsAreDetermined) (one_thing : FilesStateOneThing) (one_fault : FilesHaveOneFault) (nothing : FaultsStateNothing) (readings : ReadingsAreApart)
     (lines : FirstBadLinesAreDetermined) (solving : SolveTextsAreDetermined) where
   same_problems : (text : List ℕ) (g h : GivenToVerify text) → AreSameProblems g.problems h.problems
-  same_problems text g h = texts.one text None 2 g.spec h.spec g.problems h.problems g.are_problems h.are_problems
+  same_problems text g h = texts.one text None Whole g.spec h.spec g.problems h.problems g.are_problems h.are_problems
 
   one_text : (text : List ℕ) (g h : GivenToVerify text) → g.spec ≡ h.spec
-  one_text text g h = texts.one_text text None 2 g.spec h.spec g.problems h.problems g.are_problems h.are_problems
+  one_text text g h = texts.one_text text None Whole g.spec h.spec g.problems h.problems g.are_problems h.are_problems
 
   -- what is bad for one form of the text is so for the other
   moved : (text circuit : List ℕ) (g h : GivenToVerify text) (n : ℕ) → IsFirstBadOfCircuit (facts_to_verify g) circuit n → IsFirstBadOfCircuit (facts_to_verify h) circuit n
@@ -108,7 +109,7 @@ module _ (texts : ProblemsOfTextsAreDetermined) (one_thing : FilesStateOneThing)
       same.kind same.automaton circuit n first)
 
   without_fault : (text : List ℕ) (g : GivenToVerify text) (code : SpecCode) (position : ℕ) → IsFirstFault text None code position → ⊥
-  without_fault text g code position fault = texts.no_fault text None 2 g.spec g.problems code position g.are_problems fault
+  without_fault text g code position fault = texts.no_fault text None Whole g.spec g.problems code position g.are_problems fault
 
   -- a fault that is answered isn't one of a circuit that is tested
   not_tested : (text circuit : List ℕ) (g : GivenToTest text) → NamesStates circuit → IsUntested text circuit → ⊥

@@ -1,6 +1,7 @@
 -- Of a file at most one line is the first bad one, and none where its annotation is valid.
 use Rattle.std.proofs.Common.{◌≡◌, ℕ, ◌+◌, Option, Some, None, List, [], length, drop, sym, ap, subst, ◌∙◌}
 use Rattle.std.specs.Prelude.{option_map, unwrap_or}
+use Rattle.std_lemmas.proofs.Options.{some_same}
 use Rattle.letters_and_lassos.specs.declared.kinds.Kind.{Kind}
 use Rattle.letters_and_lassos.specs.declared.kinds.Side.TheVariants.{System}
 use Rattle.machine_model.specs.declared.problems.Problem.{Problem}
@@ -21,9 +22,6 @@ use Rattle.document_check.specs.Facts.{Facts}
 use Rattle.circuit_names.specs.Lines.{earliest}
 use Rattle.document_check.specs.FirstBad.{faulty_line, stated_line}
 use Rattle.verify_answer.specs.FirstBad.{Annotates, FitsText, HasComment, IsFirstBadOfCircuit, IsValidFor, cause_line, comment_of, no_comment, of_fault, of_line, of_names, of_pairs, over}
-
-some_is : (o : Option ℕ) (n m : ℕ) → o ≡ Some n → o ≡ Some m → n ≡ m
-some_is o n m is_n is_m = ap (λ (x : Option ℕ). unwrap_or x 0) (sym is_n ∙ is_m)
 
 module _ (one_thing : FilesStateOneThing) (one_fault : FilesHaveOneFault) (nothing : FaultsStateNothing) (readings : ReadingsAreApart) where
   module _ (facts : Facts) (bytes : List ℕ) where
@@ -87,7 +85,7 @@ module _ (one_thing : FilesStateOneThing) (one_fault : FilesHaveOneFault) (nothi
 
     pub one_line : (n m : ℕ) → IsFirstBadOfCircuit facts bytes n → IsFirstBadOfCircuit facts bytes m → n ≡ m
     one_line _ _ (of_fault i n first is) (of_fault j m other also) =
-        some_is (earliest (Some (fault_line i)) (faulty_line facts bytes)) n m is
+        some_same (earliest (Some (fault_line i)) (faulty_line facts bytes)) n m is
         (ap (λ (x : CircuitFault). earliest (Some (fault_line x)) (faulty_line facts bytes)) (one_fault bytes i j first other) ∙ also)
     one_line _ _ (of_fault i n first is) (of_names g m states some) = absurd (nothing bytes g i states first)
     one_line _ _ (of_fault i n first is) (no_comment g fits none) = absurd (nothing bytes g i fits.states first)
@@ -95,7 +93,7 @@ module _ (one_thing : FilesStateOneThing) (one_fault : FilesHaveOneFault) (nothi
     one_line _ _ (of_fault i n first is) (of_pairs g q j b some cause) = absurd (nothing bytes g i b.commented.of_text.states first)
     one_line _ _ (of_names f n states some) (of_fault j m other also) = absurd (nothing bytes f j states other)
     one_line _ _ (of_names f n states some) (of_names g m others also) =
-        some_is (stated_line facts System f) n m some (ap (stated_line facts System) (one_thing bytes f g states others) ∙ also)
+        some_same (stated_line facts System f) n m some (ap (stated_line facts System) (one_thing bytes f g states others) ∙ also)
     one_line _ _ (of_names f n states some) (no_comment g fits none) = absurd (no_names_bad f g n states some fits)
     one_line _ _ (of_names f n states some) (of_line g d m has bad) = absurd (no_names_bad f g n states some has.of_text)
     one_line _ _ (of_names f n states some) (of_pairs g q j b any cause) = absurd (no_names_bad f g n states some b.commented.of_text)

@@ -1,10 +1,11 @@
 -- From what was found out of a file whose annotation names its states to the answer.
-use Rattle.std.proofs.Common.{◌≡◌, ◌≢◌, ℕ, ◌≤◌, Bool, true, false, None, List, length, refl, sym, ap, subst, ◌∙◌, arith}
-use Rattle.std.specs.Prelude.{not}
+use Rattle.std.proofs.Common.{◌≡◌, ◌≢◌, ℕ, ◌≤◌, None, List, length, refl, sym, ap, subst, ◌∙◌, arith}
+use Rattle.std.proofs.lemmas.Bool.{not-false}
 use Rattle.letters_and_lassos.specs.declared.kinds.Kind.{Kind}
 use Rattle.letters_and_lassos.specs.declared.kinds.Side.{Side}
 use Rattle.letters_and_lassos.specs.declared.kinds.Side.TheVariants.{System, Environment}
 use Rattle.letters_and_lassos.specs.Kinds.{other_kind}
+use Rattle.machine_model.specs.declared.counting.Counts.TheVariants.{Whole}
 use Rattle.aiger_text.specs.Circuit.{Circuit, IsCircuitOfKind}
 use Rattle.circuit_laws.specs.Laws.{LosingCircuitsDefeat}
 use Rattle.circuit_check.specs.FirstBad.{IsFirstBad}
@@ -29,10 +30,6 @@ use Rattle.verify_answer.specs.Reply.{IsForVerify, IsReadyFor, IsRefusedAnyway, 
 use Rattle.verify_answer.specs.Verified.{DoesItsPart, HasSignals, IsDefeating, IsSatisfying, named_as}
 use Rattle.verify_answer.proofs.Naming.{circuit_named, kind_named, run_unnamed}
 use Rattle.verify_answer.proofs.Signals.{has_signals}
-
-not_false : (b : Bool) → not b ≡ false → b ≡ true
-not_false true never = refl
-not_false false never = absurd (cc)
 
 module _ (text : List ℕ) (t : SolveText) (is : IsSolveText text None t) where
   -- the text is ready for the test of circuits of either side
@@ -74,7 +71,7 @@ module _ (text : List ℕ) (t : SolveText) (is : IsSolveText text None t) where
           outputs = refl;
           means = λ w run.
               let own = run_unnamed is.wanted.inputs is.wanted.outputs found.file.circuit System w run.0 run.1 in
-              not_false (is.wanted.means w) (sym (is.negated.says w own.lasso.ring) ∙ found.keeps.never.never w run.0 own);
+              not-false (is.wanted.means w) (sym (is.negated.says w own.lasso.ring) ∙ found.keeps.never.never w run.0 own);
         };
         runs = found.keeps.runs;
       }
@@ -138,4 +135,4 @@ pub never_given : SmallTextsAreTaken → ProblemsOfTextsAreDetermined → (text 
     → IsSolveRefusal text fault → IsForVerify text t → ⊥
 never_given small problems text failed.NoMemory t some refusal taken = some refl
 never_given small problems text (failed.At code place) t some refusal taken =
-    small text None (λ c p fault. problems.no_fault text None 2 (spec_seen t.spec) t.problems c p taken.text_with.are fault) code place refusal
+    small text None (λ c p fault. problems.no_fault text None Whole (spec_seen t.spec) t.problems c p taken.text_with.are fault) code place refusal
