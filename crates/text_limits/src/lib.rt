@@ -68,8 +68,11 @@ pub const WIDEST_LIMITS: Limits = Limits {
     signals: 64,
     all_signals: 64,
     nodes: 16_384,
-    automaton: LARGE_LIMITS.automaton,
-    machine: LARGE_LIMITS.machine,
+    automaton: AutomatonLimits {
+        states: 20_000,
+        edges: 2_000_000,
+    },
+    machine: 16,
 };
 
 /// The largest number of variables of a circuit, whichever command takes or makes it.
