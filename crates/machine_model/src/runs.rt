@@ -1,4 +1,4 @@
-ghost use Rattle.std.specs.Prelude.{◌≡◌, ℕ, ◌+◌, ◌^◌, ◌<◌, ◌≤◌, [], All, IfOk, OnOk, length};
+ghost use Rattle.std.specs.Prelude.{◌≡◌, ℕ, ◌+◌, ◌*◌, ◌^◌, ◌<◌, ◌≤◌, [], All, IfOk, OnOk, length};
 ghost use Rattle.letters_and_lassos.specs.Word.{IsLassoOver, SameWord, after, lasso_len, letter_at};
 ghost use Rattle.text_limits.specs.declared.TheConstants.{LARGE_LIMITS};
 ghost use Rattle.machine_model.specs.Machine.{size_of, next_of};
@@ -85,9 +85,16 @@ fn read_number(machine: &Machine, reads: &Lasso, position: usize) -> u32
     ensures value { result ≡ (letter_at reads.now position).0 }
     ensures fits { result < 2 ^ machine.now.reads }
 {
-    let few = machine.reads() <= 16;
-    prove!(few);
-    reads.letter(position).0 as u32
+    number_of(machine.reads(), reads.letter(position))
+}
+
+/// The number of a letter of so many signals.
+fn number_of(signals: u32, letter: Letter) -> u32
+    requires few { signals ≤ LARGE_LIMITS.signals }
+    requires fits { letter.0 < 2 ^ signals }
+    ensures { result ≡ letter.0 }
+{
+    letter.0 as u32
 }
 
 impl Course {
