@@ -1,4 +1,4 @@
--- The signals of a text: at most 8 inputs and 8 outputs. The names, and the formulas of widths, speak of them alone.
+-- The signals of a text, at most as many as the limits say. The names, and the formulas of widths, speak of them alone.
 use Rattle.std.proofs.Math.Nat.{min-le_left, min-le_right}
 use Rattle.std.proofs.Common.{◌≡◌, ℕ, ◌+◌, ◌-◌, ◌≤◌, Bool, true, false, List, [], ◌∷◌, ◌++◌, length, Option, None, Some, refl, arith}
 use Rattle.std.proofs.lemmas.Bool.{leb-true}
