@@ -118,6 +118,7 @@ module _ (trees : TreesAreDetermined) (whole : TreesHaveNoFault) (text : List �
         normal = is.normal;
         few_inputs = is.few_inputs;
         few_outputs = is.few_outputs;
+        few_signals = is.few_signals;
       }
 
 pub given_kinds : TreesAreDetermined → TreesHaveNoFault → OwnKindsAreGiven
