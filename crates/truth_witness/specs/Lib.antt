@@ -5,5 +5,6 @@ pub mod Frames
 pub mod Falls
 pub mod Obligations
 pub mod Proved
+pub mod Truths
 pub mod Laws
 pub mod Example
