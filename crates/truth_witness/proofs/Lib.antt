@@ -1,2 +1,5 @@
 pub mod Values
 pub mod Making
+pub mod Descent
+pub mod Ids
+pub mod Settling

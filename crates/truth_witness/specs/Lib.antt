@@ -6,5 +6,6 @@ pub mod Falls
 pub mod Obligations
 pub mod Proved
 pub mod Truths
+pub mod Descent
 pub mod Laws
 pub mod Example
