@@ -3,3 +3,5 @@ pub mod Making
 pub mod Descent
 pub mod Ids
 pub mod Settling
+pub mod Meeting
+pub mod Pairs
