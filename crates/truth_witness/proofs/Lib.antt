@@ -5,3 +5,4 @@ pub mod Ids
 pub mod Settling
 pub mod Meeting
 pub mod Pairs
+pub mod Within
