@@ -6,3 +6,4 @@ pub mod Settling
 pub mod Meeting
 pub mod Pairs
 pub mod Within
+pub mod Nodes
