@@ -7,3 +7,4 @@ pub mod Meeting
 pub mod Pairs
 pub mod Within
 pub mod Nodes
+pub mod Rows
