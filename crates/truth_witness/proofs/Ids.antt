@@ -1,8 +1,8 @@
 -- The ids that occur: the formula's own is one, and parts of what occurs do.
-use Rattle.std.proofs.Common.{◌≡◌, ◌≢◌, ℕ, zero, suc, ◌+◌, ◌<◌, ◌≤◌, Bool, true, false, cond, List, [], ◌∷◌, length, get_or, refl, sym, ap, subst, ◌∙◌, arith, inl, inr}
+use Rattle.std.proofs.Common.{◌≡◌, ◌≢◌, ℕ, zero, suc, ◌+◌, ◌<◌, ◌≤◌, Bool, true, false, List, [], ◌∷◌, length, get_or, refl, sym, ap, ◌∙◌, arith, inl, inr}
 use Rattle.std.specs.Prelude.{◌⊎◌, nat_eq}
 use Rattle.std.specs.List.{list_any}
-use Rattle.std.proofs.lemmas.Bool.{cond_both, cond-true, cond-false, eq-eqb, eqb-true, cases_lt, cases_eq, true≢false, or_left, or_right}
+use Rattle.std.proofs.lemmas.Bool.{cond_both, eq-eqb, eqb-true, cases_lt, cases_eq, true≢false, or_left, or_right}
 use Rattle.std.proofs.lemmas.List.{get_or_past}
 use Rattle.ltl_formula.specs.declared.nodes.FormulaId.{FormulaId}
 use Rattle.ltl_formula.specs.declared.nodes.Node.{Node}

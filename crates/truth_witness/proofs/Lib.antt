@@ -8,3 +8,8 @@ pub mod Pairs
 pub mod Within
 pub mod Nodes
 pub mod Rows
+pub mod Stepping
+pub mod Falling
+pub mod Comparing
+pub mod Awaiting
+pub mod Showing

@@ -1,11 +1,11 @@
 -- What is made of clauses is true where they are.
-use Rattle.std.proofs.Common.{◌≡◌, ◌≢◌, ℕ, zero, suc, ◌+◌, ◌-◌, ◌*◌, ◌/◌, ◌%◌, ◌<◌, ◌≤◌, Bool, true, false, not, cond, eqb, List, [], ◌∷◌, ◌++◌, ◌&&◌, ◌||◌, length, get_or, refl, sym, ap, subst, ◌∙◌, arith, inl, inr}
-use Rattle.std.specs.Prelude.{◌⊎◌, map, All, Any, nat_eq, nat_lt, slice_get, unwrap_or, Some, Option}
-use Rattle.std.specs.List.{list_any, list_all, flat_map}
-use Rattle.std.proofs.lemmas.Bool.{cond_both, cond-true, cond-false, cases_Bool, eq-eqb, ne_eqb, eqb-true, or_left, or_right, or_cases, or_parts, or_from, true≢false}
-use Rattle.std.proofs.lemmas.List.Folds.{list_all-append, list_any-append}
+use Rattle.std.proofs.Common.{◌≡◌, ℕ, zero, suc, ◌+◌, ◌-◌, ◌*◌, ◌/◌, ◌<◌, ◌≤◌, Bool, true, false, not, cond, List, [], ◌∷◌, ◌&&◌, ◌||◌, refl, sym, ap, subst, ◌∙◌, arith, inl, inr}
+use Rattle.std.specs.Prelude.{map, All, nat_eq, nat_lt, slice_get, unwrap_or, Some, Option}
+use Rattle.std.specs.List.{list_any}
+use Rattle.std.proofs.lemmas.Bool.{cond_both, cases_Bool, ne_eqb, eqb-true, or_parts, or_from, true≢false}
+use Rattle.std.proofs.lemmas.List.Folds.{list_all-append}
 use Rattle.std.proofs.lemmas.List.Elements.{All-nil, All-cons, All-head, All-tail}
-use Rattle.propositional_logic.specs.Literal.{Literal, sign_eq}
+use Rattle.propositional_logic.specs.Literal.{sign_eq}
 use Rattle.propositional_logic.specs.Truth.{value_of, is_true_literal, is_true_clause, meets}
 use Rattle.aiger_text.specs.Circuit.{Valuation, variable_value, literal_value}
 use Rattle.truth_witness.specs.Clauses.{opposite, is_valid, placed, rising, literal_of, made, base_clauses}
@@ -107,7 +107,6 @@ module _ (values : Valuation) (n : ℕ) where
   any_mapped : (lits : List ℕ) → is_true_clause listed (map literal_of lits) ≡ list_any truth lits
   any_mapped [] = refl
   any_mapped (l ∷ lits) = ap (λ b. truth l || b) (any_mapped lits)
-
 
   -- what is valid is true
   valid_met : (lits : List ℕ) → is_met values lits ≡ false → is_valid lits ≡ false

@@ -1,8 +1,8 @@
 -- When lists of clauses are met, and which literals they have.
-use Rattle.std.proofs.Common.{◌≡◌, ◌≢◌, ℕ, zero, suc, ◌+◌, ◌-◌, ◌*◌, ◌<◌, ◌≤◌, Bool, true, false, not, cond, ◌&&◌, ◌||◌, List, [], ◌∷◌, ◌++◌, length, get_or, refl, sym, ap, subst, ◌∙◌, arith, inl, inr}
-use Rattle.std.specs.Prelude.{◌⊎◌, map, All, nat_lt, slice_get, Some, Option}
-use Rattle.std.specs.List.{list_any, list_all, flat_map}
-use Rattle.std.proofs.lemmas.Bool.{and_parts, and_from, cond_both}
+use Rattle.std.proofs.Common.{◌≡◌, ℕ, suc, ◌+◌, ◌*◌, ◌≤◌, Bool, true, false, not, ◌&&◌, ◌||◌, List, [], ◌∷◌, ◌++◌, refl, sym, ap, subst, ◌∙◌, arith}
+use Rattle.std.specs.Prelude.{map, All, slice_get, Some}
+use Rattle.std.specs.List.{flat_map}
+use Rattle.std.proofs.lemmas.Bool.{and_from}
 use Rattle.std.proofs.lemmas.List.Folds.{list_all-append}
 use Rattle.std.proofs.lemmas.List.Elements.{All-nil, All-cons, All-head, All-tail, All-append, All-weaker}
 use Rattle.std.proofs.lemmas.List.{map-id}
@@ -34,8 +34,8 @@ module _ (values : Valuation) where
   pub met_conjoined : (x a b : ℕ) → literal_value values x ≡ (literal_value values a && literal_value values b) → are_met values (conjoined x a b) ≡ true
   met_conjoined x a b e =
       (λ i. (((value_opposite values x ∙ ap not e) i) || (literal_value values a || false))
-        && ((((value_opposite values x ∙ ap not e) i) || (literal_value values b || false))
-        && (((e i) || (value_opposite values a i || (value_opposite values b i || false))) && true)))
+      && ((((value_opposite values x ∙ ap not e) i) || (literal_value values b || false))
+      && (((e i) || (value_opposite values a i || (value_opposite values b i || false))) && true)))
       ∙ by (literal_value values a) (literal_value values b)
     where
       by : (a b : Bool) → ((not (a && b) || (a || false)) && ((not (a && b) || (b || false)) && (((a && b) || (not a || (not b || false))) && true))) ≡ true
@@ -58,17 +58,20 @@ module _ (values : Valuation) where
       (met_numbered clauses (suc n) xs (λ k y at. let f : n + suc k ≡ suc n + k = omega arith in ap (λ j. are_met values (clauses j y)) (sym f) ∙ each (suc k) y at))
 
 -- clauses are met alike where their literals have the same values
-is_met_same : (v w : Valuation) (f : ℕ → ℕ) (lits : List ℕ) → All (λ l. literal_value v (f l) ≡ literal_value w l) lits → is_met v (map f lits) ≡ is_met w lits
+pub is_met_same : (v w : Valuation) (f : ℕ → ℕ) (lits : List ℕ) → All (λ l. literal_value v (f l) ≡ literal_value w l) lits → is_met v (map f lits) ≡ is_met w lits
 is_met_same v w f [] same = refl
 is_met_same v w f (l ∷ lits) same =
     λ i. All-head (λ l. literal_value v (f l) ≡ literal_value w l) l lits same i || is_met_same v w f lits (All-tail (λ l. literal_value v (f l) ≡ literal_value w l) l lits same) i
+
+pub is_met_plain : (v w : Valuation) (lits : List ℕ) → All (λ l. literal_value v l ≡ literal_value w l) lits → is_met v lits ≡ is_met w lits
+is_met_plain v w lits same = ap (is_met v) (sym (map-id lits)) ∙ is_met_same v w (λ l. l) lits same
 
 pub are_met_mapped : (v w : Valuation) (f : ℕ → ℕ) (top : ℕ) → ((l : ℕ) → l ≤ top → literal_value v (f l) ≡ literal_value w l) → (clauses : List (List ℕ))
     → All (All (λ l. l ≤ top)) clauses → are_met v (map (map f) clauses) ≡ are_met w clauses
 are_met_mapped v w f top same [] within = refl
 are_met_mapped v w f top same (lits ∷ clauses) within =
     λ i. is_met_same v w f lits (All-weaker (λ l. l ≤ top) (λ l. literal_value v (f l) ≡ literal_value w l) same lits (All-head (All (λ l. l ≤ top)) lits clauses within)) i
-      && are_met_mapped v w f top same clauses (All-tail (All (λ l. l ≤ top)) lits clauses within) i
+    && are_met_mapped v w f top same clauses (All-tail (All (λ l. l ≤ top)) lits clauses within) i
 
 map_same : (xs : List (List ℕ)) → map (map (λ (l : ℕ). l)) xs ≡ xs
 map_same [] = refl

@@ -1,7 +1,5 @@
 -- What the truth of a node owes to that of its parts, here and at the next position, is met where these are the truths on a lasso.
-use Rattle.std.proofs.Common.{◌≡◌, ◌≢◌, ℕ, zero, suc, ◌+◌, ◌-◌, ◌*◌, ◌^◌, ◌<◌, ◌≤◌, Bool, true, false, not, cond, eqb, ◌&&◌, ◌||◌, List, [], ◌∷◌, ◌++◌, length, get_or, refl, sym, ap, subst, ◌∙◌, arith, inl, inr}
-use Rattle.std.specs.Prelude.{◌⊎◌}
-use Rattle.std.specs.Int.{bit_at}
+use Rattle.std.proofs.Common.{◌≡◌, ℕ, ◌+◌, ◌-◌, ◌^◌, ◌<◌, Bool, true, false, not, eqb, ◌&&◌, ◌||◌, List, ◌++◌, length, get_or, refl, sym, ap, ◌∙◌, arith, inl, inr}
 use Rattle.std.proofs.lemmas.Bool.{cases_lt}
 use Rattle.std.proofs.lemmas.List.{get_or_past, get_or_append_left, get_or-append_right}
 use Rattle.std.proofs.lemmas.Nat.Bits.{bit_at_above}
@@ -65,8 +63,8 @@ module _ (x : Claim) (trees : List Tree) (word : Word) (ring : HasRing word) (va
         (says ∙ (λ i. sym (parts a (inl refl)) i && sym (parts b (inr (inl refl))) i))
     here_met v (Or a b) says parts =
         (λ j. (says j || (off (truth_literal x a) (parts a (inl refl)) j || false))
-          && ((says j || (off (truth_literal x b) (parts b (inr (inl refl))) j || false))
-          && ((nv j || (parts a (inl refl) j || (parts b (inr (inl refl)) j || false))) && true)))
+        && ((says j || (off (truth_literal x b) (parts b (inr (inl refl))) j || false))
+        && ((nv j || (parts a (inl refl) j || (parts b (inr (inl refl)) j || false))) && true)))
         ∙ by (holds word (pick trees a) i) (holds word (pick trees b) i)
       where
         nv : literal_value values (opposite v) ≡ not (holds word (pick trees a) i || holds word (pick trees b) i)
@@ -81,7 +79,7 @@ module _ (x : Claim) (trees : List Tree) (word : Word) (ring : HasRing word) (va
     here_met v (Equiv a b) says parts = refl
     here_met v (Until a b) says parts =
         (λ j. (unfolded j || (off (truth_literal x b) (parts b (inr (inl refl))) j || false))
-          && ((nv j || (parts a (inl refl) j || (parts b (inr (inl refl)) j || false))) && true))
+        && ((nv j || (parts a (inl refl) j || (parts b (inr (inl refl)) j || false))) && true))
         ∙ by (holds word (pick trees a) i) (holds word (pick trees b) i) (until_at word (holds word (pick trees a)) (holds word (pick trees b)) (following word i))
       where
         unfolded : literal_value values v ≡ (holds word (pick trees b) i || (holds word (pick trees a) i && until_at word (holds word (pick trees a)) (holds word (pick trees b)) (following word i)))
@@ -98,7 +96,7 @@ module _ (x : Claim) (trees : List Tree) (word : Word) (ring : HasRing word) (va
         by false false u = refl
     here_met v (Release a b) says parts =
         (λ j. (nv j || (parts b (inr (inl refl)) j || false))
-          && ((unfolded j || (off (truth_literal x a) (parts a (inl refl)) j || (off (truth_literal x b) (parts b (inr (inl refl))) j || false))) && true))
+        && ((unfolded j || (off (truth_literal x a) (parts a (inl refl)) j || (off (truth_literal x b) (parts b (inr (inl refl))) j || false))) && true))
         ∙ by (holds word (pick trees a) i) (holds word (pick trees b) i) (release_at word (holds word (pick trees a)) (holds word (pick trees b)) (following word i))
       where
         unfolded : literal_value values v ≡ (holds word (pick trees b) i && (holds word (pick trees a) i || release_at word (holds word (pick trees a)) (holds word (pick trees b)) (following word i)))
@@ -133,7 +131,7 @@ module _ (x : Claim) (trees : List Tree) (word : Word) (ring : HasRing word) (va
   ahead_met v (Equiv a b) says then_says parts then_parts = refl
   ahead_met v (Until a b) says then_says parts then_parts =
       (λ j. (nv j || (parts b (inr (inl refl)) j || (then_says j || false)))
-        && ((unfolded j || (off (truth_literal x a) (parts a (inl refl)) j || (off (shifted x v) then_says j || false))) && true))
+      && ((unfolded j || (off (truth_literal x a) (parts a (inl refl)) j || (off (shifted x v) then_says j || false))) && true))
       ∙ by (holds word (pick trees a) i) (holds word (pick trees b) i) (until_at word (holds word (pick trees a)) (holds word (pick trees b)) (following word i))
     where
       unfolded : literal_value values v ≡ (holds word (pick trees b) i || (holds word (pick trees a) i && until_at word (holds word (pick trees a)) (holds word (pick trees b)) (following word i)))
@@ -150,7 +148,7 @@ module _ (x : Claim) (trees : List Tree) (word : Word) (ring : HasRing word) (va
       by false false u = refl
   ahead_met v (Release a b) says then_says parts then_parts =
       (λ j. (nv j || (parts a (inl refl) j || (then_says j || false)))
-        && ((unfolded j || (off (truth_literal x b) (parts b (inr (inl refl))) j || (off (shifted x v) then_says j || false))) && true))
+      && ((unfolded j || (off (truth_literal x b) (parts b (inr (inl refl))) j || (off (shifted x v) then_says j || false))) && true))
       ∙ by (holds word (pick trees a) i) (holds word (pick trees b) i) (release_at word (holds word (pick trees a)) (holds word (pick trees b)) (following word i))
     where
       unfolded : literal_value values v ≡ (holds word (pick trees b) i && (holds word (pick trees a) i || release_at word (holds word (pick trees a)) (holds word (pick trees b)) (following word i)))

@@ -1,38 +1,36 @@
 -- The rows of a run: at each time the values of the circuit's variables, the truth of each formula that occurs, and the values of the
 -- witness's latches and gates, which don't come round with the lasso.
-use Rattle.std.proofs.Common.{◌≡◌, ◌≢◌, ℕ, zero, suc, ◌+◌, ◌-◌, ◌*◌, ◌^◌, ◌<◌, ◌≤◌, Bool, true, false, not, cond, ◌&&◌, List, [], ◌∷◌, ◌++◌, length, get_or, refl, sym, ap, subst, ◌∙◌, arith, inl, inr}
-use Rattle.std.specs.Prelude.{◌⊎◌, map, All, nat_lt, slice_get, Some}
+use Rattle.std.proofs.Common.{◌≡◌, ℕ, zero, suc, ◌+◌, ◌-◌, ◌*◌, ◌^◌, ◌<◌, ◌≤◌, Bool, true, false, not, cond, ◌&&◌, List, [], ◌∷◌, ◌++◌, length, get_or, refl, sym, ap, subst, ◌∙◌, arith}
+use Rattle.std.specs.Prelude.{map, All, nat_lt, slice_get, Some}
 use Rattle.std.specs.List.{flat_map}
-use Rattle.std.proofs.lemmas.Bool.{cond-true, cond-false, lt-ltb, le-ltb, cases_lt}
+use Rattle.std.proofs.lemmas.Bool.{cond-true, cond-false, lt-ltb, le-ltb}
 use Rattle.std.proofs.lemmas.List.Elements.{All-head, All-tail}
-use Rattle.std.proofs.lemmas.Option.{slice_get_within, get_or_from_slice_get}
+use Rattle.std.proofs.lemmas.Option.{slice_get_within}
 use Rattle.letters_and_lassos.specs.declared.kinds.Side.{Side}
 use Rattle.letters_and_lassos.specs.declared.kinds.Side.TheVariants.{System, Environment}
 use Rattle.letters_and_lassos.specs.Signals.{has}
-use Rattle.letters_and_lassos.specs.Word.{Word, HasRing, lasso_len, letter_at, after, next as following}
-use Rattle.letters_and_lassos.proofs.Positions.{after-suc, after_within, first_position, letter_below}
+use Rattle.letters_and_lassos.specs.Word.{Word, HasRing, lasso_len, letter_at, after}
+use Rattle.letters_and_lassos.proofs.Positions.{after_within, first_position, letter_below}
 use Rattle.ltl_formula.specs.declared.nodes.FormulaId.{FormulaId}
-use Rattle.ltl_formula.specs.declared.nodes.Node.{Node}
 use Rattle.ltl_formula.specs.Nodes.{IsNodeList, node_at, tree_at, trees_of}
 use Rattle.ltl_formula.specs.Truth.{holds}
 use Rattle.aiger_text.specs.declared.circuits.Latch.{Latch}
 use Rattle.aiger_text.specs.declared.circuits.Gate.{Gate}
-use Rattle.aiger_text.specs.Circuit.{Circuit, Valuation, IsCircuitRun, variable_value, literal_value}
+use Rattle.aiger_text.specs.Circuit.{Valuation, IsCircuitRun, variable_value, literal_value}
 use Rattle.aiger_text.specs.CircuitType.{IsCircuit}
 use Rattle.truth_witness.specs.declared.witnesses.Operands.{Operands}
-use Rattle.truth_witness.specs.Clauses.{opposite, equal, conjoined}
+use Rattle.truth_witness.specs.Clauses.{opposite, conjoined}
 use Rattle.truth_witness.specs.Witness.{Claim}
-use Rattle.truth_witness.specs.Variables.{parts_of, place_of, ids, ids_end, latches_end, frame_size, truth_literal, latch_literal, gate_literal, signal_literal, signal_literals, shifted}
-use Rattle.truth_witness.specs.Frames.{as_id, numbered, node_here, node_ahead, frame, next_frame, start, step}
+use Rattle.truth_witness.specs.Variables.{place_of, ids, ids_end, latches_end, truth_literal, latch_literal, gate_literal, signal_literal, signal_literals}
+use Rattle.truth_witness.specs.Frames.{as_id, numbered, node_here, frame, start}
 use Rattle.truth_witness.specs.Proved.{IsWitnessFor, AreBefore}
 use Rattle.truth_witness.specs.Truths.{are_met}
 use Rattle.truth_witness.proofs.Values.{value_even, value_opposite, value_agrees}
 use Rattle.truth_witness.proofs.Ids.{In, own_occurs, parts_occur, tree_of_node, place_within, place_is}
 use Rattle.truth_witness.proofs.Settling.{settled, AreInOrder, settled_below, settled_gate}
-use Rattle.truth_witness.proofs.Meeting.{met_both, met_one, met_equal, met_conjoined, met_each, met_numbered, are_met_same, are_met_mapped}
-use Rattle.truth_witness.proofs.Pairs.{pair, pair_here, pair_next}
-use Rattle.truth_witness.proofs.Within.{OfCircuit, all_in, latches_within, gates_within, nexts_within, operands_within, signals_within, of_circuit, truth_within, signal_within, frame_within}
-use Rattle.truth_witness.proofs.Nodes.{joined_signals, here_met, ahead_met}
+use Rattle.truth_witness.proofs.Meeting.{met_both, met_one, met_conjoined, met_each, met_numbered}
+use Rattle.truth_witness.proofs.Within.{all_in, latches_within, gates_within, operands_within, signals_within}
+use Rattle.truth_witness.proofs.Nodes.{joined_signals, here_met}
 
 module _ (x : Claim) (circuit : IsCircuit x.circuit) (list : IsNodeList x.nodes) (fits : IsWitnessFor x) (word : Word) (values : ℕ → Valuation)
     (run : IsCircuitRun x.side x.circuit word values) where

@@ -1,25 +1,24 @@
 -- The literals of a frame are literals of its variables.
-use Rattle.std.proofs.Common.{◌≡◌, ◌≢◌, ℕ, zero, suc, ◌+◌, ◌-◌, ◌*◌, ◌<◌, ◌≤◌, Bool, true, false, cond, List, [], ◌∷◌, ◌++◌, length, get_or, refl, sym, ap, subst, ◌∙◌, arith, inl, inr}
-use Rattle.std.specs.Prelude.{◌⊎◌, map, All, slice_get, Some}
+use Rattle.std.proofs.Common.{◌≡◌, ℕ, ◌+◌, ◌*◌, ◌<◌, ◌≤◌, List, [], ◌∷◌, ◌++◌, length, get_or, refl, sym, subst, arith, inl, inr}
+use Rattle.std.specs.Prelude.{map, All}
 use Rattle.std.specs.List.{flat_map}
 use Rattle.std.proofs.lemmas.Bool.{cases_lt}
 use Rattle.std.proofs.lemmas.Option.{slice_get_within}
 use Rattle.std.proofs.lemmas.List.{get_or_past}
-use Rattle.std.proofs.lemmas.List.Elements.{All-nil, All-cons, All-head, All-tail, All-append, All-weaker, All-get_or}
+use Rattle.std.proofs.lemmas.List.Elements.{All-nil, All-cons, All-head, All-tail, All-append, All-get_or}
 use Rattle.letters_and_lassos.specs.declared.kinds.Side.{Side}
 use Rattle.letters_and_lassos.specs.declared.kinds.Side.TheVariants.{System, Environment}
 use Rattle.ltl_formula.specs.declared.nodes.FormulaId.{FormulaId}
 use Rattle.ltl_formula.specs.declared.nodes.Node.{Node}
 use Rattle.ltl_formula.specs.declared.nodes.Node.TheVariants.{True, False, Signal, Not, Next, Finally, Globally, And, Or, Implies, Equiv, Until, Release, WeakUntil}
 use Rattle.ltl_formula.specs.Nodes.{IsNodeList, node_at}
-use Rattle.aiger_text.specs.declared.circuits.Latch.{Latch}
 use Rattle.aiger_text.specs.declared.circuits.Gate.{Gate}
 use Rattle.aiger_text.specs.Circuit.{Circuit}
-use Rattle.aiger_text.specs.CircuitType.{IsCircuit, IsDefinable, IsDefined}
+use Rattle.aiger_text.specs.CircuitType.{IsCircuit}
 use Rattle.truth_witness.specs.declared.witnesses.Operands.{Operands}
-use Rattle.truth_witness.specs.Clauses.{opposite, equal, conjoined}
+use Rattle.truth_witness.specs.Clauses.{opposite, conjoined}
 use Rattle.truth_witness.specs.Witness.{Claim}
-use Rattle.truth_witness.specs.Variables.{parts_of, place_of, ids, frame_size, truth_literal, latch_literal, gate_literal, signal_literal, signal_literals}
+use Rattle.truth_witness.specs.Variables.{parts_of, place_of, ids, frame_size, truth_literal, gate_literal, signal_literal, signal_literals}
 use Rattle.truth_witness.specs.Frames.{as_id, numbered, node_here, frame}
 use Rattle.truth_witness.specs.Proved.{IsWitnessFor, AreBefore}
 use Rattle.truth_witness.proofs.Values.{opposite_within}
@@ -89,9 +88,10 @@ module _ (c : Circuit) (circuit : IsCircuit c) where
   each_operand : (gates : List Gate) → All OfCircuit (flat_map operands_of gates) → All (λ gate. OfCircuit gate.left × OfCircuit gate.right) gates
   each_operand [] each = All-nil (λ gate. OfCircuit gate.left × OfCircuit gate.right)
   each_operand (gate ∷ gates) each =
-      All-cons (λ gate. OfCircuit gate.left × OfCircuit gate.right) gate gates
-      (All-head OfCircuit gate.left (gate.right ∷ flat_map operands_of gates) each,
-      All-head OfCircuit gate.right (flat_map operands_of gates) (All-tail OfCircuit gate.left (gate.right ∷ flat_map operands_of gates) each))
+      All-cons (λ gate. OfCircuit gate.left × OfCircuit gate.right) gate gates (
+        All-head OfCircuit gate.left (gate.right ∷ flat_map operands_of gates) each,
+        All-head OfCircuit gate.right (flat_map operands_of gates) (All-tail OfCircuit gate.left (gate.right ∷ flat_map operands_of gates) each),
+      )
       (each_operand gates (All-tail OfCircuit gate.right (flat_map operands_of gates) (All-tail OfCircuit gate.left (gate.right ∷ flat_map operands_of gates) each)))
 
   pub operands_within : All (λ gate. OfCircuit gate.left × OfCircuit gate.right) c.gates
