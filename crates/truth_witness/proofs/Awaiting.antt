@@ -22,7 +22,7 @@ use Rattle.truth_witness.specs.Falls.{Awaited, awaited_in, untils, named_untils}
 use Rattle.truth_witness.specs.Proved.{IsWitnessFor}
 use Rattle.truth_witness.proofs.Ids.{In, parts_occur, tree_of_node}
 use Rattle.truth_witness.proofs.Within.{truth_within}
-use Rattle.truth_witness.proofs.Rows.{position, row, row_truth}
+use Rattle.truth_witness.proofs.Rows.{position, the_row, row_truth}
 use Rattle.truth_witness.proofs.Comparing.{IsOfFrameBoth}
 
 -- which until it is
@@ -83,7 +83,7 @@ module _ (x : Claim) (list : IsNodeList x.nodes) where
 
     module _ (word : Word) (values : ℕ → Valuation) (run : IsCircuitRun x.side x.circuit word values) where
       abbrev row_at : ℕ → Valuation
-      row_at n = row x circuit list fits word values run n
+      row_at n = the_row x circuit list fits word values run n
 
       abbrev at : ℕ → ℕ
       at n = position x circuit list fits word values run n

@@ -61,8 +61,8 @@ module _ (x : Claim) (circuit : IsCircuit x.circuit) (list : IsNodeList x.nodes)
   own zero k = false
   own (suc n) k = literal_value (gated (position n) (own n)) (get_or x.witness.latches k 0)
 
-  pub row : ℕ → Valuation
-  row n = gated (position n) (own n)
+  pub the_row : ℕ → Valuation
+  the_row n = gated (position n) (own n)
 
   -- what stands below the gates
   module _ (i : ℕ) (latches : ℕ → Bool) where
@@ -110,34 +110,34 @@ module _ (x : Claim) (circuit : IsCircuit x.circuit) (list : IsNodeList x.nodes)
   even_value v zero h = absurd (omega arith)
   even_value v (suc u) h = value_even v (suc u)
 
-  pub row_circuit : (n l : ℕ) → l ≤ 2 * x.circuit.variables + 1 → literal_value (row n) l ≡ literal_value (values (position n)) l
-  unfolding row
+  pub row_circuit : (n l : ℕ) → l ≤ 2 * x.circuit.variables + 1 → literal_value (the_row n) l ≡ literal_value (values (position n)) l
+  unfolding the_row
   row_circuit n l h = of_literal (position n) (own n) l h
 
-  pub row_truth : (n : ℕ) (g : FormulaId) → In g.0 (ids x) → literal_value (row n) (truth_literal x g) ≡ holds word (tree_at x.nodes g) (position n)
-  unfolding row
+  pub row_truth : (n : ℕ) (g : FormulaId) → In g.0 (ids x) → literal_value (the_row n) (truth_literal x g) ≡ holds word (tree_at x.nodes g) (position n)
+  unfolding the_row
   row_truth n g is =
       even_value (gated (position n) (own n)) (x.circuit.variables + 1 + place_of g.0 (ids x)) (omega arith)
       ∙ of_place (position n) (own n) (place_of g.0 (ids x)) (place_within g.0 (ids x) is)
       ∙ ap (occurs_true (position n)) (place_is g.0 (ids x) is)
 
-  row_latch : (n k : ℕ) → k < length x.witness.latches → literal_value (row n) (latch_literal x k) ≡ own n k
-  unfolding row
+  row_latch : (n k : ℕ) → k < length x.witness.latches → literal_value (the_row n) (latch_literal x k) ≡ own n k
+  unfolding the_row
   row_latch n k h =
       even_value (gated (position n) (own n)) (ids_end x + 1 + k) (omega arith)
       ∙ of_latch (position n) (own n) k h
 
-  pub latch_at_first : (k : ℕ) → k < length x.witness.latches → literal_value (row 0) (latch_literal x k) ≡ false
+  pub latch_at_first : (k : ℕ) → k < length x.witness.latches → literal_value (the_row 0) (latch_literal x k) ≡ false
   unfolding own
   latch_at_first k h = row_latch 0 k h
 
-  pub latch_moves : (n k : ℕ) → k < length x.witness.latches → literal_value (row (suc n)) (latch_literal x k) ≡ literal_value (row n) (get_or x.witness.latches k 0)
-  unfolding own row
+  pub latch_moves : (n k : ℕ) → k < length x.witness.latches → literal_value (the_row (suc n)) (latch_literal x k) ≡ literal_value (the_row n) (get_or x.witness.latches k 0)
+  unfolding own the_row
   latch_moves n k h = row_latch (suc n) k h
 
   pub row_gate : (n k : ℕ) (operands : Operands) → slice_get x.witness.gates k ≡ Some operands
-      → literal_value (row n) (gate_literal x k) ≡ (literal_value (row n) operands.left && literal_value (row n) operands.right)
-  unfolding row
+      → literal_value (the_row n) (gate_literal x k) ≡ (literal_value (the_row n) operands.left && literal_value (the_row n) operands.right)
+  unfolding the_row
   row_gate n k operands at =
       even_value (gated (position n) (own n)) (latches_end x + 1 + k) (omega arith)
       ∙ of_gate (position n) (own n) k operands at
@@ -153,7 +153,7 @@ module _ (x : Claim) (circuit : IsCircuit x.circuit) (list : IsNodeList x.nodes)
       joined_signals (values i) x.circuit.outputs x.circuit.inputs (letter_at word i).0 (as_run.writes i h) (as_run.reads i h)
       (subst (λ n. (letter_at word i).0 < 2 ^ n) turned (letter_below (length x.circuit.inputs + length x.circuit.outputs) word i as_run.lasso))
 
-  row_signal : (n s : ℕ) → literal_value (row n) (signal_literal x s) ≡ has (letter_at word (position n)).0 s
+  row_signal : (n s : ℕ) → literal_value (the_row n) (signal_literal x s) ≡ has (letter_at word (position n)).0 s
   row_signal n s =
       row_circuit n (signal_literal x s) (signals_within x.circuit circuit x.side s)
       ∙ wires_are x.side (position n) (position_within n) run s
@@ -168,32 +168,32 @@ module _ (x : Claim) (circuit : IsCircuit x.circuit) (list : IsNodeList x.nodes)
   operand_clauses k operands = conjoined (gate_literal x k) operands.left operands.right
 
   -- each row meets the frame
-  pub frame_met : (n : ℕ) → are_met (row n) (frame x) ≡ true
+  pub frame_met : (n : ℕ) → are_met (the_row n) (frame x) ≡ true
   frame_met n =
-      met_both (row n) (flat_map gate_clauses x.circuit.gates ++ flat_map truth_clauses (ids x)) (numbered operand_clauses 0 x.witness.gates)
-      (met_both (row n) (flat_map gate_clauses x.circuit.gates) (flat_map truth_clauses (ids x)) (met_each (row n) gate_clauses x.circuit.gates of_gates)
-      (met_each (row n) truth_clauses (ids x) (all_in (λ g. are_met (row n) (truth_clauses g) ≡ true) (ids x) of_truths)))
-      (met_numbered (row n) operand_clauses 0 x.witness.gates of_operands)
+      met_both (the_row n) (flat_map gate_clauses x.circuit.gates ++ flat_map truth_clauses (ids x)) (numbered operand_clauses 0 x.witness.gates)
+      (met_both (the_row n) (flat_map gate_clauses x.circuit.gates) (flat_map truth_clauses (ids x)) (met_each (the_row n) gate_clauses x.circuit.gates of_gates)
+      (met_each (the_row n) truth_clauses (ids x) (all_in (λ g. are_met (the_row n) (truth_clauses g) ≡ true) (ids x) of_truths)))
+      (met_numbered (the_row n) operand_clauses 0 x.witness.gates of_operands)
     where
-      of_gates : All (λ gate. are_met (row n) (gate_clauses gate) ≡ true) x.circuit.gates
+      of_gates : All (λ gate. are_met (the_row n) (gate_clauses gate) ≡ true) x.circuit.gates
       of_gates k d h =
           let gate : Gate = get_or x.circuit.gates k d in
           let operands : (gate.left ≤ 2 * x.circuit.variables + 1) × (gate.right ≤ 2 * x.circuit.variables + 1) = operands_within x.circuit circuit k d h in
-          met_conjoined (row n) gate.literal gate.left gate.right
+          met_conjoined (the_row n) gate.literal gate.left gate.right
           (row_circuit n gate.literal (gates_within x.circuit circuit k d h)
           ∙ run.gates (position n) (position_within n) k d h
           ∙ (λ i. sym (row_circuit n gate.left operands.0) i && sym (row_circuit n gate.right operands.1) i))
 
-      of_truths : (g : ℕ) → In g (ids x) → are_met (row n) (truth_clauses g) ≡ true
+      of_truths : (g : ℕ) → In g (ids x) → are_met (the_row n) (truth_clauses g) ≡ true
       of_truths g is =
-          here_met x (trees_of x.nodes) word ring (row n) (position n) (position_within n) (row_signal n) (truth_literal x (as_id g)) (node_at x.nodes g)
+          here_met x (trees_of x.nodes) word ring (the_row n) (position n) (position_within n) (row_signal n) (truth_literal x (as_id g)) (node_at x.nodes g)
           (row_truth n (as_id g) is ∙ ap (λ tree. holds word tree (position n)) (tree_of_node x.nodes list g))
           (λ a part. row_truth n a (parts_occur x.nodes list x.form g a.0 is part))
 
-      of_operands : (k : ℕ) (operands : Operands) → slice_get x.witness.gates k ≡ Some operands → are_met (row n) (operand_clauses (0 + k) operands) ≡ true
+      of_operands : (k : ℕ) (operands : Operands) → slice_get x.witness.gates k ≡ Some operands → are_met (the_row n) (operand_clauses (0 + k) operands) ≡ true
       of_operands k operands at =
           let e : 0 + k ≡ k = omega arith in
-          met_conjoined (row n) (gate_literal x (0 + k)) operands.left operands.right (ap (λ j. literal_value (row n) (gate_literal x j)) e ∙ row_gate n k operands at)
+          met_conjoined (the_row n) (gate_literal x (0 + k)) operands.left operands.right (ap (λ j. literal_value (the_row n) (gate_literal x j)) e ∙ row_gate n k operands at)
 
   abbrev reset_clause : Latch → List ℕ
   reset_clause latch = cond latch.reset latch.literal (opposite latch.literal) ∷ []
@@ -202,30 +202,30 @@ module _ (x : Claim) (circuit : IsCircuit x.circuit) (list : IsNodeList x.nodes)
   off_clauses k _ = (opposite (latch_literal x k) ∷ []) ∷ []
 
   -- the first row meets the start, where the formula is true there
-  pub start_met : holds word (tree_at x.nodes x.form) 0 ≡ true → are_met (row 0) (start x) ≡ true
+  pub start_met : holds word (tree_at x.nodes x.form) 0 ≡ true → are_met (the_row 0) (start x) ≡ true
   start_met true_there =
-      met_both (row 0) (map reset_clause x.circuit.latches ++ numbered off_clauses 0 x.witness.latches) ((truth_literal x x.form ∷ []) ∷ [])
-      (met_both (row 0) (map reset_clause x.circuit.latches) (numbered off_clauses 0 x.witness.latches) (resets_met x.circuit.latches of_resets)
-      (met_numbered (row 0) off_clauses 0 x.witness.latches of_latches))
-      (met_one (row 0) (truth_literal x x.form) (row_truth 0 x.form (own_occurs x.nodes list x.form) ∙ true_there))
+      met_both (the_row 0) (map reset_clause x.circuit.latches ++ numbered off_clauses 0 x.witness.latches) ((truth_literal x x.form ∷ []) ∷ [])
+      (met_both (the_row 0) (map reset_clause x.circuit.latches) (numbered off_clauses 0 x.witness.latches) (resets_met x.circuit.latches of_resets)
+      (met_numbered (the_row 0) off_clauses 0 x.witness.latches of_latches))
+      (met_one (the_row 0) (truth_literal x x.form) (row_truth 0 x.form (own_occurs x.nodes list x.form) ∙ true_there))
     where
-      one_reset : (b : Bool) (l : ℕ) → literal_value (row 0) l ≡ b → literal_value (row 0) (cond b l (opposite l)) ≡ true
+      one_reset : (b : Bool) (l : ℕ) → literal_value (the_row 0) l ≡ b → literal_value (the_row 0) (cond b l (opposite l)) ≡ true
       one_reset true l e = e
-      one_reset false l e = value_opposite (row 0) l ∙ ap not e
+      one_reset false l e = value_opposite (the_row 0) l ∙ ap not e
 
-      of_resets : All (λ latch. literal_value (row 0) latch.literal ≡ latch.reset) x.circuit.latches
+      of_resets : All (λ latch. literal_value (the_row 0) latch.literal ≡ latch.reset) x.circuit.latches
       of_resets k d h = row_circuit 0 (get_or x.circuit.latches k d).literal (latches_within x.circuit circuit k d h) ∙ run.resets k d h
 
-      resets_met : (latches : List Latch) → All (λ latch. literal_value (row 0) latch.literal ≡ latch.reset) latches → are_met (row 0) (map reset_clause latches) ≡ true
+      resets_met : (latches : List Latch) → All (λ latch. literal_value (the_row 0) latch.literal ≡ latch.reset) latches → are_met (the_row 0) (map reset_clause latches) ≡ true
       resets_met [] each = refl
       resets_met (latch ∷ latches) each =
-          met_both (row 0) (reset_clause latch ∷ []) (map reset_clause latches)
-          (met_one (row 0) (cond latch.reset latch.literal (opposite latch.literal)) (one_reset latch.reset latch.literal (All-head (λ latch. literal_value (row 0) latch.literal ≡ latch.reset) latch latches each)))
-          (resets_met latches (All-tail (λ latch. literal_value (row 0) latch.literal ≡ latch.reset) latch latches each))
+          met_both (the_row 0) (reset_clause latch ∷ []) (map reset_clause latches)
+          (met_one (the_row 0) (cond latch.reset latch.literal (opposite latch.literal)) (one_reset latch.reset latch.literal (All-head (λ latch. literal_value (the_row 0) latch.literal ≡ latch.reset) latch latches each)))
+          (resets_met latches (All-tail (λ latch. literal_value (the_row 0) latch.literal ≡ latch.reset) latch latches each))
 
-      of_latches : (k l : ℕ) → slice_get x.witness.latches k ≡ Some l → are_met (row 0) (off_clauses (0 + k) l) ≡ true
+      of_latches : (k l : ℕ) → slice_get x.witness.latches k ≡ Some l → are_met (the_row 0) (off_clauses (0 + k) l) ≡ true
       of_latches k l at =
           let e : 0 + k ≡ k = omega arith in
-          met_one (row 0) (opposite (latch_literal x (0 + k)))
-          (value_opposite (row 0) (latch_literal x (0 + k)) ∙ ap (λ j. not (literal_value (row 0) (latch_literal x j))) e
+          met_one (the_row 0) (opposite (latch_literal x (0 + k)))
+          (value_opposite (the_row 0) (latch_literal x (0 + k)) ∙ ap (λ j. not (literal_value (the_row 0) (latch_literal x j))) e
           ∙ ap not (latch_at_first k (slice_get_within x.witness.latches k l at)))

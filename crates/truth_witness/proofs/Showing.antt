@@ -27,7 +27,7 @@ use Rattle.truth_witness.proofs.Values.{value_opposite}
 use Rattle.truth_witness.proofs.Making.{met_base}
 use Rattle.truth_witness.proofs.Descent.{ranks_fall}
 use Rattle.truth_witness.proofs.Meeting.{met_both, met_one}
-use Rattle.truth_witness.proofs.Rows.{row, frame_met, start_met}
+use Rattle.truth_witness.proofs.Rows.{the_row, frame_met, start_met}
 use Rattle.truth_witness.proofs.Stepping.{rows, says_here, says_there, in_step_met}
 use Rattle.truth_witness.proofs.Falling.{number_at}
 use Rattle.truth_witness.proofs.Comparing.{IsOfFrameBoth, rises, falls, Awaits}
@@ -47,7 +47,7 @@ module _ (sound : LogsAreSound) (x : Claim) (log : Obligation → List Entry) (c
       true≢false (sym met.1 ∙ sound.closed met.0 (variables_of x o) (clauses_of x o) None (log o) (proved.closed o is))
 
   abbrev at : ℕ → Valuation
-  at n = row x circuit list fits word values run n
+  at n = the_row x circuit list fits word values run n
 
   abbrev no_rises : Valuation
   no_rises i = false

@@ -23,15 +23,15 @@ use Rattle.truth_witness.proofs.Meeting.{met_both, met_equal, met_each, met_numb
 use Rattle.truth_witness.proofs.Pairs.{pair, pair_here, pair_next}
 use Rattle.truth_witness.proofs.Within.{all_in, latches_within, nexts_within, of_circuit, truth_within, frame_within}
 use Rattle.truth_witness.proofs.Nodes.{ahead_met}
-use Rattle.truth_witness.proofs.Rows.{position, position_within, row, row_circuit, row_truth, latch_moves, frame_met}
+use Rattle.truth_witness.proofs.Rows.{position, position_within, the_row, row_circuit, row_truth, latch_moves, frame_met}
 
 module _ (x : Claim) (circuit : IsCircuit x.circuit) (list : IsNodeList x.nodes) (fits : IsWitnessFor x) (word : Word) (values : ℕ → Valuation)
     (run : IsCircuitRun x.side x.circuit word values) (n : ℕ) (rises : Valuation) where
   abbrev here : Valuation
-  here = row x circuit list fits word values run n
+  here = the_row x circuit list fits word values run n
 
   abbrev there : Valuation
-  there = row x circuit list fits word values run (suc n)
+  there = the_row x circuit list fits word values run (suc n)
 
   -- both rows, and the literals that compare ranks
   abbrev pub rows : Valuation
