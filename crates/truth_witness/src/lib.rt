@@ -7,4 +7,4 @@
 pub mod laws;
 mod witnesses;
 
-pub use witnesses::{MAX_INDEX_BITS, MAX_RANK_BITS, Obligation, Operands};
+pub use witnesses::{MAX_INDEX_BITS, MAX_RANK_BITS, Obligation, Operands, Part, Witness};
