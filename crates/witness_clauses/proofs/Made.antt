@@ -1,9 +1,9 @@
 -- The clause with the literals that are no constants is the one that is made.
-use Rattle.std.proofs.Common.{◌≡◌, ◌≢◌, ℕ, zero, suc, ◌+◌, ◌-◌, ◌*◌, ◌/◌, ◌%◌, ◌<◌, ◌≤◌, Bool, true, false, not, cond, eqb, List, [], ◌∷◌, ◌++◌, ◌&&◌, ◌||◌, length, get_or, refl, sym, ap, subst, ◌∙◌, arith, inl, inr}
-use Rattle.std.specs.Prelude.{◌⊎◌, ◌↔◌, map, filter, nat_eq, nat_lt, All, Any, Contains}
+use Rattle.std.proofs.Common.{◌≡◌, ◌≢◌, ℕ, zero, suc, ◌+◌, ◌*◌, ◌/◌, ◌%◌, ◌<◌, ◌≤◌, Bool, true, false, not, cond, List, [], ◌∷◌, ◌++◌, ◌||◌, length, get_or, refl, sym, ap, subst, ◌∙◌, arith, inl, inr}
+use Rattle.std.specs.Prelude.{◌⊎◌, map, filter, nat_eq, nat_lt, All, Contains}
 use Rattle.std.specs.List.{list_any}
 use Rattle.std.proofs.Math.Nat.{div-add-mod, mod-lt}
-use Rattle.std.proofs.lemmas.Bool.{false_from_ne_true, cases_lt, cond_both, cond-true, cond-false, cases_Bool, eq-eqb, ne_eqb, eqb-true, eqb-false, ltb-true, ltb-false, lt-ltb, or_left, or_right, or_cases, or_parts, true≢false}
+use Rattle.std.proofs.lemmas.Bool.{false_from_ne_true, cases_lt, cond_both, cond-true, cond-false, eq-eqb, eqb-true, eqb-false, ltb-true, ltb-false, lt-ltb, or_left, or_right, or_cases, true≢false}
 use Rattle.std.proofs.lemmas.List.{append-nil}
 use Rattle.std.proofs.lemmas.List.Elements.{All-contains}
 use Rattle.propositional_logic.specs.Literal.{Literal, negated}

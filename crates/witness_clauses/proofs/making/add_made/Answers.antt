@@ -1,4 +1,4 @@
-use Rattle.std.proofs.Common.{rules, ◌≡◌, sym, ap, ◌∙◌}
+use Rattle.std.proofs.Common.{rules, sym, ◌∙◌}
 use Rattle.propositional_logic.specs.Clause.{IsTautology, HasBadVariable}
 use Rattle.witness_clauses.proofs.Made.{added_clause, added_none, none_bad}
 use Rattle.witness_clauses.proofs.making.add_made.Goals as goal
