@@ -1,0 +1,15 @@
+pub mod Values
+pub mod Making
+pub mod Descent
+pub mod Ids
+pub mod Settling
+pub mod Meeting
+pub mod Pairs
+pub mod Within
+pub mod Nodes
+pub mod Rows
+pub mod Stepping
+pub mod Falling
+pub mod Comparing
+pub mod Awaiting
+pub mod Showing

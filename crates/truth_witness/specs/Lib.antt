@@ -1,0 +1,11 @@
+pub mod Clauses
+pub mod Witness
+pub mod Variables
+pub mod Frames
+pub mod Falls
+pub mod Obligations
+pub mod Proved
+pub mod Truths
+pub mod Descent
+pub mod Laws
+pub mod Example
