@@ -4,9 +4,9 @@ use crate::factors::sum_literal;
 use crate::wanted::Wanted;
 use crate::work::Work;
 use signal_nets::{
-    Net, Problem, count_where, first_column, has_column, is_clear, literal_of, opposite, part,
+    Net, Problem, Signal, count_where, first_column, has_column, is_clear, literal_of, opposite,
+    part,
 };
-use signal_nets::Signal;
 use std::alloc::{AllocError, Global};
 
 /// A product of literals, and the columns on which it is set.

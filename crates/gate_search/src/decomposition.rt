@@ -190,8 +190,14 @@ fn times_logarithm(number: u64) -> u64 {
         return 0;
     }
     let whole = 63 - u64::from(number.leading_zeros());
-    let part = (number << 10).checked_shr(whole as u32).unwrap_or(0).saturating_sub(1024);
+    let part = (number << 10)
+        .checked_shr(whole as u32)
+        .unwrap_or(0)
+        .saturating_sub(1024);
     let bent = part.saturating_mul(1024u64.saturating_sub(part)) / 2960;
-    let logarithm = whole.saturating_mul(1024).saturating_add(part).saturating_add(bent);
+    let logarithm = whole
+        .saturating_mul(1024)
+        .saturating_add(part)
+        .saturating_add(bent);
     number.saturating_mul(logarithm)
 }

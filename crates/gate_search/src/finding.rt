@@ -95,12 +95,7 @@ impl Divisors {
     }
 
     /// Two helpers of one form that do together.
-    fn pair(
-        &mut self,
-        net: &Net,
-        wanted: &Wanted,
-        helpers: &[Helper],
-    ) -> Option<(Form, u32, u32)> {
+    fn pair(&mut self, net: &Net, wanted: &Wanted, helpers: &[Helper]) -> Option<(Form, u32, u32)> {
         let pairs = helpers.len().saturating_mul(helpers.len()) / 4;
         self.looks = self.looks.saturating_sub(pairs);
         self.steps = self.steps.saturating_add(pairs.saturating_mul(8));

@@ -192,11 +192,12 @@ fn is_below_output(net: &Net, outputs: usize, node: usize) -> Result<bool, Alloc
             put(&mut marks, above);
         }
     }
-    Ok(net
-        .targets
-        .iter()
-        .take(outputs)
-        .any(|target| is_marked(&marks, *target)))
+    Ok(
+        net.targets
+            .iter()
+            .take(outputs)
+            .any(|target| is_marked(&marks, *target)),
+    )
 }
 
 fn uses(marks: &[bool], gate: Operands) -> bool {

@@ -49,7 +49,12 @@ impl Wanted {
     pub(crate) fn use_of(&self, net: &Net, node: usize) -> Use {
         let own = literal_of(node, false);
         let meeting = net.signal(own).meeting(&self.on, &self.off);
-        match (meeting.on_set, meeting.on_unset, meeting.off_set, meeting.off_unset) {
+        match (
+            meeting.on_set,
+            meeting.on_unset,
+            meeting.off_set,
+            meeting.off_unset,
+        ) {
             (_, false, false, _) => Use::Whole(own),
             (false, _, _, false) => Use::Whole(opposite(own)),
             (_, false, _, _) => self.part(net, own, Form::And),

@@ -124,12 +124,7 @@ impl Net {
     }
 
     /// One literal where the condition is set, else the other.
-    pub fn choice(
-        &mut self,
-        condition: u32,
-        then: u32,
-        otherwise: u32,
-    ) -> Result<u32, AllocError> {
+    pub fn choice(&mut self, condition: u32, then: u32, otherwise: u32) -> Result<u32, AllocError> {
         if then == otherwise {
             return Ok(then);
         }
@@ -176,8 +171,7 @@ impl Net {
         if is_known {
             let hash = hash_of(&columns);
             if self.known.get(&hash).is_none() {
-                self.known
-                    .insert(hash, u32::try_from(node).unwrap_or(0))?;
+                self.known.insert(hash, u32::try_from(node).unwrap_or(0))?;
             }
         }
         self.columns.push(columns)?;

@@ -116,7 +116,13 @@ impl Walk {
     }
 
     fn enter(&mut self, old: &Net, node: usize) -> Result<(), AllocError> {
-        if self.literals.get(node).copied().unwrap_or(Some(0)).is_some() {
+        if self
+            .literals
+            .get(node)
+            .copied()
+            .unwrap_or(Some(0))
+            .is_some()
+        {
             return Ok(());
         }
         self.stack.push(Visit::Behind(node))?;

@@ -56,7 +56,10 @@ pub fn likely_codes(
         let functions = table.functions(alloc)?;
         let mut candidates = Vec::new(alloc);
         for code in [gray_code(alloc, &ordered)?, Vec::from_slice(alloc, known)?] {
-            if code.iter().all(|own| own.checked_shr(bits).unwrap_or(0) == 0) {
+            if code
+                .iter()
+                .all(|own| own.checked_shr(bits).unwrap_or(0) == 0)
+            {
                 let cost = cost(alloc, &functions, &code, bits, work)?;
                 candidates.push(Candidate { cost, code })?;
             }
@@ -204,7 +207,12 @@ impl Drawer {
             }
         }
         let splits = sizes.iter().any(|size| size.set > 0 && size.unset > 0);
-        Ok(splits && sizes.iter().all(|size| size.set <= room && size.unset <= room))
+        Ok(
+            splits
+                && sizes
+                    .iter()
+                    .all(|size| size.set <= room && size.unset <= room),
+        )
     }
 
     /// Marks the later half of each class.

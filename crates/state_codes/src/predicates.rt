@@ -18,7 +18,9 @@ const MOST_COMBINED: usize = 40;
 
 /// How often a predicate is drawn, for each letter of an output, for each letter that leads to it, and as a combination.
 const WRITING_WEIGHT: u64 = 50;
+
 const MOVE_WEIGHT: u64 = 10;
+
 const COMBINATION_WEIGHT: u64 = 1;
 
 /// A set of states without the start, and the weights of the sets up to it.
@@ -90,7 +92,12 @@ impl Weights {
                 break;
             }
             let into = self.set(place)?;
-            work.spend(functions.states.saturating_mul(functions.moves.len()).saturating_mul(4));
+            work.spend(
+                functions
+                    .states
+                    .saturating_mul(functions.moves.len())
+                    .saturating_mul(4),
+            );
             for step in &functions.moves {
                 let from = set_before(self.alloc, &step.next, &into)?;
                 self.put(from, step.letters.saturating_mul(MOVE_WEIGHT))?;

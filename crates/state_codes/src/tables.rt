@@ -9,11 +9,12 @@ use std::alloc::{AllocError, Global};
 pub struct Table {
     pub states: usize,
     pub letters: usize,
-    /// The number of signals that are written.
+    /// The numbers of signals that are read and that are written.
+    pub inputs: u32,
     pub outputs: u32,
     /// For each state the next ones on all letters, and what is written.
     pub next: Vec<u32>,
-    pub written: Vec<u32>,
+    pub written: Vec<u64>,
 }
 
 /// For each state the next one on some letter, and the number of letters of which that is so, but at most `MOST_TELLING`.
@@ -51,9 +52,17 @@ impl Table {
     }
 
     /// What is written on a letter, the first signal as bit 0.
-    pub fn written(&self, state: usize, letter: usize) -> u32 {
+    pub fn written(&self, state: usize, letter: usize) -> u64 {
         let place = state.saturating_mul(self.letters).saturating_add(letter);
         self.written.get(place).copied().unwrap_or(0)
+    }
+
+    /// Whether what is written depends on the state alone.
+    pub fn writes_by_state(&self) -> bool {
+        self.written.chunks(self.letters.max(1)).all(|row| {
+            let first = row.first();
+            row.iter().all(|own| Some(own) == first)
+        })
     }
 
     pub(crate) fn functions(&self, alloc: Global) -> Result<Functions, AllocError> {
@@ -86,7 +95,7 @@ impl Table {
     fn writings(&self, alloc: Global) -> Result<(Vec<Writing>, u64), AllocError> {
         let mut counts: IndexMap<Vec<u64>, u64> = IndexMap::new(alloc);
         let mut choices = 0u64;
-        for output in 0..self.outputs.min(32) {
+        for output in 0..self.outputs.min(64) {
             let mut own: IndexSet<Vec<u64>> = IndexSet::new(alloc);
             for letter in 0..self.letters {
                 let states = self.writing(alloc, output, letter)?;

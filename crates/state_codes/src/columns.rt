@@ -1,7 +1,7 @@
 //! A machine with codes for its states as a problem of nets: a column for each reached state and letter.
 
+use crate::tables::Table;
 use signal_nets::Problem;
-use state_codes::Table;
 use std::alloc::{AllocError, Global};
 
 /// Sets of columns that are filled column by column.
@@ -15,33 +15,36 @@ struct Sets {
 pub fn problem_of(
     alloc: Global,
     table: &Table,
-    inputs: u32,
     codes: &[u32],
     bits: u32,
     is_moore: bool,
 ) -> Result<Problem, AllocError> {
     let columns = table.states.saturating_mul(table.letters);
     let width = columns.div_ceil(64);
-    let mut leaves = Sets::empty(alloc, inputs.saturating_add(bits), width)?;
+    let mut leaves = Sets::empty(alloc, table.inputs.saturating_add(bits), width)?;
     let mut targets = Sets::empty(alloc, table.outputs.saturating_add(bits), width)?;
     let mut state = 0usize;
     let mut letter = 0usize;
     for column in 0..width.saturating_mul(64) {
         let next = table.next(state, letter) as usize;
-        leaves.put(column, 0, u32::try_from(letter).unwrap_or(0));
-        leaves.put(column, inputs, codes.get(state).copied().unwrap_or(0));
+        leaves.put(column, 0, letter as u64);
+        leaves.put(column, table.inputs, code_of(codes, state));
         targets.put(column, 0, table.written(state, letter));
-        targets.put(column, table.outputs, codes.get(next).copied().unwrap_or(0));
+        targets.put(column, table.outputs, code_of(codes, next));
         (state, letter) = behind(table, state, letter);
     }
     Ok(Problem {
         width,
         leaves: leaves.sets,
-        inputs: inputs as usize,
+        inputs: table.inputs as usize,
         targets: targets.sets,
         outputs: table.outputs as usize,
         is_moore,
     })
+}
+
+fn code_of(codes: &[u32], state: usize) -> u64 {
+    u64::from(codes.get(state).copied().unwrap_or(0))
 }
 
 /// The next pair of a state and a letter, and the first behind the last.
@@ -65,9 +68,9 @@ impl Sets {
     }
 
     /// Puts a column into the sets of the bits of a number, the first bit's at a place.
-    fn put(&mut self, column: usize, first: u32, number: u32) {
+    fn put(&mut self, column: usize, first: u32, number: u64) {
         let mut left = number;
-        for _ in 0..32 {
+        for _ in 0..64 {
             if left == 0 {
                 break;
             }
