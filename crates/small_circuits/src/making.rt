@@ -40,7 +40,14 @@ pub fn small_circuit(
     if bits as usize > latches || is_moore && !reached.table.writes_by_state() {
         return Ok(None);
     }
-    let Some(net) = small_net(alloc, &reached.table, &reached.codes, is_moore, effort.steps)? else {
+    let Some(net) = small_net(
+        alloc,
+        &reached.table,
+        &reached.codes,
+        is_moore,
+        effort.steps,
+    )?
+    else {
         return Ok(None);
     };
     let gates = circuit.gates.len();

@@ -66,7 +66,10 @@ fn push_gates(text: &mut Vec<u8>, net: &Net) -> Result<(), AllocError> {
         if let Some(operands) = net.operands(node) {
             let greater = operands.left.max(operands.right);
             let lesser = operands.left.min(operands.right);
-            push_line(text, &[literal(node), u64::from(greater), u64::from(lesser)])?;
+            push_line(
+                text,
+                &[literal(node), u64::from(greater), u64::from(lesser)],
+            )?;
         }
     }
     Ok(())
