@@ -1,6 +1,7 @@
 //! Rows of circuits that are made small: on standard input a heading `==== GATES SIDE KIND SLIP NAME` and then a circuit in ASCII AIGER; on
 //! standard output the heading and whether the small circuit passes the test of `tests`, the states that it reaches, and whether it has few
-//! gates: no more than GATES, which is what ABC makes of it. Where a layer is told a SLIP, the circuit is rejected.
+//! gates: no more than GATES, which is what ABC makes of it. Where a layer is told a SLIP, the circuit is rejected, or there is
+//! none.
 #![tactic(auto)]
 
 mod headings;
