@@ -65,7 +65,11 @@ impl AllAlternatives {
     }
 
     /// The alternatives without these obligations.
-    pub(crate) fn without(&mut self, number: u32, left_out: Obligations) -> Result<u32, AllocError> {
+    pub(crate) fn without(
+        &mut self,
+        number: u32,
+        left_out: Obligations,
+    ) -> Result<u32, AllocError> {
         let mut set = Vec::new(self.alloc);
         for obligations in self.of(number) {
             insert_least(&mut set, obligations.without(left_out))?;

@@ -120,12 +120,7 @@ impl Expansions {
         Ok(whole)
     }
 
-    fn expansion(
-        &mut self,
-        forms: &Forms,
-        form: FormId,
-        meter: &mut Meter,
-    ) -> Result<u32, Stop> {
+    fn expansion(&mut self, forms: &Forms, form: FormId, meter: &mut Meter) -> Result<u32, Stop> {
         match forms.form(form) {
             Form::True => Ok(DONE),
             Form::False => Ok(NOTHING),
@@ -165,14 +160,26 @@ impl Expansions {
     }
 
     /// `a U b` is `b || (a && X (a U b))`.
-    fn until(&mut self, form: FormId, a: FormId, b: FormId, meter: &mut Meter) -> Result<u32, Stop> {
+    fn until(
+        &mut self,
+        form: FormId,
+        a: FormId,
+        b: FormId,
+        meter: &mut Meter,
+    ) -> Result<u32, Stop> {
         let later = self.later(form, meter)?;
         let waits = self.join(Joint::Both, self.of_form(a), later, MOST_LEVELS, meter)?;
         self.join(Joint::Either, self.of_form(b), waits, MOST_LEVELS, meter)
     }
 
     /// `a R b` is `b && (a || X (a R b))`.
-    fn release(&mut self, form: FormId, a: FormId, b: FormId, meter: &mut Meter) -> Result<u32, Stop> {
+    fn release(
+        &mut self,
+        form: FormId,
+        a: FormId,
+        b: FormId,
+        meter: &mut Meter,
+    ) -> Result<u32, Stop> {
         let later = self.later(form, meter)?;
         let goes_on = self.join(Joint::Either, self.of_form(a), later, MOST_LEVELS, meter)?;
         self.join(Joint::Both, self.of_form(b), goes_on, MOST_LEVELS, meter)
@@ -190,7 +197,11 @@ impl Expansions {
         if let Some(known) = joined_at_once(joint, one, other) {
             return Ok(known);
         }
-        let key = Joined { joint, one: one.min(other), other: one.max(other) };
+        let key = Joined {
+            joint,
+            one: one.min(other),
+            other: one.max(other),
+        };
         if let Some(known) = self.joined.get(&key) {
             return Ok(*known);
         }

@@ -102,7 +102,11 @@ impl Meter {
 
     /// Takes one step and so many more.
     pub fn take_steps(&mut self, steps: usize) -> Result<(), Stop> {
-        self.used.steps = self.used.steps.saturating_add(1).saturating_add(steps as u64);
+        self.used.steps = self
+            .used
+            .steps
+            .saturating_add(1)
+            .saturating_add(steps as u64);
         if self.used.steps > self.budget.steps {
             return Err(self.passed(Limit::Steps));
         }

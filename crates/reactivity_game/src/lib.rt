@@ -1,13 +1,19 @@
-// A library with one function.
+//! Games of generalised reactivity(1) over the product of monitors: where all assumptions are met again and again, all guarantees are.
+//! `play` explores the product, finds who wins by the triple fixpoint, and gives the winner's strategy as diagrams. Proved is that it is
+//! safe and returns; what it gives is tested by who uses it. It stands on conjunct_monitors.
 #![tactic(auto)]
 
-ghost use Rattle.std.specs.Prelude.{◌≡◌};
-ghost use Rattle.reactivity_game.specs.Echo.{echo_of};
+mod arenas;
+mod fixpoints;
+mod links;
+mod playing;
+mod products;
+mod rows;
+mod settling;
+mod solutions;
+mod strategies;
+mod traps;
+mod views;
 
-// The `ensures` clause is the contract: what `echo` returns is `echo_of` of its argument, a definition
-// in `specs/Echo.antt`, which a caller's clause can cite too.
-pub fn echo(x: usize) -> usize
-    ensures { result ≡ echo_of x }
-{
-    x
-}
+pub use playing::{Played, Players, play};
+pub use strategies::{Action, Strategy};
