@@ -1,7 +1,7 @@
 //! What the monitors of a game are there for.
 
+use conjunct_monitors::{Diagrams, Meter, Monitor, Order, Stop};
 use conjuncts::{Class, Conjunct, Forms};
-use conjunct_monitors::{Diagrams, Limit, Meter, Monitor, Order, Stop};
 use std::alloc::Global;
 
 /// What a monitor is there for.
@@ -124,11 +124,6 @@ impl Cast {
             highs.push(high)?;
         }
         Ok((lows, highs))
-    }
-
-    /// That a limit of one monitor is passed.
-    pub(crate) fn passed(meter: &Meter) -> Stop {
-        meter.passed(Limit::MonitorStates)
     }
 }
 

@@ -5,7 +5,7 @@
 //! assumptions below count as met.
 
 use crate::rows::{Cast, Role};
-use conjunct_monitors::{BROKEN, MET};
+use conjunct_monitors::BROKEN;
 
 /// What a row comes to.
 #[derive(Clone, Copy, PartialEq, Eq)]
@@ -136,6 +136,3 @@ impl Falls {
         }
     }
 }
-
-/// The place of what is met for good is the same in all monitors.
-pub(crate) const MET_PLACE: u32 = MET;

@@ -64,7 +64,12 @@ impl Trap {
     }
 
     /// Finds the states for an aim.
-    pub(crate) fn find(&mut self, arena: &Arena, aim: Aim<'_>, meter: &mut Meter) -> Result<(), Stop> {
+    pub(crate) fn find(
+        &mut self,
+        arena: &Arena,
+        aim: Aim<'_>,
+        meter: &mut Meter,
+    ) -> Result<(), Stop> {
         let links = arena.class_fates.size();
         let looks = links.saturating_add(arena.state_classes.size());
         meter.take_steps(looks.saturating_add(arena.fates.len()))?;

@@ -1,13 +1,10 @@
-// A library with one function.
+//! Who wins a text by the game of reactivity(1) over its conjuncts, with the circuit of a machine of the win. Proved is that it is safe and
+//! returns; what it gives is tested by who uses it. It stands on reactivity_game for the game and on game_machine for circuits.
 #![tactic(auto)]
 
-ghost use Rattle.std.specs.Prelude.{◌≡◌};
-ghost use Rattle.reactivity_machine.specs.Echo.{echo_of};
+mod finding;
+mod joining;
+mod moves;
 
-// The `ensures` clause is the contract: what `echo` returns is `echo_of` of its argument, a definition
-// in `specs/Echo.antt`, which a caller's clause can cite too.
-pub fn echo(x: usize) -> usize
-    ensures { result ≡ echo_of x }
-{
-    x
-}
+pub use conjunct_monitors::{Budget, Limit, Usage};
+pub use finding::{Found, Outcome, Question, Why, find};
