@@ -131,7 +131,7 @@ impl Order {
     }
 
     /// The letter of the signal of a level alone.
-    pub fn letter_of(self, level: u32) -> u32 {
-        1u32.checked_shl(self.signal_of(level)).unwrap_or(0)
+    pub fn letter_of(self, level: u32) -> u64 {
+        1u64.checked_shl(self.signal_of(level)).unwrap_or(0)
     }
 }

@@ -12,7 +12,7 @@ use std::alloc::{AllocError, Global};
 #[derive(Clone, Copy)]
 pub struct Move {
     pub when: Literals,
-    pub writes: u32,
+    pub writes: u64,
     pub next: u32,
 }
 

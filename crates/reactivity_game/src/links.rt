@@ -6,7 +6,7 @@ use std::alloc::{AllocError, Global};
 #[derive(Clone, Copy)]
 pub(crate) struct Link {
     pub(crate) target: u32,
-    pub(crate) letter: u32,
+    pub(crate) letter: u64,
 }
 
 /// For each number its links.

@@ -13,7 +13,7 @@ use std::collections::HashMap;
 /// What is written as a whole letter, and the state behind.
 #[derive(Clone, Copy, Debug, PartialEq, Eq, Hash)]
 pub struct Action {
-    pub writes: u32,
+    pub writes: u64,
     pub next: u32,
 }
 
@@ -115,7 +115,7 @@ impl<'a> Maker<'a> {
         }
     }
 
-    fn action(&mut self, writes: u32, spot: Spot) -> Result<u32, Stop> {
+    fn action(&mut self, writes: u64, spot: Spot) -> Result<u32, Stop> {
         let (next, _is_new) = self.spots.insert_full(spot)?;
         let (place, _is_new_action) = self.strategy.actions.insert_full(Action {
             writes,
@@ -260,7 +260,7 @@ impl<'a> Maker<'a> {
         &mut self,
         state: u32,
         memory: u32,
-        writes: u32,
+        writes: u64,
         node: u32,
         left: u32,
         meter: &mut Meter,
@@ -284,7 +284,7 @@ impl<'a> Maker<'a> {
         Ok(made)
     }
 
-    fn way(&mut self, state: u32, memory: u32, writes: u32, fate: u32) -> Result<u32, Stop> {
+    fn way(&mut self, state: u32, memory: u32, writes: u64, fate: u32) -> Result<u32, Stop> {
         match self.view.choice(state, memory, self.arena.fate(fate)) {
             Some(choice) => self.action(writes, choice.spot),
             None => Err(Stop::NoShape),

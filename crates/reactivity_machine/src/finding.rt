@@ -17,7 +17,7 @@ use std::alloc::{AllocError, Global};
 pub struct Question<'a> {
     pub formulas: &'a Formulas,
     pub normal: FormulaId,
-    /// The signals by their names, the inputs first. There are at most 32.
+    /// The signals by their names, the inputs first. There are at most 64.
     pub inputs: &'a [Name],
     pub outputs: &'a [Name],
     /// The kind of the system's machines; the environment's are of the other kind.
@@ -52,14 +52,14 @@ pub enum Outcome {
 /// Why nobody is found to win.
 #[derive(Clone, Copy, Debug, PartialEq, Eq)]
 pub enum Why {
-    /// The formula isn't one of reactivity(1), or has over 32 signals.
+    /// The formula isn't one of reactivity(1), or has over 64 signals.
     NoShape,
     /// This limit is passed, of one monitor or of the game, when so much was used.
     Passed(Limit, Usage),
 }
 
 /// The most signals.
-const MOST_SIGNALS: u32 = 32;
+const MOST_SIGNALS: u32 = 64;
 
 /// What the environment doesn't need is looked for in games with at most so many positions.
 const MOST_TOLD: usize = 20_000;
