@@ -1,6 +1,6 @@
 //! A text's winner, and its circuit.
 
-use crate::joining::joined;
+use crate::joining::join_states;
 use crate::moves::class_machine;
 use aiger_text::Circuit;
 use conjunct_monitors::{Budget, Limit, Meter, Order, Stop, Usage};
@@ -69,7 +69,7 @@ const MOST_TIMES: u32 = 3;
 
 /// Plays a formula's game within a budget. An error says that memory ran out.
 pub fn find(alloc: Global, question: Question<'_>, budget: Budget) -> Result<Outcome, AllocError> {
-    match found(alloc, question, budget) {
+    match outcome_of(alloc, question, budget) {
         Ok(outcome) => Ok(outcome),
         Err(Stop::NoMemory) => Err(AllocError),
         Err(Stop::NoShape) => Ok(Outcome::NoWin(Why::NoShape)),
@@ -77,7 +77,7 @@ pub fn find(alloc: Global, question: Question<'_>, budget: Budget) -> Result<Out
     }
 }
 
-fn found(alloc: Global, question: Question<'_>, budget: Budget) -> Result<Outcome, Stop> {
+fn outcome_of(alloc: Global, question: Question<'_>, budget: Budget) -> Result<Outcome, Stop> {
     let order = question.order();
     if order.levels() > MOST_SIGNALS {
         return Err(Stop::NoShape);
@@ -91,7 +91,7 @@ fn found(alloc: Global, question: Question<'_>, budget: Budget) -> Result<Outcom
         alloc,
     };
     let won = contest.won()?;
-    contest.found(question, won)
+    contest.outcome(question, won)
 }
 
 /// A game that was won, over some of the guarantees.
@@ -184,11 +184,11 @@ impl Contest<'_> {
     }
 
     /// The circuit of a game that is won.
-    fn found(&mut self, question: Question<'_>, won: Won) -> Result<Outcome, Stop> {
+    fn outcome(&mut self, question: Question<'_>, won: Won) -> Result<Outcome, Stop> {
         let strategy: &Strategy = &won.played.strategy;
         let side = strategy.side;
         let mut meter = Meter::new(self.budget);
-        let joined = joined(self.alloc, strategy, &mut meter)?;
+        let joined = join_states(self.alloc, strategy, &mut meter)?;
         let Some(machine) = class_machine(self.alloc, &joined, self.order, side, &mut meter)? else {
             return Ok(Outcome::NoCircuit(side));
         };

@@ -14,7 +14,7 @@ pub(crate) struct Joined {
 }
 
 /// The machine of a strategy with equal states joined.
-pub(crate) fn joined(
+pub(crate) fn join_states(
     alloc: Global,
     strategy: &Strategy,
     meter: &mut Meter,

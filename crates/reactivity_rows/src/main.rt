@@ -1,12 +1,16 @@
 //! Rows of texts that are played as games of reactivity(1): on standard input a heading `==== STEPS SLIP NAME` and then the text; on
-//! standard output the heading and who wins within so many steps, the states of the machine, and whether `verify` takes its circuit with
+//! standard output the heading and who wins within so many steps, and whether `verify` takes the circuit of its machine with
 //! an annotation. What the stored run must print of a text without a slip is what the search for machines of each size answers. Where the
-//! game is told a SLIP, so that a side wins that can't, its circuit is rejected.
+//! game is told a SLIP, so that a side wins that can't, its circuit is rejected. The last line tells of forms that are drawn: whether those
+//! that conjuncts makes of them have their truth on lassos that are drawn.
 #![tactic(auto)]
 
+mod drawn;
 mod headings;
+mod lassos;
 mod plays;
 
+use drawn::push_agreement;
 use plays::push_row;
 use std::io::{BufRead, Write};
 
@@ -37,6 +41,7 @@ fn main(rt: HostRuntime) -> anyhow::Result<()> {
         }
         line.clear();
     }
+    push_agreement(alloc, &mut out)?;
     rt.stdout().write_all(&out)?;
     Ok(())
 }

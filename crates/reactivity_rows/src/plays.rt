@@ -100,11 +100,7 @@ fn push_found(
         Some(_) => "isn't verified",
         None => "is rejected",
     };
-    let (states, positions) = (found.states, found.positions);
-    let (unneeded, guarantees) = (found.unneeded, found.guarantees);
-    let line = format!(in alloc;
-        "{winner} {verdict}, {states} states, {positions} positions, {unneeded} of {guarantees} guarantees unneeded\n"
-    )?;
+    let line = format!(in alloc; "{winner} {verdict}\n")?;
     out.extend_from_slice(line.as_bytes())
 }
 
