@@ -10,21 +10,21 @@ use std::alloc::{AllocError, Global};
 
 /// What a machine does in one state on some letters that it reads: what it writes, as a whole letter, and the state after it.
 #[derive(Clone, Copy)]
-pub(crate) struct Move {
-    pub(crate) when: Literals,
-    pub(crate) writes: u64,
-    pub(crate) next: u32,
+pub struct Move {
+    pub when: Literals,
+    pub writes: u64,
+    pub next: u32,
 }
 
 /// A machine. Each letter that is read fits some move of each state; the first that it fits decides. The start is state 0.
 #[derive(Drop)]
-pub(crate) struct ClassMachine {
-    pub(crate) player: Player,
-    pub(crate) states: Vec<Vec<Move>>,
+pub struct ClassMachine {
+    pub player: Player,
+    pub states: Vec<Vec<Move>>,
 }
 
 /// A machine has at most so many moves.
-const MOST_MOVES: usize = 1_000_000;
+pub const MOST_MOVES: usize = 1_000_000;
 
 impl ClassMachine {
     /// The machine of a win, with the states that are reached.

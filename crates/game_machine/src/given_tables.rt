@@ -38,11 +38,21 @@ pub fn table_circuit(alloc: Global, table: GivenTable<'_>) -> Result<Option<Circ
     let Some(machine) = table.machine(alloc)? else {
         return Ok(None);
     };
-    let (read, written) = match table.side {
-        Side::System => (table.inputs, table.outputs),
-        Side::Environment => (table.outputs, table.inputs),
+    move_circuit(alloc, &machine, table.inputs, table.outputs)
+}
+
+/// The circuit of a machine over classes of letters, for texts with these names. None as for a table.
+pub fn move_circuit(
+    alloc: Global,
+    machine: &ClassMachine,
+    inputs: &[Name],
+    outputs: &[Name],
+) -> Result<Option<Circuit>, AllocError> {
+    let (read, written) = match machine.player.side {
+        Side::System => (inputs, outputs),
+        Side::Environment => (outputs, inputs),
     };
-    match circuit_of(alloc, &machine, read, written, STEPS) {
+    match circuit_of(alloc, machine, read, written, STEPS) {
         Ok(circuit) => Ok(Some(circuit)),
         Err(Stop::NoMemory) => Err(AllocError),
         Err(_) => Ok(None),

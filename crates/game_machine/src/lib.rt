@@ -17,6 +17,7 @@ mod products;
 mod sides;
 mod spare_positions;
 
+pub use class_machines::{ClassMachine, MOST_MOVES, Move};
 pub use finding::{Contest, End, Found, Outcome, find};
-pub use given_tables::{GivenTable, table_circuit};
+pub use given_tables::{GivenTable, move_circuit, table_circuit};
 pub use safety_game::Budget;
