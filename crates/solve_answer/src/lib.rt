@@ -8,6 +8,7 @@
 mod answering;
 mod documents;
 mod finding;
+mod reducing;
 mod refuting;
 mod shrinking;
 mod testing;
