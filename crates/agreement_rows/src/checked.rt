@@ -6,19 +6,19 @@ ghost use Rattle.machine_model.specs.Problem.{IsMachineOf, IsProblem};
 use letters_and_lassos::Kind;
 use machine_model::{Edge, Machine, Problem};
 
-fn has_far_must(edges: &[Edge], letters: u32) -> bool
+fn has_far_must(edges: &[Edge], letters: u64) -> bool
     ensures { OnFalse result (All (λ e. e.cube.must < letters) edges.now) }
 {
     edges.iter().any(|edge| edge.cube.must >= letters)
 }
 
-fn has_far_not(edges: &[Edge], letters: u32) -> bool
+fn has_far_not(edges: &[Edge], letters: u64) -> bool
     ensures { OnFalse result (All (λ e. e.cube.not < letters) edges.now) }
 {
     edges.iter().any(|edge| edge.cube.not >= letters)
 }
 
-fn letters_of(signals: u32) -> u32
+fn letters_of(signals: u32) -> u64
     requires { signals ≤ 16 }
     ensures { result ≡ 2 ^ signals }
 {

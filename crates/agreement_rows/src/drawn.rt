@@ -13,7 +13,7 @@ use std::sync::Arc;
 const ANY: Cube = Cube { must: 0, not: 0 };
 
 /// The signal is wanted, forbidden, or in half of all cubes free.
-fn random_signal(random: &mut Pcg32, signal: u32) -> Cube {
+fn random_signal(random: &mut Pcg32, signal: u64) -> Cube {
     match random.next_word() % 4 {
         0 => Cube {
             must: signal,

@@ -84,7 +84,7 @@ fn random_letters(alloc: Global, random: &mut Pcg32, least: u32) -> anyhow::Resu
     let mut letters = Vec::new(alloc);
     let more = random.next_word() % 3;
     for _ in 0..least.saturating_add(more) {
-        letters.push(Letter(random.next_word() % 4))?;
+        letters.push(Letter(u64::from(random.next_word() % 4)))?;
     }
     Ok(letters)
 }

@@ -130,7 +130,7 @@ fn write_value(problem: &Problem, machine: &Machine, place: u32) -> bool
     ensures { result ≡ write_value problem.now machine.now place }
 {
     let written = written_at(problem, machine, place / problem.writes());
-    Letter(written).has(place % problem.writes())
+    Letter(u64::from(written)).has(place % problem.writes())
 }
 
 /// The letter that the machine writes at a place of its writes.

@@ -450,7 +450,7 @@ pub(crate) fn fits_read(problem: &Problem, cube: Cube, letter: u32) -> bool
 {
     for signal in 0..problem.reads() {
         let whole = read_signal(problem, signal);
-        if !signal_fits(cube, whole, Letter(letter).has(signal)) {
+        if !signal_fits(cube, whole, Letter(u64::from(letter)).has(signal)) {
             return false;
         }
     }

@@ -1,5 +1,6 @@
 -- The names that a text declares, and those of its flat form, are words.
-use Rattle.std.proofs.Common.{◌≡◌, ℕ, zero, suc, ◌+◌, ◌^◌, ◌<◌, ◌≤◌, Bool, true, false, List, [], ◌∷◌, ◌++◌, length, Option, None, Some, Result, Ok, Err, All, refl, sym, ap, subst, ◌∙◌, arith}
+use Rattle.std.proofs.Math.Nat.{min-le_left}
+use Rattle.std.proofs.Common.{◌≡◌, ℕ, zero, suc, ◌+◌, ◌-◌, ◌^◌, ◌<◌, ◌≤◌, Bool, true, false, List, [], ◌∷◌, ◌++◌, length, Option, None, Some, Result, Ok, Err, All, refl, sym, ap, subst, ◌∙◌, arith}
 use Rattle.std.specs.Prelude.{◌≢◌, ◌&&◌, not, nat_le, codes, decimal, IfOk}
 use Rattle.std.specs.Char.{is_ascii_digit}
 use Rattle.std.specs.List.{list_all}
@@ -21,7 +22,7 @@ use Rattle.tlsf_values.specs.declared.work.Work.{Work}
 use Rattle.tlsf_values.specs.Outcomes.{Outcome, gives, fails, go_on, choose}
 use Rattle.tlsf_reader.specs.Parts.{inputs_of, outputs_of, text_of}
 use Rattle.tlsf_syntax.specs.Text.{Text}
-use Rattle.tlsf_expand.specs.Signals.{Extent, alone, wide, of_type, width_of, bits_in, extent_value, bit_name, bit_names, Declared, declared, declarations_value, Signals, none_yet, signals_value, uneven_value, even_first}
+use Rattle.tlsf_expand.specs.Signals.{Extent, alone, wide, of_type, width_of, bits_in, extent_value, bit_name, bit_names, Declared, declared, declarations_value, Signals, most_behind, none_yet, signals_value, uneven_value, even_first}
 use Rattle.tlsf_expand.specs.Sections.{sections_value, whole_value}
 use Rattle.tlsf_expand.specs.Expansion.{Expanded, kind_of, expanded_as, expanded}
 use Rattle.tlsf_expand.specs.declared.spec.Spec.{Spec as CodeSpec}
@@ -140,10 +141,13 @@ record PlainSignals (s : Signals) : Type 0 where
   of_inputs : All IsOneWord s.inputs
   of_outputs : All IsOneWord s.outputs
 
-signals_plain : (most : ℕ) → most < 2 ^ 64 → (text : Text) → Declare IsOneWord text.inputs → Declare IsOneWord text.outputs → (work : Work) → Gives PlainSignals (signals_value most text work)
-signals_plain most below text ins outs work =
-    gives_go_on PlainSignals _ (plain_each most below text 0 _ text.inputs work ins (All-nil IsOneWord)) (λ inputs w1 h1.
-    gives_go_on PlainSignals _ (plain_each most below text (length inputs.flat) (none_yet inputs.names) text.outputs w1 outs (All-nil IsOneWord)) (λ outputs w2 h2. given _ w2 (record { of_inputs = h1; of_outputs = h2 })))
+few_behind : (limits : Limits) (before : ℕ) → limits.signals < 2 ^ 64 → most_behind limits before < 2 ^ 64
+few_behind limits before below = let least = min-le_left limits.signals (limits.all_signals - before) in omega arith
+
+signals_plain : (limits : Limits) → limits.signals < 2 ^ 64 → (text : Text) → Declare IsOneWord text.inputs → Declare IsOneWord text.outputs → (work : Work) → Gives PlainSignals (signals_value limits text work)
+signals_plain limits below text ins outs work =
+    gives_go_on PlainSignals _ (plain_each (most_behind limits 0) (few_behind limits 0 below) text 0 _ text.inputs work ins (All-nil IsOneWord)) (λ inputs w1 h1.
+    gives_go_on PlainSignals _ (plain_each (most_behind limits (length inputs.flat)) (few_behind limits (length inputs.flat) below) text (length inputs.flat) (none_yet inputs.names) text.outputs w1 outs (All-nil IsOneWord)) (λ outputs w2 h2. given _ w2 (record { of_inputs = h1; of_outputs = h2 })))
 
 even_plain : (o : Option ℕ) (s : Outcome Signals) → Gives PlainSignals s → Gives PlainSignals (even_first o s)
 even_plain None s h = h
@@ -152,7 +156,7 @@ even_plain (Some place) s h = refused _ _
 names_of_expanded : (limits : Limits) → limits.signals < 2 ^ 64 → (kind : Option Kind) (text : Text) → Declare IsOneWord text.inputs → Declare IsOneWord text.outputs → Gives HasPlainNames (expanded_as limits kind text)
 names_of_expanded limits below None text ins outs = refused _ _
 names_of_expanded limits below (Some kind) text ins outs =
-    gives_go_on HasPlainNames _ (even_plain (uneven_value text.definitions) _ (signals_plain limits.signals below text ins outs _)) (λ s w1 h.
+    gives_go_on HasPlainNames _ (even_plain (uneven_value text.definitions) _ (signals_plain limits below text ins outs _)) (λ s w1 h.
     gives_go_on HasPlainNames _ (gives_any (sections_value s text.sections w1)) (λ sections w2 _.
     gives_go_on HasPlainNames _ (gives_any (whole_value text.info.strict sections w2)) (λ whole w3 _. given _ w3 (record { inputs_plain = h.of_inputs; outputs_plain = h.of_outputs }))))
 

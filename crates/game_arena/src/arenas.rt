@@ -21,7 +21,7 @@ pub struct Player {
 
 impl Player {
     /// The signals that the player reads, in whole letters.
-    pub fn reads(self) -> u32 {
+    pub fn reads(self) -> u64 {
         match self.side {
             Side::System => low_bits(self.inputs),
             Side::Environment => shifted(low_bits(self.outputs), self.inputs),
@@ -29,7 +29,7 @@ impl Player {
     }
 
     /// The signals that the player writes, in whole letters.
-    pub fn writes(self) -> u32 {
+    pub fn writes(self) -> u64 {
         match self.side {
             Side::System => shifted(low_bits(self.outputs), self.inputs),
             Side::Environment => low_bits(self.inputs),
@@ -37,12 +37,12 @@ impl Player {
     }
 }
 
-fn low_bits(count: u32) -> u32 {
+fn low_bits(count: u32) -> u64 {
     shifted(1, count).wrapping_sub(1)
 }
 
-fn shifted(bits: u32, by: u32) -> u32 {
-    if by < 32 { bits << by } else { 0 }
+fn shifted(bits: u64, by: u32) -> u64 {
+    if by < 64 { bits << by } else { 0 }
 }
 
 /// An edge of the automaton for a player.
@@ -166,7 +166,7 @@ fn begins_of(alloc: Global, edges: &[Edge], states: usize) -> Result<Vec<usize>,
 }
 
 /// Edges with the same literals to the same state have one name.
-fn name_of(names: &mut IndexSet<(u32, u32, u32)>, edge: &Edge) -> Result<u32, AllocError> {
+fn name_of(names: &mut IndexSet<(u64, u64, u32)>, edge: &Edge) -> Result<u32, AllocError> {
     let (name, _) = names.insert_full((edge.letters.on, edge.letters.off, edge.to))?;
     Ok(u32::try_from(name).unwrap_or(u32::MAX))
 }

@@ -27,7 +27,7 @@ pub(crate) struct MarkedAutomaton {
 }
 
 /// An edge as its source sees it: the class that it leads to, the signals that are on and those that are off, and whether it is marked.
-type Ending = (u32, u32, u32, bool);
+type Ending = (u32, u64, u64, bool);
 
 /// The automaton without states that lead to no mark, with states that have the same edges joined.
 pub(crate) fn reduced(

@@ -1,10 +1,10 @@
-//! Conditions on some of 32 signals.
+//! Conditions on some of 64 signals.
 
 /// The letters that have each signal of `on` and none of `off`. Where a signal is in both there is no such letter.
 #[derive(Clone, Copy)]
 pub struct Literals {
-    pub on: u32,
-    pub off: u32,
+    pub on: u64,
+    pub off: u64,
 }
 
 impl Literals {
@@ -12,7 +12,7 @@ impl Literals {
     pub const ANY: Literals = Literals { on: 0, off: 0 };
 
     /// The literals of these signals alone.
-    pub fn of_signals(self, signals: u32) -> Literals {
+    pub fn of_signals(self, signals: u64) -> Literals {
         Literals {
             on: self.on & signals,
             off: self.off & signals,
@@ -71,12 +71,12 @@ impl Literals {
     }
 
     /// Whether a letter meets the condition.
-    pub fn fits(self, letter: u32) -> bool {
+    pub fn fits(self, letter: u64) -> bool {
         self.on & !letter == 0 && self.off & letter == 0
     }
 }
 
 /// The letter of one signal, or of none where there is no such signal.
-fn bit_of(signal: u32) -> u32 {
-    if signal < 32 { 1 << signal } else { 0 }
+fn bit_of(signal: u32) -> u64 {
+    if signal < 64 { 1 << signal } else { 0 }
 }

@@ -12,7 +12,7 @@ use std::alloc::{AllocError, Global};
 #[derive(Clone, Copy)]
 pub(crate) struct Move {
     pub(crate) when: Literals,
-    pub(crate) writes: u32,
+    pub(crate) writes: u64,
     pub(crate) next: u32,
 }
 

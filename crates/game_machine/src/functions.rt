@@ -11,7 +11,7 @@ use std::collections::HashMap;
 struct Row {
     code: u32,
     when: Literals,
-    writes: u32,
+    writes: u64,
     next: u32,
 }
 
@@ -55,14 +55,14 @@ const MOST_KEPT: usize = 20_000_000;
 const MOST_GATES: usize = 100_000;
 
 /// Bit k of a number.
-fn has(number: u32, bit: u32) -> bool {
-    bit < 32 && (number >> bit) & 1 == 1
+fn has(number: u64, bit: u32) -> bool {
+    bit < 64 && (number >> bit) & 1 == 1
 }
 
 /// The signals of a mask, in rising order.
-pub(crate) fn signals_of(alloc: Global, mask: u32) -> Result<Vec<u32>, AllocError> {
+pub(crate) fn signals_of(alloc: Global, mask: u64) -> Result<Vec<u32>, AllocError> {
     let mut signals = Vec::new(alloc);
-    for signal in 0u32..32 {
+    for signal in 0u32..64 {
         if has(mask, signal) {
             signals.push(signal)?;
         }
@@ -79,7 +79,7 @@ impl Row {
     /// What the row asks of a variable.
     fn asks(&self, source: Source) -> Option<bool> {
         match source {
-            Source::Code(bit) => Some(has(self.code, bit)),
+            Source::Code(bit) => Some(has(u64::from(self.code), bit)),
             Source::Read(signal) if has(self.when.on, signal) => Some(true),
             Source::Read(signal) if has(self.when.off, signal) => Some(false),
             Source::Read(_) => None,
@@ -88,7 +88,7 @@ impl Row {
 
     fn value(&self, bit: Bit) -> bool {
         match bit {
-            Bit::Next(place) => has(self.next, place),
+            Bit::Next(place) => has(u64::from(self.next), place),
             Bit::Written(signal) => has(self.writes, signal),
         }
     }

@@ -93,15 +93,15 @@ impl GivenTable<'_> {
             Side::System => (0, count_of(self.inputs)),
             Side::Environment => (count_of(self.inputs), 0),
         };
-        let own = u32::try_from(letter).unwrap_or(0);
-        let last = u32::try_from(size.saturating_sub(1)).unwrap_or(0);
-        let asked = 2u32.saturating_pow(self.reads()).saturating_sub(1) & !last;
+        let own = letter as u64;
+        let last = size.saturating_sub(1) as u64;
+        let asked = 2u64.saturating_pow(self.reads()).saturating_sub(1) & !last;
         Move {
             when: Literals {
                 on: shifted(own & asked, read_at),
                 off: shifted(!own & asked, read_at),
             },
-            writes: shifted(row.writes, write_at),
+            writes: shifted(u64::from(row.writes), write_at),
             next: row.next,
         }
     }
@@ -153,6 +153,6 @@ fn count_of(names: &[Name]) -> u32 {
     u32::try_from(names.len()).unwrap_or(u32::MAX)
 }
 
-fn shifted(letter: u32, by: u32) -> u32 {
+fn shifted(letter: u64, by: u32) -> u64 {
     letter.checked_shl(by).unwrap_or(0)
 }

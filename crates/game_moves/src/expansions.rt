@@ -13,7 +13,7 @@ use std::alloc::{AllocError, Global};
 /// An answer: what is written, and the positions of which one comes next.
 #[derive(Drop)]
 pub struct Candidate {
-    pub writes: u32,
+    pub writes: u64,
     pub successors: Vec<u32>,
 }
 
@@ -200,7 +200,7 @@ impl<'a> Game<'a> {
 
 /// For each item the name of what it does once the first half of the letter is known.
 fn names_of(alloc: Global, items: &[Item], kind: Kind) -> Result<Vec<u32>, AllocError> {
-    let mut met: IndexSet<(u32, u32, Option<u32>, u8)> = IndexSet::new(alloc);
+    let mut met: IndexSet<(u64, u64, Option<u32>, u8)> = IndexSet::new(alloc);
     let mut names = Vec::with_capacity(alloc, items.len())?;
     for item in items {
         let later = match kind {

@@ -31,7 +31,7 @@ impl Branch {
     pub(crate) fn written(
         alloc: Global,
         items: &[Item],
-        writes: u32,
+        writes: u64,
     ) -> Result<Branch, AllocError> {
         let mut possible = Vec::new(alloc);
         for (place, item) in (0u32..u32::MAX).zip(items) {

@@ -6,21 +6,25 @@ use game_arena::tables::{at, put};
 /// How often each signal is asked to be on, and how often to be off.
 #[derive(Clone, Copy)]
 pub(crate) struct Tally {
-    on: [u32; 32],
-    off: [u32; 32],
+    on: [u32; 64],
+    off: [u32; 64],
+    /// The signals that are asked for at all.
+    asked: u64,
 }
 
 impl Tally {
     pub(crate) fn new() -> Tally {
         Tally {
-            on: [0; 32],
-            off: [0; 32],
+            on: [0; 64],
+            off: [0; 64],
+            asked: 0,
         }
     }
 
     pub(crate) fn add(&mut self, literals: Literals) {
         add_bits(&mut self.on, literals.on);
         add_bits(&mut self.off, literals.off);
+        self.asked |= literals.on | literals.off;
     }
 
     /// The signal that is asked for most often, the first of several, and how often it is asked to be on and off.
@@ -30,8 +34,10 @@ impl Tally {
             on: 0,
             off: 0,
         };
-        for signal in 0u32..32 {
-            let asked = self.asked(signal);
+        let mut left = self.asked;
+        for _ in 0..self.asked.count_ones() {
+            let asked = self.asked(left.trailing_zeros());
+            left &= left.wrapping_sub(1);
             if asked.times() > most.times() {
                 most = asked;
             }
@@ -62,7 +68,7 @@ impl Asked {
     }
 }
 
-fn add_bits(counts: &mut [u32], signals: u32) {
+fn add_bits(counts: &mut [u32], signals: u64) {
     let mut left = signals;
     for _ in 0..signals.count_ones() {
         let signal = left.trailing_zeros();

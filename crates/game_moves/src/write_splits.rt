@@ -14,7 +14,7 @@ const MOST_ANSWERS: usize = 3000;
 /// What is written, and the least position that it leads to.
 #[derive(Drop)]
 pub(crate) struct Written {
-    pub(crate) writes: u32,
+    pub(crate) writes: u64,
     pub(crate) reached: Vec<u8>,
 }
 
@@ -194,7 +194,7 @@ fn grow_answers(
 pub(crate) struct WriteClass {
     effects: BitSet,
     pub(crate) possible: Vec<u32>,
-    pub(crate) writes: u32,
+    pub(crate) writes: u64,
 }
 
 /// The letters that leave least effects possible, and whether some may be missing.

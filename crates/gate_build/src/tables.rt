@@ -59,8 +59,8 @@ fn bit_at(machine: &Machine, bit: Bit, number: u32) -> bool
         return false;
     }
     match bit {
-        Bit::Next(j) => Letter(machine.next(state, letter)).has(j),
-        Bit::Written(o) => Letter(machine.writes_at(state, letter)).has(o),
+        Bit::Next(j) => Letter(u64::from(machine.next(state, letter))).has(j),
+        Bit::Written(o) => Letter(u64::from(machine.writes_at(state, letter))).has(o),
     }
 }
 

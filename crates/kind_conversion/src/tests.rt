@@ -31,7 +31,7 @@ fn shifted(alloc: Global, shift: Shift) -> Result<ConvertedList, Fail> {
 fn letters(alloc: Global, digits: &[u8]) -> Result<Vec<Letter>, AllocError> {
     let mut letters = Vec::new(alloc);
     for digit in digits {
-        letters.push(Letter(u32::from(*digit & 3)))?;
+        letters.push(Letter(u64::from(*digit & 3)))?;
     }
     Ok(letters)
 }

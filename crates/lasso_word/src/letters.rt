@@ -65,14 +65,14 @@ fn place_of(name: &[u8], names: &[Name]) -> Option<usize>
 }
 
 fn with_signal(letter: Letter, signal: u32) -> Letter
-    requires { signal < 16 }
+    requires { signal < 64 }
     ensures { result ≡ with_signal letter signal }
 {
     Letter(letter.0 | bit(signal))
 }
 
-fn bit(signal: u32) -> u32
-    requires { signal < 16 }
+fn bit(signal: u32) -> u64
+    requires { signal < 64 }
     ensures { result ≡ 2 ^ signal }
 {
     1 << signal

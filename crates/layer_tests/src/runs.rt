@@ -12,7 +12,7 @@ fn letters(rt: &HostRuntime, digits: &[u8]) -> Result<Vec<Letter>, Fail>
 {
     let mut letters = Vec::new(rt.alloc());
     for digit in digits {
-        letters.push(Letter(u32::from(*digit == b'1')))?;
+        letters.push(Letter(u64::from(*digit == b'1')))?;
     }
     Ok(letters)
 }
@@ -20,7 +20,7 @@ fn letters(rt: &HostRuntime, digits: &[u8]) -> Result<Vec<Letter>, Fail>
 /// A digit for each letter.
 fn push_letters(text: &mut Vec<u8>, letters: &[Letter]) -> Result<(), Fail> {
     for letter in letters {
-        text.push(digit(letter.0))?;
+        text.push(digit((letter.0 % 10) as u32))?;
     }
     text.push(b' ')?;
     Ok(())

@@ -443,7 +443,7 @@ pub(crate) fn fits_read(size: LetterSize<'_>, cube: Cube, letter: u32) -> bool
 {
     for signal in 0..size.problem.reads() {
         let whole = size.read_signal(signal);
-        if !signal_fits(cube, whole, Letter(letter).has(signal)) {
+        if !signal_fits(cube, whole, Letter(u64::from(letter)).has(signal)) {
             return false;
         }
     }

@@ -42,8 +42,9 @@ impl Span {
         2u32.saturating_pow(self.count.min(31)).saturating_sub(1)
     }
 
-    fn part(self, signals: u32) -> u32 {
-        signals.checked_shr(self.first).unwrap_or(0) & self.whole()
+    fn part(self, signals: u64) -> u32 {
+        let part = signals.checked_shr(self.first).unwrap_or(0) & u64::from(self.whole());
+        u32::try_from(part).unwrap_or(0)
     }
 
     fn half(self, cube: Cube) -> Half {

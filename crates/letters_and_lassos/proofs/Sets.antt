@@ -72,7 +72,7 @@ some_signal_within (suc m) s small ne =
 pub some_signal : (s : ℕ) → s ≢ 0 → (k : ℕ) × IsTrue (has s k)
 some_signal s ne = some_signal_within s s (omega arith) ne
 
--- no set of 32 signals has one from 32 on
+-- no set of so many signals has one beyond them
 pub has-past : (s k n : ℕ) → s < 2 ^ n → n ≤ k → has s k ≡ true → ⊥
 has-past s k n small past h =
     let e : bit_at s k ≡ 1 = has-bit s k h in

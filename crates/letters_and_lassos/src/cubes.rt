@@ -6,8 +6,8 @@ use crate::letters::Letter;
 /// A condition on letters: the signals that a letter must have, and those that it must not have.
 #[derive(Clone, Copy, Debug, PartialEq, Eq, Hash)]
 pub struct Cube {
-    pub must: u32,
-    pub not: u32,
+    pub must: u64,
+    pub not: u64,
     pub ghost apart: { AreApart must not },
 }
 

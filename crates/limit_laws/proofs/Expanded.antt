@@ -1,5 +1,6 @@
 -- Expansion keeps what it gives within wider limits.
-use Rattle.std.proofs.Common.{◌≡◌, ℕ, ◌+◌, Bool, true, false, List, [], ◌∷◌, length, Option, None, Some, refl}
+use Rattle.std.proofs.Common.{◌≡◌, ℕ, ◌+◌, ◌-◌, ◌≤◌, Bool, true, false, List, [], ◌∷◌, length, Option, None, Some, refl, arith}
+use Rattle.std.proofs.Math.Nat.{min-le_left, min-le_right, le-min}
 use Rattle.text_limits.specs.declared.Limits.{Limits}
 use Rattle.letters_and_lassos.specs.Word.{Word}
 use Rattle.letters_and_lassos.specs.declared.kinds.Kind.{Kind}
@@ -14,7 +15,7 @@ use Rattle.tlsf_values.specs.Outcomes.{Outcome, gives, fails, go_on, made}
 use Rattle.tlsf_values.specs.Names.{Names, with_definitions, without_names}
 use Rattle.tlsf_values.specs.Values.{span_start}
 use Rattle.tlsf_values.specs.SectionValues.{section_value}
-use Rattle.tlsf_expand.specs.Signals.{TypedSignal, Signals, Declared, width_in, type_in, extent_value, bits_in, declaration_value, declarations_value, none_yet, signals_value, uneven_value, even_first, signals_of}
+use Rattle.tlsf_expand.specs.Signals.{TypedSignal, Signals, Declared, width_in, type_in, extent_value, bits_in, declaration_value, declarations_value, most_behind, none_yet, signals_value, uneven_value, even_first, signals_of}
 use Rattle.tlsf_expand.specs.Sections.{in_order, added_value, sections_value, joined_more, conjoined, standard_value, strict_value, whole_value}
 use Rattle.tlsf_expand.specs.Expansion.{Expanded, kind_of, expanded_as, expanded, fault_in, flat_fault}
 use Rattle.tlsf_expand.specs.FlatText.{flat_in}
@@ -40,23 +41,31 @@ module _ (small large : Limits) (wider : AreWider small large) where
       kept_go_on _ _ (kept_value_at small large wider names [] t 0 done nodes) (λ v done nodes. kept_checked (width_in (span_start t) v) _ _ _ _ (λ extent. same_given extent done nodes))
   kept_extent_value text names (typed word) = λ done nodes. kept_checked (type_in text word (names.means word.name)) _ _ _ _ (λ extent. same_given extent done nodes)
 
-  module _ (text : Text) (from : ℕ) where
+  module _ (few many : ℕ) (more : few ≤ many) (text : Text) (from : ℕ) where
     kept_declaration_value : (d : Declared) (x : Declaration) (done : ℕ) (nodes : List Node)
-        → Kept small large (declaration_value small.signals text from d x (record { limits = small; done = done; formulas = nodes })) (declaration_value large.signals text from d x (record { limits = large; done = done; formulas = nodes }))
+        → Kept small large (declaration_value few text from d x (record { limits = small; done = done; formulas = nodes })) (declaration_value many text from d x (record { limits = large; done = done; formulas = nodes }))
     kept_declaration_value d x done nodes =
         kept_go_on _ _ (kept_extent_value text d.names x.shape done nodes) (λ extent done nodes.
-        kept_within (length d.flat + bits_in extent) small.signals large.signals wider.signals _ _ _ _ _ _ _ (same_given _ done nodes))
+        kept_within (length d.flat + bits_in extent) few many more _ _ _ _ _ _ _ (same_given _ done nodes))
 
     kept_declarations_value : (d : Declared) (xs : List Declaration) (done : ℕ) (nodes : List Node)
-        → Kept small large (declarations_value small.signals text from d xs (record { limits = small; done = done; formulas = nodes })) (declarations_value large.signals text from d xs (record { limits = large; done = done; formulas = nodes }))
+        → Kept small large (declarations_value few text from d xs (record { limits = small; done = done; formulas = nodes })) (declarations_value many text from d xs (record { limits = large; done = done; formulas = nodes }))
     kept_declarations_value d [] = same_given d
     kept_declarations_value d (x ∷ xs) = λ done nodes. kept_go_on _ _ (kept_declaration_value d x done nodes) (λ d. kept_declarations_value d xs)
 
+  more_behind : (before : ℕ) → most_behind small before ≤ most_behind large before
+  more_behind before =
+      let one = min-le_left small.signals (small.all_signals - before) in
+      let other = min-le_right small.signals (small.all_signals - before) in
+      let signals = wider.signals in
+      let all = wider.all_signals in
+      le-min (omega arith) (omega arith)
+
   kept_signals_value : (text : Text) (done : ℕ) (nodes : List Node)
-      → Kept small large (signals_value small.signals text (record { limits = small; done = done; formulas = nodes })) (signals_value large.signals text (record { limits = large; done = done; formulas = nodes }))
+      → Kept small large (signals_value small text (record { limits = small; done = done; formulas = nodes })) (signals_value large text (record { limits = large; done = done; formulas = nodes }))
   kept_signals_value text done nodes =
-      kept_go_on _ _ (kept_declarations_value text 0 (none_yet (with_definitions without_names text.definitions)) text.inputs done nodes) (λ inputs done nodes.
-      kept_go_on _ _ (kept_declarations_value text (length inputs.flat) (none_yet inputs.names) text.outputs done nodes) (λ outputs. same_given _))
+      kept_go_on _ _ (kept_declarations_value _ _ (more_behind 0) text 0 (none_yet (with_definitions without_names text.definitions)) text.inputs done nodes) (λ inputs done nodes.
+      kept_go_on _ _ (kept_declarations_value _ _ (more_behind (length inputs.flat)) text (length inputs.flat) (none_yet inputs.names) text.outputs done nodes) (λ outputs. same_given _))
 
   kept_even_first : (uneven : Option ℕ) (o p : Outcome Signals) → Kept small large o p → Kept small large (even_first uneven o) (even_first uneven p)
   kept_even_first None o p h = h

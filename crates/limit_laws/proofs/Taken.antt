@@ -31,7 +31,7 @@ use Rattle.limit_laws.proofs.Expanded.{same_text}
 use Rattle.limit_laws.proofs.BothFit.{none_fit, one_not}
 
 small_within_large : AreWider SMALL_LIMITS LARGE_LIMITS
-small_within_large = record { signals = omega arith; nodes = omega arith }
+small_within_large = record { signals = omega arith; all_signals = omega arith; nodes = omega arith }
 
 -- ---- kinds
 

@@ -1,8 +1,8 @@
 /// How many different nodes a list of formulas holds at most, whatever more its user would allow.
-pub const MAX_NODES: usize = 4_096;
+pub const MAX_NODES: usize = 16_384;
 
 /// How many signals formulas may speak of: their numbers are below this.
-pub const MAX_SIGNALS: u32 = 32;
+pub const MAX_SIGNALS: u32 = 64;
 
 /// A node's place in its list of formulas, from 0.
 #[derive(Clone, Copy, Debug, PartialEq, Eq, Hash, PartialOrd, Ord)]

@@ -1,5 +1,6 @@
-ghost use Rattle.std.specs.Prelude.{◌≡◌, ℕ, ◌+◌, ◌^◌, ◌<◌, ◌≤◌, [], All, IfOk, OnOk, length};
-ghost use Rattle.letters_and_lassos.specs.Word.{IsLassoOver, SameWord, after, lasso_len};
+ghost use Rattle.std.specs.Prelude.{◌≡◌, ℕ, ◌+◌, ◌*◌, ◌^◌, ◌<◌, ◌≤◌, [], All, IfOk, OnOk, length};
+ghost use Rattle.letters_and_lassos.specs.Word.{IsLassoOver, SameWord, after, lasso_len, letter_at};
+ghost use Rattle.text_limits.specs.declared.TheConstants.{LARGE_LIMITS};
 ghost use Rattle.machine_model.specs.Machine.{size_of, next_of};
 ghost use Rattle.machine_model.specs.Run.{IsRunLasso, read_lasso, joined_letter};
 ghost use Rattle.machine_model.specs.Course.{IsCourse, letter_of};
@@ -23,9 +24,19 @@ pub fn whole_letter(machine: &Machine, side: Side, t: u32, read: u32) -> Letter
 {
     let written = machine.writes_at(t, read);
     match side {
-        Side::System => Letter(written * letter_count(machine.reads()) + read),
-        Side::Environment => Letter(read * letter_count(machine.writes()) + written),
+        Side::System => joined(machine.reads(), read, written),
+        Side::Environment => joined(machine.writes(), written, read),
     }
+}
+
+/// The letter of so many lower signals and of others above them.
+fn joined(count: u32, lower: u32, upper: u32) -> Letter
+    requires few { count ≤ LARGE_LIMITS.signals }
+    requires lower { lower < 2 ^ count }
+    requires upper { upper < 65536 }
+    ensures { result ≡ record { 0 = upper * 2 ^ count + lower } }
+{
+    Letter(u64::from(upper) * u64::from(letter_count(count)) + u64::from(lower))
 }
 
 /// The machine's run on a lasso of read letters, the first read signal being bit 0. Its positions are
@@ -67,6 +78,25 @@ struct Course {
     state: u32,
 }
 
+/// The number of the letter that the machine reads at a position.
+fn read_number(machine: &Machine, reads: &Lasso, position: usize) -> u32
+    requires over { IsLassoOver machine.now.reads reads.now }
+    requires within { position < lasso_len reads.now }
+    ensures value { result ≡ (letter_at reads.now position).0 }
+    ensures fits { result < 2 ^ machine.now.reads }
+{
+    number_of(machine.reads(), reads.letter(position))
+}
+
+/// The number of a letter of so many signals.
+fn number_of(signals: u32, letter: Letter) -> u32
+    requires few { signals ≤ LARGE_LIMITS.signals }
+    requires fits { letter.0 < 2 ^ signals }
+    ensures { result ≡ letter.0 }
+{
+    letter.0 as u32
+}
+
 impl Course {
     fn start(alloc: Global) -> Self
         ensures letters { result.letters.items ≡ [] }
@@ -98,7 +128,7 @@ impl Course {
         ensures len { OnOk result (length self.new.letters.items + from ≡ length self.old.letters.items + to) }
     {
         for position in from..to {
-            let read = reads.letter(position).0;
+            let read = read_number(machine, reads, position);
             self.letters
                 .push(whole_letter(machine, side, self.state, read))?;
             self.states.push(self.state)?;

@@ -15,7 +15,7 @@ const LETTERS_OF_WORD: u32 = 64;
 const MOST_WORDS: u32 = 1024;
 
 /// The signals that are alike in all letters of a word: all but the first six.
-const SIGNALS_OF_WORD: u32 = !63;
+const SIGNALS_OF_WORD: u64 = !63;
 
 /// The letters that have the signals of `wanted`, and no others of the signals of `cared`.
 #[derive(Clone, Copy)]
@@ -35,8 +35,8 @@ impl Cube {
     /// The cube of one letter.
     fn of_letter(letter: u32) -> Cube {
         Cube {
-            wanted: Letter(letter),
-            cared: Letter(MOST_LETTERS.saturating_sub(1)),
+            wanted: Letter(u64::from(letter)),
+            cared: Letter(u64::from(MOST_LETTERS.saturating_sub(1))),
         }
     }
 
@@ -64,7 +64,7 @@ impl Cube {
 
     /// Its letters of a block of 64.
     fn word(self, block: u32) -> u64 {
-        let first = block.saturating_mul(LETTERS_OF_WORD);
+        let first = u64::from(block.saturating_mul(LETTERS_OF_WORD));
         if (first ^ self.wanted.0) & self.cared.0 & SIGNALS_OF_WORD != 0 {
             return 0;
         }

@@ -62,7 +62,7 @@ pub fn put_words(words: &[String], joint: &str, none: &str, out: &mut Text) {
 /// Puts the names of a letter's signals with a blank between them, or `-`, as a line of a word has them.
 pub fn put_letter(letter: Letter, labels: &[String], out: &mut Text) {
     let mut is_first = true;
-    for (signal, label) in (0u32..32).zip(labels) {
+    for (signal, label) in (0u32..64).zip(labels) {
         if letter.has(signal) {
             if !is_first {
                 out.put(" ");
@@ -79,7 +79,7 @@ pub fn put_letter(letter: Letter, labels: &[String], out: &mut Text) {
 /// Puts the signals that a cube asks for, with `and` between them and `!` before one that is to be false, or `none`.
 pub fn put_cube(cube: Cube, labels: &[String], and: &str, none: &str, out: &mut Text) {
     let mut is_first = true;
-    for (signal, label) in (0u32..32).zip(labels) {
+    for (signal, label) in (0u32..64).zip(labels) {
         let Some(is_wanted) = cube.asks(signal) else {
             continue;
         };
@@ -99,7 +99,7 @@ pub fn put_cube(cube: Cube, labels: &[String], and: &str, none: &str, out: &mut 
 
 /// Puts a digit for each signal, by what a cube asks of it, or `-`.
 pub fn put_digits(cube: Cube, labels: &[String], out: &mut Text) {
-    for (signal, _label) in (0u32..32).zip(labels) {
+    for (signal, _label) in (0u32..64).zip(labels) {
         out.put(match cube.asks(signal) {
             Some(true) => "1",
             Some(false) => "0",
@@ -110,7 +110,7 @@ pub fn put_digits(cube: Cube, labels: &[String], out: &mut Text) {
 
 /// Puts a digit for each signal, by whether a letter has it.
 pub fn put_levels(letter: Letter, labels: &[String], out: &mut Text) {
-    for (signal, _label) in (0u32..32).zip(labels) {
+    for (signal, _label) in (0u32..64).zip(labels) {
         out.put(if letter.has(signal) { "1" } else { "0" });
     }
 }

@@ -76,7 +76,7 @@ fn put_cubes(row: &Row, answer: Answer, inputs: usize, out: &mut Text) -> bool {
 /// Puts what is asked of the inputs, and says whether that is anything.
 fn put_cube(cube: Cube, inputs: usize, out: &mut Text) -> bool {
     let mut has_any = false;
-    for signal in 0u32..32 {
+    for signal in 0u32..64 {
         if let (Some(is_wanted), true) = (cube.asks(signal), (signal as usize) < inputs) {
             put_literal(signal as usize, is_wanted, has_any, out);
             has_any = true;
@@ -87,7 +87,7 @@ fn put_cube(cube: Cube, inputs: usize, out: &mut Text) -> bool {
 
 fn put_letter(letter: Letter, inputs: usize, outputs: usize, has_cube: bool, out: &mut Text) {
     let mut has_any = has_cube;
-    for signal in 0u32..32 {
+    for signal in 0u32..64 {
         if (signal as usize) < outputs {
             let place = inputs.saturating_add(signal as usize);
             put_literal(place, letter.has(signal), has_any, out);

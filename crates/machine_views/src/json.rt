@@ -147,7 +147,7 @@ fn put_edge(state: usize, edge: &Edge, inputs: &[String], outputs: &[String], ou
     put_reads(edge.cube, inputs, out);
     out.put("}, \"writes\": [");
     let mut is_first = true;
-    for (signal, label) in (0u32..32).zip(outputs) {
+    for (signal, label) in (0u32..64).zip(outputs) {
         if edge.answer.written.has(signal) {
             out.put(if is_first { "" } else { ", " });
             out.fill("\"{}\"", &[Part::Word(label)]);
@@ -160,7 +160,7 @@ fn put_edge(state: usize, edge: &Edge, inputs: &[String], outputs: &[String], ou
 /// The inputs that a cube asks for, with what each must be.
 fn put_reads(cube: Cube, inputs: &[String], out: &mut Text) {
     let mut is_first = true;
-    for (signal, label) in (0u32..32).zip(inputs) {
+    for (signal, label) in (0u32..64).zip(inputs) {
         if let Some(is_wanted) = cube.asks(signal) {
             out.put(if is_first { "" } else { ", " });
             out.fill("\"{}\": ", &[Part::Word(label)]);

@@ -24,7 +24,7 @@ impl Matching {
             return Err(ShowFault::NoPartners);
         }
         let mut places: Vec<u32> = Vec::new(alloc);
-        for (own, signal) in (0u32..32).zip(signals) {
+        for (own, signal) in (0u32..64).zip(signals) {
             let place = match signal {
                 Some(name) => place_of(name, others).ok_or(ShowFault::NoPartners)?,
                 None => own,
@@ -39,8 +39,8 @@ impl Matching {
 
     /// The letter of the signals, from one of the other list.
     pub(crate) fn of_other(&self, letter: Letter) -> Letter {
-        let mut own = 0u32;
-        for (signal, place) in (0u32..32).zip(&self.places) {
+        let mut own = 0u64;
+        for (signal, place) in (0u32..64).zip(&self.places) {
             if letter.has(*place) {
                 own |= signal_bit(signal);
             }
@@ -50,8 +50,8 @@ impl Matching {
 
     /// The letter of the other list, from one of the signals.
     pub(crate) fn to_other(&self, letter: Letter) -> Letter {
-        let mut other = 0u32;
-        for (signal, place) in (0u32..32).zip(&self.places) {
+        let mut other = 0u64;
+        for (signal, place) in (0u32..64).zip(&self.places) {
             if letter.has(signal) {
                 other |= signal_bit(*place);
             }
@@ -61,7 +61,7 @@ impl Matching {
 }
 
 fn place_of(name: &Name, others: &[Name]) -> Option<u32> {
-    for (place, other) in (0u32..32).zip(others) {
+    for (place, other) in (0u32..64).zip(others) {
         if other.bytes() == name.bytes() {
             return Some(place);
         }

@@ -77,8 +77,8 @@ fn inputs_in(
     machine: &Machine,
     letters: &[Letter],
 ) -> Result<Vec<Letter>, AllocError> {
-    let mut mask = 0u32;
-    for (signal, _label) in (0u32..32).zip(&machine.inputs.labels) {
+    let mut mask = 0u64;
+    for (signal, _label) in (0u32..64).zip(&machine.inputs.labels) {
         mask |= signal_bit(signal);
     }
     let mut found = Vec::new(alloc);

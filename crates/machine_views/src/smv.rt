@@ -70,7 +70,7 @@ fn put_module(machine: &Machine, inputs: &[String], outputs: &[String], out: &mu
     if !outputs.is_empty() {
         out.put("DEFINE\n");
     }
-    for (signal, output) in (0u32..32).zip(outputs) {
+    for (signal, output) in (0u32..64).zip(outputs) {
         out.fill("  {} := ", &[Part::Word(output)]);
         put_output(machine, signal, inputs, out);
         out.put(";\n");

@@ -42,7 +42,7 @@ pub(crate) fn put_output(machine: &Machine, output: u32, inputs: &[String], out:
 
 fn put_condition(state: usize, cube: Cube, inputs: &[String], out: &mut Text) {
     out.fill("state = {}", &[Part::Number(state as u64)]);
-    for (signal, input) in (0u32..32).zip(inputs) {
+    for (signal, input) in (0u32..64).zip(inputs) {
         match cube.asks(signal) {
             Some(true) => out.fill(" & {}", &[Part::Word(input)]),
             Some(false) => out.fill(" & !{}", &[Part::Word(input)]),

@@ -79,7 +79,7 @@ pub(crate) fn bits_of(states: usize) -> u32 {
 
 /// The values of a letter that differ from those before, or all of the first one.
 fn put_changes(sort: &str, count: usize, before: Option<Letter>, letter: Letter, out: &mut Text) {
-    for signal in 0u32..32 {
+    for signal in 0u32..64 {
         let level = letter.has(signal);
         if (signal as usize) < count && before.is_none_or(|earlier| earlier.has(signal) != level) {
             let digit = if level { 1 } else { 0 };

@@ -51,7 +51,7 @@ pub(crate) fn put_state(
 
 /// The outputs that are true whatever is read.
 fn written_always(row: &Row) -> Letter {
-    let mut written = u32::MAX;
+    let mut written = u64::MAX;
     for edge in &row.edges {
         written &= edge.answer.written.0;
     }
@@ -59,7 +59,7 @@ fn written_always(row: &Row) -> Letter {
 }
 
 fn put_written(written: Letter, ports: &Ports<'_>, indent: &str, out: &mut Text) {
-    for (signal, output) in (0u32..32).zip(&ports.written) {
+    for (signal, output) in (0u32..64).zip(&ports.written) {
         if written.has(signal) {
             out.fill("{}{} = 1'b1;\n", &[Part::Word(indent), Part::Word(output)]);
         }

@@ -12,14 +12,14 @@ const STATES: &str = "(state)";
 pub(crate) fn put_wave(machine: &Machine, steps: &[Step], out: &mut Text) {
     let width = label_width(machine);
     let cell = cell_width(steps);
-    for (signal, label) in (0u32..32).zip(&machine.inputs.labels) {
+    for (signal, label) in (0u32..64).zip(&machine.inputs.labels) {
         put_label(label, width, out);
         for step in steps {
             put_level(step, step.read, signal, cell, out);
         }
         out.put("\n");
     }
-    for (signal, label) in (0u32..32).zip(&machine.outputs.labels) {
+    for (signal, label) in (0u32..64).zip(&machine.outputs.labels) {
         put_label(label, width, out);
         for step in steps {
             put_level(step, step.written, signal, cell, out);

@@ -39,17 +39,17 @@ forbidding_at_is cube k false e lacks c m n = ap Some (same_cube c _ m n)
 pub forbidding_is : (cube : Cube) (k : ℕ) → has cube.must k ≡ false → (c : Cube) → c.must ≡ cube.must → c.not ≡ bit_or cube.not (2 ^ k) → Some c ≡ forbidding cube k
 forbidding_is cube k lacks c m n = forbidding_at_is cube k (has cube.must k) refl lacks c m n
 
--- a signal below 32 is a bit of a u32
-one_shifted : (k : ℕ) → k < 32 → (1 * 2 ^ k) % 4294967296 ≡ 2 ^ k
+-- a signal below 64 is a bit of a letter
+one_shifted : (k : ℕ) → k < 64 → (1 * 2 ^ k) % 18446744073709551616 ≡ 2 ^ k
 one_shifted k small =
-    let below : 2 ^ k < 2 ^ 32 = pow-lt small in
+    let below : 2 ^ k < 2 ^ 64 = pow-lt small in
     omega arith
 
-below_thirty_two : (k : ℕ) → k < MAX_SIGNALS → k < 32
-below_thirty_two k small = omega arith
+below_sixty_four : (k : ℕ) → k < MAX_SIGNALS → k < 64
+below_sixty_four k small = omega arith
 
-pub added_bit : (s k : ℕ) → k < MAX_SIGNALS → bit_or s ((1 * 2 ^ k) % 4294967296) ≡ bit_or s (2 ^ k)
-added_bit s k small = ap (bit_or s) (one_shifted k (below_thirty_two k small))
+pub added_bit : (s k : ℕ) → k < MAX_SIGNALS → bit_or s ((1 * 2 ^ k) % 18446744073709551616) ≡ bit_or s (2 ^ k)
+added_bit s k small = ap (bit_or s) (one_shifted k (below_sixty_four k small))
 
 pub apart_must_at : (cube : Cube) (k : ℕ) → has cube.not k ≡ false → (m : ℕ) → m ≡ bit_or cube.must (2 ^ k) → AreApart m cube.not
 apart_must_at cube k lacks m e = subst (λ (n : ℕ). AreApart n cube.not) (sym e) (apart_must cube k lacks)

@@ -17,7 +17,7 @@ impl Cover {
 }
 
 /// Whether each signal of a set is in another.
-fn is_part(signals: u32, others: u32) -> bool
+fn is_part(signals: u64, others: u64) -> bool
     ensures { result ≡ is_part signals others }
 {
     signals & others == signals

@@ -2,7 +2,7 @@
 use Rattle.std.proofs.Common.{◌≡◌, ℕ, List, Option, Some, None, refl, sym, ap, subst, ◌∙◌}
 use Rattle.std.specs.Prelude.{option_map}
 use Rattle.std.proofs.lemmas.Option.{same_Some}
-use Rattle.text_limits.specs.declared.TheConstants.{LARGE_LIMITS}
+use Rattle.text_limits.specs.declared.Limits.{Limits}
 use Rattle.letters_and_lassos.specs.declared.kinds.Kind.{Kind}
 use Rattle.letters_and_lassos.specs.declared.kinds.Kind.TheVariants.{Mealy}
 use Rattle.spec_faults.specs.declared.code.SpecCode.{SpecCode}
@@ -19,8 +19,8 @@ use Rattle.flat_text.proofs.OfKinds.{kinds}
 use Rattle.flat_text.proofs.OneFault.{one_fault as one_flat_fault}
 use Rattle.solve_ground.specs.declared.texts.SolveText.{SolveText}
 use Rattle.solve_ground.specs.Forms.{BothForms, forms_taken}
-use Rattle.solve_ground.specs.Laws.{IsSameText, SolveTextsAreDetermined}
-use Rattle.solve_ground.specs.SolveText.{IsSolveFault, IsSolveText, forms_seen, of_expansion, of_forms, of_reading}
+use Rattle.solve_ground.specs.Laws.{AreDetermined, IsSameText}
+use Rattle.solve_ground.specs.SolveText.{IsFaultWithin, IsTextWithin, forms_seen, of_expansion, of_forms, of_reading}
 use Rattle.solve_ground.specs.Taken.{converted_from, taken_kind, taken_shift}
 
 -- what expands has no fault
@@ -28,42 +28,42 @@ pub never_both : (o : Outcome Expanded) (flat : FlatText) (fault : Fault) → fl
 never_both (gives x w) flat fault is isnt = cc
 never_both (fails code place) flat fault is isnt = cc
 
-module _ (text : List ℕ) (given : Option Kind) where
+module _ (limits : Limits) (text : List ℕ) (given : Option Kind) where
   -- the flat form that a tree is taken as, or its fault
   abbrev flat_at : Text → Option FlatText
-  flat_at tree = flat_in (expanded LARGE_LIMITS tree (Some (taken_kind given tree)))
+  flat_at tree = flat_in (expanded limits tree (Some (taken_kind given tree)))
 
   abbrev fault_at : Text → Option Fault
-  fault_at tree = flat_fault LARGE_LIMITS tree (Some (taken_kind given tree))
+  fault_at tree = flat_fault limits tree (Some (taken_kind given tree))
 
   abbrev forms_at : Text → FlatText → Option BothForms
-  forms_at tree flat = forms_taken LARGE_LIMITS.nodes (taken_shift given tree) flat
+  forms_at tree flat = forms_taken limits.nodes (taken_shift given tree) flat
 
   -- what a text has at one tree it has at any other
   moved : {A : Type 0} (f : Text → A) (tree other : Text) → Reads text tree → Reads text other → f tree ≡ f other
   moved f tree other read read' = ap f (one_tree text tree other read read')
 
-  module _ (t : SolveText) (is : IsSolveText text given t) (tree : Text) (read : Reads text tree) where
+  module _ (t : SolveText) (is : IsTextWithin limits text given t) (tree : Text) (read : Reads text tree) where
     flat_of : flat_at tree ≡ Some is.flat
     flat_of =
-        ap (λ (k : Kind). flat_in (expanded LARGE_LIMITS tree (Some k))) (moved (taken_kind given) tree is.taken.tree read is.taken.read)
-        ∙ moved (λ (x : Text). flat_in (expanded LARGE_LIMITS x (Some (taken_kind given is.taken.tree)))) tree is.taken.is_flat.tree read is.taken.is_flat.read
+        ap (λ (k : Kind). flat_in (expanded limits tree (Some k))) (moved (taken_kind given) tree is.taken.tree read is.taken.read)
+        ∙ moved (λ (x : Text). flat_in (expanded limits x (Some (taken_kind given is.taken.tree)))) tree is.taken.is_flat.tree read is.taken.is_flat.read
         ∙ is.taken.is_flat.expanded
 
     forms_of : forms_at tree is.flat ≡ Some (forms_seen t)
     forms_of = moved (λ (x : Text). forms_at x is.flat) tree is.taken.tree read is.taken.read ∙ is.forms
 
-  no_fault : (t : SolveText) (code : SpecCode) (place : ℕ) → IsSolveText text given t → IsSolveFault text given code place → ⊥
+  no_fault : (t : SolveText) (code : SpecCode) (place : ℕ) → IsTextWithin limits text given t → IsFaultWithin limits text given code place → ⊥
   no_fault t code place is (of_reading _ _ fault) = no_reading_fault text is.taken.tree code place is.taken.read fault
   no_fault t code place is (of_expansion tree _ _ read fault) =
-      never_both (expanded LARGE_LIMITS tree (Some (taken_kind given tree))) is.flat (record { code = code; place = place }) (flat_of t is tree read) fault
+      never_both (expanded limits tree (Some (taken_kind given tree))) is.flat (record { code = code; place = place }) (flat_of t is tree read) fault
   no_fault t _ _ is (of_forms tree flat read expands none) =
       let same : flat ≡ is.flat = same_Some flat is.flat (sym expands ∙ flat_of t is tree read) in
       let some = forms_of t is tree read in
       let lost : forms_at tree is.flat ≡ None = subst (λ (f : FlatText). forms_at tree f ≡ None) same none in
       cc
 
-  one_text : (t t' : SolveText) → IsSolveText text given t → IsSolveText text given t' → IsSameText t t'
+  one_text : (t t' : SolveText) → IsTextWithin limits text given t → IsTextWithin limits text given t' → IsSameText t t'
   one_text t t' is is' =
       let tree : Text = is.taken.tree in
       let read : Reads text tree = is.taken.read in
@@ -82,18 +82,18 @@ module _ (text : List ℕ) (given : Option Kind) where
   no_expansion : (tree other : Text) (flat : FlatText) (code : SpecCode) (place : ℕ) → Reads text tree → Reads text other → flat_at tree ≡ Some flat
       → fault_at other ≡ Some (record { code = code; place = place }) → ⊥
   no_expansion tree other flat code place read read' is fault =
-      never_both (expanded LARGE_LIMITS tree (Some (taken_kind given tree))) flat (record { code = code; place = place }) is
+      never_both (expanded limits tree (Some (taken_kind given tree))) flat (record { code = code; place = place }) is
       (moved fault_at tree other read read' ∙ fault)
 
-  one_fault : (code code' : SpecCode) (place place' : ℕ) → IsSolveFault text given code place → IsSolveFault text given code' place'
+  one_fault : (code code' : SpecCode) (place place' : ℕ) → IsFaultWithin limits text given code place → IsFaultWithin limits text given code' place'
       → (code ≡ code') × (place ≡ place')
   one_fault code code' place place' (of_reading _ _ is) (of_reading _ _ is') =
-      one_flat_fault LARGE_LIMITS text None code code' place place' (flats.of_reading code place is) (flats.of_reading code' place' is')
+      one_flat_fault limits text None code code' place place' (flats.of_reading code place is) (flats.of_reading code' place' is')
   one_fault code code' place place' (of_reading _ _ is) (of_expansion tree _ _ read fault) = absurd (no_reading_fault text tree code place read is)
   one_fault code _ place _ (of_reading _ _ is) (of_forms tree flat read expands none) = absurd (no_reading_fault text tree code place read is)
   one_fault code code' place place' (of_expansion tree _ _ read fault) (of_reading _ _ is) = absurd (no_reading_fault text tree code' place' read is)
   one_fault code code' place place' (of_expansion tree _ _ read fault) (of_expansion other _ _ read' fault') =
-      one_flat_fault LARGE_LIMITS text (Some (taken_kind given tree)) code code' place place' (flats.of_expansion tree code place read fault)
+      one_flat_fault limits text (Some (taken_kind given tree)) code code' place place' (flats.of_expansion tree code place read fault)
       (flats.of_expansion tree code' place' read (moved fault_at tree other read read' ∙ fault'))
   one_fault code _ place _ (of_expansion tree _ _ read fault) (of_forms other flat read' expands none) =
       absurd (no_expansion other tree flat code place read' read expands fault)
@@ -102,11 +102,11 @@ module _ (text : List ℕ) (given : Option Kind) where
       absurd (no_expansion tree other flat code' place' read read' expands fault)
   one_fault _ _ _ _ (of_forms tree flat read expands none) (of_forms other flat' read' expands' none') = (refl, refl)
 
-any_kind : (text : List ℕ) (kind other : Kind) (code : SpecCode) (place : ℕ) → IsSolveFault text (Some kind) code place → IsSolveFault text (Some other) code place
-any_kind text kind other code place (of_reading _ _ is) = of_reading code place is
-any_kind text kind other code place (of_expansion tree _ _ read fault) = of_expansion tree code place read (kinds.other_fault LARGE_LIMITS tree kind other ∙ fault)
-any_kind text kind other _ _ (of_forms tree flat read is none) =
-    of_forms tree (of_kind other flat) read (kinds.other LARGE_LIMITS tree kind other ∙ ap (option_map (of_kind other)) is) none
+any_kind : (limits : Limits) (text : List ℕ) (kind other : Kind) (code : SpecCode) (place : ℕ) → IsFaultWithin limits text (Some kind) code place → IsFaultWithin limits text (Some other) code place
+any_kind limits text kind other code place (of_reading _ _ is) = of_reading code place is
+any_kind limits text kind other code place (of_expansion tree _ _ read fault) = of_expansion tree code place read (kinds.other_fault limits tree kind other ∙ fault)
+any_kind limits text kind other _ _ (of_forms tree flat read is none) =
+    of_forms tree (of_kind other flat) read (kinds.other limits tree kind other ∙ ap (option_map (of_kind other)) is) none
 
-pub determined : SolveTextsAreDetermined
-determined = record { one_text = one_text; no_fault = no_fault; one_fault = one_fault; any_kind = any_kind }
+pub determined : (limits : Limits) → AreDetermined limits
+determined limits = record { one_text = one_text limits; no_fault = no_fault limits; one_fault = one_fault limits; any_kind = any_kind limits }

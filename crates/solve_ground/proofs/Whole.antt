@@ -10,7 +10,6 @@ use Rattle.spec_faults.specs.declared.code.SpecCode.TheVariants.{TooManyNodes}
 use Rattle.spec_faults.specs.declared.code.SpecFault.{SpecFault}
 use Rattle.spec_faults.specs.declared.code.SpecFault.TheVariants.{At}
 use Rattle.text_limits.specs.declared.Limits.{Limits}
-use Rattle.text_limits.specs.declared.TheConstants.{LARGE_LIMITS}
 use Rattle.kind_conversion.specs.declared.shifts.Shift.{Shift}
 use Rattle.satisfaction.specs.Wanted.{Wanted}
 use Rattle.tlsf_syntax.specs.Text.{Text}
@@ -27,7 +26,7 @@ use Rattle.flat_text.proofs.OfKinds.{kinds}
 use Rattle.solve_ground.specs.declared.texts.SolveText.{SolveText}
 use Rattle.solve_ground.specs.Forms.{forms_taken}
 use Rattle.solve_ground.specs.Parts.{HasNoForms, IsWithForms}
-use Rattle.solve_ground.specs.SolveText.{IsSolveFault, IsSolveText, of_expansion, of_forms}
+use Rattle.solve_ground.specs.SolveText.{IsFaultWithin, IsTextWithin, of_expansion, of_forms}
 use Rattle.solve_ground.specs.Taken.{converted_from, spoken_word, taken_kind, taken_shift}
 
 -- the error of a result
@@ -40,21 +39,21 @@ kind_in limits tree kind flat is = sym (same_Some kind flat.expanded.kind (kinds
 
 -- ---- faults
 
-module _ (text : List ℕ) (given : Option Kind) (tree : Text) (read : Reads text tree) where
-  pub expansion_fault : (kind : Kind) → kind ≡ taken_kind given tree → (e : SpecFault) → IsFault (expanded LARGE_LIMITS tree (Some kind)) e
-      → (code : SpecCode) (place : ℕ) → e ≡ At code place → IsSolveFault text given code place
+module _ (limits : Limits) (text : List ℕ) (given : Option Kind) (tree : Text) (read : Reads text tree) where
+  pub expansion_fault : (kind : Kind) → kind ≡ taken_kind given tree → (e : SpecFault) → IsFault (expanded limits tree (Some kind)) e
+      → (code : SpecCode) (place : ℕ) → e ≡ At code place → IsFaultWithin limits text given code place
   expansion_fault kind same e is code place refused =
       of_expansion tree code place read (ap fault_in
-      (subst (λ k. expanded LARGE_LIMITS tree (Some k) ≡ fails code place) same (subst (λ x. IsFault (expanded LARGE_LIMITS tree (Some kind)) x) refused is)))
+      (subst (λ k. expanded limits tree (Some k) ≡ fails code place) same (subst (λ x. IsFault (expanded limits tree (Some kind)) x) refused is)))
 
-  module _ (spec : Spec) (kind : Kind) (same : kind ≡ taken_kind given tree) (expansion : flat_in (expanded LARGE_LIMITS tree (Some kind)) ≡ Some (spec_seen spec)) where
-    flat_so : flat_in (expanded LARGE_LIMITS tree (Some (taken_kind given tree))) ≡ Some (spec_seen spec)
-    flat_so = subst (λ k. flat_in (expanded LARGE_LIMITS tree (Some k)) ≡ Some (spec_seen spec)) same expansion
+  module _ (spec : Spec) (kind : Kind) (same : kind ≡ taken_kind given tree) (expansion : flat_in (expanded limits tree (Some kind)) ≡ Some (spec_seen spec)) where
+    flat_so : flat_in (expanded limits tree (Some (taken_kind given tree))) ≡ Some (spec_seen spec)
+    flat_so = subst (λ k. flat_in (expanded limits tree (Some k)) ≡ Some (spec_seen spec)) same expansion
 
-    pub forms_fault : (shift : Option Shift) → shift ≡ taken_shift given tree → (code : SpecCode) (place : ℕ) → HasNoForms spec shift code place → IsSolveFault text given code place
+    pub forms_fault : (shift : Option Shift) → shift ≡ taken_shift given tree → (code : SpecCode) (place : ℕ) → HasNoForms limits.nodes spec shift code place → IsFaultWithin limits text given code place
     forms_fault shift shift_is code place full =
-        subst (λ c. IsSolveFault text given c place) (sym full.code_is) (subst (λ p. IsSolveFault text given TooManyNodes p) (sym full.at)
-        (of_forms tree (spec_seen spec) read flat_so (subst (λ s. forms_taken LARGE_LIMITS.nodes s (spec_seen spec) ≡ None) shift_is full.none)))
+        subst (λ c. IsFaultWithin limits text given c place) (sym full.code_is) (subst (λ p. IsFaultWithin limits text given TooManyNodes p) (sym full.at)
+        (of_forms tree (spec_seen spec) read flat_so (subst (λ s. forms_taken limits.nodes s (spec_seen spec) ≡ None) shift_is full.none)))
 
     -- ---- the text
 
@@ -63,11 +62,11 @@ module _ (text : List ℕ) (given : Option Kind) (tree : Text) (read : Reads tex
       inputs = spec.inputs.items;
       outputs = spec.outputs.items;
       kind = spec.kind;
-      means = λ w. means LARGE_LIMITS (spoken_word (taken_shift given tree) (length spec.inputs.items) w) tree;
+      means = λ w. means limits (spoken_word (taken_shift given tree) (length spec.inputs.items) w) tree;
     }
 
-    module _ (meaning : KeepsMeaning LARGE_LIMITS tree spec.formulas spec.whole) (few : HasFewSignals LARGE_LIMITS (length spec.inputs.items) (length spec.outputs.items) spec.formulas) where
-      with_forms_is : (semantics : Option Kind) → semantics ≡ converted_from given tree → (t : SolveText) → IsWithForms spec (taken_shift given tree) semantics t → IsSolveText text given t
+    module _ (meaning : KeepsMeaning limits tree spec.formulas spec.whole) (few : HasFewSignals limits (length spec.inputs.items) (length spec.outputs.items) spec.formulas) where
+      with_forms_is : (semantics : Option Kind) → semantics ≡ converted_from given tree → (t : SolveText) → IsWithForms limits.nodes spec (taken_shift given tree) semantics t → IsTextWithin limits text given t
       unfolding wanted
       with_forms_is semantics semantics_is t with_forms =
           let says : (w : Word) → HasRing w → holds w (tree_at with_forms.taken.formulas with_forms.taken.whole) 0 ≡ wanted.means w =
@@ -81,7 +80,7 @@ module _ (text : List ℕ) (given : Option Kind) (tree : Text) (read : Reads tex
               is_flat = record { tree = tree; read = read; expanded = flat_so; meaning = meaning };
               inputs = refl;
               outputs = refl;
-              kind_is = kind_in LARGE_LIMITS tree (taken_kind given tree) (spec_seen spec) flat_so;
+              kind_is = kind_in limits tree (taken_kind given tree) (spec_seen spec) flat_so;
               meaning = λ w ring. refl;
             };
             inputs = with_forms.inputs;
@@ -102,9 +101,10 @@ module _ (text : List ℕ) (given : Option Kind) (tree : Text) (read : Reads tex
             };
             few_inputs = omega (arith, few.few_inputs, ap length with_forms.inputs);
             few_outputs = omega (arith, few.few_outputs, ap length with_forms.outputs);
+            few_signals = omega (arith, few.few_signals, ap length with_forms.inputs, ap length with_forms.outputs);
           }
 
       pub text_of : (shift : Option Shift) → shift ≡ taken_shift given tree → (semantics : Option Kind) → semantics ≡ converted_from given tree → (result : Result SolveText SpecFault)
-          → IfOk result (IsWithForms spec shift semantics) → IfOk result (IsSolveText text given)
-      text_of shift shift_is semantics semantics_is (Ok t) made = with_forms_is semantics semantics_is t (subst (λ s. IsWithForms spec s semantics t) shift_is made)
+          → IfOk result (IsWithForms limits.nodes spec shift semantics) → IfOk result (IsTextWithin limits text given)
+      text_of shift shift_is semantics semantics_is (Ok t) made = with_forms_is semantics semantics_is t (subst (λ s. IsWithForms limits.nodes spec s semantics t) shift_is made)
       text_of shift shift_is semantics semantics_is (Err e) made = tt

@@ -13,7 +13,6 @@ use Rattle.spec_faults.specs.declared.code.SpecCode.{SpecCode}
 use Rattle.spec_faults.specs.declared.code.SpecCode.TheVariants.{TooManyNodes}
 use Rattle.spec_faults.specs.declared.code.SpecFault.{SpecFault}
 use Rattle.spec_faults.specs.declared.code.SpecFault.TheVariants.{At, NoMemory}
-use Rattle.text_limits.specs.declared.TheConstants.{LARGE_LIMITS}
 use Rattle.tlsf_expand.specs.declared.spec.Spec.{Spec}
 use Rattle.tlsf_expand.specs.FlatText.{spec_seen}
 use Rattle.solve_ground.specs.declared.forms.Forms.{Forms}
@@ -51,17 +50,17 @@ pub record IsFull {A : Type 0} (code : SpecCode) (place : ℕ) (made : Option A)
   pub at : place ≡ 0
   pub none : made ≡ None
 
--- the text that a flat text gives, so taken, with both forms of its whole
-pub record IsWithForms (spec : Spec) (shift : Option Shift) (semantics : Option Kind) (t : SolveText) : Type 0 where
+-- the text that a flat text gives, so taken, with both forms of its whole in a list of at most so many nodes
+pub record IsWithForms (most : ℕ) (spec : Spec) (shift : Option Shift) (semantics : Option Kind) (t : SolveText) : Type 0 where
   pub inputs : t.inputs.items ≡ spec.inputs.items
   pub outputs : t.outputs.items ≡ spec.outputs.items
   pub kind_is : t.kind ≡ spec.kind
   pub semantics_is : t.semantics ≡ semantics
-  pub forms : forms_taken LARGE_LIMITS.nodes shift (spec_seen spec) ≡ Some (forms_seen t)
+  pub forms : forms_taken most shift (spec_seen spec) ≡ Some (forms_seen t)
   pub taken : ConvertedList
   pub says : SaysTaken shift (length spec.inputs.items) (tree_at spec.formulas spec.whole) taken
   pub of_taken : AreFormsOf (tree_at taken.formulas taken.whole) (forms_seen t)
 
 -- there is no room for them
-abbrev pub HasNoForms : Spec → Option Shift → SpecCode → ℕ → Type 0
-HasNoForms spec shift code place = IsFull code place (forms_taken LARGE_LIMITS.nodes shift (spec_seen spec))
+abbrev pub HasNoForms : ℕ → Spec → Option Shift → SpecCode → ℕ → Type 0
+HasNoForms most spec shift code place = IsFull code place (forms_taken most shift (spec_seen spec))

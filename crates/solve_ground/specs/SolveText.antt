@@ -1,5 +1,5 @@
 -- What `solve`, and the test of its documents, know of a text (this project's own).
-use Rattle.std.specs.Prelude.{◌≡◌, ◌≤◌, ℕ, Bool, not, List, Option, Some, None, length}
+use Rattle.std.specs.Prelude.{◌≡◌, ◌≤◌, ◌+◌, ℕ, Bool, not, List, Option, Some, None, length}
 use Rattle.letters_and_lassos.specs.declared.kinds.Kind.{Kind}
 use Rattle.letters_and_lassos.specs.declared.kinds.Side.{Side}
 use Rattle.letters_and_lassos.specs.declared.kinds.Side.TheVariants.{System, Environment}
@@ -11,6 +11,7 @@ use Rattle.ltl_formula.specs.Nodes.{IsNodeList, IsNodeIn, tree_at}
 use Rattle.ltl_formula.specs.Truth.{holds}
 use Rattle.spec_faults.specs.declared.code.SpecCode.{SpecCode}
 use Rattle.spec_faults.specs.declared.code.SpecCode.TheVariants.{TooManyNodes}
+use Rattle.text_limits.specs.declared.Limits.{Limits}
 use Rattle.text_limits.specs.declared.TheConstants.{LARGE_LIMITS}
 use Rattle.tlsf_syntax.specs.Text.{Text}
 use Rattle.tlsf_reader.specs.Reads.{Reads}
@@ -19,7 +20,7 @@ use Rattle.tlsf_expand.specs.Expansion.{expanded, flat_fault}
 use Rattle.tlsf_expand.specs.FlatText.{FlatText, flat_in}
 use Rattle.satisfaction.specs.Wanted.{Wanted}
 use Rattle.solve_ground.specs.declared.texts.SolveText.{SolveText}
-use Rattle.solve_ground.specs.Taken.{IsTakenAs, converted_from, taken_kind, taken_shift}
+use Rattle.solve_ground.specs.Taken.{IsTakenWithin, converted_from, taken_kind, taken_shift}
 use Rattle.solve_ground.specs.Forms.{BothForms, forms_taken}
 
 -- both forms in the list of a text that was taken
@@ -37,29 +38,38 @@ pub record IsFormOf (side : Side) (nodes : List Node) (x : Wanted) (form : Formu
   pub normal : IsNormal (tree_at nodes form)
   pub says : (w : Word) → HasRing w → holds w (tree_at nodes form) 0 ≡ loses_where side (x.means w)
 
--- Exactly what is known of a text: how it is taken, its names, and both forms in the list that is made of it.
-pub record IsSolveText (text : List ℕ) (given : Option Kind) (t : SolveText) : Type 0 where
+-- Exactly what is known of a text within limits: how it is taken, its names, and both forms in the list that is made of it.
+pub record IsTextWithin (limits : Limits) (text : List ℕ) (given : Option Kind) (t : SolveText) : Type 0 where
   pub flat : FlatText
   pub wanted : Wanted
-  pub taken : IsTakenAs text given flat wanted
+  pub taken : IsTakenWithin limits text given flat wanted
   pub inputs : t.inputs.items ≡ wanted.inputs
   pub outputs : t.outputs.items ≡ wanted.outputs
   pub kind_is : t.kind ≡ wanted.kind
   pub semantics : t.semantics ≡ converted_from given taken.tree
-  pub forms : forms_taken LARGE_LIMITS.nodes (taken_shift given taken.tree) flat ≡ Some (forms_seen t)
+  pub forms : forms_taken limits.nodes (taken_shift given taken.tree) flat ≡ Some (forms_seen t)
   pub list : IsNodeList t.formulas
   pub negated : IsFormOf System t.formulas wanted t.negated
   pub normal : IsFormOf Environment t.formulas wanted t.normal
-  pub few_inputs : length t.inputs.items ≤ 16
-  pub few_outputs : length t.outputs.items ≤ 16
+  pub few_inputs : length t.inputs.items ≤ limits.signals
+  pub few_outputs : length t.outputs.items ≤ limits.signals
+  pub few_signals : length t.inputs.items + length t.outputs.items ≤ limits.all_signals
 
--- The first fault of a text as `solve` takes it: one of reading, one of expansion within the larger limits, or no room for the
+-- the same within the limits of `solve`
+abbrev pub IsSolveText : List ℕ → Option Kind → SolveText → Type 0
+IsSolveText = IsTextWithin LARGE_LIMITS
+
+-- The first fault of a text as `solve` takes it within limits: one of reading, one of expansion, or no room for the
 -- converted list and both forms, which is told at byte 0.
-pub data IsSolveFault (text : List ℕ) (given : Option Kind) : SpecCode → ℕ → Type 0 where
-  of_reading : (code : SpecCode) (place : ℕ) → IsReadingFault text code place → IsSolveFault text given code place
+pub data IsFaultWithin (limits : Limits) (text : List ℕ) (given : Option Kind) : SpecCode → ℕ → Type 0 where
+  of_reading : (code : SpecCode) (place : ℕ) → IsReadingFault text code place → IsFaultWithin limits text given code place
   of_expansion : (tree : Text) (code : SpecCode) (place : ℕ) → Reads text tree
-      → flat_fault LARGE_LIMITS tree (Some (taken_kind given tree)) ≡ Some (record { code = code; place = place })
-      → IsSolveFault text given code place
+      → flat_fault limits tree (Some (taken_kind given tree)) ≡ Some (record { code = code; place = place })
+      → IsFaultWithin limits text given code place
   of_forms : (tree : Text) (flat : FlatText) → Reads text tree
-      → flat_in (expanded LARGE_LIMITS tree (Some (taken_kind given tree))) ≡ Some flat
-      → forms_taken LARGE_LIMITS.nodes (taken_shift given tree) flat ≡ None → IsSolveFault text given TooManyNodes 0
+      → flat_in (expanded limits tree (Some (taken_kind given tree))) ≡ Some flat
+      → forms_taken limits.nodes (taken_shift given tree) flat ≡ None → IsFaultWithin limits text given TooManyNodes 0
+
+-- the same within the limits of `solve`
+abbrev pub IsSolveFault : List ℕ → Option Kind → SpecCode → ℕ → Type 0
+IsSolveFault = IsFaultWithin LARGE_LIMITS

@@ -8,6 +8,7 @@ use Rattle.tlsf_reader.specs.Reads.{Reads}
 use Rattle.tlsf_expand.specs.Meaning.{means}
 use Rattle.tlsf_expand.specs.FlatText.{FlatText}
 use Rattle.flat_text.specs.FlatOf.{IsFlatOf}
+use Rattle.text_limits.specs.declared.Limits.{Limits}
 use Rattle.text_limits.specs.declared.TheConstants.{LARGE_LIMITS}
 use Rattle.kind_conversion.specs.declared.shifts.Shift.{Shift}
 use Rattle.kind_conversion.specs.Shifts.{shift_of}
@@ -33,12 +34,16 @@ abbrev pub spoken_word : Option Shift → ℕ → Word → Word
 spoken_word None inputs w = w
 spoken_word (Some shift) inputs w = shifted_word shift inputs w
 
--- What a text wants of machines as `solve` takes it: the names of its flat form, and on a lasso the written tree says what is true.
-pub record IsTakenAs (text : List ℕ) (given : Option Kind) (flat : FlatText) (x : Wanted) : Type 0 where
+-- What a text wants of machines as `solve` takes it within limits: the names of its flat form, and on a lasso the written tree says what is true.
+pub record IsTakenWithin (limits : Limits) (text : List ℕ) (given : Option Kind) (flat : FlatText) (x : Wanted) : Type 0 where
   pub tree : Text
   pub read : Reads text tree
-  pub is_flat : IsFlatOf LARGE_LIMITS text (Some (taken_kind given tree)) flat
+  pub is_flat : IsFlatOf limits text (Some (taken_kind given tree)) flat
   pub inputs : x.inputs ≡ flat.expanded.inputs
   pub outputs : x.outputs ≡ flat.expanded.outputs
   pub kind_is : x.kind ≡ taken_kind given tree
-  pub meaning : (w : Word) → HasRing w → x.means w ≡ means LARGE_LIMITS (spoken_word (taken_shift given tree) (length x.inputs) w) tree
+  pub meaning : (w : Word) → HasRing w → x.means w ≡ means limits (spoken_word (taken_shift given tree) (length x.inputs) w) tree
+
+-- the same within the limits of `solve`
+abbrev pub IsTakenAs : List ℕ → Option Kind → FlatText → Wanted → Type 0
+IsTakenAs = IsTakenWithin LARGE_LIMITS

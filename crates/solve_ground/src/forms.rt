@@ -8,7 +8,6 @@ ghost use Rattle.solve_ground.specs.Parts.{AreFormsOf, forms_made};
 
 use ltl_formula::{AddFault, FormulaId, Formulas};
 use ltl_normal::{negated, normal};
-use text_limits::LARGE_LIMITS;
 
 /// A list with both forms of a formula.
 #[derive(Drop)]
@@ -18,16 +17,16 @@ pub(crate) struct Forms {
     pub(crate) normal: FormulaId,
 }
 
-/// Both forms of a formula, made in its list, the negated one first.
-pub(crate) fn forms_of(formulas: Formulas, whole: FormulaId) -> Result<Forms, AddFault>
+/// Both forms of a formula, made in its list, which takes no new node once `most` stand, the negated one first.
+pub(crate) fn forms_of(formulas: Formulas, most: usize, whole: FormulaId) -> Result<Forms, AddFault>
     requires { IsNodeIn formulas whole }
-    ensures made { IfOk result (λ f. forms_in_list LARGE_LIMITS.nodes formulas whole ≡ Some (forms_made f)) }
+    ensures made { IfOk result (λ f. forms_in_list most formulas whole ≡ Some (forms_made f)) }
     ensures say { IfOk result (λ f. AreFormsOf (tree_at formulas whole) (forms_made f)) }
-    ensures none { result ≡ Err AddFault.TooManyNodes → forms_in_list LARGE_LIMITS.nodes formulas whole ≡ None }
+    ensures none { result ≡ Err AddFault.TooManyNodes → forms_in_list most formulas whole ≡ None }
 {
     let mut formulas = formulas;
-    let negated = negated(&mut formulas, LARGE_LIMITS.nodes, whole)?;
-    let normal = normal(&mut formulas, LARGE_LIMITS.nodes, whole)?;
+    let negated = negated(&mut formulas, most, whole)?;
+    let normal = normal(&mut formulas, most, whole)?;
     Ok(Forms {
         formulas,
         negated,

@@ -61,5 +61,5 @@ pub(crate) fn shift_beside(beside: Option<&Shown>) -> Option<Shift> {
 /// The number of a text's inputs; a letter has at most 32 signals.
 pub(crate) fn input_count(spec: &Spec) -> u32 {
     let count = spec.inputs.len();
-    if count < 32 { count as u32 } else { 32 }
+    if count < 64 { count as u32 } else { 64 }
 }

@@ -73,7 +73,7 @@ pub fn put_smv_formula(
     let shift = shift_beside(Some(shown));
     let count = input_count(&spec);
     let mut plain = Vec::new(alloc);
-    for (number, signal) in (0u32..32).zip(&all_names(alloc, &spec)?) {
+    for (number, signal) in (0u32..64).zip(&all_names(alloc, &spec)?) {
         let Some(name) = names.name_for(signal, inputs, outputs) else {
             return Err(TextFault::NotShown(ShowFault::OtherSignals));
         };

@@ -51,7 +51,7 @@ fn told_of(
 fn shifted_names(alloc: Global, spec: &Spec, shift: Shift) -> Result<Vec<Name>, AllocError> {
     let inputs = input_count(spec);
     let mut found = Vec::new(alloc);
-    for (signal, name) in (0u32..32).zip(&all_names(alloc, spec)?) {
+    for (signal, name) in (0u32..64).zip(&all_names(alloc, spec)?) {
         if shift.takes(inputs, signal) {
             found.push(name.clone()?)?;
         }

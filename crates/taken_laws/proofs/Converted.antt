@@ -3,7 +3,7 @@ use Rattle.std.proofs.Common.{◌≡◌, ℕ, ◌≤◌, Bool, true, false, cond
 use Rattle.std.specs.Prelude.{option_and_then, option_map, unwrap_or}
 use Rattle.ltl_formula.specs.declared.nodes.FormulaId.{FormulaId}
 use Rattle.ltl_formula.specs.declared.nodes.Node.{Node}
-use Rattle.ltl_formula.specs.declared.nodes.TheConstants.{MAX_NODES, MAX_SIGNALS}
+use Rattle.ltl_formula.specs.declared.nodes.TheConstants.{MAX_SIGNALS}
 use Rattle.ltl_formula.specs.Tree.{Tree}
 use Rattle.ltl_formula.specs.Tree.Tree.{signal}
 use Rattle.ltl_formula.specs.Nodes.{Grows, IsNodeList, IsNodeIn, tree_at}
@@ -20,6 +20,7 @@ use Rattle.ltl_normal.specs.Table.{table}
 use Rattle.ltl_normal.specs.NormalNodes.{Step, form_in, nodes_to}
 use Rattle.solve_ground.specs.Forms.{BothForms, and_made, forms_of}
 use Rattle.taken_laws.proofs.Unshifted.{moved_back, shifted_back, unmoved}
+use Rattle.taken_laws.proofs.Few.{few_converted, few_step}
 use Rattle.taken_laws.proofs.Forms.{Form, HasSignalsBelow, below_table, fold, forms, moved_below, moved_form, moved_tree, of_constant, of_join, of_literal, of_next, table_is_fold, table_shifted, tree}
 use Rattle.taken_laws.proofs.Made.{IsIn, OfEach, builds, each_in, step}
 use Rattle.taken_laws.proofs.Room.{Comes, Follows, form_fits}
@@ -75,7 +76,7 @@ same_list whole other c (Some made) is =
     let same : made.nodes ≡ c.formulas = ap (λ (o : Option ConvertedList). (unwrap_or o c).formulas) is in
     (form_at made.forms other, ap (λ (ns : List Node). Some (let d : ConvertedList = record { formulas = ns; whole = form_at made.forms other } in d)) same)
 
-module _ (most : ℕ) (large : MAX_NODES ≤ most) (shift : Shift) (inputs : ℕ) (nodes : List Node) (list : IsNodeList nodes) (whole : FormulaId) (stands : IsNodeIn nodes whole) where
+module _ (most : ℕ) (shift : Shift) (inputs : ℕ) (nodes : List Node) (list : IsNodeList nodes) (whole : FormulaId) (stands : IsNodeIn nodes whole) where
   abbrev form : Bool → Form
   form keep = table forms keep (tree_at nodes whole)
 
@@ -141,8 +142,7 @@ module _ (most : ℕ) (large : MAX_NODES ≤ most) (shift : Shift) (inputs : ℕ
         let first = builds most g below_g c.formulas conversion.list in
         let second = builds most h below_h middle first.list in
         let list_end : IsNodeList end = second.list in
-        let size : length end ≤ MAX_NODES = list_end.most in
-        let few : length end ≤ most = omega (arith, size, large) in
+        let few : length end ≤ most = few_step most h middle (few_step most g c.formulas (few_converted most shift inputs nodes whole c is)) in
         let longer : Grows c.formulas end = Grows-trans c.formulas middle end first.grows second.grows in
         let each_g = each_comes end list_end (form false) (each_in most end g below_g c.formulas conversion.list m.negated m.made_negated second.grows) in
         let each_h = each_comes end list_end (form true) (each_in most end h below_h middle first.list m.normal m.made_normal (Grows-refl end)) in

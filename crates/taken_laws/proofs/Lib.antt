@@ -1,4 +1,5 @@
 mod Unshifted
+mod Few
 mod Forms
 mod Made
 mod Room

@@ -42,7 +42,7 @@ module _ (flat : FlatText) (list : IsNodeList flat.formulas) (stands : flat.expa
       → forms_of LARGE_LIMITS.nodes flat.formulas flat.expanded.whole ≡ None → ⊥
   converted_fits shift x None is some none = absurd (cc)
   converted_fits shift x (Some c) is some none =
-      both_fit LARGE_LIMITS.nodes (omega arith) shift (length flat.expanded.inputs) flat.formulas list flat.expanded.whole stands c is x some none
+      both_fit LARGE_LIMITS.nodes shift (length flat.expanded.inputs) flat.formulas list flat.expanded.whole stands c is x some none
 
   plain_fits : (shift : Option Shift) (x : BothForms) → forms_taken LARGE_LIMITS.nodes shift flat ≡ Some x → forms_of LARGE_LIMITS.nodes flat.formulas flat.expanded.whole ≡ None → ⊥
   plain_fits None x some none = let clash : Some x ≡ None = sym some ∙ none in cc
@@ -118,6 +118,7 @@ module _ (trees : TreesAreDetermined) (whole : TreesHaveNoFault) (text : List �
         normal = is.normal;
         few_inputs = is.few_inputs;
         few_outputs = is.few_outputs;
+        few_signals = is.few_signals;
       }
 
 pub given_kinds : TreesAreDetermined → TreesHaveNoFault → OwnKindsAreGiven

@@ -28,6 +28,8 @@ impl AutomatonLimits {
 pub struct Limits {
     /// The largest number of inputs, and of outputs.
     pub signals: usize,
+    /// The largest number of inputs and outputs together.
+    pub all_signals: usize,
     /// The largest number of nodes of its list of formulas, normal forms among them.
     pub nodes: usize,
     /// How large the automaton of each side may become.
@@ -40,6 +42,7 @@ pub struct Limits {
 /// machines of up to 8 states.
 pub const SMALL_LIMITS: Limits = Limits {
     signals: 8,
+    all_signals: 16,
     nodes: 1_024,
     automaton: AutomatonLimits {
         states: 2_000,
@@ -51,7 +54,20 @@ pub const SMALL_LIMITS: Limits = Limits {
 /// The limits of `solve`: 16 inputs and 16 outputs, 4,096 nodes, automata of 20,000 states and 2,000,000 edges, base clauses of up to 16 states.
 pub const LARGE_LIMITS: Limits = Limits {
     signals: 16,
+    all_signals: 32,
     nodes: 4_096,
+    automaton: AutomatonLimits {
+        states: 20_000,
+        edges: 2_000_000,
+    },
+    machine: 16,
+};
+
+/// The limits of what enumerates neither letters nor states: 64 signals in all, and 16,384 nodes. What is beyond these is as in `LARGE_LIMITS`.
+pub const WIDEST_LIMITS: Limits = Limits {
+    signals: 64,
+    all_signals: 64,
+    nodes: 16_384,
     automaton: AutomatonLimits {
         states: 20_000,
         edges: 2_000_000,

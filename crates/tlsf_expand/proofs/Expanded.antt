@@ -60,6 +60,7 @@ pub record IsMade (limits : Limits) (w : Word) (text : Text) (x : Expanded) (nod
   pub strict : x.strict ≡ text.info.strict
   pub few_inputs : length x.inputs ≤ limits.signals
   pub few_outputs : length x.outputs ≤ limits.signals
+  pub few_signals : length x.inputs + length x.outputs ≤ limits.all_signals
   pub good : IsGood (length x.inputs + length x.outputs) nodes
   pub have : HaveTruths w (all_lists w signals text.sections) x.sections nodes
   pub whole : StandsAs nodes (whole_tree x.strict (section_trees nodes x.sections)) x.whole
@@ -78,6 +79,7 @@ gives_made_text limits w (Some kind) text =
       strict = refl;
       few_inputs = s.few_inputs;
       few_outputs = s.few_outputs;
+      few_signals = s.few_signals;
       good = l.good;
       have = truths_later l.grows k.is;
       whole = subst (λ ts. StandsAs w3.formulas (whole_tree text.info.strict ts) whole) (sym (same_trees w2.formulas w3.formulas ids l.grows stand)) l.is;
@@ -108,4 +110,4 @@ expansion_keeps_meaning = record {
 
 pub expansion_has_few_signals : ExpansionHasFewSignals
 expansion_has_few_signals limits text kind x work e =
-    let m = made_of limits any_word text kind x work e in record { few_inputs = m.few_inputs; few_outputs = m.few_outputs; below = m.good.below }
+    let m = made_of limits any_word text kind x work e in record { few_inputs = m.few_inputs; few_outputs = m.few_outputs; few_signals = m.few_signals; below = m.good.below }

@@ -1,5 +1,6 @@
--- The signals of a text: at most 8 inputs and 8 outputs. The names, and the formulas of widths, speak of them alone.
-use Rattle.std.proofs.Common.{◌≡◌, ℕ, ◌+◌, ◌≤◌, Bool, true, false, List, [], ◌∷◌, ◌++◌, length, Option, None, Some, refl, arith}
+-- The signals of a text, at most as many as the limits say. The names, and the formulas of widths, speak of them alone.
+use Rattle.std.proofs.Math.Nat.{min-le_left, min-le_right}
+use Rattle.std.proofs.Common.{◌≡◌, ℕ, ◌+◌, ◌-◌, ◌≤◌, Bool, true, false, List, [], ◌∷◌, ◌++◌, length, Option, None, Some, refl, arith}
 use Rattle.std.proofs.lemmas.Bool.{leb-true}
 use Rattle.std.specs.Prelude.{◌==◌, ◌&&◌, nat_le, if◌then◌else◌, pos, negsuc}
 use Rattle.text_limits.specs.declared.Limits.{Limits}
@@ -16,7 +17,7 @@ use Rattle.tlsf_values.specs.Outcomes.{gives, fails, Checked, fine, faulty, chec
 use Rattle.tlsf_values.specs.Names.{Names, Meaning, known, a_signal, a_definition, an_enumeration, undeclared, same_name, without_names}
 use Rattle.tlsf_values.specs.Patterns.{all_values, are_wide}
 use Rattle.tlsf_values.specs.Values.{span_start}
-use Rattle.tlsf_expand.specs.Signals.{values_in, or_those, values_named, width_of, other_width, first_of, uneven_in, uneven_value, Extent, alone, wide, of_type, bits_in, width_in, declares, type_in, extent_value, TypedSignal, Declared, declared, declarations_value, Signals, none_yet, signals_value, even_first, work_within, signals_of}
+use Rattle.tlsf_expand.specs.Signals.{values_in, or_those, values_named, width_of, other_width, first_of, uneven_in, uneven_value, Extent, alone, wide, of_type, bits_in, width_in, declares, type_in, extent_value, TypedSignal, Declared, declared, declarations_value, Signals, most_behind, none_yet, signals_value, even_first, work_within, signals_of}
 use Rattle.tlsf_expand.proofs.Kept.{IsGood, Gives, Anyhow, gives_such, refuses, gives_go_on, Keeps, keeps_go_on, keeps_given, no_nodes}
 use Rattle.tlsf_expand.proofs.Named.{HasPlainNames, names-more, plain_with_signal, plain_with_bus, plain_with_definitions, plain_without_names}
 use Rattle.tlsf_expand.proofs.Valued.{FitFrom, wide_fit}
@@ -114,13 +115,21 @@ record IsDeclared (most from : ℕ) (d : Declared) (nodes : List Node) : Type 0 
   typed_fit : TypedFit (from + length d.flat) d.typed
 
 -- the text's signals are all that there are
-pub record AreSignals (most : ℕ) (s : Signals) (nodes : List Node) : Type 0 where
-  pub few_inputs : length s.inputs ≤ most
-  pub few_outputs : length s.outputs ≤ most
+pub record AreSignals (limits : Limits) (s : Signals) (nodes : List Node) : Type 0 where
+  pub few_inputs : length s.inputs ≤ limits.signals
+  pub few_outputs : length s.outputs ≤ limits.signals
+  pub few_signals : length s.inputs + length s.outputs ≤ limits.all_signals
   pub good : IsGood (length s.inputs + length s.outputs) nodes
   pub plain : HasPlainNames (length s.inputs + length s.outputs) s.names
   pub inputs_fit : TypedFit (length s.inputs + length s.outputs) s.typed_inputs
   pub outputs_fit : TypedFit (length s.inputs + length s.outputs) s.typed_outputs
+
+-- so many signals behind so many others keep to both limits
+within_most : (limits : Limits) (before n : ℕ) → n ≤ most_behind limits before → (n ≤ limits.signals) × (n ≤ limits.all_signals - before)
+within_most limits before n h =
+    let one = min-le_left limits.signals (limits.all_signals - before) in
+    let other = min-le_right limits.signals (limits.all_signals - before) in
+    (omega (arith, one, h), omega (arith, other, h))
 
 -- any word will do: what is kept here doesn't speak of it
 pub any_word : Word
@@ -189,23 +198,27 @@ module _ (most : ℕ) (text : Text) (even : uneven_value text.definitions ≡ No
   none_declared m from names nodes le good plain =
       record { few = omega arith; good = good-more m (from + 0) nodes (omega arith) good; plain = names-more m (from + 0) names (omega arith) plain; typed_fit = tt }
 
-  gives_signals_value : (work : Work) → IsGood 0 work.formulas → Gives Anyhow (AreSignals most) (signals_value most text work)
+module _ (limits : Limits) (text : Text) (even : uneven_value text.definitions ≡ None) where
+  gives_signals_value : (work : Work) → IsGood 0 work.formulas → Gives Anyhow (AreSignals limits) (signals_value limits text work)
   gives_signals_value work good =
-      gives_go_on _ (AreSignals most) (declares_each 0 _ text.inputs work (none_declared 0 0 _ work.formulas (omega arith) good (plain_with_definitions without_names text.definitions plain_without_names))) (λ inputs w1 h.
+      gives_go_on _ (AreSignals limits) (declares_each (most_behind limits 0) text even 0 _ text.inputs work (none_declared (most_behind limits 0) text even 0 0 _ work.formulas (omega arith) good (plain_with_definitions without_names text.definitions plain_without_names))) (λ inputs w1 h.
       let n = length inputs.flat in
-      gives_go_on _ (AreSignals most) (declares_each n (none_yet inputs.names) text.outputs w1 (none_declared (0 + n) n inputs.names w1.formulas (omega arith) h.good h.plain)) (λ outputs w2 g.
+      gives_go_on _ (AreSignals limits) (declares_each (most_behind limits n) text even n (none_yet inputs.names) text.outputs w1 (none_declared (most_behind limits n) text even (0 + n) n inputs.names w1.formulas (omega arith) h.good h.plain)) (λ outputs w2 g.
+      let inputs_few = within_most limits 0 n h.few in
+      let outputs_few = within_most limits n (length outputs.flat) g.few in
       gives_such _ w2 (record {
-        few_inputs = h.few;
-        few_outputs = g.few;
+        few_inputs = inputs_few.0;
+        few_outputs = outputs_few.0;
+        few_signals = let i = inputs_few.1 in let o = outputs_few.1 in omega arith;
         good = g.good;
         plain = g.plain;
         inputs_fit = typed-more (0 + n) (n + length outputs.flat) inputs.typed (omega arith) h.typed_fit;
         outputs_fit = g.typed_fit;
       })))
 
-pub gives_signals : (limits : Limits) (text : Text) → Gives Anyhow (AreSignals limits.signals) (signals_of limits text)
+pub gives_signals : (limits : Limits) (text : Text) → Gives Anyhow (AreSignals limits) (signals_of limits text)
 gives_signals limits text = by (uneven_value text.definitions) refl
   where
-    by : (o : Option ℕ) → uneven_value text.definitions ≡ o → Gives Anyhow (AreSignals limits.signals) (even_first o (signals_value limits.signals text (work_within limits)))
-    by None e = gives_signals_value limits.signals text e (work_within limits) (no_nodes 0)
+    by : (o : Option ℕ) → uneven_value text.definitions ≡ o → Gives Anyhow (AreSignals limits) (even_first o (signals_value limits text (work_within limits)))
+    by None e = gives_signals_value limits text e (work_within limits) (no_nodes 0)
     by (Some place) e = refuses _ _

@@ -9,10 +9,11 @@ use Rattle.tlsf_values.specs.Outcomes.{gives}
 use Rattle.tlsf_syntax.specs.Text.{Text}
 use Rattle.tlsf_expand.specs.Expansion.{Expanded, expanded}
 
--- there are at most as many inputs as the limits say, and at most as many outputs, and a list of formulas speaks of no other signals
+-- there are at most as many inputs as the limits say, at most as many outputs, and at most as many of both together, and a list of formulas speaks of no other signals
 pub record HasFewSignals (limits : Limits) (inputs outputs : ℕ) (nodes : List Node) : Type 0 where
   pub few_inputs : inputs ≤ limits.signals
   pub few_outputs : outputs ≤ limits.signals
+  pub few_signals : inputs + outputs ≤ limits.all_signals
   pub below : HasSignalsBelow (inputs + outputs) nodes
 
 -- a text that is expanded keeps to the limits, and its formulas speak of its signals alone

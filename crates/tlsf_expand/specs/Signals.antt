@@ -1,6 +1,6 @@
 -- The signals that a text declares, with their numbers and flat names, or the first fault of its declarations: this project's
 -- profile of TLSF 1.1.
-use Rattle.std.specs.Prelude.{ℕ, zero, suc, ◌+◌, ◌==◌, nat_le, if◌then◌else◌, Bool, List, [], ◌∷◌, ◌++◌, length, Option, None, Some, pos, negsuc, codes, decimal}
+use Rattle.std.specs.Prelude.{ℕ, zero, suc, ◌+◌, ◌-◌, min, ◌==◌, nat_le, if◌then◌else◌, Bool, List, [], ◌∷◌, ◌++◌, length, Option, None, Some, pos, negsuc, codes, decimal}
 use Rattle.std.specs.List.{list_any}
 use Rattle.text_limits.specs.declared.Limits.{Limits}
 use Rattle.spec_faults.specs.declared.code.SpecCode.TheVariants.{UnknownName, WrongSort, NumberRange, TooManySignals}
@@ -147,11 +147,15 @@ pub record Signals : Type 0 where
 abbrev pub none_yet : Names → Declared
 none_yet names = record { names = names; flat = []; typed = [] }
 
--- at most so many inputs, and at most so many outputs
-abbrev pub signals_value : ℕ → Text → Work → Outcome Signals
-signals_value most text w =
-    go_on (declarations_value most text 0 (none_yet (with_definitions without_names text.definitions)) text.inputs w) (λ inputs w.
-    go_on (declarations_value most text (length inputs.flat) (none_yet inputs.names) text.outputs w) (λ outputs w.
+-- how many inputs there may be, or outputs, where so many signals are declared before them
+abbrev pub most_behind : Limits → ℕ → ℕ
+most_behind limits before = min limits.signals (limits.all_signals - before)
+
+-- at most as many inputs, and as many outputs, as the limits say, and as many of both together
+abbrev pub signals_value : Limits → Text → Work → Outcome Signals
+signals_value limits text w =
+    go_on (declarations_value (most_behind limits 0) text 0 (none_yet (with_definitions without_names text.definitions)) text.inputs w) (λ inputs w.
+    go_on (declarations_value (most_behind limits (length inputs.flat)) text (length inputs.flat) (none_yet inputs.names) text.outputs w) (λ outputs w.
     gives (record { names = outputs.names; inputs = inputs.flat; outputs = outputs.flat; typed_inputs = inputs.typed; typed_outputs = outputs.typed }) w))
 
 -- the widths of the enumerations' values come first, and count no evaluation
@@ -165,4 +169,4 @@ work_within limits = record { limits = limits; done = 0; formulas = [] }
 
 -- the signals of a text within these limits, with the work that their widths took
 abbrev pub signals_of : Limits → Text → Outcome Signals
-signals_of limits text = even_first (uneven_value text.definitions) (signals_value limits.signals text (work_within limits))
+signals_of limits text = even_first (uneven_value text.definitions) (signals_value limits text (work_within limits))

@@ -1,7 +1,7 @@
 //! The signals that a text declares, with their numbers and flat names.
 
 ghost use Rattle.std.specs.Prelude.{◌≡◌, ◌++◌, IfOk, OnOk, map};
-ghost use Rattle.tlsf_expand.specs.Signals.{bit_name, bit_names, bits_in, declaration_value, declarations_value, declared, declares, even_first, extent_value, none_yet, signals_value, type_in, uneven_value, width_in};
+ghost use Rattle.tlsf_expand.specs.Signals.{bit_name, bit_names, bits_in, declaration_value, declarations_value, declared, declares, even_first, extent_value, most_behind, none_yet, signals_value, type_in, uneven_value, width_in};
 ghost use Rattle.tlsf_expand.specs.SignalsSeen.{declared_seen, extent_seen, signals_seen};
 ghost use Rattle.tlsf_syntax.specs.Seen.{declaration_seen, shape_seen, text_seen};
 ghost use Rattle.tlsf_values.specs.NamesSeen.{names_seen};
@@ -12,6 +12,7 @@ use crate::enumerations::{members_named, uneven_value, width};
 use names_and_numbers::{Name, push_number};
 use spec_faults::{SpecCode, SpecFault, fault};
 use std::alloc::{AllocError, Global};
+use text_limits::Limits;
 use tlsf_syntax::{Declaration, Member, Shape, SpecTree, Word};
 use tlsf_values::{Names, Value, Work};
 
@@ -242,24 +243,34 @@ impl<'t> Declared<'t> {
     }
 }
 
+/// How many inputs there may be, or outputs, where so many signals are declared before them.
+fn most_behind(limits: Limits, before: usize) -> usize
+    ensures { result ≡ most_behind limits before }
+{
+    limits
+        .signals
+        .min(limits.all_signals.saturating_sub(before))
+}
+
 /// The signals of a text. The widths of the values of enumerations are tested first. There are at most as many inputs as the
-/// work's limits say, and as many outputs.
+/// work's limits say, as many outputs, and as many of both together.
 pub(crate) fn declared_signals<'t>(
     alloc: Global,
     tree: &'t SpecTree,
     work: &mut Work,
 ) -> Result<Signals<'t>, SpecFault>
-    ensures { IsOutcomeAs signals_seen result work.new (even_first (uneven_value (text_seen tree.now).definitions) (signals_value work.old.limits.signals (text_seen tree.now) work.old)) }
+    ensures { IsOutcomeAs signals_seen result work.new (even_first (uneven_value (text_seen tree.now).definitions) (signals_value work.old.limits (text_seen tree.now) work.old)) }
 {
     if let Some(place) = uneven_value(&tree.definitions) {
         return Err(fault(SpecCode::WrongSort, place));
     }
-    let most = work.limits.signals;
     let mut names = Names::new(alloc);
     names.add_definitions(&tree.definitions)?;
     let mut inputs = Declared::none_yet(alloc, names);
+    let most = most_behind(work.limits, 0);
     inputs.declarations(alloc, tree, most, 0, &tree.inputs, work)?;
     let from = signal_number(inputs.flat.len() as u128)?;
+    let most = most_behind(work.limits, inputs.flat.len());
     let mut outputs = Declared::none_yet(alloc, inputs.names);
     outputs.declarations(alloc, tree, most, from, &tree.outputs, work)?;
     Ok(Signals {

@@ -19,9 +19,9 @@ loop-position-preserved c =
     let steps : length c.args.self.now.letters.items + (p - from) ≡ length letters = omega (arith, places, low) in
     let back : from + (p - from) ≡ p = omega (arith, low) in
     let reached : after word 0 (length letters) ≡ p = ap (after word 0) (sym steps) ∙ c.requires.place (p - from) (rw back high) ∙ back in
-    let read : c.letter-read.result.0 ≡ read_at word (length letters) = ap (λ (l : Letter). l.0) (c.letter-read.ensures.value ∙ ap (letter_at word) (sym reached)) in
-    let next : c.next-self.result ≡ next_of c.args.machine.now c.loop-position.self.state c.letter-read.result.0 = c.next-self.ensures.value in
-    let more = course_more c.args.machine.now c.args.side word letters c.loop-position.self.states.items c.loop-position.self.state c.letter-read.result.0
+    let read : c.read_number-read.result ≡ read_at word (length letters) = c.read_number-read.ensures.value ∙ ap (λ (j : ℕ). (letter_at word j).0) (sym reached) in
+    let next : c.next-self.result ≡ next_of c.args.machine.now c.loop-position.self.state c.read_number-read.result = c.next-self.ensures.value in
+    let more = course_more c.args.machine.now c.args.side word letters c.loop-position.self.states.items c.loop-position.self.state c.read_number-read.result
     c.loop-position.invariant.0 read (rw (← next) c.next-self.ensures.within) in (
       rw (c.in_ok-push.ensures.items, c.in_ok-push-2.ensures.items, next, c.whole_letter.ensures) more,
       rw c.in_ok-push.ensures.items (omega (arith, places, length_push letters c.whole_letter.result)),
