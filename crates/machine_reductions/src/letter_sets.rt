@@ -24,8 +24,8 @@ struct Span {
 /// The signals that a letter must have, and those that it must not have.
 #[derive(Clone, Copy)]
 struct Half {
-    must: u32,
-    not: u32,
+    must: u64,
+    not: u64,
 }
 
 /// A cube, as what it asks of what is read and of what is written.
@@ -80,8 +80,8 @@ impl Span {
         }
     }
 
-    fn part(self, signals: u32) -> u32 {
-        let whole = 1u32.checked_shl(self.count).unwrap_or(0).wrapping_sub(1);
+    fn part(self, signals: u64) -> u64 {
+        let whole = 1u64.checked_shl(self.count).unwrap_or(0).wrapping_sub(1);
         signals.checked_shr(self.first).unwrap_or(0) & whole
     }
 }
@@ -89,12 +89,12 @@ impl Span {
 impl Condition {
     /// Whether it fits what is written together with some of the letters.
     pub(crate) fn fits(self, letters: &[u64], writes: u32) -> bool {
-        self.written.fits(writes) && self.read.fits_some(letters)
+        self.written.fits(u64::from(writes)) && self.read.fits_some(letters)
     }
 }
 
 impl Half {
-    fn fits(self, letter: u32) -> bool {
+    fn fits(self, letter: u64) -> bool {
         self.must & letter == self.must && self.not & letter == 0
     }
 
@@ -104,7 +104,7 @@ impl Half {
             must: self.must >> SIGNALS_OF_BLOCK,
             not: self.not >> SIGNALS_OF_BLOCK,
         };
-        for (block, word) in (0u32..u32::MAX).zip(letters) {
+        for (block, word) in (0u64..u64::MAX).zip(letters) {
             if high.fits(block) && *word & low != 0 {
                 return true;
             }
