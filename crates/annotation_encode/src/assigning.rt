@@ -7,8 +7,9 @@ ghost use Rattle.annotation_encode.specs.Assigned.{IsAssignmentOf, machine_value
 ghost use Rattle.annotation_encode.specs.BaseClauses.{base_clauses, each_below};
 ghost use Rattle.annotation_encode.specs.Variables.{letter_count, move_count, write_count, write_places};
 
+use crate::clauses::number_has;
 use crate::numbering::{Numbering, letter_count, move_count, write_count};
-use letters_and_lassos::{Kind, Letter};
+use letters_and_lassos::Kind;
 use machine_model::{Machine, Problem};
 use product_bound::Annotation;
 use propositional_logic::Assignment;
@@ -130,7 +131,7 @@ fn write_value(problem: &Problem, machine: &Machine, place: u32) -> bool
     ensures { result ≡ write_value problem.now machine.now place }
 {
     let written = written_at(problem, machine, place / problem.writes());
-    Letter(u64::from(written)).has(place % problem.writes())
+    number_has(written, place % problem.writes())
 }
 
 /// The letter that the machine writes at a place of its writes.

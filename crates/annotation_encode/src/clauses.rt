@@ -1,3 +1,4 @@
+ghost use Rattle.letters_and_lassos.specs.Signals.{has};
 ghost use Rattle.std.specs.Prelude.{◌≡◌, ◌+◌, ◌-◌, ◌*◌, ◌^◌, ◌<◌, ◌≤◌, ◌++◌, ◌∷◌, [], IfOk, OnOk};
 ghost use Rattle.std.specs.List.{flat_map};
 ghost use Rattle.propositional_logic.specs.Clause.{IsClause, IsFormula, IsWithinVariables};
@@ -450,11 +451,18 @@ pub(crate) fn fits_read(problem: &Problem, cube: Cube, letter: u32) -> bool
 {
     for signal in 0..problem.reads() {
         let whole = read_signal(problem, signal);
-        if !signal_fits(cube, whole, Letter(u64::from(letter)).has(signal)) {
+        if !signal_fits(cube, whole, number_has(letter, signal)) {
             return false;
         }
     }
     true
+}
+
+/// Whether a signal is in the letter of this number.
+pub fn number_has(letter: u32, signal: u32) -> bool
+    ensures { result ≡ has letter signal }
+{
+    Letter(u64::from(letter)).has(signal)
 }
 
 /// Whether a signal that is set, or isn't, is as the cube wants it.

@@ -14,7 +14,7 @@ pub mod laws;
 mod numbering;
 
 pub use assigning::assignment_of;
-pub use clauses::encode;
+pub use clauses::{encode, number_has};
 pub use counting::{allowed_sizes, count};
 pub use numbering::{
     Numbering, letter_count, row_count, var_count, var_move, var_write, variables,

@@ -13,7 +13,8 @@ ghost use Rattle.letter_clauses.specs.Letters.{IsLetterProblem, IsSmallSize, let
 ghost use Rattle.letter_clauses.specs.Variables.{row_count, var_move, variables_of};
 
 use crate::sizes::LetterSize;
-use letters_and_lassos::{Cube, Letter};
+use annotation_encode::number_has;
+use letters_and_lassos::Cube;
 use machine_model::Edge;
 use machine_model::laws::components_are_classes;
 use propositional_logic::{Clause, ClauseFault, Cnf, Lit};
@@ -443,7 +444,7 @@ pub(crate) fn fits_read(size: LetterSize<'_>, cube: Cube, letter: u32) -> bool
 {
     for signal in 0..size.problem.reads() {
         let whole = size.read_signal(signal);
-        if !signal_fits(cube, whole, Letter(u64::from(letter)).has(signal)) {
+        if !signal_fits(cube, whole, number_has(letter, signal)) {
             return false;
         }
     }

@@ -64,7 +64,7 @@ leaves_again covering ns seen again each =
     subst (λ (d : Cover). Contains (alive (cover_by covering ns) seen) d) r.2 (alive_has (cover_by covering ns) seen r.0 (each (Some r.0) r.1)))
 
 -- a leaf that comes of a step is one over n formulas, and its flags fit ids of 32 bits
-leaf_places : (n : ℕ) → n ≤ 4096 → (b : Branch) (s : Step) → Stepped n b s → HasLeafPlaces n s
+leaf_places : (n : ℕ) → n ≤ 16384 → (b : Branch) (s : Step) → Stepped n b s → HasLeafPlaces n s
 leaf_places n few b (Leaf leaf) h = (h, let next : length leaf.next ≡ n = h.next in omega arith)
 leaf_places n few b Dead h = tt
 leaf_places n few b (On c) h = tt

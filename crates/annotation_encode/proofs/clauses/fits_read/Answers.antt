@@ -11,5 +11,5 @@ loop-signal-preserved c = all_below-more c.loop-signal.signal (λ s. signal_fits
 pub returns-then-not-signal_fits : goal.returns-then-not-signal_fits
 returns-then-not-signal_fits c =
     let fails : signal_fits c.args.cube (read_signal c.args.problem.now c.loop-signal.signal) (has c.args.letter c.loop-signal.signal) ≡ false
-    = sym (c.signal_fits.ensures ∙ (λ i. signal_fits c.args.cube (c.read_signal-whole.ensures i) (c.has.ensures i))) ∙ c.if-not-signal_fits.true in
+    = sym (c.signal_fits.ensures ∙ (λ i. signal_fits c.args.cube (c.read_signal-whole.ensures i) (c.number_has.ensures i))) ∙ c.if-not-signal_fits.true in
     sym (all_below-fails (reads_of c.args.problem.now) c.loop-signal.signal (λ s. signal_fits c.args.cube (read_signal c.args.problem.now s) (has c.args.letter s)) (search rules) fails)
