@@ -9,7 +9,7 @@ use solve_ground::SolveText;
 use std::alloc::{AllocError, Global};
 
 /// The steps that making a machine smaller may take: some tenths of a second.
-const STEPS: u64 = 20_000_000;
+const STEPS: u64 = 15_000_000;
 
 /// The strategy of a machine with fewer states, where one is found that has an annotation, else the one that is there.
 pub(crate) fn with_fewer(alloc: Global, text: &SolveText, search: Search) -> Search {
