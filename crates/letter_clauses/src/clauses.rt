@@ -14,7 +14,7 @@ ghost use Rattle.letter_clauses.specs.Variables.{row_count, var_move, variables_
 
 use crate::sizes::LetterSize;
 use annotation_encode::number_has;
-use letters_and_lassos::Cube;
+use letters_and_lassos::{Cube, Letter};
 use machine_model::Edge;
 use machine_model::laws::components_are_classes;
 use propositional_logic::{Clause, ClauseFault, Cnf, Lit};

@@ -267,10 +267,11 @@ pub(crate) fn declared_signals<'t>(
     let mut names = Names::new(alloc);
     names.add_definitions(&tree.definitions)?;
     let mut inputs = Declared::none_yet(alloc, names);
-    let most = most_behind(work.limits, 0);
+    let limits = work.limits;
+    let most = most_behind(limits, 0);
     inputs.declarations(alloc, tree, most, 0, &tree.inputs, work)?;
     let from = signal_number(inputs.flat.len() as u128)?;
-    let most = most_behind(work.limits, inputs.flat.len());
+    let most = most_behind(limits, inputs.flat.len());
     let mut outputs = Declared::none_yet(alloc, inputs.names);
     outputs.declarations(alloc, tree, most, from, &tree.outputs, work)?;
     Ok(Signals {
