@@ -11,4 +11,5 @@ mod states;
 mod stops;
 
 pub use lines::{Made, Maker, annotation_of};
-pub use stops::Limit;
+pub use states::{Edge, MetStates};
+pub use stops::{Limit, Stop};

@@ -19,15 +19,15 @@ const MANY_UNTILS: usize = 1_000_000;
 
 /// An edge from a state that was met.
 #[derive(Clone, Copy)]
-pub(crate) struct Edge {
-    pub(crate) cube: Cube,
+pub struct Edge {
+    pub cube: Cube,
     /// The number of a state among those that were met.
-    pub(crate) to: u32,
+    pub to: u32,
 }
 
 /// The states that were met, and those that are named, which are the ones whose edges were asked for.
 #[derive(Drop)]
-pub(crate) struct MetStates<'a> {
+pub struct MetStates<'a> {
     alloc: Global,
     formulas: &'a Formulas,
     untils: Vec<FormulaId>,
@@ -38,7 +38,7 @@ pub(crate) struct MetStates<'a> {
 
 impl<'a> MetStates<'a> {
     /// The start of the automaton of a formula alone.
-    pub(crate) fn start(
+    pub fn start(
         alloc: Global,
         formulas: &'a Formulas,
         f: FormulaId,
@@ -74,7 +74,7 @@ impl<'a> MetStates<'a> {
     }
 
     /// Whether a state that was met is rejecting.
-    pub(crate) fn is_rejecting(&self, met: u32) -> bool {
+    pub fn is_rejecting(&self, met: u32) -> bool {
         match self.states.get_index(met as usize) {
             Some(state) => state.counter as usize == self.untils.len(),
             None => false,
@@ -82,7 +82,7 @@ impl<'a> MetStates<'a> {
     }
 
     /// The edges of a state that was met. They are made once, and it is named then.
-    pub(crate) fn edges(&mut self, met: u32) -> Result<&[Edge], Stop> {
+    pub fn edges(&mut self, met: u32) -> Result<&[Edge], Stop> {
         if !self.named.contains_key(&met) {
             let edges = self.new_edges(met)?;
             self.named.insert(met, edges)?;

@@ -17,7 +17,7 @@ pub enum Limit {
 
 /// What keeps an annotation from being made.
 #[derive(Clone, Copy)]
-pub(crate) enum Stop {
+pub enum Stop {
     Passed(Limit),
     NoMemory,
 }

@@ -40,6 +40,8 @@ pub(crate) enum Slip {
     Positions,
     /// There is room for 300 bytes of positions.
     Bytes,
+    /// A reduction isn't told the lines that end with `// untold`.
+    Untold,
 }
 
 impl Heading {
@@ -89,6 +91,7 @@ fn slip_of(word: &[u8]) -> Slip {
         b"exchange" => Slip::Exchange,
         b"positions" => Slip::Positions,
         b"bytes" => Slip::Bytes,
+        b"untold" => Slip::Untold,
         _ => Slip::None,
     }
 }

@@ -1,6 +1,7 @@
 //! A text that is played, and what comes of it.
 
 use crate::headings::{Heading, Sides, Slip};
+use crate::reductions::push_reduction;
 use crate::tests::passes;
 use game_machine::{Budget, Contest, Found, Outcome, find};
 use letters_and_lassos::Side;
@@ -22,6 +23,9 @@ pub(crate) fn push_row<R: Threads>(
     text: &[u8],
 ) -> Result<(), AllocError> {
     out.extend_from_slice(heading)?;
+    if let Some(()) = push_reduction(alloc, out, Heading::of(heading), text)? {
+        return Ok(());
+    }
     match text_problems(alloc, text, None, Counts::Whole) {
         Ok(problems) => push_play(rt, alloc, out, Heading::of(heading), &problems),
         Err(fault) => {

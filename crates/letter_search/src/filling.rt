@@ -6,6 +6,7 @@ use crate::tracks::{Track, Tracks};
 use letters_and_lassos::Kind;
 use machine_model::Row;
 use std::alloc::{AllocError, Global};
+use std::cmp::Reverse;
 
 /// The most rows of a table.
 const MOST_ROWS: u64 = 1_048_576;
@@ -18,7 +19,7 @@ const MOST_STEPS: u64 = 1 << 28;
 pub(crate) enum Filled {
     /// Its rows, for each state those of all letters.
     Whole(Vec<Row>),
-    /// The letters with most states that have no row there, two at most.
+    /// The letters at which states have no row, those first where most have none.
     Gaps(Vec<u32>),
     /// It takes too long, or has too many rows.
     TooLong,
@@ -167,28 +168,20 @@ impl Table {
     }
 
     fn into_filled(self, alloc: Global) -> Result<Filled, AllocError> {
-        let first = most_left(&self.gaps, None);
-        let Some(first) = first else {
+        let mut missed = Vec::new(alloc);
+        for (letter, count) in (0u32..u32::MAX).zip(&self.gaps) {
+            if *count > 0 {
+                missed.push((Reverse(*count), letter))?;
+            }
+        }
+        if missed.is_empty() {
             return Ok(Filled::Whole(self.rows));
-        };
-        let mut worst = Vec::new(alloc);
-        worst.push(first)?;
-        if let Some(second) = most_left(&self.gaps, Some(first)) {
-            worst.push(second)?;
         }
-        Ok(Filled::Gaps(worst))
-    }
-}
-
-/// The first letter with most gaps, but for one that is left out. None where there are no gaps.
-fn most_left(gaps: &[u32], without: Option<u32>) -> Option<u32> {
-    let mut most = 0u32;
-    let mut found = None;
-    for (letter, count) in (0u32..u32::MAX).zip(gaps) {
-        if *count > most && Some(letter) != without {
-            most = *count;
-            found = Some(letter);
+        missed.sort_unstable();
+        let mut letters = Vec::new(alloc);
+        for (_, letter) in missed {
+            letters.push(letter)?;
         }
+        Ok(Filled::Gaps(letters))
     }
-    found
 }

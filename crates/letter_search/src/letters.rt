@@ -5,6 +5,9 @@ use std::alloc::{AllocError, Global};
 /// From so many read signals on a size begins with few letters.
 const MANY_SIGNALS: u32 = 4;
 
+/// Some more letters join those of a size in at most so many rounds, before all letters do.
+pub(crate) const MOST_ROUNDS: u32 = 4;
+
 /// The most signals that a side reads.
 const MOST_SIGNALS: u32 = 16;
 
@@ -13,8 +16,8 @@ const MOST_SIGNALS: u32 = 16;
 pub(crate) enum Choice {
     /// Those with which a size begins.
     First,
-    /// Some more.
-    Joined,
+    /// Some more, in so many rounds.
+    Joined(u32),
     All,
 }
 
@@ -56,16 +59,41 @@ impl Chosen {
         })
     }
 
-    /// The letters that come behind these, which left gaps: some more, once, and then all.
+    /// How many letters join these where they leave gaps: twice as many each time. None where all letters come next, since enough joined or
+    /// most are here.
+    pub(crate) fn joining(&self, reads: u32) -> Option<usize> {
+        let round = self.next_round();
+        if self.choice == Choice::All || round > MOST_ROUNDS {
+            return None;
+        }
+        let more = 2usize.saturating_pow(round);
+        let together = self.letters.len().saturating_add(more);
+        if together.saturating_mul(4) > (letter_count(reads) as usize).saturating_mul(3) {
+            return None;
+        }
+        Some(more)
+    }
+
+    fn next_round(&self) -> u32 {
+        match self.choice {
+            Choice::Joined(round) => round.saturating_add(1),
+            Choice::First | Choice::All => 1,
+        }
+    }
+
+    /// The letters that come behind these, where they left gaps at others, of which the first join: some more, and in the end all.
     pub(crate) fn next(
         &self,
         alloc: Global,
         reads: u32,
         gaps: &[u32],
     ) -> Result<Chosen, AllocError> {
-        match self.choice {
-            Choice::First => self.joined(alloc, reads, gaps),
-            Choice::Joined | Choice::All => Chosen::all(alloc, reads),
+        match self.joining(reads) {
+            Some(count) => {
+                let (more, _others) = gaps.split_at(count.min(gaps.len()));
+                self.joined(alloc, reads, more)
+            }
+            None => Chosen::all(alloc, reads),
         }
     }
 
@@ -78,7 +106,7 @@ impl Chosen {
         }
         Ok(Chosen {
             letters,
-            choice: Choice::Joined,
+            choice: Choice::Joined(self.next_round()),
         })
     }
 
@@ -86,7 +114,7 @@ impl Chosen {
     pub(crate) fn into_letters(self) -> Letters {
         match self.choice {
             Choice::All => Letters::All,
-            Choice::First | Choice::Joined => Letters::Few(LetterList::new(self.letters)),
+            Choice::First | Choice::Joined(_) => Letters::Few(LetterList::new(self.letters)),
         }
     }
 }

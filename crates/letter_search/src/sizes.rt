@@ -5,7 +5,7 @@ ghost use Rattle.propositional_logic.specs.Clause.{IsFormula};
 use crate::blocks::{Places, Span};
 use crate::decoding::Decoding;
 use crate::filling::{Filled, Filling};
-use crate::letters::{Choice, Chosen};
+use crate::letters::{Choice, Chosen, MOST_ROUNDS};
 use crate::tracks::Tracks;
 use crate::working::{Passage, Worked, search_clauses};
 use input_output::Gate;
@@ -59,11 +59,11 @@ enum Next {
     GoesOn(Chosen),
 }
 
-/// A size is tried over at most so many lists of letters.
-const LISTS: u32 = 3;
+/// A size is tried over at most so many lists of letters: the first ones, those with more, and all.
+const LISTS: u32 = MOST_ROUNDS + 2;
 
 impl Trial<'_, '_> {
-    /// Tries a size over few letters, over some more where these leave gaps, and then over all.
+    /// Tries a size over few letters, over more and more of them where these leave gaps, and then over all.
     pub(crate) fn tried<R: Threads + Wait + Sync, G: Gate + Sync>(
         &self,
         rt: &R,
@@ -164,7 +164,7 @@ impl Trial<'_, '_> {
             Filled::Gaps(gaps) => self.behind(&chosen, &gaps),
             Filled::TooLong => match chosen.choice {
                 Choice::All => Ok(Next::Ends(Tried::Found(None))),
-                Choice::First | Choice::Joined => {
+                Choice::First | Choice::Joined(_) => {
                     let all = Chosen::all(self.alloc, self.ground.reads())?;
                     Ok(Next::GoesOn(all))
                 }

@@ -4,6 +4,7 @@ ghost use Rattle.ltl_formula.specs.Nodes.{IsNodeIn, tree_at};
 ghost use Rattle.ltl_formula.specs.NormalForm.{IsNormal};
 ghost use Rattle.solve_answer.specs.Parts.{CanBePlayed, form_for};
 
+use crate::reducing::with_fewer;
 use crate::told::{end_of, limit_of, nothing};
 use aiger_text::Circuit;
 use annotation_maker::{Made, Maker, annotation_of};
@@ -48,7 +49,8 @@ pub(crate) enum Search {
     Without(Unsolved),
 }
 
-/// The strategy of the side that wins within the budget, or why there is none. Two workers play both sides at once.
+/// The strategy of the side that wins within the budget, with a machine that is made small, or why there is none. Two workers play both sides
+/// at once.
 pub(crate) fn find_strategy<R: Threads>(
     rt: &R,
     alloc: Global,
@@ -59,7 +61,10 @@ pub(crate) fn find_strategy<R: Threads>(
     requires { CanBePlayed text.now }
 {
     match who_wins(rt, alloc, text, budget, workers)? {
-        Winner::Of(found) => annotated(alloc, text, found.side, found.circuit),
+        Winner::Of(found) => {
+            let search = annotated(alloc, text, found.side, found.circuit)?;
+            Ok(with_fewer(alloc, text, search))
+        }
         Winner::Without(why) => Ok(Search::Without(why)),
     }
 }
@@ -209,7 +214,7 @@ fn states_of(alloc: Global, circuit: &Circuit) -> Result<Option<u32>, AllocError
 }
 
 /// What an annotation of a side's circuit is of.
-fn maker<'a>(text: &'a SolveText, side: Side, circuit: &'a Circuit) -> Maker<'a> {
+pub(crate) fn maker<'a>(text: &'a SolveText, side: Side, circuit: &'a Circuit) -> Maker<'a> {
     Maker {
         circuit,
         side,

@@ -3,13 +3,13 @@ ghost use Rattle.std.specs.Prelude.{IfOk, IfSome};
 ghost use Rattle.solve_answer.specs.Parts.{AnswersEach, CanBePlayed};
 
 use crate::documents::strategy_document;
-use crate::finding::{Search, Strategy, annotated};
+use crate::finding::Strategy;
+use crate::reducing::strategy_of;
 use crate::refuting::{Refuting, refuted, short_logs};
 use crate::testing::tested;
 use crate::told::{nothing, refuting_end, so_many};
-use game_machine::{GivenTable, table_circuit};
 use input_output::Gate;
-use letter_search::{Ended, Refutations, SmallMachine};
+use letter_search::{Ended, Refutations};
 use letters_and_lassos::Side;
 use outcome_news::{Refuted, RefutingEnd};
 use program_replies::Reply;
@@ -163,31 +163,9 @@ pub(crate) fn smaller_strategy(
     ended: &Ended,
 ) -> Result<Option<Strategy>, AllocError> {
     match ended {
-        Ended::Found(_, Some(machine)) => strategy_of(alloc, text, side, machine),
+        Ended::Found(_, Some(machine)) => {
+            strategy_of(alloc, text, side, machine.states, &machine.rows)
+        }
         _ => Ok(None),
-    }
-}
-
-/// The strategy of a machine, unless its circuit or its annotation passes a limit.
-fn strategy_of(
-    alloc: Global,
-    text: &SolveText,
-    side: Side,
-    machine: &SmallMachine,
-) -> Result<Option<Strategy>, AllocError> {
-    let table = GivenTable {
-        inputs: &text.inputs,
-        outputs: &text.outputs,
-        side,
-        kind: text.kind,
-        states: machine.states,
-        rows: &machine.rows,
-    };
-    let Some(circuit) = table_circuit(alloc, table)? else {
-        return Ok(None);
-    };
-    match annotated(alloc, text, side, circuit)? {
-        Search::Of(strategy) => Ok(Some(strategy)),
-        Search::Without(_) => Ok(None),
     }
 }

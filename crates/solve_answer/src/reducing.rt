@@ -1,0 +1,71 @@
+//! A strategy whose machine is made smaller. Nothing is said of what is found: it is tested.
+
+use crate::finding::{Search, Strategy, annotated, maker};
+use game_machine::{GivenTable, table_circuit};
+use letters_and_lassos::{Kind, Side};
+use machine_model::Row;
+use machine_reductions::with_fewer_states;
+use solve_ground::SolveText;
+use std::alloc::{AllocError, Global};
+
+/// The steps that making a machine smaller may take: some tenths of a second.
+const STEPS: u64 = 15_000_000;
+
+/// The strategy of a machine with fewer states, where one is found that has an annotation, else the one that is there.
+pub(crate) fn with_fewer(alloc: Global, text: &SolveText, search: Search) -> Search {
+    match search {
+        Search::Of(strategy) => match smaller(alloc, text, &strategy) {
+            Ok(Some(smaller)) => Search::Of(smaller),
+            _ => Search::Of(strategy),
+        },
+        Search::Without(why) => Search::Without(why),
+    }
+}
+
+fn smaller(
+    alloc: Global,
+    text: &SolveText,
+    strategy: &Strategy,
+) -> Result<Option<Strategy>, AllocError> {
+    let side = strategy.side;
+    let maker = maker(text, side, &strategy.circuit);
+    match with_fewer_states(alloc, maker, kind_of(text, side), STEPS)? {
+        Some(machine) if machine.states < strategy.states => {
+            strategy_of(alloc, text, side, machine.states, &machine.rows)
+        }
+        _ => Ok(None),
+    }
+}
+
+/// The kind of a side's machines.
+fn kind_of(text: &SolveText, side: Side) -> Kind {
+    match side {
+        Side::System => text.kind,
+        Side::Environment => text.kind.other(),
+    }
+}
+
+/// The strategy of a machine, unless its circuit or its annotation passes a limit.
+pub(crate) fn strategy_of(
+    alloc: Global,
+    text: &SolveText,
+    side: Side,
+    states: u32,
+    rows: &[Row],
+) -> Result<Option<Strategy>, AllocError> {
+    let table = GivenTable {
+        inputs: &text.inputs,
+        outputs: &text.outputs,
+        side,
+        kind: text.kind,
+        states,
+        rows,
+    };
+    let Some(circuit) = table_circuit(alloc, table)? else {
+        return Ok(None);
+    };
+    match annotated(alloc, text, side, circuit)? {
+        Search::Of(strategy) => Ok(Some(strategy)),
+        Search::Without(_) => Ok(None),
+    }
+}
