@@ -1,5 +1,6 @@
 //! Merging by support: states are led to one whose support has most of theirs.
 
+use crate::machines::short;
 use crate::numbers::Numbered;
 use crate::reducing::Reducer;
 use annotation_maker::Stop;
@@ -153,7 +154,7 @@ impl Reducer<'_> {
             };
             let to = Numbered {
                 state: into,
-                at: at as u32,
+                at: short(at),
                 number,
             };
             if !self.numbers.raise(to)? {

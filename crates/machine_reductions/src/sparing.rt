@@ -1,7 +1,7 @@
 //! Spare moves: a state goes where each move into it can lead elsewhere, with the same or another output.
 
 use crate::letter_sets::missing;
-use crate::machines::{Move, Place};
+use crate::machines::{Move, Place, short};
 use crate::numbers::Numbered;
 use crate::reducing::Reducer;
 use crate::supports::set_of;
@@ -162,7 +162,7 @@ impl Reducer<'_> {
             }
             let ends = self
                 .ends
-                .of(&self.machine, class, at as u32, &mut self.meter)?;
+                .of(&self.machine, class, short(at), &mut self.meter)?;
             self.meter.take(ends.len().saturating_add(1))?;
             for end in ends {
                 behind.push(end.state)?;
@@ -194,7 +194,7 @@ impl Reducer<'_> {
             };
             let from = Numbered {
                 state: place.state,
-                at: at as u32,
+                at: short(at),
                 number,
             };
             if !self.rises_along(from, step)? {
