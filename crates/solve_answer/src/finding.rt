@@ -4,7 +4,7 @@ ghost use Rattle.ltl_formula.specs.Nodes.{IsNodeIn, tree_at};
 ghost use Rattle.ltl_formula.specs.NormalForm.{IsNormal};
 ghost use Rattle.solve_answer.specs.Parts.{CanBePlayed, form_for};
 
-use crate::reducing::with_fewer;
+use crate::reducing::made_small;
 use crate::told::{end_of, limit_of, nothing};
 use aiger_text::Circuit;
 use annotation_maker::{Made, Maker, annotation_of};
@@ -16,6 +16,9 @@ use machine_model::Automaton;
 use obligation_sets::Covering;
 use outcome_news::{NotWon, RefutingEnd, Unsolved, Unwon, Withheld};
 use reached_states::reached_states;
+use reactivity_machine::{
+    Budget as ConjunctBudget, Outcome as Conjuncts, Question, find as find_by_conjuncts,
+};
 use solve_ground::SolveText;
 use std::alloc::{AllocError, Global};
 use std::thread::Threads;
@@ -23,6 +26,14 @@ use text_limits::LARGE_LIMITS;
 
 /// The steps that the system may take before the environment's automaton is made.
 const FIRST_STEPS: u64 = 1_000_000;
+
+/// What the game of conjuncts may use: some seconds.
+const CONJUNCT_BUDGET: ConjunctBudget = ConjunctBudget {
+    steps: 1_000_000_000,
+    positions: 400_000,
+    edges: 20_000_000,
+    bytes: 1_000_000_000,
+};
 
 /// The most states that a document tells of.
 const MOST_STATES: usize = 65_536;
@@ -49,8 +60,8 @@ pub(crate) enum Search {
     Without(Unsolved),
 }
 
-/// The strategy of the side that wins within the budget, with a machine that is made small, or why there is none. Two workers play both sides
-/// at once.
+/// The strategy of the side that wins within the budget, made small, or why there is none. The system plays alone at first, since where it
+/// wins soon neither the game of conjuncts nor the environment's automaton is needed. Two workers play both sides at once.
 pub(crate) fn find_strategy<R: Threads>(
     rt: &R,
     alloc: Global,
@@ -60,11 +71,36 @@ pub(crate) fn find_strategy<R: Threads>(
 ) -> Result<Search, AllocError>
     requires { CanBePlayed text.now }
 {
-    match who_wins(rt, alloc, text, budget, workers)? {
-        Winner::Of(found) => {
-            let search = annotated(alloc, text, found.side, found.circuit)?;
-            Ok(with_fewer(alloc, text, search))
+    let system = automaton(alloc, &text.formulas, text.negated)?;
+    let first = Budget {
+        steps: FIRST_STEPS.min(budget.steps),
+        ..budget
+    };
+    let mut won = None;
+    if let Winner::Of(found) = played(rt, alloc, text, system.as_ref(), None, first, workers) {
+        match strategy_in(alloc, text, found)? {
+            Search::Of(strategy) => return Ok(Search::Of(strategy)),
+            Search::Without(why) => won = Some(why),
         }
+    }
+    if let Some(strategy) = by_conjuncts(alloc, text) {
+        return Ok(Search::Of(strategy));
+    }
+    if let Some(why) = won {
+        return Ok(Search::Without(why));
+    }
+    let environment = automaton(alloc, &text.formulas, text.normal)?;
+    let environment = environment.as_ref();
+    match played(
+        rt,
+        alloc,
+        text,
+        system.as_ref(),
+        environment,
+        budget,
+        workers,
+    ) {
+        Winner::Of(found) => strategy_in(alloc, text, found),
         Winner::Without(why) => Ok(Search::Without(why)),
     }
 }
@@ -76,34 +112,31 @@ enum Winner {
     Without(Unsolved),
 }
 
-/// Who wins the game of the text. The system plays alone at first, since where it wins soon the environment's automaton isn't needed.
-fn who_wins<R: Threads>(
-    rt: &R,
-    alloc: Global,
-    text: &SolveText,
-    budget: Budget,
-    workers: u32,
-) -> Result<Winner, AllocError>
-    requires { CanBePlayed text.now }
-{
-    let system = automaton(alloc, &text.formulas, text.negated)?;
-    let first = Budget {
-        steps: FIRST_STEPS.min(budget.steps),
-        ..budget
+/// The strategy of a win, made small.
+fn strategy_in(alloc: Global, text: &SolveText, found: Found) -> Result<Search, AllocError> {
+    let search = annotated(alloc, text, found.side, found.circuit)?;
+    Ok(made_small(alloc, text, search))
+}
+
+/// The strategy of a win in the game of the text's conjuncts, if there is one that can be annotated. Where memory runs out there is none.
+fn by_conjuncts(alloc: Global, text: &SolveText) -> Option<Strategy> {
+    let question = Question {
+        formulas: &text.formulas,
+        normal: text.normal,
+        inputs: &text.inputs,
+        outputs: &text.outputs,
+        kind: text.kind,
     };
-    if let Winner::Of(found) = played(rt, alloc, text, system.as_ref(), None, first, workers) {
-        return Ok(Winner::Of(found));
+    let Ok(Conjuncts::Found(found)) = find_by_conjuncts(alloc, question, CONJUNCT_BUDGET) else {
+        return None;
+    };
+    let Ok(search) = annotated(alloc, text, found.side, found.circuit) else {
+        return None;
+    };
+    match made_small(alloc, text, search) {
+        Search::Of(strategy) => Some(strategy),
+        Search::Without(_) => None,
     }
-    let environment = automaton(alloc, &text.formulas, text.normal)?;
-    Ok(played(
-        rt,
-        alloc,
-        text,
-        system.as_ref(),
-        environment.as_ref(),
-        budget,
-        workers,
-    ))
 }
 
 /// Who wins the games of these automata. Where memory runs out in the games, neither side does.

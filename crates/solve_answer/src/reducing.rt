@@ -1,18 +1,43 @@
-//! A strategy whose machine is made smaller. Nothing is said of what is found: it is tested.
+//! A strategy whose machine and circuit are made smaller. Nothing is said of what is found: it is tested.
 
 use crate::finding::{Search, Strategy, annotated, maker};
 use game_machine::{GivenTable, table_circuit};
 use letters_and_lassos::{Kind, Side};
 use machine_model::Row;
 use machine_reductions::with_fewer_states;
+use small_circuits::{Effort, small_circuit};
 use solve_ground::SolveText;
 use std::alloc::{AllocError, Global};
 
-/// The steps that making a machine smaller may take: some tenths of a second.
-const STEPS: u64 = 15_000_000;
+/// The steps that making a machine smaller may take: about a fifth of a second.
+const STEPS: u64 = 10_000_000;
+
+/// The steps that making a circuit smaller may take: some tenths of a second.
+const GATE_STEPS: u64 = 300_000_000;
+
+/// The strategy with fewer states and then with fewer gates, as far as such ones are found.
+pub(crate) fn made_small(alloc: Global, text: &SolveText, search: Search) -> Search {
+    match with_fewer(alloc, text, search) {
+        Search::Of(strategy) => Search::Of(with_fewer_gates(alloc, text, strategy)),
+        Search::Without(why) => Search::Without(why),
+    }
+}
+
+/// The strategy by a circuit with fewer gates and as many states, where one is found that has an annotation, else the one that is there.
+pub(crate) fn with_fewer_gates(alloc: Global, text: &SolveText, strategy: Strategy) -> Strategy {
+    let side = strategy.side;
+    let effort = Effort { steps: GATE_STEPS };
+    match small_circuit(alloc, &strategy.circuit, side, text.kind, effort) {
+        Ok(Some(circuit)) => match annotated(alloc, text, side, circuit) {
+            Ok(Search::Of(smaller)) if smaller.states == strategy.states => smaller,
+            _ => strategy,
+        },
+        _ => strategy,
+    }
+}
 
 /// The strategy of a machine with fewer states, where one is found that has an annotation, else the one that is there.
-pub(crate) fn with_fewer(alloc: Global, text: &SolveText, search: Search) -> Search {
+fn with_fewer(alloc: Global, text: &SolveText, search: Search) -> Search {
     match search {
         Search::Of(strategy) => match smaller(alloc, text, &strategy) {
             Ok(Some(smaller)) => Search::Of(smaller),

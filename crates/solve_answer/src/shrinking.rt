@@ -4,7 +4,7 @@ ghost use Rattle.solve_answer.specs.Parts.{AnswersEach, CanBePlayed};
 
 use crate::documents::strategy_document;
 use crate::finding::Strategy;
-use crate::reducing::strategy_of;
+use crate::reducing::{strategy_of, with_fewer_gates};
 use crate::refuting::{Refuting, refuted, short_logs};
 use crate::testing::tested;
 use crate::told::{nothing, refuting_end, so_many};
@@ -164,7 +164,10 @@ pub(crate) fn smaller_strategy(
 ) -> Result<Option<Strategy>, AllocError> {
     match ended {
         Ended::Found(_, Some(machine)) => {
-            strategy_of(alloc, text, side, machine.states, &machine.rows)
+            match strategy_of(alloc, text, side, machine.states, &machine.rows)? {
+                Some(strategy) => Ok(Some(with_fewer_gates(alloc, text, strategy))),
+                None => Ok(None),
+            }
         }
         _ => Ok(None),
     }
