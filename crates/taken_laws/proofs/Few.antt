@@ -36,6 +36,7 @@ module _ (most : ℕ) where
           let long = length_push nodes new in
           omega (arith, less, least, long)
       room false e = few
+
       by : (o : Option ℕ) → IsFew (built_at most o nodes new).nodes
       by (Some i) = few
       by None = room (ltb (length nodes) (min most MAX_NODES)) refl
@@ -85,6 +86,7 @@ module _ (most : ℕ) where
     where
       plain : IsFew (added most nodes (over_forms forms new)).nodes
       plain = few_added nodes (over_forms forms new) few
+
       by : (b : Bool) → IsFew (cond b (then_next most (added most nodes (over_forms forms new))) (added most nodes (over_forms forms new))).nodes
       by true = few_then_next (added most nodes (over_forms forms new)) plain
       by false = plain
@@ -98,6 +100,7 @@ module _ (most : ℕ) where
     where
       behind : FormulaId → Option ShiftedList
       behind id = put_forms most shift inputs nodes (record { nodes = (put_form most shift inputs made.forms new made.nodes).nodes; forms = made.forms ++ id ∷ [] })
+
       by : (o : Option FormulaId) → IsFew (put_form most shift inputs made.forms new made.nodes).nodes → option_and_then behind o ≡ Some last → IsFew last.nodes
       by None next e = absurd (none-some last e)
       by (Some id) next e = few_forms shift inputs nodes (record { nodes = (put_form most shift inputs made.forms new made.nodes).nodes; forms = made.forms ++ id ∷ [] }) last next e
