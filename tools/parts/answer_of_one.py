@@ -45,8 +45,9 @@ with tempfile.TemporaryFile() as said:
         printed, is_late = b"", True
     _, ended, used = os.wait4(started.pid, 0)
     started.returncode = os.waitstatus_to_exitcode(ended)
+    # (of both the system keeps count by pages in tens)
     own = resource.getrusage(resource.RUSAGE_SELF).ru_maxrss
-    kilobytes = max(seen) if seen and used.ru_maxrss <= own else used.ru_maxrss
+    kilobytes = max(seen) if seen and used.ru_maxrss <= own + 2048 else used.ru_maxrss
     seconds = time.monotonic() - begun
     said.seek(0)
     texts = [base64.b64encode(it).decode() or "-" for it in (printed, said.read(MOST_BYTES_SAID))]
