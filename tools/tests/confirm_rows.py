@@ -1,10 +1,13 @@
-"""Rows on tools/confirm: what it takes, and what it says where it can't say more. tools/confirm-test has those on what it confirms and refutes."""
+"""Rows on tools/confirm: what it takes, and what it says where it can't say more; tools/confirm-test has those on what it confirms and refutes. And one on
+tools/bench/against_z3, whose z3 says the same of each size."""
 
 import os
 import shutil
 import sys
 
 from abc_rows import needs_abc
+from rows import Skipped
+from syntcomp_rows import needs_solve
 
 WIRE = "aag 1 1 0 1 0\n2\n2\ni0 request\no0 grant\n"
 
@@ -68,3 +71,15 @@ def words_of_answers_are_those_that_lasso_reads(it):
     it.write("word", word)
     assert (status, head) == (40, "refuted: the text is false on this run")
     assert it.run("boundsyn", "lasso", "examples/arbiter_of_two.tlsf", "word")[:2] == (0, "false\n")
+
+
+def z3_says_the_same_of_each_size(it):
+    needs_solve(it)
+    if not shutil.which("z3"):
+        raise Skipped("no z3")
+    names = ["delay", "door", "arbiter_of_three"]
+    status, said, error = it.run("bench/against_z3", "--runs", "1", "--plot", "plot", *(f"examples/{name}.tlsf" for name in names))
+    assert (status, error) == (0, "") and [line.split(" | ")[1:3] for line in said.splitlines()[2:5]] == [
+        ["realizable", "1, 2"], ["unrealizable", "1"], ["realizable", "1, 2, 3"]]
+    assert "solve: 3 of 3 texts, median " in said and "z3: 3 of 3 texts, median " in said and said.splitlines()[-1].startswith("on ")
+    assert it.read("plot").splitlines()[0] == "# seconds solve z3" and it.read("plot").splitlines()[-1].endswith(" 3 3")
