@@ -10,6 +10,8 @@ from second_formulas import MOST_NODES, BadFlat, Flat, TextFault, converted
 from second_problems import ENVIRONMENT, MOST_SOLVE_NODES, SolveText, Taken, Text
 
 OTHER = {b"Mealy": b"Moore", b"Moore": b"Mealy"}
+# A list that is written keeps to the limits already.
+LISTED = 2**40
 
 # ---- "Kinds that differ" ----
 
@@ -84,7 +86,7 @@ class Asked:
             raise Lacking("a boundsyn that takes `expand --solve --nodes`")
         if said.startswith("refused"):
             raise TextFault(said.strip())
-        return Flat(said, MOST_SOLVE_NODES)
+        return Flat(said, LISTED)
 
     @functools.cached_property
     def plain(self):
