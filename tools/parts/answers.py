@@ -7,7 +7,8 @@ import threading
 from answer_tests import Refused
 from texts import name_of
 
-COLUMNS = ("text", "status", "verdict", "states", "seconds", "megabytes", "tested", "checksum")
+COLUMNS = ("text", "status", "verdict", "states", "gates", "latches", "signals", "seconds", "megabytes", "tested", "checksum")
+STATUS, VERDICT, TESTED, CHECKSUM = (COLUMNS.index(it) for it in ("status", "verdict", "tested", "checksum"))
 
 
 class Answers:
@@ -28,7 +29,7 @@ class Answers:
     def begin(self, texts):
         """The texts that have no answer, or had other bytes or options. Their rows and files are taken away."""
         os.makedirs(self.out, exist_ok=True)
-        todo = [it for it in texts if it.name not in self.rows or self.rows[it.name][6] == "nothing" or self.rows[it.name][7] != it.checksum]
+        todo = [it for it in texts if it.name not in self.rows or self.rows[it.name][TESTED] == "nothing" or self.rows[it.name][CHECKSUM] != it.checksum]
         for name in (it.name for it in todo if self.rows.pop(it.name, None)):
             for ending in (".aag", ".refused"):
                 with contextlib.suppress(FileNotFoundError):
@@ -53,7 +54,8 @@ class Answers:
                 self.write(path + ".refused", printed)
         if states != "-" or verdict == "unknown":
             self.write(path + ".aag", printed)
-        self.add_row(text, status, " ".join(verdict.split()), states, f"{seconds:.2f}", kilobytes // 1024, tested)
+        sizes = sizes_of(printed) if states != "-" else ["-"] * 3
+        self.add_row(text, status, " ".join(verdict.split()), states, *sizes, f"{seconds:.2f}", f"{kilobytes / 1024:.1f}", tested)
 
     def add_row(self, text, *columns):
         row = [*map(str, (text.shown, *columns)), text.checksum]
@@ -62,6 +64,13 @@ class Answers:
             file.write("\t".join(row) + "\n")
 
     def lacking(self, texts):
-        """The texts that were refused or have no answer, each with what its row says of that."""
+        """The texts that were refused or have no answer, those of which nothing is known among them, each with what its row says of that."""
         rows = [self.rows[it.name] for it in texts]
-        return [(row[0], row[2]) for row in rows if row[1] == "1" or row[6] == "nothing"]
+        return [(row[0], row[VERDICT]) for row in rows if row[STATUS] in ("1", "30") or row[TESTED] == "nothing"]
+
+
+def sizes_of(document):
+    """The gates and the latches of a document's circuit, and how many signals its text has."""
+    head = document.partition(b"\n")[0].split()
+    inputs, latches, outputs, gates = map(int, head[2:6])
+    return [gates, latches, inputs + outputs]

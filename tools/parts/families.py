@@ -108,7 +108,7 @@ GUARANTEE {
   &&[0 <= i < n] G (g[i] && G !r[i] -> F !g[i]);
   &&[0 <= i < n] G (g[i] && X (!r[i] && !g[i]) -> X (r[i] R !g[i]));
 }
-""", realizable=("2 3 2@Moore 3@Moore,Mealy 2@Mealy,Moore 4", "who has asked since its last grant is granted for a step, one after another"))
+""", realizable=("2 3 2@Moore 3@Moore,Mealy 2@Mealy,Moore 4 5 6 8", "who has asked since its last grant is granted for a step, one after another"))
 
 family("full_arbiter_unreal", "Each request is granted, one at a time, in a step in which it stands, and requests may be withdrawn.", "n", MUTUAL, """
 INPUTS { r[n]; }
@@ -274,7 +274,7 @@ GUARANTEE {
   &&[0 <= i < n] G (!s[i] -> F !a[i]);
   G (!empty -> F take);
 }
-""", realizable=("1 2 5", "where the queue isn't full it takes a word, and where it isn't empty it hands one on, one by one"))
+""", realizable=("1 2 3 4 5", "where the queue isn't full it takes a word, and where it isn't empty it hands one on, one by one"))
 
 family("stack", "The height of a stack of n places, one output for each place that is taken.", "n", "", """
 INPUTS { push; pop; }

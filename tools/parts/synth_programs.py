@@ -5,6 +5,8 @@ import shutil
 import subprocess
 import sys
 
+from beside import place_of
+
 
 def stop(why):
     print(f"synth-all: {why}", file=sys.stderr)
@@ -13,7 +15,7 @@ def stop(why):
 
 def programs_of(tools, command):
     """The programs that a command wants: those in the folder that is named, else those of the checkout that are built from its sources or, outside of one,
-    on the PATH."""
+    beside the script or on the PATH."""
     folder, prebuilt, found = os.environ.get("BOUNDSYN_BIN"), os.path.join(tools, "prebuilt"), {}
     for name in ("boundsyn", "annotate", "boundsyn-show") if command == "synth" else ("boundsyn",):
         place = os.path.join(folder, name) if folder else name
@@ -22,7 +24,7 @@ def programs_of(tools, command):
             if asked.returncode:
                 sys.exit(2)
             place = asked.stdout.decode().removesuffix("\n")
-        program = shutil.which(place)
+        program = shutil.which(place) if folder or os.path.exists(prebuilt) else place_of(name)
         if not program:
             stop(f"needs {name}, which isn't there: {place}")
         found[name] = os.path.realpath(program)

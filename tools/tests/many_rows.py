@@ -31,8 +31,46 @@ def needs_many_solved(it):
 def table_of(it):
     """The rows of the table by the names of their texts, without times and memory."""
     rows = [line.split("\t") for line in it.read("out/answers.tsv").splitlines()]
-    assert rows[0] == ["text", "status", "verdict", "states", "seconds", "megabytes", "tested", "checksum"]
-    return {os.path.basename(row[0]): (row[1], row[2], row[3], row[6]) for row in rows[1:]}
+    assert rows[0] == ["text", "status", "verdict", "states", "gates", "latches", "signals", "seconds", "megabytes", "tested", "checksum"]
+    return {os.path.basename(row[0]): (row[1], row[2], row[3], row[9]) for row in rows[1:]}
+
+
+def sizes_of(it):
+    """The gates, latches and signals of the rows of the table."""
+    rows = [line.split("\t") for line in it.read("out/answers.tsv").splitlines()]
+    return {os.path.basename(row[0]): tuple(row[4:7]) for row in rows[1:]}
+
+
+def tables_have_sizes_and_memory(it):
+    needs_parallel(it)
+    it.needs("boundsyn")
+    texts = ["examples/wire.tlsf", "examples/delay.tlsf", "examples/prophecy.tlsf"]
+    assert it.run("synth-all", *SYNTH, "out", *texts, "--", "--max", "2")[0] == 0
+    # (a wire has no gate, and a delay a latch alone)
+    _, _, inputs, latches, outputs, gates = it.read("out/prophecy.aag").split()[:6]
+    sizes = (gates, latches, str(int(inputs) + int(outputs)))
+    assert sizes_of(it) == {"wire.tlsf": ("0", "0", "2"), "delay.tlsf": ("0", "1", "2"), "prophecy.tlsf": sizes}
+    shutil.rmtree(it.path("out"))
+    # (a program that takes 60 megabytes, and one that takes hardly any)
+    it.replace("boundsyn", """[ "$1" = synth ] && [ "$2" != /dev/null ] || exec "$real" "$@"
+case $2 in *0.tlsf) exec python3 -c 'import time; held = b"1" * 60000000; time.sleep(0.5)' ;; esac
+sleep 0.3
+""")
+    assert it.run("synth-all", *SYNTH, "out", *texts[:2])[0] == 1
+    megabytes = {os.path.basename(row[0]): float(row[8]) for row in (line.split("\t") for line in it.read("out/answers.tsv").splitlines()[1:])}
+    assert 60 < megabytes["wire.tlsf"] < 80 and 0 < megabytes["delay.tlsf"] < 6, megabytes
+
+
+def what_is_unknown_is_no_answer(it):
+    needs_parallel(it)
+    it.needs("boundsyn")
+    texts = ["examples/wire.tlsf", "examples/delay.tlsf"]
+    status, said, lacking = it.run("synth-all", *SYNTH, "out", *texts, "--", "--max", "1")
+    assert (status, said) == (1, "synth-all: 1 of 2 texts have an answer that was tested, in out/answers.tsv\n")
+    assert lacking.splitlines()[-1] == "synth-all: examples/delay.tlsf: unknown" and table_of(it)["delay.tlsf"] == ("30", "unknown", "-", "logs")
+    assert sizes_of(it)["delay.tlsf"] == ("-", "-", "-")
+    before = it.read("out/answers.tsv")
+    assert it.run("synth-all", *SYNTH, "--resume", "out", *texts, "--", "--max", "1")[0] == 1 and it.read("out/answers.tsv") == before
 
 
 def through(it, change, command="synth"):
