@@ -4,7 +4,6 @@ _boundsyn_values() {
     case $1:$2 in
     *:--kind) echo "mealy moore" ;;
     *:--counts) echo "whole local" ;;
-    *:--seconds) echo "1 10 60 600 3600" ;;
     *:--entries) echo "0 2000 50000 250000 none" ;;
     solve:--max) echo "0 1 2 3 4 5 6 7 8 9 10 11 12 13 14 15 16" ;;
     batch:--max | batch:--workers) echo "1 2 3 4" ;;
@@ -14,13 +13,11 @@ _boundsyn_values() {
 
 _boundsyn_options() {
     case $1 in
-    solve) echo "--max --entries --workers --kind --seconds" ;;
+    solve) echo "--max --entries --workers --kind" ;;
     synth | core) echo "--max --entries --workers --kind --counts" ;;
-    batch) echo "--solve --max --entries --workers --kind --counts --seconds" ;;
-    expand) echo "--solve --nodes --kind" ;;
-    lasso) echo "--solve --kind" ;;
+    batch) echo "--solve --max --entries --workers --kind --counts" ;;
     bench) echo "--workers" ;;
-    verify) echo "--unrealizable --kind" ;;
+    verify) echo "--unrealizable" ;;
     esac
 }
 
@@ -38,10 +35,10 @@ _boundsyn() {
     done
     if [[ -z $command ]]; then
         values="solve synth check expand lasso gen bench verify core batch --progress --quiet --verbose --help --version"
-    elif [[ $word != -* && ( $last == --solve || $last == --nodes ) ]]; then
+    elif [[ $last == --solve ]]; then
         mapfile -t COMPREPLY < <(compgen -f -- "$word")
         return
-    elif [[ $last == --* && $last != --unrealizable && $last != --solve && $last != --nodes ]]; then
+    elif [[ $last == --* && $last != --unrealizable ]]; then
         values=$(_boundsyn_values "$command" "$last")
     elif [[ $word == -* ]]; then
         values=$(_boundsyn_options "$command")

@@ -8,7 +8,6 @@ _boundsyn_values() {
     *:--kind) values=(mealy moore) ;;
     *:--counts) values=(whole local) ;;
     *:--entries) values=(0 2000 50000 250000 none) ;;
-    *:--seconds) values=(1 10 60 600 3600) ;;
     solve:--max) values=({0..16}) ;;
     batch:--max | batch:--workers) values=({1..4}) ;;
     *:--max | *:--workers) values=({1..8}) ;;
@@ -19,13 +18,11 @@ _boundsyn_values() {
 # The options of a command, into `values`.
 _boundsyn_options() {
     case $1 in
-    solve) values=(--max --entries --workers --kind --seconds) ;;
+    solve) values=(--max --entries --workers --kind) ;;
     synth | core) values=(--max --entries --workers --kind --counts) ;;
-    batch) values=(--solve --max --entries --workers --kind --counts --seconds) ;;
-    expand) values=(--solve --nodes --kind) ;;
-    lasso) values=(--solve --kind) ;;
+    batch) values=(--solve --max --entries --workers --kind --counts) ;;
     bench) values=(--workers) ;;
-    verify) values=(--unrealizable --kind) ;;
+    verify) values=(--unrealizable) ;;
     *) values=() ;;
     esac
 }
