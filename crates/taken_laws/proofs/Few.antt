@@ -1,5 +1,5 @@
 -- A list to which nodes are added while fewer than `most` stand has at most so many, where it had at most so many before.
-use Rattle.std.proofs.Common.{◌≡◌, ℕ, ◌≤◌, Bool, true, false, cond, List, [], ◌∷◌, ◌++◌, length, Option, None, Some, refl, sym, ap, subst, ◌∙◌, arith}
+use Rattle.std.proofs.Common.{◌≡◌, ℕ, ◌≤◌, Bool, true, false, cond, ltb, List, [], ◌∷◌, ◌++◌, length, Option, None, Some, refl, sym, ap, subst, ◌∙◌, arith}
 use Rattle.std.specs.Prelude.{◌<◌, ◌==◌, min, position, option_and_then, option_map, unwrap_or}
 use Rattle.std.proofs.Math.Nat.{min-le_left}
 use Rattle.std.proofs.lemmas.Bool.{ltb-true}
@@ -77,9 +77,9 @@ module _ (most : ℕ) where
 
   -- ---- the list that is made anew
 
-  few_then_next : (built : Built) → IsFew built.nodes → IsFew (then_next most built).nodes
-  few_then_next (record { nodes = nodes; made = Some id }) few = few_added nodes (node.Next id) few
-  few_then_next (record { nodes = nodes; made = None }) few = few
+  few_then_next : (nodes : List Node) (o : Option FormulaId) → IsFew nodes → IsFew (then_next most (record { nodes = nodes; made = o })).nodes
+  few_then_next nodes (Some id) few = few_added nodes (node.Next id) few
+  few_then_next nodes None few = few
 
   few_put : (shift : Shift) (inputs : ℕ) (forms : List FormulaId) (new : Node) (nodes : List Node) → IsFew nodes → IsFew (put_form most shift inputs forms new nodes).nodes
   few_put shift inputs forms new nodes few = by (is_shifted_node shift inputs new)
@@ -88,22 +88,21 @@ module _ (most : ℕ) where
       plain = few_added nodes (over_forms forms new) few
 
       by : (b : Bool) → IsFew (cond b (then_next most (added most nodes (over_forms forms new))) (added most nodes (over_forms forms new))).nodes
-      by true = few_then_next (added most nodes (over_forms forms new)) plain
+      by true = few_then_next (added most nodes (over_forms forms new)).nodes (added most nodes (over_forms forms new)).made plain
       by false = plain
+
+  few_behind : (behind : FormulaId → Option ShiftedList) (last : ShiftedList) (o : Option FormulaId) → ((id : FormulaId) → behind id ≡ Some last → IsFew last.nodes)
+      → option_and_then behind o ≡ Some last → IsFew last.nodes
+  few_behind behind last None then e = absurd (none-some last e)
+  few_behind behind last (Some id) then e = then id e
 
   few_forms : (shift : Shift) (inputs : ℕ) (nodes : List Node) (made last : ShiftedList) → IsFew made.nodes → put_forms most shift inputs nodes made ≡ Some last → IsFew last.nodes
   few_forms shift inputs [] made last few is = subst (λ (m : Option ShiftedList). length (unwrap_or m made).nodes ≤ most) is few
   few_forms shift inputs (new ∷ nodes) made last few is =
       let built : Built = put_form most shift inputs made.forms new made.nodes in
       let next : IsFew built.nodes = few_put shift inputs made.forms new made.nodes few in
-      by built.made next is
-    where
-      behind : FormulaId → Option ShiftedList
-      behind id = put_forms most shift inputs nodes (record { nodes = (put_form most shift inputs made.forms new made.nodes).nodes; forms = made.forms ++ id ∷ [] })
-
-      by : (o : Option FormulaId) → IsFew (put_form most shift inputs made.forms new made.nodes).nodes → option_and_then behind o ≡ Some last → IsFew last.nodes
-      by None next e = absurd (none-some last e)
-      by (Some id) next e = few_forms shift inputs nodes (record { nodes = (put_form most shift inputs made.forms new made.nodes).nodes; forms = made.forms ++ id ∷ [] }) last next e
+      few_behind (λ id. put_forms most shift inputs nodes (record { nodes = built.nodes; forms = made.forms ++ id ∷ [] })) last built.made
+      (λ id e. few_forms shift inputs nodes (record { nodes = built.nodes; forms = made.forms ++ id ∷ [] }) last next e) is
 
   pub few_converted : (shift : Shift) (inputs : ℕ) (nodes : List Node) (whole : FormulaId) (c : ConvertedList) → converted_of most shift inputs nodes whole ≡ Some c → length c.formulas ≤ most
   few_converted shift inputs nodes whole c is = by (put_forms most shift inputs nodes (record { nodes = []; forms = [] })) refl is
