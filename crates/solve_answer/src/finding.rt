@@ -60,9 +60,28 @@ pub(crate) enum Search {
     Without(Unsolved),
 }
 
-/// The strategy of the side that wins within the budget, made small, or why there is none. The system plays alone at first, since where it
-/// wins soon neither the game of conjuncts nor the environment's automaton is needed. Two workers play both sides at once.
+/// The strategy of the side that wins within the budget, made small, or why there is none. Where the games of whole automata give nothing to
+/// print, the conjuncts' game is played. Two workers play both sides at once.
 pub(crate) fn find_strategy<R: Threads>(
+    rt: &R,
+    alloc: Global,
+    text: &SolveText,
+    budget: Budget,
+    workers: u32,
+) -> Result<Search, AllocError>
+    requires { CanBePlayed text.now }
+{
+    match by_games(rt, alloc, text, budget, workers)? {
+        Search::Of(strategy) => Ok(Search::Of(strategy)),
+        Search::Without(why) => match by_conjuncts(alloc, text) {
+            Some(strategy) => Ok(Search::Of(strategy)),
+            None => Ok(Search::Without(why)),
+        },
+    }
+}
+
+/// The same by the games of whole automata. The system plays alone at first, since where it wins soon the environment's automaton isn't needed.
+fn by_games<R: Threads>(
     rt: &R,
     alloc: Global,
     text: &SolveText,
@@ -76,18 +95,8 @@ pub(crate) fn find_strategy<R: Threads>(
         steps: FIRST_STEPS.min(budget.steps),
         ..budget
     };
-    let mut won = None;
     if let Winner::Of(found) = played(rt, alloc, text, system.as_ref(), None, first, workers) {
-        match strategy_in(alloc, text, found)? {
-            Search::Of(strategy) => return Ok(Search::Of(strategy)),
-            Search::Without(why) => won = Some(why),
-        }
-    }
-    if let Some(strategy) = by_conjuncts(alloc, text) {
-        return Ok(Search::Of(strategy));
-    }
-    if let Some(why) = won {
-        return Ok(Search::Without(why));
+        return strategy_in(alloc, text, found);
     }
     let environment = automaton(alloc, &text.formulas, text.normal)?;
     let environment = environment.as_ref();
